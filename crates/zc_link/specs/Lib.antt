@@ -3,3 +3,4 @@ pub mod Values
 pub mod Stands
 pub mod Image
 pub mod Preserves
+pub mod Laid
