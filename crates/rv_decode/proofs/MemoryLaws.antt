@@ -1,10 +1,10 @@
 -- Memory that is changed cell by cell: extents stay, and the cell at a covered address becomes what the change makes
 -- of it. A test of several addresses is one of each of them.
-use Rattle.std.proofs.Common.{◌≡◌, ℕ, zero, suc, ◌+◌, ◌-◌, ◌<◌, ◌≤◌, List, [], ◌∷◌, ◌++◌, length, map, get_or, Bool, true, false, cond, refl, sym, ap, ap₂, ◌∙◌, subst, inl, inr, ⊎_elim, arith, ltb, leb, replicate}
-use Rattle.std.specs.Prelude.{◌&&◌, ◌||◌, ◌⊎◌}
-use Rattle.std.proofs.lemmas.Bool.{and_parts, and_from, leb-true, ltb-true, le-leb, cond-true, cond-false, or_parts, or_cases, or_left, or_right, cases_Bool, cases_lt}
+use Rattle.std.proofs.Common.{◌≡◌, ℕ, zero, suc, ◌+◌, ◌-◌, ◌<◌, ◌≤◌, List, [], ◌∷◌, length, get_or, Bool, true, false, cond, refl, sym, ap, ap₂, ◌∙◌, subst, ⊎_elim, arith, ltb, leb, replicate}
+use Rattle.std.specs.Prelude.{◌&&◌, ◌||◌}
+use Rattle.std.proofs.lemmas.Bool.{and_parts, and_from, leb-true, ltb-true, le-leb, cond-false, or_parts, or_cases, or_left, or_right, cases_Bool, cases_lt}
 use Rattle.std.proofs.lemmas.List.{length-replicate, get_or-replicate, get_or_past}
-use Rattle.rv_decode.specs.Memory.{Kind, Text, Data, Stack, Region, Extent, extent_of, extents_of, is_text, is_data, is_stack, spans, lies_in, cell_at, blank, cells_changed, changed, written}
+use Rattle.rv_decode.specs.Memory.{Kind, Text, Data, Stack, Region, Extent, extent_of, extents_of, is_data, is_stack, spans, lies_in, cell_at, blank, cells_changed, changed, written}
 
 -- ---- where addresses lie
 
@@ -90,6 +90,15 @@ cell-uncovered [] x d h = refl
 cell-uncovered (r ∷ rs) x d h =
     let q = or_parts (spans (extent_of r) x 1) (is_covered (extents_of rs) x) h in
     cond-false (spans (extent_of r) x 1) (get_or r.cells (x - r.at) d) (cell_at d rs x) q.0 ∙ cell-uncovered rs x d q.1
+
+-- a change that leaves d as it is needs no look at what is covered
+pub cell-changed_default : {X : Type 0} (f : ℕ → X → X) (rs : List (Region X)) (x : ℕ) (d : X) → f x d ≡ d → cell_at d (changed f rs) x ≡ f x (cell_at d rs x)
+cell-changed_default f rs x d keeps = ⊎_elim
+    (λ yes. cell-changed f rs x d yes)
+    (λ no.
+    let gone = ap (λ e. is_covered e x) (extents-changed f rs) ∙ no in
+    cell-uncovered (changed f rs) x d gone ∙ sym (ap (f x) (cell-uncovered rs x d no) ∙ keeps))
+    (cases_Bool (is_covered (extents_of rs) x))
 
 -- what holds of each cell holds behind a change that keeps it
 pub cell_kept : {X : Type 0} (f : ℕ → X → X) (rs : List (Region X)) (d : X) (P : X → Type 0) → ((x : ℕ) (c : X) → P c → P (f x c)) → P d → ((x : ℕ) → P (cell_at d rs x)) → (x : ℕ) → P (cell_at d (changed f rs) x)

@@ -1,16 +1,15 @@
 -- Interrupts keep a state sound where no push or pop stands at pc: they write below sp alone, and all bytes there are
 -- undefined to the program. So a commit from every sound state is a commit under every plan.
-use Rattle.std.proofs.Common.{◌≡◌, ℕ, ◌+◌, ◌^◌, ◌<◌, ◌≤◌, List, [], ◌∷◌, Option, Some, None, Result, Ok, Err, Bool, true, false, cond, refl, sym, ap, ◌∙◌, subst, arith, eqb, ltb, leb, get_or, ⊎_elim, inl, inr}
+use Rattle.std.proofs.Common.{◌≡◌, ℕ, ◌+◌, ◌<◌, ◌≤◌, List, [], ◌∷◌, Option, Ok, Bool, true, false, cond, refl, sym, ap, ◌∙◌, subst, arith, eqb, ltb, leb, get_or, ⊎_elim, inl, inr}
 use Rattle.std.specs.Prelude.{◌⊎◌, ◌&&◌, All}
 use Rattle.std.proofs.lemmas.Bool.{and_parts, ltb-true, cond_both, cases_eq, cases_Bool}
 use Rattle.std.proofs.lemmas.List.Elements.{All-head, All-tail}
 use Rattle.interrupt_plan.specs.Plan.{Cut, IsPlan}
 use Rattle.rv_decode.specs.Memory.{cell_at, changed, extents_of, is_data, is_stack, is_text, lies_in, written}
-use Rattle.rv_decode.specs.State.{Event, ZcCore, ZcState, byte_in}
+use Rattle.rv_decode.specs.State.{Event, ZcState, byte_in}
 use Rattle.rv_decode.proofs.MemoryLaws.{is_covered, cell-changed, cell-uncovered, cell_kept, extents-changed, lies_covered, stack_is_data, untouched}
 use Rattle.rv_decode.proofs.RunLaws.{iterate-one}
 use Rattle.sym_machine.specs.declared.word.Value.{Value}
-use Rattle.sym_machine.specs.declared.word.SymByte.TheVariants.{Undef}
 use Rattle.sym_machine.specs.Program.{Program}
 use Rattle.sym_machine.specs.State.{PlainCore, cell_of}
 use Rattle.zc_machine.specs.Interrupt.{is_free, dirtied, all_dirtied, cut, cut_by}
@@ -48,7 +47,7 @@ module _ (p : Program) (e : Image) (laid : Laid p e) where
     unfolding first_core
     free_at free =
         let q = and_parts (lies_in is_stack (extents_of z.core.memory) a 1) (ltb a (get_or z.core.regs 2 0)) free in
-        let in_stack : lies_in is_stack (extents_of (first_of e).memory) a 1 ≡ true = ap (λ es. lies_in is_stack es a 1) (sym so.text.extents) ∙ q.0 in
+        let in_stack : lies_in is_stack (extents_of (first_of e).memory) a 1 ≡ true = ap (λ es. lies_in is_stack es a 1) (sym so.both.text.extents) ∙ q.0 in
         let bounds = stack_bounds e.segments e.map a 1 (omega arith) in_stack in
         (omega (arith, bounds.0, ap (λ m. m.stack_low) laid.map), omega (arith, bounds.1, ap (λ m. m.stack_high) laid.map), ltb-true a (get_or z.core.regs 2 0) q.1, stack_is_data (extents_of (first_of e).memory) a 1 in_stack)
 
@@ -60,23 +59,23 @@ module _ (p : Program) (e : Image) (laid : Laid p e) where
         (λ here.
         let at = free_at free in
         subst (λ c. ByteStands (value_in p (place_address e)) c (f x (byte_in z.core x))) (sym (so.below x (omega (arith, at.0)) (omega (arith, at.1)) (omega (arith, at.2)))) tt)
-        (λ old. rw old (so.stands.memory x m))
+        (λ old. rw old (so.both.stands.memory x m))
         (elsewhere x (byte_in z.core x))))
         (λ no.
         let gone : is_covered (extents_of (changed f z.core.memory)) x ≡ false = ap (λ es. is_covered es x) (extents-changed f z.core.memory) ∙ no in
         let same : cell_at 0 (changed f z.core.memory) x ≡ byte_in z.core x = cell-uncovered (changed f z.core.memory) x 0 gone ∙ sym (cell-uncovered z.core.memory x 0 no) in
-        rw same (so.stands.memory x m))
+        rw same (so.both.stands.memory x m))
         (cases_Bool (is_covered (extents_of z.core.memory) x))
 
     text_dirtied : is_free z.core a ≡ true → (x : ℕ) → lies_in is_text (extents_of (first_of e).memory) x 1 ≡ true → cell_at 0 (changed f z.core.memory) x ≡ byte_in (first_of e) x
     text_dirtied free x text =
-        let yes : is_covered (extents_of z.core.memory) x ≡ true = ap (λ es. is_covered es x) so.text.extents ∙ lies_covered is_text (extents_of (first_of e).memory) x text in
+        let yes : is_covered (extents_of z.core.memory) x ≡ true = ap (λ es. is_covered es x) so.both.text.extents ∙ lies_covered is_text (extents_of (first_of e).memory) x text in
         cell-changed f z.core.memory x 0 yes
         ∙ ⊎_elim
         (λ here. absurd (let no = laid.apart x text in let yes = ap (λ y. lies_in is_data (extents_of (first_of e).memory) y 1) (sym here) ∙ (free_at free).3 in cc))
         (λ old. old)
         (elsewhere x (byte_in z.core x))
-        ∙ so.text.text x text
+        ∙ so.both.text.text x text
 
     f_bytes : (x c : ℕ) → c < 256 → f x c < 256
     unfolding f
@@ -85,15 +84,16 @@ module _ (p : Program) (e : Image) (laid : Laid p e) where
     byte_written : is_free z.core a ≡ true → Sound p e s (record z { core = record z.core { memory = changed f z.core.memory } })
     unfolding V
     byte_written free = record {
-      running = so.running;
-      going = so.going;
-      stands = record { registers = so.stands.registers; memory = stands_dirtied free; input = so.stands.input; place = so.stands.place };
-      text = record { extents = extents-changed f z.core.memory ∙ so.text.extents; text = text_dirtied free };
-      shape = so.shape;
-      long_s = so.long_s;
-      long_z = so.long_z;
-      words = so.words;
-      bytes = cell_kept f z.core.memory 0 (λ c. c < 256) f_bytes (omega arith) so.bytes;
+      both = record {
+        running = so.both.running;
+        going = so.both.going;
+        stands = record { registers = so.both.stands.registers; memory = stands_dirtied free; input = so.both.stands.input; place = so.both.stands.place };
+        text = record { extents = extents-changed f z.core.memory ∙ so.both.text.extents; text = text_dirtied free };
+        long_s = so.both.long_s;
+        long_z = so.both.long_z;
+        words = so.both.words;
+        bytes = cell_kept f z.core.memory 0 (λ c. c < 256) f_bytes (omega arith) so.both.bytes;
+      };
       below = so.below;
     }
 
@@ -135,5 +135,5 @@ module _ (p : Program) (e : Image) (laid : Laid p e) where
       moves plan is_plan z so =
           let y : ZcState = record z { core = cut_by plan z.core } in
           let one = law y (cuts_sound plan is_plan s z so) in
-          let turn : zc_turn plan z ≡ Ok one.after = ap (λ o. turn_from o plan z) so.going ∙ one.commits in
+          let turn : zc_turn plan z ≡ Ok one.after = ap (λ o. turn_from o plan z) so.both.going ∙ one.commits in
           record { after = one.after; runs = iterate-one (zc_turn plan) z one.after turn; same = one.same; together = one.together }

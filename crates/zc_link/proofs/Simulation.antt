@@ -1,7 +1,7 @@
 -- The image does what the program does, where each item lies at its place's address. Each step of the program keeps
 -- states together (step_moves); the induction over n takes the number of commits from the program's run alone, and so
 -- it is the same for all plans; the first states belong together.
-use Rattle.std.proofs.Common.{◌≡◌, ℕ, zero, suc, ◌+◌, ◌*◌, ◌^◌, ◌<◌, ◌≤◌, List, [], ◌∷◌, ◌++◌, Option, Some, None, Result, Ok, Err, refl, sym, ap, ◌∙◌, subst, inl, inr, ⊎_elim, arith, get_or, replicate}
+use Rattle.std.proofs.Common.{◌≡◌, ℕ, zero, suc, ◌+◌, ◌*◌, ◌^◌, ◌<◌, ◌≤◌, List, [], ◌++◌, Option, Some, None, Ok, refl, sym, ap, ◌∙◌, subst, inl, inr, ⊎_elim, arith, get_or, replicate}
 use Rattle.std.proofs.lemmas.Bool.{cases_lt}
 use Rattle.std.proofs.lemmas.List.{get_or-replicate, get_or_past}
 use Rattle.std.proofs.lemmas.List.Elements.{All-nil}
@@ -24,7 +24,7 @@ use Rattle.zc_link.specs.Preserves.{Preserves, PreservesQuietly}
 use Rattle.zc_link.specs.Stands.{Stands, WordStands}
 use Rattle.zc_link.specs.Values.{value_in}
 use Rattle.zc_link.proofs.WordLaws.{number_stands, undef_stands}
-use Rattle.zc_link.proofs.Sound.{Sound, Over, Together, Moves, no_events}
+use Rattle.zc_link.proofs.Sound.{Sound, Together, Moves, no_events}
 use Rattle.zc_link.proofs.Items.{item_moves}
 
 module _ (p : Program) (e : Image) (laid : Laid p e) where
@@ -121,20 +121,21 @@ module _ (p : Program) (e : Image) (laid : Laid p e) where
   start_sound : (input : List ℕ) → Sound p e (first_plain p input) (start input)
   unfolding first_core
   start_sound input = record {
-    running = refl;
-    going = refl;
-    stands = record { registers = start_stands; memory = laid.first; input = refl; place = λ _. laid.entry };
-    text = SameText-refl (first_of e);
-    shape = refl;
-    long_s = refl;
-    long_z = refl;
-    words = start_words;
-    bytes = laid.bytes;
+    both = record {
+      running = refl;
+      going = refl;
+      stands = record { registers = start_stands; memory = laid.first; input = refl; place = λ _. laid.entry };
+      text = SameText-refl (first_of e);
+      long_s = refl;
+      long_z = refl;
+      words = start_words;
+      bytes = laid.bytes;
+    };
     below = λ a low high _. laid.stack a low high;
   }
 
   together_stands : (s : PlainCore) (z : ZcState) → Together p e s z → Stands p (place_address e) s z
-  together_stands s z (inl so) = so.stands
+  together_stands s z (inl so) = so.both.stands
   together_stands s z (inr over) = over.stands
 
   pub preserves : Preserves p e

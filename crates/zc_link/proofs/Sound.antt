@@ -1,16 +1,15 @@
 -- States that belong together. Sound ties a running state of the symbolic machine to one of the machine that runs the
 -- image, Over ties them after the exit, and each step keeps one of the two (Together).
-use Rattle.std.proofs.Common.{◌≡◌, ℕ, ◌+◌, ◌^◌, ◌<◌, ◌≤◌, List, [], ◌∷◌, ◌++◌, length, Option, Some, None, Result, Ok, Err, Bool, true, false, cond, refl, sym, ap, ◌∙◌, subst, inl, inr, arith, ltb, leb, get_or}
+use Rattle.std.proofs.Common.{◌≡◌, ℕ, ◌^◌, ◌<◌, ◌≤◌, List, [], ◌++◌, length, Option, Some, None, Ok, Bool, true, false, cond, refl, sym, ◌∙◌, subst, arith, ltb, leb, get_or}
 use Rattle.std.specs.Prelude.{◌⊎◌, ◌&&◌}
 use Rattle.std.proofs.lemmas.Bool.{and_from, cond-true, lt-ltb, le-leb}
 use Rattle.std.proofs.lemmas.List.{append-nil}
 use Rattle.zc_base.specs.declared.place.Place.{Place}
 use Rattle.interrupt_plan.specs.Plan.{Cut}
-use Rattle.rv_decode.specs.Memory.{cell_at, changed, extents_of}
+use Rattle.rv_decode.specs.Memory.{cell_at, changed}
 use Rattle.rv_decode.specs.State.{Event, ZcState, byte_in}
 use Rattle.rv_decode.specs.Run.{iterate}
-use Rattle.rv_decode.proofs.MemoryLaws.{is_covered, cell-changed, extents-changed, lies_covered}
-use Rattle.rv_decode.specs.Memory.{is_data}
+use Rattle.rv_decode.proofs.MemoryLaws.{cell-changed_default}
 use Rattle.sym_machine.specs.declared.why.Why.TheVariants.{StackPointer}
 use Rattle.sym_machine.specs.declared.word.Value.{Value}
 use Rattle.sym_machine.specs.declared.word.SymByte.{SymByte}
@@ -23,21 +22,26 @@ use Rattle.zc_machine.specs.Step.{zc_step}
 use Rattle.zc_machine.specs.Run.{committed, zc_turn}
 use Rattle.zc_machine.proofs.FetchLaws.{SameText}
 use Rattle.zc_link.specs.Image.{Image, place_address}
-use Rattle.zc_link.specs.Laid.{Laid, first_of}
-use Rattle.zc_link.specs.Stands.{ByteStands, IsMemory, Stands}
+use Rattle.zc_link.specs.Laid.{first_of}
+use Rattle.zc_link.specs.Stands.{ByteStands, Stands}
 use Rattle.zc_link.specs.Values.{value_in}
 use Rattle.zc_link.proofs.WordLaws.{number_is}
 
-pub record Sound (p : Program) (e : Image) (s : PlainCore) (z : ZcState) : Type 0 where
+-- both run, and their states are alike: the machine's text is as it was loaded, and its registers and bytes are words
+-- and bytes
+pub record Running (p : Program) (e : Image) (s : PlainCore) (z : ZcState) : Type 0 where
   pub running : s.exit ≡ None
   pub going : z.core.exit ≡ None
   pub stands : Stands p (place_address e) s z
   pub text : SameText (first_of e) z.core
-  pub shape : extents_of s.memory ≡ extents_of p.first_memory
   pub long_s : length s.regs ≡ 32
   pub long_z : length z.core.regs ≡ 32
   pub words : (r : ℕ) → get_or z.core.regs r 0 < 2 ^ 32
   pub bytes : (a : ℕ) → byte_in z.core a < 256
+
+-- and the bytes of the stack below sp are undefined to the program
+pub record Sound (p : Program) (e : Image) (s : PlainCore) (z : ZcState) : Type 0 where
+  pub both : Running p e s z
   pub below : (a : ℕ) → p.map.stack_low ≤ a → a < p.map.stack_high → a < get_or z.core.regs 2 0 → cell_of s a ≡ Undef
 
 pub record Over (p : Program) (e : Image) (s : PlainCore) (z : ZcState) : Type 0 where
@@ -77,58 +81,50 @@ settled_is (Some sp) p s s' events events' from e = either (leb p.map.stack_low 
     either true h = (sp, cc, cc, refl)
     either false h = cc
 
+undefined_again : (b : Bool) → cond b Undef Undef ≡ Undef
+undefined_again true = refl
+undefined_again false = refl
+
+undefined_cell : (p : Program) (sp : ℕ) (s : PlainCore) (a : ℕ) → cell_at Undef (changed (undefined_below p sp) s.memory) a ≡ undefined_below p sp a (cell_of s a)
+undefined_cell p sp s a = cell-changed_default (undefined_below p sp) s.memory a Undef (undefined_again (leb p.map.stack_low a && ltb a sp))
+
 undefined_stands : (V : Value → Option ℕ) (b : Bool) (x : SymByte) (v : ℕ) → ByteStands V x v → ByteStands V (cond b Undef x) v
 undefined_stands V true x v h = tt
 undefined_stands V false x v h = h
 
-module _ (p : Program) (e : Image) (laid : Laid p e) where
-  -- the program's memory keeps its extents, so each of its addresses is covered
-  pub covered : (s : PlainCore) → extents_of s.memory ≡ extents_of p.first_memory → (a : ℕ) → IsMemory p a → is_covered (extents_of s.memory) a ≡ true
-  covered s shape a m = ap (λ es. is_covered es a) shape ∙ lies_covered is_data (extents_of p.first_memory) a (laid.covers a m)
-
+module _ (p : Program) (e : Image) where
   -- undefining bytes keeps a state standing
-  pub settled_stands : (sp : ℕ) (s : PlainCore) (z : ZcState) → extents_of s.memory ≡ extents_of p.first_memory → Stands p (place_address e) s z → Stands p (place_address e) (record s { memory = changed (undefined_below p sp) s.memory }) z
-  settled_stands sp s z shape h = record {
+  pub settled_stands : (sp : ℕ) (s : PlainCore) (z : ZcState) → Stands p (place_address e) s z → Stands p (place_address e) (record s { memory = changed (undefined_below p sp) s.memory }) z
+  settled_stands sp s z h = record {
     registers = h.registers;
-    memory = λ a m. rw (cell-changed (undefined_below p sp) s.memory a Undef (covered s shape a m)) (undefined_stands (value_in p (place_address e)) (leb p.map.stack_low a && ltb a sp) (cell_of s a) (byte_in z.core a) (h.memory a m));
+    memory = λ a m. rw (undefined_cell p sp s a) (undefined_stands (value_in p (place_address e)) (leb p.map.stack_low a && ltb a sp) (cell_of s a) (byte_in z.core a) (h.memory a m));
     input = h.input;
     place = h.place;
   }
 
   -- behind it all bytes of the stack below the machine's sp are undefined
-  settled_below : (sp : ℕ) (s : PlainCore) (z : ZcState) → extents_of s.memory ≡ extents_of p.first_memory → Stands p (place_address e) s z → get_or z.core.regs 2 0 < 2 ^ 32 → number_of (reg_of s 2) ≡ Some sp → (a : ℕ) → p.map.stack_low ≤ a → a < p.map.stack_high → a < get_or z.core.regs 2 0 → cell_at Undef (changed (undefined_below p sp) s.memory) a ≡ Undef
-  settled_below sp s z shape h small is_sp a low high lt =
-      let same : sp ≡ get_or z.core.regs 2 0 = number_is (value_in p (place_address e)) (reg_of s 2) (get_or z.core.regs 2 0) sp small (h.registers 2 (omega arith)) is_sp in
+  settled_below : (sp : ℕ) (s : PlainCore) (z : ZcState) → Running p e s z → number_of (reg_of s 2) ≡ Some sp → (a : ℕ) → p.map.stack_low ≤ a → a < get_or z.core.regs 2 0 → cell_at Undef (changed (undefined_below p sp) s.memory) a ≡ Undef
+  settled_below sp s z both is_sp a low lt =
+      let same : sp ≡ get_or z.core.regs 2 0 = number_is (value_in p (place_address e)) (reg_of s 2) (get_or z.core.regs 2 0) sp (both.words 2) (both.stands.registers 2 (omega arith)) is_sp in
       let under : a < sp = omega arith in
-      cell-changed (undefined_below p sp) s.memory a Undef (covered s shape a (inr (low, high)))
+      undefined_cell p sp s a
       ∙ cond-true (leb p.map.stack_low a && ltb a sp) Undef (cell_of s a) (and_from (leb p.map.stack_low a) (ltb a sp) (le-leb p.map.stack_low a low) (lt-ltb a sp under))
 
-  -- states that belong together but for the bytes below sp
-  pub record Ready (s : PlainCore) (z : ZcState) : Type 0 where
-    pub running : s.exit ≡ None
-    pub going : z.core.exit ≡ None
-    pub stands : Stands p (place_address e) s z
-    pub text : SameText (first_of e) z.core
-    pub shape : extents_of s.memory ≡ extents_of p.first_memory
-    pub long_s : length s.regs ≡ 32
-    pub long_z : length z.core.regs ≡ 32
-    pub words : (r : ℕ) → get_or z.core.regs r 0 < 2 ^ 32
-    pub bytes : (a : ℕ) → byte_in z.core a < 256
-
-  -- the end of a step makes them sound
-  pub settled_sound : (s s' : PlainCore) (z : ZcState) (events events' : List Event) (from : Place) → Ready s z → settled p s events from ≡ Went s' events' → Sound p e s' z × (events' ≡ events)
-  settled_sound s s' z events events' from ready h =
+  -- the end of a step makes alike states sound
+  pub settled_sound : (s s' : PlainCore) (z : ZcState) (events events' : List Event) (from : Place) → Running p e s z → settled p s events from ≡ Went s' events' → Sound p e s' z × (events' ≡ events)
+  settled_sound s s' z events events' from both h =
       let end = settled_is (number_of (reg_of s 2)) p s s' events events' from h in
       let sound : Sound p e (record s { memory = changed (undefined_below p end.0) s.memory }) z = record {
-        running = ready.running;
-        going = ready.going;
-        stands = settled_stands end.0 s z ready.shape ready.stands;
-        text = ready.text;
-        shape = extents-changed (undefined_below p end.0) s.memory ∙ ready.shape;
-        long_s = ready.long_s;
-        long_z = ready.long_z;
-        words = ready.words;
-        bytes = ready.bytes;
-        below = settled_below end.0 s z ready.shape ready.stands (ready.words 2) end.3;
+        both = record {
+          running = both.running;
+          going = both.going;
+          stands = settled_stands end.0 s z both.stands;
+          text = both.text;
+          long_s = both.long_s;
+          long_z = both.long_z;
+          words = both.words;
+          bytes = both.bytes;
+        };
+        below = λ a low high lt. settled_below end.0 s z both end.3 a low lt;
       } in
       (subst (λ x. Sound p e x z) (sym end.1) sound, end.2)

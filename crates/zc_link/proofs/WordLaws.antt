@@ -1,6 +1,6 @@
 -- Words that stand for words: a number stands for itself alone, and each operation on words stands for the
 -- machine's on numbers. An operation that joins adds a line to imm_stands.
-use Rattle.std.proofs.Common.{◌≡◌, ◌≢◌, ℕ, zero, suc, ◌+◌, ◌*◌, ◌^◌, ◌<◌, ◌≤◌, List, length, Option, Some, None, Bool, true, false, cond, refl, ◌∙◌, subst, arith, ℤ, pos, negsuc, eqb, get_or, set, length-set, get_or-set_same, get_or-set_other, ⊎_elim}
+use Rattle.std.proofs.Common.{◌≡◌, ◌≢◌, ℕ, ◌+◌, ◌*◌, ◌^◌, ◌<◌, List, length, Option, Some, None, Bool, true, false, cond, refl, subst, arith, ℤ, pos, negsuc, eqb, get_or, set, length-set, get_or-set_same, get_or-set_other, ⊎_elim}
 use Rattle.std.proofs.lemmas.Bool.{eqb-true, eqb-false, cases_lt, cases_eq}
 use Rattle.std.proofs.lemmas.List.{set_past}
 use Rattle.std.proofs.lemmas.Grind.{get_or-set_at}

@@ -1,5 +1,5 @@
 -- What is fetched depends on the bytes of the text alone.
-use Rattle.std.proofs.Common.{◌≡◌, ℕ, ◌+◌, ◌*◌, ◌≤◌, Bool, true, false, cond, Some, None, refl, sym, ap, ap₂, ◌∙◌, subst, arith, eqb}
+use Rattle.std.proofs.Common.{◌≡◌, ℕ, ◌+◌, ◌*◌, ◌≤◌, Bool, true, false, cond, refl, ap, ap₂, ◌∙◌, arith, eqb}
 use Rattle.std.specs.Option.{option_map}
 use Rattle.rv_decode.specs.Bits.{field}
 use Rattle.rv_decode.specs.Decode.{decoded}
@@ -8,7 +8,7 @@ use Rattle.rv_decode.specs.State.{ZcCore, byte_in}
 use Rattle.rv_decode.proofs.MemoryLaws.{lies_inside}
 use Rattle.zc_decode.specs.declared.short.Short.TheVariants.{Base}
 use Rattle.zc_machine.specs.declared.reason.Reason.TheVariants.{BadAccess}
-use Rattle.zc_machine.specs.Fetch.{Fetched, Missing, found, half_at, word_at, fetched_half, fetched_word, fetched_at}
+use Rattle.zc_machine.specs.Fetch.{Missing, found, half_at, word_at, fetched_half, fetched_word, fetched_at}
 
 -- two machines with one text: their regions lie alike, and their bytes of code are the same
 pub record SameText (y z : ZcCore) : Type 0 where

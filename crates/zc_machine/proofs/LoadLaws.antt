@@ -1,9 +1,9 @@
 -- The first state's memory.
-use Rattle.std.proofs.Common.{◌≡◌, ℕ, ◌+◌, ◌-◌, ◌<◌, ◌≤◌, List, [], ◌∷◌, ◌++◌, length, map, Bool, true, false, cond, refl, sym, ap, ◌∙◌, arith, leb, ⊎_elim}
-use Rattle.std.specs.Prelude.{◌&&◌, ◌||◌}
-use Rattle.std.proofs.lemmas.Bool.{and_parts, leb-true, or_cases, and_from, le-leb, or_left, or_right}
+use Rattle.std.proofs.Common.{◌≡◌, ℕ, ◌+◌, ◌-◌, ◌<◌, ◌≤◌, List, [], ◌∷◌, length, Bool, true, false, cond, refl, arith, leb, ⊎_elim}
+use Rattle.std.specs.Prelude.{◌&&◌}
+use Rattle.std.proofs.lemmas.Bool.{and_parts, leb-true, or_cases}
 use Rattle.zc_base.specs.declared.mem_map.MemMap.{MemMap}
-use Rattle.rv_decode.specs.Memory.{Text, Data, Region, blank, extent_of, extents_of, is_stack, lies_in, spans}
+use Rattle.rv_decode.specs.Memory.{Text, Data, blank, extent_of, extents_of, is_stack, lies_in, spans}
 use Rattle.rv_decode.proofs.MemoryLaws.{length_blank}
 use Rattle.zc_machine.specs.Load.{Segment, first_memory, region_of, stack_region}
 
