@@ -1,0 +1,42 @@
+-- The table of words (RISC-V unprivileged manual, chapter "RV32/64G Instruction Set Listings").
+use Rattle.std.specs.Prelude.{ℕ, ℤ, Option, Some, None, ◌==◌, if◌then◌else◌}
+use Rattle.std.specs.Option.{option_map}
+use Rattle.rv_decode.specs.declared.instr.Instr.{Instr}
+use Rattle.rv_decode.specs.declared.instr.Instr.TheVariants.{WithImm, Ecall}
+use Rattle.rv_decode.specs.declared.instr.ImmOp.{ImmOp}
+use Rattle.rv_decode.specs.declared.instr.ImmOp.TheVariants.{Addi}
+use Rattle.rv_decode.specs.Bits.{field, signed}
+
+-- the fields that all formats share, where a format has them
+abbrev pub opcode_of : ℕ → ℕ
+opcode_of word = field word 0 7
+
+abbrev pub rd_of : ℕ → ℕ
+rd_of word = field word 7 5
+
+abbrev pub funct3_of : ℕ → ℕ
+funct3_of word = field word 12 3
+
+abbrev pub rs1_of : ℕ → ℕ
+rs1_of word = field word 15 5
+
+-- the immediate of the I format: bits 31 to 20, signed
+abbrev pub imm_i_of : ℕ → ℤ
+imm_i_of word = signed 12 (field word 20 12)
+
+-- OP-IMM, by funct3
+abbrev pub imm_op_of : ℕ → Option ImmOp
+imm_op_of funct3 = if funct3 == 0b000 then Some Addi else None
+
+abbrev pub with_imm_of : ℕ → Option Instr
+with_imm_of word = option_map (λ op. WithImm op (rd_of word) (rs1_of word) (imm_i_of word)) (imm_op_of (funct3_of word))
+
+-- SYSTEM
+abbrev pub system_of : ℕ → Option Instr
+system_of word = if word == 0x00000073 then Some Ecall else None
+
+-- the instruction that a word spells, by its opcode; none outside the table
+abbrev pub decoded : ℕ → Option Instr
+decoded word =
+    if opcode_of word == 0b0010011 then with_imm_of word else
+    (if opcode_of word == 0b1110011 then system_of word else None)

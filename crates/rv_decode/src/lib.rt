@@ -1,0 +1,7 @@
+//! The words of RV32I and M: what instruction a word spells, and what an instruction does to a
+//! machine. Nothing here takes memory.
+#![tactic(auto)]
+
+pub mod bits;
+pub mod decode;
+pub mod instr;
