@@ -1,0 +1,6 @@
+//! The world outside: a store of files and a console, as traits that say what their calls mean, and
+//! two implementations of each, one in memory and one over the system.
+#![tactic(auto)]
+
+pub mod console;
+pub mod store;
