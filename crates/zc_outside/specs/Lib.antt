@@ -1,3 +1,4 @@
 pub mod Files
+pub mod MemConsole
 pub mod MemStore
 pub mod Streams

@@ -4,5 +4,6 @@
 
 mod calls;
 pub mod console;
+pub mod mem_console;
 pub mod mem_store;
 pub mod store;
