@@ -1,2 +1,4 @@
 pub mod Files
+pub mod MemConsole
+pub mod MemStore
 pub mod Streams

@@ -2,5 +2,8 @@
 //! two implementations of each, one in memory and one over the system.
 #![tactic(auto)]
 
+mod calls;
 pub mod console;
+pub mod mem_console;
+pub mod mem_store;
 pub mod store;

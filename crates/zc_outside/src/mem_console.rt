@@ -1,0 +1,155 @@
+// A console in memory, some of whose calls fail.
+
+ghost use Rattle.std.specs.Prelude.{◌≡◌, ◌≢◌, ◌≤◌, ◌<◌, ◌+◌, ◌-◌, ◌^◌, ◌↔◌, min, ℕ, List, [], Option, Some, None, Err, length, Contains, IfOk, IfErr, IsOk, OnOk, OnErr, IsErrOf};
+ghost use Rattle.zc_outside.specs.Streams.{Adds, AddsPart, KeepsBytes, TakeCause, Takes, WriteCause};
+ghost use Rattle.zc_outside.specs.MemConsole.{Streams};
+
+use crate::calls::Calls;
+use crate::console::{Console, ConsoleFault};
+use std::alloc::{AllocError, Global};
+use std::marker::Model;
+
+/// An input and two outputs in memory.
+///
+/// The calls of `take`, `out` and `err` are numbered from 0 together, and those whose numbers the
+/// console was made with fail and move nothing. The number after 2^32 - 1 is that number again. A
+/// call of `out` or `err` with an empty piece has no number.
+#[derive(Drop)]
+pub struct MemConsole {
+    input: Vec<u8>,
+    at: usize,
+    out: Vec<u8>,
+    err: Vec<u8>,
+    calls: Calls,
+    read_faults: u64,
+    write_faults: u64,
+    memory_faults: u64,
+    taken: u64,
+}
+
+impl Model for MemConsole {
+    ghost use Rattle.std.specs.Prelude.{◌≤◌, drop, length};
+    ghost use Rattle.zc_outside.specs.MemConsole.{Streams};
+
+    ghost Value = { Streams };
+
+    ghost view = { λ c. record {
+        input = drop c.at c.input.items;
+        out = c.out.items;
+        err = c.err.items;
+        fails = c.calls.failing.items;
+        calls = c.calls.made;
+        read_faults = c.read_faults;
+        write_faults = c.write_faults;
+        memory_faults = c.memory_faults;
+        taken = c.taken
+    } };
+
+    ghost invariant = { λ c. c.at ≤ length c.input.items };
+}
+
+impl MemConsole {
+    /// A console with this input, whose calls with these numbers fail.
+    pub fn new(alloc: Global, input: &[u8], fails: &[u32]) -> Result<MemConsole, AllocError>
+        ensures { IfOk result (λ c. c ≡ record {
+            input = input.now;
+            out = [];
+            err = [];
+            fails = fails.now;
+            calls = 0;
+            read_faults = 0;
+            write_faults = 0;
+            memory_faults = 0;
+            taken = 0
+        }) }
+    {
+        let input = Vec::from_slice(alloc, input)?;
+        let calls = Calls::new(alloc, fails)?;
+        Ok(MemConsole {
+            input,
+            at: 0,
+            out: Vec::new(alloc),
+            err: Vec::new(alloc),
+            calls,
+            read_faults: 0,
+            write_faults: 0,
+            memory_faults: 0,
+            taken: 0,
+        })
+    }
+
+    /// The bytes written to the output.
+    pub fn out_bytes(&self) -> &[u8]
+        ensures { result.now ≡ self.now.out }
+    {
+        self.out.as_slice()
+    }
+
+    /// The bytes written to the output for errors.
+    pub fn err_bytes(&self) -> &[u8]
+        ensures { result.now ≡ self.now.err }
+    {
+        self.err.as_slice()
+    }
+}
+
+impl Console for MemConsole {
+    ghost input = { λ c. Some c.input };
+
+    ghost out_bytes = { λ c. Some c.out };
+
+    ghost err_bytes = { λ c. Some c.err };
+
+    ghost read_faults = { λ c. c.read_faults };
+
+    ghost write_faults = { λ c. c.write_faults };
+
+    ghost memory_faults = { λ c. c.memory_faults };
+
+    ghost taken = { λ c. c.taken };
+
+    ghost sure = { λ c. c.fails ≡ [] };
+
+    fn take(&mut self, buf: &mut [u8]) -> Result<usize, ConsoleFault> {
+        if self.calls.next_fails() {
+            self.read_faults = self.read_faults.saturating_add(1);
+            return Err(ConsoleFault::Failed);
+        }
+        let left = &self.input[self.at..];
+        let count = left.len().min(buf.len());
+        buf[..count].copy_from_slice(&left[..count]);
+        self.at += count;
+        self.taken = self.taken.saturating_add(count as u64);
+        Ok(count)
+    }
+
+    fn out(&mut self, bytes: &[u8]) -> Result<(), ConsoleFault> {
+        if bytes.is_empty() {
+            return Ok(());
+        }
+        if self.calls.next_fails() {
+            self.write_faults = self.write_faults.saturating_add(1);
+            return Err(ConsoleFault::Failed);
+        }
+        if self.out.extend_from_slice(bytes).is_err() {
+            self.memory_faults = self.memory_faults.saturating_add(1);
+            return Err(ConsoleFault::OutOfMemory);
+        }
+        Ok(())
+    }
+
+    fn err(&mut self, bytes: &[u8]) -> Result<(), ConsoleFault> {
+        if bytes.is_empty() {
+            return Ok(());
+        }
+        if self.calls.next_fails() {
+            self.write_faults = self.write_faults.saturating_add(1);
+            return Err(ConsoleFault::Failed);
+        }
+        if self.err.extend_from_slice(bytes).is_err() {
+            self.memory_faults = self.memory_faults.saturating_add(1);
+            return Err(ConsoleFault::OutOfMemory);
+        }
+        Ok(())
+    }
+}

@@ -1,0 +1,143 @@
+// A store in memory, some of whose calls fail.
+
+ghost use Rattle.std.specs.Prelude.{◌≡◌, ◌≢◌, ◌≤◌, ◌<◌, ◌+◌, ◌-◌, ◌^◌, ◌⊎◌, ◌↔◌, min, ℕ, List, [], Option, Some, None, Err, length, Contains, IfOk, IfErr, OnOk, OnErr, IsErrOf};
+ghost use Rattle.std.specs.Option.{option_copied};
+ghost use Rattle.zc_outside.specs.Files.{Files, KeepsFiles, PutsFile, HasFile, IsLong, Holds, GetCause, PutCause};
+ghost use Rattle.zc_outside.specs.MemStore.{files_of, fails_of, calls_of, read_faults_of, long_files_of, write_faults_of, IsFresh, KeepsCounts};
+
+use crate::calls::Calls;
+use crate::store::{Store, StoreFault};
+use std::alloc::{AllocError, Global};
+use std::collections::BTreeMap;
+
+/// Files in memory.
+///
+/// The calls of `get` and `put` are numbered from 0 together, and those whose numbers the store was
+/// made with fail. The number after 2^32 - 1 is that number again.
+#[derive(Drop)]
+pub struct MemStore {
+    alloc: Global,
+    files: BTreeMap<String, Vec<u8>>,
+    calls: Calls,
+    read_faults: u64,
+    long_files: u64,
+    write_faults: u64,
+}
+
+impl MemStore {
+    /// A store that holds no file, and whose calls with these numbers fail.
+    pub fn new(alloc: Global, fails: &[u32]) -> Result<MemStore, AllocError>
+        ensures empty { IfOk result (λ s. (q : List ℕ) → files_of s q ≡ None) }
+        ensures fails { IfOk result (λ s. fails_of s ≡ fails.now) }
+        ensures fresh { IfOk result IsFresh }
+    {
+        let calls = Calls::new(alloc, fails)?;
+        Ok(MemStore {
+            alloc,
+            files: BTreeMap::new(alloc),
+            calls,
+            read_faults: 0,
+            long_files: 0,
+            write_faults: 0,
+        })
+    }
+
+    /// Makes a name hold these bytes. This is no numbered call.
+    pub fn add(&mut self, name: &str, bytes: &[u8]) -> Result<(), AllocError>
+        ensures ok { OnOk result (PutsFile (Some (files_of self.old)) (Some (files_of self.new)) name.now bytes.now) }
+        ensures err { OnErr result (KeepsFiles (Some (files_of self.old)) (Some (files_of self.new))) }
+        ensures counts { KeepsCounts self.old self.new }
+    {
+        let name = name.to_owned(self.alloc)?;
+        let bytes = Vec::from_slice(self.alloc, bytes)?;
+        self.files.insert(name, bytes)?;
+        Ok(())
+    }
+
+    /// The bytes under a name.
+    pub fn file(&self, name: &str) -> Option<&[u8]>
+        ensures { option_copied result ≡ files_of self.now name.now }
+    {
+        match self.files.get(name) {
+            Some(bytes) => Some(bytes.as_slice()),
+            None => None,
+        }
+    }
+}
+
+impl Store for MemStore {
+    ghost files = { λ s. Some (files_of s) };
+
+    ghost read_faults = { read_faults_of };
+
+    ghost long_files = { long_files_of };
+
+    ghost write_faults = { write_faults_of };
+
+    ghost sure = { λ s. fails_of s ≡ [] };
+
+    /// Fails too where the name isn't held.
+    fn get(&mut self, alloc: Global, name: &str, limit: u32) -> Result<Vec<u8>, StoreFault>
+        requires { limit < 2 ^ 32 - 1 }
+        ensures within { IfOk result (λ v. length v.items ≤ limit) }
+        ensures content { IfOk result (λ v. HasFile (Some (files_of self.old)) name.now v.items) }
+        ensures cause { IfErr result (GetCause (read_faults_of self.old) (read_faults_of self.new)
+            (long_files_of self.old) (long_files_of self.new) (Some (files_of self.old)) name.now limit) }
+
+        ensures keeps { KeepsFiles (Some (files_of self.old)) (Some (files_of self.new)) }
+        ensures reads { read_faults_of self.old ≤ read_faults_of self.new }
+        ensures longs { long_files_of self.old ≤ long_files_of self.new }
+        ensures writes { write_faults_of self.new ≡ write_faults_of self.old }
+
+        ensures stays { fails_of self.new ≡ fails_of self.old }
+        ensures sure { fails_of self.old ≡ [] → Holds (Some (files_of self.old)) name.now →
+            (read_faults_of self.new ≡ read_faults_of self.old) × (result ≢ Err StoreFault.Failed) }
+        ensures sure_long { fails_of self.old ≡ [] → Holds (Some (files_of self.old)) name.now →
+            (long_files_of self.new ≡ long_files_of self.old) ⊎ IsLong (Some (files_of self.old)) name.now limit }
+
+        // Exactly the listed calls fail, and those for a name that isn't held.
+        ensures failed { IsErrOf result StoreFault.Failed ↔
+            (Contains (fails_of self.old) (calls_of self.old) ⊎ (files_of self.old name.now ≡ None)) }
+        ensures number { calls_of self.new ≡ min (calls_of self.old + 1) (2 ^ 32 - 1) }
+    {
+        if self.calls.next_fails() {
+            self.read_faults = self.read_faults.saturating_add(1);
+            return Err(StoreFault::Failed);
+        }
+        match self.file(name) {
+            None => {
+                self.read_faults = self.read_faults.saturating_add(1);
+                Err(StoreFault::Failed)
+            }
+            Some(bytes) if bytes.len() > limit as usize => {
+                self.long_files = self.long_files.saturating_add(1);
+                Err(StoreFault::TooLong { taken: limit + 1 })
+            }
+            Some(bytes) => Vec::from_slice(alloc, bytes).map_err(|_| StoreFault::OutOfMemory),
+        }
+    }
+
+    fn put(&mut self, name: &str, bytes: &[u8]) -> Result<(), StoreFault>
+        ensures ok { OnOk result (PutsFile (Some (files_of self.old)) (Some (files_of self.new)) name.now bytes.now) }
+        ensures err { OnErr result (KeepsFiles (Some (files_of self.old)) (Some (files_of self.new))) }
+        ensures cause { IfErr result (PutCause (write_faults_of self.old) (write_faults_of self.new)) }
+
+        ensures reads { read_faults_of self.new ≡ read_faults_of self.old }
+        ensures longs { long_files_of self.new ≡ long_files_of self.old }
+        ensures writes { write_faults_of self.old ≤ write_faults_of self.new }
+
+        ensures stays { fails_of self.new ≡ fails_of self.old }
+        ensures sure { fails_of self.old ≡ [] →
+            (write_faults_of self.new ≡ write_faults_of self.old) × (result ≢ Err StoreFault.Failed) }
+
+        // Exactly the listed calls fail.
+        ensures failed { IsErrOf result StoreFault.Failed ↔ Contains (fails_of self.old) (calls_of self.old) }
+        ensures number { calls_of self.new ≡ min (calls_of self.old + 1) (2 ^ 32 - 1) }
+    {
+        if self.calls.next_fails() {
+            self.write_faults = self.write_faults.saturating_add(1);
+            return Err(StoreFault::Failed);
+        }
+        self.add(name, bytes).map_err(|_| StoreFault::OutOfMemory)
+    }
+}
