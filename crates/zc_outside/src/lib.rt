@@ -6,4 +6,6 @@ mod calls;
 pub mod console;
 pub mod mem_console;
 pub mod mem_store;
+pub mod std_console;
 pub mod store;
+mod transfer;
