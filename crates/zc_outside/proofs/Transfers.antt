@@ -1,35 +1,8 @@
--- Reads and writes after one another, where the bytes are known.
-use Rattle.std.proofs.Common.{◌≡◌, ℕ, ◌+◌, ◌-◌, ◌<◌, ◌≤◌, List, ◌++◌, length, take, drop, Option, Some, None, Ok, Err, Result, refl, sym, ◌∙◌, ap, arith, append_assoc, subst}
-use Rattle.std.proofs.lemmas.List.{append-nil}
+-- Writes after one another, where the bytes are known.
+use Rattle.std.proofs.Common.{◌≡◌, ℕ, ◌+◌, List, ◌++◌, take, drop, Option, Some, None, sym, ◌∙◌, ap, append_assoc}
 use Rattle.std.proofs.Math.Seq.{take-add}
-use Rattle.std.specs.Io.KnownBytes.{Keeps, Appends, ReadConsumes, WriteAppends}
-use Rattle.zc_outside.specs.Streams.{Adds, AddsPart}
-
--- known bytes keep themselves
-pub Keeps-refl : (xs : Option (List ℕ)) → Keeps xs xs
-Keeps-refl None = tt
-Keeps-refl (Some xs) = refl
-
--- what two calls keep, both together keep
-pub Keeps-trans : (xs ys zs : Option (List ℕ)) → Keeps xs ys → Keeps ys zs → Keeps xs zs
-Keeps-trans None ys zs first second = tt
-Keeps-trans (Some xs) None zs first second = absurd first
-Keeps-trans (Some xs) (Some ys) None first second = second
-Keeps-trans (Some xs) (Some ys) (Some zs) first second = second ∙ first
-
--- a read of kept bytes is a read of the bytes before
-pub Keeps-ReadConsumes :
-    {E : Type 0} (xs ys zs : Option (List ℕ)) (r : Result ℕ E) (buf : List ℕ) → Keeps xs ys → ReadConsumes ys zs r buf → ReadConsumes xs zs r buf
-Keeps-ReadConsumes None ys zs (Ok n) buf kept read = (tt, read.1)
-Keeps-ReadConsumes None ys zs (Err e) buf kept read = tt
-Keeps-ReadConsumes (Some xs) None zs r buf kept read = absurd kept
-Keeps-ReadConsumes (Some xs) (Some ys) zs r buf kept read =
-    subst (λ (front : List ℕ). ReadConsumes (Some front) zs r buf) kept read
-
--- nothing was added so far
-pub Adds-none : (xs : Option (List ℕ)) (piece : List ℕ) → Adds xs xs (take 0 piece)
-Adds-none None piece = tt
-Adds-none (Some xs) piece = sym (append-nil xs)
+use Rattle.std.specs.Io.KnownBytes.{Keeps, Appends}
+use Rattle.zc_outside.specs.Streams.{Adds}
 
 -- what was added stands in the bytes that are kept after it
 pub Adds-Keeps : (xs ys zs : Option (List ℕ)) (piece : List ℕ) → Adds xs ys piece → Keeps ys zs → Adds xs zs piece

@@ -1,5 +1,5 @@
 -- What a store in memory holds and counts, and what its calls do to that.
-use Rattle.std.specs.Prelude.{ℕ, List, Option, Result, Ok, Err}
+use Rattle.std.specs.Prelude.{ℕ, List, Result, Ok, Err}
 use Rattle.std.specs.Option.{option_map}
 use Rattle.std.specs.BTreeMap.{get_by_text}
 use Rattle.zc_outside.specs.declared.mem_store.MemStore.{MemStore}
@@ -28,7 +28,7 @@ counts_of s = record {
   calls = s.calls.made;
   read_faults = s.read_faults;
   long_files = s.long_files;
-  write_faults = s.write_faults
+  write_faults = s.write_faults;
 }
 
 -- a read is one call, and counts its refusal by its kind

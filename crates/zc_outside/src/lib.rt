@@ -4,6 +4,7 @@
 
 mod calls;
 pub mod console;
+pub mod disk_store;
 pub mod mem_console;
 pub mod mem_store;
 pub mod std_console;

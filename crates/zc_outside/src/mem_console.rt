@@ -34,15 +34,15 @@ impl Model for MemConsole {
     ghost Value = { ConsoleState };
 
     ghost view = { λ c. record {
-        input = drop c.at c.input.items;
-        out = c.out.items;
-        err = c.err.items;
-        fails = c.calls.failing.items;
-        calls = c.calls.made;
-        read_faults = c.read_faults;
-        write_faults = c.write_faults;
-        memory_faults = c.memory_faults;
-        taken = c.taken
+      input = drop c.at c.input.items;
+      out = c.out.items;
+      err = c.err.items;
+      fails = c.calls.failing.items;
+      calls = c.calls.made;
+      read_faults = c.read_faults;
+      write_faults = c.write_faults;
+      memory_faults = c.memory_faults;
+      taken = c.taken;
     } };
 
     ghost invariant = { λ c. c.at ≤ length c.input.items };
@@ -52,15 +52,15 @@ impl MemConsole {
     /// A console with this input, whose calls with these numbers fail.
     pub fn new(alloc: Global, input: &[u8], fails: &[u32]) -> Result<MemConsole, AllocError>
         ensures { IfOk result (λ c. c ≡ record {
-            input = input.now;
-            out = [];
-            err = [];
-            fails = fails.now;
-            calls = 0;
-            read_faults = 0;
-            write_faults = 0;
-            memory_faults = 0;
-            taken = 0
+          input = input.now;
+          out = [];
+          err = [];
+          fails = fails.now;
+          calls = 0;
+          read_faults = 0;
+          write_faults = 0;
+          memory_faults = 0;
+          taken = 0;
         }) }
     {
         let input = Vec::from_slice(alloc, input)?;

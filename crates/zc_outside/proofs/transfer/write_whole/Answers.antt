@@ -13,10 +13,11 @@ loop-preserved g c =
     let piece = c.args.piece.now in
     let done = c.loop.done in
     elim c.match-write.branch [
-      in-Ok w ↦
-        let bound = rw (take_rest piece done) at w.in-Ok.ensures.bound in
-        let bytes = rw (take_rest piece done) at w.in-Ok.ensures.bytes in
-        let within : c.match-write.done ≤ length piece = omega (arith, bound, length-drop done piece) in
-        (within, rw w.done-is (Adds-Appends initial before after piece done w.in-Ok.count c.loop.invariant.1 bytes))
-    | in-Err w ↦
-        (omega arith, rw w.done-is (Adds-Keeps initial before after _ c.loop.invariant.1 w.in-Err.ensures.bytes)) ]
+      | in-Ok w ↦
+          let bound = rw (take_rest piece done) at w.in-Ok.ensures.bound in
+          let bytes = rw (take_rest piece done) at w.in-Ok.ensures.bytes in
+          let within : c.match-write.done ≤ length piece = omega (arith, bound, length-drop done piece) in
+          (within, rw w.done-is (Adds-Appends initial before after piece done w.in-Ok.count c.loop.invariant.1 bytes))
+      | in-Err w ↦
+          (omega arith, rw w.done-is (Adds-Keeps initial before after _ c.loop.invariant.1 w.in-Err.ensures.bytes))
+    ]
