@@ -1,6 +1,7 @@
 // The numbers of calls, and which of them fail.
 
-ghost use Rattle.std.specs.Prelude.{◌≡◌, ◌+◌, ◌-◌, ◌^◌, ◌↔◌, min, Contains, IfOk, IsTrue};
+ghost use Rattle.std.specs.Prelude.{◌≡◌, ◌↔◌, Contains, IfOk, IsTrue};
+ghost use Rattle.zc_outside.specs.Calls.{next_call};
 
 use std::alloc::{AllocError, Global};
 
@@ -24,7 +25,7 @@ impl Calls {
     /// Counts a call, and says whether it fails. The count stays at its last value.
     pub fn next_fails(&mut self) -> bool
         ensures listed { IsTrue result ↔ Contains self.old.failing.items self.old.made }
-        ensures counted { self.new.made ≡ min (self.old.made + 1) (2 ^ 32 - 1) }
+        ensures counted { self.new.made ≡ next_call self.old.made }
         ensures failing { self.new.failing ≡ self.old.failing }
     {
         let fails = self.failing.contains(&self.made);

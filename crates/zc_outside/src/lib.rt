@@ -4,6 +4,9 @@
 
 mod calls;
 pub mod console;
+pub mod disk_store;
 pub mod mem_console;
 pub mod mem_store;
+pub mod std_console;
 pub mod store;
+mod transfer;

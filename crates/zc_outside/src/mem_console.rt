@@ -1,8 +1,8 @@
 // A console in memory, some of whose calls fail.
 
-ghost use Rattle.std.specs.Prelude.{◌≡◌, ◌≢◌, ◌≤◌, ◌<◌, ◌+◌, ◌-◌, ◌^◌, ◌↔◌, min, ℕ, List, [], Option, Some, None, Err, length, Contains, IfOk, IfErr, IsOk, OnOk, OnErr, IsErrOf};
-ghost use Rattle.zc_outside.specs.Streams.{Adds, AddsPart, KeepsBytes, TakeCause, Takes, WriteCause};
-ghost use Rattle.zc_outside.specs.MemConsole.{Streams};
+ghost use Rattle.std.specs.Prelude.{◌≡◌, ◌≢◌, ◌≤◌, ◌↔◌, ◌++◌, min, [], Some, Err, length, take, drop, Contains, IfOk, IfErr, IsOk, IsErr, OnOk, OnErr, IsErrOf};
+ghost use Rattle.zc_outside.specs.Calls.{more, next_call};
+ghost use Rattle.zc_outside.specs.MemConsole.{after_take, after_write, written};
 
 use crate::calls::Calls;
 use crate::console::{Console, ConsoleFault};
@@ -29,20 +29,20 @@ pub struct MemConsole {
 
 impl Model for MemConsole {
     ghost use Rattle.std.specs.Prelude.{◌≤◌, drop, length};
-    ghost use Rattle.zc_outside.specs.MemConsole.{Streams};
+    ghost use Rattle.zc_outside.specs.MemConsole.{ConsoleState};
 
-    ghost Value = { Streams };
+    ghost Value = { ConsoleState };
 
     ghost view = { λ c. record {
-        input = drop c.at c.input.items;
-        out = c.out.items;
-        err = c.err.items;
-        fails = c.calls.failing.items;
-        calls = c.calls.made;
-        read_faults = c.read_faults;
-        write_faults = c.write_faults;
-        memory_faults = c.memory_faults;
-        taken = c.taken
+      input = drop c.at c.input.items;
+      out = c.out.items;
+      err = c.err.items;
+      fails = c.calls.failing.items;
+      calls = c.calls.made;
+      read_faults = c.read_faults;
+      write_faults = c.write_faults;
+      memory_faults = c.memory_faults;
+      taken = c.taken;
     } };
 
     ghost invariant = { λ c. c.at ≤ length c.input.items };
@@ -52,15 +52,15 @@ impl MemConsole {
     /// A console with this input, whose calls with these numbers fail.
     pub fn new(alloc: Global, input: &[u8], fails: &[u32]) -> Result<MemConsole, AllocError>
         ensures { IfOk result (λ c. c ≡ record {
-            input = input.now;
-            out = [];
-            err = [];
-            fails = fails.now;
-            calls = 0;
-            read_faults = 0;
-            write_faults = 0;
-            memory_faults = 0;
-            taken = 0
+          input = input.now;
+          out = [];
+          err = [];
+          fails = fails.now;
+          calls = 0;
+          read_faults = 0;
+          write_faults = 0;
+          memory_faults = 0;
+          taken = 0;
         }) }
     {
         let input = Vec::from_slice(alloc, input)?;
@@ -91,6 +91,35 @@ impl MemConsole {
     {
         self.err.as_slice()
     }
+
+    // Counts a write, and refuses it where it is one that fails.
+    fn begin_write(&mut self) -> Result<(), ConsoleFault>
+        ensures failed { IsErr result ↔ Contains self.old.fails self.old.calls }
+        ensures ok { OnOk result (self.new ≡ record self.old { calls = next_call self.old.calls }) }
+        ensures err { IfErr result (λ fault. (fault ≡ ConsoleFault.Failed) × (self.new ≡
+            record self.old { calls = next_call self.old.calls; write_faults = more self.old.write_faults 1 })) }
+        ensures writes { self.old.write_faults ≤ self.new.write_faults }
+    {
+        if self.calls.next_fails() {
+            self.write_faults = self.write_faults.saturating_add(1);
+            return Err(ConsoleFault::Failed);
+        }
+        Ok(())
+    }
+
+    // Refuses a write for which there was no memory, and counts that.
+    fn finish_write(&mut self, grown: Result<(), AllocError>) -> Result<(), ConsoleFault>
+        ensures ok { OnOk grown (IsOk result × (self.new ≡ self.old)) }
+        ensures err { OnErr grown (IsErrOf result ConsoleFault.OutOfMemory × (self.new ≡
+            record self.old { memory_faults = more self.old.memory_faults 1 })) }
+        ensures memory { self.old.memory_faults ≤ self.new.memory_faults }
+    {
+        if grown.is_err() {
+            self.memory_faults = self.memory_faults.saturating_add(1);
+            return Err(ConsoleFault::OutOfMemory);
+        }
+        Ok(())
+    }
 }
 
 impl Console for MemConsole {
@@ -110,7 +139,15 @@ impl Console for MemConsole {
 
     ghost sure = { λ c. c.fails ≡ [] };
 
-    fn take(&mut self, buf: &mut [u8]) -> Result<usize, ConsoleFault> {
+    /// Moves as many bytes as the input has left and the buffer has room for, and never wants memory.
+    fn take(&mut self, buf: &mut [u8]) -> Result<usize, ConsoleFault>
+        ensures moves { IfOk result (λ n. n ≡ min (length self.old.input) (length buf.old)) }
+        ensures buffer { IfOk result (λ n. buf.new ≡ take n self.old.input ++ drop n buf.old) }
+        ensures failed { IsErrOf result ConsoleFault.Failed ↔ Contains self.old.fails self.old.calls }
+        ensures memory { result ≢ Err ConsoleFault.OutOfMemory }
+        ensures after { self.new ≡ after_take self.old result }
+        ensures reads { self.old.read_faults ≤ self.new.read_faults }
+    {
         if self.calls.next_fails() {
             self.read_faults = self.read_faults.saturating_add(1);
             return Err(ConsoleFault::Failed);
@@ -123,33 +160,35 @@ impl Console for MemConsole {
         Ok(count)
     }
 
-    fn out(&mut self, bytes: &[u8]) -> Result<(), ConsoleFault> {
+    fn out(&mut self, bytes: &[u8]) -> Result<(), ConsoleFault>
+        ensures empty { bytes.now ≡ [] → IsOk result }
+        ensures failed { IsErrOf result ConsoleFault.Failed ↔ (bytes.now ≢ []) × Contains self.old.fails self.old.calls }
+        ensures after { self.new ≡
+            record (after_write self.old bytes.now result) { out = self.old.out ++ written bytes.now result } }
+        ensures writes { self.old.write_faults ≤ self.new.write_faults }
+        ensures memory { self.old.memory_faults ≤ self.new.memory_faults }
+    {
         if bytes.is_empty() {
             return Ok(());
         }
-        if self.calls.next_fails() {
-            self.write_faults = self.write_faults.saturating_add(1);
-            return Err(ConsoleFault::Failed);
-        }
-        if self.out.extend_from_slice(bytes).is_err() {
-            self.memory_faults = self.memory_faults.saturating_add(1);
-            return Err(ConsoleFault::OutOfMemory);
-        }
-        Ok(())
+        self.begin_write()?;
+        let grown = self.out.extend_from_slice(bytes);
+        self.finish_write(grown)
     }
 
-    fn err(&mut self, bytes: &[u8]) -> Result<(), ConsoleFault> {
+    fn err(&mut self, bytes: &[u8]) -> Result<(), ConsoleFault>
+        ensures empty { bytes.now ≡ [] → IsOk result }
+        ensures failed { IsErrOf result ConsoleFault.Failed ↔ (bytes.now ≢ []) × Contains self.old.fails self.old.calls }
+        ensures after { self.new ≡
+            record (after_write self.old bytes.now result) { err = self.old.err ++ written bytes.now result } }
+        ensures writes { self.old.write_faults ≤ self.new.write_faults }
+        ensures memory { self.old.memory_faults ≤ self.new.memory_faults }
+    {
         if bytes.is_empty() {
             return Ok(());
         }
-        if self.calls.next_fails() {
-            self.write_faults = self.write_faults.saturating_add(1);
-            return Err(ConsoleFault::Failed);
-        }
-        if self.err.extend_from_slice(bytes).is_err() {
-            self.memory_faults = self.memory_faults.saturating_add(1);
-            return Err(ConsoleFault::OutOfMemory);
-        }
-        Ok(())
+        self.begin_write()?;
+        let grown = self.err.extend_from_slice(bytes);
+        self.finish_write(grown)
     }
 }

@@ -1,9 +1,9 @@
 // A store in memory, some of whose calls fail.
 
-ghost use Rattle.std.specs.Prelude.{◌≡◌, ◌≢◌, ◌≤◌, ◌<◌, ◌+◌, ◌-◌, ◌^◌, ◌⊎◌, ◌↔◌, min, ℕ, List, [], Option, Some, None, Err, length, Contains, IfOk, IfErr, OnOk, OnErr, IsErrOf};
+ghost use Rattle.std.specs.Prelude.{◌≡◌, ◌≤◌, ◌<◌, ◌-◌, ◌^◌, ◌⊎◌, ◌↔◌, ℕ, List, [], Some, None, length, Contains, IfOk, IfErr, OnOk, OnErr, IsErrOf};
 ghost use Rattle.std.specs.Option.{option_copied};
-ghost use Rattle.zc_outside.specs.Files.{Files, KeepsFiles, PutsFile, HasFile, IsLong, Holds, GetCause, PutCause};
-ghost use Rattle.zc_outside.specs.MemStore.{files_of, fails_of, calls_of, read_faults_of, long_files_of, write_faults_of, IsFresh, KeepsCounts};
+ghost use Rattle.zc_outside.specs.Files.{KeepsFiles, PutsFile, HasFile, GetCause, PutCause};
+ghost use Rattle.zc_outside.specs.MemStore.{files_of, counts_of, after_get, after_put};
 
 use crate::calls::Calls;
 use crate::store::{Store, StoreFault};
@@ -28,8 +28,8 @@ impl MemStore {
     /// A store that holds no file, and whose calls with these numbers fail.
     pub fn new(alloc: Global, fails: &[u32]) -> Result<MemStore, AllocError>
         ensures empty { IfOk result (λ s. (q : List ℕ) → files_of s q ≡ None) }
-        ensures fails { IfOk result (λ s. fails_of s ≡ fails.now) }
-        ensures fresh { IfOk result IsFresh }
+        ensures counts { IfOk result (λ s. counts_of s ≡
+            record { fails = fails.now; calls = 0; read_faults = 0; long_files = 0; write_faults = 0 }) }
     {
         let calls = Calls::new(alloc, fails)?;
         Ok(MemStore {
@@ -46,7 +46,7 @@ impl MemStore {
     pub fn add(&mut self, name: &str, bytes: &[u8]) -> Result<(), AllocError>
         ensures ok { OnOk result (PutsFile (Some (files_of self.old)) (Some (files_of self.new)) name.now bytes.now) }
         ensures err { OnErr result (KeepsFiles (Some (files_of self.old)) (Some (files_of self.new))) }
-        ensures counts { KeepsCounts self.old self.new }
+        ensures counts { counts_of self.new ≡ counts_of self.old }
     {
         let name = name.to_owned(self.alloc)?;
         let bytes = Vec::from_slice(self.alloc, bytes)?;
@@ -68,37 +68,28 @@ impl MemStore {
 impl Store for MemStore {
     ghost files = { λ s. Some (files_of s) };
 
-    ghost read_faults = { read_faults_of };
+    ghost read_faults = { λ s. (counts_of s).read_faults };
 
-    ghost long_files = { long_files_of };
+    ghost long_files = { λ s. (counts_of s).long_files };
 
-    ghost write_faults = { write_faults_of };
+    ghost write_faults = { λ s. (counts_of s).write_faults };
 
-    ghost sure = { λ s. fails_of s ≡ [] };
+    ghost sure = { λ s. (counts_of s).fails ≡ [] };
 
     /// Fails too where the name isn't held.
     fn get(&mut self, alloc: Global, name: &str, limit: u32) -> Result<Vec<u8>, StoreFault>
         requires { limit < 2 ^ 32 - 1 }
         ensures within { IfOk result (λ v. length v.items ≤ limit) }
         ensures content { IfOk result (λ v. HasFile (Some (files_of self.old)) name.now v.items) }
-        ensures cause { IfErr result (GetCause (read_faults_of self.old) (read_faults_of self.new)
-            (long_files_of self.old) (long_files_of self.new) (Some (files_of self.old)) name.now limit) }
+        ensures failed { IsErrOf result StoreFault.Failed ↔
+            (Contains (counts_of self.old).fails (counts_of self.old).calls ⊎ (files_of self.old name.now ≡ None)) }
+        ensures cause { IfErr result (GetCause (counts_of self.old).read_faults (counts_of self.new).read_faults
+            (counts_of self.old).long_files (counts_of self.new).long_files (Some (files_of self.old)) name.now limit) }
 
         ensures keeps { KeepsFiles (Some (files_of self.old)) (Some (files_of self.new)) }
-        ensures reads { read_faults_of self.old ≤ read_faults_of self.new }
-        ensures longs { long_files_of self.old ≤ long_files_of self.new }
-        ensures writes { write_faults_of self.new ≡ write_faults_of self.old }
-
-        ensures stays { fails_of self.new ≡ fails_of self.old }
-        ensures sure { fails_of self.old ≡ [] → Holds (Some (files_of self.old)) name.now →
-            (read_faults_of self.new ≡ read_faults_of self.old) × (result ≢ Err StoreFault.Failed) }
-        ensures sure_long { fails_of self.old ≡ [] → Holds (Some (files_of self.old)) name.now →
-            (long_files_of self.new ≡ long_files_of self.old) ⊎ IsLong (Some (files_of self.old)) name.now limit }
-
-        // Exactly the listed calls fail, and those for a name that isn't held.
-        ensures failed { IsErrOf result StoreFault.Failed ↔
-            (Contains (fails_of self.old) (calls_of self.old) ⊎ (files_of self.old name.now ≡ None)) }
-        ensures number { calls_of self.new ≡ min (calls_of self.old + 1) (2 ^ 32 - 1) }
+        ensures after { counts_of self.new ≡ after_get (counts_of self.old) result }
+        ensures reads { (counts_of self.old).read_faults ≤ (counts_of self.new).read_faults }
+        ensures longs { (counts_of self.old).long_files ≤ (counts_of self.new).long_files }
     {
         if self.calls.next_fails() {
             self.read_faults = self.read_faults.saturating_add(1);
@@ -120,19 +111,12 @@ impl Store for MemStore {
     fn put(&mut self, name: &str, bytes: &[u8]) -> Result<(), StoreFault>
         ensures ok { OnOk result (PutsFile (Some (files_of self.old)) (Some (files_of self.new)) name.now bytes.now) }
         ensures err { OnErr result (KeepsFiles (Some (files_of self.old)) (Some (files_of self.new))) }
-        ensures cause { IfErr result (PutCause (write_faults_of self.old) (write_faults_of self.new)) }
+        ensures failed { IsErrOf result StoreFault.Failed ↔
+            Contains (counts_of self.old).fails (counts_of self.old).calls }
+        ensures cause { IfErr result (PutCause (counts_of self.old).write_faults (counts_of self.new).write_faults) }
 
-        ensures reads { read_faults_of self.new ≡ read_faults_of self.old }
-        ensures longs { long_files_of self.new ≡ long_files_of self.old }
-        ensures writes { write_faults_of self.old ≤ write_faults_of self.new }
-
-        ensures stays { fails_of self.new ≡ fails_of self.old }
-        ensures sure { fails_of self.old ≡ [] →
-            (write_faults_of self.new ≡ write_faults_of self.old) × (result ≢ Err StoreFault.Failed) }
-
-        // Exactly the listed calls fail.
-        ensures failed { IsErrOf result StoreFault.Failed ↔ Contains (fails_of self.old) (calls_of self.old) }
-        ensures number { calls_of self.new ≡ min (calls_of self.old + 1) (2 ^ 32 - 1) }
+        ensures after { counts_of self.new ≡ after_put (counts_of self.old) result }
+        ensures writes { (counts_of self.old).write_faults ≤ (counts_of self.new).write_faults }
     {
         if self.calls.next_fails() {
             self.write_faults = self.write_faults.saturating_add(1);
