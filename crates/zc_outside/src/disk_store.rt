@@ -246,3 +246,58 @@ fn fill<F: Write>(file: &mut F, bytes: &[u8]) -> Result<(), Trouble>
         Err(Trouble::System)
     }
 }
+
+#[cfg(test)]
+mod tests {
+    use super::*;
+    use std::test::Fail;
+
+    #[test]
+    fn puts_and_gets_files(rt: HostRuntime) -> Result<(), Fail> {
+        let id = std::process::id(rt.process());
+        let folder = format!(in rt.alloc(); "zc_outside-{id}")?;
+        fs::create_dir(&rt, folder.as_str())?;
+        let name = format!(in rt.alloc(); "{folder}/file")?;
+        let name = name.as_str();
+        let mut store = DiskStore::new(&rt);
+        for bytes in [b"the first bytes".as_slice(), b"", b"then others"] {
+            assert_eq!(rt; store.put(name, bytes), Ok(()));
+            assert_eq!(rt; store.get(rt.alloc(), name, 15)?.as_slice(), bytes);
+        }
+        assert_eq!(rt; store.get(rt.alloc(), name, 11)?.len(), 11, "at the limit");
+        let beside = name_beside(rt.alloc(), name, 0)?;
+        assert_eq!(rt;
+            fs::exists(&rt, beside.as_str())?,
+            false,
+            "no other file is left"
+        );
+        let faults = [
+            (name, 10, StoreFault::TooLong { taken: 11 }),
+            ("zc_outside-none", 10, StoreFault::Failed),
+            (folder.as_str(), 10, StoreFault::Failed),
+        ];
+        for (name, limit, fault) in faults {
+            match store.get(rt.alloc(), name, limit) {
+                Ok(_) => panic!(rt; "{name} was read"),
+                Err(found) => assert_eq!(rt; found, fault, "at {name}, {limit}"),
+            }
+        }
+        assert_eq!(rt;
+            store.put(folder.as_str(), b"a folder is no file"),
+            Err(StoreFault::Failed)
+        );
+        assert_eq!(rt;
+            store.put("zc_outside-none/file", b"no folder"),
+            Err(StoreFault::Failed)
+        );
+        assert_eq!(rt; store.put("/dev/null", b"in place"), Ok(()));
+        assert_eq!(rt; store.get(rt.alloc(), "/dev/null", 0)?.len(), 0);
+        assert_eq!(rt;
+            (store.read_faults, store.long_files, store.write_faults),
+            (2, 1, 2)
+        );
+        fs::remove_file(&rt, name)?;
+        fs::remove_dir(&rt, folder.as_str())?;
+        Ok(())
+    }
+}

@@ -144,7 +144,7 @@ impl Console for MemConsole {
         ensures moves { IfOk result (λ n. n ≡ min (length self.old.input) (length buf.old)) }
         ensures buffer { IfOk result (λ n. buf.new ≡ take n self.old.input ++ drop n buf.old) }
         ensures failed { IsErrOf result ConsoleFault.Failed ↔ Contains self.old.fails self.old.calls }
-        ensures memory { result ≢ Err ConsoleFault.OutOfMemory }
+        ensures wants_none { result ≢ Err ConsoleFault.OutOfMemory }
         ensures after { self.new ≡ after_take self.old result }
         ensures reads { self.old.read_faults ≤ self.new.read_faults }
     {
@@ -162,7 +162,8 @@ impl Console for MemConsole {
 
     fn out(&mut self, bytes: &[u8]) -> Result<(), ConsoleFault>
         ensures empty { bytes.now ≡ [] → IsOk result }
-        ensures failed { IsErrOf result ConsoleFault.Failed ↔ (bytes.now ≢ []) × Contains self.old.fails self.old.calls }
+        ensures failed { IsErrOf result ConsoleFault.Failed ↔
+            ((bytes.now ≢ []) × Contains self.old.fails self.old.calls) }
         ensures after { self.new ≡
             record (after_write self.old bytes.now result) { out = self.old.out ++ written bytes.now result } }
         ensures writes { self.old.write_faults ≤ self.new.write_faults }
@@ -178,7 +179,8 @@ impl Console for MemConsole {
 
     fn err(&mut self, bytes: &[u8]) -> Result<(), ConsoleFault>
         ensures empty { bytes.now ≡ [] → IsOk result }
-        ensures failed { IsErrOf result ConsoleFault.Failed ↔ (bytes.now ≢ []) × Contains self.old.fails self.old.calls }
+        ensures failed { IsErrOf result ConsoleFault.Failed ↔
+            ((bytes.now ≢ []) × Contains self.old.fails self.old.calls) }
         ensures after { self.new ≡
             record (after_write self.old bytes.now result) { err = self.old.err ++ written bytes.now result } }
         ensures writes { self.old.write_faults ≤ self.new.write_faults }
@@ -190,5 +192,35 @@ impl Console for MemConsole {
         self.begin_write()?;
         let grown = self.err.extend_from_slice(bytes);
         self.finish_write(grown)
+    }
+}
+
+#[cfg(test)]
+mod tests {
+    use super::*;
+    use std::test::Fail;
+
+    // Calls 0 to 6: the fourth, an err, is listed.
+    #[test]
+    fn moves_bytes_but_for_the_listed_calls(rt: HostRuntime) -> Result<(), Fail> {
+        let mut console = MemConsole::new(rt.alloc(), b"hello", &[3])?;
+        let mut buf = [0u8; 4];
+        assert_eq!(rt; console.take(&mut buf[..2]), Ok(2));
+        assert_eq!(rt; console.take(&mut buf[..0]), Ok(0));
+        assert_eq!(rt; console.out(b"to out"), Ok(()));
+        assert_eq!(rt; console.out(b""), Ok(()), "an empty piece has no number");
+        assert_eq!(rt; console.err(b""), Ok(()), "an empty piece has no number");
+        assert_eq!(rt; console.err(b"lost"), Err(ConsoleFault::Failed));
+        assert_eq!(rt; console.take(&mut buf), Ok(3));
+        assert_eq!(rt; buf, *b"llo\0", "no byte stands behind those that came");
+        assert_eq!(rt; console.take(&mut buf), Ok(0));
+        assert_eq!(rt; console.err(b"to err"), Ok(()));
+        assert_eq!(rt; console.out_bytes(), b"to out".as_slice());
+        assert_eq!(rt; console.err_bytes(), b"to err".as_slice());
+        assert_eq!(rt;
+            (console.taken, console.read_faults, console.write_faults),
+            (5, 0, 1)
+        );
+        Ok(())
     }
 }

@@ -125,3 +125,42 @@ impl Store for MemStore {
         self.add(name, bytes).map_err(|_| StoreFault::OutOfMemory)
     }
 }
+
+#[cfg(test)]
+mod tests {
+    use super::*;
+    use std::test::Fail;
+
+    // Calls 0 to 6: the second put and the third get are listed.
+    #[test]
+    fn keeps_files_but_for_the_listed_calls(rt: HostRuntime) -> Result<(), Fail> {
+        let mut store = MemStore::new(rt.alloc(), &[1, 5])?;
+        store.add("old", b"was here")?;
+        assert_eq!(rt; store.put("new", b"abc"), Ok(()));
+        assert_eq!(rt; store.put("old", b"lost"), Err(StoreFault::Failed));
+        assert_eq!(rt;
+            store.get(rt.alloc(), "new", 3)?.as_slice(),
+            b"abc".as_slice()
+        );
+        let limits = [
+            ("new", 2, StoreFault::TooLong { taken: 3 }),
+            ("none", 9, StoreFault::Failed),
+            ("new", 3, StoreFault::Failed),
+        ];
+        for (name, limit, fault) in limits {
+            match store.get(rt.alloc(), name, limit) {
+                Ok(_) => panic!(rt; "{name} was read"),
+                Err(found) => assert_eq!(rt; found, fault, "at {name}, {limit}"),
+            }
+        }
+        assert_eq!(rt; store.put("new", b""), Ok(()));
+        assert_eq!(rt; store.file("new"), Some(b"".as_slice()));
+        assert_eq!(rt; store.file("old"), Some(b"was here".as_slice()));
+        assert_eq!(rt; store.file("none"), None);
+        assert_eq!(rt;
+            (store.read_faults, store.long_files, store.write_faults),
+            (2, 1, 1)
+        );
+        Ok(())
+    }
+}

@@ -88,3 +88,96 @@ impl<I: Read, O: Write, E: Write> Console for StdConsole<I, O, E> {
         Err(ConsoleFault::Failed)
     }
 }
+
+#[cfg(test)]
+mod tests {
+    use super::*;
+    use std::io;
+    use std::io::ErrorKind;
+    use std::test::Fail;
+
+    // A writer that takes a byte a call, is interrupted at the second, and has room for three.
+    #[derive(Drop)]
+    struct Narrow {
+        calls: u32,
+        written: u32,
+    }
+
+    impl Write for Narrow {
+        fn write(&mut self, buf: &[u8]) -> io::Result<usize> {
+            self.calls = self.calls.saturating_add(1);
+            if self.calls == 2 {
+                return Err(io::Error::from(ErrorKind::Interrupted));
+            }
+            if self.written >= 3 || buf.is_empty() {
+                return Ok(0);
+            }
+            self.written += 1;
+            Ok(1)
+        }
+
+        fn flush(&mut self) -> io::Result<()> {
+            Ok(())
+        }
+    }
+
+    // A reader that is interrupted once, then broken.
+    #[derive(Drop)]
+    struct Broken {
+        calls: u32,
+    }
+
+    impl Read for Broken {
+        fn read(&mut self, _buf: &mut [u8]) -> io::Result<usize> {
+            self.calls = self.calls.saturating_add(1);
+            if self.calls == 1 {
+                Err(io::Error::from(ErrorKind::Interrupted))
+            } else {
+                Err(io::Error::from(ErrorKind::Other))
+            }
+        }
+    }
+
+    #[test]
+    fn writes_whole_pieces_or_counts_a_fault(rt: HostRuntime) {
+        let narrow = Narrow {
+            calls: 0,
+            written: 0,
+        };
+        let mut console = StdConsole::new(Broken { calls: 0 }, narrow, Vec::<u8>::new(rt.alloc()));
+        assert_eq!(rt; console.out(b"ab"), Ok(()));
+        assert_eq!(rt; console.out(b""), Ok(()));
+        assert_eq!(rt;
+            console.out(b"cd"),
+            Err(ConsoleFault::Failed),
+            "one byte has room"
+        );
+        assert_eq!(rt;
+            console.out(b"e"),
+            Err(ConsoleFault::Failed),
+            "a write takes nothing"
+        );
+        assert_eq!(rt; console.err(b"to err"), Ok(()));
+        assert_eq!(rt; console.take(&mut [0; 4]), Err(ConsoleFault::Failed));
+        assert_eq!(rt; console.input.calls, 2);
+        assert_eq!(rt; console.out.written, 3);
+        assert_eq!(rt; console.err.as_slice(), b"to err".as_slice());
+        assert_eq!(rt;
+            (console.read_faults, console.write_faults, console.taken),
+            (1, 2, 0)
+        );
+    }
+
+    #[test]
+    fn speaks_to_the_standard_streams(rt: HostRuntime) {
+        let mut console = StdConsole::new(rt.stdin(), rt.stdout(), rt.stderr());
+        assert_eq!(rt; console.out(b"out\n"), Ok(()));
+        assert_eq!(rt; console.out(b""), Ok(()));
+        assert_eq!(rt; console.err(b"err\n"), Ok(()));
+        assert_eq!(rt; console.take(&mut [0; 4]), Ok(0), "a test has no input");
+        assert_eq!(rt;
+            (console.read_faults, console.write_faults, console.taken),
+            (0, 0, 0)
+        );
+    }
+}
