@@ -42,3 +42,15 @@ impl Reg {
         self.number
     }
 }
+
+#[cfg(test)]
+mod tests {
+    use super::*;
+
+    #[test]
+    fn numbers_below_32_are_registers(rt: HostRuntime) {
+        for (number, want) in [(0, Some(0)), (31, Some(31)), (32, None), (255, None)] {
+            assert_eq!(rt; Reg::new(number).map(|r| r.number()), want, "at {number}");
+        }
+    }
+}

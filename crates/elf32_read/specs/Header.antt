@@ -1,0 +1,67 @@
+-- The headers of a little-endian ELF file of class 32 (System V gABI, "ELF Header" and "Sections").
+use Rattle.std.specs.Prelude.{ℕ, ◌+◌, ◌*◌, Bool, ◌&&◌, ◌||◌, ◌==◌, if◌then◌else◌, List, [], take, drop, map, slice_index}
+use Rattle.std.specs.List.{range_with_len}
+use Rattle.zc_base.specs.Fields.{half_in, word_in}
+
+-- e_shoff: where the section headers begin
+abbrev pub section_table : List ℕ → ℕ
+section_table bytes = word_in bytes 32
+
+-- e_flags
+abbrev pub object_flags : List ℕ → ℕ
+object_flags bytes = word_in bytes 36
+
+-- e_shentsize: the bytes of a section header
+abbrev pub section_header_size : List ℕ → ℕ
+section_header_size bytes = half_in bytes 46
+
+-- e_shnum: how many sections there are
+abbrev pub section_count : List ℕ → ℕ
+section_count bytes = half_in bytes 48
+
+-- e_ident begins 7F "ELF", class 1 (32-bit), data 1 (little-endian), version 1; e_type is the given
+-- one, and e_machine is 243 (RISC-V ELF psABI, "File Header")
+abbrev pub begins_as : ℕ → List ℕ → Bool
+begins_as file_type bytes =
+    word_in bytes 0 == 0x464C_457F && slice_index bytes 4 == 1 && slice_index bytes 5 == 1 && slice_index bytes 6 == 1 && half_in bytes 16 == file_type && half_in bytes 18 == 243
+
+-- a section header: sh_name, sh_type, sh_flags, sh_addr, sh_offset, sh_size, sh_link, sh_info,
+-- sh_addralign and sh_entsize
+pub record Header : Type 0 where
+  pub name : ℕ
+  pub kind : ℕ
+  pub flags : ℕ
+  pub address : ℕ
+  pub offset : ℕ
+  pub size : ℕ
+  pub link : ℕ
+  pub info : ℕ
+  pub align : ℕ
+  pub entry_size : ℕ
+
+-- the header of a section: ten words
+unfoldable pub header_of : List ℕ → ℕ → Header
+header_of bytes i = let at = section_table bytes + 40 * i in record {
+  name = word_in bytes at;
+  kind = word_in bytes (at + 4);
+  flags = word_in bytes (at + 8);
+  address = word_in bytes (at + 12);
+  offset = word_in bytes (at + 16);
+  size = word_in bytes (at + 20);
+  link = word_in bytes (at + 24);
+  info = word_in bytes (at + 28);
+  align = word_in bytes (at + 32);
+  entry_size = word_in bytes (at + 36);
+}
+
+-- the headers of all sections, in order
+abbrev pub headers_of : List ℕ → List Header
+headers_of bytes = map (header_of bytes) (range_with_len 0 (section_count bytes))
+
+-- a section without content in the file: NULL (0) or NOBITS (8)
+abbrev pub is_empty_kind : ℕ → Bool
+is_empty_kind kind = kind == 0 || kind == 8
+
+-- the content of a section
+abbrev pub content_of : List ℕ → Header → List ℕ
+content_of bytes header = if is_empty_kind header.kind then [] else take header.size (drop header.offset bytes)

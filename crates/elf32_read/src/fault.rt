@@ -1,0 +1,143 @@
+// What can be wrong with an object.
+
+ghost use Rattle.std.specs.Prelude.{◌≡◌};
+ghost use Rattle.elf32_read.specs.Fault.{fault_name, fault_number};
+
+use thiserror::Error;
+
+/// Why the linker refuses an object. A fault is shown as its name.
+///
+/// `symbol` is the index of a symbol in its object, `section` that of a section, and `at` the offset
+/// of a relocation or of a branch in that section.
+#[derive(Clone, Copy, PartialEq, Eq, Debug, Error)]
+pub enum Fault {
+    /// An object of a kind that the linker does not link yet.
+    #[error("NotBuilt")]
+    NotBuilt,
+    #[error("NotElf")]
+    NotElf,
+    #[error("Truncated")]
+    Truncated,
+    #[error("Flags")]
+    Flags,
+    #[error("SectionKind")]
+    SectionKind,
+    #[error("Alignment")]
+    Alignment,
+    #[error("CodeSize")]
+    CodeSize,
+    #[error("BadName")]
+    BadName,
+    #[error("BadSymbol")]
+    BadSymbol,
+    #[error("Duplicate")]
+    Duplicate { symbol: u32 },
+    #[error("Undefined")]
+    Undefined { symbol: u32 },
+    #[error("RelocKind")]
+    RelocKind { section: u16, at: u32 },
+    #[error("RelocPlace")]
+    RelocPlace { section: u16, at: u32 },
+    #[error("LoPair")]
+    LoPair { section: u16, at: u32 },
+    #[error("BadTarget")]
+    BadTarget { section: u16, at: u32 },
+    #[error("Range")]
+    Range { section: u16, at: u32 },
+    #[error("NoEntry")]
+    NoEntry,
+    #[error("TooLarge")]
+    TooLarge,
+}
+
+impl Fault {
+    /// The fault's number, from 1 on in the order above; 0 for `NotBuilt`.
+    pub fn number(&self) -> u32
+        ensures { result ≡ fault_number self.now }
+    {
+        match self {
+            Fault::NotBuilt => 0,
+            Fault::NotElf => 1,
+            Fault::Truncated => 2,
+            Fault::Flags => 3,
+            Fault::SectionKind => 4,
+            Fault::Alignment => 5,
+            Fault::CodeSize => 6,
+            Fault::BadName => 7,
+            Fault::BadSymbol => 8,
+            Fault::Duplicate { .. } => 9,
+            Fault::Undefined { .. } => 10,
+            Fault::RelocKind { .. } => 11,
+            Fault::RelocPlace { .. } => 12,
+            Fault::LoPair { .. } => 13,
+            Fault::BadTarget { .. } => 14,
+            Fault::Range { .. } => 15,
+            Fault::NoEntry => 16,
+            Fault::TooLarge => 17,
+        }
+    }
+
+    /// The fault's name, as it is written above.
+    pub fn name(&self) -> &'static str
+        ensures { result.now ≡ fault_name self.now }
+    {
+        match self {
+            Fault::NotBuilt => "NotBuilt",
+            Fault::NotElf => "NotElf",
+            Fault::Truncated => "Truncated",
+            Fault::Flags => "Flags",
+            Fault::SectionKind => "SectionKind",
+            Fault::Alignment => "Alignment",
+            Fault::CodeSize => "CodeSize",
+            Fault::BadName => "BadName",
+            Fault::BadSymbol => "BadSymbol",
+            Fault::Duplicate { .. } => "Duplicate",
+            Fault::Undefined { .. } => "Undefined",
+            Fault::RelocKind { .. } => "RelocKind",
+            Fault::RelocPlace { .. } => "RelocPlace",
+            Fault::LoPair { .. } => "LoPair",
+            Fault::BadTarget { .. } => "BadTarget",
+            Fault::Range { .. } => "Range",
+            Fault::NoEntry => "NoEntry",
+            Fault::TooLarge => "TooLarge",
+        }
+    }
+}
+
+#[cfg(test)]
+mod tests {
+    use super::*;
+    use std::test::Fail;
+
+    #[test]
+    fn faults_are_numbered_named_and_shown(rt: HostRuntime) -> Result<(), Fail> {
+        let (section, at) = (3, 8);
+        let rows = [
+            (Fault::NotBuilt, 0, "NotBuilt"),
+            (Fault::NotElf, 1, "NotElf"),
+            (Fault::Truncated, 2, "Truncated"),
+            (Fault::Flags, 3, "Flags"),
+            (Fault::SectionKind, 4, "SectionKind"),
+            (Fault::Alignment, 5, "Alignment"),
+            (Fault::CodeSize, 6, "CodeSize"),
+            (Fault::BadName, 7, "BadName"),
+            (Fault::BadSymbol, 8, "BadSymbol"),
+            (Fault::Duplicate { symbol: 5 }, 9, "Duplicate"),
+            (Fault::Undefined { symbol: 5 }, 10, "Undefined"),
+            (Fault::RelocKind { section, at }, 11, "RelocKind"),
+            (Fault::RelocPlace { section, at }, 12, "RelocPlace"),
+            (Fault::LoPair { section, at }, 13, "LoPair"),
+            (Fault::BadTarget { section, at }, 14, "BadTarget"),
+            (Fault::Range { section, at }, 15, "Range"),
+            (Fault::NoEntry, 16, "NoEntry"),
+            (Fault::TooLarge, 17, "TooLarge"),
+        ];
+        for (fault, number, name) in rows {
+            assert_eq!(rt; fault.number(), number, "{name}");
+            assert_eq!(rt; fault.name(), name);
+            let shown = fault.to_string(rt.alloc())?;
+            assert_eq!(rt; shown.as_str(), name);
+        }
+        Ok(())
+    }
+}

@@ -1,0 +1,9 @@
+//! Reads ELF files of 32-bit RISC-V: relocatable objects, by their sections. A value borrows the
+//! bytes that it was read from, and nothing here takes memory.
+#![tactic(auto)]
+
+pub mod fault;
+mod header;
+pub mod object;
+pub mod section;
+pub mod section_flags;

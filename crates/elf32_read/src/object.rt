@@ -1,0 +1,133 @@
+// Objects.
+
+ghost use Rattle.std.specs.Prelude.{◌≡◌, ◌≢◌, ◌≤◌, ◌<◌, ◌+◌, ◌*◌, ◌^◌, List, ℕ, length, None, Some, MatchResult, take, drop, [], if◌then◌else◌};
+ghost use Rattle.elf32_read.specs.Header.{content_of, header_of, is_empty_kind, object_flags, section_count, section_table};
+ghost use Rattle.elf32_read.specs.Object.{not_elf, object_fault, passes_end, truncated};
+
+use crate::fault::Fault;
+use crate::header::{SectionHeader, begins_as, is_without_content, section_header};
+use crate::section::Section;
+use crate::section_flags::SectionFlags;
+use std::marker::Model;
+use zc_base::fields::{u16_at, u32_at};
+
+const RELOCATABLE: u16 = 1;
+
+fn is_no_object(bytes: &[u8]) -> bool
+    ensures { result ≡ not_elf bytes.now }
+{
+    bytes.len() < 52
+        || !begins_as(RELOCATABLE, bytes)
+        || (u16_at(bytes, 48) != 0 && u16_at(bytes, 46) != 40)
+}
+
+// Whether a section's content passes the end.
+fn is_section_cut(bytes: &[u8], i: u32) -> bool
+    requires start { 52 ≤ length bytes.now }
+    requires within { section_table bytes.now + 40 * i + 40 ≤ length bytes.now }
+    ensures { result ≡ passes_end bytes.now (header_of bytes.now i) }
+{
+    let header = section_header(bytes, i);
+    !is_without_content(header.kind) && bytes.len() < header.offset as usize + header.size as usize
+}
+
+// Whether the section headers or a section's content pass the end.
+#[tactic(auto, using(crate::proofs::Listed::none_listed_more))]
+fn is_cut(bytes: &[u8]) -> bool
+    requires { 52 ≤ length bytes.now }
+    ensures { result ≡ truncated bytes.now }
+{
+    let count = u32::from(u16_at(bytes, 48));
+    if bytes.len() < u32_at(bytes, 32) as usize + 40 * count as usize {
+        return true;
+    }
+    for i in 0..count {
+        if is_section_cut(bytes, i) {
+            return true;
+        }
+    }
+    false
+}
+
+// The content of a section.
+fn content(bytes: &[u8], header: SectionHeader) -> &[u8]
+    requires { header.kind ≢ 0 → header.kind ≢ 8 → header.offset + header.size ≤ length bytes.now }
+    ensures whole { header.kind ≢ 0 → header.kind ≢ 8 → length result.now ≡ header.size }
+    ensures content { result.now ≡ (if is_empty_kind header.kind then [] else take header.size (drop header.offset bytes.entry.now)) }
+{
+    if is_without_content(header.kind) {
+        &[]
+    } else {
+        let start = header.offset as usize;
+        &bytes[start..start + header.size as usize]
+    }
+}
+
+/// A relocatable object without a fault. Clauses see it as its bytes.
+#[derive(Drop)]
+pub struct Object<'a> {
+    bytes: &'a [u8],
+}
+
+impl<'a> Model for Object<'a> {
+    ghost Value = { List ℕ };
+
+    ghost view = { λ object. object.bytes.now };
+
+    ghost invariant = { λ object. object_fault object.bytes.now ≡ None };
+}
+
+impl<'a> Object<'a> {
+    /// The object that the bytes are, or their first fault. It reads each section's header once.
+    #[tactic(auto, unfolding(crate::specs::Object::object_fault))]
+    pub fn read(bytes: &'a [u8]) -> Result<Object<'a>, Fault>
+        ensures { MatchResult result (λ object. (object ≡ bytes.entry.now) × (object_fault bytes.entry.now ≡ None)) (λ fault. object_fault bytes.entry.now ≡ Some fault) }
+    {
+        if is_no_object(bytes) {
+            return Err(Fault::NotElf);
+        }
+        if is_cut(bytes) {
+            return Err(Fault::Truncated);
+        }
+        Ok(Object { bytes })
+    }
+
+    /// The flags of the file, e_flags (RISC-V ELF psABI, "File Header").
+    pub fn flags(&self) -> u32
+        ensures { result ≡ object_flags self.now }
+    {
+        u32_at(self.bytes, 36)
+    }
+
+    /// How many sections there are, with the first, which is NULL in most files.
+    pub fn section_count(&self) -> u32
+        ensures count { result ≡ section_count self.now }
+        ensures small { result < 2 ^ 16 }
+        ensures faultless { object_fault self.now ≡ None }
+    {
+        u32::from(u16_at(self.bytes, 48))
+    }
+
+    /// A section, by its index.
+    pub fn section(&self, i: u32) -> Section<'a>
+        requires { i < section_count self.now }
+        ensures kind { result.kind ≡ (header_of self.now i).kind }
+        ensures flags { result.flags.bits ≡ (header_of self.now i).flags }
+        ensures size { result.size ≡ (header_of self.now i).size }
+        ensures align { result.align ≡ (header_of self.now i).align }
+        ensures bytes { result.bytes.now ≡ content_of self.now (header_of self.now i) }
+        ensures whole { result.kind ≢ 0 → result.kind ≢ 8 → length result.bytes.now ≡ result.size }
+    {
+        let header = section_header(self.bytes, i);
+        Section {
+            kind: header.kind,
+            flags: SectionFlags { bits: header.flags },
+            size: header.size,
+            align: header.align,
+            bytes: content(self.bytes, header),
+        }
+    }
+}
+
+#[cfg(test)]
+mod tests;

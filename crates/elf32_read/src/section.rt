@@ -1,0 +1,16 @@
+// Sections.
+
+use crate::section_flags::SectionFlags;
+
+/// A section of an object, by its header (System V gABI, "Sections").
+///
+/// `kind` is sh_type, `size` is in bytes, and `align` is a power of two, or 0 for none. `bytes` is
+/// the section's content; it is empty where the file holds none, for the kinds NULL and NOBITS.
+#[derive(Clone, Copy, PartialEq, Eq, Debug)]
+pub struct Section<'a> {
+    pub kind: u32,
+    pub flags: SectionFlags,
+    pub size: u32,
+    pub align: u32,
+    pub bytes: &'a [u8],
+}

@@ -1,0 +1,96 @@
+// The flags of a section.
+
+ghost use Rattle.std.specs.Prelude.{⊤, [], ◌∷◌, codes};
+
+use bitflags::{Flag, Flags};
+
+/// A section's flags, sh_flags (System V gABI, "Sections"). Bits without a name are kept.
+#[derive(Clone, Copy, PartialEq, Eq, Debug)]
+pub struct SectionFlags {
+    pub bits: u32,
+}
+
+impl SectionFlags {
+    /// The program may write to it.
+    pub const WRITE: SectionFlags = SectionFlags { bits: 1 };
+
+    /// It lies in the program's memory.
+    pub const ALLOC: SectionFlags = SectionFlags { bits: 2 };
+
+    /// It holds instructions.
+    pub const EXECINSTR: SectionFlags = SectionFlags { bits: 4 };
+
+    /// It holds data that each thread has of its own.
+    pub const TLS: SectionFlags = SectionFlags { bits: 0x400 };
+
+    /// Its content is compressed.
+    pub const COMPRESSED: SectionFlags = SectionFlags { bits: 0x800 };
+
+    const NAMED: &'static [Flag<SectionFlags>] = &[
+        Flag {
+            name: "WRITE",
+            value: SectionFlags::WRITE,
+        },
+        Flag {
+            name: "ALLOC",
+            value: SectionFlags::ALLOC,
+        },
+        Flag {
+            name: "EXECINSTR",
+            value: SectionFlags::EXECINSTR,
+        },
+        Flag {
+            name: "TLS",
+            value: SectionFlags::TLS,
+        },
+        Flag {
+            name: "COMPRESSED",
+            value: SectionFlags::COMPRESSED,
+        },
+    ];
+}
+
+impl Flags for SectionFlags {
+    type Bits = u32;
+
+    ghost exact = { ⊤ };
+
+    ghost table = { (codes "WRITE", 1) ∷ (codes "ALLOC", 2) ∷ (codes "EXECINSTR", 4) ∷ (codes "TLS", 0x400) ∷ (codes "COMPRESSED", 0x800) ∷ [] };
+
+    ghost set_of = { λ flags. flags.bits };
+
+    fn flags<'a>() -> &'a [Flag<SectionFlags>] {
+        SectionFlags::NAMED
+    }
+
+    fn bits(&self) -> u32 {
+        self.bits
+    }
+
+    fn from_bits_retain(bits: u32) -> SectionFlags {
+        SectionFlags { bits }
+    }
+}
+
+#[cfg(test)]
+mod tests {
+    use super::*;
+
+    #[test]
+    fn flags_have_the_standard_names_and_bits(rt: HostRuntime) {
+        for (name, bits) in [
+            ("WRITE", 1),
+            ("ALLOC", 2),
+            ("EXECINSTR", 4),
+            ("TLS", 0x400),
+            ("COMPRESSED", 0x800),
+        ] {
+            let flag = SectionFlags { bits };
+            assert_eq!(rt; SectionFlags::from_name(name), Some(flag), "{name}");
+            assert!(rt; SectionFlags { bits: 0x8000_0C07 }.contains(flag), "{name}");
+            assert!(rt; !SectionFlags { bits: !bits }.contains(flag), "{name}");
+        }
+        assert_eq!(rt; SectionFlags::from_bits_retain(0x10).bits, 0x10);
+        assert_eq!(rt; SectionFlags::from_bits(0x10), None);
+    }
+}

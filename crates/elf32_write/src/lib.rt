@@ -1,0 +1,9 @@
+//! Writes ELF files of 32-bit RISC-V: images, the programs that the linker makes.
+#![tactic(auto)]
+
+mod fields;
+mod headers;
+pub mod image;
+pub mod image_parts;
+mod offsets;
+mod section_header;

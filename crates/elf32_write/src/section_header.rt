@@ -1,0 +1,167 @@
+// The section headers of an image.
+
+ghost use Rattle.std.specs.Prelude.{◌≡◌, ◌++◌, OnOk};
+ghost use Rattle.std.specs.List.{flat_map};
+ghost use Rattle.elf32_write.specs.Image.{bss_section, data_section, names_section, null_section, places_section, section_bytes, text_section, Fits};
+ghost use Rattle.elf32_write.specs.Offsets.{AreOffsetsOf};
+ghost use Rattle.elf32_write.specs.Parts.{parts_of};
+ghost use Rattle.elf32_write.specs.SectionHeader.{header};
+
+use crate::fields::push_words;
+use crate::image_parts::ImageParts;
+use crate::offsets::{NAMES, Offsets, TEXT_OFFSET};
+use std::alloc::AllocError;
+
+const PROGBITS: u32 = 1;
+
+const STRTAB: u32 = 3;
+
+const NOBITS: u32 = 8;
+
+const WRITE: u32 = 1;
+
+const ALLOC: u32 = 2;
+
+const EXECINSTR: u32 = 4;
+
+/// A section header, whose sh_link, sh_info and sh_entsize are 0.
+#[derive(Clone, Copy)]
+pub struct SectionHeader {
+    pub name: u32,
+    pub kind: u32,
+    pub flags: u32,
+    pub address: u32,
+    pub offset: u32,
+    pub size: u32,
+    pub align: u32,
+}
+
+/// The header of section 0.
+pub fn null_header() -> SectionHeader
+    ensures { header result ≡ null_section }
+{
+    SectionHeader {
+        name: 0,
+        kind: 0,
+        flags: 0,
+        address: 0,
+        offset: 0,
+        size: 0,
+        align: 0,
+    }
+}
+
+/// The header of the text.
+pub fn text_header(parts: &ImageParts) -> SectionHeader
+    requires { Fits (parts_of parts.now) }
+    ensures { header result ≡ text_section (parts_of parts.now) }
+{
+    SectionHeader {
+        name: 1,
+        kind: PROGBITS,
+        flags: ALLOC + EXECINSTR,
+        address: parts.text_at,
+        offset: TEXT_OFFSET,
+        size: parts.text.len() as u32,
+        align: 4,
+    }
+}
+
+/// The header of the data.
+pub fn data_header(parts: &ImageParts, offsets: &Offsets) -> SectionHeader
+    requires fits { Fits (parts_of parts.now) }
+    requires offsets { AreOffsetsOf (parts_of parts.now) offsets.now }
+    ensures { header result ≡ data_section (parts_of parts.now) }
+{
+    SectionHeader {
+        name: 7,
+        kind: PROGBITS,
+        flags: WRITE + ALLOC,
+        address: parts.data_at,
+        offset: offsets.data,
+        size: parts.data_bytes.len() as u32,
+        align: 4,
+    }
+}
+
+/// The header of the zeros behind the data.
+pub fn bss_header(parts: &ImageParts, offsets: &Offsets) -> SectionHeader
+    requires fits { Fits (parts_of parts.now) }
+    requires offsets { AreOffsetsOf (parts_of parts.now) offsets.now }
+    ensures { header result ≡ bss_section (parts_of parts.now) }
+{
+    let data_size = parts.data_bytes.len() as u32;
+    SectionHeader {
+        name: 13,
+        kind: NOBITS,
+        flags: WRITE + ALLOC,
+        address: parts.data_at + data_size,
+        offset: offsets.data + data_size,
+        size: parts.zero,
+        align: 4,
+    }
+}
+
+/// The header of the places.
+pub fn places_header(parts: &ImageParts, offsets: &Offsets) -> SectionHeader
+    requires fits { Fits (parts_of parts.now) }
+    requires offsets { AreOffsetsOf (parts_of parts.now) offsets.now }
+    ensures { header result ≡ places_section (parts_of parts.now) }
+{
+    SectionHeader {
+        name: 18,
+        kind: PROGBITS,
+        flags: 0,
+        address: 0,
+        offset: offsets.places,
+        size: 12 * parts.places.len() as u32,
+        align: 4,
+    }
+}
+
+/// The header of the sections' names.
+pub fn names_header(parts: &ImageParts, offsets: &Offsets) -> SectionHeader
+    requires { AreOffsetsOf (parts_of parts.now) offsets.now }
+    ensures { header result ≡ names_section (parts_of parts.now) }
+{
+    SectionHeader {
+        name: 31,
+        kind: STRTAB,
+        flags: 0,
+        address: 0,
+        offset: offsets.names,
+        size: NAMES.len() as u32,
+        align: 1,
+    }
+}
+
+// Appends a section header.
+fn push_section_header(out: &mut Vec<u8>, section: SectionHeader) -> Result<(), AllocError>
+    ensures { OnOk result (out.new.items ≡ out.old.items ++ section_bytes (header section)) }
+{
+    push_words(
+        out,
+        &[
+            section.name,
+            section.kind,
+            section.flags,
+            section.address,
+            section.offset,
+            section.size,
+            0,
+            0,
+            section.align,
+            0,
+        ],
+    )
+}
+
+/// Appends section headers, in order.
+pub fn push_headers(out: &mut Vec<u8>, sections: &[SectionHeader]) -> Result<(), AllocError>
+    ensures { OnOk result (out.new.items ≡ out.old.items ++ flat_map (λ section. section_bytes (header section)) sections.now) }
+{
+    for section in sections {
+        push_section_header(out, *section)?;
+    }
+    Ok(())
+}

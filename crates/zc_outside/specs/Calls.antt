@@ -1,0 +1,10 @@
+-- Numbered calls and counts, as far as a program's numbers count.
+use Rattle.std.specs.Prelude.{ℕ, ◌+◌, ◌-◌, ◌^◌, min}
+
+-- the number of the next call, in 32 bits
+abbrev pub next_call : ℕ → ℕ
+next_call calls = min (calls + 1) (2 ^ 32 - 1)
+
+-- so many more, in 64 bits
+abbrev pub more : ℕ → ℕ → ℕ
+more count n = min (count + n) (2 ^ 64 - 1)

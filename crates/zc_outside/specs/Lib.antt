@@ -1,0 +1,5 @@
+pub mod Calls
+pub mod Files
+pub mod MemConsole
+pub mod MemStore
+pub mod Streams

@@ -1,0 +1,40 @@
+-- What a console in memory holds and counts, and what its calls do to that.
+use Rattle.std.specs.Prelude.{ℕ, List, [], ◌∷◌, drop, Result, Ok, Err}
+use Rattle.zc_outside.specs.declared.console.ConsoleFault.{ConsoleFault}
+use Rattle.zc_outside.specs.declared.console.ConsoleFault.TheVariants.{Failed, OutOfMemory}
+use Rattle.zc_outside.specs.Calls.{next_call, more}
+
+-- its streams, the numbers of its calls that fail, and its counts
+pub record ConsoleState : Type 0 where
+  -- the bytes that are left
+  pub input : List ℕ
+  -- the bytes written so far
+  pub out : List ℕ
+  pub err : List ℕ
+  -- the numbers of the calls that fail
+  pub fails : List ℕ
+  -- how many calls were made, which is the number of the next
+  pub calls : ℕ
+  pub read_faults : ℕ
+  pub write_faults : ℕ
+  pub memory_faults : ℕ
+  -- how many bytes left the input
+  pub taken : ℕ
+
+-- a take moves its bytes out of the input, and a refused one moves nothing
+abbrev pub after_take : ConsoleState → Result ℕ ConsoleFault → ConsoleState
+after_take c (Ok n) = record c { input = drop n c.input; calls = next_call c.calls; taken = more c.taken n }
+after_take c (Err Failed) = record c { calls = next_call c.calls; read_faults = more c.read_faults 1 }
+after_take c (Err OutOfMemory) = record c { calls = next_call c.calls; memory_faults = more c.memory_faults 1 }
+
+-- what a write counts: an empty piece is no call, and a refusal is counted by its kind
+abbrev pub after_write : {A : Type 0} → ConsoleState → List ℕ → Result A ConsoleFault → ConsoleState
+after_write c [] result = c
+after_write c (byte ∷ piece) (Ok done) = record c { calls = next_call c.calls }
+after_write c (byte ∷ piece) (Err Failed) = record c { calls = next_call c.calls; write_faults = more c.write_faults 1 }
+after_write c (byte ∷ piece) (Err OutOfMemory) = record c { calls = next_call c.calls; memory_faults = more c.memory_faults 1 }
+
+-- what a write adds: the whole piece, or nothing
+abbrev pub written : {A : Type 0} → List ℕ → Result A ConsoleFault → List ℕ
+written piece (Ok done) = piece
+written piece (Err fault) = []

@@ -1,0 +1,41 @@
+-- What a console's streams mean, and what its calls do to them.
+use Rattle.std.specs.Prelude.{◌≡◌, ℕ, ◌<◌, ◌≤◌, ◌↔◌, ◌++◌, List, [], length, take, drop, Option, Some, None, ⊤}
+use Rattle.zc_outside.specs.declared.console.ConsoleFault.{ConsoleFault}
+use Rattle.zc_outside.specs.declared.console.ConsoleFault.TheVariants.{Failed, OutOfMemory}
+use Rattle.zc_outside.specs.Files.{Rose}
+
+-- where the bytes were told, they still are, and are the same
+abbrev pub KeepsBytes : Option (List ℕ) → Option (List ℕ) → Type 0
+KeepsBytes None after = ⊤
+KeepsBytes (Some xs) None = ⊥
+KeepsBytes (Some xs) (Some ys) = ys ≡ xs
+
+-- where the input was told: its first n bytes moved into the front of a buffer, and a buffer with
+-- room gets none exactly where no input was left
+abbrev pub Takes : Option (List ℕ) → Option (List ℕ) → List ℕ → List ℕ → ℕ → Type 0
+Takes None after buf buf' n = ⊤
+Takes (Some xs) None buf buf' n = ⊥
+Takes (Some xs) (Some ys) buf buf' n =
+    (n ≤ length xs) × (buf' ≡ take n xs ++ drop n buf) × (ys ≡ drop n xs) × (0 < length buf → (n ≡ 0) ↔ (xs ≡ []))
+
+-- where the bytes were told, the whole piece stands behind them
+abbrev pub Adds : Option (List ℕ) → Option (List ℕ) → List ℕ → Type 0
+Adds None after piece = ⊤
+Adds (Some xs) None piece = ⊥
+Adds (Some xs) (Some ys) piece = ys ≡ xs ++ piece
+
+-- where the bytes were told, a part of the piece that isn't the whole stands behind them
+abbrev pub AddsPart : Option (List ℕ) → Option (List ℕ) → List ℕ → Type 0
+AddsPart None after piece = ⊤
+AddsPart (Some xs) None piece = ⊥
+AddsPart (Some xs) (Some ys) piece = (n : ℕ) × (n < length piece) × (ys ≡ xs ++ take n piece)
+
+-- what a refused take shows: the count of read faults, or of wants of memory, rose
+abbrev pub TakeCause : ℕ → ℕ → ℕ → ℕ → ConsoleFault → Type 0
+TakeCause reads reads' memory memory' Failed = Rose reads reads'
+TakeCause reads reads' memory memory' OutOfMemory = Rose memory memory'
+
+-- what a refused write shows: the count of write faults, or of wants of memory, rose
+abbrev pub WriteCause : ℕ → ℕ → ℕ → ℕ → ConsoleFault → Type 0
+WriteCause writes writes' memory memory' Failed = Rose writes writes'
+WriteCause writes writes' memory memory' OutOfMemory = Rose memory memory'

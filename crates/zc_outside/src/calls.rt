@@ -1,0 +1,35 @@
+// The numbers of calls, and which of them fail.
+
+ghost use Rattle.std.specs.Prelude.{◌≡◌, ◌↔◌, Contains, IfOk, IsTrue};
+ghost use Rattle.zc_outside.specs.Calls.{next_call};
+
+use std::alloc::{AllocError, Global};
+
+/// Calls that are numbered from 0, and the numbers of those that fail.
+#[derive(Drop)]
+pub struct Calls {
+    failing: Vec<u32>,
+    made: u32,
+}
+
+impl Calls {
+    /// No call so far, and those with these numbers will fail.
+    pub fn new(alloc: Global, failing: &[u32]) -> Result<Calls, AllocError>
+        ensures failing { IfOk result (λ c. c.failing.items ≡ failing.now) }
+        ensures none { IfOk result (λ c. c.made ≡ 0) }
+    {
+        let failing = Vec::from_slice(alloc, failing)?;
+        Ok(Calls { failing, made: 0 })
+    }
+
+    /// Counts a call, and says whether it fails. The count stays at its last value.
+    pub fn next_fails(&mut self) -> bool
+        ensures listed { IsTrue result ↔ Contains self.old.failing.items self.old.made }
+        ensures counted { self.new.made ≡ next_call self.old.made }
+        ensures failing { self.new.failing ≡ self.old.failing }
+    {
+        let fails = self.failing.contains(&self.made);
+        self.made = self.made.saturating_add(1);
+        fails
+    }
+}

@@ -1,0 +1,12 @@
+//! The world outside: a store of files and a console, as traits that say what their calls mean, and
+//! two implementations of each, one in memory and one over the system.
+#![tactic(auto)]
+
+mod calls;
+pub mod console;
+pub mod disk_store;
+pub mod mem_console;
+pub mod mem_store;
+pub mod std_console;
+pub mod store;
+mod transfer;

@@ -1,0 +1,226 @@
+// A console in memory, some of whose calls fail.
+
+ghost use Rattle.std.specs.Prelude.{◌≡◌, ◌≢◌, ◌≤◌, ◌↔◌, ◌++◌, min, [], Some, Err, length, take, drop, Contains, IfOk, IfErr, IsOk, IsErr, OnOk, OnErr, IsErrOf};
+ghost use Rattle.zc_outside.specs.Calls.{more, next_call};
+ghost use Rattle.zc_outside.specs.MemConsole.{after_take, after_write, written};
+
+use crate::calls::Calls;
+use crate::console::{Console, ConsoleFault};
+use std::alloc::{AllocError, Global};
+use std::marker::Model;
+
+/// An input and two outputs in memory.
+///
+/// The calls of `take`, `out` and `err` are numbered from 0 together, and those whose numbers the
+/// console was made with fail and move nothing. The number after 2^32 - 1 is that number again. A
+/// call of `out` or `err` with an empty piece has no number.
+#[derive(Drop)]
+pub struct MemConsole {
+    input: Vec<u8>,
+    at: usize,
+    out: Vec<u8>,
+    err: Vec<u8>,
+    calls: Calls,
+    read_faults: u64,
+    write_faults: u64,
+    memory_faults: u64,
+    taken: u64,
+}
+
+impl Model for MemConsole {
+    ghost use Rattle.std.specs.Prelude.{◌≤◌, drop, length};
+    ghost use Rattle.zc_outside.specs.MemConsole.{ConsoleState};
+
+    ghost Value = { ConsoleState };
+
+    ghost view = { λ c. record {
+      input = drop c.at c.input.items;
+      out = c.out.items;
+      err = c.err.items;
+      fails = c.calls.failing.items;
+      calls = c.calls.made;
+      read_faults = c.read_faults;
+      write_faults = c.write_faults;
+      memory_faults = c.memory_faults;
+      taken = c.taken;
+    } };
+
+    ghost invariant = { λ c. c.at ≤ length c.input.items };
+}
+
+impl MemConsole {
+    /// A console with this input, whose calls with these numbers fail.
+    pub fn new(alloc: Global, input: &[u8], fails: &[u32]) -> Result<MemConsole, AllocError>
+        ensures { IfOk result (λ c. c ≡ record {
+          input = input.now;
+          out = [];
+          err = [];
+          fails = fails.now;
+          calls = 0;
+          read_faults = 0;
+          write_faults = 0;
+          memory_faults = 0;
+          taken = 0;
+        }) }
+    {
+        let input = Vec::from_slice(alloc, input)?;
+        let calls = Calls::new(alloc, fails)?;
+        Ok(MemConsole {
+            input,
+            at: 0,
+            out: Vec::new(alloc),
+            err: Vec::new(alloc),
+            calls,
+            read_faults: 0,
+            write_faults: 0,
+            memory_faults: 0,
+            taken: 0,
+        })
+    }
+
+    /// The bytes written to the output.
+    pub fn out_bytes(&self) -> &[u8]
+        ensures { result.now ≡ self.now.out }
+    {
+        self.out.as_slice()
+    }
+
+    /// The bytes written to the output for errors.
+    pub fn err_bytes(&self) -> &[u8]
+        ensures { result.now ≡ self.now.err }
+    {
+        self.err.as_slice()
+    }
+
+    // Counts a write, and refuses it where it is one that fails.
+    fn begin_write(&mut self) -> Result<(), ConsoleFault>
+        ensures failed { IsErr result ↔ Contains self.old.fails self.old.calls }
+        ensures ok { OnOk result (self.new ≡ record self.old { calls = next_call self.old.calls }) }
+        ensures err { IfErr result (λ fault. (fault ≡ ConsoleFault.Failed) × (self.new ≡
+            record self.old { calls = next_call self.old.calls; write_faults = more self.old.write_faults 1 })) }
+        ensures writes { self.old.write_faults ≤ self.new.write_faults }
+    {
+        if self.calls.next_fails() {
+            self.write_faults = self.write_faults.saturating_add(1);
+            return Err(ConsoleFault::Failed);
+        }
+        Ok(())
+    }
+
+    // Refuses a write for which there was no memory, and counts that.
+    fn finish_write(&mut self, grown: Result<(), AllocError>) -> Result<(), ConsoleFault>
+        ensures ok { OnOk grown (IsOk result × (self.new ≡ self.old)) }
+        ensures err { OnErr grown (IsErrOf result ConsoleFault.OutOfMemory × (self.new ≡
+            record self.old { memory_faults = more self.old.memory_faults 1 })) }
+        ensures memory { self.old.memory_faults ≤ self.new.memory_faults }
+    {
+        if grown.is_err() {
+            self.memory_faults = self.memory_faults.saturating_add(1);
+            return Err(ConsoleFault::OutOfMemory);
+        }
+        Ok(())
+    }
+}
+
+impl Console for MemConsole {
+    ghost input = { λ c. Some c.input };
+
+    ghost out_bytes = { λ c. Some c.out };
+
+    ghost err_bytes = { λ c. Some c.err };
+
+    ghost read_faults = { λ c. c.read_faults };
+
+    ghost write_faults = { λ c. c.write_faults };
+
+    ghost memory_faults = { λ c. c.memory_faults };
+
+    ghost taken = { λ c. c.taken };
+
+    ghost sure = { λ c. c.fails ≡ [] };
+
+    /// Moves as many bytes as the input has left and the buffer has room for, and never wants memory.
+    fn take(&mut self, buf: &mut [u8]) -> Result<usize, ConsoleFault>
+        ensures moves { IfOk result (λ n. n ≡ min (length self.old.input) (length buf.old)) }
+        ensures buffer { IfOk result (λ n. buf.new ≡ take n self.old.input ++ drop n buf.old) }
+        ensures failed { IsErrOf result ConsoleFault.Failed ↔ Contains self.old.fails self.old.calls }
+        ensures wants_none { result ≢ Err ConsoleFault.OutOfMemory }
+        ensures after { self.new ≡ after_take self.old result }
+        ensures reads { self.old.read_faults ≤ self.new.read_faults }
+    {
+        if self.calls.next_fails() {
+            self.read_faults = self.read_faults.saturating_add(1);
+            return Err(ConsoleFault::Failed);
+        }
+        let left = &self.input[self.at..];
+        let count = left.len().min(buf.len());
+        buf[..count].copy_from_slice(&left[..count]);
+        self.at += count;
+        self.taken = self.taken.saturating_add(count as u64);
+        Ok(count)
+    }
+
+    fn out(&mut self, bytes: &[u8]) -> Result<(), ConsoleFault>
+        ensures empty { bytes.now ≡ [] → IsOk result }
+        ensures failed { IsErrOf result ConsoleFault.Failed ↔
+            ((bytes.now ≢ []) × Contains self.old.fails self.old.calls) }
+        ensures after { self.new ≡
+            record (after_write self.old bytes.now result) { out = self.old.out ++ written bytes.now result } }
+        ensures writes { self.old.write_faults ≤ self.new.write_faults }
+        ensures memory { self.old.memory_faults ≤ self.new.memory_faults }
+    {
+        if bytes.is_empty() {
+            return Ok(());
+        }
+        self.begin_write()?;
+        let grown = self.out.extend_from_slice(bytes);
+        self.finish_write(grown)
+    }
+
+    fn err(&mut self, bytes: &[u8]) -> Result<(), ConsoleFault>
+        ensures empty { bytes.now ≡ [] → IsOk result }
+        ensures failed { IsErrOf result ConsoleFault.Failed ↔
+            ((bytes.now ≢ []) × Contains self.old.fails self.old.calls) }
+        ensures after { self.new ≡
+            record (after_write self.old bytes.now result) { err = self.old.err ++ written bytes.now result } }
+        ensures writes { self.old.write_faults ≤ self.new.write_faults }
+        ensures memory { self.old.memory_faults ≤ self.new.memory_faults }
+    {
+        if bytes.is_empty() {
+            return Ok(());
+        }
+        self.begin_write()?;
+        let grown = self.err.extend_from_slice(bytes);
+        self.finish_write(grown)
+    }
+}
+
+#[cfg(test)]
+mod tests {
+    use super::*;
+    use std::test::Fail;
+
+    // Calls 0 to 6: the fourth, an err, is listed.
+    #[test]
+    fn moves_bytes_but_for_the_listed_calls(rt: HostRuntime) -> Result<(), Fail> {
+        let mut console = MemConsole::new(rt.alloc(), b"hello", &[3])?;
+        let mut buf = [0u8; 4];
+        assert_eq!(rt; console.take(&mut buf[..2]), Ok(2));
+        assert_eq!(rt; console.take(&mut buf[..0]), Ok(0));
+        assert_eq!(rt; console.out(b"to out"), Ok(()));
+        assert_eq!(rt; console.out(b""), Ok(()), "an empty piece has no number");
+        assert_eq!(rt; console.err(b""), Ok(()), "an empty piece has no number");
+        assert_eq!(rt; console.err(b"lost"), Err(ConsoleFault::Failed));
+        assert_eq!(rt; console.take(&mut buf), Ok(3));
+        assert_eq!(rt; buf, *b"llo\0", "no byte stands behind those that came");
+        assert_eq!(rt; console.take(&mut buf), Ok(0));
+        assert_eq!(rt; console.err(b"to err"), Ok(()));
+        assert_eq!(rt; console.out_bytes(), b"to out".as_slice());
+        assert_eq!(rt; console.err_bytes(), b"to err".as_slice());
+        assert_eq!(rt;
+            (console.taken, console.read_faults, console.write_faults),
+            (5, 0, 1)
+        );
+        Ok(())
+    }
+}

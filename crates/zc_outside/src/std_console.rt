@@ -1,0 +1,183 @@
+// A console over the standard streams.
+
+ghost use Rattle.std.specs.Prelude.{◌≡◌, None};
+
+use crate::console::{Console, ConsoleFault};
+use crate::transfer::{read_some, write_whole};
+use std::io::{Read, Write};
+
+/// The standard streams, or any reader and two writers in their place.
+///
+/// Of the system's streams nothing is told: what stands in them is outside this program. A writer
+/// that tells its bytes, as one in memory, is told here too. The streams are written at once, and
+/// who hands in a writer with a buffer of its own flushes it.
+#[derive(Drop)]
+pub struct StdConsole<I, O, E> {
+    input: I,
+    out: O,
+    err: E,
+    read_faults: u64,
+    write_faults: u64,
+    taken: u64,
+}
+
+impl<I: Read, O: Write, E: Write> StdConsole<I, O, E> {
+    /// A console over an input, an output and an output for errors, as a program's standard streams.
+    pub fn new(input: I, out: O, err: E) -> StdConsole<I, O, E>
+        ensures reads { ⟦<StdConsole<I, O, E> as Console>⟧.read_faults result ≡ 0 }
+        ensures writes { ⟦<StdConsole<I, O, E> as Console>⟧.write_faults result ≡ 0 }
+        ensures count { ⟦<StdConsole<I, O, E> as Console>⟧.taken result ≡ 0 }
+        ensures out { ⟦<StdConsole<I, O, E> as Console>⟧.out_bytes result ≡ O.contents out }
+        ensures err { ⟦<StdConsole<I, O, E> as Console>⟧.err_bytes result ≡ E.contents err }
+    {
+        StdConsole {
+            input,
+            out,
+            err,
+            read_faults: 0,
+            write_faults: 0,
+            taken: 0,
+        }
+    }
+}
+
+impl<I: Read, O: Write, E: Write> Console for StdConsole<I, O, E> {
+    ghost input = { λ _. None };
+
+    ghost out_bytes = { λ c. O.contents c.out };
+
+    ghost err_bytes = { λ c. E.contents c.err };
+
+    ghost read_faults = { λ c. c.read_faults };
+
+    ghost write_faults = { λ c. c.write_faults };
+
+    ghost memory_faults = { λ _. 0 };
+
+    ghost taken = { λ c. c.taken };
+
+    ghost sure = { λ _. ⊥ };
+
+    /// Reads once. A signal that interrupts the read begins it again.
+    fn take(&mut self, buf: &mut [u8]) -> Result<usize, ConsoleFault> {
+        match read_some(&mut self.input, buf) {
+            Ok(count) => {
+                self.taken = self.taken.saturating_add(count as u64);
+                Ok(count)
+            }
+            Err(_) => {
+                self.read_faults = self.read_faults.saturating_add(1);
+                Err(ConsoleFault::Failed)
+            }
+        }
+    }
+
+    fn out(&mut self, bytes: &[u8]) -> Result<(), ConsoleFault> {
+        if write_whole(&mut self.out, bytes) {
+            return Ok(());
+        }
+        self.write_faults = self.write_faults.saturating_add(1);
+        Err(ConsoleFault::Failed)
+    }
+
+    fn err(&mut self, bytes: &[u8]) -> Result<(), ConsoleFault> {
+        if write_whole(&mut self.err, bytes) {
+            return Ok(());
+        }
+        self.write_faults = self.write_faults.saturating_add(1);
+        Err(ConsoleFault::Failed)
+    }
+}
+
+#[cfg(test)]
+mod tests {
+    use super::*;
+    use std::io;
+    use std::io::ErrorKind;
+    use std::test::Fail;
+
+    // A writer that takes a byte a call, is interrupted at the second, and has room for three.
+    #[derive(Drop)]
+    struct Narrow {
+        calls: u32,
+        written: u32,
+    }
+
+    impl Write for Narrow {
+        fn write(&mut self, buf: &[u8]) -> io::Result<usize> {
+            self.calls = self.calls.saturating_add(1);
+            if self.calls == 2 {
+                return Err(io::Error::from(ErrorKind::Interrupted));
+            }
+            if self.written >= 3 || buf.is_empty() {
+                return Ok(0);
+            }
+            self.written += 1;
+            Ok(1)
+        }
+
+        fn flush(&mut self) -> io::Result<()> {
+            Ok(())
+        }
+    }
+
+    // A reader that is interrupted once, then broken.
+    #[derive(Drop)]
+    struct Broken {
+        calls: u32,
+    }
+
+    impl Read for Broken {
+        fn read(&mut self, _buf: &mut [u8]) -> io::Result<usize> {
+            self.calls = self.calls.saturating_add(1);
+            if self.calls == 1 {
+                Err(io::Error::from(ErrorKind::Interrupted))
+            } else {
+                Err(io::Error::from(ErrorKind::Other))
+            }
+        }
+    }
+
+    #[test]
+    fn writes_whole_pieces_or_counts_a_fault(rt: HostRuntime) {
+        let narrow = Narrow {
+            calls: 0,
+            written: 0,
+        };
+        let mut console = StdConsole::new(Broken { calls: 0 }, narrow, Vec::<u8>::new(rt.alloc()));
+        assert_eq!(rt; console.out(b"ab"), Ok(()));
+        assert_eq!(rt; console.out(b""), Ok(()));
+        assert_eq!(rt;
+            console.out(b"cd"),
+            Err(ConsoleFault::Failed),
+            "one byte has room"
+        );
+        assert_eq!(rt;
+            console.out(b"e"),
+            Err(ConsoleFault::Failed),
+            "a write takes nothing"
+        );
+        assert_eq!(rt; console.err(b"to err"), Ok(()));
+        assert_eq!(rt; console.take(&mut [0; 4]), Err(ConsoleFault::Failed));
+        assert_eq!(rt; console.input.calls, 2);
+        assert_eq!(rt; console.out.written, 3);
+        assert_eq!(rt; console.err.as_slice(), b"to err".as_slice());
+        assert_eq!(rt;
+            (console.read_faults, console.write_faults, console.taken),
+            (1, 2, 0)
+        );
+    }
+
+    #[test]
+    fn speaks_to_the_standard_streams(rt: HostRuntime) {
+        let mut console = StdConsole::new(rt.stdin(), rt.stdout(), rt.stderr());
+        assert_eq!(rt; console.out(b"out\n"), Ok(()));
+        assert_eq!(rt; console.out(b""), Ok(()));
+        assert_eq!(rt; console.err(b"err\n"), Ok(()));
+        assert_eq!(rt; console.take(&mut [0; 4]), Ok(0), "a test has no input");
+        assert_eq!(rt;
+            (console.read_faults, console.write_faults, console.taken),
+            (0, 0, 0)
+        );
+    }
+}

@@ -1,0 +1,45 @@
+// Reads and writes of the system, whole in spite of signals and short counts.
+
+ghost use Rattle.std.specs.Prelude.{◌≡◌, ◌≤◌, [], IfOk, IsTrue, MatchBool, length};
+ghost use Rattle.std.specs.Io.KnownBytes.{ReadConsumes};
+ghost use Rattle.zc_outside.specs.Streams.{Adds, AddsPart};
+
+use std::io;
+use std::io::{ErrorKind, Read, Write};
+
+/// One read into the front of a buffer, begun again where a signal interrupts it.
+pub fn read_some<S: Read>(source: &mut S, buf: &mut [u8]) -> io::Result<usize>
+    ensures within { IfOk result (λ n. n ≤ length buf.new) }
+    ensures bytes { ReadConsumes (S.remaining source.old) (S.remaining source.new) result buf.new }
+{
+    for _ in 0..u64::MAX {
+        match source.read(buf) {
+            Ok(count) => return Ok(count),
+            Err(fault) if fault.kind() == ErrorKind::Interrupted => {}
+            Err(fault) => return Err(fault),
+        }
+    }
+    Err(io::Error::from(ErrorKind::TimedOut))
+}
+
+/// Writes a piece, and says whether all of it was written. A write that takes nothing is a fault.
+pub fn write_whole<S: Write>(sink: &mut S, piece: &[u8]) -> bool
+    ensures empty { piece.now ≡ [] → IsTrue result }
+    ensures bytes { MatchBool result
+        (Adds (S.contents sink.old) (S.contents sink.new) piece.now)
+        (AddsPart (S.contents sink.old) (S.contents sink.new) piece.now) }
+{
+    let mut done = 0;
+    for _ in 0..u64::MAX {
+        if done == piece.len() {
+            break;
+        }
+        match sink.write(&piece[done..]) {
+            Ok(0) => break,
+            Ok(count) => done += count,
+            Err(fault) if fault.kind() == ErrorKind::Interrupted => {}
+            Err(_) => break,
+        }
+    }
+    done == piece.len()
+}

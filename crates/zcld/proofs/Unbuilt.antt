@@ -1,0 +1,59 @@
+-- What holds of an object that is straight code alone, and of a loop over its words.
+use Rattle.std.proofs.Common.{◌≡◌, ℕ, ◌+◌, ◌-◌, ◌*◌, ◌%◌, ◌<◌, ◌≤◌, List, map, Bool, true, false, not, ◌&&◌, refl, sym, ap, ◌∙◌, arith, eqb, ltb, leb}
+use Rattle.std.specs.Prelude.{◌||◌, Option, is_some, is_none}
+use Rattle.std.specs.List.{list_any, range_with_len}
+use Rattle.std.proofs.lemmas.Bool.{or_parts, and_parts, ltb-false, leb-true, eqb-true}
+use Rattle.zc_base.specs.Fields.{word_in}
+use Rattle.elf32_read.specs.Header.{header_of, section_count, object_flags}
+use Rattle.zcld.specs.Straight.{words_from, words_in}
+use Rattle.zcld.specs.Refusal.{is_straight_code, is_unbuilt, is_unbuilt_section, is_unknown, indexed, code_of}
+use Rattle.zcld.proofs.StraightLoop.{words_more}
+
+-- section 1 is there, holds its own bytes, and is short enough
+pub record IsStraight (object : List ℕ) : Type 0 where
+  pub counted : 1 < section_count object
+  pub kind : (header_of object 1).kind ≡ 1
+  pub short : (header_of object 1).size ≤ 65536
+  pub known : list_any is_unknown (words_in (code_of object)) ≡ false
+
+not_false : (b : Bool) → not b ≡ false → b ≡ true
+not_false true h = refl
+not_false false h = sym h
+
+pub built_straight : (object : List ℕ) → is_unbuilt object ≡ false → IsStraight object
+unfolding is_unbuilt
+built_straight object h =
+    let code = header_of object 1 in
+    let flags = not (eqb (object_flags object) 0) in
+    let few = ltb (section_count object) 2 in
+    let other = not (is_straight_code code) in
+    let sections = list_any is_unbuilt_section (map (indexed object) (range_with_len 0 (section_count object))) in
+    let all = or_parts (flags || few || other || sections) _ h in
+    let three = or_parts (flags || few || other) sections all.0 in
+    let two = or_parts (flags || few) other three.0 in
+    let one = or_parts flags few two.0 in
+    let straight = not_false (is_straight_code code) two.1 in
+    let most = and_parts (eqb code.kind 1 && eqb code.flags 6 && leb code.align 4 && eqb (code.size % 4) 0 && leb 4 code.size) (leb code.size 65536) straight in
+    let least = and_parts (eqb code.kind 1 && eqb code.flags 6 && leb code.align 4 && eqb (code.size % 4) 0) _ most.0 in
+    let whole = and_parts (eqb code.kind 1 && eqb code.flags 6 && leb code.align 4) _ least.0 in
+    let aligned = and_parts (eqb code.kind 1 && eqb code.flags 6) _ whole.0 in
+    let kinds = and_parts (eqb code.kind 1) _ aligned.0 in
+    let counted = ltb-false (section_count object) 2 one.1 in
+    record {
+      counted = omega arith;
+      kind = eqb-true code.kind 1 kinds.0;
+      short = leb-true code.size 65536 most.1;
+      known = all.1;
+    }
+
+-- a test of the words, at one word more
+pub any_word_more : (p : ℕ → Bool) (code : List ℕ) (i n : ℕ) → i < n → list_any p (words_from code (4 * i) (n - i)) ≡ (p (word_in code (4 * i)) || list_any p (words_from code (4 * (i + 1)) (n - (i + 1))))
+any_word_more p code i n lt = ap (list_any p) (words_more code i n lt)
+
+not-not : (b : Bool) → not (not b) ≡ b
+not-not true = refl
+not-not false = refl
+
+-- what a test for None says
+pub is_none_by_test : {X : Type 0} (o : Option X) (r : Bool) → is_some o ≡ not r → is_none o ≡ r
+is_none_by_test o r e = ap not e ∙ not-not r

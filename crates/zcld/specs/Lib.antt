@@ -1,0 +1,6 @@
+pub mod Command
+pub mod Straight
+pub mod Refusal
+pub mod ErrLine
+pub mod Written
+pub mod Call

@@ -1,0 +1,71 @@
+// The line that names an outcome on standard error, made without memory.
+
+ghost use Rattle.std.specs.Prelude.{◌≡◌, ◌≤◌, ◌+◌, ◌⊎◌, ◌++◌, ◌∷◌, [], length};
+ghost use Rattle.zc_outside.specs.Files.{Rose};
+ghost use Rattle.zc_outside.specs.Streams.{KeepsBytes};
+ghost use Rattle.zcld.specs.Call.{WritesLine};
+ghost use Rattle.zcld.specs.ErrLine.{err_line, line as with_line_feed, refusal_text};
+
+use crate::outcome::Outcome;
+use arrayvec::ArrayString;
+use elf32_read::fault::Fault;
+use itoa::Buffer;
+use zc_outside::console::Console;
+
+/// Writes the line of an outcome to standard error. A line that can't be written changes no outcome.
+pub fn report<C: Console>(outcome: &Outcome, console: &mut C)
+    ensures line { WritesLine (C.err_bytes console.old) (C.err_bytes console.new) (err_line outcome.now)
+        (Rose (C.write_faults console.old) (C.write_faults console.new) ⊎ Rose (C.memory_faults console.old) (C.memory_faults console.new)) }
+    ensures out { KeepsBytes (C.out_bytes console.old) (C.out_bytes console.new) }
+    ensures input { KeepsBytes (C.input console.old) (C.input console.new) }
+    ensures taken { C.taken console.new ≡ C.taken console.old }
+    ensures reads { C.read_faults console.new ≡ C.read_faults console.old }
+    ensures stays { C.sure console.old → C.sure console.new }
+    ensures sure { C.sure console.old → C.write_faults console.new ≡ C.write_faults console.old }
+{
+    let _ = console.err(line_of(outcome).as_str().as_bytes());
+}
+
+/// Room for the longest line: `refused`, two numbers of ten digits, and a fault's name.
+pub const ROOM: usize = 64;
+
+/// The line of an outcome, with its line feed; empty where there is none.
+pub fn line_of(outcome: &Outcome) -> ArrayString<ROOM>
+    ensures { result.bytes ≡ err_line outcome.now }
+{
+    match outcome {
+        Outcome::Done => ArrayString::new(),
+        Outcome::Usage => line("usage"),
+        Outcome::Refused(object, fault) => refusal(*object, *fault),
+        Outcome::ReadFault => line("read fault"),
+        Outcome::WriteFault => line("write fault"),
+        Outcome::OutOfMemory => line("out of memory"),
+    }
+}
+
+// A text with a line feed behind it.
+fn line(text: &str) -> ArrayString<ROOM>
+    requires { length text.now ≤ 63 }
+    ensures { result.bytes ≡ with_line_feed text.now }
+{
+    let mut line = ArrayString::new();
+    line.push_str(text);
+    line.push_str("\n");
+    line
+}
+
+// The line of a refusal.
+fn refusal(object: u32, fault: Fault) -> ArrayString<ROOM>
+    ensures { result.bytes ≡ with_line_feed (refusal_text object fault) }
+{
+    let mut digits = Buffer::new();
+    let mut line = ArrayString::new();
+    line.push_str("refused ");
+    line.push_str(digits.format(object));
+    line.push_str(" ");
+    line.push_str(digits.format(fault.number()));
+    line.push_str(" ");
+    line.push_str(fault.name());
+    line.push_str("\n");
+    line
+}
