@@ -1,3 +1,5 @@
 pub mod Complete
 pub mod StraightLoop
 pub mod Unbuilt
+pub mod ShortForms
+pub mod Laying
