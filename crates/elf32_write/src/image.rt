@@ -6,9 +6,7 @@ ghost use Rattle.elf32_write.specs.Image.{image_bytes, place_bytes, Fits};
 ghost use Rattle.elf32_write.specs.Parts.{parts_of};
 
 use crate::fields::{push_half, push_padded, push_word};
-use crate::headers::{
-    push_data_segment, push_file_header, push_section_headers, push_text_segment,
-};
+use crate::headers::{push_file_header, push_program_headers, push_section_headers};
 use crate::image_parts::ImageParts;
 use crate::offsets::{NAMES, offsets_of};
 use std::alloc::{AllocError, Global};
@@ -43,8 +41,7 @@ pub fn write_image(alloc: Global, parts: &ImageParts) -> Result<Vec<u8>, AllocEr
     let offsets = offsets_of(parts);
     let mut file = Vec::with_capacity(alloc, offsets.sections as usize + 240)?;
     push_file_header(&mut file, parts, &offsets)?;
-    push_text_segment(&mut file, parts)?;
-    push_data_segment(&mut file, parts, &offsets)?;
+    push_program_headers(&mut file, parts, &offsets)?;
     push_padded(&mut file, &parts.text)?;
     push_padded(&mut file, &parts.data_bytes)?;
     push_places(&mut file, &parts.places)?;
