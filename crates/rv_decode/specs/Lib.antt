@@ -1,2 +1,6 @@
 pub mod Bits
 pub mod Decode
+pub mod Memory
+pub mod State
+pub mod Effect
+pub mod Run

@@ -1,0 +1,36 @@
+// The items that code is cut into.
+
+use psabi_sym::target::Target;
+use rv_decode::instr::Instr;
+use zc_base::place::Place;
+use zc_base::reg::Reg;
+
+/// What the bytes and relocations at a place in code spell.
+///
+/// | Item | Stands for |
+/// |---|---|
+/// | `Op` | an instruction without relocation that is neither a branch nor a `jal` |
+/// | `Hi`, `Lo` | an instruction whose immediate is the upper or lower part of the target |
+/// | `PcHi` | an `auipc` whose immediate is the upper part of the way to the target |
+/// | `PcLo` | an instruction with the lower part that goes with the `auipc` at that place |
+/// | `Branch`, `Jump` | a branch or a `jal` to a place |
+/// | `Call` | an `auipc` of `temp` and a `jalr` with the link register `rd`, to a place |
+/// | `Align` | so many bytes of padding |
+/// | `Word` | a word of data in code that holds the target |
+/// | `Raw` | a word that is copied unread |
+/// | `RawPair` | the two words of a call to a weak symbol that no object defines |
+#[derive(Clone, Copy, PartialEq, Eq, Debug)]
+pub enum Item {
+    Op(Instr),
+    Hi(Instr, Target),
+    Lo(Instr, Target),
+    PcHi(Instr, Target),
+    PcLo(Instr, Place),
+    Branch(Instr, Place),
+    Jump(Instr, Place),
+    Call { rd: Reg, temp: Reg, to: Place },
+    Align(u16),
+    Word(Target),
+    Raw(u32),
+    RawPair(u32, u32),
+}

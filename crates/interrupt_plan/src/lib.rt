@@ -1,0 +1,4 @@
+//! Plans of interrupts: what happens between two commits of the machine.
+#![tactic(auto)]
+
+pub mod plan;

@@ -1,0 +1,78 @@
+// Plans of interrupts.
+
+ghost use Rattle.std.specs.Prelude.{◌≡◌, ◌<◌, [], length, slice_get, Some};
+
+use std::alloc::Global;
+use std::marker::Model;
+
+/// An interrupt before the commit number `at`: the accesses of the push or pop at the program counter
+/// that were already done, by their numbers, and the bytes that were then written, by address.
+#[derive(Drop)]
+pub struct PlanCut {
+    pub at: u64,
+    pub done: Vec<u8>,
+    pub dirt: Vec<(u32, u8)>,
+}
+
+impl Model for PlanCut {
+    ghost use Rattle.interrupt_plan.specs.Plan.{Cut};
+
+    ghost Value = { Cut };
+
+    ghost view = { λ c. record { at = c.at; done = c.done.items; dirt = c.dirt.items } };
+}
+
+/// The interrupts of a run, in the order in which they happen.
+#[derive(Drop)]
+pub struct Plan {
+    cuts: Vec<PlanCut>,
+}
+
+impl Model for Plan {
+    ghost use Rattle.std.specs.Prelude.{List};
+    ghost use Rattle.interrupt_plan.specs.Plan.{Cut};
+
+    ghost Value = { List Cut };
+
+    ghost view = { λ p. p.cuts.items };
+
+    ghost use Rattle.std.specs.Prelude.{◌<◌, ◌^◌, length};
+
+    ghost invariant = { λ p. length p.cuts.items < 2 ^ 32 };
+}
+
+/// The plan without interrupts.
+pub fn empty_plan(alloc: Global) -> Plan
+    ensures { result ≡ [] }
+{
+    Plan {
+        cuts: Vec::new(alloc),
+    }
+}
+
+impl Plan {
+    /// How many interrupts there are.
+    pub fn cut_count(&self) -> u32
+        ensures { result ≡ length self.now }
+    {
+        self.cuts.len() as u32
+    }
+
+    /// The interrupt with this number, counted from 0.
+    pub fn cut(&self, i: u32) -> &PlanCut
+        requires { i < length self.now }
+        ensures { slice_get self.now i ≡ Some result.now }
+    {
+        &self.cuts[i as usize]
+    }
+}
+
+#[cfg(test)]
+mod tests {
+    use super::*;
+
+    #[test]
+    fn empty_plan_has_no_cuts(rt: HostRuntime) {
+        assert_eq!(rt; empty_plan(rt.alloc()).cut_count(), 0);
+    }
+}

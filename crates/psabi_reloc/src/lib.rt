@@ -1,0 +1,4 @@
+//! The formulas of the RISC-V ELF psABI's relocations. Nothing here takes memory.
+#![tactic(auto)]
+
+pub mod parts;

@@ -1,0 +1,16 @@
+// What symbols resolve to.
+
+use zc_base::place::Place;
+
+/// What a symbol and an addend resolve to.
+///
+/// `Code` is a place in code, which has no address before the layout, and `Number` an address of data
+/// or a number. `Absent` is a weak symbol that no object defines, with the addend alone. `Nowhere` is
+/// a place in no section that is kept, or past its section's end.
+#[derive(Clone, Copy, PartialEq, Eq, Debug)]
+pub enum Target {
+    Code(Place),
+    Number(u32),
+    Absent(u32),
+    Nowhere,
+}

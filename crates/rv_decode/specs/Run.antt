@@ -1,0 +1,13 @@
+-- Steps, one after another.
+use Rattle.std.specs.Prelude.{ℕ, zero, suc, Result, Ok, Err}
+
+-- the second step from what the first gives, where it gives something
+infixl 10 ◌>>=◌
+abbrev pub ◌>>=◌ : {A B E : Type 0} → Result A E → (A → Result B E) → Result B E
+(Ok x) >>= f = f x
+(Err e) >>= f = Err e
+
+-- a step made n times
+abbrev pub iterate : {A E : Type 0} → (A → Result A E) → ℕ → A → Result A E
+iterate f zero x = Ok x
+iterate f (suc n) x = f x >>= iterate f n

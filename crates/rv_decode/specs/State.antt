@@ -1,0 +1,43 @@
+-- The state of the machine that runs RV32IM and Zc.
+use Rattle.std.specs.Prelude.{ℕ, ◌==◌, if◌then◌else◌, List, ◌∷◌, Option, replicate, slice_index, slice_set}
+use Rattle.rv_decode.specs.Memory.{Region, cell_at}
+
+-- what a program does to its environment: it reads input, writes output, or exits
+pub data Event : Type 0 where
+  Read : (bytes : List ℕ) → Event
+  Write : (fd : ℕ) (bytes : List ℕ) → Event
+  Exit : (status : ℕ) → Event
+
+-- what the machine itself keeps: the program counter, 32 registers, the base of the jump table (jvt, Zc 1.0,
+-- chapter "Zcmt"), memory, the number of instructions that were committed, and the exit's status
+pub record ZcCore : Type 0 where
+  pub pc : ℕ
+  pub regs : List ℕ
+  pub jvt : ℕ
+  pub memory : List (Region ℕ)
+  pub commits : ℕ
+  pub exit : Option ℕ
+
+-- with the input that is left and the events so far
+pub record ZcState : Type 0 where
+  pub core : ZcCore
+  pub input : List ℕ
+  pub events : List Event
+
+-- ---- registers
+
+-- register rd gets v; register 0 stays (RISC-V unprivileged manual, "Programmers' Model for Base Integer ISA")
+abbrev pub set_reg : {X : Type 0} → List X → ℕ → X → List X
+set_reg regs rd v = if rd == 0 then regs else slice_set regs rd v
+
+-- the registers at a program's start: x0, sp (x2), and what the others hold
+abbrev pub start_regs : {X : Type 0} → X → X → X → List X
+start_regs x0 sp other = x0 ∷ other ∷ sp ∷ replicate 29 other
+
+abbrev pub reg_in : ZcCore → ℕ → ℕ
+reg_in z r = slice_index z.regs r
+
+-- ---- memory
+
+abbrev pub byte_in : ZcCore → ℕ → ℕ
+byte_in z a = cell_at 0 z.memory a

@@ -1,0 +1,6 @@
+pub mod Why
+pub mod Words
+pub mod Program
+pub mod State
+pub mod Step
+pub mod Run

@@ -1,0 +1,20 @@
+-- Runs of the symbolic machine.
+use Rattle.std.specs.Prelude.{ℕ, List, [], ◌++◌, Result, Ok, Err}
+use Rattle.zc_base.specs.declared.place.Place.{Place}
+use Rattle.rv_decode.specs.Run.{iterate}
+use Rattle.sym_machine.specs.declared.why.Why.{Why}
+use Rattle.sym_machine.specs.Program.{Program}
+use Rattle.sym_machine.specs.State.{PlainState, first_plain}
+use Rattle.sym_machine.specs.Step.{PlainStep, Went, Stuck, plain_step}
+
+-- the events of a step stand behind those before it
+abbrev pub recorded : PlainStep → PlainState → Result PlainState (Place × Why)
+recorded (Went s events) r = Ok (record { core = s; events = r.events ++ events })
+recorded (Stuck place why) r = Err (place, why)
+
+unfoldable pub plain_turn : Program → PlainState → Result PlainState (Place × Why)
+plain_turn p r = recorded (plain_step p r.core) r
+
+-- the state after n steps, or where and why the machine is stuck before
+unfoldable pub plain : Program → List ℕ → ℕ → Result PlainState (Place × Why)
+plain p input n = iterate (plain_turn p) n (record { core = first_plain p input; events = [] })

@@ -1,0 +1,40 @@
+-- The state of the symbolic machine.
+use Rattle.std.specs.Prelude.{ℕ, List, Option, None, slice_index_or}
+use Rattle.zc_base.specs.declared.place.Place.{Place}
+use Rattle.rv_decode.specs.Memory.{Region, cell_at}
+use Rattle.rv_decode.specs.State.{Event, start_regs}
+use Rattle.sym_machine.specs.declared.word.SymByte.{SymByte}
+use Rattle.sym_machine.specs.declared.word.SymByte.TheVariants.{Undef}
+use Rattle.sym_machine.specs.declared.word.SymWord.{SymWord}
+use Rattle.sym_machine.specs.Words.{undef_word, number_word}
+use Rattle.sym_machine.specs.Program.{Program}
+
+-- what the machine itself keeps: the place of the next item, 32 registers, the bytes of data and stack, the input
+-- that is left, and the exit's status
+pub record PlainCore : Type 0 where
+  pub place : Place
+  pub regs : List SymWord
+  pub memory : List (Region SymByte)
+  pub input : List ℕ
+  pub exit : Option ℕ
+
+-- with the events so far
+pub record PlainState : Type 0 where
+  pub core : PlainCore
+  pub events : List Event
+
+abbrev pub reg_of : PlainCore → ℕ → SymWord
+reg_of s r = slice_index_or s.regs r undef_word
+
+abbrev pub cell_of : PlainCore → ℕ → SymByte
+cell_of s a = cell_at Undef s.memory a
+
+-- the state at the start: x0 is 0, sp the stack's end, and the other registers are undefined
+abbrev pub first_plain : Program → List ℕ → PlainCore
+first_plain p input = record {
+  place = p.entry;
+  regs = start_regs (number_word 0) (number_word p.map.stack_high) undef_word;
+  memory = p.first_memory;
+  input = input;
+  exit = None;
+}

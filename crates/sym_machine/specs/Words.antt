@@ -1,0 +1,49 @@
+-- Words of abstract bytes.
+use Rattle.std.specs.Prelude.{ℕ, ℤ, pos, negsuc, ◌+◌, ◌*◌, Bool, false, ◌==◌, if◌then◌else◌, Option, Some, None}
+use Rattle.rv_decode.specs.declared.instr.ImmOp.{ImmOp}
+use Rattle.rv_decode.specs.declared.instr.ImmOp.TheVariants.{Addi}
+use Rattle.rv_decode.specs.Bits.{add32}
+use Rattle.rv_decode.specs.Memory.{byte_of}
+use Rattle.sym_machine.specs.declared.word.Value.{Value}
+use Rattle.sym_machine.specs.declared.word.SymByte.{SymByte}
+use Rattle.sym_machine.specs.declared.word.SymByte.TheVariants.{Num, Part, Undef}
+use Rattle.sym_machine.specs.declared.word.SymWord.{SymWord}
+
+abbrev pub undef_word : SymWord
+undef_word = record { b0 = Undef; b1 = Undef; b2 = Undef; b3 = Undef }
+
+abbrev pub number_word : ℕ → SymWord
+number_word n = record { b0 = Num (byte_of n 0); b1 = Num (byte_of n 1); b2 = Num (byte_of n 2); b3 = Num (byte_of n 3) }
+
+-- a value's word: its four parts in order
+abbrev pub value_word : Value → SymWord
+value_word v = record { b0 = Part v 0; b1 = Part v 1; b2 = Part v 2; b3 = Part v 3 }
+
+-- the number of four bytes, where all are numbers
+abbrev pub number_of_bytes : SymByte → SymByte → SymByte → SymByte → Option ℕ
+number_of_bytes (Num a) (Num b) (Num c) (Num d) = Some (a + 256 * b + 65536 * c + 16777216 * d)
+number_of_bytes a b c d = None
+
+-- the number that a word is, where it is one
+abbrev pub number_of : SymWord → Option ℕ
+number_of w = number_of_bytes w.b0 w.b1 w.b2 w.b3
+
+-- ---- results
+
+-- the result of an operation on a number, and an undefined word where there is none
+abbrev pub numeric : Option ℕ → (ℕ → ℕ) → SymWord
+numeric None f = undef_word
+numeric (Some n) f = number_word (f n)
+
+abbrev pub is_zero : ℤ → Bool
+is_zero (pos n) = n == 0
+is_zero (negsuc n) = false
+
+-- a sum with an immediate; with 0 it copies the word, whatever the word is
+abbrev pub sum_word : SymWord → ℤ → SymWord
+sum_word w imm = if is_zero imm then w else numeric (number_of w) (λ n. add32 n imm)
+
+-- the operations on a register's word and an immediate; none for one that no machine here has yet
+abbrev pub imm_word : ImmOp → SymWord → ℤ → Option SymWord
+imm_word Addi w imm = Some (sum_word w imm)
+imm_word op w imm = None

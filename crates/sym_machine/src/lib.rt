@@ -1,0 +1,6 @@
+//! The symbolic machine: it runs the objects' own instructions at places in code, before any address
+//! is chosen for them, with bytes that may be undefined.
+#![tactic(auto)]
+
+pub mod why;
+pub mod word;

@@ -1,0 +1,5 @@
+//! The halfwords of Zca, Zcb, Zcmp and Zcmt: what a halfword spells. Nothing here takes memory.
+#![tactic(auto)]
+
+pub mod decode16;
+pub mod short;

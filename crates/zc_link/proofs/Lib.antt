@@ -1,0 +1,5 @@
+pub mod WordLaws
+pub mod Sound
+pub mod Interrupts
+pub mod Items
+pub mod Simulation

@@ -1,0 +1,30 @@
+-- The image does what the program does.
+use Rattle.std.specs.Prelude.{◌≡◌, ℕ, ◌+◌, ◌*◌, ◌<◌, ◌≤◌, ◌⊎◌, List, [], All, IsSome, Ok}
+use Rattle.interrupt_plan.specs.Plan.{Cut, IsPlan}
+use Rattle.rv_decode.specs.State.{ZcState}
+use Rattle.sym_machine.specs.Program.{Program}
+use Rattle.sym_machine.specs.State.{PlainState}
+use Rattle.sym_machine.specs.Run.{plain}
+use Rattle.zc_link.specs.Image.{Image, place_address, zc}
+use Rattle.zc_link.specs.Stands.{Stands}
+
+-- the same environment calls so far; and where the place is listed, or the program has exited, each register and
+-- each byte of data and stack is what the program has there, unless that is undefined
+pub record Follows (p : Program) (e : Image) (s : PlainState) (z : ZcState) : Type 0 where
+  pub events : z.events ≡ s.events
+  pub stands : IsSome (place_address e s.core.place) ⊎ IsSome s.core.exit → Stands p (place_address e) s.core z
+
+-- for each input, and for each number n of steps that the program makes without getting stuck, there is a number of
+-- commits, the same for all these plans, behind which the image follows the program
+abbrev pub PreservesUnder : (List Cut → Type 0) → Program → Image → Type 0
+PreservesUnder Allowed p e =
+    (input : List ℕ) (n : ℕ) (s : PlainState) → All (λ b. b < 256) input → plain p input n ≡ Ok s →
+    (m : ℕ) × (m ≤ 64 * n + 3) × ((plan : List Cut) → Allowed plan → (z : ZcState) × (zc e input plan m ≡ Ok z) × Follows p e s z)
+
+-- under every plan of interrupts
+abbrev pub Preserves : Program → Image → Type 0
+Preserves p e = PreservesUnder IsPlan p e
+
+-- without interrupts
+abbrev pub PreservesQuietly : Program → Image → Type 0
+PreservesQuietly p e = PreservesUnder (λ plan. plan ≡ []) p e

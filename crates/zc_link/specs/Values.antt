@@ -1,0 +1,34 @@
+-- What the symbolic machine's values are in an image, where A gives the addresses of places
+-- (RISC-V ELF psABI, "Relocations").
+use Rattle.std.specs.Prelude.{ℕ, ◌+◌, ◌-◌, ◌*◌, ◌%◌, ◌^◌, Option, Some, None}
+use Rattle.std.specs.Option.{option_map, option_and_then}
+use Rattle.zc_base.specs.declared.place.Place.{Place}
+use Rattle.psabi_sym.specs.declared.target.Target.{Target}
+use Rattle.psabi_sym.specs.declared.target.Target.TheVariants as target
+use Rattle.block_cut.specs.declared.item.Item.{Item}
+use Rattle.block_cut.specs.declared.item.Item.TheVariants as item
+use Rattle.psabi_reloc.specs.Parts.{hi20_of}
+use Rattle.sym_machine.specs.declared.word.Value.{Value}
+use Rattle.sym_machine.specs.declared.word.Value.TheVariants.{Code, AbsHi, PcHi}
+use Rattle.sym_machine.specs.Program.{Program}
+
+abbrev pub target_value : (Place → Option ℕ) → Target → Option ℕ
+target_value A (target.Code q) = A q
+target_value A (target.Number n) = Some n
+target_value A (target.Absent n) = Some n
+target_value A target.Nowhere = None
+
+-- what the relocation of an `auipc` resolves to
+abbrev pub pc_target : Option Item → Option Target
+pc_target (Some (item.PcHi i t)) = Some t
+pc_target other = None
+
+-- what an `auipc` at address a gives on the way to address t
+abbrev pub pc_upper : ℕ → ℕ → ℕ
+pc_upper a t = (a + hi20_of ((t + (2 ^ 32 - a)) % 2 ^ 32) * 2 ^ 12) % 2 ^ 32
+
+abbrev pub value_in : Program → (Place → Option ℕ) → Value → Option ℕ
+value_in p A (Code q) = A q
+value_in p A (AbsHi q) = option_map (λ x. hi20_of x * 2 ^ 12) (A q)
+value_in p A (PcHi q) =
+    option_and_then (λ a. option_map (pc_upper a) (option_and_then (target_value A) (pc_target (p.item q)))) (A q)

@@ -1,0 +1,44 @@
+-- What the machine fetches (RISC-V unprivileged manual, "Base Instruction-Length Encoding").
+use Rattle.std.specs.Prelude.{ℕ, ◌+◌, ◌*◌, ◌==◌, if◌then◌else◌, Option, Some, None}
+use Rattle.std.specs.Option.{option_map}
+use Rattle.rv_decode.specs.Bits.{field}
+use Rattle.rv_decode.specs.Decode.{decoded}
+use Rattle.rv_decode.specs.Memory.{extents_of, is_text, lies_in}
+use Rattle.rv_decode.specs.State.{ZcCore, byte_in}
+use Rattle.zc_decode.specs.declared.short.Short.{Short}
+use Rattle.zc_decode.specs.declared.short.Short.TheVariants.{Base}
+use Rattle.zc_decode.specs.Halfwords.{decoded16}
+use Rattle.zc_machine.specs.declared.reason.Reason.{Reason}
+use Rattle.zc_machine.specs.declared.reason.Reason.TheVariants.{Illegal, BadAccess}
+
+abbrev pub half_at : ZcCore → ℕ → ℕ
+half_at z a = byte_in z a + 256 * byte_in z (a + 1)
+
+abbrev pub word_at : ZcCore → ℕ → ℕ
+word_at z a = byte_in z a + 256 * byte_in z (a + 1) + 65536 * byte_in z (a + 2) + 16777216 * byte_in z (a + 3)
+
+-- an instruction with its size in bytes, or why there is none
+pub data Fetched : Type 0 where
+  Found : Short → (size : ℕ) → Fetched
+  Missing : Reason → Fetched
+
+abbrev pub found : Option Short → ℕ → Fetched
+found None size = Missing Illegal
+found (Some s) size = Found s size
+
+-- a halfword, or a word where the low two bits are 11
+abbrev pub fetched_half : ZcCore → ℕ → Fetched
+fetched_half z a = found (decoded16 (half_at z a)) 2
+
+abbrev pub fetched_word : ZcCore → ℕ → Fetched
+fetched_word z a =
+    if lies_in is_text (extents_of z.memory) a 4
+    then found (option_map Base (decoded (word_at z a))) 4
+    else Missing BadAccess
+
+-- what stands at an address of code
+abbrev pub fetched_at : ZcCore → ℕ → Fetched
+fetched_at z a =
+    if lies_in is_text (extents_of z.memory) a 2
+    then (if field (half_at z a) 0 2 == 0b11 then fetched_word z a else fetched_half z a)
+    else Missing BadAccess

@@ -1,0 +1,6 @@
+pub mod Reason
+pub mod Fetch
+pub mod Step
+pub mod Interrupt
+pub mod Run
+pub mod Load

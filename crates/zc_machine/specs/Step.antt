@@ -1,0 +1,48 @@
+-- One step of the machine.
+use Rattle.std.specs.Prelude.{ℕ, ◌%◌, ◌==◌, if◌then◌else◌, Option, Some, None}
+use Rattle.rv_decode.specs.State.{ZcCore, reg_in}
+use Rattle.rv_decode.specs.Effect as act
+use Rattle.rv_decode.specs.Effect.{Effect, effect}
+use Rattle.zc_decode.specs.declared.short.Short.{Short}
+use Rattle.zc_decode.specs.declared.short.Short.TheVariants.{Base}
+use Rattle.zc_machine.specs.declared.reason.Reason.{Reason}
+use Rattle.zc_machine.specs.declared.reason.Reason.TheVariants.{Illegal, BadAccess, Misaligned, Break, UnknownCall}
+use Rattle.zc_machine.specs.declared.step.EnvCall.{EnvCall}
+use Rattle.zc_machine.specs.declared.step.EnvCall.TheVariants as call
+use Rattle.zc_machine.specs.Fetch.{Fetched, Found, Missing, fetched_at}
+
+-- what a step comes to: an instruction commits and leaves this state, or nothing changes
+pub data ZcStep : Type 0 where
+  Committed : ZcCore → ZcStep
+  Wants : EnvCall → ZcStep
+  Ended : (status : ℕ) → ZcStep
+  Stopped : Reason → ZcStep
+
+-- an environment call, by a7: 93 is the exit, with the low byte of a0
+abbrev pub called : ZcCore → ZcStep
+called z = if reg_in z 17 == 93 then Wants (call.Exit (reg_in z 10 % 256)) else Stopped UnknownCall
+
+abbrev pub effect_step : Effect → ZcCore → ZcStep
+effect_step (act.Commits z') z = Committed z'
+effect_step act.Misaligned z = Stopped Misaligned
+effect_step act.BadAccess z = Stopped BadAccess
+effect_step act.Break z = Stopped Break
+effect_step act.Call z = called z
+effect_step act.Unknown z = Stopped Illegal
+
+-- an instruction of this size; one that this machine doesn't have yet is illegal
+abbrev pub short_step : Short → ℕ → ZcCore → ZcStep
+short_step (Base i) size z = effect_step (effect i size z) z
+short_step other size z = Stopped Illegal
+
+abbrev pub made : Fetched → ZcCore → ZcStep
+made (Found s size) z = short_step s size z
+made (Missing reason) z = Stopped reason
+
+-- one step; after the exit nothing changes
+abbrev pub step_from : Option ℕ → ZcCore → ZcStep
+step_from None z = made (fetched_at z z.pc) z
+step_from (Some status) z = Ended status
+
+unfoldable pub zc_step : ZcCore → ZcStep
+zc_step z = step_from z.exit z

@@ -1,0 +1,5 @@
+//! The machine that runs linked images: RV32IM with the halfwords of Zca, Zcb, Zcmp and Zcmt.
+#![tactic(auto)]
+
+pub mod reason;
+pub mod step;
