@@ -2,6 +2,7 @@
 use Rattle.std.proofs.Common.{◌≡◌, ℕ, ◌+◌, ◌<◌, List, [], ◌∷◌, ◌++◌, length, get_or, map, Bool, true, false, refl, sym, ap, ◌∙◌, subst, arith}
 use Rattle.std.specs.Prelude.{◌||◌}
 use Rattle.std.specs.List.{list_any, range_with_len}
+use Rattle.std.proofs.lemmas.Bool.{false_from_ne_true}
 use Rattle.std.proofs.lemmas.List.Folds.{list_any-append, list_any_at}
 use Rattle.std.proofs.lemmas.List.FromFn.{length-map-range_with_len, get_or-map-range_with_len, map-range_with_len_more}
 
@@ -17,10 +18,6 @@ pub none_listed_more : {X : Type 0} (p : X → Bool) (f : ℕ → X) (i : ℕ) �
 none_listed_more p f i before here =
     rw (map-range_with_len_more f 0 i i (omega arith), list_any-append p (map f (range_with_len 0 i)) (f i ∷ []), before, here) refl
 
-not_passed : (b : Bool) → (b ≡ true → true ≡ false) → b ≡ false
-not_passed true h = h refl
-not_passed false h = refl
-
 -- where none passes, this one does not
 pub none_listed : {X : Type 0} (p : X → Bool) (f : ℕ → X) (n i : ℕ) → list_any p (map f (range_with_len 0 n)) ≡ false → i < n → p (f i) ≡ false
-none_listed p f n i none lt = not_passed (p (f i)) (λ h. cc (list_any_listed p f n i lt h, none))
+none_listed p f n i none lt = false_from_ne_true (p (f i)) (λ h. cc (list_any_listed p f n i lt h, none))

@@ -1,15 +1,36 @@
--- The headers of a little-endian ELF file of class 32 (System V gABI, "ELF Header" and "Sections").
+-- The headers of a little-endian ELF file of class 32 (System V gABI, "ELF Header", "Sections" and
+-- "Program Header").
 use Rattle.std.specs.Prelude.{ℕ, ◌+◌, ◌*◌, Bool, ◌&&◌, ◌||◌, ◌==◌, if◌then◌else◌, List, [], take, drop, map, slice_index}
 use Rattle.std.specs.List.{range_with_len}
 use Rattle.zc_base.specs.Fields.{half_in, word_in}
+
+-- e_entry: the address at which the program starts
+abbrev pub entry_of : List ℕ → ℕ
+entry_of bytes = word_in bytes 24
+
+-- e_phoff: where the program headers begin
+abbrev pub program_table : List ℕ → ℕ
+program_table bytes = word_in bytes 28
 
 -- e_shoff: where the section headers begin
 abbrev pub section_table : List ℕ → ℕ
 section_table bytes = word_in bytes 32
 
 -- e_flags
+abbrev pub file_flags : List ℕ → ℕ
+file_flags bytes = word_in bytes 36
+
+-- e_flags of an object
 abbrev pub object_flags : List ℕ → ℕ
-object_flags bytes = word_in bytes 36
+object_flags bytes = file_flags bytes
+
+-- e_phentsize: the bytes of a program header
+abbrev pub program_header_size : List ℕ → ℕ
+program_header_size bytes = half_in bytes 42
+
+-- e_phnum: how many program headers there are
+abbrev pub program_count : List ℕ → ℕ
+program_count bytes = half_in bytes 44
 
 -- e_shentsize: the bytes of a section header
 abbrev pub section_header_size : List ℕ → ℕ
@@ -18,6 +39,10 @@ section_header_size bytes = half_in bytes 46
 -- e_shnum: how many sections there are
 abbrev pub section_count : List ℕ → ℕ
 section_count bytes = half_in bytes 48
+
+-- e_shstrndx: the section that holds the names of the sections
+abbrev pub name_section : List ℕ → ℕ
+name_section bytes = half_in bytes 50
 
 -- e_ident begins 7F "ELF", class 1 (32-bit), data 1 (little-endian), version 1; e_type is the given
 -- one, and e_machine is 243 (RISC-V ELF psABI, "File Header")
@@ -65,3 +90,31 @@ is_empty_kind kind = kind == 0 || kind == 8
 -- the content of a section
 abbrev pub content_of : List ℕ → Header → List ℕ
 content_of bytes header = if is_empty_kind header.kind then [] else take header.size (drop header.offset bytes)
+
+-- a program header: p_type, p_offset, p_vaddr, p_paddr, p_filesz, p_memsz, p_flags and p_align
+pub record ProgramHeader : Type 0 where
+  pub kind : ℕ
+  pub offset : ℕ
+  pub address : ℕ
+  pub physical : ℕ
+  pub file_size : ℕ
+  pub memory_size : ℕ
+  pub flags : ℕ
+  pub align : ℕ
+
+-- a program header: eight words
+unfoldable pub program_header_of : List ℕ → ℕ → ProgramHeader
+program_header_of bytes i = let at = program_table bytes + 32 * i in record {
+  kind = word_in bytes at;
+  offset = word_in bytes (at + 4);
+  address = word_in bytes (at + 8);
+  physical = word_in bytes (at + 12);
+  file_size = word_in bytes (at + 16);
+  memory_size = word_in bytes (at + 20);
+  flags = word_in bytes (at + 24);
+  align = word_in bytes (at + 28);
+}
+
+-- the program headers, in order
+abbrev pub program_headers_of : List ℕ → List ProgramHeader
+program_headers_of bytes = map (program_header_of bytes) (range_with_len 0 (program_count bytes))

@@ -1,5 +1,9 @@
 pub mod Fault
 pub mod Header
+pub mod Image
+pub mod ImageFault
 pub mod Object
+pub mod Places
 pub mod Rows
+pub mod Segments
 pub use Rattle.zc_base.specs.Fields

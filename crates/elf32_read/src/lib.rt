@@ -4,6 +4,7 @@
 
 pub mod fault;
 mod header;
+pub mod image_fault;
 pub mod object;
 pub mod section;
 pub mod section_flags;

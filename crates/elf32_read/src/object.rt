@@ -53,7 +53,8 @@ fn is_cut(bytes: &[u8]) -> bool
 fn content(bytes: &[u8], header: SectionHeader) -> &[u8]
     requires { header.kind ≢ 0 → header.kind ≢ 8 → header.offset + header.size ≤ length bytes.now }
     ensures whole { header.kind ≢ 0 → header.kind ≢ 8 → length result.now ≡ header.size }
-    ensures content { result.now ≡ (if is_empty_kind header.kind then [] else take header.size (drop header.offset bytes.entry.now)) }
+    ensures content { result.now
+        ≡ (if is_empty_kind header.kind then [] else take header.size (drop header.offset bytes.entry.now)) }
 {
     if is_without_content(header.kind) {
         &[]
@@ -81,7 +82,9 @@ impl<'a> Object<'a> {
     /// The object that the bytes are, or their first fault. It reads each section's header once.
     #[tactic(auto, unfolding(crate::specs::Object::object_fault))]
     pub fn read(bytes: &'a [u8]) -> Result<Object<'a>, Fault>
-        ensures { MatchResult result (λ object. (object ≡ bytes.entry.now) × (object_fault bytes.entry.now ≡ None)) (λ fault. object_fault bytes.entry.now ≡ Some fault) }
+        ensures { MatchResult result
+            (λ object. (object ≡ bytes.entry.now) × (object_fault bytes.entry.now ≡ None))
+            (λ fault. object_fault bytes.entry.now ≡ Some fault) }
     {
         if is_no_object(bytes) {
             return Err(Fault::NotElf);

@@ -1,1 +1,4 @@
 pub mod Appends
+pub mod Behind
+pub mod HeadersBack
+pub mod ImageBack

@@ -4,7 +4,7 @@ use Rattle.std.specs.Prelude.{ℕ, ◌+◌, ◌*◌, ◌-◌, ◌%◌, ◌^◌, 
 use Rattle.std.specs.List.{flat_map}
 use Rattle.zc_base.specs.Fields.{half_bytes, word_bytes}
 use Rattle.zc_base.specs.declared.place.Place.{Place}
-use Rattle.elf32_read.specs.Header.{Header}
+use Rattle.elf32_read.specs.Header.{Header, ProgramHeader}
 use Rattle.elf32_write.specs.Parts.{Parts}
 
 -- how many zeros make a length a multiple of 4
@@ -57,16 +57,22 @@ file_header parts =
     ++ flat_map word_bytes (1 ∷ parts.entry ∷ 52 ∷ sections_offset parts ∷ parts.flags ∷ [])
     ++ flat_map half_bytes (52 ∷ 32 ∷ 2 ∷ 40 ∷ 6 ∷ 5 ∷ [])
 
--- the program header of the text: p_type 1 (PT_LOAD), p_offset, p_vaddr, p_paddr, p_filesz,
--- p_memsz, p_flags 5 (read and execute), p_align
-unfoldable pub text_segment : Parts → List ℕ
-text_segment parts =
-    flat_map word_bytes (1 ∷ text_offset ∷ parts.text_at ∷ parts.text_at ∷ length parts.text ∷ length parts.text ∷ 5 ∷ 4 ∷ [])
+-- the segment of the text: PT_LOAD (1), with flags 5 (read and execute)
+abbrev pub text_segment : Parts → ProgramHeader
+text_segment parts = record { kind = 1; offset = text_offset; address = parts.text_at; physical = parts.text_at; file_size = length parts.text; memory_size = length parts.text; flags = 5; align = 4 }
 
--- the program header of the data, with flags 6 (read and write): the zeros are in memory alone
-unfoldable pub data_segment : Parts → List ℕ
-data_segment parts =
-    flat_map word_bytes (1 ∷ data_offset parts ∷ parts.data_at ∷ parts.data_at ∷ length parts.data_bytes ∷ (length parts.data_bytes + parts.zero) ∷ 6 ∷ 4 ∷ [])
+-- the segment of the data: PT_LOAD, with flags 6 (read and write); the zeros are in memory alone
+abbrev pub data_segment : Parts → ProgramHeader
+data_segment parts = record { kind = 1; offset = data_offset parts; address = parts.data_at; physical = parts.data_at; file_size = length parts.data_bytes; memory_size = length parts.data_bytes + parts.zero; flags = 6; align = 4 }
+
+-- the eight words of a program header
+abbrev pub segment_bytes : ProgramHeader → List ℕ
+segment_bytes header =
+    flat_map word_bytes (header.kind ∷ header.offset ∷ header.address ∷ header.physical ∷ header.file_size ∷ header.memory_size ∷ header.flags ∷ header.align ∷ [])
+
+-- the program headers
+unfoldable pub program_headers : Parts → List ℕ
+program_headers parts = segment_bytes (text_segment parts) ++ segment_bytes (data_segment parts)
 
 -- a place and its address: object, section, offset, address
 abbrev pub place_bytes : Place × ℕ → List ℕ
@@ -119,4 +125,4 @@ section_headers parts = flat_map section_bytes (sections_of parts)
 -- the file
 unfoldable pub image_bytes : Parts → List ℕ
 image_bytes parts =
-    file_header parts ++ text_segment parts ++ data_segment parts ++ padded parts.text ++ padded parts.data_bytes ++ flat_map place_bytes parts.places ++ padded names ++ section_headers parts
+    file_header parts ++ program_headers parts ++ padded parts.text ++ padded parts.data_bytes ++ flat_map place_bytes parts.places ++ padded names ++ section_headers parts

@@ -1,7 +1,7 @@
 // The file's header and the program headers of an image.
 
 ghost use Rattle.std.specs.Prelude.{◌≡◌, ◌++◌, OnOk};
-ghost use Rattle.elf32_write.specs.Image.{data_segment, file_header, section_headers, text_segment, Fits};
+ghost use Rattle.elf32_write.specs.Image.{data_segment, file_header, program_headers, section_headers, segment_bytes, text_segment, Fits};
 ghost use Rattle.elf32_write.specs.Offsets.{AreOffsetsOf};
 ghost use Rattle.elf32_write.specs.Parts.{parts_of};
 
@@ -38,27 +38,25 @@ pub fn push_file_header(
     push_halves(out, &[52, 32, 2, 40, 6, 5])
 }
 
-/// Appends the program header of the text.
-#[tactic(auto, unfolding(crate::specs::Image::text_segment))]
-pub fn push_text_segment(out: &mut Vec<u8>, parts: &ImageParts) -> Result<(), AllocError>
+// Appends the program header of the text.
+fn push_text_segment(out: &mut Vec<u8>, parts: &ImageParts) -> Result<(), AllocError>
     requires { Fits (parts_of parts.now) }
-    ensures { OnOk result (out.new.items ≡ out.old.items ++ text_segment (parts_of parts.now)) }
+    ensures { OnOk result (out.new.items ≡ out.old.items ++ segment_bytes (text_segment (parts_of parts.now))) }
 {
     let at = parts.text_at;
     let size = parts.text.len() as u32;
     push_words(out, &[1, TEXT_OFFSET, at, at, size, size, READ_EXECUTE, 4])
 }
 
-/// Appends the program header of the data.
-#[tactic(auto, unfolding(crate::specs::Image::data_segment))]
-pub fn push_data_segment(
+// Appends the program header of the data.
+fn push_data_segment(
     out: &mut Vec<u8>,
     parts: &ImageParts,
     offsets: &Offsets,
 ) -> Result<(), AllocError>
     requires fits { Fits (parts_of parts.now) }
     requires offsets { AreOffsetsOf (parts_of parts.now) offsets.now }
-    ensures { OnOk result (out.new.items ≡ out.old.items ++ data_segment (parts_of parts.now)) }
+    ensures { OnOk result (out.new.items ≡ out.old.items ++ segment_bytes (data_segment (parts_of parts.now))) }
 {
     let at = parts.data_at;
     let size = parts.data_bytes.len() as u32;
@@ -75,6 +73,21 @@ pub fn push_data_segment(
             4,
         ],
     )
+}
+
+/// Appends the program headers.
+#[tactic(auto, unfolding(crate::specs::Image::program_headers))]
+pub fn push_program_headers(
+    out: &mut Vec<u8>,
+    parts: &ImageParts,
+    offsets: &Offsets,
+) -> Result<(), AllocError>
+    requires fits { Fits (parts_of parts.now) }
+    requires offsets { AreOffsetsOf (parts_of parts.now) offsets.now }
+    ensures { OnOk result (out.new.items ≡ out.old.items ++ program_headers (parts_of parts.now)) }
+{
+    push_text_segment(out, parts)?;
+    push_data_segment(out, parts, offsets)
 }
 
 /// Appends the section headers.

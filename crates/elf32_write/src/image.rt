@@ -3,12 +3,12 @@
 ghost use Rattle.std.specs.Prelude.{◌≡◌, ◌++◌, IfOk, OnOk};
 ghost use Rattle.std.specs.List.{flat_map};
 ghost use Rattle.elf32_write.specs.Image.{image_bytes, place_bytes, Fits};
+ghost use Rattle.elf32_write.specs.Loadable.{IsLoadable, ReadsBack};
 ghost use Rattle.elf32_write.specs.Parts.{parts_of};
+ghost use Rattle.zc_base.specs.declared.mem_map.MemMap.{MemMap};
 
 use crate::fields::{push_half, push_padded, push_word};
-use crate::headers::{
-    push_data_segment, push_file_header, push_section_headers, push_text_segment,
-};
+use crate::headers::{push_file_header, push_program_headers, push_section_headers};
 use crate::image_parts::ImageParts;
 use crate::offsets::{NAMES, offsets_of};
 use std::alloc::{AllocError, Global};
@@ -38,13 +38,15 @@ fn push_places(out: &mut Vec<u8>, places: &[(Place, u32)]) -> Result<(), AllocEr
 #[tactic(auto, unfolding(crate::specs::Image::image_bytes))]
 pub fn write_image(alloc: Global, parts: &ImageParts) -> Result<Vec<u8>, AllocError>
     requires { Fits (parts_of parts.now) }
-    ensures { IfOk result (λ file. file.items ≡ image_bytes (parts_of parts.now)) }
+    ensures bytes { IfOk result (λ file. file.items ≡ image_bytes (parts_of parts.now)) }
+    // Under a memory map that the parts are made for.
+    ensures reads_back { (memory : MemMap) → IsLoadable (parts_of parts.now) memory →
+        IfOk result (λ file. ReadsBack (parts_of parts.now) memory file.items) }
 {
     let offsets = offsets_of(parts);
     let mut file = Vec::with_capacity(alloc, offsets.sections as usize + 240)?;
     push_file_header(&mut file, parts, &offsets)?;
-    push_text_segment(&mut file, parts)?;
-    push_data_segment(&mut file, parts, &offsets)?;
+    push_program_headers(&mut file, parts, &offsets)?;
     push_padded(&mut file, &parts.text)?;
     push_padded(&mut file, &parts.data_bytes)?;
     push_places(&mut file, &parts.places)?;

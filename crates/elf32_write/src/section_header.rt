@@ -158,7 +158,8 @@ fn push_section_header(out: &mut Vec<u8>, section: SectionHeader) -> Result<(), 
 
 /// Appends section headers, in order.
 pub fn push_headers(out: &mut Vec<u8>, sections: &[SectionHeader]) -> Result<(), AllocError>
-    ensures { OnOk result (out.new.items ≡ out.old.items ++ flat_map (λ section. section_bytes (header section)) sections.now) }
+    ensures { OnOk result (out.new.items
+        ≡ out.old.items ++ flat_map (λ section. section_bytes (header section)) sections.now) }
 {
     for section in sections {
         push_section_header(out, *section)?;

@@ -1,5 +1,6 @@
 -- Calls after one another: what one kept or added, the next finds.
-use Rattle.std.proofs.Common.{ℕ, ◌≤◌, List, ◌++◌, take, Option, Some, None, refl, sym, ◌∙◌, ap, arith, append_assoc, subst}
+use Rattle.std.proofs.Common.{◌≡◌, ℕ, ◌≤◌, List, ◌++◌, take, Option, Some, None, refl, sym, ◌∙◌, ap, arith, append_assoc, subst, ◌+◌, ◌<◌, length, length-append, ◌≢◌}
+use Rattle.std.proofs.Math.Seq.{take-append-add}
 use Rattle.zc_outside.specs.Files.{Files, Rose, KeepsFiles, PutsFile, HasFile, IsLong, Holds}
 use Rattle.zc_outside.specs.Streams.{KeepsBytes, Takes, Adds, AddsPart}
 
@@ -65,6 +66,18 @@ KeepsFiles-IsLong (Some f) (Some g) name limit kept long = (long.0, sym (kept na
 pub PutsFile-HasFile : (f g : Files) (name bytes : List ℕ) → PutsFile (Some f) (Some g) name bytes → HasFile (Some g) name bytes
 PutsFile-HasFile f g name bytes put = put.0
 
+-- another name than the one that was put has what it had
+pub PutsFile-others :
+    (f g : Option Files) (name bytes other held : List ℕ) → other ≢ name → PutsFile f g name bytes → HasFile g other held → HasFile f other held
+PutsFile-others None g name bytes other held differs put has = tt
+PutsFile-others (Some f) None name bytes other held differs put has = absurd put
+PutsFile-others (Some f) (Some g) name bytes other held differs put has = sym (put.1 other differs) ∙ has
+
+-- and what it had, it still has, where the files were told
+pub PutsFile-keeps_others :
+    (f g : Files) (name bytes other held : List ℕ) → other ≢ name → PutsFile (Some f) (Some g) name bytes → HasFile (Some f) other held → HasFile (Some g) other held
+PutsFile-keeps_others f g name bytes other held differs put has = put.1 other differs ∙ has
+
 -- the same bytes are kept
 pub KeepsBytes-refl : (xs : Option (List ℕ)) → KeepsBytes xs xs
 KeepsBytes-refl None = tt
@@ -118,6 +131,20 @@ Adds-Adds (Some xs) None zs first second one two = absurd one
 Adds-Adds (Some xs) (Some ys) None first second one two = two
 Adds-Adds (Some xs) (Some ys) (Some zs) first second one two =
     two ∙ ap (λ front. front ++ second) one ∙ append_assoc xs first second
+
+-- a piece and a part of the next are a part of their joined bytes
+pub Adds-AddsPart :
+    (xs ys zs : Option (List ℕ)) (first second : List ℕ) → Adds xs ys first → AddsPart ys zs second → AddsPart xs zs (first ++ second)
+Adds-AddsPart None ys zs first second one two = tt
+Adds-AddsPart (Some xs) None zs first second one two = absurd one
+Adds-AddsPart (Some xs) (Some ys) None first second one two = two
+Adds-AddsPart (Some xs) (Some ys) (Some zs) first second one two =
+    let less : length first + two.0 < length (first ++ second) = omega (arith, two.1, length-append first second) in
+    let whole : first ++ take two.0 second ≡ take (length first + two.0) (first ++ second) = sym (take-append-add first second two.0) in (
+      length first + two.0,
+      less,
+      two.2 ∙ ap (λ front. front ++ take two.0 second) one ∙ append_assoc xs first (take two.0 second) ∙ ap (λ part. xs ++ part) whole,
+    )
 
 -- a take from kept input is one from the input before
 pub KeepsBytes-Takes :

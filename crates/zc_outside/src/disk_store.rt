@@ -1,7 +1,10 @@
 // A store over the system's files.
 
-ghost use Rattle.std.specs.Prelude.{◌≡◌, ◌≤◌, ◌<◌, ◌+◌, ◌^◌, ◌++◌, ℕ, List, None, IfOk, IfSome, OnOk, MatchOption, length, vec_len, vec_capacity};
+ghost use Rattle.std.specs.Prelude.{◌≡◌, ◌≤◌, ◌<◌, ◌+◌, ◌^◌, ◌++◌, ◌↔◌, ℕ, List, None, IfOk, IfSome, OnOk, MatchOption, length, vec_len, vec_capacity};
 ghost use Rattle.std.specs.Io.KnownBytes.{Consumes, IsAtEnd};
+ghost use Rattle.std.specs.IoError.{error_kind};
+ghost use Rattle.std.specs.declared.io.ErrorKind.TheVariants.{OutOfMemory};
+ghost use Rattle.zc_outside.specs.declared.disk_store.Trouble.TheVariants.{Memory};
 ghost use Rattle.zc_outside.specs.Streams.{Adds};
 
 use crate::store::{Store, StoreFault};
@@ -95,6 +98,8 @@ enum Trouble {
 }
 
 impl From<io::Error> for Trouble {
+    ghost from_gives = { λ fault trouble. (error_kind fault ≡ OutOfMemory) ↔ (trouble ≡ Memory) };
+
     fn from(fault: io::Error) -> Trouble {
         if fault.kind() == ErrorKind::OutOfMemory {
             Trouble::Memory
@@ -105,6 +110,8 @@ impl From<io::Error> for Trouble {
 }
 
 impl From<AllocError> for Trouble {
+    ghost from_gives = { λ _ trouble. trouble ≡ Memory };
+
     fn from(_: AllocError) -> Trouble {
         Trouble::Memory
     }

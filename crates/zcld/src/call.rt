@@ -71,3 +71,6 @@ fn perform<S: Store>(alloc: Global, words: &[String], store: &mut S) -> Outcome
         None => Outcome::Usage,
     }
 }
+
+#[cfg(test)]
+mod tests;

@@ -1,0 +1,49 @@
+-- The places that an image lists: its section .zcld.places, of entries of twelve bytes.
+use Rattle.std.specs.Prelude.{ℕ, ◌+◌, ◌*◌, ◌/◌, Bool, true, ◌&&◌, ◌||◌, ◌==◌, nat_lt, nat_eq, List, [], ◌∷◌, ◌++◌, length, drop, map, filter, codes}
+use Rattle.std.specs.List.{flat_map, range_with_len, starts_with}
+use Rattle.zc_base.specs.Fields.{half_in, word_in}
+use Rattle.zc_base.specs.declared.mem_map.MemMap.{MemMap}
+use Rattle.zc_base.specs.declared.place.Place.{Place}
+use Rattle.elf32_read.specs.Header.{Header, name_section, header_of, headers_of, content_of}
+
+-- the names of the sections, each ended by a zero (System V gABI, "String Table")
+abbrev pub names_of : List ℕ → List ℕ
+names_of bytes = content_of bytes (header_of bytes (name_section bytes))
+
+-- the section is named .zcld.places
+abbrev pub holds_places : List ℕ → Header → Bool
+holds_places names header = starts_with nat_eq (drop header.name names) (codes ".zcld.places" ++ 0 ∷ [])
+
+-- the sections with places, in order
+unfoldable pub places_sections : List ℕ → List Header
+places_sections bytes = filter (holds_places (names_of bytes)) (headers_of bytes)
+
+-- an entry: a half for the object, a half for the section, a word for the offset, and a word for
+-- the address
+unfoldable pub entry_at : List ℕ → ℕ → Place × ℕ
+entry_at content i =
+    (record { object = half_in content (12 * i); section = half_in content (12 * i + 2); offset = word_in content (12 * i + 4) }, word_in content (12 * i + 8))
+
+-- the entries of a section
+abbrev pub entries_of : List ℕ → List (Place × ℕ)
+entries_of content = map (entry_at content) (range_with_len 0 (length content / 12))
+
+-- the places that the image lists, each with its address: none without the section
+abbrev pub places_of : List ℕ → List (Place × ℕ)
+places_of bytes = flat_map (λ header. entries_of (content_of bytes header)) (places_sections bytes)
+
+-- by object, then section, then offset
+abbrev pub is_before : Place → Place → Bool
+is_before first second =
+    nat_lt first.object second.object
+    || (first.object == second.object && (nat_lt first.section second.section || (first.section == second.section && nat_lt first.offset second.offset)))
+
+-- each place comes before the next
+abbrev pub is_ascending : List (Place × ℕ) → Bool
+is_ascending [] = true
+is_ascending (entry ∷ []) = true
+is_ascending (entry ∷ next ∷ entries) = is_before entry.0 next.0 && is_ascending (next ∷ entries)
+
+-- the address is no address of code, nor the one where code ends at the latest
+abbrev pub is_outside : MemMap → Place × ℕ → Bool
+is_outside memory entry = nat_lt entry.1 memory.text || nat_lt memory.data_low entry.1
