@@ -5,12 +5,15 @@ use Rattle.std.proofs.Common.{◌≡◌, ◌≢◌, ℕ, zero, suc, ◌+◌, ◌
 use Rattle.std.specs.Prelude.{◌&&◌, ◌||◌, slice_get}
 use Rattle.std.specs.List.{flat_map}
 use Rattle.std.specs.Option.{option_map}
-use Rattle.std.proofs.lemmas.Bool.{and_parts, and_from, cond_both, cond-true, cond-false, eq-eqb, eqb-true, le-leb, leb-true, ne_eqb, or_cases, or_left, or_right}
-use Rattle.std.proofs.lemmas.List.{append-nil, take-append-drop, take_more}
+use Rattle.std.proofs.lemmas.Bool.{and_parts, and_from, cases_lt, cond_both, cond-true, cond-false, eq-eqb, eqb-true, le-leb, leb-true, ne_eqb, or_cases, or_left, or_right}
+use Rattle.std.proofs.lemmas.List.{append-nil, get_or-drop, get_or-take, get_or_past, length-take, take-append-drop, take_more}
 use Rattle.std.proofs.lemmas.List.Concat.{flat_map-append, get_or-flat_map}
 use Rattle.std.proofs.lemmas.Option.{get_or_from_slice_get, slice_get_within}
 use Rattle.zc_base.specs.declared.place.Place.{Place}
-use Rattle.zc_base.specs.Fields.{half_bytes, word_bytes}
+use Rattle.zc_base.specs.Fields.{half_bytes, word_bytes, word_in}
+use Rattle.elf32_read.specs.declared.fault.Fault.{Fault}
+use Rattle.elf32_read.specs.Header.{header_of, is_empty_kind}
+use Rattle.elf32_read.specs.Object.{object_fault}
 use Rattle.rv_decode.specs.declared.instr.Instr.{Instr}
 use Rattle.rv_decode.specs.declared.instr.Instr.TheVariants.{WithImm, Ecall}
 use Rattle.block_cut.specs.declared.item.Item.TheVariants.{Op}
@@ -35,10 +38,12 @@ use Rattle.zc_link.specs.Preserves.{Preserves}
 use Rattle.zc_link.specs.Stands.{ByteStands, IsMemory}
 use Rattle.zc_link.specs.Values.{value_in}
 use Rattle.zc_link.proofs.Simulation.{preserves}
-use Rattle.zcld.specs.Straight.{is_li, piece, place_at, places_from, short_of, text_of}
-use Rattle.zcld.specs.Program.{image_with, spelled, standard_map, straight_item, straight_program}
+use Rattle.zcld.specs.Straight.{is_li, piece, place_at, places_from, short_of, text_of, words_from, words_in}
+use Rattle.zcld.specs.Refusal.{code_of, fault_or, first_fault, is_unbuilt}
+use Rattle.zcld.specs.Program.{image_with, object_image, program_of, spelled, standard_map, straight_item, straight_program}
 use Rattle.zcld.proofs.ShortForms.{li_fields, short_decodes}
 use Rattle.zcld.proofs.StraightLoop.{length_piece}
+use Rattle.zcld.proofs.Unbuilt.{IsStraight, built_straight}
 
 -- ---- pieces
 
@@ -353,3 +358,43 @@ module _ (words : List ℕ) (small : (k : ℕ) → get_or words k 0 < 2 ^ 32) (f
 
   pub straight_preserves : Preserves (straight_program words) image
   straight_preserves = preserves (straight_program words) image laid
+
+-- ---- objects
+
+word_below_32 : (b : List ℕ) (at : ℕ) → ((k : ℕ) → get_or b k 0 < 256) → word_in b at < 2 ^ 32
+unfolding word_in
+word_below_32 b at are = omega (arith, are at, are (at + 1), are (at + 2), are (at + 3))
+
+words_below : (b : List ℕ) (at n : ℕ) → ((k : ℕ) → get_or b k 0 < 256) → (k : ℕ) → get_or (words_from b at n) k 0 < 2 ^ 32
+words_below b at zero are k = omega arith
+words_below b at (suc n) are zero = word_below_32 b at are
+words_below b at (suc n) are (suc k) = words_below b (at + 4) n are k
+
+length-words_from : (b : List ℕ) (at n : ℕ) → length (words_from b at n) ≡ n
+length-words_from b at zero = refl
+length-words_from b at (suc n) = ap suc (length-words_from b (at + 4) n)
+
+part_below : (b : List ℕ) (at n : ℕ) → ((k : ℕ) → get_or b k 0 < 256) → (k : ℕ) → get_or (take n (drop at b)) k 0 < 256
+part_below b at n are k = ⊎_elim
+    (λ lt. rw (get_or-take n (drop at b) k 0 lt, get_or-drop at b k 0) (are (at + k)))
+    (λ le. let none = get_or_past (take n (drop at b)) k 0 (omega (arith, length-take n (drop at b))) in omega arith)
+    (cases_lt k n)
+
+code_below : (object : List ℕ) → ((k : ℕ) → get_or object k 0 < 256) → (k : ℕ) → get_or (code_of object) k 0 < 256
+code_below object are k = cond_both (is_empty_kind (header_of object 1).kind) [] (take (header_of object 1).size (drop (header_of object 1).offset object)) (λ l. get_or l k 0 < 256) (λ _. omega arith) (λ _. part_below object (header_of object 1).offset (header_of object 1).size are k)
+
+code_short : (object : List ℕ) → IsStraight object → length (code_of object) ≤ 65536
+code_short object straight = cond_both (is_empty_kind (header_of object 1).kind) [] (take (header_of object 1).size (drop (header_of object 1).offset object)) (λ l. length l ≤ 65536) (λ _. omega arith) (λ _. omega (arith, length-take (header_of object 1).size (drop (header_of object 1).offset object), straight.short))
+
+no_fault_built : (f : Option Fault) (unbuilt : Bool) → fault_or f unbuilt ≡ None → unbuilt ≡ false
+no_fault_built (Some fault) unbuilt h = cc
+no_fault_built None true h = cc
+no_fault_built None false h = refl
+
+-- the image of an object without a fault does what the object's program does
+pub object_preserves : (object : List ℕ) → ((k : ℕ) → get_or object k 0 < 256) → first_fault object ≡ None → Preserves (program_of object) (object_image object)
+unfolding first_fault
+object_preserves object are none =
+    let code = code_of object in
+    let straight = built_straight object (no_fault_built (object_fault object) (is_unbuilt object) none) in
+    straight_preserves (words_in code) (words_below code 0 (length code / 4) (code_below object are)) (omega (arith, length-words_from code 0 (length code / 4), code_short object straight))

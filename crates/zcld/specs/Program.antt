@@ -13,7 +13,9 @@ use Rattle.sym_machine.specs.declared.word.SymByte.TheVariants.{Undef}
 use Rattle.sym_machine.specs.Program.{Program}
 use Rattle.elf32_write.specs.Parts.{Parts}
 use Rattle.zc_link.specs.Image.{Image}
-use Rattle.zcld.specs.Straight.{place_at}
+use Rattle.zcld.specs.Straight.{place_at, words_in}
+use Rattle.zcld.specs.Refusal.{code_of}
+use Rattle.zcld.specs.Written.{straight_parts}
 
 -- where code, data and the stack lie
 abbrev pub standard_map : MemMap
@@ -57,3 +59,13 @@ image_with parts = record {
   places = parts.places;
   map = standard_map;
 }
+
+-- ---- an object of straight code alone
+
+-- its program
+abbrev pub program_of : List ℕ → Program
+program_of object = straight_program (words_in (code_of object))
+
+-- what its image holds
+abbrev pub object_image : List ℕ → Image
+object_image object = image_with (straight_parts (code_of object))
