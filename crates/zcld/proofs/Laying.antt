@@ -5,6 +5,7 @@ use Rattle.std.proofs.Common.{◌≡◌, ◌≢◌, ℕ, zero, suc, ◌+◌, ◌
 use Rattle.std.specs.Prelude.{◌&&◌, ◌||◌}
 use Rattle.std.specs.List.{flat_map}
 use Rattle.std.proofs.lemmas.Bool.{and_parts, and_from, cond_both, cond-true, cond-false, eq-eqb, eqb-true, le-leb, leb-true, ne_eqb, or_cases, or_left, or_right}
+use Rattle.std.proofs.Math.Seq.{take-length}
 use Rattle.std.proofs.lemmas.List.{append-nil, take-append-drop, take_more}
 use Rattle.std.proofs.lemmas.List.Concat.{flat_map-append, get_or-flat_map}
 use Rattle.zc_base.specs.declared.place.Place.{Place}
@@ -54,7 +55,7 @@ unfolding piece
 piece_long w h = cond-false (is_li (decoded w)) _ _ h
 
 -- where the k-th word's piece begins in the text
-abbrev offset_of : List ℕ → ℕ → ℕ
+abbrev pub offset_of : List ℕ → ℕ → ℕ
 offset_of words k = length (flat_map piece (take k words))
 
 offset_more : (words : List ℕ) (k : ℕ) → k < length words → offset_of words (k + 1) ≡ offset_of words k + length (piece (get_or words k 0))
@@ -69,7 +70,11 @@ offset_within words k =
     let e = ap (λ l. length (flat_map piece l)) (sym (take-append-drop k words)) ∙ ap length (flat_map-append piece (take k words) (drop k words)) ∙ length-append (flat_map piece (take k words)) (flat_map piece (drop k words)) in
     omega arith
 
-text_short : (ws : List ℕ) → length (flat_map piece ws) ≤ 4 * length ws
+pub offset_whole : (words : List ℕ) → offset_of words (length words) ≡ length (text_of words)
+unfolding text_of
+offset_whole words = ap (λ l. length (flat_map piece l)) (take-length words)
+
+pub text_short : (ws : List ℕ) → length (flat_map piece ws) ≤ 4 * length ws
 text_short [] = omega arith
 text_short (w ∷ ws) = omega (arith, length-append (piece w) (flat_map piece ws), length_piece w, text_short ws)
 
@@ -166,7 +171,7 @@ module _ (words : List ℕ) (s : SegmentData) (ss : List SegmentData) (entry : �
 
 -- ---- the places
 
-address_found : (ws : List ℕ) (o a k q : ℕ) → k ≤ length ws → q ≡ o + 4 * k → address_in (places_from o a ws) (place_at q) ≡ Some (a + offset_of ws k)
+pub address_found : (ws : List ℕ) (o a k q : ℕ) → k ≤ length ws → q ≡ o + 4 * k → address_in (places_from o a ws) (place_at q) ≡ Some (a + offset_of ws k)
 unfolding places_from
 address_found [] o a k q le at =
     let same : eqb o q ≡ true = eq-eqb o q (omega arith) in
@@ -238,7 +243,7 @@ either_undefined false h k = k
 undefined_stands : (V : Value → Option ℕ) (x : SymByte) (b : ℕ) → x ≡ Undef → ByteStands V x b
 undefined_stands V x b e = subst (λ y. ByteStands V y b) (sym e) tt
 
-or_false : (a b : Bool) → a ≡ false → b ≡ false → (a || b) ≡ false
+pub or_false : (a b : Bool) → a ≡ false → b ≡ false → (a || b) ≡ false
 or_false true b h k = h
 or_false false b h k = k
 
@@ -247,7 +252,7 @@ abbrev pub image_with : Parts → Image
 image_with parts = record { entry = parts.entry; segments = segments parts; places = parts.places; map = standard_map }
 
 -- at each place of section 1 with an instruction the objects spell a word
-abbrev Spell : List (List ℕ) → List ℕ → Type 0
+abbrev pub Spell : List (List ℕ) → List ℕ → Type 0
 Spell objects words = (q : Place) (i : Instr) → q.object ≡ 0 → q.section ≡ 1 → item_in objects q ≡ Some (Op i) → IsWord words q i
 
 module _ (objects : List (List ℕ)) (words : List ℕ) (spell : Spell objects words) (small : (k : ℕ) → get_or words k 0 < 2 ^ 32) (few : length words ≤ 16384) where
