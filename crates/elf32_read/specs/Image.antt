@@ -3,7 +3,8 @@
 use Rattle.std.specs.Prelude.{ℕ, ◌+◌, ◌*◌, ◌%◌, Bool, false, not, ◌&&◌, ◌||◌, ◌==◌, nat_lt, nat_le, List, [], ◌∷◌, length, drop, Option}
 use Rattle.std.specs.List.{list_any}
 use Rattle.zc_base.specs.declared.mem_map.MemMap.{MemMap}
-use Rattle.elf32_read.specs.Header.{Header, ProgramHeader, entry_of, file_flags, program_table, program_header_size, program_count, section_header_size, section_count, name_section, begins_as, header_of, headers_of, is_empty_kind}
+use Rattle.elf32_read.specs.Header.{Header, entry_of, file_flags, program_table, program_header_size, program_count, section_header_size, section_count, name_section, begins_as, header_of, headers_of, is_empty_kind}
+use Rattle.elf32_read.specs.declared.header.ProgramHeader.{ProgramHeader}
 use Rattle.elf32_read.specs.Object.{lacks_headers, passes_end}
 use Rattle.elf32_read.specs.Places.{names_of, places_sections, places_of, is_ascending, is_outside}
 use Rattle.elf32_read.specs.Rows.{first_of}

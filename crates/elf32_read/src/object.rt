@@ -5,7 +5,7 @@ ghost use Rattle.elf32_read.specs.Header.{content_of, header_of, is_empty_kind, 
 ghost use Rattle.elf32_read.specs.Object.{not_elf, object_fault, passes_end, truncated};
 
 use crate::fault::Fault;
-use crate::header::{SectionHeader, begins_as, is_without_content, section_header};
+use crate::header::{begins_as, content, is_without_content, section_header};
 use crate::section::Section;
 use crate::section_flags::SectionFlags;
 use std::marker::Model;
@@ -47,21 +47,6 @@ fn is_cut(bytes: &[u8]) -> bool
         }
     }
     false
-}
-
-// The content of a section.
-fn content(bytes: &[u8], header: SectionHeader) -> &[u8]
-    requires { header.kind ≢ 0 → header.kind ≢ 8 → header.offset + header.size ≤ length bytes.now }
-    ensures whole { header.kind ≢ 0 → header.kind ≢ 8 → length result.now ≡ header.size }
-    ensures content { result.now
-        ≡ (if is_empty_kind header.kind then [] else take header.size (drop header.offset bytes.entry.now)) }
-{
-    if is_without_content(header.kind) {
-        &[]
-    } else {
-        let start = header.offset as usize;
-        &bytes[start..start + header.size as usize]
-    }
 }
 
 /// A relocatable object without a fault. Clauses see it as its bytes.

@@ -9,7 +9,8 @@ use Rattle.std.proofs.lemmas.List.Elements.{All-from_recursion}
 use Rattle.zc_base.specs.Fields.{half_in, word_in, half_bytes, word_bytes}
 use Rattle.zc_base.specs.declared.mem_map.MemMap.{MemMap}
 use Rattle.zc_base.specs.declared.place.Place.{Place}
-use Rattle.elf32_read.specs.Header.{Header, ProgramHeader, begins_as, entry_of, file_flags, program_table, section_table, program_count, program_header_size, section_count, section_header_size, name_section, header_of, headers_of, program_header_of, program_headers_of, content_of}
+use Rattle.elf32_read.specs.Header.{Header, begins_as, entry_of, file_flags, program_table, section_table, program_count, program_header_size, section_count, section_header_size, name_section, header_of, headers_of, program_header_of, program_headers_of, content_of}
+use Rattle.elf32_read.specs.declared.header.ProgramHeader.{ProgramHeader}
 use Rattle.elf32_read.specs.Image.{too_large, are_known_flags, are_missized, not_image, lacks_program_headers, load_passes_end, image_truncated, is_bad_load, some_overlap, bad_segments, lacks_names, is_unnamed, is_bad_list, bad_places, image_fault}
 use Rattle.elf32_read.specs.Object.{lacks_headers, passes_end}
 use Rattle.elf32_read.specs.Places.{names_of, holds_places, places_sections, entry_at, entries_of, places_of, is_ascending, is_outside}
