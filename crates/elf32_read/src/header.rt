@@ -6,6 +6,9 @@ ghost use Rattle.elf32_read.specs.Header.{begins_as, content_of, header_of, is_e
 
 use zc_base::fields::{u16_at, u32_at};
 
+/// The kind of a program header that loads a segment, PT_LOAD.
+pub const LOAD: u32 = 1;
+
 /// A section header: the words sh_name, sh_type, sh_flags, sh_addr, sh_offset, sh_size, sh_link,
 /// sh_info, sh_addralign and sh_entsize.
 #[derive(Clone, Copy)]

@@ -2,9 +2,11 @@
 //! bytes that it was read from, and nothing here takes memory.
 #![tactic(auto)]
 
+mod bounds;
 pub mod fault;
 mod header;
 pub mod image_fault;
+mod loads;
 pub mod object;
 pub mod section;
 pub mod section_flags;
