@@ -10,3 +10,4 @@ mod loads;
 pub mod object;
 pub mod section;
 pub mod section_flags;
+mod segments;
