@@ -8,6 +8,7 @@ mod header;
 pub mod image_fault;
 mod loads;
 pub mod object;
+mod places;
 pub mod section;
 pub mod section_flags;
 mod segments;
