@@ -2,7 +2,7 @@
 use Rattle.std.proofs.Common.{◌≡◌, ℕ, ◌+◌, ◌<◌, List, [], ◌∷◌, ◌++◌, length, get_or, map, Bool, true, false, refl, sym, ap, ◌∙◌, subst, arith}
 use Rattle.std.specs.Prelude.{◌||◌, ◌&&◌, filter, cond}
 use Rattle.std.specs.List.{list_any, range_with_len}
-use Rattle.std.proofs.lemmas.Bool.{false_from_ne_true}
+use Rattle.std.proofs.lemmas.Bool.{false_from_ne_true, or_parts, or_from}
 use Rattle.std.proofs.lemmas.List.Folds.{list_any-append, list_any_at}
 use Rattle.std.proofs.lemmas.List.FromFn.{length-map-range_with_len, get_or-map-range_with_len, map-range_with_len_more}
 
@@ -29,5 +29,16 @@ list_any-filter p q (x ∷ xs) =
     let rest = list_any-filter p q xs in
     elim (p x) as (λ b. list_any q (cond b (x ∷ filter p xs) (filter p xs)) ≡ (b && q x || list_any (λ x. p x && q x) xs)) [
       | true ↦ ap (λ t. q x || t) rest
+      | false ↦ rest
+    ]
+
+-- where none passes, none of what a filter keeps does
+pub none_kept : {X : Type 0} (p q : X → Bool) (xs : List X) → list_any q xs ≡ false → list_any q (filter p xs) ≡ false
+none_kept p q [] none = refl
+none_kept p q (x ∷ xs) none =
+    let parts = or_parts (q x) (list_any q xs) none in
+    let rest = none_kept p q xs parts.1 in
+    elim (p x) as (λ b. list_any q (cond b (x ∷ filter p xs) (filter p xs)) ≡ false) [
+      | true ↦ or_from (q x) (list_any q (filter p xs)) parts.0 rest
       | false ↦ rest
     ]

@@ -3,8 +3,8 @@
 ghost use Rattle.std.specs.Prelude.{◌≡◌, ℕ, ◌≤◌, ◌<◌, ◌+◌, ◌*◌, ◌/◌, ◌==◌, ◌||◌, not, nat_lt, true, false, drop, length, MatchResult, IfSome, List};
 ghost use Rattle.std.specs.List.{list_any};
 ghost use Rattle.std.specs.Option.{option_to_list};
-ghost use Rattle.elf32_read.specs.Header.{headers_of, section_count, section_table};
-ghost use Rattle.elf32_read.specs.Image.{bad_places, is_bad_list as is_bad, is_unnamed, lacks_names as lacks_the_names};
+ghost use Rattle.elf32_read.specs.Header.{content_of, headers_of, section_count, section_table};
+ghost use Rattle.elf32_read.specs.Image.{bad_places, is_bad_list as is_bad, is_bad_section, is_unnamed, lacks_names as lacks_the_names};
 ghost use Rattle.elf32_read.specs.Object.{passes_end};
 ghost use Rattle.elf32_read.specs.Places.{entries_of, entry_at, holds_places as holds_the_places, is_ascending, is_before as comes_before, is_outside as lies_outside, names_of, places_of, places_sections};
 ghost use Rattle.elf32_read.specs.declared.image_fault.ImageFault.TheVariants.{BadPlaces};
@@ -146,4 +146,61 @@ fn places_section(bytes: &[u8], names: &[u8]) -> Result<Option<SectionHeader>, I
         }
     }
     Ok(found)
+}
+
+// The names of the sections, unless there is no table of them or a name has no end.
+fn names_in(bytes: &[u8]) -> Result<&[u8], ImageFault>
+    requires start { 52 ≤ length bytes.now }
+    requires within { section_table bytes.now + 40 * section_count bytes.now ≤ length bytes.now }
+    requires whole { list_any (passes_end bytes.now) (headers_of bytes.now) ≡ false }
+    ensures { MatchResult result
+        (λ names. (lacks_the_names bytes.entry.now ≡ false) × (names.now ≡ names_of bytes.entry.now)
+        × (list_any (is_unnamed names.now) (headers_of bytes.entry.now) ≡ false))
+        (λ fault. (fault ≡ BadPlaces)
+        × ((lacks_the_names bytes.entry.now || list_any (is_unnamed (names_of bytes.entry.now)) (headers_of bytes.entry.now)) ≡ true)) }
+{
+    if lacks_names(bytes) {
+        return Err(ImageFault::BadPlaces);
+    }
+    let names = content(bytes, section_header(bytes, u32::from(u16_at(bytes, 50))));
+    if has_unnamed(bytes, names) {
+        return Err(ImageFault::BadPlaces);
+    }
+    Ok(names)
+}
+
+// The list of a section of places, unless it is bad.
+fn list_in<'a>(bytes: &'a [u8], map: &MemMap, header: SectionHeader) -> Result<&'a [u8], ImageFault>
+    requires { passes_end bytes.now header ≡ false }
+    ensures { MatchResult result
+        (λ list. (list.now ≡ content_of bytes.entry.now header) × (is_bad_section bytes.entry.now map.now header ≡ false))
+        (λ fault. (fault ≡ BadPlaces) × (is_bad_section bytes.entry.now map.now header ≡ true)) }
+{
+    if is_bad_list(&header) {
+        return Err(ImageFault::BadPlaces);
+    }
+    let list = content(bytes, header);
+    if !are_ascending(list) || has_outside(map, list) {
+        return Err(ImageFault::BadPlaces);
+    }
+    Ok(list)
+}
+
+/// The entries of the places that an image lists, none where it has no list, unless the list is bad.
+pub fn places_in<'a>(bytes: &'a [u8], map: &MemMap) -> Result<&'a [u8], ImageFault>
+    requires start { 52 ≤ length bytes.now }
+    requires within { section_table bytes.now + 40 * section_count bytes.now ≤ length bytes.now }
+    requires whole { list_any (passes_end bytes.now) (headers_of bytes.now) ≡ false }
+    ensures { MatchResult result
+        (λ list. (bad_places bytes.entry.now map.now ≡ false) × (entries_of list.now ≡ places_of bytes.entry.now))
+        (λ fault. (fault ≡ BadPlaces) × (bad_places bytes.entry.now map.now ≡ true)) }
+{
+    if u16_at(bytes, 48) == 0 {
+        return Ok(&[]);
+    }
+    let names = names_in(bytes)?;
+    match places_section(bytes, names)? {
+        None => Ok(&[]),
+        Some(header) => list_in(bytes, map, header),
+    }
 }
