@@ -1,4 +1,5 @@
 pub mod Ascending
+pub mod Entries
 pub mod Faultless
 pub mod Filtered
 pub mod Listed

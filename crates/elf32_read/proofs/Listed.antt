@@ -42,3 +42,7 @@ none_kept p q (x ∷ xs) none =
       | true ↦ or_from (q x) (list_any q (filter p xs)) parts.0 rest
       | false ↦ rest
     ]
+
+-- where none of a list passes, none at an index does
+pub none_at : {X : Type 0} (p : X → Bool) (xs : List X) (i : ℕ) (d : X) → list_any p xs ≡ false → i < length xs → p (get_or xs i d) ≡ false
+none_at p xs i d none lt = false_from_ne_true (p (get_or xs i d)) (λ h. cc (list_any_at p xs i d lt h, none))

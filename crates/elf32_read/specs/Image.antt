@@ -1,12 +1,12 @@
 -- Images by their bytes (System V gABI, "ELF Header", "Sections" and "Program Header"): each fault by
 -- its test.
-use Rattle.std.specs.Prelude.{ℕ, ◌+◌, ◌*◌, ◌%◌, Bool, false, not, ◌&&◌, ◌||◌, ◌==◌, nat_lt, nat_le, List, [], ◌∷◌, length, drop, Option}
+use Rattle.std.specs.Prelude.{◌≡◌, ◌≤◌, None, ℕ, ◌+◌, ◌*◌, ◌%◌, Bool, false, not, ◌&&◌, ◌||◌, ◌==◌, nat_lt, nat_le, List, [], ◌∷◌, length, drop, Option}
 use Rattle.std.specs.List.{list_any}
 use Rattle.zc_base.specs.declared.mem_map.MemMap.{MemMap}
 use Rattle.elf32_read.specs.Header.{Header, entry_of, file_flags, program_table, program_header_size, program_count, section_header_size, section_count, name_section, begins_as, header_of, headers_of, is_empty_kind, content_of}
 use Rattle.elf32_read.specs.declared.header.ProgramHeader.{ProgramHeader}
 use Rattle.elf32_read.specs.Object.{lacks_headers, passes_end}
-use Rattle.elf32_read.specs.Places.{names_of, places_sections, entries_of, is_ascending, is_outside}
+use Rattle.elf32_read.specs.Places.{names_of, places_sections, places_of, entries_of, is_ascending, is_outside}
 use Rattle.elf32_read.specs.Rows.{first_of}
 use Rattle.elf32_read.specs.Segments.{loads_of, is_code, is_writable, is_in_place, overlap, is_entry_of}
 use Rattle.elf32_read.specs.declared.image_fault.ImageFault.{ImageFault}
@@ -92,3 +92,11 @@ unfoldable pub image_fault : List ℕ → MemMap → Option ImageFault
 image_fault bytes memory = first_of (
     (too_large bytes, TooLarge) ∷ (not_image bytes, NotElf) ∷ (image_truncated bytes, Truncated)
     ∷ (bad_segments bytes memory, BadSegment) ∷ (bad_places bytes memory, BadPlaces) ∷ [])
+
+-- an image without a fault, with the program headers that load its segments and the entries of its
+-- list of places
+pub record IsRead (bytes : List ℕ) (memory : MemMap) (loads : List ProgramHeader) (entries : List ℕ) : Type 0 where
+  pub faultless : image_fault bytes memory ≡ None
+  pub loads_read : loads ≡ loads_of bytes
+  pub entries_within : length entries ≤ length bytes
+  pub places_read : entries_of entries ≡ places_of bytes

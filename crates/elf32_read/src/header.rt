@@ -106,6 +106,7 @@ pub fn content(bytes: &[u8], header: SectionHeader) -> &[u8]
     requires { header.kind ≢ 0 → header.kind ≢ 8 → header.offset + header.size ≤ length bytes.now }
     ensures content { result.now ≡ content_of bytes.entry.now header }
     ensures whole { header.kind ≢ 0 → header.kind ≢ 8 → length result.now ≡ header.size }
+    ensures within { length result.now ≤ length bytes.entry.now }
 {
     if is_without_content(header.kind) {
         &[]

@@ -173,7 +173,8 @@ fn names_in(bytes: &[u8]) -> Result<&[u8], ImageFault>
 fn list_in<'a>(bytes: &'a [u8], map: &MemMap, header: SectionHeader) -> Result<&'a [u8], ImageFault>
     requires { passes_end bytes.now header ≡ false }
     ensures { MatchResult result
-        (λ list. (list.now ≡ content_of bytes.entry.now header) × (is_bad_section bytes.entry.now map.now header ≡ false))
+        (λ list. (list.now ≡ content_of bytes.entry.now header) × (length list.now ≤ length bytes.entry.now)
+        × (is_bad_section bytes.entry.now map.now header ≡ false))
         (λ fault. (fault ≡ BadPlaces) × (is_bad_section bytes.entry.now map.now header ≡ true)) }
 {
     if is_bad_list(&header) {
@@ -192,7 +193,8 @@ pub fn places_in<'a>(bytes: &'a [u8], map: &MemMap) -> Result<&'a [u8], ImageFau
     requires within { section_table bytes.now + 40 * section_count bytes.now ≤ length bytes.now }
     requires whole { list_any (passes_end bytes.now) (headers_of bytes.now) ≡ false }
     ensures { MatchResult result
-        (λ list. (bad_places bytes.entry.now map.now ≡ false) × (entries_of list.now ≡ places_of bytes.entry.now))
+        (λ list. (bad_places bytes.entry.now map.now ≡ false) × (length list.now ≤ length bytes.entry.now)
+        × (entries_of list.now ≡ places_of bytes.entry.now))
         (λ fault. (fault ≡ BadPlaces) × (bad_places bytes.entry.now map.now ≡ true)) }
 {
     if u16_at(bytes, 48) == 0 {

@@ -1,4 +1,4 @@
-use Rattle.std.proofs.Common.{◌≡◌, ◌∷◌, [], false, map, sym, ap, ◌∙◌, eq-eqb}
+use Rattle.std.proofs.Common.{◌≡◌, ◌∷◌, [], false, map, sym, ap, ◌∙◌, arith}
 use Rattle.std.specs.Prelude.{not, filter, ◌==◌}
 use Rattle.std.specs.List.{list_any, flat_map, range_with_len}
 use Rattle.std.specs.Option.{option_to_list}
@@ -16,6 +16,7 @@ returns-then-u16_at-eq0 c =
     let bytes = c.args.bytes.now in
     let none : section_count bytes ≡ 0 = sym c.u16_at.ensures ∙ c.if-u16_at-eq0.true in (
       and_left (not (section_count bytes == 0)) _ (ap (λ n. not (n == 0)) none),
+      omega arith,
       sym (ap (λ n. flat_map (λ header. entries_of (content_of bytes header)) (filter (holds_places (names_of bytes)) (map (header_of bytes) (range_with_len 0 n)))) none),
     )
 
