@@ -1,6 +1,7 @@
 pub mod Why
 pub mod Words
 pub mod Program
+pub mod Objects
 pub mod State
 pub mod Step
 pub mod Run

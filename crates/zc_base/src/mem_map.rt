@@ -1,6 +1,7 @@
 // Where code, data and the stack lie.
 
 ghost use Rattle.std.specs.Prelude.{◌≡◌};
+ghost use Rattle.zc_base.specs.MemMap.{standard_map};
 
 /// Where the memory of a program lies: code from `text` to below `data_low`, data from `data_low`
 /// on, and the stack from `stack_low` to below `stack_high`. All are addresses.
@@ -15,10 +16,7 @@ pub struct MemMap {
 impl MemMap {
     /// The map that the linker uses where it is told no other.
     pub fn standard() -> MemMap
-        ensures text { result.text ≡ 0x0001_0000 }
-        ensures data_low { result.data_low ≡ 0x0010_0000 }
-        ensures stack_low { result.stack_low ≡ 0x0FF0_0000 }
-        ensures stack_high { result.stack_high ≡ 0x1000_0000 }
+        ensures { result ≡ standard_map }
     {
         MemMap {
             text: 0x0001_0000,

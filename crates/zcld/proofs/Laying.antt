@@ -14,6 +14,7 @@ use Rattle.zc_base.specs.Fields.{half_bytes, word_bytes, word_in}
 use Rattle.elf32_read.specs.declared.fault.Fault.{Fault}
 use Rattle.elf32_read.specs.Header.{header_of, is_empty_kind}
 use Rattle.elf32_read.specs.Object.{object_fault}
+use Rattle.elf32_read.specs.Segments.{SegmentData}
 use Rattle.rv_decode.specs.declared.instr.Instr.{Instr}
 use Rattle.rv_decode.specs.declared.instr.Instr.TheVariants.{WithImm, Ecall}
 use Rattle.block_cut.specs.declared.item.Item.TheVariants.{Op}
@@ -28,7 +29,7 @@ use Rattle.sym_machine.specs.declared.word.SymByte.TheVariants.{Undef}
 use Rattle.sym_machine.specs.declared.word.Value.{Value}
 use Rattle.zc_decode.specs.declared.short.Short.TheVariants.{Base}
 use Rattle.zc_machine.specs.Fetch.{Found, fetched_at, half_at, word_at}
-use Rattle.zc_machine.specs.Load.{Segment, first_core}
+use Rattle.zc_machine.specs.Load.{first_core}
 use Rattle.zc_machine.proofs.FetchLaws.{fetched_long, fetched_short}
 use Rattle.zc_machine.proofs.LoadLaws.{code_byte, code_lies}
 use Rattle.zc_link.specs.Image.{Image, place_address}
@@ -103,7 +104,7 @@ text_below (w ∷ ws) k = append_below (piece w) (flat_map piece ws) (piece_belo
 
 -- ---- what is fetched, where the text is the first segment
 
-module _ (words : List ℕ) (s : Segment) (ss : List Segment) (entry : ℕ) (is_code : s.code ≡ true) (spelled_out : s.bytes ≡ flat_map piece words) where
+module _ (words : List ℕ) (s : SegmentData) (ss : List SegmentData) (entry : ℕ) (is_code : s.code ≡ true) (spelled_out : s.bytes ≡ flat_map piece words) where
   abbrev core : ZcCore
   core = first_core entry (s ∷ ss) standard_map
 
@@ -265,10 +266,10 @@ module _ (words : List ℕ) (small : (k : ℕ) → get_or words k 0 < 2 ^ 32) (f
     places = places_from 0 0x0001_0000 words;
   }
 
-  abbrev text : Segment
+  abbrev text : SegmentData
   text = record { at = 0x0001_0000; size = length (text_of words); code = true; bytes = text_of words }
 
-  abbrev data_part : Segment
+  abbrev data_part : SegmentData
   data_part = record { at = 0x0010_0000; size = 0; code = false; bytes = [] }
 
   length_text : length (text_of words) ≤ 65536
