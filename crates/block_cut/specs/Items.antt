@@ -11,12 +11,12 @@ use Rattle.block_cut.specs.declared.item.Item.{Item}
 use Rattle.block_cut.specs.declared.item.Item.TheVariants.{Op, Raw}
 
 -- the content of a section that is code: its flags have ALLOC (2) and EXECINSTR (4)
-abbrev pub code_of : List ℕ → Header → Option (List ℕ)
-code_of object header = if bit_and header.flags 6 == 6 then Some (content_of object header) else None
+abbrev pub code_of_section : List ℕ → Header → Option (List ℕ)
+code_of_section object header = if bit_and header.flags 6 == 6 then Some (content_of object header) else None
 
 -- the content of an object's section, by its index, where there is such a section and it is code
 abbrev pub code_in : List ℕ → ℕ → Option (List ℕ)
-code_in object section = if nat_lt section (section_count object) then code_of object (header_of object section) else None
+code_in object section = if nat_lt section (section_count object) then code_of_section object (header_of object section) else None
 
 -- the word at an offset: a multiple of 4 with four bytes
 abbrev pub code_word : List ℕ → ℕ → Option ℕ

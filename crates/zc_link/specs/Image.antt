@@ -1,8 +1,13 @@
--- What an image holds, and its runs.
-use Rattle.std.specs.Prelude.{ℕ, List, Option, Result}
+-- What an image holds, by its bytes (System V gABI, "ELF Header" and "Program Header"), and its runs.
+use Rattle.std.specs.Prelude.{ℕ, List, Option, Some, None, Result}
 use Rattle.zc_base.specs.declared.mem_map.MemMap.{MemMap}
 use Rattle.zc_base.specs.declared.place.Place.{Place}
-use Rattle.elf32_read.specs.Segments.{SegmentData}
+use Rattle.zc_base.specs.MemMap.{standard_map}
+use Rattle.elf32_read.specs.declared.image_fault.ImageFault.{ImageFault}
+use Rattle.elf32_read.specs.Header.{entry_of}
+use Rattle.elf32_read.specs.Image.{image_fault}
+use Rattle.elf32_read.specs.Places.{places_of}
+use Rattle.elf32_read.specs.Segments.{SegmentData, segments_of}
 use Rattle.interrupt_plan.specs.Plan.{Cut}
 use Rattle.rv_decode.specs.State.{ZcState}
 use Rattle.zc_machine.specs.declared.reason.Reason.{Reason}
@@ -16,6 +21,16 @@ pub record Image : Type 0 where
   pub segments : List SegmentData
   pub places : List (Place × ℕ)
   pub map : MemMap
+
+-- what the bytes hold where they have no fault
+abbrev pub image_unless : Option ImageFault → List ℕ → Option Image
+image_unless (Some fault) bytes = None
+image_unless None bytes =
+    Some (record { entry = entry_of bytes; segments = segments_of bytes; places = places_of bytes; map = standard_map })
+
+-- the image that a file's bytes are, in the standard map; none where they have a fault
+unfoldable pub image_in : List ℕ → Option Image
+image_in bytes = image_unless (image_fault bytes standard_map) bytes
 
 -- the address of a place; none where it isn't listed
 abbrev pub place_address : Image → Place → Option ℕ

@@ -1,23 +1,24 @@
 -- Straight code lies in its image as a layout owes: the piece of the k-th word stands behind those of the words before
 -- it, what is fetched there is the word's instruction, and the next place has the address behind it. So the image does
 -- what the program does.
-use Rattle.std.proofs.Common.{◌≡◌, ◌≢◌, ℕ, zero, suc, ◌+◌, ◌-◌, ◌*◌, ◌/◌, ◌%◌, ◌^◌, ◌<◌, ◌≤◌, List, [], ◌∷◌, ◌++◌, length, Option, Some, None, Bool, true, false, cond, refl, sym, ap, ap₂, ◌∙◌, subst, inl, inr, ⊎_elim, arith, eqb, leb, get_or, take, drop, length-append}
-use Rattle.std.specs.Prelude.{◌&&◌, ◌||◌, slice_get}
+use Rattle.std.proofs.Common.{◌≡◌, ◌≢◌, ℕ, zero, suc, ◌+◌, ◌-◌, ◌*◌, ◌/◌, ◌%◌, ◌^◌, ◌<◌, ◌≤◌, List, [], ◌∷◌, ◌++◌, length, Option, Some, None, Bool, true, false, cond, refl, sym, ap, ap₂, ◌∙◌, subst, inl, inr, ◌⊎◌, ⊎_elim, arith, eqb, leb, get_or, take, drop, length-append}
+use Rattle.std.specs.Prelude.{◌&&◌, ◌||◌}
 use Rattle.std.specs.List.{flat_map}
-use Rattle.std.specs.Option.{option_map}
-use Rattle.std.proofs.lemmas.Bool.{and_parts, and_from, cases_lt, cond_both, cond-true, cond-false, eq-eqb, eqb-true, le-leb, leb-true, ne_eqb, or_cases, or_left, or_right}
-use Rattle.std.proofs.lemmas.List.{append-nil, get_or-drop, get_or-take, get_or_past, length-take, take-append-drop, take_more}
+use Rattle.std.proofs.lemmas.Bool.{and_parts, and_from, cond_both, cond-true, cond-false, eq-eqb, eqb-true, le-leb, leb-true, ne_eqb, or_cases, or_left, or_right}
+use Rattle.std.proofs.Math.Seq.{take-length}
+use Rattle.std.proofs.lemmas.List.{append-nil, take-append-drop, take_more}
 use Rattle.std.proofs.lemmas.List.Concat.{flat_map-append, get_or-flat_map}
-use Rattle.std.proofs.lemmas.Option.{get_or_from_slice_get, slice_get_within}
 use Rattle.zc_base.specs.declared.place.Place.{Place}
-use Rattle.zc_base.specs.Fields.{half_bytes, word_bytes, word_in}
-use Rattle.elf32_read.specs.declared.fault.Fault.{Fault}
-use Rattle.elf32_read.specs.Header.{header_of, is_empty_kind}
-use Rattle.elf32_read.specs.Object.{object_fault}
+use Rattle.zc_base.specs.MemMap.{standard_map}
+use Rattle.zc_base.specs.Fields.{half_bytes, word_bytes}
 use Rattle.elf32_read.specs.Segments.{SegmentData}
 use Rattle.rv_decode.specs.declared.instr.Instr.{Instr}
-use Rattle.rv_decode.specs.declared.instr.Instr.TheVariants.{WithImm, Ecall}
 use Rattle.block_cut.specs.declared.item.Item.TheVariants.{Op}
+use Rattle.block_cut.specs.Items.{item_in}
+use Rattle.elf32_write.specs.Loadable.{segments}
+use Rattle.elf32_write.specs.Parts.{Parts}
+use Rattle.interrupt_plan.specs.Plan.{IsPlan}
+use Rattle.sym_machine.specs.Objects.{program_of}
 use Rattle.rv_decode.specs.Bits.{field}
 use Rattle.rv_decode.specs.Decode.{decoded}
 use Rattle.rv_decode.specs.Memory.{Text, Data, Stack, blank, cell_at, extents_of, is_data, is_text, lies_in, spans}
@@ -34,17 +35,14 @@ use Rattle.zc_machine.proofs.FetchLaws.{fetched_long, fetched_short}
 use Rattle.zc_machine.proofs.LoadLaws.{code_byte, code_lies}
 use Rattle.zc_link.specs.Image.{Image, place_address}
 use Rattle.zc_link.specs.Laid.{HasRegisters, Laid, OpLaid, SpansMemory, first_of}
-use Rattle.zc_link.specs.Places.{address_in}
-use Rattle.zc_link.specs.Preserves.{Preserves}
-use Rattle.zc_link.specs.Stands.{ByteStands, IsMemory}
+use Rattle.zc_link.specs.Places.{address_in, same_place}
+use Rattle.zc_link.specs.Preserves.{FollowsUnder, IsQuiet}
+use Rattle.zc_link.specs.Stands.{ByteStands}
 use Rattle.zc_link.specs.Values.{value_in}
-use Rattle.zc_link.proofs.Simulation.{preserves}
-use Rattle.zcld.specs.Straight.{is_li, piece, place_at, places_from, short_of, text_of, words_from, words_in}
-use Rattle.zcld.specs.Refusal.{code_of, fault_or, first_fault, is_unbuilt}
-use Rattle.zcld.specs.Program.{image_with, object_image, program_of, spelled, standard_map, straight_item, straight_program}
+use Rattle.zc_link.proofs.Simulation.{follows, follows_quietly}
+use Rattle.zcld.specs.Straight.{is_li, piece, place_at, places_from, short_of, text_of}
 use Rattle.zcld.proofs.ShortForms.{li_fields, short_decodes}
 use Rattle.zcld.proofs.StraightLoop.{length_piece}
-use Rattle.zcld.proofs.Unbuilt.{IsStraight, built_straight}
 
 -- ---- pieces
 
@@ -57,7 +55,7 @@ unfolding piece
 piece_long w h = cond-false (is_li (decoded w)) _ _ h
 
 -- where the k-th word's piece begins in the text
-abbrev offset_of : List ℕ → ℕ → ℕ
+abbrev pub offset_of : List ℕ → ℕ → ℕ
 offset_of words k = length (flat_map piece (take k words))
 
 offset_more : (words : List ℕ) (k : ℕ) → k < length words → offset_of words (k + 1) ≡ offset_of words k + length (piece (get_or words k 0))
@@ -72,7 +70,11 @@ offset_within words k =
     let e = ap (λ l. length (flat_map piece l)) (sym (take-append-drop k words)) ∙ ap length (flat_map-append piece (take k words) (drop k words)) ∙ length-append (flat_map piece (take k words)) (flat_map piece (drop k words)) in
     omega arith
 
-text_short : (ws : List ℕ) → length (flat_map piece ws) ≤ 4 * length ws
+pub offset_whole : (words : List ℕ) → offset_of words (length words) ≡ length (text_of words)
+unfolding text_of
+offset_whole words = ap (λ l. length (flat_map piece l)) (take-length words)
+
+pub text_short : (ws : List ℕ) → length (flat_map piece ws) ≤ 4 * length ws
 text_short [] = omega arith
 text_short (w ∷ ws) = omega (arith, length-append (piece w) (flat_map piece ws), length_piece w, text_short ws)
 
@@ -169,7 +171,7 @@ module _ (words : List ℕ) (s : SegmentData) (ss : List SegmentData) (entry : �
 
 -- ---- the places
 
-address_found : (ws : List ℕ) (o a k q : ℕ) → k ≤ length ws → q ≡ o + 4 * k → address_in (places_from o a ws) (place_at q) ≡ Some (a + offset_of ws k)
+pub address_found : (ws : List ℕ) (o a k q : ℕ) → k ≤ length ws → q ≡ o + 4 * k → address_in (places_from o a ws) (place_at q) ≡ Some (a + offset_of ws k)
 unfolding places_from
 address_found [] o a k q le at =
     let same : eqb o q ≡ true = eq-eqb o q (omega arith) in
@@ -186,43 +188,35 @@ address_found (w ∷ ws) o a (suc k) q le at =
     let n : a + length (piece w) + offset_of ws k ≡ a + offset_of (w ∷ ws) (suc k) = omega (arith, length-append (piece w) (flat_map piece (take k ws))) in
     rw other (rest ∙ ap Some n)
 
+-- a listed place lies in section 1 of the first object
+place_section : (o : ℕ) (q : Place) → same_place (place_at o) q ≡ true → (q.object ≡ 0) × (q.section ≡ 1)
+place_section o q h =
+    let ab = and_parts (eqb 0 q.object) (eqb 1 q.section && eqb o q.offset) h in
+    let bc = and_parts (eqb 1 q.section) (eqb o q.offset) ab.1 in
+    (sym (eqb-true 0 q.object ab.0), sym (eqb-true 1 q.section bc.0))
+
+first_or_rest : (b : Bool) (a x : ℕ) (rest : Option ℕ) → cond b (Some a) rest ≡ Some x → (b ≡ true) ⊎ (rest ≡ Some x)
+first_or_rest true a x rest h = inl refl
+first_or_rest false a x rest h = inr h
+
+not_listed : {X : Type 0} (x : ℕ) → None ≡ Some x → X
+not_listed x h = absurd cc
+
+listed_section : (ws : List ℕ) (o a : ℕ) (q : Place) (x : ℕ) → address_in (places_from o a ws) q ≡ Some x → (q.object ≡ 0) × (q.section ≡ 1)
+unfolding places_from
+listed_section [] o a q x h = ⊎_elim (place_section o q) (not_listed x) (first_or_rest (same_place (place_at o) q) a x None h)
+listed_section (w ∷ ws) o a q x h =
+    let rest = address_in (places_from (o + 4) (a + length (piece w)) ws) q in
+    ⊎_elim (place_section o q) (listed_section ws (o + 4) (a + length (piece w)) q x) (first_or_rest (same_place (place_at o) q) a x rest h)
+
 -- ---- the items
 
-place_is : (q : Place) (n : ℕ) → q.object ≡ 0 → q.section ≡ 1 → q.offset ≡ n → q ≡ place_at n
-place_is q n e0 e1 e2 =
-    let f : ℕ → Place = λ x. record { object = x; section = q.section; offset = q.offset } in
-    let g : ℕ → Place = λ x. record { object = 0; section = x; offset = q.offset } in
-    ap f e0 ∙ ap g e1 ∙ ap place_at e2
-
 -- an instruction's place is that of a word that spells it
-record IsWord (words : List ℕ) (q : Place) (i : Instr) : Type 0 where
-  index : ℕ
-  place : q ≡ place_at (4 * index)
-  within : index < length words
-  spells : decoded (get_or words index 0) ≡ Some i
-
-item_word : (words : List ℕ) (q : Place) (i : Instr) → straight_item words q ≡ Some (Op i) → IsWord words q i
-item_word words q i h = tested (eqb q.object 0 && (eqb q.section 1 && eqb (q.offset % 4) 0)) refl h
-  where
-    is_spelled : (d : Option Instr) (w : ℕ) → Some (spelled d w) ≡ Some (Op i) → d ≡ Some i
-    is_spelled None w e = absurd cc
-    is_spelled (Some x) w e = cc
-
-    is_word : (o : Option ℕ) → slice_get words (q.offset / 4) ≡ o → option_map (λ w. spelled (decoded w) w) o ≡ Some (Op i) → (q.offset / 4 < length words) × (decoded (get_or words (q.offset / 4) 0) ≡ Some i)
-    is_word None e g = absurd cc
-    is_word (Some w) e g =
-        let here : get_or words (q.offset / 4) 0 ≡ w = get_or_from_slice_get words (q.offset / 4) w 0 e in
-        (slice_get_within words (q.offset / 4) w e, ap decoded here ∙ is_spelled (decoded w) w g)
-
-    tested : (b : Bool) → (eqb q.object 0 && (eqb q.section 1 && eqb (q.offset % 4) 0)) ≡ b → cond b (option_map (λ w. spelled (decoded w) w) (slice_get words (q.offset / 4))) None ≡ Some (Op i) → IsWord words q i
-    tested true t g =
-        let ab = and_parts (eqb q.object 0) (eqb q.section 1 && eqb (q.offset % 4) 0) t in
-        let bc = and_parts (eqb q.section 1) (eqb (q.offset % 4) 0) ab.1 in
-        let e2 : q.offset % 4 ≡ 0 = eqb-true (q.offset % 4) 0 bc.1 in
-        let e3 : q.offset ≡ 4 * (q.offset / 4) = omega arith in
-        let is = is_word (slice_get words (q.offset / 4)) refl g in
-        record { index = q.offset / 4; place = place_is q (4 * (q.offset / 4)) (eqb-true q.object 0 ab.0) (eqb-true q.section 1 bc.0) e3; within = is.0; spells = is.1 }
-    tested false t g = absurd cc
+pub record IsWord (words : List ℕ) (q : Place) (i : Instr) : Type 0 where
+  pub index : ℕ
+  pub place : q ≡ place_at (4 * index)
+  pub within : index < length words
+  pub spells : decoded (get_or words index 0) ≡ Some i
 
 has_registers : (word : ℕ) (i : Instr) → decoded word ≡ Some i → HasRegisters i
 has_registers word i d = ⊎_elim
@@ -249,11 +243,19 @@ either_undefined false h k = k
 undefined_stands : (V : Value → Option ℕ) (x : SymByte) (b : ℕ) → x ≡ Undef → ByteStands V x b
 undefined_stands V x b e = subst (λ y. ByteStands V y b) (sym e) tt
 
-or_false : (a b : Bool) → a ≡ false → b ≡ false → (a || b) ≡ false
+pub or_false : (a b : Bool) → a ≡ false → b ≡ false → (a || b) ≡ false
 or_false true b h k = h
 or_false false b h k = k
 
-module _ (words : List ℕ) (small : (k : ℕ) → get_or words k 0 < 2 ^ 32) (few : length words ≤ 16384) where
+-- what an image with these parts holds
+abbrev pub image_with : Parts → Image
+image_with parts = record { entry = parts.entry; segments = segments parts; places = parts.places; map = standard_map }
+
+-- at each place of section 1 with an instruction the objects spell a word
+abbrev pub Spell : List (List ℕ) → List ℕ → Type 0
+Spell objects words = (q : Place) (i : Instr) → q.object ≡ 0 → q.section ≡ 1 → item_in objects q ≡ Some (Op i) → IsWord words q i
+
+module _ (objects : List (List ℕ)) (words : List ℕ) (spell : Spell objects words) (small : (k : ℕ) → get_or words k 0 < 2 ^ 32) (few : length words ≤ 16384) where
   abbrev image : Image
   image = image_with record {
     entry = 0x0001_0000;
@@ -283,10 +285,11 @@ module _ (words : List ℕ) (small : (k : ℕ) → get_or words k 0 < 2 ^ 32) (f
   unfolding text_of
   fetched_word k i lt d = piece_fetched words text (data_part ∷ []) 0x0001_0000 refl refl k (get_or words k 0) i refl lt (small k) d (is_li (decoded (get_or words k 0))) refl
 
-  ops : (q : Place) (a : ℕ) (i : Instr) → place_address image q ≡ Some a → straight_item words q ≡ Some (Op i) → OpLaid (straight_program words) image q a i
-  unfolding straight_program text_of
+  ops : (q : Place) (a : ℕ) (i : Instr) → place_address image q ≡ Some a → item_in objects q ≡ Some (Op i) → OpLaid (program_of objects) image q a i
+  unfolding program_of text_of
   ops q a i here item =
-      let is = item_word words q i item in
+      let section = listed_section words 0 0x0001_0000 q a here in
+      let is = spell q i section.0 section.1 item in
       let k = is.index in
       let w = get_or words k 0 in
       let at : place_address image q ≡ Some (0x0001_0000 + offset_of words k) = ap (place_address image) is.place ∙ found_at k (omega (arith, is.within)) in
@@ -304,9 +307,11 @@ module _ (words : List ℕ) (small : (k : ℕ) → get_or words k 0 < 2 ^ 32) (f
       }
 
   -- the stack, alone of all memory, and it is undefined at the start
-  undefined : (a : ℕ) → cell_at Undef (straight_program words).first_memory a ≡ Undef
-  unfolding straight_program
-  undefined a = either_undefined (spans (record { kind = Stack; at = 0x0FF0_0000; size = length (blank 0x0010_0000 Undef) }) a 1) (get_or_blank 0x0010_0000 (a - 0x0FF0_0000) Undef) refl
+  undefined : (a : ℕ) → cell_at Undef (program_of objects).first_memory a ≡ Undef
+  unfolding program_of
+  undefined a =
+      either_undefined (spans (record { kind = Data; at = 0x0010_0000; size = 0 }) a 1) refl
+      (either_undefined (spans (record { kind = Stack; at = 0x0FF0_0000; size = length (blank 0x0010_0000 Undef) }) a 1) (get_or_blank 0x0010_0000 (a - 0x0FF0_0000) Undef) refl)
 
   stack_reaches : (a n : ℕ) → 0x0FF0_0000 ≤ a → a + n ≤ 0x1000_0000 → lies_in is_data (extents_of (first_of image).memory) a n ≡ true
   unfolding first_core
@@ -336,15 +341,15 @@ module _ (words : List ℕ) (small : (k : ℕ) → get_or words k 0 < 2 ^ 32) (f
       either_below _ (append_below (flat_map piece words) (blank (length (flat_map piece words) - length (flat_map piece words)) 0) (text_below words) (blank_below (length (flat_map piece words) - length (flat_map piece words))) (a - 0x0001_0000))
       (either_below _ (blank_below 0 (a - 0x0010_0000)) (either_below _ (blank_below 0x0010_0000 (a - 0x0FF0_0000)) none))
 
-  laid : Laid (straight_program words) image
-  unfolding straight_program
+  laid : Laid (program_of objects) image
+  unfolding program_of
   laid = record {
     map = refl;
     top = omega arith;
     entry = start;
     ops = ops;
     reaches = reaches;
-    first = λ a m. undefined_stands (value_in (straight_program words) (place_address image)) (cell_at Undef (straight_program words).first_memory a) (byte_in (first_of image) a) (undefined a);
+    first = λ a m. undefined_stands (value_in (program_of objects) (place_address image)) (cell_at Undef (program_of objects).first_memory a) (byte_in (first_of image) a) (undefined a);
     stack = λ a low high. undefined a;
     apart = text_apart;
     bytes = bytes;
@@ -353,49 +358,12 @@ module _ (words : List ℕ) (small : (k : ℕ) → get_or words k 0 < 2 ^ 32) (f
       start : place_address image (place_at 0) ≡ Some 0x0001_0000
       start = found_at 0 (omega arith) ∙ ap Some (let z : 0x0001_0000 + offset_of words 0 ≡ 0x0001_0000 = omega arith in z)
 
-      reaches : (a n : ℕ) → 0 < n → SpansMemory (straight_program words) a n → lies_in is_data (extents_of (first_of image).memory) a n ≡ true
+      reaches : (a n : ℕ) → 0 < n → SpansMemory (program_of objects) a n → lies_in is_data (extents_of (first_of image).memory) a n ≡ true
       reaches a n some (inl d) = absurd (omega arith)
       reaches a n some (inr d) = stack_reaches a n d.0 d.1
 
-  pub straight_preserves : Preserves (straight_program words) image
-  straight_preserves = preserves (straight_program words) image laid
+  pub straight_follows : FollowsUnder IsPlan (program_of objects) image
+  straight_follows = follows (program_of objects) image laid
 
--- ---- objects
-
-word_below_32 : (b : List ℕ) (at : ℕ) → ((k : ℕ) → get_or b k 0 < 256) → word_in b at < 2 ^ 32
-unfolding word_in
-word_below_32 b at are = omega (arith, are at, are (at + 1), are (at + 2), are (at + 3))
-
-words_below : (b : List ℕ) (at n : ℕ) → ((k : ℕ) → get_or b k 0 < 256) → (k : ℕ) → get_or (words_from b at n) k 0 < 2 ^ 32
-words_below b at zero are k = omega arith
-words_below b at (suc n) are zero = word_below_32 b at are
-words_below b at (suc n) are (suc k) = words_below b (at + 4) n are k
-
-length-words_from : (b : List ℕ) (at n : ℕ) → length (words_from b at n) ≡ n
-length-words_from b at zero = refl
-length-words_from b at (suc n) = ap suc (length-words_from b (at + 4) n)
-
-part_below : (b : List ℕ) (at n : ℕ) → ((k : ℕ) → get_or b k 0 < 256) → (k : ℕ) → get_or (take n (drop at b)) k 0 < 256
-part_below b at n are k = ⊎_elim
-    (λ lt. rw (get_or-take n (drop at b) k 0 lt, get_or-drop at b k 0) (are (at + k)))
-    (λ le. let none = get_or_past (take n (drop at b)) k 0 (omega (arith, length-take n (drop at b))) in omega arith)
-    (cases_lt k n)
-
-code_below : (object : List ℕ) → ((k : ℕ) → get_or object k 0 < 256) → (k : ℕ) → get_or (code_of object) k 0 < 256
-code_below object are k = cond_both (is_empty_kind (header_of object 1).kind) [] (take (header_of object 1).size (drop (header_of object 1).offset object)) (λ l. get_or l k 0 < 256) (λ _. omega arith) (λ _. part_below object (header_of object 1).offset (header_of object 1).size are k)
-
-code_short : (object : List ℕ) → IsStraight object → length (code_of object) ≤ 65536
-code_short object straight = cond_both (is_empty_kind (header_of object 1).kind) [] (take (header_of object 1).size (drop (header_of object 1).offset object)) (λ l. length l ≤ 65536) (λ _. omega arith) (λ _. omega (arith, length-take (header_of object 1).size (drop (header_of object 1).offset object), straight.short))
-
-no_fault_built : (f : Option Fault) (unbuilt : Bool) → fault_or f unbuilt ≡ None → unbuilt ≡ false
-no_fault_built (Some fault) unbuilt h = cc
-no_fault_built None true h = cc
-no_fault_built None false h = refl
-
--- the image of an object without a fault does what the object's program does
-pub object_preserves : (object : List ℕ) → ((k : ℕ) → get_or object k 0 < 256) → first_fault object ≡ None → Preserves (program_of object) (object_image object)
-unfolding first_fault
-object_preserves object are none =
-    let code = code_of object in
-    let straight = built_straight object (no_fault_built (object_fault object) (is_unbuilt object) none) in
-    straight_preserves (words_in code) (words_below code 0 (length code / 4) (code_below object are)) (omega (arith, length-words_from code 0 (length code / 4), code_short object straight))
+  pub straight_follows_quietly : FollowsUnder IsQuiet (program_of objects) image
+  straight_follows_quietly = follows_quietly (program_of objects) image laid

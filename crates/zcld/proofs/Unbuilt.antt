@@ -9,10 +9,11 @@ use Rattle.zcld.specs.Straight.{words_from, words_in}
 use Rattle.zcld.specs.Refusal.{is_straight_code, is_unbuilt, is_unbuilt_section, is_unknown, indexed, code_of}
 use Rattle.zcld.proofs.StraightLoop.{words_more}
 
--- section 1 is there, holds its own bytes, and is short enough
+-- section 1 is there, is code that holds its own bytes, and is short enough
 pub record IsStraight (object : List ℕ) : Type 0 where
   pub counted : 1 < section_count object
   pub kind : (header_of object 1).kind ≡ 1
+  pub flags : (header_of object 1).flags ≡ 6
   pub short : (header_of object 1).size ≤ 65536
   pub known : list_any is_unknown (words_in (code_of object)) ≡ false
 
@@ -42,6 +43,7 @@ built_straight object h =
     record {
       counted = omega arith;
       kind = eqb-true code.kind 1 kinds.0;
+      flags = eqb-true code.flags 6 kinds.1;
       short = leb-true code.size 65536 most.1;
       known = all.1;
     }

@@ -1,7 +1,12 @@
 -- What is written for an object: the image and the certificate.
-use Rattle.std.specs.Prelude.{ℕ, List, [], ◌++◌, codes}
+use Rattle.std.specs.Prelude.{◌≡◌, ℕ, ◌+◌, List, [], ◌∷◌, ◌++◌, filter, codes, Some}
+use Rattle.zc_base.specs.declared.place.Place.{Place}
+use Rattle.zc_base.specs.MemMap.{standard_map}
+use Rattle.elf32_read.specs.Places.{places_of}
+use Rattle.elf32_read.specs.Segments.{SegmentData, segments_of}
 use Rattle.elf32_write.specs.Parts.{Parts}
 use Rattle.elf32_write.specs.Image.{image_bytes}
+use Rattle.zc_link.specs.Places.{address_in}
 use Rattle.zcld.specs.ErrLine.{line}
 use Rattle.zcld.specs.Refusal.{code_of}
 use Rattle.zcld.specs.Straight.{words_in, text_of, places_from}
@@ -23,6 +28,13 @@ straight_parts code = record {
 -- the bytes of an object's image
 unfoldable pub zc_image : List ℕ → List ℕ
 zc_image object = image_bytes (straight_parts (code_of object))
+
+-- an image's one segment of code begins where text does, and ends at the address of this place
+pub record TextEnds (elf : List ℕ) (q : Place) : Type 0 where
+  pub text : SegmentData
+  pub alone : filter (λ s. s.code) (segments_of elf) ≡ text ∷ []
+  pub start : text.at ≡ standard_map.text
+  pub end : address_in (places_of elf) q ≡ Some (text.at + text.size)
 
 -- the certificate of a link without a jump table: nothing to save, and nothing saved
 abbrev pub empty_certificate : List ℕ
