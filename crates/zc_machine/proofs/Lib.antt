@@ -1,3 +1,4 @@
 pub mod Examples
 pub mod FetchLaws
 pub mod LoadLaws
+pub mod RegionLaws

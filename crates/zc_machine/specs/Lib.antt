@@ -1,4 +1,5 @@
 pub mod Reason
+pub mod Region
 pub mod Fetch
 pub mod Step
 pub mod Interrupt

@@ -2,4 +2,5 @@
 #![tactic(auto)]
 
 pub mod reason;
+pub mod region;
 pub mod step;
