@@ -2,3 +2,4 @@ pub mod Examples
 pub mod FetchLaws
 pub mod LoadLaws
 pub mod RegionLaws
+pub mod StepLaws
