@@ -5,6 +5,7 @@ ghost use Rattle.rv_decode.specs.Effect.{effect, imm_result, onward};
 ghost use Rattle.rv_decode.specs.State.{byte_in, reg_in, set_reg};
 ghost use Rattle.zc_machine.specs.Answer.{WantsExit, answer_of, core_after, exited, fetched_as};
 ghost use Rattle.zc_machine.specs.Fetch.{fetched_at, fetched_half, fetched_word, half_at, word_at};
+ghost use Rattle.zc_machine.specs.Interrupt.{cut, dirtied};
 ghost use Rattle.zc_machine.specs.Step.{Wants, called, effect_step, short_step, zc_step};
 
 use crate::reason::Reason;
@@ -89,6 +90,26 @@ impl Machine {
     {
         self.exit = Some((self.regs[10] % 256) as u8);
         self.commits += 1;
+    }
+
+    /// Makes an interrupt before the next commit: `dirt` is the bytes that it writes, by address. No
+    /// instruction here has several accesses yet, so there are no `done` ones to make.
+    pub fn cut(&mut self, done: &[u8], dirt: &[(u32, u8)])
+        ensures { self.new ≡ cut (record { at = self.old.commits; done = done.now; dirt = dirt.now }) self.old }
+    {
+        for (a, b) in dirt {
+            self.dirty(*a, *b);
+        }
+    }
+
+    // Writes a byte, where an interrupt may.
+    fn dirty(&mut self, a: u32, b: u8)
+        ensures { self.new ≡ dirtied (a, b) self.old }
+    {
+        let in_stack = reaches(self.regions.as_slice(), Access::Interrupt, u64::from(a), 1);
+        if in_stack && a < self.regs[2] {
+            write_byte(self.regions.as_mut_slice(), a, b);
+        }
     }
 
     // The halfword at an address.
