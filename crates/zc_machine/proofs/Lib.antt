@@ -3,3 +3,4 @@ pub mod FetchLaws
 pub mod LoadLaws
 pub mod RegionLaws
 pub mod StepLaws
+pub mod CutLaws

@@ -1,44 +1,59 @@
--- What a step that wants the exit shows.
-use Rattle.std.proofs.Common.{◌≡◌, ◌≢◌, ℕ, ◌%◌, Bool, true, false, cond, eqb, Option, Some, None, refl, sym, ◌∙◌, ap}
-use Rattle.rv_decode.specs.State.{ZcCore, reg_in}
+-- What each kind of step shows of the state that it is made in.
+use Rattle.std.proofs.Common.{◌≡◌, ℕ, ◌+◌, ◌%◌, Bool, true, false, cond, eqb, Option, Some, None, refl, sym, subst}
+use Rattle.rv_decode.specs.State.{ZcCore, reg_in, set_reg}
 use Rattle.rv_decode.specs.Effect as act
-use Rattle.rv_decode.specs.Effect.{Effect, effect}
+use Rattle.rv_decode.specs.Effect.{Effect, effect, gives, imm_result}
+use Rattle.rv_decode.specs.declared.instr.Instr.{Instr}
+use Rattle.rv_decode.specs.declared.instr.Instr.TheVariants.{WithImm, Ecall}
 use Rattle.zc_decode.specs.declared.short.Short.{Short}
 use Rattle.zc_decode.specs.declared.short.Short.TheVariants.{Base}
 use Rattle.zc_machine.specs.declared.reason.Reason.TheVariants.{UnknownCall}
+use Rattle.zc_machine.specs.declared.step.EnvCall.{EnvCall}
 use Rattle.zc_machine.specs.declared.step.EnvCall.TheVariants.{Exit}
+use Rattle.zc_machine.specs.declared.step.Step.{Step}
+use Rattle.zc_machine.specs.declared.step.Step.TheVariants as answer
+use Rattle.zc_machine.specs.Answer.{answer_of, core_after}
 use Rattle.zc_machine.specs.Fetch.{Fetched, Found, Missing, fetched_at}
-use Rattle.zc_machine.specs.Step.{ZcStep, Wants, Stopped, called, effect_step, short_step, made, step_from, zc_step}
+use Rattle.zc_machine.specs.Step.{ZcStep, Committed, Wants, Ended, Stopped, called, effect_step, short_step, made, step_from, zc_step}
 
-module _ (z : ZcCore) (status : ℕ) where
-  call_exit : called z ≡ Wants (Exit status) → status ≡ reg_in z 10 % 256
-  call_exit = either (eqb (reg_in z 17) 93)
-    where
-      either : (b : Bool) → cond b (Wants (Exit (reg_in z 10 % 256))) (Stopped UnknownCall) ≡ Wants (Exit status) → status ≡ reg_in z 10 % 256
-      either true e = cc
-      either false e = cc
+-- a commit counts and doesn't exit, the status of an exit is the low byte of a0, and only an exit ends
+abbrev pub Shows : ZcCore → ZcStep → Type 0
+Shows z (Committed z') = (z'.commits ≡ z.commits + 1) × (z'.exit ≡ z.exit)
+Shows z (Wants (Exit status)) = status ≡ reg_in z 10 % 256
+Shows z (Wants other) = Unit {0}
+Shows z (Ended status) = z.exit ≡ Some status
+Shows z (Stopped reason) = Unit {0}
 
-  effect_exit : (e : Effect) → effect_step e z ≡ Wants (Exit status) → status ≡ reg_in z 10 % 256
-  effect_exit (act.Commits z') h = cc
-  effect_exit act.Misaligned h = cc
-  effect_exit act.BadAccess h = cc
-  effect_exit act.Break h = cc
-  effect_exit act.Call h = call_exit h
-  effect_exit act.Unknown h = cc
+module _ (z : ZcCore) where
+  call_shows : (b : Bool) → Shows z (cond b (Wants (Exit (reg_in z 10 % 256))) (Stopped UnknownCall))
+  call_shows true = refl
+  call_shows false = tt
 
-  short_exit : (s : Short) (size : ℕ) → short_step s size z ≡ Wants (Exit status) → status ≡ reg_in z 10 % 256
-  short_exit (Base i) size h = effect_exit (effect i size z) h
-  short_exit other size h = cc
+  value_shows : (v : Option ℕ) (rd size : ℕ) → Shows z (effect_step (gives v rd size z) z)
+  value_shows None rd size = tt
+  value_shows (Some v) rd size = (refl, refl)
 
-  made_exit : (f : Fetched) → made f z ≡ Wants (Exit status) → status ≡ reg_in z 10 % 256
-  made_exit (Found s size) h = short_exit s size h
-  made_exit (Missing reason) h = cc
+  effect_shows : (i : Instr) (size : ℕ) → Shows z (effect_step (effect i size z) z)
+  effect_shows (WithImm op rd first imm) size = value_shows (imm_result op (reg_in z first) imm) rd size
+  effect_shows Ecall size = call_shows (eqb (reg_in z 17) 93)
+  effect_shows other size = tt
 
-  from_exit : (x : Option ℕ) → step_from x z ≡ Wants (Exit status) → status ≡ reg_in z 10 % 256
-  from_exit None h = made_exit (fetched_at z z.pc) h
-  from_exit (Some k) h = cc
+  short_shows : (s : Short) (size : ℕ) → Shows z (short_step s size z)
+  short_shows (Base i) size = effect_shows i size
+  short_shows other size = tt
 
-  -- the status of the exit is the low byte of a0
-  pub exit_status : zc_step z ≡ Wants (Exit status) → status ≡ reg_in z 10 % 256
+  made_shows : (f : Fetched) → Shows z (made f z)
+  made_shows (Found s size) = short_shows s size
+  made_shows (Missing reason) = tt
+
+  from_shows : (x : Option ℕ) → z.exit ≡ x → Shows z (step_from x z)
+  from_shows None e = made_shows (fetched_at z z.pc)
+  from_shows (Some status) e = e
+
+  pub step_shows : Shows z (zc_step z)
   unfolding zc_step
-  exit_status h = from_exit z.exit h
+  step_shows = from_shows z.exit refl
+
+  -- the status of the exit that is wanted
+  pub exit_status : (status : ℕ) → zc_step z ≡ Wants (Exit status) → status ≡ reg_in z 10 % 256
+  exit_status status e = subst (Shows z) e step_shows

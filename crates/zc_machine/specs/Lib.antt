@@ -4,5 +4,8 @@ pub mod Fetch
 pub mod Step
 pub mod Answer
 pub mod Interrupt
+pub mod Cursor
 pub mod Run
+pub mod Written
+pub mod RunEnd
 pub mod Load

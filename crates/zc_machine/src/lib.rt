@@ -4,4 +4,5 @@
 pub mod machine;
 pub mod reason;
 pub mod region;
+pub mod run;
 pub mod step;
