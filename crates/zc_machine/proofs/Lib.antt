@@ -4,3 +4,4 @@ pub mod LoadLaws
 pub mod RegionLaws
 pub mod StepLaws
 pub mod CutLaws
+pub mod RunLaws

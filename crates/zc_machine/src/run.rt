@@ -49,7 +49,8 @@ pub fn run<C: Console>(
                 machine.answer_exit();
                 return RunEnd::Exit(status);
             }
-            Step::Wants(_) => return RunEnd::Stopped(Reason::UnknownCall),
+            Step::Wants(EnvCall::Read { .. }) => return RunEnd::Stopped(Reason::UnknownCall),
+            Step::Wants(EnvCall::Write { .. }) => return RunEnd::Stopped(Reason::UnknownCall),
             Step::Ended(status) => return RunEnd::Exit(status),
             Step::Stopped(reason) => return RunEnd::Stopped(reason),
         }
