@@ -135,8 +135,7 @@ module _ (run : Course) (z z' : ZcCore) (t : Turning run z z') where
             exit = refl;
             machine = is;
           };
-          wrote_out = nothing_added out;
-          wrote_err = nothing_added err;
+          wrote = (nothing_added out, nothing_added err);
         }
 
     -- a stop
@@ -151,8 +150,7 @@ module _ (run : Course) (z z' : ZcCore) (t : Turning run z z') where
         stop = turn_made ∙ stops (quiet run.input z');
         machine = is ∙ t.cuts;
       };
-      wrote_out = nothing_added out;
-      wrote_err = nothing_added err;
+      wrote = (nothing_added out, nothing_added err);
     }
 
 -- all steps were made
@@ -160,6 +158,5 @@ pub spent_ran : (run : Course) (z : ZcCore) (out err : Option (List ℕ)) → zc
 spent_ran run z out err so_far running all = record {
   last = quiet run.input z;
   ended = record { state = ap (zc_after run.first run.input run.plan) (sym all) ∙ so_far; running = running; machine = refl };
-  wrote_out = nothing_added out;
-  wrote_err = nothing_added err;
+  wrote = (nothing_added out, nothing_added err);
 }

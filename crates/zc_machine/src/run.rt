@@ -1,10 +1,10 @@
 // Runs of the machine.
 
-ghost use Rattle.std.specs.Prelude.{◌≡◌, ◌+◌, ◌-◌, ◌<◌, ◌^◌, None};
+ghost use Rattle.std.specs.Prelude.{◌≡◌, ◌≢◌, ◌+◌, ◌-◌, ◌<◌, ◌≤◌, ◌^◌, None};
 ghost use Rattle.zc_machine.specs.Cursor.{IsAt};
 ghost use Rattle.zc_machine.specs.Interrupt.{cut_by};
-ghost use Rattle.zc_machine.specs.RunEnd.{Course, IfConsole, OnRun, Ran};
-ghost use Rattle.zc_outside.specs.Streams.{WriteCause};
+ghost use Rattle.zc_machine.specs.RunEnd.{Course, IfConsole, Ran};
+ghost use Rattle.zc_outside.specs.Streams.{KeepsBytes, WriteCause};
 
 use crate::machine::Machine;
 use crate::reason::Reason;
@@ -35,10 +35,20 @@ pub fn run<C: Console>(
     requires start { machine.old.commits ≡ 0 }
     requires room { steps < 2 ^ 64 - 1 }
     ensures ran { let course : Course = record { first = machine.old; input = input.now; plan = plan.now; steps = steps } in
-        OnRun result (Ran course result machine.new (C.out_bytes console.old) (C.out_bytes console.new)
-        (C.err_bytes console.old) (C.err_bytes console.new)) }
+        Ran course result machine.new (C.out_bytes console.old) (C.out_bytes console.new)
+        (C.err_bytes console.old) (C.err_bytes console.new) }
     ensures cause { IfConsole result (WriteCause (C.write_faults console.old) (C.write_faults console.new)
         (C.memory_faults console.old) (C.memory_faults console.new)) }
+
+    ensures input_stays { KeepsBytes (C.input console.old) (C.input console.new) }
+    ensures count { C.taken console.new ≡ C.taken console.old }
+    ensures reads { C.read_faults console.new ≡ C.read_faults console.old }
+    ensures writes { C.write_faults console.old ≤ C.write_faults console.new }
+    ensures memory { C.memory_faults console.old ≤ C.memory_faults console.new }
+
+    ensures stays { C.sure console.old → C.sure console.new }
+    ensures sure { C.sure console.old →
+        (C.write_faults console.new ≡ C.write_faults console.old) × (result ≢ RunEnd.Console ConsoleFault.Failed) }
 {
     let mut next = 0;
     while machine.commits() < steps {
