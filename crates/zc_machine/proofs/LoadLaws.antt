@@ -6,10 +6,11 @@ use Rattle.std.proofs.lemmas.List.{get_or_append_left}
 use Rattle.zc_base.specs.declared.mem_map.MemMap.{MemMap}
 use Rattle.rv_decode.specs.Memory.{Text, Data, blank, cell_at, extent_of, extents_of, is_stack, is_text, lies_in, spans}
 use Rattle.rv_decode.proofs.MemoryLaws.{length_blank}
-use Rattle.zc_machine.specs.Load.{Segment, first_memory, region_of, stack_region}
+use Rattle.elf32_read.specs.Segments.{SegmentData}
+use Rattle.zc_machine.specs.Load.{first_memory, region_of, stack_region}
 
 -- no segment is the stack
-segment_no_stack : (s : Segment) (a n : ℕ) → (is_stack (region_of s).kind && spans (extent_of (region_of s)) a n) ≡ false
+segment_no_stack : (s : SegmentData) (a n : ℕ) → (is_stack (region_of s).kind && spans (extent_of (region_of s)) a n) ≡ false
 segment_no_stack s a n = either s.code
   where
     either : (b : Bool) → (is_stack (cond b Text Data) && spans (extent_of (region_of s)) a n) ≡ false
@@ -17,7 +18,7 @@ segment_no_stack s a n = either s.code
     either false = refl
 
 -- what lies in the stack's region lies between the map's bounds
-pub stack_bounds : (segments : List Segment) (m : MemMap) (a n : ℕ) → 0 < n → lies_in is_stack (extents_of (first_memory segments m)) a n ≡ true → (m.stack_low ≤ a) × (a + n ≤ m.stack_high)
+pub stack_bounds : (segments : List SegmentData) (m : MemMap) (a n : ℕ) → 0 < n → lies_in is_stack (extents_of (first_memory segments m)) a n ≡ true → (m.stack_low ≤ a) × (a + n ≤ m.stack_high)
 stack_bounds [] m a n some h = ⊎_elim
     (λ here.
     let q = and_parts (leb m.stack_low a) (leb (a + n) (m.stack_low + length (blank (m.stack_high - m.stack_low) 0))) here in
@@ -34,7 +35,7 @@ stack_bounds (s ∷ ss) m a n some h = ⊎_elim
 
 -- ---- a segment of code that stands first
 
-module _ (s : Segment) (ss : List Segment) (m : MemMap) (is_code : s.code ≡ true) where
+module _ (s : SegmentData) (ss : List SegmentData) (m : MemMap) (is_code : s.code ≡ true) where
   length_region : s.at + length s.bytes ≤ s.at + length (region_of s).cells
   length_region = omega (arith, length-append s.bytes (blank (s.size - length s.bytes) 0))
 

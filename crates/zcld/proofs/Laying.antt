@@ -28,19 +28,23 @@ use Rattle.sym_machine.specs.declared.word.SymByte.TheVariants.{Undef}
 use Rattle.sym_machine.specs.declared.word.Value.{Value}
 use Rattle.zc_decode.specs.declared.short.Short.TheVariants.{Base}
 use Rattle.zc_machine.specs.Fetch.{Found, fetched_at, half_at, word_at}
-use Rattle.zc_machine.specs.Load.{Segment, first_core}
+use Rattle.elf32_read.specs.Segments.{SegmentData}
+use Rattle.zc_machine.specs.Load.{first_core}
 use Rattle.zc_machine.proofs.FetchLaws.{fetched_long, fetched_short}
 use Rattle.zc_machine.proofs.LoadLaws.{code_byte, code_lies}
-use Rattle.zc_link.specs.Image.{Image, place_address}
+use Rattle.interrupt_plan.specs.Plan.{IsPlan}
+use Rattle.elf32_write.specs.Loadable.{ReadsBack}
+use Rattle.zc_link.specs.Image.{Image, image_in, place_address}
 use Rattle.zc_link.specs.Laid.{HasRegisters, Laid, OpLaid, SpansMemory, first_of}
 use Rattle.zc_link.specs.Places.{address_in}
-use Rattle.zc_link.specs.Preserves.{Preserves}
+use Rattle.zc_link.specs.Preserves.{AlwaysFollows, Preserves}
 use Rattle.zc_link.specs.Stands.{ByteStands, IsMemory}
 use Rattle.zc_link.specs.Values.{value_in}
-use Rattle.zc_link.proofs.Simulation.{preserves}
+use Rattle.zc_link.proofs.Simulation.{always_follows}
 use Rattle.zcld.specs.Straight.{is_li, piece, place_at, places_from, short_of, text_of, words_from, words_in}
+use Rattle.zcld.specs.Written.{straight_parts}
 use Rattle.zcld.specs.Refusal.{code_of, fault_or, first_fault, is_unbuilt}
-use Rattle.zcld.specs.Program.{image_with, object_image, program_of, spelled, standard_map, straight_item, straight_program}
+use Rattle.zcld.specs.Program.{program_of, spelled, standard_map, straight_item, straight_program}
 use Rattle.zcld.proofs.ShortForms.{li_fields, short_decodes}
 use Rattle.zcld.proofs.StraightLoop.{length_piece}
 use Rattle.zcld.proofs.Unbuilt.{IsStraight, built_straight}
@@ -103,7 +107,7 @@ text_below (w ∷ ws) k = append_below (piece w) (flat_map piece ws) (piece_belo
 
 -- ---- what is fetched, where the text is the first segment
 
-module _ (words : List ℕ) (s : Segment) (ss : List Segment) (entry : ℕ) (is_code : s.code ≡ true) (spelled_out : s.bytes ≡ flat_map piece words) where
+module _ (words : List ℕ) (s : SegmentData) (ss : List SegmentData) (entry : ℕ) (is_code : s.code ≡ true) (spelled_out : s.bytes ≡ flat_map piece words) where
   abbrev core : ZcCore
   core = first_core entry (s ∷ ss) standard_map
 
@@ -252,24 +256,19 @@ or_false : (a b : Bool) → a ≡ false → b ≡ false → (a || b) ≡ false
 or_false true b h k = h
 or_false false b h k = k
 
+-- what the image of straight code holds: its text, and no data
+abbrev text_part : List ℕ → SegmentData
+text_part words = record { at = 0x0001_0000; size = length (text_of words); code = true; bytes = text_of words }
+
+abbrev data_part : SegmentData
+data_part = record { at = 0x0010_0000; size = 0; code = false; bytes = [] }
+
+abbrev straight_image : List ℕ → Image
+straight_image words = record { entry = 0x0001_0000; segments = text_part words ∷ data_part ∷ []; places = places_from 0 0x0001_0000 words; map = standard_map }
+
 module _ (words : List ℕ) (small : (k : ℕ) → get_or words k 0 < 2 ^ 32) (few : length words ≤ 16384) where
   abbrev image : Image
-  image = image_with record {
-    entry = 0x0001_0000;
-    flags = 1;
-    text_at = 0x0001_0000;
-    text = text_of words;
-    data_at = 0x0010_0000;
-    data_bytes = [];
-    zero = 0;
-    places = places_from 0 0x0001_0000 words;
-  }
-
-  abbrev text : Segment
-  text = record { at = 0x0001_0000; size = length (text_of words); code = true; bytes = text_of words }
-
-  abbrev data_part : Segment
-  data_part = record { at = 0x0010_0000; size = 0; code = false; bytes = [] }
+  image = straight_image words
 
   length_text : length (text_of words) ≤ 65536
   unfolding text_of
@@ -280,7 +279,7 @@ module _ (words : List ℕ) (small : (k : ℕ) → get_or words k 0 < 2 ^ 32) (f
 
   fetched_word : (k : ℕ) (i : Instr) → k < length words → decoded (get_or words k 0) ≡ Some i → fetched_at (first_of image) (0x0001_0000 + offset_of words k) ≡ Found (Base i) (length (piece (get_or words k 0)))
   unfolding text_of
-  fetched_word k i lt d = piece_fetched words text (data_part ∷ []) 0x0001_0000 refl refl k (get_or words k 0) i refl lt (small k) d (is_li (decoded (get_or words k 0))) refl
+  fetched_word k i lt d = piece_fetched words (text_part words) (data_part ∷ []) 0x0001_0000 refl refl k (get_or words k 0) i refl lt (small k) d (is_li (decoded (get_or words k 0))) refl
 
   ops : (q : Place) (a : ℕ) (i : Instr) → place_address image q ≡ Some a → straight_item words q ≡ Some (Op i) → OpLaid (straight_program words) image q a i
   unfolding straight_program text_of
@@ -356,8 +355,8 @@ module _ (words : List ℕ) (small : (k : ℕ) → get_or words k 0 < 2 ^ 32) (f
       reaches a n some (inl d) = absurd (omega arith)
       reaches a n some (inr d) = stack_reaches a n d.0 d.1
 
-  pub straight_preserves : Preserves (straight_program words) image
-  straight_preserves = preserves (straight_program words) image laid
+  pub straight_follows : AlwaysFollows IsPlan (straight_program words) image
+  straight_follows = always_follows (straight_program words) image laid
 
 -- ---- objects
 
@@ -391,10 +390,17 @@ no_fault_built (Some fault) unbuilt h = cc
 no_fault_built None true h = cc
 no_fault_built None false h = refl
 
+-- a file that reads back as these parts is read as the image of these words
+image_back : (code elf : List ℕ) → ReadsBack (straight_parts code) standard_map elf → image_in elf standard_map ≡ straight_image (words_in code)
+image_back code elf back = λ i. record { entry = back.entry i; segments = back.segments_back i; places = back.places i; map = standard_map }
+
 -- the image of an object without a fault does what the object's program does
-pub object_preserves : (object : List ℕ) → ((k : ℕ) → get_or object k 0 < 256) → first_fault object ≡ None → Preserves (program_of object) (object_image object)
-unfolding first_fault
-object_preserves object are none =
+pub object_preserves : (object elf : List ℕ) → ((k : ℕ) → get_or object k 0 < 256) → first_fault object ≡ None → ReadsBack (straight_parts (code_of object)) standard_map elf → Preserves (program_of object) elf
+unfolding first_fault straight_program
+object_preserves object elf are none back =
     let code = code_of object in
+    let words = words_in code in
     let straight = built_straight object (no_fault_built (object_fault object) (is_unbuilt object) none) in
-    straight_preserves (words_in code) (words_below code 0 (length code / 4) (code_below object are)) (omega (arith, length-words_from code 0 (length code / 4), code_short object straight))
+    let few : length words ≤ 16384 = omega (arith, length-words_from code 0 (length code / 4), code_short object straight) in
+    let all : AlwaysFollows IsPlan (straight_program words) (straight_image words) = straight_follows words (words_below code 0 (length code / 4) (code_below object are)) few in
+    record { faultless = back.faultless; follows = subst (λ e. AlwaysFollows IsPlan (straight_program words) e) (sym (image_back code elf back)) all }

@@ -1,21 +1,17 @@
--- What straight code means, and what its image holds: the two sides of the promise that the image does what the
--- program does.
-use Rattle.std.specs.Prelude.{ℕ, ◌+◌, ◌/◌, ◌%◌, false, true, ◌&&◌, ◌==◌, if◌then◌else◌, List, [], ◌∷◌, length, Option, Some, None, slice_get}
+-- What straight code means: its program.
+use Rattle.std.specs.Prelude.{ℕ, ◌+◌, ◌/◌, ◌%◌, ◌&&◌, ◌==◌, if◌then◌else◌, List, [], ◌∷◌, Option, Some, None, slice_get}
 use Rattle.std.specs.Option.{option_map}
 use Rattle.zc_base.specs.declared.mem_map.MemMap.{MemMap}
 use Rattle.zc_base.specs.declared.place.Place.{Place}
 use Rattle.rv_decode.specs.declared.instr.Instr.{Instr}
 use Rattle.rv_decode.specs.Decode.{decoded}
-use Rattle.rv_decode.specs.Memory.{Data, Stack, blank}
+use Rattle.rv_decode.specs.Memory.{Stack, blank}
 use Rattle.block_cut.specs.declared.item.Item.{Item}
 use Rattle.block_cut.specs.declared.item.Item.TheVariants.{Op, Raw}
 use Rattle.sym_machine.specs.declared.word.SymByte.TheVariants.{Undef}
 use Rattle.sym_machine.specs.Program.{Program}
-use Rattle.elf32_write.specs.Parts.{Parts}
-use Rattle.zc_link.specs.Image.{Image}
 use Rattle.zcld.specs.Straight.{place_at, words_in}
 use Rattle.zcld.specs.Refusal.{code_of}
-use Rattle.zcld.specs.Written.{straight_parts}
 
 -- where code, data and the stack lie
 abbrev pub standard_map : MemMap
@@ -46,26 +42,8 @@ straight_program words = record {
   first_memory = record { kind = Stack; at = standard_map.stack_low; cells = blank 0x0010_0000 Undef } ∷ [];
 }
 
--- ---- the image
-
--- what an image with these parts holds
-abbrev pub image_with : Parts → Image
-image_with parts = record {
-  entry = parts.entry;
-  segments =
-      record { at = parts.text_at; size = length parts.text; code = true; bytes = parts.text }
-      ∷ record { at = parts.data_at; size = length parts.data_bytes + parts.zero; code = false; bytes = parts.data_bytes }
-      ∷ [];
-  places = parts.places;
-  map = standard_map;
-}
-
 -- ---- an object of straight code alone
 
 -- its program
 abbrev pub program_of : List ℕ → Program
 program_of object = straight_program (words_in (code_of object))
-
--- what its image holds
-abbrev pub object_image : List ℕ → Image
-object_image object = image_with (straight_parts (code_of object))
