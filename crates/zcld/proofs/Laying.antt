@@ -75,7 +75,7 @@ offset_within words k =
     let e = ap (λ l. length (flat_map piece l)) (sym (take-append-drop k words)) ∙ ap length (flat_map-append piece (take k words) (drop k words)) ∙ length-append (flat_map piece (take k words)) (flat_map piece (drop k words)) in
     omega arith
 
-text_short : (ws : List ℕ) → length (flat_map piece ws) ≤ 4 * length ws
+pub text_short : (ws : List ℕ) → length (flat_map piece ws) ≤ 4 * length ws
 text_short [] = omega arith
 text_short (w ∷ ws) = omega (arith, length-append (piece w) (flat_map piece ws), length_piece w, text_short ws)
 
@@ -369,7 +369,7 @@ words_below b at zero are k = omega arith
 words_below b at (suc n) are zero = word_below_32 b at are
 words_below b at (suc n) are (suc k) = words_below b (at + 4) n are k
 
-length-words_from : (b : List ℕ) (at n : ℕ) → length (words_from b at n) ≡ n
+pub length-words_from : (b : List ℕ) (at n : ℕ) → length (words_from b at n) ≡ n
 length-words_from b at zero = refl
 length-words_from b at (suc n) = ap suc (length-words_from b (at + 4) n)
 

@@ -3,3 +3,4 @@ pub mod StraightLoop
 pub mod Unbuilt
 pub mod ShortForms
 pub mod Laying
+pub mod Loading
