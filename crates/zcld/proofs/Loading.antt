@@ -74,3 +74,9 @@ loadable code short =
       ascending = ascending_from words 0 0x0001_0000;
       inside = inside_from 0x0010_0000 (omega arith) words 0 0x0001_0000 (omega arith) (omega arith);
     }
+
+-- parts with these fields are those of a straight link
+pub parts_are : (code : List ℕ) (text_at data_at : ℕ) (text data_bytes : List ℕ) (places : List (Place × ℕ)) → text_at ≡ 0x0001_0000 → data_at ≡ 0x0010_0000 → text ≡ text_of (words_in code) → data_bytes ≡ [] → places ≡ places_from 0 text_at (words_in code) → record { entry = text_at; flags = 1; text_at = text_at; text = text; data_at = data_at; data_bytes = data_bytes; zero = 0; places = places } ≡ straight_parts code
+parts_are code text_at data_at text data_bytes places at low is_text none listed =
+    let all : places ≡ places_from 0 0x0001_0000 (words_in code) = listed ∙ ap (λ a. places_from 0 a (words_in code)) at in
+    λ i. record { entry = at i; flags = 1; text_at = at i; text = is_text i; data_at = low i; data_bytes = none i; zero = 0; places = all i }

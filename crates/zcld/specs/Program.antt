@@ -1,4 +1,4 @@
--- What straight code means: its program.
+-- What straight code means, its program, and what the image of an object owes it.
 use Rattle.std.specs.Prelude.{ℕ, ◌+◌, ◌/◌, ◌%◌, ◌&&◌, ◌==◌, if◌then◌else◌, List, [], ◌∷◌, Option, Some, None, slice_get}
 use Rattle.std.specs.Option.{option_map}
 use Rattle.zc_base.specs.declared.mem_map.MemMap.{MemMap}
@@ -11,7 +11,10 @@ use Rattle.block_cut.specs.declared.item.Item.TheVariants.{Op, Raw}
 use Rattle.sym_machine.specs.declared.word.SymByte.TheVariants.{Undef}
 use Rattle.sym_machine.specs.Program.{Program}
 use Rattle.zcld.specs.Straight.{place_at, words_in}
+use Rattle.elf32_write.specs.Loadable.{ReadsBack}
+use Rattle.zc_link.specs.Preserves.{Preserves}
 use Rattle.zcld.specs.Refusal.{code_of}
+use Rattle.zcld.specs.Written.{straight_parts}
 
 -- where code, data and the stack lie
 abbrev pub standard_map : MemMap
@@ -47,3 +50,8 @@ straight_program words = record {
 -- its program
 abbrev pub program_of : List ℕ → Program
 program_of object = straight_program (words_in (code_of object))
+
+-- an image of an object: it reads back as the parts of its link, and it does what its program does
+pub record IsImageOf (object image : List ℕ) : Type 0 where
+  pub reads : ReadsBack (straight_parts (code_of object)) standard_map image
+  pub preserves : Preserves (program_of object) image
