@@ -1,8 +1,8 @@
 -- A test over the values of a function from 0 on.
 use Rattle.std.proofs.Common.{◌≡◌, ℕ, ◌+◌, ◌<◌, List, [], ◌∷◌, ◌++◌, length, get_or, map, Bool, true, false, refl, sym, ap, ◌∙◌, subst, arith}
-use Rattle.std.specs.Prelude.{◌||◌}
+use Rattle.std.specs.Prelude.{◌||◌, ◌&&◌, filter, cond}
 use Rattle.std.specs.List.{list_any, range_with_len}
-use Rattle.std.proofs.lemmas.Bool.{false_from_ne_true}
+use Rattle.std.proofs.lemmas.Bool.{false_from_ne_true, or_parts, or_from}
 use Rattle.std.proofs.lemmas.List.Folds.{list_any-append, list_any_at}
 use Rattle.std.proofs.lemmas.List.FromFn.{length-map-range_with_len, get_or-map-range_with_len, map-range_with_len_more}
 
@@ -21,3 +21,28 @@ none_listed_more p f i before here =
 -- where none passes, this one does not
 pub none_listed : {X : Type 0} (p : X → Bool) (f : ℕ → X) (n i : ℕ) → list_any p (map f (range_with_len 0 n)) ≡ false → i < n → p (f i) ≡ false
 none_listed p f n i none lt = false_from_ne_true (p (f i)) (λ h. cc (list_any_listed p f n i lt h, none))
+
+-- a test of what a filter keeps
+pub list_any-filter : {X : Type 0} (p q : X → Bool) (xs : List X) → list_any q (filter p xs) ≡ list_any (λ x. p x && q x) xs
+list_any-filter p q [] = refl
+list_any-filter p q (x ∷ xs) =
+    let rest = list_any-filter p q xs in
+    elim (p x) as (λ b. list_any q (cond b (x ∷ filter p xs) (filter p xs)) ≡ (b && q x || list_any (λ x. p x && q x) xs)) [
+      | true ↦ ap (λ t. q x || t) rest
+      | false ↦ rest
+    ]
+
+-- where none passes, none of what a filter keeps does
+pub none_kept : {X : Type 0} (p q : X → Bool) (xs : List X) → list_any q xs ≡ false → list_any q (filter p xs) ≡ false
+none_kept p q [] none = refl
+none_kept p q (x ∷ xs) none =
+    let parts = or_parts (q x) (list_any q xs) none in
+    let rest = none_kept p q xs parts.1 in
+    elim (p x) as (λ b. list_any q (cond b (x ∷ filter p xs) (filter p xs)) ≡ false) [
+      | true ↦ or_from (q x) (list_any q (filter p xs)) parts.0 rest
+      | false ↦ rest
+    ]
+
+-- where none of a list passes, none at an index does
+pub none_at : {X : Type 0} (p : X → Bool) (xs : List X) (i : ℕ) (d : X) → list_any p xs ≡ false → i < length xs → p (get_or xs i d) ≡ false
+none_at p xs i d none lt = false_from_ne_true (p (get_or xs i d)) (λ h. cc (list_any_at p xs i d lt h, none))

@@ -3,6 +3,8 @@
 use Rattle.std.specs.Prelude.{ℕ, ◌+◌, ◌*◌, Bool, ◌&&◌, ◌||◌, ◌==◌, if◌then◌else◌, List, [], take, drop, map, slice_index}
 use Rattle.std.specs.List.{range_with_len}
 use Rattle.zc_base.specs.Fields.{half_in, word_in}
+use Rattle.elf32_read.specs.declared.header.SectionHeader.{SectionHeader}
+use Rattle.elf32_read.specs.declared.header.ProgramHeader.{ProgramHeader}
 
 -- e_entry: the address at which the program starts
 abbrev pub entry_of : List ℕ → ℕ
@@ -50,21 +52,11 @@ abbrev pub begins_as : ℕ → List ℕ → Bool
 begins_as file_type bytes =
     word_in bytes 0 == 0x464C_457F && slice_index bytes 4 == 1 && slice_index bytes 5 == 1 && slice_index bytes 6 == 1 && half_in bytes 16 == file_type && half_in bytes 18 == 243
 
--- a section header: sh_name, sh_type, sh_flags, sh_addr, sh_offset, sh_size, sh_link, sh_info,
--- sh_addralign and sh_entsize
-pub record Header : Type 0 where
-  pub name : ℕ
-  pub kind : ℕ
-  pub flags : ℕ
-  pub address : ℕ
-  pub offset : ℕ
-  pub size : ℕ
-  pub link : ℕ
-  pub info : ℕ
-  pub align : ℕ
-  pub entry_size : ℕ
+-- a section header, by its ten words
+abbrev pub Header : Type 0
+Header = SectionHeader
 
--- the header of a section: ten words
+-- the header of a section
 unfoldable pub header_of : List ℕ → ℕ → Header
 header_of bytes i = let at = section_table bytes + 40 * i in record {
   name = word_in bytes at;
@@ -90,17 +82,6 @@ is_empty_kind kind = kind == 0 || kind == 8
 -- the content of a section
 abbrev pub content_of : List ℕ → Header → List ℕ
 content_of bytes header = if is_empty_kind header.kind then [] else take header.size (drop header.offset bytes)
-
--- a program header: p_type, p_offset, p_vaddr, p_paddr, p_filesz, p_memsz, p_flags and p_align
-pub record ProgramHeader : Type 0 where
-  pub kind : ℕ
-  pub offset : ℕ
-  pub address : ℕ
-  pub physical : ℕ
-  pub file_size : ℕ
-  pub memory_size : ℕ
-  pub flags : ℕ
-  pub align : ℕ
 
 -- a program header: eight words
 unfoldable pub program_header_of : List ℕ → ℕ → ProgramHeader

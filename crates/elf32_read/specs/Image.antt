@@ -1,11 +1,12 @@
 -- Images by their bytes (System V gABI, "ELF Header", "Sections" and "Program Header"): each fault by
 -- its test.
-use Rattle.std.specs.Prelude.{ℕ, ◌+◌, ◌*◌, ◌%◌, Bool, false, not, ◌&&◌, ◌||◌, ◌==◌, nat_lt, nat_le, List, [], ◌∷◌, length, drop, Option}
+use Rattle.std.specs.Prelude.{◌≡◌, ◌≤◌, None, ℕ, ◌+◌, ◌*◌, ◌%◌, Bool, false, not, ◌&&◌, ◌||◌, ◌==◌, nat_lt, nat_le, List, [], ◌∷◌, length, drop, Option}
 use Rattle.std.specs.List.{list_any}
 use Rattle.zc_base.specs.declared.mem_map.MemMap.{MemMap}
-use Rattle.elf32_read.specs.Header.{Header, ProgramHeader, entry_of, file_flags, program_table, program_header_size, program_count, section_header_size, section_count, name_section, begins_as, header_of, headers_of, is_empty_kind}
+use Rattle.elf32_read.specs.Header.{Header, entry_of, file_flags, program_table, program_header_size, program_count, section_header_size, section_count, name_section, begins_as, header_of, headers_of, is_empty_kind, content_of}
+use Rattle.elf32_read.specs.declared.header.ProgramHeader.{ProgramHeader}
 use Rattle.elf32_read.specs.Object.{lacks_headers, passes_end}
-use Rattle.elf32_read.specs.Places.{names_of, places_sections, places_of, is_ascending, is_outside}
+use Rattle.elf32_read.specs.Places.{names_of, places_sections, places_of, entries_of, is_ascending, is_outside}
 use Rattle.elf32_read.specs.Rows.{first_of}
 use Rattle.elf32_read.specs.Segments.{loads_of, is_code, is_writable, is_in_place, overlap, is_entry_of}
 use Rattle.elf32_read.specs.declared.image_fault.ImageFault.{ImageFault}
@@ -74,17 +75,28 @@ is_unnamed names header = not (list_any (λ byte. byte == 0) (drop header.name n
 abbrev pub is_bad_list : Header → Bool
 is_bad_list header = is_empty_kind header.kind || not (header.size % 12 == 0)
 
--- there are sections, and these lack names, or list places more than once, in part, out of order or
--- at addresses that are none of code
+-- a section of places that is a bad list, is out of order, or has an address that is none of code
+abbrev pub is_bad_section : List ℕ → MemMap → Header → Bool
+is_bad_section bytes memory header =
+    is_bad_list header || not (is_ascending (entries_of (content_of bytes header))) || list_any (is_outside memory) (entries_of (content_of bytes header))
+
+-- there are sections, and these lack names, or more than one lists places, or one badly
 abbrev pub bad_places : List ℕ → MemMap → Bool
 bad_places bytes memory =
     not (section_count bytes == 0)
     && (lacks_names bytes || list_any (is_unnamed (names_of bytes)) (headers_of bytes)
-    || nat_lt 1 (length (places_sections bytes)) || list_any is_bad_list (places_sections bytes)
-    || not (is_ascending (places_of bytes)) || list_any (is_outside memory) (places_of bytes))
+    || nat_lt 1 (length (places_sections bytes)) || list_any (is_bad_section bytes memory) (places_sections bytes))
 
 -- the first fault of an image's bytes under a memory map, or none
 unfoldable pub image_fault : List ℕ → MemMap → Option ImageFault
 image_fault bytes memory = first_of (
     (too_large bytes, TooLarge) ∷ (not_image bytes, NotElf) ∷ (image_truncated bytes, Truncated)
     ∷ (bad_segments bytes memory, BadSegment) ∷ (bad_places bytes memory, BadPlaces) ∷ [])
+
+-- an image without a fault, with the program headers that load its segments and the entries of its
+-- list of places
+pub record IsRead (bytes : List ℕ) (memory : MemMap) (loads : List ProgramHeader) (entries : List ℕ) : Type 0 where
+  pub faultless : image_fault bytes memory ≡ None
+  pub loads_read : loads ≡ loads_of bytes
+  pub entries_within : length entries ≤ length bytes
+  pub places_read : entries_of entries ≡ places_of bytes

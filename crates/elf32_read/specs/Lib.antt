@@ -5,5 +5,6 @@ pub mod ImageFault
 pub mod Object
 pub mod Places
 pub mod Rows
+pub mod Segment
 pub mod Segments
 pub use Rattle.zc_base.specs.Fields

@@ -1,7 +1,8 @@
 -- The segments of an image (System V gABI, "Program Header"; RISC-V ELF psABI, "File Header").
 use Rattle.std.specs.Prelude.{ℕ, ◌+◌, Bool, ◌&&◌, ◌==◌, nat_lt, nat_le, min, max, if◌then◌else◌, List, [], ◌∷◌, take, drop, map, filter, bit_and}
 use Rattle.zc_base.specs.declared.mem_map.MemMap.{MemMap}
-use Rattle.elf32_read.specs.Header.{ProgramHeader, program_headers_of}
+use Rattle.elf32_read.specs.Header.{program_headers_of}
+use Rattle.elf32_read.specs.declared.header.ProgramHeader.{ProgramHeader}
 
 -- the program headers that load a segment, PT_LOAD (1), in order
 unfoldable pub loads_of : List ℕ → List ProgramHeader

@@ -1,17 +1,41 @@
-// The headers of ELF files of class 32 (System V gABI, "ELF Header" and "Sections").
+// The headers of ELF files of class 32 (System V gABI, "ELF Header", "Sections" and "Program
+// Header").
 
-ghost use Rattle.std.specs.Prelude.{◌≡◌, ◌≢◌, ◌≤◌, ◌+◌, ◌*◌, length, [], take, drop, if◌then◌else◌};
-ghost use Rattle.elf32_read.specs.Header.{begins_as, header_of, is_empty_kind, section_table};
+ghost use Rattle.std.specs.Prelude.{◌≡◌, ◌≢◌, ◌≤◌, ◌+◌, ◌*◌, length};
+ghost use Rattle.elf32_read.specs.Header.{begins_as, content_of, header_of, is_empty_kind, program_header_of, program_table, section_table};
 
 use zc_base::fields::{u16_at, u32_at};
 
-/// A section's header, of which these words are read.
+/// The kind of a program header that loads a segment, PT_LOAD.
+pub const LOAD: u32 = 1;
+
+/// A section header: the words sh_name, sh_type, sh_flags, sh_addr, sh_offset, sh_size, sh_link,
+/// sh_info, sh_addralign and sh_entsize.
 #[derive(Clone, Copy)]
 pub struct SectionHeader {
+    pub name: u32,
     pub kind: u32,
     pub flags: u32,
+    pub address: u32,
     pub offset: u32,
     pub size: u32,
+    pub link: u32,
+    pub info: u32,
+    pub align: u32,
+    pub entry_size: u32,
+}
+
+/// A program header: the words p_type, p_offset, p_vaddr, p_paddr, p_filesz, p_memsz, p_flags and
+/// p_align.
+#[derive(Clone, Copy)]
+pub struct ProgramHeader {
+    pub kind: u32,
+    pub offset: u32,
+    pub address: u32,
+    pub physical: u32,
+    pub file_size: u32,
+    pub memory_size: u32,
+    pub flags: u32,
     pub align: u32,
 }
 
@@ -33,19 +57,40 @@ pub fn begins_as(file_type: u16, bytes: &[u8]) -> bool
 pub fn section_header(bytes: &[u8], i: u32) -> SectionHeader
     requires start { 52 ≤ length bytes.now }
     requires within { section_table bytes.now + 40 * i + 40 ≤ length bytes.now }
-    ensures kind { result.kind ≡ (header_of bytes.now i).kind }
-    ensures flags { result.flags ≡ (header_of bytes.now i).flags }
-    ensures offset { result.offset ≡ (header_of bytes.now i).offset }
-    ensures size { result.size ≡ (header_of bytes.now i).size }
-    ensures align { result.align ≡ (header_of bytes.now i).align }
+    ensures { result ≡ header_of bytes.now i }
 {
     let at = u32_at(bytes, 32) as usize + 40 * i as usize;
     SectionHeader {
+        name: u32_at(bytes, at),
         kind: u32_at(bytes, at + 4),
         flags: u32_at(bytes, at + 8),
+        address: u32_at(bytes, at + 12),
         offset: u32_at(bytes, at + 16),
         size: u32_at(bytes, at + 20),
+        link: u32_at(bytes, at + 24),
+        info: u32_at(bytes, at + 28),
         align: u32_at(bytes, at + 32),
+        entry_size: u32_at(bytes, at + 36),
+    }
+}
+
+/// A program header.
+#[tactic(auto, unfolding(crate::specs::Header::program_header_of))]
+pub fn program_header(bytes: &[u8], i: u32) -> ProgramHeader
+    requires start { 52 ≤ length bytes.now }
+    requires within { program_table bytes.now + 32 * i + 32 ≤ length bytes.now }
+    ensures { result ≡ program_header_of bytes.now i }
+{
+    let at = u32_at(bytes, 28) as usize + 32 * i as usize;
+    ProgramHeader {
+        kind: u32_at(bytes, at),
+        offset: u32_at(bytes, at + 4),
+        address: u32_at(bytes, at + 8),
+        physical: u32_at(bytes, at + 12),
+        file_size: u32_at(bytes, at + 16),
+        memory_size: u32_at(bytes, at + 20),
+        flags: u32_at(bytes, at + 24),
+        align: u32_at(bytes, at + 28),
     }
 }
 
@@ -54,4 +99,19 @@ pub fn is_without_content(kind: u32) -> bool
     ensures { result ≡ is_empty_kind kind }
 {
     kind == 0 || kind == 8
+}
+
+/// The content of a section.
+pub fn content(bytes: &[u8], header: SectionHeader) -> &[u8]
+    requires { header.kind ≢ 0 → header.kind ≢ 8 → header.offset + header.size ≤ length bytes.now }
+    ensures content { result.now ≡ content_of bytes.entry.now header }
+    ensures whole { header.kind ≢ 0 → header.kind ≢ 8 → length result.now ≡ header.size }
+    ensures within { length result.now ≤ length bytes.entry.now }
+{
+    if is_without_content(header.kind) {
+        &[]
+    } else {
+        let start = header.offset as usize;
+        &bytes[start..start + header.size as usize]
+    }
 }

@@ -1,10 +1,17 @@
-//! Reads ELF files of 32-bit RISC-V: relocatable objects, by their sections. A value borrows the
-//! bytes that it was read from, and nothing here takes memory.
+//! Reads ELF files of 32-bit RISC-V: relocatable objects, by their sections, and images, by their
+//! segments and the places that they list. A value borrows the bytes that it was read from, and
+//! nothing here takes memory.
 #![tactic(auto)]
 
+mod bounds;
 pub mod fault;
 mod header;
+pub mod image;
 pub mod image_fault;
+mod loads;
 pub mod object;
+mod places;
 pub mod section;
 pub mod section_flags;
+pub mod segment;
+mod segments;

@@ -4,8 +4,9 @@ ghost use Rattle.std.specs.Prelude.{◌≡◌, ◌≢◌, ◌≤◌, ◌<◌, �
 ghost use Rattle.elf32_read.specs.Header.{content_of, header_of, is_empty_kind, object_flags, section_count, section_table};
 ghost use Rattle.elf32_read.specs.Object.{not_elf, object_fault, passes_end, truncated};
 
+use crate::bounds::{has_cut_section, lacks_headers};
 use crate::fault::Fault;
-use crate::header::{SectionHeader, begins_as, is_without_content, section_header};
+use crate::header::{begins_as, content, section_header};
 use crate::section::Section;
 use crate::section_flags::SectionFlags;
 use std::marker::Model;
@@ -21,47 +22,11 @@ fn is_no_object(bytes: &[u8]) -> bool
         || (u16_at(bytes, 48) != 0 && u16_at(bytes, 46) != 40)
 }
 
-// Whether a section's content passes the end.
-fn is_section_cut(bytes: &[u8], i: u32) -> bool
-    requires start { 52 ≤ length bytes.now }
-    requires within { section_table bytes.now + 40 * i + 40 ≤ length bytes.now }
-    ensures { result ≡ passes_end bytes.now (header_of bytes.now i) }
-{
-    let header = section_header(bytes, i);
-    !is_without_content(header.kind) && bytes.len() < header.offset as usize + header.size as usize
-}
-
-// Whether the section headers or a section's content pass the end.
-#[tactic(auto, using(crate::proofs::Listed::none_listed_more))]
 fn is_cut(bytes: &[u8]) -> bool
     requires { 52 ≤ length bytes.now }
     ensures { result ≡ truncated bytes.now }
 {
-    let count = u32::from(u16_at(bytes, 48));
-    if bytes.len() < u32_at(bytes, 32) as usize + 40 * count as usize {
-        return true;
-    }
-    for i in 0..count {
-        if is_section_cut(bytes, i) {
-            return true;
-        }
-    }
-    false
-}
-
-// The content of a section.
-fn content(bytes: &[u8], header: SectionHeader) -> &[u8]
-    requires { header.kind ≢ 0 → header.kind ≢ 8 → header.offset + header.size ≤ length bytes.now }
-    ensures whole { header.kind ≢ 0 → header.kind ≢ 8 → length result.now ≡ header.size }
-    ensures content { result.now
-        ≡ (if is_empty_kind header.kind then [] else take header.size (drop header.offset bytes.entry.now)) }
-{
-    if is_without_content(header.kind) {
-        &[]
-    } else {
-        let start = header.offset as usize;
-        &bytes[start..start + header.size as usize]
-    }
+    lacks_headers(bytes) || has_cut_section(bytes)
 }
 
 /// A relocatable object without a fault. Clauses see it as its bytes.

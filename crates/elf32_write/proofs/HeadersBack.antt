@@ -5,7 +5,8 @@ use Rattle.std.specs.List.{flat_map, range_with_len}
 use Rattle.std.proofs.lemmas.List.{append-nil}
 use Rattle.zc_base.specs.Fields.{half_in, word_in, half_bytes, word_bytes}
 use Rattle.zc_base.specs.declared.place.Place.{Place}
-use Rattle.elf32_read.specs.Header.{Header, ProgramHeader, section_table, program_table, header_of, program_header_of}
+use Rattle.elf32_read.specs.Header.{Header, section_table, program_table, header_of, program_header_of}
+use Rattle.elf32_read.specs.declared.header.ProgramHeader.{ProgramHeader}
 use Rattle.elf32_read.specs.Places.{entry_at}
 use Rattle.elf32_write.specs.Image.{section_bytes, segment_bytes, place_bytes}
 use Rattle.elf32_write.specs.Loadable.{IsEntry}

@@ -9,8 +9,9 @@ use Rattle.std.proofs.lemmas.List.Elements.{All-from_recursion}
 use Rattle.zc_base.specs.Fields.{half_in, word_in, half_bytes, word_bytes}
 use Rattle.zc_base.specs.declared.mem_map.MemMap.{MemMap}
 use Rattle.zc_base.specs.declared.place.Place.{Place}
-use Rattle.elf32_read.specs.Header.{Header, ProgramHeader, begins_as, entry_of, file_flags, program_table, section_table, program_count, program_header_size, section_count, section_header_size, name_section, header_of, headers_of, program_header_of, program_headers_of, content_of}
-use Rattle.elf32_read.specs.Image.{too_large, are_known_flags, are_missized, not_image, lacks_program_headers, load_passes_end, image_truncated, is_bad_load, some_overlap, bad_segments, lacks_names, is_unnamed, is_bad_list, bad_places, image_fault}
+use Rattle.elf32_read.specs.Header.{Header, begins_as, entry_of, file_flags, program_table, section_table, program_count, program_header_size, section_count, section_header_size, name_section, header_of, headers_of, program_header_of, program_headers_of, content_of}
+use Rattle.elf32_read.specs.declared.header.ProgramHeader.{ProgramHeader}
+use Rattle.elf32_read.specs.Image.{too_large, are_known_flags, are_missized, not_image, lacks_program_headers, load_passes_end, image_truncated, is_bad_load, some_overlap, bad_segments, lacks_names, is_unnamed, is_bad_list, is_bad_section, bad_places, image_fault}
 use Rattle.elf32_read.specs.Object.{lacks_headers, passes_end}
 use Rattle.elf32_read.specs.Places.{names_of, holds_places, places_sections, entry_at, entries_of, places_of, is_ascending, is_outside}
 use Rattle.elf32_read.specs.Segments.{loads_of, overlap, is_entry_of, segment_of, segments_of}
@@ -322,32 +323,38 @@ places_sections_back parts w =
     ap (λ l. filter (holds_places l) (headers_of (image_bytes parts))) (names_of_back parts w)
     ∙ ap (filter (holds_places names)) (sections_back parts w)
 
+entries_of_back : (parts : Parts) → All IsEntry parts.places → entries_of (content_of (image_bytes parts) (places_section parts)) ≡ parts.places
+entries_of_back parts small =
+    let content = flat_map place_bytes parts.places in
+    let count : length content / 12 ≡ length parts.places = omega (arith, length-places parts.places) in
+    ap entries_of (places_bytes_back parts)
+    ∙ ap (λ n. map (entry_at content) (range_with_len 0 n)) count
+    ∙ entries_back parts.places small
+
 places_back : (parts : Parts) → Words parts → All IsEntry parts.places → places_of (image_bytes parts) ≡ parts.places
 places_back parts w small =
     let bytes = image_bytes parts in
-    let content = flat_map place_bytes parts.places in
-    let count : length content / 12 ≡ length parts.places = omega (arith, length-places parts.places) in
     ap (flat_map (λ header. entries_of (content_of bytes header))) (places_sections_back parts w)
     ∙ append-nil (entries_of (content_of bytes (places_section parts)))
-    ∙ ap entries_of (places_bytes_back parts)
-    ∙ ap (λ n. map (entry_at content) (range_with_len 0 n)) count
-    ∙ entries_back parts.places small
+    ∙ entries_of_back parts small
 
 has_good_places : (parts : Parts) (memory : MemMap) → Words parts → IsLoadable parts memory → bad_places (image_bytes parts) memory ≡ false
 has_good_places parts memory w loadable =
     let bytes = image_bytes parts in
-    let places = places_back parts w loadable.entries in
     let index : nat_le (section_count bytes) (name_section bytes) ≡ false = lt-leb (section_count bytes) (name_section bytes) (omega (arith, section_count_back parts, name_section_back parts)) in
     let kind = ap (λ header. not (header.kind == 3)) (names_header_back parts w) in
     let named : list_any (is_unnamed (names_of bytes)) (headers_of bytes) ≡ false =
     ap (λ l. list_any (is_unnamed l) (headers_of bytes)) (names_of_back parts w) ∙ ap (list_any (is_unnamed names)) (sections_back parts w) in
     let once : nat_lt 1 (length (places_sections bytes)) ≡ false = ap (λ l. nat_lt 1 (length l)) (places_sections_back parts w) in
+    let content = content_of bytes (places_section parts) in
+    let listed : entries_of content ≡ parts.places = entries_of_back parts loadable.entries in
     let rest : (12 * length parts.places) % 12 ≡ 0 = omega arith in
-    let whole : list_any is_bad_list (places_sections bytes) ≡ false =
-    ap (list_any is_bad_list) (places_sections_back parts w) ∙ ap (λ n. not (n == 0) || false) rest in
-    let ascending : not (is_ascending (places_of bytes)) ≡ false = ap (λ l. not (is_ascending l)) places ∙ ap not loadable.ascending in
-    let inside : list_any (is_outside memory) (places_of bytes) ≡ false = ap (list_any (is_outside memory)) places ∙ loadable.inside in
-    and_right (not (section_count bytes == 0)) _ (or_from _ _ (or_from _ _ (or_from _ _ (or_from _ _ (or_from _ _ (or_from _ _ index kind) named) once) whole) ascending) inside)
+    let whole : is_bad_list (places_section parts) ≡ false = ap (λ n. not (n == 0)) rest in
+    let ascending : not (is_ascending (entries_of content)) ≡ false = ap (λ l. not (is_ascending l)) listed ∙ ap not loadable.ascending in
+    let inside : list_any (is_outside memory) (entries_of content) ≡ false = ap (list_any (is_outside memory)) listed ∙ loadable.inside in
+    let good : list_any (is_bad_section bytes memory) (places_sections bytes) ≡ false =
+    ap (list_any (is_bad_section bytes memory)) (places_sections_back parts w) ∙ or_from _ _ (or_from _ _ (or_from _ _ whole ascending) inside) refl in
+    and_right (not (section_count bytes == 0)) _ (or_from _ _ (or_from _ _ (or_from _ _ (or_from _ _ index kind) named) once) good)
 
 -- flags that are known are small
 known_small : (flags : ℕ) → are_known_flags flags ≡ true → flags < 2 ^ 32

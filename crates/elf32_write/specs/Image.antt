@@ -4,7 +4,8 @@ use Rattle.std.specs.Prelude.{ℕ, ◌+◌, ◌*◌, ◌-◌, ◌%◌, ◌^◌, 
 use Rattle.std.specs.List.{flat_map}
 use Rattle.zc_base.specs.Fields.{half_bytes, word_bytes}
 use Rattle.zc_base.specs.declared.place.Place.{Place}
-use Rattle.elf32_read.specs.Header.{Header, ProgramHeader}
+use Rattle.elf32_read.specs.Header.{Header}
+use Rattle.elf32_read.specs.declared.header.ProgramHeader.{ProgramHeader}
 use Rattle.elf32_write.specs.Parts.{Parts}
 
 -- how many zeros make a length a multiple of 4

@@ -1,5 +1,6 @@
 use Rattle.std.proofs.Common.{◌<◌, arith, ◌∙◌, ap}
-use Rattle.elf32_read.specs.Header.{header_of, section_count}
+use Rattle.elf32_read.specs.Header.{section_count}
+use Rattle.elf32_read.specs.Object.{passes_end}
 use Rattle.elf32_read.proofs.Faultless.{faultless_whole, content_within}
 use Rattle.elf32_read.proofs.object.Object.section.Goals as goal
 
@@ -17,6 +18,5 @@ content-requires c = λ not_null not_nobits.
     let bytes = c.self.inside.bytes.now in
     let whole = faultless_whole bytes c.self.invariant in
     let inside : c.args.i < section_count bytes = omega (arith, c.requires, ap section_count c.self.view_is) in
-    let read = c.section_header-header.ensures in
-    let within = content_within bytes (header_of bytes c.args.i) (whole.contents c.args.i inside) (λ e. not_null (read.kind ∙ e)) (λ e. not_nobits (read.kind ∙ e)) in
-    omega (arith, within, read.offset, read.size)
+    let cut = ap (passes_end bytes) c.section_header-header.ensures ∙ whole.contents c.args.i inside in
+    content_within bytes c.section_header-header.result cut not_null not_nobits

@@ -1,0 +1,18 @@
+-- The entries of a list of places, by their index.
+use Rattle.std.proofs.Common.{◌≡◌, ℕ, ◌+◌, ◌<◌, ◌/◌, List, length, get_or, map, Some, sym, ap, ◌∙◌, arith}
+use Rattle.std.specs.Prelude.{slice_get}
+use Rattle.std.specs.List.{range_with_len}
+use Rattle.std.proofs.lemmas.List.FromFn.{length-map-range_with_len, get_or-map-range_with_len}
+use Rattle.std.proofs.lemmas.Option.{slice_get-get_or}
+use Rattle.elf32_read.specs.Places.{entry_at, entries_of}
+
+-- each has twelve bytes
+pub length-entries_of : (entries : List ℕ) → length (entries_of entries) ≡ length entries / 12
+length-entries_of entries = length-map-range_with_len (entry_at entries) 0 (length entries / 12)
+
+-- the one at an index
+pub slice_get-entries_of : (entries : List ℕ) (i : ℕ) → i < length entries / 12 → slice_get (entries_of entries) i ≡ Some (entry_at entries i)
+slice_get-entries_of entries i lt =
+    let inside : i < length (entries_of entries) = omega (arith, lt, length-entries_of entries) in
+    slice_get-get_or (entries_of entries) i (entry_at entries i) inside
+    ∙ ap Some (get_or-map-range_with_len (entry_at entries) 0 (length entries / 12) i i (entry_at entries i) lt (omega arith))

@@ -1,0 +1,12 @@
+use Rattle.std.proofs.Common.{length, sym, ap, ◌∙◌, arith}
+use Rattle.elf32_read.specs.Places.{places_of}
+use Rattle.elf32_read.proofs.Entries.{length-entries_of}
+use Rattle.elf32_read.proofs.Faultless.{faultless_whole_image}
+use Rattle.elf32_read.proofs.image.Image.place_count.Goals as goal
+
+pub overflow_cast-result : goal.overflow_cast-result
+overflow_cast-result c = let whole = faultless_whole_image _ _ c.self.invariant.faultless in omega (arith, whole.small, c.self.invariant.entries_within)
+
+pub returns : goal.returns
+returns c =
+    sym (length-entries_of c.self.inside.entries.now) ∙ ap length c.self.invariant.places_read ∙ ap (λ value. length (places_of value.0)) c.self.view_is

@@ -1,0 +1,26 @@
+use Rattle.std.proofs.Common.{◌≡◌, ◌+◌, ◌-◌, ◌<◌, ◌/◌, true, false, length, map, sym, ap, ◌∙◌, arith}
+use Rattle.std.specs.Prelude.{◌&&◌}
+use Rattle.std.specs.List.{range_with_len}
+use Rattle.elf32_read.specs.Places.{entry_at, is_before, is_ascending}
+use Rattle.elf32_read.proofs.Ascending.{is_ascending_step}
+use Rattle.elf32_read.proofs.places.are_ascending.Goals as goal
+
+-- the entry at hand does not come before the next
+pub returns-then-not-is_before : goal.returns-then-not-is_before
+returns-then-not-is_before c =
+    let f = entry_at c.args.entries.now in
+    let i = c.loop-i.i in
+    let n = length c.args.entries.now / 12 in
+    let rest = is_ascending (map f (range_with_len (i + 1) (n - (i + 1)))) in
+    let before = c.is_before.ensures ∙ (λ j. is_before (c.entry.ensures j).0 (c.entry-in-loop-i.ensures j).0) in
+    sym (c.loop-i.invariant ∙ is_ascending_step f i n (omega arith) ∙ ap (λ t. t && rest) (sym before ∙ c.if-not-is_before.true))
+
+-- it does
+pub loop-i-preserved : goal.loop-i-preserved
+loop-i-preserved c =
+    let f = entry_at c.args.entries.now in
+    let i = c.loop-i.i in
+    let n = length c.args.entries.now / 12 in
+    let rest = is_ascending (map f (range_with_len (i + 1) (n - (i + 1)))) in
+    let before = c.is_before.ensures ∙ (λ j. is_before (c.entry.ensures j).0 (c.entry-in-loop-i.ensures j).0) in
+    c.loop-i.invariant ∙ is_ascending_step f i n (omega arith) ∙ ap (λ t. t && rest) (sym before ∙ c.if-not-is_before.false)

@@ -1,0 +1,77 @@
+// Whether what a file's headers name lies in the file.
+
+ghost use Rattle.std.specs.Prelude.{◌≡◌, ◌≤◌, ◌+◌, ◌*◌, ◌&&◌, ◌==◌, length};
+ghost use Rattle.std.specs.List.{list_any};
+ghost use Rattle.elf32_read.specs.Header.{header_of, headers_of, program_count, program_header_of, program_table, section_count, section_table};
+ghost use Rattle.elf32_read.specs.Image.{lacks_program_headers, load_passes_end};
+ghost use Rattle.elf32_read.specs.Object.{lacks_headers, passes_end};
+ghost use Rattle.elf32_read.specs.Segments.{loads_of};
+
+use crate::header::{LOAD, is_without_content, program_header, section_header};
+use zc_base::fields::{u16_at, u32_at};
+
+/// Whether the section headers pass the end.
+pub fn lacks_headers(bytes: &[u8]) -> bool
+    requires { 52 ≤ length bytes.now }
+    ensures { result ≡ lacks_headers bytes.now }
+{
+    bytes.len() < u32_at(bytes, 32) as usize + 40 * u16_at(bytes, 48) as usize
+}
+
+/// Whether the program headers pass the end.
+pub fn lacks_program_headers(bytes: &[u8]) -> bool
+    requires { 52 ≤ length bytes.now }
+    ensures { result ≡ lacks_program_headers bytes.now }
+{
+    bytes.len() < u32_at(bytes, 28) as usize + 32 * u16_at(bytes, 44) as usize
+}
+
+// Whether the content of a section passes the end.
+fn is_section_cut(bytes: &[u8], i: u32) -> bool
+    requires start { 52 ≤ length bytes.now }
+    requires within { section_table bytes.now + 40 * i + 40 ≤ length bytes.now }
+    ensures { result ≡ passes_end bytes.now (header_of bytes.now i) }
+{
+    let header = section_header(bytes, i);
+    !is_without_content(header.kind) && bytes.len() < header.offset as usize + header.size as usize
+}
+
+/// Whether the content of some section passes the end.
+#[tactic(auto, using(crate::proofs::Listed::none_listed_more))]
+pub fn has_cut_section(bytes: &[u8]) -> bool
+    requires start { 52 ≤ length bytes.now }
+    requires within { section_table bytes.now + 40 * section_count bytes.now ≤ length bytes.now }
+    ensures { result ≡ list_any (passes_end bytes.now) (headers_of bytes.now) }
+{
+    for i in 0..u32::from(u16_at(bytes, 48)) {
+        if is_section_cut(bytes, i) {
+            return true;
+        }
+    }
+    false
+}
+
+// Whether a program header loads bytes that pass the end.
+fn is_load_cut(bytes: &[u8], i: u32) -> bool
+    requires start { 52 ≤ length bytes.now }
+    requires within { program_table bytes.now + 32 * i + 32 ≤ length bytes.now }
+    ensures { result ≡ ((program_header_of bytes.now i).kind == 1 && load_passes_end bytes.now (program_header_of bytes.now i)) }
+{
+    let header = program_header(bytes, i);
+    header.kind == LOAD && bytes.len() < header.offset as usize + header.file_size as usize
+}
+
+/// Whether the bytes of some segment pass the end.
+#[tactic(auto, using(crate::proofs::Listed::none_listed_more))]
+pub fn has_cut_load(bytes: &[u8]) -> bool
+    requires start { 52 ≤ length bytes.now }
+    requires within { program_table bytes.now + 32 * program_count bytes.now ≤ length bytes.now }
+    ensures { result ≡ list_any (load_passes_end bytes.now) (loads_of bytes.now) }
+{
+    for i in 0..u32::from(u16_at(bytes, 44)) {
+        if is_load_cut(bytes, i) {
+            return true;
+        }
+    }
+    false
+}

@@ -1,0 +1,208 @@
+// The places that an image lists.
+
+ghost use Rattle.std.specs.Prelude.{◌≡◌, ℕ, ◌≤◌, ◌<◌, ◌+◌, ◌*◌, ◌/◌, ◌==◌, ◌||◌, not, nat_lt, true, false, drop, length, MatchResult, IfSome, List};
+ghost use Rattle.std.specs.List.{list_any};
+ghost use Rattle.std.specs.Option.{option_to_list};
+ghost use Rattle.elf32_read.specs.Header.{content_of, headers_of, section_count, section_table};
+ghost use Rattle.elf32_read.specs.Image.{bad_places, is_bad_list as is_bad, is_bad_section, is_unnamed, lacks_names as lacks_the_names};
+ghost use Rattle.elf32_read.specs.Object.{passes_end};
+ghost use Rattle.elf32_read.specs.Places.{entries_of, entry_at, holds_places as holds_the_places, is_ascending, is_before as comes_before, is_outside as lies_outside, names_of, places_of, places_sections};
+ghost use Rattle.elf32_read.specs.declared.image_fault.ImageFault.TheVariants.{BadPlaces};
+
+use crate::header::{SectionHeader, content, is_without_content, section_header};
+use crate::image_fault::ImageFault;
+use zc_base::fields::{u16_at, u32_at};
+use zc_base::mem_map::MemMap;
+use zc_base::place::Place;
+
+const STRTAB: u32 = 3;
+
+const NAME: &[u8; 13] = b".zcld.places\0";
+
+/// The bytes of an entry: a place and its address.
+pub const ENTRY_SIZE: usize = 12;
+
+/// An entry of a list of places.
+#[tactic(auto, unfolding(crate::specs::Places::entry_at))]
+pub fn entry(entries: &[u8], i: usize) -> (Place, u32)
+    requires { 12 * i + 12 ≤ length entries.now }
+    ensures { result ≡ entry_at entries.now i }
+{
+    let at = ENTRY_SIZE * i;
+    let place = Place {
+        object: u16_at(entries, at),
+        section: u16_at(entries, at + 2),
+        offset: u32_at(entries, at + 4),
+    };
+    (place, u32_at(entries, at + 8))
+}
+
+fn is_before(first: &Place, second: &Place) -> bool
+    ensures { result ≡ comes_before first.now second.now }
+{
+    first < second
+}
+
+fn are_ascending(entries: &[u8]) -> bool
+    ensures { result ≡ is_ascending (entries_of entries.now) }
+{
+    let count = entries.len() / ENTRY_SIZE;
+    for i in 0..count.saturating_sub(1) {
+        if !is_before(&entry(entries, i).0, &entry(entries, i + 1).0) {
+            return false;
+        }
+    }
+    true
+}
+
+fn is_outside(map: &MemMap, address: u32) -> bool
+    ensures { result ≡ (nat_lt address map.now.text || nat_lt map.now.data_low address) }
+{
+    address < map.text || map.data_low < address
+}
+
+#[tactic(auto, using(crate::proofs::Listed::none_listed_more))]
+fn has_outside(map: &MemMap, entries: &[u8]) -> bool
+    ensures { result ≡ list_any (lies_outside map.now) (entries_of entries.now) }
+{
+    for i in 0..entries.len() / ENTRY_SIZE {
+        if is_outside(map, entry(entries, i).1) {
+            return true;
+        }
+    }
+    false
+}
+
+// Whether the section of the names is none, or no table of strings.
+fn lacks_names(bytes: &[u8]) -> bool
+    requires start { 52 ≤ length bytes.now }
+    requires within { section_table bytes.now + 40 * section_count bytes.now ≤ length bytes.now }
+    ensures { result ≡ lacks_the_names bytes.now }
+{
+    let i = u16_at(bytes, 50);
+    u16_at(bytes, 48) <= i || section_header(bytes, u32::from(i)).kind != STRTAB
+}
+
+// Where the last name ends: an offset has a zero at it or behind it exactly where it is below.
+fn names_end(names: &[u8]) -> usize
+    ensures { (k : ℕ) → list_any (λ byte. byte == 0) (drop k names.now) ≡ nat_lt k result }
+{
+    let mut end = 0;
+    for (i, byte) in names.iter().enumerate() {
+        if *byte == 0 {
+            end = i + 1;
+        }
+    }
+    end
+}
+
+#[tactic(auto, using(crate::proofs::Listed::none_listed_more))]
+fn has_unnamed(bytes: &[u8], names: &[u8]) -> bool
+    requires start { 52 ≤ length bytes.now }
+    requires within { section_table bytes.now + 40 * section_count bytes.now ≤ length bytes.now }
+    ensures { result ≡ list_any (is_unnamed names.now) (headers_of bytes.now) }
+{
+    let end = names_end(names);
+    for i in 0..u32::from(u16_at(bytes, 48)) {
+        if end <= section_header(bytes, i).name as usize {
+            return true;
+        }
+    }
+    false
+}
+
+fn holds_places(names: &[u8], header: &SectionHeader) -> bool
+    requires { header.now.name ≤ length names.now }
+    ensures { result ≡ holds_the_places names.now header.now }
+{
+    names[header.name as usize..].starts_with(NAME)
+}
+
+fn is_bad_list(header: &SectionHeader) -> bool
+    ensures { result ≡ is_bad header.now }
+{
+    is_without_content(header.kind) || header.size % 12 != 0
+}
+
+// The section with places, unless there is more than one.
+#[tactic(auto, unfolding(crate::specs::Places::places_sections))]
+fn places_section(bytes: &[u8], names: &[u8]) -> Result<Option<SectionHeader>, ImageFault>
+    requires start { 52 ≤ length bytes.now }
+    requires within { section_table bytes.now + 40 * section_count bytes.now ≤ length bytes.now }
+    requires names { names.now ≡ names_of bytes.now }
+    requires named { list_any (is_unnamed names.now) (headers_of bytes.now) ≡ false }
+    ensures { MatchResult result
+        (λ found. places_sections bytes.now ≡ option_to_list found)
+        (λ fault. (fault ≡ BadPlaces) × (1 < length (places_sections bytes.now))) }
+{
+    let mut found = None;
+    for i in 0..u32::from(u16_at(bytes, 48)) {
+        let header = section_header(bytes, i);
+        if holds_places(names, &header) {
+            if found.is_some() {
+                return Err(ImageFault::BadPlaces);
+            }
+            found = Some(header);
+        }
+    }
+    Ok(found)
+}
+
+// The names of the sections, unless there is no table of them or a name has no end.
+fn names_in(bytes: &[u8]) -> Result<&[u8], ImageFault>
+    requires start { 52 ≤ length bytes.now }
+    requires within { section_table bytes.now + 40 * section_count bytes.now ≤ length bytes.now }
+    requires whole { list_any (passes_end bytes.now) (headers_of bytes.now) ≡ false }
+    ensures { MatchResult result
+        (λ names. (lacks_the_names bytes.entry.now ≡ false) × (names.now ≡ names_of bytes.entry.now)
+        × (list_any (is_unnamed names.now) (headers_of bytes.entry.now) ≡ false))
+        (λ fault. (fault ≡ BadPlaces)
+        × ((lacks_the_names bytes.entry.now || list_any (is_unnamed (names_of bytes.entry.now)) (headers_of bytes.entry.now)) ≡ true)) }
+{
+    if lacks_names(bytes) {
+        return Err(ImageFault::BadPlaces);
+    }
+    let names = content(bytes, section_header(bytes, u32::from(u16_at(bytes, 50))));
+    if has_unnamed(bytes, names) {
+        return Err(ImageFault::BadPlaces);
+    }
+    Ok(names)
+}
+
+// The list of a section of places, unless it is bad.
+fn list_in<'a>(bytes: &'a [u8], map: &MemMap, header: SectionHeader) -> Result<&'a [u8], ImageFault>
+    requires { passes_end bytes.now header ≡ false }
+    ensures { MatchResult result
+        (λ list. (list.now ≡ content_of bytes.entry.now header) × (length list.now ≤ length bytes.entry.now)
+        × (is_bad_section bytes.entry.now map.now header ≡ false))
+        (λ fault. (fault ≡ BadPlaces) × (is_bad_section bytes.entry.now map.now header ≡ true)) }
+{
+    if is_bad_list(&header) {
+        return Err(ImageFault::BadPlaces);
+    }
+    let list = content(bytes, header);
+    if !are_ascending(list) || has_outside(map, list) {
+        return Err(ImageFault::BadPlaces);
+    }
+    Ok(list)
+}
+
+/// The entries of the places that an image lists, none where it has no list, unless the list is bad.
+pub fn places_in<'a>(bytes: &'a [u8], map: &MemMap) -> Result<&'a [u8], ImageFault>
+    requires start { 52 ≤ length bytes.now }
+    requires within { section_table bytes.now + 40 * section_count bytes.now ≤ length bytes.now }
+    requires whole { list_any (passes_end bytes.now) (headers_of bytes.now) ≡ false }
+    ensures { MatchResult result
+        (λ list. (bad_places bytes.entry.now map.now ≡ false) × (length list.now ≤ length bytes.entry.now)
+        × (entries_of list.now ≡ places_of bytes.entry.now))
+        (λ fault. (fault ≡ BadPlaces) × (bad_places bytes.entry.now map.now ≡ true)) }
+{
+    if u16_at(bytes, 48) == 0 {
+        return Ok(&[]);
+    }
+    let names = names_in(bytes)?;
+    match places_section(bytes, names)? {
+        None => Ok(&[]),
+        Some(header) => list_in(bytes, map, header),
+    }
+}
