@@ -15,7 +15,6 @@ use Rattle.elf32_read.specs.declared.fault.Fault.{Fault}
 use Rattle.elf32_read.specs.Header.{header_of, is_empty_kind}
 use Rattle.elf32_read.specs.Object.{object_fault}
 use Rattle.rv_decode.specs.declared.instr.Instr.{Instr}
-use Rattle.rv_decode.specs.declared.instr.Instr.TheVariants.{WithImm, Ecall}
 use Rattle.block_cut.specs.declared.item.Item.TheVariants.{Op}
 use Rattle.rv_decode.specs.Bits.{field}
 use Rattle.rv_decode.specs.Decode.{decoded}
@@ -38,7 +37,7 @@ use Rattle.zc_link.specs.Image.{Image, image_in, place_address}
 use Rattle.zc_link.specs.Laid.{HasRegisters, Laid, OpLaid, SpansMemory, first_of}
 use Rattle.zc_link.specs.Places.{address_in}
 use Rattle.zc_link.specs.Preserves.{AlwaysFollows, Preserves}
-use Rattle.zc_link.specs.Stands.{ByteStands, IsMemory}
+use Rattle.zc_link.specs.Stands.{ByteStands}
 use Rattle.zc_link.specs.Values.{value_in}
 use Rattle.zc_link.proofs.Simulation.{always_follows}
 use Rattle.zcld.specs.Straight.{is_li, piece, place_at, places_from, short_of, text_of, words_from, words_in}

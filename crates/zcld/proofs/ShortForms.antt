@@ -1,9 +1,9 @@
 -- The halfword that is written for a word spells the word's instruction.
-use Rattle.std.proofs.Common.{◌≡◌, ◌≢◌, ℕ, ◌+◌, ◌-◌, ◌*◌, ◌%◌, ◌^◌, ◌<◌, ◌≤◌, Some, Bool, true, false, not, cond, refl, sym, ap, ◌∙◌, arith, ℤ, pos, negsuc, eqb, ltb, ⊎_elim}
+use Rattle.std.proofs.Common.{◌≡◌, ℕ, ◌+◌, ◌-◌, ◌*◌, ◌%◌, ◌^◌, ◌<◌, ◌≤◌, Some, Bool, true, false, not, cond, refl, sym, ap, ◌∙◌, arith, ℤ, pos, negsuc, eqb, ltb, ⊎_elim}
 use Rattle.std.specs.Prelude.{◌&&◌}
 use Rattle.std.proofs.lemmas.Bool.{eqb-true, and_parts, eq-eqb, ltb-true, lt-ltb, le-ltb, cond-true}
 use Rattle.rv_decode.specs.declared.instr.Instr.{Instr}
-use Rattle.rv_decode.specs.declared.instr.Instr.TheVariants.{WithImm, Ecall}
+use Rattle.rv_decode.specs.declared.instr.Instr.TheVariants.{WithImm}
 use Rattle.rv_decode.specs.declared.instr.ImmOp.TheVariants.{Addi}
 use Rattle.rv_decode.specs.Bits.{field, signed}
 use Rattle.rv_decode.specs.Decode.{decoded, imm_i_of, rd_of, rs1_of}

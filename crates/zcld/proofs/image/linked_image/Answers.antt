@@ -1,8 +1,7 @@
-use Rattle.std.proofs.Common.{◌≡◌, IfOk, List, ℕ, sym, subst}
+use Rattle.std.proofs.Common.{IfOk, sym, subst}
 use Rattle.elf32_write.specs.Loadable.{IsLoadable, ReadsBack}
 use Rattle.elf32_write.specs.Parts.{Parts}
 use Rattle.zcld.specs.Program.{standard_map}
-use Rattle.zcld.specs.Written.{straight_parts}
 use Rattle.zcld.proofs.Loading.{loadable, parts_are}
 use Rattle.zcld.proofs.image.linked_image.Goals as goal
 
