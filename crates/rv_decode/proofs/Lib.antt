@@ -1,3 +1,4 @@
 pub mod Examples
 pub mod MemoryLaws
 pub mod RunLaws
+pub mod DecodeLaws

@@ -20,6 +20,14 @@ spans_inside e a n x m h low high =
     let r = leb-true (a + n) (e.at + e.size) q.1 in
     and_from (leb e.at x) (leb (x + m) (e.at + e.size)) (le-leb e.at x (omega arith)) (le-leb (x + m) (e.at + e.size) (omega arith))
 
+-- nothing below a region's first address lies in it
+pub spans_before : (e : Extent) (a n : ℕ) → a < e.at → spans e a n ≡ false
+spans_before e a n lt = either (spans e a n) refl
+  where
+    either : (b : Bool) → spans e a n ≡ b → b ≡ false
+    either true h = let low = leb-true e.at a (and_parts (leb e.at a) (leb (a + n) (e.at + e.size)) h).0 in absurd (omega arith)
+    either false h = refl
+
 -- a part of what lies in a region lies there too
 pub lies_inside : (fits : Kind → Bool) (es : List Extent) (a n x m : ℕ) → lies_in fits es a n ≡ true → a ≤ x → x + m ≤ a + n → lies_in fits es x m ≡ true
 lies_inside fits [] a n x m h low high = h

@@ -20,7 +20,7 @@ use Rattle.zc_machine.specs.Run.{zc_after, zc_turn}
 use Rattle.zc_machine.proofs.FetchLaws.{SameText-refl}
 use Rattle.zc_link.specs.Image.{Image, place_address}
 use Rattle.zc_link.specs.Laid.{Laid, first_of}
-use Rattle.zc_link.specs.Preserves.{Preserves, PreservesQuietly}
+use Rattle.zc_link.specs.Preserves.{AlwaysFollows, Preserves, PreservesQuietly}
 use Rattle.zc_link.specs.Stands.{Stands, WordStands}
 use Rattle.zc_link.specs.Values.{value_in}
 use Rattle.zc_link.proofs.WordLaws.{number_stands, undef_stands}
@@ -138,9 +138,9 @@ module _ (p : Program) (e : Image) (laid : Laid p e) where
   together_stands s z (inl so) = so.both.stands
   together_stands s z (inr over) = over.stands
 
-  pub preserves : Preserves p e
+  pub always_follows : AlwaysFollows IsPlan p e
   unfolding plain zc_after
-  preserves input n s bytes h =
+  always_follows input n s bytes h =
       let all = all_steps n (record { core = first_plain p input; events = [] }) s h in (
         all.0,
         omega (arith, all.1),
@@ -149,7 +149,11 @@ module _ (p : Program) (e : Image) (laid : Laid p e) where
             (run.after, run.runs, record { events = run.same; stands = λ _. together_stands s.core run.after run.together }),
       )
 
-  pub preserves_quietly : PreservesQuietly p e
-  preserves_quietly input n s bytes h =
-      let all = preserves input n s bytes h in
-      (all.0, all.1, λ plan none. all.2 plan (subst IsPlan (sym none) (All-nil _)))
+-- what follows under every plan follows without interrupts
+pub preserves_quietly : (p : Program) (elf : List ℕ) → Preserves p elf → PreservesQuietly p elf
+preserves_quietly p elf h = record {
+  faultless = h.faultless;
+  follows = λ input n s bytes ran.
+      let all = h.follows input n s bytes ran in
+      (all.0, all.1, λ plan none. all.2 plan (subst IsPlan (sym none) (All-nil _)));
+}

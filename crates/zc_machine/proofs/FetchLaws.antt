@@ -1,14 +1,18 @@
 -- What is fetched depends on the bytes of the text alone.
-use Rattle.std.proofs.Common.{◌≡◌, ℕ, ◌+◌, ◌*◌, ◌≤◌, Bool, true, false, cond, refl, ap, ap₂, ◌∙◌, arith, eqb}
+use Rattle.std.proofs.Common.{◌≡◌, ◌≢◌, ℕ, Some, sym, ◌+◌, ◌*◌, ◌≤◌, Bool, true, false, cond, refl, ap, ap₂, ◌∙◌, arith, eqb}
+use Rattle.std.proofs.lemmas.Bool.{cond-true, cond-false, eq-eqb, ne_eqb}
 use Rattle.std.specs.Option.{option_map}
 use Rattle.rv_decode.specs.Bits.{field}
 use Rattle.rv_decode.specs.Decode.{decoded}
 use Rattle.rv_decode.specs.Memory.{is_text, extents_of, lies_in}
 use Rattle.rv_decode.specs.State.{ZcCore, byte_in}
 use Rattle.rv_decode.proofs.MemoryLaws.{lies_inside}
+use Rattle.rv_decode.specs.declared.instr.Instr.{Instr}
+use Rattle.zc_decode.specs.declared.short.Short.{Short}
 use Rattle.zc_decode.specs.declared.short.Short.TheVariants.{Base}
+use Rattle.zc_decode.specs.Halfwords.{decoded16}
 use Rattle.zc_machine.specs.declared.reason.Reason.TheVariants.{BadAccess}
-use Rattle.zc_machine.specs.Fetch.{Missing, found, half_at, word_at, fetched_half, fetched_word, fetched_at}
+use Rattle.zc_machine.specs.Fetch.{Found, Missing, found, half_at, word_at, fetched_half, fetched_word, fetched_at}
 
 -- two machines with one text: their regions lie alike, and their bytes of code are the same
 pub record SameText (y z : ZcCore) : Type 0 where
@@ -49,3 +53,23 @@ module _ (y z : ZcCore) (same : SameText y z) where
       either : (b : Bool) → lies_in is_text (extents_of y.memory) a 2 ≡ b → cond b (cond (eqb (field (half_at z a) 0 2) 3) (fetched_word z a) (fetched_half z a)) (Missing BadAccess) ≡ cond b (cond (eqb (field (half_at y a) 0 2) 3) (fetched_word y a) (fetched_half y a)) (Missing BadAccess)
       either true h = half (half_same a h)
       either false h = refl
+
+-- ---- what is fetched from given bytes
+
+-- a halfword of the tables
+pub fetched_short : (z : ZcCore) (a half : ℕ) (s : Short) → lies_in is_text (extents_of z.memory) a 2 ≡ true → half_at z a ≡ half → field half 0 2 ≢ 3 → decoded16 half ≡ Some s → fetched_at z a ≡ Found s 2
+fetched_short z a half s here is low d =
+    let other : eqb (field (half_at z a) 0 2) 3 ≡ false = ne_eqb (field (half_at z a) 0 2) 3 (λ e. low (sym (ap (λ h. field h 0 2) is) ∙ e)) in
+    cond-true (lies_in is_text (extents_of z.memory) a 2) _ _ here
+    ∙ cond-false (eqb (field (half_at z a) 0 2) 3) _ _ other
+    ∙ ap (λ h. found (decoded16 h) 2) is
+    ∙ ap (λ o. found o 2) d
+
+-- a word of the table
+pub fetched_long : (z : ZcCore) (a word : ℕ) (i : Instr) → lies_in is_text (extents_of z.memory) a 4 ≡ true → word_at z a ≡ word → field (half_at z a) 0 2 ≡ 3 → decoded word ≡ Some i → fetched_at z a ≡ Found (Base i) 4
+fetched_long z a word i here is low d =
+    cond-true (lies_in is_text (extents_of z.memory) a 2) _ _ (lies_inside is_text (extents_of z.memory) a 4 a 2 here (omega arith) (omega arith))
+    ∙ cond-true (eqb (field (half_at z a) 0 2) 3) _ _ (eq-eqb (field (half_at z a) 0 2) 3 low)
+    ∙ cond-true (lies_in is_text (extents_of z.memory) a 4) _ _ here
+    ∙ ap (λ w. found (option_map Base (decoded w)) 4) is
+    ∙ ap (λ o. found (option_map Base o) 4) d

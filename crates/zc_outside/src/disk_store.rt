@@ -57,8 +57,8 @@ impl<R: Files + AllocGlobal> Store for DiskStore<R> {
 
     ghost sure = { λ _. ⊥ };
 
-    /// Reads in small pieces, holds at most `limit + 1` bytes at any time, and asks for no length,
-    /// so that a pipe or a device is read as a file is.
+    /// Takes at most `limit + 1` bytes of the file, in small pieces, and asks for no length, so that
+    /// a pipe or a device is read as a file is.
     fn get(&mut self, alloc: Global, name: &str, limit: u32) -> Result<Vec<u8>, StoreFault> {
         match read_file(&self.rt, alloc, name, limit as usize + 1) {
             Ok(Some(bytes)) => Ok(bytes),

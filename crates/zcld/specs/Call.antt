@@ -6,6 +6,7 @@ use Rattle.zc_outside.specs.Files.{Files, HasFile, Holds, IsLong, KeepsFiles, Pu
 use Rattle.zcld.specs.declared.outcome.Outcome.{Outcome}
 use Rattle.zcld.specs.declared.outcome.Outcome.TheVariants.{Done, Usage, Refused, ReadFault, WriteFault, OutOfMemory}
 use Rattle.zcld.specs.Command.{Command, Zc}
+use Rattle.zcld.specs.Program.{IsImageOf}
 use Rattle.zcld.specs.Refusal.{first_fault}
 use Rattle.zcld.specs.Written.{zc_image, empty_certificate}
 
@@ -36,11 +37,13 @@ PutsInTurn ReadFault before after out image cert certificate = ⊥
 PutsInTurn WriteFault before after out image cert certificate = KeepsFiles before after ⊎ PutsFile before after out image
 PutsInTurn OutOfMemory before after out image cert certificate = KeepsFiles before after ⊎ PutsFile before after out image
 
--- the object was linked whole: the image stands under one name and the certificate under another
+-- the object was linked whole: the image, which does what the object's program does, stands under one name and the
+-- certificate under another
 pub record IsLinked (before after : Option Files) (out cert name : List ℕ) : Type 0 where
   pub object : List ℕ
   pub read : IsRead before name object
   pub faultless : first_fault object ≡ None
+  pub promise : IsImageOf object (zc_image object)
   pub written : PutsBoth before after out (zc_image object) cert empty_certificate
 
 -- the object was linked, and its image alone was written
@@ -48,6 +51,7 @@ pub record IsHalfWritten (before after : Option Files) (out name : List ℕ) : T
   pub object : List ℕ
   pub read : IsRead before name object
   pub faultless : first_fault object ≡ None
+  pub promise : IsImageOf object (zc_image object)
   pub written : PutsFile before after out (zc_image object)
 
 -- the files after `zc` with these files, by its outcome

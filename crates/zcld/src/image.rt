@@ -2,7 +2,9 @@
 
 ghost use Rattle.std.specs.Prelude.{◌≡◌, ◌≤◌, None, IfOk, IfErr, length};
 ghost use Rattle.elf32_write.specs.Image.{image_bytes};
+ghost use Rattle.elf32_write.specs.Loadable.{ReadsBack};
 ghost use Rattle.zcld.specs.Call.{IsRefusal};
+ghost use Rattle.zcld.specs.Program.{IsImageOf, standard_map};
 ghost use Rattle.zcld.specs.Refusal.{first_fault};
 ghost use Rattle.zcld.specs.Written.{straight_parts, zc_image};
 
@@ -20,7 +22,7 @@ const COMPRESSED: u32 = 1;
 /// The image of an object, or how the call ends without one.
 #[tactic(auto, unfolding(crate::specs::Written::zc_image))]
 pub fn image_of(alloc: Global, object: &[u8]) -> Result<Vec<u8>, Outcome>
-    ensures ok { IfOk result (λ image. (first_fault object.now ≡ None) × (image.items ≡ zc_image object.now)) }
+    ensures ok { IfOk result (λ image. (first_fault object.now ≡ None) × (image.items ≡ zc_image object.now) × IsImageOf object.now image.items) }
     ensures err { IfErr result (λ outcome. IsRefusal object.now outcome) }
 {
     match straight_code(object) {
@@ -35,7 +37,8 @@ pub fn image_of(alloc: Global, object: &[u8]) -> Result<Vec<u8>, Outcome>
 // The image of straight code.
 fn linked_image(alloc: Global, code: &[u8]) -> Result<Vec<u8>, AllocError>
     requires { length code.now ≤ 65536 }
-    ensures { IfOk result (λ image. image.items ≡ image_bytes (straight_parts code.now)) }
+    ensures bytes { IfOk result (λ image. image.items ≡ image_bytes (straight_parts code.now)) }
+    ensures reads_back { IfOk result (λ image. ReadsBack (straight_parts code.now) standard_map image.items) }
 {
     let map = MemMap::standard();
     let linked = link(alloc, code, map.text)?;
