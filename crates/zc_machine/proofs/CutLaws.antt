@@ -1,7 +1,7 @@
 -- The interrupts before a commit, by how far a run has come in its plan.
-use Rattle.std.proofs.Common.{◌≡◌, ℕ, zero, suc, ◌+◌, ◌<◌, ◌≤◌, List, [], ◌∷◌, length, get_or, drop, Bool, true, false, cond, eqb, refl, sym, ap, ◌∙◌, arith}
+use Rattle.std.proofs.Common.{◌≡◌, ℕ, zero, suc, ◌+◌, ◌<◌, ◌≤◌, List, [], ◌∷◌, length, get_or, drop, Bool, true, false, cond, eqb, refl, ap, ◌∙◌, arith}
 use Rattle.std.proofs.lemmas.Bool.{cond-true, cond-false, eq-eqb, ne_eqb}
-use Rattle.std.proofs.lemmas.List.{at_drop_more, drop_all, get_or-drop, length-drop}
+use Rattle.std.proofs.lemmas.List.{at_drop_more, get_or-drop, length-drop}
 use Rattle.interrupt_plan.specs.Plan.{Cut}
 use Rattle.rv_decode.specs.Memory.{changed, written}
 use Rattle.rv_decode.specs.State.{ZcCore}

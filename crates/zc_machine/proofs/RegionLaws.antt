@@ -1,5 +1,5 @@
 -- A byte that is written to a region and to a list of them.
-use Rattle.std.proofs.Common.{◌≡◌, ◌≢◌, ℕ, suc, ◌+◌, ◌-◌, ◌<◌, ◌≤◌, List, [], ◌∷◌, ◌++◌, true, false, length, get_or, set, take, drop, refl, sym, ap, ap₂, ◌∙◌, ⊎_elim, arith, leb, ltb}
+use Rattle.std.proofs.Common.{◌≡◌, ℕ, suc, ◌+◌, ◌-◌, ◌<◌, ◌≤◌, List, [], ◌∷◌, ◌++◌, true, false, length, get_or, set, take, drop, refl, sym, ap, ap₂, ◌∙◌, ⊎_elim, arith, leb, ltb}
 use Rattle.std.specs.Prelude.{◌&&◌}
 use Rattle.std.proofs.lemmas.Bool.{and_from, le-leb, lt-ltb, leb-true, cond-true, and_parts, cases_eq, false≢true}
 use Rattle.std.proofs.lemmas.List.{append_assoc, drop_more, get_or-set_other, get_or-set_same, get_or_at, length-set, length-take-le, same_lists, set_at, take_more}

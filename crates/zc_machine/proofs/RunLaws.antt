@@ -1,5 +1,5 @@
 -- A run by its turns, while the program calls nothing but its exit.
-use Rattle.std.proofs.Common.{◌≡◌, ℕ, ◌+◌, ◌<◌, ◌≤◌, List, [], ◌∷◌, Option, Some, None, Ok, Err, refl, sym, ap, ◌∙◌, arith}
+use Rattle.std.proofs.Common.{◌≡◌, ℕ, ◌+◌, ◌<◌, List, [], ◌∷◌, Option, Some, None, Ok, Err, refl, sym, ap, ◌∙◌, arith}
 use Rattle.std.proofs.lemmas.List.{append-nil}
 use Rattle.interrupt_plan.specs.Plan.{Cut}
 use Rattle.rv_decode.specs.Run.{◌>>=◌, iterate}
@@ -14,7 +14,7 @@ use Rattle.zc_machine.specs.declared.step.EnvCall.TheVariants.{Exit}
 use Rattle.zc_machine.specs.declared.step.Step.TheVariants as answer
 use Rattle.zc_machine.specs.Answer.{answer_of, core_after, exited}
 use Rattle.zc_machine.specs.Interrupt.{cut_by}
-use Rattle.zc_machine.specs.Run.{answered, committed, turn_from, zc_turn, zc_after}
+use Rattle.zc_machine.specs.Run.{committed, turn_from, zc_turn, zc_after}
 use Rattle.zc_machine.specs.RunEnd.{Course, Ran}
 use Rattle.zc_machine.specs.Step.{ZcStep, Committed, Wants, Ended, Stopped, zc_step}
 use Rattle.zc_machine.proofs.CutLaws.{cut_by_keeps}

@@ -1,20 +1,15 @@
 -- What each kind of step shows of the state that it is made in.
-use Rattle.std.proofs.Common.{◌≡◌, ℕ, ◌+◌, ◌%◌, Bool, true, false, cond, eqb, Option, Some, None, refl, sym, subst}
-use Rattle.rv_decode.specs.State.{ZcCore, reg_in, set_reg}
-use Rattle.rv_decode.specs.Effect as act
-use Rattle.rv_decode.specs.Effect.{Effect, effect, gives, imm_result}
+use Rattle.std.proofs.Common.{◌≡◌, ℕ, ◌+◌, ◌%◌, Bool, true, false, cond, eqb, Option, Some, None, refl, subst}
+use Rattle.rv_decode.specs.State.{ZcCore, reg_in}
+use Rattle.rv_decode.specs.Effect.{effect, gives, imm_result}
 use Rattle.rv_decode.specs.declared.instr.Instr.{Instr}
 use Rattle.rv_decode.specs.declared.instr.Instr.TheVariants.{WithImm, Ecall}
 use Rattle.zc_decode.specs.declared.short.Short.{Short}
 use Rattle.zc_decode.specs.declared.short.Short.TheVariants.{Base}
 use Rattle.zc_machine.specs.declared.reason.Reason.TheVariants.{UnknownCall}
-use Rattle.zc_machine.specs.declared.step.EnvCall.{EnvCall}
 use Rattle.zc_machine.specs.declared.step.EnvCall.TheVariants.{Exit}
-use Rattle.zc_machine.specs.declared.step.Step.{Step}
-use Rattle.zc_machine.specs.declared.step.Step.TheVariants as answer
-use Rattle.zc_machine.specs.Answer.{answer_of, core_after}
 use Rattle.zc_machine.specs.Fetch.{Fetched, Found, Missing, fetched_at}
-use Rattle.zc_machine.specs.Step.{ZcStep, Committed, Wants, Ended, Stopped, called, effect_step, short_step, made, step_from, zc_step}
+use Rattle.zc_machine.specs.Step.{ZcStep, Committed, Wants, Ended, Stopped, effect_step, short_step, made, step_from, zc_step}
 
 -- a commit counts and doesn't exit, the status of an exit is the low byte of a0, and only an exit ends
 abbrev pub Shows : ZcCore → ZcStep → Type 0

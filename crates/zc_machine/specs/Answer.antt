@@ -1,9 +1,8 @@
 -- What a step answers and leaves, and what the answer to an exit leaves.
-use Rattle.std.specs.Prelude.{ℕ, ◌≡◌, ◌+◌, Option, Some, Result, Ok, Err}
+use Rattle.std.specs.Prelude.{ℕ, ◌≡◌, ◌+◌, Some, Result, Ok, Err}
 use Rattle.rv_decode.specs.State.{ZcCore}
 use Rattle.zc_decode.specs.declared.short.Short.{Short}
 use Rattle.zc_machine.specs.declared.reason.Reason.{Reason}
-use Rattle.zc_machine.specs.declared.step.EnvCall.{EnvCall}
 use Rattle.zc_machine.specs.declared.step.EnvCall.TheVariants.{Exit}
 use Rattle.zc_machine.specs.declared.step.Step.{Step}
 use Rattle.zc_machine.specs.declared.step.Step.TheVariants as answer

@@ -1,18 +1,24 @@
 // The machine.
 
-ghost use Rattle.std.specs.Prelude.{◌≡◌, ℕ, ◌<◌, ◌-◌, ◌^◌};
+ghost use Rattle.std.specs.Prelude.{◌≡◌, ℕ, ◌<◌, ◌-◌, ◌^◌, IfOk};
+ghost use Rattle.elf32_read.specs.Header.{entry_of};
+ghost use Rattle.elf32_read.specs.Segments.{segments_of};
 ghost use Rattle.rv_decode.specs.Effect.{effect, imm_result, onward};
 ghost use Rattle.rv_decode.specs.State.{byte_in, reg_in, set_reg};
 ghost use Rattle.zc_machine.specs.Answer.{WantsExit, answer_of, core_after, exited, fetched_as};
 ghost use Rattle.zc_machine.specs.Fetch.{fetched_at, fetched_half, fetched_word, half_at, word_at};
 ghost use Rattle.zc_machine.specs.Interrupt.{cut, dirtied};
+ghost use Rattle.zc_machine.specs.Load.{first_core};
 ghost use Rattle.zc_machine.specs.Step.{Wants, called, effect_step, short_step, zc_step};
 
+use crate::load::first_regions;
 use crate::reason::Reason;
 use crate::region::{Access, Region, byte_at, reaches, write_byte};
 use crate::step::{EnvCall, Step};
+use elf32_read::image::Image;
 use rv_decode::decode::decode;
 use rv_decode::instr::{ImmOp, Instr};
+use std::alloc::{AllocError, Global};
 use std::marker::Model;
 use zc_base::reg::Reg;
 use zc_decode::decode16::decode16;
@@ -45,6 +51,24 @@ impl Model for Machine {
 }
 
 impl Machine {
+    /// The machine at the start of an image. It takes the memory of all its data and stack.
+    #[tactic(auto, unfolding(crate::specs::Load::first_core))]
+    pub fn load(alloc: Global, image: &Image) -> Result<Machine, AllocError>
+        ensures { IfOk result (λ machine. machine ≡ first_core (entry_of image.now.0) (segments_of image.now.0) image.now.1) }
+    {
+        let regions = first_regions(alloc, image)?;
+        let mut regs = [0; 32];
+        regs[2] = image.map().stack_high;
+        Ok(Machine {
+            pc: image.entry(),
+            regs,
+            jvt: 0,
+            regions,
+            commits: 0,
+            exit: None,
+        })
+    }
+
     /// The program counter.
     pub fn pc(&self) -> u32
         ensures { result ≡ self.now.pc }

@@ -1,16 +1,14 @@
-use Rattle.std.proofs.Common.{◌≡◌, ℕ, ◌+◌, ◌<◌, ◌≤◌, List, [], Ok, None, refl, sym, ap, subst, ◌∙◌, arith}
+use Rattle.std.proofs.Common.{◌≡◌, ℕ, List, Ok, None, sym, ap, subst, ◌∙◌, arith}
 use Rattle.interrupt_plan.specs.Plan.{Cut}
 use Rattle.rv_decode.specs.State.{ZcCore}
 use Rattle.zc_machine.specs.declared.reason.Reason.TheVariants.{UnknownCall}
-use Rattle.zc_machine.specs.declared.step.EnvCall.{EnvCall}
 use Rattle.zc_machine.specs.declared.step.EnvCall.TheVariants.{Exit, Read, Write}
-use Rattle.zc_machine.specs.declared.step.Step.TheVariants as answer
-use Rattle.zc_machine.specs.Answer.{answer_of, core_after, exited}
+use Rattle.zc_machine.specs.Answer.{core_after, exited}
 use Rattle.zc_machine.specs.Cursor.{IsAt}
 use Rattle.zc_machine.specs.Interrupt.{cut_by}
 use Rattle.zc_machine.specs.Run.{committed, zc_after}
 use Rattle.zc_machine.specs.Step.{Wants, Stopped, zc_step}
-use Rattle.zc_machine.proofs.RunLaws.{Came, Turning, commits_kept, committed_came, exit_ran, none_ended, quiet, spent_ran, stop_ran, stopped_step, wants_step, zc_after-none}
+use Rattle.zc_machine.proofs.RunLaws.{Turning, commits_kept, committed_came, exit_ran, none_ended, quiet, spent_ran, stop_ran, stopped_step, wants_step, zc_after-none}
 use Rattle.zc_machine.proofs.run.run.Goals as goal
 
 turning : (first : ZcCore) (input : List ℕ) (plan : List Cut) (steps : ℕ) (z z' : ZcCore) → zc_after first input plan z.commits ≡ Ok (quiet input z) → z.exit ≡ None → z' ≡ cut_by plan z → Turning (record { first = first; input = input; plan = plan; steps = steps }) z z'

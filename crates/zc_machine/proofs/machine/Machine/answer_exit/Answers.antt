@@ -1,4 +1,4 @@
-use Rattle.std.proofs.Common.{ℕ, ◌%◌, sym, ap, ◌∙◌}
+use Rattle.std.proofs.Common.{◌%◌, sym, ap, ◌∙◌}
 use Rattle.rv_decode.specs.State.{ZcCore, reg_in}
 use Rattle.zc_machine.specs.Answer.{exited}
 use Rattle.zc_machine.proofs.StepLaws.{exit_status}
