@@ -7,3 +7,5 @@ pub mod reason;
 pub mod region;
 pub mod run;
 pub mod step;
+#[cfg(test)]
+mod tests;
