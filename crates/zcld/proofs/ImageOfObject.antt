@@ -1,11 +1,11 @@
 -- The image of an object without a fault: its bytes read back as the image of the object's words, which does what the
 -- object's program does.
-use Rattle.std.proofs.Common.{◌≡◌, ℕ, zero, suc, ◌+◌, ◌*◌, ◌/◌, ◌%◌, ◌^◌, ◌<◌, ◌≤◌, List, [], ◌∷◌, length, Option, Some, None, Bool, true, false, cond, refl, sym, ap, ◌∙◌, ⊎_elim, arith, eqb, leb, ltb, get_or, take, drop}
+use Rattle.std.proofs.Common.{◌≡◌, ◌≢◌, ℕ, zero, suc, ◌+◌, ◌*◌, ◌/◌, ◌%◌, ◌^◌, ◌<◌, ◌≤◌, List, [], ◌∷◌, length, Option, Some, None, Bool, true, false, cond, refl, sym, ap, ◌∙◌, ⊎_elim, arith, eqb, leb, ltb, get_or, take, drop}
 use Rattle.std.specs.Prelude.{◌&&◌, ◌||◌, ◌==◌, All, bit_and, filter}
 use Rattle.std.specs.List.{flat_map, list_any}
 use Rattle.std.specs.Option.{option_and_then, option_map}
 use Rattle.std.proofs.lemmas.Bool.{and_parts, and_from, cases_lt, cond_both, cond-true, eqb-true, leb-true, le-leb, le-ltb, lt-ltb}
-use Rattle.std.proofs.lemmas.List.{get_or-drop, get_or-take, get_or_past, length-take}
+use Rattle.std.proofs.lemmas.List.{get_or-drop, get_or-take, get_or_past, length-drop, length-take}
 use Rattle.std.proofs.lemmas.List.Elements.{All-cons, All-nil}
 use Rattle.zc_base.specs.declared.place.Place.{Place}
 use Rattle.zc_base.specs.Fields.{word_in}
@@ -13,6 +13,7 @@ use Rattle.zc_base.specs.MemMap.{standard_map}
 use Rattle.elf32_read.specs.declared.fault.Fault.{Fault}
 use Rattle.elf32_read.specs.Header.{header_of, is_empty_kind, section_count}
 use Rattle.elf32_read.specs.Object.{object_fault}
+use Rattle.elf32_read.proofs.Faultless.{content_within, faultless_whole}
 use Rattle.elf32_read.specs.Segments.{SegmentData}
 use Rattle.elf32_read.specs.Places.{is_ascending, is_before, is_outside, places_of}
 use Rattle.elf32_write.specs.Image.{Fits}
@@ -205,20 +206,39 @@ module _ (object : List ℕ) (straight : IsStraight object) where
 
 -- ---- an object without a fault
 
-no_fault_built : (f : Option Fault) (unbuilt : Bool) → fault_or f unbuilt ≡ None → unbuilt ≡ false
-no_fault_built (Some fault) unbuilt h = cc
-no_fault_built None true h = cc
-no_fault_built None false h = refl
+-- there is neither a fault of its bytes nor a part that this link has no place for
+record IsFaultless (object : List ℕ) : Type 0 where
+  bytes : object_fault object ≡ None
+  straight : IsStraight object
 
-faultless_straight : (object : List ℕ) → first_fault object ≡ None → IsStraight object
+no_fault : (f : Option Fault) (unbuilt : Bool) → fault_or f unbuilt ≡ None → (f ≡ None) × (unbuilt ≡ false)
+no_fault (Some fault) unbuilt h = absurd cc
+no_fault None true h = absurd cc
+no_fault None false h = (refl, refl)
+
+faultless : (object : List ℕ) → first_fault object ≡ None → IsFaultless object
 unfolding first_fault
-faultless_straight object none = built_straight object (no_fault_built (object_fault object) (is_unbuilt object) none)
+faultless object none =
+    let both = no_fault (object_fault object) (is_unbuilt object) none in
+    record { bytes = both.0; straight = built_straight object both.1 }
+
+-- the content of its code has the section's size
+whole_code : (object : List ℕ) → IsFaultless object → 4 * length (words_in (code_of object)) ≡ (header_of object 1).size
+whole_code object are =
+    let header = header_of object 1 in
+    let straight = are.straight in
+    let not_null : header.kind ≢ 0 = λ e. omega (arith, e, straight.kind) in
+    let not_nobits : header.kind ≢ 8 = λ e. omega (arith, e, straight.kind) in
+    let fits = content_within object header ((faultless_whole object are.bytes).contents 1 straight.counted) not_null not_nobits in
+    let filled : code_of object ≡ take header.size (drop header.offset object) = ap (λ kind. cond (is_empty_kind kind) [] (take header.size (drop header.offset object))) straight.kind in
+    let size : length (code_of object) ≡ header.size = ap length filled ∙ omega (arith, length-take header.size (drop header.offset object), length-drop header.offset object, fits) in
+    omega (arith, size, straight.words, length-words_from (code_of object) 0 (length (code_of object) / 4))
 
 -- its image does what it does, under every plan of interrupts
 pub zc_preserves : (object : List ℕ) → first_fault object ≡ None → ((k : ℕ) → get_or object k 0 < 256) → Preserves (object ∷ []) (zc_image object)
 zc_preserves object none are =
     let code = code_of object in
-    let straight = faultless_straight object none in
+    let straight = (faultless object none).straight in
     record {
       image = image_with (straight_parts code);
       read = read object straight;
@@ -229,7 +249,7 @@ zc_preserves object none are =
 pub zc_quietly : (object : List ℕ) → first_fault object ≡ None → ((k : ℕ) → get_or object k 0 < 256) → PreservesQuietly (object ∷ []) (zc_image object)
 zc_quietly object none are =
     let code = code_of object in
-    let straight = faultless_straight object none in
+    let straight = (faultless object none).straight in
     record {
       image = image_with (straight_parts code);
       read = read object straight;
@@ -238,19 +258,20 @@ zc_quietly object none are =
 
 -- it lists the place of each word and the section's end
 pub zc_places : (object : List ℕ) → first_fault object ≡ None → places_of (zc_image object) ≡ places_from 0 0x0001_0000 (words_in (code_of object))
-zc_places object none = (back object (faultless_straight object none)).places
+zc_places object none = (back object (faultless object none).straight).places
 
 -- its text ends at the address of the section's end
-pub zc_text_end : (object : List ℕ) → first_fault object ≡ None → TextEnds (zc_image object) (place_at (4 * length (words_in (code_of object))))
+pub zc_text_end : (object : List ℕ) → first_fault object ≡ None → TextEnds (zc_image object) (place_at (header_of object 1).size)
 zc_text_end object none =
+    let are = faultless object none in
     let words = words_in (code_of object) in
-    let is_back = back object (faultless_straight object none) in
+    let is_back = back object are.straight in
     let text : SegmentData = record { at = 0x0001_0000; size = length (text_of words); code = true; bytes = text_of words } in
     record {
       text = text;
       alone = ap (filter (λ s. s.code)) is_back.segments_back;
       start = refl;
-      end = ap (λ l. address_in l (place_at (4 * length words))) is_back.places
-          ∙ address_found words 0 0x0001_0000 (length words) (4 * length words) (omega arith) (omega arith)
+      end = ap (λ l. address_in l (place_at (header_of object 1).size)) is_back.places
+          ∙ address_found words 0 0x0001_0000 (length words) (header_of object 1).size (omega arith) (omega (arith, whole_code object are))
           ∙ ap (λ n. Some (0x0001_0000 + n)) (offset_whole words);
     }

@@ -14,6 +14,7 @@ pub record IsStraight (object : List ℕ) : Type 0 where
   pub counted : 1 < section_count object
   pub kind : (header_of object 1).kind ≡ 1
   pub flags : (header_of object 1).flags ≡ 6
+  pub words : (header_of object 1).size % 4 ≡ 0
   pub short : (header_of object 1).size ≤ 65536
   pub known : list_any is_unknown (words_in (code_of object)) ≡ false
 
@@ -44,6 +45,7 @@ built_straight object h =
       counted = omega arith;
       kind = eqb-true code.kind 1 kinds.0;
       flags = eqb-true code.flags 6 kinds.1;
+      words = eqb-true (code.size % 4) 0 whole.1;
       short = leb-true code.size 65536 most.1;
       known = all.1;
     }
