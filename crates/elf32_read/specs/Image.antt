@@ -20,17 +20,17 @@ too_large bytes = nat_lt 0x80_0000 (length bytes)
 abbrev pub are_known_flags : ℕ → Bool
 are_known_flags flags = flags == 0 || flags == 0x1 || flags == 0x10 || flags == 0x11
 
--- there are headers, but of another size than this
-abbrev pub are_missized : ℕ → ℕ → ℕ → Bool
-are_missized size count header_size = not (count == 0) && not (header_size == size)
+-- there are headers, but of another size
+abbrev pub have_other_size : ℕ → ℕ → ℕ → Bool
+have_other_size size count header_size = not (count == 0) && not (header_size == size)
 
 -- shorter than its header, not an executable RISC-V file (type 2) with known flags, or with headers
 -- of an unknown size
 abbrev pub not_image : List ℕ → Bool
 not_image bytes =
     nat_lt (length bytes) 52 || not (begins_as 2 bytes) || not (are_known_flags (file_flags bytes))
-    || are_missized 32 (program_count bytes) (program_header_size bytes)
-    || are_missized 40 (section_count bytes) (section_header_size bytes)
+    || have_other_size 32 (program_count bytes) (program_header_size bytes)
+    || have_other_size 40 (section_count bytes) (section_header_size bytes)
 
 -- the program headers pass the end of the file
 abbrev pub lacks_program_headers : List ℕ → Bool
