@@ -71,6 +71,10 @@ lacks_names bytes = nat_le (section_count bytes) (name_section bytes) || not ((h
 abbrev pub is_unnamed : List ℕ → Header → Bool
 is_unnamed names header = not (list_any (λ byte. byte == 0) (drop header.name names))
 
+-- there is no table of names, or a name in it has no end
+abbrev pub bad_names : List ℕ → Bool
+bad_names bytes = lacks_names bytes || list_any (is_unnamed (names_of bytes)) (headers_of bytes)
+
 -- a section of places without content in the file, or with a part of an entry at its end
 abbrev pub is_bad_list : Header → Bool
 is_bad_list header = is_empty_kind header.kind || not (header.size % 12 == 0)
@@ -80,12 +84,11 @@ abbrev pub is_bad_section : List ℕ → MemMap → Header → Bool
 is_bad_section bytes memory header =
     is_bad_list header || not (is_ascending (entries_of (content_of bytes header))) || list_any (is_outside memory) (entries_of (content_of bytes header))
 
--- there are sections, and these lack names, or more than one lists places, or one badly
+-- there are sections, and their names are bad, or more than one lists places, or one badly
 abbrev pub bad_places : List ℕ → MemMap → Bool
 bad_places bytes memory =
     not (section_count bytes == 0)
-    && (lacks_names bytes || list_any (is_unnamed (names_of bytes)) (headers_of bytes)
-    || nat_lt 1 (length (places_sections bytes)) || list_any (is_bad_section bytes memory) (places_sections bytes))
+    && (bad_names bytes || nat_lt 1 (length (places_sections bytes)) || list_any (is_bad_section bytes memory) (places_sections bytes))
 
 -- the first fault of an image's bytes under a memory map, or none
 unfoldable pub image_fault : List ℕ → MemMap → Option ImageFault

@@ -4,7 +4,7 @@ ghost use Rattle.std.specs.Prelude.{◌≡◌, ℕ, ◌≤◌, ◌<◌, ◌+◌,
 ghost use Rattle.std.specs.List.{list_any};
 ghost use Rattle.std.specs.Option.{option_to_list};
 ghost use Rattle.elf32_read.specs.Header.{content_of, headers_of, section_count, section_table};
-ghost use Rattle.elf32_read.specs.Image.{bad_places, is_bad_list, is_bad_section, is_unnamed, lacks_names};
+ghost use Rattle.elf32_read.specs.Image.{bad_names, bad_places, is_bad_list, is_bad_section, is_unnamed, lacks_names};
 ghost use Rattle.elf32_read.specs.Object.{passes_end};
 ghost use Rattle.elf32_read.specs.Places.{entries_of, entry_at, holds_places, is_ascending, is_before, is_outside, names_of, places_of, places_sections};
 ghost use Rattle.elf32_read.specs.declared.image_fault.ImageFault.TheVariants.{BadPlaces};
@@ -155,10 +155,8 @@ fn names_in(bytes: &[u8]) -> Result<&[u8], ImageFault>
     requires within { section_table bytes.now + 40 * section_count bytes.now ≤ length bytes.now }
     requires whole { list_any (passes_end bytes.now) (headers_of bytes.now) ≡ false }
     ensures { MatchResult result
-        (λ names. (lacks_names bytes.entry.now ≡ false) × (names.now ≡ names_of bytes.entry.now)
-        × (list_any (is_unnamed names.now) (headers_of bytes.entry.now) ≡ false))
-        (λ fault. (fault ≡ BadPlaces)
-        × ((lacks_names bytes.entry.now || list_any (is_unnamed (names_of bytes.entry.now)) (headers_of bytes.entry.now)) ≡ true)) }
+        (λ names. (bad_names bytes.entry.now ≡ false) × (names.now ≡ names_of bytes.entry.now))
+        (λ fault. (fault ≡ BadPlaces) × (bad_names bytes.entry.now ≡ true)) }
 {
     if lacks_names(bytes) {
         return Err(ImageFault::BadPlaces);
@@ -174,7 +172,8 @@ fn names_in(bytes: &[u8]) -> Result<&[u8], ImageFault>
 fn list_in<'a>(bytes: &'a [u8], map: &MemMap, header: SectionHeader) -> Result<&'a [u8], ImageFault>
     requires { passes_end bytes.now header ≡ false }
     ensures { MatchResult result
-        (λ list. (list.now ≡ content_of bytes.entry.now header) × (length list.now ≤ length bytes.entry.now)
+        (λ list. (list.now ≡ content_of bytes.entry.now header)
+        × (length list.now ≤ length bytes.entry.now)
         × (is_bad_section bytes.entry.now map.now header ≡ false))
         (λ fault. (fault ≡ BadPlaces) × (is_bad_section bytes.entry.now map.now header ≡ true)) }
 {
@@ -188,13 +187,15 @@ fn list_in<'a>(bytes: &'a [u8], map: &MemMap, header: SectionHeader) -> Result<&
     Ok(list)
 }
 
-/// The entries of the places that an image lists, none where it has no list, unless the list is bad.
+/// The entries of the places that an image lists, none where it has no list, unless the list is
+/// bad.
 pub fn places_in<'a>(bytes: &'a [u8], map: &MemMap) -> Result<&'a [u8], ImageFault>
     requires start { 52 ≤ length bytes.now }
     requires within { section_table bytes.now + 40 * section_count bytes.now ≤ length bytes.now }
     requires whole { list_any (passes_end bytes.now) (headers_of bytes.now) ≡ false }
     ensures { MatchResult result
-        (λ list. (bad_places bytes.entry.now map.now ≡ false) × (length list.now ≤ length bytes.entry.now)
+        (λ list. (bad_places bytes.entry.now map.now ≡ false)
+        × (length list.now ≤ length bytes.entry.now)
         × (entries_of list.now ≡ places_of bytes.entry.now))
         (λ fault. (fault ≡ BadPlaces) × (bad_places bytes.entry.now map.now ≡ true)) }
 {
