@@ -1,10 +1,10 @@
 -- The image of an object without a fault: its bytes read back as the image of the object's words, which does what the
 -- object's program does.
 use Rattle.std.proofs.Common.{◌≡◌, ◌≢◌, ℕ, zero, suc, ◌+◌, ◌*◌, ◌/◌, ◌%◌, ◌^◌, ◌<◌, ◌≤◌, List, [], ◌∷◌, length, Option, Some, None, Bool, true, false, cond, refl, sym, ap, ◌∙◌, ⊎_elim, arith, eqb, leb, ltb, get_or, take, drop}
-use Rattle.std.specs.Prelude.{◌&&◌, ◌||◌, ◌==◌, All, bit_and, filter}
-use Rattle.std.specs.List.{flat_map, list_any}
+use Rattle.std.specs.Prelude.{◌&&◌, ◌==◌, All, bit_and, filter}
+use Rattle.std.specs.List.{list_any}
 use Rattle.std.specs.Option.{option_and_then, option_map}
-use Rattle.std.proofs.lemmas.Bool.{and_parts, and_from, cases_lt, cond_both, cond-true, eqb-true, leb-true, le-leb, le-ltb, lt-ltb}
+use Rattle.std.proofs.lemmas.Bool.{and_parts, and_from, cases_lt, cond_both, cond-true, eqb-true, leb-true, le-ltb, lt-ltb}
 use Rattle.std.proofs.lemmas.List.{get_or-drop, get_or-take, get_or_past, length-drop, length-take}
 use Rattle.std.proofs.lemmas.List.Elements.{All-cons, All-nil}
 use Rattle.zc_base.specs.declared.place.Place.{Place}
@@ -16,19 +16,19 @@ use Rattle.elf32_read.specs.Object.{object_fault}
 use Rattle.elf32_read.proofs.Faultless.{content_within, faultless_whole}
 use Rattle.elf32_read.specs.Segments.{SegmentData}
 use Rattle.elf32_read.specs.Places.{is_ascending, is_before, is_outside, places_of}
-use Rattle.elf32_write.specs.Image.{Fits}
+use Rattle.elf32_write.specs.Image.{Fits, image_bytes}
 use Rattle.elf32_write.specs.Loadable.{IsEntry, IsLoadable, ReadsBack}
 use Rattle.elf32_write.specs.Parts.{Parts}
 use Rattle.elf32_write.proofs.ImageBack.{image_back}
 use Rattle.rv_decode.specs.declared.instr.Instr.{Instr}
 use Rattle.rv_decode.specs.Decode.{decoded}
-use Rattle.block_cut.specs.declared.item.Item.{Item}
 use Rattle.block_cut.specs.declared.item.Item.TheVariants.{Op}
 use Rattle.block_cut.specs.Items.{code_in, code_word, item_in, spelled, word_item, word_of_place}
-use Rattle.zc_link.specs.Image.{Image, image_in, image_unless}
+use Rattle.zc_link.specs.Image.{image_in, image_unless}
 use Rattle.zc_link.specs.Places.{address_in}
 use Rattle.zc_link.specs.Preserves.{Preserves, PreservesQuietly}
 use Rattle.zcld.specs.Straight.{piece, place_at, places_from, text_of, words_from, words_in}
+use Rattle.zcld.specs.Promise.{IsImageOf}
 use Rattle.zcld.specs.Refusal.{code_of, fault_or, first_fault, is_unbuilt}
 use Rattle.zcld.specs.Written.{TextEnds, straight_parts, zc_image}
 use Rattle.zcld.proofs.Laying.{IsWord, address_found, image_with, offset_whole, or_false, straight_follows, straight_follows_quietly, text_short}
@@ -275,3 +275,23 @@ zc_text_end object none =
           ∙ address_found words 0 0x0001_0000 (length words) (header_of object 1).size (omega arith) (omega (arith, whole_code object are))
           ∙ ap (λ n. Some (0x0001_0000 + n)) (offset_whole words);
     }
+
+-- ---- the promise
+
+promised : (object : List ℕ) → first_fault object ≡ None → ((k : ℕ) → get_or object k 0 < 256) → IsImageOf object (zc_image object)
+unfolding zc_image
+promised object none are = record {
+  bytes = refl;
+  preserves = zc_preserves object none are;
+  quietly = zc_quietly object none are;
+  places = zc_places object none;
+  text_end = zc_text_end object none;
+}
+
+-- a file with the image's bytes is the image
+pub is_image : (object code elf : List ℕ) → first_fault object ≡ None → ((k : ℕ) → get_or object k 0 < 256) → code ≡ code_of object
+    → elf ≡ image_bytes (straight_parts code) → IsImageOf object elf
+unfolding zc_image
+is_image object code elf none are same written =
+    let whole : elf ≡ zc_image object = written ∙ ap (λ l. image_bytes (straight_parts l)) same in
+    rw whole (promised object none are)

@@ -7,7 +7,8 @@ use Rattle.zcld.specs.declared.outcome.Outcome.{Outcome}
 use Rattle.zcld.specs.declared.outcome.Outcome.TheVariants.{Done, Usage, Refused, ReadFault, WriteFault, OutOfMemory}
 use Rattle.zcld.specs.Command.{Command, Zc}
 use Rattle.zcld.specs.Refusal.{first_fault}
-use Rattle.zcld.specs.Written.{zc_image, empty_certificate}
+use Rattle.zcld.specs.Promise.{IsImageOf}
+use Rattle.zcld.specs.Written.{empty_certificate}
 
 -- the most bytes of an object
 abbrev pub object_limit : ℕ
@@ -36,19 +37,23 @@ PutsInTurn ReadFault before after out image cert certificate = ⊥
 PutsInTurn WriteFault before after out image cert certificate = KeepsFiles before after ⊎ PutsFile before after out image
 PutsInTurn OutOfMemory before after out image cert certificate = KeepsFiles before after ⊎ PutsFile before after out image
 
--- the object was linked whole: the image stands under one name and the certificate under another
+-- the object was linked whole: its image stands under one name and the certificate under another
 pub record IsLinked (before after : Option Files) (out cert name : List ℕ) : Type 0 where
   pub object : List ℕ
   pub read : IsRead before name object
   pub faultless : first_fault object ≡ None
-  pub written : PutsBoth before after out (zc_image object) cert empty_certificate
+  pub elf : List ℕ
+  pub image : IsImageOf object elf
+  pub written : PutsBoth before after out elf cert empty_certificate
 
 -- the object was linked, and its image alone was written
 pub record IsHalfWritten (before after : Option Files) (out name : List ℕ) : Type 0 where
   pub object : List ℕ
   pub read : IsRead before name object
   pub faultless : first_fault object ≡ None
-  pub written : PutsFile before after out (zc_image object)
+  pub elf : List ℕ
+  pub image : IsImageOf object elf
+  pub written : PutsFile before after out elf
 
 -- the files after `zc` with these files, by its outcome
 abbrev pub ZcFiles : Outcome → Option Files → Option Files → List ℕ → List ℕ → List ℕ → Type 0

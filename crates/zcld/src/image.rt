@@ -3,8 +3,9 @@
 ghost use Rattle.std.specs.Prelude.{◌≡◌, ◌≤◌, None, IfOk, IfErr, length};
 ghost use Rattle.elf32_write.specs.Image.{image_bytes};
 ghost use Rattle.zcld.specs.Call.{IsRefusal};
+ghost use Rattle.zcld.specs.Promise.{IsImageOf};
 ghost use Rattle.zcld.specs.Refusal.{first_fault};
-ghost use Rattle.zcld.specs.Written.{straight_parts, zc_image};
+ghost use Rattle.zcld.specs.Written.{straight_parts};
 
 use crate::outcome::Outcome;
 use crate::refusal::straight_code;
@@ -18,9 +19,8 @@ use zc_base::mem_map::MemMap;
 const COMPRESSED: u32 = 1;
 
 /// The image of an object, or how the call ends without one.
-#[tactic(auto, unfolding(crate::specs::Written::zc_image))]
 pub fn image_of(alloc: Global, object: &[u8]) -> Result<Vec<u8>, Outcome>
-    ensures ok { IfOk result (λ image. (first_fault object.now ≡ None) × (image.items ≡ zc_image object.now)) }
+    ensures ok { IfOk result (λ image. (first_fault object.now ≡ None) × IsImageOf object.now image.items) }
     ensures err { IfErr result (λ outcome. IsRefusal object.now outcome) }
 {
     match straight_code(object) {

@@ -1,0 +1,37 @@
+# make          proves, compiles and links the program: build/zcld
+# make example  links examples/exit3.o, which a C compiler made, and shows what came out
+# make check    runs the gate: every proof, must-fail edit, test and program
+# make install  installs the program below $(DESTDIR)$(PREFIX)/bin
+# make clean    removes what these made
+
+RT ?= rt
+PREFIX ?= /usr/local
+OBJDUMP ?= riscv64-unknown-elf-objdump
+EXAMPLE := $(CURDIR)/examples/exit3.o
+SOURCES := crates.txt $(shell find crates -path '*/out' -prune -o -type f \( -name '*.rt' -o -name '*.antt' \) -print)
+
+.PHONY: all example check install clean
+
+all: build/zcld
+
+# A program is built by running it once: here it links the example.
+build/zcld: $(SOURCES)
+	mkdir -p build
+	cd crates/zcld && $(RT) run -- zc --out $(CURDIR)/build/exit3.elf --cert $(CURDIR)/build/exit3.cert $(EXAMPLE)
+	install -m 755 crates/zcld/out/zcld build/zcld
+
+example: build/zcld
+	build/zcld zc --out build/exit3.elf --cert build/exit3.cert $(EXAMPLE)
+	@echo "linked examples/exit3.o to build/exit3.elf, with the certificate:"
+	@cat build/exit3.cert
+	@if command -v $(OBJDUMP) > /dev/null; then $(OBJDUMP) -d $(EXAMPLE) build/exit3.elf; else od -A d -t x1 -j 116 -N 10 build/exit3.elf; fi
+
+check:
+	$(RT) ci
+
+install: build/zcld
+	install -d $(DESTDIR)$(PREFIX)/bin
+	install -m 755 build/zcld $(DESTDIR)$(PREFIX)/bin/zcld
+
+clean:
+	rm -rf build
