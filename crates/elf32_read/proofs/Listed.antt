@@ -1,5 +1,5 @@
 -- A test over the values of a function from 0 on.
-use Rattle.std.proofs.Common.{◌≡◌, ℕ, ◌+◌, ◌<◌, List, [], ◌∷◌, ◌++◌, length, get_or, map, Bool, true, false, refl, sym, ap, ◌∙◌, subst, arith}
+use Rattle.std.proofs.Common.{◌≡◌, ℕ, ◌+◌, ◌<◌, List, [], ◌∷◌, length, get_or, map, Bool, true, false, refl, ap, ◌∙◌, arith}
 use Rattle.std.specs.Prelude.{◌||◌, ◌&&◌, filter, cond}
 use Rattle.std.specs.List.{list_any, range_with_len}
 use Rattle.std.proofs.lemmas.Bool.{false_from_ne_true, or_parts, or_from}

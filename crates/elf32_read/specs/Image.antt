@@ -20,17 +20,17 @@ too_large bytes = nat_lt 0x80_0000 (length bytes)
 abbrev pub are_known_flags : ℕ → Bool
 are_known_flags flags = flags == 0 || flags == 0x1 || flags == 0x10 || flags == 0x11
 
--- there are headers, but of another size than this
-abbrev pub are_missized : ℕ → ℕ → ℕ → Bool
-are_missized size count header_size = not (count == 0) && not (header_size == size)
+-- there are headers, but of another size
+abbrev pub have_other_size : ℕ → ℕ → ℕ → Bool
+have_other_size size count header_size = not (count == 0) && not (header_size == size)
 
 -- shorter than its header, not an executable RISC-V file (type 2) with known flags, or with headers
 -- of an unknown size
 abbrev pub not_image : List ℕ → Bool
 not_image bytes =
     nat_lt (length bytes) 52 || not (begins_as 2 bytes) || not (are_known_flags (file_flags bytes))
-    || are_missized 32 (program_count bytes) (program_header_size bytes)
-    || are_missized 40 (section_count bytes) (section_header_size bytes)
+    || have_other_size 32 (program_count bytes) (program_header_size bytes)
+    || have_other_size 40 (section_count bytes) (section_header_size bytes)
 
 -- the program headers pass the end of the file
 abbrev pub lacks_program_headers : List ℕ → Bool
@@ -71,6 +71,10 @@ lacks_names bytes = nat_le (section_count bytes) (name_section bytes) || not ((h
 abbrev pub is_unnamed : List ℕ → Header → Bool
 is_unnamed names header = not (list_any (λ byte. byte == 0) (drop header.name names))
 
+-- there is no table of names, or a name in it has no end
+abbrev pub bad_names : List ℕ → Bool
+bad_names bytes = lacks_names bytes || list_any (is_unnamed (names_of bytes)) (headers_of bytes)
+
 -- a section of places without content in the file, or with a part of an entry at its end
 abbrev pub is_bad_list : Header → Bool
 is_bad_list header = is_empty_kind header.kind || not (header.size % 12 == 0)
@@ -80,12 +84,11 @@ abbrev pub is_bad_section : List ℕ → MemMap → Header → Bool
 is_bad_section bytes memory header =
     is_bad_list header || not (is_ascending (entries_of (content_of bytes header))) || list_any (is_outside memory) (entries_of (content_of bytes header))
 
--- there are sections, and these lack names, or more than one lists places, or one badly
+-- there are sections, and their names are bad, or more than one lists places, or one badly
 abbrev pub bad_places : List ℕ → MemMap → Bool
 bad_places bytes memory =
     not (section_count bytes == 0)
-    && (lacks_names bytes || list_any (is_unnamed (names_of bytes)) (headers_of bytes)
-    || nat_lt 1 (length (places_sections bytes)) || list_any (is_bad_section bytes memory) (places_sections bytes))
+    && (bad_names bytes || nat_lt 1 (length (places_sections bytes)) || list_any (is_bad_section bytes memory) (places_sections bytes))
 
 -- the first fault of an image's bytes under a memory map, or none
 unfoldable pub image_fault : List ℕ → MemMap → Option ImageFault

@@ -1,5 +1,5 @@
 -- The segments of an image (System V gABI, "Program Header"; RISC-V ELF psABI, "File Header").
-use Rattle.std.specs.Prelude.{ℕ, ◌+◌, Bool, ◌&&◌, ◌==◌, nat_lt, nat_le, min, max, if◌then◌else◌, List, [], ◌∷◌, take, drop, map, filter, bit_and}
+use Rattle.std.specs.Prelude.{ℕ, ◌+◌, Bool, ◌&&◌, ◌==◌, nat_lt, nat_le, min, max, if◌then◌else◌, List, take, drop, map, filter, bit_and}
 use Rattle.zc_base.specs.declared.mem_map.MemMap.{MemMap}
 use Rattle.elf32_read.specs.Header.{program_headers_of}
 use Rattle.elf32_read.specs.declared.header.ProgramHeader.{ProgramHeader}
@@ -16,10 +16,11 @@ is_code header = bit_and header.flags 1 == 1
 abbrev pub is_writable : ProgramHeader → Bool
 is_writable header = bit_and header.flags 2 == 2
 
--- where the segment ends in memory, and where its bytes from the file end there
+-- where the segment ends in memory
 abbrev pub memory_end : ProgramHeader → ℕ
 memory_end header = header.address + header.memory_size
 
+-- where its bytes from the file end in memory
 abbrev pub file_end : ProgramHeader → ℕ
 file_end header = header.address + header.file_size
 

@@ -55,7 +55,8 @@ pub fn has_cut_section(bytes: &[u8]) -> bool
 fn is_load_cut(bytes: &[u8], i: u32) -> bool
     requires start { 52 ≤ length bytes.now }
     requires within { program_table bytes.now + 32 * i + 32 ≤ length bytes.now }
-    ensures { result ≡ ((program_header_of bytes.now i).kind == 1 && load_passes_end bytes.now (program_header_of bytes.now i)) }
+    ensures { let header = program_header_of bytes.now i in
+        result ≡ (header.kind == 1 && load_passes_end bytes.now header) }
 {
     let header = program_header(bytes, i);
     header.kind == LOAD && bytes.len() < header.offset as usize + header.file_size as usize

@@ -7,8 +7,8 @@ use thiserror::Error;
 
 /// Why the linker refuses an object. A fault is shown as its name.
 ///
-/// `symbol` is the index of a symbol in its object, `section` that of a section, and `at` the offset
-/// of a relocation or of a branch in that section.
+/// `symbol` is the index of a symbol in its object, `section` that of a section, and `at` the
+/// offset of a relocation or of a branch in that section.
 #[derive(Clone, Copy, PartialEq, Eq, Debug, Error)]
 pub enum Fault {
     /// An object of a kind that the linker does not link yet.

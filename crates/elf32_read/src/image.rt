@@ -154,3 +154,6 @@ impl<'a> Image<'a> {
         entry(self.entries, i as usize)
     }
 }
+
+#[cfg(test)]
+mod tests;

@@ -77,7 +77,9 @@ impl Loads {
 pub fn loads_in(bytes: &[u8]) -> Option<Loads>
     requires start { 52 ≤ length bytes.now }
     requires within { program_table bytes.now + 32 * program_count bytes.now ≤ length bytes.now }
-    ensures { MatchOption result (16 < length (loads_of bytes.now)) (λ loads. loads ≡ loads_of bytes.now) }
+    ensures { MatchOption result
+        (16 < length (loads_of bytes.now))
+        (λ loads. loads ≡ loads_of bytes.now) }
 {
     let mut loads = Loads::new();
     for i in 0..u32::from(u16_at(bytes, 44)) {

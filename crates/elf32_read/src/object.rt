@@ -1,8 +1,8 @@
 // Objects.
 
-ghost use Rattle.std.specs.Prelude.{◌≡◌, ◌≢◌, ◌≤◌, ◌<◌, ◌+◌, ◌*◌, ◌^◌, List, ℕ, length, None, Some, MatchResult, take, drop, [], if◌then◌else◌};
-ghost use Rattle.elf32_read.specs.Header.{content_of, header_of, is_empty_kind, object_flags, section_count, section_table};
-ghost use Rattle.elf32_read.specs.Object.{not_elf, object_fault, passes_end, truncated};
+ghost use Rattle.std.specs.Prelude.{◌≡◌, ◌≢◌, ◌≤◌, ◌<◌, ◌^◌, List, ℕ, length, None, Some, MatchResult};
+ghost use Rattle.elf32_read.specs.Header.{content_of, header_of, object_flags, section_count};
+ghost use Rattle.elf32_read.specs.Object.{not_elf, object_fault, truncated};
 
 use crate::bounds::{has_cut_section, lacks_headers};
 use crate::fault::Fault;

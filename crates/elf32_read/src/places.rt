@@ -1,12 +1,12 @@
 // The places that an image lists.
 
-ghost use Rattle.std.specs.Prelude.{◌≡◌, ℕ, ◌≤◌, ◌<◌, ◌+◌, ◌*◌, ◌/◌, ◌==◌, ◌||◌, not, nat_lt, true, false, drop, length, MatchResult, IfSome, List};
+ghost use Rattle.std.specs.Prelude.{◌≡◌, ℕ, ◌≤◌, ◌<◌, ◌+◌, ◌*◌, ◌/◌, ◌==◌, ◌||◌, nat_lt, true, false, drop, length, MatchResult};
 ghost use Rattle.std.specs.List.{list_any};
 ghost use Rattle.std.specs.Option.{option_to_list};
 ghost use Rattle.elf32_read.specs.Header.{content_of, headers_of, section_count, section_table};
-ghost use Rattle.elf32_read.specs.Image.{bad_places, is_bad_list as is_bad, is_bad_section, is_unnamed, lacks_names as lacks_the_names};
+ghost use Rattle.elf32_read.specs.Image.{bad_names, bad_places, is_bad_list, is_bad_section, is_unnamed, lacks_names};
 ghost use Rattle.elf32_read.specs.Object.{passes_end};
-ghost use Rattle.elf32_read.specs.Places.{entries_of, entry_at, holds_places as holds_the_places, is_ascending, is_before as comes_before, is_outside as lies_outside, names_of, places_of, places_sections};
+ghost use Rattle.elf32_read.specs.Places.{entries_of, entry_at, holds_places, is_ascending, is_before, is_outside, names_of, places_of, places_sections};
 ghost use Rattle.elf32_read.specs.declared.image_fault.ImageFault.TheVariants.{BadPlaces};
 
 use crate::header::{SectionHeader, content, is_without_content, section_header};
@@ -38,7 +38,7 @@ pub fn entry(entries: &[u8], i: usize) -> (Place, u32)
 }
 
 fn is_before(first: &Place, second: &Place) -> bool
-    ensures { result ≡ comes_before first.now second.now }
+    ensures { result ≡ is_before first.now second.now }
 {
     first < second
 }
@@ -55,18 +55,19 @@ fn are_ascending(entries: &[u8]) -> bool
     true
 }
 
-fn is_outside(map: &MemMap, address: u32) -> bool
-    ensures { result ≡ (nat_lt address map.now.text || nat_lt map.now.data_low address) }
+fn is_outside(map: &MemMap, listed: (Place, u32)) -> bool
+    ensures { result ≡ is_outside map.now listed }
 {
+    let (_, address) = listed;
     address < map.text || map.data_low < address
 }
 
 #[tactic(auto, using(crate::proofs::Listed::none_listed_more))]
 fn has_outside(map: &MemMap, entries: &[u8]) -> bool
-    ensures { result ≡ list_any (lies_outside map.now) (entries_of entries.now) }
+    ensures { result ≡ list_any (is_outside map.now) (entries_of entries.now) }
 {
     for i in 0..entries.len() / ENTRY_SIZE {
-        if is_outside(map, entry(entries, i).1) {
+        if is_outside(map, entry(entries, i)) {
             return true;
         }
     }
@@ -77,7 +78,7 @@ fn has_outside(map: &MemMap, entries: &[u8]) -> bool
 fn lacks_names(bytes: &[u8]) -> bool
     requires start { 52 ≤ length bytes.now }
     requires within { section_table bytes.now + 40 * section_count bytes.now ≤ length bytes.now }
-    ensures { result ≡ lacks_the_names bytes.now }
+    ensures { result ≡ lacks_names bytes.now }
 {
     let i = u16_at(bytes, 50);
     u16_at(bytes, 48) <= i || section_header(bytes, u32::from(i)).kind != STRTAB
@@ -113,13 +114,13 @@ fn has_unnamed(bytes: &[u8], names: &[u8]) -> bool
 
 fn holds_places(names: &[u8], header: &SectionHeader) -> bool
     requires { header.now.name ≤ length names.now }
-    ensures { result ≡ holds_the_places names.now header.now }
+    ensures { result ≡ holds_places names.now header.now }
 {
     names[header.name as usize..].starts_with(NAME)
 }
 
 fn is_bad_list(header: &SectionHeader) -> bool
-    ensures { result ≡ is_bad header.now }
+    ensures { result ≡ is_bad_list header.now }
 {
     is_without_content(header.kind) || header.size % 12 != 0
 }
@@ -154,10 +155,8 @@ fn names_in(bytes: &[u8]) -> Result<&[u8], ImageFault>
     requires within { section_table bytes.now + 40 * section_count bytes.now ≤ length bytes.now }
     requires whole { list_any (passes_end bytes.now) (headers_of bytes.now) ≡ false }
     ensures { MatchResult result
-        (λ names. (lacks_the_names bytes.entry.now ≡ false) × (names.now ≡ names_of bytes.entry.now)
-        × (list_any (is_unnamed names.now) (headers_of bytes.entry.now) ≡ false))
-        (λ fault. (fault ≡ BadPlaces)
-        × ((lacks_the_names bytes.entry.now || list_any (is_unnamed (names_of bytes.entry.now)) (headers_of bytes.entry.now)) ≡ true)) }
+        (λ names. (bad_names bytes.entry.now ≡ false) × (names.now ≡ names_of bytes.entry.now))
+        (λ fault. (fault ≡ BadPlaces) × (bad_names bytes.entry.now ≡ true)) }
 {
     if lacks_names(bytes) {
         return Err(ImageFault::BadPlaces);
@@ -173,7 +172,8 @@ fn names_in(bytes: &[u8]) -> Result<&[u8], ImageFault>
 fn list_in<'a>(bytes: &'a [u8], map: &MemMap, header: SectionHeader) -> Result<&'a [u8], ImageFault>
     requires { passes_end bytes.now header ≡ false }
     ensures { MatchResult result
-        (λ list. (list.now ≡ content_of bytes.entry.now header) × (length list.now ≤ length bytes.entry.now)
+        (λ list. (list.now ≡ content_of bytes.entry.now header)
+        × (length list.now ≤ length bytes.entry.now)
         × (is_bad_section bytes.entry.now map.now header ≡ false))
         (λ fault. (fault ≡ BadPlaces) × (is_bad_section bytes.entry.now map.now header ≡ true)) }
 {
@@ -187,13 +187,15 @@ fn list_in<'a>(bytes: &'a [u8], map: &MemMap, header: SectionHeader) -> Result<&
     Ok(list)
 }
 
-/// The entries of the places that an image lists, none where it has no list, unless the list is bad.
+/// The entries of the places that an image lists, none where it has no list, unless the list is
+/// bad.
 pub fn places_in<'a>(bytes: &'a [u8], map: &MemMap) -> Result<&'a [u8], ImageFault>
     requires start { 52 ≤ length bytes.now }
     requires within { section_table bytes.now + 40 * section_count bytes.now ≤ length bytes.now }
     requires whole { list_any (passes_end bytes.now) (headers_of bytes.now) ≡ false }
     ensures { MatchResult result
-        (λ list. (bad_places bytes.entry.now map.now ≡ false) × (length list.now ≤ length bytes.entry.now)
+        (λ list. (bad_places bytes.entry.now map.now ≡ false)
+        × (length list.now ≤ length bytes.entry.now)
         × (entries_of list.now ≡ places_of bytes.entry.now))
         (λ fault. (fault ≡ BadPlaces) × (bad_places bytes.entry.now map.now ≡ true)) }
 {

@@ -55,7 +55,8 @@ impl Flags for SectionFlags {
 
     ghost exact = { ⊤ };
 
-    ghost table = { (codes "WRITE", 1) ∷ (codes "ALLOC", 2) ∷ (codes "EXECINSTR", 4) ∷ (codes "TLS", 0x400) ∷ (codes "COMPRESSED", 0x800) ∷ [] };
+    ghost table = { (codes "WRITE", 1) ∷ (codes "ALLOC", 2) ∷ (codes "EXECINSTR", 4)
+        ∷ (codes "TLS", 0x400) ∷ (codes "COMPRESSED", 0x800) ∷ [] };
 
     ghost set_of = { λ flags. flags.bits };
 

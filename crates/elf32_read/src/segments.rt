@@ -2,8 +2,8 @@
 
 ghost use Rattle.std.specs.Prelude.{◌≡◌, ◌≤◌, ◌+◌, length};
 ghost use Rattle.std.specs.List.{list_any};
-ghost use Rattle.elf32_read.specs.Image.{bad_segments, is_bad_load as is_bad, some_overlap};
-ghost use Rattle.elf32_read.specs.Segments.{is_code as is_code_segment, is_entry_of, is_in_place as is_placed, loads_of, overlap as overlapping};
+ghost use Rattle.elf32_read.specs.Image.{bad_segments, is_bad_load, some_overlap};
+ghost use Rattle.elf32_read.specs.Segments.{is_code, is_entry_of, is_in_place, loads_of, overlap};
 
 use crate::header::ProgramHeader;
 use zc_base::fields::u32_at;
@@ -17,7 +17,7 @@ const DATA_SIZE: u64 = 0x40_0000;
 
 /// Whether a segment holds code.
 pub fn is_code(header: &ProgramHeader) -> bool
-    ensures { result ≡ is_code_segment header.now }
+    ensures { result ≡ is_code header.now }
 {
     header.flags & EXECUTE == EXECUTE
 }
@@ -30,7 +30,7 @@ fn memory_end(header: &ProgramHeader) -> u64
 
 // Code lies from text to below data_low, all else in the 4 MiB from data_low on.
 fn is_in_place(map: &MemMap, header: &ProgramHeader) -> bool
-    ensures { result ≡ is_placed map.now header.now }
+    ensures { result ≡ is_in_place map.now header.now }
 {
     let data = u64::from(map.data_low);
     let (low, high) = if is_code(header) {
@@ -42,7 +42,7 @@ fn is_in_place(map: &MemMap, header: &ProgramHeader) -> bool
 }
 
 fn is_bad_load(map: &MemMap, header: &ProgramHeader) -> bool
-    ensures { result ≡ is_bad map.now header.now }
+    ensures { result ≡ is_bad_load map.now header.now }
 {
     header.memory_size < header.file_size
         || (is_code(header) && header.flags & WRITE == WRITE)
@@ -50,20 +50,20 @@ fn is_bad_load(map: &MemMap, header: &ProgramHeader) -> bool
 }
 
 fn has_bad_load(map: &MemMap, loads: &[ProgramHeader]) -> bool
-    ensures { result ≡ list_any (is_bad map.now) loads.now }
+    ensures { result ≡ list_any (is_bad_load map.now) loads.now }
 {
     loads.iter().any(|header| is_bad_load(map, header))
 }
 
 fn overlap(first: &ProgramHeader, second: &ProgramHeader) -> bool
-    ensures { result ≡ overlapping first.now second.now }
+    ensures { result ≡ overlap first.now second.now }
 {
     let low = u64::from(first.address.max(second.address));
     low < memory_end(first).min(memory_end(second))
 }
 
 fn overlaps_one(header: &ProgramHeader, others: &[ProgramHeader]) -> bool
-    ensures { result ≡ list_any (overlapping header.now) others.now }
+    ensures { result ≡ list_any (overlap header.now) others.now }
 {
     others.iter().any(|other| overlap(header, other))
 }

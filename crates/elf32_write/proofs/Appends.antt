@@ -1,5 +1,5 @@
 -- Bytes appended one after another.
-use Rattle.std.proofs.Common.{◌≡◌, ℕ, ◌%◌, ◌-◌, ◌≤◌, List, [], ◌∷◌, ◌++◌, length, take, ap, ◌∙◌, append_assoc, arith, Result, Ok, Err}
+use Rattle.std.proofs.Common.{◌≡◌, ℕ, ◌≤◌, List, [], ◌∷◌, ◌++◌, length, take, ap, ◌∙◌, append_assoc, arith, Result, Ok, Err}
 use Rattle.std.specs.Prelude.{replicate, is_ok, if◌then◌else◌, OnOk}
 use Rattle.std.proofs.lemmas.List.{take-replicate}
 use Rattle.elf32_write.specs.Image.{pad, padded}

@@ -1,9 +1,9 @@
 -- Headers and places read back.
-use Rattle.std.proofs.Common.{◌≡◌, ℕ, ◌+◌, ◌*◌, ◌^◌, ◌<◌, List, [], ◌∷◌, ◌++◌, length, map, refl, sym, ap, ◌∙◌, arith}
+use Rattle.std.proofs.Common.{◌≡◌, ℕ, ◌+◌, ◌*◌, ◌^◌, ◌<◌, List, [], ◌++◌, length, map, refl, sym, ap, ◌∙◌, arith}
 use Rattle.std.specs.Prelude.{All}
 use Rattle.std.specs.List.{flat_map, range_with_len}
 use Rattle.std.proofs.lemmas.List.{append-nil}
-use Rattle.zc_base.specs.Fields.{half_in, word_in, half_bytes, word_bytes}
+use Rattle.zc_base.specs.Fields.{half_in, word_in, word_bytes}
 use Rattle.zc_base.specs.declared.place.Place.{Place}
 use Rattle.elf32_read.specs.Header.{Header, section_table, program_table, header_of, program_header_of}
 use Rattle.elf32_read.specs.declared.header.ProgramHeader.{ProgramHeader}

@@ -1,20 +1,19 @@
 -- An image reads back. The file is cut into what stands before the section headers and these; from
 -- there the headers read back as they were written, and with them each test of the reader computes.
-use Rattle.std.proofs.Common.{◌≡◌, ℕ, ◌+◌, ◌*◌, ◌/◌, ◌%◌, ◌^◌, ◌<◌, ◌≤◌, List, [], ◌∷◌, ◌++◌, length, get_or, map, take, drop, lit<, refl, sym, ap, ◌∙◌, arith, append_assoc, length-append, inl, inr, true, false, Bool, not, ◌&&◌}
-use Rattle.std.specs.Prelude.{All, replicate, filter, ◌==◌, ◌||◌, nat_lt, nat_le, min, max, Option, None}
+use Rattle.std.proofs.Common.{◌≡◌, ℕ, ◌+◌, ◌*◌, ◌/◌, ◌%◌, ◌^◌, ◌<◌, ◌≤◌, List, [], ◌∷◌, ◌++◌, length, get_or, map, take, drop, lit<, refl, sym, ap, ◌∙◌, arith, append_assoc, length-append, inl, inr, true, false, not}
+use Rattle.std.specs.Prelude.{All, replicate, filter, ◌==◌, nat_lt, nat_le, min, max, None}
 use Rattle.std.specs.List.{flat_map, range_with_len, list_any}
 use Rattle.std.proofs.lemmas.List.{length-replicate, append-nil}
 use Rattle.std.proofs.lemmas.Bool.{cases_lt, le-ltb, le-leb, lt-leb, ne_eqb, or_from, or_left, and_from, and_right}
 use Rattle.std.proofs.lemmas.List.Elements.{All-from_recursion}
-use Rattle.zc_base.specs.Fields.{half_in, word_in, half_bytes, word_bytes}
+use Rattle.zc_base.specs.Fields.{half_in, word_in}
 use Rattle.zc_base.specs.declared.mem_map.MemMap.{MemMap}
 use Rattle.zc_base.specs.declared.place.Place.{Place}
-use Rattle.elf32_read.specs.Header.{Header, begins_as, entry_of, file_flags, program_table, section_table, program_count, program_header_size, section_count, section_header_size, name_section, header_of, headers_of, program_header_of, program_headers_of, content_of}
-use Rattle.elf32_read.specs.declared.header.ProgramHeader.{ProgramHeader}
-use Rattle.elf32_read.specs.Image.{too_large, are_known_flags, are_missized, not_image, lacks_program_headers, load_passes_end, image_truncated, is_bad_load, some_overlap, bad_segments, lacks_names, is_unnamed, is_bad_list, is_bad_section, bad_places, image_fault}
+use Rattle.elf32_read.specs.Header.{begins_as, entry_of, file_flags, program_table, section_table, program_count, program_header_size, section_count, section_header_size, name_section, header_of, headers_of, program_header_of, program_headers_of, content_of}
+use Rattle.elf32_read.specs.Image.{too_large, are_known_flags, have_other_size, not_image, lacks_program_headers, load_passes_end, image_truncated, is_bad_load, some_overlap, bad_segments, is_unnamed, is_bad_list, is_bad_section, bad_places, image_fault}
 use Rattle.elf32_read.specs.Object.{lacks_headers, passes_end}
 use Rattle.elf32_read.specs.Places.{names_of, holds_places, places_sections, entry_at, entries_of, places_of, is_ascending, is_outside}
-use Rattle.elf32_read.specs.Segments.{loads_of, overlap, is_entry_of, segment_of, segments_of}
+use Rattle.elf32_read.specs.Segments.{loads_of, overlap, is_entry_of, segment_of}
 use Rattle.elf32_read.specs.Rows.{first_of}
 use Rattle.elf32_read.specs.declared.image_fault.ImageFault.TheVariants.{NotElf, Truncated, BadSegment, BadPlaces, TooLarge}
 use Rattle.elf32_write.specs.Image.{pad, padded, padded_length, file_header, program_headers, place_bytes, names, section_headers, sections_of, places_section, names_section, text_segment, data_segment, data_offset, places_offset, names_offset, sections_offset, image_bytes, Fits}
@@ -249,11 +248,11 @@ names_back parts = part_between (image_bytes parts) (before_names parts) names _
 not_too_large : (parts : Parts) → sections_offset parts + 240 ≤ 0x80_0000 → too_large (image_bytes parts) ≡ false
 not_too_large parts small = le-ltb 0x80_0000 (length (image_bytes parts)) (omega (arith, small, length-image_bytes parts))
 
-segments_sized : (parts : Parts) → are_missized 32 (program_count (image_bytes parts)) (program_header_size (image_bytes parts)) ≡ false
+segments_sized : (parts : Parts) → have_other_size 32 (program_count (image_bytes parts)) (program_header_size (image_bytes parts)) ≡ false
 unfolding image_bytes file_header half_in
 segments_sized parts = refl
 
-sections_sized : (parts : Parts) → are_missized 40 (section_count (image_bytes parts)) (section_header_size (image_bytes parts)) ≡ false
+sections_sized : (parts : Parts) → have_other_size 40 (section_count (image_bytes parts)) (section_header_size (image_bytes parts)) ≡ false
 unfolding image_bytes file_header half_in
 sections_sized parts = refl
 

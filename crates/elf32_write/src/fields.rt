@@ -3,7 +3,7 @@
 ghost use Rattle.std.specs.Prelude.{◌≡◌, ◌+◌, ◌^◌, ◌<◌, ◌++◌, OnOk};
 ghost use Rattle.std.specs.List.{flat_map};
 ghost use Rattle.zc_base.specs.Fields.{half_bytes, word_bytes};
-ghost use Rattle.elf32_write.specs.Image.{pad, padded, padded_length};
+ghost use Rattle.elf32_write.specs.Image.{padded, padded_length};
 
 use std::alloc::AllocError;
 use zc_base::fields::{put_u16, put_u32};

@@ -41,7 +41,8 @@ pub fn push_file_header(
 // Appends the program header of the text.
 fn push_text_segment(out: &mut Vec<u8>, parts: &ImageParts) -> Result<(), AllocError>
     requires { Fits (parts_of parts.now) }
-    ensures { OnOk result (out.new.items ≡ out.old.items ++ segment_bytes (text_segment (parts_of parts.now))) }
+    ensures { OnOk result
+        (out.new.items ≡ out.old.items ++ segment_bytes (text_segment (parts_of parts.now))) }
 {
     let at = parts.text_at;
     let size = parts.text.len() as u32;
@@ -56,7 +57,8 @@ fn push_data_segment(
 ) -> Result<(), AllocError>
     requires fits { Fits (parts_of parts.now) }
     requires offsets { AreOffsetsOf (parts_of parts.now) offsets.now }
-    ensures { OnOk result (out.new.items ≡ out.old.items ++ segment_bytes (data_segment (parts_of parts.now))) }
+    ensures { OnOk result
+        (out.new.items ≡ out.old.items ++ segment_bytes (data_segment (parts_of parts.now))) }
 {
     let at = parts.data_at;
     let size = parts.data_bytes.len() as u32;

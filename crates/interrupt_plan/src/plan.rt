@@ -37,8 +37,9 @@ impl Model for Plan {
     ghost view = { λ p. p.cuts.items };
 
     ghost use Rattle.std.specs.Prelude.{◌<◌, ◌^◌, length};
+    ghost use Rattle.interrupt_plan.specs.Order.{IsInOrder};
 
-    ghost invariant = { λ p. length p.cuts.items < 2 ^ 32 };
+    ghost invariant = { λ p. (length p.cuts.items < 2 ^ 32) × IsInOrder p.cuts.items };
 }
 
 /// The plan without interrupts.
@@ -51,9 +52,12 @@ pub fn empty_plan(alloc: Global) -> Plan
 }
 
 impl Plan {
+    ghost use Rattle.interrupt_plan.specs.Order.{IsInOrder};
+
     /// How many interrupts there are.
     pub fn cut_count(&self) -> u32
-        ensures { result ≡ length self.now }
+        ensures count { result ≡ length self.now }
+        ensures in_order { IsInOrder self.now }
     {
         self.cuts.len() as u32
     }
@@ -70,9 +74,28 @@ impl Plan {
 #[cfg(test)]
 mod tests {
     use super::*;
+    use std::test::Fail;
 
     #[test]
     fn empty_plan_has_no_cuts(rt: HostRuntime) {
         assert_eq!(rt; empty_plan(rt.alloc()).cut_count(), 0);
+    }
+
+    #[test]
+    fn cuts_are_lent_by_their_numbers(rt: HostRuntime) -> Result<(), Fail> {
+        let cuts = vec![in rt.alloc();
+            PlanCut {
+                at: 2,
+                done: vec![in rt.alloc(); 0, 1]?,
+                dirt: vec![in rt.alloc(); (0x0FFF_FFFC, 0xEE)]?,
+            },
+        ]?;
+        let plan = Plan { cuts };
+        assert_eq!(rt; plan.cut_count(), 1);
+        let cut = plan.cut(0);
+        assert_eq!(rt; cut.at, 2);
+        assert_eq!(rt; cut.done.as_slice(), [0, 1].as_slice());
+        assert_eq!(rt; cut.dirt.as_slice(), [(0x0FFF_FFFC, 0xEE)].as_slice());
+        Ok(())
     }
 }

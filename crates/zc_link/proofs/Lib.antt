@@ -1,3 +1,4 @@
+pub mod Examples
 pub mod WordLaws
 pub mod Sound
 pub mod Interrupts

@@ -41,11 +41,14 @@ pub record Laid (p : Program) (e : Image) : Type 0 where
   pub top : p.map.stack_high < 2 ^ 32
   pub entry : place_address e p.entry ≡ Some e.entry
   -- each instruction of a listed place lies there
-  pub ops : (q : Place) (a : ℕ) (i : Instr) → place_address e q ≡ Some a → p.item q ≡ Some (Op i) → OpLaid p e q a i
+  pub ops :
+      (q : Place) (a : ℕ) (i : Instr) → place_address e q ≡ Some a → p.item q ≡ Some (Op i) → OpLaid p e q a i
   -- the program's memory is memory of the image, and begins with bytes that stand for the image's
   pub reaches : (a n : ℕ) → 0 < n → SpansMemory p a n → lies_in is_data (extents_of (first_of e).memory) a n ≡ true
-  pub first : (a : ℕ) → IsMemory p a → ByteStands (value_in p (place_address e)) (cell_at Undef p.first_memory a) (byte_in (first_of e) a)
+  pub first :
+      (a : ℕ) → IsMemory p a → ByteStands (value_in p (place_address e)) (cell_at Undef p.first_memory a) (byte_in (first_of e) a)
   pub stack : (a : ℕ) → p.map.stack_low ≤ a → a < p.map.stack_high → cell_at Undef p.first_memory a ≡ Undef
   -- code lies apart from data and stack, and the image's memory holds bytes
-  pub apart : (a : ℕ) → lies_in is_text (extents_of (first_of e).memory) a 1 ≡ true → lies_in is_data (extents_of (first_of e).memory) a 1 ≡ false
+  pub apart :
+      (a : ℕ) → lies_in is_text (extents_of (first_of e).memory) a 1 ≡ true → lies_in is_data (extents_of (first_of e).memory) a 1 ≡ false
   pub bytes : (a : ℕ) → byte_in (first_of e) a < 256

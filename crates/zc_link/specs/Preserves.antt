@@ -20,7 +20,8 @@ pub record Follows (p : Program) (e : Image) (s : PlainState) (z : ZcState) : Ty
 abbrev pub FollowsUnder : (List Cut → Type 0) → Program → Image → Type 0
 FollowsUnder Allowed p e =
     (input : List ℕ) (n : ℕ) (s : PlainState) → All (λ b. b < 256) input → plain p input n ≡ Ok s →
-    (m : ℕ) × (m ≤ 64 * n + 3) × ((plan : List Cut) → Allowed plan → (z : ZcState) × (zc e input plan m ≡ Ok z) × Follows p e s z)
+    (m : ℕ) × (m ≤ 64 * n + 3)
+    × ((plan : List Cut) → Allowed plan → (z : ZcState) × (zc e input plan m ≡ Ok z) × Follows p e s z)
 
 -- a plan without interrupts
 abbrev pub IsQuiet : List Cut → Type 0

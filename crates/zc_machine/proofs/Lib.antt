@@ -1,3 +1,7 @@
 pub mod Examples
 pub mod FetchLaws
 pub mod LoadLaws
+pub mod RegionLaws
+pub mod StepLaws
+pub mod CutLaws
+pub mod RunLaws

@@ -1,6 +1,11 @@
 pub mod Reason
+pub mod Region
 pub mod Fetch
 pub mod Step
+pub mod Answer
 pub mod Interrupt
+pub mod Cursor
 pub mod Run
+pub mod Written
+pub mod RunEnd
 pub mod Load

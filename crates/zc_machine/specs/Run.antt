@@ -13,7 +13,10 @@ use Rattle.zc_machine.specs.Interrupt.{cut_by}
 -- the environment's answer to a call is a commit; the machine doesn't want the other calls yet
 abbrev pub answered : EnvCall → ZcState → Result ZcState Reason
 answered (call.Exit status) r =
-    Ok (record r { core = record r.core { exit = Some status; commits = r.core.commits + 1 }; events = r.events ++ Exit status ∷ [] })
+    Ok (record r {
+      core = record r.core { exit = Some status; commits = r.core.commits + 1 };
+      events = r.events ++ Exit status ∷ [];
+    })
 answered other r = Err UnknownCall
 
 abbrev pub committed : ZcStep → ZcState → Result ZcState Reason

@@ -1,5 +1,11 @@
 //! The machine that runs linked images: RV32IM with the halfwords of Zca, Zcb, Zcmp and Zcmt.
 #![tactic(auto)]
 
+mod load;
+pub mod machine;
 pub mod reason;
+pub mod region;
+pub mod run;
 pub mod step;
+#[cfg(test)]
+mod tests;

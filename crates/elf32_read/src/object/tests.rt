@@ -4,7 +4,8 @@ use super::*;
 use crate::fault::Fault;
 use std::test::Fail;
 
-// Three sections: NULL, 12 bytes of code at 52, and 4096 bytes of NOBITS. Their headers begin at 64.
+// Three sections: NULL, 12 bytes of code at 52, and 4096 bytes of NOBITS. Their headers begin
+// at 64.
 const OBJECT: [u8; 184] = [
     // The file's header, 52 bytes.
     0x7F, 0x45, 0x4C, 0x46, 1, 1, 1, 0, 0, 0, 0, 0, 0, 0, 0, 0, //

@@ -1,4 +1,4 @@
-use Rattle.std.proofs.Common.{◌≡◌, ◌<◌, ◌/◌, length, true, sym, ap, ◌∙◌, arith}
+use Rattle.std.proofs.Common.{◌≡◌, ◌/◌, length, true, sym, ap, ◌∙◌}
 use Rattle.elf32_read.specs.Places.{entry_at, is_outside}
 use Rattle.elf32_read.proofs.Listed.{list_any_listed}
 use Rattle.elf32_read.proofs.places.has_outside.Goals as goal

@@ -1,4 +1,4 @@
-use Rattle.std.proofs.Common.{◌≡◌, ℕ, ◌≤◌, take, drop}
+use Rattle.std.proofs.Common.{◌≡◌, ℕ, take, drop}
 use Rattle.std.specs.Prelude.{◌==◌, nat_lt}
 use Rattle.std.specs.List.{list_any}
 use Rattle.elf32_read.proofs.places.names_end.Given as goal

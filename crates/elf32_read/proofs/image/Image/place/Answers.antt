@@ -1,6 +1,6 @@
-use Rattle.std.proofs.Common.{◌≡◌, ◌<◌, ◌/◌, length, Some, sym, ap, ◌∙◌, arith}
+use Rattle.std.proofs.Common.{◌<◌, ◌/◌, length, Some, sym, ap, ◌∙◌, arith}
 use Rattle.std.specs.Prelude.{slice_get}
-use Rattle.elf32_read.specs.Places.{places_of, entries_of}
+use Rattle.elf32_read.specs.Places.{places_of}
 use Rattle.elf32_read.proofs.Entries.{length-entries_of, slice_get-entries_of}
 use Rattle.elf32_read.proofs.image.Image.place.Goals as goal
 

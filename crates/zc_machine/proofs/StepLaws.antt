@@ -1,0 +1,54 @@
+-- What each kind of step shows of the state that it is made in.
+use Rattle.std.proofs.Common.{◌≡◌, ℕ, ◌+◌, ◌%◌, Bool, true, false, cond, eqb, Option, Some, None, refl, subst}
+use Rattle.rv_decode.specs.State.{ZcCore, reg_in}
+use Rattle.rv_decode.specs.Effect.{effect, gives, imm_result}
+use Rattle.rv_decode.specs.declared.instr.Instr.{Instr}
+use Rattle.rv_decode.specs.declared.instr.Instr.TheVariants.{WithImm, Ecall}
+use Rattle.zc_decode.specs.declared.short.Short.{Short}
+use Rattle.zc_decode.specs.declared.short.Short.TheVariants.{Base}
+use Rattle.zc_machine.specs.declared.reason.Reason.TheVariants.{UnknownCall}
+use Rattle.zc_machine.specs.declared.step.EnvCall.TheVariants.{Exit}
+use Rattle.zc_machine.specs.Fetch.{Fetched, Found, Missing, fetched_at}
+use Rattle.zc_machine.specs.Step.{ZcStep, Committed, Wants, Ended, Stopped, effect_step, short_step, made, step_from, zc_step}
+
+-- a commit counts and doesn't exit, the status of an exit is the low byte of a0, and only an exit ends
+abbrev pub Shows : ZcCore → ZcStep → Type 0
+Shows z (Committed z') = (z'.commits ≡ z.commits + 1) × (z'.exit ≡ z.exit)
+Shows z (Wants (Exit status)) = status ≡ reg_in z 10 % 256
+Shows z (Wants other) = Unit {0}
+Shows z (Ended status) = z.exit ≡ Some status
+Shows z (Stopped reason) = Unit {0}
+
+module _ (z : ZcCore) where
+  call_shows : (b : Bool) → Shows z (cond b (Wants (Exit (reg_in z 10 % 256))) (Stopped UnknownCall))
+  call_shows true = refl
+  call_shows false = tt
+
+  value_shows : (v : Option ℕ) (rd size : ℕ) → Shows z (effect_step (gives v rd size z) z)
+  value_shows None rd size = tt
+  value_shows (Some v) rd size = (refl, refl)
+
+  effect_shows : (i : Instr) (size : ℕ) → Shows z (effect_step (effect i size z) z)
+  effect_shows (WithImm op rd first imm) size = value_shows (imm_result op (reg_in z first) imm) rd size
+  effect_shows Ecall size = call_shows (eqb (reg_in z 17) 93)
+  effect_shows other size = tt
+
+  short_shows : (s : Short) (size : ℕ) → Shows z (short_step s size z)
+  short_shows (Base i) size = effect_shows i size
+  short_shows other size = tt
+
+  made_shows : (f : Fetched) → Shows z (made f z)
+  made_shows (Found s size) = short_shows s size
+  made_shows (Missing reason) = tt
+
+  from_shows : (x : Option ℕ) → z.exit ≡ x → Shows z (step_from x z)
+  from_shows None e = made_shows (fetched_at z z.pc)
+  from_shows (Some status) e = e
+
+  pub step_shows : Shows z (zc_step z)
+  unfolding zc_step
+  step_shows = from_shows z.exit refl
+
+  -- the status of the exit that is wanted
+  pub exit_status : (status : ℕ) → zc_step z ≡ Wants (Exit status) → status ≡ reg_in z 10 % 256
+  exit_status status e = subst (Shows z) e step_shows

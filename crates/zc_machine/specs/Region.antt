@@ -1,0 +1,17 @@
+-- The regions of an image's memory, and what reaches them.
+use Rattle.std.specs.Prelude.{Bool}
+use Rattle.rv_decode.specs.Memory.{Kind, Text, Data, Stack, is_stack, is_text}
+use Rattle.zc_machine.specs.declared.region.Access.{Access}
+use Rattle.zc_machine.specs.declared.region.Access.TheVariants.{Fetch, Interrupt}
+use Rattle.zc_machine.specs.declared.region.RegionKind.{RegionKind}
+use Rattle.zc_machine.specs.declared.region.RegionKind.TheVariants as region
+
+abbrev pub kind_of : RegionKind → Kind
+kind_of region.Text = Text
+kind_of region.Data = Data
+kind_of region.Stack = Stack
+
+-- an instruction is fetched from code, and an interrupt writes to the stack
+abbrev pub allowed : Access → Kind → Bool
+allowed Fetch = is_text
+allowed Interrupt = is_stack

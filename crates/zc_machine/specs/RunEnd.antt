@@ -1,0 +1,72 @@
+-- How a run ends.
+use Rattle.std.specs.Prelude.{◌≡◌, ℕ, ◌<◌, ◌≤◌, ◌⊎◌, List, Option, Some, None, Ok, Err}
+use Rattle.interrupt_plan.specs.Plan.{Cut}
+use Rattle.rv_decode.specs.State.{Event, ZcCore, ZcState}
+use Rattle.zc_outside.specs.Streams.{Adds, AddsPart}
+use Rattle.zc_outside.specs.declared.console.ConsoleFault.{ConsoleFault}
+use Rattle.zc_machine.specs.declared.reason.Reason.{Reason}
+use Rattle.zc_machine.specs.declared.run.RunEnd.{RunEnd}
+use Rattle.zc_machine.specs.declared.run.RunEnd.TheVariants as end
+use Rattle.zc_machine.specs.Interrupt.{cut_by}
+use Rattle.zc_machine.specs.Run.{zc_turn, zc_after}
+use Rattle.zc_machine.specs.Written.{err_of, out_of}
+
+-- a run: the machine's first state, its input, its plan, and the number of commits that it may make
+pub record Course : Type 0 where
+  pub first : ZcCore
+  pub input : List ℕ
+  pub plan : List Cut
+  pub steps : ℕ
+
+-- the program exited with this status within the commits, the last of which is the exit
+pub record RanToExit (run : Course) (status : ℕ) (last : ZcState) (now : ZcCore) : Type 0 where
+  pub commits : ℕ
+  pub within : commits ≤ run.steps
+  pub state : zc_after run.first run.input run.plan commits ≡ Ok last
+  pub exit : last.core.exit ≡ Some status
+  pub machine : now ≡ last.core
+
+-- fewer commits were made, and the next is this stop; the machine is left behind its interrupts
+pub record RanToStop (run : Course) (reason : Reason) (last : ZcState) (now : ZcCore) : Type 0 where
+  pub commits : ℕ
+  pub within : commits < run.steps
+  pub state : zc_after run.first run.input run.plan commits ≡ Ok last
+  pub running : last.core.exit ≡ None
+  pub stop : zc_turn run.plan last ≡ Err reason
+  pub machine : now ≡ cut_by run.plan last.core
+
+-- all commits were made, and the program hasn't exited
+pub record RanOut (run : Course) (last : ZcState) (now : ZcCore) : Type 0 where
+  pub state : zc_after run.first run.input run.plan run.steps ≡ Ok last
+  pub running : last.core.exit ≡ None
+  pub machine : now ≡ last.core
+
+-- the last commit is a write within the commits, and the console refused it
+pub record RanToRefusal (run : Course) (last : ZcState) : Type 0 where
+  pub commits : ℕ
+  pub within : commits ≤ run.steps
+  pub state : zc_after run.first run.input run.plan commits ≡ Ok last
+
+-- the state that the run came to; after a refusal the machine may be in any state
+abbrev pub Ended : RunEnd → Course → ZcState → ZcCore → Type 0
+Ended (end.Exit status) run last now = RanToExit run status last now
+Ended (end.Stopped reason) run last now = RanToStop run reason last now
+Ended end.Spent run last now = RanOut run last now
+Ended (end.Console fault) run last now = RanToRefusal run last
+
+-- the writes reached their streams in order; of a refused one, which is the last, a part is missing
+abbrev pub Wrote : RunEnd → List Event → Option (List ℕ) → Option (List ℕ) → Option (List ℕ) → Option (List ℕ) → Type 0
+Wrote (end.Console fault) events out out' err err' =
+    (AddsPart out out' (out_of events) × Adds err err' (err_of events)) ⊎ (Adds out out' (out_of events) × AddsPart err err' (err_of events))
+Wrote answer events out out' err err' = Adds out out' (out_of events) × Adds err err' (err_of events)
+
+-- the run came to this end, and to what it wrote up to there
+pub record Ran (run : Course) (answer : RunEnd) (now : ZcCore) (out out' err err' : Option (List ℕ)) : Type 0 where
+  pub last : ZcState
+  pub ended : Ended answer run last now
+  pub wrote : Wrote answer last.events out out' err err'
+
+-- a console that cuts a run short shows it in its counts
+abbrev pub IfConsole : RunEnd → (ConsoleFault → Type 0) → Type 0
+IfConsole (end.Console fault) P = P fault
+IfConsole answer P = Unit {0}

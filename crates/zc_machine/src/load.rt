@@ -1,0 +1,63 @@
+// The memory of a machine at its start (System V gABI, "Program Loading").
+
+ghost use Rattle.std.specs.Prelude.{◌≡◌, ◌-◌, ◌++◌, IfOk, if◌then◌else◌, length};
+ghost use Rattle.elf32_read.specs.Segment.{segment_data};
+ghost use Rattle.elf32_read.specs.Segments.{segments_of};
+ghost use Rattle.rv_decode.specs.Memory.{Text, Data, blank};
+ghost use Rattle.zc_machine.specs.Load.{first_memory, region_of, stack_region};
+ghost use Rattle.zc_machine.specs.Region.{kind_of};
+
+use crate::region::{Region, RegionKind};
+use elf32_read::image::Image;
+use elf32_read::segment::Segment;
+use std::alloc::{AllocError, Global};
+use zc_base::mem_map::MemMap;
+
+/// The regions of an image: its segments, and the stack.
+pub fn first_regions(alloc: Global, image: &Image) -> Result<Vec<Region>, AllocError>
+    ensures { IfOk result (λ regions. regions.items ≡ first_memory (segments_of image.now.0) image.now.1) }
+{
+    let count = image.segment_count();
+    let mut regions = Vec::with_capacity(alloc, count as usize + 1)?;
+    for i in 0..count {
+        regions.push(segment_region(alloc, &image.segment(i))?)?;
+    }
+    regions.push(stack(alloc, &image.map())?)?;
+    Ok(regions)
+}
+
+fn segment_region(alloc: Global, segment: &Segment) -> Result<Region, AllocError>
+    ensures { IfOk result (λ region. region ≡ region_of (segment_data segment.now)) }
+{
+    let cells = padded(alloc, segment.bytes, segment.size)?;
+    Ok(Region::new(kind_for(segment.code), segment.at, cells))
+}
+
+fn stack(alloc: Global, map: &MemMap) -> Result<Region, AllocError>
+    ensures { IfOk result (λ region. region ≡ stack_region map.now) }
+{
+    let size = map.stack_high.saturating_sub(map.stack_low);
+    let cells = padded(alloc, &[], size)?;
+    Ok(Region::new(RegionKind::Stack, map.stack_low, cells))
+}
+
+fn kind_for(code: bool) -> RegionKind
+    ensures { kind_of result ≡ (if code then Text else Data) }
+{
+    if code {
+        RegionKind::Text
+    } else {
+        RegionKind::Data
+    }
+}
+
+// The bytes, and zeros behind them up to this size.
+fn padded(alloc: Global, bytes: &[u8], size: u32) -> Result<Vec<u8>, AllocError>
+    ensures { IfOk result (λ cells. cells.items ≡ bytes.now ++ blank (size - length bytes.now) 0) }
+{
+    let size = bytes.len().max(size as usize);
+    let mut cells = Vec::with_capacity(alloc, size)?;
+    cells.extend_from_slice(bytes)?;
+    cells.resize(size, 0)?;
+    Ok(cells)
+}

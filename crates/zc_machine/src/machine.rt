@@ -1,0 +1,258 @@
+// The machine.
+
+ghost use Rattle.std.specs.Prelude.{◌≡◌, ℕ, ◌<◌, ◌-◌, ◌^◌, IfOk};
+ghost use Rattle.elf32_read.specs.Header.{entry_of};
+ghost use Rattle.elf32_read.specs.Segments.{segments_of};
+ghost use Rattle.rv_decode.specs.Effect.{effect, imm_result, onward};
+ghost use Rattle.rv_decode.specs.State.{byte_in, reg_in, set_reg};
+ghost use Rattle.zc_machine.specs.Answer.{WantsExit, answer_of, core_after, exited, fetched_as};
+ghost use Rattle.zc_machine.specs.Fetch.{fetched_at, fetched_half, fetched_word, half_at, word_at};
+ghost use Rattle.zc_machine.specs.Interrupt.{cut, dirtied};
+ghost use Rattle.zc_machine.specs.Load.{first_core};
+ghost use Rattle.zc_machine.specs.Step.{Wants, called, effect_step, short_step, zc_step};
+
+use crate::load::first_regions;
+use crate::reason::Reason;
+use crate::region::{Access, Region, byte_at, reaches, write_byte};
+use crate::step::{EnvCall, Step};
+use elf32_read::image::Image;
+use rv_decode::decode::decode;
+use rv_decode::instr::{ImmOp, Instr};
+use std::alloc::{AllocError, Global};
+use std::marker::Model;
+use zc_base::reg::Reg;
+use zc_decode::decode16::decode16;
+use zc_decode::short::Short;
+
+/// A machine: its program counter, registers, table base, memory, number of commits and exit.
+#[derive(Drop)]
+pub struct Machine {
+    pc: u32,
+    regs: [u32; 32],
+    jvt: u32,
+    regions: Vec<Region>,
+    commits: u64,
+    exit: Option<u8>,
+}
+
+impl Model for Machine {
+    ghost use Rattle.rv_decode.specs.State.{ZcCore};
+
+    ghost Value = { ZcCore };
+
+    ghost view = { λ m. record {
+      pc = m.pc;
+      regs = m.regs;
+      jvt = m.jvt;
+      memory = m.regions.items;
+      commits = m.commits;
+      exit = m.exit;
+    } };
+}
+
+impl Machine {
+    /// The machine at the start of an image. It takes the memory of all its data and stack.
+    #[tactic(auto, unfolding(crate::specs::Load::first_core))]
+    pub fn load(alloc: Global, image: &Image) -> Result<Machine, AllocError>
+        ensures { IfOk result (λ machine. machine ≡ first_core (entry_of image.now.0) (segments_of image.now.0) image.now.1) }
+    {
+        let regions = first_regions(alloc, image)?;
+        let mut regs = [0; 32];
+        regs[2] = image.map().stack_high;
+        Ok(Machine {
+            pc: image.entry(),
+            regs,
+            jvt: 0,
+            regions,
+            commits: 0,
+            exit: None,
+        })
+    }
+
+    /// The program counter.
+    pub fn pc(&self) -> u32
+        ensures { result ≡ self.now.pc }
+    {
+        self.pc
+    }
+
+    /// What a register holds.
+    pub fn register(&self, r: Reg) -> u32
+        ensures { result ≡ reg_in self.now r }
+    {
+        self.regs[r.number() as usize]
+    }
+
+    /// How many instructions were committed.
+    pub fn commits(&self) -> u64
+        ensures { result ≡ self.now.commits }
+    {
+        self.commits
+    }
+
+    /// Makes one step: commits an instruction, or changes nothing and says why.
+    #[tactic(auto, unfolding(crate::specs::Step::zc_step))]
+    pub fn step(&mut self) -> Step
+        requires { self.old.commits < 2 ^ 64 - 1 }
+        ensures answer { result ≡ answer_of (zc_step self.old) }
+        ensures state { self.new ≡ core_after (zc_step self.old) self.old }
+    {
+        if let Some(status) = self.exit {
+            return Step::Ended(status);
+        }
+        match self.fetch() {
+            Ok((short, size)) => self.execute(short, size),
+            Err(reason) => Step::Stopped(reason),
+        }
+    }
+
+    /// Makes the commit of the exit that `step` wants.
+    pub fn answer_exit(&mut self)
+        requires room { self.old.commits < 2 ^ 64 - 1 }
+        requires wanted { WantsExit (zc_step self.old) }
+        ensures { (status : ℕ) → zc_step self.old ≡ Wants (EnvCall.Exit status) → self.new ≡ exited status self.old }
+    {
+        self.exit = Some((self.regs[10] % 256) as u8);
+        self.commits += 1;
+    }
+
+    /// Makes an interrupt before the next commit: `dirt` is the bytes that it writes, by address. No
+    /// instruction here has several accesses yet, so there are no `done` ones to make.
+    pub fn cut(&mut self, done: &[u8], dirt: &[(u32, u8)])
+        ensures { self.new ≡ cut (record { at = self.old.commits; done = done.now; dirt = dirt.now }) self.old }
+    {
+        for (a, b) in dirt {
+            self.dirty(*a, *b);
+        }
+    }
+
+    // Writes a byte, where an interrupt may.
+    fn dirty(&mut self, a: u32, b: u8)
+        ensures { self.new ≡ dirtied (a, b) self.old }
+    {
+        let in_stack = reaches(self.regions.as_slice(), Access::Interrupt, u64::from(a), 1);
+        if in_stack && a < self.regs[2] {
+            write_byte(self.regions.as_mut_slice(), a, b);
+        }
+    }
+
+    // The halfword at an address.
+    fn half(&self, a: u64) -> u16
+        requires { a < 2 ^ 40 }
+        ensures { result ≡ half_at self.now a }
+    {
+        let regions = self.regions.as_slice();
+        u16::from(byte_at(regions, a)) + 256 * u16::from(byte_at(regions, a + 1))
+    }
+
+    // The word at an address.
+    fn word(&self, a: u64) -> u32
+        requires { a < 2 ^ 33 }
+        ensures { result ≡ word_at self.now a }
+    {
+        u32::from(self.half(a)) + 65536 * u32::from(self.half(a + 2))
+    }
+
+    // The instruction at the program counter with its size in bytes.
+    fn fetch(&self) -> Result<(Short, u32), Reason>
+        ensures { fetched_as result ≡ fetched_at self.now self.now.pc }
+    {
+        let pc = u64::from(self.pc);
+        if !reaches(self.regions.as_slice(), Access::Fetch, pc, 2) {
+            return Err(Reason::BadAccess);
+        }
+        let half = self.half(pc);
+        if half % 4 == 0b11 {
+            return self.fetch_word(pc);
+        }
+        match decode16(half) {
+            Some(short) => Ok((short, 2)),
+            None => Err(Reason::Illegal),
+        }
+    }
+
+    // The instruction of four bytes at an address.
+    fn fetch_word(&self, a: u64) -> Result<(Short, u32), Reason>
+        requires { a < 2 ^ 33 }
+        ensures { fetched_as result ≡ fetched_word self.now a }
+    {
+        if !reaches(self.regions.as_slice(), Access::Fetch, a, 4) {
+            return Err(Reason::BadAccess);
+        }
+        match decode(self.word(a)) {
+            Some(instr) => Ok((Short::Base(instr), 4)),
+            None => Err(Reason::Illegal),
+        }
+    }
+
+    // Makes the step of an instruction of this size.
+    fn execute(&mut self, short: Short, size: u32) -> Step
+        requires { self.old.commits < 2 ^ 64 - 1 }
+        ensures answer { result ≡ answer_of (short_step short size self.old) }
+        ensures state { self.new ≡ core_after (short_step short size self.old) self.old }
+    {
+        match short {
+            Short::Base(instr) => self.execute_base(instr, size),
+            _ => Step::Stopped(Reason::Illegal),
+        }
+    }
+
+    // The same for an instruction that a word spells too.
+    fn execute_base(&mut self, instr: Instr, size: u32) -> Step
+        requires { self.old.commits < 2 ^ 64 - 1 }
+        ensures answer { result ≡ answer_of (effect_step (effect instr size self.old) self.old) }
+        ensures state { self.new ≡ core_after (effect_step (effect instr size self.old) self.old) self.old }
+    {
+        match instr {
+            Instr::WithImm { op, rd, first, imm } => self.with_imm(op, rd, first, imm, size),
+            Instr::Ecall => self.call(),
+            _ => Step::Stopped(Reason::Illegal),
+        }
+    }
+
+    // An operation on a register and an immediate.
+    fn with_imm(&mut self, op: ImmOp, rd: Reg, first: Reg, imm: i32, size: u32) -> Step
+        requires { self.old.commits < 2 ^ 64 - 1 }
+        ensures answer { result ≡ answer_of (effect_step (effect (Instr.WithImm op rd first imm) size self.old) self.old) }
+        ensures state { self.new ≡ core_after (effect_step (effect (Instr.WithImm op rd first imm) size self.old) self.old) self.old }
+    {
+        match imm_value(op, self.register(first), imm) {
+            Some(value) => self.commit(rd, value, size),
+            None => Step::Stopped(Reason::Illegal),
+        }
+    }
+
+    // Commits an instruction that gives a value to a register.
+    fn commit(&mut self, rd: Reg, value: u32, size: u32) -> Step
+        requires { self.old.commits < 2 ^ 64 - 1 }
+        ensures answer { result ≡ Step.Committed }
+        ensures state { self.new ≡ onward self.old size (set_reg self.old.regs rd value) }
+    {
+        if rd.number() != 0 {
+            self.regs[rd.number() as usize] = value;
+        }
+        self.pc = self.pc.wrapping_add(size);
+        self.commits += 1;
+        Step::Committed
+    }
+
+    // The environment call that the registers spell.
+    fn call(&self) -> Step
+        ensures { result ≡ answer_of (called self.now) }
+    {
+        match self.regs[17] {
+            93 => Step::Wants(EnvCall::Exit((self.regs[10] % 256) as u8)),
+            _ => Step::Stopped(Reason::UnknownCall),
+        }
+    }
+}
+
+// What an operation on a register's value and an immediate gives.
+fn imm_value(op: ImmOp, n: u32, imm: i32) -> Option<u32>
+    ensures { result ≡ imm_result op n imm }
+{
+    match op {
+        ImmOp::Addi => Some(n.wrapping_add(imm.cast_unsigned())),
+        _ => None,
+    }
+}

@@ -1,0 +1,126 @@
+// The regions of the machine's memory.
+
+ghost use Rattle.std.specs.Prelude.{◌≡◌, ◌-◌, true, slice_index};
+ghost use Rattle.rv_decode.specs.Memory.{cell_at, cells_changed, changed, extent_of, extents_of, lies_in, spans, written};
+ghost use Rattle.zc_machine.specs.Region.{allowed, kind_of};
+
+use std::marker::Model;
+
+/// What a region is for.
+#[derive(Clone, Copy, PartialEq, Eq, Debug)]
+pub enum RegionKind {
+    Text,
+    Data,
+    Stack,
+}
+
+/// What reaches memory: the fetch of an instruction, or an interrupt that writes.
+#[derive(Clone, Copy, PartialEq, Eq, Debug)]
+pub enum Access {
+    Fetch,
+    Interrupt,
+}
+
+impl RegionKind {
+    /// Whether an access may reach such a region.
+    fn allows(self, access: Access) -> bool
+        ensures { result ≡ allowed access (kind_of self) }
+    {
+        match access {
+            Access::Fetch => match self {
+                RegionKind::Text => true,
+                RegionKind::Data | RegionKind::Stack => false,
+            },
+            Access::Interrupt => match self {
+                RegionKind::Stack => true,
+                RegionKind::Text | RegionKind::Data => false,
+            },
+        }
+    }
+}
+
+/// Bytes at consecutive addresses.
+#[derive(Drop)]
+pub struct Region {
+    kind: RegionKind,
+    at: u32,
+    cells: Vec<u8>,
+}
+
+impl Model for Region {
+    ghost use Rattle.std.specs.Prelude.{ℕ};
+    ghost use Rattle.rv_decode.specs.Memory.{Region as RegionOf};
+    ghost use Rattle.zc_machine.specs.Region.{kind_of};
+
+    ghost Value = { RegionOf ℕ };
+
+    ghost view = { λ r. record { kind = kind_of r.kind; at = r.at; cells = r.cells.items } };
+}
+
+impl Region {
+    /// The region with these cells.
+    pub fn new(kind: RegionKind, at: u32, cells: Vec<u8>) -> Region
+        ensures { result ≡ record { kind = kind_of kind; at = at; cells = cells.items } }
+    {
+        Region { kind, at, cells }
+    }
+
+    // Whether so many cells from an address on lie in the region.
+    fn spans(&self, a: u64, n: u64) -> bool
+        ensures { result ≡ spans (extent_of self.now) a n }
+    {
+        let at = u64::from(self.at);
+        let size = self.cells.len() as u64;
+        at <= a && n <= size && a - at <= size - n
+    }
+
+    // The cell at an address.
+    fn cell(&self, a: u64) -> u8
+        requires { spans (extent_of self.now) a 1 ≡ true }
+        ensures { result ≡ slice_index self.now.cells (a - self.now.at) }
+    {
+        self.cells[(a - u64::from(self.at)) as usize]
+    }
+
+    // Writes a cell, where it is one of the region's.
+    fn write(&mut self, a: u32, b: u8)
+        ensures { self.new ≡ record self.old { cells = cells_changed (written a 1 (λ _. b)) self.old.at self.old.cells } }
+    {
+        if self.spans(u64::from(a), 1) {
+            self.cells[(a - self.at) as usize] = b;
+        }
+    }
+}
+
+/// Whether so many cells from an address on lie in one region that an access may reach.
+pub fn reaches(regions: &[Region], access: Access, a: u64, n: u64) -> bool
+    ensures { result ≡ lies_in (allowed access) (extents_of regions.now) a n }
+{
+    for region in regions {
+        if region.kind.allows(access) && region.spans(a, n) {
+            return true;
+        }
+    }
+    false
+}
+
+/// The byte at an address, and 0 where there is none.
+pub fn byte_at(regions: &[Region], a: u64) -> u8
+    ensures { result ≡ cell_at 0 regions.now a }
+{
+    for region in regions {
+        if region.spans(a, 1) {
+            return region.cell(a);
+        }
+    }
+    0
+}
+
+/// Writes the byte at an address, where there is one.
+pub fn write_byte(regions: &mut [Region], a: u32, b: u8)
+    ensures { regions.new ≡ changed (written a 1 (λ _. b)) regions.old }
+{
+    for region in regions.iter_mut() {
+        region.write(a, b);
+    }
+}

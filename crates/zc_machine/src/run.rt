@@ -1,0 +1,89 @@
+// Runs of the machine.
+
+ghost use Rattle.std.specs.Prelude.{◌≡◌, ◌≢◌, ◌+◌, ◌-◌, ◌<◌, ◌≤◌, ◌^◌, None};
+ghost use Rattle.zc_machine.specs.Cursor.{IsAt};
+ghost use Rattle.zc_machine.specs.Interrupt.{cut_by};
+ghost use Rattle.zc_machine.specs.RunEnd.{Course, IfConsole, Ran};
+ghost use Rattle.zc_outside.specs.Streams.{KeepsBytes, WriteCause};
+
+use crate::machine::Machine;
+use crate::reason::Reason;
+use crate::step::{EnvCall, Step};
+use interrupt_plan::plan::Plan;
+use zc_outside::console::{Console, ConsoleFault};
+
+/// How a run ends: the program exited with a status, it is stopped, all steps were made, or the
+/// console refused a write.
+#[derive(Clone, Copy, PartialEq, Eq, Debug)]
+pub enum RunEnd {
+    Exit(u8),
+    Stopped(Reason),
+    Spent,
+    Console(ConsoleFault),
+}
+
+/// Runs a machine from its start for at most so many commits, of which an exit is one, and makes the
+/// interrupts of a plan before the commits that they name.
+pub fn run<C: Console>(
+    machine: &mut Machine,
+    plan: &Plan,
+    input: &[u8],
+    steps: u64,
+    console: &mut C,
+) -> RunEnd
+    requires running { machine.old.exit ≡ None }
+    requires start { machine.old.commits ≡ 0 }
+    requires room { steps < 2 ^ 64 - 1 }
+    ensures ran { let course : Course = record { first = machine.old; input = input.now; plan = plan.now; steps = steps } in
+        Ran course result machine.new (C.out_bytes console.old) (C.out_bytes console.new)
+        (C.err_bytes console.old) (C.err_bytes console.new) }
+    ensures cause { IfConsole result (WriteCause (C.write_faults console.old) (C.write_faults console.new)
+        (C.memory_faults console.old) (C.memory_faults console.new)) }
+
+    ensures input_stays { KeepsBytes (C.input console.old) (C.input console.new) }
+    ensures count { C.taken console.new ≡ C.taken console.old }
+    ensures reads { C.read_faults console.new ≡ C.read_faults console.old }
+    ensures writes { C.write_faults console.old ≤ C.write_faults console.new }
+    ensures memory { C.memory_faults console.old ≤ C.memory_faults console.new }
+
+    ensures stays { C.sure console.old → C.sure console.new }
+    ensures sure { C.sure console.old →
+        (C.write_faults console.new ≡ C.write_faults console.old) × (result ≢ RunEnd.Console ConsoleFault.Failed) }
+{
+    let mut next = 0;
+    while machine.commits() < steps {
+        next = interrupt(machine, plan, next);
+        match machine.step() {
+            Step::Committed => {}
+            Step::Wants(EnvCall::Exit(status)) => {
+                machine.answer_exit();
+                return RunEnd::Exit(status);
+            }
+            Step::Wants(EnvCall::Read { .. }) => return RunEnd::Stopped(Reason::UnknownCall),
+            Step::Wants(EnvCall::Write { .. }) => return RunEnd::Stopped(Reason::UnknownCall),
+            Step::Ended(status) => return RunEnd::Exit(status),
+            Step::Stopped(reason) => return RunEnd::Stopped(reason),
+        }
+    }
+    RunEnd::Spent
+}
+
+// Makes the interrupts before the next commit, from the one with this number on, and gives the number
+// of the first one behind them.
+fn interrupt(machine: &mut Machine, plan: &Plan, next: u32) -> u32
+    requires { IsAt plan.now next machine.old.commits }
+    ensures made { machine.new ≡ cut_by plan.now machine.old }
+    ensures reached { IsAt plan.now result (machine.old.commits + 1) }
+{
+    let count = plan.cut_count();
+    let mut next = next;
+    while next < count {
+        let cut = plan.cut(next);
+        if cut.at != machine.commits() {
+            break;
+        }
+        machine.cut(cut.done.as_slice(), cut.dirt.as_slice());
+        next += 1;
+    }
+    next
+}
