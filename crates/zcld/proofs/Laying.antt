@@ -12,23 +12,23 @@ use Rattle.zc_base.specs.declared.place.Place.{Place}
 use Rattle.zc_base.specs.MemMap.{standard_map}
 use Rattle.zc_base.specs.Fields.{half_bytes, word_bytes}
 use Rattle.elf32_read.specs.Segments.{SegmentData}
-use Rattle.rv_decode.specs.declared.instr.Instr.{Instr}
-use Rattle.block_cut.specs.declared.item.Item.TheVariants.{Op}
-use Rattle.block_cut.specs.Items.{item_in}
 use Rattle.elf32_write.specs.Loadable.{segments}
 use Rattle.elf32_write.specs.Parts.{Parts}
-use Rattle.interrupt_plan.specs.Plan.{IsPlan}
-use Rattle.sym_machine.specs.Objects.{program_of}
+use Rattle.rv_decode.specs.declared.instr.Instr.{Instr}
 use Rattle.rv_decode.specs.Bits.{field}
 use Rattle.rv_decode.specs.Decode.{decoded}
 use Rattle.rv_decode.specs.Memory.{Text, Data, Stack, blank, cell_at, extents_of, is_data, is_text, lies_in, spans}
 use Rattle.rv_decode.specs.State.{ZcCore, byte_in}
 use Rattle.rv_decode.proofs.MemoryLaws.{get_or_blank, length_blank, spans_before}
 use Rattle.rv_decode.proofs.DecodeLaws.{IsAddi, IsEcall, decoded-low_bits, decoded_row}
+use Rattle.zc_decode.specs.declared.short.Short.TheVariants.{Base}
+use Rattle.block_cut.specs.declared.item.Item.TheVariants.{Op}
+use Rattle.block_cut.specs.Items.{item_in}
+use Rattle.sym_machine.specs.Objects.{program_of}
 use Rattle.sym_machine.specs.declared.word.SymByte.{SymByte}
 use Rattle.sym_machine.specs.declared.word.SymByte.TheVariants.{Undef}
 use Rattle.sym_machine.specs.declared.word.Value.{Value}
-use Rattle.zc_decode.specs.declared.short.Short.TheVariants.{Base}
+use Rattle.interrupt_plan.specs.Plan.{IsPlan}
 use Rattle.zc_machine.specs.Fetch.{Found, fetched_at, half_at, word_at}
 use Rattle.zc_machine.specs.Load.{first_core}
 use Rattle.zc_machine.proofs.FetchLaws.{fetched_long, fetched_short}
