@@ -70,13 +70,12 @@ pub fn run<C: Console>(
 
 // Makes the interrupts before the next commit, from the one with this number on, and gives the number
 // of the first one behind them.
-fn interrupt(machine: &mut Machine, plan: &Plan, next: u32) -> u32
+fn interrupt(machine: &mut Machine, plan: &Plan, mut next: u32) -> u32
     requires { IsAt plan.now next machine.old.commits }
     ensures made { machine.new ≡ cut_by plan.now machine.old }
     ensures reached { IsAt plan.now result (machine.old.commits + 1) }
 {
     let count = plan.cut_count();
-    let mut next = next;
     while next < count {
         let cut = plan.cut(next);
         if cut.at != machine.commits() {

@@ -1,4 +1,5 @@
-use Rattle.std.proofs.Common.{◌≡◌, ℕ, ◌+◌, ◌<◌, ◌≤◌, List, length, get_or, drop, refl, sym, ap, ◌∙◌, arith, below_more}
+use Rattle.std.proofs.Common.{◌≡◌, ◌≢◌, ℕ, ◌+◌, ◌<◌, ◌≤◌, List, length, get_or, drop, Some, refl, sym, ap, ◌∙◌, arith, below_more}
+use Rattle.std.specs.List.{slice_get}
 use Rattle.std.proofs.lemmas.Option.{get_or_from_slice_get}
 use Rattle.interrupt_plan.specs.Plan.{Cut}
 use Rattle.interrupt_plan.specs.Order.{IsInOrder}
@@ -6,9 +7,15 @@ use Rattle.zc_machine.specs.Interrupt.{all_dirtied, cut, cut_by}
 use Rattle.zc_machine.proofs.CutLaws.{cut_by-drop, cut_by-later, cut_by-more, cut_keeps}
 use Rattle.zc_machine.proofs.run.interrupt.Goals as goal
 
--- where the next interrupt is a later one, all that follow are
-all_later : (plan : List Cut) (next k : ℕ) → IsInOrder plan → ((d : Cut) → k < (get_or plan next d).at) → (j : ℕ) (d : Cut) → next ≤ j → j < length plan → k < (get_or plan j d).at
-all_later plan next k up first j d low lt = let q = up next j d low lt in let f = first d in omega arith
+-- an interrupt that is none of this commit, nor of an earlier one, is a later one, and so are all behind it
+all_later :
+    (plan : List Cut) (next commit : ℕ) (c : Cut) → IsInOrder plan → slice_get plan next ≡ Some c → commit ≤ (get_or plan next c).at
+    → c.at ≢ commit → (j : ℕ) (d : Cut) → next ≤ j → j < length plan → commit < (get_or plan j d).at
+all_later plan next commit c up here reached other j d low lt =
+    let first = ap (λ (x : Cut). x.at) (get_or_from_slice_get plan next c c here) in
+    let same = ap (λ (x : Cut). x.at) (get_or_from_slice_get plan next c d here) in
+    let behind = up next j d low lt in
+    omega arith
 
 pub loop-next-init : goal.loop-next-init
 loop-next-init c =
@@ -45,29 +52,26 @@ loop-next-preserved c =
 pub returns-then-cut-commits-clause-made : goal.returns-then-cut-commits-clause-made
 returns-then-cut-commits-clause-made c =
     let plan = c.args.plan.now in
-    let next = c.loop-next.next in
     let z = c.loop-next.machine in
     let kept = c.loop-next.invariant in
+    let next = c.loop-next.next in
     let k = c.cut-cut.result.now in
-    let in_plan : next < length plan = omega arith in
-    let here : (d : Cut) → get_or plan next d ≡ k = λ d. get_or_from_slice_get plan next k d c.cut-cut.ensures in
-    let same : k.at ≡ c.cut.inside.at = sym (ap (λ (x : Cut). x.at) c.cut.view_is) in
-    let first : (d : Cut) → z.commits < (get_or plan next d).at = λ d. let e = ap (λ (x : Cut). x.at) (here d) in let q = kept.ahead next d (omega arith) in_plan in let other = c.if-cut-commits.true in omega arith in
-    sym (cut_by-later next plan z (all_later plan next z.commits c.cut_count-count.ensures.in_order first)) ∙ kept.made
+    let other : k.at ≢ z.commits = λ e. c.if-cut-commits.true (ap (λ (x : Cut). x.at) c.cut.view_is ∙ e ∙ sym c.commits.ensures) in
+    let later = all_later plan next z.commits k c.cut_count-count.ensures.in_order c.cut-cut.ensures (kept.ahead next k (omega arith) (omega arith)) other in
+    sym (cut_by-later next plan z later) ∙ kept.made
 
 pub returns-then-cut-commits-clause-reached : goal.returns-then-cut-commits-clause-reached
 returns-then-cut-commits-clause-reached c =
     let plan = c.args.plan.now in
-    let next = c.loop-next.next in
     let z = c.loop-next.machine in
     let kept = c.loop-next.invariant in
+    let next = c.loop-next.next in
     let k = c.cut-cut.result.now in
-    let in_plan : next < length plan = omega arith in
-    let here : (d : Cut) → get_or plan next d ≡ k = λ d. get_or_from_slice_get plan next k d c.cut-cut.ensures in
-    let same : k.at ≡ c.cut.inside.at = sym (ap (λ (x : Cut). x.at) c.cut.view_is) in
-    let first : (d : Cut) → z.commits < (get_or plan next d).at = λ d. let e = ap (λ (x : Cut). x.at) (here d) in let q = kept.ahead next d (omega arith) in_plan in let other = c.if-cut-commits.true in omega arith in
+    let other : k.at ≢ z.commits = λ e. c.if-cut-commits.true (ap (λ (x : Cut). x.at) c.cut.view_is ∙ e ∙ sym c.commits.ensures) in
+    let later = all_later plan next z.commits k c.cut_count-count.ensures.in_order c.cut-cut.ensures (kept.ahead next k (omega arith) (omega arith)) other in
+    let same = kept.commits in
     record {
       within = kept.within;
-      past = λ j d lt. let q = kept.past j d lt in let same_commits = kept.commits in omega arith;
-      ahead = λ j d low lt. let q = all_later plan next z.commits c.cut_count-count.ensures.in_order first j d low lt in let same_commits = kept.commits in omega arith;
+      past = λ j d lt. let q = kept.past j d lt in omega arith;
+      ahead = λ j d low lt. let q = later j d low lt in omega arith;
     }
