@@ -4,4 +4,7 @@ pub mod Refusal
 pub mod ErrLine
 pub mod Written
 pub mod Promise
+pub mod Outside
+pub mod Run
 pub mod Call
+pub mod Input

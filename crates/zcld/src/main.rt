@@ -5,8 +5,10 @@ pub mod call;
 pub mod command_line;
 pub mod err_line;
 pub mod image;
+pub mod input;
 pub mod outcome;
 pub mod refusal;
+pub mod run;
 pub mod straight;
 pub mod zc;
 
