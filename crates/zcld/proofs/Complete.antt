@@ -1,18 +1,19 @@
 -- With nothing counted, and over what is sure, a call's outcome is the one that the file's bytes have.
-use Rattle.std.proofs.Common.{◌≡◌, ◌≢◌, ℕ, ◌<◌, ◌≤◌, List, length, Option, Some, None, refl, sym, ap, ◌∙◌, ◌⊎◌, inl, inr, ⊎_elim, arith}
+use Rattle.std.proofs.Common.{◌≡◌, ◌≢◌, ℕ, ◌≤◌, List, length, Option, Some, None, refl, sym, ap, ◌∙◌, ◌⊎◌, inl, inr, ⊎_elim, arith}
 use Rattle.zc_base.specs.MemMap.{standard_map}
 use Rattle.elf32_read.specs.declared.image_fault.ImageFault.{ImageFault}
 use Rattle.elf32_read.specs.Image.{image_fault}
 use Rattle.zc_outside.specs.Files.{Files, IsLong}
 use Rattle.zcld.specs.declared.outcome.FileFault.TheVariants.{Image}
 use Rattle.zcld.specs.declared.outcome.Outcome.{Outcome}
-use Rattle.zcld.specs.declared.outcome.Outcome.TheVariants.{Done, Exited, Refused, ReadFault, WriteFault, OutOfMemory, BadFile, Stopped, Spent}
-use Rattle.zcld.specs.Call.{Answers, CallCause, CallFiles, CallTakes, CanRead, CanTake, CommandShows, IsClean, SureCall, TellsFile, ZcCause, ZcFiles, answer_of, object_limit}
-use Rattle.zcld.specs.Command.{Command, Run, Zc}
-use Rattle.zcld.specs.Input.{input_limit}
+use Rattle.zcld.specs.declared.outcome.Outcome.TheVariants.{Done, Exited, Refused, ReadFault, WriteFault, OutOfMemory, BadFile, Stopped, Stuck, Spent}
+use Rattle.zcld.specs.Call.{Answers, CallCause, CallFiles, CallTakes, CanRead, CanTake, CommandShows, IsClean, SureCall, TellsFile, ZcCause, ZcFiles, answer_of}
+use Rattle.zcld.specs.Command.{Command, Run, Trace, Zc}
+use Rattle.zcld.specs.Input.{IsLongInput, IsShortInput}
 use Rattle.zcld.specs.Outside.{Streams, Tally}
 use Rattle.zcld.specs.Refusal.{first_fault}
-use Rattle.zcld.specs.Run.{RunAnswers, RunCause, RunShows, image_limit}
+use Rattle.zcld.specs.Run.{RunAnswers, RunCause, RunShows, SureMachine, image_limit}
+use Rattle.zcld.specs.Trace.{TraceAnswers, TraceCause, TraceShows, object_limit}
 
 -- a name has one content
 one_content : (f : Files) (name a b : List ℕ) → f name ≡ Some a → f name ≡ Some b → a ≡ b
@@ -66,6 +67,26 @@ run_answers WriteFault (Some f) name image steps told counted counted' before af
 run_answers OutOfMemory (Some f) name image steps told counted counted' before after can no_read no_write cause shown = tt
 run_answers other (Some f) name image steps told counted counted' before after can no_read no_write cause shown = absurd cause
 
+-- ---- `trace`
+
+trace_answers : (outcome : Outcome) (files : Option Files) (name object : List ℕ) (steps : ℕ) (told : Option (List ℕ)) (counted counted' : Tally) (before after : Streams)
+    → TellsFile object_limit files name object → outcome ≢ ReadFault
+    → TraceCause outcome files name told counted counted' → TraceShows outcome files name steps before after
+    → TraceAnswers outcome (first_fault object)
+trace_answers outcome None name object steps told counted counted' before after can no_read cause shown = absurd can
+trace_answers (Exited code) (Some f) name object steps told counted counted' before after can no_read cause shown =
+    ap first_fault (sym (one_content f name shown.object object shown.read.held can.0)) ∙ shown.faultless
+trace_answers (Stuck place why) (Some f) name object steps told counted counted' before after can no_read cause shown =
+    ap first_fault (sym (one_content f name shown.object object shown.read.held can.0)) ∙ shown.faultless
+trace_answers Spent (Some f) name object steps told counted counted' before after can no_read cause shown =
+    ap first_fault (sym (one_content f name shown.object object shown.read.held can.0)) ∙ shown.faultless
+trace_answers (Refused i fault) (Some f) name object steps told counted counted' before after can no_read cause shown =
+    let read = cause.1 in
+    (cause.0, ap first_fault (sym (one_content f name read.0 object read.1.held can.0)) ∙ read.2)
+trace_answers ReadFault (Some f) name object steps told counted counted' before after can no_read cause shown = absurd (no_read refl)
+trace_answers OutOfMemory (Some f) name object steps told counted counted' before after can no_read cause shown = tt
+trace_answers other (Some f) name object steps told counted counted' before after can no_read cause shown = absurd cause
+
 -- ---- a call
 
 -- an outcome that is no fault of the outside is the answer
@@ -78,6 +99,8 @@ answers (Some (Zc out cert name)) outcome files files' file told counted counted
     zc_answers outcome files files' out cert name file _ _ _ _ _ _ can no_read no_write cause kept
 answers (Some (Run steps name)) outcome files files' file told counted counted' before after can no_read no_write cause kept shown =
     run_answers outcome files name file steps told counted counted' before after can no_read no_write cause shown
+answers (Some (Trace steps name)) outcome files files' file told counted counted' before after can no_read no_write cause kept shown =
+    trace_answers outcome files name file steps told counted counted' before after can no_read cause shown
 
 -- with nothing counted, no fault of the outside is the outcome
 pub no_read_fault : (command : Option Command) (outcome : Outcome) (files : Option Files) (file : List ℕ) (told : Option (List ℕ)) (counted counted' : Tally)
@@ -89,6 +112,9 @@ no_read_fault (Some (Zc out cert name)) other files file told counted counted' c
 no_read_fault (Some (Run steps name)) ReadFault files file told counted counted' can clean cause =
     λ e. ⊎_elim (λ store. ⊎_elim (λ rose. clean.0 rose) (λ rose. clean.1 rose.0) store) (λ console. ⊎_elim (λ rose. clean.2 rose) (λ long. clean.4 long.0) console) cause
 no_read_fault (Some (Run steps name)) other files file told counted counted' can clean cause = λ e. cc
+no_read_fault (Some (Trace steps name)) ReadFault files file told counted counted' can clean cause =
+    λ e. ⊎_elim (λ store. ⊎_elim (λ rose. clean.0 rose) (λ rose. clean.1 rose.0) store) (λ console. ⊎_elim (λ rose. clean.2 rose) (λ long. clean.3 long.0) console) cause
+no_read_fault (Some (Trace steps name)) other files file told counted counted' can clean cause = λ e. cc
 
 pub no_write_fault : (command : Option Command) (outcome : Outcome) (files : Option Files) (file : List ℕ) (told : Option (List ℕ)) (counted counted' : Tally)
     → CanRead command files file → IsClean command counted counted' → CallCause command outcome files told counted counted' → outcome ≢ WriteFault
@@ -97,6 +123,8 @@ no_write_fault (Some (Zc out cert name)) WriteFault files file told counted coun
 no_write_fault (Some (Zc out cert name)) other files file told counted counted' can clean cause = λ e. cc
 no_write_fault (Some (Run steps name)) WriteFault files file told counted counted' can clean cause = λ e. clean.3 cause
 no_write_fault (Some (Run steps name)) other files file told counted counted' can clean cause = λ e. cc
+no_write_fault (Some (Trace steps name)) WriteFault files file told counted counted' can clean cause = absurd cause
+no_write_fault (Some (Trace steps name)) other files file told counted counted' can clean cause = λ e. cc
 
 -- what is sure shows of a call whose file the store tells
 pub record IsSound (outcome : Outcome) (counted counted' : Tally) : Type 0 where
@@ -107,10 +135,26 @@ pub record IsSound (outcome : Outcome) (counted counted' : Tally) : Type 0 where
   pub writes_stay : counted'.writes ≡ counted.writes
   pub console_reads_stay : counted'.console_reads ≡ counted.console_reads
 
--- over a sure console whose input is told and short, the file alone can be too long
-not_long_at_all : (f : Files) (name image input : List ℕ) → f name ≡ Some image → length image ≤ image_limit → length input ≤ input_limit
-    → IsLong (Some f) name image_limit ⊎ (input_limit < length input) → ⊥
-not_long_at_all f name image input told short small = ⊎_elim (not_long f image_limit name image told short) (λ long. omega (arith, long))
+-- over a sure console whose input is told and short, neither the file nor the input is too long
+not_long_at_all : (f : Files) (limit : ℕ) (name file : List ℕ) (told : Option (List ℕ)) → f name ≡ Some file → length file ≤ limit → IsShortInput told
+    → IsLong (Some f) name limit ⊎ IsLongInput told → ⊥
+not_long_at_all f limit name file None is short small = absurd small
+not_long_at_all f limit name file (Some input) is short small = ⊎_elim (not_long f limit name file is short) (λ long. omega (arith, long, small))
+
+sound_machine : (limit : ℕ) (outcome : Outcome) (files : Option Files) (name file : List ℕ) (told : Option (List ℕ)) (counted counted' : Tally)
+    → TellsFile limit files name file → IsShortInput told → SureMachine limit outcome files name told counted counted' → IsSound outcome counted counted'
+sound_machine limit outcome None name file told counted counted' can short shows = absurd can
+sound_machine limit outcome (Some f) name file told counted counted' can small shows =
+    let shown = shows (file, can.0) in
+    let short = not_long f limit name file can.0 can.1 in
+    record {
+      no_read = λ e. not_long_at_all f limit name file told can.0 can.1 small (shown.4 e);
+      no_write = shown.5;
+      reads_stay = shown.0;
+      longs_stay = ⊎_elim (λ e. e) (λ long. absurd (short long)) shown.2;
+      writes_stay = shown.1;
+      console_reads_stay = shown.3;
+    }
 
 pub sound : (command : Option Command) (outcome : Outcome) (files : Option Files) (file : List ℕ) (sure : Type 0) (told : Option (List ℕ)) (counted counted' : Tally)
     → CanRead command files file → CanTake command sure told → SureCall command sure outcome files told counted counted' → CallTakes command counted counted'
@@ -128,16 +172,7 @@ sound (Some (Zc out cert name)) outcome (Some f) file sure told counted counted'
       writes_stay = shown.1;
       console_reads_stay = takes.1;
     }
-sound (Some (Run steps name)) outcome None file sure told counted counted' can ready shows takes = absurd can
-sound (Some (Run steps name)) outcome (Some f) file sure None counted counted' can ready shows takes = absurd ready
-sound (Some (Run steps name)) outcome (Some f) file sure (Some input) counted counted' can ready shows takes =
-    let shown = shows ready.0 (file, can.0) in
-    let short = not_long f image_limit name file can.0 can.1 in
-    record {
-      no_read = λ e. not_long_at_all f name file input can.0 can.1 ready.1 (shown.4 e);
-      no_write = shown.5;
-      reads_stay = shown.0;
-      longs_stay = ⊎_elim (λ e. e) (λ long. absurd (short long)) shown.2;
-      writes_stay = shown.1;
-      console_reads_stay = shown.3;
-    }
+sound (Some (Run steps name)) outcome files file sure told counted counted' can ready shows takes =
+    sound_machine image_limit outcome files name file told counted counted' can ready.1 (shows ready.0)
+sound (Some (Trace steps name)) outcome files file sure told counted counted' can ready shows takes =
+    sound_machine object_limit outcome files name file told counted counted' can ready.1 (shows ready.0)

@@ -6,4 +6,6 @@ pub mod Laying
 pub mod Reported
 pub mod ShortForms
 pub mod StraightLoop
+pub mod SymLaws
+pub mod SymRunLaws
 pub mod Unbuilt

@@ -6,7 +6,7 @@ use Rattle.zcld.specs.declared.outcome.FileFault.TheVariants.{Image}
 use Rattle.zcld.specs.declared.outcome.Outcome.{Outcome}
 use Rattle.zcld.specs.declared.outcome.Outcome.TheVariants.{ReadFault, WriteFault, BadFile}
 use Rattle.zcld.specs.Call.{CallCause, CallTakes, WritesLine}
-use Rattle.zcld.specs.Command.{Command, Run, Zc}
+use Rattle.zcld.specs.Command.{Command, Run, Trace, Zc}
 use Rattle.zcld.specs.Outside.{Tally}
 
 -- a count that rose from a later value on rose from an earlier one
@@ -48,6 +48,9 @@ cause_behind (Some (Run steps name)) WriteFault files told before reads longs wr
     rose_to before.console_writes console_writes console_writes' written cause
 cause_behind (Some (Run steps name)) (BadFile (Image fault)) files told before reads longs writes console_reads console_reads' console_writes console_writes' taken taken' same_reads same_taken written cause = cause
 cause_behind (Some (Run steps name)) other files told before reads longs writes console_reads console_reads' console_writes console_writes' taken taken' same_reads same_taken written cause = cause
+cause_behind (Some (Trace steps name)) ReadFault files told before reads longs writes console_reads console_reads' console_writes console_writes' taken taken' same_reads same_taken written cause =
+    rw (same_reads, same_taken) cause
+cause_behind (Some (Trace steps name)) other files told before reads longs writes console_reads console_reads' console_writes console_writes' taken taken' same_reads same_taken written cause = cause
 
 pub takes_behind : (command : Option Command) (before : Tally) (reads longs writes console_reads console_reads' console_writes console_writes' taken taken' : ℕ)
     → console_reads' ≡ console_reads → taken' ≡ taken
@@ -56,3 +59,4 @@ pub takes_behind : (command : Option Command) (before : Tally) (reads longs writ
 takes_behind None before reads longs writes console_reads console_reads' console_writes console_writes' taken taken' same_reads same_taken takes = (same_taken ∙ takes.0, same_reads ∙ takes.1)
 takes_behind (Some (Zc out cert name)) before reads longs writes console_reads console_reads' console_writes console_writes' taken taken' same_reads same_taken takes = (same_taken ∙ takes.0, same_reads ∙ takes.1)
 takes_behind (Some (Run steps name)) before reads longs writes console_reads console_reads' console_writes console_writes' taken taken' same_reads same_taken takes = tt
+takes_behind (Some (Trace steps name)) before reads longs writes console_reads console_reads' console_writes console_writes' taken taken' same_reads same_taken takes = tt

@@ -8,18 +8,15 @@ use Rattle.zc_outside.specs.Files.{Files, Holds, IsLong, KeepsFiles, PutsFile, R
 use Rattle.zc_outside.specs.Streams.{KeepsBytes}
 use Rattle.zcld.specs.declared.outcome.Outcome.{Outcome}
 use Rattle.zcld.specs.declared.outcome.Outcome.TheVariants.{Done, Usage, Refused, ReadFault, WriteFault, OutOfMemory}
-use Rattle.zcld.specs.Command.{Command, Run, Zc}
+use Rattle.zcld.specs.Command.{Command, Run, Trace, Zc}
 use Rattle.zcld.specs.ErrLine.{err_line}
-use Rattle.zcld.specs.Input.{RoseAbove, input_limit}
+use Rattle.zcld.specs.Input.{IsShortInput, RoseAbove, input_limit}
 use Rattle.zcld.specs.Outside.{IsRead, KeepsStreams, Streams, Tally}
 use Rattle.zcld.specs.Promise.{IsImageOf}
 use Rattle.zcld.specs.Refusal.{first_fault}
-use Rattle.zcld.specs.Run.{RunAnswers, RunCause, RunShows, SureRun, image_limit}
+use Rattle.zcld.specs.Run.{RunAnswers, RunCause, RunShows, SureMachine, image_limit}
+use Rattle.zcld.specs.Trace.{TraceAnswers, TraceCause, TraceShows, object_limit}
 use Rattle.zcld.specs.Written.{empty_certificate}
-
--- the most bytes of an object
-abbrev pub object_limit : ℕ
-object_limit = 4194304
 
 -- ---- what stands
 
@@ -110,10 +107,12 @@ abbrev pub CallFiles : Option Command → Outcome → Option Files → Option Fi
 CallFiles None outcome before after = KeepsFiles before after
 CallFiles (Some (Zc out cert name)) outcome before after = ZcFiles outcome before after out cert name
 CallFiles (Some (Run steps name)) outcome before after = KeepsFiles before after
+CallFiles (Some (Trace steps name)) outcome before after = KeepsFiles before after
 
 -- the streams that a command leaves, by its outcome
 abbrev pub CommandShows : Option Command → Outcome → Option Files → Streams → Streams → Type 0
 CommandShows (Some (Run steps name)) outcome files before after = RunShows outcome files name steps before after
+CommandShows (Some (Trace steps name)) outcome files before after = TraceShows outcome files name steps before after
 CommandShows other outcome files before after = KeepsStreams before after
 
 -- the streams after a call: those that its command leaves, and then the outcome's line, which leaves the
@@ -131,10 +130,12 @@ CallCause None outcome files told before after = outcome ≡ Usage
 CallCause (Some (Zc out cert name)) outcome files told before after =
     ZcCause outcome files name before.reads after.reads before.longs after.longs before.writes after.writes
 CallCause (Some (Run steps name)) outcome files told before after = RunCause outcome files name told before after
+CallCause (Some (Trace steps name)) outcome files told before after = TraceCause outcome files name told before after
 
 -- a command that takes no input leaves what the console counts of it
 abbrev pub CallTakes : Option Command → Tally → Tally → Type 0
 CallTakes (Some (Run steps name)) before after = ⊤
+CallTakes (Some (Trace steps name)) before after = ⊤
 CallTakes other before after = (after.taken ≡ before.taken) × (after.console_reads ≡ before.console_reads)
 
 -- ---- completeness
@@ -149,6 +150,7 @@ abbrev pub CanRead : Option Command → Option Files → List ℕ → Type 0
 CanRead None files file = ⊥
 CanRead (Some (Zc out cert name)) files file = TellsFile object_limit files name file
 CanRead (Some (Run steps name)) files file = TellsFile image_limit files name file
+CanRead (Some (Trace steps name)) files file = TellsFile object_limit files name file
 
 -- nothing was counted that can stop a command
 abbrev pub IsClean : Option Command → Tally → Tally → Type 0
@@ -159,6 +161,9 @@ IsClean (Some (Run steps name)) before after =
     (¬ Rose before.reads after.reads) × (¬ Rose before.longs after.longs)
     × (¬ Rose before.console_reads after.console_reads) × (¬ Rose before.console_writes after.console_writes)
     × (¬ RoseAbove input_limit before.taken after.taken)
+IsClean (Some (Trace steps name)) before after =
+    (¬ Rose before.reads after.reads) × (¬ Rose before.longs after.longs)
+    × (¬ Rose before.console_reads after.console_reads) × (¬ RoseAbove input_limit before.taken after.taken)
 
 -- what an honest outside and memory give for an object: all is done, or the first fault is named
 abbrev pub answer_of : Option Fault → Outcome
@@ -170,6 +175,7 @@ abbrev pub Answers : Option Command → Outcome → List ℕ → Type 0
 Answers None outcome file = ⊥
 Answers (Some (Zc out cert name)) outcome file = (outcome ≡ answer_of (first_fault file)) ⊎ (outcome ≡ OutOfMemory)
 Answers (Some (Run steps name)) outcome file = RunAnswers outcome (image_fault file standard_map)
+Answers (Some (Trace steps name)) outcome file = TraceAnswers outcome (first_fault file)
 
 -- what a sure store that holds the object shows: no fault is counted, and a long file only where it is one
 abbrev pub SureZc : Outcome → Option Files → List ℕ → ℕ → ℕ → ℕ → ℕ → ℕ → ℕ → Type 0
@@ -178,17 +184,18 @@ SureZc outcome files name reads reads' longs longs' writes writes' =
     (reads' ≡ reads) × (writes' ≡ writes) × ((longs' ≡ longs) ⊎ IsLong files name object_limit)
     × (outcome ≡ ReadFault → IsLong files name object_limit) × (outcome ≢ WriteFault)
 
--- the same of a call, by its command; `run` needs a sure console too
+-- the same of a call, by its command; a machine needs a sure console too
 abbrev pub SureCall : Option Command → Type 0 → Outcome → Option Files → Option (List ℕ) → Tally → Tally → Type 0
 SureCall None sure outcome files told before after = ⊤
 SureCall (Some (Zc out cert name)) sure outcome files told before after =
     SureZc outcome files name before.reads after.reads before.longs after.longs before.writes after.writes
-SureCall (Some (Run steps name)) sure outcome files told before after = sure → SureRun outcome files name told before after
+SureCall (Some (Run steps name)) sure outcome files told before after = sure → SureMachine image_limit outcome files name told before after
+SureCall (Some (Trace steps name)) sure outcome files told before after = sure → SureMachine object_limit outcome files name told before after
 
 -- a command that takes input has a sure console that tells no more of it than may be taken
 abbrev pub CanTake : Option Command → Type 0 → Option (List ℕ) → Type 0
-CanTake (Some (Run steps name)) sure None = ⊥
-CanTake (Some (Run steps name)) sure (Some input) = sure × (length input ≤ input_limit)
+CanTake (Some (Run steps name)) sure told = sure × IsShortInput told
+CanTake (Some (Trace steps name)) sure told = sure × IsShortInput told
 CanTake other sure told = ⊤
 
 -- no fault and no long file is counted

@@ -12,6 +12,7 @@ use Rattle.zcld.specs.declared.command_line.CommandLine.TheVariants as line
 pub data Command : Type 0 where
   Zc : (out cert object : List ℕ) → Command
   Run : (steps : ℕ) (image : List ℕ) → Command
+  Trace : (steps : ℕ) (object : List ℕ) → Command
 
 -- ---- words
 
@@ -48,10 +49,12 @@ zc_spelled name first x second y object =
     (if bytes_eq first (codes "--out") && bytes_eq second (codes "--cert") then zc_command x y object else
     (if bytes_eq first (codes "--cert") && bytes_eq second (codes "--out") then zc_command y x object else None))
 
--- `run` of a file, which is no option, for so many steps
+-- `run` or `trace` of a file, which is no option, for so many steps
 abbrev pub stepping : List ℕ → ℕ → List ℕ → Option Command
 stepping name steps file =
-    if begins_with_dash file then None else (if bytes_eq name (codes "run") then Some (Run steps file) else None)
+    if begins_with_dash file then None else
+    (if bytes_eq name (codes "run") then Some (Run steps file) else
+    (if bytes_eq name (codes "trace") then Some (Trace steps file) else None))
 
 -- the same with the option that says how many
 abbrev pub stepping_for : List ℕ → List ℕ → List ℕ → List ℕ → Option Command
@@ -69,3 +72,4 @@ command_of other = None
 abbrev pub meant : CommandLine → Command
 meant (line.Zc out cert object) = Zc out.now cert.now object.now
 meant (line.Run steps image) = Run steps image.now
+meant (line.Trace steps object) = Trace steps object.now

@@ -3,11 +3,14 @@ use Rattle.std.specs.Prelude.{ℕ, ◌+◌, ◌/◌, ◌%◌, ◌^◌, nat_lt, i
 use Rattle.elf32_read.specs.declared.fault.Fault.{Fault}
 use Rattle.elf32_read.specs.Fault.{fault_number, fault_name}
 use Rattle.elf32_read.specs.ImageFault.{image_fault_number}
+use Rattle.zc_base.specs.declared.place.Place.{Place}
+use Rattle.sym_machine.specs.declared.why.Why.{Why}
+use Rattle.sym_machine.specs.Why.{why_name, why_number}
 use Rattle.zc_machine.specs.declared.reason.Reason.{Reason}
 use Rattle.zc_machine.specs.Reason.{reason_name, reason_number}
 use Rattle.zcld.specs.declared.outcome.FileFault.TheVariants.{Image}
 use Rattle.zcld.specs.declared.outcome.Outcome.{Outcome}
-use Rattle.zcld.specs.declared.outcome.Outcome.TheVariants.{Done, Exited, Usage, Refused, ReadFault, WriteFault, OutOfMemory, BadFile, Stopped, Spent}
+use Rattle.zcld.specs.declared.outcome.Outcome.TheVariants.{Done, Exited, Usage, Refused, ReadFault, WriteFault, OutOfMemory, BadFile, Stopped, Stuck, Spent}
 
 -- a text with a line feed behind it
 abbrev pub line : List ℕ → List ℕ
@@ -34,6 +37,12 @@ hex_word n =
 abbrev pub stop_text : Reason → ℕ → List ℕ
 stop_text reason pc = codes "stopped " ++ decimal (reason_number reason) ++ codes " " ++ reason_name reason ++ codes " " ++ hex_word pc
 
+-- a program that is stuck names the place, and the reason by number and name
+abbrev pub stuck_text : Place → Why → List ℕ
+stuck_text place why =
+    codes "stuck " ++ decimal place.object ++ codes " " ++ decimal place.section ++ codes " " ++ decimal place.offset
+    ++ codes " " ++ decimal (why_number why) ++ codes " " ++ why_name why
+
 -- the line of each outcome but the one that needs none
 abbrev pub err_line : Outcome → List ℕ
 err_line Done = []
@@ -45,6 +54,7 @@ err_line WriteFault = line (codes "write fault")
 err_line OutOfMemory = line (codes "out of memory")
 err_line (BadFile (Image fault)) = line (codes "bad image " ++ decimal (image_fault_number fault))
 err_line (Stopped reason pc) = line (stop_text reason pc)
+err_line (Stuck place why) = line (stuck_text place why)
 err_line Spent = line (codes "spent")
 
 -- the status of each outcome
@@ -58,4 +68,5 @@ status_of WriteFault = 123
 status_of OutOfMemory = 124
 status_of (BadFile fault) = 125
 status_of (Stopped reason pc) = 126
+status_of (Stuck place why) = 126
 status_of Spent = 127

@@ -23,6 +23,11 @@ abbrev pub IsLongInput : Option (List ℕ) → Type 0
 IsLongInput None = ⊤
 IsLongInput (Some xs) = input_limit < length xs
 
+-- the input is told, and no longer than its limit
+abbrev pub IsShortInput : Option (List ℕ) → Type 0
+IsShortInput None = ⊥
+IsShortInput (Some xs) = length xs ≤ input_limit
+
 -- why the input can't be had: reading it failed, or it is too long, or memory ran out
 abbrev pub InputCause : Outcome → Option (List ℕ) → ℕ → ℕ → ℕ → ℕ → Type 0
 InputCause ReadFault told reads reads' taken taken' = Rose reads reads' ⊎ (RoseAbove input_limit taken taken' × IsLongInput told)

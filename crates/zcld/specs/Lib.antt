@@ -6,5 +6,8 @@ pub mod Written
 pub mod Promise
 pub mod Outside
 pub mod Run
+pub mod Sym
+pub mod SymRun
+pub mod Trace
 pub mod Call
 pub mod Input

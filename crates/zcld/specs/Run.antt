@@ -77,6 +77,12 @@ ExecuteCause ReadFault told reads reads' taken taken' writes writes' = Rose read
 ExecuteCause WriteFault told reads reads' taken taken' writes writes' = Rose writes writes'
 ExecuteCause other told reads reads' taken taken' writes writes' = ⊤
 
+-- why the file, of at most so many bytes, or the input can't be had: reading it failed, or it is too long
+abbrev pub IsUnread : ℕ → Option Files → List ℕ → Option (List ℕ) → Tally → Tally → Type 0
+IsUnread limit files name told before after =
+    (Rose before.reads after.reads ⊎ (Rose before.longs after.longs × IsLong files name limit))
+    ⊎ (Rose before.console_reads after.console_reads ⊎ (RoseAbove input_limit before.taken after.taken × IsLongInput told))
+
 -- the image was read, and this fault stands in it
 abbrev pub IsBadImage : Option Files → List ℕ → ImageFault → Type 0
 IsBadImage files name fault = (image : List ℕ) × IsRead image_limit files name image × (image_fault image standard_map ≡ Some fault)
@@ -87,9 +93,7 @@ RunCause (Exited code) files name told before after = ⊤
 RunCause (Stopped reason pc) files name told before after = ⊤
 RunCause Spent files name told before after = ⊤
 RunCause OutOfMemory files name told before after = ⊤
-RunCause ReadFault files name told before after =
-    (Rose before.reads after.reads ⊎ (Rose before.longs after.longs × IsLong files name image_limit))
-    ⊎ (Rose before.console_reads after.console_reads ⊎ (RoseAbove input_limit before.taken after.taken × IsLongInput told))
+RunCause ReadFault files name told before after = IsUnread image_limit files name told before after
 RunCause WriteFault files name told before after = Rose before.console_writes after.console_writes
 RunCause (BadFile (Image fault)) files name told before after = IsBadImage files name fault
 RunCause other files name told before after = ⊥
@@ -105,10 +109,10 @@ RunAnswers (BadFile (Image found)) fault = fault ≡ Some found
 RunAnswers OutOfMemory fault = ⊤
 RunAnswers other fault = ⊥
 
--- what a sure store that holds the image, and a sure console, show
-abbrev pub SureRun : Outcome → Option Files → List ℕ → Option (List ℕ) → Tally → Tally → Type 0
-SureRun outcome files name told before after =
+-- what a sure store that holds the file, of at most so many bytes, and a sure console show
+abbrev pub SureMachine : ℕ → Outcome → Option Files → List ℕ → Option (List ℕ) → Tally → Tally → Type 0
+SureMachine limit outcome files name told before after =
     Holds files name →
-    (after.reads ≡ before.reads) × (after.writes ≡ before.writes) × ((after.longs ≡ before.longs) ⊎ IsLong files name image_limit)
+    (after.reads ≡ before.reads) × (after.writes ≡ before.writes) × ((after.longs ≡ before.longs) ⊎ IsLong files name limit)
     × (after.console_reads ≡ before.console_reads)
-    × (outcome ≡ ReadFault → IsLong files name image_limit ⊎ IsLongInput told) × (outcome ≢ WriteFault)
+    × (outcome ≡ ReadFault → IsLong files name limit ⊎ IsLongInput told) × (outcome ≢ WriteFault)

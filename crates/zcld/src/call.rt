@@ -10,6 +10,7 @@ use crate::command_line::{CommandLine, read};
 use crate::err_line::report;
 use crate::outcome::Outcome;
 use crate::run::run;
+use crate::trace::trace;
 use crate::zc::zc;
 use std::alloc::Global;
 use zc_outside::console::Console;
@@ -186,6 +187,7 @@ fn perform<S: Store, C: Console>(
     match read(words) {
         Some(CommandLine::Zc { out, cert, object }) => zc(alloc, out, cert, object, store),
         Some(CommandLine::Run { steps, image }) => run(alloc, steps, image, store, console),
+        Some(CommandLine::Trace { steps, object }) => trace(alloc, steps, object, store, console),
         None => Outcome::Usage,
     }
 }

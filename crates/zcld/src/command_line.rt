@@ -12,7 +12,8 @@ const MOST_STEPS: u64 = 1_000_000_000;
 // The steps that are allowed where no word says.
 const USUAL_STEPS: u64 = 10_000_000;
 
-/// A command, with the names of its files. `steps` is how many commits the machine may make.
+/// A command, with the names of its files. `steps` is how many commits or steps
+/// the machine may make.
 #[derive(Clone, Copy)]
 pub enum CommandLine<'a> {
     Zc {
@@ -23,6 +24,10 @@ pub enum CommandLine<'a> {
     Run {
         steps: u64,
         image: &'a str,
+    },
+    Trace {
+        steps: u64,
+        object: &'a str,
     },
 }
 
@@ -38,7 +43,7 @@ pub fn read(words: &[String]) -> Option<CommandLine<'_>>
     }
 }
 
-// The command `run`, with the option that says how many steps.
+// The command `run` or `trace`, with the option that says how many steps.
 fn machine_for<'a>(
     name: &'a String,
     option: &'a String,
@@ -56,7 +61,7 @@ fn machine_for<'a>(
     }
 }
 
-// The command `run` of a file, for so many steps.
+// The command `run` or `trace` of a file, for so many steps.
 fn machine<'a>(name: &str, steps: u64, file: &'a str) -> Option<CommandLine<'a>>
     ensures { option_map meant result ≡ stepping name.now steps file.entry.now }
 {
@@ -65,6 +70,10 @@ fn machine<'a>(name: &str, steps: u64, file: &'a str) -> Option<CommandLine<'a>>
     }
     match name {
         "run" => Some(CommandLine::Run { steps, image: file }),
+        "trace" => Some(CommandLine::Trace {
+            steps,
+            object: file,
+        }),
         _ => None,
     }
 }

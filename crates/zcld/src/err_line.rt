@@ -4,12 +4,14 @@ ghost use Rattle.std.specs.Prelude.{◌≡◌, ◌≤◌, ◌<◌, ◌+◌, ◌�
 ghost use Rattle.zc_outside.specs.Files.{Rose};
 ghost use Rattle.zc_outside.specs.Streams.{KeepsBytes};
 ghost use Rattle.zcld.specs.Call.{WritesLine};
-ghost use Rattle.zcld.specs.ErrLine.{err_line, hex_at, hex_word, line as with_line_feed, refusal_text, stop_text};
+ghost use Rattle.zcld.specs.ErrLine.{err_line, hex_at, hex_word, line as with_line_feed, refusal_text, stop_text, stuck_text};
 
 use crate::outcome::{FileFault, Outcome};
 use arrayvec::ArrayString;
 use elf32_read::fault::Fault;
 use itoa::Buffer;
+use sym_machine::why::Why;
+use zc_base::place::Place;
 use zc_machine::reason::Reason;
 use zc_outside::console::Console;
 
@@ -45,6 +47,7 @@ pub fn line_of(outcome: &Outcome) -> ArrayString<ROOM>
         Outcome::OutOfMemory => line("out of memory"),
         Outcome::BadFile(FileFault::Image(fault)) => numbered("bad image ", fault.number()),
         Outcome::Stopped(reason, pc) => stop(*reason, *pc),
+        Outcome::Stuck(place, why) => stuck(*place, *why),
         Outcome::Spent => line("spent"),
     }
 }
@@ -101,6 +104,26 @@ fn stop(reason: Reason, pc: u32) -> ArrayString<ROOM>
     line.push_str(reason.name());
     line.push_str(" ");
     push_hex(&mut line, pc);
+    line.push_str("\n");
+    line
+}
+
+// The line of a program that is stuck.
+fn stuck(place: Place, why: Why) -> ArrayString<ROOM>
+    ensures { result.bytes ≡ with_line_feed (stuck_text place why) }
+{
+    let mut digits = Buffer::new();
+    let mut line = ArrayString::new();
+    line.push_str("stuck ");
+    line.push_str(digits.format(place.object));
+    line.push_str(" ");
+    line.push_str(digits.format(place.section));
+    line.push_str(" ");
+    line.push_str(digits.format(place.offset));
+    line.push_str(" ");
+    line.push_str(digits.format(why.number()));
+    line.push_str(" ");
+    line.push_str(why.name());
     line.push_str("\n");
     line
 }

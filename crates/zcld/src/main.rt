@@ -10,6 +10,9 @@ pub mod outcome;
 pub mod refusal;
 pub mod run;
 pub mod straight;
+pub mod sym;
+pub mod sym_run;
+pub mod trace;
 pub mod zc;
 
 use call::zcld;

@@ -5,6 +5,8 @@ ghost use Rattle.zcld.specs.ErrLine.{status_of};
 
 use elf32_read::fault::Fault;
 use elf32_read::image_fault::ImageFault;
+use sym_machine::why::Why;
+use zc_base::place::Place;
 use zc_machine::reason::Reason;
 
 /// What is wrong with a file that isn't an object.
@@ -14,7 +16,8 @@ pub enum FileFault {
 }
 
 /// How a call ends. A refusal names the object, by its index among those of the command line, and
-/// the first fault that stands in it. A stop names the reason and the program counter.
+/// the first fault that stands in it. A stop names the reason and the program counter, a program that
+/// is stuck the place and the reason.
 #[derive(Clone, Copy, PartialEq, Eq, Debug)]
 pub enum Outcome {
     Done,
@@ -26,6 +29,7 @@ pub enum Outcome {
     OutOfMemory,
     BadFile(FileFault),
     Stopped(Reason, u32),
+    Stuck(Place, Why),
     Spent,
 }
 
@@ -43,6 +47,7 @@ pub fn status(outcome: &Outcome) -> u8
         Outcome::OutOfMemory => 124,
         Outcome::BadFile(_) => 125,
         Outcome::Stopped(..) => 126,
+        Outcome::Stuck(..) => 126,
         Outcome::Spent => 127,
     }
 }

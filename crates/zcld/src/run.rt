@@ -6,7 +6,7 @@ ghost use Rattle.elf32_read.specs.Image.{image_fault};
 ghost use Rattle.zc_outside.specs.Files.{KeepsFiles};
 ghost use Rattle.zcld.specs.Input.{IsLongInput};
 ghost use Rattle.zcld.specs.Outside.{Streams, Tally};
-ghost use Rattle.zcld.specs.Run.{ExecuteCause, Executed, RunCause, RunShows, SureRun};
+ghost use Rattle.zcld.specs.Run.{ExecuteCause, Executed, RunCause, RunShows, SureMachine, image_limit};
 
 use crate::input::take_all;
 use crate::outcome::{FileFault, Outcome};
@@ -75,7 +75,7 @@ pub fn run<S: Store, C: Console>(
           console_writes = C.write_faults console.new;
           taken = C.taken console.new;
         } in
-        SureRun result (S.files store.old) name.now (C.input console.old) before after }
+        SureMachine image_limit result (S.files store.old) name.now (C.input console.old) before after }
 {
     let file = match store.get(alloc, name, IMAGE_LIMIT) {
         Ok(file) => file,

@@ -3,9 +3,10 @@
 ghost use Rattle.std.specs.Prelude.{◌≡◌, ◌≢◌, ◌≤◌, ◌⊎◌, ℕ, List, None, IfOk, IfErr, IsErrOf, Err, length};
 ghost use Rattle.zc_outside.specs.Files.{Holds, IsLong, KeepsFiles, Rose};
 ghost use Rattle.zcld.specs.Outside.{IsRead};
-ghost use Rattle.zcld.specs.Call.{PutsInTurn, ReadCause, SureZc, ZcCause, ZcFiles, object_limit};
+ghost use Rattle.zcld.specs.Call.{PutsInTurn, ReadCause, SureZc, ZcCause, ZcFiles};
 ghost use Rattle.zcld.specs.Promise.{IsImageOf};
 ghost use Rattle.zcld.specs.Refusal.{first_fault};
+ghost use Rattle.zcld.specs.Trace.{object_limit};
 ghost use Rattle.zcld.specs.Written.{empty_certificate};
 
 use crate::image::image_of;
