@@ -1,76 +1,178 @@
--- With nothing counted, and over what is sure, a call's outcome is the one that the object's bytes have.
-use Rattle.std.proofs.Common.{◌≡◌, ◌≢◌, ℕ, ◌≤◌, List, length, Option, Some, None, refl, sym, ap, ◌∙◌, inl, inr, ⊎_elim, arith}
-use Rattle.zc_outside.specs.Files.{Files, IsLong, Rose}
+-- With nothing counted, and over what is sure, a call's outcome is the one that the file's bytes have.
+use Rattle.std.proofs.Common.{◌≡◌, ◌≢◌, ℕ, ◌≤◌, List, length, Option, Some, None, refl, sym, ap, ◌∙◌, ◌⊎◌, inl, inr, ⊎_elim, arith}
+use Rattle.zc_base.specs.MemMap.{standard_map}
+use Rattle.elf32_read.specs.declared.image_fault.ImageFault.{ImageFault}
+use Rattle.elf32_read.specs.Image.{image_fault}
+use Rattle.zc_outside.specs.Files.{Files, IsLong}
+use Rattle.zcld.specs.declared.outcome.FileFault.TheVariants.{Image}
 use Rattle.zcld.specs.declared.outcome.Outcome.{Outcome}
-use Rattle.zcld.specs.declared.outcome.Outcome.TheVariants.{Done, Usage, Refused, ReadFault, WriteFault, OutOfMemory}
-use Rattle.zcld.specs.Call.{Answers, CallCause, CallFiles, CanRead, SureCall, answer_of, object_limit}
-use Rattle.zcld.specs.Command.{Command, Zc}
+use Rattle.zcld.specs.declared.outcome.Outcome.TheVariants.{Done, Exited, Refused, ReadFault, WriteFault, OutOfMemory, BadFile, Stopped, Stuck, Spent}
+use Rattle.zcld.specs.Call.{Answers, CallCause, CallFiles, CallTakes, CanRead, CanTake, CommandShows, IsClean, SureCall, TellsFile, ZcCause, ZcFiles, answer_of}
+use Rattle.zcld.specs.Command.{Command, Run, Trace, Zc}
+use Rattle.zcld.specs.Input.{IsLongInput, IsShortInput}
+use Rattle.zcld.specs.Outside.{Streams, Tally}
 use Rattle.zcld.specs.Refusal.{first_fault}
+use Rattle.zcld.specs.Run.{RunAnswers, RunCause, RunShows, SureMachine, image_limit}
+use Rattle.zcld.specs.Trace.{TraceAnswers, TraceCause, TraceShows, object_limit}
 
 -- a name has one content
 one_content : (f : Files) (name a b : List ℕ) → f name ≡ Some a → f name ≡ Some b → a ≡ b
 one_content f name a b one two = cc
 
--- the object that the store tells isn't too long
-not_long : (f : Files) (name object : List ℕ) → f name ≡ Some object → length object ≤ object_limit → IsLong (Some f) name object_limit → ⊥
-not_long f name object told short long =
-    let same : length object ≡ length long.0 = ap length (one_content f name object long.0 told long.1) in
+-- the file that the store tells isn't too long
+not_long : (f : Files) (limit : ℕ) (name file : List ℕ) → f name ≡ Some file → length file ≤ limit → IsLong (Some f) name limit → ⊥
+not_long f limit name file told short long =
+    let same : length file ≡ length long.0 = ap length (one_content f name file long.0 told long.1) in
     omega (arith, long.2)
 
--- an outcome that is no fault of the outside is the answer
-pub answers : (command : Option Command) (outcome : Outcome) (files after : Option Files) (object : List ℕ) (reads reads' longs longs' writes writes' : ℕ)
-    → CanRead command files object → outcome ≢ ReadFault → outcome ≢ WriteFault
-    → CallCause command outcome files reads reads' longs longs' writes writes' → CallFiles command outcome files after → Answers outcome object
-answers None outcome files after object reads reads' longs longs' writes writes' can no_read no_write cause kept = absurd can
-answers (Some (Zc out cert name)) outcome None after object reads reads' longs longs' writes writes' can no_read no_write cause kept = absurd can
-answers (Some (Zc out cert name)) Done (Some f) after object reads reads' longs longs' writes writes' can no_read no_write cause kept =
+-- ---- `zc`
+
+zc_answers : (outcome : Outcome) (files after : Option Files) (out cert name object : List ℕ) (reads reads' longs longs' writes writes' : ℕ)
+    → TellsFile object_limit files name object → outcome ≢ ReadFault → outcome ≢ WriteFault
+    → ZcCause outcome files name reads reads' longs longs' writes writes' → ZcFiles outcome files after out cert name
+    → (outcome ≡ answer_of (first_fault object)) ⊎ (outcome ≡ OutOfMemory)
+zc_answers outcome None after out cert name object reads reads' longs longs' writes writes' can no_read no_write cause kept = absurd can
+zc_answers Done (Some f) after out cert name object reads reads' longs longs' writes writes' can no_read no_write cause kept =
     let same = one_content f name kept.object object kept.read.held can.0 in
     inl (sym (ap answer_of (sym (ap first_fault same) ∙ kept.faultless)))
-answers (Some (Zc out cert name)) Usage (Some f) after object reads reads' longs longs' writes writes' can no_read no_write cause kept = absurd cause
-answers (Some (Zc out cert name)) (Refused i fault) (Some f) after object reads reads' longs longs' writes writes' can no_read no_write cause kept =
+zc_answers (Refused i fault) (Some f) after out cert name object reads reads' longs longs' writes writes' can no_read no_write cause kept =
     let read = cause.1 in
     let same = one_content f name read.0 object read.1.held can.0 in
     inl (ap (λ k. Refused k fault) cause.0 ∙ sym (ap answer_of (sym (ap first_fault same) ∙ read.2)))
-answers (Some (Zc out cert name)) ReadFault (Some f) after object reads reads' longs longs' writes writes' can no_read no_write cause kept = absurd (no_read refl)
-answers (Some (Zc out cert name)) WriteFault (Some f) after object reads reads' longs longs' writes writes' can no_read no_write cause kept = absurd (no_write refl)
-answers (Some (Zc out cert name)) OutOfMemory (Some f) after object reads reads' longs longs' writes writes' can no_read no_write cause kept = inr refl
+zc_answers ReadFault (Some f) after out cert name object reads reads' longs longs' writes writes' can no_read no_write cause kept = absurd (no_read refl)
+zc_answers WriteFault (Some f) after out cert name object reads reads' longs longs' writes writes' can no_read no_write cause kept = absurd (no_write refl)
+zc_answers OutOfMemory (Some f) after out cert name object reads reads' longs longs' writes writes' can no_read no_write cause kept = inr refl
+zc_answers other (Some f) after out cert name object reads reads' longs longs' writes writes' can no_read no_write cause kept = absurd cause
+
+-- ---- `run`
+
+same_fault : (f : Files) (name a b : List ℕ) (fault : Option ImageFault) → f name ≡ Some a → f name ≡ Some b → image_fault a standard_map ≡ fault → image_fault b standard_map ≡ fault
+same_fault f name a b fault one two is = ap (λ l. image_fault l standard_map) (sym (one_content f name a b one two)) ∙ is
+
+run_answers : (outcome : Outcome) (files : Option Files) (name image : List ℕ) (steps : ℕ) (told : Option (List ℕ)) (counted counted' : Tally) (before after : Streams)
+    → TellsFile image_limit files name image → outcome ≢ ReadFault → outcome ≢ WriteFault
+    → RunCause outcome files name told counted counted' → RunShows outcome files name steps before after
+    → RunAnswers outcome (image_fault image standard_map)
+run_answers outcome None name image steps told counted counted' before after can no_read no_write cause shown = absurd can
+run_answers (Exited code) (Some f) name image steps told counted counted' before after can no_read no_write cause shown =
+    same_fault f name shown.image image None shown.read.held can.0 shown.faultless
+run_answers (Stopped reason pc) (Some f) name image steps told counted counted' before after can no_read no_write cause shown =
+    same_fault f name shown.image image None shown.read.held can.0 shown.faultless
+run_answers Spent (Some f) name image steps told counted counted' before after can no_read no_write cause shown =
+    same_fault f name shown.image image None shown.read.held can.0 shown.faultless
+run_answers (BadFile (Image fault)) (Some f) name image steps told counted counted' before after can no_read no_write cause shown =
+    same_fault f name cause.0 image (Some fault) cause.1.held can.0 cause.2
+run_answers ReadFault (Some f) name image steps told counted counted' before after can no_read no_write cause shown = absurd (no_read refl)
+run_answers WriteFault (Some f) name image steps told counted counted' before after can no_read no_write cause shown = absurd (no_write refl)
+run_answers OutOfMemory (Some f) name image steps told counted counted' before after can no_read no_write cause shown = tt
+run_answers other (Some f) name image steps told counted counted' before after can no_read no_write cause shown = absurd cause
+
+-- ---- `trace`
+
+trace_answers : (outcome : Outcome) (files : Option Files) (name object : List ℕ) (steps : ℕ) (told : Option (List ℕ)) (counted counted' : Tally) (before after : Streams)
+    → TellsFile object_limit files name object → outcome ≢ ReadFault
+    → TraceCause outcome files name told counted counted' → TraceShows outcome files name steps before after
+    → TraceAnswers outcome (first_fault object)
+trace_answers outcome None name object steps told counted counted' before after can no_read cause shown = absurd can
+trace_answers (Exited code) (Some f) name object steps told counted counted' before after can no_read cause shown =
+    ap first_fault (sym (one_content f name shown.object object shown.read.held can.0)) ∙ shown.faultless
+trace_answers (Stuck place why) (Some f) name object steps told counted counted' before after can no_read cause shown =
+    ap first_fault (sym (one_content f name shown.object object shown.read.held can.0)) ∙ shown.faultless
+trace_answers Spent (Some f) name object steps told counted counted' before after can no_read cause shown =
+    ap first_fault (sym (one_content f name shown.object object shown.read.held can.0)) ∙ shown.faultless
+trace_answers (Refused i fault) (Some f) name object steps told counted counted' before after can no_read cause shown =
+    let read = cause.1 in
+    (cause.0, ap first_fault (sym (one_content f name read.0 object read.1.held can.0)) ∙ read.2)
+trace_answers ReadFault (Some f) name object steps told counted counted' before after can no_read cause shown = absurd (no_read refl)
+trace_answers OutOfMemory (Some f) name object steps told counted counted' before after can no_read cause shown = tt
+trace_answers other (Some f) name object steps told counted counted' before after can no_read cause shown = absurd cause
+
+-- ---- a call
+
+-- an outcome that is no fault of the outside is the answer
+pub answers : (command : Option Command) (outcome : Outcome) (files files' : Option Files) (file : List ℕ) (told : Option (List ℕ)) (counted counted' : Tally) (before after : Streams)
+    → CanRead command files file → outcome ≢ ReadFault → outcome ≢ WriteFault
+    → CallCause command outcome files told counted counted' → CallFiles command outcome files files' → CommandShows command outcome files before after
+    → Answers command outcome file
+answers None outcome files files' file told counted counted' before after can no_read no_write cause kept shown = absurd can
+answers (Some (Zc out cert name)) outcome files files' file told counted counted' before after can no_read no_write cause kept shown =
+    zc_answers outcome files files' out cert name file _ _ _ _ _ _ can no_read no_write cause kept
+answers (Some (Run steps name)) outcome files files' file told counted counted' before after can no_read no_write cause kept shown =
+    run_answers outcome files name file steps told counted counted' before after can no_read no_write cause shown
+answers (Some (Trace steps name)) outcome files files' file told counted counted' before after can no_read no_write cause kept shown =
+    trace_answers outcome files name file steps told counted counted' before after can no_read cause shown
 
 -- with nothing counted, no fault of the outside is the outcome
-pub no_read_fault : (command : Option Command) (outcome : Outcome) (files : Option Files) (object : List ℕ) (reads reads' longs longs' writes writes' : ℕ)
-    → CanRead command files object → ¬ Rose reads reads' → ¬ Rose longs longs'
-    → CallCause command outcome files reads reads' longs longs' writes writes' → outcome ≢ ReadFault
-no_read_fault None outcome files object reads reads' longs longs' writes writes' can no_reads no_longs cause = absurd can
-no_read_fault (Some (Zc out cert name)) ReadFault files object reads reads' longs longs' writes writes' can no_reads no_longs cause =
-    λ e. ⊎_elim (λ rose. no_reads rose) (λ rose. no_longs rose.0) cause
-no_read_fault (Some (Zc out cert name)) other files object reads reads' longs longs' writes writes' can no_reads no_longs cause = λ e. cc
+pub no_read_fault : (command : Option Command) (outcome : Outcome) (files : Option Files) (file : List ℕ) (told : Option (List ℕ)) (counted counted' : Tally)
+    → CanRead command files file → IsClean command counted counted' → CallCause command outcome files told counted counted' → outcome ≢ ReadFault
+no_read_fault None outcome files file told counted counted' can clean cause = absurd can
+no_read_fault (Some (Zc out cert name)) ReadFault files file told counted counted' can clean cause =
+    λ e. ⊎_elim (λ rose. clean.0 rose) (λ rose. clean.1 rose.0) cause
+no_read_fault (Some (Zc out cert name)) other files file told counted counted' can clean cause = λ e. cc
+no_read_fault (Some (Run steps name)) ReadFault files file told counted counted' can clean cause =
+    λ e. ⊎_elim (λ store. ⊎_elim (λ rose. clean.0 rose) (λ rose. clean.1 rose.0) store) (λ console. ⊎_elim (λ rose. clean.2 rose) (λ long. clean.4 long.0) console) cause
+no_read_fault (Some (Run steps name)) other files file told counted counted' can clean cause = λ e. cc
+no_read_fault (Some (Trace steps name)) ReadFault files file told counted counted' can clean cause =
+    λ e. ⊎_elim (λ store. ⊎_elim (λ rose. clean.0 rose) (λ rose. clean.1 rose.0) store) (λ console. ⊎_elim (λ rose. clean.2 rose) (λ long. clean.3 long.0) console) cause
+no_read_fault (Some (Trace steps name)) other files file told counted counted' can clean cause = λ e. cc
 
-pub no_write_fault : (command : Option Command) (outcome : Outcome) (files : Option Files) (object : List ℕ) (reads reads' longs longs' writes writes' : ℕ)
-    → CanRead command files object → ¬ Rose writes writes'
-    → CallCause command outcome files reads reads' longs longs' writes writes' → outcome ≢ WriteFault
-no_write_fault None outcome files object reads reads' longs longs' writes writes' can no_writes cause = absurd can
-no_write_fault (Some (Zc out cert name)) WriteFault files object reads reads' longs longs' writes writes' can no_writes cause = λ e. no_writes cause
-no_write_fault (Some (Zc out cert name)) other files object reads reads' longs longs' writes writes' can no_writes cause = λ e. cc
+pub no_write_fault : (command : Option Command) (outcome : Outcome) (files : Option Files) (file : List ℕ) (told : Option (List ℕ)) (counted counted' : Tally)
+    → CanRead command files file → IsClean command counted counted' → CallCause command outcome files told counted counted' → outcome ≢ WriteFault
+no_write_fault None outcome files file told counted counted' can clean cause = absurd can
+no_write_fault (Some (Zc out cert name)) WriteFault files file told counted counted' can clean cause = λ e. clean.2 cause
+no_write_fault (Some (Zc out cert name)) other files file told counted counted' can clean cause = λ e. cc
+no_write_fault (Some (Run steps name)) WriteFault files file told counted counted' can clean cause = λ e. clean.3 cause
+no_write_fault (Some (Run steps name)) other files file told counted counted' can clean cause = λ e. cc
+no_write_fault (Some (Trace steps name)) WriteFault files file told counted counted' can clean cause = absurd cause
+no_write_fault (Some (Trace steps name)) other files file told counted counted' can clean cause = λ e. cc
 
--- what a sure store shows of a call whose object it tells
-pub record IsSound (outcome : Outcome) (reads reads' longs longs' writes writes' : ℕ) : Type 0 where
+-- what is sure shows of a call whose file the store tells
+pub record IsSound (outcome : Outcome) (counted counted' : Tally) : Type 0 where
   pub no_read : outcome ≢ ReadFault
   pub no_write : outcome ≢ WriteFault
-  pub reads_stay : reads' ≡ reads
-  pub longs_stay : longs' ≡ longs
-  pub writes_stay : writes' ≡ writes
+  pub reads_stay : counted'.reads ≡ counted.reads
+  pub longs_stay : counted'.longs ≡ counted.longs
+  pub writes_stay : counted'.writes ≡ counted.writes
+  pub console_reads_stay : counted'.console_reads ≡ counted.console_reads
 
-pub sound : (command : Option Command) (outcome : Outcome) (files : Option Files) (object : List ℕ) (reads reads' longs longs' writes writes' : ℕ)
-    → CanRead command files object → SureCall command outcome files reads reads' longs longs' writes writes'
-    → IsSound outcome reads reads' longs longs' writes writes'
-sound None outcome files object reads reads' longs longs' writes writes' can sure = absurd can
-sound (Some (Zc out cert name)) outcome None object reads reads' longs longs' writes writes' can sure = absurd can
-sound (Some (Zc out cert name)) outcome (Some f) object reads reads' longs longs' writes writes' can sure =
-    let shown = sure (object, can.0) in
-    let short = not_long f name object can.0 can.1 in
+-- over a sure console whose input is told and short, neither the file nor the input is too long
+not_long_at_all : (f : Files) (limit : ℕ) (name file : List ℕ) (told : Option (List ℕ)) → f name ≡ Some file → length file ≤ limit → IsShortInput told
+    → IsLong (Some f) name limit ⊎ IsLongInput told → ⊥
+not_long_at_all f limit name file None is short small = absurd small
+not_long_at_all f limit name file (Some input) is short small = ⊎_elim (not_long f limit name file is short) (λ long. omega (arith, long, small))
+
+sound_machine : (limit : ℕ) (outcome : Outcome) (files : Option Files) (name file : List ℕ) (told : Option (List ℕ)) (counted counted' : Tally)
+    → TellsFile limit files name file → IsShortInput told → SureMachine limit outcome files name told counted counted' → IsSound outcome counted counted'
+sound_machine limit outcome None name file told counted counted' can short shows = absurd can
+sound_machine limit outcome (Some f) name file told counted counted' can small shows =
+    let shown = shows (file, can.0) in
+    let short = not_long f limit name file can.0 can.1 in
+    record {
+      no_read = λ e. not_long_at_all f limit name file told can.0 can.1 small (shown.4 e);
+      no_write = shown.5;
+      reads_stay = shown.0;
+      longs_stay = ⊎_elim (λ e. e) (λ long. absurd (short long)) shown.2;
+      writes_stay = shown.1;
+      console_reads_stay = shown.3;
+    }
+
+pub sound : (command : Option Command) (outcome : Outcome) (files : Option Files) (file : List ℕ) (sure : Type 0) (told : Option (List ℕ)) (counted counted' : Tally)
+    → CanRead command files file → CanTake command sure told → SureCall command sure outcome files told counted counted' → CallTakes command counted counted'
+    → IsSound outcome counted counted'
+sound None outcome files file sure told counted counted' can ready shows takes = absurd can
+sound (Some (Zc out cert name)) outcome None file sure told counted counted' can ready shows takes = absurd can
+sound (Some (Zc out cert name)) outcome (Some f) file sure told counted counted' can ready shows takes =
+    let shown = shows (file, can.0) in
+    let short = not_long f object_limit name file can.0 can.1 in
     record {
       no_read = λ e. short (shown.3 e);
       no_write = shown.4;
       reads_stay = shown.0;
       longs_stay = ⊎_elim (λ e. e) (λ long. absurd (short long)) shown.2;
       writes_stay = shown.1;
+      console_reads_stay = takes.1;
     }
+sound (Some (Run steps name)) outcome files file sure told counted counted' can ready shows takes =
+    sound_machine image_limit outcome files name file told counted counted' can ready.1 (shows ready.0)
+sound (Some (Trace steps name)) outcome files file sure told counted counted' can ready shows takes =
+    sound_machine object_limit outcome files name file told counted counted' can ready.1 (shows ready.0)

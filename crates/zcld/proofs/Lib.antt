@@ -1,6 +1,11 @@
+pub mod CommandWords
 pub mod Complete
-pub mod StraightLoop
-pub mod Unbuilt
-pub mod ShortForms
-pub mod Laying
+pub mod Executing
 pub mod ImageOfObject
+pub mod Laying
+pub mod Reported
+pub mod ShortForms
+pub mod StraightLoop
+pub mod SymLaws
+pub mod SymRunLaws
+pub mod Unbuilt

@@ -1,12 +1,14 @@
 -- What holds of an object that is straight code alone, and of a loop over its words.
 use Rattle.std.proofs.Common.{◌≡◌, ℕ, ◌+◌, ◌-◌, ◌*◌, ◌%◌, ◌<◌, ◌≤◌, List, map, Bool, true, false, not, ◌&&◌, refl, sym, ap, ◌∙◌, arith, eqb, ltb, leb}
-use Rattle.std.specs.Prelude.{◌||◌, Option, is_some, is_none}
+use Rattle.std.specs.Prelude.{◌||◌, Option, Some, None, is_some, is_none}
 use Rattle.std.specs.List.{list_any, range_with_len}
 use Rattle.std.proofs.lemmas.Bool.{or_parts, and_parts, ltb-false, leb-true, eqb-true}
 use Rattle.zc_base.specs.Fields.{word_in}
+use Rattle.elf32_read.specs.declared.fault.Fault.{Fault}
 use Rattle.elf32_read.specs.Header.{header_of, section_count, object_flags}
+use Rattle.elf32_read.specs.Object.{object_fault}
 use Rattle.zcld.specs.Straight.{words_from, words_in}
-use Rattle.zcld.specs.Refusal.{is_straight_code, is_unbuilt, is_unbuilt_section, is_unknown, indexed, code_of}
+use Rattle.zcld.specs.Refusal.{is_straight_code, is_unbuilt, is_unbuilt_section, is_unknown, indexed, code_of, fault_or, first_fault}
 use Rattle.zcld.proofs.StraightLoop.{words_more}
 
 -- section 1 is there, is code that holds its own bytes, and is short enough
@@ -61,3 +63,13 @@ not-not false = refl
 -- what a test for None says
 pub is_none_by_test : {X : Type 0} (o : Option X) (r : Bool) → is_some o ≡ not r → is_none o ≡ r
 is_none_by_test o r e = ap not e ∙ not-not r
+
+-- an object without a fault is straight code
+without_fault : (f : Option Fault) (unbuilt : Bool) → fault_or f unbuilt ≡ None → unbuilt ≡ false
+without_fault (Some fault) unbuilt h = absurd cc
+without_fault None true h = absurd cc
+without_fault None false h = refl
+
+pub faultless_straight : (object : List ℕ) → first_fault object ≡ None → IsStraight object
+unfolding first_fault
+faultless_straight object none = built_straight object (without_fault (object_fault object) (is_unbuilt object) none)

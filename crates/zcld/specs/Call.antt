@@ -1,23 +1,22 @@
 -- What a call of the program means: when each outcome comes, and what stands then.
 use Rattle.std.specs.Prelude.{◌≡◌, ◌≢◌, ℕ, ◌<◌, ◌≤◌, ◌⊎◌, List, ◌++◌, length, take, map, Option, Some, None, ⊤, String}
 use Rattle.std.specs.String.{string_bytes}
+use Rattle.zc_base.specs.MemMap.{standard_map}
 use Rattle.elf32_read.specs.declared.fault.Fault.{Fault}
-use Rattle.zc_outside.specs.Files.{Files, HasFile, Holds, IsLong, KeepsFiles, PutsFile, Rose}
+use Rattle.elf32_read.specs.Image.{image_fault}
+use Rattle.zc_outside.specs.Files.{Files, Holds, IsLong, KeepsFiles, PutsFile, Rose}
+use Rattle.zc_outside.specs.Streams.{KeepsBytes}
 use Rattle.zcld.specs.declared.outcome.Outcome.{Outcome}
 use Rattle.zcld.specs.declared.outcome.Outcome.TheVariants.{Done, Usage, Refused, ReadFault, WriteFault, OutOfMemory}
-use Rattle.zcld.specs.Command.{Command, Zc}
-use Rattle.zcld.specs.Refusal.{first_fault}
+use Rattle.zcld.specs.Command.{Command, Run, Trace, Zc}
+use Rattle.zcld.specs.ErrLine.{err_line}
+use Rattle.zcld.specs.Input.{IsShortInput, RoseAbove, input_limit}
+use Rattle.zcld.specs.Outside.{IsRead, KeepsStreams, Streams, Tally}
 use Rattle.zcld.specs.Promise.{IsImageOf}
+use Rattle.zcld.specs.Refusal.{first_fault}
+use Rattle.zcld.specs.Run.{RunAnswers, RunCause, RunShows, SureMachine, image_limit}
+use Rattle.zcld.specs.Trace.{TraceAnswers, TraceCause, TraceShows, object_limit}
 use Rattle.zcld.specs.Written.{empty_certificate}
-
--- the most bytes of an object
-abbrev pub object_limit : ℕ
-object_limit = 4194304
-
--- an object was read: these are the bytes under its name, where the store tells its files
-pub record IsRead (before : Option Files) (name object : List ℕ) : Type 0 where
-  pub held : HasFile before name object
-  pub short : length object ≤ object_limit
 
 -- ---- what stands
 
@@ -31,16 +30,14 @@ PutsBoth (Some f) (Some g) out image cert certificate =
 -- the files after the image and the certificate were put, by how that ended
 abbrev pub PutsInTurn : Outcome → Option Files → Option Files → List ℕ → List ℕ → List ℕ → List ℕ → Type 0
 PutsInTurn Done before after out image cert certificate = PutsBoth before after out image cert certificate
-PutsInTurn Usage before after out image cert certificate = ⊥
-PutsInTurn (Refused i fault) before after out image cert certificate = ⊥
-PutsInTurn ReadFault before after out image cert certificate = ⊥
 PutsInTurn WriteFault before after out image cert certificate = KeepsFiles before after ⊎ PutsFile before after out image
 PutsInTurn OutOfMemory before after out image cert certificate = KeepsFiles before after ⊎ PutsFile before after out image
+PutsInTurn other before after out image cert certificate = ⊥
 
 -- the object was linked whole: its image stands under one name and the certificate under another
 pub record IsLinked (before after : Option Files) (out cert name : List ℕ) : Type 0 where
   pub object : List ℕ
-  pub read : IsRead before name object
+  pub read : IsRead object_limit before name object
   pub faultless : first_fault object ≡ None
   pub elf : List ℕ
   pub image : IsImageOf object elf
@@ -49,7 +46,7 @@ pub record IsLinked (before after : Option Files) (out cert name : List ℕ) : T
 -- the object was linked, and its image alone was written
 pub record IsHalfWritten (before after : Option Files) (out name : List ℕ) : Type 0 where
   pub object : List ℕ
-  pub read : IsRead before name object
+  pub read : IsRead object_limit before name object
   pub faultless : first_fault object ≡ None
   pub elf : List ℕ
   pub image : IsImageOf object elf
@@ -58,44 +55,46 @@ pub record IsHalfWritten (before after : Option Files) (out name : List ℕ) : T
 -- the files after `zc` with these files, by its outcome
 abbrev pub ZcFiles : Outcome → Option Files → Option Files → List ℕ → List ℕ → List ℕ → Type 0
 ZcFiles Done before after out cert name = IsLinked before after out cert name
-ZcFiles Usage before after out cert name = KeepsFiles before after
-ZcFiles (Refused i fault) before after out cert name = KeepsFiles before after
-ZcFiles ReadFault before after out cert name = KeepsFiles before after
 ZcFiles WriteFault before after out cert name = KeepsFiles before after ⊎ IsHalfWritten before after out name
 ZcFiles OutOfMemory before after out cert name = KeepsFiles before after ⊎ IsHalfWritten before after out name
+ZcFiles other before after out cert name = KeepsFiles before after
 
 -- ---- when each outcome comes
 
 -- why an object has no image: the first fault that stands in it; or reading failed, or the file is
 -- too long; or memory ran out
 abbrev pub ReadCause : Outcome → Option Files → List ℕ → ℕ → ℕ → ℕ → ℕ → Type 0
-ReadCause Done files name reads reads' longs longs' = ⊥
-ReadCause Usage files name reads reads' longs longs' = ⊥
 ReadCause (Refused i fault) files name reads reads' longs longs' =
-    (i ≡ 0) × ((object : List ℕ) × IsRead files name object × (first_fault object ≡ Some fault))
+    (i ≡ 0) × ((object : List ℕ) × IsRead object_limit files name object × (first_fault object ≡ Some fault))
 ReadCause ReadFault files name reads reads' longs longs' =
     Rose reads reads' ⊎ (Rose longs longs' × IsLong files name object_limit)
-ReadCause WriteFault files name reads reads' longs longs' = ⊥
 ReadCause OutOfMemory files name reads reads' longs longs' = ⊤
+ReadCause other files name reads reads' longs longs' = ⊥
 
 -- why an object's bytes have no image
 abbrev pub IsRefusal : List ℕ → Outcome → Type 0
-IsRefusal object Done = ⊥
-IsRefusal object Usage = ⊥
 IsRefusal object (Refused i fault) = (i ≡ 0) × (first_fault object ≡ Some fault)
-IsRefusal object ReadFault = ⊥
-IsRefusal object WriteFault = ⊥
 IsRefusal object OutOfMemory = ⊤
+IsRefusal object other = ⊥
 
 -- when `zc` with this object ends so
 abbrev pub ZcCause : Outcome → Option Files → List ℕ → ℕ → ℕ → ℕ → ℕ → ℕ → ℕ → Type 0
 ZcCause Done files name reads reads' longs longs' writes writes' = ⊤
-ZcCause Usage files name reads reads' longs longs' writes writes' = ⊥
 ZcCause (Refused i fault) files name reads reads' longs longs' writes writes' =
     ReadCause (Refused i fault) files name reads reads' longs longs'
 ZcCause ReadFault files name reads reads' longs longs' writes writes' = ReadCause ReadFault files name reads reads' longs longs'
 ZcCause WriteFault files name reads reads' longs longs' writes writes' = Rose writes writes'
 ZcCause OutOfMemory files name reads reads' longs longs' writes writes' = ⊤
+ZcCause other files name reads reads' longs longs' writes writes' = ⊥
+
+-- ---- standard error
+
+-- where the bytes were told: the line stands behind them, or, where it could not all be written, a part of it
+abbrev pub WritesLine : Option (List ℕ) → Option (List ℕ) → List ℕ → Type 0 → Type 0
+WritesLine None after text refused = ⊤
+WritesLine (Some xs) None text refused = ⊥
+WritesLine (Some xs) (Some ys) text refused =
+    (ys ≡ xs ++ text) ⊎ (refused × ((n : ℕ) × (n < length text) × (ys ≡ xs ++ take n text)))
 
 -- ---- the command of a call
 
@@ -107,29 +106,76 @@ texts words = map string_bytes words
 abbrev pub CallFiles : Option Command → Outcome → Option Files → Option Files → Type 0
 CallFiles None outcome before after = KeepsFiles before after
 CallFiles (Some (Zc out cert name)) outcome before after = ZcFiles outcome before after out cert name
+CallFiles (Some (Run steps name)) outcome before after = KeepsFiles before after
+CallFiles (Some (Trace steps name)) outcome before after = KeepsFiles before after
+
+-- the streams that a command leaves, by its outcome
+abbrev pub CommandShows : Option Command → Outcome → Option Files → Streams → Streams → Type 0
+CommandShows (Some (Run steps name)) outcome files before after = RunShows outcome files name steps before after
+CommandShows (Some (Trace steps name)) outcome files before after = TraceShows outcome files name steps before after
+CommandShows other outcome files before after = KeepsStreams before after
+
+-- the streams after a call: those that its command leaves, and then the outcome's line, which leaves the
+-- input and the output as they are
+pub record CallShows (command : Option Command) (outcome : Outcome) (files : Option Files) (before after : Streams) (refused : Type 0) : Type 0 where
+  pub left : Streams
+  pub shown : CommandShows command outcome files before left
+  pub input : KeepsBytes left.input after.input
+  pub out : KeepsBytes left.out after.out
+  pub line : WritesLine left.err after.err (err_line outcome) refused
 
 -- when a call ends so: without a command it is Usage
-abbrev pub CallCause : Option Command → Outcome → Option Files → ℕ → ℕ → ℕ → ℕ → ℕ → ℕ → Type 0
-CallCause None outcome files reads reads' longs longs' writes writes' = outcome ≡ Usage
-CallCause (Some (Zc out cert name)) outcome files reads reads' longs longs' writes writes' =
-    ZcCause outcome files name reads reads' longs longs' writes writes'
+abbrev pub CallCause : Option Command → Outcome → Option Files → Option (List ℕ) → Tally → Tally → Type 0
+CallCause None outcome files told before after = outcome ≡ Usage
+CallCause (Some (Zc out cert name)) outcome files told before after =
+    ZcCause outcome files name before.reads after.reads before.longs after.longs before.writes after.writes
+CallCause (Some (Run steps name)) outcome files told before after = RunCause outcome files name told before after
+CallCause (Some (Trace steps name)) outcome files told before after = TraceCause outcome files name told before after
+
+-- a command that takes no input leaves what the console counts of it
+abbrev pub CallTakes : Option Command → Tally → Tally → Type 0
+CallTakes (Some (Run steps name)) before after = ⊤
+CallTakes (Some (Trace steps name)) before after = ⊤
+CallTakes other before after = (after.taken ≡ before.taken) × (after.console_reads ≡ before.console_reads)
 
 -- ---- completeness
 
--- the store tells that the name has these bytes, no more than an object may have
-abbrev pub TellsObject : Option Files → List ℕ → List ℕ → Type 0
-TellsObject None name object = ⊥
-TellsObject (Some f) name object = (f name ≡ Some object) × (length object ≤ object_limit)
+-- the store tells that the name has these bytes, no more than this
+abbrev pub TellsFile : ℕ → Option Files → List ℕ → List ℕ → Type 0
+TellsFile limit None name file = ⊥
+TellsFile limit (Some f) name file = (f name ≡ Some file) × (length file ≤ limit)
 
--- the words spell a command, and the store tells the object that it reads
+-- the words spell a command, and the store tells the file that it reads
 abbrev pub CanRead : Option Command → Option Files → List ℕ → Type 0
-CanRead None files object = ⊥
-CanRead (Some (Zc out cert name)) files object = TellsObject files name object
+CanRead None files file = ⊥
+CanRead (Some (Zc out cert name)) files file = TellsFile object_limit files name file
+CanRead (Some (Run steps name)) files file = TellsFile image_limit files name file
+CanRead (Some (Trace steps name)) files file = TellsFile object_limit files name file
 
--- what an honest outside and memory give: all is done, or the first fault is named
+-- nothing was counted that can stop a command
+abbrev pub IsClean : Option Command → Tally → Tally → Type 0
+IsClean None before after = ⊤
+IsClean (Some (Zc out cert name)) before after =
+    (¬ Rose before.reads after.reads) × (¬ Rose before.longs after.longs) × (¬ Rose before.writes after.writes)
+IsClean (Some (Run steps name)) before after =
+    (¬ Rose before.reads after.reads) × (¬ Rose before.longs after.longs)
+    × (¬ Rose before.console_reads after.console_reads) × (¬ Rose before.console_writes after.console_writes)
+    × (¬ RoseAbove input_limit before.taken after.taken)
+IsClean (Some (Trace steps name)) before after =
+    (¬ Rose before.reads after.reads) × (¬ Rose before.longs after.longs)
+    × (¬ Rose before.console_reads after.console_reads) × (¬ RoseAbove input_limit before.taken after.taken)
+
+-- what an honest outside and memory give for an object: all is done, or the first fault is named
 abbrev pub answer_of : Option Fault → Outcome
 answer_of None = Done
 answer_of (Some fault) = Refused 0 fault
+
+-- the answer that the file's bytes have, or want of memory
+abbrev pub Answers : Option Command → Outcome → List ℕ → Type 0
+Answers None outcome file = ⊥
+Answers (Some (Zc out cert name)) outcome file = (outcome ≡ answer_of (first_fault file)) ⊎ (outcome ≡ OutOfMemory)
+Answers (Some (Run steps name)) outcome file = RunAnswers outcome (image_fault file standard_map)
+Answers (Some (Trace steps name)) outcome file = TraceAnswers outcome (first_fault file)
 
 -- what a sure store that holds the object shows: no fault is counted, and a long file only where it is one
 abbrev pub SureZc : Outcome → Option Files → List ℕ → ℕ → ℕ → ℕ → ℕ → ℕ → ℕ → Type 0
@@ -138,21 +184,22 @@ SureZc outcome files name reads reads' longs longs' writes writes' =
     (reads' ≡ reads) × (writes' ≡ writes) × ((longs' ≡ longs) ⊎ IsLong files name object_limit)
     × (outcome ≡ ReadFault → IsLong files name object_limit) × (outcome ≢ WriteFault)
 
--- the same of a call, by its command
-abbrev pub SureCall : Option Command → Outcome → Option Files → ℕ → ℕ → ℕ → ℕ → ℕ → ℕ → Type 0
-SureCall None outcome files reads reads' longs longs' writes writes' = ⊤
-SureCall (Some (Zc out cert name)) outcome files reads reads' longs longs' writes writes' =
-    SureZc outcome files name reads reads' longs longs' writes writes'
+-- the same of a call, by its command; a machine needs a sure console too
+abbrev pub SureCall : Option Command → Type 0 → Outcome → Option Files → Option (List ℕ) → Tally → Tally → Type 0
+SureCall None sure outcome files told before after = ⊤
+SureCall (Some (Zc out cert name)) sure outcome files told before after =
+    SureZc outcome files name before.reads after.reads before.longs after.longs before.writes after.writes
+SureCall (Some (Run steps name)) sure outcome files told before after = sure → SureMachine image_limit outcome files name told before after
+SureCall (Some (Trace steps name)) sure outcome files told before after = sure → SureMachine object_limit outcome files name told before after
 
--- the answer, or want of memory
-abbrev pub Answers : Outcome → List ℕ → Type 0
-Answers outcome object = (outcome ≡ answer_of (first_fault object)) ⊎ (outcome ≡ OutOfMemory)
+-- a command that takes input has a sure console that tells no more of it than may be taken
+abbrev pub CanTake : Option Command → Type 0 → Option (List ℕ) → Type 0
+CanTake (Some (Run steps name)) sure told = sure × IsShortInput told
+CanTake (Some (Trace steps name)) sure told = sure × IsShortInput told
+CanTake other sure told = ⊤
 
--- ---- standard error
-
--- where the bytes were told: the line stands behind them, or, where it could not all be written, a part of it
-abbrev pub WritesLine : Option (List ℕ) → Option (List ℕ) → List ℕ → Type 0 → Type 0
-WritesLine None after text refused = ⊤
-WritesLine (Some xs) None text refused = ⊥
-WritesLine (Some xs) (Some ys) text refused =
-    (ys ≡ xs ++ text) ⊎ (refused × ((n : ℕ) × (n < length text) × (ys ≡ xs ++ take n text)))
+-- no fault and no long file is counted
+abbrev pub IsUncounted : Tally → Tally → Type 0
+IsUncounted before after =
+    (after.reads ≡ before.reads) × (after.longs ≡ before.longs) × (after.writes ≡ before.writes)
+    × (after.console_reads ≡ before.console_reads)

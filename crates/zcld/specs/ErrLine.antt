@@ -1,9 +1,16 @@
 -- The line that names an outcome on standard error, and the status that the program ends with.
-use Rattle.std.specs.Prelude.{ℕ, List, [], ◌∷◌, ◌++◌, codes, decimal}
+use Rattle.std.specs.Prelude.{ℕ, ◌+◌, ◌/◌, ◌%◌, ◌^◌, nat_lt, if◌then◌else◌, List, [], ◌∷◌, ◌++◌, codes, decimal}
 use Rattle.elf32_read.specs.declared.fault.Fault.{Fault}
 use Rattle.elf32_read.specs.Fault.{fault_number, fault_name}
+use Rattle.elf32_read.specs.ImageFault.{image_fault_number}
+use Rattle.zc_base.specs.declared.place.Place.{Place}
+use Rattle.sym_machine.specs.declared.why.Why.{Why}
+use Rattle.sym_machine.specs.Why.{why_name, why_number}
+use Rattle.zc_machine.specs.declared.reason.Reason.{Reason}
+use Rattle.zc_machine.specs.Reason.{reason_name, reason_number}
+use Rattle.zcld.specs.declared.outcome.FileFault.TheVariants.{Image}
 use Rattle.zcld.specs.declared.outcome.Outcome.{Outcome}
-use Rattle.zcld.specs.declared.outcome.Outcome.TheVariants.{Done, Usage, Refused, ReadFault, WriteFault, OutOfMemory}
+use Rattle.zcld.specs.declared.outcome.Outcome.TheVariants.{Done, Exited, Usage, Refused, ReadFault, WriteFault, OutOfMemory, BadFile, Stopped, Stuck, Spent}
 
 -- a text with a line feed behind it
 abbrev pub line : List ℕ → List ℕ
@@ -13,20 +20,53 @@ line text = text ++ 10 ∷ []
 abbrev pub refusal_text : ℕ → Fault → List ℕ
 refusal_text i fault = codes "refused " ++ decimal i ++ codes " " ++ decimal (fault_number fault) ++ codes " " ++ fault_name fault
 
+-- a lower-case hexadecimal digit
+abbrev pub hex_digit : ℕ → ℕ
+hex_digit d = if nat_lt d 10 then 48 + d else 87 + d
+
+-- the hexadecimal digit of a number that stands before this many bits
+abbrev pub hex_at : ℕ → ℕ → ℕ
+hex_at n shift = hex_digit (n / 2 ^ shift % 16)
+
+-- a 32-bit number as eight hexadecimal digits
+abbrev pub hex_word : ℕ → List ℕ
+hex_word n =
+    hex_at n 28 ∷ hex_at n 24 ∷ hex_at n 20 ∷ hex_at n 16 ∷ hex_at n 12 ∷ hex_at n 8 ∷ hex_at n 4 ∷ hex_at n 0 ∷ []
+
+-- a stop names its reason by number and name, and the program counter
+abbrev pub stop_text : Reason → ℕ → List ℕ
+stop_text reason pc = codes "stopped " ++ decimal (reason_number reason) ++ codes " " ++ reason_name reason ++ codes " " ++ hex_word pc
+
+-- a program that is stuck names the place, and the reason by number and name
+abbrev pub stuck_text : Place → Why → List ℕ
+stuck_text place why =
+    codes "stuck " ++ decimal place.object ++ codes " " ++ decimal place.section ++ codes " " ++ decimal place.offset
+    ++ codes " " ++ decimal (why_number why) ++ codes " " ++ why_name why
+
 -- the line of each outcome but the one that needs none
 abbrev pub err_line : Outcome → List ℕ
 err_line Done = []
+err_line (Exited code) = line (codes "exited " ++ decimal code)
 err_line Usage = line (codes "usage")
 err_line (Refused i fault) = line (refusal_text i fault)
 err_line ReadFault = line (codes "read fault")
 err_line WriteFault = line (codes "write fault")
 err_line OutOfMemory = line (codes "out of memory")
+err_line (BadFile (Image fault)) = line (codes "bad image " ++ decimal (image_fault_number fault))
+err_line (Stopped reason pc) = line (stop_text reason pc)
+err_line (Stuck place why) = line (stuck_text place why)
+err_line Spent = line (codes "spent")
 
 -- the status of each outcome
 abbrev pub status_of : Outcome → ℕ
 status_of Done = 0
+status_of (Exited code) = if nat_lt code 118 then code else 118
 status_of Usage = 120
 status_of (Refused i fault) = 121
 status_of ReadFault = 122
 status_of WriteFault = 123
 status_of OutOfMemory = 124
+status_of (BadFile fault) = 125
+status_of (Stopped reason pc) = 126
+status_of (Stuck place why) = 126
+status_of Spent = 127

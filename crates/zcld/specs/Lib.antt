@@ -4,4 +4,10 @@ pub mod Refusal
 pub mod ErrLine
 pub mod Written
 pub mod Promise
+pub mod Outside
+pub mod Run
+pub mod Sym
+pub mod SymRun
+pub mod Trace
 pub mod Call
+pub mod Input

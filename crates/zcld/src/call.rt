@@ -2,14 +2,15 @@
 
 ghost use Rattle.std.specs.Prelude.{◌≡◌, ◌≤◌, ◌↔◌, ◌⊎◌, ℕ, List, None};
 ghost use Rattle.zc_outside.specs.Files.{Rose};
-ghost use Rattle.zc_outside.specs.Streams.{KeepsBytes};
-ghost use Rattle.zcld.specs.Call.{Answers, CallCause, CallFiles, CanRead, SureCall, WritesLine, texts};
+ghost use Rattle.zcld.specs.Call.{Answers, CallCause, CallFiles, CallShows, CallTakes, CanRead, CanTake, CommandShows, IsClean, IsUncounted, SureCall, texts};
 ghost use Rattle.zcld.specs.Command.{command_of};
-ghost use Rattle.zcld.specs.ErrLine.{err_line};
+ghost use Rattle.zcld.specs.Outside.{Streams, Tally};
 
 use crate::command_line::{CommandLine, read};
 use crate::err_line::report;
 use crate::outcome::Outcome;
+use crate::run::run;
+use crate::trace::trace;
 use crate::zc::zc;
 use std::alloc::Global;
 use zc_outside::console::Console;
@@ -25,49 +26,168 @@ pub fn zcld<S: Store, C: Console>(
 ) -> Outcome
     // When each outcome comes.
     ensures usage { (result ≡ Outcome.Usage) ↔ (command_of (texts words.now) ≡ None) }
-    ensures cause { CallCause (command_of (texts words.now)) result (S.files store.old)
-        (S.read_faults store.old) (S.read_faults store.new) (S.long_files store.old) (S.long_files store.new)
-        (S.write_faults store.old) (S.write_faults store.new) }
+    ensures cause { let before : Tally = record {
+      reads = S.read_faults store.old;
+      longs = S.long_files store.old;
+      writes = S.write_faults store.old;
+      console_reads = C.read_faults console.old;
+      console_writes = C.write_faults console.old;
+      taken = C.taken console.old;
+    } in
+        let after : Tally = record {
+          reads = S.read_faults store.new;
+          longs = S.long_files store.new;
+          writes = S.write_faults store.new;
+          console_reads = C.read_faults console.new;
+          console_writes = C.write_faults console.new;
+          taken = C.taken console.new;
+        } in
+        CallCause (command_of (texts words.now)) result (S.files store.old) (C.input console.old) before after }
 
     // What stands then.
     ensures files { CallFiles (command_of (texts words.now)) result (S.files store.old) (S.files store.new) }
-    ensures out { KeepsBytes (C.out_bytes console.old) (C.out_bytes console.new) }
-    ensures err { WritesLine (C.err_bytes console.old) (C.err_bytes console.new) (err_line result)
+    ensures shows { let before : Streams = record { input = C.input console.old; out = C.out_bytes console.old; err = C.err_bytes console.old } in
+        let after : Streams = record { input = C.input console.new; out = C.out_bytes console.new; err = C.err_bytes console.new } in
+        CallShows (command_of (texts words.now)) result (S.files store.old) before after
         (Rose (C.write_faults console.old) (C.write_faults console.new) ⊎ Rose (C.memory_faults console.old) (C.memory_faults console.new)) }
-    ensures input { KeepsBytes (C.input console.old) (C.input console.new) }
-    ensures taken { C.taken console.new ≡ C.taken console.old }
-    ensures reads { C.read_faults console.new ≡ C.read_faults console.old }
+    ensures takes { let before : Tally = record {
+      reads = S.read_faults store.old;
+      longs = S.long_files store.old;
+      writes = S.write_faults store.old;
+      console_reads = C.read_faults console.old;
+      console_writes = C.write_faults console.old;
+      taken = C.taken console.old;
+    } in
+        let after : Tally = record {
+          reads = S.read_faults store.new;
+          longs = S.long_files store.new;
+          writes = S.write_faults store.new;
+          console_reads = C.read_faults console.new;
+          console_writes = C.write_faults console.new;
+          taken = C.taken console.new;
+        } in
+        CallTakes (command_of (texts words.now)) before after }
 
-    // With nothing counted, and over what is sure, the answer is the one that the object's bytes have.
-    ensures complete { (object : List ℕ) → CanRead (command_of (texts words.now)) (S.files store.old) object
-        → ¬ Rose (S.read_faults store.old) (S.read_faults store.new) → ¬ Rose (S.long_files store.old) (S.long_files store.new)
-        → ¬ Rose (S.write_faults store.old) (S.write_faults store.new) → Answers result object }
-    ensures sure { (object : List ℕ) → CanRead (command_of (texts words.now)) (S.files store.old) object → S.sure store.old
-        → Answers result object × (S.read_faults store.new ≡ S.read_faults store.old)
-        × (S.long_files store.new ≡ S.long_files store.old) × (S.write_faults store.new ≡ S.write_faults store.old) }
+    // With nothing counted, and over what is sure, the answer is the one that the file's bytes have.
+    ensures complete { (file : List ℕ) → CanRead (command_of (texts words.now)) (S.files store.old) file →
+        let before : Tally = record {
+          reads = S.read_faults store.old;
+          longs = S.long_files store.old;
+          writes = S.write_faults store.old;
+          console_reads = C.read_faults console.old;
+          console_writes = C.write_faults console.old;
+          taken = C.taken console.old;
+        } in
+        let after : Tally = record {
+          reads = S.read_faults store.new;
+          longs = S.long_files store.new;
+          writes = S.write_faults store.new;
+          console_reads = C.read_faults console.new;
+          console_writes = C.write_faults console.new;
+          taken = C.taken console.new;
+        } in
+        IsClean (command_of (texts words.now)) before after → Answers (command_of (texts words.now)) result file }
+    ensures sure { (file : List ℕ) → CanRead (command_of (texts words.now)) (S.files store.old) file → S.sure store.old →
+        CanTake (command_of (texts words.now)) (C.sure console.old) (C.input console.old) →
+        let before : Tally = record {
+          reads = S.read_faults store.old;
+          longs = S.long_files store.old;
+          writes = S.write_faults store.old;
+          console_reads = C.read_faults console.old;
+          console_writes = C.write_faults console.old;
+          taken = C.taken console.old;
+        } in
+        let after : Tally = record {
+          reads = S.read_faults store.new;
+          longs = S.long_files store.new;
+          writes = S.write_faults store.new;
+          console_reads = C.read_faults console.new;
+          console_writes = C.write_faults console.new;
+          taken = C.taken console.new;
+        } in
+        Answers (command_of (texts words.now)) result file × IsUncounted before after }
     ensures sure_console { C.sure console.old → C.write_faults console.new ≡ C.write_faults console.old }
     ensures stays { S.sure store.old → S.sure store.new }
     ensures stays_console { C.sure console.old → C.sure console.new }
 {
-    let outcome = perform(alloc, words, store);
+    let outcome = perform(alloc, words, store, console);
     report(&outcome, console);
     outcome
 }
 
-// Does what the words say, over a store of files.
-fn perform<S: Store>(alloc: Global, words: &[String], store: &mut S) -> Outcome
+// Does what the words say, over a store of files and a console.
+fn perform<S: Store, C: Console>(
+    alloc: Global,
+    words: &[String],
+    store: &mut S,
+    console: &mut C,
+) -> Outcome
     ensures usage { (result ≡ Outcome.Usage) ↔ (command_of (texts words.now) ≡ None) }
-    ensures cause { CallCause (command_of (texts words.now)) result (S.files store.old)
-        (S.read_faults store.old) (S.read_faults store.new) (S.long_files store.old) (S.long_files store.new)
-        (S.write_faults store.old) (S.write_faults store.new) }
+    ensures cause { let before : Tally = record {
+      reads = S.read_faults store.old;
+      longs = S.long_files store.old;
+      writes = S.write_faults store.old;
+      console_reads = C.read_faults console.old;
+      console_writes = C.write_faults console.old;
+      taken = C.taken console.old;
+    } in
+        let after : Tally = record {
+          reads = S.read_faults store.new;
+          longs = S.long_files store.new;
+          writes = S.write_faults store.new;
+          console_reads = C.read_faults console.new;
+          console_writes = C.write_faults console.new;
+          taken = C.taken console.new;
+        } in
+        CallCause (command_of (texts words.now)) result (S.files store.old) (C.input console.old) before after }
     ensures files { CallFiles (command_of (texts words.now)) result (S.files store.old) (S.files store.new) }
-    ensures sure { S.sure store.old → SureCall (command_of (texts words.now)) result (S.files store.old)
-        (S.read_faults store.old) (S.read_faults store.new) (S.long_files store.old) (S.long_files store.new)
-        (S.write_faults store.old) (S.write_faults store.new) }
+    ensures shows { let before : Streams = record { input = C.input console.old; out = C.out_bytes console.old; err = C.err_bytes console.old } in
+        let after : Streams = record { input = C.input console.new; out = C.out_bytes console.new; err = C.err_bytes console.new } in
+        CommandShows (command_of (texts words.now)) result (S.files store.old) before after }
+    ensures takes { let before : Tally = record {
+      reads = S.read_faults store.old;
+      longs = S.long_files store.old;
+      writes = S.write_faults store.old;
+      console_reads = C.read_faults console.old;
+      console_writes = C.write_faults console.old;
+      taken = C.taken console.old;
+    } in
+        let after : Tally = record {
+          reads = S.read_faults store.new;
+          longs = S.long_files store.new;
+          writes = S.write_faults store.new;
+          console_reads = C.read_faults console.new;
+          console_writes = C.write_faults console.new;
+          taken = C.taken console.new;
+        } in
+        CallTakes (command_of (texts words.now)) before after }
+    ensures sure { S.sure store.old → let before : Tally = record {
+      reads = S.read_faults store.old;
+      longs = S.long_files store.old;
+      writes = S.write_faults store.old;
+      console_reads = C.read_faults console.old;
+      console_writes = C.write_faults console.old;
+      taken = C.taken console.old;
+    } in
+        let after : Tally = record {
+          reads = S.read_faults store.new;
+          longs = S.long_files store.new;
+          writes = S.write_faults store.new;
+          console_reads = C.read_faults console.new;
+          console_writes = C.write_faults console.new;
+          taken = C.taken console.new;
+        } in
+        SureCall (command_of (texts words.now)) (C.sure console.old) result (S.files store.old) (C.input console.old) before after }
+    ensures console_writes { C.write_faults console.old ≤ C.write_faults console.new }
+    ensures console_memory { C.memory_faults console.old ≤ C.memory_faults console.new }
+    ensures sure_console { C.sure console.old → C.write_faults console.new ≡ C.write_faults console.old }
     ensures stays { S.sure store.old → S.sure store.new }
+    ensures stays_console { C.sure console.old → C.sure console.new }
 {
     match read(words) {
         Some(CommandLine::Zc { out, cert, object }) => zc(alloc, out, cert, object, store),
+        Some(CommandLine::Run { steps, image }) => run(alloc, steps, image, store, console),
+        Some(CommandLine::Trace { steps, object }) => trace(alloc, steps, object, store, console),
         None => Outcome::Usage,
     }
 }

@@ -1,15 +1,32 @@
 // The command that the words of the command line spell.
 
-ghost use Rattle.std.specs.Prelude.{◌≡◌, ◌↔◌, IsTrue, map, true, string_bytes, Option};
+ghost use Rattle.std.specs.Prelude.{◌≡◌, length, map, string_bytes};
+ghost use Rattle.std.specs.Char.{is_ascii_digit};
+ghost use Rattle.std.specs.List.{list_all};
 ghost use Rattle.std.specs.Option.{option_map};
-ghost use Rattle.zcld.specs.Command.{begins_with_dash, command_of, meant, zc_command, zc_spelled};
+ghost use Rattle.zcld.specs.Command.{begins_with_dash, command_of, is_number as spells_number, meant, stepping, stepping_for, steps_of, zc_command, zc_spelled};
 
-/// A command, with the names of its files.
+// The most steps that a word may allow.
+const MOST_STEPS: u64 = 1_000_000_000;
+
+// The steps that are allowed where no word says.
+const USUAL_STEPS: u64 = 10_000_000;
+
+/// A command, with the names of its files. `steps` is how many commits or steps
+/// the machine may make.
 #[derive(Clone, Copy)]
 pub enum CommandLine<'a> {
     Zc {
         out: &'a str,
         cert: &'a str,
+        object: &'a str,
+    },
+    Run {
+        steps: u64,
+        image: &'a str,
+    },
+    Trace {
+        steps: u64,
         object: &'a str,
     },
 }
@@ -18,25 +35,86 @@ pub enum CommandLine<'a> {
 pub fn read(words: &[String]) -> Option<CommandLine<'_>>
     ensures { option_map meant result ≡ command_of (map string_bytes words.now) }
 {
-    match words {
-        [name, first, x, second, y, object] if name.as_str() == "zc" => {
-            zc_words(first, x, second, y, object)
-        }
+    match words.len() {
+        2 => machine(words[0].as_str(), USUAL_STEPS, words[1].as_str()),
+        4 => machine_for(&words[0], &words[1], &words[2], &words[3]),
+        6 => zc_words(words),
         _ => None,
     }
 }
 
-// The command `zc`, by its options in either order.
-fn zc_words<'a>(
-    first: &'a String,
-    x: &'a String,
-    second: &'a String,
-    y: &'a String,
-    object: &'a String,
+// The command `run` or `trace`, with the option that says how many steps.
+fn machine_for<'a>(
+    name: &'a String,
+    option: &'a String,
+    steps: &'a String,
+    file: &'a String,
 ) -> Option<CommandLine<'a>>
-    ensures { option_map meant result ≡ zc_spelled (string_bytes first.now) (string_bytes x.now) (string_bytes second.now) (string_bytes y.now) (string_bytes object.now) }
+    ensures { option_map meant result ≡ stepping_for (string_bytes name.now) (string_bytes option.now) (string_bytes steps.now) (string_bytes file.now) }
 {
-    if first.as_str() == "--out" && second.as_str() == "--cert" {
+    if option.as_str() != "--steps" {
+        return None;
+    }
+    match steps_in(steps.as_str()) {
+        Some(steps) => machine(name.as_str(), steps, file.as_str()),
+        None => None,
+    }
+}
+
+// The command `run` or `trace` of a file, for so many steps.
+fn machine<'a>(name: &str, steps: u64, file: &'a str) -> Option<CommandLine<'a>>
+    ensures { option_map meant result ≡ stepping name.now steps file.entry.now }
+{
+    if is_option(file) {
+        return None;
+    }
+    match name {
+        "run" => Some(CommandLine::Run { steps, image: file }),
+        "trace" => Some(CommandLine::Trace {
+            steps,
+            object: file,
+        }),
+        _ => None,
+    }
+}
+
+// The steps that a word allows.
+fn steps_in(word: &str) -> Option<u64>
+    ensures { result ≡ steps_of word.now }
+{
+    if !is_number(word) {
+        return None;
+    }
+    match word.parse::<u64>() {
+        Ok(steps) if steps <= MOST_STEPS => Some(steps),
+        _ => None,
+    }
+}
+
+// Whether a word is a number: one to twenty decimal digits.
+fn is_number(word: &str) -> bool
+    ensures { result ≡ spells_number word.now }
+{
+    1 <= word.len() && word.len() <= 20 && are_digits(word.as_bytes())
+}
+
+fn are_digits(bytes: &[u8]) -> bool
+    ensures { result ≡ list_all is_ascii_digit bytes.now }
+{
+    bytes.iter().all(|c| c.is_ascii_digit())
+}
+
+// The command `zc`, by its options in either order.
+fn zc_words(words: &[String]) -> Option<CommandLine<'_>>
+    requires { length words.now ≡ 6 }
+    ensures { option_map meant result ≡ command_of (map string_bytes words.now) }
+{
+    let [name, first, x, second, y, object] = words else {
+        return None;
+    };
+    if name.as_str() != "zc" {
+        None
+    } else if first.as_str() == "--out" && second.as_str() == "--cert" {
         zc(x.as_str(), y.as_str(), object.as_str())
     } else if first.as_str() == "--cert" && second.as_str() == "--out" {
         zc(y.as_str(), x.as_str(), object.as_str())

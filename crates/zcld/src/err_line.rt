@@ -1,15 +1,18 @@
 // The line that names an outcome on standard error, made without memory.
 
-ghost use Rattle.std.specs.Prelude.{◌≡◌, ◌≤◌, ◌+◌, ◌⊎◌, ◌++◌, ◌∷◌, [], length};
+ghost use Rattle.std.specs.Prelude.{◌≡◌, ◌≤◌, ◌<◌, ◌+◌, ◌⊎◌, ◌++◌, ◌∷◌, [], decimal, length};
 ghost use Rattle.zc_outside.specs.Files.{Rose};
 ghost use Rattle.zc_outside.specs.Streams.{KeepsBytes};
 ghost use Rattle.zcld.specs.Call.{WritesLine};
-ghost use Rattle.zcld.specs.ErrLine.{err_line, line as with_line_feed, refusal_text};
+ghost use Rattle.zcld.specs.ErrLine.{err_line, hex_at, hex_word, line as with_line_feed, refusal_text, stop_text, stuck_text};
 
-use crate::outcome::Outcome;
+use crate::outcome::{FileFault, Outcome};
 use arrayvec::ArrayString;
 use elf32_read::fault::Fault;
 use itoa::Buffer;
+use sym_machine::why::Why;
+use zc_base::place::Place;
+use zc_machine::reason::Reason;
 use zc_outside::console::Console;
 
 /// Writes the line of an outcome to standard error. A line that can't be written changes no outcome.
@@ -20,6 +23,7 @@ pub fn report<C: Console>(outcome: &Outcome, console: &mut C)
     ensures input { KeepsBytes (C.input console.old) (C.input console.new) }
     ensures taken { C.taken console.new ≡ C.taken console.old }
     ensures reads { C.read_faults console.new ≡ C.read_faults console.old }
+    ensures writes { C.write_faults console.old ≤ C.write_faults console.new }
     ensures stays { C.sure console.old → C.sure console.new }
     ensures sure { C.sure console.old → C.write_faults console.new ≡ C.write_faults console.old }
 {
@@ -35,11 +39,16 @@ pub fn line_of(outcome: &Outcome) -> ArrayString<ROOM>
 {
     match outcome {
         Outcome::Done => ArrayString::new(),
+        Outcome::Exited(code) => numbered("exited ", u32::from(*code)),
         Outcome::Usage => line("usage"),
         Outcome::Refused(object, fault) => refusal(*object, *fault),
         Outcome::ReadFault => line("read fault"),
         Outcome::WriteFault => line("write fault"),
         Outcome::OutOfMemory => line("out of memory"),
+        Outcome::BadFile(FileFault::Image(fault)) => numbered("bad image ", fault.number()),
+        Outcome::Stopped(reason, pc) => stop(*reason, *pc),
+        Outcome::Stuck(place, why) => stuck(*place, *why),
+        Outcome::Spent => line("spent"),
     }
 }
 
@@ -68,4 +77,82 @@ fn refusal(object: u32, fault: Fault) -> ArrayString<ROOM>
     line.push_str(fault.name());
     line.push_str("\n");
     line
+}
+
+// A text, a number and a line feed.
+fn numbered(text: &str, number: u32) -> ArrayString<ROOM>
+    requires { length text.now ≤ 50 }
+    ensures { result.bytes ≡ with_line_feed (text.now ++ decimal number) }
+{
+    let mut digits = Buffer::new();
+    let mut line = ArrayString::new();
+    line.push_str(text);
+    line.push_str(digits.format(number));
+    line.push_str("\n");
+    line
+}
+
+// The line of a stop.
+fn stop(reason: Reason, pc: u32) -> ArrayString<ROOM>
+    ensures { result.bytes ≡ with_line_feed (stop_text reason pc) }
+{
+    let mut digits = Buffer::new();
+    let mut line = ArrayString::new();
+    line.push_str("stopped ");
+    line.push_str(digits.format(reason.number()));
+    line.push_str(" ");
+    line.push_str(reason.name());
+    line.push_str(" ");
+    push_hex(&mut line, pc);
+    line.push_str("\n");
+    line
+}
+
+// The line of a program that is stuck.
+fn stuck(place: Place, why: Why) -> ArrayString<ROOM>
+    ensures { result.bytes ≡ with_line_feed (stuck_text place why) }
+{
+    let mut digits = Buffer::new();
+    let mut line = ArrayString::new();
+    line.push_str("stuck ");
+    line.push_str(digits.format(place.object));
+    line.push_str(" ");
+    line.push_str(digits.format(place.section));
+    line.push_str(" ");
+    line.push_str(digits.format(place.offset));
+    line.push_str(" ");
+    line.push_str(digits.format(why.number()));
+    line.push_str(" ");
+    line.push_str(why.name());
+    line.push_str("\n");
+    line
+}
+
+// Adds a number as eight hexadecimal digits.
+fn push_hex(line: &mut ArrayString<ROOM>, number: u32)
+    requires { length line.old.bytes + 8 ≤ 64 }
+    ensures { line.new.bytes ≡ line.old.bytes ++ hex_word number }
+{
+    line.push(hex_digit(number, 28));
+    line.push(hex_digit(number, 24));
+    line.push(hex_digit(number, 20));
+    line.push(hex_digit(number, 16));
+    line.push(hex_digit(number, 12));
+    line.push(hex_digit(number, 8));
+    line.push(hex_digit(number, 4));
+    line.push(hex_digit(number, 0));
+}
+
+// The hexadecimal digit before this many bits.
+fn hex_digit(number: u32, shift: u32) -> char
+    requires { shift < 32 }
+    ensures digit { result ≡ hex_at number shift }
+    ensures ascii { result < 128 }
+{
+    let digit = ((number >> shift) % 16) as u8;
+    if digit < 10 {
+        char::from(b'0' + digit)
+    } else {
+        char::from(b'a' - 10 + digit)
+    }
 }

@@ -5,9 +5,14 @@ pub mod call;
 pub mod command_line;
 pub mod err_line;
 pub mod image;
+pub mod input;
 pub mod outcome;
 pub mod refusal;
+pub mod run;
 pub mod straight;
+pub mod sym;
+pub mod sym_run;
+pub mod trace;
 pub mod zc;
 
 use call::zcld;

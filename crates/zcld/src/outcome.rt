@@ -4,17 +4,33 @@ ghost use Rattle.std.specs.Prelude.{◌≡◌};
 ghost use Rattle.zcld.specs.ErrLine.{status_of};
 
 use elf32_read::fault::Fault;
+use elf32_read::image_fault::ImageFault;
+use sym_machine::why::Why;
+use zc_base::place::Place;
+use zc_machine::reason::Reason;
+
+/// What is wrong with a file that isn't an object.
+#[derive(Clone, Copy, PartialEq, Eq, Debug)]
+pub enum FileFault {
+    Image(ImageFault),
+}
 
 /// How a call ends. A refusal names the object, by its index among those of the command line, and
-/// the first fault that stands in it.
+/// the first fault that stands in it. A stop names the reason and the program counter, a program that
+/// is stuck the place and the reason.
 #[derive(Clone, Copy, PartialEq, Eq, Debug)]
 pub enum Outcome {
     Done,
+    Exited(u8),
     Usage,
     Refused(u32, Fault),
     ReadFault,
     WriteFault,
     OutOfMemory,
+    BadFile(FileFault),
+    Stopped(Reason, u32),
+    Stuck(Place, Why),
+    Spent,
 }
 
 /// The status that the program ends with.
@@ -23,10 +39,22 @@ pub fn status(outcome: &Outcome) -> u8
 {
     match outcome {
         Outcome::Done => 0,
+        Outcome::Exited(code) => exit_status(*code),
         Outcome::Usage => 120,
         Outcome::Refused(..) => 121,
         Outcome::ReadFault => 122,
         Outcome::WriteFault => 123,
         Outcome::OutOfMemory => 124,
+        Outcome::BadFile(_) => 125,
+        Outcome::Stopped(..) => 126,
+        Outcome::Stuck(..) => 126,
+        Outcome::Spent => 127,
     }
+}
+
+// An exit's status; those from 118 on are kept for what the program itself says.
+fn exit_status(code: u8) -> u8
+    ensures { result ≡ status_of (Outcome.Exited code) }
+{
+    if code < 118 { code } else { 118 }
 }

@@ -28,15 +28,24 @@ const STRAIGHT_FLAGS: u32 = 6;
 // The most bytes of straight code.
 const MOST_CODE: u32 = 65536;
 
+/// The object that the bytes are, where it is straight code alone, or the first fault that stands in
+/// it.
 #[tactic(auto, unfolding(crate::specs::Refusal::first_fault))]
-/// The straight code of an object, its section 1, or the first fault that stands in the object.
-pub fn straight_code(bytes: &[u8]) -> Result<&[u8], Fault>
-    ensures { MatchResult result (λ code. (first_fault bytes.entry.now ≡ None) × (code.now ≡ code_of bytes.entry.now) × (length code.now ≤ 65536)) (λ fault. first_fault bytes.entry.now ≡ Some fault) }
+pub fn straight_object(bytes: &[u8]) -> Result<Object<'_>, Fault>
+    ensures { MatchResult result (λ object. (object ≡ bytes.entry.now) × (first_fault bytes.entry.now ≡ None)) (λ fault. first_fault bytes.entry.now ≡ Some fault) }
 {
     let object = Object::read(bytes)?;
     if is_unbuilt(&object) {
         return Err(Fault::NotBuilt);
     }
+    Ok(object)
+}
+
+/// The straight code of an object, its section 1, or the first fault that stands in the object.
+pub fn straight_code(bytes: &[u8]) -> Result<&[u8], Fault>
+    ensures { MatchResult result (λ code. (first_fault bytes.entry.now ≡ None) × (code.now ≡ code_of bytes.entry.now) × (length code.now ≤ 65536)) (λ fault. first_fault bytes.entry.now ≡ Some fault) }
+{
+    let object = straight_object(bytes)?;
     Ok(object.section(1).bytes)
 }
 

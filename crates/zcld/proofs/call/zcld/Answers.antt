@@ -1,14 +1,39 @@
+use Rattle.std.proofs.Common.{◌∙◌, inl, inr, ⊎_elim}
 use Rattle.zcld.proofs.Complete.{answers, no_read_fault, no_write_fault, sound}
+use Rattle.zcld.proofs.Reported.{cause_behind, line_written, rose_from, takes_behind}
 use Rattle.zcld.proofs.call.zcld.Goals as goal
 
+pub returns-clause-cause : goal.returns-clause-cause
+returns-clause-cause g c =
+    cause_behind _ _ _ _ _ _ _ _ _ _ _ _ _ _ c.report.ensures.reads c.report.ensures.taken c.report.ensures.writes c.perform-outcome.ensures.cause
+
+pub returns-clause-takes : goal.returns-clause-takes
+returns-clause-takes g c = takes_behind _ _ _ _ _ _ _ _ _ _ _ c.report.ensures.reads c.report.ensures.taken c.perform-outcome.ensures.takes
+
+pub returns-clause-shows : goal.returns-clause-shows
+returns-clause-shows g c = record {
+  left = record {
+    input = g.C.Console.input c.perform-outcome.new.console;
+    out = g.C.Console.out_bytes c.perform-outcome.new.console;
+    err = g.C.Console.err_bytes c.perform-outcome.new.console;
+  };
+  shown = c.perform-outcome.ensures.shows;
+  input = c.report.ensures.input;
+  out = c.report.ensures.out;
+  line = line_written _ _ _ _ _
+      (⊎_elim (λ rose. inl (rose_from _ _ _ c.perform-outcome.ensures.console_writes rose)) (λ rose. inr (rose_from _ _ _ c.perform-outcome.ensures.console_memory rose)))
+      c.report.ensures.line;
+}
+
 pub returns-clause-complete : goal.returns-clause-complete
-returns-clause-complete g c = λ object can no_reads no_longs no_writes.
-    answers _ _ _ _ object _ _ _ _ _ _ can
-    (no_read_fault _ _ _ object _ _ _ _ _ _ can no_reads no_longs c.perform-outcome.ensures.cause)
-    (no_write_fault _ _ _ object _ _ _ _ _ _ can no_writes c.perform-outcome.ensures.cause)
-    c.perform-outcome.ensures.cause c.perform-outcome.ensures.files
+returns-clause-complete g c = λ file can clean.
+    let cause = cause_behind _ _ _ _ _ _ _ _ _ _ _ _ _ _ c.report.ensures.reads c.report.ensures.taken c.report.ensures.writes c.perform-outcome.ensures.cause in
+    answers _ _ _ _ file _ _ _ _ _ can (no_read_fault _ _ _ file _ _ _ can clean cause) (no_write_fault _ _ _ file _ _ _ can clean cause)
+    cause c.perform-outcome.ensures.files c.perform-outcome.ensures.shows
 
 pub returns-clause-sure : goal.returns-clause-sure
-returns-clause-sure g c = λ object can sure.
-    let so = sound _ _ _ object _ _ _ _ _ _ can (c.perform-outcome.ensures.sure sure) in
-    (answers _ _ _ _ object _ _ _ _ _ _ can so.no_read so.no_write c.perform-outcome.ensures.cause c.perform-outcome.ensures.files, so.reads_stay, so.longs_stay, so.writes_stay)
+returns-clause-sure g c = λ file can sure ready.
+    let so = sound _ _ _ file _ _ _ _ can ready (c.perform-outcome.ensures.sure sure) c.perform-outcome.ensures.takes in (
+      answers _ _ _ _ file _ _ _ _ _ can so.no_read so.no_write c.perform-outcome.ensures.cause c.perform-outcome.ensures.files c.perform-outcome.ensures.shows,
+      (so.reads_stay, so.longs_stay, so.writes_stay, c.report.ensures.reads ∙ so.console_reads_stay),
+    )

@@ -1,0 +1,58 @@
+-- Words of another number than a command's spell none, and what a number word is read as.
+use Rattle.std.proofs.Common.{◌≡◌, ◌≢◌, ℕ, ◌<◌, ◌^◌, List, [], ◌∷◌, length, Bool, true, false, ◌&&◌, refl, Result, Err, None, subst, arith, rules, leb}
+use Rattle.std.proofs.lemmas.Bool.{and_parts, leb-true, cond-false}
+use Rattle.std.specs.Char.{is_ascii_digit}
+use Rattle.std.specs.List.{list_all}
+use Rattle.std.proofs.lemmas.List.{length-map}
+use Rattle.std.proofs.lemmas.Str.Parse.{IsNumeralModel, numerals_by_value, parse_digits}
+use Rattle.std.specs.Prelude.{String, map}
+use Rattle.std.specs.Result.{OkIff}
+use Rattle.std.specs.Str.Parse.{ParsesUnsigned, digits_value}
+use Rattle.std.specs.String.{string_bytes}
+use Rattle.zcld.specs.Command.{command_of, is_number, steps_of}
+
+pub no_command : (words : List (List ℕ)) → length words ≢ 2 → length words ≢ 4 → length words ≢ 6 → command_of words ≡ None
+no_command [] two four six = refl
+no_command (a ∷ []) two four six = refl
+no_command (a ∷ b ∷ []) two four six = absurd (two refl)
+no_command (a ∷ b ∷ c ∷ []) two four six = refl
+no_command (a ∷ b ∷ c ∷ d ∷ []) two four six = absurd (four refl)
+no_command (a ∷ b ∷ c ∷ d ∷ e ∷ []) two four six = refl
+no_command (a ∷ b ∷ c ∷ d ∷ e ∷ f ∷ []) two four six = absurd (six refl)
+no_command (a ∷ b ∷ c ∷ d ∷ e ∷ f ∷ g ∷ words) two four six = refl
+
+-- the same of words as texts
+pub no_command_in : {Z : Type 0} (words : List (String Z)) → length words ≢ 2 → length words ≢ 4 → length words ≢ 6 → command_of (map string_bytes words) ≡ None
+no_command_in words two four six =
+    let n : length (map string_bytes words) ≡ length words = length-map words string_bytes in
+    no_command (map string_bytes words) (λ e. two (omega (arith, n))) (λ e. four (omega (arith, n))) (λ e. six (omega (arith, n)))
+
+-- a text of digits and its number
+digits : IsNumeralModel (λ ds. list_all is_ascii_digit ds ≡ true) (digits_value 10)
+digits = numerals_by_value _ (search rules)
+
+-- what a number word is read as
+pub number_read : {E : Type 0} (word : List ℕ) (r : Result ℕ E) → is_number word ≡ true → ParsesUnsigned 64 10 word r → OkIff r ((0 < length word) × (digits_value 10 word < 2 ^ 64)) (digits_value 10 word)
+number_read word r number parsed =
+    let parts = and_parts (leb 1 (length word) && leb (length word) 20) (list_all is_ascii_digit word) number in
+    parse_digits digits 64 word r parsed parts.1
+
+-- a number that is too large to be read is too large to be allowed
+pub no_steps : {E : Type 0} (word : List ℕ) (r : Result ℕ E) (e : E) → is_number word ≡ true → ParsesUnsigned 64 10 word r → r ≡ Err e → steps_of word ≡ None
+no_steps {E = E} word r e number parsed failed = by_size (leb (digits_value 10 word) 1000000000) refl
+  where
+    lengthy : 0 < length word
+    lengthy =
+        let parts = and_parts (leb 1 (length word) && leb (length word) 20) (list_all is_ascii_digit word) number in
+        let long = and_parts (leb 1 (length word)) (leb (length word) 20) parts.0 in
+        let one = leb-true 1 (length word) long.0 in
+        omega arith
+
+    refused : digits_value 10 word < 2 ^ 64 → ⊥
+    refused small = subst (λ (x : Result ℕ E). OkIff x ((0 < length word) × (digits_value 10 word < 2 ^ 64)) (digits_value 10 word)) failed (number_read word r number parsed) (lengthy, small)
+
+    by_size : (b : Bool) → leb (digits_value 10 word) 1000000000 ≡ b → steps_of word ≡ None
+    by_size true small =
+        let le = leb-true (digits_value 10 word) 1000000000 small in
+        absurd (refused (omega arith))
+    by_size false large = cond-false (is_number word && leb (digits_value 10 word) 1000000000) _ _ (rw (number, large) refl)

@@ -1,0 +1,111 @@
+-- A run of the machine over the input that was taken is what the image executes.
+use Rattle.std.proofs.Common.{◌≡◌, ℕ, List, [], ◌++◌, Option, Some, None, refl, sym, ap, subst, ◌∙◌, inl, inr, ⊎_elim}
+use Rattle.std.specs.Prelude.{take}
+use Rattle.zc_base.specs.declared.mem_map.MemMap.{MemMap}
+use Rattle.zc_base.specs.MemMap.{standard_map}
+use Rattle.elf32_read.specs.Header.{entry_of}
+use Rattle.elf32_read.specs.Segments.{SegmentData, segments_of}
+use Rattle.interrupt_plan.specs.Plan.{Cut}
+use Rattle.rv_decode.specs.State.{Event, ZcCore}
+use Rattle.zc_outside.specs.Streams.{Adds, AddsPart, KeepsBytes}
+use Rattle.zc_machine.specs.Load.{first_core}
+use Rattle.zc_machine.specs.RunEnd.{Course, Ran, Wrote}
+use Rattle.zc_machine.specs.Written.{err_of, out_of}
+use Rattle.zc_machine.specs.declared.run.RunEnd.{RunEnd}
+use Rattle.zc_machine.specs.declared.run.RunEnd.TheVariants as end
+use Rattle.zcld.specs.Input.{TakesAll}
+use Rattle.zcld.specs.Outside.{IsQuiet, Streams}
+use Rattle.zcld.specs.Run.{Executes, course_of}
+
+-- ---- the machine's start
+
+pub starts_running : (entry : ℕ) (segments : List SegmentData) (memory : MemMap) → (first_core entry segments memory).exit ≡ None
+unfolding first_core
+starts_running entry segments memory = refl
+
+pub starts_at_zero : (entry : ℕ) (segments : List SegmentData) (memory : MemMap) → (first_core entry segments memory).commits ≡ 0
+unfolding first_core
+starts_at_zero entry segments memory = refl
+
+-- ---- streams in a row
+
+adds_after : (a b c : Option (List ℕ)) (piece : List ℕ) → KeepsBytes a b → Adds b c piece → Adds a c piece
+adds_after None b c piece kept adds = tt
+adds_after (Some xs) None c piece kept adds = absurd kept
+adds_after (Some xs) (Some ys) None piece kept adds = absurd adds
+adds_after (Some xs) (Some ys) (Some zs) piece kept adds = adds ∙ ap (λ l. l ++ piece) kept
+
+adds_part_after : (a b c : Option (List ℕ)) (piece : List ℕ) → KeepsBytes a b → AddsPart b c piece → AddsPart a c piece
+adds_part_after None b c piece kept adds = tt
+adds_part_after (Some xs) None c piece kept adds = absurd kept
+adds_part_after (Some xs) (Some ys) None piece kept adds = absurd adds
+adds_part_after (Some xs) (Some ys) (Some zs) piece kept adds = (adds.0, adds.1, adds.2 ∙ ap (λ l. l ++ take adds.0 piece) kept)
+
+takes_before : (a b c : Option (List ℕ)) (input : List ℕ) → TakesAll a b input → KeepsBytes b c → TakesAll a c input
+takes_before None b c input taken kept = tt
+takes_before (Some xs) None c input taken kept = absurd taken
+takes_before (Some xs) (Some ys) None input taken kept = absurd kept
+takes_before (Some xs) (Some ys) (Some zs) input taken kept = (taken.0, kept ∙ taken.1)
+
+module _ (events : List Event) (out out' out'' err err' err'' : Option (List ℕ)) (out_kept : KeepsBytes out out') (err_kept : KeepsBytes err err') where
+  both : Adds out' out'' (out_of events) × Adds err' err'' (err_of events) → Adds out out'' (out_of events) × Adds err err'' (err_of events)
+  both adds = (adds_after out out' out'' (out_of events) out_kept adds.0, adds_after err err' err'' (err_of events) err_kept adds.1)
+
+  wrote_after : (answer : RunEnd) → Wrote answer events out' out'' err' err'' → Wrote answer events out out'' err err''
+  wrote_after (end.Exit status) wrote = both wrote
+  wrote_after (end.Stopped reason) wrote = both wrote
+  wrote_after end.Spent wrote = both wrote
+  wrote_after (end.Console fault) wrote = ⊎_elim
+      (λ w. inl (adds_part_after out out' out'' (out_of events) out_kept w.0, adds_after err err' err'' (err_of events) err_kept w.1))
+      (λ w. inr (adds_after out out' out'' (out_of events) out_kept w.0, adds_part_after err err' err'' (err_of events) err_kept w.1))
+      wrote
+
+-- ---- the run
+
+-- a run of the machine from an image's start, over an input that was taken before it
+pub record IsMachineRun (image : List ℕ) (steps : ℕ) (answer : RunEnd) (before after : Streams) (machine : ZcCore) : Type 0 where
+  pub memory : MemMap
+  pub is_standard : memory ≡ standard_map
+  pub first : ZcCore
+  pub is_first : first ≡ first_core (entry_of image) (segments_of image) memory
+  pub input : List ℕ
+  pub slice : List ℕ
+  pub is_input : slice ≡ input
+  pub plan : List Cut
+  pub is_quiet : plan ≡ []
+  pub middle : Streams
+  pub taken : TakesAll before.input middle.input input
+  pub kept : KeepsBytes middle.input after.input
+  pub quiet : IsQuiet before middle
+  pub given : RunEnd
+  pub is_answer : given ≡ answer
+  pub ran : Ran (record { first = first; input = slice; plan = plan; steps = steps }) given machine middle.out after.out middle.err after.err
+
+ran_course : (image : List ℕ) (steps : ℕ) (answer : RunEnd) (before after : Streams) (machine : ZcCore) (is : IsMachineRun image steps answer before after machine)
+    → Ran (course_of image is.input steps) answer machine before.out after.out before.err after.err
+ran_course image steps answer before after machine is =
+    let start : is.first ≡ first_core (entry_of image) (segments_of image) standard_map = is.is_first ∙ ap (first_core (entry_of image) (segments_of image)) is.is_standard in
+    let given : Course = record { first = is.first; input = is.slice; plan = is.plan; steps = steps } in
+    let same : given ≡ course_of image is.input steps = λ i. record { first = start i; input = is.is_input i; plan = is.is_quiet i; steps = steps } in
+    let course = subst (λ c. Ran c is.given machine is.middle.out after.out is.middle.err after.err) same is.ran in
+    let answered = subst (λ r. Ran (course_of image is.input steps) r machine is.middle.out after.out is.middle.err after.err) is.is_answer course in
+    record {
+      last = answered.last;
+      ended = answered.ended;
+      wrote = wrote_after answered.last.events before.out is.middle.out after.out before.err is.middle.err after.err is.quiet.0 is.quiet.1 answer answered.wrote;
+    }
+
+pub executes : (image : List ℕ) (steps : ℕ) (answer : RunEnd) (before after : Streams) (machine : ZcCore) → IsMachineRun image steps answer before after machine
+    → Executes image steps answer before after
+executes image steps answer before after machine is = record {
+  input = is.input;
+  taken = takes_before before.input is.middle.input after.input is.input is.taken is.kept;
+  machine = machine;
+  ran = ran_course image steps answer before after machine is;
+}
+
+-- and the machine's program counter then is this one
+pub executes_to : (image : List ℕ) (steps : ℕ) (answer : RunEnd) (before after : Streams) (machine : ZcCore) (pc : ℕ) → IsMachineRun image steps answer before after machine
+    → pc ≡ machine.pc → (run : Executes image steps answer before after) × (run.machine.pc ≡ pc)
+unfolding executes
+executes_to image steps answer before after machine pc is stands = (executes image steps answer before after machine is, sym stands)

@@ -1,0 +1,62 @@
+-- What a command shows, it still shows behind the line that names its outcome.
+use Rattle.std.proofs.Common.{◌≡◌, ℕ, ◌+◌, ◌-◌, ◌^◌, ◌≤◌, List, Option, Some, None, ◌∙◌, inl, inr, ⊎_elim, arith, min}
+use Rattle.std.proofs.Math.Nat.{le-min, min-le_left, min-le_right}
+use Rattle.zc_outside.specs.Files.{Files, Rose}
+use Rattle.zcld.specs.declared.outcome.FileFault.TheVariants.{Image}
+use Rattle.zcld.specs.declared.outcome.Outcome.{Outcome}
+use Rattle.zcld.specs.declared.outcome.Outcome.TheVariants.{ReadFault, WriteFault, BadFile}
+use Rattle.zcld.specs.Call.{CallCause, CallTakes, WritesLine}
+use Rattle.zcld.specs.Command.{Command, Run, Trace, Zc}
+use Rattle.zcld.specs.Outside.{Tally}
+
+-- a count that rose from a later value on rose from an earlier one
+pub rose_from : (a b c : ℕ) → a ≤ b → Rose b c → Rose a c
+rose_from a b c earlier rose =
+    let low : min (a + 1) (2 ^ 64 - 1) ≤ b + 1 = omega (arith, min-le_left (a + 1) (2 ^ 64 - 1), earlier) in
+    let least : min (a + 1) (2 ^ 64 - 1) ≤ min (b + 1) (2 ^ 64 - 1) = le-min low (min-le_right (a + 1) (2 ^ 64 - 1)) in
+    omega (arith, least, rose)
+
+-- and one that rose still did when it rises further
+rose_to : (a b c : ℕ) → b ≤ c → Rose a b → Rose a c
+rose_to a b c later rose = omega (arith, later, rose)
+
+pub line_written : (before after : Option (List ℕ)) (text : List ℕ) (Refused Refused' : Type 0) → (Refused → Refused') → WritesLine before after text Refused → WritesLine before after text Refused'
+line_written None after text Refused Refused' from written = tt
+line_written (Some xs) None text Refused Refused' from written = absurd written
+line_written (Some xs) (Some ys) text Refused Refused' from written = ⊎_elim (λ whole. inl whole) (λ part. inr (from part.0, part.1)) written
+
+-- the counts behind the line: only those of writes may have risen
+abbrev pub counted : ℕ → ℕ → ℕ → ℕ → ℕ → ℕ → Tally
+counted reads longs writes console_reads console_writes taken = record {
+  reads = reads;
+  longs = longs;
+  writes = writes;
+  console_reads = console_reads;
+  console_writes = console_writes;
+  taken = taken;
+}
+
+pub cause_behind : (command : Option Command) (outcome : Outcome) (files : Option Files) (told : Option (List ℕ)) (before : Tally) (reads longs writes console_reads console_reads' console_writes console_writes' taken taken' : ℕ)
+    → console_reads' ≡ console_reads → taken' ≡ taken → console_writes ≤ console_writes'
+    → CallCause command outcome files told before (counted reads longs writes console_reads console_writes taken)
+    → CallCause command outcome files told before (counted reads longs writes console_reads' console_writes' taken')
+cause_behind None outcome files told before reads longs writes console_reads console_reads' console_writes console_writes' taken taken' same_reads same_taken written cause = cause
+cause_behind (Some (Zc out cert name)) outcome files told before reads longs writes console_reads console_reads' console_writes console_writes' taken taken' same_reads same_taken written cause = cause
+cause_behind (Some (Run steps name)) ReadFault files told before reads longs writes console_reads console_reads' console_writes console_writes' taken taken' same_reads same_taken written cause =
+    rw (same_reads, same_taken) cause
+cause_behind (Some (Run steps name)) WriteFault files told before reads longs writes console_reads console_reads' console_writes console_writes' taken taken' same_reads same_taken written cause =
+    rose_to before.console_writes console_writes console_writes' written cause
+cause_behind (Some (Run steps name)) (BadFile (Image fault)) files told before reads longs writes console_reads console_reads' console_writes console_writes' taken taken' same_reads same_taken written cause = cause
+cause_behind (Some (Run steps name)) other files told before reads longs writes console_reads console_reads' console_writes console_writes' taken taken' same_reads same_taken written cause = cause
+cause_behind (Some (Trace steps name)) ReadFault files told before reads longs writes console_reads console_reads' console_writes console_writes' taken taken' same_reads same_taken written cause =
+    rw (same_reads, same_taken) cause
+cause_behind (Some (Trace steps name)) other files told before reads longs writes console_reads console_reads' console_writes console_writes' taken taken' same_reads same_taken written cause = cause
+
+pub takes_behind : (command : Option Command) (before : Tally) (reads longs writes console_reads console_reads' console_writes console_writes' taken taken' : ℕ)
+    → console_reads' ≡ console_reads → taken' ≡ taken
+    → CallTakes command before (counted reads longs writes console_reads console_writes taken)
+    → CallTakes command before (counted reads longs writes console_reads' console_writes' taken')
+takes_behind None before reads longs writes console_reads console_reads' console_writes console_writes' taken taken' same_reads same_taken takes = (same_taken ∙ takes.0, same_reads ∙ takes.1)
+takes_behind (Some (Zc out cert name)) before reads longs writes console_reads console_reads' console_writes console_writes' taken taken' same_reads same_taken takes = (same_taken ∙ takes.0, same_reads ∙ takes.1)
+takes_behind (Some (Run steps name)) before reads longs writes console_reads console_reads' console_writes console_writes' taken taken' same_reads same_taken takes = tt
+takes_behind (Some (Trace steps name)) before reads longs writes console_reads console_reads' console_writes console_writes' taken taken' same_reads same_taken takes = tt

@@ -1,0 +1,33 @@
+-- What a store and a console show of themselves around a call.
+use Rattle.std.specs.Prelude.{ℕ, ◌≤◌, List, length, Option}
+use Rattle.zc_outside.specs.Files.{Files, HasFile}
+use Rattle.zc_outside.specs.Streams.{KeepsBytes}
+
+-- the streams of a console, each where it is told: the input that is left, and what was written
+pub record Streams : Type 0 where
+  pub input : Option (List ℕ)
+  pub out : Option (List ℕ)
+  pub err : Option (List ℕ)
+
+-- nothing more was written
+abbrev pub IsQuiet : Streams → Streams → Type 0
+IsQuiet before after = KeepsBytes before.out after.out × KeepsBytes before.err after.err
+
+-- and no input was taken
+abbrev pub KeepsStreams : Streams → Streams → Type 0
+KeepsStreams before after = KeepsBytes before.input after.input × IsQuiet before after
+
+-- what was counted: of the store the read faults, long files and write faults; of the console the read
+-- faults, write faults and bytes taken
+pub record Tally : Type 0 where
+  pub reads : ℕ
+  pub longs : ℕ
+  pub writes : ℕ
+  pub console_reads : ℕ
+  pub console_writes : ℕ
+  pub taken : ℕ
+
+-- a file of at most so many bytes was read: these are the bytes under its name, where the store tells its files
+pub record IsRead (limit : ℕ) (files : Option Files) (name bytes : List ℕ) : Type 0 where
+  pub held : HasFile files name bytes
+  pub short : length bytes ≤ limit

@@ -1,0 +1,121 @@
+// The command `run`: an image is read, and the machine executes it.
+
+ghost use Rattle.std.specs.Prelude.{◌≡◌, ◌≢◌, ◌≤◌, ◌⊎◌, ℕ, None};
+ghost use Rattle.zc_base.specs.MemMap.{standard_map};
+ghost use Rattle.elf32_read.specs.Image.{image_fault};
+ghost use Rattle.zc_outside.specs.Files.{KeepsFiles};
+ghost use Rattle.zcld.specs.Input.{IsLongInput};
+ghost use Rattle.zcld.specs.Outside.{Streams, Tally};
+ghost use Rattle.zcld.specs.Run.{ExecuteCause, Executed, RunCause, RunShows, SureMachine, image_limit};
+
+use crate::input::take_all;
+use crate::outcome::{FileFault, Outcome};
+use elf32_read::image::Image;
+use interrupt_plan::plan::empty_plan;
+use std::alloc::Global;
+use zc_base::mem_map::MemMap;
+use zc_machine::machine::Machine;
+use zc_machine::run::{RunEnd, run as run_machine};
+use zc_outside::console::{Console, ConsoleFault};
+use zc_outside::store::{Store, StoreFault};
+
+/// The most bytes of an image.
+pub const IMAGE_LIMIT: u32 = 8_388_608;
+
+/// Runs the image under a name, over the console's whole input, for at most so many commits.
+pub fn run<S: Store, C: Console>(
+    alloc: Global,
+    steps: u64,
+    name: &str,
+    store: &mut S,
+    console: &mut C,
+) -> Outcome
+    requires { steps ≤ 1000000000 }
+    ensures shows { let before : Streams = record { input = C.input console.old; out = C.out_bytes console.old; err = C.err_bytes console.old } in
+        let after : Streams = record { input = C.input console.new; out = C.out_bytes console.new; err = C.err_bytes console.new } in
+        RunShows result (S.files store.old) name.now steps before after }
+    ensures cause { let before : Tally = record {
+      reads = S.read_faults store.old;
+      longs = S.long_files store.old;
+      writes = S.write_faults store.old;
+      console_reads = C.read_faults console.old;
+      console_writes = C.write_faults console.old;
+      taken = C.taken console.old;
+    } in
+        let after : Tally = record {
+          reads = S.read_faults store.new;
+          longs = S.long_files store.new;
+          writes = S.write_faults store.new;
+          console_reads = C.read_faults console.new;
+          console_writes = C.write_faults console.new;
+          taken = C.taken console.new;
+        } in
+        RunCause result (S.files store.old) name.now (C.input console.old) before after }
+    ensures keeps { KeepsFiles (S.files store.old) (S.files store.new) }
+    ensures writes { S.write_faults store.new ≡ S.write_faults store.old }
+    ensures console_writes { C.write_faults console.old ≤ C.write_faults console.new }
+    ensures console_memory { C.memory_faults console.old ≤ C.memory_faults console.new }
+    ensures stays { S.sure store.old → S.sure store.new }
+    ensures stays_console { C.sure console.old → C.sure console.new }
+    ensures sure_console { C.sure console.old → C.write_faults console.new ≡ C.write_faults console.old }
+    ensures sure { S.sure store.old → C.sure console.old →
+        let before : Tally = record {
+          reads = S.read_faults store.old;
+          longs = S.long_files store.old;
+          writes = S.write_faults store.old;
+          console_reads = C.read_faults console.old;
+          console_writes = C.write_faults console.old;
+          taken = C.taken console.old;
+        } in
+        let after : Tally = record {
+          reads = S.read_faults store.new;
+          longs = S.long_files store.new;
+          writes = S.write_faults store.new;
+          console_reads = C.read_faults console.new;
+          console_writes = C.write_faults console.new;
+          taken = C.taken console.new;
+        } in
+        SureMachine image_limit result (S.files store.old) name.now (C.input console.old) before after }
+{
+    let file = match store.get(alloc, name, IMAGE_LIMIT) {
+        Ok(file) => file,
+        Err(StoreFault::OutOfMemory) => return Outcome::OutOfMemory,
+        Err(_) => return Outcome::ReadFault,
+    };
+    match Image::read(file.as_slice(), MemMap::standard()) {
+        Ok(image) => execute(alloc, &image, steps, console),
+        Err(fault) => Outcome::BadFile(FileFault::Image(fault)),
+    }
+}
+
+// Runs an image over the console's whole input.
+fn execute<C: Console>(alloc: Global, image: &Image, steps: u64, console: &mut C) -> Outcome
+    requires steps { steps ≤ 1000000000 }
+    requires map { image.now.1 ≡ standard_map }
+    ensures shows { let before : Streams = record { input = C.input console.old; out = C.out_bytes console.old; err = C.err_bytes console.old } in
+        let after : Streams = record { input = C.input console.new; out = C.out_bytes console.new; err = C.err_bytes console.new } in
+        Executed result image.now.0 steps before after }
+    ensures cause { ExecuteCause result (C.input console.old) (C.read_faults console.old) (C.read_faults console.new)
+        (C.taken console.old) (C.taken console.new) (C.write_faults console.old) (C.write_faults console.new) }
+    ensures console_writes { C.write_faults console.old ≤ C.write_faults console.new }
+    ensures console_memory { C.memory_faults console.old ≤ C.memory_faults console.new }
+    ensures stays { C.sure console.old → C.sure console.new }
+    ensures sure { C.sure console.old → (C.read_faults console.new ≡ C.read_faults console.old) × (C.write_faults console.new ≡ C.write_faults console.old)
+        × (result ≡ Outcome.ReadFault → IsLongInput (C.input console.old)) × (result ≢ Outcome.WriteFault) }
+{
+    let input = match take_all(alloc, console) {
+        Ok(input) => input,
+        Err(outcome) => return outcome,
+    };
+    let Ok(mut machine) = Machine::load(alloc, image) else {
+        return Outcome::OutOfMemory;
+    };
+    let plan = empty_plan(alloc);
+    match run_machine(&mut machine, &plan, input.as_slice(), steps, console) {
+        RunEnd::Exit(code) => Outcome::Exited(code),
+        RunEnd::Stopped(reason) => Outcome::Stopped(reason, machine.pc()),
+        RunEnd::Spent => Outcome::Spent,
+        RunEnd::Console(ConsoleFault::Failed) => Outcome::WriteFault,
+        RunEnd::Console(ConsoleFault::OutOfMemory) => Outcome::OutOfMemory,
+    }
+}

@@ -1,0 +1,109 @@
+// The command `trace`: an object is read, and the symbolic machine runs it.
+
+ghost use Rattle.std.specs.Prelude.{◌≡◌, ◌≢◌, ◌≤◌, ◌⊎◌, ℕ, None};
+ghost use Rattle.zc_outside.specs.Files.{KeepsFiles};
+ghost use Rattle.zcld.specs.Input.{IsLongInput};
+ghost use Rattle.zcld.specs.Outside.{Streams, Tally};
+ghost use Rattle.zcld.specs.Run.{ExecuteCause, SureMachine};
+ghost use Rattle.zcld.specs.Trace.{TraceCause, TraceShows, Traced, object_limit};
+
+use crate::input::take_all;
+use crate::outcome::Outcome;
+use crate::refusal::straight_object;
+use crate::sym_run::{TraceEnd, trace_object};
+use crate::zc::OBJECT_LIMIT;
+use elf32_read::object::Object;
+use std::alloc::Global;
+use zc_outside::console::Console;
+use zc_outside::store::{Store, StoreFault};
+
+/// Runs the object under a name at the places of its own code, over the console's whole input, for at
+/// most so many steps.
+pub fn trace<S: Store, C: Console>(
+    alloc: Global,
+    steps: u64,
+    name: &str,
+    store: &mut S,
+    console: &mut C,
+) -> Outcome
+    ensures shows { let before : Streams = record { input = C.input console.old; out = C.out_bytes console.old; err = C.err_bytes console.old } in
+        let after : Streams = record { input = C.input console.new; out = C.out_bytes console.new; err = C.err_bytes console.new } in
+        TraceShows result (S.files store.old) name.now steps before after }
+    ensures cause { let before : Tally = record {
+      reads = S.read_faults store.old;
+      longs = S.long_files store.old;
+      writes = S.write_faults store.old;
+      console_reads = C.read_faults console.old;
+      console_writes = C.write_faults console.old;
+      taken = C.taken console.old;
+    } in
+        let after : Tally = record {
+          reads = S.read_faults store.new;
+          longs = S.long_files store.new;
+          writes = S.write_faults store.new;
+          console_reads = C.read_faults console.new;
+          console_writes = C.write_faults console.new;
+          taken = C.taken console.new;
+        } in
+        TraceCause result (S.files store.old) name.now (C.input console.old) before after }
+    ensures keeps { KeepsFiles (S.files store.old) (S.files store.new) }
+    ensures writes { S.write_faults store.new ≡ S.write_faults store.old }
+    ensures console_writes { C.write_faults console.old ≤ C.write_faults console.new }
+    ensures console_memory { C.memory_faults console.old ≤ C.memory_faults console.new }
+    ensures stays { S.sure store.old → S.sure store.new }
+    ensures stays_console { C.sure console.old → C.sure console.new }
+    ensures sure_console { C.sure console.old → C.write_faults console.new ≡ C.write_faults console.old }
+    ensures sure { S.sure store.old → C.sure console.old →
+        let before : Tally = record {
+          reads = S.read_faults store.old;
+          longs = S.long_files store.old;
+          writes = S.write_faults store.old;
+          console_reads = C.read_faults console.old;
+          console_writes = C.write_faults console.old;
+          taken = C.taken console.old;
+        } in
+        let after : Tally = record {
+          reads = S.read_faults store.new;
+          longs = S.long_files store.new;
+          writes = S.write_faults store.new;
+          console_reads = C.read_faults console.new;
+          console_writes = C.write_faults console.new;
+          taken = C.taken console.new;
+        } in
+        SureMachine object_limit result (S.files store.old) name.now (C.input console.old) before after }
+{
+    let file = match store.get(alloc, name, OBJECT_LIMIT) {
+        Ok(file) => file,
+        Err(StoreFault::OutOfMemory) => return Outcome::OutOfMemory,
+        Err(_) => return Outcome::ReadFault,
+    };
+    match straight_object(file.as_slice()) {
+        Ok(object) => follow(alloc, &object, steps, console),
+        Err(fault) => Outcome::Refused(0, fault),
+    }
+}
+
+// Runs an object over the console's whole input.
+fn follow<C: Console>(alloc: Global, object: &Object, steps: u64, console: &mut C) -> Outcome
+    ensures shows { let before : Streams = record { input = C.input console.old; out = C.out_bytes console.old; err = C.err_bytes console.old } in
+        let after : Streams = record { input = C.input console.new; out = C.out_bytes console.new; err = C.err_bytes console.new } in
+        Traced result object.now steps before after }
+    ensures cause { ExecuteCause result (C.input console.old) (C.read_faults console.old) (C.read_faults console.new)
+        (C.taken console.old) (C.taken console.new) (C.write_faults console.old) (C.write_faults console.new) }
+    ensures console_writes { C.write_faults console.old ≤ C.write_faults console.new }
+    ensures console_memory { C.memory_faults console.old ≤ C.memory_faults console.new }
+    ensures stays { C.sure console.old → C.sure console.new }
+    ensures sure { C.sure console.old → (C.read_faults console.new ≡ C.read_faults console.old) × (C.write_faults console.new ≡ C.write_faults console.old)
+        × (result ≡ Outcome.ReadFault → IsLongInput (C.input console.old)) × (result ≢ Outcome.WriteFault) }
+{
+    let input = match take_all(alloc, console) {
+        Ok(input) => input,
+        Err(outcome) => return outcome,
+    };
+    match trace_object(alloc, object, input.as_slice(), steps) {
+        Ok(TraceEnd::Exited(code)) => Outcome::Exited(code),
+        Ok(TraceEnd::Stuck(place, why)) => Outcome::Stuck(place, why),
+        Ok(TraceEnd::Spent) => Outcome::Spent,
+        Err(_) => Outcome::OutOfMemory,
+    }
+}
