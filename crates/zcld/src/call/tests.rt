@@ -276,8 +276,9 @@ fn objects_that_are_not_held_or_too_long_are_read_faults(rt: HostRuntime) -> Res
     let left = call(rt.alloc(), &WORDS, long.as_slice(), &[], &[])?;
     assert_eq!(rt; left.outcome, Outcome::ReadFault);
     assert_eq!(rt; left.console.err_bytes(), b"read fault\n".as_slice());
-    let longest = call(rt.alloc(), &WORDS, &long[..4_194_304], &[], &[])?;
-    assert_eq!(rt; longest.outcome, Outcome::Refused(0, Fault::NotElf));
+    let longest = vec![in rt.alloc(); 0u8; 4_194_304]?;
+    let left = call(rt.alloc(), &WORDS, longest.as_slice(), &[], &[])?;
+    assert_eq!(rt; left.outcome, Outcome::Refused(0, Fault::NotElf));
     Ok(())
 }
 
