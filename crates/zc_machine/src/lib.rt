@@ -4,7 +4,7 @@
 mod load;
 pub mod machine;
 pub mod reason;
-pub mod region;
+mod region;
 pub mod run;
 pub mod step;
 #[cfg(test)]
