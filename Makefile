@@ -1,5 +1,5 @@
 # make          proves, compiles and links the program: build/zcld
-# make example  links examples/exit3.o, which a C compiler made, and shows what came out
+# make example  links examples/exit3.o, which a C compiler made, shows the image, and runs it and the object
 # make check    runs the gate: every proof, must-fail edit, test and program
 # make install  installs the program below $(DESTDIR)$(PREFIX)/bin
 # make clean    removes what these made
@@ -25,6 +25,9 @@ example: build/zcld
 	@echo "linked examples/exit3.o to build/exit3.elf, with the certificate:"
 	@cat build/exit3.cert
 	@if command -v $(OBJDUMP) > /dev/null; then $(OBJDUMP) -d $(EXAMPLE) build/exit3.elf; else od -A d -t x1 -j 116 -N 10 build/exit3.elf; fi
+	@echo "the image runs, and the object; each must end with status 3:"
+	build/zcld run build/exit3.elf < /dev/null; status=$$?; echo "status $$status"; test $$status -eq 3
+	build/zcld trace $(EXAMPLE) < /dev/null; status=$$?; echo "status $$status"; test $$status -eq 3
 
 check:
 	$(RT) ci
