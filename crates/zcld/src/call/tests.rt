@@ -9,6 +9,8 @@ use std::test::Fail;
 use zc_outside::mem_console::MemConsole;
 use zc_outside::mem_store::MemStore;
 
+mod traces;
+
 // `li a0,3`, `li a7,93` and `ecall` in `.text` at 52, symbols at 64, their names at 96, the names of
 // the sections at 104, and five section headers at 140.
 const THREE: [u8; 340] = [
