@@ -119,3 +119,6 @@ fn execute<C: Console>(alloc: Global, image: &Image, steps: u64, console: &mut C
         RunEnd::Console(ConsoleFault::OutOfMemory) => Outcome::OutOfMemory,
     }
 }
+
+#[cfg(test)]
+mod tests;

@@ -1,0 +1,300 @@
+// Runs of small images over files and a console in memory. The images were worked out by hand from
+// the ELF format.
+
+use super::*;
+use crate::call::zcld;
+use crate::err_line::line_of;
+use crate::outcome::status;
+use elf32_read::image_fault::ImageFault;
+use std::alloc::{AllocError, Global};
+use std::test::Fail;
+use zc_base::fields::put_u32;
+use zc_machine::reason::Reason;
+use zc_outside::mem_console::MemConsole;
+use zc_outside::mem_store::MemStore;
+
+// `li a0,3`, `li a7,93` and `ecall`: the program headers at 52 and 84, the text at 116, four places at
+// 128, the names of the sections at 176, and six section headers at 220.
+const THREE_IMAGE: [u8; 460] = [
+    0x7F, 0x45, 0x4C, 0x46, 0x01, 0x01, 0x01, 0x00, 0x00, 0x00, 0x00, 0x00, 0x00, 0x00, 0x00, 0x00,
+    0x02, 0x00, 0xF3, 0x00, 0x01, 0x00, 0x00, 0x00, 0x00, 0x00, 0x01, 0x00, 0x34, 0x00, 0x00, 0x00,
+    0xDC, 0x00, 0x00, 0x00, 0x01, 0x00, 0x00, 0x00, 0x34, 0x00, 0x20, 0x00, 0x02, 0x00, 0x28, 0x00,
+    0x06, 0x00, 0x05, 0x00, 0x01, 0x00, 0x00, 0x00, 0x74, 0x00, 0x00, 0x00, 0x00, 0x00, 0x01, 0x00,
+    0x00, 0x00, 0x01, 0x00, 0x0A, 0x00, 0x00, 0x00, 0x0A, 0x00, 0x00, 0x00, 0x05, 0x00, 0x00, 0x00,
+    0x04, 0x00, 0x00, 0x00, 0x01, 0x00, 0x00, 0x00, 0x80, 0x00, 0x00, 0x00, 0x00, 0x00, 0x10, 0x00,
+    0x00, 0x00, 0x10, 0x00, 0x00, 0x00, 0x00, 0x00, 0x00, 0x00, 0x00, 0x00, 0x06, 0x00, 0x00, 0x00,
+    0x04, 0x00, 0x00, 0x00, 0x0D, 0x45, 0x93, 0x08, 0xD0, 0x05, 0x73, 0x00, 0x00, 0x00, 0x00, 0x00,
+    0x00, 0x00, 0x01, 0x00, 0x00, 0x00, 0x00, 0x00, 0x00, 0x00, 0x01, 0x00, 0x00, 0x00, 0x01, 0x00,
+    0x04, 0x00, 0x00, 0x00, 0x02, 0x00, 0x01, 0x00, 0x00, 0x00, 0x01, 0x00, 0x08, 0x00, 0x00, 0x00,
+    0x06, 0x00, 0x01, 0x00, 0x00, 0x00, 0x01, 0x00, 0x0C, 0x00, 0x00, 0x00, 0x0A, 0x00, 0x01, 0x00,
+    0x00, 0x2E, 0x74, 0x65, 0x78, 0x74, 0x00, 0x2E, 0x64, 0x61, 0x74, 0x61, 0x00, 0x2E, 0x62, 0x73,
+    0x73, 0x00, 0x2E, 0x7A, 0x63, 0x6C, 0x64, 0x2E, 0x70, 0x6C, 0x61, 0x63, 0x65, 0x73, 0x00, 0x2E,
+    0x73, 0x68, 0x73, 0x74, 0x72, 0x74, 0x61, 0x62, 0x00, 0x00, 0x00, 0x00, 0x00, 0x00, 0x00, 0x00,
+    0x00, 0x00, 0x00, 0x00, 0x00, 0x00, 0x00, 0x00, 0x00, 0x00, 0x00, 0x00, 0x00, 0x00, 0x00, 0x00,
+    0x00, 0x00, 0x00, 0x00, 0x00, 0x00, 0x00, 0x00, 0x00, 0x00, 0x00, 0x00, 0x00, 0x00, 0x00, 0x00,
+    0x00, 0x00, 0x00, 0x00, 0x01, 0x00, 0x00, 0x00, 0x01, 0x00, 0x00, 0x00, 0x06, 0x00, 0x00, 0x00,
+    0x00, 0x00, 0x01, 0x00, 0x74, 0x00, 0x00, 0x00, 0x0A, 0x00, 0x00, 0x00, 0x00, 0x00, 0x00, 0x00,
+    0x00, 0x00, 0x00, 0x00, 0x04, 0x00, 0x00, 0x00, 0x00, 0x00, 0x00, 0x00, 0x07, 0x00, 0x00, 0x00,
+    0x01, 0x00, 0x00, 0x00, 0x03, 0x00, 0x00, 0x00, 0x00, 0x00, 0x10, 0x00, 0x80, 0x00, 0x00, 0x00,
+    0x00, 0x00, 0x00, 0x00, 0x00, 0x00, 0x00, 0x00, 0x00, 0x00, 0x00, 0x00, 0x04, 0x00, 0x00, 0x00,
+    0x00, 0x00, 0x00, 0x00, 0x0D, 0x00, 0x00, 0x00, 0x08, 0x00, 0x00, 0x00, 0x03, 0x00, 0x00, 0x00,
+    0x00, 0x00, 0x10, 0x00, 0x80, 0x00, 0x00, 0x00, 0x00, 0x00, 0x00, 0x00, 0x00, 0x00, 0x00, 0x00,
+    0x00, 0x00, 0x00, 0x00, 0x04, 0x00, 0x00, 0x00, 0x00, 0x00, 0x00, 0x00, 0x12, 0x00, 0x00, 0x00,
+    0x01, 0x00, 0x00, 0x00, 0x00, 0x00, 0x00, 0x00, 0x00, 0x00, 0x00, 0x00, 0x80, 0x00, 0x00, 0x00,
+    0x30, 0x00, 0x00, 0x00, 0x00, 0x00, 0x00, 0x00, 0x00, 0x00, 0x00, 0x00, 0x04, 0x00, 0x00, 0x00,
+    0x00, 0x00, 0x00, 0x00, 0x1F, 0x00, 0x00, 0x00, 0x03, 0x00, 0x00, 0x00, 0x00, 0x00, 0x00, 0x00,
+    0x00, 0x00, 0x00, 0x00, 0xB0, 0x00, 0x00, 0x00, 0x29, 0x00, 0x00, 0x00, 0x00, 0x00, 0x00, 0x00,
+    0x00, 0x00, 0x00, 0x00, 0x01, 0x00, 0x00, 0x00, 0x00, 0x00, 0x00, 0x00,
+];
+
+const WORDS: [&str; 2] = ["run", "x"];
+
+// What a call left.
+#[derive(Drop)]
+struct Left {
+    outcome: Outcome,
+    store: MemStore,
+    console: MemConsole,
+}
+
+// A call over a store that holds the image as x, and a console with an input of five bytes, where
+// these calls of both fail.
+fn call(
+    alloc: Global,
+    words: &[&str],
+    image: &[u8],
+    store_fails: &[u32],
+    console_fails: &[u32],
+) -> Result<Left, AllocError> {
+    let mut list = Vec::new(alloc);
+    for word in words {
+        list.push(String::from_str(alloc, word)?)?;
+    }
+    let mut store = MemStore::new(alloc, store_fails)?;
+    store.add("x", image)?;
+    let mut console = MemConsole::new(alloc, b"input", console_fails)?;
+    let outcome = zcld(alloc, list.as_slice(), &mut store, &mut console);
+    Ok(Left {
+        outcome,
+        store,
+        console,
+    })
+}
+
+// The exit is the third commit.
+#[test]
+fn an_image_runs_to_its_exit_or_its_last_step(rt: HostRuntime) -> Result<(), Fail> {
+    let exited = (Outcome::Exited(3), "exited 3\n", 3);
+    let spent = (Outcome::Spent, "spent\n", 127);
+    let rows: [(&[&str], (Outcome, &str, u8)); 6] = [
+        (&WORDS, exited),
+        (&["run", "--steps", "3", "x"], exited),
+        (&["run", "--steps", "1000000000", "x"], exited),
+        (&["run", "--steps", "00000000000000000003", "x"], exited),
+        (&["run", "--steps", "2", "x"], spent),
+        (&["run", "--steps", "0", "x"], spent),
+    ];
+    for (words, (outcome, line, exit)) in rows {
+        let mut left = call(rt.alloc(), words, &THREE_IMAGE, &[], &[])?;
+        assert_eq!(rt; left.outcome, outcome);
+        assert_eq!(rt; status(&left.outcome), exit);
+        assert_eq!(rt; left.console.err_bytes(), line.as_bytes());
+        assert_eq!(rt; left.console.out_bytes(), b"".as_slice());
+        assert_eq!(rt; left.console.take(&mut [0; 8]), Ok(0));
+        assert_eq!(rt;
+            left.store.file("x").ok_or("no image")?,
+            THREE_IMAGE.as_slice()
+        );
+    }
+    Ok(())
+}
+
+// A word has one to twenty digits, and allows 1,000,000,000 steps at most.
+#[test]
+fn words_that_spell_no_run_take_no_input(rt: HostRuntime) -> Result<(), Fail> {
+    let lists: [&[&str]; 12] = [
+        &["run"],
+        &["run", "-x"],
+        &["Run", "x"],
+        &["run", "x", "x"],
+        &["run", "--steps", "x"],
+        &["run", "--steps", "x", "x"],
+        &["run", "--steps", "", "x"],
+        &["run", "--steps", "-1", "x"],
+        &["run", "--steps", "1000000001", "x"],
+        &["run", "--steps", "000000000000000000003", "x"],
+        &["run", "--step", "3", "x"],
+        &["run", "x", "--steps", "3"],
+    ];
+    for words in lists {
+        let mut left = call(rt.alloc(), words, &THREE_IMAGE, &[], &[])?;
+        assert_eq!(rt; left.outcome, Outcome::Usage);
+        assert_eq!(rt; left.console.err_bytes(), b"usage\n".as_slice());
+        assert_eq!(rt; left.console.take(&mut [0; 8]), Ok(5));
+    }
+    Ok(())
+}
+
+// Each row changes one byte of the image.
+#[test]
+fn bad_images_are_named_and_take_no_input(rt: HostRuntime) -> Result<(), Fail> {
+    let not_elf = (ImageFault::NotElf, "bad image 1\n");
+    let truncated = (ImageFault::Truncated, "bad image 2\n");
+    let bad_segment = (ImageFault::BadSegment, "bad image 3\n");
+    let bad_places = (ImageFault::BadPlaces, "bad image 4\n");
+    let rows = [
+        ("magic number", 3, 0x47, not_elf),
+        ("an object", 16, 1, not_elf),
+        ("another machine", 18, 0xF2, not_elf),
+        ("an unknown flag", 36, 2, not_elf),
+        ("text past the file's end", 69, 2, truncated),
+        ("less memory than bytes", 72, 9, bad_segment),
+        ("an odd entry", 24, 1, bad_segment),
+        ("an entry behind the text", 24, 0x0C, bad_segment),
+        ("text that can be written", 76, 7, bad_segment),
+        ("text below its place", 62, 0, bad_segment),
+        ("a place twice", 144, 0, bad_places),
+        ("a place below the text", 174, 0, bad_places),
+        ("a place in the data", 174, 0x10, bad_places),
+    ];
+    for (name, at, byte, (fault, line)) in rows {
+        let mut image = THREE_IMAGE;
+        image[at] = byte;
+        let mut left = call(rt.alloc(), &WORDS, &image, &[], &[])?;
+        assert_eq!(rt;
+            left.outcome,
+            Outcome::BadFile(FileFault::Image(fault)),
+            "{name}"
+        );
+        assert_eq!(rt; status(&left.outcome), 125, "{name}");
+        assert_eq!(rt; left.console.err_bytes(), line.as_bytes(), "{name}");
+        assert_eq!(rt; left.console.take(&mut [0; 8]), Ok(5), "{name}");
+    }
+    let left = call(rt.alloc(), &WORDS, &THREE_IMAGE[..100], &[], &[])?;
+    assert_eq!(rt;
+        left.outcome,
+        Outcome::BadFile(FileFault::Image(ImageFault::Truncated))
+    );
+    Ok(())
+}
+
+// Each row changes a word of the header or the text: `c.li a0,-1`, an empty halfword, another a7, and
+// `nop` in the place of `ecall`. Code may start where the text ends, and stops there.
+#[test]
+fn each_end_of_a_program_has_its_line(rt: HostRuntime) -> Result<(), Fail> {
+    let illegal = Outcome::Stopped(Reason::Illegal, 0x10000);
+    let unknown = Outcome::Stopped(Reason::UnknownCall, 0x10006);
+    let behind = Outcome::Stopped(Reason::BadAccess, 0x1000A);
+    let rows = [
+        (116, 0x0893_557D, Outcome::Exited(255), "exited 255\n", 118),
+        (
+            116,
+            0x0893_0000,
+            illegal,
+            "stopped 1 Illegal 00010000\n",
+            126,
+        ),
+        (
+            118,
+            0x05E0_0893,
+            unknown,
+            "stopped 5 UnknownCall 00010006\n",
+            126,
+        ),
+        (
+            122,
+            0x0000_0013,
+            behind,
+            "stopped 2 BadAccess 0001000a\n",
+            126,
+        ),
+        (
+            24,
+            0x0001_000A,
+            behind,
+            "stopped 2 BadAccess 0001000a\n",
+            126,
+        ),
+    ];
+    for (at, word, outcome, line, exit) in rows {
+        let mut image = THREE_IMAGE;
+        assert!(rt; at <= 456);
+        put_u32(&mut image, at, word);
+        let mut left = call(rt.alloc(), &WORDS, &image, &[], &[])?;
+        assert_eq!(rt; left.outcome, outcome, "{word:08x}");
+        assert_eq!(rt; left.console.err_bytes(), line.as_bytes(), "{word:08x}");
+        assert_eq!(rt; left.console.take(&mut [0; 8]), Ok(0), "{word:08x}");
+        assert_eq!(rt; status(&left.outcome), exit, "{word:08x}");
+    }
+    Ok(())
+}
+
+// Statuses from 118 on are kept for what the program itself says.
+#[test]
+fn each_outcome_of_a_run_has_its_line_and_status(rt: HostRuntime) {
+    let misaligned = Outcome::Stopped(Reason::Misaligned, 0xFEDC_BA98);
+    let broken = Outcome::Stopped(Reason::Break, 0x7654_3210);
+    let too_large = Outcome::BadFile(FileFault::Image(ImageFault::TooLarge));
+    let rows = [
+        (Outcome::Exited(0), "exited 0\n", 0),
+        (Outcome::Exited(117), "exited 117\n", 117),
+        (Outcome::Exited(118), "exited 118\n", 118),
+        (Outcome::Exited(119), "exited 119\n", 118),
+        (misaligned, "stopped 3 Misaligned fedcba98\n", 126),
+        (broken, "stopped 4 Break 76543210\n", 126),
+        (too_large, "bad image 5\n", 125),
+    ];
+    for (outcome, line, want) in rows {
+        assert_eq!(rt; line_of(&outcome).as_str(), line);
+        assert_eq!(rt; status(&outcome), want, "{outcome:?}");
+    }
+}
+
+// The store's call 0 reads the image. The console's calls 0 and 1 take the input and find its end, and
+// call 2 writes the line; behind a store that fails, call 0 writes it.
+#[test]
+fn calls_of_the_outside_that_fail_are_named(rt: HostRuntime) -> Result<(), Fail> {
+    let exited = Outcome::Exited(3);
+    let rows: [(&[u32], &[u32], Outcome, &str); 6] = [
+        (&[0], &[], Outcome::ReadFault, "read fault\n"),
+        (&[], &[0], Outcome::ReadFault, "read fault\n"),
+        (&[], &[1], Outcome::ReadFault, "read fault\n"),
+        (&[0], &[0], Outcome::ReadFault, ""),
+        (&[], &[2], exited, ""),
+        (&[1], &[3], exited, "exited 3\n"),
+    ];
+    for (store_fails, console_fails, outcome, line) in rows {
+        let left = call(rt.alloc(), &WORDS, &THREE_IMAGE, store_fails, console_fails)?;
+        assert_eq!(rt; left.outcome, outcome, "{store_fails:?} {console_fails:?}");
+        assert_eq!(rt;
+            left.console.err_bytes(),
+            line.as_bytes(),
+            "{store_fails:?} {console_fails:?}"
+        );
+    }
+    let missing = call(rt.alloc(), &["run", "y"], &THREE_IMAGE, &[], &[])?;
+    assert_eq!(rt; missing.outcome, Outcome::ReadFault);
+    assert_eq!(rt; missing.console.err_bytes(), b"read fault\n".as_slice());
+    Ok(())
+}
+
+// The headers and the text alone, without sections: another linker's image runs where its text lies at
+// the same place, and not at 0x80000000.
+#[test]
+fn an_image_of_another_linker_runs_at_the_same_place(rt: HostRuntime) -> Result<(), Fail> {
+    let mut image = [0; 128];
+    image.copy_from_slice(&THREE_IMAGE[..128]);
+    put_u32(&mut image, 32, 0);
+    put_u32(&mut image, 48, 0);
+    let here = call(rt.alloc(), &WORDS, &image, &[], &[])?;
+    assert_eq!(rt; here.outcome, Outcome::Exited(3));
+    put_u32(&mut image, 24, 0x8000_0000);
+    put_u32(&mut image, 60, 0x8000_0000);
+    put_u32(&mut image, 92, 0x8000_1000);
+    let there = call(rt.alloc(), &WORDS, &image, &[], &[])?;
+    assert_eq!(rt;
+        there.outcome,
+        Outcome::BadFile(FileFault::Image(ImageFault::BadSegment))
+    );
+    Ok(())
+}
