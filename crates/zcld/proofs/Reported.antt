@@ -7,7 +7,7 @@ use Rattle.zcld.specs.declared.outcome.Outcome.{Outcome}
 use Rattle.zcld.specs.declared.outcome.Outcome.TheVariants.{ReadFault, WriteFault, BadFile}
 use Rattle.zcld.specs.Call.{CallCause, CallTakes, WritesLine}
 use Rattle.zcld.specs.Command.{Command, Run, Trace, Zc}
-use Rattle.zcld.specs.Outside.{Tally}
+use Rattle.zcld.specs.Outside.{Tally, tally}
 
 -- a count that rose from a later value on rose from an earlier one
 pub rose_from : (a b c : ℕ) → a ≤ b → Rose b c → Rose a c
@@ -25,21 +25,11 @@ line_written None after text Refused Refused' from written = tt
 line_written (Some xs) None text Refused Refused' from written = absurd written
 line_written (Some xs) (Some ys) text Refused Refused' from written = ⊎_elim (λ whole. inl whole) (λ part. inr (from part.0, part.1)) written
 
--- the counts behind the line: only those of writes may have risen
-abbrev pub counted : ℕ → ℕ → ℕ → ℕ → ℕ → ℕ → Tally
-counted reads longs writes console_reads console_writes taken = record {
-  reads = reads;
-  longs = longs;
-  writes = writes;
-  console_reads = console_reads;
-  console_writes = console_writes;
-  taken = taken;
-}
-
+-- the counts behind the line: of those that decide, only that of the console's writes may have risen
 pub cause_behind : (command : Option Command) (outcome : Outcome) (files : Option Files) (told : Option (List ℕ)) (before : Tally) (reads longs writes console_reads console_reads' console_writes console_writes' taken taken' : ℕ)
     → console_reads' ≡ console_reads → taken' ≡ taken → console_writes ≤ console_writes'
-    → CallCause command outcome files told before (counted reads longs writes console_reads console_writes taken)
-    → CallCause command outcome files told before (counted reads longs writes console_reads' console_writes' taken')
+    → CallCause command outcome files told before (tally reads longs writes console_reads console_writes taken)
+    → CallCause command outcome files told before (tally reads longs writes console_reads' console_writes' taken')
 cause_behind None outcome files told before reads longs writes console_reads console_reads' console_writes console_writes' taken taken' same_reads same_taken written cause = cause
 cause_behind (Some (Zc out cert name)) outcome files told before reads longs writes console_reads console_reads' console_writes console_writes' taken taken' same_reads same_taken written cause = cause
 cause_behind (Some (Run steps name)) ReadFault files told before reads longs writes console_reads console_reads' console_writes console_writes' taken taken' same_reads same_taken written cause =
@@ -54,8 +44,8 @@ cause_behind (Some (Trace steps name)) other files told before reads longs write
 
 pub takes_behind : (command : Option Command) (before : Tally) (reads longs writes console_reads console_reads' console_writes console_writes' taken taken' : ℕ)
     → console_reads' ≡ console_reads → taken' ≡ taken
-    → CallTakes command before (counted reads longs writes console_reads console_writes taken)
-    → CallTakes command before (counted reads longs writes console_reads' console_writes' taken')
+    → CallTakes command before (tally reads longs writes console_reads console_writes taken)
+    → CallTakes command before (tally reads longs writes console_reads' console_writes' taken')
 takes_behind None before reads longs writes console_reads console_reads' console_writes console_writes' taken taken' same_reads same_taken takes = (same_taken ∙ takes.0, same_reads ∙ takes.1)
 takes_behind (Some (Zc out cert name)) before reads longs writes console_reads console_reads' console_writes console_writes' taken taken' same_reads same_taken takes = (same_taken ∙ takes.0, same_reads ∙ takes.1)
 takes_behind (Some (Run steps name)) before reads longs writes console_reads console_reads' console_writes console_writes' taken taken' same_reads same_taken takes = tt

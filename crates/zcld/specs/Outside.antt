@@ -9,6 +9,9 @@ pub record Streams : Type 0 where
   pub out : Option (List ℕ)
   pub err : Option (List ℕ)
 
+abbrev pub streams : Option (List ℕ) → Option (List ℕ) → Option (List ℕ) → Streams
+streams input out err = record { input = input; out = out; err = err }
+
 -- nothing more was written
 abbrev pub IsQuiet : Streams → Streams → Type 0
 IsQuiet before after = KeepsBytes before.out after.out × KeepsBytes before.err after.err
@@ -26,6 +29,16 @@ pub record Tally : Type 0 where
   pub console_reads : ℕ
   pub console_writes : ℕ
   pub taken : ℕ
+
+abbrev pub tally : ℕ → ℕ → ℕ → ℕ → ℕ → ℕ → Tally
+tally reads longs writes console_reads console_writes taken = record {
+  reads = reads;
+  longs = longs;
+  writes = writes;
+  console_reads = console_reads;
+  console_writes = console_writes;
+  taken = taken;
+}
 
 -- a file of at most so many bytes was read: these are the bytes under its name, where the store tells its files
 pub record IsRead (limit : ℕ) (files : Option Files) (name bytes : List ℕ) : Type 0 where

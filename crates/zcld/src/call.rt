@@ -4,7 +4,7 @@ ghost use Rattle.std.specs.Prelude.{◌≡◌, ◌≤◌, ◌↔◌, ◌⊎◌, 
 ghost use Rattle.zc_outside.specs.Files.{Rose};
 ghost use Rattle.zcld.specs.Call.{Answers, CallCause, CallFiles, CallShows, CallTakes, CanRead, CanTake, CommandShows, IsClean, IsUncounted, SureCall, texts};
 ghost use Rattle.zcld.specs.Command.{command_of};
-ghost use Rattle.zcld.specs.Outside.{Streams, Tally};
+ghost use Rattle.zcld.specs.Outside.{streams, tally};
 
 use crate::command_line::{CommandLine, read};
 use crate::err_line::report;
@@ -26,86 +26,30 @@ pub fn zcld<S: Store, C: Console>(
 ) -> Outcome
     // When each outcome comes.
     ensures usage { (result ≡ Outcome.Usage) ↔ (command_of (texts words.now) ≡ None) }
-    ensures cause { let before : Tally = record {
-      reads = S.read_faults store.old;
-      longs = S.long_files store.old;
-      writes = S.write_faults store.old;
-      console_reads = C.read_faults console.old;
-      console_writes = C.write_faults console.old;
-      taken = C.taken console.old;
-    } in
-        let after : Tally = record {
-          reads = S.read_faults store.new;
-          longs = S.long_files store.new;
-          writes = S.write_faults store.new;
-          console_reads = C.read_faults console.new;
-          console_writes = C.write_faults console.new;
-          taken = C.taken console.new;
-        } in
-        CallCause (command_of (texts words.now)) result (S.files store.old) (C.input console.old) before after }
+    ensures cause { CallCause (command_of (texts words.now)) result (S.files store.old) (C.input console.old)
+        (tally (S.read_faults store.old) (S.long_files store.old) (S.write_faults store.old) (C.read_faults console.old) (C.write_faults console.old) (C.taken console.old))
+        (tally (S.read_faults store.new) (S.long_files store.new) (S.write_faults store.new) (C.read_faults console.new) (C.write_faults console.new) (C.taken console.new)) }
 
     // What stands then.
     ensures files { CallFiles (command_of (texts words.now)) result (S.files store.old) (S.files store.new) }
-    ensures shows { let before : Streams = record { input = C.input console.old; out = C.out_bytes console.old; err = C.err_bytes console.old } in
-        let after : Streams = record { input = C.input console.new; out = C.out_bytes console.new; err = C.err_bytes console.new } in
-        CallShows (command_of (texts words.now)) result (S.files store.old) before after
+    ensures shows { CallShows (command_of (texts words.now)) result (S.files store.old)
+        (streams (C.input console.old) (C.out_bytes console.old) (C.err_bytes console.old))
+        (streams (C.input console.new) (C.out_bytes console.new) (C.err_bytes console.new))
         (Rose (C.write_faults console.old) (C.write_faults console.new) ⊎ Rose (C.memory_faults console.old) (C.memory_faults console.new)) }
-    ensures takes { let before : Tally = record {
-      reads = S.read_faults store.old;
-      longs = S.long_files store.old;
-      writes = S.write_faults store.old;
-      console_reads = C.read_faults console.old;
-      console_writes = C.write_faults console.old;
-      taken = C.taken console.old;
-    } in
-        let after : Tally = record {
-          reads = S.read_faults store.new;
-          longs = S.long_files store.new;
-          writes = S.write_faults store.new;
-          console_reads = C.read_faults console.new;
-          console_writes = C.write_faults console.new;
-          taken = C.taken console.new;
-        } in
-        CallTakes (command_of (texts words.now)) before after }
+    ensures takes { CallTakes (command_of (texts words.now))
+        (tally (S.read_faults store.old) (S.long_files store.old) (S.write_faults store.old) (C.read_faults console.old) (C.write_faults console.old) (C.taken console.old))
+        (tally (S.read_faults store.new) (S.long_files store.new) (S.write_faults store.new) (C.read_faults console.new) (C.write_faults console.new) (C.taken console.new)) }
 
     // With nothing counted, and over what is sure, the answer is the one that the file's bytes have.
     ensures complete { (file : List ℕ) → CanRead (command_of (texts words.now)) (S.files store.old) file →
-        let before : Tally = record {
-          reads = S.read_faults store.old;
-          longs = S.long_files store.old;
-          writes = S.write_faults store.old;
-          console_reads = C.read_faults console.old;
-          console_writes = C.write_faults console.old;
-          taken = C.taken console.old;
-        } in
-        let after : Tally = record {
-          reads = S.read_faults store.new;
-          longs = S.long_files store.new;
-          writes = S.write_faults store.new;
-          console_reads = C.read_faults console.new;
-          console_writes = C.write_faults console.new;
-          taken = C.taken console.new;
-        } in
-        IsClean (command_of (texts words.now)) before after → Answers (command_of (texts words.now)) result file }
+        IsClean (command_of (texts words.now))
+        (tally (S.read_faults store.old) (S.long_files store.old) (S.write_faults store.old) (C.read_faults console.old) (C.write_faults console.old) (C.taken console.old))
+        (tally (S.read_faults store.new) (S.long_files store.new) (S.write_faults store.new) (C.read_faults console.new) (C.write_faults console.new) (C.taken console.new)) → Answers (command_of (texts words.now)) result file }
     ensures sure { (file : List ℕ) → CanRead (command_of (texts words.now)) (S.files store.old) file → S.sure store.old →
         CanTake (command_of (texts words.now)) (C.sure console.old) (C.input console.old) →
-        let before : Tally = record {
-          reads = S.read_faults store.old;
-          longs = S.long_files store.old;
-          writes = S.write_faults store.old;
-          console_reads = C.read_faults console.old;
-          console_writes = C.write_faults console.old;
-          taken = C.taken console.old;
-        } in
-        let after : Tally = record {
-          reads = S.read_faults store.new;
-          longs = S.long_files store.new;
-          writes = S.write_faults store.new;
-          console_reads = C.read_faults console.new;
-          console_writes = C.write_faults console.new;
-          taken = C.taken console.new;
-        } in
-        Answers (command_of (texts words.now)) result file × IsUncounted before after }
+        Answers (command_of (texts words.now)) result file × IsUncounted
+        (tally (S.read_faults store.old) (S.long_files store.old) (S.write_faults store.old) (C.read_faults console.old) (C.write_faults console.old) (C.taken console.old))
+        (tally (S.read_faults store.new) (S.long_files store.new) (S.write_faults store.new) (C.read_faults console.new) (C.write_faults console.new) (C.taken console.new)) }
     ensures sure_console { C.sure console.old → C.write_faults console.new ≡ C.write_faults console.old }
     ensures stays { S.sure store.old → S.sure store.new }
     ensures stays_console { C.sure console.old → C.sure console.new }
@@ -123,61 +67,19 @@ fn perform<S: Store, C: Console>(
     console: &mut C,
 ) -> Outcome
     ensures usage { (result ≡ Outcome.Usage) ↔ (command_of (texts words.now) ≡ None) }
-    ensures cause { let before : Tally = record {
-      reads = S.read_faults store.old;
-      longs = S.long_files store.old;
-      writes = S.write_faults store.old;
-      console_reads = C.read_faults console.old;
-      console_writes = C.write_faults console.old;
-      taken = C.taken console.old;
-    } in
-        let after : Tally = record {
-          reads = S.read_faults store.new;
-          longs = S.long_files store.new;
-          writes = S.write_faults store.new;
-          console_reads = C.read_faults console.new;
-          console_writes = C.write_faults console.new;
-          taken = C.taken console.new;
-        } in
-        CallCause (command_of (texts words.now)) result (S.files store.old) (C.input console.old) before after }
+    ensures cause { CallCause (command_of (texts words.now)) result (S.files store.old) (C.input console.old)
+        (tally (S.read_faults store.old) (S.long_files store.old) (S.write_faults store.old) (C.read_faults console.old) (C.write_faults console.old) (C.taken console.old))
+        (tally (S.read_faults store.new) (S.long_files store.new) (S.write_faults store.new) (C.read_faults console.new) (C.write_faults console.new) (C.taken console.new)) }
     ensures files { CallFiles (command_of (texts words.now)) result (S.files store.old) (S.files store.new) }
-    ensures shows { let before : Streams = record { input = C.input console.old; out = C.out_bytes console.old; err = C.err_bytes console.old } in
-        let after : Streams = record { input = C.input console.new; out = C.out_bytes console.new; err = C.err_bytes console.new } in
-        CommandShows (command_of (texts words.now)) result (S.files store.old) before after }
-    ensures takes { let before : Tally = record {
-      reads = S.read_faults store.old;
-      longs = S.long_files store.old;
-      writes = S.write_faults store.old;
-      console_reads = C.read_faults console.old;
-      console_writes = C.write_faults console.old;
-      taken = C.taken console.old;
-    } in
-        let after : Tally = record {
-          reads = S.read_faults store.new;
-          longs = S.long_files store.new;
-          writes = S.write_faults store.new;
-          console_reads = C.read_faults console.new;
-          console_writes = C.write_faults console.new;
-          taken = C.taken console.new;
-        } in
-        CallTakes (command_of (texts words.now)) before after }
-    ensures sure { S.sure store.old → let before : Tally = record {
-      reads = S.read_faults store.old;
-      longs = S.long_files store.old;
-      writes = S.write_faults store.old;
-      console_reads = C.read_faults console.old;
-      console_writes = C.write_faults console.old;
-      taken = C.taken console.old;
-    } in
-        let after : Tally = record {
-          reads = S.read_faults store.new;
-          longs = S.long_files store.new;
-          writes = S.write_faults store.new;
-          console_reads = C.read_faults console.new;
-          console_writes = C.write_faults console.new;
-          taken = C.taken console.new;
-        } in
-        SureCall (command_of (texts words.now)) (C.sure console.old) result (S.files store.old) (C.input console.old) before after }
+    ensures shows { CommandShows (command_of (texts words.now)) result (S.files store.old)
+        (streams (C.input console.old) (C.out_bytes console.old) (C.err_bytes console.old))
+        (streams (C.input console.new) (C.out_bytes console.new) (C.err_bytes console.new)) }
+    ensures takes { CallTakes (command_of (texts words.now))
+        (tally (S.read_faults store.old) (S.long_files store.old) (S.write_faults store.old) (C.read_faults console.old) (C.write_faults console.old) (C.taken console.old))
+        (tally (S.read_faults store.new) (S.long_files store.new) (S.write_faults store.new) (C.read_faults console.new) (C.write_faults console.new) (C.taken console.new)) }
+    ensures sure { S.sure store.old → SureCall (command_of (texts words.now)) (C.sure console.old) result (S.files store.old) (C.input console.old)
+        (tally (S.read_faults store.old) (S.long_files store.old) (S.write_faults store.old) (C.read_faults console.old) (C.write_faults console.old) (C.taken console.old))
+        (tally (S.read_faults store.new) (S.long_files store.new) (S.write_faults store.new) (C.read_faults console.new) (C.write_faults console.new) (C.taken console.new)) }
     ensures console_writes { C.write_faults console.old ≤ C.write_faults console.new }
     ensures console_memory { C.memory_faults console.old ≤ C.memory_faults console.new }
     ensures sure_console { C.sure console.old → C.write_faults console.new ≡ C.write_faults console.old }

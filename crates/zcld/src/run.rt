@@ -5,7 +5,7 @@ ghost use Rattle.zc_base.specs.MemMap.{standard_map};
 ghost use Rattle.elf32_read.specs.Image.{image_fault};
 ghost use Rattle.zc_outside.specs.Files.{KeepsFiles};
 ghost use Rattle.zcld.specs.Input.{IsLongInput};
-ghost use Rattle.zcld.specs.Outside.{Streams, Tally};
+ghost use Rattle.zcld.specs.Outside.{streams, tally};
 ghost use Rattle.zcld.specs.Run.{ExecuteCause, Executed, RunCause, RunShows, SureMachine, image_limit};
 
 use crate::input::take_all;
@@ -31,26 +31,12 @@ pub fn run<S: Store, C: Console>(
     console: &mut C,
 ) -> Outcome
     requires { steps ≤ 1000000000 }
-    ensures shows { let before : Streams = record { input = C.input console.old; out = C.out_bytes console.old; err = C.err_bytes console.old } in
-        let after : Streams = record { input = C.input console.new; out = C.out_bytes console.new; err = C.err_bytes console.new } in
-        RunShows result (S.files store.old) name.now steps before after }
-    ensures cause { let before : Tally = record {
-      reads = S.read_faults store.old;
-      longs = S.long_files store.old;
-      writes = S.write_faults store.old;
-      console_reads = C.read_faults console.old;
-      console_writes = C.write_faults console.old;
-      taken = C.taken console.old;
-    } in
-        let after : Tally = record {
-          reads = S.read_faults store.new;
-          longs = S.long_files store.new;
-          writes = S.write_faults store.new;
-          console_reads = C.read_faults console.new;
-          console_writes = C.write_faults console.new;
-          taken = C.taken console.new;
-        } in
-        RunCause result (S.files store.old) name.now (C.input console.old) before after }
+    ensures shows { RunShows result (S.files store.old) name.now steps
+        (streams (C.input console.old) (C.out_bytes console.old) (C.err_bytes console.old))
+        (streams (C.input console.new) (C.out_bytes console.new) (C.err_bytes console.new)) }
+    ensures cause { RunCause result (S.files store.old) name.now (C.input console.old)
+        (tally (S.read_faults store.old) (S.long_files store.old) (S.write_faults store.old) (C.read_faults console.old) (C.write_faults console.old) (C.taken console.old))
+        (tally (S.read_faults store.new) (S.long_files store.new) (S.write_faults store.new) (C.read_faults console.new) (C.write_faults console.new) (C.taken console.new)) }
     ensures keeps { KeepsFiles (S.files store.old) (S.files store.new) }
     ensures writes { S.write_faults store.new ≡ S.write_faults store.old }
     ensures console_writes { C.write_faults console.old ≤ C.write_faults console.new }
@@ -59,23 +45,9 @@ pub fn run<S: Store, C: Console>(
     ensures stays_console { C.sure console.old → C.sure console.new }
     ensures sure_console { C.sure console.old → C.write_faults console.new ≡ C.write_faults console.old }
     ensures sure { S.sure store.old → C.sure console.old →
-        let before : Tally = record {
-          reads = S.read_faults store.old;
-          longs = S.long_files store.old;
-          writes = S.write_faults store.old;
-          console_reads = C.read_faults console.old;
-          console_writes = C.write_faults console.old;
-          taken = C.taken console.old;
-        } in
-        let after : Tally = record {
-          reads = S.read_faults store.new;
-          longs = S.long_files store.new;
-          writes = S.write_faults store.new;
-          console_reads = C.read_faults console.new;
-          console_writes = C.write_faults console.new;
-          taken = C.taken console.new;
-        } in
-        SureMachine image_limit result (S.files store.old) name.now (C.input console.old) before after }
+        SureMachine image_limit result (S.files store.old) name.now (C.input console.old)
+        (tally (S.read_faults store.old) (S.long_files store.old) (S.write_faults store.old) (C.read_faults console.old) (C.write_faults console.old) (C.taken console.old))
+        (tally (S.read_faults store.new) (S.long_files store.new) (S.write_faults store.new) (C.read_faults console.new) (C.write_faults console.new) (C.taken console.new)) }
 {
     let file = match store.get(alloc, name, IMAGE_LIMIT) {
         Ok(file) => file,
@@ -92,9 +64,9 @@ pub fn run<S: Store, C: Console>(
 fn execute<C: Console>(alloc: Global, image: &Image, steps: u64, console: &mut C) -> Outcome
     requires steps { steps ≤ 1000000000 }
     requires map { image.now.1 ≡ standard_map }
-    ensures shows { let before : Streams = record { input = C.input console.old; out = C.out_bytes console.old; err = C.err_bytes console.old } in
-        let after : Streams = record { input = C.input console.new; out = C.out_bytes console.new; err = C.err_bytes console.new } in
-        Executed result image.now.0 steps before after }
+    ensures shows { Executed result image.now.0 steps
+        (streams (C.input console.old) (C.out_bytes console.old) (C.err_bytes console.old))
+        (streams (C.input console.new) (C.out_bytes console.new) (C.err_bytes console.new)) }
     ensures cause { ExecuteCause result (C.input console.old) (C.read_faults console.old) (C.read_faults console.new)
         (C.taken console.old) (C.taken console.new) (C.write_faults console.old) (C.write_faults console.new) }
     ensures console_writes { C.write_faults console.old ≤ C.write_faults console.new }

@@ -3,7 +3,7 @@
 ghost use Rattle.std.specs.Prelude.{◌≡◌, ◌≢◌, ◌≤◌, ◌⊎◌, ℕ, None};
 ghost use Rattle.zc_outside.specs.Files.{KeepsFiles};
 ghost use Rattle.zcld.specs.Input.{IsLongInput};
-ghost use Rattle.zcld.specs.Outside.{Streams, Tally};
+ghost use Rattle.zcld.specs.Outside.{streams, tally};
 ghost use Rattle.zcld.specs.Run.{ExecuteCause, SureMachine};
 ghost use Rattle.zcld.specs.Trace.{TraceCause, TraceShows, Traced, object_limit};
 
@@ -26,26 +26,12 @@ pub fn trace<S: Store, C: Console>(
     store: &mut S,
     console: &mut C,
 ) -> Outcome
-    ensures shows { let before : Streams = record { input = C.input console.old; out = C.out_bytes console.old; err = C.err_bytes console.old } in
-        let after : Streams = record { input = C.input console.new; out = C.out_bytes console.new; err = C.err_bytes console.new } in
-        TraceShows result (S.files store.old) name.now steps before after }
-    ensures cause { let before : Tally = record {
-      reads = S.read_faults store.old;
-      longs = S.long_files store.old;
-      writes = S.write_faults store.old;
-      console_reads = C.read_faults console.old;
-      console_writes = C.write_faults console.old;
-      taken = C.taken console.old;
-    } in
-        let after : Tally = record {
-          reads = S.read_faults store.new;
-          longs = S.long_files store.new;
-          writes = S.write_faults store.new;
-          console_reads = C.read_faults console.new;
-          console_writes = C.write_faults console.new;
-          taken = C.taken console.new;
-        } in
-        TraceCause result (S.files store.old) name.now (C.input console.old) before after }
+    ensures shows { TraceShows result (S.files store.old) name.now steps
+        (streams (C.input console.old) (C.out_bytes console.old) (C.err_bytes console.old))
+        (streams (C.input console.new) (C.out_bytes console.new) (C.err_bytes console.new)) }
+    ensures cause { TraceCause result (S.files store.old) name.now (C.input console.old)
+        (tally (S.read_faults store.old) (S.long_files store.old) (S.write_faults store.old) (C.read_faults console.old) (C.write_faults console.old) (C.taken console.old))
+        (tally (S.read_faults store.new) (S.long_files store.new) (S.write_faults store.new) (C.read_faults console.new) (C.write_faults console.new) (C.taken console.new)) }
     ensures keeps { KeepsFiles (S.files store.old) (S.files store.new) }
     ensures writes { S.write_faults store.new ≡ S.write_faults store.old }
     ensures console_writes { C.write_faults console.old ≤ C.write_faults console.new }
@@ -54,23 +40,9 @@ pub fn trace<S: Store, C: Console>(
     ensures stays_console { C.sure console.old → C.sure console.new }
     ensures sure_console { C.sure console.old → C.write_faults console.new ≡ C.write_faults console.old }
     ensures sure { S.sure store.old → C.sure console.old →
-        let before : Tally = record {
-          reads = S.read_faults store.old;
-          longs = S.long_files store.old;
-          writes = S.write_faults store.old;
-          console_reads = C.read_faults console.old;
-          console_writes = C.write_faults console.old;
-          taken = C.taken console.old;
-        } in
-        let after : Tally = record {
-          reads = S.read_faults store.new;
-          longs = S.long_files store.new;
-          writes = S.write_faults store.new;
-          console_reads = C.read_faults console.new;
-          console_writes = C.write_faults console.new;
-          taken = C.taken console.new;
-        } in
-        SureMachine object_limit result (S.files store.old) name.now (C.input console.old) before after }
+        SureMachine object_limit result (S.files store.old) name.now (C.input console.old)
+        (tally (S.read_faults store.old) (S.long_files store.old) (S.write_faults store.old) (C.read_faults console.old) (C.write_faults console.old) (C.taken console.old))
+        (tally (S.read_faults store.new) (S.long_files store.new) (S.write_faults store.new) (C.read_faults console.new) (C.write_faults console.new) (C.taken console.new)) }
 {
     let file = match store.get(alloc, name, OBJECT_LIMIT) {
         Ok(file) => file,
@@ -85,9 +57,9 @@ pub fn trace<S: Store, C: Console>(
 
 // Runs an object over the console's whole input.
 fn follow<C: Console>(alloc: Global, object: &Object, steps: u64, console: &mut C) -> Outcome
-    ensures shows { let before : Streams = record { input = C.input console.old; out = C.out_bytes console.old; err = C.err_bytes console.old } in
-        let after : Streams = record { input = C.input console.new; out = C.out_bytes console.new; err = C.err_bytes console.new } in
-        Traced result object.now steps before after }
+    ensures shows { Traced result object.now steps
+        (streams (C.input console.old) (C.out_bytes console.old) (C.err_bytes console.old))
+        (streams (C.input console.new) (C.out_bytes console.new) (C.err_bytes console.new)) }
     ensures cause { ExecuteCause result (C.input console.old) (C.read_faults console.old) (C.read_faults console.new)
         (C.taken console.old) (C.taken console.new) (C.write_faults console.old) (C.write_faults console.new) }
     ensures console_writes { C.write_faults console.old ≤ C.write_faults console.new }
