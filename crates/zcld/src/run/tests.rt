@@ -178,6 +178,42 @@ fn bad_images_are_named_and_take_no_input(rt: HostRuntime) -> Result<(), Fail> {
     Ok(())
 }
 
+// Each row changes a word of the image.
+#[test]
+fn changed_words_of_an_image_are_named(rt: HostRuntime) -> Result<(), Fail> {
+    let rows = [
+        (36, 2, ImageFault::NotElf),
+        (28, 0xFFFF_FFFF, ImageFault::Truncated),
+        (72, 9, ImageFault::BadSegment),
+        (72, 0xFFFF_FFFF, ImageFault::BadSegment),
+        (76, 7, ImageFault::BadSegment),
+        (24, 0x0001_0001, ImageFault::BadSegment),
+        (24, 0x0001_000C, ImageFault::BadSegment),
+        (104, 0xFFFF_FFFF, ImageFault::BadSegment),
+        (400, 47, ImageFault::BadPlaces),
+        (144, 0, ImageFault::BadPlaces),
+        (136, 0x0020_0000, ImageFault::BadPlaces),
+    ];
+    for (at, word, fault) in rows {
+        let mut image = THREE_IMAGE;
+        assert!(rt; at <= 456);
+        put_u32(&mut image, at, word);
+        let left = call(rt.alloc(), &WORDS, &image, &[], &[])?;
+        let want = Outcome::BadFile(FileFault::Image(fault));
+        assert_eq!(rt; left.outcome, want, "{word:08x} at {at}");
+    }
+    let cut = [
+        (&THREE_IMAGE[..51], ImageFault::NotElf),
+        (&THREE_IMAGE[..459], ImageFault::Truncated),
+    ];
+    for (image, fault) in cut {
+        let left = call(rt.alloc(), &WORDS, image, &[], &[])?;
+        let want = Outcome::BadFile(FileFault::Image(fault));
+        assert_eq!(rt; left.outcome, want);
+    }
+    Ok(())
+}
+
 // Each row changes a word of the header or the text: `c.li a0,-1`, an empty halfword, another a7, and
 // `nop` in the place of `ecall`. Code may start where the text ends, and stops there.
 #[test]
