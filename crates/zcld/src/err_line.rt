@@ -30,7 +30,7 @@ pub fn report<C: Console>(outcome: &Outcome, console: &mut C)
     let _ = console.err(line_of(outcome).as_str().as_bytes());
 }
 
-/// Room for the longest line: `refused`, two numbers of ten digits, and a fault's name.
+/// Room for the longest line: `stuck`, a place, and a reason's number and name.
 pub const ROOM: usize = 64;
 
 /// The line of an outcome, with its line feed; empty where there is none.
