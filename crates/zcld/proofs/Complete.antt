@@ -10,10 +10,10 @@ use Rattle.zcld.specs.declared.outcome.Outcome.TheVariants.{Done, Exited, Refuse
 use Rattle.zcld.specs.Call.{Answers, CallCause, CallFiles, CallTakes, CanRead, CanTake, CommandShows, IsClean, SureCall, TellsFile, ZcCause, ZcFiles, answer_of}
 use Rattle.zcld.specs.Command.{Command, Run, Trace, Zc}
 use Rattle.zcld.specs.Input.{IsLongInput, IsShortInput}
-use Rattle.zcld.specs.Outside.{Streams, Tally}
+use Rattle.zcld.specs.Outside.{Streams, Tally, image_limit, object_limit}
 use Rattle.zcld.specs.Refusal.{first_fault}
-use Rattle.zcld.specs.Run.{RunAnswers, RunCause, RunShows, SureMachine, image_limit}
-use Rattle.zcld.specs.Trace.{TraceAnswers, TraceCause, TraceShows, object_limit}
+use Rattle.zcld.specs.Run.{RunAnswers, RunCause, RunShows, SureMachine}
+use Rattle.zcld.specs.Trace.{TraceAnswers, TraceCause, TraceShows}
 
 -- a name has one content
 one_content : (f : Files) (name a b : List ℕ) → f name ≡ Some a → f name ≡ Some b → a ≡ b

@@ -1,21 +1,25 @@
--- A run of the machine over the input that was taken is what the image executes.
+-- A run of the machine over the input that was taken is what the image executes, and what `run` shows.
 use Rattle.std.proofs.Common.{◌≡◌, ℕ, List, [], ◌++◌, Option, Some, None, refl, sym, ap, subst, ◌∙◌, inl, inr, ⊎_elim}
 use Rattle.std.specs.Prelude.{take}
 use Rattle.zc_base.specs.declared.mem_map.MemMap.{MemMap}
 use Rattle.zc_base.specs.MemMap.{standard_map}
 use Rattle.elf32_read.specs.Header.{entry_of}
+use Rattle.elf32_read.specs.Image.{image_fault}
 use Rattle.elf32_read.specs.Segments.{SegmentData, segments_of}
 use Rattle.interrupt_plan.specs.Plan.{Cut}
 use Rattle.rv_decode.specs.State.{Event, ZcCore}
+use Rattle.zc_outside.specs.Files.{Files}
 use Rattle.zc_outside.specs.Streams.{Adds, AddsPart, KeepsBytes}
 use Rattle.zc_machine.specs.Load.{first_core}
 use Rattle.zc_machine.specs.RunEnd.{Course, Ran, Wrote}
 use Rattle.zc_machine.specs.Written.{err_of, out_of}
 use Rattle.zc_machine.specs.declared.run.RunEnd.{RunEnd}
 use Rattle.zc_machine.specs.declared.run.RunEnd.TheVariants as end
+use Rattle.zcld.specs.declared.outcome.Outcome.{Outcome}
+use Rattle.zcld.specs.declared.outcome.Outcome.TheVariants.{Exited, ReadFault, WriteFault, OutOfMemory, Stopped, Spent}
 use Rattle.zcld.specs.Input.{TakesAll}
-use Rattle.zcld.specs.Outside.{IsQuiet, Streams}
-use Rattle.zcld.specs.Run.{Executes, course_of}
+use Rattle.zcld.specs.Outside.{IsQuiet, IsRead, Streams, image_limit}
+use Rattle.zcld.specs.Run.{Executed, Executes, RunShows, course_of}
 
 -- ---- the machine's start
 
@@ -109,3 +113,35 @@ pub executes_to : (image : List ℕ) (steps : ℕ) (answer : RunEnd) (before aft
     → pc ≡ machine.pc → (run : Executes image steps answer before after) × (run.machine.pc ≡ pc)
 unfolding executes
 executes_to image steps answer before after machine pc is stands = (executes image steps answer before after machine is, sym stands)
+
+-- ---- what is shown
+
+run_shows : (outcome : Outcome) (files : Option Files) (name image : List ℕ) (steps : ℕ) (before after : Streams)
+    → IsRead image_limit files name image → image_fault image standard_map ≡ None → Executed outcome image steps before after
+    → RunShows outcome files name steps before after
+run_shows (Exited code) files name image steps before after read none executed = record { image = image; read = read; faultless = none; executed = executed }
+run_shows (Stopped reason pc) files name image steps before after read none executed = record { image = image; read = read; faultless = none; executed = executed }
+run_shows Spent files name image steps before after read none executed = record { image = image; read = read; faultless = none; executed = executed }
+run_shows WriteFault files name image steps before after read none executed = record { image = image; read = read; faultless = none; executed = executed }
+run_shows OutOfMemory files name image steps before after read none (inl quiet) = inl quiet
+run_shows OutOfMemory files name image steps before after read none (inr ran) = inr (record { image = image; read = read; faultless = none; executed = inr ran })
+run_shows ReadFault files name image steps before after read none executed = executed
+run_shows other files name image steps before after read none executed = absurd executed
+
+-- an image that was read from these bytes, and has no fault under the standard map
+pub record IsImageRead (files : Option Files) (name : List ℕ) (image : List ℕ × MemMap) : Type 0 where
+  pub file : List ℕ
+  pub held : IsRead image_limit files name file
+  pub slice : List ℕ
+  pub is_file : slice ≡ file
+  pub memory : MemMap
+  pub is_standard : memory ≡ standard_map
+  pub read : (image ≡ (slice, memory)) × (image_fault slice memory ≡ None)
+
+-- `run` of it shows what it executes
+pub read_shows : (outcome : Outcome) (files : Option Files) (name : List ℕ) (image : List ℕ × MemMap) (steps : ℕ) (before after : Streams)
+    → IsImageRead files name image → Executed outcome image.0 steps before after → RunShows outcome files name steps before after
+read_shows outcome files name image steps before after is executed =
+    let bytes : image.0 ≡ is.file = ap (λ p. p.0) is.read.0 ∙ is.is_file in
+    let none : image_fault is.file standard_map ≡ None = sym (ap (λ l. image_fault l is.memory) is.is_file ∙ ap (image_fault is.file) is.is_standard) ∙ is.read.1 in
+    run_shows outcome files name is.file steps before after is.held none (subst (λ l. Executed outcome l steps before after) bytes executed)

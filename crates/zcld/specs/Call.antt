@@ -11,11 +11,11 @@ use Rattle.zcld.specs.declared.outcome.Outcome.TheVariants.{Done, Usage, Refused
 use Rattle.zcld.specs.Command.{Command, Run, Trace, Zc}
 use Rattle.zcld.specs.ErrLine.{err_line}
 use Rattle.zcld.specs.Input.{IsShortInput, RoseAbove, input_limit}
-use Rattle.zcld.specs.Outside.{IsRead, KeepsStreams, Streams, Tally}
+use Rattle.zcld.specs.Outside.{IsRead, IsUnreadFile, KeepsStreams, Streams, Tally, image_limit, object_limit}
 use Rattle.zcld.specs.Promise.{IsImageOf}
-use Rattle.zcld.specs.Refusal.{first_fault}
-use Rattle.zcld.specs.Run.{RunAnswers, RunCause, RunShows, SureMachine, image_limit}
-use Rattle.zcld.specs.Trace.{TraceAnswers, TraceCause, TraceShows, object_limit}
+use Rattle.zcld.specs.Refusal.{IsRefused, first_fault}
+use Rattle.zcld.specs.Run.{RunAnswers, RunCause, RunShows, SureMachine}
+use Rattle.zcld.specs.Trace.{TraceAnswers, TraceCause, TraceShows}
 use Rattle.zcld.specs.Written.{empty_certificate}
 
 -- ---- what stands
@@ -61,13 +61,10 @@ ZcFiles other before after out cert name = KeepsFiles before after
 
 -- ---- when each outcome comes
 
--- why an object has no image: the first fault that stands in it; or reading failed, or the file is
--- too long; or memory ran out
+-- why an object has no image: the first fault that stands in it; or its file can't be had
 abbrev pub ReadCause : Outcome → Option Files → List ℕ → ℕ → ℕ → ℕ → ℕ → Type 0
-ReadCause (Refused i fault) files name reads reads' longs longs' =
-    (i ≡ 0) × ((object : List ℕ) × IsRead object_limit files name object × (first_fault object ≡ Some fault))
-ReadCause ReadFault files name reads reads' longs longs' =
-    Rose reads reads' ⊎ (Rose longs longs' × IsLong files name object_limit)
+ReadCause (Refused i fault) files name reads reads' longs longs' = (i ≡ 0) × IsRefused files name fault
+ReadCause ReadFault files name reads reads' longs longs' = IsUnreadFile object_limit files name reads reads' longs longs'
 ReadCause OutOfMemory files name reads reads' longs longs' = ⊤
 ReadCause other files name reads reads' longs longs' = ⊥
 

@@ -28,9 +28,13 @@ abbrev pub IsShortInput : Option (List ℕ) → Type 0
 IsShortInput None = ⊥
 IsShortInput (Some xs) = length xs ≤ input_limit
 
--- why the input can't be had: reading it failed, or it is too long, or memory ran out
+-- the input can't be had: reading it failed, or it is longer than its limit
+abbrev pub IsUnreadInput : Option (List ℕ) → ℕ → ℕ → ℕ → ℕ → Type 0
+IsUnreadInput told reads reads' taken taken' = Rose reads reads' ⊎ (RoseAbove input_limit taken taken' × IsLongInput told)
+
+-- why it can't: that, or memory ran out
 abbrev pub InputCause : Outcome → Option (List ℕ) → ℕ → ℕ → ℕ → ℕ → Type 0
-InputCause ReadFault told reads reads' taken taken' = Rose reads reads' ⊎ (RoseAbove input_limit taken taken' × IsLongInput told)
+InputCause ReadFault told reads reads' taken taken' = IsUnreadInput told reads reads' taken taken'
 InputCause OutOfMemory told reads reads' taken taken' = ⊤
 InputCause other told reads reads' taken taken' = ⊥
 

@@ -1,13 +1,13 @@
 pub mod Command
 pub mod Straight
+pub mod Outside
 pub mod Refusal
 pub mod ErrLine
 pub mod Written
 pub mod Promise
-pub mod Outside
+pub mod Input
 pub mod Run
 pub mod Sym
 pub mod SymRun
 pub mod Trace
 pub mod Call
-pub mod Input

@@ -1,7 +1,9 @@
 -- What a store and a console show of themselves around a call.
-use Rattle.std.specs.Prelude.{ℕ, ◌≤◌, List, length, Option}
-use Rattle.zc_outside.specs.Files.{Files, HasFile}
+use Rattle.std.specs.Prelude.{ℕ, ◌≤◌, ◌⊎◌, List, length, Option, ⊤}
+use Rattle.zc_outside.specs.Files.{Files, HasFile, IsLong, Rose}
 use Rattle.zc_outside.specs.Streams.{KeepsBytes}
+use Rattle.zcld.specs.declared.outcome.Outcome.{Outcome}
+use Rattle.zcld.specs.declared.outcome.Outcome.TheVariants.{ReadFault, OutOfMemory}
 
 -- the streams of a console, each where it is told: the input that is left, and what was written
 pub record Streams : Type 0 where
@@ -40,7 +42,25 @@ tally reads longs writes console_reads console_writes taken = record {
   taken = taken;
 }
 
+-- the most bytes of an object
+abbrev pub object_limit : ℕ
+object_limit = 4194304
+
+-- the most bytes of an image
+abbrev pub image_limit : ℕ
+image_limit = 8388608
+
 -- a file of at most so many bytes was read: these are the bytes under its name, where the store tells its files
 pub record IsRead (limit : ℕ) (files : Option Files) (name bytes : List ℕ) : Type 0 where
   pub held : HasFile files name bytes
   pub short : length bytes ≤ limit
+
+-- a file of at most so many bytes can't be had: reading it failed, or it is longer
+abbrev pub IsUnreadFile : ℕ → Option Files → List ℕ → ℕ → ℕ → ℕ → ℕ → Type 0
+IsUnreadFile limit files name reads reads' longs longs' = Rose reads reads' ⊎ (Rose longs longs' × IsLong files name limit)
+
+-- why it can't: that, or memory ran out
+abbrev pub FileCause : Outcome → ℕ → Option Files → List ℕ → ℕ → ℕ → ℕ → ℕ → Type 0
+FileCause ReadFault limit files name reads reads' longs longs' = IsUnreadFile limit files name reads reads' longs longs'
+FileCause OutOfMemory limit files name reads reads' longs longs' = ⊤
+FileCause other limit files name reads reads' longs longs' = ⊥

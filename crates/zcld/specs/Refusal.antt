@@ -1,5 +1,5 @@
 -- Why an object is refused: the first fault that stands in its bytes.
-use Rattle.std.specs.Prelude.{ℕ, ◌%◌, Bool, not, ◌&&◌, ◌||◌, ◌==◌, nat_lt, nat_le, is_none, if◌then◌else◌, List, map, Option, Some, None}
+use Rattle.std.specs.Prelude.{◌≡◌, ℕ, ◌%◌, Bool, not, ◌&&◌, ◌||◌, ◌==◌, nat_lt, nat_le, is_none, if◌then◌else◌, List, map, Option, Some, None}
 use Rattle.std.specs.List.{list_any, range_with_len}
 use Rattle.std.specs.Int.RustNames.{bit_and}
 use Rattle.elf32_read.specs.declared.fault.Fault.{Fault}
@@ -7,6 +7,8 @@ use Rattle.elf32_read.specs.declared.fault.Fault.TheVariants.{NotBuilt}
 use Rattle.elf32_read.specs.Header.{Header, header_of, section_count, content_of, object_flags}
 use Rattle.elf32_read.specs.Object.{object_fault}
 use Rattle.rv_decode.specs.Decode.{decoded}
+use Rattle.zc_outside.specs.Files.{Files}
+use Rattle.zcld.specs.Outside.{IsRead, object_limit}
 use Rattle.zcld.specs.Straight.{words_in}
 
 -- the content of section 1
@@ -55,3 +57,7 @@ fault_or None unbuilt = if unbuilt then Some NotBuilt else None
 -- the first fault that stands in an object, or none
 unfoldable pub first_fault : List ℕ → Option Fault
 first_fault object = fault_or (object_fault object) (is_unbuilt object)
+
+-- an object was read, and this is its first fault
+abbrev pub IsRefused : Option Files → List ℕ → Fault → Type 0
+IsRefused files name fault = (object : List ℕ) × IsRead object_limit files name object × (first_fault object ≡ Some fault)

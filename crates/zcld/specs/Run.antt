@@ -15,12 +15,8 @@ use Rattle.zc_machine.specs.declared.run.RunEnd.TheVariants as end
 use Rattle.zcld.specs.declared.outcome.FileFault.TheVariants.{Image}
 use Rattle.zcld.specs.declared.outcome.Outcome.{Outcome}
 use Rattle.zcld.specs.declared.outcome.Outcome.TheVariants.{Exited, ReadFault, WriteFault, OutOfMemory, BadFile, Stopped, Spent}
-use Rattle.zcld.specs.Input.{IsLongInput, RoseAbove, TakesAll, input_limit}
-use Rattle.zcld.specs.Outside.{IsQuiet, IsRead, KeepsStreams, Streams, Tally}
-
--- the most bytes of an image
-abbrev pub image_limit : ℕ
-image_limit = 8388608
+use Rattle.zcld.specs.Input.{IsLongInput, IsUnreadInput, TakesAll}
+use Rattle.zcld.specs.Outside.{IsQuiet, IsRead, IsUnreadFile, KeepsStreams, Streams, Tally, image_limit}
 
 -- ---- what it does
 
@@ -73,15 +69,15 @@ RunShows other files name steps before after = KeepsStreams before after
 
 -- why a machine over an image wasn't run to its end: the input can't be had, or a write was refused
 abbrev pub ExecuteCause : Outcome → Option (List ℕ) → ℕ → ℕ → ℕ → ℕ → ℕ → ℕ → Type 0
-ExecuteCause ReadFault told reads reads' taken taken' writes writes' = Rose reads reads' ⊎ (RoseAbove input_limit taken taken' × IsLongInput told)
+ExecuteCause ReadFault told reads reads' taken taken' writes writes' = IsUnreadInput told reads reads' taken taken'
 ExecuteCause WriteFault told reads reads' taken taken' writes writes' = Rose writes writes'
 ExecuteCause other told reads reads' taken taken' writes writes' = ⊤
 
--- why the file, of at most so many bytes, or the input can't be had: reading it failed, or it is too long
+-- the file, of at most so many bytes, or the input can't be had
 abbrev pub IsUnread : ℕ → Option Files → List ℕ → Option (List ℕ) → Tally → Tally → Type 0
 IsUnread limit files name told before after =
-    (Rose before.reads after.reads ⊎ (Rose before.longs after.longs × IsLong files name limit))
-    ⊎ (Rose before.console_reads after.console_reads ⊎ (RoseAbove input_limit before.taken after.taken × IsLongInput told))
+    IsUnreadFile limit files name before.reads after.reads before.longs after.longs
+    ⊎ IsUnreadInput told before.console_reads after.console_reads before.taken after.taken
 
 -- the image was read, and this fault stands in it
 abbrev pub IsBadImage : Option Files → List ℕ → ImageFault → Type 0

@@ -11,14 +11,10 @@ use Rattle.zcld.specs.declared.outcome.Outcome.TheVariants.{Exited, Refused, Rea
 use Rattle.zcld.specs.declared.sym_run.TraceEnd.{TraceEnd}
 use Rattle.zcld.specs.declared.sym_run.TraceEnd.TheVariants as end
 use Rattle.zcld.specs.Input.{TakesAll}
-use Rattle.zcld.specs.Outside.{IsQuiet, IsRead, KeepsStreams, Streams, Tally}
-use Rattle.zcld.specs.Refusal.{first_fault}
+use Rattle.zcld.specs.Outside.{IsQuiet, IsRead, KeepsStreams, Streams, Tally, object_limit}
+use Rattle.zcld.specs.Refusal.{IsRefused, first_fault}
 use Rattle.zcld.specs.Run.{IsUnread}
 use Rattle.zcld.specs.SymRun.{EndedAt}
-
--- the most bytes of an object
-abbrev pub object_limit : ℕ
-object_limit = 4194304
 
 -- ---- what it does
 
@@ -57,10 +53,6 @@ TraceShows OutOfMemory files name steps before after = IsQuiet before after
 TraceShows other files name steps before after = KeepsStreams before after
 
 -- ---- when each outcome comes
-
--- the object was read, and this is its first fault
-abbrev pub IsRefused : Option Files → List ℕ → Fault → Type 0
-IsRefused files name fault = (object : List ℕ) × IsRead object_limit files name object × (first_fault object ≡ Some fault)
 
 -- when `trace` of this object ends so
 abbrev pub TraceCause : Outcome → Option Files → List ℕ → Option (List ℕ) → Tally → Tally → Type 0

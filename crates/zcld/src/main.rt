@@ -4,6 +4,7 @@
 pub mod call;
 pub mod command_line;
 pub mod err_line;
+pub mod file;
 pub mod image;
 pub mod input;
 pub mod outcome;

@@ -5,9 +5,10 @@ ghost use Rattle.zc_base.specs.MemMap.{standard_map};
 ghost use Rattle.elf32_read.specs.Image.{image_fault};
 ghost use Rattle.zc_outside.specs.Files.{KeepsFiles};
 ghost use Rattle.zcld.specs.Input.{IsLongInput};
-ghost use Rattle.zcld.specs.Outside.{streams, tally};
-ghost use Rattle.zcld.specs.Run.{ExecuteCause, Executed, RunCause, RunShows, SureMachine, image_limit};
+ghost use Rattle.zcld.specs.Outside.{image_limit, streams, tally};
+ghost use Rattle.zcld.specs.Run.{ExecuteCause, Executed, RunCause, RunShows, SureMachine};
 
+use crate::file::{IMAGE_LIMIT, read_file};
 use crate::input::take_all;
 use crate::outcome::{FileFault, Outcome};
 use elf32_read::image::Image;
@@ -17,10 +18,7 @@ use zc_base::mem_map::MemMap;
 use zc_machine::machine::Machine;
 use zc_machine::run::{RunEnd, run as run_machine};
 use zc_outside::console::{Console, ConsoleFault};
-use zc_outside::store::{Store, StoreFault};
-
-/// The most bytes of an image.
-pub const IMAGE_LIMIT: u32 = 8_388_608;
+use zc_outside::store::Store;
 
 /// Runs the image under a name, over the console's whole input, for at most so many commits.
 pub fn run<S: Store, C: Console>(
@@ -49,10 +47,9 @@ pub fn run<S: Store, C: Console>(
         (tally (S.read_faults store.old) (S.long_files store.old) (S.write_faults store.old) (C.read_faults console.old) (C.write_faults console.old) (C.taken console.old))
         (tally (S.read_faults store.new) (S.long_files store.new) (S.write_faults store.new) (C.read_faults console.new) (C.write_faults console.new) (C.taken console.new)) }
 {
-    let file = match store.get(alloc, name, IMAGE_LIMIT) {
+    let file = match read_file(alloc, name, IMAGE_LIMIT, store) {
         Ok(file) => file,
-        Err(StoreFault::OutOfMemory) => return Outcome::OutOfMemory,
-        Err(_) => return Outcome::ReadFault,
+        Err(outcome) => return outcome,
     };
     match Image::read(file.as_slice(), MemMap::standard()) {
         Ok(image) => execute(alloc, &image, steps, console),

@@ -3,19 +3,19 @@
 ghost use Rattle.std.specs.Prelude.{◌≡◌, ◌≢◌, ◌≤◌, ◌⊎◌, ℕ, None};
 ghost use Rattle.zc_outside.specs.Files.{KeepsFiles};
 ghost use Rattle.zcld.specs.Input.{IsLongInput};
-ghost use Rattle.zcld.specs.Outside.{streams, tally};
+ghost use Rattle.zcld.specs.Outside.{object_limit, streams, tally};
 ghost use Rattle.zcld.specs.Run.{ExecuteCause, SureMachine};
-ghost use Rattle.zcld.specs.Trace.{TraceCause, TraceShows, Traced, object_limit};
+ghost use Rattle.zcld.specs.Trace.{TraceCause, TraceShows, Traced};
 
+use crate::file::{OBJECT_LIMIT, read_file};
 use crate::input::take_all;
 use crate::outcome::Outcome;
 use crate::refusal::straight_object;
 use crate::sym_run::{TraceEnd, trace_object};
-use crate::zc::OBJECT_LIMIT;
 use elf32_read::object::Object;
 use std::alloc::Global;
 use zc_outside::console::Console;
-use zc_outside::store::{Store, StoreFault};
+use zc_outside::store::Store;
 
 /// Runs the object under a name at the places of its own code, over the console's whole input, for at
 /// most so many steps.
@@ -44,10 +44,9 @@ pub fn trace<S: Store, C: Console>(
         (tally (S.read_faults store.old) (S.long_files store.old) (S.write_faults store.old) (C.read_faults console.old) (C.write_faults console.old) (C.taken console.old))
         (tally (S.read_faults store.new) (S.long_files store.new) (S.write_faults store.new) (C.read_faults console.new) (C.write_faults console.new) (C.taken console.new)) }
 {
-    let file = match store.get(alloc, name, OBJECT_LIMIT) {
+    let file = match read_file(alloc, name, OBJECT_LIMIT, store) {
         Ok(file) => file,
-        Err(StoreFault::OutOfMemory) => return Outcome::OutOfMemory,
-        Err(_) => return Outcome::ReadFault,
+        Err(outcome) => return outcome,
     };
     match straight_object(file.as_slice()) {
         Ok(object) => follow(alloc, &object, steps, console),

@@ -2,20 +2,17 @@
 
 ghost use Rattle.std.specs.Prelude.{◌≡◌, ◌≢◌, ◌≤◌, ◌⊎◌, ℕ, List, None, IfOk, IfErr, IsErrOf, Err, length};
 ghost use Rattle.zc_outside.specs.Files.{Holds, IsLong, KeepsFiles, Rose};
-ghost use Rattle.zcld.specs.Outside.{IsRead};
+ghost use Rattle.zcld.specs.Outside.{IsRead, object_limit};
 ghost use Rattle.zcld.specs.Call.{PutsInTurn, ReadCause, SureZc, ZcCause, ZcFiles};
 ghost use Rattle.zcld.specs.Promise.{IsImageOf};
 ghost use Rattle.zcld.specs.Refusal.{first_fault};
-ghost use Rattle.zcld.specs.Trace.{object_limit};
 ghost use Rattle.zcld.specs.Written.{empty_certificate};
 
+use crate::file::{OBJECT_LIMIT, read_file};
 use crate::image::image_of;
 use crate::outcome::Outcome;
 use std::alloc::Global;
 use zc_outside::store::{Store, StoreFault};
-
-/// The most bytes of an object.
-pub const OBJECT_LIMIT: u32 = 4_194_304;
 
 const CERTIFICATE: &str = "zcld certificate 1\nprice 0 0 0\nnet 0\nend\n";
 
@@ -31,11 +28,7 @@ fn read_and_link<S: Store>(alloc: Global, name: &str, store: &mut S) -> Result<V
         (S.read_faults store.new ≡ S.read_faults store.old) × ((S.long_files store.new ≡ S.long_files store.old) ⊎ IsLong (S.files store.old) name.now object_limit)
         × (IsErrOf result Outcome.ReadFault → IsLong (S.files store.old) name.now object_limit) }
 {
-    let object = match store.get(alloc, name, OBJECT_LIMIT) {
-        Ok(object) => object,
-        Err(StoreFault::OutOfMemory) => return Err(Outcome::OutOfMemory),
-        Err(_) => return Err(Outcome::ReadFault),
-    };
+    let object = read_file(alloc, name, OBJECT_LIMIT, store)?;
     image_of(alloc, object.as_slice())
 }
 
