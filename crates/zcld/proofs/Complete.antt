@@ -1,18 +1,19 @@
 -- With nothing counted, and over what is sure, a call's outcome is the one that the file's bytes have.
-use Rattle.std.proofs.Common.{◌≡◌, ◌≢◌, ℕ, ◌≤◌, List, length, Option, Some, None, refl, sym, ap, ◌∙◌, ◌⊎◌, inl, inr, ⊎_elim, arith}
+use Rattle.std.proofs.Common.{◌≡◌, ◌≢◌, ℕ, ◌≤◌, List, length, Option, Some, None, refl, sym, ap, subst, ◌∙◌, ◌⊎◌, inl, inr, ⊎_elim, arith}
 use Rattle.zc_base.specs.MemMap.{standard_map}
+use Rattle.elf32_read.specs.declared.fault.Fault.{Fault}
 use Rattle.elf32_read.specs.declared.image_fault.ImageFault.{ImageFault}
 use Rattle.elf32_read.specs.Image.{image_fault}
 use Rattle.zc_outside.specs.Files.{Files, IsLong}
 use Rattle.zcld.specs.declared.outcome.FileFault.TheVariants.{Image}
 use Rattle.zcld.specs.declared.outcome.Outcome.{Outcome}
 use Rattle.zcld.specs.declared.outcome.Outcome.TheVariants.{Done, Exited, Refused, ReadFault, WriteFault, OutOfMemory, BadFile, Stopped, Stuck, Spent}
-use Rattle.zcld.specs.Call.{Answers, CallCause, CallFiles, CallTakes, CanRead, CanTake, CommandShows, IsClean, SureCall, TellsFile, ZcCause, ZcFiles, answer_of}
+use Rattle.zcld.specs.Call.{Answers, CallCause, CallFiles, CanRead, CanTake, CommandShows, IsClean, IsFileRead, NamesFault, SureCall, TellsFile, ZcCause, ZcFiles, answer_of}
 use Rattle.zcld.specs.Command.{Command, Run, Trace, Zc}
 use Rattle.zcld.specs.Input.{IsLongInput, IsShortInput}
-use Rattle.zcld.specs.Outside.{Streams, Tally, image_limit, object_limit}
-use Rattle.zcld.specs.Refusal.{first_fault}
-use Rattle.zcld.specs.Run.{RunAnswers, RunCause, RunShows, SureMachine}
+use Rattle.zcld.specs.Outside.{IsUnreadFile, Streams, Tally, image_limit, object_limit}
+use Rattle.zcld.specs.Refusal.{IsJudged, first_fault}
+use Rattle.zcld.specs.Run.{IsJudgedImage, RunAnswers, RunCause, RunShows, SureMachine}
 use Rattle.zcld.specs.Trace.{TraceAnswers, TraceCause, TraceShows}
 
 -- a name has one content
@@ -24,6 +25,11 @@ not_long : (f : Files) (limit : ℕ) (name file : List ℕ) → f name ≡ Some 
 not_long f limit name file told short long =
     let same : length file ≡ length long.0 = ap length (one_content f name file long.0 told long.1) in
     omega (arith, long.2)
+
+-- a file that could be read isn't unread
+file_read : (limit : ℕ) (files : Option Files) (name : List ℕ) (counted counted' : Tally) → IsFileRead counted counted'
+    → IsUnreadFile limit files name counted.reads counted'.reads counted.longs counted'.longs → ⊥
+file_read limit files name counted counted' clean unread = ⊎_elim (λ rose. clean.0 rose) (λ rose. clean.1 rose.0) unread
 
 -- ---- `zc`
 
@@ -107,33 +113,104 @@ pub no_read_fault : (command : Option Command) (outcome : Outcome) (files : Opti
     → CanRead command files file → IsClean command counted counted' → CallCause command outcome files told counted counted' → outcome ≢ ReadFault
 no_read_fault None outcome files file told counted counted' can clean cause = absurd can
 no_read_fault (Some (Zc out cert name)) ReadFault files file told counted counted' can clean cause =
-    λ e. ⊎_elim (λ rose. clean.0 rose) (λ rose. clean.1 rose.0) cause
+    λ e. file_read object_limit files name counted counted' clean.0 cause
 no_read_fault (Some (Zc out cert name)) other files file told counted counted' can clean cause = λ e. cc
 no_read_fault (Some (Run steps name)) ReadFault files file told counted counted' can clean cause =
-    λ e. ⊎_elim (λ store. ⊎_elim (λ rose. clean.0 rose) (λ rose. clean.1 rose.0) store) (λ console. ⊎_elim (λ rose. clean.2 rose) (λ long. clean.4 long.0) console) cause
+    λ e. ⊎_elim (λ store. file_read image_limit files name counted counted' clean.0 store) (λ console. ⊎_elim (λ rose. clean.1 rose) (λ long. clean.2 long.0) console.1) cause
 no_read_fault (Some (Run steps name)) other files file told counted counted' can clean cause = λ e. cc
 no_read_fault (Some (Trace steps name)) ReadFault files file told counted counted' can clean cause =
-    λ e. ⊎_elim (λ store. ⊎_elim (λ rose. clean.0 rose) (λ rose. clean.1 rose.0) store) (λ console. ⊎_elim (λ rose. clean.2 rose) (λ long. clean.3 long.0) console) cause
+    λ e. ⊎_elim (λ store. file_read object_limit files name counted counted' clean.0 store) (λ console. ⊎_elim (λ rose. clean.1 rose) (λ long. clean.2 long.0) console.1) cause
 no_read_fault (Some (Trace steps name)) other files file told counted counted' can clean cause = λ e. cc
 
 pub no_write_fault : (command : Option Command) (outcome : Outcome) (files : Option Files) (file : List ℕ) (told : Option (List ℕ)) (counted counted' : Tally)
     → CanRead command files file → IsClean command counted counted' → CallCause command outcome files told counted counted' → outcome ≢ WriteFault
 no_write_fault None outcome files file told counted counted' can clean cause = absurd can
-no_write_fault (Some (Zc out cert name)) WriteFault files file told counted counted' can clean cause = λ e. clean.2 cause
+no_write_fault (Some (Zc out cert name)) WriteFault files file told counted counted' can clean cause = λ e. clean.1 cause.0
 no_write_fault (Some (Zc out cert name)) other files file told counted counted' can clean cause = λ e. cc
 no_write_fault (Some (Run steps name)) WriteFault files file told counted counted' can clean cause = λ e. clean.3 cause
 no_write_fault (Some (Run steps name)) other files file told counted counted' can clean cause = λ e. cc
 no_write_fault (Some (Trace steps name)) WriteFault files file told counted counted' can clean cause = absurd cause
 no_write_fault (Some (Trace steps name)) other files file told counted counted' can clean cause = λ e. cc
 
+-- ---- a file with a fault
+
+-- a file of an object with a fault isn't judged to have none
+not_judged : (f : Files) (name object : List ℕ) (fault : Fault) → f name ≡ Some object → first_fault object ≡ Some fault → IsJudged (Some f) name None → ⊥
+not_judged f name object fault told is judged =
+    let same : None ≡ Some fault = sym judged.2 ∙ ap first_fault (one_content f name judged.0 object judged.1.held told) ∙ is in
+    cc
+
+not_judged_image : (f : Files) (name image : List ℕ) (fault : ImageFault) → f name ≡ Some image → image_fault image standard_map ≡ Some fault → IsJudgedImage (Some f) name None → ⊥
+not_judged_image f name image fault told is judged =
+    let same : None ≡ Some fault = sym (same_fault f name judged.0 image None judged.1.held told judged.2) ∙ is in
+    cc
+
+zc_no_fault : (outcome : Outcome) (files : Option Files) (name object : List ℕ) (fault : Fault) (counted counted' : Tally)
+    → TellsFile object_limit files name object → IsFileRead counted counted' → first_fault object ≡ Some fault
+    → ZcCause outcome files name counted.reads counted'.reads counted.longs counted'.longs counted.writes counted'.writes
+    → (outcome ≢ ReadFault) × (outcome ≢ WriteFault)
+zc_no_fault outcome None name object fault counted counted' can clean is cause = absurd can
+zc_no_fault ReadFault (Some f) name object fault counted counted' can clean is cause = absurd (file_read object_limit (Some f) name counted counted' clean cause)
+zc_no_fault WriteFault (Some f) name object fault counted counted' can clean is cause = absurd (not_judged f name object fault can.0 is cause.1)
+zc_no_fault other (Some f) name object fault counted counted' can clean is cause = (λ e. cc, λ e. cc)
+
+run_no_fault : (outcome : Outcome) (files : Option Files) (name image : List ℕ) (fault : ImageFault) (steps : ℕ) (told : Option (List ℕ)) (counted counted' : Tally) (before after : Streams)
+    → TellsFile image_limit files name image → IsFileRead counted counted' → image_fault image standard_map ≡ Some fault
+    → RunCause outcome files name told counted counted' → RunShows outcome files name steps before after
+    → (outcome ≢ ReadFault) × (outcome ≢ WriteFault)
+run_no_fault outcome None name image fault steps told counted counted' before after can clean is cause shown = absurd can
+run_no_fault ReadFault (Some f) name image fault steps told counted counted' before after can clean is cause shown =
+    absurd (⊎_elim (λ store. file_read image_limit (Some f) name counted counted' clean store) (λ console. not_judged_image f name image fault can.0 is console.0) cause)
+run_no_fault WriteFault (Some f) name image fault steps told counted counted' before after can clean is cause shown =
+    absurd (not_judged_image f name image fault can.0 is (shown.image, shown.read, shown.faultless))
+run_no_fault other (Some f) name image fault steps told counted counted' before after can clean is cause shown = (λ e. cc, λ e. cc)
+
+trace_no_fault : (outcome : Outcome) (files : Option Files) (name object : List ℕ) (fault : Fault) (told : Option (List ℕ)) (counted counted' : Tally)
+    → TellsFile object_limit files name object → IsFileRead counted counted' → first_fault object ≡ Some fault
+    → TraceCause outcome files name told counted counted' → outcome ≢ ReadFault
+trace_no_fault outcome None name object fault told counted counted' can clean is cause = absurd can
+trace_no_fault ReadFault (Some f) name object fault told counted counted' can clean is cause =
+    absurd (⊎_elim (λ store. file_read object_limit (Some f) name counted counted' clean store) (λ console. not_judged f name object fault can.0 is console.0) cause)
+trace_no_fault other (Some f) name object fault told counted counted' can clean is cause = λ e. cc
+
+run_fault_named : (outcome : Outcome) (fault : ImageFault) → RunAnswers outcome (Some fault) → (outcome ≡ BadFile (Image fault)) ⊎ (outcome ≡ OutOfMemory)
+run_fault_named (Exited code) fault answer = absurd (let no : Some fault ≡ None = answer in cc)
+run_fault_named (Stopped reason pc) fault answer = absurd (let no : Some fault ≡ None = answer in cc)
+run_fault_named Spent fault answer = absurd (let no : Some fault ≡ None = answer in cc)
+run_fault_named (BadFile (Image found)) fault answer = inl (let same : Some fault ≡ Some found = answer in cc)
+run_fault_named OutOfMemory fault answer = inr refl
+run_fault_named other fault answer = absurd answer
+
+trace_fault_named : (outcome : Outcome) (fault : Fault) → TraceAnswers outcome (Some fault) → (outcome ≡ Refused 0 fault) ⊎ (outcome ≡ OutOfMemory)
+trace_fault_named (Exited code) fault answer = absurd (let no : Some fault ≡ None = answer in cc)
+trace_fault_named (Stuck place why) fault answer = absurd (let no : Some fault ≡ None = answer in cc)
+trace_fault_named Spent fault answer = absurd (let no : Some fault ≡ None = answer in cc)
+trace_fault_named (Refused i found) fault answer = inl (let first = answer.0 in let same : Some fault ≡ Some found = answer.1 in cc)
+trace_fault_named OutOfMemory fault answer = inr refl
+trace_fault_named other fault answer = absurd answer
+
+-- where its file could be read, its fault is named
+pub names : (command : Option Command) (outcome : Outcome) (files files' : Option Files) (file : List ℕ) (told : Option (List ℕ)) (counted counted' : Tally) (before after : Streams)
+    → CanRead command files file → IsFileRead counted counted'
+    → CallCause command outcome files told counted counted' → CallFiles command outcome files files' → CommandShows command outcome files before after
+    → NamesFault command outcome file
+names None outcome files files' file told counted counted' before after can clean cause kept shown = absurd can
+names (Some (Zc out cert name)) outcome files files' file told counted counted' before after can clean cause kept shown = λ fault is.
+    let no = zc_no_fault outcome files name file fault counted counted' can clean is cause in
+    ⊎_elim (λ e. inl (e ∙ ap answer_of is)) (λ e. inr e) (zc_answers outcome files files' out cert name file _ _ _ _ _ _ can no.0 no.1 cause kept)
+names (Some (Run steps name)) outcome files files' file told counted counted' before after can clean cause kept shown = λ fault is.
+    let no = run_no_fault outcome files name file fault steps told counted counted' before after can clean is cause shown in
+    run_fault_named outcome fault (subst (RunAnswers outcome) is (run_answers outcome files name file steps told counted counted' before after can no.0 no.1 cause shown))
+names (Some (Trace steps name)) outcome files files' file told counted counted' before after can clean cause kept shown = λ fault is.
+    let no = trace_no_fault outcome files name file fault told counted counted' can clean is cause in
+    trace_fault_named outcome fault (subst (TraceAnswers outcome) is (trace_answers outcome files name file steps told counted counted' before after can no cause shown))
+
+-- ---- what is sure
+
 -- what is sure shows of a call whose file the store tells
-pub record IsSound (outcome : Outcome) (counted counted' : Tally) : Type 0 where
+pub record IsSound (outcome : Outcome) : Type 0 where
   pub no_read : outcome ≢ ReadFault
   pub no_write : outcome ≢ WriteFault
-  pub reads_stay : counted'.reads ≡ counted.reads
-  pub longs_stay : counted'.longs ≡ counted.longs
-  pub writes_stay : counted'.writes ≡ counted.writes
-  pub console_reads_stay : counted'.console_reads ≡ counted.console_reads
 
 -- over a sure console whose input is told and short, neither the file nor the input is too long
 not_long_at_all : (f : Files) (limit : ℕ) (name file : List ℕ) (told : Option (List ℕ)) → f name ≡ Some file → length file ≤ limit → IsShortInput told
@@ -142,37 +219,27 @@ not_long_at_all f limit name file None is short small = absurd small
 not_long_at_all f limit name file (Some input) is short small = ⊎_elim (not_long f limit name file is short) (λ long. omega (arith, long, small))
 
 sound_machine : (limit : ℕ) (outcome : Outcome) (files : Option Files) (name file : List ℕ) (told : Option (List ℕ)) (counted counted' : Tally)
-    → TellsFile limit files name file → IsShortInput told → SureMachine limit outcome files name told counted counted' → IsSound outcome counted counted'
+    → TellsFile limit files name file → IsShortInput told → SureMachine limit outcome files name told counted counted' → IsSound outcome
 sound_machine limit outcome None name file told counted counted' can short shows = absurd can
 sound_machine limit outcome (Some f) name file told counted counted' can small shows =
     let shown = shows (file, can.0) in
-    let short = not_long f limit name file can.0 can.1 in
     record {
       no_read = λ e. not_long_at_all f limit name file told can.0 can.1 small (shown.4 e);
       no_write = shown.5;
-      reads_stay = shown.0;
-      longs_stay = ⊎_elim (λ e. e) (λ long. absurd (short long)) shown.2;
-      writes_stay = shown.1;
-      console_reads_stay = shown.3;
     }
 
 pub sound : (command : Option Command) (outcome : Outcome) (files : Option Files) (file : List ℕ) (sure : Type 0) (told : Option (List ℕ)) (counted counted' : Tally)
-    → CanRead command files file → CanTake command sure told → SureCall command sure outcome files told counted counted' → CallTakes command counted counted'
-    → IsSound outcome counted counted'
-sound None outcome files file sure told counted counted' can ready shows takes = absurd can
-sound (Some (Zc out cert name)) outcome None file sure told counted counted' can ready shows takes = absurd can
-sound (Some (Zc out cert name)) outcome (Some f) file sure told counted counted' can ready shows takes =
+    → CanRead command files file → CanTake command sure told → SureCall command sure outcome files told counted counted' → IsSound outcome
+sound None outcome files file sure told counted counted' can ready shows = absurd can
+sound (Some (Zc out cert name)) outcome None file sure told counted counted' can ready shows = absurd can
+sound (Some (Zc out cert name)) outcome (Some f) file sure told counted counted' can ready shows =
     let shown = shows (file, can.0) in
     let short = not_long f object_limit name file can.0 can.1 in
     record {
       no_read = λ e. short (shown.3 e);
       no_write = shown.4;
-      reads_stay = shown.0;
-      longs_stay = ⊎_elim (λ e. e) (λ long. absurd (short long)) shown.2;
-      writes_stay = shown.1;
-      console_reads_stay = takes.1;
     }
-sound (Some (Run steps name)) outcome files file sure told counted counted' can ready shows takes =
+sound (Some (Run steps name)) outcome files file sure told counted counted' can ready shows =
     sound_machine image_limit outcome files name file told counted counted' can ready.1 (shows ready.0)
-sound (Some (Trace steps name)) outcome files file sure told counted counted' can ready shows takes =
+sound (Some (Trace steps name)) outcome files file sure told counted counted' can ready shows =
     sound_machine object_limit outcome files name file told counted counted' can ready.1 (shows ready.0)

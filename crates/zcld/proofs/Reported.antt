@@ -4,8 +4,8 @@ use Rattle.std.proofs.Math.Nat.{le-min, min-le_left, min-le_right}
 use Rattle.zc_outside.specs.Files.{Files, Rose}
 use Rattle.zcld.specs.declared.outcome.FileFault.TheVariants.{Image}
 use Rattle.zcld.specs.declared.outcome.Outcome.{Outcome}
-use Rattle.zcld.specs.declared.outcome.Outcome.TheVariants.{ReadFault, WriteFault, BadFile}
-use Rattle.zcld.specs.Call.{CallCause, CallTakes, WritesLine}
+use Rattle.zcld.specs.declared.outcome.Outcome.TheVariants.{Refused, ReadFault, WriteFault, BadFile}
+use Rattle.zcld.specs.Call.{CallCause, CallReads, CallTakes, SureCall, WritesLine}
 use Rattle.zcld.specs.Command.{Command, Run, Trace, Zc}
 use Rattle.zcld.specs.Outside.{Tally, tally}
 
@@ -20,10 +20,10 @@ rose_from a b c earlier rose =
 rose_to : (a b c : ℕ) → b ≤ c → Rose a b → Rose a c
 rose_to a b c later rose = omega (arith, later, rose)
 
-pub line_written : (before after : Option (List ℕ)) (text : List ℕ) (Refused Refused' : Type 0) → (Refused → Refused') → WritesLine before after text Refused → WritesLine before after text Refused'
-line_written None after text Refused Refused' from written = tt
-line_written (Some xs) None text Refused Refused' from written = absurd written
-line_written (Some xs) (Some ys) text Refused Refused' from written = ⊎_elim (λ whole. inl whole) (λ part. inr (from part.0, part.1)) written
+pub line_written : (before after : Option (List ℕ)) (text : List ℕ) (Unwritten Unwritten' : Type 0) → (Unwritten → Unwritten') → WritesLine before after text Unwritten → WritesLine before after text Unwritten'
+line_written None after text Unwritten Unwritten' from written = tt
+line_written (Some xs) None text Unwritten Unwritten' from written = absurd written
+line_written (Some xs) (Some ys) text Unwritten Unwritten' from written = ⊎_elim (λ whole. inl whole) (λ part. inr (from part.0, part.1)) written
 
 -- the counts behind the line: of those that decide, only that of the console's writes may have risen
 pub cause_behind : (command : Option Command) (outcome : Outcome) (files : Option Files) (told : Option (List ℕ)) (before : Tally) (reads longs writes console_reads console_reads' console_writes console_writes' taken taken' : ℕ)
@@ -42,11 +42,31 @@ cause_behind (Some (Trace steps name)) ReadFault files told before reads longs w
     rw (same_reads, same_taken) cause
 cause_behind (Some (Trace steps name)) other files told before reads longs writes console_reads console_reads' console_writes console_writes' taken taken' same_reads same_taken written cause = cause
 
-pub takes_behind : (command : Option Command) (before : Tally) (reads longs writes console_reads console_reads' console_writes console_writes' taken taken' : ℕ)
+pub takes_behind : (command : Option Command) (outcome : Outcome) (before : Tally) (reads longs writes console_reads console_reads' console_writes console_writes' taken taken' : ℕ)
     → console_reads' ≡ console_reads → taken' ≡ taken
-    → CallTakes command before (tally reads longs writes console_reads console_writes taken)
-    → CallTakes command before (tally reads longs writes console_reads' console_writes' taken')
-takes_behind None before reads longs writes console_reads console_reads' console_writes console_writes' taken taken' same_reads same_taken takes = (same_taken ∙ takes.0, same_reads ∙ takes.1)
-takes_behind (Some (Zc out cert name)) before reads longs writes console_reads console_reads' console_writes console_writes' taken taken' same_reads same_taken takes = (same_taken ∙ takes.0, same_reads ∙ takes.1)
-takes_behind (Some (Run steps name)) before reads longs writes console_reads console_reads' console_writes console_writes' taken taken' same_reads same_taken takes = tt
-takes_behind (Some (Trace steps name)) before reads longs writes console_reads console_reads' console_writes console_writes' taken taken' same_reads same_taken takes = tt
+    → CallTakes command outcome before (tally reads longs writes console_reads console_writes taken)
+    → CallTakes command outcome before (tally reads longs writes console_reads' console_writes' taken')
+takes_behind None outcome before reads longs writes console_reads console_reads' console_writes console_writes' taken taken' same_reads same_taken takes = (same_taken ∙ takes.0, same_reads ∙ takes.1)
+takes_behind (Some (Zc out cert name)) outcome before reads longs writes console_reads console_reads' console_writes console_writes' taken taken' same_reads same_taken takes = (same_taken ∙ takes.0, same_reads ∙ takes.1)
+takes_behind (Some (Run steps name)) (BadFile fault) before reads longs writes console_reads console_reads' console_writes console_writes' taken taken' same_reads same_taken takes = (same_taken ∙ takes.0, same_reads ∙ takes.1)
+takes_behind (Some (Run steps name)) other before reads longs writes console_reads console_reads' console_writes console_writes' taken taken' same_reads same_taken takes = tt
+takes_behind (Some (Trace steps name)) (Refused i fault) before reads longs writes console_reads console_reads' console_writes console_writes' taken taken' same_reads same_taken takes = (same_taken ∙ takes.0, same_reads ∙ takes.1)
+takes_behind (Some (Trace steps name)) other before reads longs writes console_reads console_reads' console_writes console_writes' taken taken' same_reads same_taken takes = tt
+
+pub reads_behind : (command : Option Command) (before : Tally) (reads longs writes console_reads console_reads' console_writes console_writes' taken taken' : ℕ)
+    → CallReads command before (tally reads longs writes console_reads console_writes taken)
+    → CallReads command before (tally reads longs writes console_reads' console_writes' taken')
+reads_behind None before reads longs writes console_reads console_reads' console_writes console_writes' taken taken' same = same
+reads_behind (Some command) before reads longs writes console_reads console_reads' console_writes console_writes' taken taken' same = tt
+
+-- what is sure speaks of no count that the line moves
+pub sure_behind : (command : Option Command) (sure : Type 0) (outcome : Outcome) (files : Option Files) (told : Option (List ℕ)) (before : Tally) (reads longs writes console_reads console_reads' console_writes console_writes' taken taken' : ℕ)
+    → console_reads' ≡ console_reads
+    → SureCall command sure outcome files told before (tally reads longs writes console_reads console_writes taken)
+    → SureCall command sure outcome files told before (tally reads longs writes console_reads' console_writes' taken')
+sure_behind None sure outcome files told before reads longs writes console_reads console_reads' console_writes console_writes' taken taken' same_reads shows = tt
+sure_behind (Some (Zc out cert name)) sure outcome files told before reads longs writes console_reads console_reads' console_writes console_writes' taken taken' same_reads shows = shows
+sure_behind (Some (Run steps name)) sure outcome files told before reads longs writes console_reads console_reads' console_writes console_writes' taken taken' same_reads shows =
+    rw same_reads shows
+sure_behind (Some (Trace steps name)) sure outcome files told before reads longs writes console_reads console_reads' console_writes console_writes' taken taken' same_reads shows =
+    rw same_reads shows

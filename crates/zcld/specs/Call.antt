@@ -3,19 +3,21 @@ use Rattle.std.specs.Prelude.{◌≡◌, ◌≢◌, ℕ, ◌<◌, ◌≤◌, ◌
 use Rattle.std.specs.String.{string_bytes}
 use Rattle.zc_base.specs.MemMap.{standard_map}
 use Rattle.elf32_read.specs.declared.fault.Fault.{Fault}
+use Rattle.elf32_read.specs.declared.image_fault.ImageFault.{ImageFault}
 use Rattle.elf32_read.specs.Image.{image_fault}
 use Rattle.zc_outside.specs.Files.{Files, Holds, IsLong, KeepsFiles, PutsFile, Rose}
 use Rattle.zc_outside.specs.Streams.{KeepsBytes}
+use Rattle.zcld.specs.declared.outcome.FileFault.TheVariants.{Image}
 use Rattle.zcld.specs.declared.outcome.Outcome.{Outcome}
-use Rattle.zcld.specs.declared.outcome.Outcome.TheVariants.{Done, Usage, Refused, ReadFault, WriteFault, OutOfMemory}
+use Rattle.zcld.specs.declared.outcome.Outcome.TheVariants.{Done, Usage, Refused, ReadFault, WriteFault, OutOfMemory, BadFile}
 use Rattle.zcld.specs.Command.{Command, Run, Trace, Zc}
 use Rattle.zcld.specs.ErrLine.{err_line}
 use Rattle.zcld.specs.Input.{IsShortInput, RoseAbove, input_limit}
-use Rattle.zcld.specs.Outside.{IsRead, IsUnreadFile, KeepsStreams, Streams, Tally, image_limit, object_limit}
+use Rattle.zcld.specs.Outside.{IsRead, IsUnreadFile, KeepsStreams, Streams, TakesNothing, Tally, image_limit, object_limit}
 use Rattle.zcld.specs.Promise.{IsImageOf}
-use Rattle.zcld.specs.Refusal.{IsRefused, first_fault}
-use Rattle.zcld.specs.Run.{RunAnswers, RunCause, RunShows, SureMachine}
-use Rattle.zcld.specs.Trace.{TraceAnswers, TraceCause, TraceShows}
+use Rattle.zcld.specs.Refusal.{IsJudged, first_fault}
+use Rattle.zcld.specs.Run.{RunAnswers, RunCause, RunShows, RunTakes, SureMachine}
+use Rattle.zcld.specs.Trace.{TraceAnswers, TraceCause, TraceShows, TraceTakes}
 use Rattle.zcld.specs.Written.{empty_certificate}
 
 -- ---- what stands
@@ -63,7 +65,7 @@ ZcFiles other before after out cert name = KeepsFiles before after
 
 -- why an object has no image: the first fault that stands in it; or its file can't be had
 abbrev pub ReadCause : Outcome → Option Files → List ℕ → ℕ → ℕ → ℕ → ℕ → Type 0
-ReadCause (Refused i fault) files name reads reads' longs longs' = (i ≡ 0) × IsRefused files name fault
+ReadCause (Refused i fault) files name reads reads' longs longs' = (i ≡ 0) × IsJudged files name (Some fault)
 ReadCause ReadFault files name reads reads' longs longs' = IsUnreadFile object_limit files name reads reads' longs longs'
 ReadCause OutOfMemory files name reads reads' longs longs' = ⊤
 ReadCause other files name reads reads' longs longs' = ⊥
@@ -80,9 +82,15 @@ ZcCause Done files name reads reads' longs longs' writes writes' = ⊤
 ZcCause (Refused i fault) files name reads reads' longs longs' writes writes' =
     ReadCause (Refused i fault) files name reads reads' longs longs'
 ZcCause ReadFault files name reads reads' longs longs' writes writes' = ReadCause ReadFault files name reads reads' longs longs'
-ZcCause WriteFault files name reads reads' longs longs' writes writes' = Rose writes writes'
+ZcCause WriteFault files name reads reads' longs longs' writes writes' = Rose writes writes' × IsJudged files name None
 ZcCause OutOfMemory files name reads reads' longs longs' writes writes' = ⊤
 ZcCause other files name reads reads' longs longs' writes writes' = ⊥
+
+-- where `zc` has no image, nothing was put
+abbrev pub ZcPuts : Outcome → ℕ → ℕ → Type 0
+ZcPuts (Refused i fault) writes writes' = writes' ≡ writes
+ZcPuts ReadFault writes writes' = writes' ≡ writes
+ZcPuts other writes writes' = ⊤
 
 -- ---- standard error
 
@@ -129,11 +137,21 @@ CallCause (Some (Zc out cert name)) outcome files told before after =
 CallCause (Some (Run steps name)) outcome files told before after = RunCause outcome files name told before after
 CallCause (Some (Trace steps name)) outcome files told before after = TraceCause outcome files name told before after
 
--- a command that takes no input leaves what the console counts of it
-abbrev pub CallTakes : Option Command → Tally → Tally → Type 0
-CallTakes (Some (Run steps name)) before after = ⊤
-CallTakes (Some (Trace steps name)) before after = ⊤
-CallTakes other before after = (after.taken ≡ before.taken) × (after.console_reads ≡ before.console_reads)
+-- a call that takes no input leaves what the console counts of it, by its command and outcome
+abbrev pub CallTakes : Option Command → Outcome → Tally → Tally → Type 0
+CallTakes (Some (Run steps name)) outcome before after = RunTakes outcome before after
+CallTakes (Some (Trace steps name)) outcome before after = TraceTakes outcome before after
+CallTakes other outcome before after = TakesNothing before after
+
+-- a call that puts nothing leaves what the store counts of it
+abbrev pub CallPuts : Option Command → Outcome → ℕ → ℕ → Type 0
+CallPuts (Some (Zc out cert name)) outcome writes writes' = ZcPuts outcome writes writes'
+CallPuts other outcome writes writes' = writes' ≡ writes
+
+-- a call without a command reads no file
+abbrev pub CallReads : Option Command → Tally → Tally → Type 0
+CallReads None before after = (after.reads ≡ before.reads) × (after.longs ≡ before.longs)
+CallReads other before after = ⊤
 
 -- ---- completeness
 
@@ -149,18 +167,31 @@ CanRead (Some (Zc out cert name)) files file = TellsFile object_limit files name
 CanRead (Some (Run steps name)) files file = TellsFile image_limit files name file
 CanRead (Some (Trace steps name)) files file = TellsFile object_limit files name file
 
+-- no fault of reading its file was counted
+abbrev pub IsFileRead : Tally → Tally → Type 0
+IsFileRead before after = (¬ Rose before.reads after.reads) × (¬ Rose before.longs after.longs)
+
+-- a fault that stands in the file is named, or memory ran out
+abbrev pub NamesFault : Option Command → Outcome → List ℕ → Type 0
+NamesFault None outcome file = ⊥
+NamesFault (Some (Zc out cert name)) outcome file =
+    (fault : Fault) → first_fault file ≡ Some fault → (outcome ≡ Refused 0 fault) ⊎ (outcome ≡ OutOfMemory)
+NamesFault (Some (Run steps name)) outcome file =
+    (fault : ImageFault) → image_fault file standard_map ≡ Some fault → (outcome ≡ BadFile (Image fault)) ⊎ (outcome ≡ OutOfMemory)
+NamesFault (Some (Trace steps name)) outcome file =
+    (fault : Fault) → first_fault file ≡ Some fault → (outcome ≡ Refused 0 fault) ⊎ (outcome ≡ OutOfMemory)
+
 -- nothing was counted that can stop a command
 abbrev pub IsClean : Option Command → Tally → Tally → Type 0
 IsClean None before after = ⊤
 IsClean (Some (Zc out cert name)) before after =
-    (¬ Rose before.reads after.reads) × (¬ Rose before.longs after.longs) × (¬ Rose before.writes after.writes)
+    IsFileRead before after × (¬ Rose before.writes after.writes)
 IsClean (Some (Run steps name)) before after =
-    (¬ Rose before.reads after.reads) × (¬ Rose before.longs after.longs)
-    × (¬ Rose before.console_reads after.console_reads) × (¬ Rose before.console_writes after.console_writes)
-    × (¬ RoseAbove input_limit before.taken after.taken)
+    IsFileRead before after × (¬ Rose before.console_reads after.console_reads)
+    × (¬ RoseAbove input_limit before.taken after.taken) × (¬ Rose before.console_writes after.console_writes)
 IsClean (Some (Trace steps name)) before after =
-    (¬ Rose before.reads after.reads) × (¬ Rose before.longs after.longs)
-    × (¬ Rose before.console_reads after.console_reads) × (¬ RoseAbove input_limit before.taken after.taken)
+    IsFileRead before after × (¬ Rose before.console_reads after.console_reads)
+    × (¬ RoseAbove input_limit before.taken after.taken)
 
 -- what an honest outside and memory give for an object: all is done, or the first fault is named
 abbrev pub answer_of : Option Fault → Outcome
@@ -194,9 +225,3 @@ abbrev pub CanTake : Option Command → Type 0 → Option (List ℕ) → Type 0
 CanTake (Some (Run steps name)) sure told = sure × IsShortInput told
 CanTake (Some (Trace steps name)) sure told = sure × IsShortInput told
 CanTake other sure told = ⊤
-
--- no fault and no long file is counted
-abbrev pub IsUncounted : Tally → Tally → Type 0
-IsUncounted before after =
-    (after.reads ≡ before.reads) × (after.longs ≡ before.longs) × (after.writes ≡ before.writes)
-    × (after.console_reads ≡ before.console_reads)

@@ -1,5 +1,5 @@
 -- What a store and a console show of themselves around a call.
-use Rattle.std.specs.Prelude.{ℕ, ◌≤◌, ◌⊎◌, List, length, Option, ⊤}
+use Rattle.std.specs.Prelude.{◌≡◌, ℕ, ◌≤◌, ◌⊎◌, List, length, Option, ⊤}
 use Rattle.zc_outside.specs.Files.{Files, HasFile, IsLong, Rose}
 use Rattle.zc_outside.specs.Streams.{KeepsBytes}
 use Rattle.zcld.specs.declared.outcome.Outcome.{Outcome}
@@ -41,6 +41,10 @@ tally reads longs writes console_reads console_writes taken = record {
   console_writes = console_writes;
   taken = taken;
 }
+
+-- no input was asked for
+abbrev pub TakesNothing : Tally → Tally → Type 0
+TakesNothing before after = (after.taken ≡ before.taken) × (after.console_reads ≡ before.console_reads)
 
 -- the most bytes of an object
 abbrev pub object_limit : ℕ

@@ -58,6 +58,6 @@ fault_or None unbuilt = if unbuilt then Some NotBuilt else None
 unfoldable pub first_fault : List ℕ → Option Fault
 first_fault object = fault_or (object_fault object) (is_unbuilt object)
 
--- an object was read, and this is its first fault
-abbrev pub IsRefused : Option Files → List ℕ → Fault → Type 0
-IsRefused files name fault = (object : List ℕ) × IsRead object_limit files name object × (first_fault object ≡ Some fault)
+-- an object was read, and this is its first fault, or it has none
+abbrev pub IsJudged : Option Files → List ℕ → Option Fault → Type 0
+IsJudged files name fault = (object : List ℕ) × IsRead object_limit files name object × (first_fault object ≡ fault)

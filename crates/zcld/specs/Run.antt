@@ -16,7 +16,7 @@ use Rattle.zcld.specs.declared.outcome.FileFault.TheVariants.{Image}
 use Rattle.zcld.specs.declared.outcome.Outcome.{Outcome}
 use Rattle.zcld.specs.declared.outcome.Outcome.TheVariants.{Exited, ReadFault, WriteFault, OutOfMemory, BadFile, Stopped, Spent}
 use Rattle.zcld.specs.Input.{IsLongInput, IsUnreadInput, TakesAll}
-use Rattle.zcld.specs.Outside.{IsQuiet, IsRead, IsUnreadFile, KeepsStreams, Streams, Tally, image_limit}
+use Rattle.zcld.specs.Outside.{IsQuiet, IsRead, IsUnreadFile, KeepsStreams, Streams, TakesNothing, Tally, image_limit}
 
 -- ---- what it does
 
@@ -73,15 +73,15 @@ ExecuteCause ReadFault told reads reads' taken taken' writes writes' = IsUnreadI
 ExecuteCause WriteFault told reads reads' taken taken' writes writes' = Rose writes writes'
 ExecuteCause other told reads reads' taken taken' writes writes' = ⊤
 
--- the file, of at most so many bytes, or the input can't be had
-abbrev pub IsUnread : ℕ → Option Files → List ℕ → Option (List ℕ) → Tally → Tally → Type 0
-IsUnread limit files name told before after =
+-- the file, of at most so many bytes, can't be had; or it is good, and the input can't be had
+abbrev pub IsUnread : ℕ → Type 0 → Option Files → List ℕ → Option (List ℕ) → Tally → Tally → Type 0
+IsUnread limit good files name told before after =
     IsUnreadFile limit files name before.reads after.reads before.longs after.longs
-    ⊎ IsUnreadInput told before.console_reads after.console_reads before.taken after.taken
+    ⊎ (good × IsUnreadInput told before.console_reads after.console_reads before.taken after.taken)
 
--- the image was read, and this fault stands in it
-abbrev pub IsBadImage : Option Files → List ℕ → ImageFault → Type 0
-IsBadImage files name fault = (image : List ℕ) × IsRead image_limit files name image × (image_fault image standard_map ≡ Some fault)
+-- an image was read, and this is its first fault, or it has none
+abbrev pub IsJudgedImage : Option Files → List ℕ → Option ImageFault → Type 0
+IsJudgedImage files name fault = (image : List ℕ) × IsRead image_limit files name image × (image_fault image standard_map ≡ fault)
 
 -- when `run` of this image ends so
 abbrev pub RunCause : Outcome → Option Files → List ℕ → Option (List ℕ) → Tally → Tally → Type 0
@@ -89,10 +89,15 @@ RunCause (Exited code) files name told before after = ⊤
 RunCause (Stopped reason pc) files name told before after = ⊤
 RunCause Spent files name told before after = ⊤
 RunCause OutOfMemory files name told before after = ⊤
-RunCause ReadFault files name told before after = IsUnread image_limit files name told before after
+RunCause ReadFault files name told before after = IsUnread image_limit (IsJudgedImage files name None) files name told before after
 RunCause WriteFault files name told before after = Rose before.console_writes after.console_writes
-RunCause (BadFile (Image fault)) files name told before after = IsBadImage files name fault
+RunCause (BadFile (Image fault)) files name told before after = IsJudgedImage files name (Some fault)
 RunCause other files name told before after = ⊥
+
+-- an image with a fault takes no input
+abbrev pub RunTakes : Outcome → Tally → Tally → Type 0
+RunTakes (BadFile fault) before after = TakesNothing before after
+RunTakes other before after = ⊤
 
 -- ---- completeness
 

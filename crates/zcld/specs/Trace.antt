@@ -11,8 +11,8 @@ use Rattle.zcld.specs.declared.outcome.Outcome.TheVariants.{Exited, Refused, Rea
 use Rattle.zcld.specs.declared.sym_run.TraceEnd.{TraceEnd}
 use Rattle.zcld.specs.declared.sym_run.TraceEnd.TheVariants as end
 use Rattle.zcld.specs.Input.{TakesAll}
-use Rattle.zcld.specs.Outside.{IsQuiet, IsRead, KeepsStreams, Streams, Tally, object_limit}
-use Rattle.zcld.specs.Refusal.{IsRefused, first_fault}
+use Rattle.zcld.specs.Outside.{IsQuiet, IsRead, KeepsStreams, Streams, TakesNothing, Tally, object_limit}
+use Rattle.zcld.specs.Refusal.{IsJudged, first_fault}
 use Rattle.zcld.specs.Run.{IsUnread}
 use Rattle.zcld.specs.SymRun.{EndedAt}
 
@@ -60,9 +60,14 @@ TraceCause (Exited code) files name told before after = ⊤
 TraceCause (Stuck place why) files name told before after = ⊤
 TraceCause Spent files name told before after = ⊤
 TraceCause OutOfMemory files name told before after = ⊤
-TraceCause ReadFault files name told before after = IsUnread object_limit files name told before after
-TraceCause (Refused i fault) files name told before after = (i ≡ 0) × IsRefused files name fault
+TraceCause ReadFault files name told before after = IsUnread object_limit (IsJudged files name None) files name told before after
+TraceCause (Refused i fault) files name told before after = (i ≡ 0) × IsJudged files name (Some fault)
 TraceCause other files name told before after = ⊥
+
+-- an object with a fault takes no input
+abbrev pub TraceTakes : Outcome → Tally → Tally → Type 0
+TraceTakes (Refused i fault) before after = TakesNothing before after
+TraceTakes other before after = ⊤
 
 -- ---- completeness
 

@@ -2,7 +2,7 @@
 
 ghost use Rattle.std.specs.Prelude.{◌≡◌, ◌≤◌, ◌↔◌, ◌⊎◌, ℕ, List, None};
 ghost use Rattle.zc_outside.specs.Files.{Rose};
-ghost use Rattle.zcld.specs.Call.{Answers, CallCause, CallFiles, CallShows, CallTakes, CanRead, CanTake, CommandShows, IsClean, IsUncounted, SureCall, texts};
+ghost use Rattle.zcld.specs.Call.{Answers, CallCause, CallFiles, CallPuts, CallReads, CallShows, CallTakes, CanRead, CanTake, CommandShows, IsClean, IsFileRead, NamesFault, SureCall, texts};
 ghost use Rattle.zcld.specs.Command.{command_of};
 ghost use Rattle.zcld.specs.Outside.{streams, tally};
 
@@ -36,18 +36,26 @@ pub fn zcld<S: Store, C: Console>(
         (streams (C.input console.old) (C.out_bytes console.old) (C.err_bytes console.old))
         (streams (C.input console.new) (C.out_bytes console.new) (C.err_bytes console.new))
         (Rose (C.write_faults console.old) (C.write_faults console.new) ⊎ Rose (C.memory_faults console.old) (C.memory_faults console.new)) }
-    ensures takes { CallTakes (command_of (texts words.now))
+    ensures takes { CallTakes (command_of (texts words.now)) result
+        (tally (S.read_faults store.old) (S.long_files store.old) (S.write_faults store.old) (C.read_faults console.old) (C.write_faults console.old) (C.taken console.old))
+        (tally (S.read_faults store.new) (S.long_files store.new) (S.write_faults store.new) (C.read_faults console.new) (C.write_faults console.new) (C.taken console.new)) }
+    ensures puts { CallPuts (command_of (texts words.now)) result (S.write_faults store.old) (S.write_faults store.new) }
+    ensures reads { CallReads (command_of (texts words.now))
         (tally (S.read_faults store.old) (S.long_files store.old) (S.write_faults store.old) (C.read_faults console.old) (C.write_faults console.old) (C.taken console.old))
         (tally (S.read_faults store.new) (S.long_files store.new) (S.write_faults store.new) (C.read_faults console.new) (C.write_faults console.new) (C.taken console.new)) }
 
     // With nothing counted, and over what is sure, the answer is the one that the file's bytes have.
+    ensures names { (file : List ℕ) → CanRead (command_of (texts words.now)) (S.files store.old) file →
+        IsFileRead
+        (tally (S.read_faults store.old) (S.long_files store.old) (S.write_faults store.old) (C.read_faults console.old) (C.write_faults console.old) (C.taken console.old))
+        (tally (S.read_faults store.new) (S.long_files store.new) (S.write_faults store.new) (C.read_faults console.new) (C.write_faults console.new) (C.taken console.new)) → NamesFault (command_of (texts words.now)) result file }
     ensures complete { (file : List ℕ) → CanRead (command_of (texts words.now)) (S.files store.old) file →
         IsClean (command_of (texts words.now))
         (tally (S.read_faults store.old) (S.long_files store.old) (S.write_faults store.old) (C.read_faults console.old) (C.write_faults console.old) (C.taken console.old))
         (tally (S.read_faults store.new) (S.long_files store.new) (S.write_faults store.new) (C.read_faults console.new) (C.write_faults console.new) (C.taken console.new)) → Answers (command_of (texts words.now)) result file }
     ensures sure { (file : List ℕ) → CanRead (command_of (texts words.now)) (S.files store.old) file → S.sure store.old →
-        CanTake (command_of (texts words.now)) (C.sure console.old) (C.input console.old) →
-        Answers (command_of (texts words.now)) result file × IsUncounted
+        CanTake (command_of (texts words.now)) (C.sure console.old) (C.input console.old) → Answers (command_of (texts words.now)) result file }
+    ensures sure_counts { S.sure store.old → SureCall (command_of (texts words.now)) (C.sure console.old) result (S.files store.old) (C.input console.old)
         (tally (S.read_faults store.old) (S.long_files store.old) (S.write_faults store.old) (C.read_faults console.old) (C.write_faults console.old) (C.taken console.old))
         (tally (S.read_faults store.new) (S.long_files store.new) (S.write_faults store.new) (C.read_faults console.new) (C.write_faults console.new) (C.taken console.new)) }
     ensures sure_console { C.sure console.old → C.write_faults console.new ≡ C.write_faults console.old }
@@ -74,7 +82,11 @@ fn perform<S: Store, C: Console>(
     ensures shows { CommandShows (command_of (texts words.now)) result (S.files store.old)
         (streams (C.input console.old) (C.out_bytes console.old) (C.err_bytes console.old))
         (streams (C.input console.new) (C.out_bytes console.new) (C.err_bytes console.new)) }
-    ensures takes { CallTakes (command_of (texts words.now))
+    ensures takes { CallTakes (command_of (texts words.now)) result
+        (tally (S.read_faults store.old) (S.long_files store.old) (S.write_faults store.old) (C.read_faults console.old) (C.write_faults console.old) (C.taken console.old))
+        (tally (S.read_faults store.new) (S.long_files store.new) (S.write_faults store.new) (C.read_faults console.new) (C.write_faults console.new) (C.taken console.new)) }
+    ensures puts { CallPuts (command_of (texts words.now)) result (S.write_faults store.old) (S.write_faults store.new) }
+    ensures reads { CallReads (command_of (texts words.now))
         (tally (S.read_faults store.old) (S.long_files store.old) (S.write_faults store.old) (C.read_faults console.old) (C.write_faults console.old) (C.taken console.old))
         (tally (S.read_faults store.new) (S.long_files store.new) (S.write_faults store.new) (C.read_faults console.new) (C.write_faults console.new) (C.taken console.new)) }
     ensures sure { S.sure store.old → SureCall (command_of (texts words.now)) (C.sure console.old) result (S.files store.old) (C.input console.old)

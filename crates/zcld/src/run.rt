@@ -6,7 +6,7 @@ ghost use Rattle.elf32_read.specs.Image.{image_fault};
 ghost use Rattle.zc_outside.specs.Files.{KeepsFiles};
 ghost use Rattle.zcld.specs.Input.{IsLongInput};
 ghost use Rattle.zcld.specs.Outside.{image_limit, streams, tally};
-ghost use Rattle.zcld.specs.Run.{ExecuteCause, Executed, RunCause, RunShows, SureMachine};
+ghost use Rattle.zcld.specs.Run.{ExecuteCause, Executed, RunCause, RunShows, RunTakes, SureMachine};
 
 use crate::file::{IMAGE_LIMIT, read_file};
 use crate::input::take_all;
@@ -33,6 +33,9 @@ pub fn run<S: Store, C: Console>(
         (streams (C.input console.old) (C.out_bytes console.old) (C.err_bytes console.old))
         (streams (C.input console.new) (C.out_bytes console.new) (C.err_bytes console.new)) }
     ensures cause { RunCause result (S.files store.old) name.now (C.input console.old)
+        (tally (S.read_faults store.old) (S.long_files store.old) (S.write_faults store.old) (C.read_faults console.old) (C.write_faults console.old) (C.taken console.old))
+        (tally (S.read_faults store.new) (S.long_files store.new) (S.write_faults store.new) (C.read_faults console.new) (C.write_faults console.new) (C.taken console.new)) }
+    ensures takes { RunTakes result
         (tally (S.read_faults store.old) (S.long_files store.old) (S.write_faults store.old) (C.read_faults console.old) (C.write_faults console.old) (C.taken console.old))
         (tally (S.read_faults store.new) (S.long_files store.new) (S.write_faults store.new) (C.read_faults console.new) (C.write_faults console.new) (C.taken console.new)) }
     ensures keeps { KeepsFiles (S.files store.old) (S.files store.new) }

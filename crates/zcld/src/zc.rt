@@ -3,7 +3,7 @@
 ghost use Rattle.std.specs.Prelude.{◌≡◌, ◌≢◌, ◌≤◌, ◌⊎◌, ℕ, List, None, IfOk, IfErr, IsErrOf, Err, length};
 ghost use Rattle.zc_outside.specs.Files.{Holds, IsLong, KeepsFiles, Rose};
 ghost use Rattle.zcld.specs.Outside.{IsRead, object_limit};
-ghost use Rattle.zcld.specs.Call.{PutsInTurn, ReadCause, SureZc, ZcCause, ZcFiles};
+ghost use Rattle.zcld.specs.Call.{PutsInTurn, ReadCause, SureZc, ZcCause, ZcFiles, ZcPuts};
 ghost use Rattle.zcld.specs.Promise.{IsImageOf};
 ghost use Rattle.zcld.specs.Refusal.{first_fault};
 ghost use Rattle.zcld.specs.Written.{empty_certificate};
@@ -60,6 +60,7 @@ pub fn zc<S: Store>(alloc: Global, out: &str, cert: &str, name: &str, store: &mu
     ensures files { ZcFiles result (S.files store.old) (S.files store.new) out.now cert.now name.now }
     ensures cause { ZcCause result (S.files store.old) name.now (S.read_faults store.old) (S.read_faults store.new)
         (S.long_files store.old) (S.long_files store.new) (S.write_faults store.old) (S.write_faults store.new) }
+    ensures puts { ZcPuts result (S.write_faults store.old) (S.write_faults store.new) }
     ensures stays { S.sure store.old → S.sure store.new }
     ensures sure { S.sure store.old → SureZc result (S.files store.old) name.now (S.read_faults store.old) (S.read_faults store.new)
         (S.long_files store.old) (S.long_files store.new) (S.write_faults store.old) (S.write_faults store.new) }

@@ -1,6 +1,6 @@
-use Rattle.std.proofs.Common.{◌∙◌, inl, inr, ⊎_elim}
-use Rattle.zcld.proofs.Complete.{answers, no_read_fault, no_write_fault, sound}
-use Rattle.zcld.proofs.Reported.{cause_behind, line_written, rose_from, takes_behind}
+use Rattle.std.proofs.Common.{inl, inr, ⊎_elim}
+use Rattle.zcld.proofs.Complete.{answers, names, no_read_fault, no_write_fault, sound}
+use Rattle.zcld.proofs.Reported.{cause_behind, line_written, reads_behind, rose_from, sure_behind, takes_behind}
 use Rattle.zcld.proofs.call.zcld.Goals as goal
 
 pub returns-clause-cause : goal.returns-clause-cause
@@ -8,7 +8,10 @@ returns-clause-cause g c =
     cause_behind _ _ _ _ _ _ _ _ _ _ _ _ _ _ c.report.ensures.reads c.report.ensures.taken c.report.ensures.writes c.perform-outcome.ensures.cause
 
 pub returns-clause-takes : goal.returns-clause-takes
-returns-clause-takes g c = takes_behind _ _ _ _ _ _ _ _ _ _ _ c.report.ensures.reads c.report.ensures.taken c.perform-outcome.ensures.takes
+returns-clause-takes g c = takes_behind _ _ _ _ _ _ _ _ _ _ _ _ c.report.ensures.reads c.report.ensures.taken c.perform-outcome.ensures.takes
+
+pub returns-clause-reads : goal.returns-clause-reads
+returns-clause-reads g c = reads_behind _ _ _ _ _ _ _ _ _ _ _ c.perform-outcome.ensures.reads
 
 pub returns-clause-shows : goal.returns-clause-shows
 returns-clause-shows g c = record {
@@ -31,9 +34,14 @@ returns-clause-complete g c = λ file can clean.
     answers _ _ _ _ file _ _ _ _ _ can (no_read_fault _ _ _ file _ _ _ can clean cause) (no_write_fault _ _ _ file _ _ _ can clean cause)
     cause c.perform-outcome.ensures.files c.perform-outcome.ensures.shows
 
+pub returns-clause-names : goal.returns-clause-names
+returns-clause-names g c = λ file can clean.
+    names _ _ _ _ file _ _ _ _ _ can clean c.perform-outcome.ensures.cause c.perform-outcome.ensures.files c.perform-outcome.ensures.shows
+
 pub returns-clause-sure : goal.returns-clause-sure
 returns-clause-sure g c = λ file can sure ready.
-    let so = sound _ _ _ file _ _ _ _ can ready (c.perform-outcome.ensures.sure sure) c.perform-outcome.ensures.takes in (
-      answers _ _ _ _ file _ _ _ _ _ can so.no_read so.no_write c.perform-outcome.ensures.cause c.perform-outcome.ensures.files c.perform-outcome.ensures.shows,
-      (so.reads_stay, so.longs_stay, so.writes_stay, c.report.ensures.reads ∙ so.console_reads_stay),
-    )
+    let so = sound _ _ _ file _ _ _ _ can ready (c.perform-outcome.ensures.sure sure) in
+    answers _ _ _ _ file _ _ _ _ _ can so.no_read so.no_write c.perform-outcome.ensures.cause c.perform-outcome.ensures.files c.perform-outcome.ensures.shows
+
+pub returns-clause-sure_counts : goal.returns-clause-sure_counts
+returns-clause-sure_counts g c = λ sure. sure_behind _ _ _ _ _ _ _ _ _ _ _ _ _ _ _ c.report.ensures.reads (c.perform-outcome.ensures.sure sure)
