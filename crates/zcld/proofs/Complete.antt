@@ -8,13 +8,15 @@ use Rattle.zc_outside.specs.Files.{Files, IsLong}
 use Rattle.zcld.specs.declared.outcome.FileFault.TheVariants.{Image}
 use Rattle.zcld.specs.declared.outcome.Outcome.{Outcome}
 use Rattle.zcld.specs.declared.outcome.Outcome.TheVariants.{Done, Exited, Refused, ReadFault, WriteFault, OutOfMemory, BadFile, Stopped, Stuck, Spent}
-use Rattle.zcld.specs.Call.{Answers, CallCause, CallFiles, CanRead, CanTake, CommandShows, IsClean, IsFileRead, NamesFault, SureCall, TellsFile, ZcCause, ZcFiles, answer_of}
+use Rattle.zcld.specs.Call.{Answers, CallCause, CallFiles, CanRead, CanTake, CommandShows, IsClean, IsFileRead, NamesFault, SureCall, TellsFile}
 use Rattle.zcld.specs.Command.{Command, Run, Trace, Zc}
 use Rattle.zcld.specs.Input.{IsLongInput, IsShortInput}
+use Rattle.zcld.specs.Machines.{SureMachine}
 use Rattle.zcld.specs.Outside.{IsUnreadFile, Streams, Tally, image_limit, object_limit}
 use Rattle.zcld.specs.Refusal.{IsJudged, first_fault}
-use Rattle.zcld.specs.Run.{IsJudgedImage, RunAnswers, RunCause, RunShows, SureMachine}
+use Rattle.zcld.specs.Run.{IsJudgedImage, RunAnswers, RunCause, RunShows}
 use Rattle.zcld.specs.Trace.{TraceAnswers, TraceCause, TraceShows}
+use Rattle.zcld.specs.Zc.{ZcAnswers, ZcCause, ZcFiles}
 
 -- a name has one content
 one_content : (f : Files) (name a b : List ℕ) → f name ≡ Some a → f name ≡ Some b → a ≡ b
@@ -36,18 +38,16 @@ file_read limit files name counted counted' clean unread = ⊎_elim (λ rose. cl
 zc_answers : (outcome : Outcome) (files after : Option Files) (out cert name object : List ℕ) (reads reads' longs longs' writes writes' : ℕ)
     → TellsFile object_limit files name object → outcome ≢ ReadFault → outcome ≢ WriteFault
     → ZcCause outcome files name reads reads' longs longs' writes writes' → ZcFiles outcome files after out cert name
-    → (outcome ≡ answer_of (first_fault object)) ⊎ (outcome ≡ OutOfMemory)
+    → ZcAnswers outcome (first_fault object)
 zc_answers outcome None after out cert name object reads reads' longs longs' writes writes' can no_read no_write cause kept = absurd can
 zc_answers Done (Some f) after out cert name object reads reads' longs longs' writes writes' can no_read no_write cause kept =
-    let same = one_content f name kept.object object kept.read.held can.0 in
-    inl (sym (ap answer_of (sym (ap first_fault same) ∙ kept.faultless)))
+    ap first_fault (sym (one_content f name kept.linked.object object kept.linked.read.held can.0)) ∙ kept.linked.faultless
 zc_answers (Refused i fault) (Some f) after out cert name object reads reads' longs longs' writes writes' can no_read no_write cause kept =
     let read = cause.1 in
-    let same = one_content f name read.0 object read.1.held can.0 in
-    inl (ap (λ k. Refused k fault) cause.0 ∙ sym (ap answer_of (sym (ap first_fault same) ∙ read.2)))
+    (cause.0, ap first_fault (sym (one_content f name read.0 object read.1.held can.0)) ∙ read.2)
 zc_answers ReadFault (Some f) after out cert name object reads reads' longs longs' writes writes' can no_read no_write cause kept = absurd (no_read refl)
 zc_answers WriteFault (Some f) after out cert name object reads reads' longs longs' writes writes' can no_read no_write cause kept = absurd (no_write refl)
-zc_answers OutOfMemory (Some f) after out cert name object reads reads' longs longs' writes writes' can no_read no_write cause kept = inr refl
+zc_answers OutOfMemory (Some f) after out cert name object reads reads' longs longs' writes writes' can no_read no_write cause kept = tt
 zc_answers other (Some f) after out cert name object reads reads' longs longs' writes writes' can no_read no_write cause kept = absurd cause
 
 -- ---- `run`
@@ -173,6 +173,12 @@ trace_no_fault ReadFault (Some f) name object fault told counted counted' can cl
     absurd (⊎_elim (λ store. file_read object_limit (Some f) name counted counted' clean store) (λ console. not_judged f name object fault can.0 is console.0) cause)
 trace_no_fault other (Some f) name object fault told counted counted' can clean is cause = λ e. cc
 
+zc_fault_named : (outcome : Outcome) (fault : Fault) → ZcAnswers outcome (Some fault) → (outcome ≡ Refused 0 fault) ⊎ (outcome ≡ OutOfMemory)
+zc_fault_named Done fault answer = absurd (let no : Some fault ≡ None = answer in cc)
+zc_fault_named (Refused i found) fault answer = inl (let first = answer.0 in let same : Some fault ≡ Some found = answer.1 in cc)
+zc_fault_named OutOfMemory fault answer = inr refl
+zc_fault_named other fault answer = absurd answer
+
 run_fault_named : (outcome : Outcome) (fault : ImageFault) → RunAnswers outcome (Some fault) → (outcome ≡ BadFile (Image fault)) ⊎ (outcome ≡ OutOfMemory)
 run_fault_named (Exited code) fault answer = absurd (let no : Some fault ≡ None = answer in cc)
 run_fault_named (Stopped reason pc) fault answer = absurd (let no : Some fault ≡ None = answer in cc)
@@ -197,7 +203,7 @@ pub names : (command : Option Command) (outcome : Outcome) (files files' : Optio
 names None outcome files files' file told counted counted' before after can clean cause kept shown = absurd can
 names (Some (Zc out cert name)) outcome files files' file told counted counted' before after can clean cause kept shown = λ fault is.
     let no = zc_no_fault outcome files name file fault counted counted' can clean is cause in
-    ⊎_elim (λ e. inl (e ∙ ap answer_of is)) (λ e. inr e) (zc_answers outcome files files' out cert name file _ _ _ _ _ _ can no.0 no.1 cause kept)
+    zc_fault_named outcome fault (subst (ZcAnswers outcome) is (zc_answers outcome files files' out cert name file _ _ _ _ _ _ can no.0 no.1 cause kept))
 names (Some (Run steps name)) outcome files files' file told counted counted' before after can clean cause kept shown = λ fault is.
     let no = run_no_fault outcome files name file fault steps told counted counted' before after can clean is cause shown in
     run_fault_named outcome fault (subst (RunAnswers outcome) is (run_answers outcome files name file steps told counted counted' before after can no.0 no.1 cause shown))

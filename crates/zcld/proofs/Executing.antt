@@ -18,7 +18,7 @@ use Rattle.zc_machine.specs.declared.run.RunEnd.TheVariants as end
 use Rattle.zcld.specs.declared.outcome.Outcome.{Outcome}
 use Rattle.zcld.specs.declared.outcome.Outcome.TheVariants.{Exited, ReadFault, WriteFault, OutOfMemory, Stopped, Spent}
 use Rattle.zcld.specs.Input.{TakesAll}
-use Rattle.zcld.specs.Outside.{IsQuiet, IsRead, Streams, image_limit}
+use Rattle.zcld.specs.Outside.{WritesNothing, IsRead, Streams, image_limit}
 use Rattle.zcld.specs.Run.{Executed, Executes, RunShows, course_of}
 
 -- ---- the machine's start
@@ -80,7 +80,7 @@ pub record IsMachineRun (image : List ℕ) (steps : ℕ) (answer : RunEnd) (befo
   pub middle : Streams
   pub taken : TakesAll before.input middle.input input
   pub kept : KeepsBytes middle.input after.input
-  pub quiet : IsQuiet before middle
+  pub quiet : WritesNothing before middle
   pub given : RunEnd
   pub is_answer : given ≡ answer
   pub ran : Ran (record { first = first; input = slice; plan = plan; steps = steps }) given machine middle.out after.out middle.err after.err

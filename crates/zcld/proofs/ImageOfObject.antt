@@ -279,7 +279,6 @@ zc_text_end object none =
 -- ---- the promise
 
 promised : (object : List ℕ) → first_fault object ≡ None → ((k : ℕ) → get_or object k 0 < 256) → IsImageOf object (zc_image object)
-unfolding zc_image
 promised object none are = record {
   bytes = refl;
   preserves = zc_preserves object none are;

@@ -21,9 +21,7 @@ rose_to : (a b c : ℕ) → b ≤ c → Rose a b → Rose a c
 rose_to a b c later rose = omega (arith, later, rose)
 
 pub line_written : (before after : Option (List ℕ)) (text : List ℕ) (Unwritten Unwritten' : Type 0) → (Unwritten → Unwritten') → WritesLine before after text Unwritten → WritesLine before after text Unwritten'
-line_written None after text Unwritten Unwritten' from written = tt
-line_written (Some xs) None text Unwritten Unwritten' from written = absurd written
-line_written (Some xs) (Some ys) text Unwritten Unwritten' from written = ⊎_elim (λ whole. inl whole) (λ part. inr (from part.0, part.1)) written
+line_written before after text Unwritten Unwritten' from written = ⊎_elim (λ whole. inl whole) (λ part. inr (from part.0, part.1)) written
 
 -- the counts behind the line: of those that decide, only that of the console's writes may have risen
 pub cause_behind : (command : Option Command) (outcome : Outcome) (files : Option Files) (told : Option (List ℕ)) (before : Tally) (reads longs writes console_reads console_reads' console_writes console_writes' taken taken' : ℕ)

@@ -5,7 +5,9 @@ pub mod Refusal
 pub mod ErrLine
 pub mod Written
 pub mod Promise
+pub mod Zc
 pub mod Input
+pub mod Machines
 pub mod Run
 pub mod Sym
 pub mod SymRun

@@ -11,16 +11,17 @@ pub record Streams : Type 0 where
   pub out : Option (List ℕ)
   pub err : Option (List ℕ)
 
+-- its parts in that order
 abbrev pub streams : Option (List ℕ) → Option (List ℕ) → Option (List ℕ) → Streams
 streams input out err = record { input = input; out = out; err = err }
 
 -- nothing more was written
-abbrev pub IsQuiet : Streams → Streams → Type 0
-IsQuiet before after = KeepsBytes before.out after.out × KeepsBytes before.err after.err
+abbrev pub WritesNothing : Streams → Streams → Type 0
+WritesNothing before after = KeepsBytes before.out after.out × KeepsBytes before.err after.err
 
 -- and no input was taken
 abbrev pub KeepsStreams : Streams → Streams → Type 0
-KeepsStreams before after = KeepsBytes before.input after.input × IsQuiet before after
+KeepsStreams before after = KeepsBytes before.input after.input × WritesNothing before after
 
 -- what was counted: of the store the read faults, long files and write faults; of the console the read
 -- faults, write faults and bytes taken
@@ -32,6 +33,7 @@ pub record Tally : Type 0 where
   pub console_writes : ℕ
   pub taken : ℕ
 
+-- its parts in that order
 abbrev pub tally : ℕ → ℕ → ℕ → ℕ → ℕ → ℕ → Tally
 tally reads longs writes console_reads console_writes taken = record {
   reads = reads;
@@ -42,7 +44,7 @@ tally reads longs writes console_reads console_writes taken = record {
   taken = taken;
 }
 
--- no input was asked for
+-- the console counted neither a byte taken nor a read fault
 abbrev pub TakesNothing : Tally → Tally → Type 0
 TakesNothing before after = (after.taken ≡ before.taken) × (after.console_reads ≡ before.console_reads)
 

@@ -1,12 +1,12 @@
 -- What `run` does: it reads an image, takes the console's whole input, and makes commits of the Zc machine.
-use Rattle.std.specs.Prelude.{◌≡◌, ◌≢◌, ℕ, ◌⊎◌, List, [], Option, Some, None, ⊤}
+use Rattle.std.specs.Prelude.{◌≡◌, ℕ, ◌⊎◌, List, [], Option, Some, None, ⊤}
 use Rattle.zc_base.specs.MemMap.{standard_map}
 use Rattle.elf32_read.specs.declared.image_fault.ImageFault.{ImageFault}
 use Rattle.elf32_read.specs.Header.{entry_of}
 use Rattle.elf32_read.specs.Image.{image_fault}
 use Rattle.elf32_read.specs.Segments.{segments_of}
 use Rattle.rv_decode.specs.State.{ZcCore}
-use Rattle.zc_outside.specs.Files.{Files, Holds, IsLong, Rose}
+use Rattle.zc_outside.specs.Files.{Files, Rose}
 use Rattle.zc_outside.specs.declared.console.ConsoleFault.TheVariants as console
 use Rattle.zc_machine.specs.Load.{first_core}
 use Rattle.zc_machine.specs.RunEnd.{Course, Ran}
@@ -15,8 +15,9 @@ use Rattle.zc_machine.specs.declared.run.RunEnd.TheVariants as end
 use Rattle.zcld.specs.declared.outcome.FileFault.TheVariants.{Image}
 use Rattle.zcld.specs.declared.outcome.Outcome.{Outcome}
 use Rattle.zcld.specs.declared.outcome.Outcome.TheVariants.{Exited, ReadFault, WriteFault, OutOfMemory, BadFile, Stopped, Spent}
-use Rattle.zcld.specs.Input.{IsLongInput, IsUnreadInput, TakesAll}
-use Rattle.zcld.specs.Outside.{IsQuiet, IsRead, IsUnreadFile, KeepsStreams, Streams, TakesNothing, Tally, image_limit}
+use Rattle.zcld.specs.Input.{TakesAll}
+use Rattle.zcld.specs.Machines.{IsUnread}
+use Rattle.zcld.specs.Outside.{WritesNothing, IsRead, KeepsStreams, Streams, TakesNothing, Tally, image_limit}
 
 -- ---- what it does
 
@@ -44,8 +45,8 @@ Executed (Stopped reason pc) image steps before after =
 Executed Spent image steps before after = Executes image steps end.Spent before after
 Executed WriteFault image steps before after = Executes image steps (end.Console console.Failed) before after
 Executed OutOfMemory image steps before after =
-    IsQuiet before after ⊎ Executes image steps (end.Console console.OutOfMemory) before after
-Executed ReadFault image steps before after = IsQuiet before after
+    WritesNothing before after ⊎ Executes image steps (end.Console console.OutOfMemory) before after
+Executed ReadFault image steps before after = WritesNothing before after
 Executed other image steps before after = ⊥
 
 -- an image without a fault was read, and executed to this outcome
@@ -61,23 +62,12 @@ RunShows (Exited code) files name steps before after = IsRun (Exited code) files
 RunShows (Stopped reason pc) files name steps before after = IsRun (Stopped reason pc) files name steps before after
 RunShows Spent files name steps before after = IsRun Spent files name steps before after
 RunShows WriteFault files name steps before after = IsRun WriteFault files name steps before after
-RunShows OutOfMemory files name steps before after = IsQuiet before after ⊎ IsRun OutOfMemory files name steps before after
-RunShows ReadFault files name steps before after = IsQuiet before after
-RunShows other files name steps before after = KeepsStreams before after
+RunShows OutOfMemory files name steps before after = WritesNothing before after ⊎ IsRun OutOfMemory files name steps before after
+RunShows ReadFault files name steps before after = WritesNothing before after
+RunShows (BadFile fault) files name steps before after = KeepsStreams before after
+RunShows other files name steps before after = ⊥
 
 -- ---- when each outcome comes
-
--- why a machine over an image wasn't run to its end: the input can't be had, or a write was refused
-abbrev pub ExecuteCause : Outcome → Option (List ℕ) → ℕ → ℕ → ℕ → ℕ → ℕ → ℕ → Type 0
-ExecuteCause ReadFault told reads reads' taken taken' writes writes' = IsUnreadInput told reads reads' taken taken'
-ExecuteCause WriteFault told reads reads' taken taken' writes writes' = Rose writes writes'
-ExecuteCause other told reads reads' taken taken' writes writes' = ⊤
-
--- the file, of at most so many bytes, can't be had; or it is good, and the input can't be had
-abbrev pub IsUnread : ℕ → Type 0 → Option Files → List ℕ → Option (List ℕ) → Tally → Tally → Type 0
-IsUnread limit good files name told before after =
-    IsUnreadFile limit files name before.reads after.reads before.longs after.longs
-    ⊎ (good × IsUnreadInput told before.console_reads after.console_reads before.taken after.taken)
 
 -- an image was read, and this is its first fault, or it has none
 abbrev pub IsJudgedImage : Option Files → List ℕ → Option ImageFault → Type 0
@@ -109,11 +99,3 @@ RunAnswers Spent fault = fault ≡ None
 RunAnswers (BadFile (Image found)) fault = fault ≡ Some found
 RunAnswers OutOfMemory fault = ⊤
 RunAnswers other fault = ⊥
-
--- what a sure store that holds the file, of at most so many bytes, and a sure console show
-abbrev pub SureMachine : ℕ → Outcome → Option Files → List ℕ → Option (List ℕ) → Tally → Tally → Type 0
-SureMachine limit outcome files name told before after =
-    Holds files name →
-    (after.reads ≡ before.reads) × (after.writes ≡ before.writes) × ((after.longs ≡ before.longs) ⊎ IsLong files name limit)
-    × (after.console_reads ≡ before.console_reads)
-    × (outcome ≡ ReadFault → IsLong files name limit ⊎ IsLongInput told) × (outcome ≢ WriteFault)

@@ -13,12 +13,12 @@ use Rattle.zcld.specs.declared.sym.SymStep.TheVariants as answer
 
 -- the answer and the state behind it are this step's: the exit is an event, a stuck step changes nothing,
 -- and behind the exit nothing changes any more
-abbrev pub Answers : PlainStep → SymStep → PlainCore → PlainCore → Type 0
-Answers step answer.Done old new = (old.exit ≡ None) × (new.exit ≡ None) × (step ≡ made.Went new [])
-Answers step (answer.Exited status) old new =
+abbrev pub StepAnswers : PlainStep → SymStep → PlainCore → PlainCore → Type 0
+StepAnswers step answer.Done old new = (old.exit ≡ None) × (new.exit ≡ None) × (step ≡ made.Went new [])
+StepAnswers step (answer.Exited status) old new =
     ((old.exit ≡ None) × (new.exit ≡ Some status) × (step ≡ made.Went new (Exit status ∷ [])))
     ⊎ ((old.exit ≡ Some status) × (new ≡ old) × (step ≡ made.Went new []))
-Answers step (answer.Stuck place why) old new = (old.exit ≡ None) × (new ≡ old) × (step ≡ made.Stuck place why)
+StepAnswers step (answer.Stuck place why) old new = (old.exit ≡ None) × (new ≡ old) × (step ≡ made.Stuck place why)
 
 -- whether a stack pointer is a number from the stack's start to its end
 abbrev pub points_to_stack : Option ℕ → Bool

@@ -11,9 +11,9 @@ use Rattle.zcld.specs.declared.outcome.Outcome.TheVariants.{Exited, Refused, Rea
 use Rattle.zcld.specs.declared.sym_run.TraceEnd.{TraceEnd}
 use Rattle.zcld.specs.declared.sym_run.TraceEnd.TheVariants as end
 use Rattle.zcld.specs.Input.{TakesAll}
-use Rattle.zcld.specs.Outside.{IsQuiet, IsRead, KeepsStreams, Streams, TakesNothing, Tally, object_limit}
+use Rattle.zcld.specs.Machines.{IsUnread}
+use Rattle.zcld.specs.Outside.{WritesNothing, IsRead, KeepsStreams, Streams, TakesNothing, Tally, object_limit}
 use Rattle.zcld.specs.Refusal.{IsJudged, first_fault}
-use Rattle.zcld.specs.Run.{IsUnread}
 use Rattle.zcld.specs.SymRun.{EndedAt}
 
 -- ---- what it does
@@ -32,8 +32,8 @@ abbrev pub Traced : Outcome → List ℕ → ℕ → Streams → Streams → Typ
 Traced (Exited code) object steps before after = Traces object steps (end.Exited code) before after
 Traced (Stuck place why) object steps before after = Traces object steps (end.Stuck place why) before after
 Traced Spent object steps before after = Traces object steps end.Spent before after
-Traced ReadFault object steps before after = IsQuiet before after
-Traced OutOfMemory object steps before after = IsQuiet before after
+Traced ReadFault object steps before after = WritesNothing before after
+Traced OutOfMemory object steps before after = WritesNothing before after
 Traced other object steps before after = ⊥
 
 -- an object without a fault was read, and traced to this outcome
@@ -48,9 +48,10 @@ abbrev pub TraceShows : Outcome → Option Files → List ℕ → ℕ → Stream
 TraceShows (Exited code) files name steps before after = IsTrace (Exited code) files name steps before after
 TraceShows (Stuck place why) files name steps before after = IsTrace (Stuck place why) files name steps before after
 TraceShows Spent files name steps before after = IsTrace Spent files name steps before after
-TraceShows ReadFault files name steps before after = IsQuiet before after
-TraceShows OutOfMemory files name steps before after = IsQuiet before after
-TraceShows other files name steps before after = KeepsStreams before after
+TraceShows ReadFault files name steps before after = WritesNothing before after
+TraceShows OutOfMemory files name steps before after = WritesNothing before after
+TraceShows (Refused i fault) files name steps before after = KeepsStreams before after
+TraceShows other files name steps before after = ⊥
 
 -- ---- when each outcome comes
 

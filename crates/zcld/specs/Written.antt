@@ -25,7 +25,7 @@ straight_parts code = record {
   places = places_from 0 0x0001_0000 (words_in code);
 }
 
--- the bytes of an object's image
+-- the bytes of an object's image: these parts of its code, written
 unfoldable pub zc_image : List ℕ → List ℕ
 zc_image object = image_bytes (straight_parts (code_of object))
 

@@ -2,10 +2,10 @@
 
 ghost use Rattle.std.specs.Prelude.{◌≡◌, ◌≤◌, None, IfOk, IfErr, length};
 ghost use Rattle.elf32_write.specs.Image.{image_bytes};
-ghost use Rattle.zcld.specs.Call.{IsRefusal};
 ghost use Rattle.zcld.specs.Promise.{IsImageOf};
 ghost use Rattle.zcld.specs.Refusal.{first_fault};
 ghost use Rattle.zcld.specs.Written.{straight_parts};
+ghost use Rattle.zcld.specs.Zc.{IsRefusal};
 
 use crate::outcome::Outcome;
 use crate::refusal::straight_code;

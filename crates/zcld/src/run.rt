@@ -1,12 +1,12 @@
 // The command `run`: an image is read, and the machine executes it.
 
-ghost use Rattle.std.specs.Prelude.{◌≡◌, ◌≢◌, ◌≤◌, ◌⊎◌, ℕ, None};
+ghost use Rattle.std.specs.Prelude.{◌≡◌, ◌≢◌, ◌≤◌};
 ghost use Rattle.zc_base.specs.MemMap.{standard_map};
-ghost use Rattle.elf32_read.specs.Image.{image_fault};
 ghost use Rattle.zc_outside.specs.Files.{KeepsFiles};
 ghost use Rattle.zcld.specs.Input.{IsLongInput};
+ghost use Rattle.zcld.specs.Machines.{ExecuteCause, SureMachine};
 ghost use Rattle.zcld.specs.Outside.{image_limit, streams, tally};
-ghost use Rattle.zcld.specs.Run.{ExecuteCause, Executed, RunCause, RunShows, RunTakes, SureMachine};
+ghost use Rattle.zcld.specs.Run.{Executed, RunCause, RunShows, RunTakes};
 
 use crate::file::{IMAGE_LIMIT, read_file};
 use crate::input::take_all;

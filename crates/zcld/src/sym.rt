@@ -7,7 +7,7 @@ ghost use Rattle.sym_machine.specs.Objects.{program_of};
 ghost use Rattle.sym_machine.specs.State.{first_plain, reg_of};
 ghost use Rattle.sym_machine.specs.Step.{call_step, exit_step, gives_word, op_step, plain_step};
 ghost use Rattle.sym_machine.specs.Words.{number_of as number_in, number_word, sum_word, undef_word};
-ghost use Rattle.zcld.specs.Sym.{Answers, op_of, points_to_stack};
+ghost use Rattle.zcld.specs.Sym.{StepAnswers, op_of, points_to_stack};
 
 use bitflags::Flags;
 use elf32_read::object::Object;
@@ -126,7 +126,7 @@ impl Sym {
     /// Makes one step of the same object. Behind the exit, and where the machine is stuck, each step
     /// answers the same again.
     pub fn step(&mut self, object: &Object) -> SymStep
-        ensures { Answers (plain_step (program_of (object.now ∷ [])) self.old) result self.old self.new }
+        ensures { StepAnswers (plain_step (program_of (object.now ∷ [])) self.old) result self.old self.new }
     {
         if let Some(status) = self.exit {
             return SymStep::Exited(status);
@@ -149,7 +149,7 @@ impl Sym {
     fn op(&mut self, instr: &Instr) -> SymStep
         requires running { self.old.exit ≡ None }
         requires room { self.old.place.offset + 4 < 2 ^ 32 }
-        ensures { (objects : List (List ℕ)) → Answers (op_step instr.now (program_of objects) self.old) result self.old self.new }
+        ensures { (objects : List (List ℕ)) → StepAnswers (op_step instr.now (program_of objects) self.old) result self.old self.new }
     {
         match instr {
             Instr::WithImm {
@@ -167,7 +167,7 @@ impl Sym {
     fn give(&mut self, rd: Reg, word: SymWord) -> SymStep
         requires running { self.old.exit ≡ None }
         requires room { self.old.place.offset + 4 < 2 ^ 32 }
-        ensures { (objects : List (List ℕ)) → Answers (gives_word (Some word) rd (program_of objects) self.old) result self.old self.new }
+        ensures { (objects : List (List ℕ)) → StepAnswers (gives_word (Some word) rd (program_of objects) self.old) result self.old self.new }
     {
         let place = self.place;
         if !is_in_stack(&self.sp_after(rd, word)) {
@@ -205,7 +205,7 @@ impl Sym {
     // An environment call, by a7.
     fn call(&mut self) -> SymStep
         requires { self.old.exit ≡ None }
-        ensures { (objects : List (List ℕ)) → Answers (call_step (number_in (reg_of self.old 17)) (program_of objects) self.old) result self.old self.new }
+        ensures { (objects : List (List ℕ)) → StepAnswers (call_step (number_in (reg_of self.old 17)) (program_of objects) self.old) result self.old self.new }
     {
         match number_of(&self.word_in(17)) {
             None => SymStep::Stuck(self.place, Why::ArgumentUnknown),
@@ -217,7 +217,7 @@ impl Sym {
     // The exit, with the low byte of a0.
     fn leave(&mut self) -> SymStep
         requires { self.old.exit ≡ None }
-        ensures { (objects : List (List ℕ)) → Answers (exit_step (number_in (reg_of self.old 10)) (program_of objects) self.old) result self.old self.new }
+        ensures { (objects : List (List ℕ)) → StepAnswers (exit_step (number_in (reg_of self.old 10)) (program_of objects) self.old) result self.old self.new }
     {
         let Some(a0) = number_of(&self.word_in(10)) else {
             return SymStep::Stuck(self.place, Why::ArgumentUnknown);

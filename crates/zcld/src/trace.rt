@@ -1,10 +1,10 @@
 // The command `trace`: an object is read, and the symbolic machine runs it.
 
-ghost use Rattle.std.specs.Prelude.{◌≡◌, ◌≢◌, ◌≤◌, ◌⊎◌, ℕ, None};
+ghost use Rattle.std.specs.Prelude.{◌≡◌, ◌≢◌, ◌≤◌};
 ghost use Rattle.zc_outside.specs.Files.{KeepsFiles};
 ghost use Rattle.zcld.specs.Input.{IsLongInput};
+ghost use Rattle.zcld.specs.Machines.{ExecuteCause, SureMachine};
 ghost use Rattle.zcld.specs.Outside.{object_limit, streams, tally};
-ghost use Rattle.zcld.specs.Run.{ExecuteCause, SureMachine};
 ghost use Rattle.zcld.specs.Trace.{TraceCause, TraceShows, TraceTakes, Traced};
 
 use crate::file::{OBJECT_LIMIT, read_file};

@@ -1,12 +1,10 @@
 // The command `zc`: one object of straight code is linked, and its image and certificate are written.
 
-ghost use Rattle.std.specs.Prelude.{◌≡◌, ◌≢◌, ◌≤◌, ◌⊎◌, ℕ, List, None, IfOk, IfErr, IsErrOf, Err, length};
+ghost use Rattle.std.specs.Prelude.{◌≡◌, ◌≢◌, ◌⊎◌, IfOk, IfErr, IsErrOf};
 ghost use Rattle.zc_outside.specs.Files.{Holds, IsLong, KeepsFiles, Rose};
-ghost use Rattle.zcld.specs.Outside.{IsRead, object_limit};
-ghost use Rattle.zcld.specs.Call.{PutsInTurn, ReadCause, SureZc, ZcCause, ZcFiles, ZcPuts};
-ghost use Rattle.zcld.specs.Promise.{IsImageOf};
-ghost use Rattle.zcld.specs.Refusal.{first_fault};
+ghost use Rattle.zcld.specs.Outside.{object_limit};
 ghost use Rattle.zcld.specs.Written.{empty_certificate};
+ghost use Rattle.zcld.specs.Zc.{IsImageUnder, PutsInTurn, ReadCause, SureZc, ZcCause, ZcFiles, ZcPuts};
 
 use crate::file::{OBJECT_LIMIT, read_file};
 use crate::image::image_of;
@@ -18,7 +16,7 @@ const CERTIFICATE: &str = "zcld certificate 1\nprice 0 0 0\nnet 0\nend\n";
 
 // The image of the object under a name, or how the call ends without one.
 fn read_and_link<S: Store>(alloc: Global, name: &str, store: &mut S) -> Result<Vec<u8>, Outcome>
-    ensures ok { IfOk result (λ image. (object : List ℕ) × IsRead object_limit (S.files store.old) name.now object × (first_fault object ≡ None) × IsImageOf object image.items) }
+    ensures ok { IfOk result (λ image. IsImageUnder (S.files store.old) name.now image.items) }
     ensures err { IfErr result (λ outcome. ReadCause outcome (S.files store.old) name.now
         (S.read_faults store.old) (S.read_faults store.new) (S.long_files store.old) (S.long_files store.new)) }
     ensures keeps { KeepsFiles (S.files store.old) (S.files store.new) }

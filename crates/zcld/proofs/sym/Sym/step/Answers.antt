@@ -5,7 +5,7 @@ use Rattle.sym_machine.specs.declared.why.Why.TheVariants.{NoInstruction}
 use Rattle.sym_machine.specs.Objects.{program_of}
 use Rattle.sym_machine.specs.State.{PlainCore}
 use Rattle.sym_machine.specs.Step.{PlainStep, Stuck}
-use Rattle.zcld.specs.Sym.{Answers, op_of}
+use Rattle.zcld.specs.Sym.{StepAnswers, op_of}
 use Rattle.zcld.proofs.SymLaws.{step_by_none, step_by_op, step_past_exit}
 use Rattle.zcld.proofs.sym.Sym.step.Goals as goal
 
@@ -21,7 +21,7 @@ returns-in-Some-instruction_at c =
     let i : Instr = c.in-Some-instruction_at.instr in
     let running : old.exit ≡ None = sym (ap (λ (v : PlainCore). v.exit) c.self.view_is) ∙ c.in_default.is in
     let is : Some i ≡ op_of (item_in objects old.place) = sym c.in-Some-instruction_at.is ∙ c.instruction_at.ensures.instruction ∙ ap (λ (v : PlainCore). op_of (item_in objects v.place)) c.self.view_is in
-    subst (λ (st : PlainStep). Answers st c.op.result old c.op.new.self) (sym (step_by_op objects old i running is)) (c.op.ensures objects)
+    subst (λ (st : PlainStep). StepAnswers st c.op.result old c.op.new.self) (sym (step_by_op objects old i running is)) (c.op.ensures objects)
 
 pub returns-in-None : goal.returns-in-None
 returns-in-None c =
