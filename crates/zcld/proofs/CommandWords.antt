@@ -1,4 +1,4 @@
--- Words of another number than a command's spell none, and what a number word is read as.
+-- What a number word is read as.
 use Rattle.std.proofs.Common.{◌≡◌, ◌≢◌, ℕ, ◌<◌, ◌^◌, List, [], ◌∷◌, length, Bool, true, false, ◌&&◌, refl, Result, Err, None, subst, arith, rules, leb}
 use Rattle.std.proofs.lemmas.Bool.{and_parts, leb-true, cond-false}
 use Rattle.std.specs.Char.{is_ascii_digit}
@@ -10,22 +10,6 @@ use Rattle.std.specs.Result.{OkIff}
 use Rattle.std.specs.Str.Parse.{ParsesUnsigned, digits_value}
 use Rattle.std.specs.String.{string_bytes}
 use Rattle.zcld.specs.Command.{command_of, is_number, steps_of}
-
-pub no_command : (words : List (List ℕ)) → length words ≢ 2 → length words ≢ 4 → length words ≢ 6 → command_of words ≡ None
-no_command [] two four six = refl
-no_command (a ∷ []) two four six = refl
-no_command (a ∷ b ∷ []) two four six = absurd (two refl)
-no_command (a ∷ b ∷ c ∷ []) two four six = refl
-no_command (a ∷ b ∷ c ∷ d ∷ []) two four six = absurd (four refl)
-no_command (a ∷ b ∷ c ∷ d ∷ e ∷ []) two four six = refl
-no_command (a ∷ b ∷ c ∷ d ∷ e ∷ f ∷ []) two four six = absurd (six refl)
-no_command (a ∷ b ∷ c ∷ d ∷ e ∷ f ∷ g ∷ words) two four six = refl
-
--- the same of words as texts
-pub no_command_in : {Z : Type 0} (words : List (String Z)) → length words ≢ 2 → length words ≢ 4 → length words ≢ 6 → command_of (map string_bytes words) ≡ None
-no_command_in words two four six =
-    let n : length (map string_bytes words) ≡ length words = length-map words string_bytes in
-    no_command (map string_bytes words) (λ e. two (omega (arith, n))) (λ e. four (omega (arith, n))) (λ e. six (omega (arith, n)))
 
 -- a text of digits and its number
 digits : IsNumeralModel (λ ds. list_all is_ascii_digit ds ≡ true) (digits_value 10)

@@ -4,7 +4,7 @@ use Rattle.std.proofs.Common.{◌≡◌, ◌≢◌, ℕ, zero, suc, ◌+◌, ◌
 use Rattle.std.specs.Prelude.{◌&&◌, ◌==◌, All, bit_and, filter}
 use Rattle.std.specs.List.{list_any}
 use Rattle.std.specs.Option.{option_and_then, option_map}
-use Rattle.std.proofs.lemmas.Bool.{and_parts, and_from, cases_lt, cond_both, cond-true, eqb-true, leb-true, le-ltb, lt-ltb}
+use Rattle.std.proofs.lemmas.Bool.{and_parts, and_from, cases_lt, cond_both, cond-true, eqb-true, leb-true, le-ltb, lt-ltb, or_from}
 use Rattle.std.proofs.lemmas.List.{get_or-drop, get_or-take, get_or_past, length-drop, length-take}
 use Rattle.std.proofs.lemmas.List.Elements.{All-cons, All-nil}
 use Rattle.zc_base.specs.declared.place.Place.{Place}
@@ -31,9 +31,9 @@ use Rattle.zcld.specs.Straight.{piece, place_at, places_from, text_of, words_fro
 use Rattle.zcld.specs.Promise.{IsImageOf}
 use Rattle.zcld.specs.Refusal.{code_of, fault_or, first_fault, is_unbuilt}
 use Rattle.zcld.specs.Written.{TextEnds, straight_parts, zc_image}
-use Rattle.zcld.proofs.Laying.{IsWord, address_found, image_with, offset_whole, or_false, straight_follows, straight_follows_quietly, text_short}
+use Rattle.zcld.proofs.Laying.{IsWord, address_found, image_with, offset_whole, straight_follows, straight_follows_quietly, text_short}
 use Rattle.zcld.proofs.StraightLoop.{length_piece}
-use Rattle.zcld.proofs.Unbuilt.{IsStraight, built_straight}
+use Rattle.zcld.proofs.Unbuilt.{IsFaultless, IsStraight, faultless}
 
 -- ---- the words of an object
 
@@ -146,13 +146,13 @@ ascends (w ∷ []) o a = and_from _ _ (before_next o) refl
 ascends (w ∷ v ∷ ws) o a = and_from _ _ (before_next o) (ascends (v ∷ ws) (o + 4) (a + length (piece w)))
 
 is_inside : (o a : ℕ) → 0x0001_0000 ≤ a → a ≤ 0x0010_0000 → is_outside standard_map (place_at o, a) ≡ false
-is_inside o a low high = or_false _ _ (le-ltb a 0x0001_0000 low) (le-ltb 0x0010_0000 a high)
+is_inside o a low high = or_from _ _ (le-ltb a 0x0001_0000 low) (le-ltb 0x0010_0000 a high)
 
 are_inside : (ws : List ℕ) (o a : ℕ) → 0x0001_0000 ≤ a → a + 4 * length ws ≤ 0x0010_0000 → list_any (is_outside standard_map) (places_from o a ws) ≡ false
 unfolding places_from
-are_inside [] o a low high = or_false _ _ (is_inside o a low (omega arith)) refl
+are_inside [] o a low high = or_from _ _ (is_inside o a low (omega arith)) refl
 are_inside (w ∷ ws) o a low high =
-    or_false _ _ (is_inside o a low (omega arith)) (are_inside ws (o + 4) (a + length (piece w)) (omega arith) (omega (arith, length_piece w)))
+    or_from _ _ (is_inside o a low (omega arith)) (are_inside ws (o + 4) (a + length (piece w)) (omega arith) (omega (arith, length_piece w)))
 
 -- ---- the file
 
@@ -205,22 +205,6 @@ module _ (object : List ℕ) (straight : IsStraight object) where
       ∙ (λ i. Some (record { entry = back.entry i; segments = back.segments_back i; places = back.places i; map = standard_map }))
 
 -- ---- an object without a fault
-
--- there is neither a fault of its bytes nor a part that this link has no place for
-record IsFaultless (object : List ℕ) : Type 0 where
-  bytes : object_fault object ≡ None
-  straight : IsStraight object
-
-no_fault : (f : Option Fault) (unbuilt : Bool) → fault_or f unbuilt ≡ None → (f ≡ None) × (unbuilt ≡ false)
-no_fault (Some fault) unbuilt h = absurd cc
-no_fault None true h = absurd cc
-no_fault None false h = (refl, refl)
-
-faultless : (object : List ℕ) → first_fault object ≡ None → IsFaultless object
-unfolding first_fault
-faultless object none =
-    let both = no_fault (object_fault object) (is_unbuilt object) none in
-    record { bytes = both.0; straight = built_straight object both.1 }
 
 -- the content of its code has the section's size
 whole_code : (object : List ℕ) → IsFaultless object → 4 * length (words_in (code_of object)) ≡ (header_of object 1).size

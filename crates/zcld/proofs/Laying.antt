@@ -4,7 +4,7 @@
 use Rattle.std.proofs.Common.{◌≡◌, ◌≢◌, ℕ, zero, suc, ◌+◌, ◌-◌, ◌*◌, ◌/◌, ◌%◌, ◌^◌, ◌<◌, ◌≤◌, List, [], ◌∷◌, ◌++◌, length, Option, Some, None, Bool, true, false, cond, refl, sym, ap, ap₂, ◌∙◌, subst, inl, inr, ◌⊎◌, ⊎_elim, arith, eqb, leb, get_or, take, drop, length-append}
 use Rattle.std.specs.Prelude.{◌&&◌, ◌||◌}
 use Rattle.std.specs.List.{flat_map}
-use Rattle.std.proofs.lemmas.Bool.{and_parts, and_from, cond_both, cond-true, cond-false, eq-eqb, eqb-true, le-leb, leb-true, ne_eqb, or_cases, or_left, or_right}
+use Rattle.std.proofs.lemmas.Bool.{and_parts, and_from, cond_both, cond-true, cond-false, eq-eqb, eqb-true, le-leb, leb-true, ne_eqb, or_cases, or_from, or_left, or_right}
 use Rattle.std.proofs.Math.Seq.{take-length}
 use Rattle.std.proofs.lemmas.List.{append-nil, take-append-drop, take_more}
 use Rattle.std.proofs.lemmas.List.Concat.{flat_map-append, get_or-flat_map}
@@ -243,10 +243,6 @@ either_undefined false h k = k
 undefined_stands : (V : Value → Option ℕ) (x : SymByte) (b : ℕ) → x ≡ Undef → ByteStands V x b
 undefined_stands V x b e = subst (λ y. ByteStands V y b) (sym e) tt
 
-pub or_false : (a b : Bool) → a ≡ false → b ≡ false → (a || b) ≡ false
-or_false true b h k = h
-or_false false b h k = k
-
 -- what an image with these parts holds
 abbrev pub image_with : Parts → Image
 image_with parts = record { entry = parts.entry; segments = segments parts; places = parts.places; map = standard_map }
@@ -329,9 +325,9 @@ module _ (objects : List (List ℕ)) (words : List ℕ) (spell : Spell objects w
       let size : length cells ≡ length (text_of words) = length-append (text_of words) (blank {X = ℕ} (length (text_of words) - length (text_of words)) 0) ∙ (let b = length_blank {X = ℕ} (length (text_of words) - length (text_of words)) 0 in omega arith) in
       let high : a + 1 ≤ 0x0001_0000 + length cells = ⊎_elim (λ t. leb-true (a + 1) (0x0001_0000 + length cells) (and_parts (leb 0x0001_0000 a) (leb (a + 1) (0x0001_0000 + length cells)) t).1) (λ f. absurd cc) (or_cases (spans (record { kind = Text; at = 0x0001_0000; size = length cells }) a 1) false h) in
       let below : a < 0x0010_0000 = omega (arith, length_text) in
-      or_false (spans (record { kind = Data; at = 0x0010_0000; size = length (blank {X = ℕ} 0 0) }) a 1) _
+      or_from (spans (record { kind = Data; at = 0x0010_0000; size = length (blank {X = ℕ} 0 0) }) a 1) _
       (spans_before (record { kind = Data; at = 0x0010_0000; size = length (blank {X = ℕ} 0 0) }) a 1 below)
-      (or_false (spans (record { kind = Stack; at = 0x0FF0_0000; size = length (blank {X = ℕ} 0x0010_0000 0) }) a 1) false
+      (or_from (spans (record { kind = Stack; at = 0x0FF0_0000; size = length (blank {X = ℕ} 0x0010_0000 0) }) a 1) false
       (spans_before (record { kind = Stack; at = 0x0FF0_0000; size = length (blank {X = ℕ} 0x0010_0000 0) }) a 1 (omega arith)) refl)
 
   bytes : (a : ℕ) → byte_in (first_of image) a < 256

@@ -1,6 +1,7 @@
 -- The link's loop: what is written so far, followed by what the definition gives for the rest, is what it gives for all.
 use Rattle.std.proofs.Common.{◌≡◌, ℕ, suc, ◌+◌, ◌-◌, ◌*◌, ◌<◌, ◌≤◌, Bool, true, false, cond, List, [], ◌∷◌, ◌++◌, length, refl, sym, ap, ◌∙◌, arith, append_assoc, lit≤}
 use Rattle.std.specs.List.{flat_map}
+use Rattle.std.proofs.lemmas.Bool.{cond_both}
 use Rattle.std.proofs.lemmas.List.{append-nil}
 use Rattle.zc_base.specs.declared.place.Place.{Place}
 use Rattle.zc_base.specs.Fields.{word_in, half_bytes, word_bytes}
@@ -17,14 +18,10 @@ words_more b i n lt =
 pub words_end : (b : List ℕ) (i n : ℕ) → n ≤ i → words_from b (4 * i) (n - i) ≡ []
 words_end b i n le = let e : n - i ≡ 0 = omega arith in ap (words_from b (4 * i)) e
 
-either_short : (b : Bool) (xs ys : List ℕ) → length xs ≤ 4 → length ys ≤ 4 → length (cond b xs ys) ≤ 4
-either_short true xs ys h k = h
-either_short false xs ys h k = k
-
 -- a piece has two bytes or four
 pub length_piece : (w : ℕ) → length (piece w) ≤ 4
 unfolding piece
-length_piece w = either_short (is_li (decoded w)) (half_bytes (short_of w)) (word_bytes w) (lit≤ tt) (lit≤ tt)
+length_piece w = cond_both (is_li (decoded w)) (half_bytes (short_of w)) (word_bytes w) (λ bytes. length bytes ≤ 4) (λ _. lit≤ tt) (λ _. lit≤ tt)
 
 -- one more piece behind the text
 pub text_step : (words : List ℕ) (w : ℕ) (rest old new all : List ℕ) → words ≡ w ∷ rest → old ++ flat_map piece words ≡ all → new ≡ old ++ piece w → new ++ flat_map piece rest ≡ all

@@ -1,8 +1,8 @@
--- What holds of an object that is straight code alone, and of a loop over its words.
+-- What holds of an object without a fault, which is straight code alone, and of a loop over its words.
 use Rattle.std.proofs.Common.{◌≡◌, ℕ, ◌+◌, ◌-◌, ◌*◌, ◌%◌, ◌<◌, ◌≤◌, List, map, Bool, true, false, not, ◌&&◌, refl, sym, ap, ◌∙◌, arith, eqb, ltb, leb}
 use Rattle.std.specs.Prelude.{◌||◌, Option, Some, None, is_some, is_none}
 use Rattle.std.specs.List.{list_any, range_with_len}
-use Rattle.std.proofs.lemmas.Bool.{or_parts, and_parts, ltb-false, leb-true, eqb-true}
+use Rattle.std.proofs.lemmas.Bool.{not-false, or_parts, and_parts, ltb-false, leb-true, eqb-true}
 use Rattle.zc_base.specs.Fields.{word_in}
 use Rattle.elf32_read.specs.declared.fault.Fault.{Fault}
 use Rattle.elf32_read.specs.Header.{header_of, section_count, object_flags}
@@ -18,11 +18,6 @@ pub record IsStraight (object : List ℕ) : Type 0 where
   pub flags : (header_of object 1).flags ≡ 6
   pub words : (header_of object 1).size % 4 ≡ 0
   pub short : (header_of object 1).size ≤ 65536
-  pub known : list_any is_unknown (words_in (code_of object)) ≡ false
-
-not_false : (b : Bool) → not b ≡ false → b ≡ true
-not_false true h = refl
-not_false false h = sym h
 
 pub built_straight : (object : List ℕ) → is_unbuilt object ≡ false → IsStraight object
 unfolding is_unbuilt
@@ -36,7 +31,7 @@ built_straight object h =
     let three = or_parts (flags || few || other) sections all.0 in
     let two = or_parts (flags || few) other three.0 in
     let one = or_parts flags few two.0 in
-    let straight = not_false (is_straight_code code) two.1 in
+    let straight = not-false (is_straight_code code) two.1 in
     let most = and_parts (eqb code.kind 1 && eqb code.flags 6 && leb code.align 4 && eqb (code.size % 4) 0 && leb 4 code.size) (leb code.size 65536) straight in
     let least = and_parts (eqb code.kind 1 && eqb code.flags 6 && leb code.align 4 && eqb (code.size % 4) 0) _ most.0 in
     let whole = and_parts (eqb code.kind 1 && eqb code.flags 6 && leb code.align 4) _ least.0 in
@@ -49,7 +44,6 @@ built_straight object h =
       flags = eqb-true code.flags 6 kinds.1;
       words = eqb-true (code.size % 4) 0 whole.1;
       short = leb-true code.size 65536 most.1;
-      known = all.1;
     }
 
 -- a test of the words, at one word more
@@ -64,12 +58,18 @@ not-not false = refl
 pub is_none_by_test : {X : Type 0} (o : Option X) (r : Bool) → is_some o ≡ not r → is_none o ≡ r
 is_none_by_test o r e = ap not e ∙ not-not r
 
--- an object without a fault is straight code
-without_fault : (f : Option Fault) (unbuilt : Bool) → fault_or f unbuilt ≡ None → unbuilt ≡ false
-without_fault (Some fault) unbuilt h = absurd cc
-without_fault None true h = absurd cc
-without_fault None false h = refl
+-- there is neither a fault of its bytes nor a part that this link has no place for
+pub record IsFaultless (object : List ℕ) : Type 0 where
+  pub bytes : object_fault object ≡ None
+  pub straight : IsStraight object
 
-pub faultless_straight : (object : List ℕ) → first_fault object ≡ None → IsStraight object
+no_fault : (f : Option Fault) (unbuilt : Bool) → fault_or f unbuilt ≡ None → (f ≡ None) × (unbuilt ≡ false)
+no_fault (Some fault) unbuilt h = absurd cc
+no_fault None true h = absurd cc
+no_fault None false h = (refl, refl)
+
+pub faultless : (object : List ℕ) → first_fault object ≡ None → IsFaultless object
 unfolding first_fault
-faultless_straight object none = built_straight object (without_fault (object_fault object) (is_unbuilt object) none)
+faultless object none =
+    let both = no_fault (object_fault object) (is_unbuilt object) none in
+    record { bytes = both.0; straight = built_straight object both.1 }

@@ -4,7 +4,7 @@ ghost use Rattle.std.specs.Prelude.{◌≡◌, length, map, string_bytes};
 ghost use Rattle.std.specs.Char.{is_ascii_digit};
 ghost use Rattle.std.specs.List.{list_all};
 ghost use Rattle.std.specs.Option.{option_map};
-ghost use Rattle.zcld.specs.Command.{begins_with_dash, command_of, is_number as spells_number, meant, stepping, stepping_for, steps_of, zc_command, zc_spelled};
+ghost use Rattle.zcld.specs.Command.{begins_with_dash, command_of, is_number as spells_number, meant, stepping as spelled, stepping_for as spelled_for, steps_of, zc_command};
 
 // The most steps that a word may allow.
 const MOST_STEPS: u64 = 1_000_000_000;
@@ -36,34 +36,31 @@ pub fn read(words: &[String]) -> Option<CommandLine<'_>>
     ensures { option_map meant result ≡ command_of (map string_bytes words.now) }
 {
     match words.len() {
-        2 => machine(words[0].as_str(), USUAL_STEPS, words[1].as_str()),
-        4 => machine_for(&words[0], &words[1], &words[2], &words[3]),
+        2 => stepping(words[0].as_str(), USUAL_STEPS, words[1].as_str()),
+        4 => stepping_for(
+            words[0].as_str(),
+            words[1].as_str(),
+            words[2].as_str(),
+            words[3].as_str(),
+        ),
         6 => zc_words(words),
         _ => None,
     }
 }
 
 // The command `run` or `trace`, with the option that says how many steps.
-fn machine_for<'a>(
-    name: &'a String,
-    option: &'a String,
-    steps: &'a String,
-    file: &'a String,
-) -> Option<CommandLine<'a>>
-    ensures { option_map meant result ≡ stepping_for (string_bytes name.now) (string_bytes option.now) (string_bytes steps.now) (string_bytes file.now) }
+fn stepping_for<'a>(name: &str, option: &str, steps: &str, file: &'a str) -> Option<CommandLine<'a>>
+    ensures { option_map meant result ≡ spelled_for name.now option.now steps.now file.entry.now }
 {
-    if option.as_str() != "--steps" {
+    if option != "--steps" {
         return None;
     }
-    match steps_in(steps.as_str()) {
-        Some(steps) => machine(name.as_str(), steps, file.as_str()),
-        None => None,
-    }
+    stepping(name, steps_in(steps)?, file)
 }
 
 // The command `run` or `trace` of a file, for so many steps.
-fn machine<'a>(name: &str, steps: u64, file: &'a str) -> Option<CommandLine<'a>>
-    ensures { option_map meant result ≡ stepping name.now steps file.entry.now }
+fn stepping<'a>(name: &str, steps: u64, file: &'a str) -> Option<CommandLine<'a>>
+    ensures { option_map meant result ≡ spelled name.now steps file.entry.now }
 {
     if is_option(file) {
         return None;
@@ -109,15 +106,15 @@ fn zc_words(words: &[String]) -> Option<CommandLine<'_>>
     requires { length words.now ≡ 6 }
     ensures { option_map meant result ≡ command_of (map string_bytes words.now) }
 {
-    let [name, first, x, second, y, object] = words else {
+    let [name, first, first_value, second, second_value, object] = words else {
         return None;
     };
     if name.as_str() != "zc" {
         None
     } else if first.as_str() == "--out" && second.as_str() == "--cert" {
-        zc(x.as_str(), y.as_str(), object.as_str())
+        zc(first_value.as_str(), second_value.as_str(), object.as_str())
     } else if first.as_str() == "--cert" && second.as_str() == "--out" {
-        zc(y.as_str(), x.as_str(), object.as_str())
+        zc(second_value.as_str(), first_value.as_str(), object.as_str())
     } else {
         None
     }

@@ -1,6 +1,6 @@
 // The line that names an outcome on standard error, made without memory.
 
-ghost use Rattle.std.specs.Prelude.{◌≡◌, ◌≤◌, ◌<◌, ◌+◌, ◌⊎◌, ◌++◌, ◌∷◌, [], decimal, length};
+ghost use Rattle.std.specs.Prelude.{◌≡◌, ◌≤◌, ◌<◌, ◌+◌, ◌⊎◌, ◌++◌, decimal, length};
 ghost use Rattle.zc_outside.specs.Files.{Rose};
 ghost use Rattle.zc_outside.specs.Streams.{KeepsBytes};
 ghost use Rattle.zcld.specs.Call.{WritesLine};

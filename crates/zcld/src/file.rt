@@ -1,6 +1,6 @@
 // The file that a command reads, whole.
 
-ghost use Rattle.std.specs.Prelude.{◌≡◌, ◌≢◌, ◌<◌, ◌-◌, ◌^◌, ◌⊎◌, IfOk, IfErr, IsErrOf};
+ghost use Rattle.std.specs.Prelude.{◌≡◌, ◌<◌, ◌-◌, ◌^◌, ◌⊎◌, IfOk, IfErr, IsErrOf};
 ghost use Rattle.zc_outside.specs.Files.{Holds, IsLong, KeepsFiles};
 ghost use Rattle.zcld.specs.Outside.{FileCause, IsRead};
 

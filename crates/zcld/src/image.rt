@@ -15,8 +15,8 @@ use elf32_write::image_parts::ImageParts;
 use std::alloc::{AllocError, Global};
 use zc_base::mem_map::MemMap;
 
-// Of e_flags: there are 16-bit instructions (RVC).
-const COMPRESSED: u32 = 1;
+// Of e_flags: there are 16-bit instructions (RISC-V ELF psABI, "File Header").
+const RVC: u32 = 1;
 
 /// The image of an object, or how the call ends without one.
 pub fn image_of(alloc: Global, object: &[u8]) -> Result<Vec<u8>, Outcome>
@@ -24,10 +24,7 @@ pub fn image_of(alloc: Global, object: &[u8]) -> Result<Vec<u8>, Outcome>
     ensures err { IfErr result (λ outcome. IsRefusal object.now outcome) }
 {
     match straight_code(object) {
-        Ok(code) => match linked_image(alloc, code) {
-            Ok(image) => Ok(image),
-            Err(_) => Err(Outcome::OutOfMemory),
-        },
+        Ok(code) => Ok(linked_image(alloc, code)?),
         Err(fault) => Err(Outcome::Refused(0, fault)),
     }
 }
@@ -41,7 +38,7 @@ fn linked_image(alloc: Global, code: &[u8]) -> Result<Vec<u8>, AllocError>
     let linked = link(alloc, code, map.text)?;
     let parts = ImageParts {
         entry: map.text,
-        flags: COMPRESSED,
+        flags: RVC,
         text_at: map.text,
         text: linked.text,
         data_at: map.data_low,

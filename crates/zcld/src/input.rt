@@ -58,8 +58,6 @@ fn take_piece<C: Console>(input: &mut Vec<u8>, console: &mut C) -> Result<usize,
         Err(ConsoleFault::Failed) => return Err(Outcome::ReadFault),
         Err(ConsoleFault::OutOfMemory) => return Err(Outcome::OutOfMemory),
     };
-    match input.extend_from_slice(&piece[..count]) {
-        Ok(()) => Ok(count),
-        Err(_) => Err(Outcome::OutOfMemory),
-    }
+    input.extend_from_slice(&piece[..count])?;
+    Ok(count)
 }

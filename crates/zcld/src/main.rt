@@ -1,4 +1,4 @@
-//! Links RV32IM objects into an executable that is written with 16-bit instructions.
+//! Links RV32IM objects into an executable that is written with 16-bit instructions, and runs both.
 #![tactic(auto)]
 
 pub mod call;
@@ -48,10 +48,7 @@ fn main(rt: HostRuntime) -> ExitCode {
 // spells no command.
 fn words<R: Env + AllocGlobal>(rt: &R) -> Result<Vec<String>, Outcome> {
     match env::args(rt) {
-        Ok(args) => match args.skip(1).collect(rt.alloc()) {
-            Ok(words) => Ok(words),
-            Err(_) => Err(Outcome::OutOfMemory),
-        },
+        Ok(args) => Ok(args.skip(1).collect(rt.alloc())?),
         Err(fault) if fault.kind() == ErrorKind::OutOfMemory => Err(Outcome::OutOfMemory),
         Err(_) => Err(Outcome::Usage),
     }

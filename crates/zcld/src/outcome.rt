@@ -5,6 +5,7 @@ ghost use Rattle.zcld.specs.ErrLine.{status_of};
 
 use elf32_read::fault::Fault;
 use elf32_read::image_fault::ImageFault;
+use std::alloc::AllocError;
 use sym_machine::why::Why;
 use zc_base::place::Place;
 use zc_machine::reason::Reason;
@@ -33,6 +34,17 @@ pub enum Outcome {
     Spent,
 }
 
+impl From<AllocError> for Outcome {
+    ghost use Rattle.std.specs.Prelude.{◌≡◌};
+    ghost use Rattle.zcld.specs.declared.outcome.Outcome.TheVariants.{OutOfMemory};
+
+    ghost from_gives = { λ _ outcome. outcome ≡ OutOfMemory };
+
+    fn from(_refused: AllocError) -> Outcome {
+        Outcome::OutOfMemory
+    }
+}
+
 /// The status that the program ends with.
 pub fn status(outcome: &Outcome) -> u8
     ensures { result ≡ status_of outcome.now }
@@ -52,7 +64,7 @@ pub fn status(outcome: &Outcome) -> u8
     }
 }
 
-// An exit's status; those from 118 on are kept for what the program itself says.
+// An exit's status; those from 118 on are kept for `zcld` itself.
 fn exit_status(code: u8) -> u8
     ensures { result ≡ status_of (Outcome.Exited code) }
 {

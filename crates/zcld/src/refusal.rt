@@ -1,11 +1,12 @@
 // Why an object is refused.
 
-ghost use Rattle.std.specs.Prelude.{◌≡◌, ◌≢◌, ◌≤◌, ◌<◌, None, Some, MatchResult, length, map};
+ghost use Rattle.std.specs.Prelude.{◌≡◌, ◌≤◌, ◌<◌, None, Some, MatchResult, length, map};
 ghost use Rattle.std.specs.List.{list_any, range_with_len};
 ghost use Rattle.elf32_read.specs.Header.{Header, header_of, section_count};
 ghost use Rattle.zcld.specs.Straight.{words_in};
-ghost use Rattle.zcld.specs.Refusal.{changes_others as has_changes, code_of, first_fault, indexed, is_straight_code as is_straight, is_unbuilt as not_straight_alone, is_unbuilt_section, is_unknown, takes_memory as has_memory};
+ghost use Rattle.zcld.specs.Refusal.{changes_others, code_of, first_fault, indexed, is_straight_code, is_unbuilt, is_unbuilt_section, is_unknown, takes_memory};
 
+use crate::sym::CODE;
 use bitflags::Flags;
 use elf32_read::fault::Fault;
 use elf32_read::object::Object;
@@ -21,9 +22,6 @@ const RELA: u32 = 4;
 const REL: u32 = 9;
 
 const GROUP: u32 = 17;
-
-// ALLOC and EXECINSTR.
-const STRAIGHT_FLAGS: u32 = 6;
 
 // The most bytes of straight code.
 const MOST_CODE: u32 = 65536;
@@ -52,7 +50,7 @@ pub fn straight_code(bytes: &[u8]) -> Result<&[u8], Fault>
 // Whether an object isn't straight code alone.
 #[tactic(auto, unfolding(crate::specs::Refusal::is_unbuilt))]
 fn is_unbuilt(object: &Object) -> bool
-    ensures { result ≡ not_straight_alone object.now }
+    ensures { result ≡ is_unbuilt object.now }
 {
     object.flags() != 0
         || object.section_count() < 2
@@ -64,11 +62,11 @@ fn is_unbuilt(object: &Object) -> bool
 // Whether section 1 is straight code.
 fn is_straight_code(object: &Object) -> bool
     requires { 1 < section_count object.now }
-    ensures { result ≡ is_straight (header_of object.now 1) }
+    ensures { result ≡ is_straight_code (header_of object.now 1) }
 {
     let section = object.section(1);
     section.kind == PROGBITS
-        && section.flags.bits == STRAIGHT_FLAGS
+        && section.flags.bits == CODE.bits
         && section.align <= 4
         && section.size % 4 == 0
         && 4 <= section.size
@@ -97,13 +95,13 @@ fn is_unbuilt_at(object: &Object, i: u32) -> bool
 }
 
 fn takes_memory(section: &Section) -> bool
-    ensures { (h : Header) → h.flags ≡ section.now.flags.bits → h.size ≡ section.now.size → result ≡ has_memory h }
+    ensures { (h : Header) → h.flags ≡ section.now.flags.bits → h.size ≡ section.now.size → result ≡ takes_memory h }
 {
     section.flags.contains(SectionFlags::ALLOC) && section.size != 0
 }
 
 fn changes_others(section: &Section) -> bool
-    ensures { (h : Header) → h.kind ≡ section.now.kind → result ≡ has_changes h }
+    ensures { (h : Header) → h.kind ≡ section.now.kind → result ≡ changes_others h }
 {
     matches!(section.kind, RELA | REL | GROUP)
 }

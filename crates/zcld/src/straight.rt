@@ -1,9 +1,8 @@
 // The link of straight code: each word takes its shortest form, one behind the other.
 
-ghost use Rattle.std.specs.Prelude.{◌≡◌, ◌≤◌, ◌<◌, ◌+◌, ◌*◌, ◌/◌, ◌%◌, ◌^◌, ◌++◌, [], ◌∷◌, length, IfOk, OnOk, IsOkUnless};
-ghost use Rattle.std.specs.List.{flat_map};
+ghost use Rattle.std.specs.Prelude.{◌≡◌, ◌≤◌, ◌<◌, ◌+◌, ◌/◌, ◌^◌, ◌++◌, length, IfOk, OnOk};
 ghost use Rattle.rv_decode.specs.Decode.{decoded};
-ghost use Rattle.zcld.specs.Straight.{is_li, is_addi, piece, place_at, places_from, short_of, text_of, words_in};
+ghost use Rattle.zcld.specs.Straight.{is_li, piece, place_at, places_from, short_of, text_of, words_in};
 
 use rv_decode::bits::field_at;
 use rv_decode::decode::decode;

@@ -23,7 +23,7 @@ use zc_base::mem_map::MemMap;
 use zc_base::place::Place;
 use zc_base::reg::Reg;
 
-/// What a step comes to: it went on, or with the exit, or the machine is stuck.
+/// What a step comes to: the machine went on, exited, or is stuck.
 #[derive(Clone, Copy, PartialEq, Eq, Debug)]
 pub enum SymStep {
     Done,
@@ -31,8 +31,8 @@ pub enum SymStep {
     Stuck(Place, Why),
 }
 
-// The flags of code: ALLOC and EXECINSTR.
-const CODE: SectionFlags = SectionFlags { bits: 6 };
+/// The flags of code: ALLOC and EXECINSTR.
+pub const CODE: SectionFlags = SectionFlags { bits: 6 };
 
 const UNDEFINED: SymWord = SymWord {
     b0: SymByte::Undef,
