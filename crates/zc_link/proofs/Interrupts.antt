@@ -16,8 +16,8 @@ use Rattle.zc_machine.specs.Interrupt.{is_free, dirtied, all_dirtied, cut, cut_b
 use Rattle.zc_machine.specs.Run.{turn_from, zc_turn}
 use Rattle.zc_machine.specs.Load.{first_core}
 use Rattle.zc_machine.proofs.LoadLaws.{stack_bounds}
-use Rattle.zc_link.specs.Image.{Image, place_address}
-use Rattle.zc_link.specs.Laid.{Laid, first_of}
+use Rattle.zc_link.specs.Image.{Image, loaded, place_address}
+use Rattle.zc_link.specs.Laid.{Laid}
 use Rattle.zc_link.specs.Stands.{ByteStands, IsMemory}
 use Rattle.zc_link.specs.Values.{value_in}
 use Rattle.zc_link.proofs.Sound.{Sound, Commits, Moves}
@@ -43,13 +43,13 @@ module _ (p : Program) (e : Image) (laid : Laid p e) where
     elsewhere x old = ⊎_elim (λ here. inl here) (λ other. inr (untouched a 1 (λ i. b) x old (λ l r. other (omega arith)))) (cases_eq a x)
 
     -- where an interrupt may write, the image has its stack
-    free_at : is_free z.core a ≡ true → (p.map.stack_low ≤ a) × (a < p.map.stack_high) × (a < get_or z.core.regs 2 0) × (lies_in is_data (extents_of (first_of e).memory) a 1 ≡ true)
+    free_at : is_free z.core a ≡ true → (p.map.stack_low ≤ a) × (a < p.map.stack_high) × (a < get_or z.core.regs 2 0) × (lies_in is_data (extents_of (loaded e).memory) a 1 ≡ true)
     unfolding first_core
     free_at free =
         let q = and_parts (lies_in is_stack (extents_of z.core.memory) a 1) (ltb a (get_or z.core.regs 2 0)) free in
-        let in_stack : lies_in is_stack (extents_of (first_of e).memory) a 1 ≡ true = ap (λ es. lies_in is_stack es a 1) (sym so.both.text.extents) ∙ q.0 in
+        let in_stack : lies_in is_stack (extents_of (loaded e).memory) a 1 ≡ true = ap (λ es. lies_in is_stack es a 1) (sym so.both.text.extents) ∙ q.0 in
         let bounds = stack_bounds e.segments e.map a 1 (omega arith) in_stack in
-        (omega (arith, bounds.0, ap (λ m. m.stack_low) laid.map), omega (arith, bounds.1, ap (λ m. m.stack_high) laid.map), ltb-true a (get_or z.core.regs 2 0) q.1, stack_is_data (extents_of (first_of e).memory) a 1 in_stack)
+        (omega (arith, bounds.0, ap (λ m. m.stack_low) laid.map), omega (arith, bounds.1, ap (λ m. m.stack_high) laid.map), ltb-true a (get_or z.core.regs 2 0) q.1, stack_is_data (extents_of (loaded e).memory) a 1 in_stack)
 
     stands_dirtied : is_free z.core a ≡ true → (x : ℕ) → IsMemory p x → ByteStands V (cell_of s x) (cell_at 0 (changed f z.core.memory) x)
     unfolding V
@@ -67,12 +67,12 @@ module _ (p : Program) (e : Image) (laid : Laid p e) where
         rw same (so.both.stands.memory x m))
         (cases_Bool (is_covered (extents_of z.core.memory) x))
 
-    text_dirtied : is_free z.core a ≡ true → (x : ℕ) → lies_in is_text (extents_of (first_of e).memory) x 1 ≡ true → cell_at 0 (changed f z.core.memory) x ≡ byte_in (first_of e) x
+    text_dirtied : is_free z.core a ≡ true → (x : ℕ) → lies_in is_text (extents_of (loaded e).memory) x 1 ≡ true → cell_at 0 (changed f z.core.memory) x ≡ byte_in (loaded e) x
     text_dirtied free x text =
-        let yes : is_covered (extents_of z.core.memory) x ≡ true = ap (λ es. is_covered es x) so.both.text.extents ∙ lies_covered is_text (extents_of (first_of e).memory) x text in
+        let yes : is_covered (extents_of z.core.memory) x ≡ true = ap (λ es. is_covered es x) so.both.text.extents ∙ lies_covered is_text (extents_of (loaded e).memory) x text in
         cell-changed f z.core.memory x 0 yes
         ∙ ⊎_elim
-        (λ here. absurd (let no = laid.apart x text in let yes = ap (λ y. lies_in is_data (extents_of (first_of e).memory) y 1) (sym here) ∙ (free_at free).3 in cc))
+        (λ here. absurd (let no = laid.apart x text in let yes = ap (λ y. lies_in is_data (extents_of (loaded e).memory) y 1) (sym here) ∙ (free_at free).3 in cc))
         (λ old. old)
         (elsewhere x (byte_in z.core x))
         ∙ so.both.text.text x text

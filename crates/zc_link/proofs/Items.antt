@@ -23,8 +23,8 @@ use Rattle.zc_machine.specs.Fetch.{Found, fetched_at}
 use Rattle.zc_machine.specs.Run.{committed}
 use Rattle.zc_machine.specs.Step.{Wants, called, effect_step, made, step_from, zc_step}
 use Rattle.zc_machine.proofs.FetchLaws.{fetched_same}
-use Rattle.zc_link.specs.Image.{Image, place_address}
-use Rattle.zc_link.specs.Laid.{Laid, OpLaid, first_of}
+use Rattle.zc_link.specs.Image.{Image, loaded, place_address}
+use Rattle.zc_link.specs.Laid.{Laid, OpLaid}
 use Rattle.zc_link.specs.Stands.{Stands, WordStands}
 use Rattle.zc_link.specs.Values.{value_in}
 use Rattle.zc_link.proofs.WordLaws.{imm_stands, length-set_reg, number_is, set_reg_below, set_stands}
@@ -40,9 +40,9 @@ module _ (p : Program) (e : Image) (laid : Laid p e) where
   op_at s z i so item = laid.ops s.place z.core.pc i (so.both.stands.place so.both.running) item
 
   -- the machine makes its effect
-  step_is : (s : PlainCore) (z : ZcState) (i : Instr) (size : ℕ) → Sound p e s z → fetched_at (first_of e) z.core.pc ≡ Found (Base i) size → zc_step z.core ≡ effect_step (effect i size z.core) z.core
+  step_is : (s : PlainCore) (z : ZcState) (i : Instr) (size : ℕ) → Sound p e s z → fetched_at (loaded e) z.core.pc ≡ Found (Base i) size → zc_step z.core ≡ effect_step (effect i size z.core) z.core
   unfolding zc_step
-  step_is s z i size so found = ap (λ o. step_from o z.core) so.both.going ∙ ap (λ f. made f z.core) (fetched_same (first_of e) z.core so.both.text z.core.pc ∙ found)
+  step_is s z i size so found = ap (λ o. step_from o z.core) so.both.going ∙ ap (λ f. made f z.core) (fetched_same (loaded e) z.core so.both.text z.core.pc ∙ found)
 
   -- ---- results that go to a register
 

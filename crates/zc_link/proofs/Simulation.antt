@@ -18,9 +18,9 @@ use Rattle.sym_machine.specs.Run.{plain, plain_turn, recorded}
 use Rattle.zc_machine.specs.Load.{first_core}
 use Rattle.zc_machine.specs.Run.{zc_after, zc_turn}
 use Rattle.zc_machine.proofs.FetchLaws.{SameText-refl}
-use Rattle.zc_link.specs.Image.{Image, place_address}
-use Rattle.zc_link.specs.Laid.{Laid, first_of}
-use Rattle.zc_link.specs.Preserves.{FollowsUnder, IsQuiet}
+use Rattle.zc_link.specs.Image.{Image, loaded, place_address}
+use Rattle.zc_link.specs.Laid.{Laid}
+use Rattle.zc_link.specs.Preserves.{FollowsUnder, Preserves, PreservesQuietly}
 use Rattle.zc_link.specs.Stands.{Stands, WordStands}
 use Rattle.zc_link.specs.Values.{value_in}
 use Rattle.zc_link.proofs.WordLaws.{number_stands, undef_stands}
@@ -95,7 +95,7 @@ module _ (p : Program) (e : Image) (laid : Laid p e) where
   V = value_in p (place_address e)
 
   abbrev start : List ℕ → ZcState
-  start input = record { core = first_of e; input = input; events = [] }
+  start input = record { core = loaded e; input = input; events = [] }
 
   stack_same : p.map.stack_high ≡ e.map.stack_high
   stack_same = ap (λ m. m.stack_high) (sym laid.map)
@@ -125,7 +125,7 @@ module _ (p : Program) (e : Image) (laid : Laid p e) where
       running = refl;
       going = refl;
       stands = record { registers = start_stands; memory = laid.first; input = refl; place = λ _. laid.entry };
-      text = SameText-refl (first_of e);
+      text = SameText-refl (loaded e);
       long_s = refl;
       long_z = refl;
       words = start_words;
@@ -149,7 +149,12 @@ module _ (p : Program) (e : Image) (laid : Laid p e) where
             (run.after, run.runs, record { events = run.same; stands = λ _. together_stands s.core run.after run.together }),
       )
 
-  pub follows_quietly : FollowsUnder IsQuiet p e
-  follows_quietly input n s bytes h =
-      let all = follows input n s bytes h in
-      (all.0, all.1, λ plan none. all.2 plan (subst IsPlan (sym none) (All-nil _)))
+-- what holds under every plan holds without interrupts
+pub quietly_too : (objects : List (List ℕ)) (elf : List ℕ) → Preserves objects elf → PreservesQuietly objects elf
+quietly_too objects elf preserves = record {
+  image = preserves.image;
+  read = preserves.read;
+  follows = λ input n s bytes h.
+      let under = preserves.follows input n s bytes h in
+      (under.0, under.1, λ plan none. under.2 plan (subst IsPlan (sym none) (All-nil _)));
+}

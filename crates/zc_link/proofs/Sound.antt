@@ -21,8 +21,7 @@ use Rattle.sym_machine.specs.Step.{Went, Stuck, settled_at, settled, undefined_b
 use Rattle.zc_machine.specs.Step.{zc_step}
 use Rattle.zc_machine.specs.Run.{committed, zc_turn}
 use Rattle.zc_machine.proofs.FetchLaws.{SameText}
-use Rattle.zc_link.specs.Image.{Image, place_address}
-use Rattle.zc_link.specs.Laid.{first_of}
+use Rattle.zc_link.specs.Image.{Image, loaded, place_address}
 use Rattle.zc_link.specs.Stands.{ByteStands, Stands}
 use Rattle.zc_link.specs.Values.{value_in}
 use Rattle.zc_link.proofs.WordLaws.{number_is}
@@ -33,7 +32,7 @@ pub record Running (p : Program) (e : Image) (s : PlainCore) (z : ZcState) : Typ
   pub running : s.exit ≡ None
   pub going : z.core.exit ≡ None
   pub stands : Stands p (place_address e) s z
-  pub text : SameText (first_of e) z.core
+  pub text : SameText (loaded e) z.core
   pub long_s : length s.regs ≡ 32
   pub long_z : length z.core.regs ≡ 32
   pub words : (r : ℕ) → get_or z.core.regs r 0 < 2 ^ 32

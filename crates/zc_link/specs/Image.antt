@@ -9,7 +9,7 @@ use Rattle.elf32_read.specs.Image.{image_fault}
 use Rattle.elf32_read.specs.Places.{places_of}
 use Rattle.elf32_read.specs.Segments.{SegmentData, segments_of}
 use Rattle.interrupt_plan.specs.Plan.{Cut}
-use Rattle.rv_decode.specs.State.{ZcState}
+use Rattle.rv_decode.specs.State.{ZcCore, ZcState}
 use Rattle.zc_machine.specs.declared.reason.Reason.{Reason}
 use Rattle.zc_machine.specs.Load.{first_core}
 use Rattle.zc_machine.specs.Run.{zc_after}
@@ -36,6 +36,10 @@ image_in bytes = image_unless (image_fault bytes standard_map) bytes
 abbrev pub place_address : Image → Place → Option ℕ
 place_address e q = address_in e.places q
 
+-- the machine's first state
+abbrev pub loaded : Image → ZcCore
+loaded e = first_core e.entry e.segments e.map
+
 -- the state after m commits with this input and under this plan, or why the machine stops before
 abbrev pub zc : Image → List ℕ → List Cut → ℕ → Result ZcState Reason
-zc e input plan m = zc_after (first_core e.entry e.segments e.map) input plan m
+zc e input plan m = zc_after (loaded e) input plan m

@@ -11,14 +11,11 @@ use Rattle.sym_machine.specs.Program.{Program}
 use Rattle.zc_decode.specs.declared.short.Short.TheVariants.{Base}
 use Rattle.zc_machine.specs.Fetch.{Found, fetched_at}
 use Rattle.zc_machine.specs.Load.{first_core}
-use Rattle.zc_link.specs.Image.{Image, place_address}
+use Rattle.zc_link.specs.Image.{Image, loaded, place_address}
 use Rattle.zc_link.specs.Stands.{ByteStands, IsMemory}
 use Rattle.zc_link.specs.Values.{value_in}
 
-abbrev pub first_of : Image → ZcCore
-first_of e = first_core e.entry e.segments e.map
-
--- an instruction's registers are among the 32
+-- the registers of an instruction that is built are among the 32; of the others nothing is said
 abbrev pub HasRegisters : Instr → Type 0
 HasRegisters (WithImm op rd first imm) = (rd < 32) × (first < 32)
 HasRegisters other = Unit {0}
@@ -26,7 +23,7 @@ HasRegisters other = Unit {0}
 -- an instruction stands at an address, in so many bytes, and the next item follows
 pub record OpLaid (p : Program) (e : Image) (q : Place) (a : ℕ) (i : Instr) : Type 0 where
   pub size : ℕ
-  pub fetched : fetched_at (first_of e) a ≡ Found (Base i) size
+  pub fetched : fetched_at (loaded e) a ≡ Found (Base i) size
   pub below : a + size < 2 ^ 32
   pub next : place_address e (p.next q) ≡ Some (a + size)
   pub registers : HasRegisters i
@@ -35,6 +32,7 @@ pub record OpLaid (p : Program) (e : Image) (q : Place) (a : ℕ) (i : Instr) : 
 abbrev pub SpansMemory : Program → ℕ → ℕ → Type 0
 SpansMemory p a n = ((p.map.data_low ≤ a) × (a + n ≤ p.data_end)) ⊎ ((p.map.stack_low ≤ a) × (a + n ≤ p.map.stack_high))
 
+-- where this holds of a program and an image, the image does what the program does
 pub record Laid (p : Program) (e : Image) : Type 0 where
   -- the image was made for the program's map, and starts at its start
   pub map : e.map ≡ p.map
@@ -43,12 +41,13 @@ pub record Laid (p : Program) (e : Image) : Type 0 where
   -- each instruction of a listed place lies there
   pub ops :
       (q : Place) (a : ℕ) (i : Instr) → place_address e q ≡ Some a → p.item q ≡ Some (Op i) → OpLaid p e q a i
-  -- the program's memory is memory of the image, and begins with bytes that stand for the image's
-  pub reaches : (a n : ℕ) → 0 < n → SpansMemory p a n → lies_in is_data (extents_of (first_of e).memory) a n ≡ true
+  -- the program's memory is memory of the image, which loads and stores will need
+  pub reaches : (a n : ℕ) → 0 < n → SpansMemory p a n → lies_in is_data (extents_of (loaded e).memory) a n ≡ true
+  -- and it begins with bytes that stand for the image's
   pub first :
-      (a : ℕ) → IsMemory p a → ByteStands (value_in p (place_address e)) (cell_at Undef p.first_memory a) (byte_in (first_of e) a)
+      (a : ℕ) → IsMemory p a → ByteStands (value_in p (place_address e)) (cell_at Undef p.first_memory a) (byte_in (loaded e) a)
   pub stack : (a : ℕ) → p.map.stack_low ≤ a → a < p.map.stack_high → cell_at Undef p.first_memory a ≡ Undef
   -- code lies apart from data and stack, and the image's memory holds bytes
   pub apart :
-      (a : ℕ) → lies_in is_text (extents_of (first_of e).memory) a 1 ≡ true → lies_in is_data (extents_of (first_of e).memory) a 1 ≡ false
-  pub bytes : (a : ℕ) → byte_in (first_of e) a < 256
+      (a : ℕ) → lies_in is_text (extents_of (loaded e).memory) a 1 ≡ true → lies_in is_data (extents_of (loaded e).memory) a 1 ≡ false
+  pub bytes : (a : ℕ) → byte_in (loaded e) a < 256

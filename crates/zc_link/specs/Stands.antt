@@ -17,6 +17,7 @@ ByteStands V (Num n) b = b ≡ n
 ByteStands V (Part v i) b = (x : ℕ) × (V v ≡ Some x) × (b ≡ byte_of x i)
 ByteStands V Undef b = Unit {0}
 
+-- a word stands for a number: each of its bytes does for that byte of it
 pub record WordStands (V : Value → Option ℕ) (w : SymWord) (n : ℕ) : Type 0 where
   pub b0 : ByteStands V w.b0 (byte_of n 0)
   pub b1 : ByteStands V w.b1 (byte_of n 1)

@@ -12,6 +12,7 @@ use Rattle.sym_machine.specs.declared.word.Value.{Value}
 use Rattle.sym_machine.specs.declared.word.Value.TheVariants.{Code, AbsHi, PcHi}
 use Rattle.sym_machine.specs.Program.{Program}
 
+-- the address of what a symbol resolves to
 abbrev pub target_value : (Place → Option ℕ) → Target → Option ℕ
 target_value A (target.Code q) = A q
 target_value A (target.Number n) = Some n
@@ -27,6 +28,7 @@ pc_target other = None
 abbrev pub pc_upper : ℕ → ℕ → ℕ
 pc_upper a t = (a + hi20_of ((t + (2 ^ 32 - a)) % 2 ^ 32) * 2 ^ 12) % 2 ^ 32
 
+-- what a value is: a place's address, the upper part of one, or what an `auipc` at a place gives
 abbrev pub value_in : Program → (Place → Option ℕ) → Value → Option ℕ
 value_in p A (Code q) = A q
 value_in p A (AbsHi q) = option_map (λ x. hi20_of x * 2 ^ 12) (A q)

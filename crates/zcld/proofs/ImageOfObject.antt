@@ -26,12 +26,13 @@ use Rattle.block_cut.specs.declared.item.Item.TheVariants.{Op}
 use Rattle.block_cut.specs.Items.{code_in, code_word, item_in, spelled, word_item, word_of_place}
 use Rattle.zc_link.specs.Image.{image_in, image_unless}
 use Rattle.zc_link.specs.Places.{address_in}
+use Rattle.zc_link.proofs.Simulation.{quietly_too}
 use Rattle.zc_link.specs.Preserves.{Preserves, PreservesQuietly}
 use Rattle.zcld.specs.Straight.{piece, place_at, places_from, text_of, words_from, words_in}
 use Rattle.zcld.specs.Promise.{IsImageOf}
 use Rattle.zcld.specs.Refusal.{code_of, fault_or, first_fault, is_unbuilt}
 use Rattle.zcld.specs.Written.{TextEnds, straight_parts, zc_image}
-use Rattle.zcld.proofs.Laying.{IsWord, address_found, image_with, offset_whole, straight_follows, straight_follows_quietly, text_short}
+use Rattle.zcld.proofs.Laying.{IsWord, address_found, image_with, offset_whole, straight_follows, text_short}
 use Rattle.zcld.proofs.StraightLoop.{length_piece}
 use Rattle.zcld.proofs.Unbuilt.{IsFaultless, IsStraight, faultless}
 
@@ -229,17 +230,6 @@ zc_preserves object none are =
       follows = straight_follows (object ∷ []) (words_in code) (item_word object straight) (words_below code 0 (length code / 4) (code_below object are)) (few object straight);
     }
 
--- and without interrupts
-pub zc_quietly : (object : List ℕ) → first_fault object ≡ None → ((k : ℕ) → get_or object k 0 < 256) → PreservesQuietly (object ∷ []) (zc_image object)
-zc_quietly object none are =
-    let code = code_of object in
-    let straight = (faultless object none).straight in
-    record {
-      image = image_with (straight_parts code);
-      read = read object straight;
-      follows = straight_follows_quietly (object ∷ []) (words_in code) (item_word object straight) (words_below code 0 (length code / 4) (code_below object are)) (few object straight);
-    }
-
 -- it lists the place of each word and the section's end
 pub zc_places : (object : List ℕ) → first_fault object ≡ None → places_of (zc_image object) ≡ places_from 0 0x0001_0000 (words_in (code_of object))
 zc_places object none = (back object (faultless object none).straight).places
@@ -266,7 +256,7 @@ promised : (object : List ℕ) → first_fault object ≡ None → ((k : ℕ) �
 promised object none are = record {
   bytes = refl;
   preserves = zc_preserves object none are;
-  quietly = zc_quietly object none are;
+  quietly = quietly_too _ _ (zc_preserves object none are);
   places = zc_places object none;
   text_end = zc_text_end object none;
 }

@@ -33,13 +33,13 @@ use Rattle.zc_machine.specs.Fetch.{Found, fetched_at, half_at, word_at}
 use Rattle.zc_machine.specs.Load.{first_core}
 use Rattle.zc_machine.proofs.FetchLaws.{fetched_long, fetched_short}
 use Rattle.zc_machine.proofs.LoadLaws.{code_byte, code_lies}
-use Rattle.zc_link.specs.Image.{Image, place_address}
-use Rattle.zc_link.specs.Laid.{HasRegisters, Laid, OpLaid, SpansMemory, first_of}
+use Rattle.zc_link.specs.Image.{Image, loaded, place_address}
+use Rattle.zc_link.specs.Laid.{HasRegisters, Laid, OpLaid, SpansMemory}
 use Rattle.zc_link.specs.Places.{address_in, same_place}
-use Rattle.zc_link.specs.Preserves.{FollowsUnder, IsQuiet}
+use Rattle.zc_link.specs.Preserves.{FollowsUnder}
 use Rattle.zc_link.specs.Stands.{ByteStands}
 use Rattle.zc_link.specs.Values.{value_in}
-use Rattle.zc_link.proofs.Simulation.{follows, follows_quietly}
+use Rattle.zc_link.proofs.Simulation.{follows}
 use Rattle.zcld.specs.Straight.{is_li, piece, place_at, places_from, short_of, text_of}
 use Rattle.zcld.proofs.ShortForms.{li_fields, short_decodes}
 use Rattle.zcld.proofs.StraightLoop.{length_piece}
@@ -277,7 +277,7 @@ module _ (objects : List (List ℕ)) (words : List ℕ) (spell : Spell objects w
   found_at : (k : ℕ) → k ≤ length words → place_address image (place_at (4 * k)) ≡ Some (0x0001_0000 + offset_of words k)
   found_at k le = address_found words 0 0x0001_0000 k (4 * k) le (omega arith)
 
-  fetched_word : (k : ℕ) (i : Instr) → k < length words → decoded (get_or words k 0) ≡ Some i → fetched_at (first_of image) (0x0001_0000 + offset_of words k) ≡ Found (Base i) (length (piece (get_or words k 0)))
+  fetched_word : (k : ℕ) (i : Instr) → k < length words → decoded (get_or words k 0) ≡ Some i → fetched_at (loaded image) (0x0001_0000 + offset_of words k) ≡ Found (Base i) (length (piece (get_or words k 0)))
   unfolding text_of
   fetched_word k i lt d = piece_fetched words text (data_part ∷ []) 0x0001_0000 refl refl k (get_or words k 0) i refl lt (small k) d (is_li (decoded (get_or words k 0))) refl
 
@@ -296,7 +296,7 @@ module _ (objects : List (List ℕ)) (words : List ℕ) (spell : Spell objects w
       sym (ap {A = Place} {B = Place} (λ x. record x { offset = x.offset + 4 }) is.place ∙ ap place_at (let z : 4 * k + 4 ≡ 4 * (k + 1) = omega arith in z)) in
       record {
         size = length (piece w);
-        fetched = subst (λ x. fetched_at (first_of image) x ≡ Found (Base i) (length (piece w))) same (fetched_word k i is.within is.spells);
+        fetched = subst (λ x. fetched_at (loaded image) x ≡ Found (Base i) (length (piece w))) same (fetched_word k i is.within is.spells);
         below = omega (arith, text_short words, more, within);
         next = ap (place_address image) (sym next) ∙ found_at (k + 1) (omega (arith, is.within)) ∙ ap Some more;
         registers = has_registers w i is.spells;
@@ -309,7 +309,7 @@ module _ (objects : List (List ℕ)) (words : List ℕ) (spell : Spell objects w
       either_undefined (spans (record { kind = Data; at = 0x0010_0000; size = 0 }) a 1) refl
       (either_undefined (spans (record { kind = Stack; at = 0x0FF0_0000; size = length (blank 0x0010_0000 Undef) }) a 1) (get_or_blank 0x0010_0000 (a - 0x0FF0_0000) Undef) refl)
 
-  stack_reaches : (a n : ℕ) → 0x0FF0_0000 ≤ a → a + n ≤ 0x1000_0000 → lies_in is_data (extents_of (first_of image).memory) a n ≡ true
+  stack_reaches : (a n : ℕ) → 0x0FF0_0000 ≤ a → a + n ≤ 0x1000_0000 → lies_in is_data (extents_of (loaded image).memory) a n ≡ true
   unfolding first_core
   stack_reaches a n low high =
       let size = length_blank {X = ℕ} 0x0010_0000 0 in
@@ -318,7 +318,7 @@ module _ (objects : List (List ℕ)) (words : List ℕ) (spell : Spell objects w
       (and_from (leb 0x0FF0_0000 a) (leb (a + n) (0x0FF0_0000 + length (blank {X = ℕ} 0x0010_0000 0))) (le-leb 0x0FF0_0000 a low) (le-leb (a + n) (0x0FF0_0000 + length (blank {X = ℕ} 0x0010_0000 0)) (omega arith))))
 
   -- an address of text lies below all data
-  text_apart : (a : ℕ) → lies_in is_text (extents_of (first_of image).memory) a 1 ≡ true → lies_in is_data (extents_of (first_of image).memory) a 1 ≡ false
+  text_apart : (a : ℕ) → lies_in is_text (extents_of (loaded image).memory) a 1 ≡ true → lies_in is_data (extents_of (loaded image).memory) a 1 ≡ false
   unfolding first_core
   text_apart a h =
       let cells = text_of words ++ blank {X = ℕ} (length (text_of words) - length (text_of words)) 0 in
@@ -330,7 +330,7 @@ module _ (objects : List (List ℕ)) (words : List ℕ) (spell : Spell objects w
       (or_from (spans (record { kind = Stack; at = 0x0FF0_0000; size = length (blank {X = ℕ} 0x0010_0000 0) }) a 1) false
       (spans_before (record { kind = Stack; at = 0x0FF0_0000; size = length (blank {X = ℕ} 0x0010_0000 0) }) a 1 (omega arith)) refl)
 
-  bytes : (a : ℕ) → byte_in (first_of image) a < 256
+  bytes : (a : ℕ) → byte_in (loaded image) a < 256
   unfolding first_core text_of
   bytes a =
       let none : 0 < 256 = omega arith in
@@ -345,7 +345,7 @@ module _ (objects : List (List ℕ)) (words : List ℕ) (spell : Spell objects w
     entry = start;
     ops = ops;
     reaches = reaches;
-    first = λ a m. undefined_stands (value_in (program_of objects) (place_address image)) (cell_at Undef (program_of objects).first_memory a) (byte_in (first_of image) a) (undefined a);
+    first = λ a m. undefined_stands (value_in (program_of objects) (place_address image)) (cell_at Undef (program_of objects).first_memory a) (byte_in (loaded image) a) (undefined a);
     stack = λ a low high. undefined a;
     apart = text_apart;
     bytes = bytes;
@@ -354,12 +354,9 @@ module _ (objects : List (List ℕ)) (words : List ℕ) (spell : Spell objects w
       start : place_address image (place_at 0) ≡ Some 0x0001_0000
       start = found_at 0 (omega arith) ∙ ap Some (let z : 0x0001_0000 + offset_of words 0 ≡ 0x0001_0000 = omega arith in z)
 
-      reaches : (a n : ℕ) → 0 < n → SpansMemory (program_of objects) a n → lies_in is_data (extents_of (first_of image).memory) a n ≡ true
+      reaches : (a n : ℕ) → 0 < n → SpansMemory (program_of objects) a n → lies_in is_data (extents_of (loaded image).memory) a n ≡ true
       reaches a n some (inl d) = absurd (omega arith)
       reaches a n some (inr d) = stack_reaches a n d.0 d.1
 
   pub straight_follows : FollowsUnder IsPlan (program_of objects) image
   straight_follows = follows (program_of objects) image laid
-
-  pub straight_follows_quietly : FollowsUnder IsQuiet (program_of objects) image
-  straight_follows_quietly = follows_quietly (program_of objects) image laid
