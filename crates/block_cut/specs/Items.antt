@@ -32,6 +32,7 @@ abbrev pub spelled : Option Instr → ℕ → Item
 spelled None word = Raw word
 spelled (Some i) word = Op i
 
+-- the item that a word is
 abbrev pub word_item : ℕ → Item
 word_item word = spelled (decoded word) word
 

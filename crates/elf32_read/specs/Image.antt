@@ -57,7 +57,8 @@ abbrev pub some_overlap : List ProgramHeader → Bool
 some_overlap [] = false
 some_overlap (header ∷ headers) = list_any (overlap header) headers || some_overlap headers
 
--- more than 16 segments, a bad one, two that overlap, or an entry that is odd or not in code
+-- more than 16 segments, a bad one, two that overlap, or an entry that is odd, or neither in the bytes of a segment of code
+-- nor where they end
 abbrev pub bad_segments : List ℕ → MemMap → Bool
 bad_segments bytes memory =
     nat_lt 16 (length (loads_of bytes)) || list_any (is_bad_load memory) (loads_of bytes) || some_overlap (loads_of bytes)
@@ -79,7 +80,7 @@ bad_names bytes = lacks_names bytes || list_any (is_unnamed (names_of bytes)) (h
 abbrev pub is_bad_list : Header → Bool
 is_bad_list header = is_empty_kind header.kind || not (header.size % 12 == 0)
 
--- a section of places that is a bad list, is out of order, or has an address that is none of code
+-- a section of places that is a bad list, is out of order, or has an address below text or above where data begins
 abbrev pub is_bad_section : List ℕ → MemMap → Header → Bool
 is_bad_section bytes memory header =
     is_bad_list header || not (is_ascending (entries_of (content_of bytes header))) || list_any (is_outside memory) (entries_of (content_of bytes header))

@@ -1,4 +1,4 @@
--- The segments of an image (System V gABI, "Program Header"; RISC-V ELF psABI, "File Header").
+-- The segments of an image (System V gABI, "Program Header").
 use Rattle.std.specs.Prelude.{ℕ, ◌+◌, Bool, ◌&&◌, ◌==◌, nat_lt, nat_le, min, max, if◌then◌else◌, List, take, drop, map, filter, bit_and}
 use Rattle.zc_base.specs.declared.mem_map.MemMap.{MemMap}
 use Rattle.elf32_read.specs.Header.{program_headers_of}

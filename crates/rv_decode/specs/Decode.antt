@@ -7,16 +7,19 @@ use Rattle.rv_decode.specs.declared.instr.ImmOp.{ImmOp}
 use Rattle.rv_decode.specs.declared.instr.ImmOp.TheVariants.{Addi}
 use Rattle.rv_decode.specs.Bits.{field, signed}
 
--- the fields that all formats share, where a format has them
+-- the fields that formats share, where a format has them: the opcode, bits 6 to 0
 abbrev pub opcode_of : ℕ → ℕ
 opcode_of word = field word 0 7
 
+-- the register that gets the result: bits 11 to 7
 abbrev pub rd_of : ℕ → ℕ
 rd_of word = field word 7 5
 
+-- which of an opcode's operations: bits 14 to 12
 abbrev pub funct3_of : ℕ → ℕ
 funct3_of word = field word 12 3
 
+-- the first source register: bits 19 to 15
 abbrev pub rs1_of : ℕ → ℕ
 rs1_of word = field word 15 5
 
@@ -24,10 +27,11 @@ rs1_of word = field word 15 5
 abbrev pub imm_i_of : ℕ → ℤ
 imm_i_of word = signed 12 (field word 20 12)
 
--- OP-IMM, by funct3
+-- the operations on a register and an immediate (OP-IMM), by funct3
 abbrev pub imm_op_of : ℕ → Option ImmOp
 imm_op_of funct3 = if funct3 == 0b000 then Some Addi else None
 
+-- OP-IMM
 abbrev pub with_imm_of : ℕ → Option Instr
 with_imm_of word = option_map (λ op. WithImm op (rd_of word) (rs1_of word) (imm_i_of word)) (imm_op_of (funct3_of word))
 

@@ -19,19 +19,23 @@ pub record Extent : Type 0 where
   pub at : ℕ
   pub size : ℕ
 
+-- what is left of a region without its cells
 abbrev pub extent_of : {X : Type 0} → Region X → Extent
 extent_of r = record { kind = r.kind; at = r.at; size = length r.cells }
 
+-- the same of all regions
 abbrev pub extents_of : {X : Type 0} → List (Region X) → List Extent
 extents_of memory = map extent_of memory
 
 -- ---- where an access lies
 
+-- the kind that instructions are fetched from
 abbrev pub is_text : Kind → Bool
 is_text Text = true
 is_text Data = false
 is_text Stack = false
 
+-- the kind that interrupts may write
 abbrev pub is_stack : Kind → Bool
 is_stack Text = false
 is_stack Data = false

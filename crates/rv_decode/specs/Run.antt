@@ -1,8 +1,9 @@
 -- Steps, one after another.
 use Rattle.std.specs.Prelude.{ℕ, zero, suc, Result, Ok, Err}
 
--- the second step from what the first gives, where it gives something
 infixl 10 ◌>>=◌
+
+-- the second step from what the first gives, where it gives something
 abbrev pub ◌>>=◌ : {A B E : Type 0} → Result A E → (A → Result B E) → Result B E
 (Ok x) >>= f = f x
 (Err e) >>= f = Err e

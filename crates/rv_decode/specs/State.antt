@@ -34,10 +34,12 @@ set_reg regs rd v = if rd == 0 then regs else slice_set regs rd v
 abbrev pub start_regs : {X : Type 0} → X → X → X → List X
 start_regs x0 sp other = x0 ∷ other ∷ sp ∷ replicate 29 other
 
+-- what a register holds
 abbrev pub reg_in : ZcCore → ℕ → ℕ
 reg_in z r = slice_index z.regs r
 
 -- ---- memory
 
+-- the byte at an address, and 0 where no region has one
 abbrev pub byte_in : ZcCore → ℕ → ℕ
 byte_in z a = cell_at 0 z.memory a

@@ -12,6 +12,7 @@ abbrev pub recorded : PlainStep → PlainState → Result PlainState (Place × W
 recorded (Went s events) r = Ok (record { core = s; events = r.events ++ events })
 recorded (Stuck place why) r = Err (place, why)
 
+-- one step, with the events so far
 unfoldable pub plain_turn : Program → PlainState → Result PlainState (Place × Why)
 plain_turn p r = recorded (plain_step p r.core) r
 

@@ -23,9 +23,11 @@ pub record PlainState : Type 0 where
   pub core : PlainCore
   pub events : List Event
 
+-- what a register holds
 abbrev pub reg_of : PlainCore → ℕ → SymWord
 reg_of s r = slice_index_or s.regs r undef_word
 
+-- the byte at an address of data or of the stack
 abbrev pub cell_of : PlainCore → ℕ → SymByte
 cell_of s a = cell_at Undef s.memory a
 

@@ -35,6 +35,7 @@ settled_at (Some sp) p s events from =
     then Went (record s { memory = changed (undefined_below p sp) s.memory }) events
     else Stuck from StackPointer
 
+-- the end of a step that began at this place, by sp
 abbrev pub settled : Program → PlainCore → List Event → Place → PlainStep
 settled p s events from = settled_at (number_of (reg_of s 2)) p s events from
 
@@ -66,10 +67,11 @@ abbrev pub item_step : Option Item → Program → PlainCore → PlainStep
 item_step (Some (Op i)) p s = op_step i p s
 item_step other p s = Stuck s.place NoInstruction
 
--- one step; after the exit the state stays
+-- one step, by the exit's status; after the exit the state stays
 abbrev pub step_from : Option ℕ → Program → PlainCore → PlainStep
 step_from None p s = item_step (p.item s.place) p s
 step_from (Some status) p s = Went s []
 
+-- one step
 unfoldable pub plain_step : Program → PlainCore → PlainStep
 plain_step p s = step_from s.exit p s

@@ -3,6 +3,7 @@ use Rattle.std.specs.Prelude.{ℕ, List, codes}
 use Rattle.sym_machine.specs.declared.why.Why.{Why}
 use Rattle.sym_machine.specs.declared.why.Why.TheVariants.{AddressUnknown, ConditionUnknown, TargetUnknown, ArgumentUnknown, BadAddress, Misaligned, StackPointer, NoInstruction, UnknownCall}
 
+-- the number that is printed for a cause
 abbrev pub why_number : Why → ℕ
 why_number AddressUnknown = 1
 why_number ConditionUnknown = 2
@@ -14,6 +15,7 @@ why_number StackPointer = 7
 why_number NoInstruction = 8
 why_number UnknownCall = 9
 
+-- its name
 abbrev pub why_name : Why → List ℕ
 why_name AddressUnknown = codes "AddressUnknown"
 why_name ConditionUnknown = codes "ConditionUnknown"

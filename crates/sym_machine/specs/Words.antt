@@ -4,20 +4,17 @@ use Rattle.rv_decode.specs.declared.instr.ImmOp.{ImmOp}
 use Rattle.rv_decode.specs.declared.instr.ImmOp.TheVariants.{Addi}
 use Rattle.rv_decode.specs.Bits.{add32}
 use Rattle.rv_decode.specs.Memory.{byte_of}
-use Rattle.sym_machine.specs.declared.word.Value.{Value}
 use Rattle.sym_machine.specs.declared.word.SymByte.{SymByte}
-use Rattle.sym_machine.specs.declared.word.SymByte.TheVariants.{Num, Part, Undef}
+use Rattle.sym_machine.specs.declared.word.SymByte.TheVariants.{Num, Undef}
 use Rattle.sym_machine.specs.declared.word.SymWord.{SymWord}
 
+-- a word whose bytes are undefined
 abbrev pub undef_word : SymWord
 undef_word = record { b0 = Undef; b1 = Undef; b2 = Undef; b3 = Undef }
 
+-- a number's word: its four bytes
 abbrev pub number_word : ℕ → SymWord
 number_word n = record { b0 = Num (byte_of n 0); b1 = Num (byte_of n 1); b2 = Num (byte_of n 2); b3 = Num (byte_of n 3) }
-
--- a value's word: its four parts in order
-abbrev pub value_word : Value → SymWord
-value_word v = record { b0 = Part v 0; b1 = Part v 1; b2 = Part v 2; b3 = Part v 3 }
 
 -- the number of four bytes, where all are numbers
 abbrev pub number_of_bytes : SymByte → SymByte → SymByte → SymByte → Option ℕ
@@ -35,6 +32,7 @@ abbrev pub numeric : Option ℕ → (ℕ → ℕ) → SymWord
 numeric None f = undef_word
 numeric (Some n) f = number_word (f n)
 
+-- whether an immediate is 0
 abbrev pub is_zero : ℤ → Bool
 is_zero (pos n) = n == 0
 is_zero (negsuc n) = false

@@ -1,4 +1,4 @@
--- The tables of halfwords (RISC-V Zc specification 1.0, chapters "Zca" and "Zcb").
+-- The tables of halfwords (RISC-V unprivileged manual, "RVC Instruction Set Listings"; RISC-V Zc specification 1.0, "Zca").
 use Rattle.std.specs.Prelude.{ℕ, ℤ, ◌+◌, ◌*◌, Option, Some, None, ◌==◌, if◌then◌else◌}
 use Rattle.std.specs.Option.{option_map}
 use Rattle.rv_decode.specs.declared.instr.Instr.{Instr}

@@ -11,9 +11,11 @@ use Rattle.zc_decode.specs.Halfwords.{decoded16}
 use Rattle.zc_machine.specs.declared.reason.Reason.{Reason}
 use Rattle.zc_machine.specs.declared.reason.Reason.TheVariants.{Illegal, BadAccess}
 
+-- the halfword at an address, its low byte first
 abbrev pub half_at : ZcCore → ℕ → ℕ
 half_at z a = byte_in z a + 256 * byte_in z (a + 1)
 
+-- the word there
 abbrev pub word_at : ZcCore → ℕ → ℕ
 word_at z a = byte_in z a + 256 * byte_in z (a + 1) + 65536 * byte_in z (a + 2) + 16777216 * byte_in z (a + 3)
 
@@ -22,21 +24,23 @@ pub data Fetched : Type 0 where
   Found : Short → (size : ℕ) → Fetched
   Missing : Reason → Fetched
 
+-- what was decoded, or nothing that the tables have
 abbrev pub found : Option Short → ℕ → Fetched
 found None size = Missing Illegal
 found (Some s) size = Found s size
 
--- a halfword, or a word where the low two bits are 11
+-- an instruction of two bytes
 abbrev pub fetched_half : ZcCore → ℕ → Fetched
 fetched_half z a = found (decoded16 (half_at z a)) 2
 
+-- an instruction of four bytes, which must lie in text too
 abbrev pub fetched_word : ZcCore → ℕ → Fetched
 fetched_word z a =
     if lies_in is_text (extents_of z.memory) a 4
     then found (option_map Base (decoded (word_at z a))) 4
     else Missing BadAccess
 
--- what stands at an address of code
+-- what stands at an address of code: a halfword, or a word where its low two bits are 11
 abbrev pub fetched_at : ZcCore → ℕ → Fetched
 fetched_at z a =
     if lies_in is_text (extents_of z.memory) a 2

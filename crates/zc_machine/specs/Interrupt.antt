@@ -13,6 +13,7 @@ is_free z a = lies_in is_stack (extents_of z.memory) a 1 && nat_lt a (reg_in z 2
 abbrev pub dirtied : ℕ × ℕ → ZcCore → ZcCore
 dirtied d z = if is_free z d.0 then record z { memory = changed (written d.0 1 (λ i. d.1)) z.memory } else z
 
+-- the bytes that are written, in order
 abbrev pub all_dirtied : List (ℕ × ℕ) → ZcCore → ZcCore
 all_dirtied [] z = z
 all_dirtied (d ∷ ds) z = all_dirtied ds (dirtied d z)

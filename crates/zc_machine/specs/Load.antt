@@ -5,10 +5,11 @@ use Rattle.elf32_read.specs.Segments.{SegmentData}
 use Rattle.rv_decode.specs.Memory.{Region, Text, Data, Stack, blank}
 use Rattle.rv_decode.specs.State.{ZcCore, start_regs}
 
--- behind its bytes in the file a segment is 0
+-- the region of a segment: its bytes from the file, and zeros behind them
 abbrev pub region_of : SegmentData → Region ℕ
 region_of s = record { kind = (if s.code then Text else Data); at = s.at; cells = s.bytes ++ blank (s.size - length s.bytes) 0 }
 
+-- the stack, of zeros
 abbrev pub stack_region : MemMap → Region ℕ
 stack_region m = record { kind = Stack; at = m.stack_low; cells = blank (m.stack_high - m.stack_low) 0 }
 

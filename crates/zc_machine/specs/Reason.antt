@@ -3,6 +3,7 @@ use Rattle.std.specs.Prelude.{ℕ, List, codes}
 use Rattle.zc_machine.specs.declared.reason.Reason.{Reason}
 use Rattle.zc_machine.specs.declared.reason.Reason.TheVariants.{Illegal, BadAccess, Misaligned, Break, UnknownCall}
 
+-- the number that is printed for a cause
 abbrev pub reason_number : Reason → ℕ
 reason_number Illegal = 1
 reason_number BadAccess = 2
@@ -10,6 +11,7 @@ reason_number Misaligned = 3
 reason_number Break = 4
 reason_number UnknownCall = 5
 
+-- its name
 abbrev pub reason_name : Reason → List ℕ
 reason_name Illegal = codes "Illegal"
 reason_name BadAccess = codes "BadAccess"

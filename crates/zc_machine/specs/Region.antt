@@ -6,6 +6,7 @@ use Rattle.zc_machine.specs.declared.region.Access.TheVariants.{Fetch, Interrupt
 use Rattle.zc_machine.specs.declared.region.RegionKind.{RegionKind}
 use Rattle.zc_machine.specs.declared.region.RegionKind.TheVariants as region
 
+-- a region's kind in the definitions
 abbrev pub kind_of : RegionKind → Kind
 kind_of region.Text = Text
 kind_of region.Data = Data

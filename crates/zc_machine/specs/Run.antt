@@ -19,17 +19,19 @@ answered (call.Exit status) r =
     })
 answered other r = Err UnknownCall
 
+-- the state after a step, with the environment's answer where it wants one
 abbrev pub committed : ZcStep → ZcState → Result ZcState Reason
 committed (Committed z) r = Ok (record r { core = z })
 committed (Wants c) r = answered c r
 committed (Ended status) r = Ok r
 committed (Stopped reason) r = Err reason
 
--- the interrupts before the next commit, and that commit; after the exit the state stays
+-- the interrupts before the next commit, and that commit, by the exit's status; after the exit the state stays
 abbrev pub turn_from : Option ℕ → List Cut → ZcState → Result ZcState Reason
 turn_from None plan r = let z = cut_by plan r.core in committed (zc_step z) (record r { core = z })
 turn_from (Some status) plan r = Ok r
 
+-- one turn
 unfoldable pub zc_turn : List Cut → ZcState → Result ZcState Reason
 zc_turn plan r = turn_from r.core.exit plan r
 

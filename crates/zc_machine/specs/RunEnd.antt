@@ -18,7 +18,7 @@ pub record Course : Type 0 where
   pub plan : List Cut
   pub steps : ℕ
 
--- the program exited with this status within the commits, the last of which is the exit
+-- the program exited with this status within the commits
 pub record RanToExit (run : Course) (status : ℕ) (last : ZcState) (now : ZcCore) : Type 0 where
   pub commits : ℕ
   pub within : commits ≤ run.steps
@@ -41,7 +41,7 @@ pub record RanOut (run : Course) (last : ZcState) (now : ZcCore) : Type 0 where
   pub running : last.core.exit ≡ None
   pub machine : now ≡ last.core
 
--- the last commit is a write within the commits, and the console refused it
+-- the run came to this state within the commits; what of a refused write is missing, `Wrote` says
 pub record RanToRefusal (run : Course) (last : ZcState) : Type 0 where
   pub commits : ℕ
   pub within : commits ≤ run.steps
@@ -54,7 +54,8 @@ Ended (end.Stopped reason) run last now = RanToStop run reason last now
 Ended end.Spent run last now = RanOut run last now
 Ended (end.Console fault) run last now = RanToRefusal run last
 
--- the writes reached their streams in order; of a refused one, which is the last, a part is missing
+-- all that the events write stands on the two streams, in order; where the console refused a write, one of the streams has
+-- a part of that, and not the whole
 abbrev pub Wrote : RunEnd → List Event → Option (List ℕ) → Option (List ℕ) → Option (List ℕ) → Option (List ℕ) → Type 0
 Wrote (end.Console fault) events out out' err err' =
     (AddsPart out out' (out_of events) × Adds err err' (err_of events)) ⊎ (Adds out out' (out_of events) × AddsPart err err' (err_of events))
@@ -66,7 +67,7 @@ pub record Ran (run : Course) (answer : RunEnd) (now : ZcCore) (out out' err err
   pub ended : Ended answer run last now
   pub wrote : Wrote answer last.events out out' err err'
 
--- a console that cuts a run short shows it in its counts
+-- where the console ended the run, this holds of its fault
 abbrev pub IfConsole : RunEnd → (ConsoleFault → Type 0) → Type 0
 IfConsole (end.Console fault) P = P fault
 IfConsole answer P = Unit {0}

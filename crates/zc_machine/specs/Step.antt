@@ -22,6 +22,7 @@ pub data ZcStep : Type 0 where
 abbrev pub called : ZcCore → ZcStep
 called z = if reg_in z 17 == 93 then Wants (call.Exit (reg_in z 10 % 256)) else Stopped UnknownCall
 
+-- what the effect of an instruction comes to
 abbrev pub effect_step : Effect → ZcCore → ZcStep
 effect_step (act.Commits z') z = Committed z'
 effect_step act.Misaligned z = Stopped Misaligned
@@ -35,14 +36,16 @@ abbrev pub short_step : Short → ℕ → ZcCore → ZcStep
 short_step (Base i) size z = effect_step (effect i size z) z
 short_step other size z = Stopped Illegal
 
+-- what was fetched is executed
 abbrev pub made : Fetched → ZcCore → ZcStep
 made (Found s size) z = short_step s size z
 made (Missing reason) z = Stopped reason
 
--- one step; after the exit nothing changes
+-- one step, by the exit's status; after the exit nothing changes
 abbrev pub step_from : Option ℕ → ZcCore → ZcStep
 step_from None z = made (fetched_at z z.pc) z
 step_from (Some status) z = Ended status
 
+-- one step
 unfoldable pub zc_step : ZcCore → ZcStep
 zc_step z = step_from z.exit z

@@ -12,9 +12,10 @@ piece_of stream other = []
 abbrev pub written_to : ℕ → List Event → List ℕ
 written_to stream events = flat_map (piece_of stream) events
 
--- standard output and standard error have the numbers 1 and 2
+-- standard output has the number 1
 abbrev pub out_of : List Event → List ℕ
 out_of events = written_to 1 events
 
+-- and standard error the number 2
 abbrev pub err_of : List Event → List ℕ
 err_of events = written_to 2 events

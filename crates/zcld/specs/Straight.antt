@@ -28,6 +28,7 @@ abbrev pub is_six_bits : ℤ → Bool
 is_six_bits (pos n) = nat_lt n 32
 is_six_bits (negsuc n) = nat_lt n 32
 
+-- the operation is `addi`
 abbrev pub is_addi : ImmOp → Bool
 is_addi Addi = true
 is_addi other = false
