@@ -25,7 +25,13 @@ fn words_that_spell_no_command_touch_no_file(rt: HostRuntime) -> Result<(), Fail
         let left = call(rt.alloc(), words, "x.o", &THREE, &[], &[])?;
         assert_eq!(rt; left.outcome, Outcome::Usage);
         assert_eq!(rt; left.console.err_bytes(), b"usage\n".as_slice());
-        assert!(rt; left.out().is_none() && left.cert().is_none());
+        for name in ["a", "o", "c", "-o", "-"] {
+            assert!(rt; left.store.file(name).is_none(), "{name}");
+        }
+        assert_eq!(rt;
+            left.store.file("x.o").ok_or("no object")?,
+            THREE.as_slice()
+        );
     }
     Ok(())
 }
