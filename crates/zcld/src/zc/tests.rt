@@ -4,6 +4,7 @@ use crate::fixture::{THREE, THREE_IMAGE, ZC_WORDS, call};
 use crate::outcome::Outcome;
 use elf32_read::fault::Fault;
 use std::test::Fail;
+use zc_base::fields::put_u32;
 
 const CERTIFICATE: &str = "zcld certificate 1\nprice 0 0 0\nnet 0\nend\n";
 
@@ -28,7 +29,8 @@ fn three_instructions_become_an_image_of_460_bytes(rt: HostRuntime) -> Result<()
 }
 
 // Each row changes one byte of the object: e_flags, the sections' count, the header of section 1 (its
-// kind, flags, size and alignment), a word, and a section beside it.
+// kind, flags, size and alignment), a word, and a section beside it; the magic number, and where
+// section 1's content begins.
 #[test]
 fn objects_that_are_not_straight_code_are_named(rt: HostRuntime) -> Result<(), Fail> {
     let rows = [
@@ -79,15 +81,12 @@ fn small_constants_take_two_bytes(rt: HostRuntime) -> Result<(), Fail> {
     ];
     for (word, want) in rows {
         let mut object = THREE;
-        let bytes = word.to_le_bytes();
-        for i in 0..4 {
-            object[52 + i] = bytes[i];
-        }
+        put_u32(&mut object, 52, word);
         let left = call(rt.alloc(), &ZC_WORDS, "x.o", &object, &[], &[])?;
         let image = left.out().ok_or("no image")?;
         assert!(rt; image.len() >= 120, "{word:08x}");
-        assert_eq!(rt; image[116..].starts_with(want), true, "{word:08x}");
-        assert_eq!(rt; u32::from(image[68]), want.len() as u32 + 8, "{word:08x}");
+        assert!(rt; image[116..].starts_with(want), "{word:08x}");
+        assert_eq!(rt; usize::from(image[68]), want.len() + 8, "{word:08x}");
     }
     Ok(())
 }
