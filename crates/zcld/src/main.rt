@@ -5,6 +5,8 @@ pub mod call;
 pub mod command_line;
 pub mod err_line;
 pub mod file;
+#[cfg(test)]
+mod fixture;
 pub mod image;
 pub mod input;
 pub mod outcome;

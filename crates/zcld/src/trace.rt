@@ -81,3 +81,6 @@ fn follow<C: Console>(alloc: Global, object: &Object, steps: u64, console: &mut 
         Err(_) => Outcome::OutOfMemory,
     }
 }
+
+#[cfg(test)]
+mod tests;

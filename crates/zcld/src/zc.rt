@@ -68,3 +68,6 @@ pub fn zc<S: Store>(alloc: Global, out: &str, cert: &str, name: &str, store: &mu
         Err(outcome) => outcome,
     }
 }
+
+#[cfg(test)]
+mod tests;

@@ -1,85 +1,14 @@
-// Runs of small images over files and a console in memory. The images were worked out by hand from
-// the ELF format.
+// Runs of small images.
 
 use super::*;
-use crate::call::zcld;
-use crate::err_line::line_of;
+use crate::fixture::{THREE_IMAGE, call};
 use crate::outcome::status;
 use elf32_read::image_fault::ImageFault;
-use std::alloc::{AllocError, Global};
 use std::test::Fail;
 use zc_base::fields::put_u32;
 use zc_machine::reason::Reason;
-use zc_outside::mem_console::MemConsole;
-use zc_outside::mem_store::MemStore;
-
-// `li a0,3`, `li a7,93` and `ecall`: the program headers at 52 and 84, the text at 116, four places at
-// 128, the names of the sections at 176, and six section headers at 220.
-const THREE_IMAGE: [u8; 460] = [
-    0x7F, 0x45, 0x4C, 0x46, 0x01, 0x01, 0x01, 0x00, 0x00, 0x00, 0x00, 0x00, 0x00, 0x00, 0x00, 0x00,
-    0x02, 0x00, 0xF3, 0x00, 0x01, 0x00, 0x00, 0x00, 0x00, 0x00, 0x01, 0x00, 0x34, 0x00, 0x00, 0x00,
-    0xDC, 0x00, 0x00, 0x00, 0x01, 0x00, 0x00, 0x00, 0x34, 0x00, 0x20, 0x00, 0x02, 0x00, 0x28, 0x00,
-    0x06, 0x00, 0x05, 0x00, 0x01, 0x00, 0x00, 0x00, 0x74, 0x00, 0x00, 0x00, 0x00, 0x00, 0x01, 0x00,
-    0x00, 0x00, 0x01, 0x00, 0x0A, 0x00, 0x00, 0x00, 0x0A, 0x00, 0x00, 0x00, 0x05, 0x00, 0x00, 0x00,
-    0x04, 0x00, 0x00, 0x00, 0x01, 0x00, 0x00, 0x00, 0x80, 0x00, 0x00, 0x00, 0x00, 0x00, 0x10, 0x00,
-    0x00, 0x00, 0x10, 0x00, 0x00, 0x00, 0x00, 0x00, 0x00, 0x00, 0x00, 0x00, 0x06, 0x00, 0x00, 0x00,
-    0x04, 0x00, 0x00, 0x00, 0x0D, 0x45, 0x93, 0x08, 0xD0, 0x05, 0x73, 0x00, 0x00, 0x00, 0x00, 0x00,
-    0x00, 0x00, 0x01, 0x00, 0x00, 0x00, 0x00, 0x00, 0x00, 0x00, 0x01, 0x00, 0x00, 0x00, 0x01, 0x00,
-    0x04, 0x00, 0x00, 0x00, 0x02, 0x00, 0x01, 0x00, 0x00, 0x00, 0x01, 0x00, 0x08, 0x00, 0x00, 0x00,
-    0x06, 0x00, 0x01, 0x00, 0x00, 0x00, 0x01, 0x00, 0x0C, 0x00, 0x00, 0x00, 0x0A, 0x00, 0x01, 0x00,
-    0x00, 0x2E, 0x74, 0x65, 0x78, 0x74, 0x00, 0x2E, 0x64, 0x61, 0x74, 0x61, 0x00, 0x2E, 0x62, 0x73,
-    0x73, 0x00, 0x2E, 0x7A, 0x63, 0x6C, 0x64, 0x2E, 0x70, 0x6C, 0x61, 0x63, 0x65, 0x73, 0x00, 0x2E,
-    0x73, 0x68, 0x73, 0x74, 0x72, 0x74, 0x61, 0x62, 0x00, 0x00, 0x00, 0x00, 0x00, 0x00, 0x00, 0x00,
-    0x00, 0x00, 0x00, 0x00, 0x00, 0x00, 0x00, 0x00, 0x00, 0x00, 0x00, 0x00, 0x00, 0x00, 0x00, 0x00,
-    0x00, 0x00, 0x00, 0x00, 0x00, 0x00, 0x00, 0x00, 0x00, 0x00, 0x00, 0x00, 0x00, 0x00, 0x00, 0x00,
-    0x00, 0x00, 0x00, 0x00, 0x01, 0x00, 0x00, 0x00, 0x01, 0x00, 0x00, 0x00, 0x06, 0x00, 0x00, 0x00,
-    0x00, 0x00, 0x01, 0x00, 0x74, 0x00, 0x00, 0x00, 0x0A, 0x00, 0x00, 0x00, 0x00, 0x00, 0x00, 0x00,
-    0x00, 0x00, 0x00, 0x00, 0x04, 0x00, 0x00, 0x00, 0x00, 0x00, 0x00, 0x00, 0x07, 0x00, 0x00, 0x00,
-    0x01, 0x00, 0x00, 0x00, 0x03, 0x00, 0x00, 0x00, 0x00, 0x00, 0x10, 0x00, 0x80, 0x00, 0x00, 0x00,
-    0x00, 0x00, 0x00, 0x00, 0x00, 0x00, 0x00, 0x00, 0x00, 0x00, 0x00, 0x00, 0x04, 0x00, 0x00, 0x00,
-    0x00, 0x00, 0x00, 0x00, 0x0D, 0x00, 0x00, 0x00, 0x08, 0x00, 0x00, 0x00, 0x03, 0x00, 0x00, 0x00,
-    0x00, 0x00, 0x10, 0x00, 0x80, 0x00, 0x00, 0x00, 0x00, 0x00, 0x00, 0x00, 0x00, 0x00, 0x00, 0x00,
-    0x00, 0x00, 0x00, 0x00, 0x04, 0x00, 0x00, 0x00, 0x00, 0x00, 0x00, 0x00, 0x12, 0x00, 0x00, 0x00,
-    0x01, 0x00, 0x00, 0x00, 0x00, 0x00, 0x00, 0x00, 0x00, 0x00, 0x00, 0x00, 0x80, 0x00, 0x00, 0x00,
-    0x30, 0x00, 0x00, 0x00, 0x00, 0x00, 0x00, 0x00, 0x00, 0x00, 0x00, 0x00, 0x04, 0x00, 0x00, 0x00,
-    0x00, 0x00, 0x00, 0x00, 0x1F, 0x00, 0x00, 0x00, 0x03, 0x00, 0x00, 0x00, 0x00, 0x00, 0x00, 0x00,
-    0x00, 0x00, 0x00, 0x00, 0xB0, 0x00, 0x00, 0x00, 0x29, 0x00, 0x00, 0x00, 0x00, 0x00, 0x00, 0x00,
-    0x00, 0x00, 0x00, 0x00, 0x01, 0x00, 0x00, 0x00, 0x00, 0x00, 0x00, 0x00,
-];
 
 const WORDS: [&str; 2] = ["run", "x"];
-
-// What a call left.
-#[derive(Drop)]
-struct Left {
-    outcome: Outcome,
-    store: MemStore,
-    console: MemConsole,
-}
-
-// A call over a store that holds the image as x, and a console with an input of five bytes, where
-// these calls of both fail.
-fn call(
-    alloc: Global,
-    words: &[&str],
-    image: &[u8],
-    store_fails: &[u32],
-    console_fails: &[u32],
-) -> Result<Left, AllocError> {
-    let mut list = Vec::new(alloc);
-    for word in words {
-        list.push(String::from_str(alloc, word)?)?;
-    }
-    let mut store = MemStore::new(alloc, store_fails)?;
-    store.add("x", image)?;
-    let mut console = MemConsole::new(alloc, b"input", console_fails)?;
-    let outcome = zcld(alloc, list.as_slice(), &mut store, &mut console);
-    Ok(Left {
-        outcome,
-        store,
-        console,
-    })
-}
 
 // The exit is the third commit.
 #[test]
@@ -95,7 +24,7 @@ fn an_image_runs_to_its_exit_or_its_last_step(rt: HostRuntime) -> Result<(), Fai
         (&["run", "--steps", "0", "x"], spent),
     ];
     for (words, (outcome, line, exit)) in rows {
-        let mut left = call(rt.alloc(), words, &THREE_IMAGE, &[], &[])?;
+        let mut left = call(rt.alloc(), words, "x", &THREE_IMAGE, &[], &[])?;
         assert_eq!(rt; left.outcome, outcome);
         assert_eq!(rt; status(&left.outcome), exit);
         assert_eq!(rt; left.console.err_bytes(), line.as_bytes());
@@ -105,32 +34,6 @@ fn an_image_runs_to_its_exit_or_its_last_step(rt: HostRuntime) -> Result<(), Fai
             left.store.file("x").ok_or("no image")?,
             THREE_IMAGE.as_slice()
         );
-    }
-    Ok(())
-}
-
-// A word has one to twenty digits, and allows 1,000,000,000 steps at most.
-#[test]
-fn words_that_spell_no_run_take_no_input(rt: HostRuntime) -> Result<(), Fail> {
-    let lists: [&[&str]; 12] = [
-        &["run"],
-        &["run", "-x"],
-        &["Run", "x"],
-        &["run", "x", "x"],
-        &["run", "--steps", "x"],
-        &["run", "--steps", "x", "x"],
-        &["run", "--steps", "", "x"],
-        &["run", "--steps", "-1", "x"],
-        &["run", "--steps", "1000000001", "x"],
-        &["run", "--steps", "000000000000000000003", "x"],
-        &["run", "--step", "3", "x"],
-        &["run", "x", "--steps", "3"],
-    ];
-    for words in lists {
-        let mut left = call(rt.alloc(), words, &THREE_IMAGE, &[], &[])?;
-        assert_eq!(rt; left.outcome, Outcome::Usage);
-        assert_eq!(rt; left.console.err_bytes(), b"usage\n".as_slice());
-        assert_eq!(rt; left.console.take(&mut [0; 8]), Ok(5));
     }
     Ok(())
 }
@@ -160,7 +63,7 @@ fn bad_images_are_named_and_take_no_input(rt: HostRuntime) -> Result<(), Fail> {
     for (name, at, byte, (fault, line)) in rows {
         let mut image = THREE_IMAGE;
         image[at] = byte;
-        let mut left = call(rt.alloc(), &WORDS, &image, &[], &[])?;
+        let mut left = call(rt.alloc(), &WORDS, "x", &image, &[], &[])?;
         assert_eq!(rt;
             left.outcome,
             Outcome::BadFile(FileFault::Image(fault)),
@@ -170,7 +73,7 @@ fn bad_images_are_named_and_take_no_input(rt: HostRuntime) -> Result<(), Fail> {
         assert_eq!(rt; left.console.err_bytes(), line.as_bytes(), "{name}");
         assert_eq!(rt; left.console.take(&mut [0; 8]), Ok(5), "{name}");
     }
-    let left = call(rt.alloc(), &WORDS, &THREE_IMAGE[..100], &[], &[])?;
+    let left = call(rt.alloc(), &WORDS, "x", &THREE_IMAGE[..100], &[], &[])?;
     assert_eq!(rt;
         left.outcome,
         Outcome::BadFile(FileFault::Image(ImageFault::Truncated))
@@ -182,23 +85,17 @@ fn bad_images_are_named_and_take_no_input(rt: HostRuntime) -> Result<(), Fail> {
 #[test]
 fn changed_words_of_an_image_are_named(rt: HostRuntime) -> Result<(), Fail> {
     let rows = [
-        (36, 2, ImageFault::NotElf),
         (28, 0xFFFF_FFFF, ImageFault::Truncated),
-        (72, 9, ImageFault::BadSegment),
         (72, 0xFFFF_FFFF, ImageFault::BadSegment),
-        (76, 7, ImageFault::BadSegment),
-        (24, 0x0001_0001, ImageFault::BadSegment),
-        (24, 0x0001_000C, ImageFault::BadSegment),
         (104, 0xFFFF_FFFF, ImageFault::BadSegment),
         (400, 47, ImageFault::BadPlaces),
-        (144, 0, ImageFault::BadPlaces),
         (136, 0x0020_0000, ImageFault::BadPlaces),
     ];
     for (at, word, fault) in rows {
         let mut image = THREE_IMAGE;
         assert!(rt; at <= 456);
         put_u32(&mut image, at, word);
-        let left = call(rt.alloc(), &WORDS, &image, &[], &[])?;
+        let left = call(rt.alloc(), &WORDS, "x", &image, &[], &[])?;
         let want = Outcome::BadFile(FileFault::Image(fault));
         assert_eq!(rt; left.outcome, want, "{word:08x} at {at}");
     }
@@ -207,7 +104,7 @@ fn changed_words_of_an_image_are_named(rt: HostRuntime) -> Result<(), Fail> {
         (&THREE_IMAGE[..459], ImageFault::Truncated),
     ];
     for (image, fault) in cut {
-        let left = call(rt.alloc(), &WORDS, image, &[], &[])?;
+        let left = call(rt.alloc(), &WORDS, "x", image, &[], &[])?;
         let want = Outcome::BadFile(FileFault::Image(fault));
         assert_eq!(rt; left.outcome, want);
     }
@@ -256,34 +153,13 @@ fn each_end_of_a_program_has_its_line(rt: HostRuntime) -> Result<(), Fail> {
         let mut image = THREE_IMAGE;
         assert!(rt; at <= 456);
         put_u32(&mut image, at, word);
-        let mut left = call(rt.alloc(), &WORDS, &image, &[], &[])?;
+        let mut left = call(rt.alloc(), &WORDS, "x", &image, &[], &[])?;
         assert_eq!(rt; left.outcome, outcome, "{word:08x}");
         assert_eq!(rt; left.console.err_bytes(), line.as_bytes(), "{word:08x}");
         assert_eq!(rt; left.console.take(&mut [0; 8]), Ok(0), "{word:08x}");
         assert_eq!(rt; status(&left.outcome), exit, "{word:08x}");
     }
     Ok(())
-}
-
-// Statuses from 118 on are kept for what the program itself says.
-#[test]
-fn each_outcome_of_a_run_has_its_line_and_status(rt: HostRuntime) {
-    let misaligned = Outcome::Stopped(Reason::Misaligned, 0xFEDC_BA98);
-    let broken = Outcome::Stopped(Reason::Break, 0x7654_3210);
-    let too_large = Outcome::BadFile(FileFault::Image(ImageFault::TooLarge));
-    let rows = [
-        (Outcome::Exited(0), "exited 0\n", 0),
-        (Outcome::Exited(117), "exited 117\n", 117),
-        (Outcome::Exited(118), "exited 118\n", 118),
-        (Outcome::Exited(119), "exited 119\n", 118),
-        (misaligned, "stopped 3 Misaligned fedcba98\n", 126),
-        (broken, "stopped 4 Break 76543210\n", 126),
-        (too_large, "bad image 5\n", 125),
-    ];
-    for (outcome, line, want) in rows {
-        assert_eq!(rt; line_of(&outcome).as_str(), line);
-        assert_eq!(rt; status(&outcome), want, "{outcome:?}");
-    }
 }
 
 // The store's call 0 reads the image. The console's calls 0 and 1 take the input and find its end, and
@@ -300,7 +176,14 @@ fn calls_of_the_outside_that_fail_are_named(rt: HostRuntime) -> Result<(), Fail>
         (&[1], &[3], exited, "exited 3\n"),
     ];
     for (store_fails, console_fails, outcome, line) in rows {
-        let left = call(rt.alloc(), &WORDS, &THREE_IMAGE, store_fails, console_fails)?;
+        let left = call(
+            rt.alloc(),
+            &WORDS,
+            "x",
+            &THREE_IMAGE,
+            store_fails,
+            console_fails,
+        )?;
         assert_eq!(rt; left.outcome, outcome, "{store_fails:?} {console_fails:?}");
         assert_eq!(rt;
             left.console.err_bytes(),
@@ -308,7 +191,7 @@ fn calls_of_the_outside_that_fail_are_named(rt: HostRuntime) -> Result<(), Fail>
             "{store_fails:?} {console_fails:?}"
         );
     }
-    let missing = call(rt.alloc(), &["run", "y"], &THREE_IMAGE, &[], &[])?;
+    let missing = call(rt.alloc(), &["run", "y"], "x", &THREE_IMAGE, &[], &[])?;
     assert_eq!(rt; missing.outcome, Outcome::ReadFault);
     assert_eq!(rt; missing.console.err_bytes(), b"read fault\n".as_slice());
     Ok(())
@@ -322,12 +205,12 @@ fn an_image_of_another_linker_runs_at_the_same_place(rt: HostRuntime) -> Result<
     image.copy_from_slice(&THREE_IMAGE[..128]);
     put_u32(&mut image, 32, 0);
     put_u32(&mut image, 48, 0);
-    let here = call(rt.alloc(), &WORDS, &image, &[], &[])?;
+    let here = call(rt.alloc(), &WORDS, "x", &image, &[], &[])?;
     assert_eq!(rt; here.outcome, Outcome::Exited(3));
     put_u32(&mut image, 24, 0x8000_0000);
     put_u32(&mut image, 60, 0x8000_0000);
     put_u32(&mut image, 92, 0x8000_1000);
-    let there = call(rt.alloc(), &WORDS, &image, &[], &[])?;
+    let there = call(rt.alloc(), &WORDS, "x", &image, &[], &[])?;
     assert_eq!(rt;
         there.outcome,
         Outcome::BadFile(FileFault::Image(ImageFault::BadSegment))

@@ -1,6 +1,6 @@
 // Objects on the symbolic machine, and beside them their images on the Zc machine.
 
-use super::{Left, THREE, WORDS, call};
+use crate::fixture::{Left, THREE, ZC_WORDS, call};
 use crate::outcome::{Outcome, status};
 use elf32_read::fault::Fault;
 use std::alloc::{AllocError, Global};
@@ -33,36 +33,17 @@ fn object_of(words: [u32; 4]) -> [u8; 340] {
 }
 
 fn traced(alloc: Global, words: [u32; 4]) -> Result<Left, AllocError> {
-    call(alloc, &TRACE, &object_of(words), &[], &[])
+    call(alloc, &TRACE, "x.o", &object_of(words), &[], &[])
 }
 
 #[test]
 fn three_instructions_exit_with_3(rt: HostRuntime) -> Result<(), Fail> {
-    let left = call(rt.alloc(), &TRACE, &THREE, &[], &[])?;
+    let left = call(rt.alloc(), &TRACE, "x.o", &THREE, &[], &[])?;
     assert_eq!(rt; left.outcome, Outcome::Exited(3));
     assert_eq!(rt; status(&left.outcome), 3);
     assert_eq!(rt; left.console.err_bytes(), b"exited 3\n".as_slice());
     assert_eq!(rt; left.console.out_bytes(), b"".as_slice());
     assert!(rt; left.out().is_none());
-    for (steps, want) in [
-        ("0", Outcome::Spent),
-        ("2", Outcome::Spent),
-        ("3", Outcome::Exited(3)),
-        ("00000000001000000000", Outcome::Exited(3)),
-        ("1000000001", Outcome::Usage),
-        ("000000000000000000003", Outcome::Usage),
-        ("", Outcome::Usage),
-        ("+3", Outcome::Usage),
-    ] {
-        let left = call(
-            rt.alloc(),
-            &["trace", "--steps", steps, "x.o"],
-            &THREE,
-            &[],
-            &[],
-        )?;
-        assert_eq!(rt; left.outcome, want, "--steps {steps}");
-    }
     Ok(())
 }
 
@@ -128,7 +109,7 @@ fn objects_are_refused_and_faults_named(rt: HostRuntime) -> Result<(), Fail> {
         unknown.console.err_bytes(),
         b"refused 0 0 NotBuilt\n".as_slice()
     );
-    let missing = call(rt.alloc(), &["trace", "y.o"], &THREE, &[], &[])?;
+    let missing = call(rt.alloc(), &["trace", "y.o"], "x.o", &THREE, &[], &[])?;
     assert_eq!(rt; missing.outcome, Outcome::ReadFault);
     // The input's bytes are taken by the console's call 0, its end is seen by call 1, and call 2 writes the line.
     let rows: [(&[u32], &[u32], Outcome, &str); 4] = [
@@ -138,7 +119,14 @@ fn objects_are_refused_and_faults_named(rt: HostRuntime) -> Result<(), Fail> {
         (&[], &[2], Outcome::Exited(3), ""),
     ];
     for (store_fails, console_fails, want, line) in rows {
-        let left = call(rt.alloc(), &TRACE, &THREE, store_fails, console_fails)?;
+        let left = call(
+            rt.alloc(),
+            &TRACE,
+            "x.o",
+            &THREE,
+            store_fails,
+            console_fails,
+        )?;
         assert_eq!(rt; left.outcome, want);
         assert_eq!(rt; left.console.err_bytes(), line.as_bytes());
     }
@@ -159,11 +147,11 @@ fn an_image_exits_as_its_object_does(rt: HostRuntime) -> Result<(), Fail> {
             let object = object_of(words);
             let sum = first.wrapping_add(second).cast_unsigned();
             let want = Outcome::Exited((sum % 256) as u8);
-            let traced = call(rt.alloc(), &TRACE, &object, &[], &[])?;
+            let traced = call(rt.alloc(), &TRACE, "x.o", &object, &[], &[])?;
             assert_eq!(rt; traced.outcome, want, "trace {first} {second}");
-            let linked = call(rt.alloc(), &WORDS, &object, &[], &[])?;
+            let linked = call(rt.alloc(), &ZC_WORDS, "x.o", &object, &[], &[])?;
             let image = linked.out().ok_or("no image")?;
-            let ran = call(rt.alloc(), &["run", "x.o"], image, &[], &[])?;
+            let ran = call(rt.alloc(), &["run", "x"], "x", image, &[], &[])?;
             assert_eq!(rt; ran.outcome, want, "run {first} {second}");
             assert_eq!(rt; ran.console.err_bytes(), traced.console.err_bytes());
         }
