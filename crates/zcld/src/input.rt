@@ -8,8 +8,8 @@ use crate::outcome::Outcome;
 use std::alloc::Global;
 use zc_outside::console::{Console, ConsoleFault};
 
-/// The most bytes of input.
-pub const INPUT_LIMIT: usize = 16_777_216;
+// The most bytes of input.
+const INPUT_LIMIT: usize = 16_777_216;
 
 // How many bytes are asked for at once.
 const PIECE: usize = 4096;
@@ -28,12 +28,9 @@ pub fn take_all<C: Console>(alloc: Global, console: &mut C) -> Result<Vec<u8>, O
     ensures sure { C.sure console.old → (C.read_faults console.new ≡ C.read_faults console.old) × (result ≡ Err Outcome.ReadFault → IsLongInput (C.input console.old)) }
 {
     let mut input = Vec::new(alloc);
-    for turn in 0..INPUT_LIMIT + 1 {
+    while input.len() <= INPUT_LIMIT {
         if take_piece(&mut input, console)? == 0 {
             return Ok(input);
-        }
-        if INPUT_LIMIT < input.len() {
-            return Err(Outcome::ReadFault);
         }
     }
     Err(Outcome::ReadFault)
