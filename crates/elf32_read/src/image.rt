@@ -1,6 +1,6 @@
 // Images.
 
-ghost use Rattle.std.specs.Prelude.{◌≡◌, ℕ, ◌≤◌, ◌<◌, ◌+◌, List, length, slice_get, None, Some, MatchResult, false};
+ghost use Rattle.std.specs.Prelude.{◌≡◌, ℕ, ◌≤◌, ◌<◌, List, length, slice_get, None, Some, MatchResult, false};
 ghost use Rattle.zc_base.specs.declared.mem_map.MemMap.{MemMap};
 ghost use Rattle.elf32_read.specs.Header.{entry_of};
 ghost use Rattle.elf32_read.specs.Image.{image_fault, image_truncated, load_passes_end, not_image, IsRead};

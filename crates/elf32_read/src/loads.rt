@@ -8,8 +8,8 @@ ghost use Rattle.elf32_read.specs.declared.header.ProgramHeader.{ProgramHeader};
 use crate::header::{LOAD, ProgramHeader, program_count, program_header};
 use std::marker::Model;
 
-/// How many segments an image may have.
-pub const MOST_LOADS: usize = 16;
+// How many segments an image may have.
+const MOST_LOADS: usize = 16;
 
 const NONE: ProgramHeader = ProgramHeader {
     kind: 0,
@@ -25,7 +25,7 @@ const NONE: ProgramHeader = ProgramHeader {
 /// Program headers that load segments, in order.
 #[derive(Drop)]
 pub struct Loads {
-    headers: [ProgramHeader; 16],
+    headers: [ProgramHeader; MOST_LOADS],
     count: usize,
 }
 

@@ -1,6 +1,6 @@
 // The places that an image lists.
 
-ghost use Rattle.std.specs.Prelude.{◌≡◌, ℕ, ◌≤◌, ◌<◌, ◌+◌, ◌*◌, ◌/◌, ◌==◌, ◌||◌, nat_lt, true, false, drop, length, MatchResult};
+ghost use Rattle.std.specs.Prelude.{◌≡◌, ℕ, ◌≤◌, ◌<◌, ◌+◌, ◌*◌, ◌==◌, nat_lt, true, false, drop, length, MatchResult};
 ghost use Rattle.std.specs.List.{list_any};
 ghost use Rattle.std.specs.Option.{option_to_list};
 ghost use Rattle.elf32_read.specs.Header.{content_of, headers_of, section_count, section_table};
@@ -124,7 +124,7 @@ fn holds_places(names: &[u8], header: &SectionHeader) -> bool
 fn is_bad_list(header: &SectionHeader) -> bool
     ensures { result ≡ is_bad_list header.now }
 {
-    is_without_content(header.kind) || header.size % 12 != 0
+    is_without_content(header.kind) || header.size as usize % ENTRY_SIZE != 0
 }
 
 // The section with places, unless there is more than one.
