@@ -18,9 +18,7 @@ const RELOCATABLE: u16 = 1;
 fn is_no_object(bytes: &[u8]) -> bool
     ensures { result ≡ not_elf bytes.now }
 {
-    bytes.len() < 52
-        || !begins_as(RELOCATABLE, bytes)
-        || has_other_section_headers(bytes)
+    bytes.len() < 52 || !begins_as(RELOCATABLE, bytes) || has_other_section_headers(bytes)
 }
 
 fn is_cut(bytes: &[u8]) -> bool
