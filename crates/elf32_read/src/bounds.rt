@@ -7,15 +7,17 @@ ghost use Rattle.elf32_read.specs.Image.{lacks_program_headers, load_passes_end}
 ghost use Rattle.elf32_read.specs.Object.{lacks_headers, passes_end};
 ghost use Rattle.elf32_read.specs.Segments.{loads_of};
 
-use crate::header::{LOAD, is_without_content, program_header, section_header};
-use zc_base::fields::{u16_at, u32_at};
+use crate::header::{
+    LOAD, is_without_content, program_count, program_header, program_table, section_count,
+    section_header, section_table,
+};
 
 /// Whether the section headers pass the end.
 pub fn lacks_headers(bytes: &[u8]) -> bool
     requires { 52 ≤ length bytes.now }
     ensures { result ≡ lacks_headers bytes.now }
 {
-    bytes.len() < u32_at(bytes, 32) as usize + 40 * u16_at(bytes, 48) as usize
+    bytes.len() < section_table(bytes) as usize + 40 * section_count(bytes) as usize
 }
 
 /// Whether the program headers pass the end.
@@ -23,7 +25,7 @@ pub fn lacks_program_headers(bytes: &[u8]) -> bool
     requires { 52 ≤ length bytes.now }
     ensures { result ≡ lacks_program_headers bytes.now }
 {
-    bytes.len() < u32_at(bytes, 28) as usize + 32 * u16_at(bytes, 44) as usize
+    bytes.len() < program_table(bytes) as usize + 32 * program_count(bytes) as usize
 }
 
 // Whether the content of a section passes the end.
@@ -43,7 +45,7 @@ pub fn has_cut_section(bytes: &[u8]) -> bool
     requires within { section_table bytes.now + 40 * section_count bytes.now ≤ length bytes.now }
     ensures { result ≡ list_any (passes_end bytes.now) (headers_of bytes.now) }
 {
-    for i in 0..u32::from(u16_at(bytes, 48)) {
+    for i in 0..u32::from(section_count(bytes)) {
         if is_section_cut(bytes, i) {
             return true;
         }
@@ -69,7 +71,7 @@ pub fn has_cut_load(bytes: &[u8]) -> bool
     requires within { program_table bytes.now + 32 * program_count bytes.now ≤ length bytes.now }
     ensures { result ≡ list_any (load_passes_end bytes.now) (loads_of bytes.now) }
 {
-    for i in 0..u32::from(u16_at(bytes, 44)) {
+    for i in 0..u32::from(program_count(bytes)) {
         if is_load_cut(bytes, i) {
             return true;
         }

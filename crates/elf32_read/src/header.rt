@@ -2,7 +2,8 @@
 // Header").
 
 ghost use Rattle.std.specs.Prelude.{◌≡◌, ◌≢◌, ◌≤◌, ◌+◌, ◌*◌, length};
-ghost use Rattle.elf32_read.specs.Header.{begins_as, content_of, header_of, is_empty_kind, program_header_of, program_table, section_table};
+ghost use Rattle.elf32_read.specs.Header.{begins_as, content_of, entry_of, file_flags, header_of, is_empty_kind, name_section, program_count, program_header_of, program_header_size, program_table, section_count, section_header_size, section_table};
+ghost use Rattle.elf32_read.specs.Image.{have_other_size};
 
 use zc_base::fields::{u16_at, u32_at};
 
@@ -52,6 +53,87 @@ pub fn begins_as(file_type: u16, bytes: &[u8]) -> bool
         && u16_at(bytes, 18) == 243
 }
 
+/// The address at which the program starts, e_entry.
+pub fn entry_of(bytes: &[u8]) -> u32
+    requires { 52 ≤ length bytes.now }
+    ensures { result ≡ entry_of bytes.now }
+{
+    u32_at(bytes, 24)
+}
+
+/// Where the program headers begin, e_phoff.
+pub fn program_table(bytes: &[u8]) -> u32
+    requires { 52 ≤ length bytes.now }
+    ensures { result ≡ program_table bytes.now }
+{
+    u32_at(bytes, 28)
+}
+
+/// Where the section headers begin, e_shoff.
+pub fn section_table(bytes: &[u8]) -> u32
+    requires { 52 ≤ length bytes.now }
+    ensures { result ≡ section_table bytes.now }
+{
+    u32_at(bytes, 32)
+}
+
+/// The flags of the file, e_flags (RISC-V ELF psABI, "File Header").
+pub fn file_flags(bytes: &[u8]) -> u32
+    requires { 52 ≤ length bytes.now }
+    ensures { result ≡ file_flags bytes.now }
+{
+    u32_at(bytes, 36)
+}
+
+/// The bytes of a program header, e_phentsize.
+pub fn program_header_size(bytes: &[u8]) -> u16
+    requires { 52 ≤ length bytes.now }
+    ensures { result ≡ program_header_size bytes.now }
+{
+    u16_at(bytes, 42)
+}
+
+/// How many program headers there are, e_phnum.
+pub fn program_count(bytes: &[u8]) -> u16
+    requires { 52 ≤ length bytes.now }
+    ensures { result ≡ program_count bytes.now }
+{
+    u16_at(bytes, 44)
+}
+
+/// The bytes of a section header, e_shentsize.
+pub fn section_header_size(bytes: &[u8]) -> u16
+    requires { 52 ≤ length bytes.now }
+    ensures { result ≡ section_header_size bytes.now }
+{
+    u16_at(bytes, 46)
+}
+
+/// How many sections there are, e_shnum.
+pub fn section_count(bytes: &[u8]) -> u16
+    requires { 52 ≤ length bytes.now }
+    ensures { result ≡ section_count bytes.now }
+{
+    u16_at(bytes, 48)
+}
+
+/// The section that holds the names of the sections, e_shstrndx.
+pub fn name_section(bytes: &[u8]) -> u16
+    requires { 52 ≤ length bytes.now }
+    ensures { result ≡ name_section bytes.now }
+{
+    u16_at(bytes, 50)
+}
+
+/// Whether there are section headers, but not of 40 bytes.
+pub fn has_other_section_headers(bytes: &[u8]) -> bool
+    requires { 52 ≤ length bytes.now }
+    ensures { result
+        ≡ have_other_size 40 (section_count bytes.now) (section_header_size bytes.now) }
+{
+    section_count(bytes) != 0 && section_header_size(bytes) != 40
+}
+
 /// The header of a section.
 #[tactic(auto, unfolding(crate::specs::Header::header_of))]
 pub fn section_header(bytes: &[u8], i: u32) -> SectionHeader
@@ -59,7 +141,7 @@ pub fn section_header(bytes: &[u8], i: u32) -> SectionHeader
     requires within { section_table bytes.now + 40 * i + 40 ≤ length bytes.now }
     ensures { result ≡ header_of bytes.now i }
 {
-    let at = u32_at(bytes, 32) as usize + 40 * i as usize;
+    let at = section_table(bytes) as usize + 40 * i as usize;
     SectionHeader {
         name: u32_at(bytes, at),
         kind: u32_at(bytes, at + 4),
@@ -81,7 +163,7 @@ pub fn program_header(bytes: &[u8], i: u32) -> ProgramHeader
     requires within { program_table bytes.now + 32 * i + 32 ≤ length bytes.now }
     ensures { result ≡ program_header_of bytes.now i }
 {
-    let at = u32_at(bytes, 28) as usize + 32 * i as usize;
+    let at = program_table(bytes) as usize + 32 * i as usize;
     ProgramHeader {
         kind: u32_at(bytes, at),
         offset: u32_at(bytes, at + 4),

@@ -1,6 +1,6 @@
 // Images.
 
-ghost use Rattle.std.specs.Prelude.{◌≡◌, ℕ, ◌≤◌, ◌<◌, ◌+◌, List, length, slice_get, None, Some, MatchResult, false};
+ghost use Rattle.std.specs.Prelude.{◌≡◌, ℕ, ◌≤◌, ◌<◌, List, length, slice_get, None, Some, MatchResult, false};
 ghost use Rattle.zc_base.specs.declared.mem_map.MemMap.{MemMap};
 ghost use Rattle.elf32_read.specs.Header.{entry_of};
 ghost use Rattle.elf32_read.specs.Image.{image_fault, image_truncated, load_passes_end, not_image, IsRead};
@@ -9,14 +9,16 @@ ghost use Rattle.elf32_read.specs.Segment.{segment_data};
 ghost use Rattle.elf32_read.specs.Segments.{segment_of, segments_of};
 
 use crate::bounds::{has_cut_load, has_cut_section, lacks_headers, lacks_program_headers};
-use crate::header::{ProgramHeader, begins_as};
+use crate::header::{
+    ProgramHeader, begins_as, entry_of, file_flags, has_other_section_headers, program_count,
+    program_header_size,
+};
 use crate::image_fault::ImageFault;
 use crate::loads::{Loads, loads_in};
 use crate::places::{ENTRY_SIZE, entry, places_in};
 use crate::segment::Segment;
 use crate::segments::{has_bad_segments, is_code};
 use std::marker::Model;
-use zc_base::fields::{u16_at, u32_at};
 use zc_base::mem_map::MemMap;
 use zc_base::place::Place;
 
@@ -29,9 +31,9 @@ fn is_no_image(bytes: &[u8]) -> bool
 {
     bytes.len() < 52
         || !begins_as(EXECUTABLE, bytes)
-        || !matches!(u32_at(bytes, 36), 0 | 0x1 | 0x10 | 0x11)
-        || (u16_at(bytes, 44) != 0 && u16_at(bytes, 42) != 32)
-        || (u16_at(bytes, 48) != 0 && u16_at(bytes, 46) != 40)
+        || !matches!(file_flags(bytes), 0 | 0x1 | 0x10 | 0x11)
+        || (program_count(bytes) != 0 && program_header_size(bytes) != 32)
+        || has_other_section_headers(bytes)
 }
 
 fn is_cut(bytes: &[u8]) -> bool
@@ -120,7 +122,7 @@ impl<'a> Image<'a> {
     pub fn entry(&self) -> u32
         ensures { result ≡ entry_of self.now.0 }
     {
-        u32_at(self.bytes, 24)
+        entry_of(self.bytes)
     }
 
     /// How many segments there are.

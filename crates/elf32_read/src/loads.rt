@@ -5,12 +5,11 @@ ghost use Rattle.elf32_read.specs.Header.{program_count, program_table};
 ghost use Rattle.elf32_read.specs.Segments.{loads_of};
 ghost use Rattle.elf32_read.specs.declared.header.ProgramHeader.{ProgramHeader};
 
-use crate::header::{LOAD, ProgramHeader, program_header};
+use crate::header::{LOAD, ProgramHeader, program_count, program_header};
 use std::marker::Model;
-use zc_base::fields::u16_at;
 
-/// How many segments an image may have.
-pub const MOST_LOADS: usize = 16;
+// How many segments an image may have.
+const MOST_LOADS: usize = 16;
 
 const NONE: ProgramHeader = ProgramHeader {
     kind: 0,
@@ -26,7 +25,7 @@ const NONE: ProgramHeader = ProgramHeader {
 /// Program headers that load segments, in order.
 #[derive(Drop)]
 pub struct Loads {
-    headers: [ProgramHeader; 16],
+    headers: [ProgramHeader; MOST_LOADS],
     count: usize,
 }
 
@@ -82,7 +81,7 @@ pub fn loads_in(bytes: &[u8]) -> Option<Loads>
         (λ loads. loads ≡ loads_of bytes.now) }
 {
     let mut loads = Loads::new();
-    for i in 0..u32::from(u16_at(bytes, 44)) {
+    for i in 0..u32::from(program_count(bytes)) {
         let header = program_header(bytes, i);
         if header.kind == LOAD {
             if loads.len() == MOST_LOADS {

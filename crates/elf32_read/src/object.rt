@@ -6,20 +6,19 @@ ghost use Rattle.elf32_read.specs.Object.{not_elf, object_fault, truncated};
 
 use crate::bounds::{has_cut_section, lacks_headers};
 use crate::fault::Fault;
-use crate::header::{begins_as, content, section_header};
+use crate::header::{
+    begins_as, content, file_flags, has_other_section_headers, section_count, section_header,
+};
 use crate::section::Section;
 use crate::section_flags::SectionFlags;
 use std::marker::Model;
-use zc_base::fields::{u16_at, u32_at};
 
 const RELOCATABLE: u16 = 1;
 
 fn is_no_object(bytes: &[u8]) -> bool
     ensures { result ≡ not_elf bytes.now }
 {
-    bytes.len() < 52
-        || !begins_as(RELOCATABLE, bytes)
-        || (u16_at(bytes, 48) != 0 && u16_at(bytes, 46) != 40)
+    bytes.len() < 52 || !begins_as(RELOCATABLE, bytes) || has_other_section_headers(bytes)
 }
 
 fn is_cut(bytes: &[u8]) -> bool
@@ -64,7 +63,7 @@ impl<'a> Object<'a> {
     pub fn flags(&self) -> u32
         ensures { result ≡ object_flags self.now }
     {
-        u32_at(self.bytes, 36)
+        file_flags(self.bytes)
     }
 
     /// How many sections there are, with the first, which is NULL in most files.
@@ -73,7 +72,7 @@ impl<'a> Object<'a> {
         ensures small { result < 2 ^ 16 }
         ensures faultless { object_fault self.now ≡ None }
     {
-        u32::from(u16_at(self.bytes, 48))
+        u32::from(section_count(self.bytes))
     }
 
     /// A section, by its index.

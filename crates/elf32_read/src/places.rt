@@ -1,6 +1,6 @@
 // The places that an image lists.
 
-ghost use Rattle.std.specs.Prelude.{◌≡◌, ℕ, ◌≤◌, ◌<◌, ◌+◌, ◌*◌, ◌/◌, ◌==◌, ◌||◌, nat_lt, true, false, drop, length, MatchResult};
+ghost use Rattle.std.specs.Prelude.{◌≡◌, ℕ, ◌≤◌, ◌<◌, ◌+◌, ◌*◌, ◌==◌, nat_lt, true, false, drop, length, MatchResult};
 ghost use Rattle.std.specs.List.{list_any};
 ghost use Rattle.std.specs.Option.{option_to_list};
 ghost use Rattle.elf32_read.specs.Header.{content_of, headers_of, section_count, section_table};
@@ -9,7 +9,9 @@ ghost use Rattle.elf32_read.specs.Object.{passes_end};
 ghost use Rattle.elf32_read.specs.Places.{entries_of, entry_at, holds_places, is_ascending, is_before, is_outside, names_of, places_of, places_sections};
 ghost use Rattle.elf32_read.specs.declared.image_fault.ImageFault.TheVariants.{BadPlaces};
 
-use crate::header::{SectionHeader, content, is_without_content, section_header};
+use crate::header::{
+    SectionHeader, content, is_without_content, name_section, section_count, section_header,
+};
 use crate::image_fault::ImageFault;
 use zc_base::fields::{u16_at, u32_at};
 use zc_base::mem_map::MemMap;
@@ -80,8 +82,8 @@ fn lacks_names(bytes: &[u8]) -> bool
     requires within { section_table bytes.now + 40 * section_count bytes.now ≤ length bytes.now }
     ensures { result ≡ lacks_names bytes.now }
 {
-    let i = u16_at(bytes, 50);
-    u16_at(bytes, 48) <= i || section_header(bytes, u32::from(i)).kind != STRTAB
+    let i = name_section(bytes);
+    section_count(bytes) <= i || section_header(bytes, u32::from(i)).kind != STRTAB
 }
 
 // Where the last name ends: an offset has a zero at it or behind it exactly where it is below.
@@ -104,7 +106,7 @@ fn has_unnamed(bytes: &[u8], names: &[u8]) -> bool
     ensures { result ≡ list_any (is_unnamed names.now) (headers_of bytes.now) }
 {
     let end = names_end(names);
-    for i in 0..u32::from(u16_at(bytes, 48)) {
+    for i in 0..u32::from(section_count(bytes)) {
         if end <= section_header(bytes, i).name as usize {
             return true;
         }
@@ -122,7 +124,7 @@ fn holds_places(names: &[u8], header: &SectionHeader) -> bool
 fn is_bad_list(header: &SectionHeader) -> bool
     ensures { result ≡ is_bad_list header.now }
 {
-    is_without_content(header.kind) || header.size % 12 != 0
+    is_without_content(header.kind) || header.size as usize % ENTRY_SIZE != 0
 }
 
 // The section with places, unless there is more than one.
@@ -137,7 +139,7 @@ fn places_section(bytes: &[u8], names: &[u8]) -> Result<Option<SectionHeader>, I
         (λ fault. (fault ≡ BadPlaces) × (1 < length (places_sections bytes.now))) }
 {
     let mut found = None;
-    for i in 0..u32::from(u16_at(bytes, 48)) {
+    for i in 0..u32::from(section_count(bytes)) {
         let header = section_header(bytes, i);
         if holds_places(names, &header) {
             if found.is_some() {
@@ -161,7 +163,7 @@ fn names_in(bytes: &[u8]) -> Result<&[u8], ImageFault>
     if lacks_names(bytes) {
         return Err(ImageFault::BadPlaces);
     }
-    let names = content(bytes, section_header(bytes, u32::from(u16_at(bytes, 50))));
+    let names = content(bytes, section_header(bytes, u32::from(name_section(bytes))));
     if has_unnamed(bytes, names) {
         return Err(ImageFault::BadPlaces);
     }
@@ -199,7 +201,7 @@ pub fn places_in<'a>(bytes: &'a [u8], map: &MemMap) -> Result<&'a [u8], ImageFau
         × (entries_of list.now ≡ places_of bytes.entry.now))
         (λ fault. (fault ≡ BadPlaces) × (bad_places bytes.entry.now map.now ≡ true)) }
 {
-    if u16_at(bytes, 48) == 0 {
+    if section_count(bytes) == 0 {
         return Ok(&[]);
     }
     let names = names_in(bytes)?;

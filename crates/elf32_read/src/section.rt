@@ -4,8 +4,9 @@ use crate::section_flags::SectionFlags;
 
 /// A section of an object, by its header (System V gABI, "Sections").
 ///
-/// `kind` is sh_type, `size` is in bytes, and `align` is a power of two, or 0 for none. `bytes` is
-/// the section's content; it is empty where the file holds none, for the kinds NULL and NOBITS.
+/// `kind` is sh_type, `size` is sh_size in bytes, and `align` is sh_addralign as it stands, which
+/// `Object::read` doesn't look at. `bytes` is the section's content; it is empty where the file
+/// holds none, for the kinds NULL and NOBITS.
 #[derive(Clone, Copy, PartialEq, Eq, Debug)]
 pub struct Section<'a> {
     pub kind: u32,

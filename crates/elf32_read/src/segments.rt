@@ -5,8 +5,7 @@ ghost use Rattle.std.specs.List.{list_any};
 ghost use Rattle.elf32_read.specs.Image.{bad_segments, is_bad_load, some_overlap};
 ghost use Rattle.elf32_read.specs.Segments.{is_code, is_entry_of, is_in_place, loads_of, overlap};
 
-use crate::header::ProgramHeader;
-use zc_base::fields::u32_at;
+use crate::header::{ProgramHeader, entry_of};
 use zc_base::mem_map::MemMap;
 
 const EXECUTE: u32 = 1;
@@ -101,6 +100,6 @@ pub fn has_bad_segments(bytes: &[u8], map: &MemMap, loads: &[ProgramHeader]) -> 
     requires most { length loads.now ≤ 16 }
     ensures { result ≡ bad_segments bytes.now map.now }
 {
-    let entry = u32_at(bytes, 24);
+    let entry = entry_of(bytes);
     has_bad_load(map, loads) || has_overlap(loads) || entry % 2 == 1 || !is_in_code(entry, loads)
 }

@@ -9,9 +9,9 @@ pub appended : (start first second one both : List ℕ) → one ≡ start ++ fir
 appended start first second one both e f = f ∙ ap (λ l. l ++ second) e ∙ append_assoc start first second
 
 -- bytes, and as many of three zeros as make their length a multiple of 4
-pub padded_appended : {T E : Type 0} (result : Result T E) (start bytes one both : List ℕ) → one ≡ start ++ bytes → both ≡ (if is_ok result then one ++ take (pad (length bytes)) (0 ∷ 0 ∷ 0 ∷ []) else one) → OnOk result (both ≡ start ++ padded bytes)
-padded_appended (Ok value) start bytes one both e f =
+pub padded_appended : {T E : Type 0} (result : Result T E) (start bytes one both : List ℕ) (count : ℕ) → count ≡ pad (length bytes) → one ≡ start ++ bytes → both ≡ (if is_ok result then one ++ take count (0 ∷ 0 ∷ 0 ∷ []) else one) → OnOk result (both ≡ start ++ padded bytes)
+padded_appended (Ok value) start bytes one both count same e f =
     let few : pad (length bytes) ≤ 3 = omega arith in
-    let zeros : take (pad (length bytes)) (0 ∷ 0 ∷ 0 ∷ []) ≡ replicate (pad (length bytes)) 0 = take-replicate {X = ℕ} (pad (length bytes)) 3 0 few in
+    let zeros : take count (0 ∷ 0 ∷ 0 ∷ []) ≡ replicate (pad (length bytes)) 0 = ap (λ n. take n (0 ∷ 0 ∷ 0 ∷ [])) same ∙ take-replicate {X = ℕ} (pad (length bytes)) 3 0 few in
     appended start bytes (replicate (pad (length bytes)) 0) one both e (f ∙ ap (λ l. one ++ l) zeros)
-padded_appended (Err error) start bytes one both e f = tt
+padded_appended (Err error) start bytes one both count same e f = tt

@@ -1,9 +1,9 @@
 // Fields and padding at the end of bytes (System V gABI, "Data Representation", ELFDATA2LSB).
 
-ghost use Rattle.std.specs.Prelude.{◌≡◌, ◌+◌, ◌^◌, ◌<◌, ◌++◌, OnOk};
+ghost use Rattle.std.specs.Prelude.{◌≡◌, ◌^◌, ◌<◌, ◌++◌, OnOk};
 ghost use Rattle.std.specs.List.{flat_map};
 ghost use Rattle.zc_base.specs.Fields.{half_bytes, word_bytes};
-ghost use Rattle.elf32_write.specs.Image.{padded, padded_length};
+ghost use Rattle.elf32_write.specs.Image.{pad, padded, padded_length};
 
 use std::alloc::AllocError;
 use zc_base::fields::{put_u16, put_u32};
@@ -48,12 +48,19 @@ pub fn push_words(out: &mut Vec<u8>, words: &[u32]) -> Result<(), AllocError>
     Ok(())
 }
 
+// How many zeros make a length a multiple of 4.
+fn pad(n: usize) -> usize
+    ensures { result ≡ pad n }
+{
+    (4 - n % 4) % 4
+}
+
 /// The least multiple of 4 that is no less.
 pub fn padded_len(n: usize) -> usize
     requires { n < 2 ^ 63 }
     ensures { result ≡ padded_length n }
 {
-    n + (4 - n % 4) % 4
+    n + pad(n)
 }
 
 /// Appends bytes, and zeros up to a multiple of 4.
@@ -62,5 +69,5 @@ pub fn push_padded(out: &mut Vec<u8>, bytes: &[u8]) -> Result<(), AllocError>
 {
     out.extend_from_slice(bytes)?;
     let zeros = [0; 3];
-    out.extend_from_slice(&zeros[..(4 - bytes.len() % 4) % 4])
+    out.extend_from_slice(&zeros[..pad(bytes.len())])
 }

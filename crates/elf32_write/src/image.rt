@@ -14,6 +14,9 @@ use crate::offsets::{NAMES, offsets_of};
 use std::alloc::{AllocError, Global};
 use zc_base::place::Place;
 
+// The bytes of the section headers.
+const SECTION_HEADERS_SIZE: usize = 6 * 40;
+
 // Appends a place and its address.
 fn push_place(out: &mut Vec<u8>, place: Place, address: u32) -> Result<(), AllocError>
     ensures { OnOk result (out.new.items ≡ out.old.items ++ place_bytes (place, address)) }
@@ -44,7 +47,7 @@ pub fn write_image(alloc: Global, parts: &ImageParts) -> Result<Vec<u8>, AllocEr
         IfOk result (λ file. ReadsBack (parts_of parts.now) memory file.items) }
 {
     let offsets = offsets_of(parts);
-    let mut file = Vec::with_capacity(alloc, offsets.sections as usize + 240)?;
+    let mut file = Vec::with_capacity(alloc, offsets.sections as usize + SECTION_HEADERS_SIZE)?;
     push_file_header(&mut file, parts, &offsets)?;
     push_program_headers(&mut file, parts, &offsets)?;
     push_padded(&mut file, &parts.text)?;

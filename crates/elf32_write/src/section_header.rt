@@ -10,6 +10,7 @@ ghost use Rattle.elf32_write.specs.SectionHeader.{header};
 use crate::fields::push_words;
 use crate::image_parts::ImageParts;
 use crate::offsets::{NAMES, Offsets, TEXT_OFFSET};
+use elf32_read::section_flags::SectionFlags;
 use std::alloc::AllocError;
 
 const PROGBITS: u32 = 1;
@@ -18,13 +19,7 @@ const STRTAB: u32 = 3;
 
 const NOBITS: u32 = 8;
 
-const WRITE: u32 = 1;
-
-const ALLOC: u32 = 2;
-
-const EXECINSTR: u32 = 4;
-
-/// A section header, whose sh_link, sh_info and sh_entsize are 0.
+/// A section header, whose sh_link, sh_info and sh_entsize are 0. `name` is an offset into `NAMES`.
 #[derive(Clone, Copy)]
 pub struct SectionHeader {
     pub name: u32,
@@ -59,7 +54,7 @@ pub fn text_header(parts: &ImageParts) -> SectionHeader
     SectionHeader {
         name: 1,
         kind: PROGBITS,
-        flags: ALLOC + EXECINSTR,
+        flags: SectionFlags::ALLOC.bits | SectionFlags::EXECINSTR.bits,
         address: parts.text_at,
         offset: TEXT_OFFSET,
         size: parts.text.len() as u32,
@@ -76,7 +71,7 @@ pub fn data_header(parts: &ImageParts, offsets: &Offsets) -> SectionHeader
     SectionHeader {
         name: 7,
         kind: PROGBITS,
-        flags: WRITE + ALLOC,
+        flags: SectionFlags::WRITE.bits | SectionFlags::ALLOC.bits,
         address: parts.data_at,
         offset: offsets.data,
         size: parts.data_bytes.len() as u32,
@@ -94,7 +89,7 @@ pub fn bss_header(parts: &ImageParts, offsets: &Offsets) -> SectionHeader
     SectionHeader {
         name: 13,
         kind: NOBITS,
-        flags: WRITE + ALLOC,
+        flags: SectionFlags::WRITE.bits | SectionFlags::ALLOC.bits,
         address: parts.data_at + data_size,
         offset: offsets.data + data_size,
         size: parts.zero,

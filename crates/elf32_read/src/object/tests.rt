@@ -1,7 +1,7 @@
 // Hand-made objects.
 
 use super::*;
-use crate::fault::Fault;
+use crate::fault::Fault::{NotElf, Truncated};
 use std::test::Fail;
 
 // Three sections: NULL, 12 bytes of code at 52, and 4096 bytes of NOBITS. Their headers begin
@@ -49,92 +49,59 @@ fn sections_are_read_as_their_headers_say(rt: HostRuntime) -> Result<(), Fail> {
     Ok(())
 }
 
-// Each row: two bytes to change, and the first fault then.
+// Each row: at most two bytes to change, each with its place, and the first fault then.
 #[test]
 fn the_first_fault_is_answered(rt: HostRuntime) {
-    let rows = [
-        ("as it is", (7, 0), (7, 0), None),
-        ("another system", (7, 3), (8, 1), None),
-        ("another e_version", (20, 9), (20, 9), None),
-        ("magic", (0, 0x7E), (0, 0x7E), Some(Fault::NotElf)),
-        ("magic's end", (3, 0x47), (3, 0x47), Some(Fault::NotElf)),
-        ("class 64", (4, 2), (4, 2), Some(Fault::NotElf)),
-        ("big-endian", (5, 2), (5, 2), Some(Fault::NotElf)),
-        ("version 0", (6, 0), (6, 0), Some(Fault::NotElf)),
-        ("a program", (16, 2), (16, 2), Some(Fault::NotElf)),
-        (
-            "another machine",
-            (18, 0xF2),
-            (18, 0xF2),
-            Some(Fault::NotElf),
-        ),
-        (
-            "a machine's high byte",
-            (19, 1),
-            (19, 1),
-            Some(Fault::NotElf),
-        ),
-        (
-            "headers of 39 bytes",
-            (46, 39),
-            (46, 39),
-            Some(Fault::NotElf),
-        ),
-        ("headers of 39 bytes, none", (46, 39), (48, 0), None),
-        ("foreign and cut", (4, 2), (48, 4), Some(Fault::NotElf)),
-        (
-            "headers to the end and one",
-            (32, 65),
-            (32, 65),
-            Some(Fault::Truncated),
-        ),
-        ("a header more", (48, 4), (48, 4), Some(Fault::Truncated)),
-        ("no headers, at the end", (32, 184), (48, 0), None),
+    let rows: [(&str, &[(usize, u8)], Option<Fault>); 26] = [
+        ("as it is", &[], None),
+        ("another system", &[(7, 3), (8, 1)], None),
+        ("another e_version", &[(20, 9)], None),
+        ("magic", &[(0, 0x7E)], Some(NotElf)),
+        ("magic's end", &[(3, 0x47)], Some(NotElf)),
+        ("class 64", &[(4, 2)], Some(NotElf)),
+        ("big-endian", &[(5, 2)], Some(NotElf)),
+        ("version 0", &[(6, 0)], Some(NotElf)),
+        ("a program", &[(16, 2)], Some(NotElf)),
+        ("another machine", &[(18, 0xF2)], Some(NotElf)),
+        ("a machine's high byte", &[(19, 1)], Some(NotElf)),
+        ("headers of 39 bytes", &[(46, 39)], Some(NotElf)),
+        ("headers of 39 bytes, none", &[(46, 39), (48, 0)], None),
+        ("foreign and cut", &[(4, 2), (48, 4)], Some(NotElf)),
+        ("headers to the end and one", &[(32, 65)], Some(Truncated)),
+        ("a header more", &[(48, 4)], Some(Truncated)),
+        ("no headers, at the end", &[(32, 184), (48, 0)], None),
         (
             "no headers, past the end",
-            (32, 185),
-            (48, 0),
-            Some(Fault::Truncated),
+            &[(32, 185), (48, 0)],
+            Some(Truncated),
         ),
-        (
-            "headers far out",
-            (35, 0xFF),
-            (48, 0),
-            Some(Fault::Truncated),
-        ),
-        ("content to the end", (124, 132), (124, 132), None),
-        (
-            "content past the end",
-            (124, 133),
-            (124, 133),
-            Some(Fault::Truncated),
-        ),
+        ("headers far out", &[(35, 0xFF), (48, 0)], Some(Truncated)),
+        ("content to the end", &[(124, 132)], None),
+        ("content past the end", &[(124, 133)], Some(Truncated)),
         (
             "content that would wrap",
-            (123, 0xFF),
-            (127, 0xFF),
-            Some(Fault::Truncated),
+            &[(123, 0xFF), (127, 0xFF)],
+            Some(Truncated),
         ),
-        ("empty at the end", (120, 184), (124, 0), None),
+        ("empty at the end", &[(120, 184), (124, 0)], None),
         (
             "empty past the end",
-            (120, 185),
-            (124, 0),
-            Some(Fault::Truncated),
+            &[(120, 185), (124, 0)],
+            Some(Truncated),
         ),
-        ("NULL past the end", (104 + 4, 0), (124, 133), None),
+        ("NULL past the end", &[(104 + 4, 0), (124, 133)], None),
         (
             "the last section is no NOBITS",
-            (144 + 4, 1),
-            (144 + 4, 1),
-            Some(Fault::Truncated),
+            &[(144 + 4, 1)],
+            Some(Truncated),
         ),
     ];
-    for (row, first, second, want) in rows {
+    for (row, changes, want) in rows {
+        assert!(rt; changes.len() <= 2, "{row}");
         let mut bytes = OBJECT;
-        for (at, byte) in [first, second] {
-            assert!(rt; at < bytes.len());
-            bytes[at] = byte;
+        for (at, byte) in changes {
+            assert!(rt; *at < bytes.len());
+            bytes[*at] = *byte;
         }
         let got = match Object::read(&bytes) {
             Ok(_) => None,
@@ -150,6 +117,6 @@ fn a_header_alone_is_an_object_and_less_is_none(rt: HostRuntime) {
     bytes[32] = 52;
     bytes[48] = 0;
     assert!(rt; matches!(Object::read(&bytes[..52]), Ok(_)));
-    assert!(rt; matches!(Object::read(&bytes[..51]), Err(Fault::NotElf)));
-    assert!(rt; matches!(Object::read(&[]), Err(Fault::NotElf)));
+    assert!(rt; matches!(Object::read(&bytes[..51]), Err(NotElf)));
+    assert!(rt; matches!(Object::read(&[]), Err(NotElf)));
 }

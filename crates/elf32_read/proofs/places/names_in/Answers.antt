@@ -16,5 +16,5 @@ content-names-requires c = λ not_null not_nobits.
     let named = sym c.lacks_names.ensures ∙ c.if-lacks_names.false in
     let inside : i < count = leb-false count i (or_parts (nat_le count i) (not ((header_of bytes i).kind == 3)) named).0 in
     let whole = none_listed (passes_end bytes) (header_of bytes) count i c.requires.whole inside in
-    let read = c.section_header.ensures ∙ ap (header_of bytes) (c.from.ensures ∙ c.u16_at.ensures) in
+    let read = c.section_header.ensures ∙ ap (header_of bytes) (c.from.ensures ∙ c.name_section.ensures) in
     content_within bytes c.section_header.result (ap (passes_end bytes) read ∙ whole) not_null not_nobits

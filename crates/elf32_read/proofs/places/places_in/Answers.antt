@@ -10,11 +10,11 @@ use Rattle.elf32_read.proofs.Listed.{none_kept}
 use Rattle.elf32_read.proofs.places.places_in.Goals as goal
 
 -- no section
-pub returns-then-u16_at-eq0 : goal.returns-then-u16_at-eq0
+pub returns-then-section_count-eq0 : goal.returns-then-section_count-eq0
 unfolding places_sections
-returns-then-u16_at-eq0 c =
+returns-then-section_count-eq0 c =
     let bytes = c.args.bytes.now in
-    let none : section_count bytes ≡ 0 = sym c.u16_at.ensures ∙ c.if-u16_at-eq0.true in (
+    let none : section_count bytes ≡ 0 = sym c.section_count.ensures ∙ c.if-section_count-eq0.true in (
       and_left (not (section_count bytes == 0)) _ (ap (λ n. not (n == 0)) none),
       omega arith,
       sym (ap (λ n. flat_map (λ header. entries_of (content_of bytes header)) (filter (holds_places (names_of bytes)) (map (header_of bytes) (range_with_len 0 n)))) none),
