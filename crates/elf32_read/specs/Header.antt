@@ -1,6 +1,6 @@
 -- The headers of a little-endian ELF file of class 32 (System V gABI, "ELF Header", "Sections" and
 -- "Program Header").
-use Rattle.std.specs.Prelude.{ℕ, ◌+◌, ◌*◌, Bool, ◌&&◌, ◌||◌, ◌==◌, if◌then◌else◌, List, [], take, drop, map, slice_index}
+use Rattle.std.specs.Prelude.{ℕ, ◌+◌, ◌*◌, Bool, not, ◌&&◌, ◌||◌, ◌==◌, if◌then◌else◌, List, [], take, drop, map, slice_index}
 use Rattle.std.specs.List.{range_with_len}
 use Rattle.zc_base.specs.Fields.{half_in, word_in}
 use Rattle.elf32_read.specs.declared.header.SectionHeader.{SectionHeader}
@@ -18,13 +18,9 @@ program_table bytes = word_in bytes 28
 abbrev pub section_table : List ℕ → ℕ
 section_table bytes = word_in bytes 32
 
--- e_flags
+-- e_flags (RISC-V ELF psABI, "File Header")
 abbrev pub file_flags : List ℕ → ℕ
 file_flags bytes = word_in bytes 36
-
--- e_flags of an object
-abbrev pub object_flags : List ℕ → ℕ
-object_flags bytes = file_flags bytes
 
 -- e_phentsize: the bytes of a program header
 abbrev pub program_header_size : List ℕ → ℕ
@@ -45,6 +41,10 @@ section_count bytes = half_in bytes 48
 -- e_shstrndx: the section that holds the names of the sections
 abbrev pub name_section : List ℕ → ℕ
 name_section bytes = half_in bytes 50
+
+-- there are headers, but of another size
+abbrev pub have_other_size : ℕ → ℕ → ℕ → Bool
+have_other_size size count header_size = not (count == 0) && not (header_size == size)
 
 -- e_ident begins 7F "ELF", class 1 (32-bit), data 1 (little-endian), version 1; e_type is the given
 -- one, and e_machine is 243 (RISC-V ELF psABI, "File Header")

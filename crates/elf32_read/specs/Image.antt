@@ -3,7 +3,7 @@
 use Rattle.std.specs.Prelude.{◌≡◌, ◌≤◌, None, ℕ, ◌+◌, ◌*◌, ◌%◌, Bool, false, not, ◌&&◌, ◌||◌, ◌==◌, nat_lt, nat_le, List, [], ◌∷◌, length, drop, Option}
 use Rattle.std.specs.List.{list_any}
 use Rattle.zc_base.specs.declared.mem_map.MemMap.{MemMap}
-use Rattle.elf32_read.specs.Header.{Header, entry_of, file_flags, program_table, program_header_size, program_count, section_header_size, section_count, name_section, begins_as, header_of, headers_of, is_empty_kind, content_of}
+use Rattle.elf32_read.specs.Header.{Header, entry_of, file_flags, program_table, program_header_size, program_count, section_header_size, section_count, name_section, begins_as, header_of, headers_of, is_empty_kind, content_of, have_other_size}
 use Rattle.elf32_read.specs.declared.header.ProgramHeader.{ProgramHeader}
 use Rattle.elf32_read.specs.Object.{lacks_headers, passes_end}
 use Rattle.elf32_read.specs.Places.{names_of, places_sections, places_of, entries_of, is_ascending, is_outside}
@@ -19,10 +19,6 @@ too_large bytes = nat_lt 0x80_0000 (length bytes)
 -- e_flags has no bit but RVC (0x1) and TSO (0x10) (RISC-V ELF psABI, "File Header")
 abbrev pub are_known_flags : ℕ → Bool
 are_known_flags flags = flags == 0 || flags == 0x1 || flags == 0x10 || flags == 0x11
-
--- there are headers, but of another size
-abbrev pub have_other_size : ℕ → ℕ → ℕ → Bool
-have_other_size size count header_size = not (count == 0) && not (header_size == size)
 
 -- shorter than its header, not an executable RISC-V file (type 2) with known flags, or with headers
 -- of an unknown size

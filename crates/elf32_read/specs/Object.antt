@@ -1,7 +1,7 @@
 -- Objects by their bytes (System V gABI, "ELF Header" and "Sections"): each fault by its test.
 use Rattle.std.specs.Prelude.{◌+◌, ◌*◌, Bool, not, ◌&&◌, ◌||◌, ◌==◌, nat_lt, List, ℕ, [], ◌∷◌, length, Option}
 use Rattle.std.specs.List.{list_any}
-use Rattle.elf32_read.specs.Header.{Header, section_table, section_header_size, section_count, begins_as, headers_of, is_empty_kind}
+use Rattle.elf32_read.specs.Header.{Header, section_table, section_header_size, section_count, begins_as, have_other_size, headers_of, is_empty_kind}
 use Rattle.elf32_read.specs.Rows.{first_of}
 use Rattle.elf32_read.specs.declared.fault.Fault.{Fault}
 use Rattle.elf32_read.specs.declared.fault.Fault.TheVariants.{NotElf, Truncated}
@@ -10,7 +10,7 @@ use Rattle.elf32_read.specs.declared.fault.Fault.TheVariants.{NotElf, Truncated}
 -- do not have 40 bytes
 abbrev pub not_elf : List ℕ → Bool
 not_elf bytes =
-    nat_lt (length bytes) 52 || not (begins_as 1 bytes) || (not (section_count bytes == 0) && not (section_header_size bytes == 40))
+    nat_lt (length bytes) 52 || not (begins_as 1 bytes) || have_other_size 40 (section_count bytes) (section_header_size bytes)
 
 -- the section headers pass the end of the file
 abbrev pub lacks_headers : List ℕ → Bool

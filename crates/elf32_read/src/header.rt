@@ -2,8 +2,7 @@
 // Header").
 
 ghost use Rattle.std.specs.Prelude.{◌≡◌, ◌≢◌, ◌≤◌, ◌+◌, ◌*◌, length};
-ghost use Rattle.elf32_read.specs.Header.{begins_as, content_of, entry_of, file_flags, header_of, is_empty_kind, name_section, program_count, program_header_of, program_header_size, program_table, section_count, section_header_size, section_table};
-ghost use Rattle.elf32_read.specs.Image.{have_other_size};
+ghost use Rattle.elf32_read.specs.Header.{begins_as, content_of, entry_of, file_flags, have_other_size, header_of, is_empty_kind, name_section, program_count, program_header_of, program_header_size, program_table, section_count, section_header_size, section_table};
 
 use zc_base::fields::{u16_at, u32_at};
 

@@ -1,7 +1,7 @@
 // Objects.
 
 ghost use Rattle.std.specs.Prelude.{◌≡◌, ◌≢◌, ◌≤◌, ◌<◌, ◌^◌, List, ℕ, length, None, Some, MatchResult};
-ghost use Rattle.elf32_read.specs.Header.{content_of, header_of, object_flags, section_count};
+ghost use Rattle.elf32_read.specs.Header.{content_of, file_flags, header_of, section_count};
 ghost use Rattle.elf32_read.specs.Object.{not_elf, object_fault, truncated};
 
 use crate::bounds::{has_cut_section, lacks_headers};
@@ -61,7 +61,7 @@ impl<'a> Object<'a> {
 
     /// The flags of the file, e_flags (RISC-V ELF psABI, "File Header").
     pub fn flags(&self) -> u32
-        ensures { result ≡ object_flags self.now }
+        ensures { result ≡ file_flags self.now }
     {
         file_flags(self.bytes)
     }

@@ -9,8 +9,8 @@ use Rattle.std.proofs.lemmas.List.Elements.{All-from_recursion}
 use Rattle.zc_base.specs.Fields.{half_in, word_in}
 use Rattle.zc_base.specs.declared.mem_map.MemMap.{MemMap}
 use Rattle.zc_base.specs.declared.place.Place.{Place}
-use Rattle.elf32_read.specs.Header.{begins_as, entry_of, file_flags, program_table, section_table, program_count, program_header_size, section_count, section_header_size, name_section, header_of, headers_of, program_header_of, program_headers_of, content_of}
-use Rattle.elf32_read.specs.Image.{too_large, are_known_flags, have_other_size, not_image, lacks_program_headers, load_passes_end, image_truncated, is_bad_load, some_overlap, bad_segments, is_unnamed, is_bad_list, is_bad_section, bad_places, image_fault}
+use Rattle.elf32_read.specs.Header.{begins_as, entry_of, file_flags, program_table, section_table, program_count, program_header_size, section_count, section_header_size, name_section, header_of, headers_of, program_header_of, program_headers_of, content_of, have_other_size}
+use Rattle.elf32_read.specs.Image.{too_large, are_known_flags, not_image, lacks_program_headers, load_passes_end, image_truncated, is_bad_load, some_overlap, bad_segments, is_unnamed, is_bad_list, is_bad_section, bad_places, image_fault}
 use Rattle.elf32_read.specs.Object.{lacks_headers, passes_end}
 use Rattle.elf32_read.specs.Places.{names_of, holds_places, places_sections, entry_at, entries_of, places_of, is_ascending, is_outside}
 use Rattle.elf32_read.specs.Segments.{loads_of, overlap, is_entry_of, segment_of}

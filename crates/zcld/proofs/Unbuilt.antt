@@ -5,7 +5,7 @@ use Rattle.std.specs.List.{list_any, range_with_len}
 use Rattle.std.proofs.lemmas.Bool.{not-false, or_parts, and_parts, ltb-false, leb-true, eqb-true}
 use Rattle.zc_base.specs.Fields.{word_in}
 use Rattle.elf32_read.specs.declared.fault.Fault.{Fault}
-use Rattle.elf32_read.specs.Header.{header_of, section_count, object_flags}
+use Rattle.elf32_read.specs.Header.{header_of, section_count, file_flags}
 use Rattle.elf32_read.specs.Object.{object_fault}
 use Rattle.zcld.specs.Straight.{words_from, words_in}
 use Rattle.zcld.specs.Refusal.{is_straight_code, is_unbuilt, is_unbuilt_section, is_unknown, indexed, code_of, fault_or, first_fault}
@@ -23,7 +23,7 @@ pub built_straight : (object : List ℕ) → is_unbuilt object ≡ false → IsS
 unfolding is_unbuilt
 built_straight object h =
     let code = header_of object 1 in
-    let flags = not (eqb (object_flags object) 0) in
+    let flags = not (eqb (file_flags object) 0) in
     let few = ltb (section_count object) 2 in
     let other = not (is_straight_code code) in
     let sections = list_any is_unbuilt_section (map (indexed object) (range_with_len 0 (section_count object))) in

@@ -4,7 +4,7 @@ use Rattle.std.specs.List.{list_any, range_with_len}
 use Rattle.std.specs.Int.RustNames.{bit_and}
 use Rattle.elf32_read.specs.declared.fault.Fault.{Fault}
 use Rattle.elf32_read.specs.declared.fault.Fault.TheVariants.{NotBuilt}
-use Rattle.elf32_read.specs.Header.{Header, header_of, section_count, content_of, object_flags}
+use Rattle.elf32_read.specs.Header.{Header, header_of, section_count, content_of, file_flags}
 use Rattle.elf32_read.specs.Object.{object_fault}
 use Rattle.rv_decode.specs.Decode.{decoded}
 use Rattle.zc_outside.specs.Files.{Files}
@@ -43,7 +43,7 @@ is_unknown word = is_none (decoded word)
 -- an object that isn't straight code alone
 unfoldable pub is_unbuilt : List ℕ → Bool
 is_unbuilt object =
-    not (object_flags object == 0)
+    not (file_flags object == 0)
     || nat_lt (section_count object) 2
     || not (is_straight_code (header_of object 1))
     || list_any is_unbuilt_section (map (indexed object) (range_with_len 0 (section_count object)))
