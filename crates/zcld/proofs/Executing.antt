@@ -10,6 +10,7 @@ use Rattle.interrupt_plan.specs.Plan.{Cut}
 use Rattle.rv_decode.specs.State.{Event, ZcCore}
 use Rattle.zc_outside.specs.Files.{Files}
 use Rattle.zc_outside.specs.Streams.{Adds, AddsPart, KeepsBytes}
+use Rattle.zc_outside.proofs.Kept.{KeepsBytes-Adds, KeepsBytes-AddsPart}
 use Rattle.zc_machine.specs.Load.{first_core}
 use Rattle.zc_machine.specs.RunEnd.{Course, Ran, Wrote}
 use Rattle.zc_machine.specs.Written.{err_of, out_of}
@@ -33,18 +34,6 @@ starts_at_zero entry segments memory = refl
 
 -- ---- streams in a row
 
-adds_after : (a b c : Option (List ℕ)) (piece : List ℕ) → KeepsBytes a b → Adds b c piece → Adds a c piece
-adds_after None b c piece kept adds = tt
-adds_after (Some xs) None c piece kept adds = absurd kept
-adds_after (Some xs) (Some ys) None piece kept adds = absurd adds
-adds_after (Some xs) (Some ys) (Some zs) piece kept adds = adds ∙ ap (λ l. l ++ piece) kept
-
-adds_part_after : (a b c : Option (List ℕ)) (piece : List ℕ) → KeepsBytes a b → AddsPart b c piece → AddsPart a c piece
-adds_part_after None b c piece kept adds = tt
-adds_part_after (Some xs) None c piece kept adds = absurd kept
-adds_part_after (Some xs) (Some ys) None piece kept adds = absurd adds
-adds_part_after (Some xs) (Some ys) (Some zs) piece kept adds = (adds.0, adds.1, adds.2 ∙ ap (λ l. l ++ take adds.0 piece) kept)
-
 takes_before : (a b c : Option (List ℕ)) (input : List ℕ) → TakesAll a b input → KeepsBytes b c → TakesAll a c input
 takes_before None b c input taken kept = tt
 takes_before (Some xs) None c input taken kept = absurd taken
@@ -53,15 +42,15 @@ takes_before (Some xs) (Some ys) (Some zs) input taken kept = (taken.0, kept ∙
 
 module _ (events : List Event) (out out' out'' err err' err'' : Option (List ℕ)) (out_kept : KeepsBytes out out') (err_kept : KeepsBytes err err') where
   both : Adds out' out'' (out_of events) × Adds err' err'' (err_of events) → Adds out out'' (out_of events) × Adds err err'' (err_of events)
-  both adds = (adds_after out out' out'' (out_of events) out_kept adds.0, adds_after err err' err'' (err_of events) err_kept adds.1)
+  both adds = (KeepsBytes-Adds out out' out'' (out_of events) out_kept adds.0, KeepsBytes-Adds err err' err'' (err_of events) err_kept adds.1)
 
   wrote_after : (answer : RunEnd) → Wrote answer events out' out'' err' err'' → Wrote answer events out out'' err err''
   wrote_after (end.Exit status) wrote = both wrote
   wrote_after (end.Stopped reason) wrote = both wrote
   wrote_after end.Spent wrote = both wrote
   wrote_after (end.Console fault) wrote = ⊎_elim
-      (λ w. inl (adds_part_after out out' out'' (out_of events) out_kept w.0, adds_after err err' err'' (err_of events) err_kept w.1))
-      (λ w. inr (adds_after out out' out'' (out_of events) out_kept w.0, adds_part_after err err' err'' (err_of events) err_kept w.1))
+      (λ w. inl (KeepsBytes-AddsPart out out' out'' (out_of events) out_kept w.0, KeepsBytes-Adds err err' err'' (err_of events) err_kept w.1))
+      (λ w. inr (KeepsBytes-Adds out out' out'' (out_of events) out_kept w.0, KeepsBytes-AddsPart err err' err'' (err_of events) err_kept w.1))
       wrote
 
 -- ---- the run

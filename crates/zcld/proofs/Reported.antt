@@ -2,23 +2,13 @@
 use Rattle.std.proofs.Common.{◌≡◌, ℕ, ◌+◌, ◌-◌, ◌^◌, ◌≤◌, List, Option, Some, None, ◌∙◌, inl, inr, ⊎_elim, arith, min}
 use Rattle.std.proofs.Math.Nat.{le-min, min-le_left, min-le_right}
 use Rattle.zc_outside.specs.Files.{Files, Rose}
+use Rattle.zc_outside.proofs.Kept.{Rose-later}
 use Rattle.zcld.specs.declared.outcome.FileFault.TheVariants.{Image}
 use Rattle.zcld.specs.declared.outcome.Outcome.{Outcome}
 use Rattle.zcld.specs.declared.outcome.Outcome.TheVariants.{Refused, ReadFault, WriteFault, BadFile}
 use Rattle.zcld.specs.Call.{CallCause, CallReads, CallTakes, SureCall, WritesLine}
 use Rattle.zcld.specs.Command.{Command, Run, Trace, Zc}
 use Rattle.zcld.specs.Outside.{Tally, tally}
-
--- a count that rose from a later value on rose from an earlier one
-pub rose_from : (a b c : ℕ) → a ≤ b → Rose b c → Rose a c
-rose_from a b c earlier rose =
-    let low : min (a + 1) (2 ^ 64 - 1) ≤ b + 1 = omega (arith, min-le_left (a + 1) (2 ^ 64 - 1), earlier) in
-    let least : min (a + 1) (2 ^ 64 - 1) ≤ min (b + 1) (2 ^ 64 - 1) = le-min low (min-le_right (a + 1) (2 ^ 64 - 1)) in
-    omega (arith, least, rose)
-
--- and one that rose still did when it rises further
-rose_to : (a b c : ℕ) → b ≤ c → Rose a b → Rose a c
-rose_to a b c later rose = omega (arith, later, rose)
 
 pub line_written : (before after : Option (List ℕ)) (text : List ℕ) (Unwritten Unwritten' : Type 0) → (Unwritten → Unwritten') → WritesLine before after text Unwritten → WritesLine before after text Unwritten'
 line_written before after text Unwritten Unwritten' from written = ⊎_elim (λ whole. inl whole) (λ part. inr (from part.0, part.1)) written
@@ -33,7 +23,7 @@ cause_behind (Some (Zc out cert name)) outcome files told before reads longs wri
 cause_behind (Some (Run steps name)) ReadFault files told before reads longs writes console_reads console_reads' console_writes console_writes' taken taken' same_reads same_taken written cause =
     rw (same_reads, same_taken) cause
 cause_behind (Some (Run steps name)) WriteFault files told before reads longs writes console_reads console_reads' console_writes console_writes' taken taken' same_reads same_taken written cause =
-    rose_to before.console_writes console_writes console_writes' written cause
+    Rose-later before.console_writes console_writes console_writes' cause written
 cause_behind (Some (Run steps name)) (BadFile (Image fault)) files told before reads longs writes console_reads console_reads' console_writes console_writes' taken taken' same_reads same_taken written cause = cause
 cause_behind (Some (Run steps name)) other files told before reads longs writes console_reads console_reads' console_writes console_writes' taken taken' same_reads same_taken written cause = cause
 cause_behind (Some (Trace steps name)) ReadFault files told before reads longs writes console_reads console_reads' console_writes console_writes' taken taken' same_reads same_taken written cause =

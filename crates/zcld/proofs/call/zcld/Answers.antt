@@ -1,6 +1,7 @@
 use Rattle.std.proofs.Common.{inl, inr, ⊎_elim}
+use Rattle.zc_outside.proofs.Kept.{Rose-earlier}
 use Rattle.zcld.proofs.Complete.{answers, names, no_read_fault, no_write_fault, sound}
-use Rattle.zcld.proofs.Reported.{cause_behind, line_written, reads_behind, rose_from, sure_behind, takes_behind}
+use Rattle.zcld.proofs.Reported.{cause_behind, line_written, reads_behind, sure_behind, takes_behind}
 use Rattle.zcld.proofs.call.zcld.Goals as goal
 
 pub returns-clause-cause : goal.returns-clause-cause
@@ -24,7 +25,7 @@ returns-clause-shows g c = record {
   input = c.report.ensures.input;
   out = c.report.ensures.out;
   line = line_written _ _ _ _ _
-      (⊎_elim (λ rose. inl (rose_from _ _ _ c.perform-outcome.ensures.console_writes rose)) (λ rose. inr (rose_from _ _ _ c.perform-outcome.ensures.console_memory rose)))
+      (⊎_elim (λ rose. inl (Rose-earlier _ _ _ c.perform-outcome.ensures.console_writes rose)) (λ rose. inr (Rose-earlier _ _ _ c.perform-outcome.ensures.console_memory rose)))
       c.report.ensures.line;
 }
 
