@@ -29,15 +29,13 @@ pub struct Plan {
 }
 
 impl Model for Plan {
-    ghost use Rattle.std.specs.Prelude.{List};
+    ghost use Rattle.std.specs.Prelude.{◌<◌, ◌^◌, List, length};
+    ghost use Rattle.interrupt_plan.specs.Order.{IsInOrder};
     ghost use Rattle.interrupt_plan.specs.Plan.{Cut};
 
     ghost Value = { List Cut };
 
     ghost view = { λ p. p.cuts.items };
-
-    ghost use Rattle.std.specs.Prelude.{◌<◌, ◌^◌, length};
-    ghost use Rattle.interrupt_plan.specs.Order.{IsInOrder};
 
     ghost invariant = { λ p. (length p.cuts.items < 2 ^ 32) × IsInOrder p.cuts.items };
 }
@@ -89,13 +87,25 @@ mod tests {
                 done: vec![in rt.alloc(); 0, 1]?,
                 dirt: vec![in rt.alloc(); (0x0FFF_FFFC, 0xEE)]?,
             },
+            PlanCut {
+                at: 5,
+                done: vec![in rt.alloc(); 3]?,
+                dirt: vec![in rt.alloc(); (0x0FFF_FFF0, 1), (0x0FFF_FFF1, 2)]?,
+            },
         ]?;
         let plan = Plan { cuts };
-        assert_eq!(rt; plan.cut_count(), 1);
-        let cut = plan.cut(0);
-        assert_eq!(rt; cut.at, 2);
-        assert_eq!(rt; cut.done.as_slice(), [0, 1].as_slice());
-        assert_eq!(rt; cut.dirt.as_slice(), [(0x0FFF_FFFC, 0xEE)].as_slice());
+        assert_eq!(rt; plan.cut_count(), 2);
+        let first = plan.cut(0);
+        assert_eq!(rt; first.at, 2);
+        assert_eq!(rt; first.done.as_slice(), [0, 1].as_slice());
+        assert_eq!(rt; first.dirt.as_slice(), [(0x0FFF_FFFC, 0xEE)].as_slice());
+        let second = plan.cut(1);
+        assert_eq!(rt; second.at, 5);
+        assert_eq!(rt; second.done.as_slice(), [3].as_slice());
+        assert_eq!(rt;
+            second.dirt.as_slice(),
+            [(0x0FFF_FFF0, 1), (0x0FFF_FFF1, 2)].as_slice()
+        );
         Ok(())
     }
 }

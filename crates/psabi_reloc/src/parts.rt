@@ -26,7 +26,7 @@ mod tests {
 
     // Addresses below and above the rounding of the upper part.
     #[test]
-    fn parts_of_addresses(rt: HostRuntime) {
+    fn the_upper_part_rounds_up_where_the_lower_is_negative(rt: HostRuntime) {
         let table = [
             (0x0010_0000, 0x0_0100, 0),
             (0x0010_07FF, 0x0_0100, 2047),

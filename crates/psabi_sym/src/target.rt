@@ -5,8 +5,9 @@ use zc_base::place::Place;
 /// What a symbol and an addend resolve to.
 ///
 /// `Code` is a place in code, which has no address before the layout, and `Number` an address of data
-/// or a number. `Absent` is a weak symbol that no object defines, with the addend alone. `Nowhere` is
-/// a place in no section that is kept, or past its section's end.
+/// or a number. `Absent` is a weak symbol that no object defines, with the addend alone. `Nowhere`
+/// stands where no address can be meant: the symbol's section isn't kept, the place lies outside its
+/// section, or the symbol is global and nothing defines it.
 #[derive(Clone, Copy, PartialEq, Eq, Debug)]
 pub enum Target {
     Code(Place),

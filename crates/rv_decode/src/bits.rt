@@ -1,6 +1,6 @@
 // Bit fields of words.
 
-ghost use Rattle.std.specs.Prelude.{◌≡◌, ◌<◌, ◌≤◌, ◌^◌};
+ghost use Rattle.std.specs.Prelude.{◌≡◌, ◌<◌, ◌^◌};
 ghost use Rattle.rv_decode.specs.Bits.{field, signed};
 
 use zc_base::reg::Reg;

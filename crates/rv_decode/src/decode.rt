@@ -50,7 +50,6 @@ fn imm_op(funct3: u32) -> Option<ImmOp>
 #[cfg(test)]
 mod tests {
     use super::*;
-    use std::test::Fail;
     use zc_base::reg::Reg;
 
     fn addi(rd: u8, first: u8, imm: i32) -> Option<Instr> {
@@ -66,7 +65,7 @@ mod tests {
 
     // The words are worked by hand from the manual's table of RV32I.
     #[test]
-    fn words_of_the_table(rt: HostRuntime) {
+    fn words_of_the_table_decode(rt: HostRuntime) {
         let table = [
             (0x0030_0513, addi(10, 0, 3)),
             (0x05D0_0893, addi(17, 0, 93)),
@@ -84,7 +83,7 @@ mod tests {
 
     // Another funct3 or opcode, a compressed word, and words beside `ecall`.
     #[test]
-    fn words_outside_the_table(rt: HostRuntime) {
+    fn words_outside_the_table_are_none(rt: HostRuntime) {
         let words = [
             0x0000_0000,
             0xFFFF_FFFF,

@@ -78,8 +78,9 @@ pub enum RegOp {
 /// An instruction of 32 bits, or the one that a halfword stands for.
 ///
 /// An upper `imm` is the 20 bits as they stand in the word, a shift's `imm` its amount, and a
-/// `distance` is in bytes from the instruction itself. `rest` holds the bits of a fence behind its
-/// opcode and `funct3`. `Csrrw` is the one on the table base register jvt.
+/// `distance` is in bytes from the instruction itself. `rest` is what a fence has beside its opcode
+/// and `funct3`: these 22 bits in the order of the word, from the highest to the lowest. `Csrrw` is
+/// the one on the table base register jvt.
 #[derive(Clone, Copy, PartialEq, Eq, Debug)]
 pub enum Instr {
     Upper {

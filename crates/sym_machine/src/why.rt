@@ -6,14 +6,26 @@ ghost use Rattle.sym_machine.specs.Why.{why_name, why_number};
 /// Why the symbolic machine is stuck.
 #[derive(Clone, Copy, PartialEq, Eq, Debug)]
 pub enum Why {
+    /// A load or a store goes to an address that is no number.
     AddressUnknown,
+    /// What a branch compares doesn't say whether it is taken.
     ConditionUnknown,
+    /// A `jalr`, or the call of a weak symbol that nothing defines, goes to no place in code.
     TargetUnknown,
+    /// The number of an environment call, an argument that the call uses, or a byte that it would
+    /// write to an output, is no number.
     ArgumentUnknown,
+    /// A load, a store or a call's buffer isn't wholly in the memory for data.
     BadAddress,
+    /// A half or a word is loaded or stored at an address that isn't a multiple of its size, be it in
+    /// memory or not.
     Misaligned,
+    /// The step would leave a stack pointer that is no number, or that lies below the stack or above
+    /// its end.
     StackPointer,
+    /// The place is the end of its section, or nothing that the machine runs stands there.
     NoInstruction,
+    /// An `ecall` by whose a7 there is no call, or whose a0 that call doesn't take.
     UnknownCall,
 }
 
@@ -49,6 +61,30 @@ impl Why {
             Why::StackPointer => "StackPointer",
             Why::NoInstruction => "NoInstruction",
             Why::UnknownCall => "UnknownCall",
+        }
+    }
+}
+
+#[cfg(test)]
+mod tests {
+    use super::*;
+
+    #[test]
+    fn causes_have_their_printed_numbers_and_names(rt: HostRuntime) {
+        let rows = [
+            (Why::AddressUnknown, 1, "AddressUnknown"),
+            (Why::ConditionUnknown, 2, "ConditionUnknown"),
+            (Why::TargetUnknown, 3, "TargetUnknown"),
+            (Why::ArgumentUnknown, 4, "ArgumentUnknown"),
+            (Why::BadAddress, 5, "BadAddress"),
+            (Why::Misaligned, 6, "Misaligned"),
+            (Why::StackPointer, 7, "StackPointer"),
+            (Why::NoInstruction, 8, "NoInstruction"),
+            (Why::UnknownCall, 9, "UnknownCall"),
+        ];
+        for (why, number, name) in rows {
+            assert_eq!(rt; why.number(), number);
+            assert_eq!(rt; why.name(), name);
         }
     }
 }

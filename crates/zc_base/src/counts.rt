@@ -2,9 +2,10 @@
 
 /// What a link counts. `text` is in bytes, all else in numbers of items, groups or sites.
 ///
-/// `items` counts all items, `short` the items that were written in two bytes, `long` the branches
-/// that were written in eight, `pushes`, `pops` and `moves` the fused groups of each kind, and
-/// `table` the sites that jump through the table.
+/// `items` counts all items, `short` those that took two bytes on their own, as no part of a group,
+/// of which paddings and jumps through the table are left out. `long` counts the branches that were
+/// written in eight bytes, `pushes`, `pops` and `moves` the fused groups of each kind, and `table`
+/// the sites that jump through the table.
 #[derive(Clone, Copy, PartialEq, Eq, Debug)]
 pub struct Counts {
     pub text: u32,

@@ -1,7 +1,6 @@
 // What a halfword spells.
 
 ghost use Rattle.std.specs.Prelude.{◌≡◌};
-ghost use Rattle.rv_decode.specs.Bits.{field};
 ghost use Rattle.zc_decode.specs.Halfwords.{decoded16, expanded, imm_ci_of, li_of, quadrant1_of};
 
 use crate::short::Short;
@@ -58,7 +57,6 @@ fn immediate(half: u32) -> i32
 #[cfg(test)]
 mod tests {
     use super::*;
-    use std::test::Fail;
 
     fn li(rd: u8, imm: i32) -> Option<Short> {
         let rd = Reg::new(rd)?;
@@ -73,7 +71,7 @@ mod tests {
 
     // The halfwords are worked by hand from the table of Zca; one with rd 0 is a hint.
     #[test]
-    fn halfwords_of_the_tables(rt: HostRuntime) {
+    fn halfwords_of_the_tables_decode(rt: HostRuntime) {
         let table = [
             (0x450D, li(10, 3)),
             (0x557D, li(10, -1)),
@@ -89,7 +87,7 @@ mod tests {
 
     // Other quadrants, the other forms of quadrant 1, and the low half of a word.
     #[test]
-    fn halfwords_outside_the_tables(rt: HostRuntime) {
+    fn halfwords_outside_the_tables_are_none(rt: HostRuntime) {
         let halfwords = [0x0000, 0x450C, 0x450E, 0x0513, 0x050D, 0x650D, 0xC50D];
         for half in halfwords {
             assert_eq!(rt; decode16(half), None, "{half:04x}");

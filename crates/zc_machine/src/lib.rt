@@ -7,5 +7,3 @@ pub mod reason;
 mod region;
 pub mod run;
 pub mod step;
-#[cfg(test)]
-mod tests;

@@ -1,12 +1,12 @@
 // The machine.
 
-ghost use Rattle.std.specs.Prelude.{◌≡◌, ℕ, ◌<◌, ◌-◌, ◌^◌, IfOk};
+ghost use Rattle.std.specs.Prelude.{◌≡◌, ℕ, ◌<◌, ◌%◌, ◌-◌, ◌^◌, IfOk};
 ghost use Rattle.elf32_read.specs.Header.{entry_of};
 ghost use Rattle.elf32_read.specs.Segments.{segments_of};
 ghost use Rattle.rv_decode.specs.Effect.{effect, imm_result, onward};
-ghost use Rattle.rv_decode.specs.State.{byte_in, reg_in, set_reg};
+ghost use Rattle.rv_decode.specs.State.{reg_in, set_reg};
 ghost use Rattle.zc_machine.specs.Answer.{WantsExit, answer_of, core_after, exited, fetched_as};
-ghost use Rattle.zc_machine.specs.Fetch.{fetched_at, fetched_half, fetched_word, half_at, word_at};
+ghost use Rattle.zc_machine.specs.Fetch.{fetched_at, fetched_word, half_at, word_at};
 ghost use Rattle.zc_machine.specs.Interrupt.{cut, dirtied};
 ghost use Rattle.zc_machine.specs.Load.{first_core};
 ghost use Rattle.zc_machine.specs.Step.{Wants, called, effect_step, short_step, zc_step};
@@ -51,7 +51,8 @@ impl Model for Machine {
 }
 
 impl Machine {
-    /// The machine at the start of an image. It takes the memory of all its data and stack.
+    /// The machine at the start of an image. It takes memory for all its segments, those of code too,
+    /// and for the stack.
     #[tactic(auto, unfolding(crate::specs::Load::first_core))]
     pub fn load(alloc: Global, image: &Image) -> Result<Machine, AllocError>
         ensures { IfOk result (λ machine. machine ≡ first_core (entry_of image.now.0) (segments_of image.now.0) image.now.1) }
@@ -112,7 +113,7 @@ impl Machine {
         requires wanted { WantsExit (zc_step self.old) }
         ensures { (status : ℕ) → zc_step self.old ≡ Wants (EnvCall.Exit status) → self.new ≡ exited status self.old }
     {
-        self.exit = Some((self.regs[10] % 256) as u8);
+        self.exit = Some(self.exit_status());
         self.commits += 1;
     }
 
@@ -127,30 +128,37 @@ impl Machine {
     }
 
     // Writes a byte, where an interrupt may.
-    fn dirty(&mut self, a: u32, b: u8)
-        ensures { self.new ≡ dirtied (a, b) self.old }
+    fn dirty(&mut self, address: u32, byte: u8)
+        ensures { self.new ≡ dirtied (address, byte) self.old }
     {
-        let in_stack = reaches(self.regions.as_slice(), Access::Interrupt, u64::from(a), 1);
-        if in_stack && a < self.regs[2] {
-            write_byte(self.regions.as_mut_slice(), a, b);
+        let at = u64::from(address);
+        let in_stack = reaches(self.regions.as_slice(), Access::Interrupt, at, 1);
+        if in_stack && address < self.regs[2] {
+            write_byte(self.regions.as_mut_slice(), address, byte);
         }
     }
 
     // The halfword at an address.
-    fn half(&self, a: u64) -> u16
-        requires { a < 2 ^ 40 }
-        ensures { result ≡ half_at self.now a }
+    fn half(&self, address: u64) -> u16
+        requires { address < 2 ^ 40 }
+        ensures { result ≡ half_at self.now address }
     {
         let regions = self.regions.as_slice();
-        u16::from(byte_at(regions, a)) + 256 * u16::from(byte_at(regions, a + 1))
+        u16::from_le_bytes([byte_at(regions, address), byte_at(regions, address + 1)])
     }
 
     // The word at an address.
-    fn word(&self, a: u64) -> u32
-        requires { a < 2 ^ 33 }
-        ensures { result ≡ word_at self.now a }
+    fn word(&self, address: u64) -> u32
+        requires { address < 2 ^ 33 }
+        ensures { result ≡ word_at self.now address }
     {
-        u32::from(self.half(a)) + 65536 * u32::from(self.half(a + 2))
+        let regions = self.regions.as_slice();
+        u32::from_le_bytes([
+            byte_at(regions, address),
+            byte_at(regions, address + 1),
+            byte_at(regions, address + 2),
+            byte_at(regions, address + 3),
+        ])
     }
 
     // The instruction at the program counter with its size in bytes.
@@ -172,14 +180,14 @@ impl Machine {
     }
 
     // The instruction of four bytes at an address.
-    fn fetch_word(&self, a: u64) -> Result<(Short, u32), Reason>
-        requires { a < 2 ^ 33 }
-        ensures { fetched_as result ≡ fetched_word self.now a }
+    fn fetch_word(&self, address: u64) -> Result<(Short, u32), Reason>
+        requires { address < 2 ^ 33 }
+        ensures { fetched_as result ≡ fetched_word self.now address }
     {
-        if !reaches(self.regions.as_slice(), Access::Fetch, a, 4) {
+        if !reaches(self.regions.as_slice(), Access::Fetch, address, 4) {
             return Err(Reason::BadAccess);
         }
-        match decode(self.word(a)) {
+        match decode(self.word(address)) {
             Some(instr) => Ok((Short::Base(instr), 4)),
             None => Err(Reason::Illegal),
         }
@@ -241,9 +249,16 @@ impl Machine {
         ensures { result ≡ answer_of (called self.now) }
     {
         match self.regs[17] {
-            93 => Step::Wants(EnvCall::Exit((self.regs[10] % 256) as u8)),
+            93 => Step::Wants(EnvCall::Exit(self.exit_status())),
             _ => Step::Stopped(Reason::UnknownCall),
         }
+    }
+
+    // The status of an exit that is called here: the low byte of a0.
+    fn exit_status(&self) -> u8
+        ensures { result ≡ reg_in self.now 10 % 256 }
+    {
+        (self.regs[10] % 256) as u8
     }
 }
 
@@ -256,3 +271,6 @@ fn imm_value(op: ImmOp, n: u32, imm: i32) -> Option<u32>
         _ => None,
     }
 }
+
+#[cfg(test)]
+pub(crate) mod tests;

@@ -6,10 +6,18 @@ ghost use Rattle.zc_machine.specs.Reason.{reason_name, reason_number};
 /// Why the machine stops.
 #[derive(Clone, Copy, PartialEq, Eq, Debug)]
 pub enum Reason {
+    /// The word or halfword at the program counter spells no instruction that the machine runs.
     Illegal,
+    /// An instruction or a table entry is fetched from outside the segments of code, or a load, a
+    /// store or a call's buffer isn't wholly in the memory for data.
     BadAccess,
+    /// A half or a word is loaded or stored at an address that isn't a multiple of its size, be it in
+    /// memory or not.
     Misaligned,
+    /// The instruction is `ebreak`.
     Break,
+    /// An `ecall` by whose a7 there is no call, or whose a0 that call doesn't take, wherever its buffer
+    /// lies.
     UnknownCall,
 }
 

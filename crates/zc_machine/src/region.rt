@@ -22,7 +22,7 @@ pub enum Access {
 }
 
 impl RegionKind {
-    /// Whether an access may reach such a region.
+    // Whether an access may reach such a region.
     fn allows(self, access: Access) -> bool
         ensures { result ≡ allowed access (kind_of self) }
     {
@@ -66,20 +66,20 @@ impl Region {
     }
 
     // Whether so many cells from an address on lie in the region.
-    fn spans(&self, a: u64, n: u64) -> bool
-        ensures { result ≡ spans (extent_of self.now) a n }
+    fn spans(&self, address: u64, count: u64) -> bool
+        ensures { result ≡ spans (extent_of self.now) address count }
     {
         let at = u64::from(self.at);
         let size = self.cells.len() as u64;
-        at <= a && n <= size && a - at <= size - n
+        at <= address && count <= size && address - at <= size - count
     }
 
     // The cell at an address.
-    fn cell(&self, a: u64) -> u8
-        requires { spans (extent_of self.now) a 1 ≡ true }
-        ensures { result ≡ slice_index self.now.cells (a - self.now.at) }
+    fn cell(&self, address: u64) -> u8
+        requires { spans (extent_of self.now) address 1 ≡ true }
+        ensures { result ≡ slice_index self.now.cells (address - self.now.at) }
     {
-        self.cells[(a - u64::from(self.at)) as usize]
+        self.cells[(address - u64::from(self.at)) as usize]
     }
 
     // Writes a cell, where it is one of the region's.

@@ -59,8 +59,10 @@ pub fn run<C: Console>(
                 machine.answer_exit();
                 return RunEnd::Exit(status);
             }
-            Step::Wants(EnvCall::Read { .. }) => return RunEnd::Stopped(Reason::UnknownCall),
-            Step::Wants(EnvCall::Write { .. }) => return RunEnd::Stopped(Reason::UnknownCall),
+            // No step wants these yet.
+            Step::Wants(EnvCall::Read { .. } | EnvCall::Write { .. }) => {
+                return RunEnd::Stopped(Reason::UnknownCall);
+            }
             Step::Ended(status) => return RunEnd::Exit(status),
             Step::Stopped(reason) => return RunEnd::Stopped(reason),
         }
@@ -86,3 +88,6 @@ fn interrupt(machine: &mut Machine, plan: &Plan, mut next: u32) -> u32
     }
     next
 }
+
+#[cfg(test)]
+mod tests;

@@ -15,10 +15,10 @@ use std::io::{ErrorKind, Read, Write};
 use std::rt::Files;
 use std::{fs, io};
 
-/// The most that one read of a file asks for.
+// The most that one read of a file asks for.
 const PIECE: usize = 8192;
 
-/// How many names are tried for a new file beside the one that is to be written.
+// How many names are tried for a new file beside the one that is to be written.
 const NAMES: u32 = 1000;
 
 /// The files of the system, by path. What stands in them is outside this program, so it isn't told.
@@ -141,15 +141,12 @@ fn read_below<F: Read>(alloc: Global, file: &mut F, most: usize) -> Result<Optio
         MatchOption read (most ≤ length left) (λ v. v.items ≡ left))) }
 {
     let mut bytes = Vec::new(alloc);
-    for _ in 0..u64::MAX {
-        if bytes.len() == most {
-            return Ok(None);
-        }
+    while bytes.len() < most {
         if read_piece(file, &mut bytes, most)? == 0 {
             return Ok(Some(bytes));
         }
     }
-    Err(Trouble::System)
+    Ok(None)
 }
 
 // Reads a piece behind the bytes so far, which become at most `most`, and says how long it is.
@@ -209,17 +206,28 @@ fn replace<R: Files + AllocGlobal>(
     permissions: Option<Permissions>,
 ) -> Result<(), Trouble> {
     let (beside, mut file) = create_beside(rt, name)?;
-    let mut written = fill(&mut file, bytes);
-    if let Some(permissions) = permissions {
-        written = written.and(file.set_permissions(permissions).map_err(Trouble::from));
-    }
-    if written.is_ok() {
-        written = fs::rename(rt, beside.as_str(), name).map_err(Trouble::from);
-    }
-    if written.is_err() {
+    let placed = fill_and_rename(rt, &mut file, beside.as_str(), name, bytes, permissions);
+    if placed.is_err() {
         let _ = fs::remove_file(rt, beside.as_str());
     }
-    written
+    placed
+}
+
+// Fills a new file, gives it these permissions, and then the name that it is made for.
+fn fill_and_rename<R: Files>(
+    rt: &R,
+    file: &mut R::File,
+    beside: &str,
+    name: &str,
+    bytes: &[u8],
+    permissions: Option<Permissions>,
+) -> Result<(), Trouble> {
+    fill(file, bytes)?;
+    if let Some(permissions) = permissions {
+        file.set_permissions(permissions)?;
+    }
+    fs::rename(rt, beside, name)?;
+    Ok(())
 }
 
 // Makes a new file in the folder of a name, and says its own name.
@@ -273,11 +281,8 @@ mod tests {
         }
         assert_eq!(rt; store.get(rt.alloc(), name, 11)?.len(), 11, "at the limit");
         let beside = name_beside(rt.alloc(), name, 0)?;
-        assert_eq!(rt;
-            fs::exists(&rt, beside.as_str())?,
-            false,
-            "no other file is left"
-        );
+        let beside_is_left = fs::exists(&rt, beside.as_str())?;
+        assert!(rt; !beside_is_left, "no other file is left");
         let faults = [
             (name, 10, StoreFault::TooLong { taken: 11 }),
             ("zc_outside-none", 10, StoreFault::Failed),

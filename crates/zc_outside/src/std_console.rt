@@ -1,6 +1,7 @@
 // A console over the standard streams.
 
-ghost use Rattle.std.specs.Prelude.{◌≡◌, None};
+ghost use Rattle.std.specs.Prelude.{◌≡◌, ◌≤◌, None, IsErrOf, IsOk, MatchBool};
+ghost use Rattle.zc_outside.specs.Calls.{more};
 
 use crate::console::{Console, ConsoleFault};
 use crate::transfer::{read_some, write_whole};
@@ -73,20 +74,28 @@ impl<I: Read, O: Write, E: Write> Console for StdConsole<I, O, E> {
     }
 
     fn out(&mut self, bytes: &[u8]) -> Result<(), ConsoleFault> {
-        if write_whole(&mut self.out, bytes) {
-            return Ok(());
-        }
-        self.write_faults = self.write_faults.saturating_add(1);
-        Err(ConsoleFault::Failed)
+        let whole = write_whole(&mut self.out, bytes);
+        write_answer(whole, &mut self.write_faults)
     }
 
     fn err(&mut self, bytes: &[u8]) -> Result<(), ConsoleFault> {
-        if write_whole(&mut self.err, bytes) {
-            return Ok(());
-        }
-        self.write_faults = self.write_faults.saturating_add(1);
-        Err(ConsoleFault::Failed)
+        let whole = write_whole(&mut self.err, bytes);
+        write_answer(whole, &mut self.write_faults)
     }
+}
+
+// The answer to a write. One that wasn't whole is refused and counted.
+fn write_answer(whole: bool, write_faults: &mut u64) -> Result<(), ConsoleFault>
+    ensures answer { MatchBool whole
+        (IsOk result × (write_faults.new ≡ write_faults.old))
+        (IsErrOf result ConsoleFault.Failed × (write_faults.new ≡ more write_faults.old 1)) }
+    ensures writes { write_faults.old ≤ write_faults.new }
+{
+    if whole {
+        return Ok(());
+    }
+    *write_faults = write_faults.saturating_add(1);
+    Err(ConsoleFault::Failed)
 }
 
 #[cfg(test)]
@@ -94,7 +103,6 @@ mod tests {
     use super::*;
     use std::io;
     use std::io::ErrorKind;
-    use std::test::Fail;
 
     // A writer that takes a byte a call, is interrupted at the second, and has room for three.
     #[derive(Drop)]

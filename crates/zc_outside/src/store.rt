@@ -11,7 +11,7 @@ use thiserror::Error;
 pub enum StoreFault {
     #[error("the file can't be read or written")]
     Failed,
-    /// `taken` is how many bytes were read before the store gave up, one more than the limit.
+    /// The file is over the limit of the call, and `taken` is one more than that limit.
     #[error("the file has {taken} bytes or more, over its limit")]
     TooLong { taken: u32 },
     #[error("out of memory")]
@@ -22,8 +22,8 @@ pub enum StoreFault {
 ///
 /// `files` is what each name holds, where a store tells it. The counts are 64-bit counters that
 /// never fall and stay at their last value: `read_faults` and `write_faults` count the calls that
-/// answer `Failed`, `long_files` the files over their limit. A store that is `sure` stays so, and
-/// no call of it fails for a name that it holds, want of memory left aside.
+/// answer `Failed`, `long_files` the files over their limit. A store that is `sure` stays so: it
+/// answers `Failed` to no `put`, and to no `get` of a name that it holds.
 pub trait Store {
     ghost files: { Self → Option Files };
 

@@ -12,6 +12,8 @@ pub fn read_some<S: Read>(source: &mut S, buf: &mut [u8]) -> io::Result<usize>
     ensures within { IfOk result (λ n. n ≤ length buf.new) }
     ensures bytes { ReadConsumes (S.remaining source.old) (S.remaining source.new) result buf.new }
 {
+    // Signals may come without end, and a loop needs a bound to be proved to end. No process lives to
+    // see this one, nor the `TimedOut` behind it.
     for _ in 0..u64::MAX {
         match source.read(buf) {
             Ok(count) => return Ok(count),
@@ -30,6 +32,7 @@ pub fn write_whole<S: Write>(sink: &mut S, piece: &[u8]) -> bool
         (AddsPart (S.contents sink.old) (S.contents sink.new) piece.now) }
 {
     let mut done = 0;
+    // As in `read_some`, this bound is never seen.
     for _ in 0..u64::MAX {
         if done == piece.len() {
             break;

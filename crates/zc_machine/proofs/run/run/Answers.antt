@@ -1,12 +1,12 @@
-use Rattle.std.proofs.Common.{◌≡◌, ℕ, List, Ok, None, sym, ap, subst, ◌∙◌, arith}
+use Rattle.std.proofs.Common.{rules, ◌≡◌, ℕ, List, Ok, Err, None, sym, ap, subst, ◌∙◌, arith}
 use Rattle.interrupt_plan.specs.Plan.{Cut}
-use Rattle.rv_decode.specs.State.{ZcCore}
+use Rattle.rv_decode.specs.State.{ZcCore, ZcState}
 use Rattle.zc_machine.specs.declared.reason.Reason.TheVariants.{UnknownCall}
-use Rattle.zc_machine.specs.declared.step.EnvCall.TheVariants.{Exit, Read, Write}
+use Rattle.zc_machine.specs.declared.step.EnvCall.TheVariants.{Exit}
 use Rattle.zc_machine.specs.Answer.{core_after, exited}
 use Rattle.zc_machine.specs.Cursor.{IsAt}
 use Rattle.zc_machine.specs.Interrupt.{cut_by}
-use Rattle.zc_machine.specs.Run.{committed, zc_after}
+use Rattle.zc_machine.specs.Run.{answered, committed, zc_after}
 use Rattle.zc_machine.specs.Step.{Wants, Stopped, zc_step}
 use Rattle.zc_machine.proofs.RunLaws.{Turning, commits_kept, committed_came, exit_ran, none_ended, quiet, spent_ran, stop_ran, stopped_step, wants_step, zc_after-none}
 use Rattle.zc_machine.proofs.run.run.Goals as goal
@@ -78,17 +78,9 @@ returns-in-Wants-Read-clause-ran g c =
     let z' = c.interrupt-next.new.machine in
     let t = turning _ _ _ c.args.steps _ _ kept.so_far kept.running c.interrupt-next.ensures.made in
     let w = c.in-Wants-Read in
-    let wants : zc_step z' ≡ Wants (Read w.field-0-0 w.field-0-1) = wants_step (zc_step z') (Read w.field-0-0 w.field-0-1) (cc w.ensures.answer) in
-    stop_ran _ _ _ t _ _ _ (omega arith) UnknownCall (λ r. ap (λ s. committed s r) wants) (w.ensures.state ∙ ap (λ s. core_after s z') wants)
-
-pub returns-in-Wants-Write-clause-ran : goal.returns-in-Wants-Write-clause-ran
-returns-in-Wants-Write-clause-ran g c =
-    let kept = c.loop-machine.invariant in
-    let z' = c.interrupt-next.new.machine in
-    let t = turning _ _ _ c.args.steps _ _ kept.so_far kept.running c.interrupt-next.ensures.made in
-    let w = c.in-Wants-Write in
-    let wants : zc_step z' ≡ Wants (Write w.field-0-0 w.field-0-1 w.field-0-2) = wants_step (zc_step z') (Write w.field-0-0 w.field-0-1 w.field-0-2) (cc w.ensures.answer) in
-    stop_ran _ _ _ t _ _ _ (omega arith) UnknownCall (λ r. ap (λ s. committed s r) wants) (w.ensures.state ∙ ap (λ s. core_after s z') wants)
+    let wants : zc_step z' ≡ Wants w.field-0 = wants_step (zc_step z') w.field-0 (cc w.ensures.answer) in
+    let unknown : (r : ZcState) → answered w.field-0 r ≡ Err UnknownCall = λ r. search rules in
+    stop_ran _ _ _ t _ _ _ (omega arith) UnknownCall (λ r. ap (λ s. committed s r) wants ∙ unknown r) (w.ensures.state ∙ ap (λ s. core_after s z') wants)
 
 pub returns-in-Ended-clause-ran : goal.returns-in-Ended-clause-ran
 returns-in-Ended-clause-ran g c =

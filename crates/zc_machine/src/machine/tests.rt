@@ -1,0 +1,87 @@
+// Small images, loaded and stepped.
+
+ghost use Rattle.std.specs.Prelude.{◌≡◌, IfOk, None};
+
+use super::*;
+use std::test::Fail;
+use zc_base::fields::put_u32;
+use zc_base::mem_map::MemMap;
+
+// A file's header and one program header, of code at 0x10000 in the twelve bytes behind them.
+const HEADERS: [u8; 84] = [
+    0x7F, 0x45, 0x4C, 0x46, 1, 1, 1, 0, 0, 0, 0, 0, 0, 0, 0, 0, //
+    2, 0, 0xF3, 0, 1, 0, 0, 0, 0, 0, 1, 0, 0x34, 0, 0, 0, 0, 0, //
+    0, 0, 1, 0, 0, 0, 0x34, 0, 0x20, 0, 1, 0, 0x28, 0, 0, 0, 0, 0, //
+    1, 0, 0, 0, 0x54, 0, 0, 0, 0, 0, 1, 0, 0, 0, 1, 0, //
+    0x0C, 0, 0, 0, 0x0C, 0, 0, 0, 5, 0, 0, 0, 4, 0, 0, 0, //
+];
+
+/// c.li a0, 3; addi a7, x0, 93; ecall
+pub const THREE: [u8; 12] = [0x0D, 0x45, 0x93, 8, 0xD0, 5, 0x73, 0, 0, 0, 0, 0];
+
+/// The machine with this text, of which so many bytes are loaded.
+#[tactic(auto, unfolding(crate::specs::Load::first_core))]
+pub fn load(alloc: Global, text: &[u8; 12], size: u32) -> Result<Machine, Fail>
+    ensures { IfOk result (λ machine. (machine.exit ≡ None) × (machine.commits ≡ 0)) }
+{
+    let mut bytes = [0u8; 96];
+    bytes[..84].copy_from_slice(&HEADERS);
+    bytes[84..].copy_from_slice(text);
+    put_u32(&mut bytes, 68, size);
+    put_u32(&mut bytes, 72, size);
+    let image = Image::read(&bytes, MemMap::standard())?;
+    Ok(Machine::load(alloc, &image)?)
+}
+
+#[test]
+fn a_machine_starts_at_the_entry_with_an_empty_stack(rt: HostRuntime) -> Result<(), Fail> {
+    let machine = load(rt.alloc(), &THREE, 10)?;
+    assert_eq!(rt; machine.pc(), 0x10000);
+    assert_eq!(rt; machine.commits(), 0);
+    for number in 0..32 {
+        let want = if number == 2 { 0x1000_0000 } else { 0 };
+        let r = Reg::new(number).ok_or("no register")?;
+        assert_eq!(rt; machine.register(r), want, "x{number}");
+    }
+    Ok(())
+}
+
+#[test]
+fn each_step_commits_or_changes_nothing(rt: HostRuntime) -> Result<(), Fail> {
+    let mut machine = load(rt.alloc(), &THREE, 10)?;
+    let a0 = Reg::new(10).ok_or("no register")?;
+    let a7 = Reg::new(17).ok_or("no register")?;
+    let wants = Step::Wants(EnvCall::Exit(3));
+    for (i, step, pc, commits) in [
+        (0, Step::Committed, 0x10002, 1),
+        (1, Step::Committed, 0x10006, 2),
+        (2, wants, 0x10006, 2),
+        (3, wants, 0x10006, 2),
+    ] {
+        assert!(rt; machine.commits() < 9);
+        assert_eq!(rt; machine.step(), step, "{i}");
+        assert_eq!(rt; machine.pc(), pc, "{i}");
+        assert_eq!(rt; machine.commits(), commits, "{i}");
+    }
+    assert_eq!(rt; machine.register(a0), 3);
+    assert_eq!(rt; machine.register(a7), 93);
+    Ok(())
+}
+
+#[test]
+fn an_interrupt_leaves_the_run_as_it_was(rt: HostRuntime) -> Result<(), Fail> {
+    let mut machine = load(rt.alloc(), &THREE, 10)?;
+    machine.cut(
+        &[],
+        &[(0x0FFF_FFFF, 0xEE), (0x1000_0000, 0xEE), (0x10000, 0xEE)],
+    );
+    assert_eq!(rt; machine.pc(), 0x10000);
+    assert_eq!(rt; machine.commits(), 0);
+    for i in 0..2 {
+        assert!(rt; machine.commits() < 9);
+        assert_eq!(rt; machine.step(), Step::Committed, "{i}");
+    }
+    assert!(rt; machine.commits() < 9);
+    assert_eq!(rt; machine.step(), Step::Wants(EnvCall::Exit(3)));
+    Ok(())
+}
