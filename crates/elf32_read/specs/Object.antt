@@ -1,5 +1,5 @@
 -- Objects by their bytes (System V gABI, "ELF Header" and "Sections"): each fault by its test.
-use Rattle.std.specs.Prelude.{◌+◌, ◌*◌, Bool, not, ◌&&◌, ◌||◌, ◌==◌, nat_lt, List, ℕ, [], ◌∷◌, length, Option}
+use Rattle.std.specs.Prelude.{◌+◌, ◌*◌, Bool, not, ◌&&◌, ◌||◌, nat_lt, List, ℕ, [], ◌∷◌, length, Option}
 use Rattle.std.specs.List.{list_any}
 use Rattle.elf32_read.specs.Header.{Header, section_table, section_header_size, section_count, begins_as, have_other_size, headers_of, is_empty_kind}
 use Rattle.elf32_read.specs.Rows.{first_of}

@@ -5,12 +5,11 @@ use Rattle.rv_decode.specs.declared.instr.Instr.{Instr}
 use Rattle.rv_decode.specs.declared.instr.Instr.TheVariants.{WithImm}
 use Rattle.block_cut.specs.declared.item.Item.TheVariants.{Op}
 use Rattle.rv_decode.specs.Memory.{cell_at, extents_of, is_data, is_text, lies_in}
-use Rattle.rv_decode.specs.State.{ZcCore, byte_in}
+use Rattle.rv_decode.specs.State.{byte_in}
 use Rattle.sym_machine.specs.declared.word.SymByte.TheVariants.{Undef}
 use Rattle.sym_machine.specs.Program.{Program}
 use Rattle.zc_decode.specs.declared.short.Short.TheVariants.{Base}
 use Rattle.zc_machine.specs.Fetch.{Found, fetched_at}
-use Rattle.zc_machine.specs.Load.{first_core}
 use Rattle.zc_link.specs.Image.{Image, loaded, place_address}
 use Rattle.zc_link.specs.Stands.{ByteStands, IsMemory}
 use Rattle.zc_link.specs.Values.{value_in}

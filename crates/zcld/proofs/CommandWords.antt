@@ -1,15 +1,12 @@
 -- What a number word is read as.
-use Rattle.std.proofs.Common.{◌≡◌, ◌≢◌, ℕ, ◌<◌, ◌^◌, List, [], ◌∷◌, length, Bool, true, false, ◌&&◌, refl, Result, Err, None, subst, arith, rules, leb}
+use Rattle.std.proofs.Common.{◌≡◌, ℕ, ◌<◌, ◌^◌, List, length, Bool, true, false, ◌&&◌, refl, Result, Err, None, subst, arith, rules, leb}
 use Rattle.std.proofs.lemmas.Bool.{and_parts, leb-true, cond-false}
 use Rattle.std.specs.Char.{is_ascii_digit}
 use Rattle.std.specs.List.{list_all}
-use Rattle.std.proofs.lemmas.List.{length-map}
 use Rattle.std.proofs.lemmas.Str.Parse.{IsNumeralModel, numerals_by_value, parse_digits}
-use Rattle.std.specs.Prelude.{String, map}
 use Rattle.std.specs.Result.{OkIff}
 use Rattle.std.specs.Str.Parse.{ParsesUnsigned, digits_value}
-use Rattle.std.specs.String.{string_bytes}
-use Rattle.zcld.specs.Command.{command_of, is_number, steps_of}
+use Rattle.zcld.specs.Command.{is_number, steps_of}
 
 -- a text of digits and its number
 digits : IsNumeralModel (λ ds. list_all is_ascii_digit ds ≡ true) (digits_value 10)

@@ -1,6 +1,5 @@
 -- A run of the machine over the input that was taken is what the image executes, and what `run` shows.
-use Rattle.std.proofs.Common.{◌≡◌, ℕ, List, [], ◌++◌, Option, Some, None, refl, sym, ap, subst, ◌∙◌, inl, inr, ⊎_elim}
-use Rattle.std.specs.Prelude.{take}
+use Rattle.std.proofs.Common.{◌≡◌, ℕ, List, [], Option, Some, None, refl, sym, ap, subst, ◌∙◌, inl, inr, ⊎_elim}
 use Rattle.zc_base.specs.declared.mem_map.MemMap.{MemMap}
 use Rattle.zc_base.specs.MemMap.{standard_map}
 use Rattle.elf32_read.specs.Header.{entry_of}
@@ -9,7 +8,7 @@ use Rattle.elf32_read.specs.Segments.{SegmentData, segments_of}
 use Rattle.interrupt_plan.specs.Plan.{Cut}
 use Rattle.rv_decode.specs.State.{Event, ZcCore}
 use Rattle.zc_outside.specs.Files.{Files}
-use Rattle.zc_outside.specs.Streams.{Adds, AddsPart, KeepsBytes}
+use Rattle.zc_outside.specs.Streams.{Adds, KeepsBytes}
 use Rattle.zc_outside.proofs.Kept.{KeepsBytes-Adds, KeepsBytes-AddsPart}
 use Rattle.zc_machine.specs.Load.{first_core}
 use Rattle.zc_machine.specs.RunEnd.{Course, Ran, Wrote}

@@ -10,9 +10,7 @@ use Rattle.std.proofs.lemmas.List.Elements.{All-cons, All-nil}
 use Rattle.zc_base.specs.declared.place.Place.{Place}
 use Rattle.zc_base.specs.Fields.{word_in}
 use Rattle.zc_base.specs.MemMap.{standard_map}
-use Rattle.elf32_read.specs.declared.fault.Fault.{Fault}
 use Rattle.elf32_read.specs.Header.{header_of, is_empty_kind, section_count}
-use Rattle.elf32_read.specs.Object.{object_fault}
 use Rattle.elf32_read.proofs.Faultless.{content_within, faultless_whole}
 use Rattle.elf32_read.specs.Segments.{SegmentData}
 use Rattle.elf32_read.specs.Places.{is_ascending, is_before, is_outside, places_of}
@@ -27,10 +25,10 @@ use Rattle.block_cut.specs.Items.{code_in, code_word, item_in, spelled, word_ite
 use Rattle.zc_link.specs.Image.{image_in, image_unless}
 use Rattle.zc_link.specs.Places.{address_in}
 use Rattle.zc_link.proofs.Simulation.{quietly_too}
-use Rattle.zc_link.specs.Preserves.{Preserves, PreservesQuietly}
+use Rattle.zc_link.specs.Preserves.{Preserves}
 use Rattle.zcld.specs.Straight.{piece, place_at, places_from, text_of, words_from, words_in}
 use Rattle.zcld.specs.Promise.{IsImageOf}
-use Rattle.zcld.specs.Refusal.{code_of, fault_or, first_fault, is_unbuilt}
+use Rattle.zcld.specs.Refusal.{code_of, first_fault}
 use Rattle.zcld.specs.Written.{TextEnds, straight_parts, zc_image}
 use Rattle.zcld.proofs.Laying.{IsWord, address_found, image_with, offset_whole, straight_follows, text_short}
 use Rattle.zcld.proofs.StraightLoop.{length_piece}

@@ -1,7 +1,6 @@
 -- What a command shows, it still shows behind the line that names its outcome.
-use Rattle.std.proofs.Common.{◌≡◌, ℕ, ◌+◌, ◌-◌, ◌^◌, ◌≤◌, List, Option, Some, None, ◌∙◌, inl, inr, ⊎_elim, arith, min}
-use Rattle.std.proofs.Math.Nat.{le-min, min-le_left, min-le_right}
-use Rattle.zc_outside.specs.Files.{Files, Rose}
+use Rattle.std.proofs.Common.{◌≡◌, ℕ, ◌≤◌, List, Option, Some, None, ◌∙◌, inl, inr, ⊎_elim}
+use Rattle.zc_outside.specs.Files.{Files}
 use Rattle.zc_outside.proofs.Kept.{Rose-later}
 use Rattle.zcld.specs.declared.outcome.FileFault.TheVariants.{Image}
 use Rattle.zcld.specs.declared.outcome.Outcome.{Outcome}

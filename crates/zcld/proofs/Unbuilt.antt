@@ -1,5 +1,5 @@
 -- What holds of an object without a fault, which is straight code alone, and of a loop over its words.
-use Rattle.std.proofs.Common.{◌≡◌, ℕ, ◌+◌, ◌-◌, ◌*◌, ◌%◌, ◌<◌, ◌≤◌, List, map, Bool, true, false, not, ◌&&◌, refl, sym, ap, ◌∙◌, arith, eqb, ltb, leb}
+use Rattle.std.proofs.Common.{◌≡◌, ℕ, ◌+◌, ◌-◌, ◌*◌, ◌%◌, ◌<◌, ◌≤◌, List, map, Bool, true, false, not, ◌&&◌, refl, ap, ◌∙◌, arith, eqb, ltb, leb}
 use Rattle.std.specs.Prelude.{◌||◌, Option, Some, None, is_some, is_none}
 use Rattle.std.specs.List.{list_any, range_with_len}
 use Rattle.std.proofs.lemmas.Bool.{not-false, or_parts, and_parts, ltb-false, leb-true, eqb-true}
@@ -7,8 +7,8 @@ use Rattle.zc_base.specs.Fields.{word_in}
 use Rattle.elf32_read.specs.declared.fault.Fault.{Fault}
 use Rattle.elf32_read.specs.Header.{header_of, section_count, file_flags}
 use Rattle.elf32_read.specs.Object.{object_fault}
-use Rattle.zcld.specs.Straight.{words_from, words_in}
-use Rattle.zcld.specs.Refusal.{is_straight_code, is_unbuilt, is_unbuilt_section, is_unknown, indexed, code_of, fault_or, first_fault}
+use Rattle.zcld.specs.Straight.{words_from}
+use Rattle.zcld.specs.Refusal.{is_straight_code, is_unbuilt, is_unbuilt_section, indexed, fault_or, first_fault}
 use Rattle.zcld.proofs.StraightLoop.{words_more}
 
 -- section 1 is there, is code that holds its own bytes, and is short enough
