@@ -1,6 +1,5 @@
 -- What a call of the program means: when each outcome comes, and what stands then.
-use Rattle.std.specs.Prelude.{◌≡◌, ℕ, ◌≤◌, ◌⊎◌, List, length, map, Option, Some, None, ⊤, String}
-use Rattle.std.specs.String.{string_bytes}
+use Rattle.std.specs.Prelude.{◌≡◌, ℕ, ◌≤◌, ◌⊎◌, List, length, Option, Some, None, ⊤}
 use Rattle.zc_base.specs.MemMap.{standard_map}
 use Rattle.elf32_read.specs.declared.fault.Fault.{Fault}
 use Rattle.elf32_read.specs.declared.image_fault.ImageFault.{ImageFault}
@@ -27,10 +26,6 @@ abbrev pub WritesLine : Option (List ℕ) → Option (List ℕ) → List ℕ →
 WritesLine before after text refused = Adds before after text ⊎ (refused × AddsPart before after text)
 
 -- ---- the command of a call
-
--- the words as texts
-abbrev pub texts : {A : Type 0} → List (String A) → List (List ℕ)
-texts words = map string_bytes words
 
 -- the files after a call, by its command and outcome
 abbrev pub CallFiles : Option Command → Outcome → Option Files → Option Files → Type 0

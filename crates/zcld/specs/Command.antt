@@ -1,10 +1,11 @@
 -- The command that the words of the command line spell.
-use Rattle.std.specs.Prelude.{ℕ, Bool, false, not, ◌&&◌, ◌==◌, nat_le, if◌then◌else◌, List, [], ◌∷◌, length, Option, Some, None, codes}
+use Rattle.std.specs.Prelude.{ℕ, Bool, false, not, ◌&&◌, ◌==◌, nat_le, if◌then◌else◌, List, [], ◌∷◌, length, map, Option, Some, None, String, codes}
 use Rattle.std.specs.Option.{option_and_then}
 use Rattle.std.specs.Char.{is_ascii_digit}
 use Rattle.std.specs.List.{list_all}
 use Rattle.std.specs.Str.{bytes_eq}
 use Rattle.std.specs.Str.Parse.{digits_value}
+use Rattle.std.specs.String.{string_bytes}
 use Rattle.zcld.specs.declared.command_line.CommandLine.{CommandLine}
 use Rattle.zcld.specs.declared.command_line.CommandLine.TheVariants as line
 
@@ -16,6 +17,10 @@ pub data Command : Type 0 where
 
 -- ---- words
 
+-- the words as texts
+abbrev pub texts : {A : Type 0} → List (String A) → List (List ℕ)
+texts words = map string_bytes words
+
 -- a word that begins with `-`: an option, and no value or file
 abbrev pub begins_with_dash : List ℕ → Bool
 begins_with_dash [] = false
@@ -25,9 +30,13 @@ begins_with_dash (c ∷ word) = c == 45
 abbrev pub is_number : List ℕ → Bool
 is_number word = nat_le 1 (length word) && nat_le (length word) 20 && list_all is_ascii_digit word
 
--- the steps that a word allows, at most 1,000,000,000
+-- the most steps that a word may allow
+abbrev pub most_steps : ℕ
+most_steps = 1000000000
+
+-- the steps that a word allows
 abbrev pub steps_of : List ℕ → Option ℕ
-steps_of word = if is_number word && nat_le (digits_value 10 word) 1000000000 then Some (digits_value 10 word) else None
+steps_of word = if is_number word && nat_le (digits_value 10 word) most_steps then Some (digits_value 10 word) else None
 
 -- the steps that are allowed where no word says
 abbrev pub usual_steps : ℕ

@@ -13,6 +13,11 @@ ExecuteCause ReadFault told reads reads' taken taken' writes writes' = IsUnreadI
 ExecuteCause WriteFault told reads reads' taken taken' writes writes' = Rose writes writes'
 ExecuteCause other told reads reads' taken taken' writes writes' = ⊤
 
+-- what a sure console shows of a machine over a good file: no fault is counted, and the input can only be too long
+abbrev pub SureExecute : Outcome → Option (List ℕ) → ℕ → ℕ → ℕ → ℕ → Type 0
+SureExecute outcome told reads reads' writes writes' =
+    (reads' ≡ reads) × (writes' ≡ writes) × (outcome ≡ ReadFault → IsLongInput told) × (outcome ≢ WriteFault)
+
 -- the file, of at most so many bytes, can't be had; or it is good, and the input can't be had
 abbrev pub IsUnread : ℕ → Type 0 → Option Files → List ℕ → Option (List ℕ) → Tally → Tally → Type 0
 IsUnread limit good files name told before after =

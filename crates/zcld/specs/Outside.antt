@@ -1,6 +1,6 @@
 -- What a store and a console show of themselves around a call.
 use Rattle.std.specs.Prelude.{◌≡◌, ℕ, ◌≤◌, ◌⊎◌, List, length, Option, ⊤}
-use Rattle.zc_outside.specs.Files.{Files, HasFile, IsLong, Rose}
+use Rattle.zc_outside.specs.Files.{Files, HasFile, Holds, IsLong, Rose}
 use Rattle.zc_outside.specs.Streams.{KeepsBytes}
 use Rattle.zcld.specs.declared.outcome.Outcome.{Outcome}
 use Rattle.zcld.specs.declared.outcome.Outcome.TheVariants.{ReadFault, OutOfMemory}
@@ -48,6 +48,10 @@ tally reads longs writes console_reads console_writes taken = record {
 abbrev pub TakesNothing : Tally → Tally → Type 0
 TakesNothing before after = (after.taken ≡ before.taken) × (after.console_reads ≡ before.console_reads)
 
+-- a write was refused, or memory ran out in one: a count rose
+abbrev pub IsUnwritten : ℕ → ℕ → ℕ → ℕ → Type 0
+IsUnwritten writes writes' memory memory' = Rose writes writes' ⊎ Rose memory memory'
+
 -- the most bytes of an object
 abbrev pub object_limit : ℕ
 object_limit = 4194304
@@ -70,3 +74,8 @@ abbrev pub FileCause : Outcome → ℕ → Option Files → List ℕ → ℕ →
 FileCause ReadFault limit files name reads reads' longs longs' = IsUnreadFile limit files name reads reads' longs longs'
 FileCause OutOfMemory limit files name reads reads' longs longs' = ⊤
 FileCause other limit files name reads reads' longs longs' = ⊥
+
+-- what a sure store that holds the file shows: no read fault is counted, and a long file only where it is one
+abbrev pub SureFile : ℕ → Option Files → List ℕ → ℕ → ℕ → ℕ → ℕ → Type 0
+SureFile limit files name reads reads' longs longs' =
+    Holds files name → (reads' ≡ reads) × ((longs' ≡ longs) ⊎ IsLong files name limit)

@@ -1,10 +1,10 @@
 // The command that the words of the command line spell.
 
-ghost use Rattle.std.specs.Prelude.{◌≡◌, length, map, string_bytes};
+ghost use Rattle.std.specs.Prelude.{◌≡◌, length};
 ghost use Rattle.std.specs.Char.{is_ascii_digit};
 ghost use Rattle.std.specs.List.{list_all};
 ghost use Rattle.std.specs.Option.{option_map};
-ghost use Rattle.zcld.specs.Command.{begins_with_dash, command_of, is_number as spells_number, meant, stepping as spelled, stepping_for as spelled_for, steps_of, zc_command};
+ghost use Rattle.zcld.specs.Command.{begins_with_dash, command_of, is_number as spells_number, meant, stepping as spelled, stepping_for as spelled_for, steps_of, zc_command, texts};
 
 // The most steps that a word may allow.
 const MOST_STEPS: u64 = 1_000_000_000;
@@ -33,7 +33,7 @@ pub enum CommandLine<'a> {
 
 /// The command that the words spell, behind the program's own name.
 pub fn read(words: &[String]) -> Option<CommandLine<'_>>
-    ensures { option_map meant result ≡ command_of (map string_bytes words.now) }
+    ensures { option_map meant result ≡ command_of (texts words.now) }
 {
     match words.len() {
         2 => stepping(words[0].as_str(), USUAL_STEPS, words[1].as_str()),
@@ -104,7 +104,7 @@ fn are_digits(bytes: &[u8]) -> bool
 // The command `zc`, by its options in either order.
 fn zc_words(words: &[String]) -> Option<CommandLine<'_>>
     requires { length words.now ≡ 6 }
-    ensures { option_map meant result ≡ command_of (map string_bytes words.now) }
+    ensures { option_map meant result ≡ command_of (texts words.now) }
 {
     let [name, first, first_value, second, second_value, object] = words else {
         return None;

@@ -1,10 +1,10 @@
 // The line that names an outcome on standard error, made without memory.
 
-ghost use Rattle.std.specs.Prelude.{◌≡◌, ◌≤◌, ◌<◌, ◌+◌, ◌⊎◌, ◌++◌, decimal, length};
-ghost use Rattle.zc_outside.specs.Files.{Rose};
+ghost use Rattle.std.specs.Prelude.{◌≡◌, ◌≤◌, ◌<◌, ◌+◌, ◌++◌, decimal, length};
 ghost use Rattle.zc_outside.specs.Streams.{KeepsBytes};
 ghost use Rattle.zcld.specs.Call.{WritesLine};
 ghost use Rattle.zcld.specs.ErrLine.{err_line, hex_at, hex_word, line as with_line_feed, refusal_text, stop_text, stuck_text};
+ghost use Rattle.zcld.specs.Outside.{IsUnwritten};
 
 use crate::outcome::{FileFault, Outcome};
 use arrayvec::ArrayString;
@@ -18,7 +18,8 @@ use zc_outside::console::Console;
 /// Writes the line of an outcome to standard error. A line that can't be written changes no outcome.
 pub fn report<C: Console>(outcome: &Outcome, console: &mut C)
     ensures line { WritesLine (C.err_bytes console.old) (C.err_bytes console.new) (err_line outcome.now)
-        (Rose (C.write_faults console.old) (C.write_faults console.new) ⊎ Rose (C.memory_faults console.old) (C.memory_faults console.new)) }
+        (IsUnwritten (C.write_faults console.old) (C.write_faults console.new)
+        (C.memory_faults console.old) (C.memory_faults console.new)) }
     ensures out { KeepsBytes (C.out_bytes console.old) (C.out_bytes console.new) }
     ensures input { KeepsBytes (C.input console.old) (C.input console.new) }
     ensures taken { C.taken console.new ≡ C.taken console.old }

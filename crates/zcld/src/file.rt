@@ -1,8 +1,8 @@
 // The file that a command reads, whole.
 
-ghost use Rattle.std.specs.Prelude.{◌≡◌, ◌<◌, ◌-◌, ◌^◌, ◌⊎◌, IfOk, IfErr, IsErrOf};
+ghost use Rattle.std.specs.Prelude.{◌≡◌, ◌<◌, ◌-◌, ◌^◌, IfOk, IfErr, IsErrOf};
 ghost use Rattle.zc_outside.specs.Files.{Holds, IsLong, KeepsFiles};
-ghost use Rattle.zcld.specs.Outside.{FileCause, IsRead};
+ghost use Rattle.zcld.specs.Outside.{FileCause, IsRead, SureFile};
 
 use crate::outcome::Outcome;
 use std::alloc::Global;
@@ -28,9 +28,10 @@ pub fn read_file<S: Store>(
     ensures keeps { KeepsFiles (S.files store.old) (S.files store.new) }
     ensures writes { S.write_faults store.new ≡ S.write_faults store.old }
     ensures stays { S.sure store.old → S.sure store.new }
-    ensures sure { S.sure store.old → Holds (S.files store.old) name.now →
-        (S.read_faults store.new ≡ S.read_faults store.old) × ((S.long_files store.new ≡ S.long_files store.old) ⊎ IsLong (S.files store.old) name.now limit)
-        × (IsErrOf result Outcome.ReadFault → IsLong (S.files store.old) name.now limit) }
+    ensures sure { S.sure store.old → SureFile limit (S.files store.old) name.now
+        (S.read_faults store.old) (S.read_faults store.new) (S.long_files store.old) (S.long_files store.new) }
+    ensures sure_long { S.sure store.old → Holds (S.files store.old) name.now →
+        IsErrOf result Outcome.ReadFault → IsLong (S.files store.old) name.now limit }
 {
     match store.get(alloc, name, limit) {
         Ok(file) => Ok(file),

@@ -1,5 +1,5 @@
-// The object of three instructions, its image, and calls that begin with one file in memory. The object and the image were
-// worked out by hand from the ELF format.
+// The object of three instructions, its image, and calls that begin with one file in memory. The
+// object and the image were worked out by hand from the ELF format.
 
 use crate::call::zcld;
 use crate::outcome::Outcome;
@@ -34,8 +34,8 @@ pub const THREE: [u8; 340] = [
     0x00, 0x00, 0x00, 0x00,
 ];
 
-/// What the object is linked to: the program headers at 52 and 84, the text at 116, four places at 128, the names of the
-/// sections at 176, and six section headers at 220.
+/// What the object is linked to: the program headers at 52 and 84, the text at 116, four places at
+/// 128, the names of the sections at 176, and six section headers at 220.
 pub const THREE_IMAGE: [u8; 460] = [
     0x7F, 0x45, 0x4C, 0x46, 0x01, 0x01, 0x01, 0x00, 0x00, 0x00, 0x00, 0x00, 0x00, 0x00, 0x00, 0x00,
     0x02, 0x00, 0xF3, 0x00, 0x01, 0x00, 0x00, 0x00, 0x00, 0x00, 0x01, 0x00, 0x34, 0x00, 0x00, 0x00,
@@ -89,8 +89,8 @@ impl Left {
     }
 }
 
-/// A call over a store that holds one file, under this name, and a console with an input of five bytes, where these calls
-/// of both fail.
+/// A call over a store that holds one file, under this name, and a console with an input of five
+/// bytes, where these calls of both fail.
 pub fn call(
     alloc: Global,
     words: &[&str],

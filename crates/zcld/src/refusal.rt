@@ -30,7 +30,9 @@ const MOST_CODE: u32 = 65536;
 /// it.
 #[tactic(auto, unfolding(crate::specs::Refusal::first_fault))]
 pub fn straight_object(bytes: &[u8]) -> Result<Object<'_>, Fault>
-    ensures { MatchResult result (λ object. (object ≡ bytes.entry.now) × (first_fault bytes.entry.now ≡ None)) (λ fault. first_fault bytes.entry.now ≡ Some fault) }
+    ensures { MatchResult result
+        (λ object. (object ≡ bytes.entry.now) × (first_fault bytes.entry.now ≡ None))
+        (λ fault. first_fault bytes.entry.now ≡ Some fault) }
 {
     let object = Object::read(bytes)?;
     if is_unbuilt(&object) {
@@ -41,7 +43,9 @@ pub fn straight_object(bytes: &[u8]) -> Result<Object<'_>, Fault>
 
 /// The straight code of an object, its section 1, or the first fault that stands in the object.
 pub fn straight_code(bytes: &[u8]) -> Result<&[u8], Fault>
-    ensures { MatchResult result (λ code. (first_fault bytes.entry.now ≡ None) × (code.now ≡ code_of bytes.entry.now) × (length code.now ≤ 65536)) (λ fault. first_fault bytes.entry.now ≡ Some fault) }
+    ensures { MatchResult result
+        (λ code. (first_fault bytes.entry.now ≡ None) × (code.now ≡ code_of bytes.entry.now) × (length code.now ≤ 65536))
+        (λ fault. first_fault bytes.entry.now ≡ Some fault) }
 {
     let object = straight_object(bytes)?;
     Ok(object.section(1).bytes)
@@ -75,7 +79,8 @@ fn is_straight_code(object: &Object) -> bool
 
 // Whether there is a section that this link has no place for.
 fn has_unbuilt_section(object: &Object) -> bool
-    ensures { result ≡ list_any is_unbuilt_section (map (indexed object.now) (range_with_len 0 (section_count object.now))) }
+    ensures { result
+        ≡ list_any is_unbuilt_section (map (indexed object.now) (range_with_len 0 (section_count object.now))) }
 {
     for i in 0..object.section_count() {
         if is_unbuilt_at(object, i) {

@@ -1,10 +1,10 @@
 // The command `run`: an image is read, and the machine executes it.
 
-ghost use Rattle.std.specs.Prelude.{◌≡◌, ◌≢◌, ◌≤◌};
+ghost use Rattle.std.specs.Prelude.{◌≡◌, ◌≤◌};
 ghost use Rattle.zc_base.specs.MemMap.{standard_map};
 ghost use Rattle.zc_outside.specs.Files.{KeepsFiles};
-ghost use Rattle.zcld.specs.Input.{IsLongInput};
-ghost use Rattle.zcld.specs.Machines.{ExecuteCause, SureMachine};
+ghost use Rattle.zcld.specs.Command.{most_steps};
+ghost use Rattle.zcld.specs.Machines.{ExecuteCause, SureExecute, SureMachine};
 ghost use Rattle.zcld.specs.Outside.{image_limit, streams, tally};
 ghost use Rattle.zcld.specs.Run.{Executed, RunCause, RunShows, RunTakes};
 
@@ -28,16 +28,20 @@ pub fn run<S: Store, C: Console>(
     store: &mut S,
     console: &mut C,
 ) -> Outcome
-    requires { steps ≤ 1000000000 }
+    requires { steps ≤ most_steps }
     ensures shows { RunShows result (S.files store.old) name.now steps
         (streams (C.input console.old) (C.out_bytes console.old) (C.err_bytes console.old))
         (streams (C.input console.new) (C.out_bytes console.new) (C.err_bytes console.new)) }
     ensures cause { RunCause result (S.files store.old) name.now (C.input console.old)
-        (tally (S.read_faults store.old) (S.long_files store.old) (S.write_faults store.old) (C.read_faults console.old) (C.write_faults console.old) (C.taken console.old))
-        (tally (S.read_faults store.new) (S.long_files store.new) (S.write_faults store.new) (C.read_faults console.new) (C.write_faults console.new) (C.taken console.new)) }
+        (tally (S.read_faults store.old) (S.long_files store.old) (S.write_faults store.old)
+        (C.read_faults console.old) (C.write_faults console.old) (C.taken console.old))
+        (tally (S.read_faults store.new) (S.long_files store.new) (S.write_faults store.new)
+        (C.read_faults console.new) (C.write_faults console.new) (C.taken console.new)) }
     ensures takes { RunTakes result
-        (tally (S.read_faults store.old) (S.long_files store.old) (S.write_faults store.old) (C.read_faults console.old) (C.write_faults console.old) (C.taken console.old))
-        (tally (S.read_faults store.new) (S.long_files store.new) (S.write_faults store.new) (C.read_faults console.new) (C.write_faults console.new) (C.taken console.new)) }
+        (tally (S.read_faults store.old) (S.long_files store.old) (S.write_faults store.old)
+        (C.read_faults console.old) (C.write_faults console.old) (C.taken console.old))
+        (tally (S.read_faults store.new) (S.long_files store.new) (S.write_faults store.new)
+        (C.read_faults console.new) (C.write_faults console.new) (C.taken console.new)) }
     ensures keeps { KeepsFiles (S.files store.old) (S.files store.new) }
     ensures writes { S.write_faults store.new ≡ S.write_faults store.old }
     ensures console_writes { C.write_faults console.old ≤ C.write_faults console.new }
@@ -47,8 +51,10 @@ pub fn run<S: Store, C: Console>(
     ensures sure_console { C.sure console.old → C.write_faults console.new ≡ C.write_faults console.old }
     ensures sure { S.sure store.old → C.sure console.old →
         SureMachine image_limit result (S.files store.old) name.now (C.input console.old)
-        (tally (S.read_faults store.old) (S.long_files store.old) (S.write_faults store.old) (C.read_faults console.old) (C.write_faults console.old) (C.taken console.old))
-        (tally (S.read_faults store.new) (S.long_files store.new) (S.write_faults store.new) (C.read_faults console.new) (C.write_faults console.new) (C.taken console.new)) }
+        (tally (S.read_faults store.old) (S.long_files store.old) (S.write_faults store.old)
+        (C.read_faults console.old) (C.write_faults console.old) (C.taken console.old))
+        (tally (S.read_faults store.new) (S.long_files store.new) (S.write_faults store.new)
+        (C.read_faults console.new) (C.write_faults console.new) (C.taken console.new)) }
 {
     let file = match read_file(alloc, name, IMAGE_LIMIT, store) {
         Ok(file) => file,
@@ -62,7 +68,7 @@ pub fn run<S: Store, C: Console>(
 
 // Runs an image over the console's whole input.
 fn execute<C: Console>(alloc: Global, image: &Image, steps: u64, console: &mut C) -> Outcome
-    requires steps { steps ≤ 1000000000 }
+    requires steps { steps ≤ most_steps }
     requires map { image.now.1 ≡ standard_map }
     ensures shows { Executed result image.now.0 steps
         (streams (C.input console.old) (C.out_bytes console.old) (C.err_bytes console.old))
@@ -72,8 +78,8 @@ fn execute<C: Console>(alloc: Global, image: &Image, steps: u64, console: &mut C
     ensures console_writes { C.write_faults console.old ≤ C.write_faults console.new }
     ensures console_memory { C.memory_faults console.old ≤ C.memory_faults console.new }
     ensures stays { C.sure console.old → C.sure console.new }
-    ensures sure { C.sure console.old → (C.read_faults console.new ≡ C.read_faults console.old) × (C.write_faults console.new ≡ C.write_faults console.old)
-        × (result ≡ Outcome.ReadFault → IsLongInput (C.input console.old)) × (result ≢ Outcome.WriteFault) }
+    ensures sure { C.sure console.old → SureExecute result (C.input console.old)
+        (C.read_faults console.old) (C.read_faults console.new) (C.write_faults console.old) (C.write_faults console.new) }
 {
     let input = match take_all(alloc, console) {
         Ok(input) => input,

@@ -149,7 +149,8 @@ impl Sym {
     fn op(&mut self, instr: &Instr) -> SymStep
         requires running { self.old.exit ≡ None }
         requires room { self.old.place.offset + 4 < 2 ^ 32 }
-        ensures { (objects : List (List ℕ)) → StepAnswers (op_step instr.now (program_of objects) self.old) result self.old self.new }
+        ensures { (objects : List (List ℕ)) →
+            StepAnswers (op_step instr.now (program_of objects) self.old) result self.old self.new }
     {
         match instr {
             Instr::WithImm {
@@ -167,7 +168,8 @@ impl Sym {
     fn give(&mut self, rd: Reg, word: SymWord) -> SymStep
         requires running { self.old.exit ≡ None }
         requires room { self.old.place.offset + 4 < 2 ^ 32 }
-        ensures { (objects : List (List ℕ)) → StepAnswers (gives_word (Some word) rd (program_of objects) self.old) result self.old self.new }
+        ensures { (objects : List (List ℕ)) →
+            StepAnswers (gives_word (Some word) rd (program_of objects) self.old) result self.old self.new }
     {
         let place = self.place;
         if !is_in_stack(&self.sp_after(rd, word)) {
@@ -205,7 +207,8 @@ impl Sym {
     // An environment call, by a7.
     fn call(&mut self) -> SymStep
         requires { self.old.exit ≡ None }
-        ensures { (objects : List (List ℕ)) → StepAnswers (call_step (number_in (reg_of self.old 17)) (program_of objects) self.old) result self.old self.new }
+        ensures { (objects : List (List ℕ)) →
+            StepAnswers (call_step (number_in (reg_of self.old 17)) (program_of objects) self.old) result self.old self.new }
     {
         match number_of(&self.word_in(17)) {
             None => SymStep::Stuck(self.place, Why::ArgumentUnknown),
@@ -217,7 +220,8 @@ impl Sym {
     // The exit, with the low byte of a0.
     fn leave(&mut self) -> SymStep
         requires { self.old.exit ≡ None }
-        ensures { (objects : List (List ℕ)) → StepAnswers (exit_step (number_in (reg_of self.old 10)) (program_of objects) self.old) result self.old self.new }
+        ensures { (objects : List (List ℕ)) →
+            StepAnswers (exit_step (number_in (reg_of self.old 10)) (program_of objects) self.old) result self.old self.new }
     {
         let Some(a0) = number_of(&self.word_in(10)) else {
             return SymStep::Stuck(self.place, Why::ArgumentUnknown);

@@ -1,9 +1,8 @@
 // The command `trace`: an object is read, and the symbolic machine runs it.
 
-ghost use Rattle.std.specs.Prelude.{◌≡◌, ◌≢◌, ◌≤◌};
+ghost use Rattle.std.specs.Prelude.{◌≡◌, ◌≤◌};
 ghost use Rattle.zc_outside.specs.Files.{KeepsFiles};
-ghost use Rattle.zcld.specs.Input.{IsLongInput};
-ghost use Rattle.zcld.specs.Machines.{ExecuteCause, SureMachine};
+ghost use Rattle.zcld.specs.Machines.{ExecuteCause, SureExecute, SureMachine};
 ghost use Rattle.zcld.specs.Outside.{object_limit, streams, tally};
 ghost use Rattle.zcld.specs.Trace.{TraceCause, TraceShows, TraceTakes, Traced};
 
@@ -30,11 +29,15 @@ pub fn trace<S: Store, C: Console>(
         (streams (C.input console.old) (C.out_bytes console.old) (C.err_bytes console.old))
         (streams (C.input console.new) (C.out_bytes console.new) (C.err_bytes console.new)) }
     ensures cause { TraceCause result (S.files store.old) name.now (C.input console.old)
-        (tally (S.read_faults store.old) (S.long_files store.old) (S.write_faults store.old) (C.read_faults console.old) (C.write_faults console.old) (C.taken console.old))
-        (tally (S.read_faults store.new) (S.long_files store.new) (S.write_faults store.new) (C.read_faults console.new) (C.write_faults console.new) (C.taken console.new)) }
+        (tally (S.read_faults store.old) (S.long_files store.old) (S.write_faults store.old)
+        (C.read_faults console.old) (C.write_faults console.old) (C.taken console.old))
+        (tally (S.read_faults store.new) (S.long_files store.new) (S.write_faults store.new)
+        (C.read_faults console.new) (C.write_faults console.new) (C.taken console.new)) }
     ensures takes { TraceTakes result
-        (tally (S.read_faults store.old) (S.long_files store.old) (S.write_faults store.old) (C.read_faults console.old) (C.write_faults console.old) (C.taken console.old))
-        (tally (S.read_faults store.new) (S.long_files store.new) (S.write_faults store.new) (C.read_faults console.new) (C.write_faults console.new) (C.taken console.new)) }
+        (tally (S.read_faults store.old) (S.long_files store.old) (S.write_faults store.old)
+        (C.read_faults console.old) (C.write_faults console.old) (C.taken console.old))
+        (tally (S.read_faults store.new) (S.long_files store.new) (S.write_faults store.new)
+        (C.read_faults console.new) (C.write_faults console.new) (C.taken console.new)) }
     ensures keeps { KeepsFiles (S.files store.old) (S.files store.new) }
     ensures writes { S.write_faults store.new ≡ S.write_faults store.old }
     ensures console_writes { C.write_faults console.old ≤ C.write_faults console.new }
@@ -44,8 +47,10 @@ pub fn trace<S: Store, C: Console>(
     ensures sure_console { C.sure console.old → C.write_faults console.new ≡ C.write_faults console.old }
     ensures sure { S.sure store.old → C.sure console.old →
         SureMachine object_limit result (S.files store.old) name.now (C.input console.old)
-        (tally (S.read_faults store.old) (S.long_files store.old) (S.write_faults store.old) (C.read_faults console.old) (C.write_faults console.old) (C.taken console.old))
-        (tally (S.read_faults store.new) (S.long_files store.new) (S.write_faults store.new) (C.read_faults console.new) (C.write_faults console.new) (C.taken console.new)) }
+        (tally (S.read_faults store.old) (S.long_files store.old) (S.write_faults store.old)
+        (C.read_faults console.old) (C.write_faults console.old) (C.taken console.old))
+        (tally (S.read_faults store.new) (S.long_files store.new) (S.write_faults store.new)
+        (C.read_faults console.new) (C.write_faults console.new) (C.taken console.new)) }
 {
     let file = match read_file(alloc, name, OBJECT_LIMIT, store) {
         Ok(file) => file,
@@ -67,8 +72,8 @@ fn follow<C: Console>(alloc: Global, object: &Object, steps: u64, console: &mut 
     ensures console_writes { C.write_faults console.old ≤ C.write_faults console.new }
     ensures console_memory { C.memory_faults console.old ≤ C.memory_faults console.new }
     ensures stays { C.sure console.old → C.sure console.new }
-    ensures sure { C.sure console.old → (C.read_faults console.new ≡ C.read_faults console.old) × (C.write_faults console.new ≡ C.write_faults console.old)
-        × (result ≡ Outcome.ReadFault → IsLongInput (C.input console.old)) × (result ≢ Outcome.WriteFault) }
+    ensures sure { C.sure console.old → SureExecute result (C.input console.old)
+        (C.read_faults console.old) (C.read_faults console.new) (C.write_faults console.old) (C.write_faults console.new) }
 {
     let input = match take_all(alloc, console) {
         Ok(input) => input,
