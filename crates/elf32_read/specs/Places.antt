@@ -4,6 +4,7 @@ use Rattle.std.specs.List.{flat_map, range_with_len, starts_with}
 use Rattle.zc_base.specs.Fields.{half_in, word_in}
 use Rattle.zc_base.specs.declared.mem_map.MemMap.{MemMap}
 use Rattle.zc_base.specs.declared.place.Place.{Place}
+use Rattle.zc_base.specs.Places.{is_before}
 use Rattle.elf32_read.specs.Header.{Header, name_section, header_of, headers_of, content_of}
 
 -- the names of the sections, each ended by a zero (System V gABI, "String Table")
@@ -31,12 +32,6 @@ entries_of content = map (entry_at content) (range_with_len 0 (length content / 
 -- the places that the image lists, each with its address: none without the section
 abbrev pub places_of : List ℕ → List (Place × ℕ)
 places_of bytes = flat_map (λ header. entries_of (content_of bytes header)) (places_sections bytes)
-
--- by object, then section, then offset
-abbrev pub is_before : Place → Place → Bool
-is_before first second =
-    nat_lt first.object second.object
-    || (first.object == second.object && (nat_lt first.section second.section || (first.section == second.section && nat_lt first.offset second.offset)))
 
 -- each place comes before the next
 abbrev pub is_ascending : List (Place × ℕ) → Bool

@@ -1,7 +1,5 @@
--- What a store of files means, and what its calls do to that.
+-- Files by name, as a store tells them, and counts that rise.
 use Rattle.std.specs.Prelude.{◌≡◌, ◌≢◌, ℕ, ◌+◌, ◌-◌, ◌^◌, ◌<◌, ◌≤◌, min, List, length, Option, Some, None, ⊤}
-use Rattle.zc_outside.specs.declared.store.StoreFault.{StoreFault}
-use Rattle.zc_outside.specs.declared.store.StoreFault.TheVariants.{Failed, TooLong, OutOfMemory}
 
 -- the bytes under each name that is held
 abbrev pub Files : Type 0
@@ -37,16 +35,3 @@ IsLong (Some f) name limit = (bytes : List ℕ) × (f name ≡ Some bytes) × (l
 abbrev pub Holds : Option Files → List ℕ → Type 0
 Holds None name = ⊥
 Holds (Some f) name = (bytes : List ℕ) × (f name ≡ Some bytes)
-
--- what a refused read shows: the count of its kind rose, and a file that is too long is longer than the limit
-abbrev pub GetCause : ℕ → ℕ → ℕ → ℕ → Option Files → List ℕ → ℕ → StoreFault → Type 0
-GetCause reads reads' longs longs' files name limit Failed = Rose reads reads'
-GetCause reads reads' longs longs' files name limit (TooLong taken) =
-    Rose longs longs' × (taken ≡ limit + 1) × IsLong files name limit
-GetCause reads reads' longs longs' files name limit OutOfMemory = ⊤
-
--- what a refused write shows: the count of write faults rose
-abbrev pub PutCause : ℕ → ℕ → StoreFault → Type 0
-PutCause writes writes' Failed = Rose writes writes'
-PutCause writes writes' (TooLong taken) = ⊥
-PutCause writes writes' OutOfMemory = ⊤

@@ -1,8 +1,5 @@
--- What a console's streams mean, and what its calls do to them.
+-- Streams of bytes, as a console tells them.
 use Rattle.std.specs.Prelude.{◌≡◌, ℕ, ◌<◌, ◌≤◌, ◌↔◌, ◌++◌, List, [], length, take, drop, Option, Some, None, ⊤}
-use Rattle.zc_outside.specs.declared.console.ConsoleFault.{ConsoleFault}
-use Rattle.zc_outside.specs.declared.console.ConsoleFault.TheVariants.{Failed, OutOfMemory}
-use Rattle.zc_outside.specs.Files.{Rose}
 
 -- where the bytes were told, they still are, and are the same
 abbrev pub KeepsBytes : Option (List ℕ) → Option (List ℕ) → Type 0
@@ -29,13 +26,3 @@ abbrev pub AddsPart : Option (List ℕ) → Option (List ℕ) → List ℕ → T
 AddsPart None after piece = ⊤
 AddsPart (Some xs) None piece = ⊥
 AddsPart (Some xs) (Some ys) piece = (n : ℕ) × (n < length piece) × (ys ≡ xs ++ take n piece)
-
--- what a refused take shows: the count of read faults, or of wants of memory, rose
-abbrev pub TakeCause : ℕ → ℕ → ℕ → ℕ → ConsoleFault → Type 0
-TakeCause reads reads' memory memory' Failed = Rose reads reads'
-TakeCause reads reads' memory memory' OutOfMemory = Rose memory memory'
-
--- what a refused write shows: the count of write faults, or of wants of memory, rose
-abbrev pub WriteCause : ℕ → ℕ → ℕ → ℕ → ConsoleFault → Type 0
-WriteCause writes writes' memory memory' Failed = Rose writes writes'
-WriteCause writes writes' memory memory' OutOfMemory = Rose memory memory'

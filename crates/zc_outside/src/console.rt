@@ -1,7 +1,8 @@
 // What a console promises.
 
-ghost use Rattle.std.specs.Prelude.{◌≡◌, ◌≢◌, ◌≤◌, ◌+◌, ◌-◌, ◌^◌, min, ℕ, List, [], Option, length, IsOk, IfOk, IfErr, OnOk, OnErr, Err};
-ghost use Rattle.zc_outside.specs.Streams.{Adds, AddsPart, KeepsBytes, TakeCause, Takes, WriteCause};
+ghost use Rattle.std.specs.Prelude.{◌≡◌, ◌≤◌, ◌+◌, ◌-◌, ◌^◌, min, [], length, IsOk, IfOk, IfErr, OnOk, OnErr};
+ghost use Rattle.zc_outside.specs.Desk.{Desk, OnlyTakes, OnlyWrites, TakeCause, WriteCause};
+ghost use Rattle.zc_outside.specs.Streams.{Adds, AddsPart, KeepsBytes, Takes};
 
 use thiserror::Error;
 
@@ -16,85 +17,41 @@ pub enum ConsoleFault {
 
 /// An input and two outputs, and how often reading and writing them went wrong.
 ///
-/// `input` is the bytes that are left, `out_bytes` and `err_bytes` those written so far, where a
-/// console tells them. The counts are 64-bit counters that never fall and stay at their last value:
+/// A console shows a `Desk`: the bytes of input that are left and those written so far, where the
+/// console tells them, and 64-bit counters that never fall and stay at their last value.
 /// `read_faults` and `write_faults` count the calls that answer `Failed`, `memory_faults` those that
 /// are refused for want of memory, `taken` the bytes that left the input. A console that is `sure`
 /// stays so, and no call of it fails, want of memory left aside.
 pub trait Console {
-    ghost input: { Self → Option (List ℕ) };
-
-    ghost out_bytes: { Self → Option (List ℕ) };
-
-    ghost err_bytes: { Self → Option (List ℕ) };
-
-    ghost read_faults: { Self → ℕ };
-
-    ghost write_faults: { Self → ℕ };
-
-    ghost memory_faults: { Self → ℕ };
-
-    ghost taken: { Self → ℕ };
-
-    ghost sure: { Self → Type 0 };
+    ghost shown: { Self → Desk };
 
     /// Moves the front of the input into the front of a buffer, and says how many bytes.
     ///
     /// After a refusal the buffer may hold anything.
     fn take(&mut self, buf: &mut [u8]) -> Result<usize, ConsoleFault>
         ensures within { IfOk result (λ n. n ≤ length buf.old) }
-        ensures bytes { IfOk result (λ n. Takes (input self.old) (input self.new) buf.old buf.new n) }
-        ensures count { IfOk result (λ n. taken self.new ≡ min (taken self.old + n) (2 ^ 64 - 1)) }
-        ensures err { OnErr result (KeepsBytes (input self.old) (input self.new)) }
-        ensures err_count { OnErr result (taken self.new ≡ taken self.old) }
-        ensures cause { IfErr result (TakeCause (read_faults self.old) (read_faults self.new)
-            (memory_faults self.old) (memory_faults self.new)) }
-
-        ensures out_stays { KeepsBytes (out_bytes self.old) (out_bytes self.new) }
-        ensures err_stays { KeepsBytes (err_bytes self.old) (err_bytes self.new) }
-        ensures reads { read_faults self.old ≤ read_faults self.new }
-        ensures writes { write_faults self.new ≡ write_faults self.old }
-        ensures memory { memory_faults self.old ≤ memory_faults self.new }
-
-        ensures stays { sure self.old → sure self.new }
-        ensures sure { sure self.old →
-            (read_faults self.new ≡ read_faults self.old) × (result ≢ Err ConsoleFault.Failed) };
+        ensures bytes { IfOk result (λ n. Takes (shown self.old).input (shown self.new).input buf.old buf.new n) }
+        ensures count { IfOk result (λ n. (shown self.new).taken ≡ min ((shown self.old).taken + n) (2 ^ 64 - 1)) }
+        ensures err { OnErr result (KeepsBytes (shown self.old).input (shown self.new).input) }
+        ensures err_count { OnErr result ((shown self.new).taken ≡ (shown self.old).taken) }
+        ensures cause { IfErr result (TakeCause (shown self.old) (shown self.new)) }
+        ensures takes { OnlyTakes (shown self.old) (shown self.new) };
 
     /// Writes a piece to the output.
     fn out(&mut self, bytes: &[u8]) -> Result<(), ConsoleFault>
-        ensures ok { OnOk result (Adds (out_bytes self.old) (out_bytes self.new) bytes.now) }
-        ensures err { OnErr result (AddsPart (out_bytes self.old) (out_bytes self.new) bytes.now) }
+        ensures ok { OnOk result (Adds (shown self.old).out (shown self.new).out bytes.now) }
+        ensures err { OnErr result (AddsPart (shown self.old).out (shown self.new).out bytes.now) }
         ensures empty { bytes.now ≡ [] → IsOk result }
-        ensures cause { IfErr result (WriteCause (write_faults self.old) (write_faults self.new)
-            (memory_faults self.old) (memory_faults self.new)) }
-
-        ensures input_stays { KeepsBytes (input self.old) (input self.new) }
-        ensures err_stays { KeepsBytes (err_bytes self.old) (err_bytes self.new) }
-        ensures count { taken self.new ≡ taken self.old }
-        ensures reads { read_faults self.new ≡ read_faults self.old }
-        ensures writes { write_faults self.old ≤ write_faults self.new }
-        ensures memory { memory_faults self.old ≤ memory_faults self.new }
-
-        ensures stays { sure self.old → sure self.new }
-        ensures sure { sure self.old →
-            (write_faults self.new ≡ write_faults self.old) × (result ≢ Err ConsoleFault.Failed) };
+        ensures cause { IfErr result (WriteCause (shown self.old) (shown self.new)) }
+        ensures err_stays { KeepsBytes (shown self.old).err (shown self.new).err }
+        ensures writes { OnlyWrites (shown self.old) (shown self.new) };
 
     /// Writes a piece to the output for errors.
     fn err(&mut self, bytes: &[u8]) -> Result<(), ConsoleFault>
-        ensures ok { OnOk result (Adds (err_bytes self.old) (err_bytes self.new) bytes.now) }
-        ensures err { OnErr result (AddsPart (err_bytes self.old) (err_bytes self.new) bytes.now) }
+        ensures ok { OnOk result (Adds (shown self.old).err (shown self.new).err bytes.now) }
+        ensures err { OnErr result (AddsPart (shown self.old).err (shown self.new).err bytes.now) }
         ensures empty { bytes.now ≡ [] → IsOk result }
-        ensures cause { IfErr result (WriteCause (write_faults self.old) (write_faults self.new)
-            (memory_faults self.old) (memory_faults self.new)) }
-
-        ensures input_stays { KeepsBytes (input self.old) (input self.new) }
-        ensures out_stays { KeepsBytes (out_bytes self.old) (out_bytes self.new) }
-        ensures count { taken self.new ≡ taken self.old }
-        ensures reads { read_faults self.new ≡ read_faults self.old }
-        ensures writes { write_faults self.old ≤ write_faults self.new }
-        ensures memory { memory_faults self.old ≤ memory_faults self.new }
-
-        ensures stays { sure self.old → sure self.new }
-        ensures sure { sure self.old →
-            (write_faults self.new ≡ write_faults self.old) × (result ≢ Err ConsoleFault.Failed) };
+        ensures cause { IfErr result (WriteCause (shown self.old) (shown self.new)) }
+        ensures out_stays { KeepsBytes (shown self.old).out (shown self.new).out }
+        ensures writes { OnlyWrites (shown self.old) (shown self.new) };
 }

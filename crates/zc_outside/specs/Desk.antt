@@ -1,0 +1,51 @@
+-- What a console shows of itself, and what its calls do to that.
+use Rattle.std.specs.Prelude.{◌≡◌, ℕ, ◌≤◌, Bool, IsTrue, List, Option}
+use Rattle.zc_outside.specs.declared.console.ConsoleFault.{ConsoleFault}
+use Rattle.zc_outside.specs.declared.console.ConsoleFault.TheVariants.{Failed, OutOfMemory}
+use Rattle.zc_outside.specs.Files.{Rose}
+use Rattle.zc_outside.specs.Streams.{KeepsBytes}
+
+-- the input that is left and what was written, where it tells them; how many reads and writes failed, and how often memory
+-- was wanted; how many bytes left the input; and whether it is sure: then no call of it fails, want of memory left aside
+pub record Desk : Type 0 where
+  pub input : Option (List ℕ)
+  pub out : Option (List ℕ)
+  pub err : Option (List ℕ)
+  pub read_faults : ℕ
+  pub write_faults : ℕ
+  pub memory_faults : ℕ
+  pub taken : ℕ
+  pub sure : Bool
+
+-- what taking input does to a console beside the input: nothing is written, and of its counts only those of reads, of
+-- wants of memory and of bytes taken may rise; that of reads doesn't where the console is sure
+pub record OnlyTakes (before after : Desk) : Type 0 where
+  pub out : KeepsBytes before.out after.out
+  pub err : KeepsBytes before.err after.err
+  pub reads : before.read_faults ≤ after.read_faults
+  pub writes : after.write_faults ≡ before.write_faults
+  pub memory : before.memory_faults ≤ after.memory_faults
+  pub taken : before.taken ≤ after.taken
+  pub sure : after.sure ≡ before.sure
+  pub counted : IsTrue before.sure → after.read_faults ≡ before.read_faults
+
+-- what writing does to a console beside what is written: the input stays, and of its counts only those of writes and of
+-- wants of memory may rise; that of writes doesn't where the console is sure
+pub record OnlyWrites (before after : Desk) : Type 0 where
+  pub input : KeepsBytes before.input after.input
+  pub reads : after.read_faults ≡ before.read_faults
+  pub writes : before.write_faults ≤ after.write_faults
+  pub memory : before.memory_faults ≤ after.memory_faults
+  pub taken : after.taken ≡ before.taken
+  pub sure : after.sure ≡ before.sure
+  pub counted : IsTrue before.sure → after.write_faults ≡ before.write_faults
+
+-- what a refused take shows: the count of its kind rose, and it failed only where the console isn't sure
+abbrev pub TakeCause : Desk → Desk → ConsoleFault → Type 0
+TakeCause before after Failed = Rose before.read_faults after.read_faults × (IsTrue before.sure → ⊥)
+TakeCause before after OutOfMemory = Rose before.memory_faults after.memory_faults
+
+-- what a refused write shows, likewise
+abbrev pub WriteCause : Desk → Desk → ConsoleFault → Type 0
+WriteCause before after Failed = Rose before.write_faults after.write_faults × (IsTrue before.sure → ⊥)
+WriteCause before after OutOfMemory = Rose before.memory_faults after.memory_faults
