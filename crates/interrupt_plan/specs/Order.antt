@@ -1,8 +1,8 @@
 -- The order of a plan.
 use Rattle.std.specs.Prelude.{List}
 use Rattle.std.specs.List.Sorted.{IsNonDecreasingBy}
-use Rattle.interrupt_plan.specs.Plan.{Cut}
+use Rattle.interrupt_plan.specs.Plan.{Entry}
 
 -- no interrupt comes before one that is listed earlier
-abbrev pub IsInOrder : List Cut → Type 0
-IsInOrder plan = IsNonDecreasingBy (λ c. c.at) plan
+abbrev pub IsInOrder : List Entry → Type 0
+IsInOrder plan = IsNonDecreasingBy (λ e. e.at) plan

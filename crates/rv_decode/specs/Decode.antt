@@ -27,13 +27,13 @@ rs1_of word = field word 15 5
 abbrev pub imm_i_of : ℕ → ℤ
 imm_i_of word = signed 12 (field word 20 12)
 
--- the operations on a register and an immediate (OP-IMM), by funct3
-abbrev pub imm_op_of : ℕ → Option ImmOp
-imm_op_of funct3 = if funct3 == 0b000 then Some Addi else None
+-- the operations on a register and an immediate (OP-IMM), each with its immediate, by funct3
+abbrev pub imm_op_of : ℕ → Option (ImmOp × ℤ)
+imm_op_of word = if funct3_of word == 0b000 then Some (Addi, imm_i_of word) else None
 
 -- OP-IMM
 abbrev pub with_imm_of : ℕ → Option Instr
-with_imm_of word = option_map (λ op. WithImm op (rd_of word) (rs1_of word) (imm_i_of word)) (imm_op_of (funct3_of word))
+with_imm_of word = option_map (λ o. WithImm o.0 (rd_of word) (rs1_of word) o.1) (imm_op_of word)
 
 -- SYSTEM
 abbrev pub system_of : ℕ → Option Instr

@@ -1,5 +1,5 @@
 -- The state of the machine that runs RV32IM and Zc.
-use Rattle.std.specs.Prelude.{ℕ, ◌==◌, if◌then◌else◌, List, ◌∷◌, Option, replicate, slice_index, slice_set}
+use Rattle.std.specs.Prelude.{◌≡◌, ℕ, ◌+◌, ◌*◌, ◌^◌, ◌<◌, ◌==◌, if◌then◌else◌, List, ◌∷◌, length, All, Option, replicate, slice_index, slice_set}
 use Rattle.rv_decode.specs.Memory.{Region, cell_at}
 
 -- what a program does to its environment: it reads input, writes output, or exits
@@ -34,12 +34,33 @@ set_reg regs rd v = if rd == 0 then regs else slice_set regs rd v
 abbrev pub start_regs : {X : Type 0} → X → X → X → List X
 start_regs x0 sp other = x0 ∷ other ∷ sp ∷ replicate 29 other
 
--- what a register holds
+-- what a register holds; register 0 holds 0
 abbrev pub reg_in : ZcCore → ℕ → ℕ
-reg_in z r = slice_index z.regs r
+reg_in z r = if r == 0 then 0 else slice_index z.regs r
 
 -- ---- memory
 
--- the byte at an address, and 0 where no region has one
+-- the byte at an address, and 0 if no region has one
 abbrev pub byte_in : ZcCore → ℕ → ℕ
 byte_in z a = cell_at 0 z.memory a
+
+-- the halfword at an address, its low byte first
+abbrev pub half_at : ZcCore → ℕ → ℕ
+half_at z a = byte_in z a + 256 * byte_in z (a + 1)
+
+-- the word there
+abbrev pub word_at : ZcCore → ℕ → ℕ
+word_at z a = byte_in z a + 256 * byte_in z (a + 1) + 65536 * byte_in z (a + 2) + 16777216 * byte_in z (a + 3)
+
+-- ---- states of a machine
+
+-- 32 registers that hold words, and memory that holds bytes
+pub record IsCore (z : ZcCore) : Type 0 where
+  pub count : length z.regs ≡ 32
+  pub words : (r : ℕ) → reg_in z r < 2 ^ 32
+  pub bytes : (a : ℕ) → byte_in z a < 256
+
+-- and the input that is left is bytes
+pub record IsState (z : ZcState) : Type 0 where
+  pub core : IsCore z.core
+  pub input : All (λ b. b < 256) z.input

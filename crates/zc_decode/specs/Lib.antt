@@ -1,1 +1,2 @@
 pub mod Halfwords
+pub mod Effect

@@ -16,10 +16,12 @@ answer_of (Wants c) = answer.Wants c
 answer_of (Ended status) = answer.Ended status
 answer_of (Stopped reason) = answer.Stopped reason
 
--- the state behind a step from this one
+-- the state after a step from this one
 abbrev pub core_after : ZcStep → ZcCore → ZcCore
 core_after (Committed z') z = z'
-core_after other z = z
+core_after (Wants c) z = z
+core_after (Ended status) z = z
+core_after (Stopped reason) z = z
 
 -- the program has exited, which is a commit; all else stays
 abbrev pub exited : ℕ → ZcCore → ZcCore

@@ -1,9 +1,9 @@
 -- How far a run has come in its plan.
 use Rattle.std.specs.Prelude.{ℕ, ◌<◌, ◌≤◌, List, length, slice_index_or}
-use Rattle.interrupt_plan.specs.Plan.{Cut}
+use Rattle.interrupt_plan.specs.Plan.{Entry}
 
 -- the first so many interrupts come before earlier commits than this one, and the others don't
-pub record IsAt (plan : List Cut) (next commit : ℕ) : Type 0 where
+pub record IsAt (plan : List Entry) (next commit : ℕ) : Type 0 where
   pub within : next ≤ length plan
-  pub past : (j : ℕ) (d : Cut) → j < next → (slice_index_or plan j d).at < commit
-  pub ahead : (j : ℕ) (d : Cut) → next ≤ j → j < length plan → commit ≤ (slice_index_or plan j d).at
+  pub past : (j : ℕ) (d : Entry) → j < next → (slice_index_or plan j d).at < commit
+  pub ahead : (j : ℕ) (d : Entry) → next ≤ j → j < length plan → commit ≤ (slice_index_or plan j d).at

@@ -1,23 +1,15 @@
 -- What the machine fetches (RISC-V unprivileged manual, "Base Instruction-Length Encoding").
-use Rattle.std.specs.Prelude.{ℕ, ◌+◌, ◌*◌, ◌==◌, if◌then◌else◌, Option, Some, None}
+use Rattle.std.specs.Prelude.{ℕ, ◌==◌, if◌then◌else◌, Option, Some, None}
 use Rattle.std.specs.Option.{option_map}
 use Rattle.rv_decode.specs.Bits.{field}
 use Rattle.rv_decode.specs.Decode.{decoded}
 use Rattle.rv_decode.specs.Memory.{extents_of, is_text, lies_in}
-use Rattle.rv_decode.specs.State.{ZcCore, byte_in}
+use Rattle.rv_decode.specs.State.{ZcCore, half_at, word_at}
 use Rattle.zc_decode.specs.declared.short.Short.{Short}
 use Rattle.zc_decode.specs.declared.short.Short.TheVariants.{Base}
 use Rattle.zc_decode.specs.Halfwords.{decoded16}
 use Rattle.zc_machine.specs.declared.reason.Reason.{Reason}
 use Rattle.zc_machine.specs.declared.reason.Reason.TheVariants.{Illegal, BadAccess}
-
--- the halfword at an address, its low byte first
-abbrev pub half_at : ZcCore → ℕ → ℕ
-half_at z a = byte_in z a + 256 * byte_in z (a + 1)
-
--- the word there
-abbrev pub word_at : ZcCore → ℕ → ℕ
-word_at z a = byte_in z a + 256 * byte_in z (a + 1) + 65536 * byte_in z (a + 2) + 16777216 * byte_in z (a + 3)
 
 -- an instruction with its size in bytes, or why there is none
 pub data Fetched : Type 0 where

@@ -1,15 +1,15 @@
 -- What an interrupt does: it comes between the accesses of a push or pop, which then starts again, and it may write
 -- below the stack pointer (Zc 1.0, chapter "Zcmp", "PUSH/POP Fault handling").
-use Rattle.std.specs.Prelude.{ℕ, Bool, ◌&&◌, ◌==◌, nat_lt, if◌then◌else◌, List, [], ◌∷◌}
+use Rattle.std.specs.Prelude.{ℕ, Bool, ◌&&◌, nat_lt, if◌then◌else◌, List, [], ◌∷◌}
 use Rattle.interrupt_plan.specs.Plan.{Cut}
 use Rattle.rv_decode.specs.Memory.{changed, extents_of, is_stack, lies_in, written}
 use Rattle.rv_decode.specs.State.{ZcCore, reg_in}
 
--- where an interrupt may write: in the stack, below sp
+-- an address that an interrupt may write: in the stack, below sp
 abbrev pub is_free : ZcCore → ℕ → Bool
 is_free z a = lies_in is_stack (extents_of z.memory) a 1 && nat_lt a (reg_in z 2)
 
--- one byte that is written; elsewhere it is passed over
+-- one byte that is written; at any other address it is passed over
 abbrev pub dirtied : ℕ × ℕ → ZcCore → ZcCore
 dirtied d z = if is_free z d.0 then record z { memory = changed (written d.0 1 (λ i. d.1)) z.memory } else z
 
@@ -22,7 +22,7 @@ all_dirtied (d ∷ ds) z = all_dirtied ds (dirtied d z)
 abbrev pub cut : Cut → ZcCore → ZcCore
 cut c z = all_dirtied c.dirt z
 
--- all interrupts of a plan before the next commit, in order
-abbrev pub cut_by : List Cut → ZcCore → ZcCore
-cut_by [] z = z
-cut_by (c ∷ cs) z = cut_by cs (if c.at == z.commits then cut c z else z)
+-- interrupts, one after another
+abbrev pub all_cuts : List Cut → ZcCore → ZcCore
+all_cuts [] z = z
+all_cuts (c ∷ cs) z = all_cuts cs (cut c z)

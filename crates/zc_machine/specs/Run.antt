@@ -1,14 +1,14 @@
 -- Runs of the machine under a plan of interrupts.
-use Rattle.std.specs.Prelude.{ℕ, ◌+◌, List, [], ◌∷◌, ◌++◌, Option, Some, None, Result, Ok, Err}
-use Rattle.interrupt_plan.specs.Plan.{Cut}
-use Rattle.rv_decode.specs.Run.{iterate}
+use Rattle.std.specs.Prelude.{ℕ, zero, suc, ◌+◌, List, [], ◌∷◌, ◌++◌, Option, Some, None, Result, Ok, Err}
+use Rattle.interrupt_plan.specs.Plan.{Cut, Entry, cuts_at}
+use Rattle.rv_decode.specs.Run.{◌>>=◌}
 use Rattle.rv_decode.specs.State.{ZcCore, ZcState, Exit}
 use Rattle.zc_machine.specs.declared.reason.Reason.{Reason}
 use Rattle.zc_machine.specs.declared.reason.Reason.TheVariants.{UnknownCall}
 use Rattle.zc_machine.specs.declared.step.EnvCall.{EnvCall}
 use Rattle.zc_machine.specs.declared.step.EnvCall.TheVariants as call
 use Rattle.zc_machine.specs.Step.{ZcStep, Committed, Wants, Ended, Stopped, zc_step}
-use Rattle.zc_machine.specs.Interrupt.{cut_by}
+use Rattle.zc_machine.specs.Interrupt.{all_cuts}
 
 -- the environment's answer to a call is a commit; the machine doesn't want the other calls yet
 abbrev pub answered : EnvCall → ZcState → Result ZcState Reason
@@ -17,7 +17,8 @@ answered (call.Exit status) r =
       core = record r.core { exit = Some status; commits = r.core.commits + 1 };
       events = r.events ++ Exit status ∷ [];
     })
-answered other r = Err UnknownCall
+answered (call.Read at len) r = Err UnknownCall
+answered (call.Write fd at len) r = Err UnknownCall
 
 -- the state after a step, with the environment's answer where it wants one
 abbrev pub committed : ZcStep → ZcState → Result ZcState Reason
@@ -28,13 +29,22 @@ committed (Stopped reason) r = Err reason
 
 -- the interrupts before the next commit, and that commit, by the exit's status; after the exit the state stays
 abbrev pub turn_from : Option ℕ → List Cut → ZcState → Result ZcState Reason
-turn_from None plan r = let z = cut_by plan r.core in committed (zc_step z) (record r { core = z })
-turn_from (Some status) plan r = Ok r
+turn_from None cuts r = let z = all_cuts cuts r.core in committed (zc_step z) (record r { core = z })
+turn_from (Some status) cuts r = Ok r
 
 -- one turn
 unfoldable pub zc_turn : List Cut → ZcState → Result ZcState Reason
-zc_turn plan r = turn_from r.core.exit plan r
+zc_turn cuts r = turn_from r.core.exit cuts r
 
--- the state after m commits from this one with this input, or why the machine stops before
-unfoldable pub zc_after : ZcCore → List ℕ → List Cut → ℕ → Result ZcState Reason
-zc_after first input plan m = iterate (zc_turn plan) m (record { core = first; input = input; events = [] })
+-- m turns, with the interrupts before each of them, counted from 0
+abbrev pub zc_turns : (ℕ → List Cut) → ℕ → ZcState → Result ZcState Reason
+zc_turns cuts zero r = Ok r
+zc_turns cuts (suc m) r = zc_turn (cuts 0) r >>= zc_turns (λ k. cuts (suc k)) m
+
+-- a run's first state
+abbrev pub first_state : ZcCore → List ℕ → ZcState
+first_state first input = record { core = first; input = input; events = [] }
+
+-- the state after m commits from this core with this input under a plan, or why the machine stops before
+unfoldable pub zc_after : ZcCore → List ℕ → List Entry → ℕ → Result ZcState Reason
+zc_after first input plan m = zc_turns (cuts_at plan) m (first_state first input)

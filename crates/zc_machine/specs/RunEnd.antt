@@ -1,13 +1,14 @@
--- How a run ends.
-use Rattle.std.specs.Prelude.{◌≡◌, ℕ, ◌<◌, ◌≤◌, ◌⊎◌, List, Option, Some, None, Ok, Err}
-use Rattle.interrupt_plan.specs.Plan.{Cut}
-use Rattle.rv_decode.specs.State.{Event, ZcCore, ZcState}
-use Rattle.zc_outside.specs.Streams.{Adds, AddsPart}
+-- How a run ends, and what it has then written.
+use Rattle.std.specs.Prelude.{◌≡◌, ℕ, ◌<◌, ◌≤◌, List, [], ◌∷◌, ◌++◌, length, take, Option, Some, None, Ok, Err}
+use Rattle.interrupt_plan.specs.Plan.{Entry, cuts_at}
+use Rattle.rv_decode.specs.State.{Event, Write, ZcCore, ZcState}
+use Rattle.zc_outside.specs.Desk.{Desk}
+use Rattle.zc_outside.specs.Streams.{Adds}
 use Rattle.zc_outside.specs.declared.console.ConsoleFault.{ConsoleFault}
 use Rattle.zc_machine.specs.declared.reason.Reason.{Reason}
 use Rattle.zc_machine.specs.declared.run.RunEnd.{RunEnd}
 use Rattle.zc_machine.specs.declared.run.RunEnd.TheVariants as end
-use Rattle.zc_machine.specs.Interrupt.{cut_by}
+use Rattle.zc_machine.specs.Interrupt.{all_cuts}
 use Rattle.zc_machine.specs.Run.{zc_turn, zc_after}
 use Rattle.zc_machine.specs.Written.{err_of, out_of}
 
@@ -15,59 +16,76 @@ use Rattle.zc_machine.specs.Written.{err_of, out_of}
 pub record Course : Type 0 where
   pub first : ZcCore
   pub input : List ℕ
-  pub plan : List Cut
+  pub plan : List Entry
   pub steps : ℕ
 
+-- ---- what is written
+
+-- all that these events write stands on the two streams, in order
+pub record Wrote (events : List Event) (before after : Desk) : Type 0 where
+  pub out : Adds before.out after.out (out_of events)
+  pub err : Adds before.err after.err (err_of events)
+
+-- the last of these events is a write that the console refused: all that the earlier ones write stands, and of its bytes the
+-- first ones, but not all
+pub record WroteInPart (events : List Event) (before after : Desk) : Type 0 where
+  pub earlier : List Event
+  pub stream : ℕ
+  pub bytes : List ℕ
+  pub count : ℕ
+  pub last : events ≡ earlier ++ Write stream bytes ∷ []
+  pub part : count < length bytes
+  pub wrote : Wrote (earlier ++ Write stream (take count bytes) ∷ []) before after
+
+-- ---- ends
+
 -- the program exited with this status within the commits
-pub record RanToExit (run : Course) (status : ℕ) (last : ZcState) (now : ZcCore) : Type 0 where
+pub record RanToExit (run : Course) (status : ℕ) (now : ZcCore) (before after : Desk) : Type 0 where
   pub commits : ℕ
   pub within : commits ≤ run.steps
+  pub last : ZcState
   pub state : zc_after run.first run.input run.plan commits ≡ Ok last
   pub exit : last.core.exit ≡ Some status
   pub machine : now ≡ last.core
+  pub wrote : Wrote last.events before after
 
--- fewer commits were made, and the next is this stop; the machine is left behind its interrupts
-pub record RanToStop (run : Course) (reason : Reason) (last : ZcState) (now : ZcCore) : Type 0 where
+-- fewer commits were made, and the next is this stop; the machine is left as it is after the interrupts before that
+pub record RanToStop (run : Course) (reason : Reason) (now : ZcCore) (before after : Desk) : Type 0 where
   pub commits : ℕ
   pub within : commits < run.steps
+  pub last : ZcState
   pub state : zc_after run.first run.input run.plan commits ≡ Ok last
   pub running : last.core.exit ≡ None
-  pub stop : zc_turn run.plan last ≡ Err reason
-  pub machine : now ≡ cut_by run.plan last.core
+  pub stop : zc_turn (cuts_at run.plan commits) last ≡ Err reason
+  pub machine : now ≡ all_cuts (cuts_at run.plan commits) last.core
+  pub wrote : Wrote last.events before after
 
 -- all commits were made, and the program hasn't exited
-pub record RanOut (run : Course) (last : ZcState) (now : ZcCore) : Type 0 where
+pub record RanOut (run : Course) (now : ZcCore) (before after : Desk) : Type 0 where
+  pub last : ZcState
   pub state : zc_after run.first run.input run.plan run.steps ≡ Ok last
   pub running : last.core.exit ≡ None
   pub machine : now ≡ last.core
+  pub wrote : Wrote last.events before after
 
--- the run came to this state within the commits; what of a refused write is missing, `Wrote` says
-pub record RanToRefusal (run : Course) (last : ZcState) : Type 0 where
+-- the console refused the write that the last of these commits makes; the machine may be in any state
+pub record RanToRefusal (run : Course) (before after : Desk) : Type 0 where
   pub commits : ℕ
   pub within : commits ≤ run.steps
+  pub last : ZcState
   pub state : zc_after run.first run.input run.plan commits ≡ Ok last
-
--- the state that the run came to; after a refusal the machine may be in any state
-abbrev pub Ended : RunEnd → Course → ZcState → ZcCore → Type 0
-Ended (end.Exit status) run last now = RanToExit run status last now
-Ended (end.Stopped reason) run last now = RanToStop run reason last now
-Ended end.Spent run last now = RanOut run last now
-Ended (end.Console fault) run last now = RanToRefusal run last
-
--- all that the events write stands on the two streams, in order; where the console refused a write, one of the streams has
--- a part of that, and not the whole
-abbrev pub Wrote : RunEnd → List Event → Option (List ℕ) → Option (List ℕ) → Option (List ℕ) → Option (List ℕ) → Type 0
-Wrote (end.Console fault) events out out' err err' =
-    (AddsPart out out' (out_of events) × Adds err err' (err_of events)) ⊎ (Adds out out' (out_of events) × AddsPart err err' (err_of events))
-Wrote answer events out out' err err' = Adds out out' (out_of events) × Adds err err' (err_of events)
+  pub wrote : WroteInPart last.events before after
 
 -- the run came to this end, and to what it wrote up to there
-pub record Ran (run : Course) (answer : RunEnd) (now : ZcCore) (out out' err err' : Option (List ℕ)) : Type 0 where
-  pub last : ZcState
-  pub ended : Ended answer run last now
-  pub wrote : Wrote answer last.events out out' err err'
+abbrev pub Ran : Course → RunEnd → ZcCore → Desk → Desk → Type 0
+Ran run (end.Exit status) now before after = RanToExit run status now before after
+Ran run (end.Stopped reason) now before after = RanToStop run reason now before after
+Ran run end.Spent now before after = RanOut run now before after
+Ran run (end.Console fault) now before after = RanToRefusal run before after
 
--- where the console ended the run, this holds of its fault
+-- if the console ended the run, this holds of its fault
 abbrev pub IfConsole : RunEnd → (ConsoleFault → Type 0) → Type 0
 IfConsole (end.Console fault) P = P fault
-IfConsole answer P = Unit {0}
+IfConsole (end.Exit status) P = Unit {0}
+IfConsole (end.Stopped reason) P = Unit {0}
+IfConsole end.Spent P = Unit {0}

@@ -2,9 +2,8 @@
 use Rattle.std.specs.Prelude.{ℕ, ◌%◌, ◌==◌, if◌then◌else◌, Option, Some, None}
 use Rattle.rv_decode.specs.State.{ZcCore, reg_in}
 use Rattle.rv_decode.specs.Effect as act
-use Rattle.rv_decode.specs.Effect.{Effect, effect}
-use Rattle.zc_decode.specs.declared.short.Short.{Short}
-use Rattle.zc_decode.specs.declared.short.Short.TheVariants.{Base}
+use Rattle.rv_decode.specs.Effect.{Effect}
+use Rattle.zc_decode.specs.Effect.{short_effect}
 use Rattle.zc_machine.specs.declared.reason.Reason.{Reason}
 use Rattle.zc_machine.specs.declared.reason.Reason.TheVariants.{Illegal, BadAccess, Misaligned, Break, UnknownCall}
 use Rattle.zc_machine.specs.declared.step.EnvCall.{EnvCall}
@@ -31,14 +30,9 @@ effect_step act.Break z = Stopped Break
 effect_step act.Call z = called z
 effect_step act.Unknown z = Stopped Illegal
 
--- an instruction of this size; one that this machine doesn't have yet is illegal
-abbrev pub short_step : Short → ℕ → ZcCore → ZcStep
-short_step (Base i) size z = effect_step (effect i size z) z
-short_step other size z = Stopped Illegal
-
 -- what was fetched is executed
 abbrev pub made : Fetched → ZcCore → ZcStep
-made (Found s size) z = short_step s size z
+made (Found s size) z = effect_step (short_effect s size z) z
 made (Missing reason) z = Stopped reason
 
 -- one step, by the exit's status; after the exit nothing changes
