@@ -1,45 +1,77 @@
 -- What the bytes of objects spell at places in code, in sections that have no relocations (System V gABI, "Sections";
 -- RISC-V unprivileged manual, "Base Instruction Formats").
-use Rattle.std.specs.Prelude.{ℕ, ◌+◌, ◌%◌, ◌&&◌, ◌==◌, nat_le, nat_lt, if◌then◌else◌, List, length, bit_and, Option, Some, None, slice_get}
-use Rattle.std.specs.Option.{option_map, option_and_then}
+use Rattle.std.specs.Prelude.{ℕ, zero, suc, ◌+◌, Bool, false, ◌==◌, nat_le, if◌then◌else◌, List, [], ◌∷◌, length, bit_and, Option, Some, None, slice_get}
+use Rattle.std.specs.List.{list_any}
+use Rattle.std.specs.Option.{option_and_then, option_map_or}
 use Rattle.zc_base.specs.Fields.{word_in}
+use Rattle.zc_base.specs.Places.{same_place}
 use Rattle.zc_base.specs.declared.place.Place.{Place}
-use Rattle.elf32_read.specs.Header.{Header, section_count, header_of, content_of}
+use Rattle.elf32_read.specs.Parts.{ObjectParts, SectionParts}
 use Rattle.rv_decode.specs.declared.instr.Instr.{Instr}
 use Rattle.rv_decode.specs.Decode.{decoded}
 use Rattle.block_cut.specs.declared.item.Item.{Item}
 use Rattle.block_cut.specs.declared.item.Item.TheVariants.{Op, Raw}
 
--- the content of a section that is code: its flags have ALLOC (2) and EXECINSTR (4)
-abbrev pub code_of_section : List ℕ → Header → Option (List ℕ)
-code_of_section object header = if bit_and header.flags 6 == 6 then Some (content_of object header) else None
+-- ---- sections of code
 
--- the content of an object's section, by its index, where there is such a section and it is code
-abbrev pub code_in : List ℕ → ℕ → Option (List ℕ)
-code_in object section = if nat_lt section (section_count object) then code_of_section object (header_of object section) else None
+-- an object's section by its index: sections are counted from 1
+abbrev pub section_in : ObjectParts → ℕ → Option SectionParts
+section_in object zero = None
+section_in object (suc i) = slice_get object.sections i
 
--- the word at an offset: a multiple of 4 with four bytes
-abbrev pub code_word : List ℕ → ℕ → Option ℕ
-code_word code offset = if offset % 4 == 0 && nat_le (offset + 4) (length code) then Some (word_in code offset) else None
+-- a section that is code: its flags have ALLOC (2) and EXECINSTR (4)
+abbrev pub code_only : SectionParts → Option SectionParts
+code_only section = if bit_and section.flags 6 == 6 then Some section else None
 
--- the word at a place
-abbrev pub word_of_place : List (List ℕ) → Place → Option ℕ
-word_of_place objects q =
-    option_and_then (λ object. option_and_then (λ code. code_word code q.offset) (code_in object q.section)) (slice_get objects q.object)
+-- the section of code that a place lies in
+abbrev pub code_at : List ObjectParts → Place → Option SectionParts
+code_at objects q =
+    option_and_then code_only (option_and_then (λ object. section_in object q.section) (slice_get objects q.object))
+
+-- ---- places
+
+-- the bytes of the item at a place: 4, while no relocation makes an item longer and no compressed code is read
+abbrev pub size_at : List ObjectParts → Place → ℕ
+size_at objects q = 4
+
+-- the place after the item at a place
+abbrev pub next_at : List ObjectParts → Place → Place
+next_at objects q = record q { offset = q.offset + size_at objects q }
+
+-- the places where items start, from one on: each after the item before it, as long as an item ends in the section
+abbrev pub starts_from : ℕ → List ObjectParts → ℕ → Place → List Place
+starts_from zero objects end q = []
+starts_from (suc fuel) objects end q =
+    if nat_le (q.offset + size_at objects q) end then q ∷ starts_from fuel objects end (next_at objects q) else []
+
+-- all of a section of code, given a place in it; there are no more than bytes
+unfoldable pub starts_in : List ObjectParts → SectionParts → Place → List Place
+starts_in objects section q = starts_from (length section.bytes) objects (length section.bytes) (record q { offset = 0 })
+
+-- whether a place is the end of a section of code
+abbrev pub is_end_at : List ObjectParts → Place → Bool
+is_end_at objects q = option_map_or (λ section. q.offset == length section.bytes) false (code_at objects q)
+
+-- ---- items
 
 -- what a word spells: an instruction, or else a word that is copied unread
 abbrev pub spelled : Option Instr → ℕ → Item
 spelled None word = Raw word
 spelled (Some i) word = Op i
 
--- the item that a word is
-abbrev pub word_item : ℕ → Item
-word_item word = spelled (decoded word) word
+-- the item that the word at a place is
+abbrev pub item_of : Place → ℕ → Item
+item_of q word = spelled (decoded word) word
 
--- the item at a place; none where no word of code stands there
-unfoldable pub item_in : List (List ℕ) → Place → Option Item
-item_in objects q = option_map word_item (word_of_place objects q)
+-- the item at a place of a section, if one starts there
+abbrev pub item_from : List ObjectParts → Place → SectionParts → Option Item
+item_from objects q section =
+    if list_any (same_place q) (starts_in objects section q) then Some (item_of q (word_in section.bytes q.offset)) else None
 
--- the place behind an item of one word
-abbrev pub behind : Place → Place
-behind q = record q { offset = q.offset + 4 }
+-- the item at a place; none if no item of code starts there
+unfoldable pub item_at : List ObjectParts → Place → Option Item
+item_at objects q = option_and_then (item_from objects q) (code_at objects q)
+
+-- whether an item starts at a place and leads a basic block: so far the first item of a section alone
+abbrev pub is_leader_at : List ObjectParts → Place → Bool
+is_leader_at objects q = q.offset == 0

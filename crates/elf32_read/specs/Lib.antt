@@ -3,6 +3,7 @@ pub mod Header
 pub mod Image
 pub mod ImageFault
 pub mod Object
+pub mod Parts
 pub mod Places
 pub mod Rows
 pub mod Segment
