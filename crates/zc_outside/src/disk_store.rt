@@ -114,7 +114,7 @@ impl From<AllocError> for Trouble {
     }
 }
 
-// A file's bytes, or none where it has `most` or more.
+// A file's bytes, or none if it has `most` or more.
 fn read_file<R: Files>(
     rt: &R,
     alloc: Global,
@@ -129,7 +129,7 @@ fn read_file<R: Files>(
     read_below(alloc, &mut file, most)
 }
 
-// All bytes that a reader has left, or none where these are `most` or more.
+// All bytes that a reader has left, or none if these are `most` or more.
 fn read_below<F: Read>(alloc: Global, file: &mut F, most: usize) -> Result<Option<Vec<u8>>, Trouble>
     requires some { 0 < most }
     requires fits { most < 2 ^ 33 }
@@ -146,7 +146,7 @@ fn read_below<F: Read>(alloc: Global, file: &mut F, most: usize) -> Result<Optio
     Ok(None)
 }
 
-// Reads a piece behind the bytes so far, which become at most `most`, and says how long it is.
+// Reads a piece and adds it to the bytes so far, which become at most `most`, and says how long it is.
 fn read_piece<F: Read>(file: &mut F, bytes: &mut Vec<u8>, most: usize) -> Result<usize, Trouble>
     requires room { vec_len bytes.old < most }
     requires fits { most < 2 ^ 33 }

@@ -92,7 +92,7 @@ impl MemConsole {
         self.err.as_slice()
     }
 
-    // Counts a write, and refuses it where it is one that fails.
+    // Counts a write, and refuses it if it is one that fails.
     fn begin_write(&mut self) -> Result<(), ConsoleFault>
         ensures failed { IsErr result ↔ Contains self.old.fails self.old.calls }
         ensures ok { OnOk result (self.new ≡ record self.old { calls = next_call self.old.calls }) }
@@ -192,7 +192,7 @@ mod tests {
         assert_eq!(rt; console.err(b""), Ok(()), "an empty piece has no number");
         assert_eq!(rt; console.err(b"lost"), Err(ConsoleFault::Failed));
         assert_eq!(rt; console.take(&mut buf), Ok(3));
-        assert_eq!(rt; buf, *b"llo\0", "no byte stands behind those that came");
+        assert_eq!(rt; buf, *b"llo\0", "no byte changes after those that came");
         assert_eq!(rt; console.take(&mut buf), Ok(0));
         assert_eq!(rt; console.err(b"to err"), Ok(()));
         assert_eq!(rt; console.out_bytes(), b"to out".as_slice());

@@ -91,7 +91,7 @@ impl MemStore {
 impl Store for MemStore {
     ghost shown = { shelf_of };
 
-    /// Fails too where the name isn't held.
+    /// Fails too if the name isn't held.
     fn get(&mut self, alloc: Global, name: &str, limit: u32) -> Result<Vec<u8>, StoreFault>
         requires { limit < 2 ^ 32 - 1 }
         ensures within { IfOk result (λ v. length v.items ≤ limit) }
