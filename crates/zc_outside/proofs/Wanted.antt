@@ -1,5 +1,5 @@
 -- Reads of files after one another.
-use Rattle.std.proofs.Common.{◌≡◌, ◌≢◌, ℕ, ◌+◌, ◌<◌, length, take, drop, map, get_or, inl, inr, List, [], ◌∷◌, ◌++◌, Option, refl, sym, ap, ◌∙◌, arith}
+use Rattle.std.proofs.Common.{◌≡◌, ◌≢◌, ℕ, ◌+◌, ◌<◌, length, take, drop, map, get_or, inl, inr, List, [], ◌∷◌, ◌++◌, Option, Some, IsTrue, refl, sym, ap, ◌∙◌, arith}
 use Rattle.std.proofs.lemmas.List.{map-append, take_more, take-append-drop}
 use Rattle.std.specs.Global.{Global}
 use Rattle.std.specs.String.{string_bytes}
@@ -141,6 +141,45 @@ AreUnread-rest first rest a b c read unread = elim unread [
         IsOneLong-rest a.files first rest (KeepsFiles-IsOneLong a.files b.files rest read.files long.1),
       )
 ]
+
+-- ---- files that are told
+
+-- they have one list of bytes
+pub AreRead-same :
+    (f : Files) (wanted : List Wanted) (xs ys : List (List ℕ)) → AreRead (Some f) wanted xs → AreRead (Some f) wanted ys → xs ≡ ys
+AreRead-same f [] [] [] read again = refl
+AreRead-same f [] [] (y ∷ ys) read again = absurd again
+AreRead-same f [] (x ∷ xs) ys read again = absurd read
+AreRead-same f (file ∷ wanted) [] ys read again = absurd read
+AreRead-same f (file ∷ wanted) (x ∷ xs) [] read again = absurd again
+AreRead-same f (file ∷ wanted) (x ∷ xs) (y ∷ ys) read again =
+    let same : Some x ≡ Some y = sym read.0.held ∙ again.0.held in
+    let rest = AreRead-same f wanted xs ys read.1 again.1 in
+    cc
+
+-- those that can be read are held
+pub AreRead-AreHeld : (f : Files) (wanted : List Wanted) (xs : List (List ℕ)) → AreRead (Some f) wanted xs → AreHeld (Some f) wanted
+AreRead-AreHeld f [] xs read = tt
+AreRead-AreHeld f (file ∷ wanted) [] read = absurd read
+AreRead-AreHeld f (file ∷ wanted) (x ∷ xs) read = ((x, read.0.held), AreRead-AreHeld f wanted xs read.1)
+
+-- and none of them is too long
+pub AreRead-not-long : (f : Files) (wanted : List Wanted) (xs : List (List ℕ)) → AreRead (Some f) wanted xs → ¬ IsOneLong (Some f) wanted
+AreRead-not-long f [] xs read long = absurd long
+AreRead-not-long f (file ∷ wanted) [] read long = absurd read
+AreRead-not-long f (file ∷ wanted) (x ∷ xs) read long = elim long [
+  | inl here ↦
+      let same : Some here.0 ≡ Some x = sym here.1 ∙ read.0.held in
+      let lengths : length here.0 ≡ length x = cc in
+      absurd (omega (arith, lengths, here.2, read.0.short))
+  | inr later ↦ AreRead-not-long f wanted xs read.1 later
+]
+
+-- a sure store that holds them, none too long, gives no cause to call them unread
+pub AreUnread-sure :
+    (wanted : List Wanted) (a b : Shelf) → IsTrue a.sure → AreHeld a.files wanted → ¬ IsOneLong a.files wanted → ¬ AreUnread wanted a b
+AreUnread-sure wanted a b sure held short unread =
+    elim unread [ inl failed ↦ failed.1 sure held | inr long ↦ short long.1 ]
 
 -- ---- a loop over names, of which some were read
 

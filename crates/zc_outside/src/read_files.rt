@@ -61,3 +61,40 @@ fn read_file<S: Store>(
         StoreFault::Failed | StoreFault::TooLong { .. } => ReadFault::Unread,
     })
 }
+
+#[cfg(test)]
+mod tests {
+    use super::*;
+    use crate::mem_store::MemStore;
+    use std::test::Fail;
+
+    #[test]
+    fn reads_files_up_to_the_first_that_cannot_be_had(rt: HostRuntime) -> Result<(), Fail> {
+        let alloc = rt.alloc();
+        let mut store = MemStore::new(alloc, &[4])?;
+        store.add("empty", b"")?;
+        store.add("five", b"bytes")?;
+        let names = [
+            String::from_str(alloc, "five")?,
+            String::from_str(alloc, "empty")?,
+        ];
+        let none = [String::from_str(alloc, "none")?];
+        let mut files = Vec::new(alloc);
+        let read = read_files(alloc, &names, 5, &mut files, &mut store);
+        assert_eq!(rt; read, Ok(()));
+        assert_eq!(rt; files.len(), 2);
+        assert_eq!(rt; files[0].as_slice(), b"bytes".as_slice());
+        assert_eq!(rt; files[1].as_slice(), b"".as_slice());
+        for (names, limit, read) in [
+            (&names[..1], 4, Err(ReadFault::Unread)),
+            (&none[..], 5, Err(ReadFault::Unread)),
+            (&names[1..], 0, Err(ReadFault::Unread)),
+            (&names[1..], 0, Ok(())),
+        ] {
+            let found = read_files(alloc, names, limit, &mut files, &mut store);
+            assert_eq!(rt; found, read, "of {} within {limit}", names.len());
+        }
+        assert_eq!(rt; files.len(), 1, "no file of an earlier call is left");
+        Ok(())
+    }
+}
