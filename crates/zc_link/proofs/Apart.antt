@@ -1,7 +1,7 @@
 -- Interrupts and cells of data lie apart. An interrupt writes in the stack, a cell lies in data, and the stack begins after
 -- data's end: so the one takes no notice of the other. All that is needed of a state on the way is where its regions lie, which
 -- no interrupt, cell or commit changes.
-use Rattle.std.proofs.Common.{◌≡◌, ◌≢◌, ℕ, suc, ◌+◌, ◌<◌, ◌≤◌, List, [], ◌∷◌, Option, Some, None, Ok, Result, Bool, true, false, cond, refl, sym, ap, ap₂, ◌∙◌, arith, eqb, ltb, leb, get_or}
+use Rattle.std.proofs.Common.{◌≡◌, ◌≢◌, ℕ, suc, ◌+◌, ◌%◌, ◌<◌, ◌≤◌, List, [], ◌∷◌, Option, Some, None, Ok, Result, Bool, true, false, cond, refl, sym, ap, ap₂, ◌∙◌, arith, eqb, ltb, leb, get_or}
 use Rattle.std.specs.Prelude.{◌&&◌}
 use Rattle.std.proofs.lemmas.Bool.{and_parts, cond_both, leb-true, ltb-true}
 use Rattle.interrupt_plan.specs.Plan.{Cut}
@@ -145,7 +145,7 @@ unfolding zc_turn
 turn_extents z z' h = by_exit z.core.exit h
   where
     by_call : (c : EnvCall) → answered c z ≡ Ok z' → extents_of z'.core.memory ≡ extents_of z.core.memory
-    by_call (call.Exit status) g = let same : z' ≡ _ = cc in ap (λ x. extents_of x.core.memory) same
+    by_call (call.Exit status) g = let same : z'.core ≡ record z.core { exit = Some status; commits = z.core.commits + 1 } = cc in ap (λ x. extents_of x.memory) same
     by_call (call.Read at len) g = absurd cc
     by_call (call.Write fd at len) g = absurd cc
 

@@ -1,6 +1,6 @@
 -- A commit under interrupts: the state after the interrupts before it is alike with the program's, and the turn is what the
 -- instruction at pc then does.
-use Rattle.std.proofs.Common.{◌≡◌, ℕ, suc, List, Ok, refl, sym, ap, ◌∙◌}
+use Rattle.std.proofs.Common.{◌≡◌, ℕ, zero, suc, ◌+◌, List, Result, Ok, Err, refl, sym, ap, ap₂, ◌∙◌, arith}
 use Rattle.std.specs.Prelude.{All}
 use Rattle.interrupt_plan.specs.Plan.{Cut, IsCut}
 use Rattle.rv_decode.specs.declared.instr.Instr.{Instr}
@@ -47,3 +47,19 @@ after_cuts p e room i s cuts z at are al =
 -- one turn
 pub zc_turns-one : (cuts : ℕ → List Cut) (z z' : ZcState) → zc_turn (cuts 0) z ≡ Ok z' → zc_turns cuts 1 z ≡ Ok z'
 zc_turns-one cuts z z' turn = ap (λ r. r >>= zc_turns (λ k. cuts (suc k)) 0) turn
+
+bind_assoc : {A B C E : Type 0} (r : Result A E) (f : A → Result B E) (g : B → Result C E) (h : A → Result C E) → ((x : A) → h x ≡ (f x >>= g)) → (r >>= h) ≡ ((r >>= f) >>= g)
+bind_assoc (Ok x) f g h e = e x
+bind_assoc (Err x) f g h e = refl
+
+-- so many turns, and more after them
+pub zc_turns-add : (cuts : ℕ → List Cut) (m n : ℕ) (z : ZcState) → zc_turns cuts (m + n) z ≡ (zc_turns cuts m z >>= zc_turns (λ k. cuts (m + k)) n)
+zc_turns-add cuts zero n z =
+    let none : (k : ℕ) → k ≡ 0 + k = λ (k : ℕ). omega arith in
+    ap₂ (λ (c : ℕ → List Cut) (k : ℕ). zc_turns c k z) (λ i k. cuts (none k i)) (sym (none n))
+zc_turns-add cuts (suc m) n z =
+    let sum : suc m + n ≡ suc (m + n) = omega arith in
+    let shifted : (k : ℕ) → suc (m + k) ≡ suc m + k = λ (k : ℕ). omega arith in
+    ap (λ k. zc_turns cuts k z) sum
+    ∙ bind_assoc (zc_turn (cuts 0) z) (zc_turns (λ k. cuts (suc k)) m) (zc_turns (λ k. cuts (suc m + k)) n) (zc_turns (λ k. cuts (suc k)) (m + n))
+    (λ y. zc_turns-add (λ k. cuts (suc k)) m n y ∙ ap (λ c. zc_turns (λ k. cuts (suc k)) m y >>= zc_turns c n) (λ i k. cuts (shifted k i)))

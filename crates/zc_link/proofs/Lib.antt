@@ -9,3 +9,5 @@ pub mod Environment
 pub mod Items
 pub mod Pieces
 pub mod Apart
+pub mod Induction
+pub mod Simulation
