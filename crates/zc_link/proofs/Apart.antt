@@ -1,7 +1,7 @@
 -- Interrupts and cells of data lie apart. An interrupt writes in the stack, a cell lies in data, and the stack begins after
 -- data's end: so the one takes no notice of the other. All that is needed of a state on the way is where its regions lie, which
 -- no interrupt, cell or commit changes.
-use Rattle.std.proofs.Common.{◌≡◌, ◌≢◌, ℕ, suc, ◌+◌, ◌%◌, ◌<◌, ◌≤◌, List, [], ◌∷◌, Option, Some, None, Ok, Result, Bool, true, false, cond, refl, sym, ap, ap₂, ◌∙◌, arith, eqb, ltb, leb, get_or}
+use Rattle.std.proofs.Common.{◌≡◌, ◌≢◌, ℕ, suc, ◌+◌, ◌%◌, List, [], ◌∷◌, Option, Some, None, Ok, Bool, true, false, cond, refl, sym, ap, ap₂, ◌∙◌, arith, eqb, ltb, leb}
 use Rattle.std.specs.Prelude.{◌&&◌}
 use Rattle.std.proofs.lemmas.Bool.{and_parts, cond_both, leb-true, ltb-true}
 use Rattle.interrupt_plan.specs.Plan.{Cut}
@@ -16,14 +16,13 @@ use Rattle.sym_machine.specs.State.{PlainState}
 use Rattle.zc_decode.specs.declared.short.Short.{Short}
 use Rattle.zc_decode.specs.declared.short.Short.TheVariants.{Base, Push, Pop, PopRet, PopRetz, MoveSa, MoveAs, TableJump}
 use Rattle.zc_decode.specs.Effect.{short_effect}
-use Rattle.zc_machine.specs.declared.reason.Reason.{Reason}
 use Rattle.zc_machine.specs.declared.reason.Reason.TheVariants.{UnknownCall}
 use Rattle.zc_machine.specs.declared.step.EnvCall.{EnvCall}
 use Rattle.zc_machine.specs.declared.step.EnvCall.TheVariants as call
 use Rattle.zc_machine.specs.Fetch.{Fetched, Found, Missing, fetched_at}
 use Rattle.zc_machine.specs.Interrupt.{all_dirtied, cut, dirtied, is_free}
 use Rattle.zc_machine.specs.Run.{answered, committed, turn_from, zc_turn}
-use Rattle.zc_machine.specs.Step.{ZcStep, Committed, Wants, Ended, Stopped, called, effect_step, made, step_from, zc_step}
+use Rattle.zc_machine.specs.Step.{ZcStep, Committed, Wants, Ended, Stopped, effect_step, made, step_from, zc_step}
 use Rattle.zc_link.specs.Image.{Image, loaded}
 use Rattle.zc_link.specs.Room.{Room}
 use Rattle.zc_link.specs.Simulates.{Cuts, Commits, IsCell, OnWay, Pace, Pokes, Starts, poked}

@@ -1,11 +1,11 @@
 -- What interrupts may leave, said of the machine alone: bytes of the stack below sp may hold anything, and all else is as
 -- before (Spoiled). If the program doesn't know these bytes, states that are alike stay so (spoiled_alike).
-use Rattle.std.proofs.Common.{◌≡◌, ℕ, ◌+◌, ◌-◌, ◌<◌, ◌≤◌, List, [], ◌∷◌, length, false, true, refl, sym, ap, ◌∙◌, subst, arith, ltb, leb, ⊎_elim, inl, inr}
+use Rattle.std.proofs.Common.{◌≡◌, ℕ, ◌+◌, ◌-◌, ◌<◌, ◌≤◌, List, [], ◌∷◌, length, true, refl, sym, ap, ◌∙◌, arith, ltb, leb, ⊎_elim, inl, inr}
 use Rattle.std.specs.Prelude.{◌⊎◌, ◌&&◌, All}
 use Rattle.std.proofs.lemmas.Bool.{and_parts, cases_Bool, cases_lt, cond_both, ltb-true}
 use Rattle.std.proofs.lemmas.List.Elements.{All-head, All-tail}
 use Rattle.interrupt_plan.specs.Plan.{Cut, IsCut}
-use Rattle.rv_decode.specs.Memory.{cell_at, changed, extents_of, is_stack, is_text, lies_in, written}
+use Rattle.rv_decode.specs.Memory.{cell_at, changed, extents_of, is_stack, lies_in, written}
 use Rattle.rv_decode.specs.State.{ZcCore, byte_in, reg_in}
 use Rattle.rv_decode.proofs.MemoryLaws.{cell-changed, cell-uncovered, cell_kept, extents-changed, is_covered, untouched}
 use Rattle.sym_machine.specs.declared.word.SymByte.TheVariants.{Undef}

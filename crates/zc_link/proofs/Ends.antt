@@ -5,7 +5,6 @@ use Rattle.std.specs.Prelude.{◌&&◌, ◌<◌}
 use Rattle.std.proofs.lemmas.List.{append-nil}
 use Rattle.std.proofs.lemmas.Bool.{and_from, and_parts, cond-true, leb-true, le-leb, lt-ltb}
 use Rattle.zc_base.specs.declared.mem_map.MemMap.{MemMap}
-use Rattle.zc_base.specs.declared.place.Place.{Place}
 use Rattle.rv_decode.specs.Memory.{cell_at, changed}
 use Rattle.rv_decode.specs.State.{Event, ZcCore, ZcState, byte_in, reg_in}
 use Rattle.rv_decode.proofs.MemoryLaws.{cell-changed_default}
@@ -100,11 +99,11 @@ module _ (p : Program) (e : Image) (s s' : PlainCore) (end : Ended p.map s s') w
   -- registers and memory stand for the same as before
   pub ends_stands : (z : ZcState) → Stands p (place_address e) s z → Stands p (place_address e) s' z
   ends_stands z h = subst (λ x. Stands p (place_address e) x z) (sym end.state) (record {
-      registers = h.registers;
-      memory = λ a m. rw (undefined_cell p.map end.sp s a) (undefined_stands (value_in p (place_address e)) (leb p.map.stack_low a && ltb a end.sp) (cell_of s a) (byte_in z.core a) (h.memory a m));
-      input = h.input;
-      place = h.place;
-    })
+    registers = h.registers;
+    memory = λ a m. rw (undefined_cell p.map end.sp s a) (undefined_stands (value_in p (place_address e)) (leb p.map.stack_low a && ltb a end.sp) (cell_of s a) (byte_in z.core a) (h.memory a m));
+    input = h.input;
+    place = h.place;
+  })
 
   -- and states that are ready are alike
   pub ends_alike : (z : ZcCore) → Ready p e s z → Alike p e s' z

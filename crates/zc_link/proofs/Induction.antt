@@ -2,10 +2,10 @@
 -- taken from the program's run alone, before any plan is named. A run that ends inside a piece has made no commit of that piece,
 -- so no interrupt of it either, and only the events are claimed.
 use Rattle.std.proofs.Common.{◌≡◌, ℕ, zero, suc, ◌+◌, ◌-◌, ◌*◌, ◌<◌, ◌≤◌, List, [], Bool, true, false, cond, Option, Some, None, Ok, refl, sym, ap, ◌∙◌, subst, inl, inr, ⊎_elim, arith, eqb}
-use Rattle.std.specs.Prelude.{◌⊎◌, IsSome, All}
+use Rattle.std.specs.Prelude.{◌⊎◌, IsSome}
 use Rattle.std.proofs.lemmas.Bool.{cases_lt, false≢true}
 use Rattle.std.proofs.lemmas.List.Elements.{All-nil}
-use Rattle.interrupt_plan.specs.Plan.{AreCuts, Cut, Entry, IsCut, IsPlan, cuts_at}
+use Rattle.interrupt_plan.specs.Plan.{AreCuts, Cut, IsPlan, cuts_at}
 use Rattle.interrupt_plan.proofs.PlanLaws.{cuts_at-bytes}
 use Rattle.rv_decode.specs.Run.{◌>>=◌, iterate}
 use Rattle.rv_decode.specs.State.{ZcState}
@@ -17,7 +17,7 @@ use Rattle.sym_machine.specs.Run.{plain, plain_turn}
 use Rattle.sym_machine.specs.State.{PlainCore, PlainState, first_plain}
 use Rattle.zc_machine.specs.Run.{first_state, zc_after, zc_turns}
 use Rattle.zc_link.specs.Image.{Image, loaded, place_address}
-use Rattle.zc_link.specs.Preserves.{Follows, FollowsUnder, IsQuiet, KeepsStep, Preserves, PreservesQuietly}
+use Rattle.zc_link.specs.Preserves.{Follows, FollowsUnder, KeepsStep, Preserves, PreservesQuietly}
 use Rattle.zc_link.specs.Simulates.{Pace, Simulates, lead_from, lead_of, pace_of}
 use Rattle.zc_link.specs.Sound.{Sound, Together}
 use Rattle.zc_link.specs.Stands.{Stands}

@@ -1,6 +1,6 @@
 -- What one instruction does, whatever the place and pc: if the symbolic machine makes a change, the machine's effect commits,
 -- and the states are ready again. A law for each format; it begins with what all of them come to.
-use Rattle.std.proofs.Common.{◌≡◌, ℕ, ◌+◌, ◌%◌, ◌^◌, ◌<◌, List, [], ◌∷◌, Option, Some, None, refl, sym, ap, ◌∙◌, subst, arith, ℤ}
+use Rattle.std.proofs.Common.{◌≡◌, ℕ, ◌+◌, ◌%◌, ◌^◌, ◌<◌, [], ◌∷◌, Option, Some, None, refl, sym, ap, ◌∙◌, subst, ℤ}
 use Rattle.zc_base.specs.declared.place.Place.{Place}
 use Rattle.rv_decode.specs.declared.instr.Instr.{Instr}
 use Rattle.rv_decode.specs.declared.instr.Instr.TheVariants.{WithImm}
@@ -18,7 +18,7 @@ use Rattle.zc_link.specs.Sound.{NamesWord, Ready}
 use Rattle.zc_link.specs.Stands.{WordStands}
 use Rattle.zc_link.specs.Values.{value_in}
 use Rattle.zc_link.proofs.Ready.{ready_moved, ready_set}
-use Rattle.zc_link.proofs.Words.{Result, imm_names, imm_stands}
+use Rattle.zc_link.proofs.Words.{imm_names, imm_stands}
 
 -- ---- what instructions come to
 
@@ -55,15 +55,15 @@ module _ (p : Program) (e : Image) (size : ℕ) (c : Change) (s : PlainCore) (ne
   -- a result that goes to a register
   pub register_goes : (i : Instr) (rd v : ℕ) (w : SymWord) → effect i size z ≡ result_gives (Some v) rd size z → v < 2 ^ 32 → WordStands (value_in p (place_address e)) w v → NamesWord p w → gives rd (Some w) next ≡ Goes c → GoesOn p e i size c s next z
   register_goes i rd v w does small stands names h = subst (λ x. GoesOn p e i size x s next z) same (record {
-      commit = record {
-        after = core_onward z size (set_reg z.regs rd v);
-        commits = does;
-        ready = ready_moved p e _ _ next _ _ (ready_set p e s z rd v w ready small stands names);
-        quiet = record { events = refl; taken = refl };
-      };
-      place = refl;
-      pc = refl;
-    })
+    commit = record {
+      after = core_onward z size (set_reg z.regs rd v);
+      commits = does;
+      ready = ready_moved p e _ _ next _ _ (ready_set p e s z rd v w ready small stands names);
+      quiet = record { events = refl; taken = refl };
+    };
+    place = refl;
+    pc = refl;
+  })
     where
       same : record (onward next) { writes = (rd, w) ∷ [] } ≡ c
       same = cc

@@ -1,10 +1,10 @@
 -- A laid image keeps step with the program: the start is sound, each piece's law is its step, and cells of data lie apart from
 -- interrupts. So the image follows the program under every plan.
-use Rattle.std.proofs.Common.{◌≡◌, ℕ, zero, suc, ◌+◌, ◌-◌, ◌^◌, ◌<◌, ◌≤◌, List, [], length, Option, Some, None, Ok, Bool, true, false, cond, refl, sym, ap, ◌∙◌, subst, inl, ⊎_elim, arith, eqb, leb, get_or, replicate}
+use Rattle.std.proofs.Common.{◌≡◌, ℕ, zero, suc, ◌+◌, ◌-◌, ◌^◌, ◌<◌, ◌≤◌, List, [], length, Option, Some, None, Ok, Bool, true, false, refl, sym, ap, ◌∙◌, subst, inl, ⊎_elim, arith, eqb, leb, get_or, replicate}
 use Rattle.std.specs.Prelude.{◌&&◌, All, IsSome}
 use Rattle.std.proofs.lemmas.Bool.{and_parts, cases_lt, cond-false, cond-true, cond_both, eq-eqb, false≢true, leb-true, ne_eqb}
 use Rattle.std.proofs.lemmas.List.{get_or-replicate, get_or_past, length-replicate}
-use Rattle.interrupt_plan.specs.Plan.{AreCuts, Cut, IsPlan}
+use Rattle.interrupt_plan.specs.Plan.{Cut, IsPlan}
 use Rattle.rv_decode.specs.Memory.{blank, cell_at}
 use Rattle.rv_decode.specs.Run.{iterate}
 use Rattle.rv_decode.specs.State.{start_regs}

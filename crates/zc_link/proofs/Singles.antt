@@ -1,6 +1,6 @@
 -- An item that is one instruction is one commit, whatever interrupts come before it: the state after them is alike, the law of
 -- the instruction goes on from there, and the step's end makes the states sound again.
-use Rattle.std.proofs.Common.{◌≡◌, ℕ, ◌+◌, ◌%◌, ◌^◌, List, ◌++◌, Some, Ok, refl, sym, ap, ◌∙◌, inl, arith}
+use Rattle.std.proofs.Common.{◌≡◌, ℕ, ◌+◌, ◌%◌, ◌^◌, List, ◌++◌, Some, Ok, sym, ap, ◌∙◌, inl, arith}
 use Rattle.std.specs.Prelude.{drop}
 use Rattle.std.proofs.lemmas.List.{append-nil}
 use Rattle.interrupt_plan.specs.Plan.{AreCuts, Cut}
@@ -16,7 +16,7 @@ use Rattle.zc_link.specs.Image.{Image, place_address}
 use Rattle.zc_link.specs.Pieces.{AloneLaid}
 use Rattle.zc_link.specs.Room.{Room}
 use Rattle.zc_link.specs.Simulates.{Comes}
-use Rattle.zc_link.specs.Sound.{Alike, Ready, Sound}
+use Rattle.zc_link.specs.Sound.{Ready, Sound}
 use Rattle.zc_link.proofs.Commits.{after_cuts, zc_turns-one}
 use Rattle.zc_link.proofs.Ends.{Stepped, ends_alike}
 use Rattle.zc_link.proofs.Instrs.{Moves}
