@@ -8,3 +8,5 @@ pub mod Preserves
 pub mod Room
 pub mod Pieces
 pub mod Laid
+pub mod Straight
+pub mod Linked
