@@ -7,6 +7,7 @@ use Rattle.rv_decode.specs.declared.instr.Instr.{Instr}
 use Rattle.rv_decode.specs.Effect.{effect}
 use Rattle.rv_decode.specs.Run.{◌>>=◌}
 use Rattle.rv_decode.specs.State.{ZcCore, ZcState}
+use Rattle.rv_decode.proofs.RunLaws.{bind_assoc}
 use Rattle.sym_machine.specs.Program.{Program}
 use Rattle.sym_machine.specs.State.{PlainCore}
 use Rattle.zc_decode.specs.declared.short.Short.TheVariants.{Base}
@@ -47,10 +48,6 @@ after_cuts p e room i s cuts z at are al =
 -- one turn
 pub zc_turns-one : (cuts : ℕ → List Cut) (z z' : ZcState) → zc_turn (cuts 0) z ≡ Ok z' → zc_turns cuts 1 z ≡ Ok z'
 zc_turns-one cuts z z' turn = ap (λ r. r >>= zc_turns (λ k. cuts (suc k)) 0) turn
-
-bind_assoc : {A B C E : Type 0} (r : Result A E) (f : A → Result B E) (g : B → Result C E) (h : A → Result C E) → ((x : A) → h x ≡ (f x >>= g)) → (r >>= h) ≡ ((r >>= f) >>= g)
-bind_assoc (Ok x) f g h e = e x
-bind_assoc (Err x) f g h e = refl
 
 -- so many turns, and more after them
 pub zc_turns-add : (cuts : ℕ → List Cut) (m n : ℕ) (z : ZcState) → zc_turns cuts (m + n) z ≡ (zc_turns cuts m z >>= zc_turns (λ k. cuts (m + k)) n)

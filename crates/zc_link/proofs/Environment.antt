@@ -41,15 +41,14 @@ module _ (p : Program) (e : Image) (room : Room p e) (r r' : PlainState) (cuts :
   holds : (x n : ℕ) → x < 32 → number_of (reg_of r.core x) ≡ Some n → n ≡ reg_in w.now x
   holds x n low is = number_is (value_in p (place_address e)) (reg_of r.core x) (reg_in w.now x) n (w.alike.core.words x) (w.alike.registers x low) is
 
-  exit_comes : (o : Option ℕ) → number_of (reg_of r.core 10) ≡ o → reg_in w.now 17 ≡ 93 → exit_does o r.core.place ≡ Goes from.step.change → Comes p e cuts 1 z r'
-  exit_comes None is a7 h = absurd cc
-  exit_comes (Some a0) is a7 h =
-      let status = a0 % 256 in
-      let c : Change = record (onward r.core.place) { exit = Some status; events = Exit status ∷ [] } in
-      let made : c ≡ from.step.change = cc in
-      let end = subst (λ x. Ended p.map (after_change x r.core) r'.core) (sym made) from.step.end in
-      let events = from.step.events ∙ ap (λ (x : Change). r.events ++ x.events) (sym made) in
-      let wants : called w.now ≡ Wants (call.Exit status) = cond-true (eqb (reg_in w.now 17) 93) _ _ (eq-eqb (reg_in w.now 17) 93 a7) ∙ ap (λ n. Wants (call.Exit (n % 256))) (sym (holds 10 a0 (omega arith) is)) in
+  -- ---- the exit
+
+  abbrev exit_change : ℕ → Change
+  exit_change status = record (onward r.core.place) { exit = Some status; events = Exit status ∷ [] }
+
+  -- the answer to it ends both
+  exit_over : (status : ℕ) → called w.now ≡ Wants (call.Exit status) → Ended p.map (after_change (exit_change status) r.core) r'.core → r'.events ≡ r.events ++ Exit status ∷ [] → Comes p e cuts 1 z r'
+  exit_over status wants end events =
       let z1 : ZcState = record z { core = record w.now { exit = Some status; commits = w.now.commits + 1 }; events = z.events ++ Exit status ∷ [] } in
       record {
         after = z1;
@@ -58,12 +57,25 @@ module _ (p : Program) (e : Image) (room : Room p e) (r r' : PlainState) (cuts :
           status = status;
           exited = ap (λ s. s.exit) end.state;
           ended = refl;
-          stands = ends_stands p e (after_change c r.core) r'.core end z1 (record { registers = w.alike.registers; memory = w.alike.memory; input = from.sound.input; place = λ running. absurd cc });
+          stands = ends_stands p e (after_change (exit_change status) r.core) r'.core end z1 (record { registers = w.alike.registers; memory = w.alike.memory; input = from.sound.input; place = λ running. absurd cc });
         };
         events = ap (λ l. l ++ Exit status ∷ []) from.same ∙ sym events;
       }
 
-  -- all calls, by a7
+  -- with 93 in a7 the machine asks for it, with the low byte of a0
+  wants_exit : (a0 : ℕ) → reg_in w.now 17 ≡ 93 → a0 ≡ reg_in w.now 10 → called w.now ≡ Wants (call.Exit (a0 % 256))
+  wants_exit a0 a7 is = cond-true (eqb (reg_in w.now 17) 93) _ _ (eq-eqb (reg_in w.now 17) 93 a7) ∙ ap (λ n. Wants (call.Exit (n % 256))) (sym is)
+
+  exit_comes : (o : Option ℕ) → number_of (reg_of r.core 10) ≡ o → reg_in w.now 17 ≡ 93 → exit_does o r.core.place ≡ Goes from.step.change → Comes p e cuts 1 z r'
+  exit_comes None is a7 h = absurd cc
+  exit_comes (Some a0) is a7 h =
+      let made : exit_change (a0 % 256) ≡ from.step.change = cc in
+      exit_over (a0 % 256) (wants_exit a0 a7 (holds 10 a0 (omega arith) is))
+      (subst (λ c. Ended p.map (after_change c r.core) r'.core) (sym made) from.step.end)
+      (from.step.events ∙ ap (λ (c : Change). r.events ++ c.events) (sym made))
+
+  -- ---- all calls, by a7
+
   pub call_comes : call_does (number_of (reg_of r.core 17)) r.core ≡ Goes from.step.change → Comes p e cuts 1 z r'
   call_comes h = known (number_of (reg_of r.core 17)) refl h
     where
