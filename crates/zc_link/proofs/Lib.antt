@@ -1,3 +1,4 @@
+pub mod Examples
 pub mod Words
 pub mod Ready
 pub mod Ends
