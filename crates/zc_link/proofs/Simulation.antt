@@ -25,7 +25,7 @@ use Rattle.zc_link.specs.Simulates.{Comes, IsInside, Pace, Simulates, lead_from,
 use Rattle.zc_link.specs.Sound.{NamesWord, Sound}
 use Rattle.zc_link.specs.Stands.{WordStands}
 use Rattle.zc_link.specs.Values.{value_in}
-use Rattle.zc_link.proofs.Apart.{way_cuts_apart}
+use Rattle.zc_link.proofs.Apart.{commits_apart, cuts_apart}
 use Rattle.zc_link.proofs.Induction as induction
 use Rattle.zc_link.proofs.Pieces.{piece_comes, piece_inside, span_some}
 use Rattle.zc_link.proofs.Words.{number_names, number_stands, undef_names, undef_stands}
@@ -109,23 +109,17 @@ module _ (p : Program) (e : Image) (pace : Pace) (laid : Laid p e pace) where
   listed_inside k r r' some lt running h (Some a) is listed = piece_inside p e r r' (laid.piece r.core.place) a k (laid.each r.core.place a is) some lt running h
   listed_inside k r r' some lt running h None is listed = absurd (false≢true listed)
 
-  one_commit : (s : PlainCore) → pace.weight s ≡ 1
-  one_commit s = laid.weights s ∙ alone (laid.piece s.place)
-    where
-      alone : (x : Piece) → commits_of p s x ≡ 1
-      alone Alone = refl
-
   pub simulates : Simulates p e pace
   simulates = record {
     some = λ q. rw (laid.spans q) (span_some (laid.piece q));
     few = laid.few;
     step = λ r r' h cuts are z so same.
         subst (λ k. Comes p e cuts k z r') (sym (laid.weights r.core))
-        (piece_comes p e r r' laid.room cuts are z so same (laid.piece r.core.place) (laid.each r.core.place z.core.pc so.place) (ap (λ k. iterate (plain_turn p) k r) (sym (laid.spans r.core.place)) ∙ h));
+        (piece_comes (laid.piece r.core.place) laid.room cuts are so same (laid.each r.core.place z.core.pc so.place) (ap (λ k. iterate (plain_turn p) k r) (sym (laid.spans r.core.place)) ∙ h));
     inside = λ k r r' some lt listed running h. listed_inside k r r' some (rw (laid.spans r.core.place) at lt) running h (place_address e r.core.place) refl listed;
     start = λ input bytes cuts are. starts input bytes cuts;
-    cuts_apart = λ r k z way c is a b cell small. way_cuts_apart p e pace r laid.room (suc k) z way c a b cell;
-    commits_apart = λ r k z z' more way turn a b cell small. absurd (omega (arith, more, one_commit r.core));
+    cuts_apart = λ r k z way c is a b cell small. cuts_apart laid way c a b cell;
+    commits_apart = λ r k z z' more way turn a b cell small. commits_apart laid more way turn a b cell;
   }
 
   pub follows : FollowsUnder IsPlan p e
