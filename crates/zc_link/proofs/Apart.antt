@@ -1,6 +1,6 @@
 -- Interrupts and cells of data lie apart. An interrupt writes in the stack, a cell lies in data, and the stack begins at or after
 -- data's end: so an interrupt does the same whatever data hold. A piece has one commit so far, of which nothing is asked.
-use Rattle.std.proofs.Common.{◌≡◌, ◌≢◌, ℕ, suc, ◌+◌, ◌<◌, ◌≤◌, List, [], ◌∷◌, Ok, Bool, true, false, cond, refl, sym, ap, ap₂, ◌∙◌, arith, ltb, leb}
+use Rattle.std.proofs.Common.{◌≡◌, ◌≢◌, ℕ, suc, ◌+◌, ◌<◌, List, [], ◌∷◌, Ok, Bool, true, false, cond, refl, sym, ap, ap₂, ◌∙◌, arith, ltb, leb}
 use Rattle.std.specs.Prelude.{◌&&◌}
 use Rattle.std.proofs.lemmas.Bool.{and_parts, leb-true, ltb-true}
 use Rattle.interrupt_plan.specs.Plan.{Cut}

@@ -1,11 +1,11 @@
 -- What interrupts may leave, said of the machine alone: bytes of the stack below sp may hold anything, and all else is as
 -- before (Spoiled). If the program doesn't know these bytes, states that are alike stay so (spoiled_alike).
-use Rattle.std.proofs.Common.{◌≡◌, ℕ, ◌+◌, ◌-◌, ◌<◌, ◌≤◌, List, [], ◌∷◌, length, false, true, refl, sym, ap, ◌∙◌, arith, ltb, leb, ⊎_elim, inl, inr}
+use Rattle.std.proofs.Common.{◌≡◌, ℕ, ◌+◌, ◌-◌, ◌<◌, ◌≤◌, List, [], ◌∷◌, length, true, refl, sym, ap, ◌∙◌, arith, ltb, leb, ⊎_elim, inl, inr}
 use Rattle.std.specs.Prelude.{◌⊎◌, ◌&&◌, All}
 use Rattle.std.proofs.lemmas.Bool.{and_parts, cases_Bool, cases_lt, cond_both, ltb-true}
 use Rattle.std.proofs.lemmas.List.Elements.{All-head, All-tail}
 use Rattle.interrupt_plan.specs.Plan.{Cut, IsCut}
-use Rattle.rv_decode.specs.Memory.{cell_at, changed, extents_of, is_stack, is_text, lies_in, written}
+use Rattle.rv_decode.specs.Memory.{cell_at, changed, extents_of, is_stack, lies_in, written}
 use Rattle.rv_decode.specs.State.{ZcCore, byte_in, reg_in}
 use Rattle.rv_decode.proofs.MemoryLaws.{cell-changed, cell-uncovered, cell_kept, extents-changed, is_covered, untouched}
 use Rattle.sym_machine.specs.declared.word.SymByte.TheVariants.{Undef}
@@ -29,7 +29,9 @@ pub unspoiled : (low n : ℕ) (y : ZcCore) → ((a : ℕ) → byte_in y a < 256)
 unspoiled low n y are = record { rest = refl; extents = refl; bytes = λ a _. refl; are_bytes = are }
 
 -- interrupts, one after another, keep what each keeps
-pub all_cuts_kept : (K : ZcCore → Type 0) → ((c : Cut) (z : ZcCore) → IsCut c → K z → K (cut c z)) → (cuts : List Cut) (z : ZcCore) → All IsCut cuts → K z → K (all_cuts cuts z)
+pub all_cuts_kept :
+    (K : ZcCore → Type 0) → ((c : Cut) (z : ZcCore) → IsCut c → K z → K (cut c z)) → (cuts : List Cut) (z : ZcCore) → All IsCut cuts → K z
+    → K (all_cuts cuts z)
 all_cuts_kept K each [] z are kept = kept
 all_cuts_kept K each (c ∷ cs) z are kept = all_cuts_kept K each cs (cut c z) (All-tail IsCut c cs are) (each c z (All-head IsCut c cs are) kept)
 
@@ -55,8 +57,12 @@ module _ (low : ℕ) (y : ZcCore) (stack : (a : ℕ) → lies_in is_stack (exten
 
       kept : (a : ℕ) → (low ≤ a → reg_in y 2 ≤ a) → cell_at 0 (changed (written at m given) z.memory) a ≡ byte_in z a
       kept a out = ⊎_elim
-          (λ held. cell-changed (written at m given) z.memory a 0 held ∙ untouched at m given a (byte_in z a) (λ l u. let above = out (omega (arith, l, lower)) in omega (arith, above, upper, u)))
-          (λ free. cell-uncovered (changed (written at m given) z.memory) a 0 (ap (λ es. is_covered es a) (extents-changed (written at m given) z.memory) ∙ free) ∙ sym (cell-uncovered z.memory a 0 free))
+          (λ held.
+          cell-changed (written at m given) z.memory a 0 held
+          ∙ untouched at m given a (byte_in z a) (λ l u. let above = out (omega (arith, l, lower)) in omega (arith, above, upper, u)))
+          (λ free.
+          let still = ap (λ es. is_covered es a) (extents-changed (written at m given) z.memory) ∙ free in
+          cell-uncovered (changed (written at m given) z.memory) a 0 still ∙ sym (cell-uncovered z.memory a 0 free))
           (cases_Bool (is_covered (extents_of z.memory) a))
 
   free_below : (a : ℕ) (z : ZcCore) → IsSpoiled z → is_free z a ≡ true → (low ≤ a) × (a + 1 ≤ reg_in y 2)
@@ -107,7 +113,10 @@ module _ {p : Program} {e : Image} (room : Room p e) where
       names = al.names;
       extents = sp.extents ∙ al.extents;
       text = λ a text. ⊎_elim
-          (λ inside. absurd (let no = room.apart a text in let held = room.reaches a 1 (omega arith) (inr (inside.0, omega (arith, inside.1, high))) in cc))
+          (λ inside. absurd (
+          let no_data = room.apart a text in
+          let held = room.reaches a 1 (omega arith) (inr (inside.0, omega (arith, inside.1, high))) in
+          cc))
           (λ out. sp.bytes a out ∙ al.text a text)
           (where_is a);
       table = λ elsewhere. ap (λ x. x.jvt) sp.rest ∙ al.table elsewhere;

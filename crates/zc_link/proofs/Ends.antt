@@ -6,7 +6,7 @@ use Rattle.std.proofs.lemmas.Bool.{and_from, and_parts, cond-true, cond_both, le
 use Rattle.std.proofs.lemmas.List.{append-nil}
 use Rattle.zc_base.specs.declared.mem_map.MemMap.{MemMap}
 use Rattle.zc_base.specs.declared.place.Place.{Place}
-use Rattle.rv_decode.specs.Memory.{cell_at, changed}
+use Rattle.rv_decode.specs.Memory.{changed}
 use Rattle.rv_decode.specs.State.{Event, ZcCore, ZcState, byte_in, reg_in}
 use Rattle.rv_decode.proofs.MemoryLaws.{cell-changed_default}
 use Rattle.sym_machine.specs.declared.why.Why.TheVariants.{StackPointer}

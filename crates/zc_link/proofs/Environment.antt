@@ -25,7 +25,9 @@ use Rattle.zc_link.proofs.Ends.{Ended, ends_stands}
 use Rattle.zc_link.proofs.Singles.{FromSound}
 use Rattle.zc_link.proofs.Words.{number_is}
 
-module _ {p : Program} {e : Image} {r r' : PlainState} {cuts : ℕ → List Cut} {z : ZcState} (room : Room p e) (from : FromSound p e r r' cuts z) (laid : OpLaid p e r.core.place z.core.pc Ecall) where
+module _
+    {p : Program} {e : Image} {r r' : PlainState} {cuts : ℕ → List Cut} {z : ZcState} (room : Room p e) (from : FromSound p e r r' cuts z)
+    (laid : OpLaid p e r.core.place z.core.pc Ecall) where
   -- the state that asks
   w : AfterCuts p e laid.laid.here laid.laid.at.size r.core (cuts 0) z
   w = after_cuts room (cuts 0) (from.are 0) laid.laid.at from.sound.alike

@@ -1,6 +1,6 @@
 -- Where the regions of memory lie: no interrupt, no cell of data and no commit changes it, so on every way from a sound pair they
 -- lie as they were loaded.
-use Rattle.std.proofs.Common.{◌≡◌, ℕ, suc, ◌+◌, ◌%◌, List, [], ◌∷◌, Option, Some, None, Ok, Bool, true, false, cond, refl, ap, ◌∙◌, eqb}
+use Rattle.std.proofs.Common.{◌≡◌, ℕ, ◌+◌, ◌%◌, List, [], ◌∷◌, Option, Some, None, Ok, Bool, true, false, cond, refl, ap, ◌∙◌, eqb}
 use Rattle.std.proofs.lemmas.Bool.{cond_both}
 use Rattle.interrupt_plan.specs.Plan.{Cut}
 use Rattle.rv_decode.specs.declared.instr.Instr.{Instr}

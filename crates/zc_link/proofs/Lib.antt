@@ -11,5 +11,6 @@ pub mod Items
 pub mod Pieces
 pub mod Extents
 pub mod Apart
+pub mod Start
 pub mod Induction
 pub mod Simulation

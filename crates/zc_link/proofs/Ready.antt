@@ -1,6 +1,6 @@
 -- States stay Ready if they move to another place and pc, and if a register is set in both: what an instruction changes is a
 -- chain of such changes.
-use Rattle.std.proofs.Common.{◌≡◌, ℕ, ◌^◌, ◌<◌, None, refl, ◌∙◌, sym}
+use Rattle.std.proofs.Common.{ℕ, ◌^◌, ◌<◌, None, refl, ◌∙◌, sym}
 use Rattle.zc_base.specs.declared.place.Place.{Place}
 use Rattle.rv_decode.specs.State.{ZcCore, set_reg}
 use Rattle.rv_decode.proofs.RegisterLaws.{length-set_reg, set_reg_both, set_reg_core, set_reg_each}
