@@ -6,16 +6,16 @@ use Rattle.elf32_read.specs.Image.{load_passes_end}
 use Rattle.elf32_read.specs.Segments.{loads_of}
 use Rattle.elf32_read.specs.declared.header.ProgramHeader.{ProgramHeader}
 use Rattle.elf32_read.proofs.Listed.{list_any_listed, list_any-filter}
-use Rattle.elf32_read.proofs.bounds.has_cut_load.Goals as goal
+use Rattle.elf32_read.proofs.bounds.has_truncated_load.Goals as goal
 
 -- the segment at hand passes the end
-pub returns-then-is_load_cut : goal.returns-then-is_load_cut
+pub returns-then-is_load_truncated : goal.returns-then-is_load_truncated
 unfolding loads_of
-returns-then-is_load_cut c =
+returns-then-is_load_truncated c =
     let bytes = c.args.bytes.now in
-    let cut : ProgramHeader → Bool = λ header. header.kind == 1 && load_passes_end bytes header in
+    let passes : ProgramHeader → Bool = λ header. header.kind == 1 && load_passes_end bytes header in
     let inside : c.loop-i.i < program_count bytes = omega arith in
-    let some = list_any_listed cut (program_header_of bytes) (program_count bytes) c.loop-i.i inside (sym c.is_load_cut.ensures ∙ c.if-is_load_cut.true) in
+    let some = list_any_listed passes (program_header_of bytes) (program_count bytes) c.loop-i.i inside (sym c.is_load_truncated.ensures ∙ c.if-is_load_truncated.true) in
     sym (list_any-filter (λ header. header.kind == 1) (load_passes_end bytes) (program_headers_of bytes) ∙ some)
 
 -- none does
@@ -23,7 +23,7 @@ pub returns : goal.returns
 unfolding loads_of
 returns c =
     let bytes = c.args.bytes.now in
-    let cut : ProgramHeader → Bool = λ header. header.kind == 1 && load_passes_end bytes header in
+    let passes : ProgramHeader → Bool = λ header. header.kind == 1 && load_passes_end bytes header in
     let all : program_count bytes ≡ c.loop-i.i = omega arith in
-    let none = ap (λ n. list_any cut (map (program_header_of bytes) (range_with_len 0 n))) all ∙ c.loop-i.invariant in
+    let none = ap (λ n. list_any passes (map (program_header_of bytes) (range_with_len 0 n))) all ∙ c.loop-i.invariant in
     sym (list_any-filter (λ header. header.kind == 1) (load_passes_end bytes) (program_headers_of bytes) ∙ none)
