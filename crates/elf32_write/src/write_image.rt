@@ -4,7 +4,6 @@ ghost use Rattle.std.specs.Prelude.{◌≡◌, ◌++◌, IfOk, OnOk};
 ghost use Rattle.std.specs.List.{flat_map};
 ghost use Rattle.elf32_write.specs.Image.{image_bytes, place_bytes, Fits};
 ghost use Rattle.elf32_write.specs.Loadable.{IsLoadable, ReadsBack};
-ghost use Rattle.elf32_write.specs.Parts.{parts_of};
 ghost use Rattle.zc_base.specs.declared.mem_map.MemMap.{MemMap};
 
 use crate::fields::{push_half, push_padded, push_word};
@@ -40,11 +39,11 @@ fn push_places(out: &mut Vec<u8>, places: &[(Place, u32)]) -> Result<(), AllocEr
 /// The file of an image with these parts, in time linear in its length.
 #[tactic(auto, unfolding(crate::specs::Image::image_bytes))]
 pub fn write_image(alloc: Global, parts: &ImageParts) -> Result<Vec<u8>, AllocError>
-    requires { Fits (parts_of parts.now) }
-    ensures bytes { IfOk result (λ file. file.items ≡ image_bytes (parts_of parts.now)) }
+    requires { Fits parts.now }
+    ensures bytes { IfOk result (λ file. file.items ≡ image_bytes parts.now) }
     // Under a memory map that the parts are made for.
-    ensures reads_back { (memory : MemMap) → IsLoadable (parts_of parts.now) memory →
-        IfOk result (λ file. ReadsBack (parts_of parts.now) memory file.items) }
+    ensures reads_back { (memory : MemMap) → IsLoadable parts.now memory →
+        IfOk result (λ file. ReadsBack parts.now memory file.items) }
 {
     let offsets = offsets_of(parts);
     let mut file = Vec::with_capacity(alloc, offsets.sections as usize + SECTION_HEADERS_SIZE)?;

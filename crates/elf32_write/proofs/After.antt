@@ -1,4 +1,4 @@
--- What is read behind other bytes: fields, parts, and rows of one size.
+-- What is read after other bytes: fields, parts, and rows of one size.
 use Rattle.std.proofs.Common.{◌≡◌, ℕ, ◌+◌, ◌*◌, ◌/◌, ◌%◌, ◌^◌, ◌<◌, List, [], ◌∷◌, ◌++◌, length, take, drop, map, refl, sym, ap, ◌∙◌, arith, append_assoc, length-append}
 use Rattle.std.specs.Prelude.{All}
 use Rattle.std.specs.List.{flat_map, range_with_len}
@@ -13,7 +13,7 @@ word_of_bytes v lt = omega arith
 pub half_of_bytes : (v : ℕ) → v < 2 ^ 16 → v % 256 + 256 * (v / 256 % 256) ≡ v
 half_of_bytes v lt = omega arith
 
--- a field behind other bytes
+-- a field after other bytes
 pub word_in-append : (front rest : List ℕ) (at k : ℕ) → at ≡ length front + k → word_in (front ++ rest) at ≡ word_in rest k
 unfolding word_in
 word_in-append front rest at k e =
@@ -39,7 +39,7 @@ pub part_between : {A : Type 0} (bytes front part rest : List A) (at n : ℕ) �
 part_between bytes front part rest at n e start size =
     ap (λ l. take n (drop at l)) e ∙ ap (take n) (drop_at front (part ++ rest) at (sym start)) ∙ take_at part rest n (sym size)
 
--- Rows of one size, each of which reads back behind whatever stands before it, read back in order.
+-- Rows of one size, each of which reads back after whatever stands before it, read back in order.
 pub rows_back : {X : Type 0} (read : List ℕ → ℕ → X) (write : X → List ℕ) (size : ℕ) (IsRow : X → Type 0) (at : ℕ → ℕ) → ((front rest : List ℕ) (x : X) → IsRow x → read (front ++ (write x ++ rest)) (length front) ≡ x) → ((x : X) → length (write x) ≡ size) → ((k : ℕ) → at (k + 1) ≡ at k + size) → (bytes front : List ℕ) (xs : List X) (rest : List ℕ) (k : ℕ) → bytes ≡ front ++ (flat_map write xs ++ rest) → at k ≡ length front → All IsRow xs → map (λ i. read bytes (at i)) (range_with_len k (length xs)) ≡ xs
 rows_back read write size IsRow at back long next bytes front [] rest k e start rows = refl
 rows_back read write size IsRow at back long next bytes front (x ∷ xs) rest k e start rows =
