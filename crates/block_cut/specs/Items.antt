@@ -75,3 +75,7 @@ item_at objects q = option_and_then (item_from objects q) (code_at objects q)
 -- whether an item starts at a place and leads a basic block: so far the first item of a section alone
 abbrev pub is_leader_at : List ObjectParts → Place → Bool
 is_leader_at objects q = q.offset == 0
+
+-- where a program starts: at the first byte of section 1 of the first object, while symbols aren't read
+abbrev pub entry_of : List ObjectParts → Place
+entry_of objects = record { object = 0; section = 1; offset = 0 }

@@ -1,17 +1,30 @@
 -- What the symbolic machine knows of the objects.
-use Rattle.std.specs.Prelude.{ℕ, List, Option}
+use Rattle.std.specs.Prelude.{ℕ, ◌+◌, ◌-◌, Bool, List, [], ◌∷◌, length, Option}
 use Rattle.zc_base.specs.declared.mem_map.MemMap.{MemMap}
 use Rattle.zc_base.specs.declared.place.Place.{Place}
 use Rattle.block_cut.specs.declared.item.Item.{Item}
-use Rattle.rv_decode.specs.Memory.{Region}
+use Rattle.rv_decode.specs.Memory.{Region, Data, Stack, blank}
 use Rattle.sym_machine.specs.declared.word.SymByte.{SymByte}
+use Rattle.sym_machine.specs.declared.word.SymByte.TheVariants.{Undef}
 
--- the item at a place, the place behind it, the place of the program's start, where data and the stack lie (data
--- from the map's start of data to data_end), and the first bytes of both
+-- the item at a place, the place after it, whether a place is the end of a section of code, and whether the item there leads
+-- a basic block; the place of the program's start; where memory lies; and the bytes of data, from the map's start of data on
 pub record Program : Type 0 where
   pub item : Place → Option Item
   pub next : Place → Place
+  pub is_end : Place → Bool
+  pub is_leader : Place → Bool
   pub entry : Place
   pub map : MemMap
-  pub data_end : ℕ
-  pub first_memory : List (Region SymByte)
+  pub bytes : List SymByte
+
+-- the address after the data's last byte
+abbrev pub data_end : Program → ℕ
+data_end p = p.map.data_low + length p.bytes
+
+-- memory at the start: the data, and a stack that nothing was written to
+abbrev pub first_memory : Program → List (Region SymByte)
+first_memory p =
+    record { kind = Data; at = p.map.data_low; cells = p.bytes }
+    ∷ record { kind = Stack; at = p.map.stack_low; cells = blank (p.map.stack_high - p.map.stack_low) Undef }
+    ∷ []

@@ -7,10 +7,10 @@ use Rattle.sym_machine.specs.Program.{Program}
 use Rattle.sym_machine.specs.State.{PlainState, first_plain}
 use Rattle.sym_machine.specs.Step.{PlainStep, Went, Stuck, plain_step}
 
--- the events of a step stand behind those before it
+-- the events of a step come after those before it; a program that is stuck is stuck at its place
 abbrev pub recorded : PlainStep → PlainState → Result PlainState (Place × Why)
 recorded (Went s events) r = Ok (record { core = s; events = r.events ++ events })
-recorded (Stuck place why) r = Err (place, why)
+recorded (Stuck why) r = Err (r.core.place, why)
 
 -- one step, with the events so far
 unfoldable pub plain_turn : Program → PlainState → Result PlainState (Place × Why)

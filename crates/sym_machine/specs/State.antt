@@ -1,5 +1,5 @@
 -- The state of the symbolic machine.
-use Rattle.std.specs.Prelude.{ℕ, List, Option, None, slice_index_or}
+use Rattle.std.specs.Prelude.{◌≡◌, ℕ, ◌<◌, ◌==◌, if◌then◌else◌, List, length, All, Option, None, slice_index_or}
 use Rattle.zc_base.specs.declared.place.Place.{Place}
 use Rattle.rv_decode.specs.Memory.{Region, cell_at}
 use Rattle.rv_decode.specs.State.{Event, start_regs}
@@ -7,7 +7,7 @@ use Rattle.sym_machine.specs.declared.word.SymByte.{SymByte}
 use Rattle.sym_machine.specs.declared.word.SymByte.TheVariants.{Undef}
 use Rattle.sym_machine.specs.declared.word.SymWord.{SymWord}
 use Rattle.sym_machine.specs.Words.{undef_word, number_word}
-use Rattle.sym_machine.specs.Program.{Program}
+use Rattle.sym_machine.specs.Program.{Program, first_memory}
 
 -- what the machine itself keeps: the place of the next item, 32 registers, the bytes of data and stack, the input
 -- that is left, and the exit's status
@@ -23,20 +23,25 @@ pub record PlainState : Type 0 where
   pub core : PlainCore
   pub events : List Event
 
--- what a register holds
+-- what a register holds; register 0 holds the number 0
 abbrev pub reg_of : PlainCore → ℕ → SymWord
-reg_of s r = slice_index_or s.regs r undef_word
+reg_of s r = if r == 0 then number_word 0 else slice_index_or s.regs r undef_word
 
 -- the byte at an address of data or of the stack
 abbrev pub cell_of : PlainCore → ℕ → SymByte
 cell_of s a = cell_at Undef s.memory a
 
--- the state at the start: x0 is 0, sp the stack's end, and the other registers are undefined
+-- a state: 32 registers, and input of bytes
+pub record IsPlainState (s : PlainCore) : Type 0 where
+  pub count : length s.regs ≡ 32
+  pub input : All (λ b. b < 256) s.input
+
+-- the state at the start: sp is the stack's end, and the other registers are undefined
 abbrev pub first_plain : Program → List ℕ → PlainCore
 first_plain p input = record {
   place = p.entry;
   regs = start_regs (number_word 0) (number_word p.map.stack_high) undef_word;
-  memory = p.first_memory;
+  memory = first_memory p;
   input = input;
   exit = None;
 }

@@ -1,6 +1,12 @@
 pub mod Places
+pub mod Image
 pub mod Values
 pub mod Stands
-pub mod Image
+pub mod Sound
+pub mod Simulates
 pub mod Preserves
+pub mod Room
+pub mod Pieces
 pub mod Laid
+pub mod Straight
+pub mod Linked

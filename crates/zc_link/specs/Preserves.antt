@@ -1,44 +1,52 @@
--- The image does what the program does: of the two as records, and of the bytes of the objects and of the file.
+-- The image does what the program does: said of the two as records, and of the files of the objects and of the image.
 use Rattle.std.specs.Prelude.{◌≡◌, ℕ, ◌+◌, ◌*◌, ◌<◌, ◌≤◌, ◌⊎◌, List, [], All, IsSome, Some, Ok}
-use Rattle.interrupt_plan.specs.Plan.{Cut, IsPlan}
+use Rattle.interrupt_plan.specs.Plan.{Entry, IsPlan}
 use Rattle.rv_decode.specs.State.{ZcState}
+use Rattle.psabi_sym.specs.Inputs.{Inputs, parsed}
 use Rattle.sym_machine.specs.Program.{Program}
 use Rattle.sym_machine.specs.State.{PlainState}
 use Rattle.sym_machine.specs.Run.{plain}
 use Rattle.sym_machine.specs.Objects.{program_of}
 use Rattle.zc_link.specs.Image.{Image, image_in, place_address, zc}
+use Rattle.zc_link.specs.Simulates.{Simulates, pace_of}
 use Rattle.zc_link.specs.Stands.{Stands}
 
--- the same environment calls so far; and where the place is listed, or the program has exited, each register and
--- each byte of data and stack is what the program has there, unless that is undefined
+-- the same environment calls so far; and if the place is listed, or the program has exited, each register and each byte of
+-- data and stack is what the program has there, unless that is undefined
 pub record Follows (p : Program) (e : Image) (s : PlainState) (z : ZcState) : Type 0 where
   pub events : z.events ≡ s.events
   pub stands : IsSome (place_address e s.core.place) ⊎ IsSome s.core.exit → Stands p (place_address e) s.core z
 
 -- for each input, and for each number n of steps that the program makes without getting stuck, there is a number of
--- commits, the same for all these plans, behind which the image follows the program
-abbrev pub FollowsUnder : (List Cut → Type 0) → Program → Image → Type 0
+-- commits, the same for all these plans, after which the image follows the program
+abbrev pub FollowsUnder : (List Entry → Type 0) → Program → Image → Type 0
 FollowsUnder Allowed p e =
     (input : List ℕ) (n : ℕ) (s : PlainState) → All (λ b. b < 256) input → plain p input n ≡ Ok s →
     (m : ℕ) × (m ≤ 64 * n + 3)
-    × ((plan : List Cut) → Allowed plan → (z : ZcState) × (zc e input plan m ≡ Ok z) × Follows p e s z)
+    × ((plan : List Entry) → Allowed plan → (z : ZcState) × (zc e input plan m ≡ Ok z) × Follows p e s z)
 
 -- a plan without interrupts
-abbrev pub IsQuiet : List Cut → Type 0
+abbrev pub IsQuiet : List Entry → Type 0
 IsQuiet plan = plan ≡ []
 
--- ---- bytes
+-- ---- files
 
 -- the file is an image without a fault, and under these plans it does what the objects' program does
-pub record PreservesUnder (Allowed : List Cut → Type 0) (objects : List (List ℕ)) (elf : List ℕ) : Type 0 where
+pub record PreservesUnder (Allowed : List Entry → Type 0) (inputs : Inputs) (elf : List ℕ) : Type 0 where
   pub image : Image
-  pub read : image_in elf ≡ Some image
-  pub follows : FollowsUnder Allowed (program_of objects) image
+  pub read : image_in elf inputs.map ≡ Some image
+  pub follows : FollowsUnder Allowed (program_of (parsed inputs)) image
 
 -- under every plan of interrupts
-abbrev pub Preserves : List (List ℕ) → List ℕ → Type 0
-Preserves objects elf = PreservesUnder IsPlan objects elf
+abbrev pub Preserves : Inputs → List ℕ → Type 0
+Preserves inputs elf = PreservesUnder IsPlan inputs elf
 
 -- without interrupts
-abbrev pub PreservesQuietly : List (List ℕ) → List ℕ → Type 0
-PreservesQuietly objects elf = PreservesUnder IsQuiet objects elf
+abbrev pub PreservesQuietly : Inputs → List ℕ → Type 0
+PreservesQuietly inputs elf = PreservesUnder IsQuiet inputs elf
+
+-- the file is an image without a fault, and it keeps step with the objects' program
+pub record KeepsStep (inputs : Inputs) (elf : List ℕ) : Type 0 where
+  pub image : Image
+  pub read : image_in elf inputs.map ≡ Some image
+  pub simulates : Simulates (program_of (parsed inputs)) image (pace_of (parsed inputs))

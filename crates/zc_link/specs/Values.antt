@@ -1,4 +1,4 @@
--- What the symbolic machine's values are in an image, where A gives the addresses of places
+-- What the symbolic machine's values are in an image in which A gives the addresses of places
 -- (RISC-V ELF psABI, "Relocations").
 use Rattle.std.specs.Prelude.{ℕ, ◌+◌, ◌-◌, ◌*◌, ◌%◌, ◌^◌, Option, Some, None}
 use Rattle.std.specs.Option.{option_map, option_and_then}

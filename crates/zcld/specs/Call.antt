@@ -1,140 +1,125 @@
--- What a call of the program means: when each outcome comes, and what stands then.
-use Rattle.std.specs.Prelude.{◌≡◌, ℕ, ◌≤◌, ◌⊎◌, List, length, Option, Some, None, ⊤}
-use Rattle.zc_base.specs.MemMap.{standard_map}
-use Rattle.elf32_read.specs.declared.fault.Fault.{Fault}
-use Rattle.elf32_read.specs.declared.image_fault.ImageFault.{ImageFault}
-use Rattle.elf32_read.specs.Image.{image_fault}
-use Rattle.zc_outside.specs.Files.{Files, KeepsFiles, Rose}
+-- What a call of the program does: what its command does up to a world, and from there the outcome's line.
+use Rattle.std.specs.Prelude.{◌≡◌, ℕ, ◌⊎◌, Bool, true, false, IsTrue, OnTrue, List, [], Option, Some, None, ⊤}
+use Rattle.std.specs.Option.{option_map}
+use Rattle.zc_outside.specs.Desk.{Desk, OnlyWrites}
+use Rattle.zc_outside.specs.Files.{Files, Rose}
 use Rattle.zc_outside.specs.Streams.{Adds, AddsPart, KeepsBytes}
-use Rattle.zcld.specs.declared.outcome.FileFault.TheVariants.{Image}
+use Rattle.zc_outside.specs.Wanted.{AreHeld, AreRead, IsOneLong, Wanted}
+use Rattle.zc_outside.specs.World.{World}
+use Rattle.zcld.specs.declared.input.TheConstants.{INPUT_LIMIT}
 use Rattle.zcld.specs.declared.outcome.Outcome.{Outcome}
-use Rattle.zcld.specs.declared.outcome.Outcome.TheVariants.{Usage, Refused, OutOfMemory, BadFile}
+use Rattle.zcld.specs.declared.outcome.Outcome.TheVariants.{Usage, ReadFault, WriteFault, OutOfMemory}
 use Rattle.zcld.specs.Command.{Command, Run, Trace, Zc}
 use Rattle.zcld.specs.ErrLine.{err_line}
-use Rattle.zcld.specs.Input.{IsShortInput, RoseAbove, input_limit}
-use Rattle.zcld.specs.Machines.{SureMachine}
-use Rattle.zcld.specs.Outside.{KeepsStreams, Streams, TakesNothing, Tally, image_limit, object_limit}
-use Rattle.zcld.specs.Refusal.{first_fault}
-use Rattle.zcld.specs.Run.{RunAnswers, RunCause, RunShows, RunTakes}
-use Rattle.zcld.specs.Trace.{TraceAnswers, TraceCause, TraceShows, TraceTakes}
-use Rattle.zcld.specs.Zc.{SureZc, ZcAnswers, ZcCause, ZcFiles, ZcPuts}
+use Rattle.zcld.specs.Input.{IsShortInput, RoseAbove}
+use Rattle.zcld.specs.Objects.{objects_refusal, objects_wanted}
+use Rattle.zcld.specs.Run.{RunWork, image_refusal, image_wanted}
+use Rattle.zcld.specs.Task.{Performs, Task}
+use Rattle.zcld.specs.Trace.{TraceWork}
+use Rattle.zcld.specs.Zc.{ZcWork}
 
--- ---- standard error
+-- ---- the commands
 
--- the line stands behind what was there, or, where it could not all be written, a part of it
-abbrev pub WritesLine : Option (List ℕ) → Option (List ℕ) → List ℕ → Type 0 → Type 0
-WritesLine before after text refused = Adds before after text ⊎ (refused × AddsPart before after text)
+-- what each command does outside
+abbrev pub task_of : Command → Task
+task_of (Zc out cert objects) =
+    record { wanted = objects_wanted objects; refusal = objects_refusal; puts = true; takes = false; writes = false }
+task_of (Run steps image) =
+    record { wanted = image_wanted image; refusal = image_refusal; puts = false; takes = true; writes = true }
+task_of (Trace steps objects) =
+    record { wanted = objects_wanted objects; refusal = objects_refusal; puts = false; takes = true; writes = false }
 
--- ---- the command of a call
+-- the work of each command, once its files are read and accepted
+abbrev pub work_of : Command → List (List ℕ) → Outcome → World → World → Type 0
+work_of (Zc out cert objects) = ZcWork out cert
+work_of (Run steps image) = RunWork steps
+work_of (Trace steps objects) = TraceWork steps
 
--- the files after a call, by its command and outcome
-abbrev pub CallFiles : Option Command → Outcome → Option Files → Option Files → Type 0
-CallFiles None outcome before after = KeepsFiles before after
-CallFiles (Some (Zc out cert name)) outcome before after = ZcFiles outcome before after out cert name
-CallFiles (Some (Run steps name)) outcome before after = KeepsFiles before after
-CallFiles (Some (Trace steps name)) outcome before after = KeepsFiles before after
+-- what words do: without a command it is Usage, and nothing is done
+abbrev pub Does : Option Command → List (List ℕ) → Outcome → World → World → Type 0
+Does None files outcome before after = (outcome ≡ Usage) × (after ≡ before)
+Does (Some command) files outcome before after = Performs (task_of command) (work_of command) files outcome before after
 
--- the streams that a command leaves, by its outcome
-abbrev pub CommandShows : Option Command → Outcome → Option Files → Streams → Streams → Type 0
-CommandShows None outcome files before after = KeepsStreams before after
-CommandShows (Some (Zc out cert name)) outcome files before after = KeepsStreams before after
-CommandShows (Some (Run steps name)) outcome files before after = RunShows outcome files name steps before after
-CommandShows (Some (Trace steps name)) outcome files before after = TraceShows outcome files name steps before after
+-- ---- the outcome's line
 
--- the streams after a call: those that its command leaves, and then the outcome's line, which leaves the
--- input and the output as they are
-pub record CallShows (command : Option Command) (outcome : Outcome) (files : Option Files) (before after : Streams) (refused : Type 0) : Type 0 where
-  pub left : Streams
-  pub shown : CommandShows command outcome files before left
-  pub input : KeepsBytes left.input after.input
-  pub out : KeepsBytes left.out after.out
-  pub line : WritesLine left.err after.err (err_line outcome) refused
+-- the text stands on standard error after what was there; or it could not all be written, and a part of it stands
+abbrev pub WritesLine : List ℕ → Desk → Desk → Type 0
+WritesLine text before after =
+    Adds before.err after.err text
+    ⊎ ((Rose before.write_faults after.write_faults ⊎ Rose before.memory_faults after.memory_faults) × AddsPart before.err after.err text)
 
--- when a call ends so: without a command it is Usage
-abbrev pub CallCause : Option Command → Outcome → Option Files → Option (List ℕ) → Tally → Tally → Type 0
-CallCause None outcome files told before after = outcome ≡ Usage
-CallCause (Some (Zc out cert name)) outcome files told before after =
-    ZcCause outcome files name before.reads after.reads before.longs after.longs before.writes after.writes
-CallCause (Some (Run steps name)) outcome files told before after = RunCause outcome files name told before after
-CallCause (Some (Trace steps name)) outcome files told before after = TraceCause outcome files name told before after
+-- nothing but that
+pub record Reports (text : List ℕ) (before after : World) : Type 0 where
+  pub shelf : after.shelf ≡ before.shelf
+  pub out : KeepsBytes before.desk.out after.desk.out
+  pub line : WritesLine text before.desk after.desk
+  pub only : OnlyWrites before.desk after.desk
 
--- a call that takes no input leaves what the console counts of it, by its command and outcome
-abbrev pub CallTakes : Option Command → Outcome → Tally → Tally → Type 0
-CallTakes None outcome before after = TakesNothing before after
-CallTakes (Some (Zc out cert name)) outcome before after = TakesNothing before after
-CallTakes (Some (Run steps name)) outcome before after = RunTakes outcome before after
-CallTakes (Some (Trace steps name)) outcome before after = TraceTakes outcome before after
+-- ---- what follows for the outside
 
--- a call that puts nothing leaves what the store counts of it
-abbrev pub CallPuts : Option Command → Outcome → ℕ → ℕ → Type 0
-CallPuts None outcome writes writes' = writes' ≡ writes
-CallPuts (Some (Zc out cert name)) outcome writes writes' = ZcPuts outcome writes writes'
-CallPuts (Some (Run steps name)) outcome writes writes' = writes' ≡ writes
-CallPuts (Some (Trace steps name)) outcome writes writes' = writes' ≡ writes
+-- the store tells that these are the files' bytes, and each is within its limit
+abbrev pub TellsAll : Option Files → List Wanted → List (List ℕ) → Type 0
+TellsAll None wanted files = ⊥
+TellsAll (Some told) wanted files = AreRead (Some told) wanted files
 
--- a call without a command reads no file
-abbrev pub CallReads : Option Command → Tally → Tally → Type 0
-CallReads None before after = (after.reads ≡ before.reads) × (after.longs ≡ before.longs)
-CallReads (Some command) before after = ⊤
+-- no fault of reading files was counted
+pub record IsFileRead (before after : World) : Type 0 where
+  pub reads : ¬ Rose before.shelf.read_faults after.shelf.read_faults
+  pub longs : ¬ Rose before.shelf.long_files after.shelf.long_files
 
--- ---- completeness
+-- nothing was counted that can stop such a command
+pub record IsClean (task : Task) (before after : World) : Type 0 where
+  pub read : IsFileRead before after
+  pub put : IsTrue task.puts → ¬ Rose before.shelf.write_faults after.shelf.write_faults
+  pub taken : IsTrue task.takes → (¬ Rose before.desk.read_faults after.desk.read_faults) × (¬ RoseAbove INPUT_LIMIT before.desk.taken after.desk.taken)
+  pub written : IsTrue task.writes → ¬ Rose before.desk.write_faults after.desk.write_faults
 
--- the store tells that the name has these bytes, no more than this
-abbrev pub TellsFile : ℕ → Option Files → List ℕ → List ℕ → Type 0
-TellsFile limit None name file = ⊥
-TellsFile limit (Some f) name file = (f name ≡ Some file) × (length file ≤ limit)
+-- the store is sure, and if the command takes input, so is the console, and it tells an input that isn't too long
+pub record IsSure (task : Task) (before : World) : Type 0 where
+  pub store : IsTrue before.shelf.sure
+  pub console : IsTrue task.takes → IsTrue before.desk.sure × IsShortInput before.desk.input
 
--- the words spell a command, and the store tells the file that it reads
-abbrev pub CanRead : Option Command → Option Files → List ℕ → Type 0
-CanRead None files file = ⊥
-CanRead (Some (Zc out cert name)) files file = TellsFile object_limit files name file
-CanRead (Some (Run steps name)) files file = TellsFile image_limit files name file
-CanRead (Some (Trace steps name)) files file = TellsFile object_limit files name file
+-- the outcome is no fault of the outside
+pub record IsNoFault (outcome : Outcome) : Type 0 where
+  pub no_read : outcome ≡ ReadFault → ⊥
+  pub no_write : outcome ≡ WriteFault → ⊥
 
--- no fault of reading its file was counted
-abbrev pub IsFileRead : Tally → Tally → Type 0
-IsFileRead before after = (¬ Rose before.reads after.reads) × (¬ Rose before.longs after.longs)
+-- what a command's outcome says, if its files are told:
+pub record Answers (task : Task) (outcome : Outcome) (files : List (List ℕ)) (before after : World) : Type 0 where
+  -- a refusal that their bytes have is named, whatever else goes wrong
+  pub names : (refused : Outcome) → task.refusal files ≡ Some refused → IsFileRead before after → (outcome ≡ refused) ⊎ (outcome ≡ OutOfMemory)
+  -- with nothing counted, and over an outside that is sure, it is no fault of the outside
+  pub complete : IsClean task before after → IsNoFault outcome
+  pub sure : IsSure task before → IsNoFault outcome
 
--- a fault that stands in the file is named, or memory ran out
-abbrev pub NamesFault : Option Command → Outcome → List ℕ → Type 0
-NamesFault None outcome file = ⊥
-NamesFault (Some (Zc out cert name)) outcome file =
-    (fault : Fault) → first_fault file ≡ Some fault → (outcome ≡ Refused 0 fault) ⊎ (outcome ≡ OutOfMemory)
-NamesFault (Some (Run steps name)) outcome file =
-    (fault : ImageFault) → image_fault file standard_map ≡ Some fault → (outcome ≡ BadFile (Image fault)) ⊎ (outcome ≡ OutOfMemory)
-NamesFault (Some (Trace steps name)) outcome file =
-    (fault : Fault) → first_fault file ≡ Some fault → (outcome ≡ Refused 0 fault) ⊎ (outcome ≡ OutOfMemory)
+-- what an outside that is sure counts
+pub record Counts (task : Task) (before after : World) : Type 0 where
+  -- a store that is sure and holds the files counts no fault, and a long file only if one of them is
+  pub store :
+      IsTrue before.shelf.sure → AreHeld before.shelf.files task.wanted →
+      (after.shelf.read_faults ≡ before.shelf.read_faults) × (after.shelf.write_faults ≡ before.shelf.write_faults)
+      × ((after.shelf.long_files ≡ before.shelf.long_files) ⊎ IsOneLong before.shelf.files task.wanted)
+  -- a console that is sure counts no fault
+  pub console :
+      IsTrue before.desk.sure →
+      (after.desk.read_faults ≡ before.desk.read_faults) × (after.desk.write_faults ≡ before.desk.write_faults)
+  -- both stay so
+  pub stays : (after.shelf.sure ≡ before.shelf.sure) × (after.desk.sure ≡ before.desk.sure)
 
--- nothing was counted that can stop a command
-abbrev pub IsClean : Option Command → Tally → Tally → Type 0
-IsClean None before after = ⊤
-IsClean (Some (Zc out cert name)) before after =
-    IsFileRead before after × (¬ Rose before.writes after.writes)
-IsClean (Some (Run steps name)) before after =
-    IsFileRead before after × (¬ Rose before.console_reads after.console_reads)
-    × (¬ RoseAbove input_limit before.taken after.taken) × (¬ Rose before.console_writes after.console_writes)
-IsClean (Some (Trace steps name)) before after =
-    IsFileRead before after × (¬ Rose before.console_reads after.console_reads)
-    × (¬ RoseAbove input_limit before.taken after.taken)
+-- this holds of the words' task, if they spell a command
+abbrev pub IfCommand : Option Command → (Task → Type 0) → Type 0
+IfCommand None P = ⊤
+IfCommand (Some command) P = P (task_of command)
 
--- the answer that the file's bytes have, or want of memory
-abbrev pub Answers : Option Command → Outcome → List ℕ → Type 0
-Answers None outcome file = ⊥
-Answers (Some (Zc out cert name)) outcome file = ZcAnswers outcome (first_fault file)
-Answers (Some (Run steps name)) outcome file = RunAnswers outcome (image_fault file standard_map)
-Answers (Some (Trace steps name)) outcome file = TraceAnswers outcome (first_fault file)
+-- ---- the call
 
--- the same of a call, by its command; a machine needs a sure console too
-abbrev pub SureCall : Option Command → Type 0 → Outcome → Option Files → Option (List ℕ) → Tally → Tally → Type 0
-SureCall None sure outcome files told before after = ⊤
-SureCall (Some (Zc out cert name)) sure outcome files told before after =
-    SureZc outcome files name before.reads after.reads before.longs after.longs before.writes after.writes
-SureCall (Some (Run steps name)) sure outcome files told before after = sure → SureMachine image_limit outcome files name told before after
-SureCall (Some (Trace steps name)) sure outcome files told before after = sure → SureMachine object_limit outcome files name told before after
-
--- a command that takes input has a sure console that tells no more of it than may be taken
-abbrev pub CanTake : Option Command → Type 0 → Option (List ℕ) → Type 0
-CanTake None sure told = ⊤
-CanTake (Some (Zc out cert name)) sure told = ⊤
-CanTake (Some (Run steps name)) sure told = sure × IsShortInput told
-CanTake (Some (Trace steps name)) sure told = sure × IsShortInput told
+-- the command did this up to a world, and from there the outcome's line was written
+pub record Calls (command : Option Command) (outcome : Outcome) (before after : World) : Type 0 where
+  -- the files that were read
+  pub files : List (List ℕ)
+  pub left : World
+  pub does : Does command files outcome before left
+  pub line : Reports (err_line files outcome) left after
+  -- and what follows from that
+  pub answers : IfCommand command (λ task. (told : List (List ℕ)) → TellsAll before.shelf.files task.wanted told → Answers task outcome told before after)
+  pub counts : IfCommand command (λ task. Counts task before after)

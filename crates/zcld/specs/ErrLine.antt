@@ -12,7 +12,7 @@ use Rattle.zcld.specs.declared.outcome.FileFault.TheVariants.{Image}
 use Rattle.zcld.specs.declared.outcome.Outcome.{Outcome}
 use Rattle.zcld.specs.declared.outcome.Outcome.TheVariants.{Done, Exited, Usage, Refused, ReadFault, WriteFault, OutOfMemory, BadFile, Stopped, Stuck, Spent}
 
--- a text with a line feed behind it
+-- a text with a line feed after it
 abbrev pub line : List ℕ → List ℕ
 line text = text ++ 10 ∷ []
 
@@ -43,19 +43,20 @@ stuck_text place why =
     codes "stuck " ++ decimal place.object ++ codes " " ++ decimal place.section ++ codes " " ++ decimal place.offset
     ++ codes " " ++ decimal (why_number why) ++ codes " " ++ why_name why
 
--- the line of each outcome but the one that needs none
-abbrev pub err_line : Outcome → List ℕ
-err_line Done = []
-err_line (Exited code) = line (codes "exited " ++ decimal code)
-err_line Usage = line (codes "usage")
-err_line (Refused i fault) = line (refusal_text i fault)
-err_line ReadFault = line (codes "read fault")
-err_line WriteFault = line (codes "write fault")
-err_line OutOfMemory = line (codes "out of memory")
-err_line (BadFile (Image fault)) = line (codes "bad image " ++ decimal (image_fault_number fault))
-err_line (Stopped reason pc) = line (stop_text reason pc)
-err_line (Stuck place why) = line (stuck_text place why)
-err_line Spent = line (codes "spent")
+-- the line of each outcome but the one that needs none, given the files that were read: a line may end with a symbol's name
+-- in an object, though no fault that is built names a symbol
+abbrev pub err_line : List (List ℕ) → Outcome → List ℕ
+err_line files Done = []
+err_line files (Exited code) = line (codes "exited " ++ decimal code)
+err_line files Usage = line (codes "usage")
+err_line files (Refused i fault) = line (refusal_text i fault)
+err_line files ReadFault = line (codes "read fault")
+err_line files WriteFault = line (codes "write fault")
+err_line files OutOfMemory = line (codes "out of memory")
+err_line files (BadFile (Image fault)) = line (codes "bad image " ++ decimal (image_fault_number fault))
+err_line files (Stopped reason pc) = line (stop_text reason pc)
+err_line files (Stuck place why) = line (stuck_text place why)
+err_line files Spent = line (codes "spent")
 
 -- the status of each outcome
 abbrev pub status_of : Outcome → ℕ

@@ -1,58 +1,54 @@
 -- The console's whole input.
-use Rattle.std.specs.Prelude.{◌≡◌, ℕ, ◌+◌, ◌-◌, ◌^◌, ◌<◌, ◌≤◌, ◌⊎◌, ◌↔◌, ◌++◌, length, min, List, [], Option, Some, None, ⊤}
+use Rattle.std.specs.Prelude.{◌≡◌, ℕ, ◌+◌, ◌-◌, ◌^◌, ◌<◌, ◌≤◌, ◌⊎◌, IsTrue, length, min, List, [], Option, Some, None, ⊤}
+use Rattle.zc_outside.specs.Desk.{Desk, OnlyTakes}
 use Rattle.zc_outside.specs.Files.{Rose}
+use Rattle.zcld.specs.declared.input.TheConstants.{INPUT_LIMIT}
 use Rattle.zcld.specs.declared.outcome.Outcome.{Outcome}
-use Rattle.zcld.specs.declared.outcome.Outcome.TheVariants.{ReadFault, OutOfMemory}
+use Rattle.zcld.specs.declared.outcome.Outcome.TheVariants.{Done, Exited, Usage, Refused, ReadFault, WriteFault, OutOfMemory, BadFile, Stopped, Stuck, Spent}
 
--- the most bytes of input
-abbrev pub input_limit : ℕ
-input_limit = 16777216
-
--- where the input was told: these are its bytes, and none are left
+-- if the input was told, these are its bytes, and none are left
 abbrev pub TakesAll : Option (List ℕ) → Option (List ℕ) → List ℕ → Type 0
 TakesAll None after input = ⊤
 TakesAll (Some xs) None input = ⊥
 TakesAll (Some xs) (Some ys) input = (input ≡ xs) × (ys ≡ [])
 
+-- the whole input was taken, and it isn't above its limit
+pub record Takes (input : List ℕ) (before after : Desk) : Type 0 where
+  pub all : TakesAll before.input after.input input
+  pub short : length input ≤ INPUT_LIMIT
+  pub only : OnlyTakes before after
+
 -- a 64-bit count that rose by more than this, or stands at its last value
 abbrev pub RoseAbove : ℕ → ℕ → ℕ → Type 0
 RoseAbove limit before now = min (before + limit + 1) (2 ^ 64 - 1) ≤ now
 
--- where the input was told, it was longer than its limit
+-- if the input was told, it was longer than its limit
 abbrev pub IsLongInput : Option (List ℕ) → Type 0
 IsLongInput None = ⊤
-IsLongInput (Some xs) = input_limit < length xs
+IsLongInput (Some xs) = INPUT_LIMIT < length xs
 
 -- the input is told, and no longer than its limit
 abbrev pub IsShortInput : Option (List ℕ) → Type 0
 IsShortInput None = ⊥
-IsShortInput (Some xs) = length xs ≤ input_limit
+IsShortInput (Some xs) = length xs ≤ INPUT_LIMIT
 
--- the input can't be had: reading it failed, or it is longer than its limit
-abbrev pub IsUnreadInput : Option (List ℕ) → ℕ → ℕ → ℕ → ℕ → Type 0
-IsUnreadInput told reads reads' taken taken' = Rose reads reads' ⊎ (RoseAbove input_limit taken taken' × IsLongInput told)
+-- why the input can't be had: taking it failed, at a console that isn't sure; or it is too long; or memory ran out
+abbrev pub UntakenCause : Outcome → Desk → Desk → Type 0
+UntakenCause Done before after = ⊥
+UntakenCause (Exited code) before after = ⊥
+UntakenCause Usage before after = ⊥
+UntakenCause (Refused i fault) before after = ⊥
+UntakenCause ReadFault before after =
+    (Rose before.read_faults after.read_faults × (IsTrue before.sure → ⊥))
+    ⊎ (RoseAbove INPUT_LIMIT before.taken after.taken × IsLongInput before.input)
+UntakenCause WriteFault before after = ⊥
+UntakenCause OutOfMemory before after = ⊤
+UntakenCause (BadFile fault) before after = ⊥
+UntakenCause (Stopped reason pc) before after = ⊥
+UntakenCause (Stuck place why) before after = ⊥
+UntakenCause Spent before after = ⊥
 
--- why it can't: that, or memory ran out
-abbrev pub InputCause : Outcome → Option (List ℕ) → ℕ → ℕ → ℕ → ℕ → Type 0
-InputCause ReadFault told reads reads' taken taken' = IsUnreadInput told reads reads' taken taken'
-InputCause OutOfMemory told reads reads' taken taken' = ⊤
-InputCause other told reads reads' taken taken' = ⊥
-
--- why a piece of it can't be had: reading failed, or memory ran out
-abbrev pub PieceCause : Outcome → ℕ → ℕ → Type 0
-PieceCause ReadFault reads reads' = Rose reads reads'
-PieceCause OutOfMemory reads reads' = ⊤
-PieceCause other reads reads' = ⊥
-
--- where the input was told: its first n bytes went behind those that were taken before, and there
--- were none exactly where none is left
-abbrev pub TakesPart : Option (List ℕ) → Option (List ℕ) → List ℕ → List ℕ → ℕ → Type 0
-TakesPart None after old new n = ⊤
-TakesPart (Some xs) None old new n = ⊥
-TakesPart (Some xs) (Some ys) old new n = (new ++ ys ≡ old ++ xs) × ((n ≡ 0) ↔ (xs ≡ []))
-
--- where the input was told: these bytes went from its front, and the rest is left
-abbrev pub TakesFront : Option (List ℕ) → Option (List ℕ) → List ℕ → Type 0
-TakesFront None after input = ⊤
-TakesFront (Some xs) None input = ⊥
-TakesFront (Some xs) (Some ys) input = input ++ ys ≡ xs
+-- the input can't be had, and nothing was written
+pub record IsUntaken (outcome : Outcome) (before after : Desk) : Type 0 where
+  pub cause : UntakenCause outcome before after
+  pub only : OnlyTakes before after

@@ -1,25 +1,14 @@
 -- Straight code: what is written for each word, and where each place then lies.
-use Rattle.std.specs.Prelude.{ℕ, zero, suc, ◌+◌, ◌*◌, ◌/◌, Bool, false, true, not, ◌==◌, ◌&&◌, nat_lt, if◌then◌else◌, List, [], ◌∷◌, length, Option, Some, None, ℤ, pos, negsuc}
+use Rattle.std.specs.Prelude.{ℕ, ◌+◌, ◌*◌, Bool, false, true, not, ◌==◌, ◌&&◌, nat_lt, if◌then◌else◌, List, [], ◌∷◌, length, Option, Some, None, ℤ, pos, negsuc}
 use Rattle.std.specs.List.{flat_map}
 use Rattle.zc_base.specs.declared.place.Place.{Place}
-use Rattle.zc_base.specs.Fields.{word_in, half_bytes, word_bytes}
+use Rattle.zc_base.specs.Fields.{half_bytes, word_bytes}
 use Rattle.rv_decode.specs.declared.instr.Instr.{Instr}
 use Rattle.rv_decode.specs.declared.instr.Instr.TheVariants.{WithImm}
 use Rattle.rv_decode.specs.declared.instr.ImmOp.{ImmOp}
 use Rattle.rv_decode.specs.declared.instr.ImmOp.TheVariants.{Addi}
 use Rattle.rv_decode.specs.Bits.{field}
 use Rattle.rv_decode.specs.Decode.{decoded}
-
--- ---- words
-
--- n words from an offset on
-abbrev pub words_from : List ℕ → ℕ → ℕ → List ℕ
-words_from bytes at zero = []
-words_from bytes at (suc n) = word_in bytes at ∷ words_from bytes (at + 4) n
-
--- the words that the bytes are
-abbrev pub words_in : List ℕ → List ℕ
-words_in bytes = words_from bytes 0 (length bytes / 4)
 
 -- ---- what is written for a word
 

@@ -1,0 +1,27 @@
+-- What a layout owes of memory: the image's memory lies as the program's does.
+use Rattle.std.specs.Prelude.{◌≡◌, ℕ, ◌+◌, ◌%◌, ◌^◌, ◌<◌, ◌≤◌, ◌⊎◌, false, true, Some}
+use Rattle.zc_base.specs.declared.place.Place.{Place}
+use Rattle.rv_decode.specs.Memory.{extents_of, is_data, is_text, lies_in}
+use Rattle.sym_machine.specs.Program.{Program, data_end}
+use Rattle.zc_link.specs.Image.{Image, loaded, place_address}
+
+-- the n bytes from an address on lie in the program's data or in its stack
+abbrev pub SpansMemory : Program → ℕ → ℕ → Type 0
+SpansMemory p a n = ((p.map.data_low ≤ a) × (a + n ≤ data_end p)) ⊎ ((p.map.stack_low ≤ a) × (a + n ≤ p.map.stack_high))
+
+-- where the regions and the places lie
+pub record Room (p : Program) (e : Image) : Type 0 where
+  -- the image was made for the program's map
+  pub map : e.map ≡ p.map
+  -- the stack ends below 2^32, begins at or after the end of data, and no frame on it comes round to address 0
+  pub top : p.map.stack_high < 2 ^ 32
+  pub some : p.map.stack_low ≤ p.map.stack_high
+  pub deep : 2048 ≤ p.map.stack_low
+  pub under : data_end p ≤ p.map.stack_low
+  -- the program's memory is memory of the image
+  pub reaches : (a n : ℕ) → 0 < n → SpansMemory p a n → lies_in is_data (extents_of (loaded e).memory) a n ≡ true
+  -- code lies apart from data and stack
+  pub apart :
+      (a : ℕ) → lies_in is_text (extents_of (loaded e).memory) a 1 ≡ true → lies_in is_data (extents_of (loaded e).memory) a 1 ≡ false
+  -- places have even addresses above 0
+  pub even : (q : Place) (a : ℕ) → place_address e q ≡ Some a → (a % 2 ≡ 0) × (0 < a) × (a < 2 ^ 32)

@@ -1,0 +1,107 @@
+-- The image keeps step with the program: from each sound pair some steps of the program are some commits of the machine,
+-- whatever interrupts come before them.
+use Rattle.std.specs.Prelude.{◌≡◌, ℕ, suc, ◌+◌, ◌*◌, ◌<◌, ◌≤◌, ◌==◌, if◌then◌else◌, List, [], ◌∷◌, All, IsSome, Option, Some, None, Ok}
+use Rattle.zc_base.specs.declared.place.Place.{Place}
+use Rattle.interrupt_plan.specs.Plan.{AreCuts, Cut, IsCut}
+use Rattle.rv_decode.specs.Memory.{changed, written}
+use Rattle.rv_decode.specs.Run.{iterate}
+use Rattle.rv_decode.specs.State.{ZcCore, ZcState}
+use Rattle.sym_machine.specs.declared.word.SymByte.TheVariants.{Num}
+use Rattle.psabi_sym.specs.Inputs.{ParsedInputs}
+use Rattle.sym_machine.specs.Program.{Program, data_end}
+use Rattle.sym_machine.specs.Run.{plain_turn}
+use Rattle.sym_machine.specs.State.{PlainCore, PlainState, first_plain}
+use Rattle.zc_machine.specs.Interrupt.{cut}
+use Rattle.zc_machine.specs.Run.{first_state, zc_turn, zc_turns}
+use Rattle.zc_link.specs.Image.{Image, loaded, place_address}
+use Rattle.zc_link.specs.Sound.{Sound, Together}
+
+-- ---- how many steps, and how many commits
+
+-- a number of steps by the place, and a number of commits by the program's state
+pub record Pace : Type 0 where
+  pub span : Place → ℕ
+  pub weight : PlainCore → ℕ
+
+-- of the objects' items: each is one step and one commit, while none is fused and none is several instructions
+abbrev pub pace_of : ParsedInputs → Pace
+pace_of inputs = record { span = λ q. 1; weight = λ s. 1 }
+
+-- the commits before the program's start: none if the image starts there, or else three, of the stub that sets jvt
+abbrev pub lead_from : Option ℕ → ℕ → ℕ
+lead_from None entry = 3
+lead_from (Some start) entry = if start == entry then 0 else 3
+
+abbrev pub lead_of : Program → Image → ℕ
+lead_of p e = lead_from (place_address e p.entry) e.entry
+
+-- ---- where steps and commits lead
+
+-- with these interrupts before them, k commits from z come to a state that belongs together with this one of the program, and
+-- to the same events
+pub record Comes (p : Program) (e : Image) (cuts : ℕ → List Cut) (k : ℕ) (z : ZcState) (r : PlainState) : Type 0 where
+  pub after : ZcState
+  pub runs : zc_turns cuts k z ≡ Ok after
+  pub together : Together p e r.core after
+  pub events : after.events ≡ r.events
+
+-- some steps of the program, but fewer than its span, come to a place that isn't listed, without an event
+pub record IsInside (e : Image) (r r' : PlainState) : Type 0 where
+  pub events : r'.events ≡ r.events
+  pub running : r'.core.exit ≡ None
+  pub unlisted : place_address e r'.core.place ≡ None
+
+-- ---- data that others write
+
+-- an address of data
+pub record IsCell (p : Program) (a : ℕ) : Type 0 where
+  pub low : p.map.data_low ≤ a
+  pub high : a < data_end p
+
+-- the machine's byte at an address becomes this, and the program's does
+abbrev pub poked : ℕ → ℕ → ZcState → ZcState
+poked a b z = record z { core = record z.core { memory = changed (written a 1 (λ _. b)) z.core.memory } }
+
+abbrev pub poked_plain : ℕ × ℕ → PlainState → PlainState
+poked_plain c r = record r { core = record r.core { memory = changed (written c.0 1 (λ _. Num c.1)) r.core.memory } }
+
+abbrev pub all_poked : List (ℕ × ℕ) → PlainState → PlainState
+all_poked [] r = r
+all_poked (c ∷ cs) r = all_poked cs (poked_plain c r)
+
+-- a state on the way from a sound pair to the end of its commits, of which so many are left: interrupts come, cells of data
+-- are written, and commits are made; with some cells written the program isn't stuck on the way
+pub data OnWay (p : Program) (e : Image) (pace : Pace) (r : PlainState) : ℕ → ZcState → Type 0 where
+  Starts :
+      (z : ZcState) (cells : List (ℕ × ℕ)) (r' : PlainState) → Sound p e r.core z
+      → iterate (plain_turn p) (pace.span r.core.place) (all_poked cells r) ≡ Ok r' → OnWay p e pace r (pace.weight r.core) z
+  Cuts : (k : ℕ) (z : ZcState) (c : Cut) → IsCut c → OnWay p e pace r (suc k) z → OnWay p e pace r (suc k) (record z { core = cut c z.core })
+  Pokes : (k : ℕ) (z : ZcState) (a b : ℕ) → IsCell p a → b < 256 → OnWay p e pace r (suc k) z → OnWay p e pace r (suc k) (poked a b z)
+  Commits : (k : ℕ) (z z' : ZcState) → OnWay p e pace r (suc k) z → zc_turn [] z ≡ Ok z' → OnWay p e pace r k z'
+
+-- ---- the whole
+
+pub record Simulates (p : Program) (e : Image) (pace : Pace) : Type 0 where
+  pub some : (q : Place) → 0 < pace.span q
+  pub few : (s : PlainCore) → pace.weight s ≤ 64 * pace.span s.place
+  -- from every sound pair the span's steps are the weight's commits
+  pub step :
+      (r r' : PlainState) → iterate (plain_turn p) (pace.span r.core.place) r ≡ Ok r'
+      → (cuts : ℕ → List Cut) → AreCuts cuts → (z : ZcState) → Sound p e r.core z → z.events ≡ r.events
+      → Comes p e cuts (pace.weight r.core) z r'
+  -- on the way nothing is claimed but the events
+  pub inside :
+      (k : ℕ) (r r' : PlainState) → 0 < k → k < pace.span r.core.place → IsSome (place_address e r.core.place) → r.core.exit ≡ None
+      → iterate (plain_turn p) k r ≡ Ok r' → IsInside e r r'
+  -- the start is sound, after the stub if there is one
+  pub start :
+      (input : List ℕ) → All (λ b. b < 256) input → (cuts : ℕ → List Cut) → AreCuts cuts
+      → Comes p e cuts (lead_of p e) (first_state (loaded e) input) (record { core = first_plain p input; events = [] })
+  -- an interrupt does the same whatever data hold
+  pub cuts_apart :
+      (r : PlainState) (k : ℕ) (z : ZcState) → OnWay p e pace r (suc k) z → (c : Cut) → IsCut c → (a b : ℕ) → IsCell p a → b < 256
+      → cut c (poked a b z).core ≡ (poked a b (record z { core = cut c z.core })).core
+  -- and so does each commit, if there are several
+  pub commits_apart :
+      (r : PlainState) (k : ℕ) (z z' : ZcState) → 1 < pace.weight r.core → OnWay p e pace r (suc k) z → zc_turn [] z ≡ Ok z'
+      → (a b : ℕ) → IsCell p a → b < 256 → zc_turn [] (poked a b z) ≡ Ok (poked a b z')

@@ -1,0 +1,80 @@
+-- States of the two machines that belong together: Ready and Alike whatever the place, Sound at a listed place, Over after
+-- the exit.
+use Rattle.std.specs.Prelude.{◌≡◌, ℕ, ◌<◌, ◌≤◌, ◌⊎◌, IsSome, IsTrue, true, Some, None}
+use Rattle.zc_base.specs.declared.place.Place.{Place}
+use Rattle.rv_decode.specs.Memory.{extents_of, is_text, lies_in}
+use Rattle.rv_decode.specs.State.{IsCore, ZcCore, ZcState, byte_in, reg_in}
+use Rattle.sym_machine.specs.declared.word.SymByte.{SymByte}
+use Rattle.sym_machine.specs.declared.word.SymByte.TheVariants.{Num, Part, Undef}
+use Rattle.sym_machine.specs.declared.word.SymWord.{SymWord}
+use Rattle.sym_machine.specs.declared.word.Value.TheVariants.{Code, AbsHi, PcHi}
+use Rattle.sym_machine.specs.Program.{Program}
+use Rattle.sym_machine.specs.State.{IsPlainState, PlainCore, cell_of, reg_of}
+use Rattle.zc_link.specs.Image.{Image, loaded, place_address}
+use Rattle.zc_link.specs.Stands.{ByteStands, IsMemory, Stands, WordStands}
+use Rattle.zc_link.specs.Values.{value_in}
+
+-- ---- addresses of code in a state
+
+-- a place whose address a program may hold: that of an item that leads a basic block, or the end of a section of code
+abbrev pub IsNamed : Program → Place → Type 0
+IsNamed p q = (IsSome (p.item q) × IsTrue (p.is_leader q)) ⊎ IsTrue (p.is_end q)
+
+-- a byte that is part of a code address is part of that of such a place
+abbrev pub NamesByte : Program → SymByte → Type 0
+NamesByte p (Num n) = Unit {0}
+NamesByte p (Part (Code q) i) = IsNamed p q
+NamesByte p (Part (AbsHi q) i) = Unit {0}
+NamesByte p (Part (PcHi q) i) = Unit {0}
+NamesByte p Undef = Unit {0}
+
+-- the same of each byte of a word
+abbrev pub NamesWord : Program → SymWord → Type 0
+NamesWord p w = NamesByte p w.b0 × NamesByte p w.b1 × NamesByte p w.b2 × NamesByte p w.b3
+
+-- and of all registers and all memory
+pub record Names (p : Program) (s : PlainCore) : Type 0 where
+  pub registers : (r : ℕ) → r < 32 → NamesWord p (reg_of s r)
+  pub memory : (a : ℕ) → IsMemory p a → NamesByte p (cell_of s a)
+
+-- ---- states
+
+-- neither has exited, and both are states; registers and memory stand for the machine's, whose regions and text are as they
+-- were loaded; and if the text begins with a table of jumps, jvt is the text's start: then the image doesn't start at the
+-- program's start
+pub record Ready (p : Program) (e : Image) (s : PlainCore) (z : ZcCore) : Type 0 where
+  pub running : s.exit ≡ None
+  pub going : z.exit ≡ None
+  pub plain : IsPlainState s
+  pub core : IsCore z
+  pub registers : (r : ℕ) → r < 32 → WordStands (value_in p (place_address e)) (reg_of s r) (reg_in z r)
+  pub memory : (a : ℕ) → IsMemory p a → ByteStands (value_in p (place_address e)) (cell_of s a) (byte_in z a)
+  pub names : Names p s
+  pub extents : extents_of z.memory ≡ extents_of (loaded e).memory
+  pub text : (a : ℕ) → lies_in is_text (extents_of (loaded e).memory) a 1 ≡ true → byte_in z a ≡ byte_in (loaded e) a
+  pub table : (place_address e p.entry ≡ Some e.entry → ⊥) → z.jvt ≡ e.map.text
+
+-- and sp is within the stack, and the bytes of the stack below it are undefined to the program
+pub record Alike (p : Program) (e : Image) (s : PlainCore) (z : ZcCore) : Type 0 where
+  pub ready : Ready p e s z
+  pub open ready use *
+  pub low : p.map.stack_low ≤ reg_in z 2
+  pub high : reg_in z 2 ≤ p.map.stack_high
+  pub below : (a : ℕ) → p.map.stack_low ≤ a → a < reg_in z 2 → cell_of s a ≡ Undef
+
+-- and the place is listed at pc, and the inputs that are left are equal
+pub record Sound (p : Program) (e : Image) (s : PlainCore) (z : ZcState) : Type 0 where
+  pub alike : Alike p e s z.core
+  pub input : s.input ≡ z.input
+  pub place : place_address e s.place ≡ Some z.core.pc
+
+-- both have exited with the same status, and the program's state stands for the machine's
+pub record Over (p : Program) (e : Image) (s : PlainCore) (z : ZcState) : Type 0 where
+  pub status : ℕ
+  pub exited : s.exit ≡ Some status
+  pub ended : z.core.exit ≡ Some status
+  pub stands : Stands p (place_address e) s z
+
+-- one of the two
+abbrev pub Together : Program → Image → PlainCore → ZcState → Type 0
+Together p e s z = Sound p e s z ⊎ Over p e s z

@@ -1,0 +1,22 @@
+-- The objects that a command links or traces, and why they are refused.
+use Rattle.std.specs.Prelude.{ℕ, List, Option, map}
+use Rattle.std.specs.Option.{option_map}
+use Rattle.zc_base.specs.MemMap.{standard_map}
+use Rattle.zc_outside.specs.Wanted.{Wanted}
+use Rattle.psabi_sym.specs.Inputs.{Inputs}
+use Rattle.block_cut.specs.Faults.{first_fault}
+use Rattle.zcld.specs.declared.outcome.Outcome.{Outcome}
+use Rattle.zcld.specs.declared.outcome.Outcome.TheVariants.{Refused}
+use Rattle.zcld.specs.declared.limits.TheConstants.{OBJECT_LIMIT}
+
+-- the files of the objects, in the standard map
+abbrev pub inputs_of : List (List ℕ) → Inputs
+inputs_of files = record { files = files; map = standard_map }
+
+-- a refusal names the first fault that stands in the objects, with its object's index
+abbrev pub objects_refusal : List (List ℕ) → Option Outcome
+objects_refusal files = option_map (λ found. Refused found.0 found.1) (first_fault (inputs_of files))
+
+-- objects are read up to their limit
+abbrev pub objects_wanted : List (List ℕ) → List Wanted
+objects_wanted names = map (λ name. record { name = name; limit = OBJECT_LIMIT }) names

@@ -1,0 +1,60 @@
+-- How a command goes over its files: they can't be had, or they are refused, or the command does its work.
+use Rattle.std.specs.Prelude.{◌≡◌, ℕ, ◌⊎◌, Bool, List, Option, Some, None, ⊤}
+use Rattle.zc_outside.specs.Desk.{Desk}
+use Rattle.zc_outside.specs.Shelf.{Shelf}
+use Rattle.zc_outside.specs.Wanted.{AreRead, AreUnread, ReadsAll, Wanted}
+use Rattle.zc_outside.specs.World.{World}
+use Rattle.zcld.specs.declared.outcome.Outcome.{Outcome}
+use Rattle.zcld.specs.declared.outcome.Outcome.TheVariants.{Done, Exited, Usage, Refused, ReadFault, WriteFault, OutOfMemory, BadFile, Stopped, Stuck, Spent}
+
+-- what a command does outside: it reads these files, and refuses them by their bytes, or not; it puts files, takes the
+-- console's input and writes to the console, or not
+pub record Task : Type 0 where
+  pub wanted : List Wanted
+  pub refusal : List (List ℕ) → Option Outcome
+  pub puts : Bool
+  pub takes : Bool
+  pub writes : Bool
+
+-- the files were read, and nothing else was done
+pub record OnlyRead (wanted : List Wanted) (before after : World) : Type 0 where
+  pub shelf : ReadsAll wanted before.shelf after.shelf
+  pub desk : after.desk ≡ before.desk
+
+-- why files can't be had: reading one failed, or one is too long, or memory ran out
+abbrev pub UnreadCause : List Wanted → Shelf → Shelf → Outcome → Type 0
+UnreadCause wanted before after Done = ⊥
+UnreadCause wanted before after (Exited code) = ⊥
+UnreadCause wanted before after Usage = ⊥
+UnreadCause wanted before after (Refused i fault) = ⊥
+UnreadCause wanted before after ReadFault = AreUnread wanted before after
+UnreadCause wanted before after WriteFault = ⊥
+UnreadCause wanted before after OutOfMemory = ⊤
+UnreadCause wanted before after (BadFile fault) = ⊥
+UnreadCause wanted before after (Stopped reason pc) = ⊥
+UnreadCause wanted before after (Stuck place why) = ⊥
+UnreadCause wanted before after Spent = ⊥
+
+-- the files can't be had
+pub record IsUnread (task : Task) (outcome : Outcome) (before after : World) : Type 0 where
+  pub only : OnlyRead task.wanted before after
+  pub cause : UnreadCause task.wanted before.shelf after.shelf outcome
+
+-- these are the files' bytes, and they are refused
+pub record IsRefused (task : Task) (files : List (List ℕ)) (outcome : Outcome) (before after : World) : Type 0 where
+  pub only : OnlyRead task.wanted before after
+  pub read : AreRead before.shelf.files task.wanted files
+  pub refused : task.refusal files ≡ Some outcome
+
+-- these are the files' bytes, they aren't refused, and the command did its work after that
+pub record IsWorked (task : Task) (Work : List (List ℕ) → Outcome → World → World → Type 0) (files : List (List ℕ)) (outcome : Outcome) (before after : World) : Type 0 where
+  pub between : World
+  pub only : OnlyRead task.wanted before between
+  pub read : AreRead before.shelf.files task.wanted files
+  pub accepted : task.refusal files ≡ None
+  pub work : Work files outcome between after
+
+-- one of the three
+abbrev pub Performs : Task → (List (List ℕ) → Outcome → World → World → Type 0) → List (List ℕ) → Outcome → World → World → Type 0
+Performs task Work files outcome before after =
+    IsUnread task outcome before after ⊎ (IsRefused task files outcome before after ⊎ IsWorked task Work files outcome before after)
