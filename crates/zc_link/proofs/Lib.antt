@@ -1,6 +1,14 @@
 pub mod Examples
-pub mod WordLaws
-pub mod Sound
-pub mod Interrupts
+pub mod Words
+pub mod Ready
+pub mod Ends
+pub mod Cuts
+pub mod Commits
+pub mod Instrs
+pub mod Singles
+pub mod Environment
 pub mod Items
+pub mod Pieces
+pub mod Apart
+pub mod Induction
 pub mod Simulation
