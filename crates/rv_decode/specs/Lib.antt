@@ -4,3 +4,4 @@ pub mod Memory
 pub mod State
 pub mod Effect
 pub mod Run
+pub mod Written

@@ -6,7 +6,6 @@ pub mod Answer
 pub mod Interrupt
 pub mod Cursor
 pub mod Run
-pub mod Written
 pub mod RunEnd
 pub mod Load
 pub use Rattle.elf32_read.specs.Header

@@ -3,7 +3,7 @@ use Rattle.std.specs.Prelude.{◌≡◌, ℕ, ◌≤◌, Bool, IsTrue, List, Opt
 use Rattle.zc_outside.specs.declared.console.ConsoleFault.{ConsoleFault}
 use Rattle.zc_outside.specs.declared.console.ConsoleFault.TheVariants.{Failed, OutOfMemory}
 use Rattle.zc_outside.specs.Files.{Rose}
-use Rattle.zc_outside.specs.Streams.{KeepsBytes}
+use Rattle.zc_outside.specs.Streams.{Adds, KeepsBytes}
 
 -- the input that is left and what was written, if it tells them; how many reads and writes failed, and how often memory
 -- was wanted; how many bytes left the input; and whether it is sure: then no call of it fails, want of memory left aside
@@ -39,6 +39,11 @@ pub record OnlyWrites (before after : Desk) : Type 0 where
   pub taken : after.taken ≡ before.taken
   pub sure : after.sure ≡ before.sure
   pub counted : IsTrue before.sure → after.write_faults ≡ before.write_faults
+
+-- these bytes stand on the two streams, each after what stood there
+pub record Wrote (to_out to_err : List ℕ) (before after : Desk) : Type 0 where
+  pub out : Adds before.out after.out to_out
+  pub err : Adds before.err after.err to_err
 
 -- what a refused take shows: the count of its kind rose, and it failed only if the console isn't sure
 abbrev pub TakeCause : Desk → Desk → ConsoleFault → Type 0

@@ -1,4 +1,4 @@
--- What a run's events write.
+-- What events write.
 use Rattle.std.specs.Prelude.{ℕ, ◌==◌, if◌then◌else◌, List, []}
 use Rattle.std.specs.List.{flat_map}
 use Rattle.rv_decode.specs.State.{Event, Write}
