@@ -1,5 +1,6 @@
 pub mod Bits
 pub mod Decode
+pub mod Registers
 pub mod Memory
 pub mod State
 pub mod Effect
