@@ -6,8 +6,9 @@ ghost use Rattle.std.specs.Option.{option_to_list};
 ghost use Rattle.elf32_read.specs.Header.{content_of, headers_of, section_count, section_table};
 ghost use Rattle.elf32_read.specs.Image.{bad_names, bad_places, is_bad_list, is_bad_section, is_unnamed, lacks_names};
 ghost use Rattle.elf32_read.specs.Object.{passes_end};
-ghost use Rattle.elf32_read.specs.Places.{entries_of, entry_at, holds_places, is_ascending, is_before, is_outside, names_of, places_of, places_sections};
+ghost use Rattle.elf32_read.specs.Places.{entries_of, entry_at, holds_places, is_ascending, is_outside, names_of, places_of, places_sections};
 ghost use Rattle.elf32_read.specs.declared.image_fault.ImageFault.TheVariants.{BadPlaces};
+ghost use Rattle.zc_base.specs.Places.{is_before};
 
 use crate::header::{
     SectionHeader, content, is_without_content, name_section, section_count, section_header,
