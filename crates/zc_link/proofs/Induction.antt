@@ -16,12 +16,12 @@ use Rattle.sym_machine.specs.Program.{Program}
 use Rattle.sym_machine.specs.Run.{plain, plain_turn}
 use Rattle.sym_machine.specs.State.{PlainCore, PlainState, first_plain}
 use Rattle.zc_machine.specs.Run.{first_state, zc_after, zc_turns}
+use Rattle.zc_machine.proofs.TurnLaws.{zc_turns-add}
 use Rattle.zc_link.specs.Image.{Image, loaded, place_address}
 use Rattle.zc_link.specs.Preserves.{Follows, FollowsUnder, KeepsStep, Preserves, PreservesQuietly}
 use Rattle.zc_link.specs.Simulates.{Pace, Simulates, lead_from, lead_of, pace_of}
 use Rattle.zc_link.specs.Sound.{Sound, Together}
 use Rattle.zc_link.specs.Stands.{Stands}
-use Rattle.zc_link.proofs.Commits.{zc_turns-add}
 use Rattle.zc_link.proofs.Ends.{stays}
 
 -- ---- what is known at the ends
