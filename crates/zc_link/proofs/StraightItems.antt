@@ -4,6 +4,11 @@ use Rattle.elf32_read.specs.Header.{header_of, section_count}
 use Rattle.psabi_sym.specs.Inputs.{Inputs, parsed}
 use Rattle.block_cut.specs.Faults.{first_fault}
 use Rattle.block_cut.specs.Straight.{code_of, words_in}
+use Rattle.zc_base.specs.Fields.{word_in}
+use Rattle.rv_decode.specs.Decode.{decoded}
+use Rattle.block_cut.specs.Items.{item_at, spelled}
+use Rattle.zc_link.specs.Linked.{only_file}
+use Rattle.zc_link.specs.Straight.{place_at}
 use Rattle.zc_link.proofs.StraightLaid.{Spell}
 
 pub record IsStraight (file : List ℕ) : Type 0 where
@@ -13,9 +18,8 @@ pub record IsStraight (file : List ℕ) : Type 0 where
   pub short : (header_of file 1).size ≤ 65536
 
 pub record IsFaultless (inputs : Inputs) : Type 0 where
-  pub file : List ℕ
-  pub alone : inputs.files ≡ file ∷ []
-  pub straight : IsStraight file
+  pub alone : inputs.files ≡ only_file inputs ∷ []
+  pub straight : IsStraight (only_file inputs)
 
 pub faultless : (inputs : Inputs) → first_fault inputs ≡ None → IsFaultless inputs
 faultless inputs none = ?
@@ -28,3 +32,7 @@ spell inputs file alone straight = ?
 
 pub words_below : (code : List ℕ) → ((k : ℕ) → get_or code k 0 < 256) → (k : ℕ) → get_or (words_in code) k 0 < 2 ^ 32
 words_below code are k = ?
+
+pub item_there : (inputs : Inputs) (k : ℕ) → first_fault inputs ≡ None → k < length (code_of (only_file inputs)) / 4
+    → item_at (parsed inputs).objects (place_at (4 * k)) ≡ Some (spelled (decoded (word_in (code_of (only_file inputs)) (4 * k))) (word_in (code_of (only_file inputs)) (4 * k)))
+item_there inputs k none lt = ?
