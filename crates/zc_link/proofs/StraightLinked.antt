@@ -14,6 +14,8 @@ use Rattle.elf32_write.proofs.ImageBack.{image_back}
 use Rattle.psabi_sym.specs.Inputs.{Inputs, parsed}
 use Rattle.block_cut.specs.Faults.{first_fault}
 use Rattle.block_cut.specs.Straight.{code_of, words_in}
+use Rattle.block_cut.proofs.StraightLaws.{IsStraight}
+use Rattle.block_cut.proofs.WordLaws.{length-words_in, words_below}
 use Rattle.sym_machine.specs.Objects.{program_of}
 use Rattle.zc_link.specs.Image.{Image, image_in, image_unless}
 use Rattle.zc_link.specs.Linked.{IsZcLink, TextEnds, only_file, straight_parts, zc_elf}
@@ -23,7 +25,7 @@ use Rattle.zc_link.specs.Simulates.{pace_of}
 use Rattle.zc_link.specs.Straight.{place_at, places_from, text_of}
 use Rattle.zc_link.proofs.Induction.{preserves, quietly}
 use Rattle.zc_link.proofs.Simulation.{simulates}
-use Rattle.zc_link.proofs.StraightItems.{IsStraight, faultless, length-words_in, spell, words_below}
+use Rattle.zc_link.proofs.StraightItems.{item_is_word, one}
 use Rattle.zc_link.proofs.StraightLaid.{laid}
 use Rattle.zc_link.proofs.StraightParts.{fits, image_with, loadable, parts_with}
 use Rattle.zc_link.proofs.StraightPieces.{offset_whole}
@@ -65,7 +67,7 @@ module _ (file : List ℕ) (map : MemMap) (straight : IsStraight file) (are : (k
     image = image;
     read = read;
     simulates = simulates (program_of (parsed inputs)) image (pace_of (parsed inputs))
-        (laid (parsed inputs) words is few_words (spell inputs file refl straight) (words_below (code_of file) are));
+        (laid (parsed inputs) words is few_words (item_is_word file straight) (words_below (code_of file) are));
   }
 
   -- the text ends at the address of the section's end
@@ -118,14 +120,14 @@ parts_same inputs map code text rest places is_map is_code is_text is_places no_
     }
 
 pub parts_fit : (inputs : Inputs) → first_fault inputs ≡ None → IsMap inputs.map → Fits (parts_of inputs)
-parts_fit inputs none is = fits inputs.map (words_in (code_of (only_file inputs))) is (few (only_file inputs) (faultless inputs none).straight)
+parts_fit inputs none is = fits inputs.map (words_in (code_of (only_file inputs))) is (few (only_file inputs) (one inputs none).straight)
 
 -- the file of these parts is the link
 pub linked : (inputs : Inputs) → first_fault inputs ≡ None → IsMap inputs.map → ((k : ℕ) → get_or (code_of (only_file inputs)) k 0 < 256) → (elf : List ℕ) → elf ≡ image_bytes (parts_of inputs) → IsZcLink inputs (record { elf = elf })
 unfolding zc_elf
 linked inputs none is are elf written =
     let file = only_file inputs in
-    let known = faultless inputs none in
+    let known = one inputs none in
     let same : record { files = file ∷ []; map = inputs.map } ≡ inputs = λ i. record { files = sym known.alone i; map = inputs.map } in
     let whole : IsZcLink inputs (record { elf = zc_elf inputs }) = subst (λ (x : Inputs). IsZcLink x (record { elf = zc_elf x })) same (linked_alone file inputs.map known.straight are is) in
     subst (λ l. IsZcLink inputs (record { elf = l })) (sym written) whole

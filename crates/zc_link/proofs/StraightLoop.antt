@@ -1,21 +1,9 @@
 -- The link's loop: what is written so far, followed by what the definition gives for the rest, is what it gives for all.
-use Rattle.std.proofs.Common.{◌≡◌, ℕ, suc, ◌+◌, ◌-◌, ◌*◌, ◌<◌, ◌≤◌, List, [], ◌∷◌, ◌++◌, length, refl, sym, ap, ◌∙◌, arith, append_assoc}
+use Rattle.std.proofs.Common.{◌≡◌, ℕ, ◌+◌, List, [], ◌∷◌, ◌++◌, length, refl, sym, ap, ◌∙◌, append_assoc}
 use Rattle.std.specs.List.{flat_map}
 use Rattle.std.proofs.lemmas.List.{append-nil}
 use Rattle.zc_base.specs.declared.place.Place.{Place}
-use Rattle.zc_base.specs.Fields.{word_in}
-use Rattle.block_cut.specs.Straight.{words_from}
 use Rattle.zc_link.specs.Straight.{piece, place_at, places_from}
-
--- the words from the i-th on are that word and the ones after it
-pub words_more : (b : List ℕ) (i n : ℕ) → i < n → words_from b (4 * i) (n - i) ≡ word_in b (4 * i) ∷ words_from b (4 * (i + 1)) (n - (i + 1))
-words_more b i n lt =
-    let e : n - i ≡ suc (n - (i + 1)) = omega arith in
-    let s : 4 * i + 4 ≡ 4 * (i + 1) = omega arith in
-    ap (words_from b (4 * i)) e ∙ ap (λ a. word_in b (4 * i) ∷ words_from b a (n - (i + 1))) s
-
-pub words_end : (b : List ℕ) (i n : ℕ) → n ≤ i → words_from b (4 * i) (n - i) ≡ []
-words_end b i n le = let e : n - i ≡ 0 = omega arith in ap (words_from b (4 * i)) e
 
 -- one more piece after the text
 pub text_step : (words : List ℕ) (w : ℕ) (rest old new all : List ℕ) → words ≡ w ∷ rest → old ++ flat_map piece words ≡ all → new ≡ old ++ piece w → new ++ flat_map piece rest ≡ all
