@@ -1,17 +1,17 @@
 -- The end of a step, said once for all items: a step that goes on makes a change (Stepped), and then sp is a number within the
 -- stack and the bytes below it become undefined (Ended). So states that are ready come to states that are alike.
-use Rattle.std.proofs.Common.{◌≡◌, ℕ, ◌≤◌, List, [], ◌++◌, Option, Some, None, Ok, Bool, true, false, cond, refl, sym, ap, ◌∙◌, subst, arith, ltb, leb}
-use Rattle.std.specs.Prelude.{◌&&◌, ◌<◌}
+use Rattle.std.proofs.Common.{◌≡◌, ℕ, ◌<◌, ◌≤◌, List, [], ◌++◌, Option, Some, None, Ok, Bool, true, false, cond, refl, sym, ap, ◌∙◌, subst, arith, ltb, leb}
+use Rattle.std.specs.Prelude.{◌&&◌}
+use Rattle.std.proofs.lemmas.Bool.{and_from, and_parts, cond-true, cond_both, leb-true, le-leb, lt-ltb}
 use Rattle.std.proofs.lemmas.List.{append-nil}
-use Rattle.std.proofs.lemmas.Bool.{and_from, and_parts, cond-true, leb-true, le-leb, lt-ltb}
 use Rattle.zc_base.specs.declared.mem_map.MemMap.{MemMap}
-use Rattle.rv_decode.specs.Memory.{cell_at, changed}
+use Rattle.zc_base.specs.declared.place.Place.{Place}
+use Rattle.rv_decode.specs.Memory.{changed}
 use Rattle.rv_decode.specs.State.{Event, ZcCore, ZcState, byte_in, reg_in}
 use Rattle.rv_decode.proofs.MemoryLaws.{cell-changed_default}
 use Rattle.sym_machine.specs.declared.why.Why.TheVariants.{StackPointer}
 use Rattle.sym_machine.specs.declared.word.SymByte.{SymByte}
 use Rattle.sym_machine.specs.declared.word.SymByte.TheVariants.{Undef}
-use Rattle.sym_machine.specs.declared.word.Value.{Value}
 use Rattle.sym_machine.specs.Change.{Change, Does, Goes, Stops, place_does}
 use Rattle.sym_machine.specs.Program.{Program}
 use Rattle.sym_machine.specs.Run.{plain_turn, recorded}
@@ -26,19 +26,25 @@ use Rattle.zc_link.proofs.Words.{number_is}
 
 -- ---- what a step comes to
 
+-- the state after the bytes below this sp have become undefined
+abbrev pub settled : MemMap → ℕ → PlainCore → PlainCore
+settled map sp s = record s { memory = changed (undefined_below map sp) s.memory }
+
 -- from the state s to s': sp is a number within the stack, and nothing changes but that the bytes below it are undefined
 pub record Ended (map : MemMap) (s s' : PlainCore) : Type 0 where
   pub sp : ℕ
   pub is : number_of (reg_of s 2) ≡ Some sp
   pub low : map.stack_low ≤ sp
   pub high : sp ≤ map.stack_high
-  pub state : s' ≡ record s { memory = changed (undefined_below map sp) s.memory }
+  pub state : s' ≡ settled map sp s
 
 pub ended : (map : MemMap) (s s' : PlainCore) (events events' : List Event) → ends map s events ≡ Went s' events' → Ended map s s' × (events' ≡ events)
 unfolding ends
 ended map s s' events events' h = known (number_of (reg_of s 2)) refl h
   where
-    within : (sp : ℕ) (b : Bool) → number_of (reg_of s 2) ≡ Some sp → (leb map.stack_low sp && leb sp map.stack_high) ≡ b → cond b (Went (record s { memory = changed (undefined_below map sp) s.memory }) events) (Stuck StackPointer) ≡ Went s' events' → Ended map s s' × (events' ≡ events)
+    within :
+        (sp : ℕ) (b : Bool) → number_of (reg_of s 2) ≡ Some sp → (leb map.stack_low sp && leb sp map.stack_high) ≡ b
+        → cond b (Went (settled map sp s) events) (Stuck StackPointer) ≡ Went s' events' → Ended map s s' × (events' ≡ events)
     within sp true is inside g =
         let q = and_parts (leb map.stack_low sp) (leb sp map.stack_high) inside in
         (record { sp = sp; is = is; low = leb-true map.stack_low sp q.0; high = leb-true sp map.stack_high q.1; state = cc }, cc)
@@ -57,15 +63,18 @@ pub record Stepped (p : Program) (r r' : PlainState) : Type 0 where
 
 pub stepped : (p : Program) (r r' : PlainState) → r.core.exit ≡ None → plain_turn p r ≡ Ok r' → Stepped p r r'
 unfolding plain_turn plain_step
-stepped p r r' running h = by_item (place_does (p.item r.core.place) r.core (p.next r.core.place)) refl (ap (λ o. recorded (step_from o p r.core) r) (sym running) ∙ h)
+stepped p r r' running h = by_item (does r) refl (ap (λ o. recorded (step_from o p r.core) r) (sym running) ∙ h)
   where
-    by_end : (c : Change) (t : PlainStep) → place_does (p.item r.core.place) r.core (p.next r.core.place) ≡ Goes c → ends p.map (after_change c r.core) c.events ≡ t → recorded t r ≡ Ok r' → Stepped p r r'
-    by_end c (Went s events) does is g =
-        let end = ended p.map (after_change c r.core) r'.core c.events events (is ∙ cc) in
-        record { change = c; does = does; end = end.0; events = cc }
-    by_end c (Stuck why) does is g = absurd cc
+    does : PlainState → Does
+    does r = place_does (p.item r.core.place) r.core (p.next r.core.place)
 
-    by_item : (d : Does) → place_does (p.item r.core.place) r.core (p.next r.core.place) ≡ d → recorded (made p.map r.core d) r ≡ Ok r' → Stepped p r r'
+    by_end : (c : Change) (t : PlainStep) → does r ≡ Goes c → ends p.map (after_change c r.core) c.events ≡ t → recorded t r ≡ Ok r' → Stepped p r r'
+    by_end c (Went s events) is end g =
+        let q = ended p.map (after_change c r.core) r'.core c.events events (end ∙ cc) in
+        record { change = c; does = is; end = q.0; events = cc }
+    by_end c (Stuck why) is end g = absurd cc
+
+    by_item : (d : Does) → does r ≡ d → recorded (made p.map r.core d) r ≡ Ok r' → Stepped p r r'
     by_item (Stops why) is g = absurd cc
     by_item (Goes c) is g = by_end c (ends p.map (after_change c r.core) c.events) is refl g
 
@@ -73,69 +82,61 @@ stepped p r r' running h = by_item (place_does (p.item r.core.place) r.core (p.n
 pub stays : (p : Program) (r r' : PlainState) (status : ℕ) → r.core.exit ≡ Some status → plain_turn p r ≡ Ok r' → (r'.core ≡ r.core) × (r'.events ≡ r.events)
 unfolding plain_turn plain_step
 stays p r r' status exited h =
-    let made : recorded (step_from (Some status) p r.core) r ≡ Ok r' = ap (λ o. recorded (step_from o p r.core) r) (sym exited) ∙ h in
-    (cc, (let events : r'.events ≡ r.events ++ [] = cc in events ∙ append-nil r.events))
+    let same : recorded (step_from (Some status) p r.core) r ≡ Ok r' = ap (λ o. recorded (step_from o p r.core) r) (sym exited) ∙ h in
+    let events : r'.events ≡ r.events ++ [] = cc in
+    (cc, events ∙ append-nil r.events)
 
 -- ---- bytes that become undefined
 
-undefined_again : (b : Bool) → cond b Undef Undef ≡ Undef
-undefined_again true = refl
-undefined_again false = refl
+settled-cell : (map : MemMap) (sp : ℕ) (s : PlainCore) (a : ℕ) → cell_of (settled map sp s) a ≡ undefined_below map sp a (cell_of s a)
+settled-cell map sp s a = cell-changed_default (undefined_below map sp) s.memory a Undef (again (leb map.stack_low a && ltb a sp))
+  where
+    again : (b : Bool) → cond b Undef Undef ≡ Undef
+    again true = refl
+    again false = refl
 
-undefined_cell : (map : MemMap) (sp : ℕ) (s : PlainCore) (a : ℕ) → cell_at Undef (changed (undefined_below map sp) s.memory) a ≡ undefined_below map sp a (cell_of s a)
-undefined_cell map sp s a = cell-changed_default (undefined_below map sp) s.memory a Undef (undefined_again (leb map.stack_low a && ltb a sp))
-
-undefined_stands : (V : Value → Option ℕ) (b : Bool) (c : SymByte) (v : ℕ) → ByteStands V c v → ByteStands V (cond b Undef c) v
-undefined_stands V true c v h = tt
-undefined_stands V false c v h = h
-
-undefined_names : (p : Program) (b : Bool) (c : SymByte) → NamesByte p c → NamesByte p (cond b Undef c)
-undefined_names p true c h = tt
-undefined_names p false c h = h
+-- what holds of a byte, and of an undefined one, holds of it after
+settled_holds : (P : SymByte → Type 0) (map : MemMap) (sp : ℕ) (s : PlainCore) (a : ℕ) → P Undef → P (cell_of s a) → P (cell_of (settled map sp s) a)
+settled_holds P map sp s a undefined before =
+    subst P (sym (settled-cell map sp s a)) (cond_both (leb map.stack_low a && ltb a sp) Undef (cell_of s a) P (λ _. undefined) (λ _. before))
 
 -- ---- states
 
-module _ (p : Program) (e : Image) (s s' : PlainCore) (end : Ended p.map s s') where
-  -- registers and memory stand for the same as before
-  pub ends_stands : (z : ZcState) → Stands p (place_address e) s z → Stands p (place_address e) s' z
-  ends_stands z h = subst (λ x. Stands p (place_address e) x z) (sym end.state) (record {
-    registers = h.registers;
-    memory = λ a m. rw (undefined_cell p.map end.sp s a) (undefined_stands (value_in p (place_address e)) (leb p.map.stack_low a && ltb a end.sp) (cell_of s a) (byte_in z.core a) (h.memory a m));
-    input = h.input;
-    place = h.place;
-  })
+-- registers and memory stand for what they stood for
+pub ends_stands : {p : Program} {A : Place → Option ℕ} {s s' : PlainCore} {z : ZcState} → Ended p.map s s' → Stands p A s z → Stands p A s' z
+ends_stands {p} {A} {s} {s'} {z} end h = subst (λ x. Stands p A x z) (sym end.state) (record {
+  registers = h.registers;
+  memory = λ a m. settled_holds (λ c. ByteStands (value_in p A) c (byte_in z.core a)) p.map end.sp s a tt (h.memory a m);
+  input = h.input;
+  place = h.place;
+})
 
-  -- and states that are ready are alike
-  pub ends_alike : (z : ZcCore) → Ready p e s z → Alike p e s' z
-  ends_alike z ready = subst (λ x. Alike p e x z) (sym end.state) alike
-    where
-      V : Value → Option ℕ
-      V = value_in p (place_address e)
-
-      same : end.sp ≡ reg_in z 2
-      same = number_is (value_in p (place_address e)) (reg_of s 2) (reg_in z 2) end.sp (ready.core.words 2) (ready.registers 2 (omega arith)) end.is
-
-      alike : Alike p e (record s { memory = changed (undefined_below p.map end.sp) s.memory }) z
-      alike = record {
-        ready = record {
-          running = ready.running;
-          going = ready.going;
-          plain = record { count = ready.plain.count; input = ready.plain.input };
-          core = ready.core;
-          registers = ready.registers;
-          memory = λ a m. rw (undefined_cell p.map end.sp s a) (undefined_stands (value_in p (place_address e)) (leb p.map.stack_low a && ltb a end.sp) (cell_of s a) (byte_in z a) (ready.memory a m));
-          names = record {
-            registers = ready.names.registers;
-            memory = λ a m. rw (undefined_cell p.map end.sp s a) (undefined_names p (leb p.map.stack_low a && ltb a end.sp) (cell_of s a) (ready.names.memory a m));
-          };
-          extents = ready.extents;
-          text = ready.text;
-          table = ready.table;
-        };
-        low = omega (arith, end.low, same);
-        high = omega (arith, end.high, same);
-        below = λ a low lt.
-            let under : a < end.sp = omega (arith, same, lt) in
-            undefined_cell p.map end.sp s a
-            ∙ cond-true (leb p.map.stack_low a && ltb a end.sp) Undef (cell_of s a) (and_from (leb p.map.stack_low a) (ltb a end.sp) (le-leb p.map.stack_low a low) (lt-ltb a end.sp under));
-      }
+-- and states that are ready are alike
+pub ends_alike : {p : Program} {e : Image} {s s' : PlainCore} {z : ZcCore} → Ended p.map s s' → Ready p e s z → Alike p e s' z
+ends_alike {p} {e} {s} {s'} {z} end ready = subst (λ x. Alike p e x z) (sym end.state) (record {
+  ready = record {
+    running = ready.running;
+    going = ready.going;
+    plain = record { count = ready.plain.count; input = ready.plain.input };
+    core = ready.core;
+    registers = ready.registers;
+    memory = λ a m. settled_holds (λ c. ByteStands (value_in p (place_address e)) c (byte_in z a)) p.map end.sp s a tt (ready.memory a m);
+    names = record {
+      registers = ready.names.registers;
+      memory = λ a m. settled_holds (NamesByte p) p.map end.sp s a tt (ready.names.memory a m);
+    };
+    extents = ready.extents;
+    text = ready.text;
+    table = ready.table;
+  };
+  low = omega (arith, end.low, same);
+  high = omega (arith, end.high, same);
+  below = λ a low lt.
+      let under : a < end.sp = omega (arith, same, lt) in
+      settled-cell p.map end.sp s a
+      ∙ cond-true (leb p.map.stack_low a && ltb a end.sp) Undef (cell_of s a)
+      (and_from (leb p.map.stack_low a) (ltb a end.sp) (le-leb p.map.stack_low a low) (lt-ltb a end.sp under));
+})
+  where
+    same : end.sp ≡ reg_in z 2
+    same = number_is (value_in p (place_address e)) (reg_of s 2) (reg_in z 2) end.sp (ready.core.words 2) (ready.registers 2 (omega arith)) end.is

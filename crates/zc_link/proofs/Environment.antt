@@ -25,10 +25,12 @@ use Rattle.zc_link.proofs.Ends.{Ended, ends_stands}
 use Rattle.zc_link.proofs.Singles.{FromSound}
 use Rattle.zc_link.proofs.Words.{number_is}
 
-module _ (p : Program) (e : Image) (room : Room p e) (r r' : PlainState) (cuts : ℕ → List Cut) (z : ZcState) (from : FromSound p e r r' cuts z) (laid : OpLaid p e r.core.place z.core.pc Ecall) where
+module _
+    {p : Program} {e : Image} {r r' : PlainState} {cuts : ℕ → List Cut} {z : ZcState} (room : Room p e) (from : FromSound p e r r' cuts z)
+    (laid : OpLaid p e r.core.place z.core.pc Ecall) where
   -- the state that asks
   w : AfterCuts p e laid.laid.here laid.laid.at.size r.core (cuts 0) z
-  w = after_cuts p e room laid.laid.here r.core (cuts 0) z laid.laid.at (from.are 0) from.sound.alike
+  w = after_cuts room (cuts 0) (from.are 0) laid.laid.at from.sound.alike
 
   -- the turn is the environment's answer
   asked : (c : EnvCall) → called w.now ≡ Wants c → zc_turn (cuts 0) z ≡ answered c (record z { core = w.now })
@@ -47,7 +49,9 @@ module _ (p : Program) (e : Image) (room : Room p e) (r r' : PlainState) (cuts :
   exit_change status = record (onward r.core.place) { exit = Some status; events = Exit status ∷ [] }
 
   -- the answer to it ends both
-  exit_over : (status : ℕ) → called w.now ≡ Wants (call.Exit status) → Ended p.map (after_change (exit_change status) r.core) r'.core → r'.events ≡ r.events ++ Exit status ∷ [] → Comes p e cuts 1 z r'
+  exit_over :
+      (status : ℕ) → called w.now ≡ Wants (call.Exit status) → Ended p.map (after_change (exit_change status) r.core) r'.core
+      → r'.events ≡ r.events ++ Exit status ∷ [] → Comes p e cuts 1 z r'
   exit_over status wants end events =
       let z1 : ZcState = record z { core = record w.now { exit = Some status; commits = w.now.commits + 1 }; events = z.events ++ Exit status ∷ [] } in
       record {
@@ -57,7 +61,7 @@ module _ (p : Program) (e : Image) (room : Room p e) (r r' : PlainState) (cuts :
           status = status;
           exited = ap (λ s. s.exit) end.state;
           ended = refl;
-          stands = ends_stands p e (after_change (exit_change status) r.core) r'.core end z1 (record { registers = w.alike.registers; memory = w.alike.memory; input = from.sound.input; place = λ running. absurd cc });
+          stands = ends_stands end (record { registers = w.alike.registers; memory = w.alike.memory; input = from.sound.input; place = λ running. absurd cc });
         };
         events = ap (λ l. l ++ Exit status ∷ []) from.same ∙ sym events;
       }
@@ -79,7 +83,9 @@ module _ (p : Program) (e : Image) (room : Room p e) (r r' : PlainState) (cuts :
   pub call_comes : call_does (number_of (reg_of r.core 17)) r.core ≡ Goes from.step.change → Comes p e cuts 1 z r'
   call_comes h = known (number_of (reg_of r.core 17)) refl h
     where
-      by_number : (a7 : ℕ) (b : Bool) → a7 ≡ reg_in w.now 17 → eqb a7 93 ≡ b → cond b (exit_does (number_of (reg_of r.core 10)) r.core.place) (Stops UnknownCall) ≡ Goes from.step.change → Comes p e cuts 1 z r'
+      by_number :
+          (a7 : ℕ) (b : Bool) → a7 ≡ reg_in w.now 17 → eqb a7 93 ≡ b
+          → cond b (exit_does (number_of (reg_of r.core 10)) r.core.place) (Stops UnknownCall) ≡ Goes from.step.change → Comes p e cuts 1 z r'
       by_number a7 true is exit g = exit_comes (number_of (reg_of r.core 10)) refl (sym is ∙ eqb-true a7 93 exit) g
       by_number a7 false is other g = absurd cc
 

@@ -27,7 +27,9 @@ use Rattle.zc_link.proofs.Ends.{stays}
 -- ---- what is known at the ends
 
 -- after the exit the program's state stays
-all_stay : (p : Program) (n : ℕ) (r r' : PlainState) (status : ℕ) → r.core.exit ≡ Some status → iterate (plain_turn p) n r ≡ Ok r' → (r'.core ≡ r.core) × (r'.events ≡ r.events)
+all_stay :
+    (p : Program) (n : ℕ) (r r' : PlainState) (status : ℕ) → r.core.exit ≡ Some status → iterate (plain_turn p) n r ≡ Ok r'
+    → (r'.core ≡ r.core) × (r'.events ≡ r.events)
 all_stay p zero r r' status exited h = let same : r ≡ r' = cc in (ap (λ x. x.core) (sym same), ap (λ x. x.events) (sym same))
 all_stay p (suc n) r r' status exited h =
     let first = bind_ok (plain_turn p r) (iterate (plain_turn p) n) r' h in
@@ -62,7 +64,9 @@ module _ (p : Program) (e : Image) (pace : Pace) (law : Simulates p e pace) wher
 
   -- n steps of the program are some commits, the same number for all interrupts and all states that belong together
   abbrev Runs : ℕ → PlainState → PlainState → Type 0
-  Runs n r r' = (m : ℕ) × (m ≤ 64 * n) × ((cuts : ℕ → List Cut) → AreCuts cuts → (z : ZcState) → Together p e r.core z → z.events ≡ r.events → Ran cuts m r' z)
+  Runs n r r' =
+      (m : ℕ) × (m ≤ 64 * n)
+      × ((cuts : ℕ → List Cut) → AreCuts cuts → (z : ZcState) → Together p e r.core z → z.events ≡ r.events → Ran cuts m r' z)
 
   -- no commit is made: the program has exited, or has made no step
   waits : (n : ℕ) (r r' : PlainState) → r'.core ≡ r.core → r'.events ≡ r.events → Runs n r r'
@@ -98,7 +102,9 @@ module _ (p : Program) (e : Image) (pace : Pace) (law : Simulates p e pace) wher
       no_claim r' unlisted running (inr exited) = false≢true (rw running at exited)
 
   -- a piece's steps, and the rest
-  goes_on : (n k : ℕ) (r r1 r' : PlainState) → n ≡ pace.span r.core.place + k → r.core.exit ≡ None → iterate (plain_turn p) (pace.span r.core.place) r ≡ Ok r1 → Runs k r1 r' → Runs n r r'
+  goes_on :
+      (n k : ℕ) (r r1 r' : PlainState) → n ≡ pace.span r.core.place + k → r.core.exit ≡ None
+      → iterate (plain_turn p) (pace.span r.core.place) r ≡ Ok r1 → Runs k r1 r' → Runs n r r'
   goes_on n k r r1 r' sum running first rest =
       let few = law.few r.core in
       let weight = pace.weight r.core in (
@@ -106,15 +112,18 @@ module _ (p : Program) (e : Image) (pace : Pace) (law : Simulates p e pace) wher
         omega (arith, rest.1, few, sum),
         λ cuts are z t same. ⊎_elim
             (λ so.
+            let later : ℕ → List Cut = λ j. cuts (weight + j) in
             let a = law.step r r1 first cuts are z so same in
-            let b = rest.2 (λ j. cuts (weight + j)) (λ j. are (weight + j)) a.after a.together a.events in
-            record { after = b.after; runs = zc_turns-add cuts weight rest.0 z ∙ ap (λ x. x >>= zc_turns (λ j. cuts (weight + j)) rest.0) a.runs ∙ b.runs; follows = b.follows })
+            let b = rest.2 later (λ j. are (weight + j)) a.after a.together a.events in
+            record { after = b.after; runs = zc_turns-add cuts weight rest.0 z ∙ ap (λ x. x >>= zc_turns later rest.0) a.runs ∙ b.runs; follows = b.follows })
             (λ over. absurd (let x : None ≡ Some over.status = sym running ∙ over.exited in cc))
             t,
       )
 
   -- by the exit, and by where the piece ends
-  some_steps : (n : ℕ) (r r' : PlainState) → 0 < n → iterate (plain_turn p) n r ≡ Ok r' → ((k : ℕ) (r1 : PlainState) → k < n → iterate (plain_turn p) k r1 ≡ Ok r' → Runs k r1 r') → Runs n r r'
+  some_steps :
+      (n : ℕ) (r r' : PlainState) → 0 < n → iterate (plain_turn p) n r ≡ Ok r'
+      → ((k : ℕ) (r1 : PlainState) → k < n → iterate (plain_turn p) k r1 ≡ Ok r' → Runs k r1 r') → Runs n r r'
   some_steps n r r' more h again = by_exit r.core.exit refl
     where
       by_span : r.core.exit ≡ None → (n < pace.span r.core.place) ⊎ (pace.span r.core.place ≤ n) → Runs n r r'
@@ -124,7 +133,8 @@ module _ (p : Program) (e : Image) (pace : Pace) (law : Simulates p e pace) wher
           let span = pace.span r.core.place in
           let sum : n ≡ span + (n - span) = omega (arith, outer) in
           let split : iterate (plain_turn p) (span + (n - span)) r ≡ Ok r' = ap (λ k. iterate (plain_turn p) k r) (sym sum) ∙ h in
-          let parts = bind_ok (iterate (plain_turn p) span r) (iterate (plain_turn p) (n - span)) r' (sym (iterate-add (plain_turn p) span (n - span) r) ∙ split) in
+          let both = sym (iterate-add (plain_turn p) span (n - span) r) ∙ split in
+          let parts = bind_ok (iterate (plain_turn p) span r) (iterate (plain_turn p) (n - span)) r' both in
           goes_on n (n - span) r parts.0 r' sum running parts.1 (again (n - span) parts.0 (omega (arith, some, more, outer)) parts.2)
 
       by_exit : (o : Option ℕ) → r.core.exit ≡ o → Runs n r r'
@@ -147,24 +157,28 @@ module _ (p : Program) (e : Image) (pace : Pace) (law : Simulates p e pace) wher
         λ plan is_plan.
             let cuts = cuts_at plan in
             let are = cuts_at-bytes plan is_plan in
-            let first = first_state (loaded e) input in
+            let later : ℕ → List Cut = λ j. cuts (lead + j) in
             let a = law.start input bytes cuts are in
-            let b = all.2 (λ j. cuts (lead + j)) (λ j. are (lead + j)) a.after a.together a.events in
-            (b.after, zc_turns-add cuts lead all.0 first ∙ ap (λ x. x >>= zc_turns (λ j. cuts (lead + j)) all.0) a.runs ∙ b.runs, b.follows),
+            let b = all.2 later (λ j. are (lead + j)) a.after a.together a.events in
+            (b.after, zc_turns-add cuts lead all.0 (first_state (loaded e) input) ∙ ap (λ x. x >>= zc_turns later all.0) a.runs ∙ b.runs, b.follows),
       )
 
 -- ---- files
 
 -- what keeps step with the objects' program preserves it
 pub preserves : (inputs : Inputs) (elf : List ℕ) → KeepsStep inputs elf → Preserves inputs elf
-preserves inputs elf keeps = record { image = keeps.image; read = keeps.read; follows = follows (program_of (parsed inputs)) keeps.image (pace_of (parsed inputs)) keeps.simulates }
+preserves inputs elf keeps = record {
+  image = keeps.image;
+  read = keeps.read;
+  follows = follows (program_of (parsed inputs)) keeps.image (pace_of (parsed inputs)) keeps.simulates;
+}
 
 -- what holds under every plan holds without interrupts
 pub quietly : (inputs : Inputs) (elf : List ℕ) → Preserves inputs elf → PreservesQuietly inputs elf
-quietly inputs elf preserves = record {
-  image = preserves.image;
-  read = preserves.read;
+quietly inputs elf under_all = record {
+  image = under_all.image;
+  read = under_all.read;
   follows = λ input n s bytes h.
-      let under = preserves.follows input n s bytes h in
+      let under = under_all.follows input n s bytes h in
       (under.0, under.1, λ plan none. under.2 plan (subst IsPlan (sym none) (All-nil _)));
 }

@@ -9,6 +9,8 @@ pub mod Singles
 pub mod Environment
 pub mod Items
 pub mod Pieces
+pub mod Extents
 pub mod Apart
+pub mod Start
 pub mod Induction
 pub mod Simulation

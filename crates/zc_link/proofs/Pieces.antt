@@ -19,19 +19,23 @@ use Rattle.zc_link.proofs.Items.{item_comes}
 pub span_some : (x : Piece) → 0 < span_of x
 span_some Alone = omega arith
 
-module _ (p : Program) (e : Image) (r r' : PlainState) where
-  -- the step of an item alone
-  one_turn : iterate (plain_turn p) 1 r ≡ Ok r' → plain_turn p r ≡ Ok r'
-  one_turn h =
-      let first = bind_ok (plain_turn p r) (iterate (plain_turn p) 0) r' h in
-      let last : first.0 ≡ r' = (let rest = first.2 in cc) in
-      first.1 ∙ ap Ok last
+-- the step of an item alone
+one_turn : (p : Program) (r r' : PlainState) → iterate (plain_turn p) 1 r ≡ Ok r' → plain_turn p r ≡ Ok r'
+one_turn p r r' h =
+    let first = bind_ok (plain_turn p r) (iterate (plain_turn p) 0) r' h in
+    let last : first.0 ≡ r' = (let rest = first.2 in cc) in
+    first.1 ∙ ap Ok last
 
-  pub piece_comes : Room p e → (cuts : ℕ → List Cut) → AreCuts cuts → (z : ZcState) → Sound p e r.core z → z.events ≡ r.events → (x : Piece) → PieceLaid p e r.core.place z.core.pc x → iterate (plain_turn p) (span_of x) r ≡ Ok r' → Comes p e cuts (commits_of p r.core x) z r'
-  piece_comes room cuts are z so same Alone laid h =
-      let step = stepped p r r' so.alike.running (one_turn h) in
-      item_comes p e room r r' cuts z (record { sound = so; same = same; are = are; step = step }) (p.item r.core.place) laid step.does
+pub piece_comes :
+    {p : Program} {e : Image} {r r' : PlainState} {z : ZcState} (x : Piece) → Room p e → (cuts : ℕ → List Cut) → AreCuts cuts → Sound p e r.core z
+    → z.events ≡ r.events → PieceLaid p e r.core.place z.core.pc x → iterate (plain_turn p) (span_of x) r ≡ Ok r'
+    → Comes p e cuts (commits_of p r.core x) z r'
+piece_comes {p = p} {r = r} {r' = r'} Alone room cuts are so same laid h =
+    let step = stepped p r r' so.alike.running (one_turn p r r' h) in
+    item_comes room (record { sound = so; same = same; are = are; step = step }) (p.item r.core.place) laid step.does
 
-  -- an item alone has no place inside
-  pub piece_inside : (x : Piece) (a k : ℕ) → PieceLaid p e r.core.place a x → 0 < k → k < span_of x → r.core.exit ≡ None → iterate (plain_turn p) k r ≡ Ok r' → IsInside e r r'
-  piece_inside Alone a k laid some lt running h = absurd (omega (arith, some, lt))
+-- an item alone has no place inside
+pub piece_inside :
+    (p : Program) (e : Image) (r r' : PlainState) (x : Piece) (a k : ℕ) → PieceLaid p e r.core.place a x → 0 < k → k < span_of x → r.core.exit ≡ None
+    → iterate (plain_turn p) k r ≡ Ok r' → IsInside e r r'
+piece_inside p e r r' Alone a k laid some lt running h = absurd (omega (arith, some, lt))

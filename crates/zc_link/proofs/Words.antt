@@ -25,10 +25,14 @@ module _ (V : Value → Option ℕ) where
   pub undef_stands : (n : ℕ) → WordStands V undef_word n
   undef_stands n = record { b0 = tt; b1 = tt; b2 = tt; b3 = tt }
 
-  four_bytes : (n a b c d : ℕ) → n < 2 ^ 32 → byte_of n 0 ≡ a → byte_of n 1 ≡ b → byte_of n 2 ≡ c → byte_of n 3 ≡ d → a + 256 * b + 65536 * c + 16777216 * d ≡ n
+  four_bytes :
+      (n a b c d : ℕ) → n < 2 ^ 32 → byte_of n 0 ≡ a → byte_of n 1 ≡ b → byte_of n 2 ≡ c → byte_of n 3 ≡ d
+      → a + 256 * b + 65536 * c + 16777216 * d ≡ n
   four_bytes n a b c d small first second third fourth = omega arith
 
-  bytes_are : (b0 b1 b2 b3 : SymByte) (n m : ℕ) → n < 2 ^ 32 → ByteStands V b0 (byte_of n 0) → ByteStands V b1 (byte_of n 1) → ByteStands V b2 (byte_of n 2) → ByteStands V b3 (byte_of n 3) → number_of_bytes b0 b1 b2 b3 ≡ Some m → m ≡ n
+  bytes_are :
+      (b0 b1 b2 b3 : SymByte) (n m : ℕ) → n < 2 ^ 32 → ByteStands V b0 (byte_of n 0) → ByteStands V b1 (byte_of n 1) → ByteStands V b2 (byte_of n 2)
+      → ByteStands V b3 (byte_of n 3) → number_of_bytes b0 b1 b2 b3 ≡ Some m → m ≡ n
   bytes_are (Num a) (Num b) (Num c) (Num d) n m small h0 h1 h2 h3 is =
       let sum : a + 256 * b + 65536 * c + 16777216 * d ≡ n = four_bytes n a b c d small h0 h1 h2 h3 in
       cc
@@ -71,7 +75,8 @@ module _ (V : Value → Option ℕ) where
     pub small : value < 2 ^ 32
     pub stands : WordStands V w value
 
-  pub imm_stands : (op : ImmOp) (w x : SymWord) (imm : ℤ) (n : ℕ) → n < 2 ^ 32 → WordStands V w n → imm_word op w imm ≡ Some x → Result x (imm_result op n imm)
+  pub imm_stands :
+      (op : ImmOp) (w x : SymWord) (imm : ℤ) (n : ℕ) → n < 2 ^ 32 → WordStands V w n → imm_word op w imm ≡ Some x → Result x (imm_result op n imm)
   imm_stands Addi w x imm n small h is =
       let same : sum_word w imm ≡ x = cc in
       record { value = add32 n imm; is = refl; small = omega arith; stands = subst (λ y. WordStands V y (add32 n imm)) same (sum_stands w imm n small h) }
