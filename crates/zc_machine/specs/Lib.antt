@@ -12,4 +12,4 @@ pub use Rattle.elf32_read.specs.Header
 pub use Rattle.elf32_read.specs.Segments
 pub use Rattle.interrupt_plan.specs.Plan
 pub use Rattle.rv_decode.specs.State
-pub use Rattle.zc_outside.specs.Streams
+pub use Rattle.zc_outside.specs.Desk

@@ -1,4 +1,4 @@
-// What one step of the machine comes to.
+// What a step of the machine answers.
 
 use crate::reason::Reason;
 
