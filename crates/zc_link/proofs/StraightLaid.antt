@@ -3,7 +3,6 @@
 use Rattle.std.proofs.Common.{◌≡◌, ℕ, ◌+◌, ◌*◌, ◌^◌, ◌<◌, ◌≤◌, List, [], ◌∷◌, length, Option, Some, None, Bool, true, false, refl, sym, ap, ◌∙◌, subst, arith, get_or}
 use Rattle.zc_base.specs.MemMap.{IsMap}
 use Rattle.zc_base.specs.declared.place.Place.{Place}
-use Rattle.elf32_read.specs.Parts.{ObjectParts}
 use Rattle.elf32_read.specs.Segments.{SegmentData}
 use Rattle.rv_decode.specs.declared.instr.Instr.{Instr}
 use Rattle.rv_decode.specs.declared.instr.Instr.TheVariants.{Ecall}
@@ -31,18 +30,11 @@ use Rattle.zc_link.specs.Stands.{ByteStands}
 use Rattle.zc_link.specs.Straight.{is_li, piece, place_at, text_of}
 use Rattle.zc_link.specs.Values.{value_in}
 use Rattle.zc_link.proofs.StraightFetched.{piece_fetched}
+use Rattle.zc_link.proofs.StraightItems.{IsWord}
 use Rattle.zc_link.proofs.StraightParts.{length-text_of}
 use Rattle.zc_link.proofs.StraightPieces.{offset_of, offset_more, offset_within, piece_long}
 use Rattle.zc_link.proofs.StraightPlaces.{IsListed, address_found, listed}
 use Rattle.zc_link.proofs.StraightRoom.{bytes, image, room, undefined}
-
--- an item of section 1 that is an instruction is the word's at its place
-pub record IsWord (words : List ℕ) (k : ℕ) (i : Instr) : Type 0 where
-  pub within : k < length words
-  pub spells : decoded (get_or words k 0) ≡ Some i
-
-abbrev pub Spell : List ObjectParts → List ℕ → Type 0
-Spell objects words = (k : ℕ) (i : Instr) → item_at objects (place_at (4 * k)) ≡ Some (Op i) → IsWord words k i
 
 -- `ecall` has no short form
 ecall_long : (w : ℕ) (i : Instr) → decoded w ≡ Some i → i ≡ Ecall → length (piece w) ≡ 4
@@ -54,7 +46,7 @@ undefined_stands V x b e = subst (λ y. ByteStands V y b) (sym e) tt
 undefined_names : (p : Program) (x : SymByte) → x ≡ Undef → NamesByte p x
 undefined_names p x e = subst (NamesByte p) (sym e) tt
 
-module _ (inputs : ParsedInputs) (words : List ℕ) (is : IsMap inputs.map) (few : length words ≤ 16384) (spell : Spell inputs.objects words) (small : (k : ℕ) → get_or words k 0 < 2 ^ 32) where
+module _ (inputs : ParsedInputs) (words : List ℕ) (is : IsMap inputs.map) (few : length words ≤ 16384) (spell : (k : ℕ) (i : Instr) → item_at inputs.objects (place_at (4 * k)) ≡ Some (Op i) → IsWord words k i) (small : (k : ℕ) → get_or words k 0 < 2 ^ 32) where
   abbrev program : Program
   program = program_of inputs
 
