@@ -87,7 +87,7 @@ fn lacks_names(bytes: &[u8]) -> bool
     section_count(bytes) <= i || section_header(bytes, u32::from(i)).kind != STRTAB
 }
 
-// Where the last name ends: an offset has a zero at it or behind it exactly where it is below.
+// Where the last name ends: an offset has a zero at it or after it exactly if it is below.
 fn names_end(names: &[u8]) -> usize
     ensures { (k : ℕ) → list_any (λ byte. byte == 0) (drop k names.now) ≡ nat_lt k result }
 {
@@ -190,7 +190,7 @@ fn list_in<'a>(bytes: &'a [u8], map: &MemMap, header: SectionHeader) -> Result<&
     Ok(list)
 }
 
-/// The entries of the places that an image lists, none where it has no list, unless the list is
+/// The entries of the places that an image lists, none if it has no list, unless the list is
 /// bad.
 pub fn places_in<'a>(bytes: &'a [u8], map: &MemMap) -> Result<&'a [u8], ImageFault>
     requires start { 52 ≤ length bytes.now }
