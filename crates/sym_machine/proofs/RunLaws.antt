@@ -1,11 +1,9 @@
 -- Runs of the symbolic machine, one step at a time.
-use Rattle.std.proofs.Common.{◌≡◌, ℕ, zero, suc, ◌+◌, List, [], ◌++◌, Option, Some, None, Ok, Err, refl, ap, sym, ◌∙◌}
+use Rattle.std.proofs.Common.{◌≡◌, ℕ, zero, suc, ◌+◌, List, [], ◌++◌, Some, None, Ok, Err, refl, ap, sym, ◌∙◌}
 use Rattle.std.proofs.lemmas.List.{append-nil}
 use Rattle.rv_decode.specs.Run.{iterate, ◌>>=◌}
 use Rattle.rv_decode.specs.State.{Event}
 use Rattle.rv_decode.proofs.RunLaws.{bind_ok, iterate-add, iterate-one}
-use Rattle.zc_outside.specs.Desk.{Desk, Wrote}
-use Rattle.zc_outside.specs.Streams.{Adds}
 use Rattle.sym_machine.specs.declared.why.Why.{Why}
 use Rattle.sym_machine.specs.Change.{Change, Does, Goes, Stops, place_does}
 use Rattle.sym_machine.specs.Program.{Program}
@@ -85,13 +83,3 @@ pub plain_more : (p : Program) (input : List ℕ) (n : ℕ) (s s' : PlainState) 
 unfolding plain
 plain_more p input n s s' before turn =
     iterate-add (plain_turn p) n 1 (silent (first_plain p input)) ∙ ap (λ r. r >>= iterate (plain_turn p) 1) before ∙ iterate-one (plain_turn p) s s' turn
-
--- ---- what is written
-
-nothing_added : (xs : Option (List ℕ)) → Adds xs xs []
-nothing_added None = tt
-nothing_added (Some xs) = sym (append-nil xs)
-
--- a console that stays has got no bytes
-pub nothing_written : (desk : Desk) → Wrote [] [] desk desk
-nothing_written desk = record { out = nothing_added desk.out; err = nothing_added desk.err }

@@ -3,11 +3,12 @@ use Rattle.std.proofs.Common.{◌≡◌, ◌+◌, [], ◌∷◌, Ok, Err, sym, a
 use Rattle.zc_base.specs.declared.place.Place.{Place}
 use Rattle.psabi_sym.specs.Inputs.{parsed}
 use Rattle.rv_decode.specs.State.{Exit}
+use Rattle.zc_outside.proofs.Desk.{Wrote-none}
 use Rattle.sym_machine.specs.Objects.{program_of}
 use Rattle.sym_machine.specs.Program.{Program}
 use Rattle.sym_machine.specs.Run.{plain}
 use Rattle.sym_machine.specs.State.{PlainCore, PlainState}
-use Rattle.sym_machine.proofs.RunLaws.{nothing_written, plain_more, plain_none, silent, silent_stuck, silent_went}
+use Rattle.sym_machine.proofs.RunLaws.{plain_more, plain_none, silent, silent_stuck, silent_went}
 use Rattle.sym_machine.proofs.run.run.Goals as goal
 
 pub loop-turn-init : goal.loop-turn-init
@@ -41,7 +42,7 @@ returns-in-Exited-clause-ran g c =
       last = last;
       state = plain_more p c.args.sym.now.input c.loop-turn._turn (silent s) last c.loop-turn.invariant.ran (silent_went p s c.step.new.self last.events exits.2);
       exit = exits.1;
-      wrote = nothing_written (g.C.Console.shown c.args.console.now);
+      wrote = Wrote-none (g.C.Console.shown c.args.console.now);
     })
     (λ exited. absurd cc)
     c.in-Exited.ensures
@@ -58,7 +59,7 @@ returns-in-Stuck-clause-ran g c =
       state = c.loop-turn.invariant.ran;
       running = c.loop-turn.invariant.running;
       stuck = silent_stuck p s c.in-Stuck.why stuck.3 ∙ ap (λ (q : Place). Err (q, c.in-Stuck.why)) (sym stuck.2);
-      wrote = nothing_written (g.C.Console.shown c.args.console.now);
+      wrote = Wrote-none (g.C.Console.shown c.args.console.now);
     }
 
 pub returns-clause-ran : goal.returns-clause-ran
@@ -69,5 +70,5 @@ returns-clause-ran g c =
       last = silent c.loop-turn.sym;
       state = sym (ap (plain p c.args.sym.now.input) all) ∙ c.loop-turn.invariant.ran;
       running = c.loop-turn.invariant.running;
-      wrote = nothing_written (g.C.Console.shown c.args.console.now);
+      wrote = Wrote-none (g.C.Console.shown c.args.console.now);
     }
