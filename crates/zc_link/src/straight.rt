@@ -1,19 +1,65 @@
-// Straight code: each item takes its shortest form, one after another.
+// The link of straight code: each item takes its shortest form, one after another.
 
-ghost use Rattle.std.specs.Prelude.{◌≡◌, ◌≤◌, ◌<◌, ◌+◌, ◌/◌, ◌^◌, ◌++◌, false, true, length, IfNone, IfSome, OnOk, ℕ};
+ghost use Rattle.std.specs.Prelude.{◌≡◌, ◌≤◌, ◌<◌, ◌+◌, ◌/◌, ◌^◌, ◌++◌, false, true, None, length, IfNone, IfSome, IfOk, OnOk, ℕ};
 ghost use Rattle.std.specs.Int.{w32, cast_unsigned};
+ghost use Rattle.block_cut.specs.Faults.{first_fault};
 ghost use Rattle.block_cut.specs.Items.{spelled};
+ghost use Rattle.block_cut.specs.Straight.{code_of, words_in};
 ghost use Rattle.rv_decode.specs.Decode.{decoded};
-ghost use Rattle.zc_link.specs.Straight.{is_li, li_half, piece, place_at, short_of};
+ghost use Rattle.zc_link.specs.Linked.{only_file};
+ghost use Rattle.block_cut.specs.Cut.{place_at};
+ghost use Rattle.zc_link.specs.Straight.{is_li, li_half, piece, places_from, short_of, text_of};
 
+use block_cut::cut::Cut;
 use block_cut::item::Item;
 use rv_decode::instr::{ImmOp, Instr};
-use std::alloc::AllocError;
+use std::alloc::{AllocError, Global};
+use zc_base::fields::u32_at;
 use zc_base::place::Place;
 use zc_base::reg::Reg;
 
+/// The text of a link, and the address of each place.
+#[derive(Drop)]
+pub struct Straight {
+    pub text: Vec<u8>,
+    pub places: Vec<(Place, u32)>,
+}
+
+/// The code of objects that are straight code: section 1 of the one object.
+pub fn straight_code(cut: &Cut) -> &[u8]
+    ensures code { result.now ≡ code_of (only_file cut.now) }
+    ensures short { length result.now ≤ 65536 }
+{
+    cut.objects().object(0).section(1).bytes
+}
+
+/// The link of this code, whose items the cut has, with its text from an address on.
+pub fn lay_straight(
+    alloc: Global,
+    cut: &Cut,
+    code: &[u8],
+    start: u32,
+) -> Result<Straight, AllocError>
+    requires faultless { first_fault cut.now ≡ None }
+    requires code { code.now ≡ code_of (only_file cut.now) }
+    requires room { start + length code.now < 2 ^ 32 }
+    ensures text { IfOk result (λ l. l.text.items ≡ text_of (words_in code.now)) }
+    ensures places { IfOk result (λ l. l.places.items ≡ places_from 0 start (words_in code.now)) }
+{
+    let count = code.len() / 4;
+    let mut text = Vec::with_capacity(alloc, code.len())?;
+    let mut places = Vec::with_capacity(alloc, count + 1)?;
+    for i in 0..count {
+        let at = place(4 * i as u32);
+        places.push((at, start + text.len() as u32))?;
+        put_item(&mut text, cut.item(at), u32_at(code, 4 * i))?;
+    }
+    places.push((place(4 * count as u32), start + text.len() as u32))?;
+    Ok(Straight { text, places })
+}
+
 // A place of section 1.
-pub fn place(offset: u32) -> Place
+fn place(offset: u32) -> Place
     ensures { result ≡ place_at offset }
 {
     Place {
@@ -23,10 +69,10 @@ pub fn place(offset: u32) -> Place
     }
 }
 
-// Adds what is written for an item, which a word spells: its short form, or the word.
+// Adds what is written for an item that a word spells: its short form, or else the word.
 #[tactic(auto, unfolding(crate::specs::Straight::piece))]
-pub fn put_item(text: &mut Vec<u8>, item: &Item, word: u32) -> Result<(), AllocError>
-    requires { item.now ≡ spelled (decoded word) word }
+fn put_item(text: &mut Vec<u8>, item: Option<Item>, word: u32) -> Result<(), AllocError>
+    requires { item ≡ Some (spelled (decoded word) word) }
     ensures { OnOk result (text.new.items ≡ text.old.items ++ piece word) }
 {
     match short_form(item) {
@@ -35,14 +81,14 @@ pub fn put_item(text: &mut Vec<u8>, item: &Item, word: u32) -> Result<(), AllocE
     }
 }
 
-// The halfword that is written for an item, if it has one.
-fn short_form(item: &Item) -> Option<u16>
-    ensures long { (word : ℕ) → item.now ≡ spelled (decoded word) word → IfNone result (is_li (decoded word) ≡ false) }
-    ensures short { (word : ℕ) → item.now ≡ spelled (decoded word) word →
+// The halfword that is written for an item, if it has a short form.
+fn short_form(item: Option<Item>) -> Option<u16>
+    ensures long { (word : ℕ) → item ≡ Some (spelled (decoded word) word) → IfNone result (is_li (decoded word) ≡ false) }
+    ensures short { (word : ℕ) → item ≡ Some (spelled (decoded word) word) →
         IfSome result (λ half. (is_li (decoded word) ≡ true) × (half ≡ short_of word)) }
 {
     match item {
-        Item::Op(instr) => short_instr(instr),
+        Some(Item::Op(instr)) => short_instr(&instr),
         _ => None,
     }
 }

@@ -77,6 +77,11 @@ KeepsBytes-trans (Some xs) None zs first second = absurd first
 KeepsBytes-trans (Some xs) (Some ys) None first second = second
 KeepsBytes-trans (Some xs) (Some ys) (Some zs) first second = second ∙ first
 
+-- nothing is added while nothing happens
+pub Adds-none : (xs : Option (List ℕ)) → Adds xs xs []
+Adds-none None = tt
+Adds-none (Some xs) = sym (append-nil xs)
+
 -- bytes that are kept have nothing added
 pub KeepsBytes-Adds-none : (xs ys : Option (List ℕ)) → KeepsBytes xs ys → Adds xs ys []
 KeepsBytes-Adds-none None ys kept = tt

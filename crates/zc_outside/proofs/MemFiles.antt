@@ -54,4 +54,4 @@ with_file-PutsFile files name bytes =
     )
 
 -- for `grind`: what the map's clauses say of the files
-pub ruleset map_as_files = (file_in-files_of, files_of-insert, with_file-PutsFile)
+pub ruleset map_as_files = (file_in-files_of, files_of-insert)

@@ -87,7 +87,6 @@ impl MemStore {
     }
 }
 
-#[tactic(auto, using(crate::proofs::MemFiles::map_as_files))]
 impl Store for MemStore {
     ghost shown = { shelf_of };
 

@@ -17,6 +17,26 @@ pub enum ReadFault {
     OutOfMemory,
 }
 
+/// The bytes of the file with this name, if it has at most `limit` bytes.
+pub fn read_file<S: Store>(
+    alloc: Global,
+    name: &str,
+    limit: u32,
+    store: &mut S,
+) -> Result<Vec<u8>, ReadFault>
+    requires { limit < 2 ^ 32 - 1 }
+    ensures ok { IfOk result (λ file.
+        IsRead (S.shown store.old).files (record { name = name.now; limit = limit }) file.items) }
+    ensures cause { IfErr result (ReadCause (record { name = name.now; limit = limit } ∷ [])
+        (S.shown store.old) (S.shown store.new)) }
+    ensures reads { ReadsAll (record { name = name.now; limit = limit } ∷ []) (S.shown store.old) (S.shown store.new) }
+{
+    store.get(alloc, name, limit).map_err(|fault| match fault {
+        StoreFault::OutOfMemory => ReadFault::OutOfMemory,
+        StoreFault::Failed | StoreFault::TooLong { .. } => ReadFault::Unread,
+    })
+}
+
 /// Makes `files` the bytes of the files with these names, each of at most `limit` bytes.
 ///
 /// Stops at the first file that can't be had. Then `files` may hold anything.
@@ -42,26 +62,6 @@ pub fn read_files<S: Store>(
     Ok(())
 }
 
-// The bytes of one file.
-fn read_file<S: Store>(
-    alloc: Global,
-    name: &str,
-    limit: u32,
-    store: &mut S,
-) -> Result<Vec<u8>, ReadFault>
-    requires { limit < 2 ^ 32 - 1 }
-    ensures ok { IfOk result (λ file.
-        IsRead (S.shown store.old).files (record { name = name.now; limit = limit }) file.items) }
-    ensures cause { IfErr result (ReadCause (record { name = name.now; limit = limit } ∷ [])
-        (S.shown store.old) (S.shown store.new)) }
-    ensures reads { ReadsAll (record { name = name.now; limit = limit } ∷ []) (S.shown store.old) (S.shown store.new) }
-{
-    store.get(alloc, name, limit).map_err(|fault| match fault {
-        StoreFault::OutOfMemory => ReadFault::OutOfMemory,
-        StoreFault::Failed | StoreFault::TooLong { .. } => ReadFault::Unread,
-    })
-}
-
 #[cfg(test)]
 mod tests {
     use super::*;
@@ -79,21 +79,21 @@ mod tests {
             String::from_str(alloc, "empty")?,
         ];
         let none = [String::from_str(alloc, "none")?];
+        let empty = [String::from_str(alloc, "empty")?];
         let mut files = Vec::new(alloc);
         let read = read_files(alloc, &names, 5, &mut files, &mut store);
         assert_eq!(rt; read, Ok(()));
         assert_eq!(rt; files.len(), 2);
         assert_eq!(rt; files[0].as_slice(), b"bytes".as_slice());
         assert_eq!(rt; files[1].as_slice(), b"".as_slice());
-        for (names, limit, read) in [
-            (&names[..1], 4, Err(ReadFault::Unread)),
-            (&none[..], 5, Err(ReadFault::Unread)),
-            (&names[1..], 0, Err(ReadFault::Unread)),
-            (&names[1..], 0, Ok(())),
-        ] {
-            let found = read_files(alloc, names, limit, &mut files, &mut store);
-            assert_eq!(rt; found, read, "of {} within {limit}", names.len());
-        }
+        let read = read_files(alloc, &names, 4, &mut files, &mut store);
+        assert_eq!(rt; read, Err(ReadFault::Unread), "five bytes are too long");
+        let read = read_files(alloc, &none, 5, &mut files, &mut store);
+        assert_eq!(rt; read, Err(ReadFault::Unread), "no such name");
+        let read = read_files(alloc, &empty, 0, &mut files, &mut store);
+        assert_eq!(rt; read, Err(ReadFault::Unread), "the call is listed");
+        let read = read_files(alloc, &empty, 0, &mut files, &mut store);
+        assert_eq!(rt; read, Ok(()));
         assert_eq!(rt; files.len(), 1, "no file of an earlier call is left");
         Ok(())
     }
