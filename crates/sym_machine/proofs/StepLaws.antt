@@ -1,7 +1,8 @@
--- A step of the symbolic machine: how it begins, by the exit's status, and how it ends while no byte of the stack was written.
-use Rattle.std.proofs.Common.{◌≡◌, ℕ, zero, suc, ◌-◌, List, [], ◌∷◌, Option, Some, None, Bool, true, false, cond, refl, sym, ap, ◌∙◌, leb, replicate}
+-- A step of the symbolic machine: it begins by the exit's status, and when it ends, sp is a number within the stack and the
+-- bytes below it become undefined (Ended). While no byte of the stack was written, that changes nothing.
+use Rattle.std.proofs.Common.{◌≡◌, ℕ, zero, suc, ◌-◌, ◌≤◌, List, [], ◌∷◌, Option, Some, None, Bool, true, false, cond, refl, sym, ap, ◌∙◌, leb, replicate}
 use Rattle.std.specs.Prelude.{◌&&◌}
-use Rattle.std.proofs.lemmas.Bool.{cond-true, cond-false}
+use Rattle.std.proofs.lemmas.Bool.{and_parts, cond-true, cond-false, leb-true}
 use Rattle.zc_base.specs.declared.mem_map.MemMap.{MemMap}
 use Rattle.rv_decode.specs.Memory.{Region, Data, Stack, blank, cells_changed, changed}
 use Rattle.rv_decode.specs.State.{Event}
@@ -29,6 +30,36 @@ unfolding plain_step
 step_running p s running = ap (λ e. step_from e p s) running
 
 -- ---- the end
+
+-- the state after the bytes below this sp have become undefined
+abbrev pub settled : MemMap → ℕ → PlainCore → PlainCore
+settled map sp s = record s { memory = changed (undefined_below map sp) s.memory }
+
+-- from the state s to s': sp is a number within the stack, and nothing changes but that the bytes below it are undefined
+pub record Ended (map : MemMap) (s s' : PlainCore) : Type 0 where
+  pub sp : ℕ
+  pub is : number_of (reg_of s 2) ≡ Some sp
+  pub low : map.stack_low ≤ sp
+  pub high : sp ≤ map.stack_high
+  pub state : s' ≡ settled map sp s
+
+pub ended : (map : MemMap) (s s' : PlainCore) (events events' : List Event) → ends map s events ≡ Went s' events' → Ended map s s' × (events' ≡ events)
+unfolding ends
+ended map s s' events events' h = known (number_of (reg_of s 2)) refl h
+  where
+    within :
+        (sp : ℕ) (b : Bool) → number_of (reg_of s 2) ≡ Some sp → (leb map.stack_low sp && leb sp map.stack_high) ≡ b
+        → cond b (Went (settled map sp s) events) (Stuck StackPointer) ≡ Went s' events' → Ended map s s' × (events' ≡ events)
+    within sp true is inside g =
+        let q = and_parts (leb map.stack_low sp) (leb sp map.stack_high) inside in
+        (record { sp = sp; is = is; low = leb-true map.stack_low sp q.0; high = leb-true sp map.stack_high q.1; state = cc }, cc)
+    within sp false is inside g = absurd cc
+
+    known : (o : Option ℕ) → number_of (reg_of s 2) ≡ o → ends_at o map s events ≡ Went s' events' → Ended map s s' × (events' ≡ events)
+    known None is g = absurd cc
+    known (Some sp) is g = within sp (leb map.stack_low sp && leb sp map.stack_high) is refl g
+
+-- ---- the end while no byte of the stack was written
 
 either_undefined : (b : Bool) → cond b Undef Undef ≡ Undef
 either_undefined true = refl

@@ -8,3 +8,6 @@ pub mod run;
 pub mod sym;
 pub mod why;
 pub mod word;
+
+#[cfg(test)]
+mod tests;

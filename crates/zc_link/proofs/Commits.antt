@@ -1,21 +1,21 @@
 -- A commit under interrupts: the state after the interrupts before it is alike with the program's, and the turn is what the
 -- instruction at pc then does.
-use Rattle.std.proofs.Common.{◌≡◌, ℕ, zero, suc, ◌+◌, List, Ok, sym, ap, ap₂, ◌∙◌, arith}
+use Rattle.std.proofs.Common.{◌≡◌, ℕ, suc, List, Ok, ap, ◌∙◌}
 use Rattle.std.specs.Prelude.{All}
 use Rattle.interrupt_plan.specs.Plan.{Cut, IsCut}
 use Rattle.rv_decode.specs.declared.instr.Instr.{Instr}
 use Rattle.rv_decode.specs.Effect.{effect}
 use Rattle.rv_decode.specs.Run.{◌>>=◌}
 use Rattle.rv_decode.specs.State.{ZcCore, ZcState, reg_in}
-use Rattle.rv_decode.proofs.RunLaws.{bind_assoc}
 use Rattle.sym_machine.specs.Program.{Program}
 use Rattle.sym_machine.specs.State.{PlainCore}
 use Rattle.zc_decode.specs.declared.short.Short.TheVariants.{Base}
 use Rattle.zc_machine.specs.Fetch.{Found, fetched_at}
 use Rattle.zc_machine.specs.Interrupt.{all_cuts}
-use Rattle.zc_machine.specs.Run.{committed, turn_from, zc_turn, zc_turns}
+use Rattle.zc_machine.specs.Run.{committed, zc_turn, zc_turns}
 use Rattle.zc_machine.specs.Step.{effect_step, made, step_from, zc_step}
 use Rattle.zc_machine.proofs.FetchLaws.{fetched_same}
+use Rattle.zc_machine.proofs.TurnLaws.{zc_turn-running}
 use Rattle.zc_link.specs.Image.{Image, loaded}
 use Rattle.zc_link.specs.Pieces.{OneAt}
 use Rattle.zc_link.specs.Room.{Room}
@@ -32,12 +32,12 @@ pub record AfterCuts (p : Program) (e : Image) (i : Instr) (size : ℕ) (s : Pla
 pub after_cuts :
     {p : Program} {e : Image} {s : PlainCore} {z : ZcState} {i : Instr} → Room p e → (cuts : List Cut) → All IsCut cuts → (at : OneAt e z.core.pc (Base i))
     → Alike p e s z.core → AfterCuts p e i at.size s cuts z
-unfolding zc_turn zc_step
+unfolding zc_step
 after_cuts {p} {e} {s} {z} {i} room cuts are at al = record {
   now = all_cuts cuts z.core;
   alike = alike;
   pc = pc;
-  turn = ap (λ o. turn_from o cuts z) al.going
+  turn = zc_turn-running cuts z al.going
       ∙ ap (λ o. committed (step_from o (all_cuts cuts z.core)) (record z { core = all_cuts cuts z.core })) alike.going
       ∙ ap (λ f. committed (made f (all_cuts cuts z.core)) (record z { core = all_cuts cuts z.core })) fetched;
 }
@@ -56,20 +56,6 @@ after_cuts {p} {e} {s} {z} {i} room cuts are at al = record {
     fetched : fetched_at (all_cuts cuts z.core) (all_cuts cuts z.core).pc ≡ Found (Base i) at.size
     fetched = fetched_same (loaded e) (all_cuts cuts z.core) (record { extents = alike.extents; text = alike.text }) (all_cuts cuts z.core).pc ∙ ap (fetched_at (loaded e)) pc ∙ at.here
 
--- ---- turns
-
 -- one turn
 pub zc_turns-one : (cuts : ℕ → List Cut) (z z' : ZcState) → zc_turn (cuts 0) z ≡ Ok z' → zc_turns cuts 1 z ≡ Ok z'
 zc_turns-one cuts z z' turn = ap (λ r. r >>= zc_turns (λ k. cuts (suc k)) 0) turn
-
--- so many turns, and more after them
-pub zc_turns-add : (cuts : ℕ → List Cut) (m n : ℕ) (z : ZcState) → zc_turns cuts (m + n) z ≡ (zc_turns cuts m z >>= zc_turns (λ k. cuts (m + k)) n)
-zc_turns-add cuts zero n z =
-    let none : (k : ℕ) → k ≡ 0 + k = λ (k : ℕ). omega arith in
-    ap₂ (λ (c : ℕ → List Cut) (k : ℕ). zc_turns c k z) (λ i k. cuts (none k i)) (sym (none n))
-zc_turns-add cuts (suc m) n z =
-    let sum : suc m + n ≡ suc (m + n) = omega arith in
-    let shifted : (k : ℕ) → suc (m + k) ≡ suc m + k = λ (k : ℕ). omega arith in
-    ap (λ k. zc_turns cuts k z) sum
-    ∙ bind_assoc (zc_turn (cuts 0) z) (zc_turns (λ k. cuts (suc k)) m) (zc_turns (λ k. cuts (suc m + k)) n) (zc_turns (λ k. cuts (suc k)) (m + n))
-    (λ y. zc_turns-add (λ k. cuts (suc k)) m n y ∙ ap (λ c. zc_turns (λ k. cuts (suc k)) m y >>= zc_turns c n) (λ i k. cuts (shifted k i)))

@@ -11,8 +11,8 @@ use Rattle.sym_machine.specs.Program.{Program}
 use Rattle.sym_machine.specs.State.{PlainState, reg_of}
 use Rattle.sym_machine.specs.Step.{after_change}
 use Rattle.sym_machine.specs.Words.{number_of}
-use Rattle.zc_machine.specs.declared.step.EnvCall.{EnvCall}
-use Rattle.zc_machine.specs.declared.step.EnvCall.TheVariants as call
+use Rattle.zc_machine.specs.declared.answer.EnvCall.{EnvCall}
+use Rattle.zc_machine.specs.declared.answer.EnvCall.TheVariants as call
 use Rattle.zc_machine.specs.Run.{answered, committed, zc_turn}
 use Rattle.zc_machine.specs.Step.{Wants, called, effect_step}
 use Rattle.zc_link.specs.Image.{Image, place_address}
@@ -21,7 +21,8 @@ use Rattle.zc_link.specs.Room.{Room}
 use Rattle.zc_link.specs.Simulates.{Comes}
 use Rattle.zc_link.specs.Values.{value_in}
 use Rattle.zc_link.proofs.Commits.{AfterCuts, after_cuts, zc_turns-one}
-use Rattle.zc_link.proofs.Ends.{Ended, ends_stands}
+use Rattle.sym_machine.proofs.StepLaws.{Ended}
+use Rattle.zc_link.proofs.Ends.{ends_stands}
 use Rattle.zc_link.proofs.Singles.{FromSound}
 use Rattle.zc_link.proofs.Words.{number_is}
 

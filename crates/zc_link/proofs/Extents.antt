@@ -15,8 +15,8 @@ use Rattle.zc_decode.specs.declared.short.Short.{Short}
 use Rattle.zc_decode.specs.declared.short.Short.TheVariants.{Base, Push, Pop, PopRet, PopRetz, MoveSa, MoveAs, TableJump}
 use Rattle.zc_decode.specs.Effect.{short_effect}
 use Rattle.zc_machine.specs.declared.reason.Reason.TheVariants.{UnknownCall}
-use Rattle.zc_machine.specs.declared.step.EnvCall.{EnvCall}
-use Rattle.zc_machine.specs.declared.step.EnvCall.TheVariants as call
+use Rattle.zc_machine.specs.declared.answer.EnvCall.{EnvCall}
+use Rattle.zc_machine.specs.declared.answer.EnvCall.TheVariants as call
 use Rattle.zc_machine.specs.Fetch.{Fetched, Found, Missing, fetched_at}
 use Rattle.zc_machine.specs.Interrupt.{all_dirtied, cut, dirtied, is_free}
 use Rattle.zc_machine.specs.Run.{answered, committed, turn_from, zc_turn}
