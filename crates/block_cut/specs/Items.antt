@@ -50,7 +50,7 @@ starts_in objects section q = starts_from (length section.bytes) objects (length
 
 -- whether a place is the end of a section of code
 abbrev pub is_end_at : List ObjectParts → Place → Bool
-is_end_at objects q = option_map_or (λ section. q.offset == length section.bytes) false (code_at objects q)
+is_end_at objects q = option_map_or (λ section. q.offset == length section.bytes) (code_at objects q) false
 
 -- ---- items
 

@@ -44,11 +44,15 @@ indexed object i = (i, header_of object i)
 abbrev pub is_unknown : ℕ → Bool
 is_unknown word = is_none (decoded word)
 
--- an object that isn't straight code alone
-unfoldable pub is_unbuilt : List ℕ → Bool
-is_unbuilt object =
+-- an object with more than straight code, or without: it has flags, no section 1 or no code in it, or another section that
+-- this link has no place for
+abbrev pub has_other_parts : List ℕ → Bool
+has_other_parts object =
     not (file_flags object == 0)
     || nat_lt (section_count object) 2
     || not (is_straight_code (header_of object 1))
     || list_any is_unbuilt_section (map (indexed object) (range_with_len 0 (section_count object)))
-    || list_any is_unknown (words_in (code_of object))
+
+-- an object that isn't straight code alone, of words that are known
+unfoldable pub is_unbuilt : List ℕ → Bool
+is_unbuilt object = has_other_parts object || list_any is_unknown (words_in (code_of object))

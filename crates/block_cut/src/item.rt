@@ -19,6 +19,9 @@ use zc_base::reg::Reg;
 /// | `Word` | a word of data in code that holds the target |
 /// | `Raw` | a word that is copied unread |
 /// | `RawPair` | the two words of a call to a weak symbol that no object defines |
+///
+/// The instruction of a `Branch` or `Jump` has its operation and its registers. Its distance is 0, since
+/// the place says where it goes.
 #[derive(Clone, Copy, PartialEq, Eq, Debug)]
 pub enum Item {
     Op(Instr),

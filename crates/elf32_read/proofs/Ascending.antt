@@ -3,7 +3,8 @@ use Rattle.std.proofs.Common.{◌≡◌, ℕ, suc, ◌+◌, ◌-◌, ◌<◌, ma
 use Rattle.std.specs.Prelude.{◌&&◌}
 use Rattle.std.specs.List.{range_with_len}
 use Rattle.zc_base.specs.declared.place.Place.{Place}
-use Rattle.elf32_read.specs.Places.{is_before, is_ascending}
+use Rattle.zc_base.specs.Places.{is_before}
+use Rattle.elf32_read.specs.Places.{is_ascending}
 
 -- the first two, and the rest from the second on
 pub is_ascending_step : (f : ℕ → Place × ℕ) (i n : ℕ) → i + 1 < n → is_ascending (map f (range_with_len i (n - i))) ≡ (is_before (f i).0 (f (i + 1)).0 && is_ascending (map f (range_with_len (i + 1) (n - (i + 1)))))

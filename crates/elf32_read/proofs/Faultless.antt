@@ -13,7 +13,7 @@ use Rattle.elf32_read.specs.declared.fault.Fault.TheVariants.{NotElf, Truncated}
 use Rattle.elf32_read.specs.declared.image_fault.ImageFault.TheVariants.{NotElf as ImageNotElf, Truncated as ImageTruncated, BadSegment, BadPlaces, TooLarge}
 use Rattle.elf32_read.proofs.Listed.{none_listed}
 
--- where no row's test holds, the first does not, and none of the rest
+-- if no row's test holds, the first does not, and none of the rest
 none_of_rows : {F : Type 0} (test : Bool) (fault : F) (rows : List (Bool × F)) → first_of ((test, fault) ∷ rows) ≡ None → (test ≡ false) × (first_of rows ≡ None)
 none_of_rows true fault rows h = absurd cc
 none_of_rows false fault rows h = (refl, h)

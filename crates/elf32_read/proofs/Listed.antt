@@ -18,7 +18,7 @@ pub none_listed_more : {X : Type 0} (p : X → Bool) (f : ℕ → X) (i : ℕ) �
 none_listed_more p f i before here =
     rw (map-range_with_len_more f 0 i i (omega arith), list_any-append p (map f (range_with_len 0 i)) (f i ∷ []), before, here) refl
 
--- where none passes, this one does not
+-- if none passes, this one does not
 pub none_listed : {X : Type 0} (p : X → Bool) (f : ℕ → X) (n i : ℕ) → list_any p (map f (range_with_len 0 n)) ≡ false → i < n → p (f i) ≡ false
 none_listed p f n i none lt = false_from_ne_true (p (f i)) (λ h. cc (list_any_listed p f n i lt h, none))
 
@@ -32,7 +32,7 @@ list_any-filter p q (x ∷ xs) =
       | false ↦ rest
     ]
 
--- where none passes, none of what a filter keeps does
+-- if none passes, none of what a filter keeps does
 pub none_kept : {X : Type 0} (p q : X → Bool) (xs : List X) → list_any q xs ≡ false → list_any q (filter p xs) ≡ false
 none_kept p q [] none = refl
 none_kept p q (x ∷ xs) none =
@@ -43,6 +43,6 @@ none_kept p q (x ∷ xs) none =
       | false ↦ rest
     ]
 
--- where none of a list passes, none at an index does
+-- if none of a list passes, none at an index does
 pub none_at : {X : Type 0} (p : X → Bool) (xs : List X) (i : ℕ) (d : X) → list_any p xs ≡ false → i < length xs → p (get_or xs i d) ≡ false
 none_at p xs i d none lt = false_from_ne_true (p (get_or xs i d)) (λ h. cc (list_any_at p xs i d lt h, none))

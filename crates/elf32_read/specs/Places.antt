@@ -1,5 +1,5 @@
 -- The places that an image lists: its section .zcld.places, of entries of twelve bytes.
-use Rattle.std.specs.Prelude.{ℕ, ◌+◌, ◌*◌, ◌/◌, Bool, true, ◌&&◌, ◌||◌, ◌==◌, nat_lt, nat_eq, List, [], ◌∷◌, ◌++◌, length, drop, map, filter, codes}
+use Rattle.std.specs.Prelude.{ℕ, ◌+◌, ◌*◌, ◌/◌, Bool, true, ◌&&◌, ◌||◌, nat_lt, nat_eq, List, [], ◌∷◌, ◌++◌, length, drop, map, filter, codes}
 use Rattle.std.specs.List.{flat_map, range_with_len, starts_with}
 use Rattle.zc_base.specs.Fields.{half_in, word_in}
 use Rattle.zc_base.specs.declared.mem_map.MemMap.{MemMap}

@@ -43,7 +43,7 @@ abbrev pub is_entry_of : ℕ → ProgramHeader → Bool
 is_entry_of entry header = is_code header && nat_le header.address entry && nat_le entry (file_end header)
 
 -- a segment: where it lies, its size in memory, whether it holds code, and its bytes from the file,
--- behind which it is zero
+-- after which it is zero
 pub record SegmentData : Type 0 where
   pub at : ℕ
   pub size : ℕ

@@ -29,7 +29,7 @@ pub fn lacks_program_headers(bytes: &[u8]) -> bool
 }
 
 // Whether the content of a section passes the end.
-fn is_section_cut(bytes: &[u8], i: u32) -> bool
+fn is_section_truncated(bytes: &[u8], i: u32) -> bool
     requires start { 52 ≤ length bytes.now }
     requires within { section_table bytes.now + 40 * i + 40 ≤ length bytes.now }
     ensures { result ≡ passes_end bytes.now (header_of bytes.now i) }
@@ -40,13 +40,13 @@ fn is_section_cut(bytes: &[u8], i: u32) -> bool
 
 /// Whether the content of some section passes the end.
 #[tactic(auto, using(crate::proofs::Listed::none_listed_more))]
-pub fn has_cut_section(bytes: &[u8]) -> bool
+pub fn has_truncated_section(bytes: &[u8]) -> bool
     requires start { 52 ≤ length bytes.now }
     requires within { section_table bytes.now + 40 * section_count bytes.now ≤ length bytes.now }
     ensures { result ≡ list_any (passes_end bytes.now) (headers_of bytes.now) }
 {
     for i in 0..u32::from(section_count(bytes)) {
-        if is_section_cut(bytes, i) {
+        if is_section_truncated(bytes, i) {
             return true;
         }
     }
@@ -54,7 +54,7 @@ pub fn has_cut_section(bytes: &[u8]) -> bool
 }
 
 // Whether a program header loads bytes that pass the end.
-fn is_load_cut(bytes: &[u8], i: u32) -> bool
+fn is_load_truncated(bytes: &[u8], i: u32) -> bool
     requires start { 52 ≤ length bytes.now }
     requires within { program_table bytes.now + 32 * i + 32 ≤ length bytes.now }
     ensures { let header = program_header_of bytes.now i in
@@ -66,13 +66,13 @@ fn is_load_cut(bytes: &[u8], i: u32) -> bool
 
 /// Whether the bytes of some segment pass the end.
 #[tactic(auto, using(crate::proofs::Listed::none_listed_more))]
-pub fn has_cut_load(bytes: &[u8]) -> bool
+pub fn has_truncated_load(bytes: &[u8]) -> bool
     requires start { 52 ≤ length bytes.now }
     requires within { program_table bytes.now + 32 * program_count bytes.now ≤ length bytes.now }
     ensures { result ≡ list_any (load_passes_end bytes.now) (loads_of bytes.now) }
 {
     for i in 0..u32::from(program_count(bytes)) {
-        if is_load_cut(bytes, i) {
+        if is_load_truncated(bytes, i) {
             return true;
         }
     }

@@ -8,7 +8,9 @@ ghost use Rattle.elf32_read.specs.Places.{places_of};
 ghost use Rattle.elf32_read.specs.Segment.{segment_data};
 ghost use Rattle.elf32_read.specs.Segments.{segment_of, segments_of};
 
-use crate::bounds::{has_cut_load, has_cut_section, lacks_headers, lacks_program_headers};
+use crate::bounds::{
+    has_truncated_load, has_truncated_section, lacks_headers, lacks_program_headers,
+};
 use crate::header::{
     ProgramHeader, begins_as, entry_of, file_flags, has_other_section_headers, program_count,
     program_header_size,
@@ -36,14 +38,14 @@ fn is_no_image(bytes: &[u8]) -> bool
         || has_other_section_headers(bytes)
 }
 
-fn is_cut(bytes: &[u8]) -> bool
+fn is_truncated(bytes: &[u8]) -> bool
     requires { 52 ≤ length bytes.now }
     ensures { result ≡ image_truncated bytes.now }
 {
     lacks_program_headers(bytes)
         || lacks_headers(bytes)
-        || has_cut_load(bytes)
-        || has_cut_section(bytes)
+        || has_truncated_load(bytes)
+        || has_truncated_section(bytes)
 }
 
 // The segment that a program header loads.
@@ -92,7 +94,7 @@ impl<'a> Image<'a> {
         if is_no_image(bytes) {
             return Err(ImageFault::NotElf);
         }
-        if is_cut(bytes) {
+        if is_truncated(bytes) {
             return Err(ImageFault::Truncated);
         }
         let Some(loads) = loads_in(bytes) else {

@@ -4,7 +4,7 @@ ghost use Rattle.std.specs.Prelude.{◌≡◌, ◌≢◌, ◌≤◌, ◌<◌, �
 ghost use Rattle.elf32_read.specs.Header.{content_of, file_flags, header_of, section_count};
 ghost use Rattle.elf32_read.specs.Object.{not_elf, object_fault, truncated};
 
-use crate::bounds::{has_cut_section, lacks_headers};
+use crate::bounds::{has_truncated_section, lacks_headers};
 use crate::fault::Fault;
 use crate::header::{
     begins_as, content, file_flags, has_other_section_headers, section_count, section_header,
@@ -21,11 +21,11 @@ fn is_no_object(bytes: &[u8]) -> bool
     bytes.len() < 52 || !begins_as(RELOCATABLE, bytes) || has_other_section_headers(bytes)
 }
 
-fn is_cut(bytes: &[u8]) -> bool
+fn is_truncated(bytes: &[u8]) -> bool
     requires { 52 ≤ length bytes.now }
     ensures { result ≡ truncated bytes.now }
 {
-    lacks_headers(bytes) || has_cut_section(bytes)
+    lacks_headers(bytes) || has_truncated_section(bytes)
 }
 
 /// A relocatable object without a fault. Clauses see it as its bytes.
@@ -53,10 +53,18 @@ impl<'a> Object<'a> {
         if is_no_object(bytes) {
             return Err(Fault::NotElf);
         }
-        if is_cut(bytes) {
+        if is_truncated(bytes) {
             return Err(Fault::Truncated);
         }
         Ok(Object { bytes })
+    }
+
+    /// The object of bytes that were read before. It tests nothing again.
+    pub fn known(bytes: &'a [u8]) -> Object<'a>
+        requires { object_fault bytes.now ≡ None }
+        ensures { result ≡ bytes.entry.now }
+    {
+        Object { bytes }
     }
 
     /// The flags of the file, e_flags (RISC-V ELF psABI, "File Header").

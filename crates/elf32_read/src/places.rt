@@ -6,8 +6,9 @@ ghost use Rattle.std.specs.Option.{option_to_list};
 ghost use Rattle.elf32_read.specs.Header.{content_of, headers_of, section_count, section_table};
 ghost use Rattle.elf32_read.specs.Image.{bad_names, bad_places, is_bad_list, is_bad_section, is_unnamed, lacks_names};
 ghost use Rattle.elf32_read.specs.Object.{passes_end};
-ghost use Rattle.elf32_read.specs.Places.{entries_of, entry_at, holds_places, is_ascending, is_before, is_outside, names_of, places_of, places_sections};
+ghost use Rattle.elf32_read.specs.Places.{entries_of, entry_at, holds_places, is_ascending, is_outside, names_of, places_of, places_sections};
 ghost use Rattle.elf32_read.specs.declared.image_fault.ImageFault.TheVariants.{BadPlaces};
+ghost use Rattle.zc_base.specs.Places.{is_before};
 
 use crate::header::{
     SectionHeader, content, is_without_content, name_section, section_count, section_header,
@@ -86,7 +87,7 @@ fn lacks_names(bytes: &[u8]) -> bool
     section_count(bytes) <= i || section_header(bytes, u32::from(i)).kind != STRTAB
 }
 
-// Where the last name ends: an offset has a zero at it or behind it exactly where it is below.
+// Where the last name ends: an offset has a zero at it or after it exactly if it is below.
 fn names_end(names: &[u8]) -> usize
     ensures { (k : ℕ) → list_any (λ byte. byte == 0) (drop k names.now) ≡ nat_lt k result }
 {
@@ -189,7 +190,7 @@ fn list_in<'a>(bytes: &'a [u8], map: &MemMap, header: SectionHeader) -> Result<&
     Ok(list)
 }
 
-/// The entries of the places that an image lists, none where it has no list, unless the list is
+/// The entries of the places that an image lists, none if it has no list, unless the list is
 /// bad.
 pub fn places_in<'a>(bytes: &'a [u8], map: &MemMap) -> Result<&'a [u8], ImageFault>
     requires start { 52 ≤ length bytes.now }

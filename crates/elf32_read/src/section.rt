@@ -5,7 +5,7 @@ use crate::section_flags::SectionFlags;
 /// A section of an object, by its header (System V gABI, "Sections").
 ///
 /// `kind` is sh_type, `size` is sh_size in bytes, and `align` is sh_addralign as it stands, which
-/// `Object::read` doesn't look at. `bytes` is the section's content; it is empty where the file
+/// `Object::read` doesn't look at. `bytes` is the section's content; it is empty if the file
 /// holds none, for the kinds NULL and NOBITS.
 #[derive(Clone, Copy, PartialEq, Eq, Debug)]
 pub struct Section<'a> {

@@ -3,7 +3,7 @@
 /// A segment of an image (System V gABI, "Program Header").
 ///
 /// It lies in memory from the address `at` on, and has `size` bytes: `bytes`, which come from the
-/// file, and zeros behind them. `code` says whether it is executable.
+/// file, and zeros after them. `code` says whether it is executable.
 #[derive(Clone, Copy, PartialEq, Eq, Debug)]
 pub struct Segment<'a> {
     pub at: u32,

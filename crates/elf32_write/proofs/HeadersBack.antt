@@ -10,9 +10,9 @@ use Rattle.elf32_read.specs.declared.header.ProgramHeader.{ProgramHeader}
 use Rattle.elf32_read.specs.Places.{entry_at}
 use Rattle.elf32_write.specs.Image.{section_bytes, segment_bytes, place_bytes}
 use Rattle.elf32_write.specs.Loadable.{IsEntry}
-use Rattle.elf32_write.proofs.Behind.{word_of_bytes, half_of_bytes, word_in-append, half_in-append, rows_back}
+use Rattle.elf32_write.proofs.After.{word_of_bytes, half_of_bytes, word_in-append, half_in-append, rows_back}
 
--- a word of a row that stands behind other bytes
+-- a word of a row that stands after other bytes
 word_back : (front row : List ℕ) (k v : ℕ) → v < 2 ^ 32 → word_in row k ≡ word_in (word_bytes v) 0 → word_in (front ++ row) (length front + k) ≡ v
 unfolding word_in
 word_back front row k v small e = word_in-append front row (length front + k) k refl ∙ e ∙ word_of_bytes v small

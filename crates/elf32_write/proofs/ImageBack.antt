@@ -19,7 +19,7 @@ use Rattle.elf32_read.specs.declared.image_fault.ImageFault.TheVariants.{NotElf,
 use Rattle.elf32_write.specs.Image.{pad, padded, padded_length, file_header, program_headers, place_bytes, names, section_headers, sections_of, places_section, names_section, text_segment, data_segment, data_offset, places_offset, names_offset, sections_offset, image_bytes, Fits}
 use Rattle.elf32_write.specs.Loadable.{IsEntry, IsLoadable, ReadsBack}
 use Rattle.elf32_write.specs.Parts.{Parts}
-use Rattle.elf32_write.proofs.Behind.{part_between, word_of_bytes}
+use Rattle.elf32_write.proofs.After.{part_between, word_of_bytes}
 use Rattle.elf32_write.proofs.HeadersBack.{IsHeader, IsProgramHeader, headers_back, program_headers_back, entries_back}
 
 -- ---- what stands before each part
@@ -212,15 +212,15 @@ loads_back parts w = ap (λ headers. filter (λ header. header.kind == 1) header
 
 -- ---- the contents
 
-zeros_behind : List ℕ → List ℕ
-zeros_behind bytes = replicate (pad (length bytes)) 0
+zeros_after : List ℕ → List ℕ
+zeros_after bytes = replicate (pad (length bytes)) 0
 
-split_text : (parts : Parts) → image_bytes parts ≡ before_text parts ++ (parts.text ++ (zeros_behind parts.text ++ (padded parts.data_bytes ++ (flat_map place_bytes parts.places ++ (padded names ++ section_headers parts)))))
-unfolding image_bytes before_text zeros_behind
+split_text : (parts : Parts) → image_bytes parts ≡ before_text parts ++ (parts.text ++ (zeros_after parts.text ++ (padded parts.data_bytes ++ (flat_map place_bytes parts.places ++ (padded names ++ section_headers parts)))))
+unfolding image_bytes before_text zeros_after
 split_text parts = simp append_assoc
 
-split_data : (parts : Parts) → image_bytes parts ≡ before_data parts ++ (parts.data_bytes ++ (zeros_behind parts.data_bytes ++ (flat_map place_bytes parts.places ++ (padded names ++ section_headers parts))))
-unfolding image_bytes before_data before_text zeros_behind
+split_data : (parts : Parts) → image_bytes parts ≡ before_data parts ++ (parts.data_bytes ++ (zeros_after parts.data_bytes ++ (flat_map place_bytes parts.places ++ (padded names ++ section_headers parts))))
+unfolding image_bytes before_data before_text zeros_after
 split_data parts = simp append_assoc
 
 split_places : (parts : Parts) → image_bytes parts ≡ before_places parts ++ (flat_map place_bytes parts.places ++ (padded names ++ section_headers parts))

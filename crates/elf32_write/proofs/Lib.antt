@@ -1,4 +1,4 @@
+pub mod After
 pub mod Appends
-pub mod Behind
 pub mod HeadersBack
 pub mod ImageBack

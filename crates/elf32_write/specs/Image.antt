@@ -1,5 +1,5 @@
 -- The bytes of an image: an executable file of class 32 (System V gABI, "ELF Header", "Sections" and
--- "Program Header"), its parts one behind the other, each padded with zeros to a multiple of 4.
+-- "Program Header"), its parts one after the other, each padded with zeros to a multiple of 4.
 use Rattle.std.specs.Prelude.{ℕ, ◌+◌, ◌*◌, ◌-◌, ◌%◌, ◌^◌, ◌<◌, List, [], ◌∷◌, ◌++◌, length, codes, replicate}
 use Rattle.std.specs.List.{flat_map}
 use Rattle.zc_base.specs.Fields.{half_bytes, word_bytes}
@@ -20,7 +20,7 @@ padded bytes = bytes ++ replicate (pad (length bytes)) 0
 abbrev pub padded_length : ℕ → ℕ
 padded_length n = n + pad n
 
--- where the text begins in the file: behind the file's header and two program headers
+-- where the text begins in the file: after the file's header and two program headers
 abbrev pub text_offset : ℕ
 text_offset = 116
 
@@ -80,7 +80,7 @@ abbrev pub place_bytes : Place × ℕ → List ℕ
 place_bytes entry =
     half_bytes entry.0.object ++ half_bytes entry.0.section ++ word_bytes entry.0.offset ++ word_bytes entry.1
 
--- the names of the sections, each ended by a zero, behind the empty name
+-- the names of the sections, each ended by a zero, after the empty name
 abbrev pub names : List ℕ
 names =
     0 ∷ [] ++ codes ".text" ++ 0 ∷ [] ++ codes ".data" ++ 0 ∷ [] ++ codes ".bss" ++ 0 ∷ [] ++ codes ".zcld.places" ++ 0 ∷ [] ++ codes ".shstrtab" ++ 0 ∷ []

@@ -1,7 +1,6 @@
 -- What an image is made of, as plain data.
 use Rattle.std.specs.Prelude.{ℕ, List}
 use Rattle.zc_base.specs.declared.place.Place.{Place}
-use Rattle.elf32_write.specs.declared.image_parts.ImageParts.{ImageParts}
 
 -- the entry, e_flags, the text and its address, the data's file bytes and their address, how many
 -- zero bytes follow these in memory, and places of the objects' code, each with its address
@@ -14,16 +13,3 @@ pub record Parts : Type 0 where
   pub data_bytes : List ℕ
   pub zero : ℕ
   pub places : List (Place × ℕ)
-
--- the parts that the code holds in vectors
-abbrev pub parts_of : ImageParts → Parts
-parts_of parts = record {
-  entry = parts.entry;
-  flags = parts.flags;
-  text_at = parts.text_at;
-  text = parts.text.items;
-  data_at = parts.data_at;
-  data_bytes = parts.data_bytes.items;
-  zero = parts.zero;
-  places = parts.places.items;
-}

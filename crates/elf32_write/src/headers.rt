@@ -3,7 +3,6 @@
 ghost use Rattle.std.specs.Prelude.{◌≡◌, ◌++◌, OnOk};
 ghost use Rattle.elf32_write.specs.Image.{data_segment, file_header, program_headers, section_headers, segment_bytes, text_segment, Fits};
 ghost use Rattle.elf32_write.specs.Offsets.{AreOffsetsOf};
-ghost use Rattle.elf32_write.specs.Parts.{parts_of};
 
 use crate::fields::{push_halves, push_words};
 use crate::image_parts::ImageParts;
@@ -29,8 +28,8 @@ pub fn push_file_header(
     parts: &ImageParts,
     offsets: &Offsets,
 ) -> Result<(), AllocError>
-    requires { AreOffsetsOf (parts_of parts.now) offsets.now }
-    ensures { OnOk result (out.new.items ≡ out.old.items ++ file_header (parts_of parts.now)) }
+    requires { AreOffsetsOf parts.now offsets.now }
+    ensures { OnOk result (out.new.items ≡ out.old.items ++ file_header parts.now) }
 {
     out.extend_from_slice(&IDENTIFICATION)?;
     push_halves(out, &[EXECUTABLE, RISC_V])?;
@@ -40,9 +39,9 @@ pub fn push_file_header(
 
 // Appends the program header of the text.
 fn push_text_segment(out: &mut Vec<u8>, parts: &ImageParts) -> Result<(), AllocError>
-    requires { Fits (parts_of parts.now) }
+    requires { Fits parts.now }
     ensures { OnOk result
-        (out.new.items ≡ out.old.items ++ segment_bytes (text_segment (parts_of parts.now))) }
+        (out.new.items ≡ out.old.items ++ segment_bytes (text_segment parts.now)) }
 {
     let at = parts.text_at;
     let size = parts.text.len() as u32;
@@ -55,10 +54,10 @@ fn push_data_segment(
     parts: &ImageParts,
     offsets: &Offsets,
 ) -> Result<(), AllocError>
-    requires fits { Fits (parts_of parts.now) }
-    requires offsets { AreOffsetsOf (parts_of parts.now) offsets.now }
+    requires fits { Fits parts.now }
+    requires offsets { AreOffsetsOf parts.now offsets.now }
     ensures { OnOk result
-        (out.new.items ≡ out.old.items ++ segment_bytes (data_segment (parts_of parts.now))) }
+        (out.new.items ≡ out.old.items ++ segment_bytes (data_segment parts.now)) }
 {
     let at = parts.data_at;
     let size = parts.data_bytes.len() as u32;
@@ -84,9 +83,9 @@ pub fn push_program_headers(
     parts: &ImageParts,
     offsets: &Offsets,
 ) -> Result<(), AllocError>
-    requires fits { Fits (parts_of parts.now) }
-    requires offsets { AreOffsetsOf (parts_of parts.now) offsets.now }
-    ensures { OnOk result (out.new.items ≡ out.old.items ++ program_headers (parts_of parts.now)) }
+    requires fits { Fits parts.now }
+    requires offsets { AreOffsetsOf parts.now offsets.now }
+    ensures { OnOk result (out.new.items ≡ out.old.items ++ program_headers parts.now) }
 {
     push_text_segment(out, parts)?;
     push_data_segment(out, parts, offsets)
@@ -98,9 +97,9 @@ pub fn push_section_headers(
     parts: &ImageParts,
     offsets: &Offsets,
 ) -> Result<(), AllocError>
-    requires fits { Fits (parts_of parts.now) }
-    requires offsets { AreOffsetsOf (parts_of parts.now) offsets.now }
-    ensures { OnOk result (out.new.items ≡ out.old.items ++ section_headers (parts_of parts.now)) }
+    requires fits { Fits parts.now }
+    requires offsets { AreOffsetsOf parts.now offsets.now }
+    ensures { OnOk result (out.new.items ≡ out.old.items ++ section_headers parts.now) }
 {
     let sections = [
         null_header(),

@@ -1,5 +1,6 @@
 // What an image is made of.
 
+use std::marker::Model;
 use zc_base::place::Place;
 
 /// What an image is made of.
@@ -7,7 +8,7 @@ use zc_base::place::Place;
 /// `entry`, `text_at` and `data_at` are addresses: where the program starts, and where its text and
 /// its data lie. `zero` is how many zero bytes follow `data_bytes` in memory, and `flags` goes into
 /// e_flags. `places` lists places in the objects' code, in ascending order, each with its address.
-#[derive(PartialEq, Eq, Debug, Drop)]
+#[derive(Debug, Drop)]
 pub struct ImageParts {
     pub entry: u32,
     pub flags: u32,
@@ -17,4 +18,21 @@ pub struct ImageParts {
     pub data_bytes: Vec<u8>,
     pub zero: u32,
     pub places: Vec<(Place, u32)>,
+}
+
+impl Model for ImageParts {
+    ghost use Rattle.elf32_write.specs.Parts.{Parts};
+
+    ghost Value = { Parts };
+
+    ghost view = { λ parts. record {
+      entry = parts.entry;
+      flags = parts.flags;
+      text_at = parts.text_at;
+      text = parts.text.items;
+      data_at = parts.data_at;
+      data_bytes = parts.data_bytes.items;
+      zero = parts.zero;
+      places = parts.places.items;
+    } };
 }

@@ -3,7 +3,7 @@
 
 mod fields;
 mod headers;
-pub mod image;
 pub mod image_parts;
 mod offsets;
 mod section_header;
+pub mod write_image;

@@ -2,7 +2,6 @@
 
 ghost use Rattle.elf32_write.specs.Image.{Fits};
 ghost use Rattle.elf32_write.specs.Offsets.{AreOffsetsOf};
-ghost use Rattle.elf32_write.specs.Parts.{parts_of};
 
 use crate::fields::padded_len;
 use crate::image_parts::ImageParts;
@@ -10,10 +9,10 @@ use crate::image_parts::ImageParts;
 /// Where the text begins.
 pub const TEXT_OFFSET: u32 = 116;
 
-/// The names of the sections, each ended by a zero, behind the empty name.
+/// The names of the sections, each ended by a zero, after the empty name.
 pub const NAMES: &[u8; 41] = b"\0.text\0.data\0.bss\0.zcld.places\0.shstrtab\0";
 
-/// Where the parts behind the text begin, in bytes from the start of the file.
+/// Where the parts after the text begin, in bytes from the start of the file.
 #[derive(Clone, Copy)]
 pub struct Offsets {
     pub data: u32,
@@ -24,8 +23,8 @@ pub struct Offsets {
 
 /// The offsets in the file of an image with these parts.
 pub fn offsets_of(parts: &ImageParts) -> Offsets
-    requires { Fits (parts_of parts.now) }
-    ensures { AreOffsetsOf (parts_of parts.now) result }
+    requires { Fits parts.now }
+    ensures { AreOffsetsOf parts.now result }
 {
     let data = TEXT_OFFSET as usize + padded_len(parts.text.len());
     let places = data + padded_len(parts.data_bytes.len());

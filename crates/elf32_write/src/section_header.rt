@@ -4,7 +4,6 @@ ghost use Rattle.std.specs.Prelude.{◌≡◌, ◌++◌, OnOk};
 ghost use Rattle.std.specs.List.{flat_map};
 ghost use Rattle.elf32_write.specs.Image.{bss_section, data_section, names_section, null_section, places_section, section_bytes, text_section, Fits};
 ghost use Rattle.elf32_write.specs.Offsets.{AreOffsetsOf};
-ghost use Rattle.elf32_write.specs.Parts.{parts_of};
 ghost use Rattle.elf32_write.specs.SectionHeader.{header};
 
 use crate::fields::push_words;
@@ -48,8 +47,8 @@ pub fn null_header() -> SectionHeader
 
 /// The header of the text.
 pub fn text_header(parts: &ImageParts) -> SectionHeader
-    requires { Fits (parts_of parts.now) }
-    ensures { header result ≡ text_section (parts_of parts.now) }
+    requires { Fits parts.now }
+    ensures { header result ≡ text_section parts.now }
 {
     SectionHeader {
         name: 1,
@@ -64,9 +63,9 @@ pub fn text_header(parts: &ImageParts) -> SectionHeader
 
 /// The header of the data.
 pub fn data_header(parts: &ImageParts, offsets: &Offsets) -> SectionHeader
-    requires fits { Fits (parts_of parts.now) }
-    requires offsets { AreOffsetsOf (parts_of parts.now) offsets.now }
-    ensures { header result ≡ data_section (parts_of parts.now) }
+    requires fits { Fits parts.now }
+    requires offsets { AreOffsetsOf parts.now offsets.now }
+    ensures { header result ≡ data_section parts.now }
 {
     SectionHeader {
         name: 7,
@@ -79,11 +78,11 @@ pub fn data_header(parts: &ImageParts, offsets: &Offsets) -> SectionHeader
     }
 }
 
-/// The header of the zeros behind the data.
+/// The header of the zeros after the data.
 pub fn bss_header(parts: &ImageParts, offsets: &Offsets) -> SectionHeader
-    requires fits { Fits (parts_of parts.now) }
-    requires offsets { AreOffsetsOf (parts_of parts.now) offsets.now }
-    ensures { header result ≡ bss_section (parts_of parts.now) }
+    requires fits { Fits parts.now }
+    requires offsets { AreOffsetsOf parts.now offsets.now }
+    ensures { header result ≡ bss_section parts.now }
 {
     let data_size = parts.data_bytes.len() as u32;
     SectionHeader {
@@ -99,9 +98,9 @@ pub fn bss_header(parts: &ImageParts, offsets: &Offsets) -> SectionHeader
 
 /// The header of the places.
 pub fn places_header(parts: &ImageParts, offsets: &Offsets) -> SectionHeader
-    requires fits { Fits (parts_of parts.now) }
-    requires offsets { AreOffsetsOf (parts_of parts.now) offsets.now }
-    ensures { header result ≡ places_section (parts_of parts.now) }
+    requires fits { Fits parts.now }
+    requires offsets { AreOffsetsOf parts.now offsets.now }
+    ensures { header result ≡ places_section parts.now }
 {
     SectionHeader {
         name: 18,
@@ -116,8 +115,8 @@ pub fn places_header(parts: &ImageParts, offsets: &Offsets) -> SectionHeader
 
 /// The header of the sections' names.
 pub fn names_header(parts: &ImageParts, offsets: &Offsets) -> SectionHeader
-    requires { AreOffsetsOf (parts_of parts.now) offsets.now }
-    ensures { header result ≡ names_section (parts_of parts.now) }
+    requires { AreOffsetsOf parts.now offsets.now }
+    ensures { header result ≡ names_section parts.now }
 {
     SectionHeader {
         name: 31,

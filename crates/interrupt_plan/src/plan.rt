@@ -15,11 +15,11 @@ pub struct PlanCut {
 }
 
 impl Model for PlanCut {
-    ghost use Rattle.interrupt_plan.specs.Plan.{Cut};
+    ghost use Rattle.interrupt_plan.specs.Plan.{Entry};
 
-    ghost Value = { Cut };
+    ghost Value = { Entry };
 
-    ghost view = { λ c. record { at = c.at; done = c.done.items; dirt = c.dirt.items } };
+    ghost view = { λ e. record { at = e.at; cut = record { done = e.done.items; dirt = e.dirt.items } } };
 }
 
 /// The interrupts of a run, in the order in which they happen.
@@ -31,9 +31,9 @@ pub struct Plan {
 impl Model for Plan {
     ghost use Rattle.std.specs.Prelude.{◌<◌, ◌^◌, List, length};
     ghost use Rattle.interrupt_plan.specs.Order.{IsInOrder};
-    ghost use Rattle.interrupt_plan.specs.Plan.{Cut};
+    ghost use Rattle.interrupt_plan.specs.Plan.{Entry};
 
-    ghost Value = { List Cut };
+    ghost Value = { List Entry };
 
     ghost view = { λ p. p.cuts.items };
 

@@ -1,4 +1,7 @@
-//! The symbols of the objects: what a symbol with an addend resolves to.
+//! The objects of a link: their files, read and without a fault of their own, and what a symbol with
+//! an addend resolves to.
 #![tactic(auto)]
 
+pub mod link_fault;
+pub mod objects;
 pub mod target;

@@ -1,4 +1,5 @@
 pub mod Examples
+pub mod DecodeLaws
+pub mod RegisterLaws
 pub mod MemoryLaws
 pub mod RunLaws
-pub mod DecodeLaws

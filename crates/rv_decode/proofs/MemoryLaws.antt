@@ -108,7 +108,7 @@ cell-changed_default f rs x d keeps = ⊎_elim
     cell-uncovered (changed f rs) x d gone ∙ sym (ap (f x) (cell-uncovered rs x d no) ∙ keeps))
     (cases_Bool (is_covered (extents_of rs) x))
 
--- what holds of each cell holds behind a change that keeps it
+-- what holds of each cell holds after a change that keeps it
 pub cell_kept : {X : Type 0} (f : ℕ → X → X) (rs : List (Region X)) (d : X) (P : X → Type 0) → ((x : ℕ) (c : X) → P c → P (f x c)) → P d → ((x : ℕ) → P (cell_at d rs x)) → (x : ℕ) → P (cell_at d (changed f rs) x)
 cell_kept f rs d P step base each x = ⊎_elim
     (λ yes. subst P (sym (cell-changed f rs x d yes)) (step x (cell_at d rs x) (each x)))

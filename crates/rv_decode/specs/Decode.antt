@@ -7,7 +7,7 @@ use Rattle.rv_decode.specs.declared.instr.ImmOp.{ImmOp}
 use Rattle.rv_decode.specs.declared.instr.ImmOp.TheVariants.{Addi}
 use Rattle.rv_decode.specs.Bits.{field, signed}
 
--- the fields that formats share, where a format has them: the opcode, bits 6 to 0
+-- the fields that formats share, if a format has them: the opcode, bits 6 to 0
 abbrev pub opcode_of : ℕ → ℕ
 opcode_of word = field word 0 7
 

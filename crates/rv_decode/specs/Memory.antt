@@ -58,7 +58,7 @@ lies_in fits (e ∷ es) a n = (fits e.kind && spans e a n) || lies_in fits es a 
 
 -- ---- cells
 
--- the cell at an address, and d where no region has one
+-- the cell at an address, and d if no region has one
 abbrev pub cell_at : {X : Type 0} → X → List (Region X) → ℕ → X
 cell_at d [] a = d
 cell_at d (r ∷ rs) a = if spans (extent_of r) a 1 then slice_index_or r.cells (a - r.at) d else cell_at d rs a

@@ -2,7 +2,7 @@
 use Rattle.std.specs.Prelude.{ℕ, zero, suc, Result, Ok, Err}
 
 infixl 10 ◌>>=◌
--- the second step from what the first gives, where it gives something
+-- the second step from what the first gives, if it gives something
 abbrev pub ◌>>=◌ : {A B E : Type 0} → Result A E → (A → Result B E) → Result B E
 (Ok x) >>= f = f x
 (Err e) >>= f = Err e

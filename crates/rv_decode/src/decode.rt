@@ -1,12 +1,12 @@
 // The instruction that a word spells.
 
 ghost use Rattle.std.specs.Prelude.{◌≡◌};
-ghost use Rattle.rv_decode.specs.Decode.{decoded, imm_op_of, system_of, with_imm_of};
+ghost use Rattle.rv_decode.specs.Decode.{decoded, imm_i_of, imm_op_of, system_of, with_imm_of};
 
 use crate::bits::{field_at, register_at, signed_of};
 use crate::instr::{ImmOp, Instr};
 
-/// The instruction that a word spells, or none where the table has no row for it.
+/// The instruction that a word spells, or none if the table has no row for it.
 pub fn decode(word: u32) -> Option<Instr>
     ensures { result ≡ decoded word }
 {
@@ -20,13 +20,30 @@ pub fn decode(word: u32) -> Option<Instr>
 fn with_imm(word: u32) -> Option<Instr>
     ensures { result ≡ with_imm_of word }
 {
-    let op = imm_op(field_at(word, 12, 3))?;
+    let (op, imm) = imm_op(word)?;
     Some(Instr::WithImm {
         op,
         rd: register_at(word, 7),
         first: register_at(word, 15),
-        imm: signed_of(12, field_at(word, 20, 12)),
+        imm,
     })
+}
+
+// The operation on a register and an immediate, and the immediate.
+fn imm_op(word: u32) -> Option<(ImmOp, i32)>
+    ensures { result ≡ imm_op_of word }
+{
+    match field_at(word, 12, 3) {
+        0b000 => Some((ImmOp::Addi, imm_i(word))),
+        _ => None,
+    }
+}
+
+// The immediate of the I format.
+fn imm_i(word: u32) -> i32
+    ensures { result ≡ imm_i_of word }
+{
+    signed_of(12, field_at(word, 20, 12))
 }
 
 fn system(word: u32) -> Option<Instr>
@@ -34,15 +51,6 @@ fn system(word: u32) -> Option<Instr>
 {
     match word {
         0x0000_0073 => Some(Instr::Ecall),
-        _ => None,
-    }
-}
-
-fn imm_op(funct3: u32) -> Option<ImmOp>
-    ensures { result ≡ imm_op_of funct3 }
-{
-    match funct3 {
-        0b000 => Some(ImmOp::Addi),
         _ => None,
     }
 }

@@ -1,5 +1,5 @@
 -- What an item does: a change, or the cause for which the machine is stuck.
-use Rattle.std.specs.Prelude.{ℕ, zero, ◌%◌, ◌==◌, if◌then◌else◌, List, [], ◌∷◌, Option, Some, None}
+use Rattle.std.specs.Prelude.{ℕ, ◌%◌, ◌==◌, if◌then◌else◌, List, [], ◌∷◌, Option, Some, None}
 use Rattle.zc_base.specs.declared.place.Place.{Place}
 use Rattle.rv_decode.specs.declared.instr.Instr.{Instr}
 use Rattle.rv_decode.specs.declared.instr.Instr.TheVariants.{Upper, Jal, Jalr, Load, Store, WithImm, WithReg, Fence, Ecall, Ebreak, Csrrw}

@@ -6,3 +6,5 @@ pub mod State
 pub mod Change
 pub mod Step
 pub mod Run
+pub mod RunEnd
+pub mod Answer

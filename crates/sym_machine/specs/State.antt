@@ -23,6 +23,11 @@ pub record PlainState : Type 0 where
   pub core : PlainCore
   pub events : List Event
 
+-- the registers as the machine keeps them: 32, and register 0 holds the number 0
+pub record IsRegisters (regs : List SymWord) : Type 0 where
+  pub count : length regs ≡ 32
+  pub first : slice_index_or regs 0 undef_word ≡ number_word 0
+
 -- what a register holds; register 0 holds the number 0
 abbrev pub reg_of : PlainCore → ℕ → SymWord
 reg_of s r = if r == 0 then number_word 0 else slice_index_or s.regs r undef_word

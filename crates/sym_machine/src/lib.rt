@@ -2,5 +2,12 @@
 //! is chosen for them, with bytes that may be undefined.
 #![tactic(auto)]
 
+mod change;
+mod results;
+pub mod run;
+pub mod sym;
 pub mod why;
 pub mod word;
+
+#[cfg(test)]
+mod tests;

@@ -20,7 +20,7 @@ li_of half = WithImm Addi (field half 7 5) 0 (imm_ci_of half)
 abbrev pub quadrant1_of : ℕ → Option Instr
 quadrant1_of half = if field half 13 3 == 0b010 then Some (li_of half) else None
 
--- the instruction of 32 bits that a halfword stands for; none where it stands for none
+-- the instruction of 32 bits that a halfword stands for; none if it stands for none
 abbrev pub expanded : ℕ → Option Instr
 expanded half = if field half 0 2 == 0b01 then quadrant1_of half else None
 

@@ -8,7 +8,7 @@ use rv_decode::bits::{field_at, register_at, signed_of};
 use rv_decode::instr::{ImmOp, Instr};
 use zc_base::reg::Reg;
 
-/// What a halfword spells, or none where the tables have no row for it.
+/// What a halfword spells, or none if the tables have no row for it.
 pub fn decode16(half: u16) -> Option<Short>
     ensures { result ≡ decoded16 half }
 {

@@ -2,10 +2,9 @@
 use Rattle.std.specs.Prelude.{◌≡◌, ℕ, List, [], ◌∷◌, Some, None, refl}
 use Rattle.zc_base.specs.declared.place.Place.{Place}
 use Rattle.zc_link.specs.Places.{address_in}
+use Rattle.zc_link.specs.Simulates.{lead_from}
+use Rattle.zc_link.specs.Straight.{place_at}
 use Rattle.zc_link.specs.Values.{pc_upper}
-
-abbrev place_at : ℕ → Place
-place_at offset = record { object = 0; section = 1; offset = offset }
 
 places : List (Place × ℕ)
 places = (place_at 0, 0x10000) ∷ (place_at 4, 0x10002) ∷ []
@@ -21,6 +20,13 @@ not_listed = refl
 other_section : address_in places (record { object = 0; section = 2; offset = 4 }) ≡ None
 unfolding places
 other_section = refl
+
+-- no commit comes before a program whose start is the image's entry; or else three do, of the stub
+starts_at_the_entry : lead_from (Some 0x10000) 0x10000 ≡ 0
+starts_at_the_entry = refl
+
+starts_after_the_stub : lead_from (Some 0x10010) 0x10004 ≡ 3
+starts_after_the_stub = refl
 
 -- what an `auipc` gives: within 2048 bytes of the target, on either side
 forwards : pc_upper 0x10000 0x100FFC ≡ 0x101000

@@ -1,11 +1,11 @@
 -- The image keeps step with the program: from each sound pair some steps of the program are some commits of the machine,
 -- whatever interrupts come before them.
-use Rattle.std.specs.Prelude.{◌≡◌, ℕ, suc, ◌+◌, ◌*◌, ◌<◌, ◌≤◌, ◌==◌, if◌then◌else◌, List, [], ◌∷◌, All, IsSome, Option, Some, None, Ok}
+use Rattle.std.specs.Prelude.{◌≡◌, ℕ, suc, ◌*◌, ◌<◌, ◌≤◌, ◌==◌, if◌then◌else◌, List, [], ◌∷◌, All, IsSome, Option, Some, None, Ok}
 use Rattle.zc_base.specs.declared.place.Place.{Place}
 use Rattle.interrupt_plan.specs.Plan.{AreCuts, Cut, IsCut}
 use Rattle.rv_decode.specs.Memory.{changed, written}
 use Rattle.rv_decode.specs.Run.{iterate}
-use Rattle.rv_decode.specs.State.{ZcCore, ZcState}
+use Rattle.rv_decode.specs.State.{ZcState}
 use Rattle.sym_machine.specs.declared.word.SymByte.TheVariants.{Num}
 use Rattle.psabi_sym.specs.Inputs.{ParsedInputs}
 use Rattle.sym_machine.specs.Program.{Program, data_end}

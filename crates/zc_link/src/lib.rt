@@ -1,2 +1,6 @@
-//! The linked image, and what it owes the objects: it does what their program does.
+//! The link of objects to an image, which does what the objects' program does.
 #![tactic(auto)]
+
+pub mod link_zc;
+pub mod linked;
+mod straight;

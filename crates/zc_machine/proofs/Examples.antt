@@ -2,7 +2,7 @@
 use Rattle.std.specs.Prelude.{◌≡◌, ℕ, true, List, [], ◌∷◌, Result, Ok, Err, refl}
 use Rattle.rv_decode.specs.Memory.{blank}
 use Rattle.rv_decode.specs.State.{ZcCore, ZcState, Event, Exit, byte_in}
-use Rattle.interrupt_plan.specs.Plan.{Cut}
+use Rattle.interrupt_plan.specs.Plan.{Entry}
 use Rattle.zc_machine.specs.declared.reason.Reason.{Reason}
 use Rattle.zc_machine.specs.declared.reason.Reason.TheVariants.{Illegal, BadAccess, UnknownCall}
 use Rattle.zc_machine.specs.Step.{zc_step}
@@ -20,7 +20,7 @@ abbrev shown : Result ZcState Reason → Result (List Event × ℕ) Reason
 shown (Ok r) = Ok (r.events, r.core.commits)
 shown (Err e) = Err e
 
-ran : List ℕ → ℕ → List Cut → ℕ → Result (List Event × ℕ) Reason
+ran : List ℕ → ℕ → List Entry → ℕ → Result (List Event × ℕ) Reason
 ran text size plan m = shown (zc_after (loaded text size) [] plan m)
 
 -- c.li a0, 3; addi a7, x0, 93; ecall
@@ -41,7 +41,7 @@ unfolding ran loaded three first_core blank zc_after zc_turn zc_step
 three_stays = refl
 
 -- an interrupt before each commit changes none of it
-three_interrupted : ran three 10 (record { at = 0; done = []; dirt = (0x3000F, 0xEE) ∷ (0x10000, 0xEE) ∷ [] } ∷ record { at = 2; done = 0 ∷ []; dirt = (0x30000, 0xEE) ∷ [] } ∷ []) 3 ≡ Ok (Exit 3 ∷ [], 3)
+three_interrupted : ran three 10 (record { at = 0; cut = record { done = []; dirt = (0x3000F, 0xEE) ∷ (0x10000, 0xEE) ∷ [] } } ∷ record { at = 2; cut = record { done = 0 ∷ []; dirt = (0x30000, 0xEE) ∷ [] } } ∷ []) 3 ≡ Ok (Exit 3 ∷ [], 3)
 unfolding ran loaded three first_core blank zc_after zc_turn zc_step
 three_interrupted = refl
 
@@ -50,16 +50,16 @@ other_call : ran (0x73 ∷ 0x00 ∷ 0x00 ∷ 0x00 ∷ []) 4 [] 1 ≡ Err Unknown
 unfolding ran loaded first_core blank zc_after zc_turn zc_step
 other_call = refl
 
--- behind the bytes of the file a segment is 0, which is no instruction, and behind its end nothing is fetched
-behind_the_file : ran (0x0D ∷ 0x45 ∷ []) 4 [] 2 ≡ Err Illegal
+-- after the bytes of the file a segment is 0, which is no instruction, and past its end nothing is fetched
+after_the_file : ran (0x0D ∷ 0x45 ∷ []) 4 [] 2 ≡ Err Illegal
 unfolding ran loaded first_core blank zc_after zc_turn zc_step
-behind_the_file = refl
+after_the_file = refl
 
-behind_the_end : ran (0x0D ∷ 0x45 ∷ []) 2 [] 2 ≡ Err BadAccess
+past_the_end : ran (0x0D ∷ 0x45 ∷ []) 2 [] 2 ≡ Err BadAccess
 unfolding ran loaded first_core blank zc_after zc_turn zc_step
-behind_the_end = refl
+past_the_end = refl
 
--- so is a word whose second half lies behind the end
+-- nor is a word whose second half lies past the end
 cut_word : ran (0x93 ∷ 0x08 ∷ []) 2 [] 1 ≡ Err BadAccess
 unfolding ran loaded first_core blank zc_after zc_turn zc_step
 cut_word = refl
@@ -70,14 +70,14 @@ at_work : ZcCore
 at_work = record (loaded three 10) { regs = 0 ∷ 0 ∷ 0x30008 ∷ [] }
 
 -- an interrupt writes below sp, and not at sp, nor in code
-written_below : byte_in (cut (record { at = 0; done = []; dirt = (0x30007, 0xEE) ∷ [] }) at_work) 0x30007 ≡ 0xEE
+written_below : byte_in (cut (record { done = []; dirt = (0x30007, 0xEE) ∷ [] }) at_work) 0x30007 ≡ 0xEE
 unfolding at_work loaded three first_core blank
 written_below = refl
 
-not_at_sp : byte_in (cut (record { at = 0; done = []; dirt = (0x30008, 0xEE) ∷ [] }) at_work) 0x30008 ≡ 0
+not_at_sp : byte_in (cut (record { done = []; dirt = (0x30008, 0xEE) ∷ [] }) at_work) 0x30008 ≡ 0
 unfolding at_work loaded three first_core blank
 not_at_sp = refl
 
-not_in_code : byte_in (cut (record { at = 0; done = []; dirt = (0x10000, 0xEE) ∷ [] }) at_work) 0x10000 ≡ 0x0D
+not_in_code : byte_in (cut (record { done = []; dirt = (0x10000, 0xEE) ∷ [] }) at_work) 0x10000 ≡ 0x0D
 unfolding at_work loaded three first_core blank
 not_in_code = refl

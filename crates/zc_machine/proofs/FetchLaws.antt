@@ -5,14 +5,14 @@ use Rattle.std.specs.Option.{option_map}
 use Rattle.rv_decode.specs.Bits.{field}
 use Rattle.rv_decode.specs.Decode.{decoded}
 use Rattle.rv_decode.specs.Memory.{is_text, extents_of, lies_in}
-use Rattle.rv_decode.specs.State.{ZcCore, byte_in}
+use Rattle.rv_decode.specs.State.{ZcCore, byte_in, half_at, word_at}
 use Rattle.rv_decode.proofs.MemoryLaws.{lies_inside}
 use Rattle.rv_decode.specs.declared.instr.Instr.{Instr}
 use Rattle.zc_decode.specs.declared.short.Short.{Short}
 use Rattle.zc_decode.specs.declared.short.Short.TheVariants.{Base}
 use Rattle.zc_decode.specs.Halfwords.{decoded16}
 use Rattle.zc_machine.specs.declared.reason.Reason.TheVariants.{BadAccess}
-use Rattle.zc_machine.specs.Fetch.{Found, Missing, found, half_at, word_at, fetched_half, fetched_word, fetched_at}
+use Rattle.zc_machine.specs.Fetch.{Found, Missing, found, fetched_half, fetched_word, fetched_at}
 
 -- two machines with one text: their regions lie alike, and their bytes of code are the same
 pub record SameText (y z : ZcCore) : Type 0 where

@@ -4,4 +4,5 @@ pub mod LoadLaws
 pub mod RegionLaws
 pub mod StepLaws
 pub mod CutLaws
+pub mod TurnLaws
 pub mod RunLaws

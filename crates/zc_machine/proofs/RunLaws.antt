@@ -1,24 +1,24 @@
 -- A run by its turns, while the program calls nothing but its exit.
 use Rattle.std.proofs.Common.{◌≡◌, ℕ, ◌+◌, ◌<◌, List, [], ◌∷◌, Option, Some, None, Ok, Err, refl, sym, ap, ◌∙◌, arith}
 use Rattle.std.proofs.lemmas.List.{append-nil}
-use Rattle.interrupt_plan.specs.Plan.{Cut}
-use Rattle.rv_decode.specs.Run.{◌>>=◌, iterate}
+use Rattle.interrupt_plan.specs.Plan.{Entry, cuts_at}
 use Rattle.rv_decode.specs.State as event
 use Rattle.rv_decode.specs.State.{ZcCore, ZcState}
-use Rattle.rv_decode.proofs.RunLaws.{iterate-add, iterate-one}
+use Rattle.zc_outside.specs.Desk.{Desk, Wrote}
 use Rattle.zc_outside.specs.Streams.{Adds}
+use Rattle.zc_machine.specs.declared.answer.EnvCall.{EnvCall}
+use Rattle.zc_machine.specs.declared.answer.EnvCall.TheVariants.{Exit}
+use Rattle.zc_machine.specs.declared.answer.Step.TheVariants as answer
 use Rattle.zc_machine.specs.declared.reason.Reason.{Reason}
 use Rattle.zc_machine.specs.declared.run.RunEnd.TheVariants as end
-use Rattle.zc_machine.specs.declared.step.EnvCall.{EnvCall}
-use Rattle.zc_machine.specs.declared.step.EnvCall.TheVariants.{Exit}
-use Rattle.zc_machine.specs.declared.step.Step.TheVariants as answer
 use Rattle.zc_machine.specs.Answer.{answer_of, core_after, exited}
-use Rattle.zc_machine.specs.Interrupt.{cut_by}
-use Rattle.zc_machine.specs.Run.{committed, turn_from, zc_turn, zc_after}
+use Rattle.zc_machine.specs.Interrupt.{all_cuts}
+use Rattle.zc_machine.specs.Run.{committed, first_state, zc_after, zc_turn}
 use Rattle.zc_machine.specs.RunEnd.{Course, Ran}
 use Rattle.zc_machine.specs.Step.{ZcStep, Committed, Wants, Ended, Stopped, zc_step}
-use Rattle.zc_machine.proofs.CutLaws.{cut_by_keeps}
+use Rattle.zc_machine.proofs.CutLaws.{all_cuts_keep}
 use Rattle.zc_machine.proofs.StepLaws.{Shows, step_shows}
+use Rattle.zc_machine.proofs.TurnLaws.{zc_turn-running, zc_turns-more}
 
 -- ---- what a step's answer says of the step
 
@@ -58,60 +58,55 @@ nothing_added : (xs : Option (List ℕ)) → Adds xs xs []
 nothing_added None = tt
 nothing_added (Some xs) = sym (append-nil xs)
 
--- the state with this machine before any event
-abbrev pub quiet : List ℕ → ZcCore → ZcState
-quiet input z = record { core = z; input = input; events = [] }
-
-pub zc_after-none : (first : ZcCore) (input : List ℕ) (plan : List Cut) → zc_after first input plan 0 ≡ Ok (quiet input first)
-unfolding zc_after
-zc_after-none first input plan = refl
+nothing_written : (desk : Desk) → Wrote [] [] desk desk
+nothing_written desk = record { out = nothing_added desk.out; err = nothing_added desk.err }
 
 -- ---- a turn
 
--- the run came to z, which hasn't exited, and the interrupts before the next commit leave z'
-pub record Turning (run : Course) (z z' : ZcCore) : Type 0 where
-  pub so_far : zc_after run.first run.input run.plan z.commits ≡ Ok (quiet run.input z)
-  pub running : z.exit ≡ None
-  pub cuts : z' ≡ cut_by run.plan z
+pub zc_after-none : (first : ZcCore) (input : List ℕ) (plan : List Entry) → zc_after first input plan 0 ≡ Ok (first_state first input)
+unfolding zc_after
+zc_after-none first input plan = refl
 
--- the run came to this state behind one commit more
+-- the run came to z, which hasn't exited, and the interrupts before the next commit leave z'; what comes to a first state
+-- has no events
+pub record Turning (run : Course) (z z' : ZcCore) : Type 0 where
+  pub so_far : zc_after run.first run.input run.plan z.commits ≡ Ok (first_state z run.input)
+  pub running : z.exit ≡ None
+  pub cuts : z' ≡ all_cuts (cuts_at run.plan z.commits) z
+
+-- the run came to this state after one commit more
 pub record Came (run : Course) (z now : ZcCore) : Type 0 where
   pub counts : now.commits ≡ z.commits + 1
   pub running : now.exit ≡ None
-  pub so_far : zc_after run.first run.input run.plan now.commits ≡ Ok (quiet run.input now)
+  pub so_far : zc_after run.first run.input run.plan now.commits ≡ Ok (first_state now run.input)
 
 module _ (run : Course) (z z' : ZcCore) (t : Turning run z z') where
-  turn_running : (r : ZcState) → r.core.exit ≡ None → zc_turn run.plan r ≡ committed (zc_step (cut_by run.plan r.core)) (record r { core = cut_by run.plan r.core })
-  unfolding zc_turn
-  turn_running r running = ap (λ x. turn_from x run.plan r) running
-
   -- the turn is the step that follows its interrupts
-  turn_made : zc_turn run.plan (quiet run.input z) ≡ committed (zc_step z') (quiet run.input z')
-  turn_made = turn_running (quiet run.input z) t.running ∙ sym (ap (λ y. committed (zc_step y) (quiet run.input y)) t.cuts)
+  turn_made : zc_turn (cuts_at run.plan z.commits) (first_state z run.input) ≡ committed (zc_step z') (first_state z' run.input)
+  turn_made =
+      zc_turn-running (cuts_at run.plan z.commits) (first_state z run.input) t.running
+      ∙ sym (ap (λ y. committed (zc_step y) (first_state y run.input)) t.cuts)
 
-  after_more : (r : ZcState) → zc_turn run.plan (quiet run.input z) ≡ Ok r → zc_after run.first run.input run.plan (z.commits + 1) ≡ Ok r
+  after_more : (r : ZcState) → zc_turn (cuts_at run.plan z.commits) (first_state z run.input) ≡ Ok r → zc_after run.first run.input run.plan (z.commits + 1) ≡ Ok r
   unfolding zc_after
-  after_more r turn =
-      iterate-add (zc_turn run.plan) z.commits 1 (quiet run.input run.first)
-      ∙ ap (λ q. q >>= iterate (zc_turn run.plan) 1) t.so_far
-      ∙ iterate-one (zc_turn run.plan) (quiet run.input z) r turn
+  after_more r turn = zc_turns-more (cuts_at run.plan) z.commits (first_state run.first run.input) (first_state z run.input) r t.so_far turn
 
   pub commits_kept : z'.commits ≡ z.commits
-  commits_kept = ap (λ y. y.commits) t.cuts ∙ (cut_by_keeps run.plan z).commits
+  commits_kept = ap (λ y. y.commits) t.cuts ∙ (all_cuts_keep (cuts_at run.plan z.commits) z).commits
 
   exit_kept : z'.exit ≡ None
-  exit_kept = ap (λ y. y.exit) t.cuts ∙ (cut_by_keeps run.plan z).exit ∙ t.running
+  exit_kept = ap (λ y. y.exit) t.cuts ∙ (all_cuts_keep (cuts_at run.plan z.commits) z).exit ∙ t.running
 
   -- a commit
   pub committed_came : (now : ZcCore) → answer.Committed ≡ answer_of (zc_step z') → now ≡ core_after (zc_step z') z' → Came run z now
   committed_came now answers is =
       let q = committed_step z' (zc_step z') (step_shows z') answers in
       let counts : now.commits ≡ z.commits + 1 = ap (λ y. y.commits) is ∙ q.counts ∙ ap (λ k. k + 1) commits_kept in
-      let turn = turn_made ∙ q.made (quiet run.input z') ∙ sym (ap (λ y. Ok (quiet run.input y)) is) in
+      let turn = turn_made ∙ q.made (first_state z' run.input) ∙ sym (ap (λ y. Ok (first_state y run.input)) is) in
       record {
         counts = counts;
         running = ap (λ y. y.exit) is ∙ q.exit ∙ exit_kept;
-        so_far = ap (zc_after run.first run.input run.plan) counts ∙ after_more (quiet run.input now) turn;
+        so_far = ap (zc_after run.first run.input run.plan) counts ∙ after_more (first_state now run.input) turn;
       }
 
   -- a program that runs doesn't end without its exit
@@ -121,42 +116,40 @@ module _ (run : Course) (z z' : ZcCore) (t : Turning run z z') where
       let none = exit_kept in
       cc
 
-  module _ (now : ZcCore) (out err : Option (List ℕ)) (within : z.commits < run.steps) where
+  module _ (now : ZcCore) (desk : Desk) (within : z.commits < run.steps) where
     -- the exit
-    pub exit_ran : (status : ℕ) → zc_step z' ≡ Wants (Exit status) → now ≡ exited status z' → Ran run (end.Exit status) now out out err err
+    pub exit_ran : (status : ℕ) → zc_step z' ≡ Wants (Exit status) → now ≡ exited status z' → Ran run (end.Exit status) now desk desk
     exit_ran status wants is =
         let last : ZcState = record { core = exited status z'; input = run.input; events = event.Exit status ∷ [] } in
         record {
+          commits = z.commits + 1;
+          within = omega arith;
           last = last;
-          ended = record {
-            commits = z.commits + 1;
-            within = omega arith;
-            state = after_more last (turn_made ∙ ap (λ s. committed s (quiet run.input z')) wants);
-            exit = refl;
-            machine = is;
-          };
-          wrote = (nothing_added out, nothing_added err);
+          state = after_more last (turn_made ∙ ap (λ s. committed s (first_state z' run.input)) wants);
+          exit = refl;
+          machine = is;
+          wrote = nothing_written desk;
         }
 
     -- a stop
-    pub stop_ran : (reason : Reason) → ((r : ZcState) → committed (zc_step z') r ≡ Err reason) → now ≡ z' → Ran run (end.Stopped reason) now out out err err
+    pub stop_ran : (reason : Reason) → ((r : ZcState) → committed (zc_step z') r ≡ Err reason) → now ≡ z' → Ran run (end.Stopped reason) now desk desk
     stop_ran reason stops is = record {
-      last = quiet run.input z;
-      ended = record {
-        commits = z.commits;
-        within = within;
-        state = t.so_far;
-        running = t.running;
-        stop = turn_made ∙ stops (quiet run.input z');
-        machine = is ∙ t.cuts;
-      };
-      wrote = (nothing_added out, nothing_added err);
+      commits = z.commits;
+      within = within;
+      last = first_state z run.input;
+      state = t.so_far;
+      running = t.running;
+      stop = turn_made ∙ stops (first_state z' run.input);
+      machine = is ∙ t.cuts;
+      wrote = nothing_written desk;
     }
 
 -- all steps were made
-pub spent_ran : (run : Course) (z : ZcCore) (out err : Option (List ℕ)) → zc_after run.first run.input run.plan z.commits ≡ Ok (quiet run.input z) → z.exit ≡ None → z.commits ≡ run.steps → Ran run end.Spent z out out err err
-spent_ran run z out err so_far running all = record {
-  last = quiet run.input z;
-  ended = record { state = ap (zc_after run.first run.input run.plan) (sym all) ∙ so_far; running = running; machine = refl };
-  wrote = (nothing_added out, nothing_added err);
+pub spent_ran : (run : Course) (z : ZcCore) (desk : Desk) → zc_after run.first run.input run.plan z.commits ≡ Ok (first_state z run.input) → z.exit ≡ None → z.commits ≡ run.steps → Ran run end.Spent z desk desk
+spent_ran run z desk so_far running all = record {
+  last = first_state z run.input;
+  state = ap (zc_after run.first run.input run.plan) (sym all) ∙ so_far;
+  running = running;
+  machine = refl;
+  wrote = nothing_written desk;
 }

@@ -4,12 +4,13 @@ use Rattle.rv_decode.specs.State.{ZcCore, reg_in}
 use Rattle.rv_decode.specs.Effect.{effect, gives, imm_result}
 use Rattle.rv_decode.specs.declared.instr.Instr.{Instr}
 use Rattle.rv_decode.specs.declared.instr.Instr.TheVariants.{WithImm, Ecall}
+use Rattle.zc_decode.specs.Effect.{short_effect}
 use Rattle.zc_decode.specs.declared.short.Short.{Short}
 use Rattle.zc_decode.specs.declared.short.Short.TheVariants.{Base}
 use Rattle.zc_machine.specs.declared.reason.Reason.TheVariants.{UnknownCall}
-use Rattle.zc_machine.specs.declared.step.EnvCall.TheVariants.{Exit}
+use Rattle.zc_machine.specs.declared.answer.EnvCall.TheVariants.{Exit}
 use Rattle.zc_machine.specs.Fetch.{Fetched, Found, Missing, fetched_at}
-use Rattle.zc_machine.specs.Step.{ZcStep, Committed, Wants, Ended, Stopped, effect_step, short_step, made, step_from, zc_step}
+use Rattle.zc_machine.specs.Step.{ZcStep, Committed, Wants, Ended, Stopped, effect_step, made, step_from, zc_step}
 
 -- a commit counts and doesn't exit, the status of an exit is the low byte of a0, and only an exit ends
 abbrev pub Shows : ZcCore → ZcStep → Type 0
@@ -33,7 +34,7 @@ module _ (z : ZcCore) where
   effect_shows Ecall size = call_shows (eqb (reg_in z 17) 93)
   effect_shows other size = tt
 
-  short_shows : (s : Short) (size : ℕ) → Shows z (short_step s size z)
+  short_shows : (s : Short) (size : ℕ) → Shows z (effect_step (short_effect s size z) z)
   short_shows (Base i) size = effect_shows i size
   short_shows other size = tt
 

@@ -3,9 +3,9 @@ use Rattle.std.specs.Prelude.{ℕ, ◌≡◌, ◌+◌, Some, Result, Ok, Err}
 use Rattle.rv_decode.specs.State.{ZcCore}
 use Rattle.zc_decode.specs.declared.short.Short.{Short}
 use Rattle.zc_machine.specs.declared.reason.Reason.{Reason}
-use Rattle.zc_machine.specs.declared.step.EnvCall.TheVariants.{Exit}
-use Rattle.zc_machine.specs.declared.step.Step.{Step}
-use Rattle.zc_machine.specs.declared.step.Step.TheVariants as answer
+use Rattle.zc_machine.specs.declared.answer.EnvCall.TheVariants.{Exit}
+use Rattle.zc_machine.specs.declared.answer.Step.{Step}
+use Rattle.zc_machine.specs.declared.answer.Step.TheVariants as answer
 use Rattle.zc_machine.specs.Fetch.{Fetched, Found, Missing}
 use Rattle.zc_machine.specs.Step.{ZcStep, Committed, Wants, Ended, Stopped}
 

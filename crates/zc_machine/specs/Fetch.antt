@@ -32,7 +32,7 @@ fetched_word z a =
     then found (option_map Base (decoded (word_at z a))) 4
     else Missing BadAccess
 
--- what stands at an address of code: a halfword, or a word where its low two bits are 11
+-- what stands at an address of code: a halfword, or a word if its low two bits are 11
 abbrev pub fetched_at : ZcCore → ℕ → Fetched
 fetched_at z a =
     if lies_in is_text (extents_of z.memory) a 2

@@ -6,11 +6,10 @@ pub mod Answer
 pub mod Interrupt
 pub mod Cursor
 pub mod Run
-pub mod Written
 pub mod RunEnd
 pub mod Load
 pub use Rattle.elf32_read.specs.Header
 pub use Rattle.elf32_read.specs.Segments
 pub use Rattle.interrupt_plan.specs.Plan
 pub use Rattle.rv_decode.specs.State
-pub use Rattle.zc_outside.specs.Streams
+pub use Rattle.zc_outside.specs.Desk

@@ -5,7 +5,7 @@ use Rattle.elf32_read.specs.Segments.{SegmentData}
 use Rattle.rv_decode.specs.Memory.{Region, Text, Data, Stack, blank}
 use Rattle.rv_decode.specs.State.{ZcCore, start_regs}
 
--- the region of a segment: its bytes from the file, and zeros behind them
+-- the region of a segment: its bytes from the file, and zeros after them
 abbrev pub region_of : SegmentData → Region ℕ
 region_of s = record { kind = (if s.code then Text else Data); at = s.at; cells = s.bytes ++ blank (s.size - length s.bytes) 0 }
 

@@ -5,8 +5,8 @@ use Rattle.rv_decode.specs.Run.{◌>>=◌}
 use Rattle.rv_decode.specs.State.{ZcCore, ZcState, Exit}
 use Rattle.zc_machine.specs.declared.reason.Reason.{Reason}
 use Rattle.zc_machine.specs.declared.reason.Reason.TheVariants.{UnknownCall}
-use Rattle.zc_machine.specs.declared.step.EnvCall.{EnvCall}
-use Rattle.zc_machine.specs.declared.step.EnvCall.TheVariants as call
+use Rattle.zc_machine.specs.declared.answer.EnvCall.{EnvCall}
+use Rattle.zc_machine.specs.declared.answer.EnvCall.TheVariants as call
 use Rattle.zc_machine.specs.Step.{ZcStep, Committed, Wants, Ended, Stopped, zc_step}
 use Rattle.zc_machine.specs.Interrupt.{all_cuts}
 
@@ -20,7 +20,7 @@ answered (call.Exit status) r =
 answered (call.Read at len) r = Err UnknownCall
 answered (call.Write fd at len) r = Err UnknownCall
 
--- the state after a step, with the environment's answer where it wants one
+-- the state after a step, with the environment's answer if it wants one
 abbrev pub committed : ZcStep → ZcState → Result ZcState Reason
 committed (Committed z) r = Ok (record r { core = z })
 committed (Wants c) r = answered c r

@@ -1,16 +1,15 @@
 -- How a run ends, and what it has then written.
-use Rattle.std.specs.Prelude.{◌≡◌, ℕ, ◌<◌, ◌≤◌, List, [], ◌∷◌, ◌++◌, length, take, Option, Some, None, Ok, Err}
+use Rattle.std.specs.Prelude.{◌≡◌, ℕ, ◌<◌, ◌≤◌, List, [], ◌∷◌, ◌++◌, length, take, Some, None, Ok, Err}
 use Rattle.interrupt_plan.specs.Plan.{Entry, cuts_at}
 use Rattle.rv_decode.specs.State.{Event, Write, ZcCore, ZcState}
-use Rattle.zc_outside.specs.Desk.{Desk}
-use Rattle.zc_outside.specs.Streams.{Adds}
+use Rattle.rv_decode.specs.Written.{err_of, out_of}
+use Rattle.zc_outside.specs.Desk.{Desk, Wrote}
 use Rattle.zc_outside.specs.declared.console.ConsoleFault.{ConsoleFault}
 use Rattle.zc_machine.specs.declared.reason.Reason.{Reason}
 use Rattle.zc_machine.specs.declared.run.RunEnd.{RunEnd}
 use Rattle.zc_machine.specs.declared.run.RunEnd.TheVariants as end
 use Rattle.zc_machine.specs.Interrupt.{all_cuts}
 use Rattle.zc_machine.specs.Run.{zc_turn, zc_after}
-use Rattle.zc_machine.specs.Written.{err_of, out_of}
 
 -- a run: the machine's first state, its input, its plan, and the number of commits that it may make
 pub record Course : Type 0 where
@@ -21,11 +20,6 @@ pub record Course : Type 0 where
 
 -- ---- what is written
 
--- all that these events write stands on the two streams, in order
-pub record Wrote (events : List Event) (before after : Desk) : Type 0 where
-  pub out : Adds before.out after.out (out_of events)
-  pub err : Adds before.err after.err (err_of events)
-
 -- the last of these events is a write that the console refused: all that the earlier ones write stands, and of its bytes the
 -- first ones, but not all
 pub record WroteInPart (events : List Event) (before after : Desk) : Type 0 where
@@ -35,7 +29,9 @@ pub record WroteInPart (events : List Event) (before after : Desk) : Type 0 wher
   pub count : ℕ
   pub last : events ≡ earlier ++ Write stream bytes ∷ []
   pub part : count < length bytes
-  pub wrote : Wrote (earlier ++ Write stream (take count bytes) ∷ []) before after
+  pub shown : List Event
+  pub cut_short : shown ≡ earlier ++ Write stream (take count bytes) ∷ []
+  pub wrote : Wrote (out_of shown) (err_of shown) before after
 
 -- ---- ends
 
@@ -47,7 +43,7 @@ pub record RanToExit (run : Course) (status : ℕ) (now : ZcCore) (before after 
   pub state : zc_after run.first run.input run.plan commits ≡ Ok last
   pub exit : last.core.exit ≡ Some status
   pub machine : now ≡ last.core
-  pub wrote : Wrote last.events before after
+  pub wrote : Wrote (out_of last.events) (err_of last.events) before after
 
 -- fewer commits were made, and the next is this stop; the machine is left as it is after the interrupts before that
 pub record RanToStop (run : Course) (reason : Reason) (now : ZcCore) (before after : Desk) : Type 0 where
@@ -58,7 +54,7 @@ pub record RanToStop (run : Course) (reason : Reason) (now : ZcCore) (before aft
   pub running : last.core.exit ≡ None
   pub stop : zc_turn (cuts_at run.plan commits) last ≡ Err reason
   pub machine : now ≡ all_cuts (cuts_at run.plan commits) last.core
-  pub wrote : Wrote last.events before after
+  pub wrote : Wrote (out_of last.events) (err_of last.events) before after
 
 -- all commits were made, and the program hasn't exited
 pub record RanOut (run : Course) (now : ZcCore) (before after : Desk) : Type 0 where
@@ -66,7 +62,7 @@ pub record RanOut (run : Course) (now : ZcCore) (before after : Desk) : Type 0 w
   pub state : zc_after run.first run.input run.plan run.steps ≡ Ok last
   pub running : last.core.exit ≡ None
   pub machine : now ≡ last.core
-  pub wrote : Wrote last.events before after
+  pub wrote : Wrote (out_of last.events) (err_of last.events) before after
 
 -- the console refused the write that the last of these commits makes; the machine may be in any state
 pub record RanToRefusal (run : Course) (before after : Desk) : Type 0 where

@@ -6,8 +6,8 @@ use Rattle.rv_decode.specs.Effect.{Effect}
 use Rattle.zc_decode.specs.Effect.{short_effect}
 use Rattle.zc_machine.specs.declared.reason.Reason.{Reason}
 use Rattle.zc_machine.specs.declared.reason.Reason.TheVariants.{Illegal, BadAccess, Misaligned, Break, UnknownCall}
-use Rattle.zc_machine.specs.declared.step.EnvCall.{EnvCall}
-use Rattle.zc_machine.specs.declared.step.EnvCall.TheVariants as call
+use Rattle.zc_machine.specs.declared.answer.EnvCall.{EnvCall}
+use Rattle.zc_machine.specs.declared.answer.EnvCall.TheVariants as call
 use Rattle.zc_machine.specs.Fetch.{Fetched, Found, Missing, fetched_at}
 
 -- what a step comes to: an instruction commits and leaves this state, or nothing changes

@@ -51,7 +51,7 @@ fn kind_for(code: bool) -> RegionKind
     }
 }
 
-// The bytes, and zeros behind them up to this size.
+// The bytes, and zeros after them up to this size.
 fn padded(alloc: Global, bytes: &[u8], size: u32) -> Result<Vec<u8>, AllocError>
     ensures { IfOk result (λ cells. cells.items ≡ bytes.now ++ blank (size - length bytes.now) 0) }
 {

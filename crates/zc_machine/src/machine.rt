@@ -4,17 +4,18 @@ ghost use Rattle.std.specs.Prelude.{◌≡◌, ℕ, ◌<◌, ◌%◌, ◌-◌, �
 ghost use Rattle.elf32_read.specs.Header.{entry_of};
 ghost use Rattle.elf32_read.specs.Segments.{segments_of};
 ghost use Rattle.rv_decode.specs.Effect.{effect, imm_result, onward};
-ghost use Rattle.rv_decode.specs.State.{reg_in, set_reg};
+ghost use Rattle.rv_decode.specs.State.{half_at, reg_in, set_reg, word_at};
+ghost use Rattle.zc_decode.specs.Effect.{short_effect};
 ghost use Rattle.zc_machine.specs.Answer.{WantsExit, answer_of, core_after, exited, fetched_as};
-ghost use Rattle.zc_machine.specs.Fetch.{fetched_at, fetched_word, half_at, word_at};
+ghost use Rattle.zc_machine.specs.Fetch.{fetched_at, fetched_word};
 ghost use Rattle.zc_machine.specs.Interrupt.{cut, dirtied};
 ghost use Rattle.zc_machine.specs.Load.{first_core};
-ghost use Rattle.zc_machine.specs.Step.{Wants, called, effect_step, short_step, zc_step};
+ghost use Rattle.zc_machine.specs.Step.{Wants, called, effect_step, zc_step};
 
+use crate::answer::{EnvCall, Step};
 use crate::load::first_regions;
 use crate::reason::Reason;
 use crate::region::{Access, Region, byte_at, reaches, write_byte};
-use crate::step::{EnvCall, Step};
 use elf32_read::image::Image;
 use rv_decode::decode::decode;
 use rv_decode::instr::{ImmOp, Instr};
@@ -36,6 +37,7 @@ pub struct Machine {
 }
 
 impl Model for Machine {
+    ghost use Rattle.std.specs.Prelude.{◌≡◌, slice_index};
     ghost use Rattle.rv_decode.specs.State.{ZcCore};
 
     ghost Value = { ZcCore };
@@ -48,6 +50,9 @@ impl Model for Machine {
       commits = m.commits;
       exit = m.exit;
     } };
+
+    // Register 0 holds 0.
+    ghost invariant = { λ m. slice_index m.regs 0 ≡ 0 };
 }
 
 impl Machine {
@@ -120,14 +125,14 @@ impl Machine {
     /// Makes an interrupt before the next commit: `dirt` is the bytes that it writes, by address. No
     /// instruction here has several accesses yet, so there are no `done` ones to make.
     pub fn cut(&mut self, done: &[u8], dirt: &[(u32, u8)])
-        ensures { self.new ≡ cut (record { at = self.old.commits; done = done.now; dirt = dirt.now }) self.old }
+        ensures { self.new ≡ cut (record { done = done.now; dirt = dirt.now }) self.old }
     {
         for (a, b) in dirt {
             self.dirty(*a, *b);
         }
     }
 
-    // Writes a byte, where an interrupt may.
+    // Writes a byte, if an interrupt may write there.
     fn dirty(&mut self, address: u32, byte: u8)
         ensures { self.new ≡ dirtied (address, byte) self.old }
     {
@@ -196,12 +201,19 @@ impl Machine {
     // Makes the step of an instruction of this size.
     fn execute(&mut self, short: Short, size: u32) -> Step
         requires { self.old.commits < 2 ^ 64 - 1 }
-        ensures answer { result ≡ answer_of (short_step short size self.old) }
-        ensures state { self.new ≡ core_after (short_step short size self.old) self.old }
+        ensures answer { result ≡ answer_of (effect_step (short_effect short size self.old) self.old) }
+        ensures state { self.new ≡ core_after (effect_step (short_effect short size self.old) self.old) self.old }
     {
         match short {
             Short::Base(instr) => self.execute_base(instr, size),
-            _ => Step::Stopped(Reason::Illegal),
+            // No machine has these yet.
+            Short::Push { .. }
+            | Short::Pop { .. }
+            | Short::PopRet { .. }
+            | Short::PopRetz { .. }
+            | Short::MoveSa { .. }
+            | Short::MoveAs { .. }
+            | Short::TableJump { .. } => Step::Stopped(Reason::Illegal),
         }
     }
 
@@ -214,7 +226,17 @@ impl Machine {
         match instr {
             Instr::WithImm { op, rd, first, imm } => self.with_imm(op, rd, first, imm, size),
             Instr::Ecall => self.call(),
-            _ => Step::Stopped(Reason::Illegal),
+            // Nor these.
+            Instr::Upper { .. }
+            | Instr::Jal { .. }
+            | Instr::Jalr { .. }
+            | Instr::Branch { .. }
+            | Instr::Load { .. }
+            | Instr::Store { .. }
+            | Instr::WithReg { .. }
+            | Instr::Fence { .. }
+            | Instr::Ebreak
+            | Instr::Csrrw { .. } => Step::Stopped(Reason::Illegal),
         }
     }
 
@@ -268,7 +290,14 @@ fn imm_value(op: ImmOp, n: u32, imm: i32) -> Option<u32>
 {
     match op {
         ImmOp::Addi => Some(n.wrapping_add(imm.cast_unsigned())),
-        _ => None,
+        ImmOp::Slti
+        | ImmOp::Sltiu
+        | ImmOp::Xori
+        | ImmOp::Ori
+        | ImmOp::Andi
+        | ImmOp::Slli
+        | ImmOp::Srli
+        | ImmOp::Srai => None,
     }
 }
 

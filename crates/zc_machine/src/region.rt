@@ -82,7 +82,7 @@ impl Region {
         self.cells[(address - u64::from(self.at)) as usize]
     }
 
-    // Writes a cell, where it is one of the region's.
+    // Writes a cell, if it is one of the region's.
     fn write(&mut self, a: u32, b: u8)
         ensures { self.new ≡ record self.old { cells = cells_changed (written a 1 (λ _. b)) self.old.at self.old.cells } }
     {
@@ -104,7 +104,7 @@ pub fn reaches(regions: &[Region], access: Access, a: u64, n: u64) -> bool
     false
 }
 
-/// The byte at an address, and 0 where there is none.
+/// The byte at an address, and 0 if there is none.
 pub fn byte_at(regions: &[Region], a: u64) -> u8
     ensures { result ≡ cell_at 0 regions.now a }
 {
@@ -116,7 +116,7 @@ pub fn byte_at(regions: &[Region], a: u64) -> u8
     0
 }
 
-/// Writes the byte at an address, where there is one.
+/// Writes the byte at an address, if there is one.
 pub fn write_byte(regions: &mut [Region], a: u32, b: u8)
     ensures { regions.new ≡ changed (written a 1 (λ _. b)) regions.old }
 {

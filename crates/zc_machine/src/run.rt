@@ -1,14 +1,15 @@
 // Runs of the machine.
 
-ghost use Rattle.std.specs.Prelude.{◌≡◌, ◌≢◌, ◌+◌, ◌-◌, ◌<◌, ◌≤◌, ◌^◌, None};
+ghost use Rattle.std.specs.Prelude.{◌≡◌, ◌+◌, None};
+ghost use Rattle.interrupt_plan.specs.Plan.{cuts_at};
 ghost use Rattle.zc_machine.specs.Cursor.{IsAt};
-ghost use Rattle.zc_machine.specs.Interrupt.{cut_by};
+ghost use Rattle.zc_machine.specs.Interrupt.{all_cuts};
 ghost use Rattle.zc_machine.specs.RunEnd.{Course, IfConsole, Ran};
-ghost use Rattle.zc_outside.specs.Streams.{KeepsBytes, WriteCause};
+ghost use Rattle.zc_outside.specs.Desk.{OnlyWrites, WriteCause};
 
+use crate::answer::{EnvCall, Step};
 use crate::machine::Machine;
 use crate::reason::Reason;
-use crate::step::{EnvCall, Step};
 use interrupt_plan::plan::Plan;
 use zc_outside::console::{Console, ConsoleFault};
 
@@ -33,22 +34,10 @@ pub fn run<C: Console>(
 ) -> RunEnd
     requires running { machine.old.exit ≡ None }
     requires start { machine.old.commits ≡ 0 }
-    requires room { steps < 2 ^ 64 - 1 }
     ensures ran { let course : Course = record { first = machine.old; input = input.now; plan = plan.now; steps = steps } in
-        Ran course result machine.new (C.out_bytes console.old) (C.out_bytes console.new)
-        (C.err_bytes console.old) (C.err_bytes console.new) }
-    ensures cause { IfConsole result (WriteCause (C.write_faults console.old) (C.write_faults console.new)
-        (C.memory_faults console.old) (C.memory_faults console.new)) }
-
-    ensures input_stays { KeepsBytes (C.input console.old) (C.input console.new) }
-    ensures count { C.taken console.new ≡ C.taken console.old }
-    ensures reads { C.read_faults console.new ≡ C.read_faults console.old }
-    ensures writes { C.write_faults console.old ≤ C.write_faults console.new }
-    ensures memory { C.memory_faults console.old ≤ C.memory_faults console.new }
-
-    ensures stays { C.sure console.old → C.sure console.new }
-    ensures sure { C.sure console.old →
-        (C.write_faults console.new ≡ C.write_faults console.old) × (result ≢ RunEnd.Console ConsoleFault.Failed) }
+        Ran course result machine.new (C.shown console.old) (C.shown console.new) }
+    ensures cause { IfConsole result (WriteCause (C.shown console.old) (C.shown console.new)) }
+    ensures writes { OnlyWrites (C.shown console.old) (C.shown console.new) }
 {
     let mut next = 0;
     while machine.commits() < steps {
@@ -71,10 +60,10 @@ pub fn run<C: Console>(
 }
 
 // Makes the interrupts before the next commit, from the one with this number on, and gives the number
-// of the first one behind them.
+// of the first one after them.
 fn interrupt(machine: &mut Machine, plan: &Plan, mut next: u32) -> u32
     requires { IsAt plan.now next machine.old.commits }
-    ensures made { machine.new ≡ cut_by plan.now machine.old }
+    ensures made { machine.new ≡ all_cuts (cuts_at plan.now machine.old.commits) machine.old }
     ensures reached { IsAt plan.now result (machine.old.commits + 1) }
 {
     let count = plan.cut_count();

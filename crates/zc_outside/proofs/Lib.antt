@@ -1,2 +1,6 @@
 pub mod Kept
+pub mod Shelf
+pub mod Desk
+pub mod Wanted
+pub mod MemFiles
 pub mod Transfers

@@ -5,6 +5,6 @@ use Rattle.std.specs.Prelude.{ℕ, ◌+◌, ◌-◌, ◌^◌, min}
 abbrev pub next_call : ℕ → ℕ
 next_call calls = min (calls + 1) (2 ^ 32 - 1)
 
--- so many more, in 64 bits
+-- so many more, as far as 64 bits have room for them
 abbrev pub more : ℕ → ℕ → ℕ
-more count n = min (count + n) (2 ^ 64 - 1)
+more count n = count + min n (2 ^ 64 - 1 - count)

@@ -3,9 +3,9 @@ use Rattle.std.specs.Prelude.{◌≡◌, ℕ, ◌≤◌, Bool, IsTrue, List, Opt
 use Rattle.zc_outside.specs.declared.console.ConsoleFault.{ConsoleFault}
 use Rattle.zc_outside.specs.declared.console.ConsoleFault.TheVariants.{Failed, OutOfMemory}
 use Rattle.zc_outside.specs.Files.{Rose}
-use Rattle.zc_outside.specs.Streams.{KeepsBytes}
+use Rattle.zc_outside.specs.Streams.{Adds, KeepsBytes}
 
--- the input that is left and what was written, where it tells them; how many reads and writes failed, and how often memory
+-- the input that is left and what was written, if it tells them; how many reads and writes failed, and how often memory
 -- was wanted; how many bytes left the input; and whether it is sure: then no call of it fails, want of memory left aside
 pub record Desk : Type 0 where
   pub input : Option (List ℕ)
@@ -18,7 +18,7 @@ pub record Desk : Type 0 where
   pub sure : Bool
 
 -- what taking input does to a console beside the input: nothing is written, and of its counts only those of reads, of
--- wants of memory and of bytes taken may rise; that of reads doesn't where the console is sure
+-- wants of memory and of bytes taken may rise; that of reads doesn't if the console is sure
 pub record OnlyTakes (before after : Desk) : Type 0 where
   pub out : KeepsBytes before.out after.out
   pub err : KeepsBytes before.err after.err
@@ -30,7 +30,7 @@ pub record OnlyTakes (before after : Desk) : Type 0 where
   pub counted : IsTrue before.sure → after.read_faults ≡ before.read_faults
 
 -- what writing does to a console beside what is written: the input stays, and of its counts only those of writes and of
--- wants of memory may rise; that of writes doesn't where the console is sure
+-- wants of memory may rise; that of writes doesn't if the console is sure
 pub record OnlyWrites (before after : Desk) : Type 0 where
   pub input : KeepsBytes before.input after.input
   pub reads : after.read_faults ≡ before.read_faults
@@ -40,7 +40,12 @@ pub record OnlyWrites (before after : Desk) : Type 0 where
   pub sure : after.sure ≡ before.sure
   pub counted : IsTrue before.sure → after.write_faults ≡ before.write_faults
 
--- what a refused take shows: the count of its kind rose, and it failed only where the console isn't sure
+-- these bytes stand on the two streams, each after what stood there
+pub record Wrote (to_out to_err : List ℕ) (before after : Desk) : Type 0 where
+  pub out : Adds before.out after.out to_out
+  pub err : Adds before.err after.err to_err
+
+-- what a refused take shows: the count of its kind rose, and it failed only if the console isn't sure
 abbrev pub TakeCause : Desk → Desk → ConsoleFault → Type 0
 TakeCause before after Failed = Rose before.read_faults after.read_faults × (IsTrue before.sure → ⊥)
 TakeCause before after OutOfMemory = Rose before.memory_faults after.memory_faults

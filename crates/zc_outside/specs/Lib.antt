@@ -4,5 +4,6 @@ pub mod Streams
 pub mod Shelf
 pub mod Desk
 pub mod World
+pub mod Wanted
 pub mod MemConsole
 pub mod MemStore

@@ -1,8 +1,9 @@
 -- What a console in memory holds and counts, and what its calls do to that.
-use Rattle.std.specs.Prelude.{ℕ, List, [], ◌∷◌, drop, Result, Ok, Err}
+use Rattle.std.specs.Prelude.{ℕ, ◌==◌, List, [], ◌∷◌, length, drop, Some, Result, Ok, Err}
 use Rattle.zc_outside.specs.declared.console.ConsoleFault.{ConsoleFault}
 use Rattle.zc_outside.specs.declared.console.ConsoleFault.TheVariants.{Failed, OutOfMemory}
 use Rattle.zc_outside.specs.Calls.{next_call, more}
+use Rattle.zc_outside.specs.Desk.{Desk}
 
 -- its streams, the numbers of its calls that fail, and its counts
 pub record ConsoleState : Type 0 where
@@ -20,6 +21,19 @@ pub record ConsoleState : Type 0 where
   pub memory_faults : ℕ
   -- how many bytes left the input
   pub taken : ℕ
+
+-- it tells all its bytes, and is sure if it was made with no call that fails
+abbrev pub desk_of : ConsoleState → Desk
+desk_of c = record {
+  input = Some c.input;
+  out = Some c.out;
+  err = Some c.err;
+  read_faults = c.read_faults;
+  write_faults = c.write_faults;
+  memory_faults = c.memory_faults;
+  taken = c.taken;
+  sure = length c.fails == 0;
+}
 
 -- a take moves its bytes out of the input, and a refused one moves nothing
 abbrev pub after_take : ConsoleState → Result ℕ ConsoleFault → ConsoleState

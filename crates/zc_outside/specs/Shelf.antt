@@ -4,7 +4,7 @@ use Rattle.zc_outside.specs.declared.store.StoreFault.{StoreFault}
 use Rattle.zc_outside.specs.declared.store.StoreFault.TheVariants.{Failed, TooLong, OutOfMemory}
 use Rattle.zc_outside.specs.Files.{Files, Holds, IsLong, KeepsFiles, Rose}
 
--- its files, where it tells them; how many reads failed, how many files were too long, and how many writes failed; and
+-- its files, if it tells them; how many reads failed, how many files were too long, and how many writes failed; and
 -- whether it is sure: then no write of it fails, and no read of a name that it holds
 pub record Shelf : Type 0 where
   pub files : Option Files
@@ -13,7 +13,7 @@ pub record Shelf : Type 0 where
   pub write_faults : ℕ
   pub sure : Bool
 
--- what a read does to a store: its files stay, and of its counts only those of reads may rise; where the store is sure and
+-- what a read does to a store: its files stay, and of its counts only those of reads may rise; if the store is sure and
 -- holds the name, no read failed, and only a file that is too long was counted
 pub record OnlyReads (name : List ℕ) (limit : ℕ) (before after : Shelf) : Type 0 where
   pub files : KeepsFiles before.files after.files
@@ -33,7 +33,7 @@ pub record OnlyPuts (before after : Shelf) : Type 0 where
   pub sure : after.sure ≡ before.sure
   pub counted : IsTrue before.sure → after.write_faults ≡ before.write_faults
 
--- what a refused read shows: the count of its kind rose; it failed only where the store isn't sure or doesn't hold the
+-- what a refused read shows: the count of its kind rose; it failed only if the store isn't sure or doesn't hold the
 -- name, and was too long only for a file above the limit
 abbrev pub GetCause : List ℕ → ℕ → Shelf → Shelf → StoreFault → Type 0
 GetCause name limit before after Failed =

@@ -17,11 +17,12 @@ pub enum ConsoleFault {
 
 /// An input and two outputs, and how often reading and writing them went wrong.
 ///
-/// A console shows a `Desk`: the bytes of input that are left and those written so far, where the
-/// console tells them, and 64-bit counters that never fall and stay at their last value.
-/// `read_faults` and `write_faults` count the calls that answer `Failed`, `memory_faults` those that
-/// are refused for want of memory, `taken` the bytes that left the input. A console that is `sure`
-/// stays so, and no call of it fails, want of memory left aside.
+/// A console shows a `Desk`. It tells a stream if the `Desk` has its bytes, of the input those that are
+/// left and of an output those written so far; if it doesn't, no clause says what they are. A console
+/// that is sure stays so, and answers `Failed` to no call. The counts are 64-bit counters that never
+/// fall and stay at their last value: `read_faults` and `write_faults` count the calls that answer
+/// `Failed`, `memory_faults` those that are refused for want of memory, `taken` the bytes that left the
+/// input.
 pub trait Console {
     ghost shown: { Self → Desk };
 

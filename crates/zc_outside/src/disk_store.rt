@@ -1,6 +1,6 @@
 // A store over the system's files.
 
-ghost use Rattle.std.specs.Prelude.{◌≡◌, ◌≤◌, ◌<◌, ◌+◌, ◌^◌, ◌++◌, ◌↔◌, ℕ, List, None, IfOk, IfSome, OnOk, MatchOption, length, vec_len, vec_capacity};
+ghost use Rattle.std.specs.Prelude.{◌≡◌, false, ◌≤◌, ◌<◌, ◌+◌, ◌^◌, ◌++◌, ◌↔◌, ℕ, List, None, IfOk, IfSome, OnOk, MatchOption, length, vec_len, vec_capacity};
 ghost use Rattle.std.specs.Io.KnownBytes.{Consumes, IsAtEnd};
 ghost use Rattle.std.specs.IoError.{error_kind};
 ghost use Rattle.std.specs.declared.io.ErrorKind.TheVariants.{OutOfMemory};
@@ -33,9 +33,8 @@ pub struct DiskStore<R> {
 impl<R: Files + AllocGlobal> DiskStore<R> {
     /// The files of a runtime.
     pub fn new(rt: R) -> DiskStore<R>
-        ensures reads { ⟦<DiskStore<R> as Store>⟧.read_faults result ≡ 0 }
-        ensures longs { ⟦<DiskStore<R> as Store>⟧.long_files result ≡ 0 }
-        ensures writes { ⟦<DiskStore<R> as Store>⟧.write_faults result ≡ 0 }
+        ensures { ⟦<DiskStore<R> as Store>⟧.shown result ≡
+            record { files = None; read_faults = 0; long_files = 0; write_faults = 0; sure = false } }
     {
         DiskStore {
             rt,
@@ -47,15 +46,13 @@ impl<R: Files + AllocGlobal> DiskStore<R> {
 }
 
 impl<R: Files + AllocGlobal> Store for DiskStore<R> {
-    ghost files = { λ _. None };
-
-    ghost read_faults = { λ s. s.read_faults };
-
-    ghost long_files = { λ s. s.long_files };
-
-    ghost write_faults = { λ s. s.write_faults };
-
-    ghost sure = { λ _. ⊥ };
+    ghost shown = { λ s. record {
+      files = None;
+      read_faults = s.read_faults;
+      long_files = s.long_files;
+      write_faults = s.write_faults;
+      sure = false;
+    } };
 
     /// Takes at most `limit + 1` bytes of the file, in small pieces, and asks for no length, so that
     /// a pipe or a device is read as a file is.
@@ -117,7 +114,7 @@ impl From<AllocError> for Trouble {
     }
 }
 
-// A file's bytes, or none where it has `most` or more.
+// A file's bytes, or none if it has `most` or more.
 fn read_file<R: Files>(
     rt: &R,
     alloc: Global,
@@ -132,7 +129,7 @@ fn read_file<R: Files>(
     read_below(alloc, &mut file, most)
 }
 
-// All bytes that a reader has left, or none where these are `most` or more.
+// All bytes that a reader has left, or none if these are `most` or more.
 fn read_below<F: Read>(alloc: Global, file: &mut F, most: usize) -> Result<Option<Vec<u8>>, Trouble>
     requires some { 0 < most }
     requires fits { most < 2 ^ 33 }
@@ -149,7 +146,7 @@ fn read_below<F: Read>(alloc: Global, file: &mut F, most: usize) -> Result<Optio
     Ok(None)
 }
 
-// Reads a piece behind the bytes so far, which become at most `most`, and says how long it is.
+// Reads a piece and adds it to the bytes so far, which become at most `most`, and says how long it is.
 fn read_piece<F: Read>(file: &mut F, bytes: &mut Vec<u8>, most: usize) -> Result<usize, Trouble>
     requires room { vec_len bytes.old < most }
     requires fits { most < 2 ^ 33 }

@@ -7,6 +7,7 @@ pub mod console;
 pub mod disk_store;
 pub mod mem_console;
 pub mod mem_store;
+pub mod read_files;
 pub mod std_console;
 pub mod store;
 mod transfer;

@@ -1,8 +1,8 @@
 // A console in memory, some of whose calls fail.
 
-ghost use Rattle.std.specs.Prelude.{◌≡◌, ◌≢◌, ◌≤◌, ◌↔◌, ◌++◌, min, [], Some, Err, length, take, drop, Contains, IfOk, IfErr, IsOk, IsErr, OnOk, OnErr, IsErrOf};
+ghost use Rattle.std.specs.Prelude.{◌≡◌, ◌≢◌, ◌≤◌, ◌+◌, ◌-◌, ◌^◌, ◌↔◌, ◌++◌, min, [], Some, Err, length, take, drop, Contains, IfOk, IfErr, IsOk, IsErr, OnOk, OnErr, IsErrOf};
 ghost use Rattle.zc_outside.specs.Calls.{more, next_call};
-ghost use Rattle.zc_outside.specs.MemConsole.{after_take, after_write, written};
+ghost use Rattle.zc_outside.specs.MemConsole.{after_take, after_write, desk_of, written};
 
 use crate::calls::Calls;
 use crate::console::{Console, ConsoleFault};
@@ -92,13 +92,12 @@ impl MemConsole {
         self.err.as_slice()
     }
 
-    // Counts a write, and refuses it where it is one that fails.
+    // Counts a write, and refuses it if it is one that fails.
     fn begin_write(&mut self) -> Result<(), ConsoleFault>
         ensures failed { IsErr result ↔ Contains self.old.fails self.old.calls }
         ensures ok { OnOk result (self.new ≡ record self.old { calls = next_call self.old.calls }) }
         ensures err { IfErr result (λ fault. (fault ≡ ConsoleFault.Failed) × (self.new ≡
             record self.old { calls = next_call self.old.calls; write_faults = more self.old.write_faults 1 })) }
-        ensures writes { self.old.write_faults ≤ self.new.write_faults }
     {
         if self.calls.next_fails() {
             self.write_faults = self.write_faults.saturating_add(1);
@@ -112,7 +111,6 @@ impl MemConsole {
         ensures ok { OnOk grown (IsOk result × (self.new ≡ self.old)) }
         ensures err { OnErr grown (IsErrOf result ConsoleFault.OutOfMemory × (self.new ≡
             record self.old { memory_faults = more self.old.memory_faults 1 })) }
-        ensures memory { self.old.memory_faults ≤ self.new.memory_faults }
     {
         if grown.is_err() {
             self.memory_faults = self.memory_faults.saturating_add(1);
@@ -123,21 +121,7 @@ impl MemConsole {
 }
 
 impl Console for MemConsole {
-    ghost input = { λ c. Some c.input };
-
-    ghost out_bytes = { λ c. Some c.out };
-
-    ghost err_bytes = { λ c. Some c.err };
-
-    ghost read_faults = { λ c. c.read_faults };
-
-    ghost write_faults = { λ c. c.write_faults };
-
-    ghost memory_faults = { λ c. c.memory_faults };
-
-    ghost taken = { λ c. c.taken };
-
-    ghost sure = { λ c. c.fails ≡ [] };
+    ghost shown = { desk_of };
 
     /// Moves as many bytes as the input has left and the buffer has room for, and never wants memory.
     fn take(&mut self, buf: &mut [u8]) -> Result<usize, ConsoleFault>
@@ -145,8 +129,8 @@ impl Console for MemConsole {
         ensures buffer { IfOk result (λ n. buf.new ≡ take n self.old.input ++ drop n buf.old) }
         ensures failed { IsErrOf result ConsoleFault.Failed ↔ Contains self.old.fails self.old.calls }
         ensures wants_none { result ≢ Err ConsoleFault.OutOfMemory }
+        ensures count { IfOk result (λ n. self.new.taken ≡ min (self.old.taken + n) (2 ^ 64 - 1)) }
         ensures after { self.new ≡ after_take self.old result }
-        ensures reads { self.old.read_faults ≤ self.new.read_faults }
     {
         if self.calls.next_fails() {
             self.read_faults = self.read_faults.saturating_add(1);
@@ -166,8 +150,6 @@ impl Console for MemConsole {
             ((bytes.now ≢ []) × Contains self.old.fails self.old.calls) }
         ensures after { self.new ≡
             record (after_write self.old bytes.now result) { out = self.old.out ++ written bytes.now result } }
-        ensures writes { self.old.write_faults ≤ self.new.write_faults }
-        ensures memory { self.old.memory_faults ≤ self.new.memory_faults }
     {
         if bytes.is_empty() {
             return Ok(());
@@ -183,8 +165,6 @@ impl Console for MemConsole {
             ((bytes.now ≢ []) × Contains self.old.fails self.old.calls) }
         ensures after { self.new ≡
             record (after_write self.old bytes.now result) { err = self.old.err ++ written bytes.now result } }
-        ensures writes { self.old.write_faults ≤ self.new.write_faults }
-        ensures memory { self.old.memory_faults ≤ self.new.memory_faults }
     {
         if bytes.is_empty() {
             return Ok(());
@@ -212,7 +192,7 @@ mod tests {
         assert_eq!(rt; console.err(b""), Ok(()), "an empty piece has no number");
         assert_eq!(rt; console.err(b"lost"), Err(ConsoleFault::Failed));
         assert_eq!(rt; console.take(&mut buf), Ok(3));
-        assert_eq!(rt; buf, *b"llo\0", "no byte stands behind those that came");
+        assert_eq!(rt; buf, *b"llo\0", "no byte changes after those that came");
         assert_eq!(rt; console.take(&mut buf), Ok(0));
         assert_eq!(rt; console.err(b"to err"), Ok(()));
         assert_eq!(rt; console.out_bytes(), b"to out".as_slice());

@@ -1,14 +1,15 @@
 // A store in memory, some of whose calls fail.
 
-ghost use Rattle.std.specs.Prelude.{◌≡◌, ◌≤◌, ◌<◌, ◌-◌, ◌^◌, ◌⊎◌, ◌↔◌, ℕ, List, [], Some, None, length, Contains, IfOk, IfErr, OnOk, OnErr, IsErrOf};
+ghost use Rattle.std.specs.Prelude.{◌≡◌, ◌≤◌, ◌<◌, ◌-◌, ◌^◌, ◌⊎◌, ◌↔◌, [], Some, None, length, Contains, IfOk, IfErr, OnOk, OnErr, IsErrOf};
 ghost use Rattle.std.specs.Option.{option_copied};
-ghost use Rattle.zc_outside.specs.Files.{KeepsFiles, PutsFile, HasFile, GetCause, PutCause};
-ghost use Rattle.zc_outside.specs.MemStore.{files_of, counts_of, after_get, after_put};
+ghost use Rattle.zc_outside.specs.MemStore.{after_get, after_put, file_in, shelf_of, with_file};
+ghost use Rattle.zc_outside.specs.Shelf.{GetCause, PutCause};
 
 use crate::calls::Calls;
 use crate::store::{Store, StoreFault};
 use std::alloc::{AllocError, Global};
 use std::collections::BTreeMap;
+use std::marker::Model;
 
 /// Files in memory.
 ///
@@ -24,12 +25,33 @@ pub struct MemStore {
     write_faults: u64,
 }
 
+impl Model for MemStore {
+    ghost use Rattle.zc_outside.specs.MemStore.{StoreState, files_of};
+
+    ghost Value = { StoreState };
+
+    ghost view = { λ s. record {
+      files = files_of s.files.entries;
+      fails = s.calls.failing.items;
+      calls = s.calls.made;
+      read_faults = s.read_faults;
+      long_files = s.long_files;
+      write_faults = s.write_faults;
+    } };
+}
+
+#[tactic(auto, using(crate::proofs::MemFiles::map_as_files))]
 impl MemStore {
     /// A store that holds no file, and whose calls with these numbers fail.
     pub fn new(alloc: Global, fails: &[u32]) -> Result<MemStore, AllocError>
-        ensures empty { IfOk result (λ s. (q : List ℕ) → files_of s q ≡ None) }
-        ensures counts { IfOk result (λ s. counts_of s ≡
-            record { fails = fails.now; calls = 0; read_faults = 0; long_files = 0; write_faults = 0 }) }
+        ensures { IfOk result (λ s. s ≡ record {
+          files = [];
+          fails = fails.now;
+          calls = 0;
+          read_faults = 0;
+          long_files = 0;
+          write_faults = 0;
+        }) }
     {
         let calls = Calls::new(alloc, fails)?;
         Ok(MemStore {
@@ -44,9 +66,9 @@ impl MemStore {
 
     /// Makes a name hold these bytes. This is no numbered call.
     pub fn add(&mut self, name: &str, bytes: &[u8]) -> Result<(), AllocError>
-        ensures ok { OnOk result (PutsFile (Some (files_of self.old)) (Some (files_of self.new)) name.now bytes.now) }
-        ensures err { OnErr result (KeepsFiles (Some (files_of self.old)) (Some (files_of self.new))) }
-        ensures counts { counts_of self.new ≡ counts_of self.old }
+        ensures ok { OnOk result (self.new ≡
+            record self.old { files = with_file self.old.files name.now bytes.now }) }
+        ensures err { OnErr result (self.new ≡ self.old) }
     {
         let name = name.to_owned(self.alloc)?;
         let bytes = Vec::from_slice(self.alloc, bytes)?;
@@ -56,7 +78,7 @@ impl MemStore {
 
     /// The bytes under a name.
     pub fn file(&self, name: &str) -> Option<&[u8]>
-        ensures { option_copied result ≡ files_of self.now name.now }
+        ensures { option_copied result ≡ file_in self.now.files name.now }
     {
         match self.files.get(name) {
             Some(bytes) => Some(bytes.as_slice()),
@@ -66,30 +88,17 @@ impl MemStore {
 }
 
 impl Store for MemStore {
-    ghost files = { λ s. Some (files_of s) };
+    ghost shown = { shelf_of };
 
-    ghost read_faults = { λ s. (counts_of s).read_faults };
-
-    ghost long_files = { λ s. (counts_of s).long_files };
-
-    ghost write_faults = { λ s. (counts_of s).write_faults };
-
-    ghost sure = { λ s. (counts_of s).fails ≡ [] };
-
-    /// Fails too where the name isn't held.
+    /// Fails too if the name isn't held.
     fn get(&mut self, alloc: Global, name: &str, limit: u32) -> Result<Vec<u8>, StoreFault>
         requires { limit < 2 ^ 32 - 1 }
         ensures within { IfOk result (λ v. length v.items ≤ limit) }
-        ensures content { IfOk result (λ v. HasFile (Some (files_of self.old)) name.now v.items) }
+        ensures content { IfOk result (λ v. file_in self.old.files name.now ≡ Some v.items) }
         ensures failed { IsErrOf result StoreFault.Failed ↔
-            (Contains (counts_of self.old).fails (counts_of self.old).calls ⊎ (files_of self.old name.now ≡ None)) }
-        ensures cause { IfErr result (GetCause (counts_of self.old).read_faults (counts_of self.new).read_faults
-            (counts_of self.old).long_files (counts_of self.new).long_files (Some (files_of self.old)) name.now limit) }
-
-        ensures keeps { KeepsFiles (Some (files_of self.old)) (Some (files_of self.new)) }
-        ensures after { counts_of self.new ≡ after_get (counts_of self.old) result }
-        ensures reads { (counts_of self.old).read_faults ≤ (counts_of self.new).read_faults }
-        ensures longs { (counts_of self.old).long_files ≤ (counts_of self.new).long_files }
+            (Contains self.old.fails self.old.calls ⊎ (file_in self.old.files name.now ≡ None)) }
+        ensures cause { IfErr result (GetCause name.now limit (shelf_of self.old) (shelf_of self.new)) }
+        ensures after { self.new ≡ after_get self.old result }
     {
         if self.calls.next_fails() {
             self.read_faults = self.read_faults.saturating_add(1);
@@ -109,14 +118,9 @@ impl Store for MemStore {
     }
 
     fn put(&mut self, name: &str, bytes: &[u8]) -> Result<(), StoreFault>
-        ensures ok { OnOk result (PutsFile (Some (files_of self.old)) (Some (files_of self.new)) name.now bytes.now) }
-        ensures err { OnErr result (KeepsFiles (Some (files_of self.old)) (Some (files_of self.new))) }
-        ensures failed { IsErrOf result StoreFault.Failed ↔
-            Contains (counts_of self.old).fails (counts_of self.old).calls }
-        ensures cause { IfErr result (PutCause (counts_of self.old).write_faults (counts_of self.new).write_faults) }
-
-        ensures after { counts_of self.new ≡ after_put (counts_of self.old) result }
-        ensures writes { (counts_of self.old).write_faults ≤ (counts_of self.new).write_faults }
+        ensures failed { IsErrOf result StoreFault.Failed ↔ Contains self.old.fails self.old.calls }
+        ensures cause { IfErr result (PutCause (shelf_of self.old) (shelf_of self.new)) }
+        ensures after { self.new ≡ after_put self.old name.now bytes.now result }
     {
         if self.calls.next_fails() {
             self.write_faults = self.write_faults.saturating_add(1);

@@ -1,6 +1,6 @@
 // A console over the standard streams.
 
-ghost use Rattle.std.specs.Prelude.{◌≡◌, ◌≤◌, None, IsErrOf, IsOk, MatchBool};
+ghost use Rattle.std.specs.Prelude.{◌≡◌, false, ◌≤◌, None, IsErrOf, IsOk, MatchBool};
 ghost use Rattle.zc_outside.specs.Calls.{more};
 
 use crate::console::{Console, ConsoleFault};
@@ -25,11 +25,16 @@ pub struct StdConsole<I, O, E> {
 impl<I: Read, O: Write, E: Write> StdConsole<I, O, E> {
     /// A console over an input, an output and an output for errors, as a program's standard streams.
     pub fn new(input: I, out: O, err: E) -> StdConsole<I, O, E>
-        ensures reads { ⟦<StdConsole<I, O, E> as Console>⟧.read_faults result ≡ 0 }
-        ensures writes { ⟦<StdConsole<I, O, E> as Console>⟧.write_faults result ≡ 0 }
-        ensures count { ⟦<StdConsole<I, O, E> as Console>⟧.taken result ≡ 0 }
-        ensures out { ⟦<StdConsole<I, O, E> as Console>⟧.out_bytes result ≡ O.contents out }
-        ensures err { ⟦<StdConsole<I, O, E> as Console>⟧.err_bytes result ≡ E.contents err }
+        ensures { ⟦<StdConsole<I, O, E> as Console>⟧.shown result ≡ record {
+          input = None;
+          out = O.contents out;
+          err = E.contents err;
+          read_faults = 0;
+          write_faults = 0;
+          memory_faults = 0;
+          taken = 0;
+          sure = false;
+        } }
     {
         StdConsole {
             input,
@@ -43,21 +48,16 @@ impl<I: Read, O: Write, E: Write> StdConsole<I, O, E> {
 }
 
 impl<I: Read, O: Write, E: Write> Console for StdConsole<I, O, E> {
-    ghost input = { λ _. None };
-
-    ghost out_bytes = { λ c. O.contents c.out };
-
-    ghost err_bytes = { λ c. E.contents c.err };
-
-    ghost read_faults = { λ c. c.read_faults };
-
-    ghost write_faults = { λ c. c.write_faults };
-
-    ghost memory_faults = { λ _. 0 };
-
-    ghost taken = { λ c. c.taken };
-
-    ghost sure = { λ _. ⊥ };
+    ghost shown = { λ c. record {
+      input = None;
+      out = O.contents c.out;
+      err = E.contents c.err;
+      read_faults = c.read_faults;
+      write_faults = c.write_faults;
+      memory_faults = 0;
+      taken = c.taken;
+      sure = false;
+    } };
 
     /// Reads once. A signal that interrupts the read begins it again.
     fn take(&mut self, buf: &mut [u8]) -> Result<usize, ConsoleFault> {

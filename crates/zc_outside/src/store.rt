@@ -21,14 +21,15 @@ pub enum StoreFault {
 
 /// Files by name, and how often reading and writing them went wrong.
 ///
-/// A store shows a `Shelf`: what each name holds, where the store tells it, and 64-bit counters that
-/// never fall and stay at their last value. `read_faults` and `write_faults` count the calls that
-/// answer `Failed`, `long_files` the files over their limit. A store that is `sure` stays so: it
-/// answers `Failed` to no `put`, and to no `get` of a name that it holds.
+/// A store shows a `Shelf`. It tells its files if the `Shelf` has what each name holds; if it doesn't,
+/// no clause says what they hold. A store that is sure stays so, and answers `Failed` to no `put` and
+/// to no `get` of a name that it holds. The counts are 64-bit counters that never fall and stay at
+/// their last value: `read_faults` and `write_faults` count the calls that answer `Failed`,
+/// `long_files` the files over their limit.
 pub trait Store {
     ghost shown: { Self → Shelf };
 
-    /// The whole file under a name, where it has at most `limit` bytes.
+    /// The whole file under a name, if it has at most `limit` bytes.
     fn get(&mut self, alloc: Global, name: &str, limit: u32) -> Result<Vec<u8>, StoreFault>
         requires { limit < 2 ^ 32 - 1 }
         ensures within { IfOk result (λ v. length v.items ≤ limit) }

@@ -7,13 +7,13 @@ ghost use Rattle.zc_outside.specs.Streams.{Adds, AddsPart};
 use std::io;
 use std::io::{ErrorKind, Read, Write};
 
-/// One read into the front of a buffer, begun again where a signal interrupts it.
+/// One read into the front of a buffer, begun again if a signal interrupts it.
 pub fn read_some<S: Read>(source: &mut S, buf: &mut [u8]) -> io::Result<usize>
     ensures within { IfOk result (λ n. n ≤ length buf.new) }
     ensures bytes { ReadConsumes (S.remaining source.old) (S.remaining source.new) result buf.new }
 {
     // Signals may come without end, and a loop needs a bound to be proved to end. No process lives to
-    // see this one, nor the `TimedOut` behind it.
+    // see this one, nor the `TimedOut` after it.
     for _ in 0..u64::MAX {
         match source.read(buf) {
             Ok(count) => return Ok(count),

@@ -130,7 +130,7 @@ fn the_first_fault_is_answered(rt: HostRuntime) {
             Some(BadSegment),
         ),
         (
-            "a code segment behind the text",
+            "a code segment after the text",
             &[(94, 1), (92, 0x0A), (108, 5), (104, 2)],
             None,
         ),

@@ -66,7 +66,7 @@ fn the_first_fault_is_answered(rt: HostRuntime) {
         ("a machine's high byte", &[(19, 1)], Some(NotElf)),
         ("headers of 39 bytes", &[(46, 39)], Some(NotElf)),
         ("headers of 39 bytes, none", &[(46, 39), (48, 0)], None),
-        ("foreign and cut", &[(4, 2), (48, 4)], Some(NotElf)),
+        ("foreign and truncated", &[(4, 2), (48, 4)], Some(NotElf)),
         ("headers to the end and one", &[(32, 65)], Some(Truncated)),
         ("a header more", &[(48, 4)], Some(Truncated)),
         ("no headers, at the end", &[(32, 184), (48, 0)], None),

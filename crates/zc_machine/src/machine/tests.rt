@@ -7,7 +7,7 @@ use std::test::Fail;
 use zc_base::fields::put_u32;
 use zc_base::mem_map::MemMap;
 
-// A file's header and one program header, of code at 0x10000 in the twelve bytes behind them.
+// A file's header and one program header, of code at 0x10000 in the twelve bytes after them.
 const HEADERS: [u8; 84] = [
     0x7F, 0x45, 0x4C, 0x46, 1, 1, 1, 0, 0, 0, 0, 0, 0, 0, 0, 0, //
     2, 0, 0xF3, 0, 1, 0, 0, 0, 0, 0, 1, 0, 0x34, 0, 0, 0, 0, 0, //

@@ -35,7 +35,7 @@ fn a_run_ends_by_its_exit_a_stop_or_its_steps(rt: HostRuntime) -> Result<(), Fai
             1,
         ),
         (
-            "behind the end",
+            "past the end",
             THREE,
             2,
             9,

@@ -1,7 +1,8 @@
 use Rattle.std.proofs.Common.{◌+◌, ◌-◌, ◌/◌, length, map, sym, ap, ◌∙◌, arith}
 use Rattle.std.specs.Prelude.{◌&&◌}
 use Rattle.std.specs.List.{range_with_len}
-use Rattle.elf32_read.specs.Places.{entry_at, is_before, is_ascending}
+use Rattle.zc_base.specs.Places.{is_before}
+use Rattle.elf32_read.specs.Places.{entry_at, is_ascending}
 use Rattle.elf32_read.proofs.Ascending.{is_ascending_step}
 use Rattle.elf32_read.proofs.places.are_ascending.Goals as goal
 

@@ -18,5 +18,5 @@ content-requires c = λ not_null not_nobits.
     let bytes = c.self.inside.bytes.now in
     let whole = faultless_whole bytes c.self.invariant in
     let inside : c.args.i < section_count bytes = omega (arith, c.requires, ap section_count c.self.view_is) in
-    let cut = ap (passes_end bytes) c.section_header-header.ensures ∙ whole.contents c.args.i inside in
-    content_within bytes c.section_header-header.result cut not_null not_nobits
+    let within = ap (passes_end bytes) c.section_header-header.ensures ∙ whole.contents c.args.i inside in
+    content_within bytes c.section_header-header.result within not_null not_nobits

@@ -1,0 +1,10 @@
+-- Why objects aren't linked.
+use Rattle.std.specs.Prelude.{◌≡◌, ℕ, Option, Some}
+use Rattle.elf32_read.specs.declared.fault.Fault.{Fault}
+use Rattle.psabi_sym.specs.declared.link_fault.LinkFault.{LinkFault}
+use Rattle.psabi_sym.specs.declared.link_fault.LinkFault.TheVariants.{Object, OutOfMemory}
+
+-- a refusal names the first fault, with its object's index; of want of memory nothing is said
+abbrev pub IsRefusal : Option (ℕ × Fault) → LinkFault → Type 0
+IsRefusal first (Object index fault) = first ≡ Some (index, fault)
+IsRefusal first OutOfMemory = Unit {0}

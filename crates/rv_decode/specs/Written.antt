@@ -1,0 +1,21 @@
+-- What events write.
+use Rattle.std.specs.Prelude.{ℕ, ◌==◌, if◌then◌else◌, List, []}
+use Rattle.std.specs.List.{flat_map}
+use Rattle.rv_decode.specs.State.{Event, Write}
+
+-- what an event writes to the stream with this number
+abbrev pub piece_of : ℕ → Event → List ℕ
+piece_of stream (Write fd bytes) = if fd == stream then bytes else []
+piece_of stream other = []
+
+-- the bytes that events write to a stream, in order
+abbrev pub written_to : ℕ → List Event → List ℕ
+written_to stream events = flat_map (piece_of stream) events
+
+-- standard output has the number 1
+abbrev pub out_of : List Event → List ℕ
+out_of events = written_to 1 events
+
+-- and standard error the number 2
+abbrev pub err_of : List Event → List ℕ
+err_of events = written_to 2 events

@@ -1,0 +1,140 @@
+-- What interrupts may leave, said of the machine alone: bytes of the stack below sp may hold anything, and all else is as
+-- before (Spoiled). If the program doesn't know these bytes, states that are alike stay so (spoiled_alike).
+use Rattle.std.proofs.Common.{◌≡◌, ℕ, ◌+◌, ◌-◌, ◌<◌, ◌≤◌, List, [], ◌∷◌, length, true, refl, sym, ap, ◌∙◌, arith, ltb, leb, ⊎_elim, inl, inr}
+use Rattle.std.specs.Prelude.{◌⊎◌, ◌&&◌, All}
+use Rattle.std.proofs.lemmas.Bool.{and_parts, cases_Bool, cases_lt, cond_both, ltb-true}
+use Rattle.std.proofs.lemmas.List.Elements.{All-head, All-tail}
+use Rattle.interrupt_plan.specs.Plan.{Cut, IsCut}
+use Rattle.rv_decode.specs.Memory.{cell_at, changed, extents_of, is_stack, lies_in, written}
+use Rattle.rv_decode.specs.State.{ZcCore, byte_in, reg_in}
+use Rattle.rv_decode.proofs.MemoryLaws.{cell-changed, cell-uncovered, cell_kept, extents-changed, is_covered, untouched}
+use Rattle.sym_machine.specs.declared.word.SymByte.TheVariants.{Undef}
+use Rattle.sym_machine.specs.Program.{Program}
+use Rattle.sym_machine.specs.State.{PlainCore, cell_of}
+use Rattle.zc_machine.specs.Interrupt.{all_cuts, all_dirtied, cut, dirtied, is_free}
+use Rattle.zc_machine.specs.Load.{first_core}
+use Rattle.zc_machine.proofs.LoadLaws.{stack_bounds}
+use Rattle.zc_link.specs.Image.{Image, loaded}
+use Rattle.zc_link.specs.Room.{Room}
+use Rattle.zc_link.specs.Sound.{Alike}
+
+-- z is y, but for bytes from low to below n
+pub record Spoiled (low n : ℕ) (y z : ZcCore) : Type 0 where
+  pub rest : z ≡ record y { memory = z.memory }
+  pub extents : extents_of z.memory ≡ extents_of y.memory
+  pub bytes : (a : ℕ) → (low ≤ a → n ≤ a) → byte_in z a ≡ byte_in y a
+  pub are_bytes : (a : ℕ) → byte_in z a < 256
+
+pub unspoiled : (low n : ℕ) (y : ZcCore) → ((a : ℕ) → byte_in y a < 256) → Spoiled low n y y
+unspoiled low n y are = record { rest = refl; extents = refl; bytes = λ a _. refl; are_bytes = are }
+
+-- interrupts, one after another, keep what each keeps
+pub all_cuts_kept :
+    (K : ZcCore → Type 0) → ((c : Cut) (z : ZcCore) → IsCut c → K z → K (cut c z)) → (cuts : List Cut) (z : ZcCore) → All IsCut cuts → K z
+    → K (all_cuts cuts z)
+all_cuts_kept K each [] z are kept = kept
+all_cuts_kept K each (c ∷ cs) z are kept = all_cuts_kept K each cs (cut c z) (All-tail IsCut c cs are) (each c z (All-head IsCut c cs are) kept)
+
+-- ---- the machine alone
+
+-- at a state y whose stack begins at low or above it, interrupts write from low to below sp
+module _ (low : ℕ) (y : ZcCore) (stack : (a : ℕ) → lies_in is_stack (extents_of y.memory) a 1 ≡ true → low ≤ a) where
+  abbrev IsSpoiled : ZcCore → Type 0
+  IsSpoiled z = Spoiled low (reg_in y 2) y z
+
+  written_spoiled :
+      (at m : ℕ) (given : ℕ → ℕ) (z : ZcCore) → ((i : ℕ) → given i < 256) → low ≤ at → at + m ≤ reg_in y 2 → IsSpoiled z
+      → IsSpoiled (record z { memory = changed (written at m given) z.memory })
+  written_spoiled at m given z are lower upper k = record {
+    rest = ap {A = ZcCore} {B = ZcCore} (λ x. record x { memory = changed (written at m given) z.memory }) k.rest;
+    extents = extents-changed (written at m given) z.memory ∙ k.extents;
+    bytes = λ a out. kept a out ∙ k.bytes a out;
+    are_bytes = cell_kept (written at m given) z.memory 0 (λ c. c < 256) byte (omega arith) k.are_bytes;
+  }
+    where
+      byte : (a c : ℕ) → c < 256 → written at m given a c < 256
+      byte a c lt = cond_both (leb at a && ltb a (at + m)) (given (a - at)) c (λ v. v < 256) (λ _. are (a - at)) (λ _. lt)
+
+      kept : (a : ℕ) → (low ≤ a → reg_in y 2 ≤ a) → cell_at 0 (changed (written at m given) z.memory) a ≡ byte_in z a
+      kept a out = ⊎_elim
+          (λ held.
+          cell-changed (written at m given) z.memory a 0 held
+          ∙ untouched at m given a (byte_in z a) (λ l u. let above = out (omega (arith, l, lower)) in omega (arith, above, upper, u)))
+          (λ free.
+          let still = ap (λ es. is_covered es a) (extents-changed (written at m given) z.memory) ∙ free in
+          cell-uncovered (changed (written at m given) z.memory) a 0 still ∙ sym (cell-uncovered z.memory a 0 free))
+          (cases_Bool (is_covered (extents_of z.memory) a))
+
+  free_below : (a : ℕ) (z : ZcCore) → IsSpoiled z → is_free z a ≡ true → (low ≤ a) × (a + 1 ≤ reg_in y 2)
+  free_below a z k free =
+      let q = and_parts (lies_in is_stack (extents_of z.memory) a 1) (ltb a (reg_in z 2)) free in
+      let under = ltb-true a (reg_in z 2) q.1 in
+      let sp : reg_in z 2 ≡ reg_in y 2 = ap (λ x. reg_in x 2) k.rest in
+      (stack a (ap (λ es. lies_in is_stack es a 1) (sym k.extents) ∙ q.0), omega (arith, under, sp))
+
+  dirtied_spoiled : (d : ℕ × ℕ) (z : ZcCore) → d.1 < 256 → IsSpoiled z → IsSpoiled (dirtied d z)
+  dirtied_spoiled d z is_byte k = cond_both (is_free z d.0) (record z { memory = changed (written d.0 1 (λ i. d.1)) z.memory }) z IsSpoiled
+      (λ free. let at = free_below d.0 z k free in written_spoiled d.0 1 (λ i. d.1) z (λ i. is_byte) at.0 at.1 k)
+      (λ _. k)
+
+  pub all_dirtied_spoiled : (ds : List (ℕ × ℕ)) (z : ZcCore) → All (λ d. d.1 < 256) ds → IsSpoiled z → IsSpoiled (all_dirtied ds z)
+  all_dirtied_spoiled [] z are k = k
+  all_dirtied_spoiled (d ∷ ds) z are k =
+      all_dirtied_spoiled ds (dirtied d z) (All-tail (λ (x : ℕ × ℕ). x.1 < 256) d ds are)
+      (dirtied_spoiled d z (All-head (λ (x : ℕ × ℕ). x.1 < 256) d ds are) k)
+
+-- ---- both machines
+
+module _ {p : Program} {e : Image} (room : Room p e) where
+  -- the image's stack lies between the map's bounds
+  pub stack_within :
+      (z : ZcCore) → extents_of z.memory ≡ extents_of (loaded e).memory → (a : ℕ) → lies_in is_stack (extents_of z.memory) a 1 ≡ true
+      → (p.map.stack_low ≤ a) × (a < p.map.stack_high)
+  unfolding first_core
+  stack_within z extents a h =
+      let bounds = stack_bounds e.segments e.map a 1 (omega arith) (ap (λ es. lies_in is_stack es a 1) (sym extents) ∙ h) in
+      (omega (arith, bounds.0, ap (λ m. m.stack_low) room.map), omega (arith, bounds.1, ap (λ m. m.stack_high) room.map))
+
+  -- whatever n is: the program must not know these bytes
+  pub spoiled_alike :
+      {s : PlainCore} {y z : ZcCore} (n : ℕ) → n ≤ p.map.stack_high → ((a : ℕ) → p.map.stack_low ≤ a → a < n → cell_of s a ≡ Undef)
+      → Spoiled p.map.stack_low n y z → Alike p e s y → Alike p e s z
+  spoiled_alike {s} {y} {z} n high unknown sp al = record {
+    ready = record {
+      running = al.running;
+      going = ap (λ x. x.exit) sp.rest ∙ al.going;
+      plain = al.plain;
+      core = record { count = ap (λ x. length x.regs) sp.rest ∙ al.core.count; words = λ r. rw (same r) (al.core.words r); bytes = sp.are_bytes };
+      registers = λ r lt. rw (same r) (al.registers r lt);
+      memory = λ a m. ⊎_elim
+          (λ inside. rw (unknown a inside.0 inside.1) tt)
+          (λ out. rw (sp.bytes a out) (al.memory a m))
+          (where_is a);
+      names = al.names;
+      extents = sp.extents ∙ al.extents;
+      text = λ a text. ⊎_elim
+          (λ inside. absurd (
+          let no_data = room.apart a text in
+          let held = room.reaches a 1 (omega arith) (inr (inside.0, omega (arith, inside.1, high))) in
+          cc))
+          (λ out. sp.bytes a out ∙ al.text a text)
+          (where_is a);
+      table = λ elsewhere. ap (λ x. x.jvt) sp.rest ∙ al.table elsewhere;
+    };
+    low = rw (same 2) al.low;
+    high = rw (same 2) al.high;
+    below = λ a l lt. al.below a l (rw (same 2) at lt);
+  }
+    where
+      same : (r : ℕ) → reg_in z r ≡ reg_in y r
+      same r = ap (λ x. reg_in x r) sp.rest
+
+      where_is : (a : ℕ) → ((p.map.stack_low ≤ a) × (a < n)) ⊎ (p.map.stack_low ≤ a → n ≤ a)
+      where_is a = ⊎_elim
+          (λ under. ⊎_elim (λ before. inr (λ l. absurd (omega (arith, before, l)))) (λ l. inl (l, under)) (cases_lt a p.map.stack_low))
+          (λ above. inr (λ _. above))
+          (cases_lt a n)
+
+  -- bytes below sp are not known
+  pub spoiled_below : {s : PlainCore} {y z : ZcCore} → Spoiled p.map.stack_low (reg_in y 2) y z → Alike p e s y → Alike p e s z
+  spoiled_below {s} {y} {z} sp al = spoiled_alike (reg_in y 2) al.high al.below sp al

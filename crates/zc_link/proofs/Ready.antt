@@ -1,0 +1,52 @@
+-- States stay Ready if they move to another place and pc, and if a register is set in both: what an instruction changes is a
+-- chain of such changes.
+use Rattle.std.proofs.Common.{ℕ, ◌^◌, ◌<◌, None, refl, ◌∙◌, sym}
+use Rattle.zc_base.specs.declared.place.Place.{Place}
+use Rattle.rv_decode.specs.State.{ZcCore, set_reg}
+use Rattle.rv_decode.proofs.RegisterLaws.{length-set_reg, set_reg_both, set_reg_core, set_reg_each}
+use Rattle.sym_machine.specs.declared.word.SymWord.{SymWord}
+use Rattle.sym_machine.specs.Program.{Program}
+use Rattle.sym_machine.specs.State.{PlainCore}
+use Rattle.sym_machine.specs.Words.{number_word, undef_word}
+use Rattle.zc_link.specs.Image.{Image, place_address}
+use Rattle.zc_link.specs.Sound.{NamesWord, Ready}
+use Rattle.zc_link.specs.Stands.{WordStands}
+use Rattle.zc_link.specs.Values.{value_in}
+
+module _ {p : Program} {e : Image} {s : PlainCore} {z : ZcCore} (ready : Ready p e s z) where
+  -- nothing of Ready speaks of the place, of pc, or of the number of commits
+  pub ready_moved : (q : Place) (pc commits : ℕ) → Ready p e (record s { place = q; exit = None }) (record z { pc = pc; commits = commits })
+  ready_moved q pc commits = record {
+    running = refl;
+    going = ready.going;
+    plain = record { count = ready.plain.count; input = ready.plain.input };
+    core = record { count = ready.core.count; words = ready.core.words; bytes = ready.core.bytes };
+    registers = ready.registers;
+    memory = ready.memory;
+    names = record { registers = ready.names.registers; memory = ready.names.memory };
+    extents = ready.extents;
+    text = ready.text;
+    table = ready.table;
+  }
+
+  -- a register gets a word, and a number that the word stands for
+  pub ready_set :
+      (rd v : ℕ) (w : SymWord) → v < 2 ^ 32 → WordStands (value_in p (place_address e)) w v → NamesWord p w
+      → Ready p e (record s { regs = set_reg s.regs rd w }) (record z { regs = set_reg z.regs rd v })
+  ready_set rd v w small stands names = record {
+    running = ready.running;
+    going = ready.going;
+    plain = record { count = length-set_reg s.regs rd w ∙ ready.plain.count; input = ready.plain.input };
+    core = set_reg_core z rd v ready.core small;
+    registers = λ r lt.
+        set_reg_both (WordStands (value_in p (place_address e))) (number_word 0) undef_word 0 0 s.regs z.regs rd r w v
+        (ready.plain.count ∙ sym ready.core.count) stands (ready.registers r lt);
+    memory = ready.memory;
+    names = record {
+      registers = λ r lt. set_reg_each (NamesWord p) (number_word 0) undef_word s.regs rd r w names (ready.names.registers r lt);
+      memory = ready.names.memory;
+    };
+    extents = ready.extents;
+    text = ready.text;
+    table = ready.table;
+  }

@@ -1,0 +1,55 @@
+-- An item that is one instruction is one commit, whatever interrupts come before it: the state after them is alike, the law of
+-- the instruction goes on from there, and the step's end makes the states sound again.
+use Rattle.std.proofs.Common.{◌≡◌, ℕ, ◌+◌, ◌%◌, ◌^◌, ◌<◌, List, ◌++◌, Some, Ok, sym, ap, ◌∙◌, inl, arith, drop}
+use Rattle.std.proofs.lemmas.List.{append-nil}
+use Rattle.interrupt_plan.specs.Plan.{AreCuts, Cut}
+use Rattle.rv_decode.specs.declared.instr.Instr.{Instr}
+use Rattle.rv_decode.specs.Effect.{Commits, effect}
+use Rattle.rv_decode.specs.State.{ZcCore, ZcState}
+use Rattle.sym_machine.specs.Program.{Program}
+use Rattle.sym_machine.specs.State.{PlainState}
+use Rattle.zc_machine.specs.Run.{committed, zc_turn}
+use Rattle.zc_machine.specs.Step.{effect_step}
+use Rattle.zc_link.specs.Image.{Image, place_address}
+use Rattle.zc_link.specs.Pieces.{AloneLaid}
+use Rattle.zc_link.specs.Room.{Room}
+use Rattle.zc_link.specs.Simulates.{Comes}
+use Rattle.zc_link.specs.Sound.{Alike, Sound}
+use Rattle.zc_link.proofs.Commits.{after_cuts, zc_turns-one}
+use Rattle.zc_link.proofs.Ends.{Stepped, ends_alike}
+use Rattle.zc_link.proofs.Instrs.{Moves}
+
+-- a sound pair, a step of the program from it, and interrupts before each commit
+pub record FromSound (p : Program) (e : Image) (r r' : PlainState) (cuts : ℕ → List Cut) (z : ZcState) : Type 0 where
+  pub sound : Sound p e r.core z
+  pub same : z.events ≡ r.events
+  pub are : AreCuts cuts
+  pub step : Stepped p r r'
+
+-- an address below 2^32 doesn't come round
+below_top : (a b size : ℕ) → b ≡ a → a + size < 2 ^ 32 → a + size ≡ (b + size) % 2 ^ 32
+below_top a b size same small = omega arith
+
+-- an instruction that moves to a listed place, from every state that the interrupts may leave
+pub single_comes :
+    {p : Program} {e : Image} {r r' : PlainState} {cuts : ℕ → List Cut} {z : ZcState} {i : Instr}
+    → Room p e → (from : FromSound p e r r' cuts z) → (laid : AloneLaid p e r.core.place z.core.pc i)
+    → ((y : ZcCore) → y.pc ≡ z.core.pc → Alike p e r.core y → place_address e (p.next r.core.place) ≡ Some ((y.pc + laid.at.size) % 2 ^ 32)
+    → Moves p e i laid.at.size from.step.change r.core y)
+    → Comes p e cuts 1 z r'
+single_comes {p} {e} {r} {r'} {cuts} {z} room from laid law =
+    let w = after_cuts room (cuts 0) (from.are 0) laid.at from.sound.alike in
+    let moves = law w.now w.pc w.alike (laid.next ∙ ap Some (below_top z.core.pc w.now.pc laid.at.size w.pc laid.at.small)) in
+    let after = moves.made.after in
+    let does : effect laid.here laid.at.size w.now ≡ Commits after = laid.same laid.at.size w.now w.alike.core ∙ moves.made.commits in
+    let turn : zc_turn (cuts 0) z ≡ Ok (record z { core = after }) = w.turn ∙ ap (λ x. committed (effect_step x w.now) (record z { core = w.now })) does in
+    record {
+      after = record z { core = after };
+      runs = zc_turns-one cuts z (record z { core = after }) turn;
+      together = inl record {
+        alike = ends_alike from.step.end moves.made.ready;
+        input = ap (λ s. s.input) from.step.end.state ∙ ap (λ n. drop n r.core.input) moves.made.quiet.taken ∙ from.sound.input;
+        place = ap (λ s. place_address e s.place) from.step.end.state ∙ moves.place;
+      };
+      events = from.same ∙ sym (from.step.events ∙ ap (λ l. r.events ++ l) moves.made.quiet.events ∙ append-nil r.events);
+    }

@@ -1,0 +1,117 @@
+-- The start is sound: registers and memory stand for the machine's as they are loaded, sp is the stack's end, and nothing of the
+-- stack is known.
+use Rattle.std.proofs.Common.{◌≡◌, ℕ, zero, suc, ◌+◌, ◌-◌, ◌^◌, ◌<◌, ◌≤◌, List, [], length, Bool, true, false, refl, sym, ap, ◌∙◌, subst, inl, ⊎_elim, arith, eqb, leb, get_or, replicate}
+use Rattle.std.specs.Prelude.{◌&&◌, All}
+use Rattle.std.proofs.lemmas.Bool.{and_parts, cases_lt, cond-false, cond-true, cond_both, eq-eqb, leb-true, ne_eqb}
+use Rattle.std.proofs.lemmas.List.{get_or-replicate, get_or_past, length-replicate}
+use Rattle.interrupt_plan.specs.Plan.{Cut}
+use Rattle.rv_decode.specs.Memory.{blank, cell_at}
+use Rattle.rv_decode.specs.State.{IsCore, start_regs}
+use Rattle.rv_decode.proofs.MemoryLaws.{get_or_blank}
+use Rattle.rv_decode.proofs.RegisterLaws.{reads}
+use Rattle.sym_machine.specs.declared.word.SymByte.{SymByte}
+use Rattle.sym_machine.specs.declared.word.SymByte.TheVariants.{Undef}
+use Rattle.sym_machine.specs.Program.{Program, data_end, first_memory}
+use Rattle.sym_machine.specs.State.{first_plain, reg_of}
+use Rattle.sym_machine.specs.Words.{number_word, undef_word}
+use Rattle.zc_machine.specs.Load.{first_core}
+use Rattle.zc_machine.specs.Run.{first_state}
+use Rattle.zc_link.specs.Image.{Image, loaded, place_address}
+use Rattle.zc_link.specs.Laid.{Laid}
+use Rattle.zc_link.specs.Simulates.{Comes, Pace, lead_from, lead_of}
+use Rattle.zc_link.specs.Sound.{NamesWord, Sound}
+use Rattle.zc_link.specs.Stands.{WordStands}
+use Rattle.zc_link.specs.Values.{value_in}
+use Rattle.zc_link.proofs.Words.{number_names, number_stands, undef_names, undef_stands}
+
+-- what holds of x0, of sp and of the other registers holds of each
+start_reads :
+    {X Y : Type 0} (R : X → Y → Type 0) (x0 sp other : X) (y0 sp' other' : Y) → R x0 y0 → R sp sp' → R other other'
+    → (r : ℕ) → R (reads x0 other (start_regs x0 sp other) r) (reads y0 other' (start_regs y0 sp' other') r)
+start_reads R x0 sp other y0 sp' other' zeros stacks others zero = zeros
+start_reads R x0 sp other y0 sp' other' zeros stacks others (suc zero) = others
+start_reads R x0 sp other y0 sp' other' zeros stacks others (suc (suc zero)) = stacks
+start_reads R x0 sp other y0 sp' other' zeros stacks others (suc (suc (suc r))) =
+    let some : eqb (suc (suc (suc r))) 0 ≡ false = ne_eqb (suc (suc (suc r))) 0 (λ e. omega arith) in
+    rw (some, get_or_same 29 r other, get_or_same 29 r other') others
+  where
+    get_or_same : {Z : Type 0} (n i : ℕ) (z : Z) → get_or (replicate n z) i z ≡ z
+    get_or_same n i z = ⊎_elim
+        (λ lt. get_or-replicate n i z z lt)
+        (λ le. get_or_past (replicate n z) i z (let l = length-replicate n z in omega arith))
+        (cases_lt i n)
+
+-- nothing is known of the stack, which begins at or after data's end
+stack_unknown : (p : Program) → data_end p ≤ p.map.stack_low → (a : ℕ) → p.map.stack_low ≤ a → cell_at Undef (first_memory p) a ≡ Undef
+stack_unknown p under a low =
+    cond-false (leb p.map.data_low a && leb (a + 1) (data_end p)) _ _ (no_data (leb p.map.data_low a && leb (a + 1) (data_end p)) refl)
+    ∙ cond_both (leb p.map.stack_low a && leb (a + 1) (p.map.stack_low + length stack)) (get_or stack (a - p.map.stack_low) Undef) Undef (λ c. c ≡ Undef)
+    (λ _. get_or_blank (p.map.stack_high - p.map.stack_low) (a - p.map.stack_low) Undef)
+    (λ _. refl)
+  where
+    stack : List SymByte
+    stack = blank (p.map.stack_high - p.map.stack_low) Undef
+
+    no_data : (b : Bool) → (leb p.map.data_low a && leb (a + 1) (data_end p)) ≡ b → b ≡ false
+    no_data true h =
+        let high = leb-true (a + 1) (data_end p) (and_parts (leb p.map.data_low a) (leb (a + 1) (data_end p)) h).1 in
+        absurd (omega (arith, high, under, low))
+    no_data false h = refl
+
+module _ {p : Program} {e : Image} {pace : Pace} (laid : Laid p e pace) where
+  high_same : p.map.stack_high ≡ e.map.stack_high
+  high_same = ap (λ m. m.stack_high) (sym laid.room.map)
+
+  start_stands : (input : List ℕ) (r : ℕ) → WordStands (value_in p (place_address e)) (reg_of (first_plain p input) r) (reads 0 0 (start_regs 0 e.map.stack_high 0) r)
+  start_stands input r =
+      let V = value_in p (place_address e) in
+      start_reads (WordStands V) (number_word 0) (number_word p.map.stack_high) undef_word 0 e.map.stack_high 0
+      (number_stands V 0) (rw high_same (number_stands V e.map.stack_high)) (undef_stands V 0) r
+
+  start_names : (input : List ℕ) (r : ℕ) → NamesWord p (reg_of (first_plain p input) r)
+  start_names input r =
+      start_reads {Y = ℕ} (λ w n. NamesWord p w) (number_word 0) (number_word p.map.stack_high) undef_word 0 0 0
+      (number_names p 0) (number_names p p.map.stack_high) (undef_names p) r
+
+  start_core : IsCore (loaded e)
+  unfolding first_core
+  start_core = record {
+    count = refl;
+    words = start_reads {X = ℕ} (λ m n. n < 2 ^ 32) 0 0 0 0 e.map.stack_high 0 (omega arith) (omega (arith, laid.room.top, high_same)) (omega arith);
+    bytes = laid.bytes;
+  }
+
+  start_sound : (input : List ℕ) → All (λ b. b < 256) input → Sound p e (first_plain p input) (first_state (loaded e) input)
+  unfolding first_core
+  start_sound input bytes = record {
+    alike = record {
+      ready = record {
+        running = refl;
+        going = refl;
+        plain = record { count = refl; input = bytes };
+        core = start_core;
+        registers = λ r lt. start_stands input r;
+        memory = laid.first;
+        names = record { registers = λ r lt. start_names input r; memory = laid.names };
+        extents = refl;
+        text = λ a _. refl;
+        table = λ elsewhere. absurd (elsewhere laid.entry);
+      };
+      low = omega (arith, laid.room.some, high_same);
+      high = omega (arith, high_same);
+      below = λ a low lt. stack_unknown p laid.room.under a low;
+    };
+    input = refl;
+    place = laid.entry;
+  }
+
+  -- no commit comes before it
+  no_lead : lead_of p e ≡ 0
+  no_lead = ap (λ o. lead_from o e.entry) laid.entry ∙ cond-true (eqb e.entry e.entry) 0 3 (eq-eqb e.entry e.entry refl)
+
+  pub starts :
+      (input : List ℕ) → All (λ b. b < 256) input → (cuts : ℕ → List Cut)
+      → Comes p e cuts (lead_of p e) (first_state (loaded e) input) (record { core = first_plain p input; events = [] })
+  starts input bytes cuts =
+      subst (λ k. Comes p e cuts k (first_state (loaded e) input) (record { core = first_plain p input; events = [] })) (sym no_lead)
+      (record { after = first_state (loaded e) input; runs = refl; together = inl (start_sound input bytes); events = refl })

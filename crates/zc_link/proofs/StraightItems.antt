@@ -1,0 +1,66 @@
+-- The items of inputs without a fault are those of the words of the one object's code.
+use Rattle.std.proofs.Common.{◌≡◌, ℕ, ◌*◌, ◌/◌, ◌<◌, ◌≤◌, List, [], ◌∷◌, length, map, None, Some, sym, ap, ◌∙◌, subst, inl, inr, arith, get_or}
+use Rattle.std.specs.Prelude.{slice_get}
+use Rattle.std.specs.Option.{option_map}
+use Rattle.std.proofs.lemmas.Bool.{cases_lt}
+use Rattle.std.proofs.lemmas.Option.{slice_get-get_or, slice_get_past}
+use Rattle.zc_base.specs.Fields.{word_in}
+use Rattle.elf32_read.specs.Parts.{object_parts}
+use Rattle.rv_decode.specs.declared.instr.Instr.{Instr}
+use Rattle.rv_decode.specs.Decode.{decoded}
+use Rattle.psabi_sym.specs.Inputs.{Inputs, parsed}
+use Rattle.block_cut.specs.Cut.{place_at}
+use Rattle.block_cut.specs.Faults.{first_fault}
+use Rattle.block_cut.specs.Items.{item_at, item_of, spelled}
+use Rattle.block_cut.specs.Straight.{code_of, words_in}
+use Rattle.block_cut.specs.declared.item.Item.TheVariants.{Op}
+use Rattle.block_cut.proofs.ItemLaws.{item_at-word, op_decoded}
+use Rattle.block_cut.proofs.StraightLaws.{IsFaultless, IsStraight, faultless}
+use Rattle.block_cut.proofs.WordLaws.{get_or-words_in, length-words_in}
+use Rattle.zc_link.specs.Linked.{only_file}
+
+-- ---- the one object
+
+pub record IsOne (inputs : Inputs) : Type 0 where
+  pub alone : inputs.files ≡ only_file inputs ∷ []
+  pub straight : IsStraight (only_file inputs)
+
+pub one : (inputs : Inputs) → first_fault inputs ≡ None → IsOne inputs
+one inputs none =
+    let known = faultless inputs none in
+    let only : only_file inputs ≡ known.file = ap (λ files. only_file (record { files = files; map = inputs.map })) known.alone in
+    record {
+      alone = known.alone ∙ ap (λ file. file ∷ []) (sym only);
+      straight = subst IsStraight (sym only) known.straight;
+    }
+
+-- ---- items and words
+
+-- an instruction at the place of the k-th word is what the word spells
+pub record IsWord (words : List ℕ) (k : ℕ) (i : Instr) : Type 0 where
+  pub within : k < length words
+  pub spells : decoded (get_or words k 0) ≡ Some i
+
+pub item_is_word : (file : List ℕ) → IsStraight file → (k : ℕ) (i : Instr) → item_at (object_parts file ∷ []) (place_at (4 * k)) ≡ Some (Op i) → IsWord (words_in (code_of file)) k i
+item_is_word file straight k i is =
+    let words = words_in (code_of file) in
+    let q = place_at (4 * k) in
+    let there = sym (item_at-word file straight k) ∙ is in
+    elim (cases_lt k (length words)) [
+      | inl lt ↦
+        let here = ap (option_map (item_of q)) (sym (slice_get-get_or words k 0 lt)) ∙ there in
+        record { within = lt; spells = op_decoded q (get_or words k 0) i cc }
+      | inr le ↦ absurd (let none = ap (option_map (item_of q)) (slice_get_past words k le) in cc)
+    ]
+
+-- and each word's item stands at its place
+pub word_is_item : (inputs : Inputs) → first_fault inputs ≡ None → (k : ℕ) → k < length (code_of (only_file inputs)) / 4
+    → let word = word_in (code_of (only_file inputs)) (4 * k) in item_at (parsed inputs).objects (place_at (4 * k)) ≡ Some (spelled (decoded word) word)
+word_is_item inputs none k lt =
+    let is = one inputs none in
+    let code = code_of (only_file inputs) in
+    let inside : k < length (words_in code) = omega (arith, length-words_in code) in
+    ap (λ files. item_at (map object_parts files) (place_at (4 * k))) is.alone
+    ∙ item_at-word (only_file inputs) is.straight k
+    ∙ ap (option_map (item_of (place_at (4 * k)))) (slice_get-get_or (words_in code) k 0 inside)
+    ∙ ap (λ w. Some (spelled (decoded w) w)) (get_or-words_in code k lt)

@@ -1,0 +1,124 @@
+-- Words that stand for numbers: a number stands for itself alone, an undefined word for any; and if the symbolic machine has
+-- a result, the machine has one that it stands for. An operation that joins adds a line to each of the last two laws.
+use Rattle.std.proofs.Common.{◌≡◌, ℕ, ◌+◌, ◌*◌, ◌^◌, ◌<◌, Option, Some, None, Bool, true, false, cond, refl, subst, arith, ℤ, pos, negsuc}
+use Rattle.std.proofs.lemmas.Bool.{eqb-true}
+use Rattle.rv_decode.specs.declared.instr.ImmOp.{ImmOp}
+use Rattle.rv_decode.specs.declared.instr.ImmOp.TheVariants.{Addi, Slti, Sltiu, Xori, Ori, Andi, Slli, Srli, Srai}
+use Rattle.rv_decode.specs.Bits.{add32}
+use Rattle.rv_decode.specs.Effect.{imm_result}
+use Rattle.rv_decode.specs.Memory.{byte_of}
+use Rattle.sym_machine.specs.declared.word.Value.{Value}
+use Rattle.sym_machine.specs.declared.word.SymByte.{SymByte}
+use Rattle.sym_machine.specs.declared.word.SymByte.TheVariants.{Num, Part, Undef}
+use Rattle.sym_machine.specs.declared.word.SymWord.{SymWord}
+use Rattle.sym_machine.specs.Program.{Program}
+use Rattle.sym_machine.specs.Words.{imm_word, is_zero, number_of, number_of_bytes, number_word, numeric, sum_word, undef_word}
+use Rattle.zc_link.specs.Sound.{NamesWord}
+use Rattle.zc_link.specs.Stands.{ByteStands, WordStands}
+
+module _ (V : Value → Option ℕ) where
+  -- ---- numbers and undefined words
+
+  pub number_stands : (n : ℕ) → WordStands V (number_word n) n
+  number_stands n = record { b0 = refl; b1 = refl; b2 = refl; b3 = refl }
+
+  pub undef_stands : (n : ℕ) → WordStands V undef_word n
+  undef_stands n = record { b0 = tt; b1 = tt; b2 = tt; b3 = tt }
+
+  four_bytes :
+      (n a b c d : ℕ) → n < 2 ^ 32 → byte_of n 0 ≡ a → byte_of n 1 ≡ b → byte_of n 2 ≡ c → byte_of n 3 ≡ d
+      → a + 256 * b + 65536 * c + 16777216 * d ≡ n
+  four_bytes n a b c d small first second third fourth = omega arith
+
+  bytes_are :
+      (b0 b1 b2 b3 : SymByte) (n m : ℕ) → n < 2 ^ 32 → ByteStands V b0 (byte_of n 0) → ByteStands V b1 (byte_of n 1) → ByteStands V b2 (byte_of n 2)
+      → ByteStands V b3 (byte_of n 3) → number_of_bytes b0 b1 b2 b3 ≡ Some m → m ≡ n
+  bytes_are (Num a) (Num b) (Num c) (Num d) n m small h0 h1 h2 h3 is =
+      let sum : a + 256 * b + 65536 * c + 16777216 * d ≡ n = four_bytes n a b c d small h0 h1 h2 h3 in
+      cc
+  bytes_are (Num a) (Num b) (Num c) (Part v i) n m small h0 h1 h2 h3 is = cc
+  bytes_are (Num a) (Num b) (Num c) Undef n m small h0 h1 h2 h3 is = cc
+  bytes_are (Num a) (Num b) (Part v i) b3 n m small h0 h1 h2 h3 is = cc
+  bytes_are (Num a) (Num b) Undef b3 n m small h0 h1 h2 h3 is = cc
+  bytes_are (Num a) (Part v i) b2 b3 n m small h0 h1 h2 h3 is = cc
+  bytes_are (Num a) Undef b2 b3 n m small h0 h1 h2 h3 is = cc
+  bytes_are (Part v i) b1 b2 b3 n m small h0 h1 h2 h3 is = cc
+  bytes_are Undef b1 b2 b3 n m small h0 h1 h2 h3 is = cc
+
+  -- a word that is a number stands for that number alone
+  pub number_is : (w : SymWord) (n m : ℕ) → n < 2 ^ 32 → WordStands V w n → number_of w ≡ Some m → m ≡ n
+  number_is w n m small h is = bytes_are w.b0 w.b1 w.b2 w.b3 n m small h.b0 h.b1 h.b2 h.b3 is
+
+  -- ---- sums
+
+  numeric_stands : (o : Option ℕ) (f : ℕ → ℕ) (n : ℕ) → ((m : ℕ) → o ≡ Some m → m ≡ n) → WordStands V (numeric o f) (f n)
+  numeric_stands None f n is = undef_stands (f n)
+  numeric_stands (Some m) f n is = subst (λ k. WordStands V (number_word (f m)) (f k)) (is m refl) (number_stands (f m))
+
+  sum_zero : (imm : ℤ) (n : ℕ) → n < 2 ^ 32 → is_zero imm ≡ true → add32 n imm ≡ n
+  sum_zero (pos k) n small is = let zero : k ≡ 0 = eqb-true k 0 is in omega arith
+  sum_zero (negsuc k) n small is = cc
+
+  pub sum_stands : (w : SymWord) (imm : ℤ) (n : ℕ) → n < 2 ^ 32 → WordStands V w n → WordStands V (sum_word w imm) (add32 n imm)
+  sum_stands w imm n small h = either (is_zero imm) refl
+    where
+      either : (b : Bool) → is_zero imm ≡ b → WordStands V (cond b w (numeric (number_of w) (λ m. add32 m imm))) (add32 n imm)
+      either true zero = rw (sum_zero imm n small zero) h
+      either false other = numeric_stands (number_of w) (λ m. add32 m imm) n (λ m is. number_is w n m small h is)
+
+  -- ---- results
+
+  -- the machine has a result too, a word, and this word stands for it
+  pub record Result (w : SymWord) (o : Option ℕ) : Type 0 where
+    pub value : ℕ
+    pub is : o ≡ Some value
+    pub small : value < 2 ^ 32
+    pub stands : WordStands V w value
+
+  pub imm_stands :
+      (op : ImmOp) (w x : SymWord) (imm : ℤ) (n : ℕ) → n < 2 ^ 32 → WordStands V w n → imm_word op w imm ≡ Some x → Result x (imm_result op n imm)
+  imm_stands Addi w x imm n small h is =
+      let same : sum_word w imm ≡ x = cc in
+      record { value = add32 n imm; is = refl; small = omega arith; stands = subst (λ y. WordStands V y (add32 n imm)) same (sum_stands w imm n small h) }
+  imm_stands Slti w x imm n small h is = absurd cc
+  imm_stands Sltiu w x imm n small h is = absurd cc
+  imm_stands Xori w x imm n small h is = absurd cc
+  imm_stands Ori w x imm n small h is = absurd cc
+  imm_stands Andi w x imm n small h is = absurd cc
+  imm_stands Slli w x imm n small h is = absurd cc
+  imm_stands Srli w x imm n small h is = absurd cc
+  imm_stands Srai w x imm n small h is = absurd cc
+
+-- ---- the places that words name
+
+module _ (p : Program) where
+  pub number_names : (n : ℕ) → NamesWord p (number_word n)
+  number_names n = (tt, tt, tt, tt)
+
+  pub undef_names : NamesWord p undef_word
+  undef_names = (tt, tt, tt, tt)
+
+  numeric_names : (o : Option ℕ) (f : ℕ → ℕ) → NamesWord p (numeric o f)
+  numeric_names None f = undef_names
+  numeric_names (Some n) f = number_names (f n)
+
+  -- a sum is a copy, or it names none
+  pub sum_names : (w : SymWord) (imm : ℤ) → NamesWord p w → NamesWord p (sum_word w imm)
+  sum_names w imm names = either (is_zero imm)
+    where
+      either : (b : Bool) → NamesWord p (cond b w (numeric (number_of w) (λ n. add32 n imm)))
+      either true = names
+      either false = numeric_names (number_of w) (λ n. add32 n imm)
+
+  pub imm_names : (op : ImmOp) (w x : SymWord) (imm : ℤ) → NamesWord p w → imm_word op w imm ≡ Some x → NamesWord p x
+  imm_names Addi w x imm names is =
+      let same : sum_word w imm ≡ x = cc in
+      subst (NamesWord p) same (sum_names w imm names)
+  imm_names Slti w x imm names is = absurd cc
+  imm_names Sltiu w x imm names is = absurd cc
+  imm_names Xori w x imm names is = absurd cc
+  imm_names Ori w x imm names is = absurd cc
+  imm_names Andi w x imm names is = absurd cc
+  imm_names Slli w x imm names is = absurd cc
+  imm_names Srli w x imm names is = absurd cc
+  imm_names Srai w x imm names is = absurd cc
