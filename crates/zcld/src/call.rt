@@ -1,6 +1,7 @@
 // The top call: a command does its work, and its outcome's line is written.
 
-ghost use Rattle.std.specs.Prelude.{◌≡◌, ◌↔◌, None, map};
+ghost use Rattle.std.specs.Prelude.{◌≡◌, ◌↔◌, None};
+ghost use Rattle.psabi_sym.specs.Objects.{contents_of};
 ghost use Rattle.zc_outside.specs.World.{world};
 ghost use Rattle.zcld.specs.Call.{Calls, Does};
 ghost use Rattle.zcld.specs.Command.{command_of, texts};
@@ -42,7 +43,7 @@ fn perform<S: Store, C: Console>(
     store: &mut S,
     console: &mut C,
 ) -> Outcome
-    ensures { Does (command_of (texts words.now)) (map (λ file. file.items) files.new.items) result
+    ensures { Does (command_of (texts words.now)) (contents_of files.new.items) result
         (world (S.shown store.old) (C.shown console.old)) (world (S.shown store.new) (C.shown console.new)) }
 {
     match read(words) {

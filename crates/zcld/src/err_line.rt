@@ -1,7 +1,8 @@
 // The line that names an outcome on standard error, made without memory.
 
-ghost use Rattle.std.specs.Prelude.{◌≡◌, ◌≤◌, ℕ, ◌<◌, ◌+◌, ◌++◌, List, decimal, length, map};
+ghost use Rattle.std.specs.Prelude.{◌≡◌, ◌≤◌, ℕ, ◌<◌, ◌+◌, ◌++◌, List, decimal, length};
 ghost use Rattle.std.specs.List.{flat_map};
+ghost use Rattle.psabi_sym.specs.Objects.{contents_of};
 ghost use Rattle.zc_outside.specs.Desk.{OnlyWrites};
 ghost use Rattle.zc_outside.specs.Streams.{KeepsBytes};
 ghost use Rattle.zcld.specs.Call.{WritesLine};
@@ -20,7 +21,7 @@ use zc_outside::console::Console;
 /// The files are those that were read: a line may end with a name in one of them, which is written
 /// from there.
 pub fn report<C: Console>(files: &[Vec<u8>], outcome: &Outcome, console: &mut C)
-    ensures line { WritesLine (err_line (map (λ file. file.items) files.now) outcome.now) (C.shown console.old) (C.shown console.new) }
+    ensures line { WritesLine (err_line (contents_of files.now) outcome.now) (C.shown console.old) (C.shown console.new) }
     ensures out { KeepsBytes (C.shown console.old).out (C.shown console.new).out }
     ensures only { OnlyWrites (C.shown console.old) (C.shown console.new) }
 {

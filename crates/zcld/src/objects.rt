@@ -1,7 +1,7 @@
 // The objects that a command links or traces: their files are read, and then they are gathered.
 
-ghost use Rattle.std.specs.Prelude.{◌≡◌, IfOk, IfErr, OnOk, None, map};
-ghost use Rattle.psabi_sym.specs.Inputs.{gather_fault};
+ghost use Rattle.std.specs.Prelude.{◌≡◌, IfOk, IfErr, OnOk};
+ghost use Rattle.psabi_sym.specs.Objects.{contents_of};
 ghost use Rattle.zc_outside.specs.Wanted.{AreRead, ReadsAll};
 ghost use Rattle.zcld.specs.Command.{texts};
 ghost use Rattle.zcld.specs.Objects.{RefusalCause, inputs_of, objects_wanted};
@@ -22,7 +22,7 @@ pub fn read_objects<S: Store>(
     files: &mut Vec<Vec<u8>>,
     store: &mut S,
 ) -> Result<(), Outcome>
-    ensures ok { OnOk result (AreRead (S.shown store.old).files (objects_wanted (texts names.now)) (map (λ file. file.items) files.new.items)) }
+    ensures ok { OnOk result (AreRead (S.shown store.old).files (objects_wanted (texts names.now)) (contents_of files.new.items)) }
     ensures err { IfErr result (UnreadCause (objects_wanted (texts names.now)) (S.shown store.old) (S.shown store.new)) }
     ensures reads { ReadsAll (objects_wanted (texts names.now)) (S.shown store.old) (S.shown store.new) }
 {
@@ -31,9 +31,10 @@ pub fn read_objects<S: Store>(
 }
 
 /// The objects in these files, under the standard map, or how the call ends without them.
-pub fn gathered<'a>(alloc: Global, files: &'a [Vec<u8>]) -> Result<Objects<'a>, Outcome>
-    ensures ok { IfOk result (λ objects. objects ≡ inputs_of (map (λ file. file.items) files.entry.now)) }
-    ensures err { IfErr result (RefusalCause (map (λ file. file.items) files.entry.now)) }
+#[tactic(auto, using(block_cut::proofs::StraightLaws::gather_refusal))]
+pub fn gathered(alloc: Global, files: &[Vec<u8>]) -> Result<Objects, Outcome>
+    ensures ok { IfOk result (λ objects. objects ≡ inputs_of (contents_of files.now)) }
+    ensures err { IfErr result (RefusalCause (contents_of files.now)) }
 {
     Ok(Objects::gather(alloc, files, MemMap::standard())?)
 }

@@ -1,6 +1,7 @@
 // The command `run`: an image is read, and the machine runs it.
 
-ghost use Rattle.std.specs.Prelude.{◌≡◌, map};
+ghost use Rattle.std.specs.Prelude.{◌≡◌};
+ghost use Rattle.psabi_sym.specs.Objects.{contents_of};
 ghost use Rattle.zc_base.specs.MemMap.{standard_map};
 ghost use Rattle.zc_outside.specs.World.{world};
 ghost use Rattle.zcld.specs.Call.{Does};
@@ -30,7 +31,7 @@ pub fn run<S: Store, C: Console>(
     store: &mut S,
     console: &mut C,
 ) -> Outcome
-    ensures { Does (Some (Run steps name.now)) (map (λ file. file.items) files.new.items) result
+    ensures { Does (Some (Run steps name.now)) (contents_of files.new.items) result
         (world (S.shown store.old) (C.shown console.old)) (world (S.shown store.new) (C.shown console.new)) }
 {
     let file = match read_file(alloc, name, IMAGE_LIMIT, store) {

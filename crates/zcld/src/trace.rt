@@ -1,6 +1,7 @@
 // The command `trace`: objects are read, and the symbolic machine runs them.
 
-ghost use Rattle.std.specs.Prelude.{◌≡◌, IfOk, IfErr, None, map};
+ghost use Rattle.std.specs.Prelude.{◌≡◌, IfOk, IfErr, None};
+ghost use Rattle.psabi_sym.specs.Objects.{contents_of};
 ghost use Rattle.block_cut.specs.Faults.{first_fault};
 ghost use Rattle.zc_outside.specs.World.{world};
 ghost use Rattle.zcld.specs.Call.{Does};
@@ -12,7 +13,7 @@ ghost use Rattle.zcld.specs.Trace.{Traces, trace_outcome as outcome_of_end};
 use crate::input::take_all;
 use crate::objects::{gathered, read_objects};
 use crate::outcome::Outcome;
-use block_cut::cut::{Cut, make_cut};
+use block_cut::cut::Cut;
 use std::alloc::Global;
 use sym_machine::run::{TraceEnd, run as run_machine};
 use sym_machine::sym::Sym;
@@ -29,7 +30,7 @@ pub fn trace<S: Store, C: Console>(
     store: &mut S,
     console: &mut C,
 ) -> Outcome
-    ensures { Does (Some (Trace steps (texts objects.now))) (map (λ file. file.items) files.new.items) result
+    ensures { Does (Some (Trace steps (texts objects.now))) (contents_of files.new.items) result
         (world (S.shown store.old) (C.shown console.old)) (world (S.shown store.new) (C.shown console.new)) }
 {
     if let Err(outcome) = read_objects(alloc, objects, files, store) {
@@ -42,13 +43,13 @@ pub fn trace<S: Store, C: Console>(
 }
 
 // The objects in these files, cut into items, or how the call ends without that.
-fn cut_files<'a>(alloc: Global, files: &'a [Vec<u8>]) -> Result<Cut<'a>, Outcome>
-    ensures faultless { IfOk result (λ cut. first_fault (inputs_of (map (λ file. file.items) files.entry.now)) ≡ None) }
-    ensures ok { IfOk result (λ cut. cut ≡ inputs_of (map (λ file. file.items) files.entry.now)) }
-    ensures err { IfErr result (RefusalCause (map (λ file. file.items) files.entry.now)) }
+fn cut_files(alloc: Global, files: &[Vec<u8>]) -> Result<Cut, Outcome>
+    ensures faultless { IfOk result (λ cut. first_fault (inputs_of (contents_of files.now)) ≡ None) }
+    ensures ok { IfOk result (λ cut. cut ≡ inputs_of (contents_of files.now)) }
+    ensures err { IfErr result (RefusalCause (contents_of files.now)) }
 {
     let objects = gathered(alloc, files)?;
-    Ok(make_cut(alloc, objects)?)
+    Ok(Cut::new(alloc, objects)?)
 }
 
 // Runs objects over the console's whole input.

@@ -1,6 +1,7 @@
 // The command `zc`: objects are linked, and the image and its certificate are written.
 
-ghost use Rattle.std.specs.Prelude.{◌≡◌, ◌≢◌, IfOk, IfErr, None, map};
+ghost use Rattle.std.specs.Prelude.{◌≡◌, ◌≢◌, IfOk, IfErr, None};
+ghost use Rattle.psabi_sym.specs.Objects.{contents_of};
 ghost use Rattle.block_cut.specs.Faults.{first_fault};
 ghost use Rattle.zc_link.specs.Linked.{IsZcLink};
 ghost use Rattle.zc_outside.specs.Desk.{Desk};
@@ -14,7 +15,8 @@ ghost use Rattle.zcld.specs.Zc.{PutsInTurn, empty_certificate};
 use crate::objects::{gathered, read_objects};
 use crate::outcome::Outcome;
 use std::alloc::Global;
-use zc_link::link_zc::{Linked, link_zc};
+use zc_link::link_zc::link_zc;
+use zc_link::linked::Linked;
 use zc_outside::store::{Store, StoreFault};
 
 const CERTIFICATE: &str = "zcld certificate 1\nprice 0 0 0\nnet 0\nend\n";
@@ -29,23 +31,23 @@ pub fn zc<S: Store>(
     store: &mut S,
 ) -> Outcome
     requires { out.now ≢ cert.now }
-    ensures { (desk : Desk) → Does (Some (Zc out.now cert.now (texts objects.now))) (map (λ file. file.items) files.new.items) result
+    ensures { (desk : Desk) → Does (Some (Zc out.now cert.now (texts objects.now))) (contents_of files.new.items) result
         (world (S.shown store.old) desk) (world (S.shown store.new) desk) }
 {
     if let Err(outcome) = read_objects(alloc, objects, files, store) {
         return outcome;
     }
     match link(alloc, files.as_slice()) {
-        Ok(linked) => put_both(store, out, linked.elf(), cert),
+        Ok(linked) => put_both(store, out, linked.elf.as_slice(), cert),
         Err(outcome) => outcome,
     }
 }
 
 // What the objects in these files are linked to, or how the call ends without that.
 fn link(alloc: Global, files: &[Vec<u8>]) -> Result<Linked, Outcome>
-    ensures faultless { IfOk result (λ linked. first_fault (inputs_of (map (λ file. file.items) files.now)) ≡ None) }
-    ensures ok { IfOk result (λ linked. IsZcLink (inputs_of (map (λ file. file.items) files.now)) linked) }
-    ensures err { IfErr result (RefusalCause (map (λ file. file.items) files.now)) }
+    ensures faultless { IfOk result (λ linked. first_fault (inputs_of (contents_of files.now)) ≡ None) }
+    ensures ok { IfOk result (λ linked. IsZcLink (inputs_of (contents_of files.now)) linked) }
+    ensures err { IfErr result (RefusalCause (contents_of files.now)) }
 {
     let objects = gathered(alloc, files)?;
     Ok(link_zc(alloc, objects)?)
