@@ -1,9 +1,9 @@
 -- The items of an object of straight code: each is that of a word of the code, and each word's item stands at its place.
-use Rattle.std.proofs.Common.{◌≡◌, ◌≢◌, ℕ, zero, suc, ◌+◌, ◌-◌, ◌*◌, ◌/◌, ◌<◌, ◌≤◌, List, [], ◌∷◌, length, map, take, drop, get_or, Bool, true, false, cond, not, Option, Some, None, refl, sym, ap, ◌∙◌, arith, eqb, ltb, eq-eqb, inl, inr}
-use Rattle.std.specs.Prelude.{◌==◌, ◌&&◌, ◌||◌, bit_and, slice_get}
+use Rattle.std.proofs.Common.{◌≡◌, ℕ, zero, suc, ◌+◌, ◌-◌, ◌*◌, ◌/◌, ◌<◌, ◌≤◌, List, [], ◌∷◌, length, map, take, drop, get_or, Bool, true, false, cond, not, Option, Some, None, refl, sym, ap, ◌∙◌, arith, eqb, eq-eqb, inl, inr}
+use Rattle.std.specs.Prelude.{◌==◌, ◌&&◌, bit_and, slice_get}
 use Rattle.std.specs.List.{list_any, range_with_len}
 use Rattle.std.specs.Option.{option_and_then, option_map, option_map_or}
-use Rattle.std.proofs.lemmas.Bool.{and_parts, cases_lt, eqb-true, false_from_ne_true, ne_eqb, not-false, or_parts}
+use Rattle.std.proofs.lemmas.Bool.{cases_lt, eqb-true, ne_eqb, not-false, or_parts}
 use Rattle.std.proofs.lemmas.List.FromFn.{get_or-map-range_with_len, length-map-range_with_len}
 use Rattle.std.proofs.lemmas.Nat.{and_assoc}
 use Rattle.std.proofs.lemmas.Option.{get_or_from_slice_get, slice_get-get_or, slice_get_past, slice_get_within}
@@ -19,7 +19,7 @@ use Rattle.block_cut.specs.declared.item.Item.{Item}
 use Rattle.block_cut.specs.declared.item.Item.TheVariants.{Op}
 use Rattle.block_cut.specs.Cut.{place_at}
 use Rattle.block_cut.specs.Items.{code_at, code_only, is_end_at, item_at, item_from, item_of, next_at, section_in, spelled, starts_from, starts_in}
-use Rattle.block_cut.specs.Straight.{changes_others, code_of, indexed, is_unbuilt_section, takes_memory, words_in}
+use Rattle.block_cut.specs.Straight.{changes_others, code_of, takes_memory, words_in}
 use Rattle.block_cut.proofs.StartLaws.{starts_in-place_at, word_place, word_place_found}
 use Rattle.block_cut.proofs.StraightLaws.{IsStraight}
 use Rattle.block_cut.proofs.WordLaws.{get_or-words_in, length-words_in}

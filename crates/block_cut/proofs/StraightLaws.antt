@@ -1,7 +1,7 @@
 -- What holds of inputs without a fault: they are one object, which is read without a fault and is straight code alone.
-use Rattle.std.proofs.Common.{◌≡◌, ◌≢◌, ℕ, zero, suc, ◌%◌, ◌<◌, ◌≤◌, List, [], ◌∷◌, length, map, take, drop, Bool, true, false, cond, not, Option, Some, None, refl, sym, ap, ◌∙◌, arith, eqb, ltb, leb}
+use Rattle.std.proofs.Common.{◌≡◌, ◌≢◌, ℕ, ◌%◌, ◌<◌, ◌≤◌, List, [], ◌∷◌, length, take, drop, Bool, true, false, cond, not, Option, Some, None, refl, ap, ◌∙◌, arith, eqb, ltb, leb}
 use Rattle.std.specs.Prelude.{◌&&◌, ◌||◌, min, slice_get}
-use Rattle.std.specs.List.{list_any, range_with_len}
+use Rattle.std.specs.List.{list_any}
 use Rattle.std.specs.Option.{option_or}
 use Rattle.std.proofs.lemmas.Bool.{not-false, or_parts, and_parts, ltb-false, leb-true, eqb-true}
 use Rattle.std.proofs.lemmas.List.{length-drop, length-take}
@@ -78,7 +78,7 @@ straight file read built =
 
 -- ---- the first fault
 
--- if neither reading nor cutting has a fault, the first has none
+-- if the first of both faults is none, neither is there
 none_of_both : (gathered cut : Option (ℕ × Fault)) → option_or gathered cut ≡ None → (gathered ≡ None) × (cut ≡ None)
 none_of_both None cut h = (refl, h)
 none_of_both (Some fault) cut h = absurd cc

@@ -58,6 +58,7 @@ impl Cut {
         ensures faultless { IfOk result (λ _. first_fault objects ≡ None) }
         ensures err { IfErr result (λ fault. IsRefusal (first_fault objects) fault) }
     {
+        // With no object the first is missing, and of several the second is one too many.
         let count = objects.object_count();
         if count != 1 {
             return Err(not_built(count.min(1)));
@@ -118,3 +119,6 @@ impl Cut {
         &self.objects
     }
 }
+
+#[cfg(test)]
+mod tests;

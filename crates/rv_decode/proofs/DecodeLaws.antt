@@ -1,5 +1,5 @@
--- What holds of every word that decodes, by its format. A format that joins the table adds a record, and a row of each law
--- by cases; an instruction that joins a format adds nothing but what its format says of it.
+-- What holds of every word that decodes, by its format. A format that joins the table brings a record, and a row of each law
+-- that goes by cases on formats; an operation that joins OP-IMM brings neither.
 use Rattle.std.proofs.Common.{◌≡◌, ℕ, ◌<◌, Option, Some, None, Bool, true, false, cond, refl, sym, subst, arith, eqb, ℤ}
 use Rattle.std.specs.Option.{option_map}
 use Rattle.std.proofs.lemmas.Bool.{eqb-true}

@@ -6,8 +6,7 @@ mod change;
 mod results;
 pub mod run;
 pub mod sym;
-pub mod why;
-pub mod word;
-
 #[cfg(test)]
 mod tests;
+pub mod why;
+pub mod word;

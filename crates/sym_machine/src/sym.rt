@@ -105,7 +105,7 @@ impl Sym {
         self.regs[r as usize]
     }
 
-    // What stands at the state's place does.
+    // What the item at the state's place does.
     #[tactic(auto, unfolding(crate::specs::Objects::program_of))]
     fn place_does(&self, cut: &Cut) -> Result<Change, Why>
         ensures { let p : Program = program_of (parsed cut.now) in
@@ -117,7 +117,7 @@ impl Sym {
         }
     }
 
-    // Makes a change if it leaves sp within the stack: the end of each step.
+    // The end of each step: makes a change if it leaves sp within the stack.
     fn make(&mut self, change: &Change, map: MemMap) -> SymStep
         requires { self.old.exit ≡ None }
         ensures { StepAnswers (made map self.old (Goes (change_of change.now))) result self.old self.new }
@@ -125,7 +125,7 @@ impl Sym {
         if !is_within(map, &self.sp_after(change)) {
             return SymStep::Stuck(self.place, Why::StackPointer);
         }
-        self.change(change);
+        self.apply(change);
         match change.exit {
             None => SymStep::Done,
             Some(status) => SymStep::Exited(status),
@@ -142,8 +142,8 @@ impl Sym {
         }
     }
 
-    // The state after a change.
-    fn change(&mut self, change: &Change)
+    // Makes a change.
+    fn apply(&mut self, change: &Change)
         ensures { self.new ≡ after_change (change_of change.now) self.old }
     {
         if let Some(write) = change.write {

@@ -1,5 +1,5 @@
 -- Where the memory of a program lies.
-use Rattle.std.specs.Prelude.{◌≡◌, ℕ, ◌+◌, ◌%◌, ◌^◌, ◌<◌, ◌≤◌}
+use Rattle.std.specs.Prelude.{◌≡◌, ◌+◌, ◌%◌, ◌^◌, ◌<◌, ◌≤◌}
 use Rattle.zc_base.specs.declared.mem_map.MemMap.{MemMap}
 
 -- the map that the linker uses if it is told no other

@@ -1,5 +1,5 @@
--- The end of a step, said once for all items: a step that goes on makes a change (Stepped), and then sp is a number within the
--- stack and the bytes below it become undefined (Ended). So states that are ready come to states that are alike.
+-- The end of a step, said once for all items: sp is a number within the stack, and the bytes below it become undefined. So states
+-- that are ready come to states that are alike.
 use Rattle.std.proofs.Common.{◌≡◌, ℕ, ◌<◌, ◌≤◌, List, [], ◌++◌, Option, Some, None, Ok, Bool, true, false, cond, refl, sym, ap, ◌∙◌, subst, arith, ltb, leb}
 use Rattle.std.specs.Prelude.{◌&&◌}
 use Rattle.std.proofs.lemmas.Bool.{and_from, and_parts, cond-true, cond_both, leb-true, le-leb, lt-ltb}
@@ -17,74 +17,12 @@ use Rattle.sym_machine.specs.Program.{Program}
 use Rattle.sym_machine.specs.Run.{plain_turn, recorded}
 use Rattle.sym_machine.specs.State.{PlainCore, PlainState, cell_of, reg_of}
 use Rattle.sym_machine.specs.Step.{PlainStep, Went, Stuck, after_change, ends, ends_at, made, plain_step, step_from, undefined_below}
-use Rattle.sym_machine.specs.Words.{number_of}
+use Rattle.sym_machine.proofs.StepLaws.{Ended, settled}
 use Rattle.zc_link.specs.Image.{Image, place_address}
 use Rattle.zc_link.specs.Sound.{Alike, NamesByte, Ready}
 use Rattle.zc_link.specs.Stands.{ByteStands, Stands}
 use Rattle.zc_link.specs.Values.{value_in}
 use Rattle.zc_link.proofs.Words.{number_is}
-
--- ---- what a step comes to
-
--- the state after the bytes below this sp have become undefined
-abbrev pub settled : MemMap → ℕ → PlainCore → PlainCore
-settled map sp s = record s { memory = changed (undefined_below map sp) s.memory }
-
--- from the state s to s': sp is a number within the stack, and nothing changes but that the bytes below it are undefined
-pub record Ended (map : MemMap) (s s' : PlainCore) : Type 0 where
-  pub sp : ℕ
-  pub is : number_of (reg_of s 2) ≡ Some sp
-  pub low : map.stack_low ≤ sp
-  pub high : sp ≤ map.stack_high
-  pub state : s' ≡ settled map sp s
-
-pub ended : (map : MemMap) (s s' : PlainCore) (events events' : List Event) → ends map s events ≡ Went s' events' → Ended map s s' × (events' ≡ events)
-unfolding ends
-ended map s s' events events' h = known (number_of (reg_of s 2)) refl h
-  where
-    within :
-        (sp : ℕ) (b : Bool) → number_of (reg_of s 2) ≡ Some sp → (leb map.stack_low sp && leb sp map.stack_high) ≡ b
-        → cond b (Went (settled map sp s) events) (Stuck StackPointer) ≡ Went s' events' → Ended map s s' × (events' ≡ events)
-    within sp true is inside g =
-        let q = and_parts (leb map.stack_low sp) (leb sp map.stack_high) inside in
-        (record { sp = sp; is = is; low = leb-true map.stack_low sp q.0; high = leb-true sp map.stack_high q.1; state = cc }, cc)
-    within sp false is inside g = absurd cc
-
-    known : (o : Option ℕ) → number_of (reg_of s 2) ≡ o → ends_at o map s events ≡ Went s' events' → Ended map s s' × (events' ≡ events)
-    known None is g = absurd cc
-    known (Some sp) is g = within sp (leb map.stack_low sp && leb sp map.stack_high) is refl g
-
--- what stands at the place makes a change, the step ends, and the change's events are added
-pub record Stepped (p : Program) (r r' : PlainState) : Type 0 where
-  pub change : Change
-  pub does : place_does (p.item r.core.place) r.core (p.next r.core.place) ≡ Goes change
-  pub end : Ended p.map (after_change change r.core) r'.core
-  pub events : r'.events ≡ r.events ++ change.events
-
-pub stepped : (p : Program) (r r' : PlainState) → r.core.exit ≡ None → plain_turn p r ≡ Ok r' → Stepped p r r'
-unfolding plain_turn plain_step
-stepped p r r' running h = by_item (does r) refl (ap (λ o. recorded (step_from o p r.core) r) (sym running) ∙ h)
-  where
-    does : PlainState → Does
-    does r = place_does (p.item r.core.place) r.core (p.next r.core.place)
-
-    by_end : (c : Change) (t : PlainStep) → does r ≡ Goes c → ends p.map (after_change c r.core) c.events ≡ t → recorded t r ≡ Ok r' → Stepped p r r'
-    by_end c (Went s events) is end g =
-        let q = ended p.map (after_change c r.core) r'.core c.events events (end ∙ cc) in
-        record { change = c; does = is; end = q.0; events = cc }
-    by_end c (Stuck why) is end g = absurd cc
-
-    by_item : (d : Does) → does r ≡ d → recorded (made p.map r.core d) r ≡ Ok r' → Stepped p r r'
-    by_item (Stops why) is g = absurd cc
-    by_item (Goes c) is g = by_end c (ends p.map (after_change c r.core) c.events) is refl g
-
--- after the exit the state stays
-pub stays : (p : Program) (r r' : PlainState) (status : ℕ) → r.core.exit ≡ Some status → plain_turn p r ≡ Ok r' → (r'.core ≡ r.core) × (r'.events ≡ r.events)
-unfolding plain_turn plain_step
-stays p r r' status exited h =
-    let same : recorded (step_from (Some status) p r.core) r ≡ Ok r' = ap (λ o. recorded (step_from o p r.core) r) (sym exited) ∙ h in
-    let events : r'.events ≡ r.events ++ [] = cc in
-    (cc, events ∙ append-nil r.events)
 
 -- ---- bytes that become undefined
 

@@ -21,7 +21,8 @@ use Rattle.zc_link.specs.Room.{Room}
 use Rattle.zc_link.specs.Simulates.{Comes}
 use Rattle.zc_link.specs.Values.{value_in}
 use Rattle.zc_link.proofs.Commits.{AfterCuts, after_cuts, zc_turns-one}
-use Rattle.zc_link.proofs.Ends.{Ended, ends_stands}
+use Rattle.sym_machine.proofs.StepLaws.{Ended}
+use Rattle.zc_link.proofs.Ends.{ends_stands}
 use Rattle.zc_link.proofs.Singles.{FromSound}
 use Rattle.zc_link.proofs.Words.{number_is}
 

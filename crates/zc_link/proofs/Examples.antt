@@ -3,7 +3,7 @@ use Rattle.std.specs.Prelude.{◌≡◌, ℕ, List, [], ◌∷◌, Some, None, r
 use Rattle.zc_base.specs.declared.place.Place.{Place}
 use Rattle.zc_link.specs.Places.{address_in}
 use Rattle.zc_link.specs.Simulates.{lead_from}
-use Rattle.zc_link.specs.Straight.{place_at}
+use Rattle.block_cut.specs.Cut.{place_at}
 use Rattle.zc_link.specs.Values.{pc_upper}
 
 places : List (Place × ℕ)

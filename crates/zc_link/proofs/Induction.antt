@@ -15,6 +15,7 @@ use Rattle.sym_machine.specs.Objects.{program_of}
 use Rattle.sym_machine.specs.Program.{Program}
 use Rattle.sym_machine.specs.Run.{plain, plain_turn}
 use Rattle.sym_machine.specs.State.{PlainCore, PlainState, first_plain}
+use Rattle.sym_machine.proofs.RunLaws.{all_stay}
 use Rattle.zc_machine.specs.Run.{first_state, zc_after, zc_turns}
 use Rattle.zc_machine.proofs.TurnLaws.{zc_turns-add}
 use Rattle.zc_link.specs.Image.{Image, loaded, place_address}
@@ -22,20 +23,8 @@ use Rattle.zc_link.specs.Preserves.{Follows, FollowsUnder, KeepsStep, Preserves,
 use Rattle.zc_link.specs.Simulates.{Pace, Simulates, lead_from, lead_of, pace_of}
 use Rattle.zc_link.specs.Sound.{Sound, Together}
 use Rattle.zc_link.specs.Stands.{Stands}
-use Rattle.zc_link.proofs.Ends.{stays}
 
 -- ---- what is known at the ends
-
--- after the exit the program's state stays
-all_stay :
-    (p : Program) (n : ℕ) (r r' : PlainState) (status : ℕ) → r.core.exit ≡ Some status → iterate (plain_turn p) n r ≡ Ok r'
-    → (r'.core ≡ r.core) × (r'.events ≡ r.events)
-all_stay p zero r r' status exited h = let same : r ≡ r' = cc in (ap (λ x. x.core) (sym same), ap (λ x. x.events) (sym same))
-all_stay p (suc n) r r' status exited h =
-    let first = bind_ok (plain_turn p r) (iterate (plain_turn p) n) r' h in
-    let one = stays p r first.0 status exited first.1 in
-    let rest = all_stay p n first.0 r' status (ap (λ s. s.exit) one.0 ∙ exited) first.2 in
-    (rest.0 ∙ one.0, rest.1 ∙ one.1)
 
 together_stands : (p : Program) (e : Image) (s : PlainCore) (z : ZcState) → Together p e s z → Stands p (place_address e) s z
 together_stands p e s z (inl so) = record { registers = so.alike.registers; memory = so.alike.memory; input = so.input; place = λ _. so.place }

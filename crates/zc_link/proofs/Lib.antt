@@ -14,3 +14,13 @@ pub mod Apart
 pub mod Start
 pub mod Induction
 pub mod Simulation
+pub mod ShortForms
+pub mod OneObject
+pub mod StraightPieces
+pub mod StraightFetched
+pub mod StraightPlaces
+pub mod StraightParts
+pub mod StraightRoom
+pub mod StraightLaid
+pub mod StraightLinked
+pub mod StraightLoop

@@ -12,7 +12,7 @@ use Rattle.zc_link.specs.Pieces.{Alone, Piece, PieceLaid, commits_of, span_of}
 use Rattle.zc_link.specs.Room.{Room}
 use Rattle.zc_link.specs.Simulates.{Comes, IsInside}
 use Rattle.zc_link.specs.Sound.{Sound}
-use Rattle.zc_link.proofs.Ends.{stepped}
+use Rattle.sym_machine.proofs.RunLaws.{stepped}
 use Rattle.zc_link.proofs.Items.{item_comes}
 
 -- a piece has an item

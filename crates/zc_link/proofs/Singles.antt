@@ -16,7 +16,8 @@ use Rattle.zc_link.specs.Room.{Room}
 use Rattle.zc_link.specs.Simulates.{Comes}
 use Rattle.zc_link.specs.Sound.{Alike, Sound}
 use Rattle.zc_link.proofs.Commits.{after_cuts, zc_turns-one}
-use Rattle.zc_link.proofs.Ends.{Stepped, ends_alike}
+use Rattle.sym_machine.proofs.RunLaws.{Stepped}
+use Rattle.zc_link.proofs.Ends.{ends_alike}
 use Rattle.zc_link.proofs.Instrs.{Moves}
 
 -- a sound pair, a step of the program from it, and interrupts before each commit

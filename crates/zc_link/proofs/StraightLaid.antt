@@ -14,6 +14,7 @@ use Rattle.psabi_sym.specs.Inputs.{ParsedInputs}
 use Rattle.block_cut.specs.Items.{item_at}
 use Rattle.block_cut.specs.declared.item.Item.{Item}
 use Rattle.block_cut.specs.declared.item.Item.TheVariants.{Op, Hi, Lo, PcHi, PcLo, Branch, Jump, Call, Align, Word, Raw, RawPair}
+use Rattle.block_cut.proofs.ItemLaws.{next_at-word}
 use Rattle.sym_machine.specs.Objects.{program_of}
 use Rattle.sym_machine.specs.Program.{Program, first_memory}
 use Rattle.sym_machine.specs.declared.word.SymByte.{SymByte}
@@ -27,10 +28,10 @@ use Rattle.zc_link.specs.Pieces.{Alone, ItemLaid, OpLaid}
 use Rattle.zc_link.specs.Simulates.{pace_of}
 use Rattle.zc_link.specs.Sound.{NamesByte}
 use Rattle.zc_link.specs.Stands.{ByteStands}
-use Rattle.zc_link.specs.Straight.{is_li, piece, place_at, text_of}
+use Rattle.block_cut.specs.Cut.{place_at}
+use Rattle.zc_link.specs.Straight.{is_li, piece, text_of}
 use Rattle.zc_link.specs.Values.{value_in}
 use Rattle.zc_link.proofs.StraightFetched.{piece_fetched}
-use Rattle.zc_link.proofs.StraightItems.{IsWord}
 use Rattle.zc_link.proofs.StraightParts.{length-text_of}
 use Rattle.zc_link.proofs.StraightPieces.{offset_of, offset_more, offset_within, piece_long}
 use Rattle.zc_link.proofs.StraightPlaces.{IsListed, address_found, listed}
@@ -46,7 +47,7 @@ undefined_stands V x b e = subst (λ y. ByteStands V y b) (sym e) tt
 undefined_names : (p : Program) (x : SymByte) → x ≡ Undef → NamesByte p x
 undefined_names p x e = subst (NamesByte p) (sym e) tt
 
-module _ (inputs : ParsedInputs) (words : List ℕ) (is : IsMap inputs.map) (few : length words ≤ 16384) (spell : (k : ℕ) (i : Instr) → item_at inputs.objects (place_at (4 * k)) ≡ Some (Op i) → IsWord words k i) (small : (k : ℕ) → get_or words k 0 < 2 ^ 32) where
+module _ (inputs : ParsedInputs) (words : List ℕ) (is : IsMap inputs.map) (few : length words ≤ 16384) (spell : (k : ℕ) (i : Instr) → item_at inputs.objects (place_at (4 * k)) ≡ Some (Op i) → (k < length words) × (decoded (get_or words k 0) ≡ Some i)) (small : (k : ℕ) → get_or words k 0 < 2 ^ 32) where
   abbrev program : Program
   program = program_of inputs
 
@@ -65,36 +66,35 @@ module _ (inputs : ParsedInputs) (words : List ℕ) (is : IsMap inputs.map) (few
   found_at : (k : ℕ) → k ≤ length words → place_address e (place_at (4 * k)) ≡ Some (start + offset_of words k)
   found_at k le = address_found words 0 start k (4 * k) le (omega arith)
 
-  fetched_word : (k : ℕ) (i : Instr) → IsWord words k i → fetched_at (loaded e) (start + offset_of words k) ≡ Found (Base i) (length (piece (get_or words k 0)))
+  fetched_word : (k : ℕ) (i : Instr) → k < length words → decoded (get_or words k 0) ≡ Some i → fetched_at (loaded e) (start + offset_of words k) ≡ Found (Base i) (length (piece (get_or words k 0)))
   unfolding text_of
-  fetched_word k i word =
-      piece_fetched words text (data_part ∷ []) start inputs.map refl refl k (get_or words k 0) i refl word.within (small k) word.spells (is_li (decoded (get_or words k 0))) refl
+  fetched_word k i within spells =
+      piece_fetched words text (data_part ∷ []) start inputs.map refl refl k (get_or words k 0) i refl within (small k) spells (is_li (decoded (get_or words k 0))) refl
 
   -- the instruction of the k-th word
-  word_laid : (k : ℕ) (i : Instr) → IsWord words k i → OpLaid program e (place_at (4 * k)) (start + offset_of words k) i
+  word_laid : (k : ℕ) (i : Instr) → k < length words → decoded (get_or words k 0) ≡ Some i → OpLaid program e (place_at (4 * k)) (start + offset_of words k) i
   unfolding program_of text_of
-  word_laid k i word =
+  word_laid k i within spells =
       let w = get_or words k 0 in
-      let more = offset_more words k word.within in
-      let within = offset_within words (k + 1) in
+      let more = offset_more words k within in
+      let inside = offset_within words (k + 1) in
       let short = length-text_of inputs.map words is few in
-      let next : 4 * (k + 1) ≡ 4 * k + 4 = omega arith in
       let address : start + offset_of words (k + 1) ≡ start + offset_of words k + length (piece w) = omega arith in
       record {
         laid = record {
-          registers = decoded-registers w i word.spells;
+          registers = decoded-registers w i spells;
           here = i;
           same = λ size z core. refl;
-          at = record { size = length (piece w); here = fetched_word k i word; small = omega arith };
-          next = ap (λ n. place_address e (place_at n)) (sym next) ∙ found_at (k + 1) (omega (arith, word.within)) ∙ ap Some address;
+          at = record { size = length (piece w); here = fetched_word k i within spells; small = omega arith };
+          next = ap (place_address e) (next_at-word inputs.objects k) ∙ found_at (k + 1) (omega arith) ∙ ap Some address;
         };
-        four = ecall_long w i word.spells;
+        four = ecall_long w i spells;
       }
 
   -- an item at the k-th word's place
   item_laid : (k : ℕ) (o : Option Item) → item_at inputs.objects (place_at (4 * k)) ≡ o → ItemLaid program e (place_at (4 * k)) (start + offset_of words k) o
   item_laid k None item = tt
-  item_laid k (Some (Op i)) item = word_laid k i (spell k i item)
+  item_laid k (Some (Op i)) item = let word = spell k i item in word_laid k i word.0 word.1
   item_laid k (Some (Hi i t)) item = tt
   item_laid k (Some (Lo i t)) item = tt
   item_laid k (Some (PcHi i t)) item = tt

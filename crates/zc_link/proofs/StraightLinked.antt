@@ -14,6 +14,7 @@ use Rattle.elf32_write.proofs.ImageBack.{image_back}
 use Rattle.psabi_sym.specs.Inputs.{Inputs, parsed}
 use Rattle.block_cut.specs.Faults.{first_fault}
 use Rattle.block_cut.specs.Straight.{code_of, words_in}
+use Rattle.block_cut.proofs.ItemLaws.{op_at-word}
 use Rattle.block_cut.proofs.StraightLaws.{IsStraight}
 use Rattle.block_cut.proofs.WordLaws.{length-words_in, words_below}
 use Rattle.sym_machine.specs.Objects.{program_of}
@@ -22,10 +23,11 @@ use Rattle.zc_link.specs.Linked.{IsZcLink, TextEnds, only_file, straight_parts, 
 use Rattle.zc_link.specs.Places.{address_in}
 use Rattle.zc_link.specs.Preserves.{KeepsStep}
 use Rattle.zc_link.specs.Simulates.{pace_of}
-use Rattle.zc_link.specs.Straight.{place_at, places_from, text_of}
+use Rattle.block_cut.specs.Cut.{place_at}
+use Rattle.zc_link.specs.Straight.{places_from, text_of}
 use Rattle.zc_link.proofs.Induction.{preserves, quietly}
 use Rattle.zc_link.proofs.Simulation.{simulates}
-use Rattle.zc_link.proofs.StraightItems.{item_is_word, one}
+use Rattle.zc_link.proofs.OneObject.{one}
 use Rattle.zc_link.proofs.StraightLaid.{laid}
 use Rattle.zc_link.proofs.StraightParts.{fits, image_with, loadable, parts_with}
 use Rattle.zc_link.proofs.StraightPieces.{offset_whole}
@@ -67,7 +69,7 @@ module _ (file : List ℕ) (map : MemMap) (straight : IsStraight file) (are : (k
     image = image;
     read = read;
     simulates = simulates (program_of (parsed inputs)) image (pace_of (parsed inputs))
-        (laid (parsed inputs) words is few_words (item_is_word file straight) (words_below (code_of file) are));
+        (laid (parsed inputs) words is few_words (op_at-word file straight) (words_below (code_of file) are));
   }
 
   -- the text ends at the address of the section's end

@@ -3,7 +3,8 @@ use Rattle.std.proofs.Common.{◌≡◌, ℕ, ◌+◌, List, [], ◌∷◌, ◌+
 use Rattle.std.specs.List.{flat_map}
 use Rattle.std.proofs.lemmas.List.{append-nil}
 use Rattle.zc_base.specs.declared.place.Place.{Place}
-use Rattle.zc_link.specs.Straight.{piece, place_at, places_from}
+use Rattle.block_cut.specs.Cut.{place_at}
+use Rattle.zc_link.specs.Straight.{piece, places_from}
 
 -- one more piece after the text
 pub text_step : (words : List ℕ) (w : ℕ) (rest old new all : List ℕ) → words ≡ w ∷ rest → old ++ flat_map piece words ≡ all → new ≡ old ++ piece w → new ++ flat_map piece rest ≡ all

@@ -10,7 +10,8 @@ use Rattle.zc_base.specs.Places.{is_before, same_place}
 use Rattle.elf32_read.specs.Places.{is_ascending, is_outside}
 use Rattle.elf32_write.specs.Loadable.{IsEntry}
 use Rattle.zc_link.specs.Places.{address_in}
-use Rattle.zc_link.specs.Straight.{piece, place_at, places_from}
+use Rattle.block_cut.specs.Cut.{place_at}
+use Rattle.zc_link.specs.Straight.{piece, places_from}
 use Rattle.zc_link.proofs.StraightPieces.{length-piece_most, offset_of}
 
 -- ---- the address of a place

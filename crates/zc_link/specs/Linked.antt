@@ -11,7 +11,8 @@ use Rattle.psabi_sym.specs.Inputs.{Inputs}
 use Rattle.block_cut.specs.Straight.{code_of, words_in}
 use Rattle.zc_link.specs.Places.{address_in}
 use Rattle.zc_link.specs.Preserves.{KeepsStep, Preserves, PreservesQuietly}
-use Rattle.zc_link.specs.Straight.{place_at, places_from, text_of}
+use Rattle.block_cut.specs.Cut.{place_at}
+use Rattle.zc_link.specs.Straight.{places_from, text_of}
 
 -- what a link gives: the file of the image
 pub record Link : Type 0 where

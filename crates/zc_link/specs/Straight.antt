@@ -9,6 +9,7 @@ use Rattle.rv_decode.specs.declared.instr.ImmOp.{ImmOp}
 use Rattle.rv_decode.specs.declared.instr.ImmOp.TheVariants.{Addi}
 use Rattle.rv_decode.specs.Bits.{field}
 use Rattle.rv_decode.specs.Decode.{decoded}
+use Rattle.block_cut.specs.Cut.{place_at}
 
 -- ---- what is written for a word
 
@@ -46,10 +47,6 @@ unfoldable pub text_of : List ℕ → List ℕ
 text_of words = flat_map piece words
 
 -- ---- places
-
--- a place in section 1 of the one object
-abbrev pub place_at : ℕ → Place
-place_at offset = record { object = 0; section = 1; offset = offset }
 
 -- each word's place with its address, and the section's end, from an offset and an address on
 unfoldable pub places_from : ℕ → ℕ → List ℕ → List (Place × ℕ)

@@ -7,7 +7,8 @@ ghost use Rattle.block_cut.specs.Items.{spelled};
 ghost use Rattle.block_cut.specs.Straight.{code_of, words_in};
 ghost use Rattle.rv_decode.specs.Decode.{decoded};
 ghost use Rattle.zc_link.specs.Linked.{only_file};
-ghost use Rattle.zc_link.specs.Straight.{is_li, li_half, piece, place_at, places_from, short_of, text_of};
+ghost use Rattle.block_cut.specs.Cut.{place_at};
+ghost use Rattle.zc_link.specs.Straight.{is_li, li_half, piece, places_from, short_of, text_of};
 
 use block_cut::cut::Cut;
 use block_cut::item::Item;

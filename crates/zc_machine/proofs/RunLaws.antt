@@ -1,11 +1,10 @@
 -- A run by its turns, while the program calls nothing but its exit.
-use Rattle.std.proofs.Common.{◌≡◌, ℕ, ◌+◌, ◌<◌, List, [], ◌∷◌, Option, Some, None, Ok, Err, refl, sym, ap, ◌∙◌, arith}
-use Rattle.std.proofs.lemmas.List.{append-nil}
+use Rattle.std.proofs.Common.{◌≡◌, ℕ, ◌+◌, ◌<◌, List, [], ◌∷◌, Some, None, Ok, Err, refl, sym, ap, ◌∙◌, arith}
 use Rattle.interrupt_plan.specs.Plan.{Entry, cuts_at}
 use Rattle.rv_decode.specs.State as event
 use Rattle.rv_decode.specs.State.{ZcCore, ZcState}
-use Rattle.zc_outside.specs.Desk.{Desk, Wrote}
-use Rattle.zc_outside.specs.Streams.{Adds}
+use Rattle.zc_outside.specs.Desk.{Desk}
+use Rattle.zc_outside.proofs.Desk.{Wrote-none}
 use Rattle.zc_machine.specs.declared.answer.EnvCall.{EnvCall}
 use Rattle.zc_machine.specs.declared.answer.EnvCall.TheVariants.{Exit}
 use Rattle.zc_machine.specs.declared.answer.Step.TheVariants as answer
@@ -52,14 +51,6 @@ committed_step z (Committed z') h e = record { made = λ r. refl; counts = h.0; 
 committed_step z (Wants c) h e = absurd cc
 committed_step z (Ended status) h e = absurd cc
 committed_step z (Stopped reason) h e = absurd cc
-
--- writing nothing
-nothing_added : (xs : Option (List ℕ)) → Adds xs xs []
-nothing_added None = tt
-nothing_added (Some xs) = sym (append-nil xs)
-
-nothing_written : (desk : Desk) → Wrote [] [] desk desk
-nothing_written desk = record { out = nothing_added desk.out; err = nothing_added desk.err }
 
 -- ---- a turn
 
@@ -128,7 +119,7 @@ module _ (run : Course) (z z' : ZcCore) (t : Turning run z z') where
           state = after_more last (turn_made ∙ ap (λ s. committed s (first_state z' run.input)) wants);
           exit = refl;
           machine = is;
-          wrote = nothing_written desk;
+          wrote = Wrote-none desk;
         }
 
     -- a stop
@@ -141,7 +132,7 @@ module _ (run : Course) (z z' : ZcCore) (t : Turning run z z') where
       running = t.running;
       stop = turn_made ∙ stops (first_state z' run.input);
       machine = is ∙ t.cuts;
-      wrote = nothing_written desk;
+      wrote = Wrote-none desk;
     }
 
 -- all steps were made
@@ -151,5 +142,5 @@ spent_ran run z desk so_far running all = record {
   state = ap (zc_after run.first run.input run.plan) (sym all) ∙ so_far;
   running = running;
   machine = refl;
-  wrote = nothing_written desk;
+  wrote = Wrote-none desk;
 }

@@ -226,7 +226,7 @@ impl Machine {
         match instr {
             Instr::WithImm { op, rd, first, imm } => self.with_imm(op, rd, first, imm, size),
             Instr::Ecall => self.call(),
-            // Nor these.
+            // No machine has these yet.
             Instr::Upper { .. }
             | Instr::Jal { .. }
             | Instr::Jalr { .. }

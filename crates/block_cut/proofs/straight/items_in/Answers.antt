@@ -2,7 +2,6 @@
 use Rattle.std.proofs.Common.{◌+◌, ◌-◌, ◌*◌, ◌/◌, length, sym, ap, ◌∙◌}
 use Rattle.std.specs.Prelude.{◌||◌, is_none}
 use Rattle.std.specs.List.{list_any}
-use Rattle.zc_base.specs.Fields.{word_in}
 use Rattle.rv_decode.specs.Decode.{decoded}
 use Rattle.block_cut.specs.Straight.{is_unknown, words_from}
 use Rattle.block_cut.proofs.ItemLoop.{any_word_more, items_more}

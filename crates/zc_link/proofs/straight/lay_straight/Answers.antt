@@ -5,8 +5,9 @@ use Rattle.block_cut.specs.Items.{item_at, spelled}
 use Rattle.block_cut.specs.Straight.{code_of}
 use Rattle.rv_decode.specs.Decode.{decoded}
 use Rattle.zc_link.specs.Linked.{only_file}
-use Rattle.zc_link.specs.Straight.{piece, place_at, text_of}
-use Rattle.zc_link.proofs.StraightItems.{word_is_item}
+use Rattle.block_cut.specs.Cut.{place_at}
+use Rattle.zc_link.specs.Straight.{piece, text_of}
+use Rattle.zc_link.proofs.OneObject.{item_at-word_of}
 use Rattle.block_cut.proofs.WordLaws.{words_end, words_more}
 use Rattle.zc_link.proofs.StraightLoop.{text_step, places_step, text_whole, places_whole}
 use Rattle.zc_link.proofs.StraightPieces.{length-piece_most}
@@ -20,7 +21,7 @@ put_item-requires c =
     let word : word_in (code_of (only_file c.args.cut.now)) (4 * i) ≡ c.u32_at.result = ap (λ b. word_in b (4 * i)) (sym c.requires.code) ∙ sym c.u32_at.ensures in
     c.item.ensures.item
     ∙ ap (item_at (parsed c.args.cut.now).objects) c.place-at.ensures
-    ∙ word_is_item c.args.cut.now c.requires.faultless i (omega (arith, c.loop-i-test.true, long))
+    ∙ item_at-word_of c.args.cut.now c.requires.faultless i (omega (arith, c.loop-i-test.true, long))
     ∙ ap (λ w. Some (spelled (decoded w) w)) word
 
 pub loop-i-preserved : goal.loop-i-preserved

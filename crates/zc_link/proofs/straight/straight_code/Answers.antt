@@ -5,7 +5,7 @@ use Rattle.psabi_sym.specs.Inputs.{Inputs}
 use Rattle.block_cut.specs.Faults.{first_fault}
 use Rattle.block_cut.specs.Straight.{code_of}
 use Rattle.zc_link.specs.Linked.{only_file}
-use Rattle.zc_link.proofs.StraightItems.{one}
+use Rattle.zc_link.proofs.OneObject.{one}
 use Rattle.zc_link.proofs.straight.straight_code.Goals as goal
 
 -- the objects that a cut lends are its one object

@@ -1,5 +1,5 @@
 -- An item is looked up by the index of its word.
-use Rattle.std.proofs.Common.{◌≡◌, ℕ, ◌+◌, ◌*◌, ◌/◌, ◌^◌, ◌<◌, None, Some, IfSome, Option, refl, sym, ap, ◌∙◌, subst, arith}
+use Rattle.std.proofs.Common.{◌≡◌, ℕ, ◌+◌, ◌*◌, ◌/◌, ◌^◌, ◌<◌, None, Some, IfSome, Option, sym, ap, ◌∙◌, subst, arith}
 use Rattle.std.specs.Prelude.{slice_get}
 use Rattle.psabi_sym.specs.Inputs.{parsed}
 use Rattle.block_cut.specs.declared.item.Item.{Item}

@@ -23,7 +23,7 @@ returns-in-Ok c =
     let old : PlainCore = c.args.self.now in
     let does : Does = Goes (change_of c.in-Ok.change) in
     let running : old.exit ≡ None = sym (ap (λ (v : PlainCore). v.exit) c.self.view_is) ∙ c.in_default.is in
-    let map : c.map.result ≡ p.map = c.map.ensures ∙ ap (λ (i : Inputs). i.map) c.objects.ensures in
+    let map : c.map.result ≡ p.map = c.map.ensures ∙ ap (λ (i : Inputs). i.map) c.objects.ensures.same in
     let found : does ≡ place_does (p.item old.place) old (p.next old.place) = ap does_of (sym c.in-Ok.is) ∙ c.place_does.ensures in
     let is : plain_step p old ≡ made c.map.result old does = step_running p old running ∙ ap (made p.map old) (sym found) ∙ ap (λ (m : MemMap). made m old does) (sym map) in
     subst (λ (st : PlainStep). StepAnswers st c.make.result old c.make.new.self) (sym is) c.make.ensures

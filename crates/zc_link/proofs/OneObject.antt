@@ -1,4 +1,4 @@
--- The items of inputs without a fault are those of the words of the one object's code.
+-- Inputs without a fault are one object of straight code, and at the place of each of its words stands the word's item.
 use Rattle.std.proofs.Common.{◌≡◌, ℕ, ◌*◌, ◌/◌, ◌<◌, ◌≤◌, List, [], ◌∷◌, length, map, None, Some, sym, ap, ◌∙◌, subst, inl, inr, arith, get_or}
 use Rattle.std.specs.Prelude.{slice_get}
 use Rattle.std.specs.Option.{option_map}
@@ -19,8 +19,6 @@ use Rattle.block_cut.proofs.StraightLaws.{IsFaultless, IsStraight, faultless}
 use Rattle.block_cut.proofs.WordLaws.{get_or-words_in, length-words_in}
 use Rattle.zc_link.specs.Linked.{only_file}
 
--- ---- the one object
-
 pub record IsOne (inputs : Inputs) : Type 0 where
   pub alone : inputs.files ≡ only_file inputs ∷ []
   pub straight : IsStraight (only_file inputs)
@@ -34,29 +32,10 @@ one inputs none =
       straight = subst IsStraight (sym only) known.straight;
     }
 
--- ---- items and words
-
--- an instruction at the place of the k-th word is what the word spells
-pub record IsWord (words : List ℕ) (k : ℕ) (i : Instr) : Type 0 where
-  pub within : k < length words
-  pub spells : decoded (get_or words k 0) ≡ Some i
-
-pub item_is_word : (file : List ℕ) → IsStraight file → (k : ℕ) (i : Instr) → item_at (object_parts file ∷ []) (place_at (4 * k)) ≡ Some (Op i) → IsWord (words_in (code_of file)) k i
-item_is_word file straight k i is =
-    let words = words_in (code_of file) in
-    let q = place_at (4 * k) in
-    let there = sym (item_at-word file straight k) ∙ is in
-    elim (cases_lt k (length words)) [
-      | inl lt ↦
-        let here = ap (option_map (item_of q)) (sym (slice_get-get_or words k 0 lt)) ∙ there in
-        record { within = lt; spells = op_decoded q (get_or words k 0) i cc }
-      | inr le ↦ absurd (let none = ap (option_map (item_of q)) (slice_get_past words k le) in cc)
-    ]
-
--- and each word's item stands at its place
-pub word_is_item : (inputs : Inputs) → first_fault inputs ≡ None → (k : ℕ) → k < length (code_of (only_file inputs)) / 4
+-- each word's item stands at its place
+pub item_at-word_of : (inputs : Inputs) → first_fault inputs ≡ None → (k : ℕ) → k < length (code_of (only_file inputs)) / 4
     → let word = word_in (code_of (only_file inputs)) (4 * k) in item_at (parsed inputs).objects (place_at (4 * k)) ≡ Some (spelled (decoded word) word)
-word_is_item inputs none k lt =
+item_at-word_of inputs none k lt =
     let is = one inputs none in
     let code = code_of (only_file inputs) in
     let inside : k < length (words_in code) = omega (arith, length-words_in code) in
