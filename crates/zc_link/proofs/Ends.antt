@@ -1,22 +1,17 @@
 -- The end of a step, said once for all items: sp is a number within the stack, and the bytes below it become undefined. So states
 -- that are ready come to states that are alike.
-use Rattle.std.proofs.Common.{◌≡◌, ℕ, ◌<◌, ◌≤◌, List, [], ◌++◌, Option, Some, None, Ok, Bool, true, false, cond, refl, sym, ap, ◌∙◌, subst, arith, ltb, leb}
+use Rattle.std.proofs.Common.{◌≡◌, ℕ, ◌<◌, Option, Bool, true, false, cond, refl, sym, ◌∙◌, subst, arith, ltb, leb}
 use Rattle.std.specs.Prelude.{◌&&◌}
-use Rattle.std.proofs.lemmas.Bool.{and_from, and_parts, cond-true, cond_both, leb-true, le-leb, lt-ltb}
-use Rattle.std.proofs.lemmas.List.{append-nil}
+use Rattle.std.proofs.lemmas.Bool.{and_from, cond-true, cond_both, le-leb, lt-ltb}
 use Rattle.zc_base.specs.declared.mem_map.MemMap.{MemMap}
 use Rattle.zc_base.specs.declared.place.Place.{Place}
-use Rattle.rv_decode.specs.Memory.{changed}
-use Rattle.rv_decode.specs.State.{Event, ZcCore, ZcState, byte_in, reg_in}
+use Rattle.rv_decode.specs.State.{ZcCore, ZcState, byte_in, reg_in}
 use Rattle.rv_decode.proofs.MemoryLaws.{cell-changed_default}
-use Rattle.sym_machine.specs.declared.why.Why.TheVariants.{StackPointer}
 use Rattle.sym_machine.specs.declared.word.SymByte.{SymByte}
 use Rattle.sym_machine.specs.declared.word.SymByte.TheVariants.{Undef}
-use Rattle.sym_machine.specs.Change.{Change, Does, Goes, Stops, place_does}
 use Rattle.sym_machine.specs.Program.{Program}
-use Rattle.sym_machine.specs.Run.{plain_turn, recorded}
-use Rattle.sym_machine.specs.State.{PlainCore, PlainState, cell_of, reg_of}
-use Rattle.sym_machine.specs.Step.{PlainStep, Went, Stuck, after_change, ends, ends_at, made, plain_step, step_from, undefined_below}
+use Rattle.sym_machine.specs.State.{PlainCore, cell_of, reg_of}
+use Rattle.sym_machine.specs.Step.{undefined_below}
 use Rattle.sym_machine.proofs.StepLaws.{Ended, settled}
 use Rattle.zc_link.specs.Image.{Image, place_address}
 use Rattle.zc_link.specs.Sound.{Alike, NamesByte, Ready}

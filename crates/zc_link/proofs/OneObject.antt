@@ -1,21 +1,17 @@
 -- Inputs without a fault are one object of straight code, and at the place of each of its words stands the word's item.
-use Rattle.std.proofs.Common.{◌≡◌, ℕ, ◌*◌, ◌/◌, ◌<◌, ◌≤◌, List, [], ◌∷◌, length, map, None, Some, sym, ap, ◌∙◌, subst, inl, inr, arith, get_or}
-use Rattle.std.specs.Prelude.{slice_get}
+use Rattle.std.proofs.Common.{◌≡◌, ℕ, ◌*◌, ◌/◌, ◌<◌, [], ◌∷◌, length, map, None, Some, sym, ap, ◌∙◌, subst, arith}
 use Rattle.std.specs.Option.{option_map}
-use Rattle.std.proofs.lemmas.Bool.{cases_lt}
-use Rattle.std.proofs.lemmas.Option.{slice_get-get_or, slice_get_past}
+use Rattle.std.proofs.lemmas.Option.{slice_get-get_or}
 use Rattle.zc_base.specs.Fields.{word_in}
 use Rattle.elf32_read.specs.Parts.{object_parts}
-use Rattle.rv_decode.specs.declared.instr.Instr.{Instr}
 use Rattle.rv_decode.specs.Decode.{decoded}
 use Rattle.psabi_sym.specs.Inputs.{Inputs, parsed}
 use Rattle.block_cut.specs.Cut.{place_at}
 use Rattle.block_cut.specs.Faults.{first_fault}
 use Rattle.block_cut.specs.Items.{item_at, item_of, spelled}
 use Rattle.block_cut.specs.Straight.{code_of, words_in}
-use Rattle.block_cut.specs.declared.item.Item.TheVariants.{Op}
-use Rattle.block_cut.proofs.ItemLaws.{item_at-word, op_decoded}
-use Rattle.block_cut.proofs.StraightLaws.{IsFaultless, IsStraight, faultless}
+use Rattle.block_cut.proofs.ItemLaws.{item_at-word}
+use Rattle.block_cut.proofs.StraightLaws.{IsStraight, faultless}
 use Rattle.block_cut.proofs.WordLaws.{get_or-words_in, length-words_in}
 use Rattle.zc_link.specs.Linked.{only_file}
 

@@ -7,8 +7,8 @@ use Rattle.rv_decode.specs.declared.instr.Instr.TheVariants.{WithImm}
 use Rattle.rv_decode.specs.declared.instr.ImmOp.{ImmOp}
 use Rattle.rv_decode.specs.declared.instr.ImmOp.TheVariants.{Addi, Slti, Sltiu, Xori, Ori, Andi, Slli, Srli, Srai}
 use Rattle.rv_decode.specs.Bits.{field, signed}
-use Rattle.rv_decode.specs.Decode.{decoded, imm_i_of, imm_op_of, rd_of, rs1_of}
-use Rattle.rv_decode.proofs.DecodeLaws.{Format, IsSystem, IsWithImm, OpImm, System, addi_immediate, decoded-format}
+use Rattle.rv_decode.specs.Decode.{decoded, imm_i_of, rd_of, rs1_of}
+use Rattle.rv_decode.proofs.DecodeLaws.{Format, IsWithImm, OpImm, System, addi_immediate, decoded-format}
 use Rattle.zc_decode.specs.declared.short.Short.TheVariants.{Base}
 use Rattle.zc_decode.specs.Halfwords.{decoded16, expanded, imm_ci_of, li_of, quadrant1_of}
 use Rattle.zc_link.specs.Straight.{is_addi, is_li, is_six_bits, li_half, short_of}

@@ -1,13 +1,12 @@
 -- Straight code lies in its image as a layout owes: at each word's place stands its instruction, in two bytes or four, and
 -- the next place has the address after it.
-use Rattle.std.proofs.Common.{◌≡◌, ℕ, ◌+◌, ◌*◌, ◌^◌, ◌<◌, ◌≤◌, List, [], ◌∷◌, length, Option, Some, None, Bool, true, false, refl, sym, ap, ◌∙◌, subst, arith, get_or}
+use Rattle.std.proofs.Common.{◌≡◌, ℕ, ◌+◌, ◌*◌, ◌^◌, ◌<◌, ◌≤◌, List, [], ◌∷◌, length, Option, Some, None, true, false, refl, sym, ap, ◌∙◌, subst, arith, get_or}
 use Rattle.zc_base.specs.MemMap.{IsMap}
 use Rattle.zc_base.specs.declared.place.Place.{Place}
 use Rattle.elf32_read.specs.Segments.{SegmentData}
 use Rattle.rv_decode.specs.declared.instr.Instr.{Instr}
 use Rattle.rv_decode.specs.declared.instr.Instr.TheVariants.{Ecall}
 use Rattle.rv_decode.specs.Decode.{decoded}
-use Rattle.rv_decode.specs.Memory.{cell_at}
 use Rattle.rv_decode.specs.State.{byte_in}
 use Rattle.rv_decode.proofs.DecodeLaws.{decoded-registers}
 use Rattle.psabi_sym.specs.Inputs.{ParsedInputs}
@@ -16,7 +15,7 @@ use Rattle.block_cut.specs.declared.item.Item.{Item}
 use Rattle.block_cut.specs.declared.item.Item.TheVariants.{Op, Hi, Lo, PcHi, PcLo, Branch, Jump, Call, Align, Word, Raw, RawPair}
 use Rattle.block_cut.proofs.ItemLaws.{next_at-word}
 use Rattle.sym_machine.specs.Objects.{program_of}
-use Rattle.sym_machine.specs.Program.{Program, first_memory}
+use Rattle.sym_machine.specs.Program.{Program}
 use Rattle.sym_machine.specs.declared.word.SymByte.{SymByte}
 use Rattle.sym_machine.specs.declared.word.SymByte.TheVariants.{Undef}
 use Rattle.sym_machine.specs.declared.word.Value.{Value}
@@ -34,7 +33,7 @@ use Rattle.zc_link.specs.Values.{value_in}
 use Rattle.zc_link.proofs.StraightFetched.{piece_fetched}
 use Rattle.zc_link.proofs.StraightParts.{length-text_of}
 use Rattle.zc_link.proofs.StraightPieces.{offset_of, offset_more, offset_within, piece_long}
-use Rattle.zc_link.proofs.StraightPlaces.{IsListed, address_found, listed}
+use Rattle.zc_link.proofs.StraightPlaces.{address_found, listed}
 use Rattle.zc_link.proofs.StraightRoom.{bytes, image, room, undefined}
 
 -- `ecall` has no short form

@@ -1,5 +1,5 @@
 -- The parts of an image of straight code fit in its file, and a loader takes them, under every map that a link may be made for.
-use Rattle.std.proofs.Common.{◌≡◌, ℕ, ◌+◌, ◌*◌, ◌<◌, ◌≤◌, List, [], length, refl, arith}
+use Rattle.std.proofs.Common.{ℕ, ◌≤◌, List, [], length, refl, arith}
 use Rattle.zc_base.specs.MemMap.{IsMap}
 use Rattle.zc_base.specs.declared.mem_map.MemMap.{MemMap}
 use Rattle.elf32_write.specs.Image.{Fits}

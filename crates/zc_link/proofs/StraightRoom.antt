@@ -1,5 +1,5 @@
 -- Where the memory of an image of straight code lies, under every map that a link may be made for, and how it begins.
-use Rattle.std.proofs.Common.{◌≡◌, ℕ, ◌+◌, ◌-◌, ◌*◌, ◌%◌, ◌^◌, ◌<◌, ◌≤◌, List, [], ◌++◌, length, Bool, true, false, cond, refl, ◌∙◌, inl, inr, ⊎_elim, arith, leb, get_or, length-append, Some}
+use Rattle.std.proofs.Common.{◌≡◌, ℕ, ◌+◌, ◌-◌, ◌%◌, ◌^◌, ◌<◌, ◌≤◌, List, ◌++◌, length, Bool, true, false, cond, refl, ◌∙◌, inl, inr, ⊎_elim, arith, leb, get_or, length-append, Some}
 use Rattle.std.specs.List.{flat_map}
 use Rattle.std.proofs.lemmas.Bool.{and_from, and_parts, le-leb, leb-true, or_cases, or_from, or_left, or_right}
 use Rattle.zc_base.specs.MemMap.{IsMap}

@@ -1,6 +1,5 @@
 -- What a call of the program does: what its command does up to a world, and from there the outcome's line.
-use Rattle.std.specs.Prelude.{◌≡◌, ℕ, ◌⊎◌, Bool, true, false, IsTrue, OnTrue, List, [], Option, Some, None, ⊤}
-use Rattle.std.specs.Option.{option_map}
+use Rattle.std.specs.Prelude.{◌≡◌, ℕ, ◌⊎◌, true, false, IsTrue, List, Option, Some, None, ⊤}
 use Rattle.zc_outside.specs.Desk.{Desk, OnlyWrites}
 use Rattle.zc_outside.specs.Files.{Files, Rose}
 use Rattle.zc_outside.specs.Streams.{Adds, AddsPart, KeepsBytes}

@@ -11,9 +11,9 @@ use Rattle.zcld.specs.declared.command_line.CommandLine.TheVariants as line
 
 -- a command with the names of its files, and how many steps it may make
 pub data Command : Type 0 where
-  Zc : (out cert object : List ℕ) → Command
+  Zc : (out cert : List ℕ) (objects : List (List ℕ)) → Command
   Run : (steps : ℕ) (image : List ℕ) → Command
-  Trace : (steps : ℕ) (object : List ℕ) → Command
+  Trace : (steps : ℕ) (objects : List (List ℕ)) → Command
 
 -- ---- words
 
@@ -48,7 +48,7 @@ usual_steps = 10000000
 abbrev pub zc_command : List ℕ → List ℕ → List ℕ → Option Command
 zc_command out cert object =
     if (not (begins_with_dash out) && not (begins_with_dash cert)) && (not (begins_with_dash object) && not (bytes_eq out cert))
-    then Some (Zc out cert object)
+    then Some (Zc out cert (object ∷ []))
     else None
 
 -- `zc` with its two options, each with its value behind it, in either order
@@ -63,7 +63,7 @@ abbrev pub stepping : List ℕ → ℕ → List ℕ → Option Command
 stepping name steps file =
     if begins_with_dash file then None else
     (if bytes_eq name (codes "run") then Some (Run steps file) else
-    (if bytes_eq name (codes "trace") then Some (Trace steps file) else None))
+    (if bytes_eq name (codes "trace") then Some (Trace steps (file ∷ [])) else None))
 
 -- the same with the option that says how many
 abbrev pub stepping_for : List ℕ → List ℕ → List ℕ → List ℕ → Option Command
@@ -79,6 +79,6 @@ command_of other = None
 
 -- a command as the program holds it
 abbrev pub meant : CommandLine → Command
-meant (line.Zc out cert object) = Zc out.now cert.now object.now
+meant (line.Zc out cert objects) = Zc out.now cert.now (texts objects.now)
 meant (line.Run steps image) = Run steps image.now
-meant (line.Trace steps object) = Trace steps object.now
+meant (line.Trace steps objects) = Trace steps (texts objects.now)

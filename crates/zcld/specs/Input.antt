@@ -1,5 +1,5 @@
 -- The console's whole input.
-use Rattle.std.specs.Prelude.{◌≡◌, ℕ, ◌+◌, ◌-◌, ◌^◌, ◌<◌, ◌≤◌, ◌⊎◌, IsTrue, length, min, List, [], Option, Some, None, ⊤}
+use Rattle.std.specs.Prelude.{◌≡◌, ℕ, ◌+◌, ◌-◌, ◌^◌, ◌<◌, ◌≤◌, ◌⊎◌, ◌↔◌, ◌++◌, IsTrue, length, min, List, [], Option, Some, None, ⊤}
 use Rattle.zc_outside.specs.Desk.{Desk, OnlyTakes}
 use Rattle.zc_outside.specs.Files.{Rose}
 use Rattle.zcld.specs.declared.input.TheConstants.{INPUT_LIMIT}
@@ -52,3 +52,17 @@ UntakenCause Spent before after = ⊥
 pub record IsUntaken (outcome : Outcome) (before after : Desk) : Type 0 where
   pub cause : UntakenCause outcome before after
   pub only : OnlyTakes before after
+
+-- ---- a piece of the input
+
+-- if the input was told: its first n bytes stand after those that were taken before, and none do if none was left
+abbrev pub TakesPart : Option (List ℕ) → Option (List ℕ) → List ℕ → List ℕ → ℕ → Type 0
+TakesPart None after old new n = ⊤
+TakesPart (Some xs) None old new n = ⊥
+TakesPart (Some xs) (Some ys) old new n = (new ++ ys ≡ old ++ xs) × ((n ≡ 0) ↔ (xs ≡ []))
+
+-- if the input was told: these bytes went from its front, and the rest is left
+abbrev pub TakesFront : Option (List ℕ) → Option (List ℕ) → List ℕ → Type 0
+TakesFront None after input = ⊤
+TakesFront (Some xs) None input = ⊥
+TakesFront (Some xs) (Some ys) input = input ++ ys ≡ xs

@@ -1,6 +1,7 @@
 pub mod Command
 pub mod ErrLine
 pub mod Input
+pub mod Outcome
 pub mod Task
 pub mod Objects
 pub mod Machines

@@ -1,12 +1,12 @@
 -- The objects that a command links or traces, and why they are refused.
-use Rattle.std.specs.Prelude.{ℕ, List, Option, map}
+use Rattle.std.specs.Prelude.{◌≡◌, ℕ, ◌⊎◌, List, Option, Some}
 use Rattle.std.specs.Option.{option_map}
 use Rattle.zc_base.specs.MemMap.{standard_map}
-use Rattle.zc_outside.specs.Wanted.{Wanted}
+use Rattle.zc_outside.specs.Wanted.{Wanted, each_within}
 use Rattle.psabi_sym.specs.Inputs.{Inputs}
 use Rattle.block_cut.specs.Faults.{first_fault}
 use Rattle.zcld.specs.declared.outcome.Outcome.{Outcome}
-use Rattle.zcld.specs.declared.outcome.Outcome.TheVariants.{Refused}
+use Rattle.zcld.specs.declared.outcome.Outcome.TheVariants.{Refused, OutOfMemory}
 use Rattle.zcld.specs.declared.limits.TheConstants.{OBJECT_LIMIT}
 
 -- the files of the objects, in the standard map
@@ -19,4 +19,8 @@ objects_refusal files = option_map (λ found. Refused found.0 found.1) (first_fa
 
 -- objects are read up to their limit
 abbrev pub objects_wanted : List (List ℕ) → List Wanted
-objects_wanted names = map (λ name. record { name = name; limit = OBJECT_LIMIT }) names
+objects_wanted names = each_within OBJECT_LIMIT names
+
+-- why objects that were read go no further: they are refused, or memory ran out
+abbrev pub RefusalCause : List (List ℕ) → Outcome → Type 0
+RefusalCause files outcome = (objects_refusal files ≡ Some outcome) ⊎ (outcome ≡ OutOfMemory)

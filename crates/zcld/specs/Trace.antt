@@ -1,6 +1,6 @@
 -- What `trace` does: it reads objects, takes the console's whole input, and makes steps of the symbolic machine.
 use Rattle.std.specs.Prelude.{◌≡◌, ℕ, ◌⊎◌, List}
-use Rattle.psabi_sym.specs.Inputs.{parsed}
+use Rattle.psabi_sym.specs.Inputs.{Inputs, parsed}
 use Rattle.sym_machine.specs.Objects.{program_of}
 use Rattle.sym_machine.specs.RunEnd.{Course, Traced}
 use Rattle.sym_machine.specs.declared.run.TraceEnd.{TraceEnd}
@@ -13,8 +13,8 @@ use Rattle.zcld.specs.Machines.{MachineWork}
 use Rattle.zcld.specs.Objects.{inputs_of}
 
 -- the run of the objects' program over an input
-abbrev pub course_of : List (List ℕ) → List ℕ → ℕ → Course
-course_of files input steps = record { program = program_of (parsed (inputs_of files)); input = input; steps = steps }
+abbrev pub course_of : Inputs → List ℕ → ℕ → Course
+course_of inputs input steps = record { program = program_of (parsed inputs); input = input; steps = steps }
 
 -- the outcome of each end
 abbrev pub trace_outcome : TraceEnd → Outcome
@@ -23,17 +23,17 @@ trace_outcome (end.Stuck place why) = Stuck place why
 trace_outcome end.Spent = Spent
 
 -- the machine came to an end, which is this outcome; what it wrote was written
-pub record HasTraced (files : List (List ℕ)) (steps : ℕ) (input : List ℕ) (outcome : Outcome) (before after : Desk) : Type 0 where
+pub record HasTraced (inputs : Inputs) (steps : ℕ) (input : List ℕ) (outcome : Outcome) (before after : Desk) : Type 0 where
   pub answer : TraceEnd
-  pub traced : Traced (course_of files input steps) answer before after
+  pub traced : Traced (course_of inputs input steps) answer before after
   pub outcome_is : outcome ≡ trace_outcome answer
   pub only : OnlyWrites before after
 
 -- no memory for the machine, or that
-abbrev pub Traces : List (List ℕ) → ℕ → List ℕ → Outcome → Desk → Desk → Type 0
-Traces files steps input outcome before after =
-    ((outcome ≡ OutOfMemory) × (after ≡ before)) ⊎ HasTraced files steps input outcome before after
+abbrev pub Traces : Inputs → ℕ → List ℕ → Outcome → Desk → Desk → Type 0
+Traces inputs steps input outcome before after =
+    ((outcome ≡ OutOfMemory) × (after ≡ before)) ⊎ HasTraced inputs steps input outcome before after
 
 -- the work of `trace`
 abbrev pub TraceWork : ℕ → List (List ℕ) → Outcome → World → World → Type 0
-TraceWork steps files outcome before after = MachineWork (Traces files steps) outcome before after
+TraceWork steps files outcome before after = MachineWork (Traces (inputs_of files) steps) outcome before after

@@ -1,10 +1,12 @@
 // The line that names an outcome on standard error, made without memory.
 
-ghost use Rattle.std.specs.Prelude.{◌≡◌, ◌≤◌, ◌<◌, ◌+◌, ◌++◌, decimal, length};
+ghost use Rattle.std.specs.Prelude.{◌≡◌, ◌≤◌, ℕ, ◌<◌, ◌+◌, ◌++◌, List, decimal, length};
+ghost use Rattle.std.specs.List.{flat_map};
+ghost use Rattle.psabi_sym.specs.Objects.{contents_of};
+ghost use Rattle.zc_outside.specs.Desk.{OnlyWrites};
 ghost use Rattle.zc_outside.specs.Streams.{KeepsBytes};
 ghost use Rattle.zcld.specs.Call.{WritesLine};
 ghost use Rattle.zcld.specs.ErrLine.{err_line, hex_at, hex_word, line as with_line_feed, refusal_text, stop_text, stuck_text};
-ghost use Rattle.zcld.specs.Outside.{IsUnwritten};
 
 use crate::outcome::{FileFault, Outcome};
 use arrayvec::ArrayString;
@@ -16,19 +18,28 @@ use zc_machine::reason::Reason;
 use zc_outside::console::Console;
 
 /// Writes the line of an outcome to standard error. A line that can't be written changes no outcome.
-pub fn report<C: Console>(outcome: &Outcome, console: &mut C)
-    ensures line { WritesLine (C.err_bytes console.old) (C.err_bytes console.new) (err_line outcome.now)
-        (IsUnwritten (C.write_faults console.old) (C.write_faults console.new)
-        (C.memory_faults console.old) (C.memory_faults console.new)) }
-    ensures out { KeepsBytes (C.out_bytes console.old) (C.out_bytes console.new) }
-    ensures input { KeepsBytes (C.input console.old) (C.input console.new) }
-    ensures taken { C.taken console.new ≡ C.taken console.old }
-    ensures reads { C.read_faults console.new ≡ C.read_faults console.old }
-    ensures writes { C.write_faults console.old ≤ C.write_faults console.new }
-    ensures stays { C.sure console.old → C.sure console.new }
-    ensures sure { C.sure console.old → C.write_faults console.new ≡ C.write_faults console.old }
+/// The files are those that were read: a line may end with a name in one of them, which is written
+/// from there.
+pub fn report<C: Console>(files: &[Vec<u8>], outcome: &Outcome, console: &mut C)
+    ensures line { WritesLine (err_line (contents_of files.now) outcome.now) (C.shown console.old) (C.shown console.new) }
+    ensures out { KeepsBytes (C.shown console.old).out (C.shown console.new).out }
+    ensures only { OnlyWrites (C.shown console.old) (C.shown console.new) }
 {
-    let _ = console.err(line_of(outcome).as_str().as_bytes());
+    let line = line_of(outcome);
+    write_pieces(&[line.as_str().as_bytes()], console);
+}
+
+// Writes pieces to standard error one after another, until one is refused.
+fn write_pieces<C: Console>(pieces: &[&[u8]], console: &mut C)
+    ensures line { WritesLine (flat_map (λ piece. piece.now) pieces.now) (C.shown console.old) (C.shown console.new) }
+    ensures out { KeepsBytes (C.shown console.old).out (C.shown console.new).out }
+    ensures only { OnlyWrites (C.shown console.old) (C.shown console.new) }
+{
+    for piece in pieces {
+        if console.err(piece).is_err() {
+            return;
+        }
+    }
 }
 
 /// Room for the longest line: `stuck`, a place, and a reason's number and name.
@@ -36,7 +47,7 @@ pub const ROOM: usize = 64;
 
 /// The line of an outcome, with its line feed; empty where there is none.
 pub fn line_of(outcome: &Outcome) -> ArrayString<ROOM>
-    ensures { result.bytes ≡ err_line outcome.now }
+    ensures { (files : List (List ℕ)) → result.bytes ≡ err_line files outcome.now }
 {
     match outcome {
         Outcome::Done => ArrayString::new(),
@@ -53,7 +64,7 @@ pub fn line_of(outcome: &Outcome) -> ArrayString<ROOM>
     }
 }
 
-// A text with a line feed behind it.
+// A text with a line feed after it.
 fn line(text: &str) -> ArrayString<ROOM>
     requires { length text.now ≤ 63 }
     ensures { result.bytes ≡ with_line_feed text.now }

@@ -4,17 +4,13 @@
 pub mod call;
 pub mod command_line;
 pub mod err_line;
-pub mod file;
 #[cfg(test)]
 mod fixture;
-pub mod image;
 pub mod input;
+pub mod limits;
+pub mod objects;
 pub mod outcome;
-pub mod refusal;
 pub mod run;
-pub mod straight;
-pub mod sym;
-pub mod sym_run;
 pub mod trace;
 pub mod zc;
 
@@ -39,14 +35,14 @@ fn main(rt: HostRuntime) -> ExitCode {
             &mut console,
         ),
         Err(outcome) => {
-            report(&outcome, &mut console);
+            report(&[], &outcome, &mut console);
             outcome
         }
     };
     ExitCode::from(status(&outcome))
 }
 
-// The words behind the program's name, or how the call ends without them: a word that isn't UTF-8
+// The words after the program's name, or how the call ends without them: a word that isn't UTF-8
 // spells no command.
 fn words<R: Env + AllocGlobal>(rt: &R) -> Result<Vec<String>, Outcome> {
     match env::args(rt) {

@@ -5,10 +5,12 @@ ghost use Rattle.zcld.specs.ErrLine.{status_of};
 
 use elf32_read::fault::Fault;
 use elf32_read::image_fault::ImageFault;
+use psabi_sym::link_fault::LinkFault;
 use std::alloc::AllocError;
 use sym_machine::why::Why;
 use zc_base::place::Place;
 use zc_machine::reason::Reason;
+use zc_outside::read_files::ReadFault;
 
 /// What is wrong with a file that isn't an object.
 #[derive(Clone, Copy, PartialEq, Eq, Debug)]
@@ -42,6 +44,34 @@ impl From<AllocError> for Outcome {
 
     fn from(_refused: AllocError) -> Outcome {
         Outcome::OutOfMemory
+    }
+}
+
+impl From<ReadFault> for Outcome {
+    ghost use Rattle.std.specs.Prelude.{◌≡◌};
+    ghost use Rattle.zcld.specs.Outcome.{read_outcome};
+
+    ghost from_gives = { λ fault outcome. outcome ≡ read_outcome fault };
+
+    fn from(fault: ReadFault) -> Outcome {
+        match fault {
+            ReadFault::Unread => Outcome::ReadFault,
+            ReadFault::OutOfMemory => Outcome::OutOfMemory,
+        }
+    }
+}
+
+impl From<LinkFault> for Outcome {
+    ghost use Rattle.std.specs.Prelude.{◌≡◌};
+    ghost use Rattle.zcld.specs.Outcome.{link_outcome};
+
+    ghost from_gives = { λ fault outcome. outcome ≡ link_outcome fault };
+
+    fn from(fault: LinkFault) -> Outcome {
+        match fault {
+            LinkFault::Object { index, fault } => Outcome::Refused(index, fault),
+            LinkFault::OutOfMemory => Outcome::OutOfMemory,
+        }
     }
 }
 

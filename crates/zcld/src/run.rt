@@ -1,15 +1,16 @@
-// The command `run`: an image is read, and the machine executes it.
+// The command `run`: an image is read, and the machine runs it.
 
-ghost use Rattle.std.specs.Prelude.{◌≡◌, ◌≤◌};
+ghost use Rattle.std.specs.Prelude.{◌≡◌};
+ghost use Rattle.psabi_sym.specs.Objects.{contents_of};
 ghost use Rattle.zc_base.specs.MemMap.{standard_map};
-ghost use Rattle.zc_outside.specs.Files.{KeepsFiles};
-ghost use Rattle.zcld.specs.Command.{most_steps};
-ghost use Rattle.zcld.specs.Machines.{ExecuteCause, SureExecute, SureMachine};
-ghost use Rattle.zcld.specs.Outside.{image_limit, streams, tally};
-ghost use Rattle.zcld.specs.Run.{Executed, RunCause, RunShows, RunTakes};
+ghost use Rattle.zc_outside.specs.World.{world};
+ghost use Rattle.zcld.specs.Call.{Does};
+ghost use Rattle.zcld.specs.Command.{Run};
+ghost use Rattle.zcld.specs.Machines.{TakesAndRuns};
+ghost use Rattle.zcld.specs.Run.{Executes, run_outcome as outcome_of_end};
 
-use crate::file::{IMAGE_LIMIT, read_file};
 use crate::input::take_all;
+use crate::limits::IMAGE_LIMIT;
 use crate::outcome::{FileFault, Outcome};
 use elf32_read::image::Image;
 use interrupt_plan::plan::empty_plan;
@@ -18,6 +19,7 @@ use zc_base::mem_map::MemMap;
 use zc_machine::machine::Machine;
 use zc_machine::run::{RunEnd, run as run_machine};
 use zc_outside::console::{Console, ConsoleFault};
+use zc_outside::read_files::read_file;
 use zc_outside::store::Store;
 
 /// Runs the image under a name, over the console's whole input, for at most so many commits.
@@ -25,42 +27,22 @@ pub fn run<S: Store, C: Console>(
     alloc: Global,
     steps: u64,
     name: &str,
+    files: &mut Vec<Vec<u8>>,
     store: &mut S,
     console: &mut C,
 ) -> Outcome
-    requires { steps ≤ most_steps }
-    ensures shows { RunShows result (S.files store.old) name.now steps
-        (streams (C.input console.old) (C.out_bytes console.old) (C.err_bytes console.old))
-        (streams (C.input console.new) (C.out_bytes console.new) (C.err_bytes console.new)) }
-    ensures cause { RunCause result (S.files store.old) name.now (C.input console.old)
-        (tally (S.read_faults store.old) (S.long_files store.old) (S.write_faults store.old)
-        (C.read_faults console.old) (C.write_faults console.old) (C.taken console.old))
-        (tally (S.read_faults store.new) (S.long_files store.new) (S.write_faults store.new)
-        (C.read_faults console.new) (C.write_faults console.new) (C.taken console.new)) }
-    ensures takes { RunTakes result
-        (tally (S.read_faults store.old) (S.long_files store.old) (S.write_faults store.old)
-        (C.read_faults console.old) (C.write_faults console.old) (C.taken console.old))
-        (tally (S.read_faults store.new) (S.long_files store.new) (S.write_faults store.new)
-        (C.read_faults console.new) (C.write_faults console.new) (C.taken console.new)) }
-    ensures keeps { KeepsFiles (S.files store.old) (S.files store.new) }
-    ensures writes { S.write_faults store.new ≡ S.write_faults store.old }
-    ensures console_writes { C.write_faults console.old ≤ C.write_faults console.new }
-    ensures console_memory { C.memory_faults console.old ≤ C.memory_faults console.new }
-    ensures stays { S.sure store.old → S.sure store.new }
-    ensures stays_console { C.sure console.old → C.sure console.new }
-    ensures sure_console { C.sure console.old → C.write_faults console.new ≡ C.write_faults console.old }
-    ensures sure { S.sure store.old → C.sure console.old →
-        SureMachine image_limit result (S.files store.old) name.now (C.input console.old)
-        (tally (S.read_faults store.old) (S.long_files store.old) (S.write_faults store.old)
-        (C.read_faults console.old) (C.write_faults console.old) (C.taken console.old))
-        (tally (S.read_faults store.new) (S.long_files store.new) (S.write_faults store.new)
-        (C.read_faults console.new) (C.write_faults console.new) (C.taken console.new)) }
+    ensures { Does (Some (Run steps name.now)) (contents_of files.new.items) result
+        (world (S.shown store.old) (C.shown console.old)) (world (S.shown store.new) (C.shown console.new)) }
 {
     let file = match read_file(alloc, name, IMAGE_LIMIT, store) {
         Ok(file) => file,
-        Err(outcome) => return outcome,
+        Err(fault) => return Outcome::from(fault),
     };
-    match Image::read(file.as_slice(), MemMap::standard()) {
+    files.clear();
+    if files.push(file).is_err() {
+        return Outcome::OutOfMemory;
+    }
+    match Image::read(files[0].as_slice(), MemMap::standard()) {
         Ok(image) => execute(alloc, &image, steps, console),
         Err(fault) => Outcome::BadFile(FileFault::Image(fault)),
     }
@@ -68,18 +50,8 @@ pub fn run<S: Store, C: Console>(
 
 // Runs an image over the console's whole input.
 fn execute<C: Console>(alloc: Global, image: &Image, steps: u64, console: &mut C) -> Outcome
-    requires steps { steps ≤ most_steps }
-    requires map { image.now.1 ≡ standard_map }
-    ensures shows { Executed result image.now.0 steps
-        (streams (C.input console.old) (C.out_bytes console.old) (C.err_bytes console.old))
-        (streams (C.input console.new) (C.out_bytes console.new) (C.err_bytes console.new)) }
-    ensures cause { ExecuteCause result (C.input console.old) (C.read_faults console.old) (C.read_faults console.new)
-        (C.taken console.old) (C.taken console.new) (C.write_faults console.old) (C.write_faults console.new) }
-    ensures console_writes { C.write_faults console.old ≤ C.write_faults console.new }
-    ensures console_memory { C.memory_faults console.old ≤ C.memory_faults console.new }
-    ensures stays { C.sure console.old → C.sure console.new }
-    ensures sure { C.sure console.old → SureExecute result (C.input console.old)
-        (C.read_faults console.old) (C.read_faults console.new) (C.write_faults console.old) (C.write_faults console.new) }
+    requires { image.now.1 ≡ standard_map }
+    ensures { TakesAndRuns (Executes image.now.0 steps) result (C.shown console.old) (C.shown console.new) }
 {
     let input = match take_all(alloc, console) {
         Ok(input) => input,
@@ -89,9 +61,17 @@ fn execute<C: Console>(alloc: Global, image: &Image, steps: u64, console: &mut C
         return Outcome::OutOfMemory;
     };
     let plan = empty_plan(alloc);
-    match run_machine(&mut machine, &plan, input.as_slice(), steps, console) {
+    let end = run_machine(&mut machine, &plan, input.as_slice(), steps, console);
+    run_outcome(end, machine.pc())
+}
+
+// How the call ends, by how the run did.
+fn run_outcome(end: RunEnd, pc: u32) -> Outcome
+    ensures { result ≡ outcome_of_end end pc }
+{
+    match end {
         RunEnd::Exit(code) => Outcome::Exited(code),
-        RunEnd::Stopped(reason) => Outcome::Stopped(reason, machine.pc()),
+        RunEnd::Stopped(reason) => Outcome::Stopped(reason, pc),
         RunEnd::Spent => Outcome::Spent,
         RunEnd::Console(ConsoleFault::Failed) => Outcome::WriteFault,
         RunEnd::Console(ConsoleFault::OutOfMemory) => Outcome::OutOfMemory,

@@ -1,89 +1,80 @@
-// The command `trace`: an object is read, and the symbolic machine runs it.
+// The command `trace`: objects are read, and the symbolic machine runs them.
 
-ghost use Rattle.std.specs.Prelude.{◌≡◌, ◌≤◌};
-ghost use Rattle.zc_outside.specs.Files.{KeepsFiles};
-ghost use Rattle.zcld.specs.Machines.{ExecuteCause, SureExecute, SureMachine};
-ghost use Rattle.zcld.specs.Outside.{object_limit, streams, tally};
-ghost use Rattle.zcld.specs.Trace.{TraceCause, TraceShows, TraceTakes, Traced};
+ghost use Rattle.std.specs.Prelude.{◌≡◌, IfOk, IfErr, None};
+ghost use Rattle.psabi_sym.specs.Objects.{contents_of};
+ghost use Rattle.block_cut.specs.Faults.{first_fault};
+ghost use Rattle.zc_outside.specs.World.{world};
+ghost use Rattle.zcld.specs.Call.{Does};
+ghost use Rattle.zcld.specs.Command.{Trace, texts};
+ghost use Rattle.zcld.specs.Machines.{TakesAndRuns};
+ghost use Rattle.zcld.specs.Objects.{RefusalCause, inputs_of};
+ghost use Rattle.zcld.specs.Trace.{Traces, trace_outcome as outcome_of_end};
 
-use crate::file::{OBJECT_LIMIT, read_file};
 use crate::input::take_all;
+use crate::objects::{gathered, read_objects};
 use crate::outcome::Outcome;
-use crate::refusal::straight_object;
-use crate::sym_run::{TraceEnd, trace_object};
-use elf32_read::object::Object;
+use block_cut::cut::Cut;
 use std::alloc::Global;
+use sym_machine::run::{TraceEnd, run as run_machine};
+use sym_machine::sym::Sym;
 use zc_outside::console::Console;
 use zc_outside::store::Store;
 
-/// Runs the object under a name at the places of its own code, over the console's whole input, for at
-/// most so many steps.
+/// Runs the objects under these names at the places of their own code, over the console's whole input,
+/// for at most so many steps.
 pub fn trace<S: Store, C: Console>(
     alloc: Global,
     steps: u64,
-    name: &str,
+    objects: &[String],
+    files: &mut Vec<Vec<u8>>,
     store: &mut S,
     console: &mut C,
 ) -> Outcome
-    ensures shows { TraceShows result (S.files store.old) name.now steps
-        (streams (C.input console.old) (C.out_bytes console.old) (C.err_bytes console.old))
-        (streams (C.input console.new) (C.out_bytes console.new) (C.err_bytes console.new)) }
-    ensures cause { TraceCause result (S.files store.old) name.now (C.input console.old)
-        (tally (S.read_faults store.old) (S.long_files store.old) (S.write_faults store.old)
-        (C.read_faults console.old) (C.write_faults console.old) (C.taken console.old))
-        (tally (S.read_faults store.new) (S.long_files store.new) (S.write_faults store.new)
-        (C.read_faults console.new) (C.write_faults console.new) (C.taken console.new)) }
-    ensures takes { TraceTakes result
-        (tally (S.read_faults store.old) (S.long_files store.old) (S.write_faults store.old)
-        (C.read_faults console.old) (C.write_faults console.old) (C.taken console.old))
-        (tally (S.read_faults store.new) (S.long_files store.new) (S.write_faults store.new)
-        (C.read_faults console.new) (C.write_faults console.new) (C.taken console.new)) }
-    ensures keeps { KeepsFiles (S.files store.old) (S.files store.new) }
-    ensures writes { S.write_faults store.new ≡ S.write_faults store.old }
-    ensures console_writes { C.write_faults console.old ≤ C.write_faults console.new }
-    ensures console_memory { C.memory_faults console.old ≤ C.memory_faults console.new }
-    ensures stays { S.sure store.old → S.sure store.new }
-    ensures stays_console { C.sure console.old → C.sure console.new }
-    ensures sure_console { C.sure console.old → C.write_faults console.new ≡ C.write_faults console.old }
-    ensures sure { S.sure store.old → C.sure console.old →
-        SureMachine object_limit result (S.files store.old) name.now (C.input console.old)
-        (tally (S.read_faults store.old) (S.long_files store.old) (S.write_faults store.old)
-        (C.read_faults console.old) (C.write_faults console.old) (C.taken console.old))
-        (tally (S.read_faults store.new) (S.long_files store.new) (S.write_faults store.new)
-        (C.read_faults console.new) (C.write_faults console.new) (C.taken console.new)) }
+    ensures { Does (Some (Trace steps (texts objects.now))) (contents_of files.new.items) result
+        (world (S.shown store.old) (C.shown console.old)) (world (S.shown store.new) (C.shown console.new)) }
 {
-    let file = match read_file(alloc, name, OBJECT_LIMIT, store) {
-        Ok(file) => file,
-        Err(outcome) => return outcome,
-    };
-    match straight_object(file.as_slice()) {
-        Ok(object) => follow(alloc, &object, steps, console),
-        Err(fault) => Outcome::Refused(0, fault),
+    if let Err(outcome) = read_objects(alloc, objects, files, store) {
+        return outcome;
+    }
+    match cut_files(alloc, files.as_slice()) {
+        Ok(cut) => execute(alloc, &cut, steps, console),
+        Err(outcome) => outcome,
     }
 }
 
-// Runs an object over the console's whole input.
-fn follow<C: Console>(alloc: Global, object: &Object, steps: u64, console: &mut C) -> Outcome
-    ensures shows { Traced result object.now steps
-        (streams (C.input console.old) (C.out_bytes console.old) (C.err_bytes console.old))
-        (streams (C.input console.new) (C.out_bytes console.new) (C.err_bytes console.new)) }
-    ensures cause { ExecuteCause result (C.input console.old) (C.read_faults console.old) (C.read_faults console.new)
-        (C.taken console.old) (C.taken console.new) (C.write_faults console.old) (C.write_faults console.new) }
-    ensures console_writes { C.write_faults console.old ≤ C.write_faults console.new }
-    ensures console_memory { C.memory_faults console.old ≤ C.memory_faults console.new }
-    ensures stays { C.sure console.old → C.sure console.new }
-    ensures sure { C.sure console.old → SureExecute result (C.input console.old)
-        (C.read_faults console.old) (C.read_faults console.new) (C.write_faults console.old) (C.write_faults console.new) }
+// The objects in these files, cut into items, or how the call ends without that.
+fn cut_files(alloc: Global, files: &[Vec<u8>]) -> Result<Cut, Outcome>
+    ensures faultless { IfOk result (λ cut. first_fault (inputs_of (contents_of files.now)) ≡ None) }
+    ensures ok { IfOk result (λ cut. cut ≡ inputs_of (contents_of files.now)) }
+    ensures err { IfErr result (RefusalCause (contents_of files.now)) }
+{
+    let objects = gathered(alloc, files)?;
+    Ok(Cut::new(alloc, objects)?)
+}
+
+// Runs objects over the console's whole input.
+fn execute<C: Console>(alloc: Global, cut: &Cut, steps: u64, console: &mut C) -> Outcome
+    ensures { TakesAndRuns (Traces cut.now steps) result (C.shown console.old) (C.shown console.new) }
 {
     let input = match take_all(alloc, console) {
         Ok(input) => input,
         Err(outcome) => return outcome,
     };
-    match trace_object(alloc, object, input.as_slice(), steps) {
-        Ok(TraceEnd::Exited(code)) => Outcome::Exited(code),
-        Ok(TraceEnd::Stuck(place, why)) => Outcome::Stuck(place, why),
-        Ok(TraceEnd::Spent) => Outcome::Spent,
-        Err(_) => Outcome::OutOfMemory,
+    let Ok(mut machine) = Sym::start(alloc, cut, input.as_slice()) else {
+        return Outcome::OutOfMemory;
+    };
+    let end = run_machine(&mut machine, cut, steps, console);
+    trace_outcome(end)
+}
+
+// How the call ends, by how the run did.
+fn trace_outcome(end: TraceEnd) -> Outcome
+    ensures { result ≡ outcome_of_end end }
+{
+    match end {
+        TraceEnd::Exited(code) => Outcome::Exited(code),
+        TraceEnd::Stuck(place, why) => Outcome::Stuck(place, why),
+        TraceEnd::Spent => Outcome::Spent,
     }
 }
 

@@ -1,6 +1,6 @@
-use Rattle.std.proofs.Common.{◌≡◌, ◌∙◌, ◌<◌, ◌≤◌, List, [], ◌∷◌, ℕ, length, None, Some, arith, ap, sym, subst}
+use Rattle.std.proofs.Common.{◌≡◌, ◌∙◌, ◌<◌, List, [], ◌∷◌, ℕ, length, None, Some, arith, ap, sym, subst}
 use Rattle.std.specs.Prelude.{slice_get}
-use Rattle.elf32_read.specs.Header.{content_of, header_of, section_count}
+use Rattle.elf32_read.specs.Header.{section_count}
 use Rattle.psabi_sym.specs.Inputs.{Inputs}
 use Rattle.block_cut.specs.Faults.{first_fault}
 use Rattle.block_cut.specs.Straight.{code_of}

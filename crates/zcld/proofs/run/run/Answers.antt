@@ -1,14 +1,12 @@
-use Rattle.zcld.proofs.Executing.{read_shows}
+use Rattle.std.proofs.Common.{rules, refl, inr}
+use Rattle.zc_outside.specs.World.{world}
 use Rattle.zcld.proofs.run.run.Goals as goal
 
-pub returns-in-Ok-read-clause-shows : goal.returns-in-Ok-read-clause-shows
-returns-in-Ok-read-clause-shows g c =
-    read_shows _ _ _ _ _ _ _ (record {
-      file = c.in-Ok.file.items;
-      held = c.in-Ok.ensures.ok;
-      slice = c.as_slice.result.now;
-      is_file = c.as_slice.ensures.value;
-      memory = c.standard.result;
-      is_standard = c.standard.ensures;
-      read = c.in-Ok-read.ensures;
-    }) c.execute.ensures.shows
+pub returns-in-Ok-read : goal.returns-in-Ok-read
+returns-in-Ok-read g c = inr (inr (record {
+  between = world (g.S.Store.shown c.read_file.new.store) (g.C.Console.shown c.args.console.now);
+  only = record { shelf = c.read_file.ensures.reads; desk = refl };
+  read = search rules;
+  accepted = search rules;
+  work = record { shelf = refl; desk = search rules };
+}))

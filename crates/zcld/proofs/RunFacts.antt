@@ -1,0 +1,61 @@
+-- What is known of `run`: its refusals, how its work ends, and what that does to the counts.
+use Rattle.std.proofs.Common.{◌≡◌, ◌≢◌, ℕ, List, Option, Some, None, IsTrue, true, refl, sym, subst, ◌⊎◌, inl, inr}
+use Rattle.std.proofs.lemmas.Option.{same_Some, none-some}
+use Rattle.std.specs.Option.{option_map}
+use Rattle.zc_base.specs.MemMap.{standard_map}
+use Rattle.elf32_read.specs.declared.image_fault.ImageFault.{ImageFault}
+use Rattle.elf32_read.specs.Image.{image_fault}
+use Rattle.zc_outside.specs.Desk.{Desk, OnlyWrites, WriteCause}
+use Rattle.zc_outside.specs.declared.console.ConsoleFault.TheVariants as console
+use Rattle.zc_outside.proofs.Desk.{OnlyWrites-refl}
+use Rattle.zc_machine.specs.RunEnd.{IfConsole}
+use Rattle.zc_machine.specs.declared.run.RunEnd.{RunEnd}
+use Rattle.zc_machine.specs.declared.run.RunEnd.TheVariants as end
+use Rattle.zcld.specs.declared.outcome.FileFault.TheVariants.{Image}
+use Rattle.zcld.specs.declared.outcome.Outcome.{Outcome}
+use Rattle.zcld.specs.declared.outcome.Outcome.TheVariants.{BadFile}
+use Rattle.zcld.specs.Call.{task_of}
+use Rattle.zcld.specs.Command.{Run}
+use Rattle.zcld.specs.Run.{Executes, RunWork, image_refusal, only_file, run_outcome}
+use Rattle.zcld.proofs.Answering.{Facts, IsAnswer, no_memory}
+use Rattle.zcld.proofs.MachineFacts.{IsRefusedWrite, machine_ends, machine_moves}
+
+-- a refusal of an image is an answer
+image_refuses : (files : List (List ℕ)) (outcome : Outcome) → image_refusal files ≡ Some outcome → IsAnswer outcome
+image_refuses files outcome is = by_fault (image_fault (only_file files) standard_map) is
+  where
+    by_fault : (found : Option ImageFault) → option_map (λ fault. BadFile (Image fault)) found ≡ Some outcome → IsAnswer outcome
+    by_fault None none = absurd (none-some outcome none)
+    by_fault (Some fault) some =
+        let same = same_Some (BadFile (Image fault)) outcome some in
+        record { known = λ e. cc; fault = record { no_read = λ e. cc; no_write = λ e. cc } }
+
+-- each end but a write that was refused is an answer
+end_of_run :
+    (answer : RunEnd) (pc : ℕ) (before after : Desk) → IfConsole answer (WriteCause before after) →
+    IsAnswer (run_outcome answer pc) ⊎ IsRefusedWrite (run_outcome answer pc) before after
+end_of_run (end.Exit code) pc before after cause = inl (record { known = λ e. cc; fault = record { no_read = λ e. cc; no_write = λ e. cc } })
+end_of_run (end.Stopped reason) pc before after cause = inl (record { known = λ e. cc; fault = record { no_read = λ e. cc; no_write = λ e. cc } })
+end_of_run end.Spent pc before after cause = inl (record { known = λ e. cc; fault = record { no_read = λ e. cc; no_write = λ e. cc } })
+end_of_run (end.Console console.Failed) pc before after cause = inr (record { known = λ e. cc; counted = cause.0; unsure = cause.1 })
+end_of_run (end.Console console.OutOfMemory) pc before after cause = inl (no_memory refl)
+
+module _ (steps : ℕ) (image : List ℕ) where
+  executes_end :
+      (file input : List ℕ) (outcome : Outcome) (before after : Desk) → Executes file steps input outcome before after →
+      IsAnswer outcome ⊎ ((true ≡ true) × IsRefusedWrite outcome before after)
+  executes_end file input outcome before after (inl memory) = inl (no_memory memory.0)
+  executes_end file input outcome before after (inr run) =
+      let ended = subst (λ o. IsAnswer o ⊎ IsRefusedWrite o before after) (sym run.outcome_is) (end_of_run run.answer run.machine.pc before after run.cause) in
+      elim ended [ inl answer ↦ inl answer | inr refused ↦ inr (refl, refused) ]
+
+  executes_write : (file input : List ℕ) (outcome : Outcome) (before after : Desk) → Executes file steps input outcome before after → OnlyWrites before after
+  executes_write file input outcome before after (inl memory) = subst (λ d. OnlyWrites before d) (sym memory.1) (OnlyWrites-refl before)
+  executes_write file input outcome before after (inr run) = run.only
+
+  pub run_facts : Facts (task_of (Run steps image)) (RunWork steps)
+  run_facts = record {
+    refuses = image_refuses;
+    ends = λ files. machine_ends (task_of (Run steps image)) refl (Executes (only_file files) steps) (executes_end (only_file files));
+    moves = λ files. machine_moves (task_of (Run steps image)) refl (Executes (only_file files) steps) (executes_write (only_file files));
+  }

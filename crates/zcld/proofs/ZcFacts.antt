@@ -1,0 +1,65 @@
+-- What is known of `zc`: its refusals, how its work ends, and what that does to the counts.
+use Rattle.std.proofs.Common.{◌≡◌, ◌≢◌, ℕ, ◌≤◌, List, Option, Some, None, refl, sym, ap, subst, ◌∙◌, ◌⊎◌, inl, inr, arith}
+use Rattle.std.proofs.lemmas.Option.{same_Some, none-some}
+use Rattle.std.specs.Option.{option_map}
+use Rattle.elf32_read.specs.declared.fault.Fault.{Fault}
+use Rattle.block_cut.specs.Faults.{first_fault}
+use Rattle.zc_outside.specs.Shelf.{OnlyPuts, Shelf}
+use Rattle.zc_outside.specs.World.{World}
+use Rattle.zcld.specs.declared.outcome.Outcome.{Outcome}
+use Rattle.zcld.specs.declared.outcome.Outcome.TheVariants.{Done, Refused, WriteFault, OutOfMemory, Usage}
+use Rattle.zcld.specs.Call.{IsNoFault, task_of}
+use Rattle.zcld.specs.Command.{Zc}
+use Rattle.zcld.specs.Objects.{inputs_of, objects_refusal}
+use Rattle.zcld.specs.Zc.{PutsInTurn, ZcWork}
+use Rattle.zc_outside.proofs.Shelf.{OnlyPuts-refl}
+use Rattle.zcld.proofs.Answering.{Facts, IsAnswer, IsFaulted, Moves, no_memory}
+
+-- a refusal of objects is an answer
+pub objects_refuse : (files : List (List ℕ)) (outcome : Outcome) → objects_refusal files ≡ Some outcome → IsAnswer outcome
+objects_refuse files outcome is = by_fault (first_fault (inputs_of files)) is
+  where
+    by_fault : (found : Option (ℕ × Fault)) → option_map (λ f. Refused f.0 f.1) found ≡ Some outcome → IsAnswer outcome
+    by_fault None none = absurd (none-some outcome none)
+    by_fault (Some f) some =
+        let same = same_Some (Refused f.0 f.1) outcome some in
+        record { known = λ e. cc; fault = record { no_read = λ e. cc; no_write = λ e. cc } }
+
+-- a put that failed was counted, at a store that isn't sure
+puts_end :
+    (outcome : Outcome) (before after : Shelf) (out image cert certificate : List ℕ) → PutsInTurn outcome before after out image cert certificate →
+    IsAnswer outcome ⊎ ((outcome ≡ WriteFault) × PutsInTurn WriteFault before after out image cert certificate)
+puts_end Done before after out image cert certificate puts = inl (record { known = λ e. cc; fault = record { no_read = λ e. cc; no_write = λ e. cc } })
+puts_end OutOfMemory before after out image cert certificate puts = inl (no_memory refl)
+puts_end WriteFault before after out image cert certificate puts = inr (refl, puts)
+puts_end other before after out image cert certificate puts = absurd puts
+
+module _ (out cert : List ℕ) (objects : List (List ℕ)) where
+  zc_ends :
+      (files : List (List ℕ)) (outcome : Outcome) (before after : World) → ZcWork out cert files outcome before after →
+      IsAnswer outcome ⊎ IsFaulted (task_of (Zc out cert objects)) outcome before after
+  zc_ends files outcome before after work = elim work.shelf [
+    | inl memory ↦ inl (no_memory memory.0)
+    | inr put ↦ elim (puts_end outcome before.shelf after.shelf out put.link.elf cert _ put.put) [
+      | inl answer ↦ inl answer
+      | inr fault ↦ inr (record { known = λ e. cc; counted = λ clean. clean.put refl fault.1.1; unsure = λ sure. fault.1.2 sure.store })
+    ]
+  ]
+
+  zc_moves : (files : List (List ℕ)) (outcome : Outcome) (before after : World) → ZcWork out cert files outcome before after → Moves before after
+  zc_moves files outcome before after work =
+      let puts : OnlyPuts before.shelf after.shelf = elim work.shelf [
+        | inl memory ↦ subst (λ s. OnlyPuts before.shelf s) (sym memory.1) (OnlyPuts-refl before.shelf)
+        | inr put ↦ put.only
+      ] in
+      record {
+        shelf = puts;
+        reads = omega (arith, ap (λ d. d.read_faults) work.desk);
+        writes = omega (arith, ap (λ d. d.write_faults) work.desk);
+        taken = omega (arith, ap (λ d. d.taken) work.desk);
+        sure = ap (λ d. d.sure) work.desk;
+        counted = λ sure. (ap (λ d. d.read_faults) work.desk, ap (λ d. d.write_faults) work.desk);
+      }
+
+  pub zc_facts : Facts (task_of (Zc out cert objects)) (ZcWork out cert)
+  zc_facts = record { refuses = objects_refuse; ends = zc_ends; moves = zc_moves }

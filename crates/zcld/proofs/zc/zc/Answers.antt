@@ -1,0 +1,14 @@
+use Rattle.std.proofs.Common.{rules, refl, sym, ap, subst, inr, map}
+use Rattle.std.specs.Option.{option_map}
+use Rattle.zc_outside.specs.World.{world}
+use Rattle.zcld.specs.Zc.{PutsInTurn, empty_certificate}
+use Rattle.zcld.proofs.zc.zc.Goals as goal
+
+pub returns-in-Ok : goal.returns-in-Ok
+returns-in-Ok g c = λ desk. inr (inr (record {
+  between = world (g.S.Store.shown c.read_objects.new.store) desk;
+  only = record { shelf = c.read_objects.ensures.reads; desk = refl };
+  read = search rules;
+  accepted = search rules;
+  work = record { desk = refl; shelf = inr (record { link = c.in-Ok.linked; linked = search rules; put = search rules; only = c.put_both.ensures.only }) };
+}))
