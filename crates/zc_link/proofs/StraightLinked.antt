@@ -30,7 +30,7 @@ use Rattle.zc_link.proofs.Simulation.{simulates}
 use Rattle.zc_link.proofs.OneObject.{one}
 use Rattle.zc_link.proofs.StraightLaid.{laid}
 use Rattle.zc_link.proofs.StraightParts.{fits, image_with, loadable, parts_with}
-use Rattle.zc_link.proofs.StraightPieces.{offset_whole}
+use Rattle.zc_link.proofs.StraightPieces.{offset_whole, text_short}
 use Rattle.zc_link.proofs.StraightPlaces.{address_found}
 
 few : (file : List ℕ) → IsStraight file → length (words_in (code_of file)) ≤ 16384
@@ -72,8 +72,13 @@ module _ (file : List ℕ) (map : MemMap) (straight : IsStraight file) (are : (k
         (laid (parsed inputs) words is few_words (op_at-word file straight) (words_below (code_of file) are));
   }
 
+  -- the text is no longer than the code
+  short : length (text_of words) ≤ length (code_of file)
+  unfolding text_of
+  short = omega (arith, text_short words, length-words_in (code_of file))
+
   -- the text ends at the address of the section's end
-  text_end : TextEnds map (zc_elf inputs) (place_at (header_of file 1).size)
+  text_end : TextEnds map (zc_elf inputs) (place_at (header_of file 1).size) (length (code_of file))
   text_end =
       let whole : 4 * length words ≡ (header_of file 1).size = omega (arith, length-words_in (code_of file), straight.size, straight.words) in
       let text : SegmentData = record { at = map.text; size = length (text_of words); code = true; bytes = text_of words } in
@@ -84,6 +89,7 @@ module _ (file : List ℕ) (map : MemMap) (straight : IsStraight file) (are : (k
         end = ap (λ l. address_in l (place_at (header_of file 1).size)) back.places
             ∙ address_found words 0 map.text (length words) (header_of file 1).size (omega arith) (omega arith)
             ∙ ap (λ n. Some (map.text + n)) (offset_whole words);
+        short = short;
       }
 
   linked_alone : IsZcLink inputs (record { elf = zc_elf inputs })

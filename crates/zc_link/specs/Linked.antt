@@ -1,5 +1,5 @@
 -- What a link gives, and what is promised of it.
-use Rattle.std.specs.Prelude.{◌≡◌, ℕ, ◌+◌, List, [], ◌∷◌, filter, Some}
+use Rattle.std.specs.Prelude.{◌≡◌, ℕ, ◌+◌, List, [], ◌∷◌, filter, Some, ◌≤◌, length}
 use Rattle.zc_base.specs.declared.mem_map.MemMap.{MemMap}
 use Rattle.zc_base.specs.declared.place.Place.{Place}
 use Rattle.elf32_read.specs.Header.{header_of}
@@ -44,20 +44,21 @@ straight_parts map code = record {
 unfoldable pub zc_elf : Inputs → List ℕ
 zc_elf inputs = image_bytes (straight_parts inputs.map (code_of (only_file inputs)))
 
--- an image's one segment of code begins where text does, and ends at the address of this place
-pub record TextEnds (map : MemMap) (elf : List ℕ) (q : Place) : Type 0 where
+-- an image's one segment of code begins where text does, ends at the address of this place, and has at most so many bytes
+pub record TextEnds (map : MemMap) (elf : List ℕ) (q : Place) (most : ℕ) : Type 0 where
   pub text : SegmentData
   pub alone : filter (λ s. s.code) (segments_of elf) ≡ text ∷ []
   pub start : text.at ≡ map.text
   pub end : address_in (places_of elf) q ≡ Some (text.at + text.size)
+  pub short : text.size ≤ most
 
 -- the link of the inputs: its file has the parts laid out for the object's code; it does what the object's program does, under
 -- every plan of interrupts and without one, and keeps step with it; and it lists each word's place, and the section's end,
--- where its text ends
+-- where its text ends, which is no longer than the code
 pub record IsZcLink (inputs : Inputs) (link : Link) : Type 0 where
   pub bytes : link.elf ≡ zc_elf inputs
   pub preserves : Preserves inputs link.elf
   pub quietly : PreservesQuietly inputs link.elf
   pub keeps_step : KeepsStep inputs link.elf
   pub places : places_of link.elf ≡ places_from 0 inputs.map.text (words_in (code_of (only_file inputs)))
-  pub text_end : TextEnds inputs.map link.elf (place_at (header_of (only_file inputs) 1).size)
+  pub text_end : TextEnds inputs.map link.elf (place_at (header_of (only_file inputs) 1).size) (length (code_of (only_file inputs)))

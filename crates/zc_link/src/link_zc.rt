@@ -1,4 +1,4 @@
-// The link of objects to an image with compressed code.
+// The link of objects to an image with 16-bit instructions.
 
 ghost use Rattle.std.specs.Prelude.{◌≡◌, ◌≤◌, None, IfOk, IfErr, length};
 ghost use Rattle.block_cut.specs.Faults.{first_fault};
@@ -19,7 +19,8 @@ use std::alloc::{AllocError, Global};
 // Of e_flags: there are 16-bit instructions (RISC-V ELF psABI, "File Header").
 const RVC: u32 = 1;
 
-/// Links the objects to an image, or says why they aren't linked. It takes time that is linear in the objects' size.
+/// The link of the objects, which does what their program does, or why they aren't linked. It takes
+/// time that is linear in the size of the objects.
 pub fn link_zc(alloc: Global, objects: Objects) -> Result<Linked, LinkFault>
     requires map { IsMap objects.map }
     ensures faultless { IfOk result (λ _. first_fault objects ≡ None) }

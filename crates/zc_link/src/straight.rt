@@ -1,17 +1,18 @@
 // The link of straight code: each item takes its shortest form, one after another.
 
-ghost use Rattle.std.specs.Prelude.{◌≡◌, ◌≤◌, ◌<◌, ◌+◌, ◌/◌, ◌^◌, ◌++◌, false, true, None, length, IfNone, IfSome, IfOk, OnOk, ℕ};
+ghost use Rattle.std.specs.Prelude.{◌≡◌, ◌≤◌, ◌<◌, ◌+◌, ◌^◌, ◌++◌, false, true, None, length, IfNone, IfSome, IfOk, OnOk, ℕ};
 ghost use Rattle.std.specs.Int.{w32, cast_unsigned};
+ghost use Rattle.block_cut.specs.Cut.{place_at};
 ghost use Rattle.block_cut.specs.Faults.{first_fault};
 ghost use Rattle.block_cut.specs.Items.{spelled};
 ghost use Rattle.block_cut.specs.Straight.{code_of, words_in};
 ghost use Rattle.rv_decode.specs.Decode.{decoded};
 ghost use Rattle.zc_link.specs.Linked.{only_file};
-ghost use Rattle.block_cut.specs.Cut.{place_at};
 ghost use Rattle.zc_link.specs.Straight.{is_li, li_half, piece, places_from, short_of, text_of};
 
 use block_cut::cut::Cut;
 use block_cut::item::Item;
+use rv_decode::bits::field_at;
 use rv_decode::instr::{ImmOp, Instr};
 use std::alloc::{AllocError, Global};
 use zc_base::fields::u32_at;
@@ -33,7 +34,7 @@ pub fn straight_code(cut: &Cut) -> &[u8]
     cut.objects().object(0).section(1).bytes
 }
 
-/// The link of this code, whose items the cut has, with its text from an address on.
+/// The link of this straight code, whose items the cut has, with its text from an address on.
 pub fn lay_straight(
     alloc: Global,
     cut: &Cut,
@@ -58,7 +59,7 @@ pub fn lay_straight(
     Ok(Straight { text, places })
 }
 
-// A place of section 1.
+// A place of section 1 of the first object.
 fn place(offset: u32) -> Place
     ensures { result ≡ place_at offset }
 {
@@ -69,22 +70,23 @@ fn place(offset: u32) -> Place
     }
 }
 
-// Adds what is written for an item that a word spells: its short form, or else the word.
+// Adds what is written for the item that a word spells: its short form, or else the word.
 #[tactic(auto, unfolding(crate::specs::Straight::piece))]
 fn put_item(text: &mut Vec<u8>, item: Option<Item>, word: u32) -> Result<(), AllocError>
     requires { item ≡ Some (spelled (decoded word) word) }
     ensures { OnOk result (text.new.items ≡ text.old.items ++ piece word) }
 {
-    match short_form(item) {
+    match short_item(item) {
         Some(half) => text.extend_from_slice(&half.to_le_bytes()),
         None => text.extend_from_slice(&word.to_le_bytes()),
     }
 }
 
-// The halfword that is written for an item, if it has a short form.
-fn short_form(item: Option<Item>) -> Option<u16>
-    ensures long { (word : ℕ) → item ≡ Some (spelled (decoded word) word) → IfNone result (is_li (decoded word) ≡ false) }
-    ensures short { (word : ℕ) → item ≡ Some (spelled (decoded word) word) →
+// The halfword for an item, if it has a short form.
+fn short_item(item: Option<Item>) -> Option<u16>
+    ensures none { (word : ℕ) → item ≡ Some (spelled (decoded word) word) →
+        IfNone result (is_li (decoded word) ≡ false) }
+    ensures half { (word : ℕ) → item ≡ Some (spelled (decoded word) word) →
         IfSome result (λ half. (is_li (decoded word) ≡ true) × (half ≡ short_of word)) }
 {
     match item {
@@ -93,11 +95,11 @@ fn short_form(item: Option<Item>) -> Option<u16>
     }
 }
 
-// The halfword with an instruction's effect, if `c.li` has a form for it.
+// The halfword for an instruction, if `c.li` has a form for it.
 fn short_instr(instr: &Instr) -> Option<u16>
-    ensures long { IfNone result (is_li (Some instr.now) ≡ false) }
-    ensures short { IfSome result (λ half. (word : ℕ) → decoded word ≡ Some instr.now →
-        (is_li (Some instr.now) ≡ true) × (half ≡ short_of word)) }
+    ensures none { IfNone result (is_li (Some instr.now) ≡ false) }
+    ensures form { IfSome result (λ _. is_li (Some instr.now) ≡ true) }
+    ensures half { IfSome result (λ half. (word : ℕ) → decoded word ≡ Some instr.now → half ≡ short_of word) }
 {
     match instr {
         Instr::WithImm {
@@ -107,7 +109,7 @@ fn short_instr(instr: &Instr) -> Option<u16>
             imm,
         } => {
             if first.number() == 0 && rd.number() != 0 && -32 <= *imm && *imm < 32 {
-                Some(li(rd, *imm))
+                Some(li(*rd, *imm))
             } else {
                 None
             }
@@ -117,12 +119,11 @@ fn short_instr(instr: &Instr) -> Option<u16>
 }
 
 // The halfword of `c.li`.
-fn li(rd: &Reg, imm: i32) -> u16
-    ensures { result ≡ li_half rd.now (cast_unsigned w32 imm) }
+fn li(rd: Reg, imm: i32) -> u16
+    ensures { result ≡ li_half rd (cast_unsigned w32 imm) }
 {
-    let bits = imm.cast_unsigned();
-    let low = bits % 32;
-    let high = bits / 32 % 2;
-    let rd = u32::from(rd.number());
-    (0x4001 + high * 4096 + rd * 128 + low * 4) as u16
+    let imm = imm.cast_unsigned();
+    let high = field_at(imm, 5, 1);
+    let low = field_at(imm, 0, 5);
+    (0x4001 + high * 4096 + u32::from(rd.number()) * 128 + low * 4) as u16
 }

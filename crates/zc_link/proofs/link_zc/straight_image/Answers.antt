@@ -1,3 +1,4 @@
+-- The parts that are written are those of the one object's code, so the file is the link.
 use Rattle.std.proofs.Common.{◌∙◌, ◌<◌, ℕ, arith, ap, sym, subst, get_or}
 use Rattle.std.proofs.lemmas.Result.{IfOk-weaker}
 use Rattle.elf32_write.specs.Image.{Fits, image_bytes}

@@ -1,3 +1,4 @@
+-- The item at hand is the word's; one more piece and one more place keep the invariant, and after the last word it says all.
 use Rattle.std.proofs.Common.{◌≡◌, ◌+◌, ◌*◌, ◌/◌, ◌++◌, length, Some, arith, sym, ap, ◌∙◌, length-append}
 use Rattle.zc_base.specs.Fields.{word_in}
 use Rattle.psabi_sym.specs.Inputs.{parsed}

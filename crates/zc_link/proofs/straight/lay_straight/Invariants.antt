@@ -1,3 +1,4 @@
+-- What is written so far, followed by what the definition gives for the rest, is what it gives for all.
 use Rattle.std.proofs.Common.{◌≡◌, ◌≤◌, ◌+◌, ◌-◌, ◌*◌, ◌++◌, length}
 use Rattle.std.specs.List.{flat_map}
 use Rattle.block_cut.specs.Straight.{words_from, words_in}

@@ -1,3 +1,4 @@
+-- The objects that a cut lends are one object of straight code.
 use Rattle.std.proofs.Common.{◌≡◌, ◌∙◌, ◌<◌, List, [], ◌∷◌, ℕ, length, None, Some, arith, ap, sym, subst}
 use Rattle.std.specs.Prelude.{slice_get}
 use Rattle.elf32_read.specs.Header.{section_count}
@@ -8,7 +9,7 @@ use Rattle.zc_link.specs.Linked.{only_file}
 use Rattle.zc_link.proofs.OneObject.{one}
 use Rattle.zc_link.proofs.straight.straight_code.Goals as goal
 
--- the objects that a cut lends are its one object
+-- the objects that are lent are the one object
 alone : (inputs lent : Inputs) → first_fault inputs ≡ None → lent ≡ inputs → lent.files ≡ only_file inputs ∷ []
 alone inputs lent none same = ap (λ (x : Inputs). x.files) same ∙ (one inputs none).alone
 
