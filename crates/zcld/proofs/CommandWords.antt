@@ -6,6 +6,7 @@ use Rattle.std.specs.List.{list_all}
 use Rattle.std.proofs.lemmas.Str.Parse.{IsNumeralModel, numerals_by_value, parse_digits}
 use Rattle.std.specs.Result.{OkIff}
 use Rattle.std.specs.Str.Parse.{ParsesUnsigned, digits_value}
+use Rattle.zcld.specs.declared.command_line.TheConstants.{MOST_DIGITS, MOST_STEPS}
 use Rattle.zcld.specs.Command.{is_number, steps_of}
 
 -- a text of digits and its number
@@ -15,25 +16,25 @@ digits = numerals_by_value _ (search rules)
 -- what a number word is read as
 pub number_read : {E : Type 0} (word : List ℕ) (r : Result ℕ E) → is_number word ≡ true → ParsesUnsigned 64 10 word r → OkIff r ((0 < length word) × (digits_value 10 word < 2 ^ 64)) (digits_value 10 word)
 number_read word r number parsed =
-    let parts = and_parts (leb 1 (length word) && leb (length word) 20) (list_all is_ascii_digit word) number in
+    let parts = and_parts (leb 1 (length word) && leb (length word) MOST_DIGITS) (list_all is_ascii_digit word) number in
     parse_digits digits 64 word r parsed parts.1
 
 -- a number that is too large to be read is too large to be allowed
 pub no_steps : {E : Type 0} (word : List ℕ) (r : Result ℕ E) (e : E) → is_number word ≡ true → ParsesUnsigned 64 10 word r → r ≡ Err e → steps_of word ≡ None
-no_steps {E = E} word r e number parsed failed = by_size (leb (digits_value 10 word) 1000000000) refl
+no_steps {E = E} word r e number parsed failed = by_size (leb (digits_value 10 word) MOST_STEPS) refl
   where
     lengthy : 0 < length word
     lengthy =
-        let parts = and_parts (leb 1 (length word) && leb (length word) 20) (list_all is_ascii_digit word) number in
-        let long = and_parts (leb 1 (length word)) (leb (length word) 20) parts.0 in
+        let parts = and_parts (leb 1 (length word) && leb (length word) MOST_DIGITS) (list_all is_ascii_digit word) number in
+        let long = and_parts (leb 1 (length word)) (leb (length word) MOST_DIGITS) parts.0 in
         let one = leb-true 1 (length word) long.0 in
         omega arith
 
     refused : digits_value 10 word < 2 ^ 64 → ⊥
     refused small = subst (λ (x : Result ℕ E). OkIff x ((0 < length word) × (digits_value 10 word < 2 ^ 64)) (digits_value 10 word)) failed (number_read word r number parsed) (lengthy, small)
 
-    by_size : (b : Bool) → leb (digits_value 10 word) 1000000000 ≡ b → steps_of word ≡ None
+    by_size : (b : Bool) → leb (digits_value 10 word) MOST_STEPS ≡ b → steps_of word ≡ None
     by_size true small =
         let le = leb-true (digits_value 10 word) 1000000000 small in
         absurd (refused (omega arith))
-    by_size false large = cond-false (is_number word && leb (digits_value 10 word) 1000000000) _ _ (rw (number, large) refl)
+    by_size false large = cond-false (is_number word && leb (digits_value 10 word) MOST_STEPS) _ _ (rw (number, large) refl)

@@ -1,6 +1,7 @@
 pub mod Answering
-pub mod Commands
 pub mod CommandWords
+pub mod Commands
+pub mod FormsHeld
 pub mod MachineFacts
 pub mod Pieces
 pub mod RunFacts

@@ -1,13 +1,17 @@
 -- The command that the words of the command line spell.
-use Rattle.std.specs.Prelude.{ℕ, Bool, false, not, ◌&&◌, ◌==◌, nat_le, if◌then◌else◌, List, [], ◌∷◌, length, map, Option, Some, None, String, codes}
-use Rattle.std.specs.Option.{option_and_then}
+use Rattle.std.specs.Prelude.{ℕ, Bool, true, false, not, ◌&&◌, ◌||◌, ◌==◌, nat_le, if◌then◌else◌, List, [], ◌∷◌, length, map, Option, Some, None, is_some, String, codes, slice_index_or, slice_set}
+use Rattle.std.specs.Option.{option_and_then, option_copied, option_map}
+use Rattle.std.specs.Borrow.{Bor}
 use Rattle.std.specs.Char.{is_ascii_digit}
-use Rattle.std.specs.List.{list_all}
+use Rattle.std.specs.List.{list_all, position, zip}
 use Rattle.std.specs.Str.{bytes_eq}
 use Rattle.std.specs.Str.Parse.{digits_value}
 use Rattle.std.specs.String.{string_bytes}
+use Rattle.zcld.specs.declared.command_line.TheConstants.{MOST_DIGITS, MOST_STEPS, USUAL_STEPS}
 use Rattle.zcld.specs.declared.command_line.CommandLine.{CommandLine}
 use Rattle.zcld.specs.declared.command_line.CommandLine.TheVariants as line
+use Rattle.zcld.specs.declared.command_line.Form as code_form
+use Rattle.zcld.specs.declared.command_line.OptionForm as code_option
 
 -- a command with the names of its files, and how many steps it may make
 pub data Command : Type 0 where
@@ -21,64 +25,149 @@ pub data Command : Type 0 where
 abbrev pub texts : {A : Type 0} → List (String A) → List (List ℕ)
 texts words = map string_bytes words
 
--- a word that begins with `-`: an option, and no value or file
+-- a word that begins with `-`: an option, and no value or positional word
 abbrev pub begins_with_dash : List ℕ → Bool
 begins_with_dash [] = false
 begins_with_dash (c ∷ word) = c == 45
 
--- a number: one to twenty decimal digits
+-- a number: decimal digits, at least one and at most MOST_DIGITS
 abbrev pub is_number : List ℕ → Bool
-is_number word = nat_le 1 (length word) && nat_le (length word) 20 && list_all is_ascii_digit word
+is_number word = nat_le 1 (length word) && nat_le (length word) MOST_DIGITS && list_all is_ascii_digit word
 
 -- the most steps that a word may allow
 abbrev pub most_steps : ℕ
-most_steps = 1000000000
+most_steps = MOST_STEPS
 
 -- the steps that a word allows
 abbrev pub steps_of : List ℕ → Option ℕ
 steps_of word = if is_number word && nat_le (digits_value 10 word) most_steps then Some (digits_value 10 word) else None
 
--- the steps that are allowed where no word says
-abbrev pub usual_steps : ℕ
-usual_steps = 10000000
+-- ---- the forms of commands
 
--- ---- commands
+-- an option, which takes one value: its name, and whether it must be given
+pub record OptionForm : Type 0 where
+  pub name : List ℕ
+  pub required : Bool
 
--- `zc` with these files: none is an option, and the two that are written differ
-abbrev pub zc_command : List ℕ → List ℕ → List ℕ → Option Command
-zc_command out cert object =
-    if (not (begins_with_dash out) && not (begins_with_dash cert)) && (not (begins_with_dash object) && not (bytes_eq out cert))
-    then Some (Zc out cert (object ∷ []))
-    else None
+-- what comes after a command's name: options in any order, and then so many positional words
+pub record Form : Type 0 where
+  pub options : List OptionForm
+  pub positional : ℕ
 
--- `zc` with its two options, each with its value behind it, in either order
-abbrev pub zc_spelled : List ℕ → List ℕ → List ℕ → List ℕ → List ℕ → List ℕ → Option Command
-zc_spelled name first x second y object =
-    if not (bytes_eq name (codes "zc")) then None else
-    (if bytes_eq first (codes "--out") && bytes_eq second (codes "--cert") then zc_command x y object else
-    (if bytes_eq first (codes "--cert") && bytes_eq second (codes "--out") then zc_command y x object else None))
+-- an option that must be given
+abbrev pub required : List ℕ → OptionForm
+required name = record { name = name; required = true }
 
--- `run` or `trace` of a file, which is no option, for so many steps
-abbrev pub stepping : List ℕ → ℕ → List ℕ → Option Command
-stepping name steps file =
-    if begins_with_dash file then None else
-    (if bytes_eq name (codes "run") then Some (Run steps file) else
-    (if bytes_eq name (codes "trace") then Some (Trace steps (file ∷ [])) else None))
+-- an option that may be left out
+abbrev pub optional : List ℕ → OptionForm
+optional name = record { name = name; required = false }
 
--- the same with the option that says how many
-abbrev pub stepping_for : List ℕ → List ℕ → List ℕ → List ℕ → Option Command
-stepping_for name option steps file =
-    if bytes_eq option (codes "--steps") then option_and_then (λ n. stepping name n file) (steps_of steps) else None
+-- `zc --out OUT --cert CERT OBJ`
+abbrev pub zc_form : Form
+zc_form = record { options = required (codes "--out") ∷ required (codes "--cert") ∷ []; positional = 1 }
 
--- a command's name, its options, and its files
+-- `run [--steps N] IMAGE`
+abbrev pub run_form : Form
+run_form = record { options = optional (codes "--steps") ∷ []; positional = 1 }
+
+-- `trace [--steps N] OBJ`
+abbrev pub trace_form : Form
+trace_form = record { options = optional (codes "--steps") ∷ []; positional = 1 }
+
+-- ---- the words of a form
+
+-- the values of a form's options, in its order, and the positional words
+pub data Spelled : Type 0 where
+  Words : (values : List (Option (List ℕ))) (positional : List (List ℕ)) → Spelled
+
+-- the place in a form's order of the option of this name
+abbrev pub place_of : Form → List ℕ → Option ℕ
+place_of form name = position (λ option. bytes_eq option.name name) form.options
+
+-- the values with one more: its option is one of the form's, and has none yet
+unfoldable pub with_value : Form → List (Option (List ℕ)) → List ℕ → List ℕ → Option (List (Option (List ℕ)))
+with_value form values name value =
+    option_and_then (λ place. if is_some (slice_index_or values place None) then None else Some (slice_set values place (Some value)))
+    (place_of form name)
+
+-- what words spell after these values: options, each with its value in the next word, and then the positional words
+abbrev pub spelled_from : Form → List (Option (List ℕ)) → List (List ℕ) → Option Spelled
+spelled_from form values [] = Some (Words values [])
+spelled_from form values (word ∷ []) = Some (Words values (word ∷ []))
+spelled_from form values (option ∷ value ∷ words) =
+    if not (begins_with_dash option) then Some (Words values (option ∷ value ∷ words)) else
+    (if begins_with_dash value then None else
+    option_and_then (λ more. spelled_from form more words) (with_value form values option value))
+
+-- each required option has a value
+abbrev pub has_required : Form → List (Option (List ℕ)) → Bool
+has_required form values = list_all (λ (option, value). not option.required || is_some value) (zip form.options values)
+
+-- no word begins with `-`
+abbrev pub has_no_option : List (List ℕ) → Bool
+has_no_option words = list_all (λ word. not (begins_with_dash word)) words
+
+-- no required option is missing, and there are as many positional words as the form has, of which none is an option
+unfoldable pub is_complete : Form → Spelled → Bool
+is_complete form (Words values positional) =
+    has_required form values && (length positional == form.positional) && has_no_option positional
+
+-- the values before any option
+abbrev pub no_values : Form → List (Option (List ℕ))
+no_values form = map (λ option. None) form.options
+
+-- what the words after a command's name spell
+unfoldable pub spelled : Form → List (List ℕ) → Option Spelled
+spelled form words =
+    option_and_then (λ found. if is_complete form found then Some found else None)
+    (spelled_from form (no_values form) words)
+
+-- ---- what the words mean
+
+-- the steps that an option's value allows, or those that are usual without one
+abbrev pub steps_given : Option (List ℕ) → Option ℕ
+steps_given (Some word) = steps_of word
+steps_given None = Some USUAL_STEPS
+
+-- `zc`, whose OUT and CERT differ
+abbrev pub zc_of : Spelled → Option Command
+zc_of (Words (Some out ∷ Some cert ∷ []) objects) = if bytes_eq out cert then None else Some (Zc out cert objects)
+zc_of other = None
+
+-- `run` of its one image
+abbrev pub run_of : Spelled → Option Command
+run_of (Words (steps ∷ []) (image ∷ [])) = option_map (λ n. Run n image) (steps_given steps)
+run_of other = None
+
+-- `trace` of its objects
+abbrev pub trace_of : Spelled → Option Command
+trace_of (Words (steps ∷ []) objects) = option_map (λ n. Trace n objects) (steps_given steps)
+trace_of other = None
+
+-- the command that words spell: by its name, the first word, it has a form and a meaning
 abbrev pub command_of : List (List ℕ) → Option Command
-command_of (name ∷ file ∷ []) = stepping name usual_steps file
-command_of (name ∷ option ∷ steps ∷ file ∷ []) = stepping_for name option steps file
-command_of (name ∷ first ∷ x ∷ second ∷ y ∷ object ∷ []) = zc_spelled name first x second y object
-command_of other = None
+command_of [] = None
+command_of (name ∷ words) =
+    if bytes_eq name (codes "zc") then option_and_then zc_of (spelled zc_form words) else
+    (if bytes_eq name (codes "run") then option_and_then run_of (spelled run_form words) else
+    (if bytes_eq name (codes "trace") then option_and_then trace_of (spelled trace_form words) else None))
 
--- a command as the program holds it
+-- ---- as the program holds them
+
+-- a command
 abbrev pub meant : CommandLine → Command
 meant (line.Zc out cert objects) = Zc out.now cert.now (texts objects.now)
 meant (line.Run steps image) = Run steps image.now
 meant (line.Trace steps objects) = Trace steps (texts objects.now)
+
+-- an option
+abbrev pub option_of : code_option.OptionForm → OptionForm
+option_of option = record { name = option.name.now; required = option.required }
+
+-- a form
+abbrev pub form_of : code_form.Form → Form
+form_of form = record { options = map option_of form.options.now; positional = form.positional }
+
+-- values and positional words
+abbrev pub words_of : {A : Type 0} → List (Option (Bor (List ℕ))) → List (String A) → Spelled
+words_of values positional = Words (map option_copied values) (texts positional)
