@@ -1,8 +1,9 @@
 -- Interrupts and cells of data lie apart. An interrupt writes in the stack, a cell lies in data, and the stack begins at or after
 -- data's end: so an interrupt does the same whatever data hold. A piece has one commit so far, of which nothing is asked.
-use Rattle.std.proofs.Common.{◌≡◌, ◌≢◌, ℕ, suc, ◌+◌, ◌<◌, List, [], ◌∷◌, Ok, Bool, true, false, cond, refl, sym, ap, ap₂, ◌∙◌, arith, ltb, leb}
-use Rattle.std.specs.Prelude.{◌&&◌}
+use Rattle.std.proofs.Common.{◌≡◌, ◌≢◌, ℕ, suc, ◌+◌, ◌<◌, List, [], ◌∷◌, Ok, Bool, true, false, cond, refl, sym, ap, ap₂, ◌∙◌, ⊎_elim, arith, ltb, leb}
+use Rattle.std.specs.Prelude.{◌&&◌, ◌⊎◌}
 use Rattle.std.proofs.lemmas.Bool.{and_parts, leb-true, ltb-true}
+use Rattle.zc_base.specs.declared.place.Place.{Place}
 use Rattle.interrupt_plan.specs.Plan.{Cut}
 use Rattle.rv_decode.specs.Memory.{Extent, Region, cells_changed, changed, extents_of, is_stack, lies_in, written}
 use Rattle.rv_decode.specs.State.{ZcCore, ZcState, reg_in}
@@ -11,12 +12,13 @@ use Rattle.sym_machine.specs.Program.{Program}
 use Rattle.sym_machine.specs.State.{PlainCore, PlainState}
 use Rattle.zc_machine.specs.Interrupt.{all_dirtied, cut, dirtied, is_free}
 use Rattle.zc_machine.specs.Run.{zc_turn}
-use Rattle.zc_link.specs.Image.{Image}
+use Rattle.zc_link.specs.Image.{Image, loaded}
 use Rattle.zc_link.specs.Laid.{Laid}
-use Rattle.zc_link.specs.Pieces.{Alone, Piece, commits_of}
-use Rattle.zc_link.specs.Simulates.{IsCell, OnWay, Pace, poked}
+use Rattle.zc_link.specs.Pieces.{Alone, Piece, commits_of, span_of}
+use Rattle.zc_link.specs.Simulates.{CommitsApart, Commits, Cuts, CutsApart, FromLoad, FromPair, IsCell, OnWay, Pace, Pokes, Starts, poked}
 use Rattle.zc_link.proofs.Cuts.{stack_within}
-use Rattle.zc_link.proofs.Extents.{dirtied_extents, on_way_extents}
+use Rattle.zc_link.proofs.Extents.{SameExtents, dirtied_extents, on_way_extents}
+use Rattle.zc_link.proofs.Start.{no_lead}
 
 -- ---- changes of different cells
 
@@ -75,15 +77,19 @@ module _ (a b : ℕ) where
 -- ---- on the way
 
 module _ {p : Program} {e : Image} {pace : Pace} (laid : Laid p e pace) where
-  pub cuts_apart :
-      {r : PlainState} {k : ℕ} {z : ZcState} → OnWay p e pace r (suc k) z → (c : Cut) (a b : ℕ) → IsCell p a
-      → cut c (poked a b z).core ≡ (poked a b (record z { core = cut c z.core })).core
+  cuts_apart_from : {From : ℕ → ZcState → Type 0} → ((k : ℕ) (z : ZcState) → From k z → SameExtents (loaded e) z.core) → CutsApart p From
   unfolding with_cell
-  cuts_apart {z = z} way c a b cell = all_dirtied-with_cell a b c.dirt z.core (λ x h same.
-      let within = stack_within laid.room z.core (on_way_extents way) x h in
+  cuts_apart_from from k z way c is a b cell small = all_dirtied-with_cell a b c.dirt z.core (λ x h same.
+      let within = stack_within laid.room z.core (on_way_extents e from way) x h in
       let under = laid.room.under in
       let high = cell.high in
       omega (arith, within.0, same, under, high))
+
+  pub cuts_apart : (r : PlainState) → CutsApart p (FromPair p e pace r)
+  cuts_apart r = cuts_apart_from (λ k z from. from.sound.alike.extents)
+
+  pub lead_cuts_apart : CutsApart p (FromLoad p e)
+  lead_cuts_apart = cuts_apart_from (λ k z from. rw from.loads refl)
 
   one_commit : (s : PlainCore) → pace.weight s ≡ 1
   one_commit s = laid.weights s ∙ by_piece (laid.piece s.place)
@@ -91,7 +97,24 @@ module _ {p : Program} {e : Image} {pace : Pace} (laid : Laid p e pace) where
       by_piece : (x : Piece) → commits_of p s x ≡ 1
       by_piece Alone = refl
 
-  pub commits_apart :
-      {r : PlainState} {k : ℕ} {z z' : ZcState} → 1 < pace.weight r.core → OnWay p e pace r (suc k) z → zc_turn [] z ≡ Ok z' → (a b : ℕ) → IsCell p a
-      → zc_turn [] (poked a b z) ≡ Ok (poked a b z')
-  commits_apart {r = r} more way turn a b cell = absurd (omega (arith, more, one_commit r.core))
+  one_step : (q : Place) → pace.span q ≡ 1
+  one_step q = laid.spans q ∙ by_piece (laid.piece q)
+    where
+      by_piece : (x : Piece) → span_of x ≡ 1
+      by_piece Alone = refl
+
+  pub commits_apart : (r : PlainState) → (1 < pace.span r.core.place) ⊎ (1 < pace.weight r.core) → CommitsApart p (FromPair p e pace r)
+  commits_apart r more k z z' way turn a b cell small = ⊎_elim
+      (λ steps. absurd (omega (arith, steps, one_step r.core.place)))
+      (λ commits. absurd (omega (arith, commits, one_commit r.core)))
+      more
+
+  -- no commit comes before the start
+  none_left : {k : ℕ} {z : ZcState} → OnWay p (FromLoad p e) k z → k ≡ 0
+  none_left (Starts k z from) = from.commits ∙ no_lead laid
+  none_left (Cuts k z c is way) = none_left way
+  none_left (Pokes k z a b is small way) = none_left way
+  none_left (Commits k z z' way turn) = absurd (omega (arith, none_left way))
+
+  pub lead_commits_apart : CommitsApart p (FromLoad p e)
+  lead_commits_apart k z z' way turn a b cell small = absurd (omega (arith, none_left way))

@@ -121,6 +121,7 @@ module _ {p : Program} {e : Image} (room : Room p e) where
           (where_is a);
       table = λ elsewhere. ap (λ x. x.jvt) sp.rest ∙ al.table elsewhere;
     };
+    sp = rw (same 2) al.sp;
     low = rw (same 2) al.low;
     high = rw (same 2) al.high;
     below = λ a l lt. al.below a l (rw (same 2) at lt);

@@ -1,6 +1,6 @@
 -- The end of a step, said once for all items: sp is a number within the stack, and the bytes below it become undefined. So states
 -- that are ready come to states that are alike.
-use Rattle.std.proofs.Common.{◌≡◌, ℕ, ◌<◌, Option, Bool, true, false, cond, refl, sym, ◌∙◌, subst, arith, ltb, leb}
+use Rattle.std.proofs.Common.{◌≡◌, ℕ, ◌<◌, Option, Some, Bool, true, false, cond, refl, sym, ap, ◌∙◌, subst, arith, ltb, leb}
 use Rattle.std.specs.Prelude.{◌&&◌}
 use Rattle.std.proofs.lemmas.Bool.{and_from, cond-true, cond_both, le-leb, lt-ltb}
 use Rattle.zc_base.specs.declared.mem_map.MemMap.{MemMap}
@@ -62,6 +62,7 @@ ends_alike {p} {e} {s} {s'} {z} end ready = subst (λ x. Alike p e x z) (sym end
     text = ready.text;
     table = ready.table;
   };
+  sp = end.is ∙ ap Some same;
   low = omega (arith, end.low, same);
   high = omega (arith, end.high, same);
   below = λ a low lt.

@@ -118,8 +118,10 @@ turn_extents z z' h = by_exit z.core.exit h
 
 -- ---- on the way
 
-pub on_way_extents : {p : Program} {e : Image} {pace : Pace} {r : PlainState} {k : ℕ} {z : ZcState} → OnWay p e pace r k z → SameExtents (loaded e) z.core
-on_way_extents (Starts z cells r' sound h) = sound.alike.extents
-on_way_extents (Cuts k z c is way) = cut_extents c z.core ∙ on_way_extents way
-on_way_extents (Pokes k z a b is small way) = extents-changed (written a 1 (λ _. b)) z.core.memory ∙ on_way_extents way
-on_way_extents (Commits k z z' way turn) = turn_extents z z' turn ∙ on_way_extents way
+pub on_way_extents :
+    {p : Program} (e : Image) {From : ℕ → ZcState → Type 0} → ((k : ℕ) (z : ZcState) → From k z → SameExtents (loaded e) z.core)
+    → {k : ℕ} {z : ZcState} → OnWay p From k z → SameExtents (loaded e) z.core
+on_way_extents e from (Starts k z is) = from k z is
+on_way_extents e from (Cuts k z c is way) = cut_extents c z.core ∙ on_way_extents e from way
+on_way_extents e from (Pokes k z a b is small way) = extents-changed (written a 1 (λ _. b)) z.core.memory ∙ on_way_extents e from way
+on_way_extents e from (Commits k z z' way turn) = turn_extents z z' turn ∙ on_way_extents e from way

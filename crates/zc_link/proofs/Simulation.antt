@@ -13,7 +13,7 @@ use Rattle.zc_link.specs.Laid.{Laid}
 use Rattle.zc_link.specs.Pieces.{span_of}
 use Rattle.zc_link.specs.Preserves.{FollowsUnder}
 use Rattle.zc_link.specs.Simulates.{Comes, IsInside, Pace, Simulates}
-use Rattle.zc_link.proofs.Apart.{commits_apart, cuts_apart}
+use Rattle.zc_link.proofs.Apart.{commits_apart, cuts_apart, lead_commits_apart, lead_cuts_apart}
 use Rattle.zc_link.proofs.Induction as induction
 use Rattle.zc_link.proofs.Pieces.{piece_comes, piece_inside, span_some}
 use Rattle.zc_link.proofs.Start.{starts}
@@ -37,8 +37,10 @@ module _ (p : Program) (e : Image) (pace : Pace) (laid : Laid p e pace) where
     inside = λ k r r' some lt listed running h.
         listed_inside k r r' some (rw (laid.spans r.core.place) at lt) running h (place_address e r.core.place) refl listed;
     start = λ input bytes cuts are. starts laid input bytes cuts;
-    cuts_apart = λ r k z way c is a b cell small. cuts_apart laid way c a b cell;
-    commits_apart = λ r k z z' more way turn a b cell small. commits_apart laid more way turn a b cell;
+    cuts_apart = cuts_apart laid;
+    commits_apart = commits_apart laid;
+    lead_cuts_apart = lead_cuts_apart laid;
+    lead_commits_apart = lead_commits_apart laid;
   }
 
   pub follows : FollowsUnder IsPlan p e

@@ -1,28 +1,28 @@
 -- The start is sound: registers and memory stand for the machine's as they are loaded, sp is the stack's end, and nothing of the
 -- stack is known.
-use Rattle.std.proofs.Common.{◌≡◌, ℕ, zero, suc, ◌+◌, ◌-◌, ◌^◌, ◌<◌, ◌≤◌, List, [], length, Bool, true, false, refl, sym, ap, ◌∙◌, subst, inl, ⊎_elim, arith, eqb, leb, get_or, replicate}
+use Rattle.std.proofs.Common.{◌≡◌, ℕ, zero, suc, ◌+◌, ◌-◌, ◌^◌, ◌<◌, ◌≤◌, List, [], length, Some, Bool, true, false, refl, sym, ap, ◌∙◌, subst, inl, ⊎_elim, arith, eqb, leb, get_or, replicate}
 use Rattle.std.specs.Prelude.{◌&&◌, All}
 use Rattle.std.proofs.lemmas.Bool.{and_parts, cases_lt, cond-false, cond-true, cond_both, eq-eqb, leb-true, ne_eqb}
 use Rattle.std.proofs.lemmas.List.{get_or-replicate, get_or_past, length-replicate}
 use Rattle.interrupt_plan.specs.Plan.{Cut}
 use Rattle.rv_decode.specs.Memory.{blank, cell_at}
-use Rattle.rv_decode.specs.State.{IsCore, start_regs}
+use Rattle.rv_decode.specs.State.{IsCore, reg_in, start_regs}
 use Rattle.rv_decode.proofs.MemoryLaws.{get_or_blank}
 use Rattle.rv_decode.proofs.RegisterLaws.{reads}
 use Rattle.sym_machine.specs.declared.word.SymByte.{SymByte}
 use Rattle.sym_machine.specs.declared.word.SymByte.TheVariants.{Undef}
 use Rattle.sym_machine.specs.Program.{Program, data_end, first_memory}
 use Rattle.sym_machine.specs.State.{first_plain, reg_of}
-use Rattle.sym_machine.specs.Words.{number_word, undef_word}
+use Rattle.sym_machine.specs.Words.{number_of, number_word, undef_word}
 use Rattle.zc_machine.specs.Load.{first_core}
 use Rattle.zc_machine.specs.Run.{first_state}
 use Rattle.zc_link.specs.Image.{Image, loaded, place_address}
-use Rattle.zc_link.specs.Laid.{Laid}
+use Rattle.zc_link.specs.Laid.{AtEntry, Begins, Laid}
 use Rattle.zc_link.specs.Simulates.{Comes, Pace, lead_from, lead_of}
 use Rattle.zc_link.specs.Sound.{NamesWord, Sound}
 use Rattle.zc_link.specs.Stands.{WordStands}
 use Rattle.zc_link.specs.Values.{value_in}
-use Rattle.zc_link.proofs.Words.{number_names, number_stands, undef_names, undef_stands}
+use Rattle.zc_link.proofs.Words.{number_is, number_names, number_stands, undef_names, undef_stands}
 
 -- what holds of x0, of sp and of the other registers holds of each
 start_reads :
@@ -59,6 +59,12 @@ stack_unknown p under a low =
     no_data false h = refl
 
 module _ {p : Program} {e : Image} {pace : Pace} (laid : Laid p e pace) where
+  at_entry : place_address e p.entry ≡ Some e.entry
+  at_entry = by_begins laid.begins
+    where
+      by_begins : Begins p e → place_address e p.entry ≡ Some e.entry
+      by_begins (AtEntry h) = h
+
   high_same : p.map.stack_high ≡ e.map.stack_high
   high_same = ap (λ m. m.stack_high) (sym laid.room.map)
 
@@ -81,6 +87,10 @@ module _ {p : Program} {e : Image} {pace : Pace} (laid : Laid p e pace) where
     bytes = laid.bytes;
   }
 
+  start_sp : (input : List ℕ) → number_of (reg_of (first_plain p input) 2) ≡ Some (reg_in (loaded e) 2)
+  unfolding first_core
+  start_sp input = ap Some (number_is (value_in p (place_address e)) (reg_of (first_plain p input) 2) (reg_in (loaded e) 2) _ (start_core.words 2) (start_stands input 2) refl)
+
   start_sound : (input : List ℕ) → All (λ b. b < 256) input → Sound p e (first_plain p input) (first_state (loaded e) input)
   unfolding first_core
   start_sound input bytes = record {
@@ -95,19 +105,20 @@ module _ {p : Program} {e : Image} {pace : Pace} (laid : Laid p e pace) where
         names = record { registers = λ r lt. start_names input r; memory = laid.names };
         extents = refl;
         text = λ a _. refl;
-        table = λ elsewhere. absurd (elsewhere laid.entry);
+        table = λ elsewhere. absurd (elsewhere at_entry);
       };
+      sp = start_sp input;
       low = omega (arith, laid.room.some, high_same);
       high = omega (arith, high_same);
       below = λ a low lt. stack_unknown p laid.room.under a low;
     };
     input = refl;
-    place = laid.entry;
+    place = at_entry;
   }
 
   -- no commit comes before it
-  no_lead : lead_of p e ≡ 0
-  no_lead = ap (λ o. lead_from o e.entry) laid.entry ∙ cond-true (eqb e.entry e.entry) 0 3 (eq-eqb e.entry e.entry refl)
+  pub no_lead : lead_of p e ≡ 0
+  no_lead = ap (λ o. lead_from o e.entry) at_entry ∙ cond-true (eqb e.entry e.entry) 0 3 (eq-eqb e.entry e.entry refl)
 
   pub starts :
       (input : List ℕ) → All (λ b. b < 256) input → (cuts : ℕ → List Cut)

@@ -22,7 +22,7 @@ use Rattle.sym_machine.specs.declared.word.Value.{Value}
 use Rattle.zc_decode.specs.declared.short.Short.TheVariants.{Base}
 use Rattle.zc_machine.specs.Fetch.{Found, fetched_at}
 use Rattle.zc_link.specs.Image.{Image, loaded, place_address}
-use Rattle.zc_link.specs.Laid.{Laid}
+use Rattle.zc_link.specs.Laid.{AtEntry, Laid}
 use Rattle.zc_link.specs.Pieces.{Alone, ItemLaid, OpLaid}
 use Rattle.zc_link.specs.Simulates.{pace_of}
 use Rattle.zc_link.specs.Sound.{NamesByte}
@@ -124,7 +124,7 @@ module _ (inputs : ParsedInputs) (words : List ℕ) (is : IsMap inputs.map) (few
   pub laid : Laid program e (pace_of inputs)
   laid = record {
     room = room inputs words is few;
-    entry = begins;
+    begins = AtEntry begins;
     piece = λ q. Alone;
     spans = λ q. refl;
     weights = λ s. refl;

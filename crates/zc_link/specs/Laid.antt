@@ -1,4 +1,4 @@
--- What a layout owes: each listed place starts a piece that is laid, and the image's memory begins as the program's does.
+-- What a layout must satisfy: each listed place starts a piece that is laid, and the image's memory begins as the program's does.
 use Rattle.std.specs.Prelude.{◌≡◌, ℕ, ◌*◌, ◌<◌, ◌≤◌, Some}
 use Rattle.zc_base.specs.declared.place.Place.{Place}
 use Rattle.rv_decode.specs.Memory.{cell_at}
@@ -14,11 +14,14 @@ use Rattle.zc_link.specs.Sound.{NamesByte}
 use Rattle.zc_link.specs.Stands.{ByteStands, IsMemory}
 use Rattle.zc_link.specs.Values.{value_in}
 
+-- where the image starts: at the program's start, so far
+pub data Begins (p : Program) (e : Image) : Type 0 where
+  AtEntry : place_address e p.entry ≡ Some e.entry → Begins p e
+
 -- if this holds of a program and an image, the image keeps step with the program at this pace
 pub record Laid (p : Program) (e : Image) (pace : Pace) : Type 0 where
   pub room : Room p e
-  -- the image starts at the program's start
-  pub entry : place_address e p.entry ≡ Some e.entry
+  pub begins : Begins p e
   -- what starts at each place, in so many items and so many commits
   pub piece : Place → Piece
   pub spans : (q : Place) → pace.span q ≡ span_of (piece q)

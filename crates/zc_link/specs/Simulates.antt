@@ -1,6 +1,6 @@
 -- The image keeps step with the program: from each sound pair some steps of the program are some commits of the machine,
 -- whatever interrupts come before them.
-use Rattle.std.specs.Prelude.{◌≡◌, ℕ, suc, ◌*◌, ◌<◌, ◌≤◌, ◌==◌, if◌then◌else◌, List, [], ◌∷◌, All, IsSome, Option, Some, None, Ok}
+use Rattle.std.specs.Prelude.{◌≡◌, ℕ, suc, ◌*◌, ◌<◌, ◌≤◌, ◌==◌, ◌⊎◌, if◌then◌else◌, List, [], ◌∷◌, All, IsSome, Option, Some, None, Ok}
 use Rattle.zc_base.specs.declared.place.Place.{Place}
 use Rattle.interrupt_plan.specs.Plan.{AreCuts, Cut, IsCut}
 use Rattle.rv_decode.specs.Memory.{changed, written}
@@ -69,15 +69,41 @@ abbrev pub all_poked : List (ℕ × ℕ) → PlainState → PlainState
 all_poked [] r = r
 all_poked (c ∷ cs) r = all_poked cs (poked_plain c r)
 
--- a state on the way from a sound pair to the end of its commits, of which so many are left: interrupts come, cells of data
--- are written, and commits are made; with some cells written the program isn't stuck on the way
-pub data OnWay (p : Program) (e : Image) (pace : Pace) (r : PlainState) : ℕ → ZcState → Type 0 where
-  Starts :
-      (z : ZcState) (cells : List (ℕ × ℕ)) (r' : PlainState) → Sound p e r.core z
-      → iterate (plain_turn p) (pace.span r.core.place) (all_poked cells r) ≡ Ok r' → OnWay p e pace r (pace.weight r.core) z
-  Cuts : (k : ℕ) (z : ZcState) (c : Cut) → IsCut c → OnWay p e pace r (suc k) z → OnWay p e pace r (suc k) (record z { core = cut c z.core })
-  Pokes : (k : ℕ) (z : ZcState) (a b : ℕ) → IsCell p a → b < 256 → OnWay p e pace r (suc k) z → OnWay p e pace r (suc k) (poked a b z)
-  Commits : (k : ℕ) (z z' : ZcState) → OnWay p e pace r (suc k) z → zc_turn [] z ≡ Ok z' → OnWay p e pace r k z'
+-- a sound pair with all its commits left; with some cells of data written the program isn't stuck on the way
+pub record FromPair (p : Program) (e : Image) (pace : Pace) (r : PlainState) (k : ℕ) (z : ZcState) : Type 0 where
+  pub commits : k ≡ pace.weight r.core
+  pub sound : Sound p e r.core z
+  pub cells : List (ℕ × ℕ)
+  pub are : All (λ c. IsCell p c.0 × (c.1 < 256)) cells
+  pub after : PlainState
+  pub steps : iterate (plain_turn p) (pace.span r.core.place) (all_poked cells r) ≡ Ok after
+
+-- the machine's first state, with all commits before the program's start left
+pub record FromLoad (p : Program) (e : Image) (k : ℕ) (z : ZcState) : Type 0 where
+  pub commits : k ≡ lead_of p e
+  pub input : List ℕ
+  pub bytes : All (λ b. b < 256) input
+  pub loads : z ≡ first_state (loaded e) input
+
+-- a state on the way from one of these to the end of its commits, of which so many are left: interrupts come, cells of data
+-- are written, and commits are made
+pub data OnWay (p : Program) (From : ℕ → ZcState → Type 0) : ℕ → ZcState → Type 0 where
+  Starts : (k : ℕ) (z : ZcState) → From k z → OnWay p From k z
+  Cuts : (k : ℕ) (z : ZcState) (c : Cut) → IsCut c → OnWay p From (suc k) z → OnWay p From (suc k) (record z { core = cut c z.core })
+  Pokes : (k : ℕ) (z : ZcState) (a b : ℕ) → IsCell p a → b < 256 → OnWay p From (suc k) z → OnWay p From (suc k) (poked a b z)
+  Commits : (k : ℕ) (z z' : ZcState) → OnWay p From (suc k) z → zc_turn [] z ≡ Ok z' → OnWay p From k z'
+
+-- on the way an interrupt does the same whatever data hold
+abbrev pub CutsApart : Program → (ℕ → ZcState → Type 0) → Type 0
+CutsApart p From =
+    (k : ℕ) (z : ZcState) → OnWay p From (suc k) z → (c : Cut) → IsCut c → (a b : ℕ) → IsCell p a → b < 256
+    → cut c (poked a b z).core ≡ (poked a b (record z { core = cut c z.core })).core
+
+-- and so does a commit, which therefore leaves data as they are
+abbrev pub CommitsApart : Program → (ℕ → ZcState → Type 0) → Type 0
+CommitsApart p From =
+    (k : ℕ) (z z' : ZcState) → OnWay p From (suc k) z → zc_turn [] z ≡ Ok z' → (a b : ℕ) → IsCell p a → b < 256
+    → zc_turn [] (poked a b z) ≡ Ok (poked a b z')
 
 -- ---- the whole
 
@@ -97,11 +123,10 @@ pub record Simulates (p : Program) (e : Image) (pace : Pace) : Type 0 where
   pub start :
       (input : List ℕ) → All (λ b. b < 256) input → (cuts : ℕ → List Cut) → AreCuts cuts
       → Comes p e cuts (lead_of p e) (first_state (loaded e) input) (record { core = first_plain p input; events = [] })
-  -- an interrupt does the same whatever data hold
-  pub cuts_apart :
-      (r : PlainState) (k : ℕ) (z : ZcState) → OnWay p e pace r (suc k) z → (c : Cut) → IsCut c → (a b : ℕ) → IsCell p a → b < 256
-      → cut c (poked a b z).core ≡ (poked a b (record z { core = cut c z.core })).core
-  -- and so does each commit, if there are several
+  -- an interrupt does the same whatever data hold, and so does each commit if there are several, of steps or of commits
+  pub cuts_apart : (r : PlainState) → CutsApart p (FromPair p e pace r)
   pub commits_apart :
-      (r : PlainState) (k : ℕ) (z z' : ZcState) → 1 < pace.weight r.core → OnWay p e pace r (suc k) z → zc_turn [] z ≡ Ok z'
-      → (a b : ℕ) → IsCell p a → b < 256 → zc_turn [] (poked a b z) ≡ Ok (poked a b z')
+      (r : PlainState) → (1 < pace.span r.core.place) ⊎ (1 < pace.weight r.core) → CommitsApart p (FromPair p e pace r)
+  -- the same on the way to the start
+  pub lead_cuts_apart : CutsApart p (FromLoad p e)
+  pub lead_commits_apart : CommitsApart p (FromLoad p e)

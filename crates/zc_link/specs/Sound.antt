@@ -10,6 +10,7 @@ use Rattle.sym_machine.specs.declared.word.SymWord.{SymWord}
 use Rattle.sym_machine.specs.declared.word.Value.TheVariants.{Code, AbsHi, PcHi}
 use Rattle.sym_machine.specs.Program.{Program}
 use Rattle.sym_machine.specs.State.{IsPlainState, PlainCore, cell_of, reg_of}
+use Rattle.sym_machine.specs.Words.{number_of}
 use Rattle.zc_link.specs.Image.{Image, loaded, place_address}
 use Rattle.zc_link.specs.Stands.{ByteStands, IsMemory, Stands, WordStands}
 use Rattle.zc_link.specs.Values.{value_in}
@@ -54,10 +55,12 @@ pub record Ready (p : Program) (e : Image) (s : PlainCore) (z : ZcCore) : Type 0
   pub text : (a : ℕ) → lies_in is_text (extents_of (loaded e).memory) a 1 ≡ true → byte_in z a ≡ byte_in (loaded e) a
   pub table : (place_address e p.entry ≡ Some e.entry → ⊥) → z.jvt ≡ e.map.text
 
--- and sp is within the stack, and the bytes of the stack below it are undefined to the program
+-- and the program's sp is a number, the machine's, within the stack; and the bytes of the stack below it are undefined to the
+-- program
 pub record Alike (p : Program) (e : Image) (s : PlainCore) (z : ZcCore) : Type 0 where
   pub ready : Ready p e s z
   pub open ready use *
+  pub sp : number_of (reg_of s 2) ≡ Some (reg_in z 2)
   pub low : p.map.stack_low ≤ reg_in z 2
   pub high : reg_in z 2 ≤ p.map.stack_high
   pub below : (a : ℕ) → p.map.stack_low ≤ a → a < reg_in z 2 → cell_of s a ≡ Undef
