@@ -18,11 +18,11 @@ pub record ConsoleState : Type 0 where
   pub calls : ℕ
   pub read_faults : ℕ
   pub write_faults : ℕ
-  pub memory_faults : ℕ
+  pub write_memory_faults : ℕ
   -- how many bytes left the input
   pub taken : ℕ
 
--- it tells all its bytes, and is sure if it was made with no call that fails
+-- it tells all its bytes, and is sure if it was made with no call that fails; its takes never want memory
 abbrev pub desk_of : ConsoleState → Desk
 desk_of c = record {
   input = Some c.input;
@@ -30,7 +30,8 @@ desk_of c = record {
   err = Some c.err;
   read_faults = c.read_faults;
   write_faults = c.write_faults;
-  memory_faults = c.memory_faults;
+  read_memory_faults = 0;
+  write_memory_faults = c.write_memory_faults;
   taken = c.taken;
   sure = length c.fails == 0;
 }
@@ -39,14 +40,14 @@ desk_of c = record {
 abbrev pub after_take : ConsoleState → Result ℕ ConsoleFault → ConsoleState
 after_take c (Ok n) = record c { input = drop n c.input; calls = next_call c.calls; taken = more c.taken n }
 after_take c (Err Failed) = record c { calls = next_call c.calls; read_faults = more c.read_faults 1 }
-after_take c (Err OutOfMemory) = record c { calls = next_call c.calls; memory_faults = more c.memory_faults 1 }
+after_take c (Err OutOfMemory) = record c { calls = next_call c.calls }
 
 -- what a write counts: an empty piece is no call, and a refusal is counted by its kind
 abbrev pub after_write : {A : Type 0} → ConsoleState → List ℕ → Result A ConsoleFault → ConsoleState
 after_write c [] result = c
 after_write c (byte ∷ piece) (Ok done) = record c { calls = next_call c.calls }
 after_write c (byte ∷ piece) (Err Failed) = record c { calls = next_call c.calls; write_faults = more c.write_faults 1 }
-after_write c (byte ∷ piece) (Err OutOfMemory) = record c { calls = next_call c.calls; memory_faults = more c.memory_faults 1 }
+after_write c (byte ∷ piece) (Err OutOfMemory) = record c { calls = next_call c.calls; write_memory_faults = more c.write_memory_faults 1 }
 
 -- what a write adds: the whole piece, or nothing
 abbrev pub written : {A : Type 0} → List ℕ → Result A ConsoleFault → List ℕ

@@ -21,8 +21,8 @@ pub enum ConsoleFault {
 /// left and of an output those written so far; if it doesn't, no clause says what they are. A console
 /// that is sure stays so, and answers `Failed` to no call. The counts are 64-bit counters that never
 /// fall and stay at their last value: `read_faults` and `write_faults` count the calls that answer
-/// `Failed`, `memory_faults` those that are refused for want of memory, `taken` the bytes that left the
-/// input.
+/// `Failed`, `read_memory_faults` and `write_memory_faults` those that are refused for want of memory,
+/// `taken` the bytes that left the input.
 pub trait Console {
     ghost shown: { Self → Desk };
 

@@ -23,7 +23,7 @@ pub struct MemConsole {
     calls: Calls,
     read_faults: u64,
     write_faults: u64,
-    memory_faults: u64,
+    write_memory_faults: u64,
     taken: u64,
 }
 
@@ -41,7 +41,7 @@ impl Model for MemConsole {
       calls = c.calls.made;
       read_faults = c.read_faults;
       write_faults = c.write_faults;
-      memory_faults = c.memory_faults;
+      write_memory_faults = c.write_memory_faults;
       taken = c.taken;
     } };
 
@@ -59,7 +59,7 @@ impl MemConsole {
           calls = 0;
           read_faults = 0;
           write_faults = 0;
-          memory_faults = 0;
+          write_memory_faults = 0;
           taken = 0;
         }) }
     {
@@ -73,7 +73,7 @@ impl MemConsole {
             calls,
             read_faults: 0,
             write_faults: 0,
-            memory_faults: 0,
+            write_memory_faults: 0,
             taken: 0,
         })
     }
@@ -110,10 +110,10 @@ impl MemConsole {
     fn finish_write(&mut self, grown: Result<(), AllocError>) -> Result<(), ConsoleFault>
         ensures ok { OnOk grown (IsOk result × (self.new ≡ self.old)) }
         ensures err { OnErr grown (IsErrOf result ConsoleFault.OutOfMemory × (self.new ≡
-            record self.old { memory_faults = more self.old.memory_faults 1 })) }
+            record self.old { write_memory_faults = more self.old.write_memory_faults 1 })) }
     {
         if grown.is_err() {
-            self.memory_faults = self.memory_faults.saturating_add(1);
+            self.write_memory_faults = self.write_memory_faults.saturating_add(1);
             return Err(ConsoleFault::OutOfMemory);
         }
         Ok(())

@@ -31,7 +31,8 @@ impl<I: Read, O: Write, E: Write> StdConsole<I, O, E> {
           err = E.contents err;
           read_faults = 0;
           write_faults = 0;
-          memory_faults = 0;
+          read_memory_faults = 0;
+          write_memory_faults = 0;
           taken = 0;
           sure = false;
         } }
@@ -54,7 +55,8 @@ impl<I: Read, O: Write, E: Write> Console for StdConsole<I, O, E> {
       err = E.contents c.err;
       read_faults = c.read_faults;
       write_faults = c.write_faults;
-      memory_faults = 0;
+      read_memory_faults = 0;
+      write_memory_faults = 0;
       taken = c.taken;
       sure = false;
     } };

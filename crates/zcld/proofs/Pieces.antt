@@ -15,9 +15,9 @@ use Rattle.zcld.specs.Call.{WritesLine}
 -- a write that was refused is counted as a fault or as a want of memory, over what was written before too
 refusal_rose :
     (fault : ConsoleFault) (before between after : Desk) → OnlyWrites before between → WriteCause between after fault →
-    Rose before.write_faults after.write_faults ⊎ Rose before.memory_faults after.memory_faults
+    Rose before.write_faults after.write_faults ⊎ Rose before.write_memory_faults after.write_memory_faults
 refusal_rose Failed before between after only cause = inl (Rose-earlier before.write_faults between.write_faults after.write_faults only.writes cause.0)
-refusal_rose OutOfMemory before between after only cause = inr (Rose-earlier before.memory_faults between.memory_faults after.memory_faults only.memory cause)
+refusal_rose OutOfMemory before between after only cause = inr (Rose-earlier before.write_memory_faults between.write_memory_faults after.write_memory_faults only.write_memory cause)
 
 module _ {X : Type 0} (bytes : X → List ℕ) (pieces : List X) (i : ℕ) (piece : X) (within : i < length pieces) where
   -- the pieces before it, the piece, and those after it

@@ -45,7 +45,7 @@ Does (Some command) files outcome before after = Performs (task_of command) (wor
 abbrev pub WritesLine : List ℕ → Desk → Desk → Type 0
 WritesLine text before after =
     Adds before.err after.err text
-    ⊎ ((Rose before.write_faults after.write_faults ⊎ Rose before.memory_faults after.memory_faults) × AddsPart before.err after.err text)
+    ⊎ ((Rose before.write_faults after.write_faults ⊎ Rose before.write_memory_faults after.write_memory_faults) × AddsPart before.err after.err text)
 
 -- nothing but that
 pub record Reports (text : List ℕ) (before after : World) : Type 0 where
