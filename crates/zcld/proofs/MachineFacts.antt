@@ -11,15 +11,20 @@ use Rattle.zcld.specs.declared.outcome.Outcome.TheVariants.{ReadFault, OutOfMemo
 use Rattle.zcld.specs.Input.{IsLongInput, IsShortInput, UntakenCause}
 use Rattle.zcld.specs.Machines.{MachineWork, TakesAndRuns}
 use Rattle.zcld.specs.Task.{Task}
-use Rattle.zcld.proofs.Answering.{IsAnswer, IsFaulted, Moves, no_memory}
+use Rattle.zcld.proofs.Answering.{IsAnswer, IsFaulted, Moves}
+
+-- nothing was written
+pub no_writes : (before after : Desk) → after ≡ before → OnlyWrites before after
+no_writes before after same = subst (λ d. OnlyWrites before d) (sym same) (OnlyWrites-refl before)
 
 -- no input is both too long and not
 not_both : (told : Option (List ℕ)) → IsShortInput told → IsLongInput told → ⊥
 not_both None short long = short
 not_both (Some xs) short long = omega (arith, short, long)
 
--- the console refused a write that was counted, and it isn't sure
-pub record IsRefusedWrite (outcome : Outcome) (before after : Desk) : Type 0 where
+-- the command writes, and the console refused that: the refusal was counted, and the console isn't sure
+pub record IsRefusedWrite (task : Task) (outcome : Outcome) (before after : Desk) : Type 0 where
+  pub writes : IsTrue task.writes
   pub known : outcome ≢ Usage
   pub counted : Rose before.write_faults after.write_faults
   pub unsure : IsTrue before.sure → ⊥
@@ -29,7 +34,7 @@ module _ (task : Task) (takes : IsTrue task.takes) where
   untaken_ends :
       (outcome : Outcome) (before after : World) → UntakenCause outcome before.desk after.desk →
       IsAnswer outcome ⊎ IsFaulted task outcome before after
-  untaken_ends OutOfMemory before after cause = inl (no_memory refl)
+  untaken_ends OutOfMemory before after cause = inl tt
   untaken_ends ReadFault before after cause = inr (record {
     known = λ e. cc;
     counted = λ clean. elim cause [ inl failed ↦ (clean.taken takes).0 failed.0 | inr long ↦ (clean.taken takes).1 long.0 ];
@@ -40,16 +45,16 @@ module _ (task : Task) (takes : IsTrue task.takes) where
   })
   untaken_ends other before after cause = absurd cause
 
-  module _ (Runs : List ℕ → Outcome → Desk → Desk → Type 0) (run_ends : (input : List ℕ) (outcome : Outcome) (before after : Desk) → Runs input outcome before after → IsAnswer outcome ⊎ (IsTrue task.writes × IsRefusedWrite outcome before after)) where
+  module _ (Runs : List ℕ → Outcome → Desk → Desk → Type 0) (run_ends : (input : List ℕ) (outcome : Outcome) (before after : Desk) → Runs input outcome before after → IsAnswer outcome ⊎ IsRefusedWrite task outcome before after) where
     pub machine_ends : (outcome : Outcome) (before after : World) → MachineWork Runs outcome before after → IsAnswer outcome ⊎ IsFaulted task outcome before after
     machine_ends outcome before after work = elim work.desk [
       | inl untaken ↦ untaken_ends outcome before after untaken.cause
       | inr run ↦ elim (run_ends run.input outcome run.between after.desk run.runs) [
         | inl answer ↦ inl answer
         | inr refused ↦ inr (record {
-          known = refused.1.known;
-          counted = λ clean. clean.written refused.0 (subst (λ n. Rose n after.desk.write_faults) run.takes.only.writes refused.1.counted);
-          unsure = λ sure. refused.1.unsure (run.takes.only.sure ∙ (sure.console takes).0);
+          known = refused.known;
+          counted = λ clean. clean.written refused.writes (subst (λ n. Rose n after.desk.write_faults) run.takes.only.writes refused.counted);
+          unsure = λ sure. refused.unsure (run.takes.only.sure ∙ (sure.console takes).0);
         })
       ]
     ]

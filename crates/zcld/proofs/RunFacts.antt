@@ -17,8 +17,9 @@ use Rattle.zcld.specs.declared.outcome.Outcome.TheVariants.{BadFile}
 use Rattle.zcld.specs.Call.{task_of}
 use Rattle.zcld.specs.Command.{Run}
 use Rattle.zcld.specs.Run.{Executes, RunWork, image_refusal, only_file, run_outcome}
+use Rattle.zcld.specs.Task.{Task}
 use Rattle.zcld.proofs.Answering.{Facts, IsAnswer, no_memory}
-use Rattle.zcld.proofs.MachineFacts.{IsRefusedWrite, machine_ends, machine_moves}
+use Rattle.zcld.proofs.MachineFacts.{IsRefusedWrite, machine_ends, machine_moves, no_writes}
 
 -- a refusal of an image is an answer
 image_refuses : (files : List (List ℕ)) (outcome : Outcome) → image_refusal files ≡ Some outcome → IsAnswer outcome
@@ -26,36 +27,36 @@ image_refuses files outcome is = by_fault (image_fault (only_file files) standar
   where
     by_fault : (found : Option ImageFault) → option_map (λ fault. BadFile (Image fault)) found ≡ Some outcome → IsAnswer outcome
     by_fault None none = absurd (none-some outcome none)
-    by_fault (Some fault) some =
-        let same = same_Some (BadFile (Image fault)) outcome some in
-        record { known = λ e. cc; fault = record { no_read = λ e. cc; no_write = λ e. cc } }
-
--- each end but a write that was refused is an answer
-end_of_run :
-    (answer : RunEnd) (pc : ℕ) (before after : Desk) → IfConsole answer (WriteCause before after) →
-    IsAnswer (run_outcome answer pc) ⊎ IsRefusedWrite (run_outcome answer pc) before after
-end_of_run (end.Exit code) pc before after cause = inl (record { known = λ e. cc; fault = record { no_read = λ e. cc; no_write = λ e. cc } })
-end_of_run (end.Stopped reason) pc before after cause = inl (record { known = λ e. cc; fault = record { no_read = λ e. cc; no_write = λ e. cc } })
-end_of_run end.Spent pc before after cause = inl (record { known = λ e. cc; fault = record { no_read = λ e. cc; no_write = λ e. cc } })
-end_of_run (end.Console console.Failed) pc before after cause = inr (record { known = λ e. cc; counted = cause.0; unsure = cause.1 })
-end_of_run (end.Console console.OutOfMemory) pc before after cause = inl (no_memory refl)
+    by_fault (Some fault) some = subst IsAnswer (same_Some (BadFile (Image fault)) outcome some) tt
 
 module _ (steps : ℕ) (image : List ℕ) where
+  abbrev task : Task
+  task = task_of (Run steps image)
+
+  -- each end but a write that was refused is an answer
+  end_of_run :
+      (answer : RunEnd) (pc : ℕ) (before after : Desk) → IfConsole answer (WriteCause before after) →
+      IsAnswer (run_outcome answer pc) ⊎ IsRefusedWrite task (run_outcome answer pc) before after
+  end_of_run (end.Exit code) pc before after cause = inl tt
+  end_of_run (end.Stopped reason) pc before after cause = inl tt
+  end_of_run end.Spent pc before after cause = inl tt
+  end_of_run (end.Console console.Failed) pc before after cause = inr (record { writes = refl; known = λ e. cc; counted = cause.0; unsure = cause.1 })
+  end_of_run (end.Console console.OutOfMemory) pc before after cause = inl tt
+
   executes_end :
       (file input : List ℕ) (outcome : Outcome) (before after : Desk) → Executes file steps input outcome before after →
-      IsAnswer outcome ⊎ ((true ≡ true) × IsRefusedWrite outcome before after)
-  executes_end file input outcome before after (inl memory) = inl (no_memory memory.0)
+      IsAnswer outcome ⊎ IsRefusedWrite task outcome before after
+  executes_end file input outcome before after (inl memory) = inl (no_memory outcome memory.0)
   executes_end file input outcome before after (inr run) =
-      let ended = subst (λ o. IsAnswer o ⊎ IsRefusedWrite o before after) (sym run.outcome_is) (end_of_run run.answer run.machine.pc before after run.cause) in
-      elim ended [ inl answer ↦ inl answer | inr refused ↦ inr (refl, refused) ]
+      subst (λ o. IsAnswer o ⊎ IsRefusedWrite task o before after) (sym run.outcome_is) (end_of_run run.answer run.machine.pc before after run.cause)
 
   executes_write : (file input : List ℕ) (outcome : Outcome) (before after : Desk) → Executes file steps input outcome before after → OnlyWrites before after
-  executes_write file input outcome before after (inl memory) = subst (λ d. OnlyWrites before d) (sym memory.1) (OnlyWrites-refl before)
+  executes_write file input outcome before after (inl memory) = no_writes before after memory.1
   executes_write file input outcome before after (inr run) = run.only
 
-  pub run_facts : Facts (task_of (Run steps image)) (RunWork steps)
+  pub run_facts : Facts task (RunWork steps)
   run_facts = record {
     refuses = image_refuses;
-    ends = λ files. machine_ends (task_of (Run steps image)) refl (Executes (only_file files) steps) (executes_end (only_file files));
-    moves = λ files. machine_moves (task_of (Run steps image)) refl (Executes (only_file files) steps) (executes_write (only_file files));
+    ends = λ files. machine_ends task refl (Executes (only_file files) steps) (executes_end (only_file files));
+    moves = λ files. machine_moves task refl (Executes (only_file files) steps) (executes_write (only_file files));
   }

@@ -21,16 +21,14 @@ objects_refuse files outcome is = by_fault (first_fault (inputs_of files)) is
   where
     by_fault : (found : Option (ℕ × Fault)) → option_map (λ f. Refused f.0 f.1) found ≡ Some outcome → IsAnswer outcome
     by_fault None none = absurd (none-some outcome none)
-    by_fault (Some f) some =
-        let same = same_Some (Refused f.0 f.1) outcome some in
-        record { known = λ e. cc; fault = record { no_read = λ e. cc; no_write = λ e. cc } }
+    by_fault (Some f) some = subst IsAnswer (same_Some (Refused f.0 f.1) outcome some) tt
 
 -- a put that failed was counted, at a store that isn't sure
 puts_end :
     (outcome : Outcome) (before after : Shelf) (out image cert certificate : List ℕ) → PutsInTurn outcome before after out image cert certificate →
     IsAnswer outcome ⊎ ((outcome ≡ WriteFault) × PutsInTurn WriteFault before after out image cert certificate)
-puts_end Done before after out image cert certificate puts = inl (record { known = λ e. cc; fault = record { no_read = λ e. cc; no_write = λ e. cc } })
-puts_end OutOfMemory before after out image cert certificate puts = inl (no_memory refl)
+puts_end Done before after out image cert certificate puts = inl tt
+puts_end OutOfMemory before after out image cert certificate puts = inl tt
 puts_end WriteFault before after out image cert certificate puts = inr (refl, puts)
 puts_end other before after out image cert certificate puts = absurd puts
 
@@ -39,7 +37,7 @@ module _ (out cert : List ℕ) (objects : List (List ℕ)) where
       (files : List (List ℕ)) (outcome : Outcome) (before after : World) → ZcWork out cert files outcome before after →
       IsAnswer outcome ⊎ IsFaulted (task_of (Zc out cert objects)) outcome before after
   zc_ends files outcome before after work = elim work.shelf [
-    | inl memory ↦ inl (no_memory memory.0)
+    | inl memory ↦ inl (no_memory outcome memory.0)
     | inr put ↦ elim (puts_end outcome before.shelf after.shelf out put.link.elf cert _ put.put) [
       | inl answer ↦ inl answer
       | inr fault ↦ inr (record { known = λ e. cc; counted = λ clean. clean.put refl fault.1.1; unsure = λ sure. fault.1.2 sure.store })

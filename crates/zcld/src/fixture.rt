@@ -1,9 +1,13 @@
-// The object of three instructions, its image, and calls that begin with one file in memory. The
-// object and the image were worked out by hand from the ELF format.
+// The object of three instructions, its image, and calls over one file in memory. The object and the
+// image were worked out by hand from the ELF format.
 
 use crate::call::zcld;
-use crate::outcome::Outcome;
+use crate::outcome::{Outcome, status};
 use std::alloc::{AllocError, Global};
+use std::process::Abort;
+use std::test::Fail;
+use zc_base::fields::put_u32;
+use zc_outside::console::{Console, ConsoleFault};
 use zc_outside::mem_console::MemConsole;
 use zc_outside::mem_store::MemStore;
 
@@ -68,8 +72,68 @@ pub const THREE_IMAGE: [u8; 460] = [
     0x00, 0x00, 0x00, 0x00, 0x01, 0x00, 0x00, 0x00, 0x00, 0x00, 0x00, 0x00,
 ];
 
-/// Links x.o to the image o and the certificate c.
-pub const ZC_WORDS: [&str; 6] = ["zc", "--out", "o", "--cert", "c", "x.o"];
+/// A change of a file: a byte, a word, or the file's length.
+#[derive(Clone, Copy)]
+pub enum Change {
+    Byte(usize, u8),
+    Word(usize, u32),
+    Length(usize),
+}
+
+/// A call: its words, with a space between, the one file `x` of its store, and the numbers of the
+/// store's and the console's calls that fail. The console has an input of five bytes.
+#[derive(Clone, Copy)]
+pub struct Call<'a> {
+    pub words: &'a str,
+    pub file: &'a [u8],
+    pub changes: &'a [Change],
+    pub store_fails: &'a [u32],
+    pub console_fails: &'a [u32],
+}
+
+/// The object is linked to the image `o` and the certificate `c`.
+pub const ZC: Call = Call {
+    words: "zc --out o --cert c x",
+    file: &THREE,
+    changes: &[],
+    store_fails: &[],
+    console_fails: &[],
+};
+
+/// The image is run.
+pub const RUN: Call = Call {
+    words: "run x",
+    file: &THREE_IMAGE,
+    ..ZC
+};
+
+/// The object is traced.
+pub const TRACE: Call = Call {
+    words: "trace x",
+    ..ZC
+};
+
+/// How a call should end: the outcome, its line, and the program's status.
+#[derive(Clone, Copy)]
+pub struct End<'a>(pub Outcome, pub &'a str, pub u8);
+
+/// The end of the three instructions.
+pub const EXITED_3: End = End(Outcome::Exited(3), "exited 3\n", 3);
+
+pub const DONE: End = End(Outcome::Done, "", 0);
+
+pub const SPENT: End = End(Outcome::Spent, "spent\n", 127);
+
+pub const USAGE: End = End(Outcome::Usage, "usage\n", 120);
+
+pub const READ_FAULT: End = End(Outcome::ReadFault, "read fault\n", 122);
+
+pub const WRITE_FAULT: End = End(Outcome::WriteFault, "write fault\n", 123);
+
+/// The same, with a line that couldn't be written.
+pub fn unsaid(end: End) -> End {
+    End(end.0, "", end.2)
+}
 
 /// What a call left.
 #[derive(Drop)]
@@ -80,36 +144,70 @@ pub struct Left {
 }
 
 impl Left {
-    pub fn out(&self) -> Option<&[u8]> {
-        self.store.file("o")
-    }
-
-    pub fn cert(&self) -> Option<&[u8]> {
-        self.store.file("c")
+    /// How many bytes of the input are left.
+    pub fn input_left(&mut self) -> Result<usize, ConsoleFault> {
+        self.console.take(&mut [0; 8])
     }
 }
 
-/// A call over a store that holds one file, under this name, and a console with an input of five
-/// bytes, where these calls of both fail.
-pub fn call(
-    alloc: Global,
-    words: &[&str],
-    name: &str,
-    file: &[u8],
-    store_fails: &[u32],
-    console_fails: &[u32],
-) -> Result<Left, AllocError> {
-    let mut list = Vec::new(alloc);
-    for word in words {
-        list.push(String::from_str(alloc, word)?)?;
+// The words of a text, of which an empty one has none.
+fn words_in(alloc: Global, text: &str) -> Result<Vec<String>, AllocError> {
+    let mut words = Vec::new(alloc);
+    if text.is_empty() {
+        return Ok(words);
     }
-    let mut store = MemStore::new(alloc, store_fails)?;
-    store.add(name, file)?;
-    let mut console = MemConsole::new(alloc, b"input", console_fails)?;
-    let outcome = zcld(alloc, list.as_slice(), &mut store, &mut console);
+    for word in text.split(' ') {
+        words.push(String::from_str(alloc, word)?)?;
+    }
+    Ok(words)
+}
+
+// The file after its changes.
+fn changed(alloc: Global, file: &[u8], changes: &[Change]) -> Result<Vec<u8>, AllocError> {
+    let mut bytes = Vec::from_slice(alloc, file)?;
+    for change in changes {
+        match *change {
+            Change::Byte(at, byte) => {
+                if let Some(place) = bytes.get_mut(at) {
+                    *place = byte;
+                }
+            }
+            Change::Word(at, word) => {
+                if at < bytes.len() && bytes.len() - at >= 4 {
+                    put_u32(&mut bytes, at, word);
+                }
+            }
+            Change::Length(length) => bytes.truncate(length),
+        }
+    }
+    Ok(bytes)
+}
+
+/// Makes a call.
+pub fn make(alloc: Global, call: &Call) -> Result<Left, AllocError> {
+    let words = words_in(alloc, call.words)?;
+    let mut store = MemStore::new(alloc, call.store_fails)?;
+    store.add("x", changed(alloc, call.file, call.changes)?.as_slice())?;
+    let mut console = MemConsole::new(alloc, b"input", call.console_fails)?;
+    let outcome = zcld(alloc, words.as_slice(), &mut store, &mut console);
     Ok(Left {
         outcome,
         store,
         console,
     })
+}
+
+/// Makes a call that should end so, and write nothing but its line.
+pub fn expect<R: Abort + AllocGlobal>(rt: &R, call: &Call, end: &End) -> Result<Left, Fail> {
+    let left = make(rt.alloc(), call)?;
+    assert_eq!(rt; left.outcome, end.0, "{}", call.words);
+    assert_eq!(rt;
+        left.console.err_bytes(),
+        end.1.as_bytes(),
+        "{}",
+        call.words
+    );
+    assert_eq!(rt; status(&left.outcome), end.2, "{}", call.words);
+    assert_eq!(rt; left.console.out_bytes(), b"".as_slice(), "{}", call.words);
+    Ok(left)
 }

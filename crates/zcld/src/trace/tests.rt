@@ -1,15 +1,13 @@
 // Objects on the symbolic machine, and beside them their images on the Zc machine.
 
-use crate::fixture::{Left, THREE, ZC_WORDS, call};
-use crate::outcome::{Outcome, status};
+use crate::fixture::{
+    Call, Change, EXITED_3, End, READ_FAULT, RUN, SPENT, TRACE, ZC, expect, make, unsaid,
+};
+use crate::outcome::Outcome;
 use elf32_read::fault::Fault;
-use std::alloc::{AllocError, Global};
 use std::test::Fail;
 use sym_machine::why::Why;
-use zc_base::fields::put_u32;
 use zc_base::place::Place;
-
-const TRACE: [&str; 2] = ["trace", "x.o"];
 
 const NO_OPERATION: u32 = 0x0000_0013;
 
@@ -20,120 +18,98 @@ fn addi(rd: u32, first: u32, imm: i32) -> u32 {
     ((imm.cast_unsigned() & 0xFFF) << 20) | (first << 15) | (rd << 7) | 0x13
 }
 
-// An object whose code is these words. They take the place of the symbols too, which the linker doesn't read, and the
-// header of section 1 says how long they are.
-fn object_of(words: [u32; 4]) -> [u8; 340] {
-    let mut object = THREE;
-    put_u32(&mut object, 52, words[0]);
-    put_u32(&mut object, 56, words[1]);
-    put_u32(&mut object, 60, words[2]);
-    put_u32(&mut object, 64, words[3]);
-    put_u32(&mut object, 200, 16);
-    object
+// What makes these words the object's code. They take the place of the symbols too, which the linker
+// doesn't read, and the header of section 1 says how long they are.
+fn code(words: [u32; 4]) -> [Change; 5] {
+    [
+        Change::Word(52, words[0]),
+        Change::Word(56, words[1]),
+        Change::Word(60, words[2]),
+        Change::Word(64, words[3]),
+        Change::Word(200, 16),
+    ]
 }
 
-fn traced(alloc: Global, words: [u32; 4]) -> Result<Left, AllocError> {
-    call(alloc, &TRACE, "x.o", &object_of(words), &[], &[])
-}
-
+// The exit is the third step.
 #[test]
-fn three_instructions_exit_with_3(rt: HostRuntime) -> Result<(), Fail> {
-    let left = call(rt.alloc(), &TRACE, "x.o", &THREE, &[], &[])?;
-    assert_eq!(rt; left.outcome, Outcome::Exited(3));
-    assert_eq!(rt; status(&left.outcome), 3);
-    assert_eq!(rt; left.console.err_bytes(), b"exited 3\n".as_slice());
-    assert_eq!(rt; left.console.out_bytes(), b"".as_slice());
-    assert!(rt; left.out().is_none());
+fn an_object_runs_to_its_exit_or_its_last_step(rt: HostRuntime) -> Result<(), Fail> {
+    for (words, end) in [
+        (TRACE.words, EXITED_3),
+        ("trace --steps 0 x", SPENT),
+        ("trace --steps 2 x", SPENT),
+        ("trace --steps 3 x", EXITED_3),
+        ("trace --steps 00000000001000000000 x", EXITED_3),
+    ] {
+        let mut left = expect(&rt, &Call { words, ..TRACE }, &end)?;
+        assert!(rt; left.store.file("o").is_none(), "{words}");
+        assert_eq!(rt; left.input_left(), Ok(0), "{words}");
+    }
     Ok(())
 }
 
 #[test]
 fn a_program_is_stuck_where_its_meaning_ends(rt: HostRuntime) -> Result<(), Fail> {
-    let rows: [([u32; 4], u32, Why, &str); 6] = [
-        (
-            [addi(10, 0, 3), ECALL, ECALL, ECALL],
-            4,
-            Why::ArgumentUnknown,
-            "stuck 0 1 4 4 ArgumentUnknown\n",
-        ),
-        (
-            [addi(17, 0, 93), ECALL, ECALL, ECALL],
-            4,
-            Why::ArgumentUnknown,
-            "stuck 0 1 4 4 ArgumentUnknown\n",
-        ),
-        (
-            [addi(10, 0, 3), addi(17, 0, 94), ECALL, ECALL],
-            8,
-            Why::UnknownCall,
-            "stuck 0 1 8 9 UnknownCall\n",
-        ),
-        (
-            [addi(2, 2, 16), ECALL, ECALL, ECALL],
-            0,
-            Why::StackPointer,
-            "stuck 0 1 0 7 StackPointer\n",
-        ),
-        (
-            [addi(2, 9, 1), ECALL, ECALL, ECALL],
-            0,
-            Why::StackPointer,
-            "stuck 0 1 0 7 StackPointer\n",
-        ),
-        (
-            [addi(10, 0, 3), addi(17, 0, 93), NO_OPERATION, NO_OPERATION],
-            16,
-            Why::NoInstruction,
-            "stuck 0 1 16 8 NoInstruction\n",
-        ),
+    let argument = (4, Why::ArgumentUnknown, "stuck 0 1 4 4 ArgumentUnknown\n");
+    let call = (8, Why::UnknownCall, "stuck 0 1 8 9 UnknownCall\n");
+    let stack = (0, Why::StackPointer, "stuck 0 1 0 7 StackPointer\n");
+    let end = (16, Why::NoInstruction, "stuck 0 1 16 8 NoInstruction\n");
+    let three = addi(10, 0, 3);
+    let exit = addi(17, 0, 93);
+    let rows = [
+        ([three, ECALL, ECALL, ECALL], argument),
+        ([exit, ECALL, ECALL, ECALL], argument),
+        ([three, addi(17, 0, 94), ECALL, ECALL], call),
+        ([addi(2, 2, 16), ECALL, ECALL, ECALL], stack),
+        ([addi(2, 9, 1), ECALL, ECALL, ECALL], stack),
+        ([three, exit, NO_OPERATION, NO_OPERATION], end),
     ];
-    for (words, offset, why, line) in rows {
-        let left = traced(rt.alloc(), words)?;
+    for (words, (offset, why, line)) in rows {
         let place = Place {
             object: 0,
             section: 1,
             offset,
         };
-        assert_eq!(rt; left.outcome, Outcome::Stuck(place, why), "{line}");
-        assert_eq!(rt; status(&left.outcome), 126);
-        assert_eq!(rt; left.console.err_bytes(), line.as_bytes());
+        let call = Call {
+            changes: &code(words),
+            ..TRACE
+        };
+        expect(&rt, &call, &End(Outcome::Stuck(place, why), line, 126))?;
     }
     Ok(())
 }
 
+// The store's call 0 reads the object. The input's bytes are taken by the console's call 0, its end is
+// seen by call 1, and call 2 writes the line.
 #[test]
 fn objects_are_refused_and_faults_named(rt: HostRuntime) -> Result<(), Fail> {
-    let unknown = traced(rt.alloc(), [addi(10, 0, 3), 0x0000_0000, ECALL, ECALL])?;
-    assert_eq!(rt; unknown.outcome, Outcome::Refused(0, Fault::NotBuilt));
-    assert_eq!(rt;
-        unknown.console.err_bytes(),
-        b"refused 0 0 NotBuilt\n".as_slice()
-    );
-    let missing = call(rt.alloc(), &["trace", "y.o"], "x.o", &THREE, &[], &[])?;
-    assert_eq!(rt; missing.outcome, Outcome::ReadFault);
-    // The input's bytes are taken by the console's call 0, its end is seen by call 1, and call 2 writes the line.
-    let rows: [(&[u32], &[u32], Outcome, &str); 4] = [
-        (&[0], &[], Outcome::ReadFault, "read fault\n"),
-        (&[], &[0], Outcome::ReadFault, "read fault\n"),
-        (&[], &[1], Outcome::ReadFault, "read fault\n"),
-        (&[], &[2], Outcome::Exited(3), ""),
+    let unknown = Call {
+        changes: &code([addi(10, 0, 3), 0x0000_0000, ECALL, ECALL]),
+        ..TRACE
+    };
+    let refused = Outcome::Refused(0, Fault::NotBuilt);
+    let mut left = expect(&rt, &unknown, &End(refused, "refused 0 0 NotBuilt\n", 121))?;
+    assert_eq!(rt; left.input_left(), Ok(5));
+    let words = "trace y";
+    expect(&rt, &Call { words, ..TRACE }, &READ_FAULT)?;
+    let rows: [(&[u32], &[u32], End); 4] = [
+        (&[0], &[], READ_FAULT),
+        (&[], &[0], READ_FAULT),
+        (&[], &[1], READ_FAULT),
+        (&[], &[2], unsaid(EXITED_3)),
     ];
-    for (store_fails, console_fails, want, line) in rows {
-        let left = call(
-            rt.alloc(),
-            &TRACE,
-            "x.o",
-            &THREE,
+    for (store_fails, console_fails, end) in rows {
+        let call = Call {
             store_fails,
             console_fails,
-        )?;
-        assert_eq!(rt; left.outcome, want);
-        assert_eq!(rt; left.console.err_bytes(), line.as_bytes());
+            ..TRACE
+        };
+        expect(&rt, &call, &end)?;
     }
     Ok(())
 }
 
-// Sums of two immediates, of which the first is written short where it has six bits: the exit is the sum's low byte.
+// Sums of two immediates, of which the first is written short if it has six bits: the exit is the
+// sum's low byte.
 #[test]
 fn an_image_exits_as_its_object_does(rt: HostRuntime) -> Result<(), Fail> {
     for first in [-2048i32, -33, -32, -1, 0, 31, 32, 2047] {
@@ -144,14 +120,26 @@ fn an_image_exits_as_its_object_does(rt: HostRuntime) -> Result<(), Fail> {
                 addi(17, 0, 93),
                 ECALL,
             ];
-            let object = object_of(words);
+            let changes = code(words);
             let sum = first.wrapping_add(second).cast_unsigned();
             let want = Outcome::Exited((sum % 256) as u8);
-            let traced = call(rt.alloc(), &TRACE, "x.o", &object, &[], &[])?;
+            let traced = make(
+                rt.alloc(),
+                &Call {
+                    changes: &changes,
+                    ..TRACE
+                },
+            )?;
             assert_eq!(rt; traced.outcome, want, "trace {first} {second}");
-            let linked = call(rt.alloc(), &ZC_WORDS, "x.o", &object, &[], &[])?;
-            let image = linked.out().ok_or("no image")?;
-            let ran = call(rt.alloc(), &["run", "x"], "x", image, &[], &[])?;
+            let linked = make(
+                rt.alloc(),
+                &Call {
+                    changes: &changes,
+                    ..ZC
+                },
+            )?;
+            let file = linked.store.file("o").ok_or("no image")?;
+            let ran = make(rt.alloc(), &Call { file, ..RUN })?;
             assert_eq!(rt; ran.outcome, want, "run {first} {second}");
             assert_eq!(rt; ran.console.err_bytes(), traced.console.err_bytes());
         }

@@ -1,68 +1,82 @@
 // What the command `zc` writes, refuses and names.
 
-use crate::fixture::{THREE, THREE_IMAGE, ZC_WORDS, call};
+use crate::fixture::{
+    Call, Change, DONE, End, READ_FAULT, THREE, THREE_IMAGE, WRITE_FAULT, ZC, expect, unsaid,
+};
 use crate::outcome::Outcome;
 use elf32_read::fault::Fault;
 use std::test::Fail;
-use zc_base::fields::put_u32;
 
 const CERTIFICATE: &str = "zcld certificate 1\nprice 0 0 0\nnet 0\nend\n";
 
+const NOT_BUILT: End = End(
+    Outcome::Refused(0, Fault::NotBuilt),
+    "refused 0 0 NotBuilt\n",
+    121,
+);
+
+const NOT_ELF: End = End(
+    Outcome::Refused(0, Fault::NotElf),
+    "refused 0 1 NotElf\n",
+    121,
+);
+
+const TRUNCATED: End = End(
+    Outcome::Refused(0, Fault::Truncated),
+    "refused 0 2 Truncated\n",
+    121,
+);
+
+// The options come in either order, and an empty word is a name like any other.
 #[test]
 fn three_instructions_become_an_image_of_460_bytes(rt: HostRuntime) -> Result<(), Fail> {
-    for words in [ZC_WORDS, ["zc", "--cert", "c", "--out", "o", "x.o"]] {
-        let left = call(rt.alloc(), &words, "x.o", &THREE, &[], &[])?;
-        assert_eq!(rt; left.outcome, Outcome::Done);
-        assert_eq!(rt; left.out().ok_or("no image")?, THREE_IMAGE.as_slice());
-        assert_eq!(rt;
-            left.cert().ok_or("no certificate")?,
-            CERTIFICATE.as_bytes()
-        );
-        assert_eq!(rt;
-            left.store.file("x.o").ok_or("no object")?,
-            THREE.as_slice()
-        );
-        assert_eq!(rt; left.console.out_bytes(), b"".as_slice());
-        assert_eq!(rt; left.console.err_bytes(), b"".as_slice());
+    for (words, out) in [
+        (ZC.words, "o"),
+        ("zc --cert c --out o x", "o"),
+        ("zc --out  --cert c x", ""),
+    ] {
+        let mut left = expect(&rt, &Call { words, ..ZC }, &DONE)?;
+        let image = left.store.file(out).ok_or("no image")?;
+        assert_eq!(rt; image, THREE_IMAGE.as_slice(), "{words}");
+        let certificate = left.store.file("c").ok_or("no certificate")?;
+        assert_eq!(rt; certificate, CERTIFICATE.as_bytes(), "{words}");
+        let object = left.store.file("x").ok_or("no object")?;
+        assert_eq!(rt; object, THREE.as_slice(), "{words}");
+        assert_eq!(rt; left.input_left(), Ok(5), "{words}");
     }
     Ok(())
 }
 
-// Each row changes one byte of the object: e_flags, the sections' count, the header of section 1 (its
-// kind, flags, size and alignment), a word, and a section beside it; the magic number, and where
-// section 1's content begins.
+// Changes of e_flags, the sections' count, the header of section 1 (its kind, flags, size and
+// alignment), a word, and a section beside it; the magic number, where section 1's content begins, and
+// the file's length.
 #[test]
 fn objects_that_are_not_straight_code_are_named(rt: HostRuntime) -> Result<(), Fail> {
-    let rows = [
-        (36, 1, Fault::NotBuilt, "refused 0 0 NotBuilt\n"),
-        (48, 1, Fault::NotBuilt, "refused 0 0 NotBuilt\n"),
-        (184, 8, Fault::NotBuilt, "refused 0 0 NotBuilt\n"),
-        (188, 7, Fault::NotBuilt, "refused 0 0 NotBuilt\n"),
-        (200, 0, Fault::NotBuilt, "refused 0 0 NotBuilt\n"),
-        (200, 10, Fault::NotBuilt, "refused 0 0 NotBuilt\n"),
-        (212, 8, Fault::NotBuilt, "refused 0 0 NotBuilt\n"),
-        (53, 0x15, Fault::NotBuilt, "refused 0 0 NotBuilt\n"),
-        (224, 4, Fault::NotBuilt, "refused 0 0 NotBuilt\n"),
-        (224, 9, Fault::NotBuilt, "refused 0 0 NotBuilt\n"),
-        (224, 17, Fault::NotBuilt, "refused 0 0 NotBuilt\n"),
-        (228, 2, Fault::NotBuilt, "refused 0 0 NotBuilt\n"),
-        (0, 0, Fault::NotElf, "refused 0 1 NotElf\n"),
-        (199, 1, Fault::Truncated, "refused 0 2 Truncated\n"),
-    ];
-    for (at, byte, fault, line) in rows {
-        let mut object = THREE;
-        object[at] = byte;
-        let left = call(rt.alloc(), &ZC_WORDS, "x.o", &object, &[], &[])?;
-        assert_eq!(rt; left.outcome, Outcome::Refused(0, fault), "byte {at}");
-        assert_eq!(rt; left.console.err_bytes(), line.as_bytes(), "byte {at}");
-        assert!(rt; left.out().is_none() && left.cert().is_none());
+    for (change, end) in [
+        (Change::Byte(36, 1), NOT_BUILT),
+        (Change::Byte(48, 1), NOT_BUILT),
+        (Change::Byte(184, 8), NOT_BUILT),
+        (Change::Byte(188, 7), NOT_BUILT),
+        (Change::Byte(200, 0), NOT_BUILT),
+        (Change::Byte(200, 10), NOT_BUILT),
+        (Change::Byte(212, 8), NOT_BUILT),
+        (Change::Byte(53, 0x15), NOT_BUILT),
+        (Change::Byte(224, 4), NOT_BUILT),
+        (Change::Byte(224, 9), NOT_BUILT),
+        (Change::Byte(224, 17), NOT_BUILT),
+        (Change::Byte(228, 2), NOT_BUILT),
+        (Change::Byte(0, 0), NOT_ELF),
+        (Change::Byte(199, 1), TRUNCATED),
+        (Change::Length(339), TRUNCATED),
+    ] {
+        let changes = [change];
+        let call = Call {
+            changes: &changes,
+            ..ZC
+        };
+        let left = expect(&rt, &call, &end)?;
+        assert!(rt; left.store.file("o").is_none() && left.store.file("c").is_none());
     }
-    let left = call(rt.alloc(), &ZC_WORDS, "x.o", &THREE[..339], &[], &[])?;
-    assert_eq!(rt; left.outcome, Outcome::Refused(0, Fault::Truncated));
-    assert_eq!(rt;
-        left.console.err_bytes(),
-        b"refused 0 2 Truncated\n".as_slice()
-    );
     Ok(())
 }
 
@@ -80,58 +94,64 @@ fn small_constants_take_two_bytes(rt: HostRuntime) -> Result<(), Fail> {
         (0x0030_8513, &[0x13, 0x85, 0x30, 0x00]),
     ];
     for (word, want) in rows {
-        let mut object = THREE;
-        put_u32(&mut object, 52, word);
-        let left = call(rt.alloc(), &ZC_WORDS, "x.o", &object, &[], &[])?;
-        let image = left.out().ok_or("no image")?;
-        assert!(rt; image.len() >= 120, "{word:08x}");
-        assert!(rt; image[116..].starts_with(want), "{word:08x}");
-        assert_eq!(rt; usize::from(image[68]), want.len() + 8, "{word:08x}");
+        let changes = [Change::Word(52, word)];
+        let call = Call {
+            changes: &changes,
+            ..ZC
+        };
+        let left = expect(&rt, &call, &DONE)?;
+        let image = left.store.file("o").ok_or("no image")?;
+        let text = image.get(116..).ok_or("no text")?;
+        assert!(rt; text.starts_with(want), "{word:08x}");
+        let size = image.get(68).copied().ok_or("no size")?;
+        assert_eq!(rt; usize::from(size), want.len() + 8, "{word:08x}");
     }
     Ok(())
 }
 
+// The store's call 0 reads the object, call 1 writes the image, and call 2 the certificate. The
+// console's call 0 writes the line.
 #[test]
 fn calls_of_the_outside_that_fail_are_named(rt: HostRuntime) -> Result<(), Fail> {
-    let rows: [(u32, Outcome, bool, &str); 3] = [
-        (0, Outcome::ReadFault, false, "read fault\n"),
-        (1, Outcome::WriteFault, false, "write fault\n"),
-        (2, Outcome::WriteFault, true, "write fault\n"),
+    let rows: [(&[u32], End, bool); 3] = [
+        (&[0], READ_FAULT, false),
+        (&[1], WRITE_FAULT, false),
+        (&[2], WRITE_FAULT, true),
     ];
-    for (number, outcome, is_out_held, line) in rows {
-        let left = call(rt.alloc(), &ZC_WORDS, "x.o", &THREE, &[number], &[])?;
-        assert_eq!(rt; left.outcome, outcome, "store call {number}");
-        assert_eq!(rt; left.out().is_some(), is_out_held, "store call {number}");
-        assert!(rt; left.cert().is_none());
+    for (store_fails, end, is_out_held) in rows {
+        let call = Call { store_fails, ..ZC };
+        let left = expect(&rt, &call, &end)?;
         assert_eq!(rt;
-            left.console.err_bytes(),
-            line.as_bytes(),
-            "store call {number}"
+            left.store.file("o").is_some(),
+            is_out_held,
+            "{store_fails:?}"
         );
-        let silent = call(rt.alloc(), &ZC_WORDS, "x.o", &THREE, &[number], &[0])?;
-        assert_eq!(rt;
-            silent.outcome,
-            outcome,
-            "store call {number}, console call 0"
-        );
-        assert_eq!(rt; silent.console.err_bytes(), b"".as_slice());
+        assert!(rt; left.store.file("c").is_none(), "{store_fails:?}");
+        let call = Call {
+            console_fails: &[0],
+            ..call
+        };
+        expect(&rt, &call, &unsaid(end))?;
     }
-    let done = call(rt.alloc(), &ZC_WORDS, "x.o", &THREE, &[], &[0])?;
-    assert_eq!(rt; done.outcome, Outcome::Done);
+    let call = Call {
+        console_fails: &[0],
+        ..ZC
+    };
+    expect(&rt, &call, &DONE)?;
     Ok(())
 }
 
 #[test]
 fn objects_that_are_not_held_or_too_long_are_read_faults(rt: HostRuntime) -> Result<(), Fail> {
-    let words = ["zc", "--out", "o", "--cert", "c", "y.o"];
-    let missing = call(rt.alloc(), &words, "x.o", &THREE, &[], &[])?;
-    assert_eq!(rt; missing.outcome, Outcome::ReadFault);
-    let long = vec![in rt.alloc(); 0u8; 4_194_305]?;
-    let left = call(rt.alloc(), &ZC_WORDS, "x.o", long.as_slice(), &[], &[])?;
-    assert_eq!(rt; left.outcome, Outcome::ReadFault);
-    assert_eq!(rt; left.console.err_bytes(), b"read fault\n".as_slice());
-    let longest = vec![in rt.alloc(); 0u8; 4_194_304]?;
-    let left = call(rt.alloc(), &ZC_WORDS, "x.o", longest.as_slice(), &[], &[])?;
-    assert_eq!(rt; left.outcome, Outcome::Refused(0, Fault::NotElf));
+    let words = "zc --out o --cert c y";
+    expect(&rt, &Call { words, ..ZC }, &READ_FAULT)?;
+    for (length, end) in [(4_194_305, READ_FAULT), (4_194_304, NOT_ELF)] {
+        let zeros = vec![in rt.alloc(); 0u8; length]?;
+        let call = Call {
+            file: zeros.as_slice(),
+            ..ZC
+        };
+        expect(&rt, &call, &end)?;
+    }
     Ok(())
 }
