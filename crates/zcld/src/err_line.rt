@@ -21,7 +21,8 @@ use zc_outside::console::Console;
 /// The files are those that were read: a line may end with a name in one of them, which is written
 /// from there.
 pub fn report<C: Console>(files: &[Vec<u8>], outcome: &Outcome, console: &mut C)
-    ensures line { WritesLine (err_line (contents_of files.now) outcome.now) (C.shown console.old) (C.shown console.new) }
+    ensures line { WritesLine (err_line (contents_of files.now) outcome.now)
+        (C.shown console.old) (C.shown console.new) }
     ensures out { KeepsBytes (C.shown console.old).out (C.shown console.new).out }
     ensures only { OnlyWrites (C.shown console.old) (C.shown console.new) }
 {
@@ -31,7 +32,8 @@ pub fn report<C: Console>(files: &[Vec<u8>], outcome: &Outcome, console: &mut C)
 
 // Writes pieces to standard error one after another, until one is refused.
 fn write_pieces<C: Console>(pieces: &[&[u8]], console: &mut C)
-    ensures line { WritesLine (flat_map (λ piece. piece.now) pieces.now) (C.shown console.old) (C.shown console.new) }
+    ensures line { WritesLine (flat_map (λ piece. piece.now) pieces.now)
+        (C.shown console.old) (C.shown console.new) }
     ensures out { KeepsBytes (C.shown console.old).out (C.shown console.new).out }
     ensures only { OnlyWrites (C.shown console.old) (C.shown console.new) }
 {

@@ -30,9 +30,11 @@ pub fn take_all<C: Console>(alloc: Global, console: &mut C) -> Result<Vec<u8>, O
 
 // Takes a piece of the input after what was taken so far, and says how long it is: 0 at the end.
 fn take_piece<C: Console>(input: &mut Vec<u8>, console: &mut C) -> Result<usize, Outcome>
-    ensures ok { IfOk result (λ n. TakesPart (C.shown console.old).input (C.shown console.new).input input.old.items input.new.items n) }
+    ensures ok { IfOk result (λ n. TakesPart (C.shown console.old).input (C.shown console.new).input
+        input.old.items input.new.items n) }
     ensures length { IfOk result (λ n. length input.new.items ≡ length input.old.items + n) }
-    ensures taken { IfOk result (λ n. (C.shown console.new).taken ≡ min ((C.shown console.old).taken + n) (2 ^ 64 - 1)) }
+    ensures taken { IfOk result (λ n.
+        (C.shown console.new).taken ≡ min ((C.shown console.old).taken + n) (2 ^ 64 - 1)) }
     ensures err { IfErr result (λ outcome. UntakenCause outcome (C.shown console.old) (C.shown console.new)) }
     ensures only { OnlyTakes (C.shown console.old) (C.shown console.new) }
 {

@@ -22,8 +22,10 @@ pub fn read_objects<S: Store>(
     files: &mut Vec<Vec<u8>>,
     store: &mut S,
 ) -> Result<(), Outcome>
-    ensures ok { OnOk result (AreRead (S.shown store.old).files (objects_wanted (texts names.now)) (contents_of files.new.items)) }
-    ensures err { IfErr result (UnreadCause (objects_wanted (texts names.now)) (S.shown store.old) (S.shown store.new)) }
+    ensures ok { OnOk result (AreRead (S.shown store.old).files (objects_wanted (texts names.now))
+        (contents_of files.new.items)) }
+    ensures err { IfErr result (UnreadCause (objects_wanted (texts names.now))
+        (S.shown store.old) (S.shown store.new)) }
     ensures reads { ReadsAll (objects_wanted (texts names.now)) (S.shown store.old) (S.shown store.new) }
 {
     read_files(alloc, names, OBJECT_LIMIT, files, store)?;

@@ -31,8 +31,8 @@ pub fn zc<S: Store>(
     store: &mut S,
 ) -> Outcome
     requires { out.now ≢ cert.now }
-    ensures { (desk : Desk) → Does (Some (Zc out.now cert.now (texts objects.now))) (contents_of files.new.items) result
-        (world (S.shown store.old) desk) (world (S.shown store.new) desk) }
+    ensures { (desk : Desk) → Does (Some (Zc out.now cert.now (texts objects.now)))
+        (contents_of files.new.items) result (world (S.shown store.old) desk) (world (S.shown store.new) desk) }
 {
     if let Err(outcome) = read_objects(alloc, objects, files, store) {
         return outcome;
@@ -56,7 +56,8 @@ fn link(alloc: Global, files: &[Vec<u8>]) -> Result<Linked, Outcome>
 // Writes the image, then the certificate, and says how that ended.
 fn put_both<S: Store>(store: &mut S, out: &str, image: &[u8], cert: &str) -> Outcome
     requires { out.now ≢ cert.now }
-    ensures puts { PutsInTurn result (S.shown store.old) (S.shown store.new) out.now image.now cert.now empty_certificate }
+    ensures puts { PutsInTurn result (S.shown store.old) (S.shown store.new)
+        out.now image.now cert.now empty_certificate }
     ensures only { OnlyPuts (S.shown store.old) (S.shown store.new) }
 {
     match store.put(out, image) {
