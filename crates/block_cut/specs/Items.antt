@@ -72,7 +72,7 @@ item_from objects q section =
 unfoldable pub item_at : List ObjectParts → Place → Option Item
 item_at objects q = option_and_then (item_from objects q) (code_at objects q)
 
--- whether an item starts at a place and leads a basic block: so far the first item of a section alone
+-- whether the item at a place, if one starts there, leads a basic block: so far the first item of a section alone
 abbrev pub is_leader_at : List ObjectParts → Place → Bool
 is_leader_at objects q = q.offset == 0
 

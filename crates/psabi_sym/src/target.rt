@@ -6,7 +6,7 @@ use zc_base::place::Place;
 ///
 /// `Code` is a place in code, which has no address before the layout, and `Number` an address of data
 /// or a number. `Absent` is a weak symbol that no object defines, with the addend alone. `Nowhere`
-/// stands where no address can be meant: the symbol's section isn't kept, the place lies outside its
+/// means no address: the symbol's section isn't kept, the place lies outside its
 /// section, or the symbol is global and nothing defines it.
 #[derive(Clone, Copy, PartialEq, Eq, Debug)]
 pub enum Target {

@@ -14,7 +14,7 @@ pub struct MemMap {
 }
 
 impl MemMap {
-    /// The map that the linker uses where it is told no other.
+    /// The map that the linker uses if it is given no other.
     pub fn standard() -> MemMap
         ensures { result ≡ standard_map }
     {

@@ -1,4 +1,4 @@
--- What is fetched where the text is the first segment: at the offset of a word's piece its instruction.
+-- What is fetched if the text is the first segment: at the offset of a word's piece its instruction.
 use Rattle.std.proofs.Common.{◌≡◌, ◌≢◌, ℕ, ◌+◌, ◌-◌, ◌/◌, ◌%◌, ◌^◌, ◌<◌, ◌≤◌, List, ◌∷◌, length, Some, Bool, true, false, sym, ap, ap₂, ◌∙◌, arith, get_or}
 use Rattle.std.specs.List.{flat_map}
 use Rattle.std.proofs.lemmas.List.Concat.{get_or-flat_map}

@@ -13,7 +13,7 @@ SpansMemory p a n = ((p.map.data_low ≤ a) × (a + n ≤ data_end p)) ⊎ ((p.m
 pub record Room (p : Program) (e : Image) : Type 0 where
   -- the image was made for the program's map
   pub map : e.map ≡ p.map
-  -- the stack ends below 2^32, begins at or after the end of data, and no frame on it comes round to address 0
+  -- the stack ends below 2^32, begins at or after the end of data, and no frame on it wraps around to address 0
   pub top : p.map.stack_high < 2 ^ 32
   pub some : p.map.stack_low ≤ p.map.stack_high
   pub deep : 2048 ≤ p.map.stack_low

@@ -64,7 +64,7 @@ pub record RanOut (run : Course) (now : ZcCore) (before after : Desk) : Type 0 w
   pub machine : now ≡ last.core
   pub wrote : Wrote (out_of last.events) (err_of last.events) before after
 
--- the console refused the write that the last of these commits makes; the machine may be in any state
+-- the console refused the write that is the last event of these commits; the machine may be in any state
 pub record RanToRefusal (run : Course) (before after : Desk) : Type 0 where
   pub commits : ℕ
   pub within : commits ≤ run.steps
