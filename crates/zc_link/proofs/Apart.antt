@@ -1,21 +1,19 @@
 -- Interrupts and cells of data lie apart. An interrupt writes in the stack, a cell lies in data, and the stack begins at or after
 -- data's end: so an interrupt does the same whatever data hold. A piece has one commit so far, of which nothing is asked.
-use Rattle.std.proofs.Common.{◌≡◌, ◌≢◌, ℕ, suc, ◌+◌, ◌<◌, List, [], ◌∷◌, Ok, Bool, true, false, cond, refl, sym, ap, ap₂, ◌∙◌, ⊎_elim, arith, ltb, leb}
+use Rattle.std.proofs.Common.{◌≡◌, ◌≢◌, ℕ, suc, ◌+◌, ◌<◌, List, [], ◌∷◌, Bool, true, false, cond, refl, sym, ap, ap₂, ◌∙◌, ⊎_elim, arith, ltb, leb}
 use Rattle.std.specs.Prelude.{◌&&◌, ◌⊎◌}
 use Rattle.std.proofs.lemmas.Bool.{and_parts, leb-true, ltb-true}
 use Rattle.zc_base.specs.declared.place.Place.{Place}
-use Rattle.interrupt_plan.specs.Plan.{Cut}
 use Rattle.rv_decode.specs.Memory.{Extent, Region, cells_changed, changed, extents_of, is_stack, lies_in, written}
 use Rattle.rv_decode.specs.State.{ZcCore, ZcState, reg_in}
 use Rattle.rv_decode.proofs.MemoryLaws.{extents-changed}
 use Rattle.sym_machine.specs.Program.{Program}
 use Rattle.sym_machine.specs.State.{PlainCore, PlainState}
-use Rattle.zc_machine.specs.Interrupt.{all_dirtied, cut, dirtied, is_free}
-use Rattle.zc_machine.specs.Run.{zc_turn}
+use Rattle.zc_machine.specs.Interrupt.{all_dirtied, dirtied, is_free}
 use Rattle.zc_link.specs.Image.{Image, loaded}
 use Rattle.zc_link.specs.Laid.{Laid}
 use Rattle.zc_link.specs.Pieces.{Alone, Piece, commits_of, span_of}
-use Rattle.zc_link.specs.Simulates.{CommitsApart, Commits, Cuts, CutsApart, FromLoad, FromPair, IsCell, OnWay, Pace, Pokes, Starts, poked}
+use Rattle.zc_link.specs.Simulates.{CommitsApart, Commits, Cuts, CutsApart, FromLoad, FromPair, OnWay, Pace, Pokes, Starts}
 use Rattle.zc_link.proofs.Cuts.{stack_within}
 use Rattle.zc_link.proofs.Extents.{SameExtents, dirtied_extents, on_way_extents}
 use Rattle.zc_link.proofs.Start.{no_lead}

@@ -10,7 +10,6 @@ use Rattle.rv_decode.specs.Memory.{changed, extents_of, written}
 use Rattle.rv_decode.specs.State.{ZcCore, ZcState, reg_in}
 use Rattle.rv_decode.proofs.MemoryLaws.{extents-changed}
 use Rattle.sym_machine.specs.Program.{Program}
-use Rattle.sym_machine.specs.State.{PlainState}
 use Rattle.zc_decode.specs.declared.short.Short.{Short}
 use Rattle.zc_decode.specs.declared.short.Short.TheVariants.{Base, Push, Pop, PopRet, PopRetz, MoveSa, MoveAs, TableJump}
 use Rattle.zc_decode.specs.Effect.{short_effect}
@@ -22,7 +21,7 @@ use Rattle.zc_machine.specs.Interrupt.{all_dirtied, cut, dirtied, is_free}
 use Rattle.zc_machine.specs.Run.{answered, committed, turn_from, zc_turn}
 use Rattle.zc_machine.specs.Step.{ZcStep, Committed, Wants, Ended, Stopped, effect_step, made, step_from, zc_step}
 use Rattle.zc_link.specs.Image.{Image, loaded}
-use Rattle.zc_link.specs.Simulates.{Cuts, Commits, OnWay, Pace, Pokes, Starts}
+use Rattle.zc_link.specs.Simulates.{Cuts, Commits, OnWay, Pokes, Starts}
 
 -- both have their regions at the same addresses
 abbrev pub SameExtents : ZcCore → ZcCore → Type 0

@@ -1,6 +1,7 @@
 // The words of a call.
 
 use crate::fixture::{Call, RUN, TRACE, USAGE, ZC, expect};
+use std::process::Abort;
 use std::test::Fail;
 
 // They touch no file and take no input. Each reads or writes a file that the store could have.
@@ -37,16 +38,23 @@ fn words_that_spell_no_command_leave_all_as_it_was(rt: HostRuntime) -> Result<()
         (TRACE, "trace --steps +3 x"),
     ];
     for (call, words) in rows {
-        let mut left = expect(&rt, &Call { words, ..call }, &USAGE)?;
-        for name in ["o", "c", "-o", "-"] {
-            assert!(rt; left.store.file(name).is_none(), "{words}: {name}");
-        }
-        assert_eq!(rt;
-            left.store.file("x").ok_or("no file")?,
-            call.file,
-            "{words}"
-        );
-        assert_eq!(rt; left.input_left(), Ok(5), "{words}");
+        expect_nothing(&rt, &Call { words, ..call })?;
     }
+    Ok(())
+}
+
+// Makes a call that should do nothing but say that its words spell no command.
+fn expect_nothing<R: Abort + AllocGlobal>(rt: &R, call: &Call) -> Result<(), Fail> {
+    let mut left = expect(rt, call, &USAGE)?;
+    for name in ["o", "c", "-o", "-"] {
+        assert!(rt; left.store.file(name).is_none(), "{}: {name}", call.words);
+    }
+    assert_eq!(rt;
+        left.store.file("x").ok_or("no file")?,
+        call.file,
+        "{}",
+        call.words
+    );
+    assert_eq!(rt; left.input_left(), Ok(5), "{}", call.words);
     Ok(())
 }
