@@ -1,5 +1,5 @@
 -- What is known of a command that runs a machine over the console's whole input: how that ends, and what it does to the counts.
-use Rattle.std.proofs.Common.{◌≡◌, ◌≢◌, ℕ, ◌<◌, ◌≤◌, List, length, Option, Some, None, IsTrue, refl, sym, ap, subst, ◌∙◌, ◌⊎◌, inl, inr, arith}
+use Rattle.std.proofs.Common.{◌≡◌, ◌≢◌, ℕ, List, Option, Some, None, IsTrue, sym, subst, ◌∙◌, ◌⊎◌, inl, inr, arith}
 use Rattle.zc_outside.specs.Desk.{Desk, OnlyTakes, OnlyWrites}
 use Rattle.zc_outside.specs.Files.{Rose}
 use Rattle.zc_outside.specs.Shelf.{OnlyPuts}
@@ -9,7 +9,7 @@ use Rattle.zc_outside.proofs.Shelf.{OnlyPuts-refl}
 use Rattle.zcld.specs.declared.outcome.Outcome.{Outcome}
 use Rattle.zcld.specs.declared.outcome.Outcome.TheVariants.{ReadFault, OutOfMemory, Usage}
 use Rattle.zcld.specs.Input.{IsLongInput, IsShortInput, UntakenCause}
-use Rattle.zcld.specs.Machines.{MachineWork, TakesAndRuns}
+use Rattle.zcld.specs.Machines.{MachineWork}
 use Rattle.zcld.specs.Task.{Task}
 use Rattle.zcld.proofs.Answering.{IsAnswer, IsFaulted, Moves}
 

@@ -1,5 +1,5 @@
 -- What is known of `run`: its refusals, how its work ends, and what that does to the counts.
-use Rattle.std.proofs.Common.{◌≡◌, ◌≢◌, ℕ, List, Option, Some, None, IsTrue, true, refl, sym, subst, ◌⊎◌, inl, inr}
+use Rattle.std.proofs.Common.{◌≡◌, ℕ, List, Option, Some, None, refl, sym, subst, ◌⊎◌, inl, inr}
 use Rattle.std.proofs.lemmas.Option.{same_Some, none-some}
 use Rattle.std.specs.Option.{option_map}
 use Rattle.zc_base.specs.MemMap.{standard_map}
@@ -7,7 +7,6 @@ use Rattle.elf32_read.specs.declared.image_fault.ImageFault.{ImageFault}
 use Rattle.elf32_read.specs.Image.{image_fault}
 use Rattle.zc_outside.specs.Desk.{Desk, OnlyWrites, WriteCause}
 use Rattle.zc_outside.specs.declared.console.ConsoleFault.TheVariants as console
-use Rattle.zc_outside.proofs.Desk.{OnlyWrites-refl}
 use Rattle.zc_machine.specs.RunEnd.{IfConsole}
 use Rattle.zc_machine.specs.declared.run.RunEnd.{RunEnd}
 use Rattle.zc_machine.specs.declared.run.RunEnd.TheVariants as end

@@ -1,10 +1,9 @@
 -- What is known of `trace`: its refusals, how its work ends, and what that does to the counts.
-use Rattle.std.proofs.Common.{◌≡◌, ◌≢◌, ℕ, List, IsTrue, refl, sym, subst, ◌⊎◌, inl, inr}
+use Rattle.std.proofs.Common.{ℕ, List, refl, sym, subst, inl, inr}
 use Rattle.psabi_sym.specs.Inputs.{Inputs}
 use Rattle.sym_machine.specs.declared.run.TraceEnd.{TraceEnd}
 use Rattle.sym_machine.specs.declared.run.TraceEnd.TheVariants as end
 use Rattle.zc_outside.specs.Desk.{Desk, OnlyWrites}
-use Rattle.zc_outside.proofs.Desk.{OnlyWrites-refl}
 use Rattle.zcld.specs.declared.outcome.Outcome.{Outcome}
 use Rattle.zcld.specs.Call.{task_of}
 use Rattle.zcld.specs.Command.{Trace}

@@ -1,5 +1,5 @@
 -- What is known of `zc`: its refusals, how its work ends, and what that does to the counts.
-use Rattle.std.proofs.Common.{◌≡◌, ◌≢◌, ℕ, ◌≤◌, List, Option, Some, None, refl, sym, ap, subst, ◌∙◌, ◌⊎◌, inl, inr, arith}
+use Rattle.std.proofs.Common.{◌≡◌, ℕ, List, Option, Some, None, refl, sym, ap, subst, ◌⊎◌, inl, inr, arith}
 use Rattle.std.proofs.lemmas.Option.{same_Some, none-some}
 use Rattle.std.specs.Option.{option_map}
 use Rattle.elf32_read.specs.declared.fault.Fault.{Fault}
@@ -7,8 +7,8 @@ use Rattle.block_cut.specs.Faults.{first_fault}
 use Rattle.zc_outside.specs.Shelf.{OnlyPuts, Shelf}
 use Rattle.zc_outside.specs.World.{World}
 use Rattle.zcld.specs.declared.outcome.Outcome.{Outcome}
-use Rattle.zcld.specs.declared.outcome.Outcome.TheVariants.{Done, Refused, WriteFault, OutOfMemory, Usage}
-use Rattle.zcld.specs.Call.{IsNoFault, task_of}
+use Rattle.zcld.specs.declared.outcome.Outcome.TheVariants.{Done, Refused, WriteFault, OutOfMemory}
+use Rattle.zcld.specs.Call.{task_of}
 use Rattle.zcld.specs.Command.{Zc}
 use Rattle.zcld.specs.Objects.{inputs_of, objects_refusal}
 use Rattle.zcld.specs.Zc.{PutsInTurn, ZcWork}

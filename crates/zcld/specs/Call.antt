@@ -47,7 +47,7 @@ WritesLine text before after =
     Adds before.err after.err text
     ⊎ ((Rose before.write_faults after.write_faults ⊎ Rose before.write_memory_faults after.write_memory_faults) × AddsPart before.err after.err text)
 
--- nothing but that
+-- the outcome's line is written, and nothing else is done
 pub record Reports (text : List ℕ) (before after : World) : Type 0 where
   pub shelf : after.shelf ≡ before.shelf
   pub out : KeepsBytes before.desk.out after.desk.out

@@ -12,11 +12,11 @@ pub record HasRun (Runs : List ℕ → Outcome → Desk → Desk → Type 0) (ou
   pub takes : Takes input before between
   pub runs : Runs input outcome between after
 
--- the input can't be had, or that
+-- the input can't be had, or it was taken whole and the machine ran
 abbrev pub TakesAndRuns : (List ℕ → Outcome → Desk → Desk → Type 0) → Outcome → Desk → Desk → Type 0
 TakesAndRuns Runs outcome before after = IsUntaken outcome before after ⊎ HasRun Runs outcome before after
 
--- that, and the store isn't touched
+-- the input and the machine's run, and the store isn't touched
 pub record MachineWork (Runs : List ℕ → Outcome → Desk → Desk → Type 0) (outcome : Outcome) (before after : World) : Type 0 where
   pub shelf : after.shelf ≡ before.shelf
   pub desk : TakesAndRuns Runs outcome before.desk after.desk

@@ -1,5 +1,5 @@
 -- What `run` does: it reads an image, takes the console's whole input, and makes commits of the Zc machine.
-use Rattle.std.specs.Prelude.{◌≡◌, ℕ, ◌⊎◌, List, [], ◌∷◌, Option, Some, None}
+use Rattle.std.specs.Prelude.{◌≡◌, ℕ, ◌⊎◌, List, [], ◌∷◌, Option}
 use Rattle.std.specs.Option.{option_map}
 use Rattle.zc_base.specs.MemMap.{standard_map}
 use Rattle.elf32_read.specs.Header.{entry_of}

@@ -1,6 +1,5 @@
--- How a command goes over its files: they can't be had, or they are refused, or the command does its work.
+-- How a command goes over its files: they can't be had and judged, or they are refused, or the command does its work.
 use Rattle.std.specs.Prelude.{◌≡◌, ℕ, ◌⊎◌, Bool, List, Option, Some, None, ⊤}
-use Rattle.zc_outside.specs.Desk.{Desk}
 use Rattle.zc_outside.specs.Shelf.{Shelf}
 use Rattle.zc_outside.specs.Wanted.{AreRead, AreUnread, ReadsAll, Wanted}
 use Rattle.zc_outside.specs.World.{World}
@@ -21,7 +20,7 @@ pub record OnlyRead (wanted : List Wanted) (before after : World) : Type 0 where
   pub shelf : ReadsAll wanted before.shelf after.shelf
   pub desk : after.desk ≡ before.desk
 
--- why files can't be had: reading one failed, or one is too long, or memory ran out
+-- why files can't be had and judged: reading one failed, or one is too long, or memory ran out
 abbrev pub UnreadCause : List Wanted → Shelf → Shelf → Outcome → Type 0
 UnreadCause wanted before after Done = ⊥
 UnreadCause wanted before after (Exited code) = ⊥
@@ -35,7 +34,7 @@ UnreadCause wanted before after (Stopped reason pc) = ⊥
 UnreadCause wanted before after (Stuck place why) = ⊥
 UnreadCause wanted before after Spent = ⊥
 
--- the files can't be had
+-- the files can't be had, or memory ran out before they were judged
 pub record IsUnread (task : Task) (outcome : Outcome) (before after : World) : Type 0 where
   pub only : OnlyRead task.wanted before after
   pub cause : UnreadCause task.wanted before.shelf after.shelf outcome

@@ -1,5 +1,5 @@
 -- What `zc` does: it links the objects, and puts the image and then the certificate.
-use Rattle.std.specs.Prelude.{◌≡◌, ◌≢◌, ℕ, ◌⊎◌, IsTrue, List, [], ◌∷◌, ◌++◌, codes, Option, Some, None, ⊤}
+use Rattle.std.specs.Prelude.{◌≡◌, ◌≢◌, ℕ, ◌⊎◌, IsTrue, List, ◌++◌, codes, Option, Some, None, ⊤}
 use Rattle.zc_outside.specs.Files.{Files, KeepsFiles, PutsFile, Rose}
 use Rattle.zc_outside.specs.Shelf.{OnlyPuts, Shelf}
 use Rattle.zc_outside.specs.World.{World}

@@ -47,7 +47,7 @@ fn write_pieces<C: Console>(pieces: &[&[u8]], console: &mut C)
 /// Room for the longest line: `stuck`, a place, and a reason's number and name.
 pub const ROOM: usize = 64;
 
-/// The line of an outcome, with its line feed; empty where there is none.
+/// The line of an outcome, with its line feed; empty if there is none.
 pub fn line_of(outcome: &Outcome) -> ArrayString<ROOM>
     ensures { (files : List (List ℕ)) → result.bytes ≡ err_line files outcome.now }
 {

@@ -1,5 +1,4 @@
 use Rattle.std.proofs.Common.{rules, refl}
-use Rattle.zcld.specs.Call.{Reports}
 use Rattle.zcld.proofs.Commands.{calls, usage_alone}
 use Rattle.zcld.proofs.call.zcld.Goals as goal
 

@@ -1,7 +1,5 @@
-use Rattle.std.proofs.Common.{rules, refl, sym, ap, subst, inr, map}
-use Rattle.std.specs.Option.{option_map}
+use Rattle.std.proofs.Common.{rules, refl, inr}
 use Rattle.zc_outside.specs.World.{world}
-use Rattle.zcld.specs.Zc.{PutsInTurn, empty_certificate}
 use Rattle.zcld.proofs.zc.zc.Goals as goal
 
 pub returns-in-Ok : goal.returns-in-Ok
