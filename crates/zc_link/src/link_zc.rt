@@ -53,3 +53,6 @@ fn straight_image(alloc: Global, cut: &Cut, code: &[u8]) -> Result<Vec<u8>, Allo
     };
     write_image(alloc, &parts)
 }
+
+#[cfg(test)]
+mod tests;
