@@ -1,7 +1,8 @@
 -- What is fetched if the text is the first segment: at the offset of a word's piece its instruction.
-use Rattle.std.proofs.Common.{◌≡◌, ◌≢◌, ℕ, ◌+◌, ◌-◌, ◌/◌, ◌%◌, ◌^◌, ◌<◌, ◌≤◌, List, ◌∷◌, length, Some, Bool, true, false, sym, ap, ap₂, ◌∙◌, arith, get_or}
+use Rattle.std.proofs.Common.{◌≡◌, ◌≢◌, ℕ, ◌+◌, ◌-◌, ◌^◌, ◌<◌, ◌≤◌, List, ◌∷◌, length, Some, Bool, true, false, sym, ap, ap₂, ◌∙◌, arith, get_or}
 use Rattle.std.specs.List.{flat_map}
 use Rattle.std.proofs.lemmas.List.Concat.{get_or-flat_map}
+use Rattle.zc_base.specs.Fields.{half_bytes, word_bytes}
 use Rattle.zc_base.specs.declared.mem_map.MemMap.{MemMap}
 use Rattle.elf32_read.specs.Segments.{SegmentData}
 use Rattle.rv_decode.specs.declared.instr.Instr.{Instr}
@@ -41,6 +42,13 @@ module _ (words : List ℕ) (s : SegmentData) (ss : List SegmentData) (entry : �
       ∙ get_or-flat_map piece words k j 0 0 lt mine
       ∙ ap (λ x. get_or (piece x) j 0) is_w
 
+  -- the same at its address, where the piece is known
+  byte_at : (k w j a : ℕ) (bytes : List ℕ) → get_or words k 0 ≡ w → k < length words → piece w ≡ bytes → j < length bytes → a ≡ s.at + offset_of words k + j → byte_in core a ≡ get_or bytes j 0
+  byte_at k w j a bytes is_w lt is inside at =
+      let long = ap length is in
+      let here : a ≡ s.at + (offset_of words k + j) = omega arith in
+      ap (byte_in core) here ∙ piece_byte k w j is_w lt (omega arith) ∙ ap (λ l. get_or l j 0) is
+
   piece_lies : (k w : ℕ) → get_or words k 0 ≡ w → k < length words → lies_in is_text (extents_of core.memory) (s.at + offset_of words k) (length (piece w)) ≡ true
   unfolding first_core
   piece_lies k w is_w lt =
@@ -57,10 +65,8 @@ module _ (words : List ℕ) (s : SegmentData) (ss : List SegmentData) (entry : �
       let p = piece_short w li in
       let long : length (piece w) ≡ 2 = ap length p in
       let here : lies_in is_text (extents_of core.memory) a 2 ≡ true = ap (lies_in is_text (extents_of core.memory) a) (sym long) ∙ piece_lies k w is_w lt in
-      let n0 : a ≡ s.at + (offset_of words k + 0) = omega arith in
-      let n1 : a + 1 ≡ s.at + (offset_of words k + 1) = omega arith in
-      let b0 : byte_in core a ≡ short_of w % 256 = ap (byte_in core) n0 ∙ piece_byte k w 0 is_w lt (omega arith) ∙ ap (λ l. get_or l 0 0) p in
-      let b1 : byte_in core (a + 1) ≡ short_of w / 256 % 256 = ap (byte_in core) n1 ∙ piece_byte k w 1 is_w lt (omega arith) ∙ ap (λ l. get_or l 1 0) p in
+      let b0 = byte_at k w 0 a (half_bytes (short_of w)) is_w lt p (omega arith) (omega arith) in
+      let b1 = byte_at k w 1 (a + 1) (half_bytes (short_of w)) is_w lt p (omega arith) (omega arith) in
       let f = li_fields (field w 7 5) (field w 20 12) (omega arith) (omega arith) in
       let half : half_at core a ≡ short_of w = omega (arith, b0, b1, f.small) in
       let low : field (short_of w) 0 2 ≢ 3 = λ e. omega (arith, f.low, e) in
@@ -70,14 +76,10 @@ module _ (words : List ℕ) (s : SegmentData) (ss : List SegmentData) (entry : �
       let p = piece_long w li in
       let long : length (piece w) ≡ 4 = ap length p in
       let here : lies_in is_text (extents_of core.memory) a 4 ≡ true = ap (lies_in is_text (extents_of core.memory) a) (sym long) ∙ piece_lies k w is_w lt in
-      let n0 : a ≡ s.at + (offset_of words k + 0) = omega arith in
-      let n1 : a + 1 ≡ s.at + (offset_of words k + 1) = omega arith in
-      let n2 : a + 2 ≡ s.at + (offset_of words k + 2) = omega arith in
-      let n3 : a + 3 ≡ s.at + (offset_of words k + 3) = omega arith in
-      let b0 : byte_in core a ≡ w % 256 = ap (byte_in core) n0 ∙ piece_byte k w 0 is_w lt (omega arith) ∙ ap (λ l. get_or l 0 0) p in
-      let b1 : byte_in core (a + 1) ≡ w / 256 % 256 = ap (byte_in core) n1 ∙ piece_byte k w 1 is_w lt (omega arith) ∙ ap (λ l. get_or l 1 0) p in
-      let b2 : byte_in core (a + 2) ≡ w / 65536 % 256 = ap (byte_in core) n2 ∙ piece_byte k w 2 is_w lt (omega arith) ∙ ap (λ l. get_or l 2 0) p in
-      let b3 : byte_in core (a + 3) ≡ w / 16777216 % 256 = ap (byte_in core) n3 ∙ piece_byte k w 3 is_w lt (omega arith) ∙ ap (λ l. get_or l 3 0) p in
+      let b0 = byte_at k w 0 a (word_bytes w) is_w lt p (omega arith) (omega arith) in
+      let b1 = byte_at k w 1 (a + 1) (word_bytes w) is_w lt p (omega arith) (omega arith) in
+      let b2 = byte_at k w 2 (a + 2) (word_bytes w) is_w lt p (omega arith) (omega arith) in
+      let b3 = byte_at k w 3 (a + 3) (word_bytes w) is_w lt p (omega arith) (omega arith) in
       let word : word_at core a ≡ w = omega (arith, b0, b1, b2, b3) in
       let low : field (half_at core a) 0 2 ≡ 3 = omega (arith, b0, b1, decoded-low_bits w i d) in
       fetched_long core a w i here word low d ∙ ap (Found (Base i)) (sym long)

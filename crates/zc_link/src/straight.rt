@@ -71,7 +71,6 @@ fn place(offset: u32) -> Place
 }
 
 // Adds what is written for the item that a word spells: its short form, or else the word.
-#[tactic(auto, unfolding(crate::specs::Straight::piece))]
 fn put_item(text: &mut Vec<u8>, item: Option<Item>, word: u32) -> Result<(), AllocError>
     requires { item ≡ Some (spelled (decoded word) word) }
     ensures { OnOk result (text.new.items ≡ text.old.items ++ piece word) }
