@@ -1,5 +1,8 @@
 // The object of three instructions, its image, and calls over one file in memory. The object and the
 // image were worked out by hand from the ELF format.
+//
+// The check proves each test, and pays there for each assertion and each row of a table. So rows are lines
+// of a text, and what is asserted of them stands here.
 
 use crate::call::zcld;
 use crate::outcome::{Outcome, status};
@@ -7,7 +10,7 @@ use std::alloc::{AllocError, Global};
 use std::process::Abort;
 use std::test::Fail;
 use zc_base::fields::put_u32;
-use zc_outside::console::{Console, ConsoleFault};
+use zc_outside::console::Console;
 use zc_outside::mem_console::MemConsole;
 use zc_outside::mem_store::MemStore;
 
@@ -72,38 +75,34 @@ pub const THREE_IMAGE: [u8; 460] = [
     0x00, 0x00, 0x00, 0x00, 0x01, 0x00, 0x00, 0x00, 0x00, 0x00, 0x00, 0x00,
 ];
 
-/// A change of a file: a byte, a word, or the file's length.
+/// The file `x` of a call.
 #[derive(Clone, Copy)]
-pub enum Change {
-    Byte(usize, u8),
-    Word(usize, u32),
-    Length(usize),
+pub enum File<'a> {
+    Object,
+    Image,
+    Bytes(&'a [u8]),
 }
 
-/// A call: its words, with a space between, the one file `x` of its store, and the numbers of the
-/// store's and the console's calls that fail. The console has an input of five bytes.
+/// A call: its words, with a space between, the one file `x` of its store, and what is changed, as
+/// `Setup` reads it. The console has an input of five bytes.
 #[derive(Clone, Copy)]
 pub struct Call<'a> {
     pub words: &'a str,
-    pub file: &'a [u8],
-    pub changes: &'a [Change],
-    pub store_fails: &'a [u32],
-    pub console_fails: &'a [u32],
+    pub file: File<'a>,
+    pub changes: &'a str,
 }
 
 /// The object is linked to the image `o` and the certificate `c`.
 pub const ZC: Call = Call {
     words: "zc --out o --cert c x",
-    file: &THREE,
-    changes: &[],
-    store_fails: &[],
-    console_fails: &[],
+    file: File::Object,
+    changes: "",
 };
 
 /// The image is run.
 pub const RUN: Call = Call {
     words: "run x",
-    file: &THREE_IMAGE,
+    file: File::Image,
     ..ZC
 };
 
@@ -113,41 +112,76 @@ pub const TRACE: Call = Call {
     ..ZC
 };
 
-/// How a call should end: the outcome, its line, and the program's status.
+/// How a call should end: the outcome, its line, the program's status, how many bytes of the input are
+/// left, and how many of the files `o` and `c` stand. Nothing else is written, and `x` stays as it was.
 #[derive(Clone, Copy)]
-pub struct End<'a>(pub Outcome, pub &'a str, pub u8);
+pub struct End<'a> {
+    pub outcome: Outcome,
+    pub line: &'a str,
+    pub status: u8,
+    pub input: usize,
+    pub files: usize,
+}
+
+pub const DONE: End = End {
+    outcome: Outcome::Done,
+    line: "",
+    status: 0,
+    input: 5,
+    files: 2,
+};
 
 /// The end of the three instructions.
-pub const EXITED_3: End = End(Outcome::Exited(3), "exited 3\n", 3);
+pub const EXITED_3: End = End {
+    outcome: Outcome::Exited(3),
+    line: "exited 3\n",
+    status: 3,
+    input: 0,
+    files: 0,
+};
 
-pub const DONE: End = End(Outcome::Done, "", 0);
+pub const SPENT: End = End {
+    outcome: Outcome::Spent,
+    line: "spent\n",
+    status: 127,
+    ..EXITED_3
+};
 
-pub const SPENT: End = End(Outcome::Spent, "spent\n", 127);
+pub const USAGE: End = End {
+    outcome: Outcome::Usage,
+    line: "usage\n",
+    status: 120,
+    input: 5,
+    files: 0,
+};
 
-pub const USAGE: End = End(Outcome::Usage, "usage\n", 120);
+pub const READ_FAULT: End = End {
+    outcome: Outcome::ReadFault,
+    line: "read fault\n",
+    status: 122,
+    ..USAGE
+};
 
-pub const READ_FAULT: End = End(Outcome::ReadFault, "read fault\n", 122);
-
-pub const WRITE_FAULT: End = End(Outcome::WriteFault, "write fault\n", 123);
+pub const WRITE_FAULT: End = End {
+    outcome: Outcome::WriteFault,
+    line: "write fault\n",
+    status: 123,
+    ..USAGE
+};
 
 /// The same, with a line that couldn't be written.
 pub fn unsaid(end: End) -> End {
-    End(end.0, "", end.2)
+    End { line: "", ..end }
 }
 
-/// What a call left.
+/// What a call left: how many bytes of the input, and whether `x` is as it was.
 #[derive(Drop)]
 pub struct Left {
     pub outcome: Outcome,
     pub store: MemStore,
     pub console: MemConsole,
-}
-
-impl Left {
-    /// How many bytes of the input are left.
-    pub fn input_left(&mut self) -> Result<usize, ConsoleFault> {
-        self.console.take(&mut [0; 8])
-    }
+    pub input: usize,
+    pub is_kept: bool,
 }
 
 // The words of a text, of which an empty one has none.
@@ -162,52 +196,126 @@ fn words_in(alloc: Global, text: &str) -> Result<Vec<String>, AllocError> {
     Ok(words)
 }
 
-// The file after its changes.
-fn changed(alloc: Global, file: &[u8], changes: &[Change]) -> Result<Vec<u8>, AllocError> {
-    let mut bytes = Vec::from_slice(alloc, file)?;
-    for change in changes {
-        match *change {
-            Change::Byte(at, byte) => {
-                if let Some(place) = bytes.get_mut(at) {
-                    *place = byte;
-                }
-            }
-            Change::Word(at, word) => {
-                if at < bytes.len() && bytes.len() - at >= 4 {
-                    put_u32(&mut bytes, at, word);
-                }
-            }
-            Change::Length(length) => bytes.truncate(length),
-        }
+fn bytes_of(file: File) -> &[u8] {
+    match file {
+        File::Object => &THREE,
+        File::Image => &THREE_IMAGE,
+        File::Bytes(bytes) => bytes,
     }
-    Ok(bytes)
+}
+
+// The file of a call, and the numbers of the store's and the console's calls that fail.
+#[derive(Drop)]
+struct Setup {
+    file: Vec<u8>,
+    store_fails: Vec<u32>,
+    console_fails: Vec<u32>,
+}
+
+impl Setup {
+    fn new(alloc: Global, call: &Call) -> Result<Setup, Fail> {
+        let mut setup = Setup {
+            file: Vec::from_slice(alloc, bytes_of(call.file))?,
+            store_fails: Vec::new(alloc),
+            console_fails: Vec::new(alloc),
+        };
+        for change in call.changes.split_whitespace() {
+            setup.change(change)?;
+        }
+        Ok(setup)
+    }
+
+    // Makes a change: `s1` and `c1` let call 1 of the store or the console fail, `..51` cuts the file to
+    // 51 bytes, and `16:f3` or `16:000000f3` writes the byte or the word with these hexadecimal digits.
+    fn change(&mut self, change: &str) -> Result<(), Fail> {
+        if let Some(number) = change.strip_prefix("s") {
+            self.store_fails.push(number.parse::<u32>()?)?;
+        } else if let Some(number) = change.strip_prefix("c") {
+            self.console_fails.push(number.parse::<u32>()?)?;
+        } else if let Some(length) = change.strip_prefix("..") {
+            self.file.truncate(length.parse::<usize>()?);
+        } else {
+            let (at, digits) = change.split_once(":").ok_or("no change")?;
+            self.write(at.parse::<usize>()?, digits)?;
+        }
+        Ok(())
+    }
+
+    fn write(&mut self, at: usize, digits: &str) -> Result<(), Fail> {
+        let length = self.file.len();
+        if digits.len() == 8 && at < length && length - at >= 4 {
+            put_u32(&mut self.file, at, u32::from_str_radix(digits, 16)?);
+        } else {
+            *self.file.get_mut(at).ok_or("no byte")? = u8::from_str_radix(digits, 16)?;
+        }
+        Ok(())
+    }
 }
 
 /// Makes a call.
-pub fn make(alloc: Global, call: &Call) -> Result<Left, AllocError> {
+pub fn make(alloc: Global, call: &Call) -> Result<Left, Fail> {
     let words = words_in(alloc, call.words)?;
-    let mut store = MemStore::new(alloc, call.store_fails)?;
-    store.add("x", changed(alloc, call.file, call.changes)?.as_slice())?;
-    let mut console = MemConsole::new(alloc, b"input", call.console_fails)?;
+    let setup = Setup::new(alloc, call)?;
+    let mut store = MemStore::new(alloc, setup.store_fails.as_slice())?;
+    store.add("x", setup.file.as_slice())?;
+    let mut console = MemConsole::new(alloc, b"input", setup.console_fails.as_slice())?;
     let outcome = zcld(alloc, words.as_slice(), &mut store, &mut console);
+    let input = console.take(&mut [0; 8])?;
+    let is_kept = store.file("x") == Some(setup.file.as_slice());
     Ok(Left {
         outcome,
         store,
         console,
+        input,
+        is_kept,
     })
 }
 
-/// Makes a call that should end so, and write nothing but its line.
-pub fn expect<R: Abort + AllocGlobal>(rt: &R, call: &Call, end: &End) -> Result<Left, Fail> {
+/// Makes a call that should end so.
+pub fn expect<R: Abort + AllocGlobal>(rt: &R, call: &Call, end: &End) -> Result<(), Fail> {
     let left = make(rt.alloc(), call)?;
-    assert_eq!(rt; left.outcome, end.0, "{}", call.words);
-    assert_eq!(rt;
+    let files = usize::from(left.store.file("o").is_some())
+        + usize::from(left.store.file("c").is_some());
+    let said = (
+        left.outcome,
         left.console.err_bytes(),
-        end.1.as_bytes(),
-        "{}",
-        call.words
+        left.console.out_bytes(),
+        status(&left.outcome),
+        (left.input, files, left.is_kept),
     );
-    assert_eq!(rt; status(&left.outcome), end.2, "{}", call.words);
-    assert_eq!(rt; left.console.out_bytes(), b"".as_slice(), "{}", call.words);
-    Ok(left)
+    let want = (
+        end.outcome,
+        end.line.as_bytes(),
+        b"".as_slice(),
+        end.status,
+        (end.input, end.files, true),
+    );
+    assert_eq!(rt; said, want, "{} {}", call.words, call.changes);
+    Ok(())
+}
+
+/// Makes a call with the words of each line, all of which should end so.
+pub fn expect_words<R: Abort + AllocGlobal>(
+    rt: &R,
+    call: &Call,
+    lines: &str,
+    end: &End,
+) -> Result<(), Fail> {
+    for words in lines.lines() {
+        expect(rt, &Call { words, ..*call }, end)?;
+    }
+    Ok(())
+}
+
+/// Makes a call with the changes of each line, all of which should end so.
+pub fn expect_changes<R: Abort + AllocGlobal>(
+    rt: &R,
+    call: &Call,
+    lines: &str,
+    end: &End,
+) -> Result<(), Fail> {
+    for changes in lines.lines() {
+        expect(rt, &Call { changes, ..*call }, end)?;
+    }
+    Ok(())
 }

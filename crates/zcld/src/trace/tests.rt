@@ -1,147 +1,141 @@
 // Objects on the symbolic machine, and beside them their images on the Zc machine.
 
 use crate::fixture::{
-    Call, Change, EXITED_3, End, READ_FAULT, RUN, SPENT, TRACE, ZC, expect, make, unsaid,
+    Call, EXITED_3, End, File, Left, READ_FAULT, RUN, SPENT, TRACE, USAGE, ZC, expect_changes,
+    expect_words, make, unsaid,
 };
 use crate::outcome::Outcome;
 use elf32_read::fault::Fault;
+use std::alloc::Global;
 use std::test::Fail;
 use sym_machine::why::Why;
 use zc_base::place::Place;
 
-const NO_OPERATION: u32 = 0x0000_0013;
+// The exit is the third step. No file is `y`.
+#[test]
+fn an_object_runs_to_its_exit_or_its_last_step(rt: HostRuntime) -> Result<(), Fail> {
+    let to_its_exit = "trace x
+trace --steps 3 x
+trace --steps 00000000001000000000 x";
+    expect_words(&rt, &TRACE, to_its_exit, &EXITED_3)?;
+    expect_words(&rt, &TRACE, "trace --steps 0 x\ntrace --steps 2 x", &SPENT)?;
+    expect_words(&rt, &TRACE, "trace y", &READ_FAULT)
+}
 
-const ECALL: u32 = 0x0000_0073;
+// The first place of the code.
+const START: Place = Place {
+    object: 0,
+    section: 1,
+    offset: 0,
+};
+
+const ARGUMENT: End = End {
+    outcome: Outcome::Stuck(Place { offset: 4, ..START }, Why::ArgumentUnknown),
+    line: "stuck 0 1 4 4 ArgumentUnknown\n",
+    status: 126,
+    ..EXITED_3
+};
+
+const UNKNOWN_CALL: End = End {
+    outcome: Outcome::Stuck(Place { offset: 8, ..START }, Why::UnknownCall),
+    line: "stuck 0 1 8 9 UnknownCall\n",
+    ..ARGUMENT
+};
+
+const STACK: End = End {
+    outcome: Outcome::Stuck(START, Why::StackPointer),
+    line: "stuck 0 1 0 7 StackPointer\n",
+    ..ARGUMENT
+};
+
+const PAST_THE_CODE: End = End {
+    outcome: Outcome::Stuck(
+        Place {
+            offset: 12,
+            ..START
+        },
+        Why::NoInstruction,
+    ),
+    line: "stuck 0 1 12 8 NoInstruction\n",
+    ..ARGUMENT
+};
+
+const NOT_BUILT: End = End {
+    outcome: Outcome::Refused(0, Fault::NotBuilt),
+    line: "refused 0 0 NotBuilt\n",
+    status: 121,
+    ..USAGE
+};
+
+// Changes of the three instructions: the call comes before a7 or a0 is known, a7 is 94, the stack pointer
+// moves up or gets an unknown number, `nop` stands in the place of `ecall`, and a word is unknown.
+#[test]
+fn a_program_is_stuck_where_its_meaning_ends(rt: HostRuntime) -> Result<(), Fail> {
+    expect_changes(
+        &rt,
+        &TRACE,
+        "56:00000073\n52:05d00893 56:00000073",
+        &ARGUMENT,
+    )?;
+    expect_changes(&rt, &TRACE, "56:05e00893", &UNKNOWN_CALL)?;
+    expect_changes(&rt, &TRACE, "52:01010113\n52:00148113", &STACK)?;
+    expect_changes(&rt, &TRACE, "60:00000013", &PAST_THE_CODE)?;
+    expect_changes(&rt, &TRACE, "56:00000000", &NOT_BUILT)
+}
+
+// The store's call 0 reads the object. The input's bytes are taken by the console's call 0, its end is
+// seen by call 1, and call 2 writes the line.
+#[test]
+fn calls_of_the_outside_that_fail_are_named(rt: HostRuntime) -> Result<(), Fail> {
+    let read = End {
+        input: 0,
+        ..READ_FAULT
+    };
+    expect_changes(&rt, &TRACE, "s0\nc0", &READ_FAULT)?;
+    expect_changes(&rt, &TRACE, "c1", &read)?;
+    expect_changes(&rt, &TRACE, "c2", &unsaid(EXITED_3))
+}
 
 // `addi rd,rs1,imm`.
 fn addi(rd: u32, first: u32, imm: i32) -> u32 {
     ((imm.cast_unsigned() & 0xFFF) << 20) | (first << 15) | (rd << 7) | 0x13
 }
 
-// What makes these words the object's code. They take the place of the symbols too, which the linker
-// doesn't read, and the header of section 1 says how long they are.
-fn code(words: [u32; 4]) -> [Change; 5] {
-    [
-        Change::Word(52, words[0]),
-        Change::Word(56, words[1]),
-        Change::Word(60, words[2]),
-        Change::Word(64, words[3]),
-        Change::Word(200, 16),
-    ]
+// How the sum of two immediates ends as an object, and as the image that it is linked to. The object's
+// fourth word takes the place of the symbols, which the linker doesn't read, and the header of section 1
+// says how long the code is.
+fn ends_of(alloc: Global, first: i32, second: i32) -> Result<(Outcome, Outcome), Fail> {
+    let changes = format!(in alloc;
+        "52:{:08x} 56:{:08x} 60:05d00893 64:00000073 200:10",
+        addi(5, 0, first),
+        addi(10, 5, second)
+    )?;
+    let traced = make_changed(alloc, &TRACE, changes.as_str())?;
+    let linked = make_changed(alloc, &ZC, changes.as_str())?;
+    let image = linked.store.file("o").ok_or("no image")?;
+    let ran = make_over(alloc, image)?;
+    Ok((traced.outcome, ran.outcome))
 }
 
-// The exit is the third step.
-#[test]
-fn an_object_runs_to_its_exit_or_its_last_step(rt: HostRuntime) -> Result<(), Fail> {
-    for (words, end) in [
-        (TRACE.words, EXITED_3),
-        ("trace --steps 0 x", SPENT),
-        ("trace --steps 2 x", SPENT),
-        ("trace --steps 3 x", EXITED_3),
-        ("trace --steps 00000000001000000000 x", EXITED_3),
-    ] {
-        let mut left = expect(&rt, &Call { words, ..TRACE }, &end)?;
-        assert!(rt; left.store.file("o").is_none(), "{words}");
-        assert_eq!(rt; left.input_left(), Ok(0), "{words}");
-    }
-    Ok(())
+fn make_changed(alloc: Global, call: &Call, changes: &str) -> Result<Left, Fail> {
+    make(alloc, &Call { changes, ..*call })
 }
 
-#[test]
-fn a_program_is_stuck_where_its_meaning_ends(rt: HostRuntime) -> Result<(), Fail> {
-    let argument = (4, Why::ArgumentUnknown, "stuck 0 1 4 4 ArgumentUnknown\n");
-    let call = (8, Why::UnknownCall, "stuck 0 1 8 9 UnknownCall\n");
-    let stack = (0, Why::StackPointer, "stuck 0 1 0 7 StackPointer\n");
-    let end = (16, Why::NoInstruction, "stuck 0 1 16 8 NoInstruction\n");
-    let three = addi(10, 0, 3);
-    let exit = addi(17, 0, 93);
-    let rows = [
-        ([three, ECALL, ECALL, ECALL], argument),
-        ([exit, ECALL, ECALL, ECALL], argument),
-        ([three, addi(17, 0, 94), ECALL, ECALL], call),
-        ([addi(2, 2, 16), ECALL, ECALL, ECALL], stack),
-        ([addi(2, 9, 1), ECALL, ECALL, ECALL], stack),
-        ([three, exit, NO_OPERATION, NO_OPERATION], end),
-    ];
-    for (words, (offset, why, line)) in rows {
-        let place = Place {
-            object: 0,
-            section: 1,
-            offset,
-        };
-        let call = Call {
-            changes: &code(words),
-            ..TRACE
-        };
-        expect(&rt, &call, &End(Outcome::Stuck(place, why), line, 126))?;
-    }
-    Ok(())
+// Runs this image.
+fn make_over(alloc: Global, image: &[u8]) -> Result<Left, Fail> {
+    let file = File::Bytes(image);
+    make(alloc, &Call { file, ..RUN })
 }
 
-// The store's call 0 reads the object. The input's bytes are taken by the console's call 0, its end is
-// seen by call 1, and call 2 writes the line.
-#[test]
-fn objects_are_refused_and_faults_named(rt: HostRuntime) -> Result<(), Fail> {
-    let unknown = Call {
-        changes: &code([addi(10, 0, 3), 0x0000_0000, ECALL, ECALL]),
-        ..TRACE
-    };
-    let refused = Outcome::Refused(0, Fault::NotBuilt);
-    let mut left = expect(&rt, &unknown, &End(refused, "refused 0 0 NotBuilt\n", 121))?;
-    assert_eq!(rt; left.input_left(), Ok(5));
-    let words = "trace y";
-    expect(&rt, &Call { words, ..TRACE }, &READ_FAULT)?;
-    let rows: [(&[u32], &[u32], End); 4] = [
-        (&[0], &[], READ_FAULT),
-        (&[], &[0], READ_FAULT),
-        (&[], &[1], READ_FAULT),
-        (&[], &[2], unsaid(EXITED_3)),
-    ];
-    for (store_fails, console_fails, end) in rows {
-        let call = Call {
-            store_fails,
-            console_fails,
-            ..TRACE
-        };
-        expect(&rt, &call, &end)?;
-    }
-    Ok(())
-}
-
-// Sums of two immediates, of which the first is written short if it has six bits: the exit is the
-// sum's low byte.
+// The first immediate is written short if it has six bits. The exit is the sum's low byte.
 #[test]
 fn an_image_exits_as_its_object_does(rt: HostRuntime) -> Result<(), Fail> {
     for first in [-2048i32, -33, -32, -1, 0, 31, 32, 2047] {
         for second in [-2048i32, -1, 0, 1, 255] {
-            let words = [
-                addi(5, 0, first),
-                addi(10, 5, second),
-                addi(17, 0, 93),
-                ECALL,
-            ];
-            let changes = code(words);
             let sum = first.wrapping_add(second).cast_unsigned();
             let want = Outcome::Exited((sum % 256) as u8);
-            let traced = make(
-                rt.alloc(),
-                &Call {
-                    changes: &changes,
-                    ..TRACE
-                },
-            )?;
-            assert_eq!(rt; traced.outcome, want, "trace {first} {second}");
-            let linked = make(
-                rt.alloc(),
-                &Call {
-                    changes: &changes,
-                    ..ZC
-                },
-            )?;
-            let file = linked.store.file("o").ok_or("no image")?;
-            let ran = make(rt.alloc(), &Call { file, ..RUN })?;
-            assert_eq!(rt; ran.outcome, want, "run {first} {second}");
-            assert_eq!(rt; ran.console.err_bytes(), traced.console.err_bytes());
+            let ends = ends_of(rt.alloc(), first, second)?;
+            assert_eq!(rt; ends, (want, want), "{first} {second}");
         }
     }
     Ok(())
