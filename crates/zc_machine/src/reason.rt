@@ -63,8 +63,7 @@ mod tests {
             (Reason::UnknownCall, 5, "UnknownCall"),
         ];
         for (reason, number, name) in rows {
-            assert_eq!(rt; reason.number(), number);
-            assert_eq!(rt; reason.name(), name);
+            assert_eq!(rt; (reason.number(), reason.name()), (number, name));
         }
     }
 }

@@ -3,6 +3,7 @@
 ghost use Rattle.std.specs.Prelude.{◌≡◌, IfOk, None};
 
 use super::*;
+use std::process::Abort;
 use std::test::Fail;
 use zc_base::fields::put_u32;
 use zc_base::mem_map::MemMap;
@@ -33,15 +34,39 @@ pub fn load(alloc: Global, text: &[u8; 12], size: u32) -> Result<Machine, Fail>
     Ok(Machine::load(alloc, &image)?)
 }
 
+fn register(machine: &Machine, number: u8) -> Option<u32> {
+    Some(machine.register(Reg::new(number)?))
+}
+
+// A step's answer, and the pc and the commits after it.
+fn step_of(machine: &mut Machine) -> Option<(Step, u32, u64)> {
+    if machine.commits() >= 9 {
+        return None;
+    }
+    let step = machine.step();
+    Some((step, machine.pc(), machine.commits()))
+}
+
+// The steps of the three instructions.
+fn expect_three<R: Abort>(rt: &R, machine: &mut Machine) {
+    let wants = Step::Wants(EnvCall::Exit(3));
+    for want in [
+        (Step::Committed, 0x10002, 1),
+        (Step::Committed, 0x10006, 2),
+        (wants, 0x10006, 2),
+        (wants, 0x10006, 2),
+    ] {
+        assert_eq!(rt; step_of(machine), Some(want));
+    }
+}
+
 #[test]
 fn a_machine_starts_at_the_entry_with_an_empty_stack(rt: HostRuntime) -> Result<(), Fail> {
     let machine = load(rt.alloc(), &THREE, 10)?;
-    assert_eq!(rt; machine.pc(), 0x10000);
-    assert_eq!(rt; machine.commits(), 0);
+    assert_eq!(rt; (machine.pc(), machine.commits()), (0x10000, 0));
     for number in 0..32 {
         let want = if number == 2 { 0x1000_0000 } else { 0 };
-        let r = Reg::new(number).ok_or("no register")?;
-        assert_eq!(rt; machine.register(r), want, "x{number}");
+        assert_eq!(rt; register(&machine, number), Some(want), "x{number}");
     }
     Ok(())
 }
@@ -49,22 +74,9 @@ fn a_machine_starts_at_the_entry_with_an_empty_stack(rt: HostRuntime) -> Result<
 #[test]
 fn each_step_commits_or_changes_nothing(rt: HostRuntime) -> Result<(), Fail> {
     let mut machine = load(rt.alloc(), &THREE, 10)?;
-    let a0 = Reg::new(10).ok_or("no register")?;
-    let a7 = Reg::new(17).ok_or("no register")?;
-    let wants = Step::Wants(EnvCall::Exit(3));
-    for (i, step, pc, commits) in [
-        (0, Step::Committed, 0x10002, 1),
-        (1, Step::Committed, 0x10006, 2),
-        (2, wants, 0x10006, 2),
-        (3, wants, 0x10006, 2),
-    ] {
-        assert!(rt; machine.commits() < 9);
-        assert_eq!(rt; machine.step(), step, "{i}");
-        assert_eq!(rt; machine.pc(), pc, "{i}");
-        assert_eq!(rt; machine.commits(), commits, "{i}");
-    }
-    assert_eq!(rt; machine.register(a0), 3);
-    assert_eq!(rt; machine.register(a7), 93);
+    expect_three(&rt, &mut machine);
+    let registers = (register(&machine, 10), register(&machine, 17));
+    assert_eq!(rt; registers, (Some(3), Some(93)));
     Ok(())
 }
 
@@ -75,13 +87,7 @@ fn an_interrupt_leaves_the_run_as_it_was(rt: HostRuntime) -> Result<(), Fail> {
         &[],
         &[(0x0FFF_FFFF, 0xEE), (0x1000_0000, 0xEE), (0x10000, 0xEE)],
     );
-    assert_eq!(rt; machine.pc(), 0x10000);
-    assert_eq!(rt; machine.commits(), 0);
-    for i in 0..2 {
-        assert!(rt; machine.commits() < 9);
-        assert_eq!(rt; machine.step(), Step::Committed, "{i}");
-    }
-    assert!(rt; machine.commits() < 9);
-    assert_eq!(rt; machine.step(), Step::Wants(EnvCall::Exit(3)));
+    assert_eq!(rt; (machine.pc(), machine.commits()), (0x10000, 0));
+    expect_three(&rt, &mut machine);
     Ok(())
 }
