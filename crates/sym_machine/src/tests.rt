@@ -33,6 +33,22 @@ fn cut_of(alloc: Global, object: &[u8]) -> Result<Cut, Fail> {
     Ok(Cut::new(alloc, objects)?)
 }
 
+// How a run of the object ends, of which the low byte of the number that a7 gets is this one, and how many
+// bytes it wrote.
+fn end_of(alloc: Global, a7: u8, steps: u64) -> Result<(TraceEnd, usize), Fail> {
+    let mut object = OBJECT;
+    object[58] = a7;
+    let cut = cut_of(alloc, &object)?;
+    let mut sym = Sym::start(alloc, &cut, b"")?;
+    let mut console = MemConsole::new(alloc, b"", &[])?;
+    let end = run(&mut sym, &cut, steps, &mut console);
+    let written = console
+        .out_bytes()
+        .len()
+        .saturating_add(console.err_bytes().len());
+    Ok((end, written))
+}
+
 #[test]
 fn each_step_answers_and_the_exit_stays(rt: HostRuntime) -> Result<(), Fail> {
     let cut = cut_of(rt.alloc(), &OBJECT)?;
@@ -62,13 +78,7 @@ fn a_run_ends_as_the_program_does(rt: HostRuntime) -> Result<(), Fail> {
         (0xD0, 3, TraceEnd::Exited(3)),
         (0xE0, 9, TraceEnd::Stuck(call, Why::UnknownCall)),
     ] {
-        let mut object = OBJECT;
-        object[58] = a7;
-        let cut = cut_of(rt.alloc(), &object)?;
-        let mut sym = Sym::start(rt.alloc(), &cut, b"")?;
-        let mut console = MemConsole::new(rt.alloc(), b"", &[])?;
-        assert_eq!(rt; run(&mut sym, &cut, steps, &mut console), want);
-        assert!(rt; console.out_bytes().is_empty() && console.err_bytes().is_empty());
+        assert_eq!(rt; end_of(rt.alloc(), a7, steps)?, (want, 0));
     }
     Ok(())
 }
