@@ -24,7 +24,7 @@ fn command_in(alloc: Global, line: &str) -> Result<String, AllocError> {
     }
 }
 
-// Reads the words of each line up to its arrow; after it stands what they should spell.
+// Reads the words of each line up to its arrow, after which stands what they should spell.
 fn expect_commands<R: Abort + AllocGlobal>(rt: &R, rows: &str) -> Result<(), Fail> {
     for row in rows.lines() {
         let (words, want) = row.split_once(" => ").ok_or("no arrow")?;
@@ -53,6 +53,10 @@ fn words_of_a_form_spell_its_command(rt: HostRuntime) -> Result<(), Fail> {
     expect_commands(&rt, COMMANDS)
 }
 
+// In this order: no command, or none of this name; a required option is missing; an option that isn't the
+// command's; one twice; a value that begins with `-`, or none; the two files that are written are one; a
+// positional word that begins with `-`, or none, or two; an option after the file; and no number, or one
+// that is too long or too large.
 const NO_COMMANDS: &str = " => none
 frob x => none
 ZC --out o --cert c x.o => none
