@@ -5,9 +5,12 @@
 mod calls;
 pub mod console;
 pub mod disk_store;
+mod file_id;
+mod file_write;
 pub mod mem_console;
 pub mod mem_store;
 pub mod read_files;
 pub mod std_console;
 pub mod store;
 mod transfer;
+mod trouble;
