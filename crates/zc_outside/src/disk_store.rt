@@ -3,7 +3,8 @@
 ghost use Rattle.std.specs.Prelude.{◌≡◌, false, ◌≤◌, ◌<◌, ◌+◌, ◌^◌, ◌++◌, ℕ, List, None, IfOk, IfSome, OnOk, MatchOption, length, vec_len, vec_capacity};
 ghost use Rattle.std.specs.Io.KnownBytes.{Consumes, IsAtEnd};
 
-use crate::file_write::{Placed, put_file};
+use crate::file_write::put_file;
+use crate::placed::Placed;
 use crate::store::{Store, StoreFault};
 use crate::transfer::read_some;
 use crate::trouble::Trouble;

@@ -5,10 +5,12 @@
 mod calls;
 pub mod console;
 pub mod disk_store;
-mod file_id;
 mod file_write;
+mod links;
 pub mod mem_console;
 pub mod mem_store;
+mod new_file;
+mod placed;
 pub mod read_files;
 pub mod std_console;
 pub mod store;
