@@ -2,7 +2,7 @@
 
 use crate::links::{is_named, target_of};
 use crate::new_file::{replace, sync};
-use crate::placed::{FileId, Placed, has_another_name};
+use crate::placed::{FileId, Placed, forget, has_another_name};
 use crate::transfer::write_whole;
 use crate::trouble::Trouble;
 use std::fs;
@@ -28,6 +28,7 @@ pub fn put_file<R: Files + AllocGlobal>(
     let own_name = String::from_str(rt.alloc(), name)?;
     placed.reserve(1)?;
     if let Some(file) = write_file(rt, id, placed.as_slice(), name, bytes)? {
+        forget(placed, name, file);
         let name = own_name;
         let pushed = placed.push(Placed { name, file });
         return pushed.map_err(|_| Trouble::Memory);
