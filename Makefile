@@ -1,6 +1,7 @@
 # make          proves, compiles and links the program: build/zcld
 # make example  links examples/exit3.o, which a C compiler made, shows the image, and runs it and the object
-# make check    runs the gate: every proof, must-fail edit, test and program, and then looks up the documents' names
+# make check    runs the gate: every proof, must-fail edit, test and program, and then the program that this built over real
+#               files, and looks up the documents' names
 # make install  installs the program below $(DESTDIR)$(PREFIX)/bin
 # make clean    removes what these made
 
@@ -31,6 +32,7 @@ example: build/zcld
 
 check:
 	$(RT) ci
+	python3 scripts/check_program crates/zcld/out/zcld
 	python3 scripts/check_documents
 
 install: build/zcld

@@ -1,6 +1,7 @@
 pub mod Calls
 pub mod Files
 pub mod Streams
+pub mod Trouble
 pub mod Shelf
 pub mod Desk
 pub mod World

@@ -1,43 +1,43 @@
 // A store over the system's files.
 
-ghost use Rattle.std.specs.Prelude.{◌≡◌, false, ◌≤◌, ◌<◌, ◌+◌, ◌^◌, ◌++◌, ◌↔◌, ℕ, List, None, IfOk, IfSome, OnOk, MatchOption, length, vec_len, vec_capacity};
+ghost use Rattle.std.specs.Prelude.{◌≡◌, false, ◌≤◌, ◌<◌, ◌+◌, ◌^◌, ◌++◌, ℕ, List, None, IfOk, IfSome, OnOk, MatchOption, length, vec_len, vec_capacity};
 ghost use Rattle.std.specs.Io.KnownBytes.{Consumes, IsAtEnd};
-ghost use Rattle.std.specs.IoError.{error_kind};
-ghost use Rattle.std.specs.declared.io.ErrorKind.TheVariants.{OutOfMemory};
-ghost use Rattle.zc_outside.specs.declared.disk_store.Trouble.TheVariants.{Memory};
-ghost use Rattle.zc_outside.specs.Streams.{Adds};
 
+use crate::file_write::put_file;
+use crate::placed::Placed;
 use crate::store::{Store, StoreFault};
-use crate::transfer::{read_some, write_whole};
+use crate::transfer::read_some;
+use crate::trouble::Trouble;
 use std::alloc::{AllocError, Global};
-use std::fs::{File, OpenFile, Permissions};
-use std::io::{ErrorKind, Read, Write};
-use std::rt::Files;
-use std::{fs, io};
+use std::io::Read;
+use std::rt::{Files, Process};
+use std::{fs, process};
 
 // The most that one read of a file asks for.
 const PIECE: usize = 8192;
-
-// How many names are tried for a new file beside the one that is to be written.
-const NAMES: u32 = 1000;
 
 /// The files of the system, by path. What stands in them is outside this program, so it isn't told.
 #[derive(Drop)]
 pub struct DiskStore<R> {
     rt: R,
+    id: u32,
+    placed: Vec<Placed>,
     read_faults: u64,
     long_files: u64,
     write_faults: u64,
 }
 
 impl<R: Files + AllocGlobal> DiskStore<R> {
-    /// The files of a runtime.
-    pub fn new(rt: R) -> DiskStore<R>
+    /// The files of a runtime. The process's number is part of the names of its new files.
+    pub fn new(rt: R, process: Process) -> DiskStore<R>
         ensures { ⟦<DiskStore<R> as Store>⟧.shown result ≡
             record { files = None; read_faults = 0; long_files = 0; write_faults = 0; sure = false } }
     {
+        let placed = Vec::new(rt.alloc());
         DiskStore {
             rt,
+            id: process::id(process),
+            placed,
             read_faults: 0,
             long_files: 0,
             write_faults: 0,
@@ -71,12 +71,13 @@ impl<R: Files + AllocGlobal> Store for DiskStore<R> {
         }
     }
 
-    /// A regular file is written under a new name beside it, which then takes its name and its
-    /// permissions, so a refusal leaves it as it was. What is there and is no regular file, as a
-    /// device, a pipe or a symbolic link, is written in place, and a refusal there may come after a
-    /// part was written.
+    /// A regular file is written as a new file beside it, which has its permissions, is synced, and
+    /// then takes its name, so a refusal leaves it as it was; only a folder that can't be synced is
+    /// refused after that. A symbolic link stays, and the file that it names is replaced. A file that
+    /// was put here under another name is refused. What is there and is no regular file, as a device
+    /// or a pipe, is written in place, and a refusal there may come after a part was written.
     fn put(&mut self, name: &str, bytes: &[u8]) -> Result<(), StoreFault> {
-        match write_file(&self.rt, name, bytes) {
+        match put_file(&self.rt, self.id, &mut self.placed, name, bytes) {
             Ok(()) => Ok(()),
             Err(Trouble::System) => {
                 self.write_faults = self.write_faults.saturating_add(1);
@@ -84,33 +85,6 @@ impl<R: Files + AllocGlobal> Store for DiskStore<R> {
             }
             Err(Trouble::Memory) => Err(StoreFault::OutOfMemory),
         }
-    }
-}
-
-// Why the system's files can't be read or written.
-#[derive(Clone, Copy)]
-enum Trouble {
-    System,
-    Memory,
-}
-
-impl From<io::Error> for Trouble {
-    ghost from_gives = { λ fault trouble. (error_kind fault ≡ OutOfMemory) ↔ (trouble ≡ Memory) };
-
-    fn from(fault: io::Error) -> Trouble {
-        if fault.kind() == ErrorKind::OutOfMemory {
-            Trouble::Memory
-        } else {
-            Trouble::System
-        }
-    }
-}
-
-impl From<AllocError> for Trouble {
-    ghost from_gives = { λ _ trouble. trouble ≡ Memory };
-
-    fn from(_: AllocError) -> Trouble {
-        Trouble::Memory
     }
 }
 
@@ -181,132 +155,5 @@ fn make_room(bytes: &mut Vec<u8>, count: usize, most: usize) -> Result<(), Alloc
     Ok(())
 }
 
-// Writes a file: a regular one, or one that isn't there yet, by a new file that takes its name.
-fn write_file<R: Files + AllocGlobal>(rt: &R, name: &str, bytes: &[u8]) -> Result<(), Trouble> {
-    match fs::symlink_metadata(rt, name) {
-        Ok(there) if there.is_file() => replace(rt, name, bytes, Some(there.permissions())),
-        Ok(_) => {
-            let mut file = fs::create(rt, name)?;
-            fill(&mut file, bytes)
-        }
-        Err(fault) if fault.kind() == ErrorKind::NotFound => replace(rt, name, bytes, None),
-        Err(fault) => Err(Trouble::from(fault)),
-    }
-}
-
-// Writes a new file and gives it a name, and the permissions of the file that had the name. After a
-// refusal the new file is gone again, as far as the system lets it.
-fn replace<R: Files + AllocGlobal>(
-    rt: &R,
-    name: &str,
-    bytes: &[u8],
-    permissions: Option<Permissions>,
-) -> Result<(), Trouble> {
-    let (beside, mut file) = create_beside(rt, name)?;
-    let placed = fill_and_rename(rt, &mut file, beside.as_str(), name, bytes, permissions);
-    if placed.is_err() {
-        let _ = fs::remove_file(rt, beside.as_str());
-    }
-    placed
-}
-
-// Fills a new file, gives it these permissions, and then the name that it is made for.
-fn fill_and_rename<R: Files>(
-    rt: &R,
-    file: &mut R::File,
-    beside: &str,
-    name: &str,
-    bytes: &[u8],
-    permissions: Option<Permissions>,
-) -> Result<(), Trouble> {
-    fill(file, bytes)?;
-    if let Some(permissions) = permissions {
-        file.set_permissions(permissions)?;
-    }
-    fs::rename(rt, beside, name)?;
-    Ok(())
-}
-
-// Makes a new file in the folder of a name, and says its own name.
-fn create_beside<R: Files + AllocGlobal>(rt: &R, name: &str) -> Result<(String, R::File), Trouble> {
-    for number in 0..NAMES {
-        let beside = name_beside(rt.alloc(), name, number)?;
-        match File::create_new(rt, beside.as_str()) {
-            Ok(file) => return Ok((beside, file)),
-            Err(fault) if fault.kind() == ErrorKind::AlreadyExists => {}
-            Err(fault) => return Err(Trouble::from(fault)),
-        }
-    }
-    Err(Trouble::System)
-}
-
-// A hidden name in the folder of a name.
-fn name_beside(alloc: Global, name: &str, number: u32) -> Result<String, AllocError> {
-    match name.rsplit_once('/') {
-        Some((folder, _)) => format!(in alloc; "{folder}/.zcld-{number}.new"),
-        None => format!(in alloc; ".zcld-{number}.new"),
-    }
-}
-
-// Writes all bytes into an open file.
-fn fill<F: Write>(file: &mut F, bytes: &[u8]) -> Result<(), Trouble>
-    ensures { OnOk result (Adds (F.contents file.old) (F.contents file.new) bytes.now) }
-{
-    if write_whole(file, bytes) {
-        Ok(())
-    } else {
-        Err(Trouble::System)
-    }
-}
-
 #[cfg(test)]
-mod tests {
-    use super::*;
-    use std::test::Fail;
-
-    #[test]
-    fn puts_and_gets_files(rt: HostRuntime) -> Result<(), Fail> {
-        let id = std::process::id(rt.process());
-        let folder = format!(in rt.alloc(); "zc_outside-{id}")?;
-        fs::create_dir(&rt, folder.as_str())?;
-        let name = format!(in rt.alloc(); "{folder}/file")?;
-        let name = name.as_str();
-        let mut store = DiskStore::new(&rt);
-        for bytes in [b"the first bytes".as_slice(), b"", b"then others"] {
-            assert_eq!(rt; store.put(name, bytes), Ok(()));
-            assert_eq!(rt; store.get(rt.alloc(), name, 15)?.as_slice(), bytes);
-        }
-        assert_eq!(rt; store.get(rt.alloc(), name, 11)?.len(), 11, "at the limit");
-        let beside = name_beside(rt.alloc(), name, 0)?;
-        let beside_is_left = fs::exists(&rt, beside.as_str())?;
-        assert!(rt; !beside_is_left, "no other file is left");
-        let faults = [
-            (name, 10, StoreFault::TooLong { taken: 11 }),
-            ("zc_outside-none", 10, StoreFault::Failed),
-            (folder.as_str(), 10, StoreFault::Failed),
-        ];
-        for (name, limit, fault) in faults {
-            match store.get(rt.alloc(), name, limit) {
-                Ok(_) => panic!(rt; "{name} was read"),
-                Err(found) => assert_eq!(rt; found, fault, "at {name}, {limit}"),
-            }
-        }
-        assert_eq!(rt;
-            store.put(folder.as_str(), b"a folder is no file"),
-            Err(StoreFault::Failed)
-        );
-        assert_eq!(rt;
-            store.put("zc_outside-none/file", b"no folder"),
-            Err(StoreFault::Failed)
-        );
-        assert_eq!(rt; store.put("/dev/null", b"in place"), Ok(()));
-        assert_eq!(rt; store.get(rt.alloc(), "/dev/null", 0)?.len(), 0);
-        assert_eq!(rt;
-            (store.read_faults, store.long_files, store.write_faults),
-            (2, 1, 2)
-        );
-        fs::remove_file(&rt, name)?;
-        fs::remove_dir(&rt, folder.as_str())?;
-        Ok(())
-    }
-}
+mod tests;

@@ -5,9 +5,14 @@
 mod calls;
 pub mod console;
 pub mod disk_store;
+mod file_write;
+mod links;
 pub mod mem_console;
 pub mod mem_store;
+mod new_file;
+mod placed;
 pub mod read_files;
 pub mod std_console;
 pub mod store;
 mod transfer;
+mod trouble;

@@ -1,9 +1,10 @@
 // Reads and writes of the system, whole in spite of signals and short counts.
 
-ghost use Rattle.std.specs.Prelude.{◌≡◌, ◌≤◌, [], IfOk, IsTrue, MatchBool, length};
+ghost use Rattle.std.specs.Prelude.{◌≡◌, ◌≤◌, [], IfOk, IsOk, OnErr, OnOk, length};
 ghost use Rattle.std.specs.Io.KnownBytes.{ReadConsumes};
 ghost use Rattle.zc_outside.specs.Streams.{Adds, AddsPart};
 
+use crate::trouble::Trouble;
 use std::io;
 use std::io::{ErrorKind, Read, Write};
 
@@ -24,14 +25,16 @@ pub fn read_some<S: Read>(source: &mut S, buf: &mut [u8]) -> io::Result<usize>
     Err(io::Error::from(ErrorKind::TimedOut))
 }
 
-/// Writes a piece, and says whether all of it was written. A write that takes nothing is a fault.
-pub fn write_whole<S: Write>(sink: &mut S, piece: &[u8]) -> bool
-    ensures empty { piece.now ≡ [] → IsTrue result }
-    ensures bytes { MatchBool result
-        (Adds (S.contents sink.old) (S.contents sink.new) piece.now)
-        (AddsPart (S.contents sink.old) (S.contents sink.new) piece.now) }
+/// Writes a whole piece. A write that takes nothing is a fault.
+///
+/// After a refusal a part of the piece may be written, and not all of it.
+pub fn write_whole<S: Write>(sink: &mut S, piece: &[u8]) -> Result<(), Trouble>
+    ensures empty { piece.now ≡ [] → IsOk result }
+    ensures ok { OnOk result (Adds (S.contents sink.old) (S.contents sink.new) piece.now) }
+    ensures err { OnErr result (AddsPart (S.contents sink.old) (S.contents sink.new) piece.now) }
 {
     let mut done = 0;
+    let mut trouble = Trouble::System;
     // As in `read_some`, this bound is never seen.
     for _ in 0..u64::MAX {
         if done == piece.len() {
@@ -41,8 +44,15 @@ pub fn write_whole<S: Write>(sink: &mut S, piece: &[u8]) -> bool
             Ok(0) => break,
             Ok(count) => done += count,
             Err(fault) if fault.kind() == ErrorKind::Interrupted => {}
-            Err(_) => break,
+            Err(fault) => {
+                trouble = Trouble::from(fault);
+                break;
+            }
         }
     }
-    done == piece.len()
+    if done == piece.len() {
+        Ok(())
+    } else {
+        Err(trouble)
+    }
 }

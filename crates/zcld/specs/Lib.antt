@@ -9,3 +9,4 @@ pub mod Zc
 pub mod Run
 pub mod Trace
 pub mod Call
+pub mod Program

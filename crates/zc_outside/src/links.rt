@@ -1,0 +1,48 @@
+// The symbolic links that begin at a name.
+
+use crate::placed::FileId;
+use crate::trouble::Trouble;
+use std::alloc::{AllocError, Global};
+use std::fs;
+use std::io::ErrorKind;
+use std::rt::Files;
+
+// How many are followed, as many as Linux follows.
+const LINKS: u32 = 40;
+
+/// The name at the end of the symbolic links that begin at a name. Nothing need be there.
+pub fn target_of<R: Files + AllocGlobal>(rt: &R, name: &str) -> Result<String, Trouble> {
+    let mut target = String::from_str(rt.alloc(), name)?;
+    for _ in 0..LINKS {
+        match fs::read_link(rt, target.as_str()) {
+            Ok(text) => {
+                target = name_from(rt.alloc(), target.as_str(), text.into_string().as_str())?;
+            }
+            Err(fault) if is_no_link(fault.kind()) => return Ok(target),
+            Err(fault) => return Err(Trouble::from(fault)),
+        }
+    }
+    Err(Trouble::System)
+}
+
+// Whether a link can't be read since the name is none, or nothing is there.
+fn is_no_link(kind: ErrorKind) -> bool {
+    kind == ErrorKind::InvalidInput || kind == ErrorKind::NotFound
+}
+
+// The name that a link's text stands for: it starts at the link's folder, or at the root.
+fn name_from(alloc: Global, link: &str, text: &str) -> Result<String, AllocError> {
+    match link.rsplit_once('/') {
+        Some((folder, _)) if !text.starts_with('/') => format!(in alloc; "{folder}/{text}"),
+        _ => String::from_str(alloc, text),
+    }
+}
+
+/// Whether a name is this file's own, and no link.
+pub fn is_named<R: Files>(rt: &R, name: &str, file: FileId) -> Result<bool, Trouble> {
+    match fs::symlink_metadata(rt, name) {
+        Ok(there) => Ok(FileId::of(&there).is(file)),
+        Err(fault) if fault.kind() == ErrorKind::NotFound => Ok(false),
+        Err(fault) => Err(Trouble::from(fault)),
+    }
+}

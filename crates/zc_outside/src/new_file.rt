@@ -1,0 +1,117 @@
+// A file of the system that is written as a new file, which then takes its name.
+
+use crate::placed::FileId;
+use crate::transfer::write_whole;
+use crate::trouble::Trouble;
+use std::alloc::{AllocError, Global};
+use std::fs;
+use std::fs::{OpenFile, OpenOptions, Permissions};
+use std::io::ErrorKind;
+use std::os::unix::fs::{OpenOptionsExt, PermissionsExt};
+use std::rt::Files;
+
+// How many names are tried for a new file.
+const NAMES: u32 = 1000;
+
+// What a file that wasn't there is created with, before the process's mask.
+const NEW_RIGHTS: u32 = 0o666;
+
+/// Writes a new file with these rights and gives it a name, and says which it is. After a refusal the
+// new file is gone again, as far as the system lets it.
+pub fn replace<R: Files + AllocGlobal>(
+    rt: &R,
+    id: u32,
+    name: &str,
+    bytes: &[u8],
+    rights: Option<u32>,
+) -> Result<FileId, Trouble> {
+    let folder = open_folder(rt, name)?;
+    let (beside, mut file) = create_beside(rt, id, name, rights)?;
+    let renamed = fill_and_rename(rt, &mut file, beside.as_str(), name, bytes, rights);
+    if renamed.is_err() {
+        let _ = fs::remove_file(rt, beside.as_str());
+    }
+    let placed = renamed?;
+    if let Some(folder) = folder {
+        sync(&folder)?;
+    }
+    Ok(placed)
+}
+
+// Gives a new file these rights, fills it, and gives it the name that it is made for.
+fn fill_and_rename<R: Files>(
+    rt: &R,
+    file: &mut R::File,
+    beside: &str,
+    name: &str,
+    bytes: &[u8],
+    rights: Option<u32>,
+) -> Result<FileId, Trouble> {
+    if let Some(rights) = rights {
+        file.set_permissions(Permissions::from_mode(rights))?;
+    }
+    write_whole(file, bytes)?;
+    sync(file)?;
+    let placed = FileId::of(&file.metadata()?);
+    fs::rename(rt, beside, name)?;
+    Ok(placed)
+}
+
+/// Waits until an open file has reached its disk. What has no disk can't be synced, and needn't be.
+pub fn sync<F: OpenFile>(file: &F) -> Result<(), Trouble> {
+    match file.sync_all() {
+        Err(fault) if !has_no_sync(fault.kind()) => Err(Trouble::from(fault)),
+        _ => Ok(()),
+    }
+}
+
+// Whether a sync is refused since there is none for such a file.
+fn has_no_sync(kind: ErrorKind) -> bool {
+    kind == ErrorKind::InvalidInput || kind == ErrorKind::Unsupported
+}
+
+// The folder of a name, to be synced once the name is there; none if it may be written but not read.
+fn open_folder<R: Files>(rt: &R, name: &str) -> Result<Option<R::File>, Trouble> {
+    let folder = match name.rsplit_once('/') {
+        Some(("", _)) => "/",
+        Some((folder, _)) => folder,
+        None => ".",
+    };
+    match fs::open(rt, folder) {
+        Ok(folder) => Ok(Some(folder)),
+        Err(fault) if fault.kind() == ErrorKind::PermissionDenied => Ok(None),
+        Err(fault) => Err(Trouble::from(fault)),
+    }
+}
+
+// Makes a new file in the folder of a name, which no more may read than these rights say, and says
+// its own name.
+fn create_beside<R: Files + AllocGlobal>(
+    rt: &R,
+    id: u32,
+    name: &str,
+    rights: Option<u32>,
+) -> Result<(String, R::File), Trouble> {
+    let mut options = OpenOptions::new();
+    options
+        .write(true)
+        .create_new(true)
+        .mode(rights.unwrap_or(NEW_RIGHTS));
+    for number in 0..NAMES {
+        let beside = name_beside(rt.alloc(), id, name, number)?;
+        match options.open(rt, beside.as_str()) {
+            Ok(file) => return Ok((beside, file)),
+            Err(fault) if fault.kind() == ErrorKind::AlreadyExists => {}
+            Err(fault) => return Err(Trouble::from(fault)),
+        }
+    }
+    Err(Trouble::System)
+}
+
+// A hidden name in the folder of a name. Another process has other names.
+fn name_beside(alloc: Global, id: u32, name: &str, number: u32) -> Result<String, AllocError> {
+    match name.rsplit_once('/') {
+        Some((folder, _)) => format!(in alloc; "{folder}/.zcld-{id}-{number}.new"),
+        None => format!(in alloc; ".zcld-{id}-{number}.new"),
+    }
+}
