@@ -137,7 +137,7 @@ long_image bytes h =
 
 whole_segments : (bytes : List ℕ) → image_truncated bytes ≡ false → list_any (load_passes_end bytes) (loads_of bytes) ≡ false
 whole_segments bytes h =
-    (or_parts (lacks_program_headers bytes || lacks_headers bytes) _ (or_parts (lacks_program_headers bytes || lacks_headers bytes || list_any (load_passes_end bytes) (loads_of bytes)) _ h).0).1
+    (or_parts (lacks_program_headers bytes || truncated bytes) (list_any (load_passes_end bytes) (loads_of bytes)) h).1
 
 pub faultless_whole_image : (bytes : List ℕ) (memory : MemMap) → image_fault bytes memory ≡ None → IsWholeImage bytes
 unfolding image_fault
