@@ -1,5 +1,5 @@
 -- The items of an object of straight code: each is that of a word of the code, and each word's item stands at its place.
-use Rattle.std.proofs.Common.{◌≡◌, ℕ, zero, suc, ◌+◌, ◌-◌, ◌*◌, ◌/◌, ◌<◌, ◌≤◌, List, [], ◌∷◌, length, map, take, drop, get_or, Bool, true, false, cond, not, Option, Some, None, refl, sym, ap, ◌∙◌, arith, eqb, eq-eqb, inl, inr}
+use Rattle.std.proofs.Common.{◌≡◌, ◌≢◌, ℕ, zero, suc, ◌+◌, ◌*◌, ◌/◌, ◌<◌, ◌≤◌, List, [], ◌∷◌, length, map, take, drop, get_or, Bool, true, false, cond, not, Option, Some, None, refl, sym, ap, ◌∙◌, arith, eqb, eq-eqb, inl, inr}
 use Rattle.std.specs.Prelude.{◌==◌, ◌&&◌, bit_and, slice_get}
 use Rattle.std.specs.List.{list_any, range_with_len}
 use Rattle.std.specs.Option.{option_and_then, option_map, option_map_or}
@@ -72,26 +72,24 @@ module _ (file : List ℕ) (straight : IsStraight file) where
   words = words_in (code_of file)
 
   abbrev section_of : ℕ → SectionParts
-  section_of i = section_parts file (header_of file i)
+  section_of i = section_parts file i
 
-  section_there : (i : ℕ) → suc i < section_count file → section_in (object_parts file) (suc i) ≡ Some (section_of (suc i))
+  section_there : (i : ℕ) → i < section_count file → section_in (object_parts file) i ≡ Some (section_of i)
   unfolding object_parts
   section_there i lt =
-      let count = section_count file - 1 in
-      let inside : i < length (map section_of (range_with_len 1 count)) = rw (length-map-range_with_len section_of 1 count) (omega arith) in
-      slice_get-get_or (map section_of (range_with_len 1 count)) i (section_of (suc i)) inside
-      ∙ ap Some (get_or-map-range_with_len section_of 1 count i (suc i) (section_of (suc i)) (omega arith) (omega arith))
+      let inside : i < length (map section_of (range_with_len 0 (section_count file))) = rw (length-map-range_with_len section_of 0 (section_count file)) lt in
+      slice_get-get_or (map section_of (range_with_len 0 (section_count file))) i (section_of i) inside
+      ∙ ap Some (get_or-map-range_with_len section_of 0 (section_count file) i i (section_of i) lt (omega arith))
 
-  no_section : (i : ℕ) → section_count file ≤ suc i → section_in (object_parts file) (suc i) ≡ None
+  no_section : (i : ℕ) → section_count file ≤ i → section_in (object_parts file) i ≡ None
   unfolding object_parts
   no_section i le =
-      let count = section_count file - 1 in
-      slice_get_past (map section_of (range_with_len 1 count)) i (rw (length-map-range_with_len section_of 1 count) (omega arith))
+      slice_get_past (map section_of (range_with_len 0 (section_count file))) i (rw (length-map-range_with_len section_of 0 (section_count file)) le)
 
   -- section 1 is code
   code_there : (n : ℕ) → code_at objects (place_at n) ≡ Some (section_of 1)
   code_there n =
-      ap (option_and_then code_only) (section_there 0 straight.counted)
+      ap (option_and_then code_only) (section_there 1 straight.counted)
       ∙ ap (λ f. cond (bit_and f 6 == 6) (Some (section_of 1)) None) straight.flags
 
   -- ---- items of words
@@ -155,30 +153,28 @@ module _ (file : List ℕ) (straight : IsStraight file) where
   found_at n i false starts is = absurd cc
 
   -- elsewhere there is no code, or it is empty
-  empty_section : (i : ℕ) (q : Place) → suc (suc i) < section_count file → option_and_then (item_from objects q) (code_only (section_of (suc (suc i)))) ≡ None
-  empty_section i q lt = tested (eqb (bit_and header.flags 6) 6) refl
+  empty_section : (i : ℕ) (q : Place) → i ≢ 1 → i < section_count file → option_and_then (item_from objects q) (code_only (section_of i)) ≡ None
+  empty_section i q not_first lt = tested (eqb (bit_and header.flags 6) 6) refl
     where
       header : Header
-      header = header_of file (suc (suc i))
+      header = header_of file i
 
-      tested : (b : Bool) → eqb (bit_and header.flags 6) 6 ≡ b → option_and_then (item_from objects q) (cond b (Some (section_of (suc (suc i)))) None) ≡ None
+      tested : (b : Bool) → eqb (bit_and header.flags 6) 6 ≡ b → option_and_then (item_from objects q) (cond b (Some (section_of i)) None) ≡ None
       tested true t =
-          let other : eqb (suc (suc i)) 1 ≡ false = ne_eqb (suc (suc i)) 1 (λ e. omega (arith, e)) in
-          let built = or_parts (not (eqb (suc (suc i)) 1) && takes_memory header) (changes_others header) (straight.others (suc (suc i)) lt) in
+          let other : eqb i 1 ≡ false = ne_eqb i 1 not_first in
+          let built = or_parts (not (eqb i 1) && takes_memory header) (changes_others header) (straight.others i lt) in
           let none = empty_code header (sym (ap (λ b. not b && takes_memory header) other) ∙ built.0) (eqb-true (bit_and header.flags 6) 6 t) in
-          item_from-empty objects q (section_of (suc (suc i))) (content_of-empty file header none)
+          item_from-empty objects q (section_of i) (content_of-empty file header none)
       tested false t = refl
 
   elsewhere : (o s n : ℕ) → (o ≡ 0 → s ≡ 1 → ⊥) → item_at objects (record { object = o; section = s; offset = n }) ≡ None
   unfolding item_at
   elsewhere (suc o) s n other = refl
-  elsewhere zero zero n other = refl
-  elsewhere zero (suc zero) n other = absurd (other refl refl)
-  elsewhere zero (suc (suc i)) n other =
-      let q : Place = record { object = 0; section = suc (suc i); offset = n } in
-      elim (cases_lt (suc (suc i)) (section_count file)) [
-        | inl lt ↦ ap (λ o. option_and_then (item_from objects q) (option_and_then code_only o)) (section_there (suc i) lt) ∙ empty_section i q lt
-        | inr le ↦ ap (λ o. option_and_then (item_from objects q) (option_and_then code_only o)) (no_section (suc i) le)
+  elsewhere zero s n other =
+      let q : Place = record { object = 0; section = s; offset = n } in
+      elim (cases_lt s (section_count file)) [
+        | inl lt ↦ ap (λ o. option_and_then (item_from objects q) (option_and_then code_only o)) (section_there s lt) ∙ empty_section s q (other refl) lt
+        | inr le ↦ ap (λ o. option_and_then (item_from objects q) (option_and_then code_only o)) (no_section s le)
       ]
 
   -- no item stands outside of section 1 of the first object

@@ -14,10 +14,9 @@ use Rattle.block_cut.specs.declared.item.Item.TheVariants.{Op, Raw}
 
 -- ---- sections of code
 
--- an object's section by its index: sections are counted from 1
+-- an object's section by its index
 abbrev pub section_in : ObjectParts → ℕ → Option SectionParts
-section_in object zero = None
-section_in object (suc i) = slice_get object.sections i
+section_in object i = slice_get object.sections i
 
 -- a section that is code: its flags have ALLOC (2) and EXECINSTR (4)
 abbrev pub code_only : SectionParts → Option SectionParts

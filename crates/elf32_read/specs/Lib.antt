@@ -2,10 +2,15 @@ pub mod Fault
 pub mod Header
 pub mod Image
 pub mod ImageFault
+pub mod Kept
+pub mod Lent
+pub mod Names
 pub mod Object
 pub mod Parts
 pub mod Places
+pub mod Relocs
 pub mod Rows
 pub mod Segment
 pub mod Segments
+pub mod Symbols
 pub use Rattle.zc_base.specs.Fields

@@ -1,34 +1,88 @@
--- What an object is made of, as plain data: what a file without a fault reads as (System V gABI, "Sections").
-use Rattle.std.specs.Prelude.{ℕ, ◌-◌, List, map}
-use Rattle.std.specs.List.{range_with_len}
+-- What an object is made of, as plain data: what a file without a fault reads as (System V gABI, "Sections", "Symbol Table"
+-- and "Relocation").
+use Rattle.std.specs.Prelude.{ℕ, Bool, not, ◌&&◌, nat_eq, if◌then◌else◌, List, [], map, codes}
+use Rattle.std.specs.Cmp.Lexicographic.{pointwise}
+use Rattle.std.specs.List.{flat_map, range_with_len}
 use Rattle.elf32_read.specs.Header.{Header, content_of, file_flags, header_of, section_count}
+use Rattle.elf32_read.specs.Kept.{has_flags, is_kept}
+use Rattle.elf32_read.specs.Names.{name_at, section_names}
+use Rattle.elf32_read.specs.Relocs.{relas_for, relocs_in}
+use Rattle.elf32_read.specs.Symbols.{symbol_entries, symbol_names}
+use Rattle.elf32_read.specs.declared.reloc.Reloc.{Reloc}
+use Rattle.elf32_read.specs.declared.symbol_entry.SymbolEntry.{SymbolEntry}
 
--- a section: its type, flags and alignment, its size in memory, and its content
+-- a section: its name, type, flags and alignment, its size in memory, its content, and what changes it
 pub record SectionParts : Type 0 where
+  pub name : List ℕ
   pub kind : ℕ
   pub flags : ℕ
   pub align : ℕ
   pub size : ℕ
   pub bytes : List ℕ
+  pub relocs : List Reloc
 
--- an object: e_flags, and its sections from index 1 on
+-- a symbol: its name, value and size, its binding and type, and its home: a section's index, or no section
+pub record SymbolParts : Type 0 where
+  pub name : List ℕ
+  pub value : ℕ
+  pub size : ℕ
+  pub bind : ℕ
+  pub kind : ℕ
+  pub home : ℕ
+
+-- an object: e_flags, and its sections and symbols by index, with section 0 and symbol 0
 pub record ObjectParts : Type 0 where
   pub flags : ℕ
   pub sections : List SectionParts
+  pub symbols : List SymbolParts
 
--- the section with this header
-abbrev pub section_parts : List ℕ → Header → SectionParts
-section_parts file header = record {
-  kind = header.kind;
-  flags = header.flags;
-  align = header.align;
-  size = header.size;
-  bytes = content_of file header;
+-- ---- sections and names, as parts
+
+-- the section has ALLOC (2), and isn't the table for unwinding the stack: all others are dropped
+abbrev pub is_kept_section : SectionParts → Bool
+is_kept_section s = has_flags 2 s.flags && not (pointwise nat_eq s.name (codes ".eh_frame"))
+
+-- a kept section with EXECINSTR (4)
+abbrev pub is_code_section : SectionParts → Bool
+is_code_section s = is_kept_section s && has_flags 4 s.flags
+
+-- ---- what a file reads as
+
+-- the relocations that a section holds
+abbrev pub relocs_held : List ℕ → Header → List Reloc
+relocs_held file h = relocs_in (content_of file h)
+
+-- the relocations of a section; a section that is dropped has none
+abbrev pub relocs_of : List ℕ → ℕ → List Reloc
+relocs_of file i = if is_kept file (header_of file i) then flat_map (relocs_held file) (relas_for file i) else []
+
+-- a section by its index
+abbrev pub section_parts : List ℕ → ℕ → SectionParts
+section_parts file i = let h = header_of file i in record {
+  name = name_at (section_names file) h.name;
+  kind = h.kind;
+  flags = h.flags;
+  align = h.align;
+  size = h.size;
+  bytes = content_of file h;
+  relocs = relocs_of file i;
 }
 
--- what a file reads as
+-- the symbol of an entry
+abbrev pub symbol_parts : List ℕ → SymbolEntry → SymbolParts
+symbol_parts file e = record {
+  name = name_at (symbol_names file) e.name;
+  value = e.value;
+  size = e.size;
+  bind = e.bind;
+  kind = e.kind;
+  home = e.home;
+}
+
+-- all of it
 unfoldable pub object_parts : List ℕ → ObjectParts
 object_parts file = record {
   flags = file_flags file;
-  sections = map (λ i. section_parts file (header_of file i)) (range_with_len 1 (section_count file - 1));
+  sections = map (section_parts file) (range_with_len 0 (section_count file));
+  symbols = map (symbol_parts file) (symbol_entries file);
 }

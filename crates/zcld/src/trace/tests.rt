@@ -102,11 +102,11 @@ fn addi(rd: u32, first: u32, imm: i32) -> u32 {
 }
 
 // How the sum of two immediates ends as an object, and as the image that it is linked to. The object's
-// fourth word takes the place of the symbols, which the linker doesn't read, and the header of section 1
+// fourth word takes the place of the symbols, which the object then lacks, and the header of section 1
 // says how long the code is.
 fn ends_of(alloc: Global, first: i32, second: i32) -> Result<(Outcome, Outcome), Fail> {
     let changes = format!(in alloc;
-        "52:{:08x} 56:{:08x} 60:05d00893 64:00000073 200:10",
+        "52:{:08x} 56:{:08x} 60:05d00893 64:00000073 200:10 224:00",
         addi(5, 0, first),
         addi(10, 5, second)
     )?;

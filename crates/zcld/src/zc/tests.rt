@@ -16,17 +16,15 @@ const NOT_BUILT: End = End {
     ..USAGE
 };
 
-const NOT_ELF: End = End {
-    outcome: Outcome::Refused(0, Fault::NotElf),
-    line: "refused 0 1 NotElf\n",
-    ..NOT_BUILT
-};
-
-const TRUNCATED: End = End {
-    outcome: Outcome::Refused(0, Fault::Truncated),
-    line: "refused 0 2 Truncated\n",
-    ..NOT_BUILT
-};
+// The object is refused for this fault.
+fn refused(fault: Fault, line: &str) -> End<'_> {
+    let outcome = Outcome::Refused(0, fault);
+    End {
+        outcome,
+        line,
+        ..NOT_BUILT
+    }
+}
 
 // The outcome, the file `o` and the file `c` of a call.
 fn linked(alloc: Global, call: &Call) -> Result<(Outcome, Vec<u8>, Vec<u8>), Fail> {
@@ -56,26 +54,31 @@ fn an_image_and_a_certificate_are_put_under_their_names(rt: HostRuntime) -> Resu
     expect_words(&rt, &ZC, "zc --out  --cert c x", &End { files: 1, ..DONE })
 }
 
-// Changes of e_flags, the sections' count, the header of section 1 (its kind, flags, size and
-// alignment), a word, and a section beside it; the magic number, where section 1's content begins, and
-// the file's length.
+// Changes of section 1 (its kind, its size and its alignment), and of a word.
 #[test]
 fn objects_that_are_not_straight_code_are_named(rt: HostRuntime) -> Result<(), Fail> {
-    let lines = "36:01
-48:01
-184:08
-188:07
-200:00
-200:0a
-212:08
-53:15
-224:04
-224:09
-224:11
-228:02";
-    expect_changes(&rt, &ZC, lines, &NOT_BUILT)?;
-    expect_changes(&rt, &ZC, "0:00", &NOT_ELF)?;
-    expect_changes(&rt, &ZC, "199:01\n..339", &TRUNCATED)
+    expect_changes(&rt, &ZC, "188:02\n200:00\n212:08\n53:15", &NOT_BUILT)
+}
+
+// Changes of the magic number, the file's length, e_flags, the header of section 1 (its flags, alignment
+// and size), the name and the value of a symbol, and the count of sections.
+#[test]
+fn objects_that_can_not_be_read_are_named(rt: HostRuntime) -> Result<(), Fail> {
+    let rows = [
+        ("0:00", Fault::NotElf, "refused 0 1 NotElf\n"),
+        ("..339", Fault::Truncated, "refused 0 2 Truncated\n"),
+        ("36:01", Fault::Flags, "refused 0 3 Flags\n"),
+        ("188:07", Fault::SectionKind, "refused 0 4 SectionKind\n"),
+        ("212:03", Fault::Alignment, "refused 0 5 Alignment\n"),
+        ("200:0a", Fault::CodeSize, "refused 0 6 CodeSize\n"),
+        ("80:08", Fault::BadName, "refused 0 7 BadName\n"),
+        ("84:0d", Fault::BadSymbol, "refused 0 8 BadSymbol\n"),
+        ("49:11", Fault::TooLarge, "refused 0 17 TooLarge\n"),
+    ];
+    for (change, fault, line) in rows {
+        expect_changes(&rt, &ZC, change, &refused(fault, line))?;
+    }
+    Ok(())
 }
 
 // A change of the first word of the text, and the bytes that the image then has for it: `c.li` takes six

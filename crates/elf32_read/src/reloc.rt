@@ -1,0 +1,13 @@
+// Relocations.
+
+/// A relocation with its addend, Elf32_Rela (System V gABI, "Relocation").
+///
+/// It changes bytes of its section from `offset` on, in the way of `kind` (ELF32_R_TYPE; RISC-V ELF psABI, "Relocations"),
+/// to hold the address of the symbol with the index `symbol`, plus `addend`.
+#[derive(Clone, Copy, PartialEq, Eq, Debug)]
+pub struct Reloc {
+    pub offset: u32,
+    pub symbol: u32,
+    pub kind: u8,
+    pub addend: i32,
+}
