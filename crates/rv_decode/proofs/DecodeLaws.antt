@@ -105,6 +105,7 @@ each_format = (upper_format Lui, (upper_format Auipc, (jal_format, (jalr_format,
 
 -- a word that spells something has a row
 opcode_row : (word : ℕ) (i : Instr) → decoded word ≡ Some i → (spell : ℕ → Option Instr) × (row_of opcodes (opcode_of word) ≡ Some spell) × (spell word ≡ Some i)
+unfolding decoded
 opcode_row word i h = either (row_of opcodes (opcode_of word)) refl h
   where
     either : (o : Option (ℕ → Option Instr)) → row_of opcodes (opcode_of word) ≡ o → option_and_then (λ spell. spell word) o ≡ Some i → (spell : ℕ → Option Instr) × (row_of opcodes (opcode_of word) ≡ Some spell) × (spell word ≡ Some i)
@@ -125,6 +126,7 @@ shift_funct3 word op is = ⊎_elim
 
 -- what an opcode's words spell
 spelled : (word opcode : ℕ) (spell : ℕ → Option Instr) → opcode_of word ≡ opcode → row_of opcodes opcode ≡ Some spell → decoded word ≡ spell word
+unfolding decoded
 spelled word opcode spell o row = ap (λ s. option_and_then (λ f. f word) s) (ap (row_of opcodes) o ∙ row)
 
 upper_row : (op : UpperOp) → row_of opcodes (upper_opcode op) ≡ Some (upper_of op)
@@ -132,6 +134,7 @@ upper_row Lui = refl
 upper_row Auipc = refl
 
 pub format-decoded : (word : ℕ) (i : Instr) → Format word i → decoded word ≡ Some i
+unfolding decoded
 format-decoded word i (OfUpper op o is) = spelled word (upper_opcode op) (upper_of op) o (upper_row op) ∙ ap Some (sym is)
 format-decoded word i (OfJal o is) = spelled word _ jal_of o refl ∙ ap Some (sym is)
 format-decoded word i (OfJalr o f is) = spelled word _ jalr_of o refl ∙ ap (λ n. cond (eqb n 0b000) (Some (Jalr (rd_of word) (rs1_of word) (imm_i_of word))) None) f ∙ ap Some (sym is)

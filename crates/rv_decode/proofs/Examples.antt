@@ -38,13 +38,16 @@ least_immediate = refl
 
 -- addi sp, sp, -16
 decoded_word : decoded 0xFF010113 ≡ Some (WithImm Addi 2 2 (negsuc 15))
+unfolding decoded
 decoded_word = refl
 
 -- in a jump's word imm[11] stands above imm[19:12], and in a branch's above the opcode
 jump_word : decoded 0x0010056F ≡ Some (Jal 10 (pos 0x800))
+unfolding decoded
 jump_word = refl
 
 branch_word : decoded 0x00B560E3 ≡ Some (Branch Bltu 10 11 (pos 2048))
+unfolding decoded
 branch_word = refl
 
 -- ---- results

@@ -157,5 +157,5 @@ opcodes =
     []
 
 -- the instruction that a word spells; none outside the table
-abbrev pub decoded : ℕ → Option Instr
+unfoldable pub decoded : ℕ → Option Instr
 decoded word = option_and_then (λ spell. spell word) (row_of opcodes (opcode_of word))

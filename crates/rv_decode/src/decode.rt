@@ -12,6 +12,7 @@ use crate::ops::{branch_op, imm_op, load_op, reg_op, shift_op, store_op};
 const JVT: u32 = 0x017;
 
 /// The instruction that a word spells, or none if the table has no row for it.
+#[tactic(auto, unfolding(crate::specs::Decode::decoded))]
 pub fn decode(word: u32) -> Option<Instr>
     ensures { result ≡ decoded word }
 {

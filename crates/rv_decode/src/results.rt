@@ -3,7 +3,7 @@
 ghost use Rattle.std.specs.Prelude.{◌≡◌, ℤ};
 ghost use Rattle.rv_decode.specs.Results as results;
 
-use crate::instr::{BranchOp, ImmOp, RegOp};
+use crate::instr::{BranchOp, ImmOp, RegOp, UpperOp};
 
 /// What an operation on the words of two registers gives.
 pub fn reg_result(op: RegOp, a: u32, b: u32) -> u32
@@ -85,6 +85,16 @@ pub fn imm_result(op: ImmOp, n: u32, imm: i32) -> u32
         ImmOp::Srai => RegOp::Sra,
     };
     reg_result(reg_op, n, imm.cast_unsigned())
+}
+
+/// What an instruction with an upper immediate gives, at this program counter.
+pub fn upper_result(op: UpperOp, pc: u32, imm: u32) -> u32
+    ensures { result ≡ results.upper_result op pc imm }
+{
+    match op {
+        UpperOp::Lui => imm << 12,
+        UpperOp::Auipc => pc.wrapping_add(imm << 12),
+    }
 }
 
 /// Whether a branch is taken, by the words of its two registers.

@@ -1,4 +1,5 @@
 // The word of an instruction.
+#![tactic(auto, unfolding(rv_decode::specs::Decode::decoded))]
 
 ghost use Rattle.std.specs.Prelude.{◌≡◌, ◌<◌, ◌^◌, Some};
 ghost use Rattle.rv_decode.specs.Bits.{FitsIn, IsEven};
