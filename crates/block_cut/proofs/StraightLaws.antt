@@ -17,7 +17,8 @@ use Rattle.psabi_sym.specs.declared.link_fault.LinkFault.{LinkFault}
 use Rattle.psabi_sym.specs.declared.link_fault.LinkFault.TheVariants.{Object, OutOfMemory}
 use Rattle.psabi_sym.proofs.Gathered.{readable}
 use Rattle.block_cut.specs.Faults.{cut_fault, first_fault}
-use Rattle.block_cut.specs.Straight.{code_of, has_other_parts, indexed, is_straight_code, is_unbuilt, is_unbuilt_section, is_unknown, words_in}
+use Rattle.block_cut.specs.Straight.{code_of, has_other_parts, indexed, is_straight_code, is_unbuilt, is_unbuilt_section, words_in}
+use Rattle.block_cut.specs.Built.{is_unbuilt_word}
 
 -- ---- straight code
 
@@ -32,7 +33,7 @@ pub record IsStraight (file : List ℕ) : Type 0 where
   pub short : (header_of file 1).size ≤ 65536
   pub size : length (code_of file) ≡ (header_of file 1).size
   pub others : (i : ℕ) → i < section_count file → is_unbuilt_section (indexed file i) ≡ false
-  pub known : list_any is_unknown (words_in (code_of file)) ≡ false
+  pub known : list_any is_unbuilt_word (words_in (code_of file)) ≡ false
 
 -- the content of code that lies in the file has the section's size
 content_whole : (file : List ℕ) → object_fault file ≡ None → 1 < section_count file → (header_of file 1).kind ≡ 1 → length (code_of file) ≡ (header_of file 1).size
@@ -50,7 +51,7 @@ straight file read built =
     let code = header_of file 1 in
     let few = ltb (section_count file) 2 in
     let other = not (is_straight_code code) in
-    let all = or_parts (has_other_parts file) (list_any is_unknown (words_in (code_of file))) built in
+    let all = or_parts (has_other_parts file) (list_any is_unbuilt_word (words_in (code_of file))) built in
     let three = or_parts (few || other) _ all.0 in
     let two = or_parts few other three.0 in
     let is = not-false (is_straight_code code) two.1 in

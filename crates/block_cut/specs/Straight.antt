@@ -1,10 +1,10 @@
 -- Objects of straight code, which are all that is linked so far.
-use Rattle.std.specs.Prelude.{ℕ, zero, suc, ◌+◌, ◌/◌, ◌%◌, Bool, not, ◌&&◌, ◌||◌, ◌==◌, nat_lt, nat_le, is_none, List, [], ◌∷◌, length, map}
+use Rattle.std.specs.Prelude.{ℕ, zero, suc, ◌+◌, ◌/◌, ◌%◌, Bool, not, ◌&&◌, ◌||◌, ◌==◌, nat_lt, nat_le, List, [], ◌∷◌, length, map}
 use Rattle.std.specs.List.{list_any, range_with_len}
 use Rattle.std.specs.Int.RustNames.{bit_and}
 use Rattle.zc_base.specs.Fields.{word_in}
 use Rattle.elf32_read.specs.Header.{Header, header_of, section_count, content_of}
-use Rattle.rv_decode.specs.Decode.{decoded}
+use Rattle.block_cut.specs.Built.{is_unbuilt_word}
 
 -- n words from an offset on
 abbrev pub words_from : List ℕ → ℕ → ℕ → List ℕ
@@ -40,10 +40,6 @@ is_unbuilt_section s = (not (s.0 == 1) && takes_memory s.1) || changes_others s.
 abbrev pub indexed : List ℕ → ℕ → ℕ × Header
 indexed object i = (i, header_of object i)
 
--- a word that the table of instructions doesn't have
-abbrev pub is_unknown : ℕ → Bool
-is_unknown word = is_none (decoded word)
-
 -- an object with more than straight code, or without: it has no section 1 or no code in it, or another section that this
 -- link has no place for
 abbrev pub has_other_parts : List ℕ → Bool
@@ -52,6 +48,6 @@ has_other_parts object =
     || not (is_straight_code (header_of object 1))
     || list_any is_unbuilt_section (map (indexed object) (range_with_len 0 (section_count object)))
 
--- an object that isn't straight code alone, of words that are known
+-- an object that isn't straight code alone, of words that are linked
 unfoldable pub is_unbuilt : List ℕ → Bool
-is_unbuilt object = has_other_parts object || list_any is_unknown (words_in (code_of object))
+is_unbuilt object = has_other_parts object || list_any is_unbuilt_word (words_in (code_of object))

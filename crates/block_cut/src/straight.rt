@@ -1,10 +1,13 @@
 // Whether an object is straight code alone, and the items of its words.
 
-ghost use Rattle.std.specs.Prelude.{◌≡◌, ◌<◌, map, true, false, IfOk, MatchOption};
+ghost use Rattle.std.specs.Prelude.{◌≡◌, ◌<◌, map, true, false, Some, IfOk, MatchOption};
 ghost use Rattle.std.specs.List.{list_any, range_with_len};
+ghost use Rattle.rv_decode.specs.Decode.{decoded};
 ghost use Rattle.elf32_read.specs.Header.{Header, header_of, section_count};
+ghost use Rattle.block_cut.specs.Built as built;
+ghost use Rattle.block_cut.specs.Built.{is_unbuilt_word};
 ghost use Rattle.block_cut.specs.Cut.{items_from};
-ghost use Rattle.block_cut.specs.Straight.{changes_others, has_other_parts, indexed, is_straight_code, is_unbuilt_section, is_unknown, takes_memory, words_in};
+ghost use Rattle.block_cut.specs.Straight.{changes_others, has_other_parts, indexed, is_straight_code, is_unbuilt_section, takes_memory, words_in};
 
 use crate::item::Item;
 use bitflags::Flags;
@@ -12,6 +15,7 @@ use elf32_read::object::Object;
 use elf32_read::section::Section;
 use elf32_read::section_flags::SectionFlags;
 use rv_decode::decode::decode;
+use rv_decode::instr::{ImmOp, Instr};
 use std::alloc::{AllocError, Global};
 use zc_base::fields::u32_at;
 
@@ -80,16 +84,48 @@ fn changes_others(section: &Section) -> bool
     section.kind == RELA
 }
 
-/// The items of the words of code, or none if the table of instructions lacks a word.
+// The instruction of a word, if it is linked.
+fn instr_of(word: u32) -> Option<Instr>
+    ensures { MatchOption result
+        (is_unbuilt_word word ≡ true)
+        (λ instr. (is_unbuilt_word word ≡ false) × (decoded word ≡ Some instr)) }
+{
+    match decode(word) {
+        Some(instr) if is_built(&instr) => Some(instr),
+        _ => None,
+    }
+}
+
+// Whether an instruction is linked.
+fn is_built(instr: &Instr) -> bool
+    ensures { result ≡ built.is_built instr.now }
+{
+    match instr {
+        Instr::WithImm { op, .. } => matches!(op, ImmOp::Addi),
+        Instr::Ecall => true,
+        Instr::Upper { .. }
+        | Instr::Jal { .. }
+        | Instr::Jalr { .. }
+        | Instr::Branch { .. }
+        | Instr::Load { .. }
+        | Instr::Store { .. }
+        | Instr::WithReg { .. }
+        | Instr::Fence { .. }
+        | Instr::Ebreak
+        | Instr::Csrrw { .. } => false,
+    }
+}
+
+/// The items of the words of code, or none if there is a word that isn't linked.
 pub fn items_in(alloc: Global, code: &[u8]) -> Result<Option<Vec<Item>>, AllocError>
     ensures { IfOk result (λ found. MatchOption found
-        (list_any is_unknown (words_in code.now) ≡ true)
-        (λ items. (list_any is_unknown (words_in code.now) ≡ false) × (items.items ≡ items_from 0 (words_in code.now)))) }
+        (list_any is_unbuilt_word (words_in code.now) ≡ true)
+        (λ items. (list_any is_unbuilt_word (words_in code.now) ≡ false) × (items.items ≡ items_from 0 (words_in code.now)))) }
 {
     let count = code.len() / 4;
     let mut items = Vec::with_capacity(alloc, count)?;
     for i in 0..count {
-        match decode(u32_at(code, 4 * i)) {
+        match instr_of(u32_at(code, 4 * i)) {
             Some(instr) => items.push(Item::Op(instr))?,
             None => return Ok(None),
         }

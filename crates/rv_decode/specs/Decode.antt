@@ -1,46 +1,161 @@
--- The table of words (RISC-V unprivileged manual, chapter "RV32/64G Instruction Set Listings").
-use Rattle.std.specs.Prelude.{ℕ, ℤ, Option, Some, None, ◌==◌, if◌then◌else◌}
-use Rattle.std.specs.Option.{option_map}
+-- The table of words (RISC-V unprivileged manual, "RV32/64G Instruction Set Listings"): RV32I, M, and of Zicsr the one
+-- instruction that sets the table base register jvt (Zc 1.0, "Zcmt"). Each operation is a line, in the manual's order.
+use Rattle.std.specs.Prelude.{ℕ, pos, ◌+◌, ◌*◌, List, [], ◌∷◌, Option, Some, None, ◌==◌, ◌&&◌, if◌then◌else◌}
+use Rattle.std.specs.Option.{option_and_then, option_map, option_or}
 use Rattle.rv_decode.specs.declared.instr.Instr.{Instr}
-use Rattle.rv_decode.specs.declared.instr.Instr.TheVariants.{WithImm, Ecall}
+use Rattle.rv_decode.specs.declared.instr.Instr.TheVariants.{Upper, Jal, Jalr, Branch, Load, Store, WithImm, WithReg, Fence, Ecall, Ebreak, Csrrw}
+use Rattle.rv_decode.specs.declared.instr.UpperOp.{UpperOp}
+use Rattle.rv_decode.specs.declared.instr.UpperOp.TheVariants.{Lui, Auipc}
+use Rattle.rv_decode.specs.declared.instr.BranchOp.{BranchOp}
+use Rattle.rv_decode.specs.declared.instr.BranchOp.TheVariants.{Beq, Bne, Blt, Bge, Bltu, Bgeu}
+use Rattle.rv_decode.specs.declared.instr.LoadOp.{LoadOp}
+use Rattle.rv_decode.specs.declared.instr.LoadOp.TheVariants.{Lb, Lh, Lw, Lbu, Lhu}
+use Rattle.rv_decode.specs.declared.instr.StoreOp.{StoreOp}
+use Rattle.rv_decode.specs.declared.instr.StoreOp.TheVariants.{Sb, Sh, Sw}
 use Rattle.rv_decode.specs.declared.instr.ImmOp.{ImmOp}
-use Rattle.rv_decode.specs.declared.instr.ImmOp.TheVariants.{Addi}
-use Rattle.rv_decode.specs.Bits.{field, signed}
+use Rattle.rv_decode.specs.declared.instr.ImmOp.TheVariants.{Addi, Slti, Sltiu, Xori, Ori, Andi, Slli, Srli, Srai}
+use Rattle.rv_decode.specs.declared.instr.RegOp.{RegOp}
+use Rattle.rv_decode.specs.declared.instr.RegOp.TheVariants.{Add, Sub, Sll, Slt, Sltu, Xor, Srl, Sra, Or, And, Mul, Mulh, Mulhsu, Mulhu, Div, Divu, Rem, Remu}
+use Rattle.rv_decode.specs.Formats.{opcode_of, rd_of, funct3_of, rs1_of, rs2_of, funct7_of, shamt_of, csr_of, fence_rest_of, imm_i_of, imm_s_of, imm_b_of, imm_u_of, imm_j_of}
 
--- the fields that formats share, if a format has them: the opcode, bits 6 to 0
-abbrev pub opcode_of : ℕ → ℕ
-opcode_of word = field word 0 7
+-- what stands in the row with this number
+abbrev pub row_of : {A : Type 0} → List (ℕ × A) → ℕ → Option A
+row_of [] n = None
+row_of (row ∷ rows) n = if n == row.0 then Some row.1 else row_of rows n
 
--- the register that gets the result: bits 11 to 7
-abbrev pub rd_of : ℕ → ℕ
-rd_of word = field word 7 5
+-- ---- operations by funct3
 
--- which of an opcode's operations: bits 14 to 12
-abbrev pub funct3_of : ℕ → ℕ
-funct3_of word = field word 12 3
+-- BRANCH, format B
+abbrev pub branch_ops : List (ℕ × BranchOp)
+branch_ops =
+    (0b000, Beq) ∷
+    (0b001, Bne) ∷
+    (0b100, Blt) ∷
+    (0b101, Bge) ∷
+    (0b110, Bltu) ∷
+    (0b111, Bgeu) ∷
+    []
 
--- the first source register: bits 19 to 15
-abbrev pub rs1_of : ℕ → ℕ
-rs1_of word = field word 15 5
+-- LOAD, format I
+abbrev pub load_ops : List (ℕ × LoadOp)
+load_ops =
+    (0b000, Lb) ∷
+    (0b001, Lh) ∷
+    (0b010, Lw) ∷
+    (0b100, Lbu) ∷
+    (0b101, Lhu) ∷
+    []
 
--- the immediate of the I format: bits 31 to 20, signed
-abbrev pub imm_i_of : ℕ → ℤ
-imm_i_of word = signed 12 (field word 20 12)
+-- STORE, format S
+abbrev pub store_ops : List (ℕ × StoreOp)
+store_ops =
+    (0b000, Sb) ∷
+    (0b001, Sh) ∷
+    (0b010, Sw) ∷
+    []
 
--- the operations on a register and an immediate (OP-IMM), each with its immediate, by funct3
-abbrev pub imm_op_of : ℕ → Option (ImmOp × ℤ)
-imm_op_of word = if funct3_of word == 0b000 then Some (Addi, imm_i_of word) else None
+-- OP-IMM, format I
+abbrev pub imm_ops : List (ℕ × ImmOp)
+imm_ops =
+    (0b000, Addi) ∷
+    (0b010, Slti) ∷
+    (0b011, Sltiu) ∷
+    (0b100, Xori) ∷
+    (0b110, Ori) ∷
+    (0b111, Andi) ∷
+    []
 
--- OP-IMM
+-- ---- operations by funct7 and funct3, read as one number of ten bits
+
+abbrev pub funct_of : ℕ → ℕ
+funct_of word = funct7_of word * 8 + funct3_of word
+
+-- OP-IMM, with a shift's amount
+abbrev pub shift_ops : List (ℕ × ImmOp)
+shift_ops =
+    (0b0000000_001, Slli) ∷
+    (0b0000000_101, Srli) ∷
+    (0b0100000_101, Srai) ∷
+    []
+
+-- OP, format R: RV32I and then M
+abbrev pub reg_ops : List (ℕ × RegOp)
+reg_ops =
+    (0b0000000_000, Add) ∷
+    (0b0100000_000, Sub) ∷
+    (0b0000000_001, Sll) ∷
+    (0b0000000_010, Slt) ∷
+    (0b0000000_011, Sltu) ∷
+    (0b0000000_100, Xor) ∷
+    (0b0000000_101, Srl) ∷
+    (0b0100000_101, Sra) ∷
+    (0b0000000_110, Or) ∷
+    (0b0000000_111, And) ∷
+    (0b0000001_000, Mul) ∷
+    (0b0000001_001, Mulh) ∷
+    (0b0000001_010, Mulhsu) ∷
+    (0b0000001_011, Mulhu) ∷
+    (0b0000001_100, Div) ∷
+    (0b0000001_101, Divu) ∷
+    (0b0000001_110, Rem) ∷
+    (0b0000001_111, Remu) ∷
+    []
+
+-- ---- instructions, by opcode
+
+abbrev pub upper_of : UpperOp → ℕ → Option Instr
+upper_of op word = Some (Upper op (rd_of word) (imm_u_of word))
+
+abbrev pub jal_of : ℕ → Option Instr
+jal_of word = Some (Jal (rd_of word) (imm_j_of word))
+
+abbrev pub jalr_of : ℕ → Option Instr
+jalr_of word = if funct3_of word == 0b000 then Some (Jalr (rd_of word) (rs1_of word) (imm_i_of word)) else None
+
+abbrev pub branch_of : ℕ → Option Instr
+branch_of word = option_map (λ op. Branch op (rs1_of word) (rs2_of word) (imm_b_of word)) (row_of branch_ops (funct3_of word))
+
+abbrev pub load_of : ℕ → Option Instr
+load_of word = option_map (λ op. Load op (rd_of word) (rs1_of word) (imm_i_of word)) (row_of load_ops (funct3_of word))
+
+abbrev pub store_of : ℕ → Option Instr
+store_of word = option_map (λ op. Store op (rs2_of word) (rs1_of word) (imm_s_of word)) (row_of store_ops (funct3_of word))
+
+-- an operation with an immediate of the I format, or else one with a shift's amount
 abbrev pub with_imm_of : ℕ → Option Instr
-with_imm_of word = option_map (λ o. WithImm o.0 (rd_of word) (rs1_of word) o.1) (imm_op_of word)
+with_imm_of word = option_or
+    (option_map (λ op. WithImm op (rd_of word) (rs1_of word) (imm_i_of word)) (row_of imm_ops (funct3_of word)))
+    (option_map (λ op. WithImm op (rd_of word) (rs1_of word) (pos (shamt_of word))) (row_of shift_ops (funct_of word)))
 
--- SYSTEM
+abbrev pub with_reg_of : ℕ → Option Instr
+with_reg_of word = option_map (λ op. WithReg op (rd_of word) (rs1_of word) (rs2_of word)) (row_of reg_ops (funct_of word))
+
+abbrev pub fence_of : ℕ → Option Instr
+fence_of word = if funct3_of word == 0b000 then Some (Fence (fence_rest_of word)) else None
+
+-- ECALL and EBREAK are whole words; of CSRRW only the one on jvt (0x017) is here
 abbrev pub system_of : ℕ → Option Instr
-system_of word = if word == 0x00000073 then Some Ecall else None
+system_of word =
+    if word == 0x00000073 then Some Ecall else
+    (if word == 0x00100073 then Some Ebreak else
+    (if funct3_of word == 0b001 && csr_of word == 0x017 then Some (Csrrw (rd_of word) (rs1_of word)) else None))
 
--- the instruction that a word spells, by its opcode; none outside the table
-abbrev pub decoded : ℕ → Option Instr
-decoded word =
-    if opcode_of word == 0b0010011 then with_imm_of word else
-    (if opcode_of word == 0b1110011 then system_of word else None)
+-- the opcodes, each with what its words spell
+abbrev pub opcodes : List (ℕ × (ℕ → Option Instr))
+opcodes =
+    (0b0110111, upper_of Lui) ∷
+    (0b0010111, upper_of Auipc) ∷
+    (0b1101111, jal_of) ∷
+    (0b1100111, jalr_of) ∷
+    (0b1100011, branch_of) ∷
+    (0b0000011, load_of) ∷
+    (0b0100011, store_of) ∷
+    (0b0010011, with_imm_of) ∷
+    (0b0110011, with_reg_of) ∷
+    (0b0001111, fence_of) ∷
+    (0b1110011, system_of) ∷
+    []
+
+-- the instruction that a word spells; none outside the table
+unfoldable pub decoded : ℕ → Option Instr
+decoded word = option_and_then (λ spell. spell word) (row_of opcodes (opcode_of word))

@@ -1,8 +1,11 @@
 pub mod Bits
+pub mod Formats
 pub mod Decode
 pub mod Registers
+pub mod Immediates
 pub mod Memory
 pub mod State
+pub mod Results
 pub mod Effect
 pub mod Run
 pub mod Written

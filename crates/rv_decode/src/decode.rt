@@ -1,49 +1,136 @@
 // The instruction that a word spells.
 
 ghost use Rattle.std.specs.Prelude.{◌≡◌};
-ghost use Rattle.rv_decode.specs.Decode.{decoded, imm_i_of, imm_op_of, system_of, with_imm_of};
+ghost use Rattle.rv_decode.specs.Decode.{branch_of, decoded, fence_of, jal_of, jalr_of, load_of, store_of, system_of, upper_of, with_imm_of, with_reg_of};
 
-use crate::bits::{field_at, register_at, signed_of};
-use crate::instr::{ImmOp, Instr};
+use crate::bits::{field_at, register_at};
+use crate::formats::{funct, imm_b, imm_i, imm_j, imm_s};
+use crate::instr::{Instr, UpperOp};
+use crate::ops::{branch_op, imm_op, load_op, reg_op, shift_op, store_op};
+
+// The number of the table base register jvt among the control and status registers.
+const JVT: u32 = 0x017;
 
 /// The instruction that a word spells, or none if the table has no row for it.
+#[tactic(auto, unfolding(crate::specs::Decode::decoded))]
 pub fn decode(word: u32) -> Option<Instr>
     ensures { result ≡ decoded word }
 {
     match field_at(word, 0, 7) {
+        0b011_0111 => Some(upper(UpperOp::Lui, word)),
+        0b001_0111 => Some(upper(UpperOp::Auipc, word)),
+        0b110_1111 => Some(jal(word)),
+        0b110_0111 => jalr(word),
+        0b110_0011 => branch(word),
+        0b000_0011 => load(word),
+        0b010_0011 => store(word),
         0b001_0011 => with_imm(word),
+        0b011_0011 => with_reg(word),
+        0b000_1111 => fence(word),
         0b111_0011 => system(word),
         _ => None,
     }
 }
 
-fn with_imm(word: u32) -> Option<Instr>
-    ensures { result ≡ with_imm_of word }
+fn upper(op: UpperOp, word: u32) -> Instr
+    ensures { Some result ≡ upper_of op word }
 {
-    let (op, imm) = imm_op(word)?;
-    Some(Instr::WithImm {
+    Instr::Upper {
         op,
         rd: register_at(word, 7),
-        first: register_at(word, 15),
-        imm,
-    })
+        imm: field_at(word, 12, 20),
+    }
 }
 
-// The operation on a register and an immediate, and the immediate.
-fn imm_op(word: u32) -> Option<(ImmOp, i32)>
-    ensures { result ≡ imm_op_of word }
+fn jal(word: u32) -> Instr
+    ensures { Some result ≡ jal_of word }
+{
+    Instr::Jal {
+        rd: register_at(word, 7),
+        distance: imm_j(word),
+    }
+}
+
+fn jalr(word: u32) -> Option<Instr>
+    ensures { result ≡ jalr_of word }
 {
     match field_at(word, 12, 3) {
-        0b000 => Some((ImmOp::Addi, imm_i(word))),
+        0b000 => Some(Instr::Jalr {
+            rd: register_at(word, 7),
+            base: register_at(word, 15),
+            imm: imm_i(word),
+        }),
         _ => None,
     }
 }
 
-// The immediate of the I format.
-fn imm_i(word: u32) -> i32
-    ensures { result ≡ imm_i_of word }
+fn branch(word: u32) -> Option<Instr>
+    ensures { result ≡ branch_of word }
 {
-    signed_of(12, field_at(word, 20, 12))
+    Some(Instr::Branch {
+        op: branch_op(field_at(word, 12, 3))?,
+        first: register_at(word, 15),
+        second: register_at(word, 20),
+        distance: imm_b(word),
+    })
+}
+
+fn load(word: u32) -> Option<Instr>
+    ensures { result ≡ load_of word }
+{
+    Some(Instr::Load {
+        op: load_op(field_at(word, 12, 3))?,
+        rd: register_at(word, 7),
+        base: register_at(word, 15),
+        imm: imm_i(word),
+    })
+}
+
+fn store(word: u32) -> Option<Instr>
+    ensures { result ≡ store_of word }
+{
+    Some(Instr::Store {
+        op: store_op(field_at(word, 12, 3))?,
+        source: register_at(word, 20),
+        base: register_at(word, 15),
+        imm: imm_s(word),
+    })
+}
+
+fn with_imm(word: u32) -> Option<Instr>
+    ensures { result ≡ with_imm_of word }
+{
+    let rd = register_at(word, 7);
+    let first = register_at(word, 15);
+    if let Some(op) = imm_op(field_at(word, 12, 3)) {
+        let imm = imm_i(word);
+        return Some(Instr::WithImm { op, rd, first, imm });
+    }
+    let op = shift_op(funct(word))?;
+    let imm = field_at(word, 20, 5) as i32;
+    Some(Instr::WithImm { op, rd, first, imm })
+}
+
+fn with_reg(word: u32) -> Option<Instr>
+    ensures { result ≡ with_reg_of word }
+{
+    Some(Instr::WithReg {
+        op: reg_op(funct(word))?,
+        rd: register_at(word, 7),
+        first: register_at(word, 15),
+        second: register_at(word, 20),
+    })
+}
+
+fn fence(word: u32) -> Option<Instr>
+    ensures { result ≡ fence_of word }
+{
+    match field_at(word, 12, 3) {
+        0b000 => Some(Instr::Fence {
+            rest: field_at(word, 15, 17) << 5 | field_at(word, 7, 5),
+        }),
+        _ => None,
+    }
 }
 
 fn system(word: u32) -> Option<Instr>
@@ -51,60 +138,16 @@ fn system(word: u32) -> Option<Instr>
 {
     match word {
         0x0000_0073 => Some(Instr::Ecall),
+        0x0010_0073 => Some(Instr::Ebreak),
+        _ if field_at(word, 12, 3) == 0b001 && field_at(word, 20, 12) == JVT => Some(
+            Instr::Csrrw {
+                rd: register_at(word, 7),
+                source: register_at(word, 15),
+            },
+        ),
         _ => None,
     }
 }
 
 #[cfg(test)]
-mod tests {
-    use super::*;
-    use zc_base::reg::Reg;
-
-    fn addi(rd: u8, first: u8, imm: i32) -> Option<Instr> {
-        let rd = Reg::new(rd)?;
-        let first = Reg::new(first)?;
-        Some(Instr::WithImm {
-            op: ImmOp::Addi,
-            rd,
-            first,
-            imm,
-        })
-    }
-
-    // The words are worked by hand from the manual's table of RV32I.
-    #[test]
-    fn words_of_the_table_decode(rt: HostRuntime) {
-        let table = [
-            (0x0030_0513, addi(10, 0, 3)),
-            (0x05D0_0893, addi(17, 0, 93)),
-            (0x0000_0013, addi(0, 0, 0)),
-            (0xFFF0_0513, addi(10, 0, -1)),
-            (0xFF01_0113, addi(2, 2, -16)),
-            (0x8005_8513, addi(10, 11, -2048)),
-            (0x7FFF_8F93, addi(31, 31, 2047)),
-            (0x0000_0073, Some(Instr::Ecall)),
-        ];
-        for (word, want) in table {
-            assert_eq!(rt; decode(word), want, "{word:08x}");
-        }
-    }
-
-    // Another funct3 or opcode, a compressed word, and words beside `ecall`.
-    #[test]
-    fn words_outside_the_table_are_none(rt: HostRuntime) {
-        let words = [
-            0x0000_0000,
-            0xFFFF_FFFF,
-            0x0030_1513,
-            0x0030_0510,
-            0x0030_0533,
-            0x0010_0073,
-            0x0000_0573,
-            0x0000_8073,
-            0x3050_0073,
-        ];
-        for word in words {
-            assert_eq!(rt; decode(word), None, "{word:08x}");
-        }
-    }
-}
+mod tests;

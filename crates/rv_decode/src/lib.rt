@@ -4,4 +4,7 @@
 
 pub mod bits;
 pub mod decode;
+mod formats;
 pub mod instr;
+mod ops;
+pub mod results;

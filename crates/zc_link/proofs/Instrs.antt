@@ -6,7 +6,9 @@ use Rattle.rv_decode.specs.declared.instr.Instr.{Instr}
 use Rattle.rv_decode.specs.declared.instr.Instr.TheVariants.{WithImm}
 use Rattle.rv_decode.specs.declared.instr.ImmOp.{ImmOp}
 use Rattle.rv_decode.specs.Effect.{Commits, effect, gives as effect_gives, onward as core_onward}
+use Rattle.rv_decode.specs.Results.{imm_result}
 use Rattle.rv_decode.specs.State.{ZcCore, reg_in, set_reg}
+use Rattle.rv_decode.proofs.ResultLaws.{imm_result-below}
 use Rattle.sym_machine.specs.declared.word.SymWord.{SymWord}
 use Rattle.sym_machine.specs.Change.{Change, Goes, gives, onward}
 use Rattle.sym_machine.specs.Program.{Program}
@@ -56,7 +58,7 @@ moves_on {e = e} listed goes = record { made = goes.made; place = ap (place_addr
 module _ {p : Program} {e : Image} {s : PlainCore} {z : ZcCore} (ready : Ready p e s z) (size : ℕ) (c : Change) (next : Place) where
   -- a result that goes to a register
   register_goes :
-      (i : Instr) (rd v : ℕ) (w : SymWord) → effect i size z ≡ effect_gives (Some v) rd size z → v < 2 ^ 32
+      (i : Instr) (rd v : ℕ) (w : SymWord) → effect i size z ≡ effect_gives v rd size z → v < 2 ^ 32
       → WordStands (value_in p (place_address e)) w v → NamesWord p w → gives rd (Some w) next ≡ Goes c → GoesOn p e i size c s next z
   register_goes i rd v w does small stands names h = subst (λ x. GoesOn p e i size x s next z) same (record {
     made = record {
@@ -81,6 +83,7 @@ module _ {p : Program} {e : Image} {s : PlainCore} {z : ZcCore} (ready : Ready p
       by_word : (o : Option SymWord) → imm_word op (reg_of s first) imm ≡ o → gives rd o next ≡ Goes c → GoesOn p e (WithImm op rd first imm) size c s next z
       by_word None is g = absurd cc
       by_word (Some w) is g =
-          let result = imm_stands (value_in p (place_address e)) op (reg_of s first) w imm (reg_in z first) (ready.core.words first) (ready.registers first low) is in
+          let n = reg_in z first in
+          let stands = imm_stands (value_in p (place_address e)) op (reg_of s first) w imm n (ready.core.words first) (ready.registers first low) is in
           let names = imm_names p op (reg_of s first) w imm (ready.names.registers first low) is in
-          register_goes (WithImm op rd first imm) rd result.value w (ap (λ o. effect_gives o rd size z) result.is) result.small result.stands names g
+          register_goes (WithImm op rd first imm) rd (imm_result op n imm) w refl (imm_result-below op n imm (ready.core.words first)) stands names g

@@ -1,14 +1,18 @@
 -- The halfword that is written for a word spells the word's instruction.
-use Rattle.std.proofs.Common.{◌≡◌, ℕ, ◌+◌, ◌-◌, ◌*◌, ◌%◌, ◌^◌, ◌<◌, ◌≤◌, Some, Bool, true, false, not, cond, refl, sym, ap, ◌∙◌, arith, ℤ, pos, negsuc, eqb, ltb}
-use Rattle.std.specs.Prelude.{◌&&◌}
-use Rattle.std.proofs.lemmas.Bool.{eqb-true, and_parts, eq-eqb, ltb-true, lt-ltb, le-ltb, cond-true}
+use Rattle.std.proofs.Common.{◌≡◌, ℕ, ◌+◌, ◌-◌, ◌*◌, ◌%◌, ◌^◌, ◌<◌, ◌≤◌, Some, Bool, true, false, not, cond, refl, sym, ap, ap₂, ◌∙◌, arith, ℤ, pos, negsuc, eqb, ltb}
+use Rattle.std.specs.Prelude.{◌&&◌, FitsSigned}
+use Rattle.std.specs.Int.{w32, cast_signed, cast_unsigned}
+use Rattle.std.proofs.lemmas.Bool.{eqb-true, and_parts, eq-eqb, ltb-true, ltb-false, lt-ltb, le-ltb, cond-true, false≢true}
+use Rattle.std.proofs.lemmas.Int.{to_z-of_z}
 use Rattle.rv_decode.specs.declared.instr.Instr.{Instr}
 use Rattle.rv_decode.specs.declared.instr.Instr.TheVariants.{WithImm}
 use Rattle.rv_decode.specs.declared.instr.ImmOp.{ImmOp}
 use Rattle.rv_decode.specs.declared.instr.ImmOp.TheVariants.{Addi, Slti, Sltiu, Xori, Ori, Andi, Slli, Srli, Srai}
-use Rattle.rv_decode.specs.Bits.{field, signed}
-use Rattle.rv_decode.specs.Decode.{decoded, imm_i_of, rd_of, rs1_of}
-use Rattle.rv_decode.proofs.DecodeLaws.{Format, IsWithImm, OpImm, System, addi_immediate, decoded-format}
+use Rattle.rv_decode.specs.Bits.{FitsIn, field, signed}
+use Rattle.rv_decode.specs.Decode.{decoded, funct_of, row_of, shift_ops}
+use Rattle.rv_decode.specs.Formats.{imm_i_of, rd_of, rs1_of, shamt_of}
+use Rattle.rv_decode.proofs.DecodeLaws.{Format, OfUpper, OfJal, OfJalr, OfBranch, OfLoad, OfStore, OfImm, OfShift, OfReg, OfFence, OfEcall, OfEbreak, OfCsrrw, decoded-format, decoded-in_range}
+use Rattle.rv_decode.proofs.RowLaws.{row_found}
 use Rattle.zc_decode.specs.declared.short.Short.TheVariants.{Base}
 use Rattle.zc_decode.specs.Halfwords.{decoded16, expanded, imm_ci_of, li_of, quadrant1_of}
 use Rattle.zc_link.specs.Straight.{is_addi, is_li, is_six_bits, li_half, short_of}
@@ -70,19 +74,77 @@ is_addi-true Slli h = absurd cc
 is_addi-true Srli h = absurd cc
 is_addi-true Srai h = absurd cc
 
--- a word that c.li has a form for is addi
-li_is_addi : (word : ℕ) (i : Instr) → IsWithImm word i → is_li (Some i) ≡ true → i ≡ WithImm Addi (rd_of word) (rs1_of word) (imm_i_of word)
-li_is_addi word i f li =
-    let test = and_parts (is_addi f.op) _ (sym (ap (λ j. is_li (Some j)) f.is) ∙ li) in
-    let op = is_addi-true f.op test.0 in
-    let imm = addi_immediate word f.imm (f.operation ∙ ap (λ o. Some (o, f.imm)) op) in
-    f.is ∙ ap (λ o. WithImm o (rd_of word) (rs1_of word) f.imm) op ∙ ap (WithImm Addi (rd_of word) (rs1_of word)) imm
+-- an instruction that c.li has a form for is an addi
+pub li_is_addi : (op : ImmOp) (rd first : ℕ) (imm : ℤ) → is_li (Some (WithImm op rd first imm)) ≡ true → op ≡ Addi
+li_is_addi op rd first imm li = is_addi-true op (and_parts (is_addi op) _ li).0
+
+-- the halfword of an immediate has its low six bits
+half_same : (rd n : ℕ) → n < 4096 → li_half rd (cast_unsigned w32 (signed 12 n)) ≡ li_half rd n
+half_same rd n small = either (ltb n 2048) refl
+  where
+    either : (b : Bool) → ltb n 2048 ≡ b → li_half rd (cast_unsigned w32 (cond b (pos n) (negsuc (4096 - n - 1)))) ≡ li_half rd n
+    either true is = refl
+    either false is = let high = ltb-false n 2048 is in omega (arith, high, small)
+
+-- no shift is addi
+shift_no_li : (word : ℕ) (op : ImmOp) → row_of shift_ops (funct_of word) ≡ Some op → is_addi op ≡ false
+shift_no_li word op row = row_found (λ _ o. is_addi o ≡ false) shift_ops (funct_of word) op (refl, (refl, (refl, tt))) row
 
 pub short_decodes : (word : ℕ) (i : Instr) → decoded word ≡ Some i → is_li (Some i) ≡ true → decoded16 (short_of word) ≡ Some (Base i)
 short_decodes word i d li = by_format (decoded-format word i d)
   where
+    -- an instruction that is another one has a form if that has
+    has_form : (j : Instr) → i ≡ j → is_li (Some j) ≡ true
+    has_form j is = sym (ap (λ k. is_li (Some k)) is) ∙ li
+
     by_format : Format word i → decoded16 (short_of word) ≡ Some (Base i)
-    by_format (OpImm f) =
-        let is = li_is_addi word i f li in
-        addi_short word (sym (ap (λ j. is_li (Some j)) is) ∙ li) ∙ ap (λ j. Some (Base j)) (sym is)
-    by_format (System f) = absurd (let no : false ≡ true = sym (ap (λ j. is_li (Some j)) f.is) ∙ li in cc)
+    by_format (OfImm op o row is) =
+        let rd = rd_of word in
+        let first = rs1_of word in
+        let same = li_is_addi op rd first (imm_i_of word) (has_form (WithImm op rd first (imm_i_of word)) is) in
+        let addi = is ∙ ap (λ op. WithImm op rd first (imm_i_of word)) same in
+        addi_short word (has_form (WithImm Addi rd first (imm_i_of word)) addi) ∙ ap (λ j. Some (Base j)) (sym addi)
+    by_format (OfShift op o row is) =
+        let test = and_parts (is_addi op) _ (has_form (WithImm op (rd_of word) (rs1_of word) (pos (shamt_of word))) is) in
+        absurd (false≢true (sym (shift_no_li word op row) ∙ test.0))
+    by_format (OfUpper op o is) = absurd (false≢true (has_form _ is))
+    by_format (OfJal o is) = absurd (false≢true (has_form _ is))
+    by_format (OfJalr o f is) = absurd (false≢true (has_form _ is))
+    by_format (OfBranch op o row is) = absurd (false≢true (has_form _ is))
+    by_format (OfLoad op o row is) = absurd (false≢true (has_form _ is))
+    by_format (OfStore op o row is) = absurd (false≢true (has_form _ is))
+    by_format (OfReg op o row is) = absurd (false≢true (has_form _ is))
+    by_format (OfFence o f is) = absurd (false≢true (has_form _ is))
+    by_format (OfEcall w is) = absurd (false≢true (has_form _ is))
+    by_format (OfEbreak w is) = absurd (false≢true (has_form _ is))
+    by_format (OfCsrrw o f csr is) = absurd (false≢true (has_form _ is))
+
+-- the halfword of an addi is that of its word, also after its immediate was read back
+pub li_of_word : (word rd first : ℕ) (imm : ℤ) → decoded word ≡ Some (WithImm Addi rd first imm) → li_half rd (cast_unsigned w32 (cast_signed w32 (cast_unsigned w32 imm))) ≡ short_of word
+li_of_word word rd first imm d =
+    ap (λ z. li_half rd (cast_unsigned w32 z)) (to_z-of_z w32 imm (fits imm (decoded-in_range word (WithImm Addi rd first imm) d)))
+    ∙ by_format (decoded-format word (WithImm Addi rd first imm) d)
+  where
+    fits : (z : ℤ) → FitsIn 12 z → FitsSigned w32 z
+    fits (pos n) lt = omega (arith, lt)
+    fits (negsuc n) lt = omega (arith, lt)
+
+    by_format : Format word (WithImm Addi rd first imm) → li_half rd (cast_unsigned w32 imm) ≡ short_of word
+    by_format (OfImm op o row is) =
+        let to : rd ≡ rd_of word = cc in
+        let value : imm ≡ imm_i_of word = cc in
+        ap₂ (λ r m. li_half r (cast_unsigned w32 m)) to value ∙ half_same (rd_of word) (field word 20 12) (omega arith)
+    by_format (OfShift op o row is) =
+        let other : op ≡ Addi = cc in
+        absurd (false≢true (sym (shift_no_li word op row) ∙ ap is_addi other))
+    by_format (OfUpper op o is) = absurd cc
+    by_format (OfJal o is) = absurd cc
+    by_format (OfJalr o f is) = absurd cc
+    by_format (OfBranch op o row is) = absurd cc
+    by_format (OfLoad op o row is) = absurd cc
+    by_format (OfStore op o row is) = absurd cc
+    by_format (OfReg op o row is) = absurd cc
+    by_format (OfFence o f is) = absurd cc
+    by_format (OfEcall w is) = absurd cc
+    by_format (OfEbreak w is) = absurd cc
+    by_format (OfCsrrw o f csr is) = absurd cc

@@ -1,11 +1,11 @@
 -- Words that stand for numbers: a number stands for itself alone, an undefined word for any; and if the symbolic machine has
--- a result, the machine has one that it stands for. An operation that joins adds a line to each of the last two laws.
+-- a result, it stands for the machine's. An operation that joins adds a line to each of the last two laws.
 use Rattle.std.proofs.Common.{◌≡◌, ℕ, ◌+◌, ◌*◌, ◌^◌, ◌<◌, Option, Some, None, Bool, true, false, cond, refl, subst, arith, ℤ, pos, negsuc}
 use Rattle.std.proofs.lemmas.Bool.{eqb-true}
 use Rattle.rv_decode.specs.declared.instr.ImmOp.{ImmOp}
 use Rattle.rv_decode.specs.declared.instr.ImmOp.TheVariants.{Addi, Slti, Sltiu, Xori, Ori, Andi, Slli, Srli, Srai}
 use Rattle.rv_decode.specs.Bits.{add32}
-use Rattle.rv_decode.specs.Effect.{imm_result}
+use Rattle.rv_decode.specs.Results.{imm_result}
 use Rattle.rv_decode.specs.Memory.{byte_of}
 use Rattle.sym_machine.specs.declared.word.Value.{Value}
 use Rattle.sym_machine.specs.declared.word.SymByte.{SymByte}
@@ -68,18 +68,12 @@ module _ (V : Value → Option ℕ) where
 
   -- ---- results
 
-  -- the machine has a result too, a word, and this word stands for it
-  pub record Result (w : SymWord) (o : Option ℕ) : Type 0 where
-    pub value : ℕ
-    pub is : o ≡ Some value
-    pub small : value < 2 ^ 32
-    pub stands : WordStands V w value
-
+  -- the word that the symbolic machine has stands for the machine's result
   pub imm_stands :
-      (op : ImmOp) (w x : SymWord) (imm : ℤ) (n : ℕ) → n < 2 ^ 32 → WordStands V w n → imm_word op w imm ≡ Some x → Result x (imm_result op n imm)
+      (op : ImmOp) (w x : SymWord) (imm : ℤ) (n : ℕ) → n < 2 ^ 32 → WordStands V w n → imm_word op w imm ≡ Some x → WordStands V x (imm_result op n imm)
   imm_stands Addi w x imm n small h is =
       let same : sum_word w imm ≡ x = cc in
-      record { value = add32 n imm; is = refl; small = omega arith; stands = subst (λ y. WordStands V y (add32 n imm)) same (sum_stands w imm n small h) }
+      subst (λ y. WordStands V y (add32 n imm)) same (sum_stands w imm n small h)
   imm_stands Slti w x imm n small h is = absurd cc
   imm_stands Sltiu w x imm n small h is = absurd cc
   imm_stands Xori w x imm n small h is = absurd cc

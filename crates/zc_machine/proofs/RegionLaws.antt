@@ -1,7 +1,7 @@
--- A byte that is written to a region and to a list of them.
+-- A byte that is written to a region and to a list of them, and bytes one after another.
 use Rattle.std.proofs.Common.{◌≡◌, ℕ, suc, ◌+◌, ◌-◌, ◌<◌, ◌≤◌, List, [], ◌∷◌, ◌++◌, true, false, length, get_or, set, take, drop, refl, sym, ap, ap₂, ◌∙◌, ⊎_elim, arith, leb, ltb}
 use Rattle.std.specs.Prelude.{◌&&◌}
-use Rattle.std.proofs.lemmas.Bool.{and_from, le-leb, lt-ltb, leb-true, cond-true, and_parts, cases_eq, false≢true}
+use Rattle.std.proofs.lemmas.Bool.{and_from, le-leb, lt-ltb, leb-true, cond-true, and_parts, cases_eq, cases_lt, false≢true}
 use Rattle.std.proofs.lemmas.List.{append_assoc, drop_more, get_or-set_other, get_or-set_same, get_or_at, length-set, length-take-le, same_lists, set_at, take_more}
 use Rattle.rv_decode.specs.Memory.{Region, cells_changed, changed, extent_of, spans, written}
 use Rattle.rv_decode.proofs.MemoryLaws.{get_or-cells_changed, length-cells_changed, untouched}
@@ -77,3 +77,48 @@ module _ (f : ℕ → ℕ → ℕ) where
       ap (λ xs. set xs i new) split ∙ set_at done (get_or rs i d) rest new i size
       ∙ ap (λ x. done ++ x ∷ rest) (is ∙ ap region_changed here)
       ∙ sym (ap (λ xs. xs ++ rest) front ∙ append_assoc done (region_changed (get_or rs i d) ∷ []) rest)
+
+-- ---- changes one after another
+
+module _ (f g h : ℕ → ℕ → ℕ) (both : (x c : ℕ) → f x (g x c) ≡ h x c) where
+  cells_changed-after : (at : ℕ) (cs : List ℕ) → cells_changed f at (cells_changed g at cs) ≡ cells_changed h at cs
+  cells_changed-after at [] = refl
+  cells_changed-after at (c ∷ cs) = ap₂ (λ x xs. x ∷ xs) (both at c) (cells_changed-after (suc at) cs)
+
+  pub changed-after : (rs : List (Region ℕ)) → changed f (changed g rs) ≡ changed h rs
+  changed-after [] = refl
+  changed-after (r ∷ rs) = ap₂ (λ cs xs. record r { cells = cs } ∷ xs) (cells_changed-after r.at r.cells) (changed-after rs)
+
+module _ (f : ℕ → ℕ → ℕ) (stays : (x c : ℕ) → f x c ≡ c) where
+  cells_changed-none : (at : ℕ) (cs : List ℕ) → cells_changed f at cs ≡ cs
+  cells_changed-none at [] = refl
+  cells_changed-none at (c ∷ cs) = ap₂ (λ x xs. x ∷ xs) (stays at c) (cells_changed-none (suc at) cs)
+
+  pub changed-none : (rs : List (Region ℕ)) → changed f rs ≡ rs
+  changed-none [] = refl
+  changed-none (r ∷ rs) = ap₂ (λ cs xs. record r { cells = cs } ∷ xs) (cells_changed-none r.at r.cells) (changed-none rs)
+
+-- an address in the range gets its byte
+written_in : (a n : ℕ) (given : ℕ → ℕ) (x old : ℕ) → a ≤ x → x < a + n → written a n given x old ≡ given (x - a)
+written_in a n given x old low high =
+    cond-true (leb a x && ltb x (a + n)) (given (x - a)) old (and_from (leb a x) (ltb x (a + n)) (le-leb a x low) (lt-ltb x (a + n) high))
+
+-- no byte is written
+pub written_none : (a : ℕ) (given : ℕ → ℕ) (x c : ℕ) → written a 0 given x c ≡ c
+written_none a given x c = untouched a 0 given x c (λ low high. omega (arith, low, high))
+
+-- one byte more
+pub written_more : (a n : ℕ) (given : ℕ → ℕ) (x c : ℕ) → written (a + n) 1 (λ _. given n) x (written a n given x c) ≡ written a (n + 1) given x c
+written_more a n given x c = ⊎_elim
+    (λ before. untouched (a + n) 1 (λ _. given n) x (written a n given x c) (λ low high. omega (arith, before, low)) ∙ ⊎_elim
+    (λ below. untouched a n given x c (λ low high. omega (arith, below, low)) ∙ sym (untouched a (n + 1) given x c (λ low high. omega (arith, below, low))))
+    (λ above. written_in a n given x c above before ∙ sym (written_in a (n + 1) given x c above (omega (arith, before))))
+    (cases_lt x a))
+    (λ past. ⊎_elim
+    (λ here. written_in (a + n) 1 (λ _. given n) x (written a n given x c) (omega (arith, here)) (omega (arith, here))
+    ∙ sym (written_in a (n + 1) given x c (omega (arith, here)) (omega (arith, here)) ∙ ap given (let e : x - a ≡ n = omega (arith, here) in e)))
+    (λ other. untouched (a + n) 1 (λ _. given n) x (written a n given x c) (λ low high. other (omega (arith, low, high)))
+    ∙ untouched a n given x c (λ low high. omega (arith, high, past))
+    ∙ sym (untouched a (n + 1) given x c (λ low high. other (omega (arith, high, past)))))
+    (cases_eq x (a + n)))
+    (cases_lt x (a + n))

@@ -1,9 +1,11 @@
 -- What each kind of step shows of the state that it is made in.
 use Rattle.std.proofs.Common.{◌≡◌, ℕ, ◌+◌, ◌%◌, Bool, true, false, cond, eqb, Option, Some, None, refl, subst}
 use Rattle.rv_decode.specs.State.{ZcCore, reg_in}
-use Rattle.rv_decode.specs.Effect.{effect, gives, imm_result}
+use Rattle.rv_decode.specs.Bits.{add32}
+use Rattle.rv_decode.specs.Effect.{Effect, Commits, BadAccess, Misaligned, effect, gives, load_result, load_width, onward, reaching, store_width, stored}
+use Rattle.rv_decode.specs.Memory.{extents_of, is_data, lies_in}
 use Rattle.rv_decode.specs.declared.instr.Instr.{Instr}
-use Rattle.rv_decode.specs.declared.instr.Instr.TheVariants.{WithImm, Ecall}
+use Rattle.rv_decode.specs.declared.instr.Instr.TheVariants.{Upper, Jal, Jalr, Branch, Load, Store, WithImm, WithReg, Fence, Ecall, Ebreak, Csrrw}
 use Rattle.zc_decode.specs.Effect.{short_effect}
 use Rattle.zc_decode.specs.declared.short.Short.{Short}
 use Rattle.zc_decode.specs.declared.short.Short.TheVariants.{Base}
@@ -25,14 +27,29 @@ module _ (z : ZcCore) where
   call_shows true = refl
   call_shows false = tt
 
-  value_shows : (v : Option ℕ) (rd size : ℕ) → Shows z (effect_step (gives v rd size z) z)
-  value_shows None rd size = tt
-  value_shows (Some v) rd size = (refl, refl)
+  access_shows : (n a : ℕ) (go : Effect) → Shows z (effect_step go z) → Shows z (effect_step (reaching n a z go) z)
+  access_shows n a go shows = either (eqb (a % n) 0) (lies_in is_data (extents_of z.memory) a n)
+    where
+      either : (b c : Bool) → Shows z (effect_step (cond b (cond c go BadAccess) Misaligned) z)
+      either true true = shows
+      either true false = tt
+      either false c = tt
 
   effect_shows : (i : Instr) (size : ℕ) → Shows z (effect_step (effect i size z) z)
-  effect_shows (WithImm op rd first imm) size = value_shows (imm_result op (reg_in z first) imm) rd size
+  effect_shows (Upper op rd imm) size = (refl, refl)
+  effect_shows (Jal rd distance) size = (refl, refl)
+  effect_shows (Jalr rd base imm) size = (refl, refl)
+  effect_shows (Branch op first second distance) size = (refl, refl)
+  effect_shows (Load op rd base imm) size =
+      let a = add32 (reg_in z base) imm in access_shows (load_width op) a (gives (load_result op z a) rd size z) (refl, refl)
+  effect_shows (Store op source base imm) size =
+      let a = add32 (reg_in z base) imm in access_shows (store_width op) a (Commits (onward (stored (store_width op) a (reg_in z source) z) size z.regs)) (refl, refl)
+  effect_shows (WithImm op rd first imm) size = (refl, refl)
+  effect_shows (WithReg op rd first second) size = (refl, refl)
+  effect_shows (Fence rest) size = (refl, refl)
   effect_shows Ecall size = call_shows (eqb (reg_in z 17) 93)
-  effect_shows other size = tt
+  effect_shows Ebreak size = tt
+  effect_shows (Csrrw rd source) size = tt
 
   short_shows : (s : Short) (size : ℕ) → Shows z (effect_step (short_effect s size z) z)
   short_shows (Base i) size = effect_shows i size

@@ -1,24 +1,28 @@
 // The machine.
 
-ghost use Rattle.std.specs.Prelude.{◌≡◌, ℕ, ◌<◌, ◌%◌, ◌-◌, ◌^◌, IfOk};
+ghost use Rattle.std.specs.Prelude.{◌≡◌, ℕ, ◌<◌, ◌+◌, ◌%◌, ◌-◌, ◌^◌, IfNone, IfOk, IfSome};
 ghost use Rattle.elf32_read.specs.Header.{entry_of};
 ghost use Rattle.elf32_read.specs.Segments.{segments_of};
-ghost use Rattle.rv_decode.specs.Effect.{effect, imm_result, onward};
-ghost use Rattle.rv_decode.specs.State.{half_at, reg_in, set_reg, word_at};
+ghost use Rattle.rv_decode.specs.Bits.{add32};
+ghost use Rattle.rv_decode.specs.Effect as effects;
+ghost use Rattle.rv_decode.specs.Effect.{Effect, after, branches, effect, gives, jumps, load_result, loads, onward, reaching, stores};
+ghost use Rattle.rv_decode.specs.State.{byte_in, half_at, reg_in, set_reg, word_at};
 ghost use Rattle.zc_decode.specs.Effect.{short_effect};
 ghost use Rattle.zc_machine.specs.Answer.{WantsExit, answer_of, core_after, exited, fetched_as};
 ghost use Rattle.zc_machine.specs.Fetch.{fetched_at, fetched_word};
 ghost use Rattle.zc_machine.specs.Interrupt.{cut, dirtied};
 ghost use Rattle.zc_machine.specs.Load.{first_core};
-ghost use Rattle.zc_machine.specs.Step.{Wants, called, effect_step, zc_step};
+ghost use Rattle.zc_machine.specs.Step.{Stopped, Wants, called, effect_step, zc_step};
 
 use crate::answer::{EnvCall, Step};
 use crate::load::first_regions;
 use crate::reason::Reason;
-use crate::region::{Access, Region, byte_at, reaches, write_byte};
+use crate::region::{Access, Region, byte_at, reaches, write_byte, write_word};
 use elf32_read::image::Image;
+use rv_decode::bits::signed_of;
 use rv_decode::decode::decode;
-use rv_decode::instr::{ImmOp, Instr};
+use rv_decode::instr::{Instr, LoadOp, StoreOp};
+use rv_decode::results::{imm_result, is_taken, reg_result, upper_result};
 use std::alloc::{AllocError, Global};
 use std::marker::Model;
 use zc_base::reg::Reg;
@@ -139,8 +143,15 @@ impl Machine {
         let at = u64::from(address);
         let in_stack = reaches(self.regions.as_slice(), Access::Interrupt, at, 1);
         if in_stack && address < self.regs[2] {
-            write_byte(self.regions.as_mut_slice(), address, byte);
+            write_byte(self.regions.as_mut_slice(), at, byte);
         }
+    }
+
+    // The byte at an address.
+    fn byte(&self, address: u64) -> u8
+        ensures { result ≡ byte_in self.now address }
+    {
+        byte_at(self.regions.as_slice(), address)
     }
 
     // The halfword at an address.
@@ -224,46 +235,191 @@ impl Machine {
         ensures state { self.new ≡ core_after (effect_step (effect instr size self.old) self.old) self.old }
     {
         match instr {
-            Instr::WithImm { op, rd, first, imm } => self.with_imm(op, rd, first, imm, size),
+            Instr::Upper { op, rd, imm } => self.give(upper_result(op, self.pc, imm), rd, size),
+            Instr::Jal { rd, distance } => {
+                let to = self.pc.wrapping_add(distance.cast_unsigned());
+                self.jump(to, rd, size)
+            },
+            Instr::Jalr { rd, base, imm } => {
+                let to = self.address(base, imm) & !1;
+                self.jump(to, rd, size)
+            }
+            Instr::Branch {
+                op,
+                first,
+                second,
+                distance,
+            } => {
+                let taken = is_taken(op, self.register(first), self.register(second));
+                self.branch(taken, distance, size)
+            }
+            Instr::Load { op, rd, base, imm } => self.load_to(
+                op,
+                self.address(base, imm),
+                rd,
+                size,
+            ),
+            Instr::Store {
+                op,
+                source,
+                base,
+                imm,
+            } => {
+                let word = self.register(source);
+                self.store(op, self.address(base, imm), word, size)
+            }
+            Instr::WithImm { op, rd, first, imm } => {
+                self.give(imm_result(op, self.register(first), imm), rd, size)
+            }
+            Instr::WithReg {
+                op,
+                rd,
+                first,
+                second,
+            } => {
+                let value = reg_result(op, self.register(first), self.register(second));
+                self.give(value, rd, size)
+            }
+            Instr::Fence { .. } => self.go_on(size),
             Instr::Ecall => self.call(),
-            // No machine has these yet.
-            Instr::Upper { .. }
-            | Instr::Jal { .. }
-            | Instr::Jalr { .. }
-            | Instr::Branch { .. }
-            | Instr::Load { .. }
-            | Instr::Store { .. }
-            | Instr::WithReg { .. }
-            | Instr::Fence { .. }
-            | Instr::Ebreak
-            | Instr::Csrrw { .. } => Step::Stopped(Reason::Illegal),
+            Instr::Ebreak => Step::Stopped(Reason::Break),
+            // No machine has this yet.
+            Instr::Csrrw { .. } => Step::Stopped(Reason::Illegal),
         }
     }
 
-    // An operation on a register and an immediate.
-    fn with_imm(&mut self, op: ImmOp, rd: Reg, first: Reg, imm: i32, size: u32) -> Step
-        requires { self.old.commits < 2 ^ 64 - 1 }
-        ensures answer { result ≡ answer_of (effect_step (effect (Instr.WithImm op rd first imm) size self.old) self.old) }
-        ensures state { self.new ≡ core_after (effect_step (effect (Instr.WithImm op rd first imm) size self.old) self.old) self.old }
+    // The sum of a register's word and an immediate.
+    fn address(&self, base: Reg, imm: i32) -> u32
+        ensures { result ≡ add32 (reg_in self.now base) imm }
     {
-        match imm_value(op, self.register(first), imm) {
-            Some(value) => self.commit(rd, value, size),
-            None => Step::Stopped(Reason::Illegal),
-        }
+        self.register(base).wrapping_add(imm.cast_unsigned())
     }
 
-    // Commits an instruction that gives a value to a register.
-    fn commit(&mut self, rd: Reg, value: u32, size: u32) -> Step
-        requires { self.old.commits < 2 ^ 64 - 1 }
-        ensures answer { result ≡ Step.Committed }
-        ensures state { self.new ≡ onward self.old size (set_reg self.old.regs rd value) }
+    // The address after an instruction of this size.
+    fn after(&self, size: u32) -> u32
+        ensures { result ≡ after self.now size }
+    {
+        self.pc.wrapping_add(size)
+    }
+
+    // Gives a value to a register.
+    fn set(&mut self, rd: Reg, value: u32)
+        ensures { self.new ≡ record self.old { regs = set_reg self.old.regs rd value } }
     {
         if rd.number() != 0 {
             self.regs[rd.number() as usize] = value;
         }
-        self.pc = self.pc.wrapping_add(size);
+    }
+
+    // Commits an instruction after which the program goes on at an address.
+    fn commit(&mut self, pc: u32) -> Step
+        requires { self.old.commits < 2 ^ 64 - 1 }
+        ensures answer { result ≡ Step.Committed }
+        ensures state { self.new ≡ record self.old { pc = pc; commits = self.old.commits + 1 } }
+    {
+        self.pc = pc;
         self.commits += 1;
         Step::Committed
+    }
+
+    // Commits an instruction of this size that changes nothing else.
+    fn go_on(&mut self, size: u32) -> Step
+        requires { self.old.commits < 2 ^ 64 - 1 }
+        ensures answer { result ≡ Step.Committed }
+        ensures state { self.new ≡ onward self.old size self.old.regs }
+    {
+        self.commit(self.after(size))
+    }
+
+    // Commits an instruction of this size that gives a value to a register.
+    fn give(&mut self, value: u32, rd: Reg, size: u32) -> Step
+        requires { self.old.commits < 2 ^ 64 - 1 }
+        ensures answer { result ≡ answer_of (effect_step (gives value rd size self.old) self.old) }
+        ensures state { self.new ≡ core_after (effect_step (gives value rd size self.old) self.old) self.old }
+    {
+        self.set(rd, value);
+        self.go_on(size)
+    }
+
+    // Commits a jump of this size to an address, with the one after it in a register.
+    fn jump(&mut self, to: u32, rd: Reg, size: u32) -> Step
+        requires { self.old.commits < 2 ^ 64 - 1 }
+        ensures answer { result ≡ answer_of (effect_step (jumps to rd size self.old) self.old) }
+        ensures state { self.new ≡ core_after (effect_step (jumps to rd size self.old) self.old) self.old }
+    {
+        let after = self.after(size);
+        self.set(rd, after);
+        self.commit(to)
+    }
+
+    // Commits a branch of this size.
+    fn branch(&mut self, taken: bool, distance: i32, size: u32) -> Step
+        requires { self.old.commits < 2 ^ 64 - 1 }
+        ensures answer { result ≡ answer_of (effect_step (branches taken distance size self.old) self.old) }
+        ensures state { self.new ≡ core_after (effect_step (branches taken distance size self.old) self.old) self.old }
+    {
+        if taken {
+            self.commit(self.pc.wrapping_add(distance.cast_unsigned()))
+        } else {
+            self.go_on(size)
+        }
+    }
+
+    // Why so many bytes from an address on can't be loaded or stored, if they can't.
+    fn unreachable(&self, width: u32, a: u32) -> Option<Reason>
+        requires { 0 < width }
+        ensures none { IfNone result ((go : Effect) → reaching width a self.now go ≡ go) }
+        ensures some { IfSome result (λ reason. (go : Effect) → effect_step (reaching width a self.now go) self.now ≡ Stopped reason) }
+    {
+        if a % width != 0 {
+            return Some(Reason::Misaligned);
+        }
+        let regions = self.regions.as_slice();
+        if reaches(regions, Access::Data, u64::from(a), u64::from(width)) {
+            None
+        } else {
+            Some(Reason::BadAccess)
+        }
+    }
+
+    // Loads from an address into a register.
+    fn load_to(&mut self, op: LoadOp, a: u32, rd: Reg, size: u32) -> Step
+        requires { self.old.commits < 2 ^ 64 - 1 }
+        ensures answer { result ≡ answer_of (effect_step (loads op a rd size self.old) self.old) }
+        ensures state { self.new ≡ core_after (effect_step (loads op a rd size self.old) self.old) self.old }
+    {
+        match self.unreachable(load_width(op), a) {
+            Some(reason) => Step::Stopped(reason),
+            None => self.give(self.loaded(op, a), rd, size),
+        }
+    }
+
+    // What a load gives.
+    fn loaded(&self, op: LoadOp, a: u32) -> u32
+        ensures { result ≡ load_result op self.now a }
+    {
+        let at = u64::from(a);
+        match op {
+            LoadOp::Lb => signed_of(8, u32::from(self.byte(at))).cast_unsigned(),
+            LoadOp::Lh => signed_of(16, u32::from(self.half(at))).cast_unsigned(),
+            LoadOp::Lw => self.word(at),
+            LoadOp::Lbu => u32::from(self.byte(at)),
+            LoadOp::Lhu => u32::from(self.half(at)),
+        }
+    }
+
+    // Stores the low bytes of a word at an address.
+    fn store(&mut self, op: StoreOp, a: u32, word: u32, size: u32) -> Step
+        requires { self.old.commits < 2 ^ 64 - 1 }
+        ensures answer { result ≡ answer_of (effect_step (stores op a word size self.old) self.old) }
+        ensures state { self.new ≡ core_after (effect_step (stores op a word size self.old) self.old) self.old }
+    {
+        let width = store_width(op);
+        if let Some(reason) = self.unreachable(width, a) {
+            return Step::Stopped(reason);
+        }
+        write_word(self.regions.as_mut_slice(), a, width, word);
+        self.go_on(size)
     }
 
     // The environment call that the registers spell.
@@ -284,20 +440,25 @@ impl Machine {
     }
 }
 
-// What an operation on a register's value and an immediate gives.
-fn imm_value(op: ImmOp, n: u32, imm: i32) -> Option<u32>
-    ensures { result ≡ imm_result op n imm }
+// How many bytes a load takes.
+fn load_width(op: LoadOp) -> u32
+    ensures { result ≡ effects.load_width op }
 {
     match op {
-        ImmOp::Addi => Some(n.wrapping_add(imm.cast_unsigned())),
-        ImmOp::Slti
-        | ImmOp::Sltiu
-        | ImmOp::Xori
-        | ImmOp::Ori
-        | ImmOp::Andi
-        | ImmOp::Slli
-        | ImmOp::Srli
-        | ImmOp::Srai => None,
+        LoadOp::Lb | LoadOp::Lbu => 1,
+        LoadOp::Lh | LoadOp::Lhu => 2,
+        LoadOp::Lw => 4,
+    }
+}
+
+// How many bytes a store writes.
+fn store_width(op: StoreOp) -> u32
+    ensures { result ≡ effects.store_width op }
+{
+    match op {
+        StoreOp::Sb => 1,
+        StoreOp::Sh => 2,
+        StoreOp::Sw => 4,
     }
 }
 

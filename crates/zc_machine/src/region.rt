@@ -1,7 +1,7 @@
 // The regions of the machine's memory.
 
-ghost use Rattle.std.specs.Prelude.{◌≡◌, ◌-◌, true, slice_index};
-ghost use Rattle.rv_decode.specs.Memory.{cell_at, cells_changed, changed, extent_of, extents_of, lies_in, spans, written};
+ghost use Rattle.std.specs.Prelude.{◌≡◌, ◌-◌, ◌<◌, ◌≤◌, true, slice_index};
+ghost use Rattle.rv_decode.specs.Memory.{byte_of, cell_at, cells_changed, changed, extent_of, extents_of, lies_in, spans, written};
 ghost use Rattle.zc_machine.specs.Region.{allowed, kind_of};
 
 use std::marker::Model;
@@ -14,10 +14,12 @@ pub enum RegionKind {
     Stack,
 }
 
-/// What reaches memory: the fetch of an instruction, or an interrupt that writes.
+/// What reaches memory: the fetch of an instruction, a load, a store or a call's buffer, or an
+/// interrupt that writes.
 #[derive(Clone, Copy, PartialEq, Eq, Debug)]
 pub enum Access {
     Fetch,
+    Data,
     Interrupt,
 }
 
@@ -30,6 +32,10 @@ impl RegionKind {
             Access::Fetch => match self {
                 RegionKind::Text => true,
                 RegionKind::Data | RegionKind::Stack => false,
+            },
+            Access::Data => match self {
+                RegionKind::Data | RegionKind::Stack => true,
+                RegionKind::Text => false,
             },
             Access::Interrupt => match self {
                 RegionKind::Stack => true,
@@ -83,11 +89,11 @@ impl Region {
     }
 
     // Writes a cell, if it is one of the region's.
-    fn write(&mut self, a: u32, b: u8)
+    fn write(&mut self, a: u64, b: u8)
         ensures { self.new ≡ record self.old { cells = cells_changed (written a 1 (λ _. b)) self.old.at self.old.cells } }
     {
-        if self.spans(u64::from(a), 1) {
-            self.cells[(a - self.at) as usize] = b;
+        if self.spans(a, 1) {
+            self.cells[(a - u64::from(self.at)) as usize] = b;
         }
     }
 }
@@ -117,10 +123,28 @@ pub fn byte_at(regions: &[Region], a: u64) -> u8
 }
 
 /// Writes the byte at an address, if there is one.
-pub fn write_byte(regions: &mut [Region], a: u32, b: u8)
+pub fn write_byte(regions: &mut [Region], a: u64, b: u8)
     ensures { regions.new ≡ changed (written a 1 (λ _. b)) regions.old }
 {
     for region in regions.iter_mut() {
         region.write(a, b);
     }
+}
+
+/// Writes the low `width` bytes of a word from an address on, each where there is one.
+pub fn write_word(regions: &mut [Region], a: u32, width: u32, word: u32)
+    requires { width ≤ 4 }
+    ensures { regions.new ≡ changed (written a width (byte_of word)) regions.old }
+{
+    for i in 0..width {
+        write_byte(regions, u64::from(a) + u64::from(i), byte_of(word, i));
+    }
+}
+
+// Byte i of a word, the lowest first.
+fn byte_of(word: u32, i: u32) -> u8
+    requires { i < 4 }
+    ensures { result ≡ byte_of word i }
+{
+    (word / 256u32.pow(i) % 256) as u8
 }

@@ -91,3 +91,79 @@ fn an_interrupt_leaves_the_run_as_it_was(rt: HostRuntime) -> Result<(), Fail> {
     expect_three(&rt, &mut machine);
     Ok(())
 }
+
+// The machine after three steps of these three words, and what the third answers.
+fn three_steps(alloc: Global, words: [u32; 3]) -> Result<(Machine, Step), Fail> {
+    let mut text = [0u8; 12];
+    put_u32(&mut text, 0, words[0]);
+    put_u32(&mut text, 4, words[1]);
+    put_u32(&mut text, 8, words[2]);
+    let mut machine = load(alloc, &text, 12)?;
+    let mut answer = Step::Committed;
+    for _ in 0..3 {
+        if machine.commits() < 9 {
+            answer = machine.step();
+        }
+    }
+    Ok((machine, answer))
+}
+
+// Worked by hand; sp starts at 0x10000000, and text at 0x10000.
+#[test]
+fn instructions_do_what_the_manual_says(rt: HostRuntime) -> Result<(), Fail> {
+    let table = [
+        // addi sp, sp, -16; sw sp, 12(sp); lbu a0, 13(sp), lb a0, 13(sp), lhu a0, 14(sp)
+        (
+            [0xFF01_0113, 0x0021_2623, 0x00D1_4503],
+            Step::Committed,
+            0xFF,
+        ),
+        (
+            [0xFF01_0113, 0x0021_2623, 0x00D1_0503],
+            Step::Committed,
+            0xFFFF_FFFF,
+        ),
+        (
+            [0xFF01_0113, 0x0021_2623, 0x00E1_5503],
+            Step::Committed,
+            0x0FFF,
+        ),
+        // auipc a0, 0; jalr a0, 9(a0), over the zeros at 0x10008, of which the machine stops
+        (
+            [0x0000_0517, 0x0095_0567, 0],
+            Step::Stopped(Reason::Illegal),
+            0x1_0008,
+        ),
+        // lui a0, 0xFFFFF; beq x0, x0, 4; ebreak
+        (
+            [0xFFFF_F537, 0x0000_0263, 0x0010_0073],
+            Step::Stopped(Reason::Break),
+            0xFFFF_F000,
+        ),
+        // addi a0, x0, 5; div a0, a0, x0; lh a1, -1(sp)
+        (
+            [0x0050_0513, 0x0205_4533, 0xFFF1_1583],
+            Step::Stopped(Reason::Misaligned),
+            0xFFFF_FFFF,
+        ),
+        // jal a0, 4; lw a1, 0(sp), past the stack; fence
+        (
+            [0x0040_056F, 0x0001_2583, 0x0FF0_000F],
+            Step::Stopped(Reason::BadAccess),
+            0x1_0004,
+        ),
+        // addi a0, x0, 1; csrrw on jvt
+        (
+            [0x0010_0513, 0x0172_9073, 0],
+            Step::Stopped(Reason::Illegal),
+            1,
+        ),
+    ];
+    let a0 = Reg::new(10).ok_or("no register")?;
+    for (words, answer, value) in table {
+        let (machine, last) = three_steps(rt.alloc(), words)?;
+        assert_eq!(rt; last, answer, "{words:?}");
+        assert_eq!(rt; machine.register(a0), value, "{words:?}");
+    }
+    Ok(())
+}

@@ -10,7 +10,8 @@ use Rattle.psabi_sym.specs.declared.link_fault.LinkFault.{LinkFault}
 use Rattle.psabi_sym.specs.declared.link_fault.LinkFault.TheVariants.{Object}
 use Rattle.block_cut.specs.Cut.{items_from}
 use Rattle.block_cut.specs.Faults.{first_fault}
-use Rattle.block_cut.specs.Straight.{code_of, has_other_parts, is_unbuilt, is_unknown, words_in}
+use Rattle.block_cut.specs.Straight.{code_of, has_other_parts, is_unbuilt, words_in}
+use Rattle.block_cut.specs.Built.{is_unbuilt_word}
 use Rattle.block_cut.proofs.CutLaws.{is_cut}
 use Rattle.block_cut.proofs.StraightLaws.{cut_fault-not_one, first_fault-gathered, first_fault-one}
 use Rattle.block_cut.proofs.cut.Cut.new.Goals as goal
@@ -48,7 +49,7 @@ pub returns-then-has_other_parts-clause-err : goal.returns-then-has_other_parts-
 unfolding is_unbuilt
 returns-then-has_other_parts-clause-err c =
     let object = c.object-object.result in
-    let is = or_left (has_other_parts object) (list_any is_unknown (words_in (code_of object))) (sym c.has_other_parts.ensures ∙ c.if-has_other_parts.true) in
+    let is = or_left (has_other_parts object) (list_any is_unbuilt_word (words_in (code_of object))) (sym c.has_other_parts.ensures ∙ c.if-has_other_parts.true) in
     refused (first_fault c.args.objects) 0 c.not_built-then-has_other_parts.result c.not_built-then-has_other_parts.ensures
     (unbuilt (goal.at.returns-then-has_other_parts-clause-err c).After-object-object is)
 
@@ -57,7 +58,7 @@ faultless : (c : In-Some) → first_fault c.args.objects ≡ None
 unfolding is_unbuilt
 faultless c =
     let object = c.object-object.result in
-    let known = ap (λ code. list_any is_unknown (words_in code)) (sym c.section.ensures.bytes) ∙ (rw c.in-Some.is at c.in_ok-items.ensures).0 in
+    let known = ap (λ code. list_any is_unbuilt_word (words_in code)) (sym c.section.ensures.bytes) ∙ (rw c.in-Some.is at c.in_ok-items.ensures).0 in
     let is : is_unbuilt object ≡ false = or_from (has_other_parts object) _ (sym c.has_other_parts.ensures ∙ c.if-has_other_parts.false) known in
     first_fault-one c.args.objects object c.object_count-count.ensures.faultless (alone (goal.at.invariant_of-result c).After-object-object)
     ∙ ap (λ b. cond {A = Option (ℕ × Fault)} b (Some (0, NotBuilt)) None) is
@@ -74,7 +75,7 @@ pub returns-in-None-clause-err : goal.returns-in-None-clause-err
 unfolding is_unbuilt
 returns-in-None-clause-err c =
     let object = c.object-object.result in
-    let unknown = ap (λ code. list_any is_unknown (words_in code)) (sym c.section.ensures.bytes) ∙ rw c.in-None.is at c.in_ok-items.ensures in
+    let unknown = ap (λ code. list_any is_unbuilt_word (words_in code)) (sym c.section.ensures.bytes) ∙ rw c.in-None.is at c.in_ok-items.ensures in
     let is : is_unbuilt object ≡ true = or_right (has_other_parts object) _ unknown in
     refused (first_fault c.args.objects) 0 c.not_built-in-None.result c.not_built-in-None.ensures
     (unbuilt (goal.at.returns-in-None-clause-err c).After-object-object is)
