@@ -5,7 +5,7 @@
 
 mod bounds;
 pub mod fault;
-mod header;
+pub mod header;
 pub mod image;
 pub mod image_fault;
 mod loads;

@@ -1,4 +1,11 @@
 pub mod After
 pub mod Appends
+pub mod EachAfter
 pub mod HeadersBack
 pub mod ImageBack
+pub mod Locals
+pub mod Relocated
+pub mod Room
+pub mod Stages
+pub mod SymbolsMore
+pub mod WritableRoom
