@@ -1,7 +1,8 @@
 -- The table of symbols, one symbol more.
-use Rattle.std.proofs.Common.{◌≡◌, ℕ, ◌+◌, ◌<◌, ◌≤◌, List, [], ◌∷◌, ◌++◌, length, get_or, take, drop, sym, ap, ◌∙◌, arith, append-nil, length-append, take-append-drop}
+use Rattle.std.proofs.Common.{◌≡◌, ℕ, ◌+◌, ◌<◌, ◌≤◌, List, [], ◌∷◌, ◌++◌, length, get_or, take, drop, All, subst, sym, ap, ◌∙◌, arith, append-nil, length-append, take-append-drop}
 use Rattle.std.specs.List.{flat_map}
 use Rattle.std.proofs.lemmas.List.{map-append, take_more}
+use Rattle.std.proofs.lemmas.List.Elements.{All-more}
 use Rattle.std.proofs.lemmas.List.Concat.{flat_map-append}
 use Rattle.elf32_read.specs.Parts.{SymbolParts}
 use Rattle.elf32_write.specs.NameTable.{name_bytes, name_table}
@@ -24,6 +25,10 @@ symbol_names_within xs i =
 -- a list's elements up to one, and that one
 pub taken : {X : Type 0} (xs : List X) (i : ℕ) (x : X) → i < length xs → x ≡ get_or xs i x → take (i + 1) xs ≡ take i xs ++ x ∷ []
 taken xs i x lt is = take_more xs i x lt ∙ ap (λ y. take i xs ++ y ∷ []) (sym is)
+
+-- what holds of those up to one, and of that one
+pub all_more : {X : Type 0} (P : X → Type 0) (xs : List X) (i : ℕ) (x : X) → i < length xs → x ≡ get_or xs i x → All P (take i xs) → P x → All P (take (i + 1) xs)
+all_more P xs i x lt is before here = All-more P xs i x lt before (subst P is here)
 
 pub names_more : (before : List SymbolParts) (s : SymbolParts) → name_table (symbol_names before) ++ name_bytes s.name ≡ name_table (symbol_names (before ++ s ∷ []))
 names_more before s = sym (ap name_table (map-append (λ (b : SymbolParts). b.name) before (s ∷ [])) ∙ name_table_push (symbol_names before) s.name)

@@ -4,6 +4,7 @@ pub mod NameTable
 pub mod ObjectFile
 pub mod Offsets
 pub mod Parts
+pub mod Ranges
 pub mod SectionTable
 pub mod Writable
 pub use Rattle.zc_base.specs.Fields

@@ -1,11 +1,11 @@
--- Parts of an object that can be written: their file is one that a linker takes.
-use Rattle.std.specs.Prelude.{◌≡◌, ℕ, ◌+◌, ◌%◌, ◌<◌, ◌≤◌, Bool, true, false, not, ◌&&◌, ◌||◌, ◌==◌, nat_lt, if◌then◌else◌, List, [], ◌∷◌, length, slice_get, All, IfSome}
+-- Parts of an object that can be written, and what their file reads as.
+use Rattle.std.specs.Prelude.{◌≡◌, ℕ, ◌+◌, ◌%◌, ◌<◌, ◌≤◌, Bool, true, false, not, ◌&&◌, ◌||◌, ◌==◌, nat_lt, if◌then◌else◌, List, [], ◌∷◌, ◌++◌, length, map, slice_get, All, IfSome, None}
 use Rattle.std.specs.List.{list_any}
 use Rattle.elf32_read.specs.Header.{is_empty_kind}
 use Rattle.elf32_read.specs.Kept.{has_flags}
-use Rattle.elf32_read.specs.Object.{is_bad_alignment}
-use Rattle.elf32_read.specs.Parts.{ObjectParts, SectionParts, SymbolParts, is_code_section, is_kept_section}
-use Rattle.elf32_write.specs.ObjectFile.{object_size, section_total}
+use Rattle.elf32_read.specs.Object.{is_bad_alignment, object_fault}
+use Rattle.elf32_read.specs.Parts.{ObjectParts, SectionParts, SymbolParts, is_code_section, is_kept_section, object_parts}
+use Rattle.elf32_write.specs.ObjectFile.{FileSection, added_sections, object_size, section_total}
 
 -- a name has no zero
 abbrev pub is_name : List ℕ → Bool
@@ -84,3 +84,25 @@ pub record IsWritable (parts : ObjectParts) : Type 0 where
   pub symbols : All (IsWritableSymbol parts) parts.symbols
   pub count : section_total parts ≤ 4096
   pub size : object_size parts ≤ 0x40_0000
+
+-- ---- the file
+
+-- a section that is added, as it is read
+abbrev pub added_part : FileSection → SectionParts
+added_part s = record { name = s.name; kind = s.kind; flags = s.flags; align = s.align; size = s.size; bytes = s.content; relocs = [] }
+
+-- all sections that are added
+abbrev pub added_parts : ObjectParts → List SectionParts
+added_parts parts = map added_part (added_sections parts.sections parts.symbols)
+
+-- symbol 0
+abbrev pub null_symbol_part : SymbolParts
+null_symbol_part = record { name = []; value = 0; size = 0; bind = 0; kind = 0; home = 0 }
+
+-- the file is an object without a fault, of these parts, and of sections that are added after the given ones and dropped
+pub record IsObjectOf (parts : ObjectParts) (file : List ℕ) : Type 0 where
+  pub faultless : object_fault file ≡ None
+  pub flags : (object_parts file).flags ≡ parts.flags
+  pub sections : (object_parts file).sections ≡ null_part ∷ parts.sections ++ added_parts parts
+  pub dropped : list_any is_kept_section (added_parts parts) ≡ false
+  pub symbols : (object_parts file).symbols ≡ null_symbol_part ∷ parts.symbols

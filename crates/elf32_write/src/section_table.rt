@@ -3,6 +3,7 @@
 ghost use Rattle.std.specs.Prelude.{◌≡◌, ◌^◌, ◌<◌, ◌≤◌, ◌+◌, ◌++◌, ◌∷◌, [], List, length, map, codes, All, IfOk, OnOk};
 ghost use Rattle.std.specs.List.{flat_map};
 ghost use Rattle.elf32_write.specs.ObjectFile.{FileSection, given_section, names_of, names_section, rela_section, reloc_bytes, relocated};
+ghost use Rattle.elf32_write.specs.Ranges.{IsHeaderSized, IsRelocSized, IsSectionSized};
 ghost use Rattle.elf32_write.specs.SectionTable.{HasRoom, Holds, file_section};
 
 use crate::fields::push_padded;
@@ -54,8 +55,9 @@ impl SectionTable {
         requires contents { 52 + length self.old.contents.items < 2 ^ 32 }
         requires names { length self.old.names.items < 2 ^ 32 }
         requires address { header.address ≡ 0 }
-        ensures { (before : List FileSection) → Holds before self.old →
+        ensures held { (before : List FileSection) → Holds before self.old →
             OnOk result (Holds (before ++ file_section name.now header content.now ∷ []) self.new) }
+        ensures sized { IsHeaderSized header }
     {
         let name = push_name(&mut self.names, name)?;
         let offset = CONTENTS_OFFSET + self.contents.len() as u32;
@@ -91,7 +93,8 @@ impl SectionTable {
     pub fn add_given(&mut self, sections: &[PartSection]) -> Result<(), AllocError>
         requires held { Holds [] self.old }
         requires room { HasRoom (map given_section sections.now) }
-        ensures { OnOk result (Holds (map given_section sections.now) self.new) }
+        ensures held { OnOk result (Holds (map given_section sections.now) self.new) }
+        ensures sized { OnOk result (All IsSectionSized sections.now) }
     {
         for section in sections {
             let header = SectionHeader {
@@ -118,8 +121,9 @@ impl SectionTable {
         requires contents { 52 + length self.old.contents.items < 2 ^ 32 }
         requires names { length self.old.names.items < 2 ^ 32 }
         requires size { length (flat_map reloc_bytes section.now.relocs) < 2 ^ 32 }
-        ensures { (before : List FileSection) → Holds before self.old →
+        ensures held { (before : List FileSection) → Holds before self.old →
             OnOk result (Holds (before ++ rela_section symtab (index, section.now) ∷ []) self.new) }
+        ensures sized { OnOk result (All IsRelocSized section.now.relocs) }
     {
         let table = reloc_table(alloc, &section.relocs)?;
         let mut name = Vec::from_slice(alloc, b".rela")?;
@@ -149,8 +153,9 @@ impl SectionTable {
         requires symbols { All (λ s. All (λ r. r.symbol < 2 ^ 24) s.relocs) sections.now }
         requires room { HasRoom
             (map given_section sections.now ++ map (rela_section symtab) (relocated sections.now)) }
-        ensures { OnOk result (Holds
+        ensures held { OnOk result (Holds
             (map given_section sections.now ++ map (rela_section symtab) (relocated sections.now)) self.new) }
+        ensures sized { OnOk result (All (λ s. All IsRelocSized s.relocs) sections.now) }
     {
         for i in 0..sections.len() {
             let section = &sections[i];

@@ -3,6 +3,7 @@
 ghost use Rattle.std.specs.Prelude.{◌≡◌, ◌^◌, ◌<◌, ◌≤◌, ◌+◌, ◌++◌, ◌∷◌, [], length, All, IfOk, OnOk};
 ghost use Rattle.std.specs.List.{flat_map};
 ghost use Rattle.elf32_write.specs.NameTable.{name_table};
+ghost use Rattle.elf32_write.specs.Ranges.{IsEntrySized, IsSymbolSized};
 ghost use Rattle.elf32_write.specs.ObjectFile.{HasInfo, after_locals, symbol_bytes, symbol_entries, symbol_names};
 
 use crate::fields::{push_half, push_words};
@@ -24,7 +25,8 @@ pub struct SymbolTable {
 fn push_symbol(out: &mut Vec<u8>, symbol: SymbolEntry) -> Result<(), AllocError>
     requires bind { symbol.bind < 16 }
     requires kind { symbol.kind < 16 }
-    ensures { OnOk result (out.new.items ≡ out.old.items ++ symbol_bytes symbol) }
+    ensures appended { OnOk result (out.new.items ≡ out.old.items ++ symbol_bytes symbol) }
+    ensures sized { IsEntrySized symbol }
 {
     push_words(out, &[symbol.name, symbol.value, symbol.size])?;
     out.extend_from_slice(&[16 * symbol.bind + symbol.kind, 0])?;
@@ -46,6 +48,7 @@ pub fn symbol_table(alloc: Global, symbols: &[PartSymbol]) -> Result<SymbolTable
     requires names { length (name_table (symbol_names symbols.now)) < 2 ^ 32 }
     ensures entries { IfOk result (λ table. table.entries.items ≡ flat_map symbol_bytes (symbol_entries symbols.now)) }
     ensures names { IfOk result (λ table. table.names.items ≡ name_table (symbol_names symbols.now)) }
+    ensures sized { OnOk result (All IsSymbolSized symbols.now) }
 {
     let mut names = Vec::new(alloc);
     names.push(0)?;

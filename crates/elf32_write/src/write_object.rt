@@ -2,8 +2,9 @@
 
 ghost use Rattle.std.specs.Prelude.{◌≡◌, ◌^◌, ◌<◌, ◌++◌, length, All, IfOk, OnOk};
 ghost use Rattle.elf32_write.specs.ObjectFile.{HasInfo, file_sections, object_bytes, object_header};
+ghost use Rattle.elf32_write.specs.Ranges.{IsPartsSized};
 ghost use Rattle.elf32_write.specs.SectionTable.{HasRoom, Holds};
-ghost use Rattle.elf32_write.specs.Writable.{IsWritable};
+ghost use Rattle.elf32_write.specs.Writable.{IsObjectOf, IsWritable};
 
 use crate::fields::{push_halves, push_words};
 use crate::headers::{IDENTIFICATION, RISC_V};
@@ -45,7 +46,8 @@ fn sections_of(
     requires room { HasRoom (file_sections sections.now symbols.now) }
     requires relocs { All (λ s. All (λ r. r.symbol < 2 ^ 24) s.relocs) sections.now }
     requires info { All HasInfo symbols.now }
-    ensures { IfOk result (λ table. Holds (file_sections sections.now symbols.now) table) }
+    ensures held { IfOk result (λ table. Holds (file_sections sections.now symbols.now) table) }
+    ensures sized { OnOk result (IsPartsSized sections.now symbols.now) }
 {
     let symtab = 1 + sections.len() as u32 + relocated_count(sections) as u32;
     let mut table = SectionTable::new(alloc)?;
@@ -78,6 +80,7 @@ fn sections_of(
 pub fn write_object(alloc: Global, parts: &ObjectParts) -> Result<Vec<u8>, AllocError>
     requires { IsWritable parts.now }
     ensures bytes { IfOk result (λ file. file.items ≡ object_bytes parts.now) }
+    ensures reads_back { IfOk result (λ file. IsObjectOf parts.now file.items) }
 {
     let table = sections_of(alloc, &parts.sections, &parts.symbols)?;
     let headers_offset = CONTENTS_OFFSET + table.contents.len() as u32;

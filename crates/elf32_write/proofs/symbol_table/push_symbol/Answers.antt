@@ -6,8 +6,8 @@ use Rattle.zc_base.specs.Fields.{half_bytes, word_bytes}
 use Rattle.elf32_write.proofs.Appends.{appended}
 use Rattle.elf32_write.proofs.symbol_table.push_symbol.Goals as goal
 
-pub returns : goal.returns
-returns c =
+pub returns-clause-appended : goal.returns-clause-appended
+returns-clause-appended c =
     let start = c.args.out.now.items in
     let symbol = c.args.symbol in
     let words : List ℕ = flat_map word_bytes (symbol.name ∷ symbol.value ∷ symbol.size ∷ []) in

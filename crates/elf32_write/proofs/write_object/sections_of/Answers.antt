@@ -76,12 +76,12 @@ all_held xs ys table held =
 pub add-requires-clause-contents : goal.add-requires-clause-contents
 add-requires-clause-contents c =
     let xs = c.args.sections.now in
-    room_contents (with_relas xs) _ (relas_held xs c.relocated_count.result _ c.relocated_count.ensures.count c.in_ok-add_relas.ensures) (room_relas_stage xs c.args.symbols.now c.requires.room)
+    room_contents (with_relas xs) _ (relas_held xs c.relocated_count.result _ c.relocated_count.ensures.count c.in_ok-add_relas.ensures.held) (room_relas_stage xs c.args.symbols.now c.requires.room)
 
 pub add-requires-clause-names : goal.add-requires-clause-names
 add-requires-clause-names c =
     let xs = c.args.sections.now in
-    room_names (with_relas xs) _ (relas_held xs c.relocated_count.result _ c.relocated_count.ensures.count c.in_ok-add_relas.ensures) (room_relas_stage xs c.args.symbols.now c.requires.room)
+    room_names (with_relas xs) _ (relas_held xs c.relocated_count.result _ c.relocated_count.ensures.count c.in_ok-add_relas.ensures.held) (room_relas_stage xs c.args.symbols.now c.requires.room)
 
 pub overflow_cast-strtab_header : goal.overflow_cast-strtab_header
 overflow_cast-strtab_header c =
@@ -92,20 +92,20 @@ pub add-requires-2-clause-contents : goal.add-requires-2-clause-contents
 add-requires-2-clause-contents c =
     let xs = c.args.sections.now in
     let ys = c.args.symbols.now in
-    let relas = relas_held xs c.relocated_count.result _ c.relocated_count.ensures.count c.in_ok-add_relas.ensures in
+    let relas = relas_held xs c.relocated_count.result _ c.relocated_count.ensures.count c.in_ok-add_relas.ensures.held in
     let content = c.deref.ensures.value ∙ c.in_ok-written.ensures.entries in
     let long : c.len.result ≡ length c.deref.result.now = search rules in
-    let symbols = symbols_held xs ys c.relocated_count.result c.len.result c.after_locals.result c.deref.result.now _ c.relocated_count.ensures.count long c.after_locals.ensures.index content (c.in_ok-add.ensures (with_relas xs) relas) in
+    let symbols = symbols_held xs ys c.relocated_count.result c.len.result c.after_locals.result c.deref.result.now _ c.relocated_count.ensures.count long c.after_locals.ensures.index content (c.in_ok-add.ensures.held (with_relas xs) relas) in
     room_contents (with_symbols xs ys) _ symbols (room_symbols_stage xs ys c.requires.room)
 
 pub add-requires-2-clause-names : goal.add-requires-2-clause-names
 add-requires-2-clause-names c =
     let xs = c.args.sections.now in
     let ys = c.args.symbols.now in
-    let relas = relas_held xs c.relocated_count.result _ c.relocated_count.ensures.count c.in_ok-add_relas.ensures in
+    let relas = relas_held xs c.relocated_count.result _ c.relocated_count.ensures.count c.in_ok-add_relas.ensures.held in
     let content = c.deref.ensures.value ∙ c.in_ok-written.ensures.entries in
     let long : c.len.result ≡ length c.deref.result.now = search rules in
-    let symbols = symbols_held xs ys c.relocated_count.result c.len.result c.after_locals.result c.deref.result.now _ c.relocated_count.ensures.count long c.after_locals.ensures.index content (c.in_ok-add.ensures (with_relas xs) relas) in
+    let symbols = symbols_held xs ys c.relocated_count.result c.len.result c.after_locals.result c.deref.result.now _ c.relocated_count.ensures.count long c.after_locals.ensures.index content (c.in_ok-add.ensures.held (with_relas xs) relas) in
     room_names (with_symbols xs ys) _ symbols (room_symbols_stage xs ys c.requires.room)
 
 pub add_names-requires-clause-contents : goal.add_names-requires-clause-contents
@@ -113,13 +113,13 @@ unfolding with_names
 add_names-requires-clause-contents c =
     let xs = c.args.sections.now in
     let ys = c.args.symbols.now in
-    let relas = relas_held xs c.relocated_count.result _ c.relocated_count.ensures.count c.in_ok-add_relas.ensures in
+    let relas = relas_held xs c.relocated_count.result _ c.relocated_count.ensures.count c.in_ok-add_relas.ensures.held in
     let content = c.deref.ensures.value ∙ c.in_ok-written.ensures.entries in
     let long : c.len.result ≡ length c.deref.result.now = search rules in
-    let symbols = symbols_held xs ys c.relocated_count.result c.len.result c.after_locals.result c.deref.result.now _ c.relocated_count.ensures.count long c.after_locals.ensures.index content (c.in_ok-add.ensures (with_relas xs) relas) in
+    let symbols = symbols_held xs ys c.relocated_count.result c.len.result c.after_locals.result c.deref.result.now _ c.relocated_count.ensures.count long c.after_locals.ensures.index content (c.in_ok-add.ensures.held (with_relas xs) relas) in
     let content-2 = c.deref-2.ensures.value ∙ c.in_ok-written.ensures.names in
     let long-2 : c.len-2.result ≡ length c.deref-2.result.now = search rules in
-    let named : Holds (with_names xs ys) _ = names_held (with_symbols xs ys) (codes ".strtab") (symbol_names ys) c.len-2.result c.deref-2.result.now _ long-2 content-2 (c.in_ok-add-2.ensures (with_symbols xs ys) symbols) in
+    let named : Holds (with_names xs ys) _ = names_held (with_symbols xs ys) (codes ".strtab") (symbol_names ys) c.len-2.result c.deref-2.result.now _ long-2 content-2 (c.in_ok-add-2.ensures.held (with_symbols xs ys) symbols) in
     room_contents (with_names xs ys) _ named (room_names_stage xs ys c.requires.room)
 
 pub add_names-requires-clause-names : goal.add_names-requires-clause-names
@@ -127,25 +127,25 @@ unfolding with_names
 add_names-requires-clause-names c =
     let xs = c.args.sections.now in
     let ys = c.args.symbols.now in
-    let relas = relas_held xs c.relocated_count.result _ c.relocated_count.ensures.count c.in_ok-add_relas.ensures in
+    let relas = relas_held xs c.relocated_count.result _ c.relocated_count.ensures.count c.in_ok-add_relas.ensures.held in
     let content = c.deref.ensures.value ∙ c.in_ok-written.ensures.entries in
     let long : c.len.result ≡ length c.deref.result.now = search rules in
-    let symbols = symbols_held xs ys c.relocated_count.result c.len.result c.after_locals.result c.deref.result.now _ c.relocated_count.ensures.count long c.after_locals.ensures.index content (c.in_ok-add.ensures (with_relas xs) relas) in
+    let symbols = symbols_held xs ys c.relocated_count.result c.len.result c.after_locals.result c.deref.result.now _ c.relocated_count.ensures.count long c.after_locals.ensures.index content (c.in_ok-add.ensures.held (with_relas xs) relas) in
     let content-2 = c.deref-2.ensures.value ∙ c.in_ok-written.ensures.names in
     let long-2 : c.len-2.result ≡ length c.deref-2.result.now = search rules in
-    let named : Holds (with_names xs ys) _ = names_held (with_symbols xs ys) (codes ".strtab") (symbol_names ys) c.len-2.result c.deref-2.result.now _ long-2 content-2 (c.in_ok-add-2.ensures (with_symbols xs ys) symbols) in
+    let named : Holds (with_names xs ys) _ = names_held (with_symbols xs ys) (codes ".strtab") (symbol_names ys) c.len-2.result c.deref-2.result.now _ long-2 content-2 (c.in_ok-add-2.ensures.held (with_symbols xs ys) symbols) in
     omega (arith, room_last_name xs ys c.requires.room, ap length named.names_held)
 
-pub returns : goal.returns
+pub returns-clause-held : goal.returns-clause-held
 unfolding with_names
-returns c =
+returns-clause-held c =
     let xs = c.args.sections.now in
     let ys = c.args.symbols.now in
-    let relas = relas_held xs c.relocated_count.result _ c.relocated_count.ensures.count c.in_ok-add_relas.ensures in
+    let relas = relas_held xs c.relocated_count.result _ c.relocated_count.ensures.count c.in_ok-add_relas.ensures.held in
     let content = c.deref.ensures.value ∙ c.in_ok-written.ensures.entries in
     let long : c.len.result ≡ length c.deref.result.now = search rules in
-    let symbols = symbols_held xs ys c.relocated_count.result c.len.result c.after_locals.result c.deref.result.now _ c.relocated_count.ensures.count long c.after_locals.ensures.index content (c.in_ok-add.ensures (with_relas xs) relas) in
+    let symbols = symbols_held xs ys c.relocated_count.result c.len.result c.after_locals.result c.deref.result.now _ c.relocated_count.ensures.count long c.after_locals.ensures.index content (c.in_ok-add.ensures.held (with_relas xs) relas) in
     let content-2 = c.deref-2.ensures.value ∙ c.in_ok-written.ensures.names in
     let long-2 : c.len-2.result ≡ length c.deref-2.result.now = search rules in
-    let named : Holds (with_names xs ys) _ = names_held (with_symbols xs ys) (codes ".strtab") (symbol_names ys) c.len-2.result c.deref-2.result.now _ long-2 content-2 (c.in_ok-add-2.ensures (with_symbols xs ys) symbols) in
+    let named : Holds (with_names xs ys) _ = names_held (with_symbols xs ys) (codes ".strtab") (symbol_names ys) c.len-2.result c.deref-2.result.now _ long-2 content-2 (c.in_ok-add-2.ensures.held (with_symbols xs ys) symbols) in
     all_held xs ys _ (c.in_ok-add_names.ensures (with_names xs ys) named)

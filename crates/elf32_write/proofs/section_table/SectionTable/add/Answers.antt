@@ -4,8 +4,8 @@ use Rattle.elf32_write.specs.SectionTable.{file_section}
 use Rattle.elf32_write.proofs.EachAfter.{holds_more}
 use Rattle.elf32_write.proofs.section_table.SectionTable.add.Goals as goal
 
-pub returns : goal.returns
-returns c = λ before held.
+pub returns-clause-held : goal.returns-clause-held
+returns-clause-held c = λ before held.
     let h = c.args.header in
     let offset : 52 + c.len.result ≡ 52 + length c.args.self.now.contents.items = search rules in
     let headers = c.in_ok-push.ensures.items
