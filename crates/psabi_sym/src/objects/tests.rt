@@ -7,7 +7,7 @@ use std::test::Fail;
 const HEADER: [u8; 52] = [
     0x7F, 0x45, 0x4C, 0x46, 1, 1, 1, 0, 0, 0, 0, 0, 0, 0, 0, 0, //
     1, 0, 0xF3, 0, 1, 0, 0, 0, 0, 0, 0, 0, //
-    0, 0, 0, 0, 52, 0, 0, 0, 0x10, 0, 0, 0, //
+    0, 0, 0, 0, 0, 0, 0, 0, 0x10, 0, 0, 0, //
     52, 0, 0, 0, 0, 0, 40, 0, 0, 0, 0, 0, //
 ];
 
@@ -19,14 +19,14 @@ fn refusal(alloc: Global, files: &[Vec<u8>]) -> Option<LinkFault> {
 fn objects_are_gathered_in_their_order(rt: HostRuntime) -> Result<(), Fail> {
     let first = Vec::from_slice(rt.alloc(), &HEADER)?;
     let mut second = Vec::from_slice(rt.alloc(), &HEADER)?;
-    second[36] = 0x11;
+    second[36] = 0;
     let files = vec![in rt.alloc(); first, second]?;
     let map = MemMap::standard();
     match Objects::gather(rt.alloc(), &files, map) {
         Ok(objects) => {
             assert_eq!(rt; objects.object_count(), 2);
             assert_eq!(rt; objects.object(0).flags(), 0x10);
-            assert_eq!(rt; objects.object(1).flags(), 0x11);
+            assert_eq!(rt; objects.object(1).flags(), 0);
             assert_eq!(rt; objects.map(), map);
         }
         Err(fault) => panic!(rt; "{fault:?}"),
