@@ -6,7 +6,7 @@
 mod alignments;
 mod bounds;
 pub mod fault;
-mod header;
+pub mod header;
 pub mod image;
 pub mod image_fault;
 mod kinds;

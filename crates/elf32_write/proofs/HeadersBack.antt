@@ -13,12 +13,12 @@ use Rattle.elf32_write.specs.Loadable.{IsEntry}
 use Rattle.elf32_write.proofs.After.{word_of_bytes, half_of_bytes, word_in-append, half_in-append, rows_back}
 
 -- a word of a row that stands after other bytes
-word_back : (front row : List ℕ) (k v : ℕ) → v < 2 ^ 32 → word_in row k ≡ word_in (word_bytes v) 0 → word_in (front ++ row) (length front + k) ≡ v
+pub word_back : (front row : List ℕ) (k v : ℕ) → v < 2 ^ 32 → word_in row k ≡ word_in (word_bytes v) 0 → word_in (front ++ row) (length front + k) ≡ v
 unfolding word_in
 word_back front row k v small e = word_in-append front row (length front + k) k refl ∙ e ∙ word_of_bytes v small
 
 -- the first word of a row
-first_word_back : (front row : List ℕ) (v : ℕ) → v < 2 ^ 32 → word_in row 0 ≡ word_in (word_bytes v) 0 → word_in (front ++ row) (length front) ≡ v
+pub first_word_back : (front row : List ℕ) (v : ℕ) → v < 2 ^ 32 → word_in row 0 ≡ word_in (word_bytes v) 0 → word_in (front ++ row) (length front) ≡ v
 first_word_back front row v small e =
     let z : length front ≡ length front + 0 = omega arith in
     ap (word_in (front ++ row)) z ∙ word_back front row 0 v small e

@@ -8,15 +8,17 @@ use crate::fields::{push_halves, push_words};
 use crate::image_parts::ImageParts;
 use crate::offsets::{Offsets, TEXT_OFFSET};
 use crate::section_header::{
-    bss_header, data_header, names_header, null_header, places_header, push_headers, text_header,
+    NULL, bss_header, data_header, names_header, places_header, push_headers, text_header,
 };
 use std::alloc::AllocError;
 
-const IDENTIFICATION: [u8; 16] = [0x7F, b'E', b'L', b'F', 1, 1, 1, 0, 0, 0, 0, 0, 0, 0, 0, 0];
+/// How the file begins, e_ident.
+pub const IDENTIFICATION: [u8; 16] = [0x7F, b'E', b'L', b'F', 1, 1, 1, 0, 0, 0, 0, 0, 0, 0, 0, 0];
 
 const EXECUTABLE: u16 = 2;
 
-const RISC_V: u16 = 243;
+/// The machine of the file, e_machine.
+pub const RISC_V: u16 = 243;
 
 const READ_EXECUTE: u32 = 5;
 
@@ -102,7 +104,7 @@ pub fn push_section_headers(
     ensures { OnOk result (out.new.items ≡ out.old.items ++ section_headers parts.now) }
 {
     let sections = [
-        null_header(),
+        NULL,
         text_header(parts),
         data_header(parts, offsets),
         bss_header(parts, offsets),

@@ -2,53 +2,41 @@
 
 ghost use Rattle.std.specs.Prelude.{◌≡◌, ◌++◌, OnOk};
 ghost use Rattle.std.specs.List.{flat_map};
-ghost use Rattle.elf32_write.specs.Image.{bss_section, data_section, names_section, null_section, places_section, section_bytes, text_section, Fits};
+ghost use Rattle.elf32_write.specs.Image.{bss_section, data_section, names_section, places_section, section_bytes, text_section, Fits};
 ghost use Rattle.elf32_write.specs.Offsets.{AreOffsetsOf};
-ghost use Rattle.elf32_write.specs.SectionHeader.{header};
 
 use crate::fields::push_words;
 use crate::image_parts::ImageParts;
 use crate::offsets::{NAMES, Offsets, TEXT_OFFSET};
+use elf32_read::header::SectionHeader;
 use elf32_read::section_flags::SectionFlags;
 use std::alloc::AllocError;
 
 const PROGBITS: u32 = 1;
 
-const STRTAB: u32 = 3;
+/// The kind of a section with names, SHT_STRTAB.
+pub const STRTAB: u32 = 3;
 
 const NOBITS: u32 = 8;
 
-/// A section header, whose sh_link, sh_info and sh_entsize are 0. `name` is an offset into `NAMES`.
-#[derive(Clone, Copy)]
-pub struct SectionHeader {
-    pub name: u32,
-    pub kind: u32,
-    pub flags: u32,
-    pub address: u32,
-    pub offset: u32,
-    pub size: u32,
-    pub align: u32,
-}
-
 /// The header of section 0.
-pub fn null_header() -> SectionHeader
-    ensures { header result ≡ null_section }
-{
-    SectionHeader {
-        name: 0,
-        kind: 0,
-        flags: 0,
-        address: 0,
-        offset: 0,
-        size: 0,
-        align: 0,
-    }
-}
+pub const NULL: SectionHeader = SectionHeader {
+    name: 0,
+    kind: 0,
+    flags: 0,
+    address: 0,
+    offset: 0,
+    size: 0,
+    link: 0,
+    info: 0,
+    align: 0,
+    entry_size: 0,
+};
 
 /// The header of the text.
 pub fn text_header(parts: &ImageParts) -> SectionHeader
     requires { Fits parts.now }
-    ensures { header result ≡ text_section parts.now }
+    ensures { result ≡ text_section parts.now }
 {
     SectionHeader {
         name: 1,
@@ -58,6 +46,7 @@ pub fn text_header(parts: &ImageParts) -> SectionHeader
         offset: TEXT_OFFSET,
         size: parts.text.len() as u32,
         align: 4,
+        ..NULL
     }
 }
 
@@ -65,7 +54,7 @@ pub fn text_header(parts: &ImageParts) -> SectionHeader
 pub fn data_header(parts: &ImageParts, offsets: &Offsets) -> SectionHeader
     requires fits { Fits parts.now }
     requires offsets { AreOffsetsOf parts.now offsets.now }
-    ensures { header result ≡ data_section parts.now }
+    ensures { result ≡ data_section parts.now }
 {
     SectionHeader {
         name: 7,
@@ -75,6 +64,7 @@ pub fn data_header(parts: &ImageParts, offsets: &Offsets) -> SectionHeader
         offset: offsets.data,
         size: parts.data_bytes.len() as u32,
         align: 4,
+        ..NULL
     }
 }
 
@@ -82,7 +72,7 @@ pub fn data_header(parts: &ImageParts, offsets: &Offsets) -> SectionHeader
 pub fn bss_header(parts: &ImageParts, offsets: &Offsets) -> SectionHeader
     requires fits { Fits parts.now }
     requires offsets { AreOffsetsOf parts.now offsets.now }
-    ensures { header result ≡ bss_section parts.now }
+    ensures { result ≡ bss_section parts.now }
 {
     let data_size = parts.data_bytes.len() as u32;
     SectionHeader {
@@ -93,6 +83,7 @@ pub fn bss_header(parts: &ImageParts, offsets: &Offsets) -> SectionHeader
         offset: offsets.data + data_size,
         size: parts.zero,
         align: 4,
+        ..NULL
     }
 }
 
@@ -100,7 +91,7 @@ pub fn bss_header(parts: &ImageParts, offsets: &Offsets) -> SectionHeader
 pub fn places_header(parts: &ImageParts, offsets: &Offsets) -> SectionHeader
     requires fits { Fits parts.now }
     requires offsets { AreOffsetsOf parts.now offsets.now }
-    ensures { header result ≡ places_section parts.now }
+    ensures { result ≡ places_section parts.now }
 {
     SectionHeader {
         name: 18,
@@ -110,13 +101,14 @@ pub fn places_header(parts: &ImageParts, offsets: &Offsets) -> SectionHeader
         offset: offsets.places,
         size: 12 * parts.places.len() as u32,
         align: 4,
+        ..NULL
     }
 }
 
 /// The header of the sections' names.
 pub fn names_header(parts: &ImageParts, offsets: &Offsets) -> SectionHeader
     requires { AreOffsetsOf parts.now offsets.now }
-    ensures { header result ≡ names_section parts.now }
+    ensures { result ≡ names_section parts.now }
 {
     SectionHeader {
         name: 31,
@@ -126,12 +118,13 @@ pub fn names_header(parts: &ImageParts, offsets: &Offsets) -> SectionHeader
         offset: offsets.names,
         size: NAMES.len() as u32,
         align: 1,
+        ..NULL
     }
 }
 
 // Appends a section header.
 fn push_section_header(out: &mut Vec<u8>, section: SectionHeader) -> Result<(), AllocError>
-    ensures { OnOk result (out.new.items ≡ out.old.items ++ section_bytes (header section)) }
+    ensures { OnOk result (out.new.items ≡ out.old.items ++ section_bytes section) }
 {
     push_words(
         out,
@@ -142,10 +135,10 @@ fn push_section_header(out: &mut Vec<u8>, section: SectionHeader) -> Result<(), 
             section.address,
             section.offset,
             section.size,
-            0,
-            0,
+            section.link,
+            section.info,
             section.align,
-            0,
+            section.entry_size,
         ],
     )
 }
@@ -153,7 +146,7 @@ fn push_section_header(out: &mut Vec<u8>, section: SectionHeader) -> Result<(), 
 /// Appends section headers, in order.
 pub fn push_headers(out: &mut Vec<u8>, sections: &[SectionHeader]) -> Result<(), AllocError>
     ensures { OnOk result (out.new.items
-        ≡ out.old.items ++ flat_map (λ section. section_bytes (header section)) sections.now) }
+        ≡ out.old.items ++ flat_map section_bytes sections.now) }
 {
     for section in sections {
         push_section_header(out, *section)?;

@@ -1,0 +1,69 @@
+use Rattle.std.proofs.Common.{◌≡◌, ℕ, subst, ◌+◌, ◌++◌, [], List, length, sym, ap, ◌∙◌, arith, append_assoc, rules}
+use Rattle.std.specs.List.{flat_map}
+use Rattle.elf32_read.specs.Parts.{ObjectParts, SectionParts, SymbolParts}
+use Rattle.elf32_write.specs.Image.{section_bytes}
+use Rattle.elf32_write.specs.ObjectFile.{contents, file_sections, headers_for, headers_offset, object_bytes, object_header, section_header, section_total}
+use Rattle.elf32_write.specs.Ranges.{IsPartsSized}
+use Rattle.elf32_write.specs.SectionTable.{Holds}
+use Rattle.elf32_write.specs.Writable.{IsObjectOf}
+use Rattle.elf32_write.proofs.ObjectBack.{object_back}
+use Rattle.elf32_write.specs.declared.section_table.SectionTable.{SectionTable}
+use Rattle.elf32_write.proofs.Stages.{length-each_after}
+use Rattle.elf32_write.proofs.WritableRoom.{writable_relocs, writable_room}
+use Rattle.elf32_write.proofs.write_object.write_object.Goals as goal
+
+-- the table holds the sections of the parts
+table_held : (parts : ObjectParts) (sections : List SectionParts) (symbols : List SymbolParts) (table : SectionTable) → sections ≡ parts.sections → symbols ≡ parts.symbols → Holds (file_sections sections symbols) table → Holds (file_sections parts.sections parts.symbols) table
+table_held parts sections symbols table e f held = rw (sym e, sym f) held
+
+parts_sized : (parts : ObjectParts) (sections : List SectionParts) (symbols : List SymbolParts) → sections ≡ parts.sections → symbols ≡ parts.symbols → IsPartsSized sections symbols → IsPartsSized parts.sections parts.symbols
+parts_sized parts sections symbols e f sized = rw (sym e, sym f) sized
+
+pub sections_of-requires-clause-room : goal.sections_of-requires-clause-room
+sections_of-requires-clause-room c =
+    let sections = c.deref.ensures.value ∙ ap (λ p. p.sections) c.parts.view_is in
+    let symbols = c.deref-2.ensures.value ∙ ap (λ p. p.symbols) c.parts.view_is in
+    rw (sections, symbols) (writable_room c.args.parts.now c.requires)
+
+pub sections_of-requires-clause-relocs : goal.sections_of-requires-clause-relocs
+sections_of-requires-clause-relocs c =
+    let sections = c.deref.ensures.value ∙ ap (λ p. p.sections) c.parts.view_is in
+    rw sections (writable_relocs c.args.parts.now c.requires)
+
+pub overflow_cast-len : goal.overflow_cast-len
+overflow_cast-len c =
+    let p = c.args.parts.now in
+    let sections = c.deref.ensures.value ∙ ap (λ q. q.sections) c.parts.view_is in
+    let symbols = c.deref-2.ensures.value ∙ ap (λ q. q.symbols) c.parts.view_is in
+    let held = table_held p _ _ c.in_ok-table.table sections symbols c.in_ok-table.ensures.held in
+    let long : c.len-3.result ≡ length c.in_ok-table.table.headers.items = search rules in
+    omega (arith, long, ap length held.headers_held, length-each_after section_header [] (file_sections p.sections p.symbols), c.requires.count)
+
+pub returns-clause-bytes : goal.returns-clause-bytes
+unfolding object_bytes
+returns-clause-bytes c =
+    let p = c.args.parts.now in
+    let all = file_sections p.sections p.symbols in
+    let sections = c.deref.ensures.value ∙ ap (λ q. q.sections) c.parts.view_is in
+    let symbols = c.deref-2.ensures.value ∙ ap (λ q. q.symbols) c.parts.view_is in
+    let held = table_held p _ _ c.in_ok-table.table sections symbols c.in_ok-table.ensures.held in
+    let long : c.len.result ≡ length c.in_ok-table.table.contents.items = search rules in
+    let offset : 52 + c.len.result ≡ headers_offset p = omega (arith, long, ap length held.contents_held) in
+    let many : c.len-3.result ≡ length c.in_ok-table.table.headers.items = search rules in
+    let count : c.len-3.result ≡ section_total p = omega (arith, many, ap length held.headers_held, length-each_after section_header [] all) in
+    let flags = ap (λ q. q.flags) c.parts.view_is in
+    let contents_are = c.deref-3.ensures.value ∙ held.contents_held in
+    let headers_are = c.deref-4.ensures.value ∙ held.headers_held in
+    let header = c.in_ok-push_object_header.ensures ∙ (λ i. c.in_ok-file.ensures.items i ++ object_header (offset i) (flags i) (count i)) in
+    let filled = c.in_ok-extend_from_slice.ensures.items ∙ (λ i. header i ++ contents_are i) in
+    c.in_ok-push_headers.ensures ∙ (λ i. filled i ++ flat_map section_bytes (headers_are i))
+    ∙ append_assoc (object_header (headers_offset p) p.flags (section_total p)) (contents all) (flat_map section_bytes (headers_for all))
+
+pub returns-clause-reads_back : goal.returns-clause-reads_back
+returns-clause-reads_back c =
+    let p = c.args.parts.now in
+    let sections = c.deref.ensures.value ∙ ap (λ q. q.sections) c.parts.view_is in
+    let symbols = c.deref-2.ensures.value ∙ ap (λ q. q.symbols) c.parts.view_is in
+    let sized = parts_sized p _ _ sections symbols c.in_ok-table.ensures.sized in
+    let IsRead : List ℕ → Type 0 = λ file. IsObjectOf p file in
+    subst IsRead (sym (returns-clause-bytes c)) (object_back p c.requires sized)

@@ -1,0 +1,21 @@
+-- A table of sections, as the code fills it.
+use Rattle.std.specs.Prelude.{◌≡◌, ℕ, ◌+◌, ◌^◌, ◌<◌, List, length}
+use Rattle.elf32_read.specs.Header.{Header}
+use Rattle.elf32_write.specs.NameTable.{name_table}
+use Rattle.elf32_write.specs.ObjectFile.{FileSection, contents, headers_for, names_of}
+use Rattle.elf32_write.specs.declared.section_table.SectionTable.{SectionTable}
+
+-- a section with this name and content, and the rest by its header
+abbrev pub file_section : List ℕ → Header → List ℕ → FileSection
+file_section name h content = record { name = name; kind = h.kind; flags = h.flags; size = h.size; link = h.link; info = h.info; align = h.align; entry_size = h.entry_size; content = content }
+
+-- the table has section 0 and these, in order
+pub record Holds (sections : List FileSection) (table : SectionTable) : Type 0 where
+  pub contents_held : table.contents.items ≡ contents sections
+  pub names_held : table.names.items ≡ name_table (names_of sections)
+  pub headers_held : table.headers.items ≡ headers_for sections
+
+-- the offsets of these sections' contents and names have room in a word
+pub record HasRoom (sections : List FileSection) : Type 0 where
+  pub contents_fit : 52 + length (contents sections) < 2 ^ 32
+  pub names_fit : length (name_table (names_of sections)) < 2 ^ 32

@@ -1,0 +1,183 @@
+// The sections of an object, one after another.
+
+ghost use Rattle.std.specs.Prelude.{◌≡◌, ◌^◌, ◌<◌, ◌≤◌, ◌+◌, ◌++◌, ◌∷◌, [], List, length, map, codes, All, IfOk, OnOk};
+ghost use Rattle.std.specs.List.{flat_map};
+ghost use Rattle.elf32_write.specs.ObjectFile.{FileSection, given_section, names_of, names_section, rela_section, reloc_bytes, relocated};
+ghost use Rattle.elf32_write.specs.Ranges.{IsHeaderSized, IsRelocSized, IsSectionSized};
+ghost use Rattle.elf32_write.specs.SectionTable.{HasRoom, Holds, file_section};
+
+use crate::fields::push_padded;
+use crate::name_table::push_name;
+use crate::object_parts::PartSection;
+use crate::relocs::reloc_table;
+use crate::section_header::{NULL, STRTAB};
+use elf32_read::header::SectionHeader;
+use std::alloc::{AllocError, Global};
+
+const RELA: u32 = 4;
+
+const INFO_LINK: u32 = 0x40;
+
+/// Where the contents of the sections begin: after the header of the file.
+pub const CONTENTS_OFFSET: u32 = 52;
+
+/// The sections that are written so far: their contents, each padded, their names, and their headers with that of section 0.
+#[derive(Drop)]
+pub struct SectionTable {
+    pub contents: Vec<u8>,
+    pub names: Vec<u8>,
+    pub headers: Vec<SectionHeader>,
+}
+
+impl SectionTable {
+    /// Section 0 alone.
+    pub fn new(alloc: Global) -> Result<SectionTable, AllocError>
+        ensures { IfOk result (λ table. Holds [] table) }
+    {
+        let mut names = Vec::new(alloc);
+        names.push(0)?;
+        let mut headers = Vec::new(alloc);
+        headers.push(NULL)?;
+        Ok(SectionTable {
+            contents: Vec::new(alloc),
+            names,
+            headers,
+        })
+    }
+
+    /// Adds a section. Its header is the given one, but for the name and the offset.
+    pub fn add(
+        &mut self,
+        name: &[u8],
+        header: SectionHeader,
+        content: &[u8],
+    ) -> Result<(), AllocError>
+        requires contents { 52 + length self.old.contents.items < 2 ^ 32 }
+        requires names { length self.old.names.items < 2 ^ 32 }
+        requires address { header.address ≡ 0 }
+        ensures held { (before : List FileSection) → Holds before self.old →
+            OnOk result (Holds (before ++ file_section name.now header content.now ∷ []) self.new) }
+        ensures sized { IsHeaderSized header }
+    {
+        let name = push_name(&mut self.names, name)?;
+        let offset = CONTENTS_OFFSET + self.contents.len() as u32;
+        self.headers.push(SectionHeader {
+            name,
+            offset,
+            ..header
+        })?;
+        push_padded(&mut self.contents, content)
+    }
+
+    /// Adds .shstrtab, the names of all sections with its own.
+    pub fn add_names(&mut self) -> Result<(), AllocError>
+        requires contents { 52 + length self.old.contents.items < 2 ^ 32 }
+        requires names { length self.old.names.items + 10 < 2 ^ 32 }
+        ensures { (before : List FileSection) → Holds before self.old →
+            OnOk result (Holds (before ++ names_section (codes ".shstrtab") (names_of before ++ codes ".shstrtab" ∷ []) ∷ []) self.new) }
+    {
+        let name = push_name(&mut self.names, b".shstrtab")?;
+        let offset = CONTENTS_OFFSET + self.contents.len() as u32;
+        self.headers.push(SectionHeader {
+            name,
+            kind: STRTAB,
+            offset,
+            size: self.names.len() as u32,
+            align: 1,
+            ..NULL
+        })?;
+        push_padded(&mut self.contents, &self.names)
+    }
+
+    /// Adds given sections, after section 0.
+    pub fn add_given(&mut self, sections: &[PartSection]) -> Result<(), AllocError>
+        requires held { Holds [] self.old }
+        requires room { HasRoom (map given_section sections.now) }
+        ensures held { OnOk result (Holds (map given_section sections.now) self.new) }
+        ensures sized { OnOk result (All IsSectionSized sections.now) }
+    {
+        for section in sections {
+            let header = SectionHeader {
+                kind: section.kind,
+                flags: section.flags,
+                size: section.size,
+                align: section.align,
+                ..NULL
+            };
+            self.add(&section.name, header, &section.bytes)?;
+        }
+        Ok(())
+    }
+
+    // Adds the relocations of a section with an index, over the symbols of the section with the other.
+    fn add_rela(
+        &mut self,
+        alloc: Global,
+        section: &PartSection,
+        index: u32,
+        symtab: u32,
+    ) -> Result<(), AllocError>
+        requires symbols { All (λ r. r.symbol < 2 ^ 24) section.now.relocs }
+        requires contents { 52 + length self.old.contents.items < 2 ^ 32 }
+        requires names { length self.old.names.items < 2 ^ 32 }
+        requires size { length (flat_map reloc_bytes section.now.relocs) < 2 ^ 32 }
+        ensures held { (before : List FileSection) → Holds before self.old →
+            OnOk result (Holds (before ++ rela_section symtab (index, section.now) ∷ []) self.new) }
+        ensures sized { OnOk result (All IsRelocSized section.now.relocs) }
+    {
+        let table = reloc_table(alloc, &section.relocs)?;
+        let mut name = Vec::from_slice(alloc, b".rela")?;
+        name.extend_from_slice(&section.name)?;
+        let header = SectionHeader {
+            kind: RELA,
+            flags: INFO_LINK,
+            size: table.len() as u32,
+            link: symtab,
+            info: index,
+            align: 4,
+            entry_size: 12,
+            ..NULL
+        };
+        self.add(&name, header, &table)
+    }
+
+    /// Adds the relocations of given sections, after these, over the symbols of the section with an index.
+    pub fn add_relas(
+        &mut self,
+        alloc: Global,
+        sections: &[PartSection],
+        symtab: u32,
+    ) -> Result<(), AllocError>
+        requires held { Holds (map given_section sections.now) self.old }
+        requires count { length sections.now < 2 ^ 16 }
+        requires symbols { All (λ s. All (λ r. r.symbol < 2 ^ 24) s.relocs) sections.now }
+        requires room { HasRoom
+            (map given_section sections.now ++ map (rela_section symtab) (relocated sections.now)) }
+        ensures held { OnOk result (Holds
+            (map given_section sections.now ++ map (rela_section symtab) (relocated sections.now)) self.new) }
+        ensures sized { OnOk result (All (λ s. All IsRelocSized s.relocs) sections.now) }
+    {
+        for i in 0..sections.len() {
+            let section = &sections[i];
+            if !section.relocs.is_empty() {
+                self.add_rela(alloc, section, i as u32 + 1, symtab)?;
+            }
+        }
+        Ok(())
+    }
+}
+
+/// How many of these sections have relocations.
+#[tactic(auto, using(crate::proofs::Relocated::length_relocated_more))]
+pub fn relocated_count(sections: &[PartSection]) -> usize
+    ensures count { result ≡ length (relocated sections.now) }
+    ensures most { result ≤ length sections.now }
+{
+    let mut count = 0;
+    for section in sections {
+        if !section.relocs.is_empty() {
+            count += 1;
+        }
+    }
+    count
+}

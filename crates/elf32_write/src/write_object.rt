@@ -1,0 +1,98 @@
+// Objects.
+
+ghost use Rattle.std.specs.Prelude.{◌≡◌, ◌^◌, ◌<◌, ◌++◌, length, All, IfOk, OnOk};
+ghost use Rattle.elf32_write.specs.ObjectFile.{HasInfo, file_sections, object_bytes, object_header};
+ghost use Rattle.elf32_write.specs.Ranges.{IsPartsSized};
+ghost use Rattle.elf32_write.specs.SectionTable.{HasRoom, Holds};
+ghost use Rattle.elf32_write.specs.Writable.{IsObjectOf, IsWritable};
+
+use crate::fields::{push_halves, push_words};
+use crate::headers::{IDENTIFICATION, RISC_V};
+use crate::object_parts::{ObjectParts, PartSection, PartSymbol};
+use crate::section_header::{NULL, STRTAB, push_headers};
+use crate::section_table::{CONTENTS_OFFSET, SectionTable, relocated_count};
+use crate::symbol_table::{after_locals, symbol_table};
+use elf32_read::header::SectionHeader;
+use std::alloc::{AllocError, Global};
+
+const RELOCATABLE: u16 = 1;
+
+const SYMTAB: u32 = 2;
+
+// Appends the file's header: where the section headers begin, e_flags, and how many sections there are.
+#[tactic(auto, unfolding(crate::specs::ObjectFile::object_header))]
+fn push_object_header(
+    out: &mut Vec<u8>,
+    table: u32,
+    flags: u32,
+    count: u16,
+) -> Result<(), AllocError>
+    requires { 0 < count }
+    ensures { OnOk result (out.new.items ≡ out.old.items ++ object_header table flags count) }
+{
+    out.extend_from_slice(&IDENTIFICATION)?;
+    push_halves(out, &[RELOCATABLE, RISC_V])?;
+    push_words(out, &[1, 0, 0, table, flags])?;
+    push_halves(out, &[52, 0, 0, 40, count, count - 1])
+}
+
+// All sections of the file.
+fn sections_of(
+    alloc: Global,
+    sections: &[PartSection],
+    symbols: &[PartSymbol],
+) -> Result<SectionTable, AllocError>
+    requires count { length (file_sections sections.now symbols.now) < 4096 }
+    requires room { HasRoom (file_sections sections.now symbols.now) }
+    requires relocs { All (λ s. All (λ r. r.symbol < 2 ^ 24) s.relocs) sections.now }
+    requires info { All HasInfo symbols.now }
+    ensures held { IfOk result (λ table. Holds (file_sections sections.now symbols.now) table) }
+    ensures sized { OnOk result (IsPartsSized sections.now symbols.now) }
+{
+    let symtab = 1 + sections.len() as u32 + relocated_count(sections) as u32;
+    let mut table = SectionTable::new(alloc)?;
+    table.add_given(sections)?;
+    table.add_relas(alloc, sections, symtab)?;
+    let written = symbol_table(alloc, symbols)?;
+    let symtab_header = SectionHeader {
+        kind: SYMTAB,
+        size: written.entries.len() as u32,
+        link: symtab + 1,
+        info: after_locals(symbols) as u32,
+        align: 4,
+        entry_size: 16,
+        ..NULL
+    };
+    table.add(b".symtab", symtab_header, &written.entries)?;
+    let strtab_header = SectionHeader {
+        kind: STRTAB,
+        size: written.names.len() as u32,
+        align: 1,
+        ..NULL
+    };
+    table.add(b".strtab", strtab_header, &written.names)?;
+    table.add_names()?;
+    Ok(table)
+}
+
+/// The file of an object with these parts, in time linear in its length.
+#[tactic(auto, unfolding(crate::specs::ObjectFile::object_bytes))]
+pub fn write_object(alloc: Global, parts: &ObjectParts) -> Result<Vec<u8>, AllocError>
+    requires { IsWritable parts.now }
+    ensures bytes { IfOk result (λ file. file.items ≡ object_bytes parts.now) }
+    ensures reads_back { IfOk result (λ file. IsObjectOf parts.now file.items) }
+{
+    let table = sections_of(alloc, &parts.sections, &parts.symbols)?;
+    let headers_offset = CONTENTS_OFFSET + table.contents.len() as u32;
+    let size = headers_offset as usize + 40 * table.headers.len();
+    let mut file = Vec::with_capacity(alloc, size)?;
+    push_object_header(
+        &mut file,
+        headers_offset,
+        parts.flags,
+        table.headers.len() as u16,
+    )?;
+    file.extend_from_slice(&table.contents)?;
+    push_headers(&mut file, &table.headers)?;
+    Ok(file)
+}
