@@ -180,27 +180,50 @@ mod tests {
     use super::*;
     use std::test::Fail;
 
-    // Calls 0 to 6: the fourth, an err, is listed.
+    #[derive(Clone, Copy)]
+    enum Step {
+        Take(usize),
+        Out(&'static [u8]),
+        Err(&'static [u8]),
+    }
+
+    // Makes a call, adds what is taken to `taken`, and says how much, or none if it is refused.
+    fn make(console: &mut MemConsole, step: &Step, taken: &mut Vec<u8>) -> Option<usize> {
+        let mut buf = [0u8; 4];
+        match step {
+            Step::Take(room) => {
+                let count = console.take(&mut buf[..(*room).min(4)]).ok()?;
+                taken.extend_from_slice(&buf[..count]).ok()?;
+                Some(count)
+            }
+            Step::Out(piece) => console.out(piece).ok().map(|()| 0),
+            Step::Err(piece) => console.err(piece).ok().map(|()| 0),
+        }
+    }
+
+    // The calls of the table are numbered from 0, but for those with an empty piece. The fourth is listed.
     #[test]
     fn moves_bytes_but_for_the_listed_calls(rt: HostRuntime) -> Result<(), Fail> {
         let mut console = MemConsole::new(rt.alloc(), b"hello", &[3])?;
-        let mut buf = [0u8; 4];
-        assert_eq!(rt; console.take(&mut buf[..2]), Ok(2));
-        assert_eq!(rt; console.take(&mut buf[..0]), Ok(0));
-        assert_eq!(rt; console.out(b"to out"), Ok(()));
-        assert_eq!(rt; console.out(b""), Ok(()), "an empty piece has no number");
-        assert_eq!(rt; console.err(b""), Ok(()), "an empty piece has no number");
-        assert_eq!(rt; console.err(b"lost"), Err(ConsoleFault::Failed));
-        assert_eq!(rt; console.take(&mut buf), Ok(3));
-        assert_eq!(rt; buf, *b"llo\0", "no byte changes after those that came");
-        assert_eq!(rt; console.take(&mut buf), Ok(0));
-        assert_eq!(rt; console.err(b"to err"), Ok(()));
-        assert_eq!(rt; console.out_bytes(), b"to out".as_slice());
-        assert_eq!(rt; console.err_bytes(), b"to err".as_slice());
-        assert_eq!(rt;
-            (console.taken, console.read_faults, console.write_faults),
-            (5, 0, 1)
-        );
+        let mut taken = Vec::new(rt.alloc());
+        let steps = [
+            (Step::Take(2), Some(2)),
+            (Step::Take(0), Some(0)),
+            (Step::Out(b"to out"), Some(0)),
+            (Step::Out(b""), Some(0)),
+            (Step::Err(b""), Some(0)),
+            (Step::Err(b"lost"), None),
+            (Step::Take(4), Some(3)),
+            (Step::Take(4), Some(0)),
+            (Step::Err(b"to err"), Some(0)),
+        ];
+        for (step, wanted) in &steps {
+            assert_eq!(rt; make(&mut console, step, &mut taken), *wanted);
+        }
+        let bytes = [taken.as_slice(), console.out_bytes(), console.err_bytes()];
+        assert_eq!(rt; bytes, [b"hello".as_slice(), b"to out", b"to err"]);
+        let counts = (console.taken, console.read_faults, console.write_faults);
+        assert_eq!(rt; counts, (5, 0, 1));
         Ok(())
     }
 }
