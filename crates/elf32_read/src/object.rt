@@ -247,12 +247,7 @@ impl<'a> Object<'a> {
         ensures { slice_get (relocs_of self.now section) k ≡ Some result }
     {
         match self.rela_of(section) {
-            None => Reloc {
-                offset: 0,
-                symbol: 0,
-                kind: 0,
-                addend: 0,
-            },
+            None => unreachable!(),
             Some(rela) => self.rela(rela, k),
         }
     }
