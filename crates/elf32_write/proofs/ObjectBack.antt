@@ -26,7 +26,7 @@ use Rattle.elf32_write.specs.Ranges.{IsPartsSized}
 use Rattle.elf32_write.specs.Writable.{IsObjectOf, is_name, IsWithin, IsWritable, IsWritableSection, IsWritableSymbol, added_part, added_parts, can_be_given, null_part, null_symbol_part}
 use Rattle.elf32_write.proofs.AllSections.{IsNumbered, added_at, added_dropped, all_added, all_relocated, all_sections, given_at, length-added, sections_whole, sections_words, shows_at}
 use Rattle.elf32_write.proofs.FileHeaderBack.{IsSmall, all_of, count_back, flags_back, header_back, header_size_back, length-object_bytes, listed_back, magic_back, table_back}
-use Rattle.elf32_write.proofs.Linkable.{IsLinkable, given_linkable, names_linkable, not_badly_aligned, not_cut, not_of_no_symbol, not_unlinked, rela_linkable, symtab_linkable}
+use Rattle.elf32_write.proofs.Linkable.{IsLinkable, given_linkable, implied, names_linkable, not_badly_aligned, not_cut, not_of_no_symbol, not_unlinked, rela_linkable, symtab_linkable}
 use Rattle.elf32_write.proofs.RelocsBack.{IsReloc, one_table, relocs_of_given}
 use Rattle.elf32_write.proofs.SectionsBack.{Shows, kept_back, names_found, null_shown, shows_all}
 use Rattle.elf32_write.proofs.Stages.{length-file_sections, length-symbols, room_symbol_names, with_relas}
@@ -248,10 +248,6 @@ none_of_symbols parts b p fails =
     let bytes = object_bytes parts in
     ap (λ l. list_any p (drop 1 l)) b.entries
     ∙ zip_none (ShowsSymbol (symbol_names_in bytes)) (IsWritableSymbol parts) p fails (each_after symbol_entry [] parts.symbols) parts.symbols b.shown_symbols b.writable.symbols
-
-implied : (a b : Bool) → (a ≡ true → b ≡ false) → (a && b) ≡ false
-implied true b fails = fails refl
-implied false b fails = refl
 
 is_aligned : (parts : ObjectParts) → IsBack parts → has_bad_alignment (object_bytes parts) ≡ false
 is_aligned parts b =
