@@ -12,7 +12,7 @@ use Rattle.elf32_write.specs.Ranges.{IsSectionSized}
 use Rattle.elf32_write.specs.SectionTable.{HasRoom}
 use Rattle.elf32_write.specs.Writable.{IsWritableSection}
 use Rattle.elf32_write.proofs.FileHeaderBack.{HasWords, all_of, header_listed}
-use Rattle.elf32_write.proofs.SectionsBack.{IsWhole, Shows, is_kept_file, null_shown}
+use Rattle.elf32_write.proofs.SectionsBack.{IsComplete, Shows, is_kept_file, null_shown}
 use Rattle.elf32_write.proofs.Stages.{length-file_sections}
 use Rattle.elf32_write.proofs.WritableRoom.{symbols_within}
 use Rattle.elf32_write.proofs.Zipped.{zip_get}
@@ -50,7 +50,7 @@ all_relocated Q xs held =
 
 -- ---- each section has a name and a size
 
-given_whole : (count : ℕ) (s : SectionParts) → IsWritableSection count s → IsWhole (given_section s)
+given_whole : (count : ℕ) (s : SectionParts) → IsWritableSection count s → IsComplete (given_section s)
 given_whole count s w = record {
   name = w.name;
   sized = record {
@@ -59,11 +59,11 @@ given_whole count s w = record {
   };
 }
 
-pub sections_whole : (count : ℕ) (xs : List SectionParts) (ys : List SymbolParts) → All (IsWritableSection count) xs → All IsWhole (file_sections xs ys)
+pub sections_whole : (count : ℕ) (xs : List SectionParts) (ys : List SymbolParts) → All (IsWritableSection count) xs → All IsComplete (file_sections xs ys)
 sections_whole count xs ys w =
-    all_sections IsWhole xs ys (All-weaker (IsWritableSection count) (λ s. IsWhole (given_section s)) (given_whole count) xs w)
-    (all_added IsWhole xs ys
-    (All-weaker (IsNumbered (IsWritableSection count) (1 + length xs)) (λ e. IsWhole (rela_section (symtab_index xs) e))
+    all_sections IsComplete xs ys (All-weaker (IsWritableSection count) (λ s. IsComplete (given_section s)) (given_whole count) xs w)
+    (all_added IsComplete xs ys
+    (All-weaker (IsNumbered (IsWritableSection count) (1 + length xs)) (λ e. IsComplete (rela_section (symtab_index xs) e))
     (λ e n. record { name = n.held.name; sized = record { full = λ _. refl; empty = λ h. absurd cc } })
     (relocated xs) (all_relocated (IsWritableSection count) xs w))
     (record { name = refl; sized = record { full = λ _. refl; empty = λ h. absurd cc } })

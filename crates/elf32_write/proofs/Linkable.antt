@@ -18,7 +18,7 @@ use Rattle.elf32_write.proofs.SectionsBack.{Shows, is_kept_file, kept_back}
 use Rattle.elf32_write.proofs.Stages.{length-symbols}
 
 -- if the first test makes the second fail, not both pass
-implied : (a b : Bool) → (a ≡ true → b ≡ false) → (a && b) ≡ false
+pub implied : (a b : Bool) → (a ≡ true → b ≡ false) → (a && b) ≡ false
 implied true b fails = fails refl
 implied false b fails = refl
 

@@ -11,8 +11,8 @@ use Rattle.std.proofs.lemmas.Option.{slice_get-get_or}
 use Rattle.std.proofs.lemmas.List.FromFn.{fill_by_all, length-map-range_with_len}
 use Rattle.elf32_read.specs.Header.{have_other_size, header_of, headers_of, section_count, section_header_size, section_table}
 use Rattle.elf32_read.specs.Kept.{is_kept}
-use Rattle.elf32_read.specs.Names.{has_end, name_at}
-use Rattle.elf32_read.specs.Object.{counts_elsewhere, has_bad_alignment, has_bad_name, has_bad_symbol, has_cut_code, has_other_flags, has_second_symbol_table, has_too_many_sections, has_two_relas, has_unlinked_sections, is_bad_alignment, is_bad_common, is_bad_symbol, is_badly_aligned, is_changed_twice, is_cut_code, is_of_no_symbol, is_too_long, is_unlinked, is_unnamed_section, is_unnamed_symbol, lacks_section_names, lacks_symbol_names, lacks_symbols, not_elf, object_fault, passes_end, passes_section, truncated}
+use Rattle.elf32_read.specs.Names.{has_end, is_unnamed_section, name_at}
+use Rattle.elf32_read.specs.Object.{counts_elsewhere, has_bad_alignment, has_bad_name, has_bad_symbol, has_cut_code, has_other_flags, has_second_symbol_table, has_too_many_sections, has_two_relas, has_unlinked_sections, is_bad_alignment, is_bad_common, is_bad_symbol, is_badly_aligned, is_changed_twice, is_cut_code, is_of_no_symbol, is_too_long, is_unlinked, is_unnamed_symbol, lacks_section_names, lacks_symbol_names, lacks_symbols, not_elf, object_fault, passes_end, passes_section, truncated}
 use Rattle.elf32_read.specs.Parts.{ObjectParts, SectionParts, SymbolParts, is_kept_section, object_parts, relocs_held, relocs_of, section_parts, symbol_parts}
 use Rattle.elf32_read.specs.Relocs.{relas_for}
 use Rattle.elf32_read.specs.Rows.{first_of}
@@ -26,7 +26,7 @@ use Rattle.elf32_write.specs.Ranges.{IsPartsSized}
 use Rattle.elf32_write.specs.Writable.{IsObjectOf, is_name, IsWithin, IsWritable, IsWritableSection, IsWritableSymbol, added_part, added_parts, can_be_given, null_part, null_symbol_part}
 use Rattle.elf32_write.proofs.AllSections.{IsNumbered, added_at, added_dropped, all_added, all_relocated, all_sections, given_at, length-added, sections_whole, sections_words, shows_at}
 use Rattle.elf32_write.proofs.FileHeaderBack.{IsSmall, all_of, count_back, flags_back, header_back, header_size_back, length-object_bytes, listed_back, magic_back, table_back}
-use Rattle.elf32_write.proofs.Linkable.{IsLinkable, given_linkable, names_linkable, not_badly_aligned, not_cut, not_of_no_symbol, not_unlinked, rela_linkable, symtab_linkable}
+use Rattle.elf32_write.proofs.Linkable.{IsLinkable, given_linkable, implied, names_linkable, not_badly_aligned, not_cut, not_of_no_symbol, not_unlinked, rela_linkable, symtab_linkable}
 use Rattle.elf32_write.proofs.RelocsBack.{IsReloc, one_table, relocs_of_given}
 use Rattle.elf32_write.proofs.SectionsBack.{Shows, kept_back, names_found, null_shown, shows_all}
 use Rattle.elf32_write.proofs.Stages.{length-file_sections, length-symbols, room_symbol_names, with_relas}
@@ -248,10 +248,6 @@ none_of_symbols parts b p fails =
     let bytes = object_bytes parts in
     ap (λ l. list_any p (drop 1 l)) b.entries
     ∙ zip_none (ShowsSymbol (symbol_names_in bytes)) (IsWritableSymbol parts) p fails (each_after symbol_entry [] parts.symbols) parts.symbols b.shown_symbols b.writable.symbols
-
-implied : (a b : Bool) → (a ≡ true → b ≡ false) → (a && b) ≡ false
-implied true b fails = fails refl
-implied false b fails = refl
 
 is_aligned : (parts : ObjectParts) → IsBack parts → has_bad_alignment (object_bytes parts) ≡ false
 is_aligned parts b =

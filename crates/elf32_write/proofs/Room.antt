@@ -6,7 +6,7 @@ use Rattle.elf32_write.specs.Image.{pad, padded}
 use Rattle.elf32_write.specs.NameTable.{name_table}
 use Rattle.elf32_read.specs.Parts.{SectionParts}
 use Rattle.elf32_write.specs.ObjectFile.{FileSection, contents, given_section, names_of, rela_section, relocated}
-use Rattle.elf32_write.specs.SectionTable.{HasRoom, Holds}
+use Rattle.elf32_write.specs.SectionTable.{HasOffsets, HasRoom, Holds}
 use Rattle.elf32_write.specs.declared.section_table.SectionTable.{SectionTable}
 use Rattle.elf32_write.proofs.Relocated.{relocated_more, relocated_split}
 use Rattle.elf32_write.proofs.SymbolsMore.{name_table_within}
@@ -23,11 +23,11 @@ room_within xs ys all e room =
     }
 
 -- a table of sections with room takes offsets that have room in a word
-pub room_contents : (sections : List FileSection) (table : SectionTable) → Holds sections table → HasRoom sections → 52 + length table.contents.items < 2 ^ 32
-room_contents sections table held room = omega (arith, room.contents_fit, ap length held.contents_held)
-
-pub room_names : (sections : List FileSection) (table : SectionTable) → Holds sections table → HasRoom sections → length table.names.items < 2 ^ 32
-room_names sections table held room = omega (arith, room.names_fit, ap length held.names_held)
+pub room_offsets : (sections : List FileSection) (table : SectionTable) → Holds sections table → HasRoom sections → HasOffsets 0 table
+room_offsets sections table held room = record {
+  contents_end = omega (arith, room.contents_fit, ap length held.contents_held);
+  names_end = omega (arith, room.names_fit, ap length held.names_held);
+}
 
 -- contents are no shorter than the last
 pub length-last : (xs : List FileSection) (s : FileSection) → length (contents xs) + length s.content ≤ length (contents (xs ++ s ∷ []))

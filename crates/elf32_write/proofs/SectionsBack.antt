@@ -125,7 +125,7 @@ pub record Shows (file : List ℕ) (h : Header) (s : FileSection) : Type 0 where
   pub within : passes_end file h ≡ false
 
 -- a section with a name and a size
-pub record IsWhole (s : FileSection) : Type 0 where
+pub record IsComplete (s : FileSection) : Type 0 where
   pub name : is_name s.name ≡ true
   pub sized : IsSized s
 
@@ -133,43 +133,32 @@ pub record IsWhole (s : FileSection) : Type 0 where
 abbrev pub null_shown : FileSection
 null_shown = record { name = []; kind = 0; flags = 0; size = 0; link = 0; info = 0; align = 0; entry_size = 0; content = [] }
 
-shows_after : (parts : ObjectParts) → names_in (object_bytes parts) ≡ name_table (names_of (all_of parts)) → (before rest : List FileSection) → all_of parts ≡ before ++ rest → All IsWhole rest → AllZip (Shows (object_bytes parts)) (each_after section_header before rest) rest
+-- a header that is made of a section, with a name and an offset
+made : ℕ → ℕ → FileSection → Header
+made name offset s = record { name = name; kind = s.kind; flags = s.flags; address = 0; offset = offset; size = s.size; link = s.link; info = s.info; align = s.align; entry_size = s.entry_size }
+
+made_shows : (file : List ℕ) (name offset : ℕ) (s : FileSection) → content_of file (made name offset s) ≡ s.content → Stands s.name (names_in file) name → passes_end file (made name offset s) ≡ false → Shows file (made name offset s) s
+unfolding made
+made_shows file name offset s content named within = record { kind = refl; flags = refl; size = refl; link = refl; info = refl; align = refl; entry_size = refl; content = content; named = named; within = within }
+
+shows_after : (parts : ObjectParts) → names_in (object_bytes parts) ≡ name_table (names_of (all_of parts)) → (before rest : List FileSection) → all_of parts ≡ before ++ rest → All IsComplete rest → AllZip (Shows (object_bytes parts)) (each_after section_header before rest) rest
+unfolding made
 shows_after parts named before [] e whole = tt
 shows_after parts named before (s ∷ rest) e whole =
     let bytes = object_bytes parts in
-    let w = All-head IsWhole s rest whole in
+    let w = All-head IsComplete s rest whole in
     let names : names_in bytes ≡ name_table (names_of before ++ s.name ∷ names_of rest) = named ∙ ap (λ l. name_table (names_of l)) e ∙ ap name_table (map-append (λ (b : FileSection). b.name) before (s ∷ rest)) in
     let next : all_of parts ≡ (before ++ s ∷ []) ++ rest = e ∙ sym (append_assoc before (s ∷ []) rest) in (
-      record {
-        kind = refl;
-        flags = refl;
-        size = refl;
-        link = refl;
-        info = refl;
-        align = refl;
-        entry_size = refl;
-        content = content_back parts before s rest e w.sized;
-        named = name_back (names_of before) s.name (names_of rest) (names_in bytes) names w.name;
-        within = content_within parts before s rest e w.sized;
-      },
-      shows_after parts named (before ++ s ∷ []) rest next (All-tail IsWhole s rest whole),
+      made_shows bytes (section_header before s).name (section_header before s).offset s (content_back parts before s rest e w.sized)
+          (name_back (names_of before) s.name (names_of rest) (names_in bytes) names w.name) (content_within parts before s rest e w.sized),
+      shows_after parts named (before ++ s ∷ []) rest next (All-tail IsComplete s rest whole),
     )
 
-pub shows_all : (parts : ObjectParts) → IsSmall parts → headers_of (object_bytes parts) ≡ headers_for (all_of parts) → All IsWhole (all_of parts) → AllZip (Shows (object_bytes parts)) (headers_for (all_of parts)) (null_shown ∷ all_of parts)
+pub shows_all : (parts : ObjectParts) → IsSmall parts → headers_of (object_bytes parts) ≡ headers_for (all_of parts) → All IsComplete (all_of parts) → AllZip (Shows (object_bytes parts)) (headers_for (all_of parts)) (null_shown ∷ all_of parts)
+unfolding made
 shows_all parts small listed whole =
     let named = names_back parts small listed in (
-      record {
-        kind = refl;
-        flags = refl;
-        size = refl;
-        link = refl;
-        info = refl;
-        align = refl;
-        entry_size = refl;
-        content = refl;
-        named = name_back [] [] (names_of (all_of parts)) (names_in (object_bytes parts)) named refl;
-        within = refl;
-      },
+      made_shows (object_bytes parts) 0 0 null_shown refl (name_back [] [] (names_of (all_of parts)) (names_in (object_bytes parts)) named refl) refl,
       shows_after parts named [] (all_of parts) refl whole,
     )
 

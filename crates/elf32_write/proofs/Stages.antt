@@ -7,9 +7,10 @@ use Rattle.elf32_read.specs.Parts.{SectionParts, SymbolParts}
 use Rattle.elf32_read.specs.declared.symbol_entry.SymbolEntry.{SymbolEntry}
 use Rattle.elf32_write.specs.NameTable.{name_bytes, name_table}
 use Rattle.elf32_write.specs.ObjectFile.{FileSection, added_sections, each_after, symbol_bytes, symbol_entries, symbol_entry, file_sections, given_section, given_sections, names_of, names_section, rela_section, rela_sections, relocated, section_names, symbol_names, symtab_index, symtab_section}
-use Rattle.elf32_write.specs.SectionTable.{HasRoom}
+use Rattle.elf32_write.specs.SectionTable.{HasOffsets, HasRoom, Holds}
+use Rattle.elf32_write.specs.declared.section_table.SectionTable.{SectionTable}
 use Rattle.elf32_write.proofs.EachAfter.{name_table_push}
-use Rattle.elf32_write.proofs.Room.{room_last, room_within}
+use Rattle.elf32_write.proofs.Room.{room_last, room_offsets, room_within}
 
 unfoldable pub with_relas : List SectionParts → List FileSection
 with_relas xs = given_sections xs ++ rela_sections xs
@@ -79,15 +80,18 @@ pub room_symbol_names : (xs : List SectionParts) (ys : List SymbolParts) → Has
 unfolding with_names
 room_symbol_names xs ys room = room_last (with_symbols xs ys) (names_section (codes ".strtab") (symbol_names ys)) (room_names_stage xs ys room)
 
--- the last name has room as well
-pub room_last_name : (xs : List SectionParts) (ys : List SymbolParts) → HasRoom (file_sections xs ys) → length (name_table (names_of (with_names xs ys))) + 10 < 2 ^ 32
-room_last_name xs ys room =
+-- the last section has room as well
+pub room_last_section : (xs : List SectionParts) (ys : List SymbolParts) (table : SectionTable) → Holds (with_names xs ys) table → HasRoom (file_sections xs ys) → HasOffsets 10 table
+room_last_section xs ys table held room =
     let own : FileSection = names_section (codes ".shstrtab") (section_names xs) in
     let front = names_of (with_names xs ys) in
     let names : names_of (file_sections xs ys) ≡ front ++ codes ".shstrtab" ∷ [] =
     ap names_of (sym (stages xs ys)) ∙ map-append (λ (b : FileSection). b.name) (with_names xs ys) (own ∷ []) in
     let longer = ap length (ap name_table names ∙ name_table_push front (codes ".shstrtab")) ∙ length-append (name_table front) (name_bytes (codes ".shstrtab")) in
-    omega (arith, room.names_fit, longer)
+    record {
+      contents_end = (room_offsets (with_names xs ys) table held (room_names_stage xs ys room)).contents_end;
+      names_end = omega (arith, room.names_fit, longer, ap length held.names_held);
+    }
 
 -- each entry has 16 bytes
 pub length-symbol_bytes : (entries : List SymbolEntry) → length (flat_map symbol_bytes entries) ≡ 16 * length entries

@@ -1,13 +1,22 @@
 -- A table of sections, as the code fills it.
-use Rattle.std.specs.Prelude.{◌≡◌, ℕ, ◌+◌, ◌^◌, ◌<◌, List, length}
+use Rattle.std.specs.Prelude.{◌≡◌, ℕ, ◌+◌, ◌^◌, ◌<◌, List, [], ◌∷◌, ◌++◌, length, codes}
 use Rattle.elf32_read.specs.Header.{Header}
 use Rattle.elf32_write.specs.NameTable.{name_table}
-use Rattle.elf32_write.specs.ObjectFile.{FileSection, contents, headers_for, names_of}
+use Rattle.elf32_write.specs.ObjectFile.{FileSection, contents, headers_for, names_of, names_section}
 use Rattle.elf32_write.specs.declared.section_table.SectionTable.{SectionTable}
+
+-- .shstrtab after these sections: their names, and its own
+abbrev pub last_section : List FileSection → FileSection
+last_section sections = names_section (codes ".shstrtab") (names_of sections ++ codes ".shstrtab" ∷ [])
 
 -- a section with this name and content, and the rest by its header
 abbrev pub file_section : List ℕ → Header → List ℕ → FileSection
 file_section name h content = record { name = name; kind = h.kind; flags = h.flags; size = h.size; link = h.link; info = h.info; align = h.align; entry_size = h.entry_size; content = content }
+
+-- one more section, with a name of at most so many bytes, has an offset and a name's offset that have room in a word
+pub record HasOffsets (longest : ℕ) (table : SectionTable) : Type 0 where
+  pub contents_end : 52 + length table.contents.items < 2 ^ 32
+  pub names_end : length table.names.items + longest < 2 ^ 32
 
 -- the table has section 0 and these, in order
 pub record Holds (sections : List FileSection) (table : SectionTable) : Type 0 where

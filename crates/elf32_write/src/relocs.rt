@@ -13,6 +13,7 @@ use std::alloc::{AllocError, Global};
 fn push_reloc(out: &mut Vec<u8>, reloc: Reloc) -> Result<(), AllocError>
     requires { reloc.symbol < 2 ^ 24 }
     ensures appended { OnOk result (out.new.items ≡ out.old.items ++ reloc_bytes reloc) }
+    // By the types of its numbers.
     ensures sized { IsRelocSized reloc }
 {
     let info = 256 * reloc.symbol + u32::from(reloc.kind);

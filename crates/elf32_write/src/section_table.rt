@@ -1,10 +1,10 @@
 // The sections of an object, one after another.
 
-ghost use Rattle.std.specs.Prelude.{◌≡◌, ◌^◌, ◌<◌, ◌≤◌, ◌+◌, ◌++◌, ◌∷◌, [], List, length, map, codes, All, IfOk, OnOk};
+ghost use Rattle.std.specs.Prelude.{◌≡◌, ◌^◌, ◌<◌, ◌≤◌, ◌+◌, ◌++◌, ◌∷◌, [], List, length, map, All, IfOk, OnOk};
 ghost use Rattle.std.specs.List.{flat_map};
-ghost use Rattle.elf32_write.specs.ObjectFile.{FileSection, given_section, names_of, names_section, rela_section, reloc_bytes, relocated};
+ghost use Rattle.elf32_write.specs.ObjectFile.{FileSection, given_sections, rela_section, reloc_bytes, relocated};
 ghost use Rattle.elf32_write.specs.Ranges.{IsHeaderSized, IsRelocSized, IsSectionSized};
-ghost use Rattle.elf32_write.specs.SectionTable.{HasRoom, Holds, file_section};
+ghost use Rattle.elf32_write.specs.SectionTable.{HasOffsets, HasRoom, Holds, file_section, last_section};
 
 use crate::fields::push_padded;
 use crate::name_table::push_name;
@@ -52,11 +52,11 @@ impl SectionTable {
         header: SectionHeader,
         content: &[u8],
     ) -> Result<(), AllocError>
-        requires contents { 52 + length self.old.contents.items < 2 ^ 32 }
-        requires names { length self.old.names.items < 2 ^ 32 }
+        requires room { HasOffsets 0 self.old }
         requires address { header.address ≡ 0 }
         ensures held { (before : List FileSection) → Holds before self.old →
             OnOk result (Holds (before ++ file_section name.now header content.now ∷ []) self.new) }
+        // By the types of its numbers.
         ensures sized { IsHeaderSized header }
     {
         let name = push_name(&mut self.names, name)?;
@@ -71,10 +71,9 @@ impl SectionTable {
 
     /// Adds .shstrtab, the names of all sections with its own.
     pub fn add_names(&mut self) -> Result<(), AllocError>
-        requires contents { 52 + length self.old.contents.items < 2 ^ 32 }
-        requires names { length self.old.names.items + 10 < 2 ^ 32 }
+        requires { HasOffsets 10 self.old }
         ensures { (before : List FileSection) → Holds before self.old →
-            OnOk result (Holds (before ++ names_section (codes ".shstrtab") (names_of before ++ codes ".shstrtab" ∷ []) ∷ []) self.new) }
+            OnOk result (Holds (before ++ last_section before ∷ []) self.new) }
     {
         let name = push_name(&mut self.names, b".shstrtab")?;
         let offset = CONTENTS_OFFSET + self.contents.len() as u32;
@@ -92,8 +91,8 @@ impl SectionTable {
     /// Adds given sections, after section 0.
     pub fn add_given(&mut self, sections: &[PartSection]) -> Result<(), AllocError>
         requires held { Holds [] self.old }
-        requires room { HasRoom (map given_section sections.now) }
-        ensures held { OnOk result (Holds (map given_section sections.now) self.new) }
+        requires room { HasRoom (given_sections sections.now) }
+        ensures held { OnOk result (Holds (given_sections sections.now) self.new) }
         ensures sized { OnOk result (All IsSectionSized sections.now) }
     {
         for section in sections {
@@ -118,8 +117,7 @@ impl SectionTable {
         symtab: u32,
     ) -> Result<(), AllocError>
         requires symbols { All (λ r. r.symbol < 2 ^ 24) section.now.relocs }
-        requires contents { 52 + length self.old.contents.items < 2 ^ 32 }
-        requires names { length self.old.names.items < 2 ^ 32 }
+        requires room { HasOffsets 0 self.old }
         requires size { length (flat_map reloc_bytes section.now.relocs) < 2 ^ 32 }
         ensures held { (before : List FileSection) → Holds before self.old →
             OnOk result (Holds (before ++ rela_section symtab (index, section.now) ∷ []) self.new) }
@@ -148,13 +146,13 @@ impl SectionTable {
         sections: &[PartSection],
         symtab: u32,
     ) -> Result<(), AllocError>
-        requires held { Holds (map given_section sections.now) self.old }
+        requires held { Holds (given_sections sections.now) self.old }
         requires count { length sections.now < 2 ^ 16 }
         requires symbols { All (λ s. All (λ r. r.symbol < 2 ^ 24) s.relocs) sections.now }
         requires room { HasRoom
-            (map given_section sections.now ++ map (rela_section symtab) (relocated sections.now)) }
+            (given_sections sections.now ++ map (rela_section symtab) (relocated sections.now)) }
         ensures held { OnOk result (Holds
-            (map given_section sections.now ++ map (rela_section symtab) (relocated sections.now)) self.new) }
+            (given_sections sections.now ++ map (rela_section symtab) (relocated sections.now)) self.new) }
         ensures sized { OnOk result (All (λ s. All IsRelocSized s.relocs) sections.now) }
     {
         for i in 0..sections.len() {

@@ -3,8 +3,8 @@
 ghost use Rattle.std.specs.Prelude.{◌≡◌, ◌^◌, ◌<◌, ◌≤◌, ◌+◌, ◌++◌, ◌∷◌, [], length, All, IfOk, OnOk};
 ghost use Rattle.std.specs.List.{flat_map};
 ghost use Rattle.elf32_write.specs.NameTable.{name_table};
-ghost use Rattle.elf32_write.specs.Ranges.{IsEntrySized, IsSymbolSized};
 ghost use Rattle.elf32_write.specs.ObjectFile.{HasInfo, after_locals, symbol_bytes, symbol_entries, symbol_names};
+ghost use Rattle.elf32_write.specs.Ranges.{IsEntrySized, IsSymbolSized};
 
 use crate::fields::{push_half, push_words};
 use crate::name_table::push_name;
@@ -13,6 +13,16 @@ use elf32_read::symbol_entry::SymbolEntry;
 use std::alloc::{AllocError, Global};
 
 const LOCAL: u8 = 0;
+
+// Symbol 0.
+const NULL: SymbolEntry = SymbolEntry {
+    name: 0,
+    value: 0,
+    size: 0,
+    bind: 0,
+    kind: 0,
+    home: 0,
+};
 
 /// The entries of a symbol table, and the table of their names.
 #[derive(Drop)]
@@ -26,21 +36,13 @@ fn push_symbol(out: &mut Vec<u8>, symbol: SymbolEntry) -> Result<(), AllocError>
     requires bind { symbol.bind < 16 }
     requires kind { symbol.kind < 16 }
     ensures appended { OnOk result (out.new.items ≡ out.old.items ++ symbol_bytes symbol) }
+    // By the types of its numbers.
     ensures sized { IsEntrySized symbol }
 {
     push_words(out, &[symbol.name, symbol.value, symbol.size])?;
     out.extend_from_slice(&[16 * symbol.bind + symbol.kind, 0])?;
     push_half(out, symbol.home)
 }
-
-const NULL: SymbolEntry = SymbolEntry {
-    name: 0,
-    value: 0,
-    size: 0,
-    bind: 0,
-    kind: 0,
-    home: 0,
-};
 
 /// The table of symbol 0 and of these symbols.
 pub fn symbol_table(alloc: Global, symbols: &[PartSymbol]) -> Result<SymbolTable, AllocError>

@@ -2,12 +2,12 @@
 use Rattle.std.proofs.Common.{◌≡◌, ℕ, ◌+◌, ◌++◌, [], ◌∷◌, List, length, map, codes, sym, ap, ◌∙◌, arith, subst, rules}
 use Rattle.std.specs.List.{flat_map}
 use Rattle.elf32_read.specs.Parts.{SectionParts, SymbolParts}
-use Rattle.elf32_write.specs.ObjectFile.{FileSection, after_locals, file_sections, given_sections, names_of, names_section, rela_section, relocated, symbol_bytes, symbol_entries, symbol_names, symtab_index, symtab_section}
+use Rattle.elf32_write.specs.ObjectFile.{FileSection, after_locals, file_sections, given_sections, names_section, rela_section, relocated, symbol_bytes, symbol_entries, symbol_names, symtab_index, symtab_section}
 use Rattle.elf32_write.specs.NameTable.{name_table}
-use Rattle.elf32_write.specs.SectionTable.{Holds}
+use Rattle.elf32_write.specs.SectionTable.{Holds, last_section}
 use Rattle.elf32_write.specs.declared.section_table.SectionTable.{SectionTable}
-use Rattle.elf32_write.proofs.Room.{room_contents, room_names}
-use Rattle.elf32_write.proofs.Stages.{length-file_sections, length-symbols, names_so_far, room_given_stage, room_last_name, room_names_stage, room_relas_stage, room_symbol_names, room_symbols, room_symbols_stage, stages, with_names, with_relas, with_symbols}
+use Rattle.elf32_write.proofs.Room.{room_offsets}
+use Rattle.elf32_write.proofs.Stages.{length-file_sections, length-symbols, names_so_far, room_given_stage, room_last_section, room_relas_stage, room_symbol_names, room_symbols, room_symbols_stage, stages, with_names, with_relas, with_symbols}
 use Rattle.elf32_write.proofs.write_object.sections_of.Goals as goal
 
 pub overflow_cast-symtab : goal.overflow_cast-symtab
@@ -69,48 +69,33 @@ names_held before name names size content table sized whole held =
     rw (sym section) held
 
 -- the names of the sections, with which all are there
-all_held : (xs : List SectionParts) (ys : List SymbolParts) (table : SectionTable) → Holds (with_names xs ys ++ names_section (codes ".shstrtab") (names_of (with_names xs ys) ++ codes ".shstrtab" ∷ []) ∷ []) table → Holds (file_sections xs ys) table
+all_held : (xs : List SectionParts) (ys : List SymbolParts) (table : SectionTable) → Holds (with_names xs ys ++ last_section (with_names xs ys) ∷ []) table → Holds (file_sections xs ys) table
 all_held xs ys table held =
     subst (λ l. Holds l table) (ap (λ names. with_names xs ys ++ names_section (codes ".shstrtab") names ∷ []) (names_so_far xs ys) ∙ stages xs ys) held
 
-pub add-requires-clause-contents : goal.add-requires-clause-contents
-add-requires-clause-contents c =
+pub add-requires-clause-room : goal.add-requires-clause-room
+add-requires-clause-room c =
     let xs = c.args.sections.now in
-    room_contents (with_relas xs) _ (relas_held xs c.relocated_count.result _ c.relocated_count.ensures.count c.in_ok-add_relas.ensures.held) (room_relas_stage xs c.args.symbols.now c.requires.room)
-
-pub add-requires-clause-names : goal.add-requires-clause-names
-add-requires-clause-names c =
-    let xs = c.args.sections.now in
-    room_names (with_relas xs) _ (relas_held xs c.relocated_count.result _ c.relocated_count.ensures.count c.in_ok-add_relas.ensures.held) (room_relas_stage xs c.args.symbols.now c.requires.room)
+    room_offsets (with_relas xs) _ (relas_held xs c.relocated_count.result _ c.relocated_count.ensures.count c.in_ok-add_relas.ensures.held) (room_relas_stage xs c.args.symbols.now c.requires.room)
 
 pub overflow_cast-strtab_header : goal.overflow_cast-strtab_header
 overflow_cast-strtab_header c =
     let long : c.len-2.result ≡ length c.in_ok-written.written.names.items = search rules in
     omega (arith, long, ap length c.in_ok-written.ensures.names, room_symbol_names c.args.sections.now c.args.symbols.now c.requires.room)
 
-pub add-requires-2-clause-contents : goal.add-requires-2-clause-contents
-add-requires-2-clause-contents c =
+pub add-requires-2-clause-room : goal.add-requires-2-clause-room
+add-requires-2-clause-room c =
     let xs = c.args.sections.now in
     let ys = c.args.symbols.now in
     let relas = relas_held xs c.relocated_count.result _ c.relocated_count.ensures.count c.in_ok-add_relas.ensures.held in
     let content = c.deref.ensures.value ∙ c.in_ok-written.ensures.entries in
     let long : c.len.result ≡ length c.deref.result.now = search rules in
     let symbols = symbols_held xs ys c.relocated_count.result c.len.result c.after_locals.result c.deref.result.now _ c.relocated_count.ensures.count long c.after_locals.ensures.index content (c.in_ok-add.ensures.held (with_relas xs) relas) in
-    room_contents (with_symbols xs ys) _ symbols (room_symbols_stage xs ys c.requires.room)
+    room_offsets (with_symbols xs ys) _ symbols (room_symbols_stage xs ys c.requires.room)
 
-pub add-requires-2-clause-names : goal.add-requires-2-clause-names
-add-requires-2-clause-names c =
-    let xs = c.args.sections.now in
-    let ys = c.args.symbols.now in
-    let relas = relas_held xs c.relocated_count.result _ c.relocated_count.ensures.count c.in_ok-add_relas.ensures.held in
-    let content = c.deref.ensures.value ∙ c.in_ok-written.ensures.entries in
-    let long : c.len.result ≡ length c.deref.result.now = search rules in
-    let symbols = symbols_held xs ys c.relocated_count.result c.len.result c.after_locals.result c.deref.result.now _ c.relocated_count.ensures.count long c.after_locals.ensures.index content (c.in_ok-add.ensures.held (with_relas xs) relas) in
-    room_names (with_symbols xs ys) _ symbols (room_symbols_stage xs ys c.requires.room)
-
-pub add_names-requires-clause-contents : goal.add_names-requires-clause-contents
+pub add_names-requires : goal.add_names-requires
 unfolding with_names
-add_names-requires-clause-contents c =
+add_names-requires c =
     let xs = c.args.sections.now in
     let ys = c.args.symbols.now in
     let relas = relas_held xs c.relocated_count.result _ c.relocated_count.ensures.count c.in_ok-add_relas.ensures.held in
@@ -120,21 +105,7 @@ add_names-requires-clause-contents c =
     let content-2 = c.deref-2.ensures.value ∙ c.in_ok-written.ensures.names in
     let long-2 : c.len-2.result ≡ length c.deref-2.result.now = search rules in
     let named : Holds (with_names xs ys) _ = names_held (with_symbols xs ys) (codes ".strtab") (symbol_names ys) c.len-2.result c.deref-2.result.now _ long-2 content-2 (c.in_ok-add-2.ensures.held (with_symbols xs ys) symbols) in
-    room_contents (with_names xs ys) _ named (room_names_stage xs ys c.requires.room)
-
-pub add_names-requires-clause-names : goal.add_names-requires-clause-names
-unfolding with_names
-add_names-requires-clause-names c =
-    let xs = c.args.sections.now in
-    let ys = c.args.symbols.now in
-    let relas = relas_held xs c.relocated_count.result _ c.relocated_count.ensures.count c.in_ok-add_relas.ensures.held in
-    let content = c.deref.ensures.value ∙ c.in_ok-written.ensures.entries in
-    let long : c.len.result ≡ length c.deref.result.now = search rules in
-    let symbols = symbols_held xs ys c.relocated_count.result c.len.result c.after_locals.result c.deref.result.now _ c.relocated_count.ensures.count long c.after_locals.ensures.index content (c.in_ok-add.ensures.held (with_relas xs) relas) in
-    let content-2 = c.deref-2.ensures.value ∙ c.in_ok-written.ensures.names in
-    let long-2 : c.len-2.result ≡ length c.deref-2.result.now = search rules in
-    let named : Holds (with_names xs ys) _ = names_held (with_symbols xs ys) (codes ".strtab") (symbol_names ys) c.len-2.result c.deref-2.result.now _ long-2 content-2 (c.in_ok-add-2.ensures.held (with_symbols xs ys) symbols) in
-    omega (arith, room_last_name xs ys c.requires.room, ap length named.names_held)
+    room_last_section xs ys _ named c.requires.room
 
 pub returns-clause-held : goal.returns-clause-held
 unfolding with_names

@@ -5,7 +5,7 @@ use Rattle.elf32_write.specs.ObjectFile.{given_section}
 use Rattle.elf32_write.specs.Ranges.{IsHeaderSized, IsSectionSized}
 use Rattle.elf32_write.specs.SectionTable.{Holds, file_section}
 use Rattle.elf32_write.proofs.SymbolsMore.{all_more, taken}
-use Rattle.elf32_write.proofs.Room.{room_contents, room_given, room_names}
+use Rattle.elf32_write.proofs.Room.{room_given, room_offsets}
 use Rattle.elf32_write.proofs.section_table.SectionTable.add_given.Goals as goal
 
 -- the header's numbers are the section's
@@ -17,17 +17,11 @@ section_sized kind flags align size s k f a z h = record {
   size = omega (arith, h.size, z);
 }
 
-pub add-requires-clause-contents : goal.add-requires-clause-contents
-add-requires-clause-contents c =
+pub add-requires-clause-room : goal.add-requires-clause-room
+add-requires-clause-room c =
     let index = c.loop-section.section-index in
     let xs = c.args.sections.now in
-    room_contents (map given_section (take index xs)) c.loop-section.self c.loop-section.invariant.0 (room_given xs index c.requires.room)
-
-pub add-requires-clause-names : goal.add-requires-clause-names
-add-requires-clause-names c =
-    let index = c.loop-section.section-index in
-    let xs = c.args.sections.now in
-    room_names (map given_section (take index xs)) c.loop-section.self c.loop-section.invariant.0 (room_given xs index c.requires.room)
+    room_offsets (map given_section (take index xs)) c.loop-section.self c.loop-section.invariant.0 (room_given xs index c.requires.room)
 
 pub loop-section-preserved : goal.loop-section-preserved
 loop-section-preserved c =

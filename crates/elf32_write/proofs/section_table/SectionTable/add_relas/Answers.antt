@@ -8,21 +8,15 @@ use Rattle.elf32_write.specs.Ranges.{IsRelocSized}
 use Rattle.elf32_write.specs.SectionTable.{HasRoom}
 use Rattle.elf32_write.proofs.Relocated.{relocated_more}
 use Rattle.elf32_write.proofs.SymbolsMore.{all_more}
-use Rattle.elf32_write.proofs.Room.{relas_more, room_contents, room_last, room_names, room_relas}
+use Rattle.elf32_write.proofs.Room.{relas_more, room_last, room_offsets, room_relas}
 use Rattle.elf32_write.proofs.section_table.SectionTable.add_relas.Goals as goal
 use Rattle.elf32_write.proofs.section_table.SectionTable.add_relas.Goals.{then-not-is_empty+in_ok-add_rela, else-not-is_empty}
 
-pub add_rela-requires-clause-contents : goal.add_rela-requires-clause-contents
-add_rela-requires-clause-contents c =
+pub add_rela-requires-clause-room : goal.add_rela-requires-clause-room
+add_rela-requires-clause-room c =
     let xs = c.args.sections.now in
     let before = map given_section xs in
-    room_contents (before ++ map (rela_section c.args.symtab) (relocated (take c.loop-i.i xs))) c.loop-i.self c.loop-i.invariant.0 (room_relas c.args.symtab before xs c.loop-i.i c.requires.room)
-
-pub add_rela-requires-clause-names : goal.add_rela-requires-clause-names
-add_rela-requires-clause-names c =
-    let xs = c.args.sections.now in
-    let before = map given_section xs in
-    room_names (before ++ map (rela_section c.args.symtab) (relocated (take c.loop-i.i xs))) c.loop-i.self c.loop-i.invariant.0 (room_relas c.args.symtab before xs c.loop-i.i c.requires.room)
+    room_offsets (before ++ map (rela_section c.args.symtab) (relocated (take c.loop-i.i xs))) c.loop-i.self c.loop-i.invariant.0 (room_relas c.args.symtab before xs c.loop-i.i c.requires.room)
 
 pub add_rela-requires-clause-size : goal.add_rela-requires-clause-size
 add_rela-requires-clause-size c =
