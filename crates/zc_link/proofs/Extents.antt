@@ -6,8 +6,8 @@ use Rattle.interrupt_plan.specs.Plan.{Cut}
 use Rattle.rv_decode.specs.declared.instr.Instr.{Instr}
 use Rattle.rv_decode.specs.declared.instr.Instr.TheVariants.{Upper, Jal, Jalr, Branch, Load, Store, WithImm, WithReg, Fence, Ecall, Ebreak, Csrrw}
 use Rattle.rv_decode.specs.Bits.{add32}
-use Rattle.rv_decode.specs.Effect.{Effect, Commits, BadAccess, Misaligned, effect, gives, load_result, load_width, onward, reaching, store_width, stored}
-use Rattle.rv_decode.specs.Memory.{byte_of, changed, extents_of, is_data, lies_in, written}
+use Rattle.rv_decode.specs.Effect.{Commits, effect, gives, load_result, load_width, onward, store_width, stored}
+use Rattle.rv_decode.specs.Memory.{byte_of, changed, extents_of, written}
 use Rattle.rv_decode.specs.State.{ZcCore, ZcState, reg_in}
 use Rattle.rv_decode.proofs.MemoryLaws.{extents-changed}
 use Rattle.sym_machine.specs.Program.{Program}
@@ -21,6 +21,7 @@ use Rattle.zc_machine.specs.Fetch.{Fetched, Found, Missing, fetched_at}
 use Rattle.zc_machine.specs.Interrupt.{all_dirtied, cut, dirtied, is_free}
 use Rattle.zc_machine.specs.Run.{answered, committed, turn_from, zc_turn}
 use Rattle.zc_machine.specs.Step.{ZcStep, Committed, Wants, Ended, Stopped, effect_step, made, step_from, zc_step}
+use Rattle.zc_machine.proofs.StepLaws.{access_step}
 use Rattle.zc_link.specs.Image.{Image, loaded}
 use Rattle.zc_link.specs.Simulates.{Cuts, Commits, OnWay, Pokes, Starts}
 
@@ -55,25 +56,17 @@ module _ (y : ZcCore) where
   called_keeps true = tt
   called_keeps false = tt
 
-  access_keeps : (n a : ℕ) (go : Effect) → StepKeeps y (effect_step go y) → StepKeeps y (effect_step (reaching n a y go) y)
-  access_keeps n a go keeps = either (eqb (a % n) 0) (lies_in is_data (extents_of y.memory) a n)
-    where
-      either : (b c : Bool) → StepKeeps y (effect_step (cond b (cond c go BadAccess) Misaligned) y)
-      either true true = keeps
-      either true false = tt
-      either false c = tt
-
   effect_keeps : (i : Instr) (size : ℕ) → StepKeeps y (effect_step (effect i size y) y)
   effect_keeps (Upper op rd imm) size = refl
   effect_keeps (Jal rd distance) size = refl
   effect_keeps (Jalr rd base imm) size = refl
   effect_keeps (Branch op first second distance) size = refl
   effect_keeps (Load op rd base imm) size =
-      let a = add32 (reg_in y base) imm in access_keeps (load_width op) a (gives (load_result op y a) rd size y) refl
+      let a = add32 (reg_in y base) imm in access_step (StepKeeps y) y (load_width op) a (gives (load_result op y a) rd size y) refl (λ reason. tt)
   effect_keeps (Store op source base imm) size =
       let a = add32 (reg_in y base) imm in
       let n = store_width op in
-      access_keeps n a (Commits (onward (stored n a (reg_in y source) y) size y.regs)) (extents-changed (written a n (byte_of (reg_in y source))) y.memory)
+      access_step (StepKeeps y) y n a (Commits (onward (stored n a (reg_in y source) y) size y.regs)) (extents-changed (written a n (byte_of (reg_in y source))) y.memory) (λ reason. tt)
   effect_keeps (WithImm op rd first imm) size = refl
   effect_keeps (WithReg op rd first second) size = refl
   effect_keeps (Fence rest) size = refl

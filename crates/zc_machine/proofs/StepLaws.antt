@@ -9,10 +9,21 @@ use Rattle.rv_decode.specs.declared.instr.Instr.TheVariants.{Upper, Jal, Jalr, B
 use Rattle.zc_decode.specs.Effect.{short_effect}
 use Rattle.zc_decode.specs.declared.short.Short.{Short}
 use Rattle.zc_decode.specs.declared.short.Short.TheVariants.{Base}
+use Rattle.zc_machine.specs.declared.reason.Reason.{Reason}
+use Rattle.zc_machine.specs.declared.reason.Reason.TheVariants as reason
 use Rattle.zc_machine.specs.declared.reason.Reason.TheVariants.{UnknownCall}
 use Rattle.zc_machine.specs.declared.answer.EnvCall.TheVariants.{Exit}
 use Rattle.zc_machine.specs.Fetch.{Fetched, Found, Missing, fetched_at}
 use Rattle.zc_machine.specs.Step.{ZcStep, Committed, Wants, Ended, Stopped, effect_step, made, step_from, zc_step}
+
+-- what holds of an access that is made, and of each stop, holds of an access
+pub access_step : (P : ZcStep → Type 0) (z : ZcCore) (n a : ℕ) (go : Effect) → P (effect_step go z) → ((reason : Reason) → P (Stopped reason)) → P (effect_step (reaching n a z go) z)
+access_step P z n a go made stopped = either (eqb (a % n) 0) (lies_in is_data (extents_of z.memory) a n)
+  where
+    either : (b c : Bool) → P (effect_step (cond b (cond c go BadAccess) Misaligned) z)
+    either true true = made
+    either true false = stopped reason.BadAccess
+    either false c = stopped reason.Misaligned
 
 -- a commit counts and doesn't exit, the status of an exit is the low byte of a0, and only an exit ends
 abbrev pub Shows : ZcCore → ZcStep → Type 0
@@ -27,23 +38,15 @@ module _ (z : ZcCore) where
   call_shows true = refl
   call_shows false = tt
 
-  access_shows : (n a : ℕ) (go : Effect) → Shows z (effect_step go z) → Shows z (effect_step (reaching n a z go) z)
-  access_shows n a go shows = either (eqb (a % n) 0) (lies_in is_data (extents_of z.memory) a n)
-    where
-      either : (b c : Bool) → Shows z (effect_step (cond b (cond c go BadAccess) Misaligned) z)
-      either true true = shows
-      either true false = tt
-      either false c = tt
-
   effect_shows : (i : Instr) (size : ℕ) → Shows z (effect_step (effect i size z) z)
   effect_shows (Upper op rd imm) size = (refl, refl)
   effect_shows (Jal rd distance) size = (refl, refl)
   effect_shows (Jalr rd base imm) size = (refl, refl)
   effect_shows (Branch op first second distance) size = (refl, refl)
   effect_shows (Load op rd base imm) size =
-      let a = add32 (reg_in z base) imm in access_shows (load_width op) a (gives (load_result op z a) rd size z) (refl, refl)
+      let a = add32 (reg_in z base) imm in access_step (Shows z) z (load_width op) a (gives (load_result op z a) rd size z) (refl, refl) (λ reason. tt)
   effect_shows (Store op source base imm) size =
-      let a = add32 (reg_in z base) imm in access_shows (store_width op) a (Commits (onward (stored (store_width op) a (reg_in z source) z) size z.regs)) (refl, refl)
+      let a = add32 (reg_in z base) imm in access_step (Shows z) z (store_width op) a (Commits (onward (stored (store_width op) a (reg_in z source) z) size z.regs)) (refl, refl) (λ reason. tt)
   effect_shows (WithImm op rd first imm) size = (refl, refl)
   effect_shows (WithReg op rd first second) size = (refl, refl)
   effect_shows (Fence rest) size = (refl, refl)
