@@ -1,12 +1,13 @@
 -- Where the regions of memory lie: no interrupt, no cell of data and no commit changes it, so on every way from a sound pair they
 -- lie as they were loaded.
 use Rattle.std.proofs.Common.{◌≡◌, ℕ, ◌+◌, ◌%◌, List, [], ◌∷◌, Option, Some, None, Ok, Bool, true, false, cond, refl, ap, ◌∙◌, eqb}
+use Rattle.std.specs.Prelude.{◌&&◌, ◌||◌}
 use Rattle.std.proofs.lemmas.Bool.{cond_both}
 use Rattle.interrupt_plan.specs.Plan.{Cut}
 use Rattle.rv_decode.specs.declared.instr.Instr.{Instr}
 use Rattle.rv_decode.specs.declared.instr.Instr.TheVariants.{Upper, Jal, Jalr, Branch, Load, Store, WithImm, WithReg, Fence, Ecall, Ebreak, Csrrw}
 use Rattle.rv_decode.specs.Bits.{add32}
-use Rattle.rv_decode.specs.Effect.{Effect, Commits, BadAccess, Misaligned, effect, gives, load_result, load_width, onward, reaching, store_width, stored}
+use Rattle.rv_decode.specs.Effect.{Commits, effect, gives, load_result, load_width, onward, store_width, stored}
 use Rattle.rv_decode.specs.Memory.{byte_of, changed, extents_of, is_data, lies_in, written}
 use Rattle.rv_decode.specs.State.{ZcCore, ZcState, reg_in}
 use Rattle.rv_decode.proofs.MemoryLaws.{extents-changed}
@@ -14,13 +15,14 @@ use Rattle.sym_machine.specs.Program.{Program}
 use Rattle.zc_decode.specs.declared.short.Short.{Short}
 use Rattle.zc_decode.specs.declared.short.Short.TheVariants.{Base, Push, Pop, PopRet, PopRetz, MoveSa, MoveAs, TableJump}
 use Rattle.zc_decode.specs.Effect.{short_effect}
-use Rattle.zc_machine.specs.declared.reason.Reason.TheVariants.{UnknownCall}
+use Rattle.zc_machine.specs.declared.reason.Reason.TheVariants.{BadAccess, UnknownCall}
 use Rattle.zc_machine.specs.declared.answer.EnvCall.{EnvCall}
 use Rattle.zc_machine.specs.declared.answer.EnvCall.TheVariants as call
 use Rattle.zc_machine.specs.Fetch.{Fetched, Found, Missing, fetched_at}
 use Rattle.zc_machine.specs.Interrupt.{all_dirtied, cut, dirtied, is_free}
 use Rattle.zc_machine.specs.Run.{answered, committed, turn_from, zc_turn}
-use Rattle.zc_machine.specs.Step.{ZcStep, Committed, Wants, Ended, Stopped, effect_step, made, step_from, zc_step}
+use Rattle.zc_machine.specs.Step.{ZcStep, Committed, Wants, Ended, Stopped, buffered, called, effect_step, made, step_from, zc_step}
+use Rattle.zc_machine.proofs.StepLaws.{access_step}
 use Rattle.zc_link.specs.Image.{Image, loaded}
 use Rattle.zc_link.specs.Simulates.{Cuts, Commits, OnWay, Pokes, Starts}
 
@@ -51,17 +53,19 @@ StepKeeps y (Ended status) = Unit {0}
 StepKeeps y (Stopped reason) = Unit {0}
 
 module _ (y : ZcCore) where
-  called_keeps : (b : Bool) → StepKeeps y (cond b (Wants (call.Exit (reg_in y 10 % 256))) (Stopped UnknownCall))
-  called_keeps true = tt
-  called_keeps false = tt
+  buffer_keeps : (c : EnvCall) → StepKeeps y (buffered y c)
+  buffer_keeps c = cond_both (eqb (reg_in y 12) 0 || lies_in is_data (extents_of y.memory) (reg_in y 11) (reg_in y 12)) (Wants c) (Stopped BadAccess) (StepKeeps y) (λ _. tt) (λ _. tt)
 
-  access_keeps : (n a : ℕ) (go : Effect) → StepKeeps y (effect_step go y) → StepKeeps y (effect_step (reaching n a y go) y)
-  access_keeps n a go keeps = either (eqb (a % n) 0) (lies_in is_data (extents_of y.memory) a n)
+  called_keeps : StepKeeps y (called y)
+  called_keeps =
+      either _ _ (eqb (reg_in y 17) 93) (eqb (reg_in y 17) 63 && eqb (reg_in y 10) 0) (eqb (reg_in y 17) 64 && (eqb (reg_in y 10) 1 || eqb (reg_in y 10) 2))
+      (buffer_keeps (call.Read (reg_in y 11) (reg_in y 12))) (buffer_keeps (call.Write (reg_in y 10) (reg_in y 11) (reg_in y 12)))
     where
-      either : (b c : Bool) → StepKeeps y (effect_step (cond b (cond c go BadAccess) Misaligned) y)
-      either true true = keeps
-      either true false = tt
-      either false c = tt
+      either : (s t : ZcStep) (a b c : Bool) → StepKeeps y s → StepKeeps y t → StepKeeps y (cond a (Wants (call.Exit (reg_in y 10 % 256))) (cond b s (cond c t (Stopped UnknownCall))))
+      either s t true b c read write = tt
+      either s t false true c read write = read
+      either s t false false true read write = write
+      either s t false false false read write = tt
 
   effect_keeps : (i : Instr) (size : ℕ) → StepKeeps y (effect_step (effect i size y) y)
   effect_keeps (Upper op rd imm) size = refl
@@ -69,15 +73,15 @@ module _ (y : ZcCore) where
   effect_keeps (Jalr rd base imm) size = refl
   effect_keeps (Branch op first second distance) size = refl
   effect_keeps (Load op rd base imm) size =
-      let a = add32 (reg_in y base) imm in access_keeps (load_width op) a (gives (load_result op y a) rd size y) refl
+      let a = add32 (reg_in y base) imm in access_step (StepKeeps y) y (load_width op) a (gives (load_result op y a) rd size y) refl (λ reason. tt)
   effect_keeps (Store op source base imm) size =
       let a = add32 (reg_in y base) imm in
       let n = store_width op in
-      access_keeps n a (Commits (onward (stored n a (reg_in y source) y) size y.regs)) (extents-changed (written a n (byte_of (reg_in y source))) y.memory)
+      access_step (StepKeeps y) y n a (Commits (onward (stored n a (reg_in y source) y) size y.regs)) (extents-changed (written a n (byte_of (reg_in y source))) y.memory) (λ reason. tt)
   effect_keeps (WithImm op rd first imm) size = refl
   effect_keeps (WithReg op rd first second) size = refl
   effect_keeps (Fence rest) size = refl
-  effect_keeps Ecall size = called_keeps (eqb (reg_in y 17) 93)
+  effect_keeps Ecall size = called_keeps
   effect_keeps Ebreak size = tt
   effect_keeps (Csrrw rd source) size = tt
 

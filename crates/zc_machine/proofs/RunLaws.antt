@@ -7,6 +7,7 @@ use Rattle.zc_outside.specs.Desk.{Desk}
 use Rattle.zc_outside.proofs.Desk.{Wrote-none}
 use Rattle.zc_machine.specs.declared.answer.EnvCall.{EnvCall}
 use Rattle.zc_machine.specs.declared.answer.EnvCall.TheVariants.{Exit}
+use Rattle.zc_machine.specs.declared.answer.Step.{Step}
 use Rattle.zc_machine.specs.declared.answer.Step.TheVariants as answer
 use Rattle.zc_machine.specs.declared.reason.Reason.{Reason}
 use Rattle.zc_machine.specs.declared.run.RunEnd.TheVariants as end
@@ -26,6 +27,12 @@ wants_step (Committed z) c e = absurd cc
 wants_step (Wants c') c e = cc
 wants_step (Ended status) c e = absurd cc
 wants_step (Stopped reason) c e = absurd cc
+
+-- a step that wants a call wants it again
+pub wants_again : (z now : ZcCore) (c : EnvCall) (a : Step) → a ≡ answer_of (zc_step z) → now ≡ core_after (zc_step z) z → a ≡ answer.Wants c → zc_step now ≡ Wants c
+wants_again z now c a answers left is =
+    let wants = wants_step (zc_step z) c (sym is ∙ answers) in
+    ap zc_step (left ∙ ap (λ s. core_after s z) wants) ∙ wants
 
 pub stopped_step : (s : ZcStep) (reason : Reason) → answer.Stopped reason ≡ answer_of s → s ≡ Stopped reason
 stopped_step (Committed z) reason e = absurd cc

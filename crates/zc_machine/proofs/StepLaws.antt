@@ -1,4 +1,5 @@
 -- What each kind of step shows of the state that it is made in.
+use Rattle.std.specs.Prelude.{◌&&◌, ◌||◌}
 use Rattle.std.proofs.Common.{◌≡◌, ℕ, ◌+◌, ◌%◌, Bool, true, false, cond, eqb, Option, Some, None, refl, subst}
 use Rattle.rv_decode.specs.State.{ZcCore, reg_in}
 use Rattle.rv_decode.specs.Bits.{add32}
@@ -9,31 +10,51 @@ use Rattle.rv_decode.specs.declared.instr.Instr.TheVariants.{Upper, Jal, Jalr, B
 use Rattle.zc_decode.specs.Effect.{short_effect}
 use Rattle.zc_decode.specs.declared.short.Short.{Short}
 use Rattle.zc_decode.specs.declared.short.Short.TheVariants.{Base}
+use Rattle.zc_machine.specs.declared.reason.Reason.{Reason}
+use Rattle.zc_machine.specs.declared.reason.Reason.TheVariants as reason
 use Rattle.zc_machine.specs.declared.reason.Reason.TheVariants.{UnknownCall}
-use Rattle.zc_machine.specs.declared.answer.EnvCall.TheVariants.{Exit}
+use Rattle.zc_machine.specs.declared.answer.EnvCall.{EnvCall}
+use Rattle.zc_machine.specs.declared.answer.EnvCall.TheVariants.{Exit, Read, Write}
 use Rattle.zc_machine.specs.Fetch.{Fetched, Found, Missing, fetched_at}
-use Rattle.zc_machine.specs.Step.{ZcStep, Committed, Wants, Ended, Stopped, effect_step, made, step_from, zc_step}
+use Rattle.zc_machine.specs.Step.{ZcStep, Committed, Wants, Ended, Stopped, buffered, called, effect_step, made, step_from, zc_step}
 
--- a commit counts and doesn't exit, the status of an exit is the low byte of a0, and only an exit ends
+-- what holds of an access that is made, and of each stop, holds of an access
+pub access_step : (P : ZcStep → Type 0) (z : ZcCore) (n a : ℕ) (go : Effect) → P (effect_step go z) → ((reason : Reason) → P (Stopped reason)) → P (effect_step (reaching n a z go) z)
+access_step P z n a go made stopped = either (eqb (a % n) 0) (lies_in is_data (extents_of z.memory) a n)
+  where
+    either : (b c : Bool) → P (effect_step (cond b (cond c go BadAccess) Misaligned) z)
+    either true true = made
+    either true false = stopped reason.BadAccess
+    either false c = stopped reason.Misaligned
+
+-- a commit counts and doesn't exit, the status of an exit is the low byte of a0, what is read and written is told by a0, a1 and
+-- a2, and only an exit ends
 abbrev pub Shows : ZcCore → ZcStep → Type 0
 Shows z (Committed z') = (z'.commits ≡ z.commits + 1) × (z'.exit ≡ z.exit)
 Shows z (Wants (Exit status)) = status ≡ reg_in z 10 % 256
-Shows z (Wants other) = Unit {0}
+Shows z (Wants (Read at len)) = (at ≡ reg_in z 11) × (len ≡ reg_in z 12)
+Shows z (Wants (Write fd at len)) = (fd ≡ reg_in z 10) × (at ≡ reg_in z 11) × (len ≡ reg_in z 12)
 Shows z (Ended status) = z.exit ≡ Some status
 Shows z (Stopped reason) = Unit {0}
 
 module _ (z : ZcCore) where
-  call_shows : (b : Bool) → Shows z (cond b (Wants (Exit (reg_in z 10 % 256))) (Stopped UnknownCall))
-  call_shows true = refl
-  call_shows false = tt
-
-  access_shows : (n a : ℕ) (go : Effect) → Shows z (effect_step go z) → Shows z (effect_step (reaching n a z go) z)
-  access_shows n a go shows = either (eqb (a % n) 0) (lies_in is_data (extents_of z.memory) a n)
+  buffer_shows : (c : EnvCall) → Shows z (Wants c) → Shows z (buffered z c)
+  buffer_shows c shows = either (eqb (reg_in z 12) 0 || lies_in is_data (extents_of z.memory) (reg_in z 11) (reg_in z 12))
     where
-      either : (b c : Bool) → Shows z (effect_step (cond b (cond c go BadAccess) Misaligned) z)
-      either true true = shows
-      either true false = tt
-      either false c = tt
+      either : (b : Bool) → Shows z (cond b (Wants c) (Stopped reason.BadAccess))
+      either true = shows
+      either false = tt
+
+  call_shows : Shows z (called z)
+  call_shows =
+      either _ _ (eqb (reg_in z 17) 93) (eqb (reg_in z 17) 63 && eqb (reg_in z 10) 0) (eqb (reg_in z 17) 64 && (eqb (reg_in z 10) 1 || eqb (reg_in z 10) 2))
+      (buffer_shows (Read (reg_in z 11) (reg_in z 12)) (refl, refl)) (buffer_shows (Write (reg_in z 10) (reg_in z 11) (reg_in z 12)) (refl, refl, refl))
+    where
+      either : (s t : ZcStep) (a b c : Bool) → Shows z s → Shows z t → Shows z (cond a (Wants (Exit (reg_in z 10 % 256))) (cond b s (cond c t (Stopped UnknownCall))))
+      either s t true b c shows_read shows_write = refl
+      either s t false true c shows_read shows_write = shows_read
+      either s t false false true shows_read shows_write = shows_write
+      either s t false false false shows_read shows_write = tt
 
   effect_shows : (i : Instr) (size : ℕ) → Shows z (effect_step (effect i size z) z)
   effect_shows (Upper op rd imm) size = (refl, refl)
@@ -41,13 +62,13 @@ module _ (z : ZcCore) where
   effect_shows (Jalr rd base imm) size = (refl, refl)
   effect_shows (Branch op first second distance) size = (refl, refl)
   effect_shows (Load op rd base imm) size =
-      let a = add32 (reg_in z base) imm in access_shows (load_width op) a (gives (load_result op z a) rd size z) (refl, refl)
+      let a = add32 (reg_in z base) imm in access_step (Shows z) z (load_width op) a (gives (load_result op z a) rd size z) (refl, refl) (λ reason. tt)
   effect_shows (Store op source base imm) size =
-      let a = add32 (reg_in z base) imm in access_shows (store_width op) a (Commits (onward (stored (store_width op) a (reg_in z source) z) size z.regs)) (refl, refl)
+      let a = add32 (reg_in z base) imm in access_step (Shows z) z (store_width op) a (Commits (onward (stored (store_width op) a (reg_in z source) z) size z.regs)) (refl, refl) (λ reason. tt)
   effect_shows (WithImm op rd first imm) size = (refl, refl)
   effect_shows (WithReg op rd first second) size = (refl, refl)
   effect_shows (Fence rest) size = (refl, refl)
-  effect_shows Ecall size = call_shows (eqb (reg_in z 17) 93)
+  effect_shows Ecall size = call_shows
   effect_shows Ebreak size = tt
   effect_shows (Csrrw rd source) size = tt
 
@@ -70,3 +91,7 @@ module _ (z : ZcCore) where
   -- the status of the exit that is wanted
   pub exit_status : (status : ℕ) → zc_step z ≡ Wants (Exit status) → status ≡ reg_in z 10 % 256
   exit_status status e = subst (Shows z) e step_shows
+
+  -- the length of the read that is wanted
+  pub read_length : (at len : ℕ) → zc_step z ≡ Wants (Read at len) → len ≡ reg_in z 12
+  read_length at len e = (subst (Shows z) e step_shows).1

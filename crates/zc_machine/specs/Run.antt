@@ -10,7 +10,7 @@ use Rattle.zc_machine.specs.declared.answer.EnvCall.TheVariants as call
 use Rattle.zc_machine.specs.Step.{ZcStep, Committed, Wants, Ended, Stopped, zc_step}
 use Rattle.zc_machine.specs.Interrupt.{all_cuts}
 
--- the environment's answer to a call is a commit; the machine doesn't want the other calls yet
+-- the environment's answer to a call is a commit; of the other calls a run has no answers yet
 abbrev pub answered : EnvCall → ZcState → Result ZcState Reason
 answered (call.Exit status) r =
     Ok (record r {

@@ -1,5 +1,6 @@
 -- One step of the machine.
-use Rattle.std.specs.Prelude.{ℕ, ◌%◌, ◌==◌, if◌then◌else◌, Option, Some, None}
+use Rattle.std.specs.Prelude.{ℕ, ◌%◌, ◌==◌, ◌&&◌, ◌||◌, if◌then◌else◌, Option, Some, None}
+use Rattle.rv_decode.specs.Memory.{extents_of, is_data, lies_in}
 use Rattle.rv_decode.specs.State.{ZcCore, reg_in}
 use Rattle.rv_decode.specs.Effect as act
 use Rattle.rv_decode.specs.Effect.{Effect}
@@ -17,9 +18,19 @@ pub data ZcStep : Type 0 where
   Ended : (status : ℕ) → ZcStep
   Stopped : Reason → ZcStep
 
--- an environment call, by a7: 93 is the exit, with the low byte of a0
+-- a call with the a2 bytes at a1, which must lie in memory for data; of no bytes a1 isn't looked at
+abbrev pub buffered : ZcCore → EnvCall → ZcStep
+buffered z c =
+    if reg_in z 12 == 0 || lies_in is_data (extents_of z.memory) (reg_in z 11) (reg_in z 12) then Wants c else Stopped BadAccess
+
+-- an environment call, by a7: 93 is the exit, with the low byte of a0; 63 reads from stream 0, and 64 writes to stream 1 or 2, by
+-- a0
 abbrev pub called : ZcCore → ZcStep
-called z = if reg_in z 17 == 93 then Wants (call.Exit (reg_in z 10 % 256)) else Stopped UnknownCall
+called z =
+    if reg_in z 17 == 93 then Wants (call.Exit (reg_in z 10 % 256)) else
+    (if reg_in z 17 == 63 && reg_in z 10 == 0 then buffered z (call.Read (reg_in z 11) (reg_in z 12)) else
+    (if reg_in z 17 == 64 && (reg_in z 10 == 1 || reg_in z 10 == 2) then buffered z (call.Write (reg_in z 10) (reg_in z 11) (reg_in z 12)) else
+    Stopped UnknownCall))
 
 -- what the effect of an instruction comes to
 abbrev pub effect_step : Effect → ZcCore → ZcStep

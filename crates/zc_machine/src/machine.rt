@@ -1,6 +1,6 @@
 // The machine.
 
-ghost use Rattle.std.specs.Prelude.{◌≡◌, ℕ, ◌<◌, ◌+◌, ◌%◌, ◌-◌, ◌^◌, IfNone, IfOk, IfSome};
+ghost use Rattle.std.specs.Prelude.{◌≡◌, ℕ, ◌<◌, ◌+◌, ◌%◌, ◌-◌, ◌^◌, IfNone, IfOk, IfSome, length};
 ghost use Rattle.elf32_read.specs.Header.{entry_of};
 ghost use Rattle.elf32_read.specs.Segments.{segments_of};
 ghost use Rattle.rv_decode.specs.Bits.{add32};
@@ -8,16 +8,16 @@ ghost use Rattle.rv_decode.specs.Effect as effects;
 ghost use Rattle.rv_decode.specs.Effect.{Effect, after, branches, effect, gives, jumps, load_result, loads, onward, reaching, stores};
 ghost use Rattle.rv_decode.specs.State.{byte_in, half_at, reg_in, set_reg, word_at};
 ghost use Rattle.zc_decode.specs.Effect.{short_effect};
-ghost use Rattle.zc_machine.specs.Answer.{WantsExit, answer_of, core_after, exited, fetched_as};
+ghost use Rattle.zc_machine.specs.Answer.{WantsExit, WantsRead, WantsWrite, answer_of, core_after, exited, fetched_as, has_read, has_written};
 ghost use Rattle.zc_machine.specs.Fetch.{fetched_at, fetched_word};
 ghost use Rattle.zc_machine.specs.Interrupt.{cut, dirtied};
 ghost use Rattle.zc_machine.specs.Load.{first_core};
-ghost use Rattle.zc_machine.specs.Step.{Stopped, Wants, called, effect_step, zc_step};
+ghost use Rattle.zc_machine.specs.Step.{Stopped, Wants, buffered, called, effect_step, zc_step};
 
 use crate::answer::{EnvCall, Step};
 use crate::load::first_regions;
 use crate::reason::Reason;
-use crate::region::{Access, Region, byte_at, reaches, write_byte, write_word};
+use crate::region::{Access, Region, byte_at, reaches, write_byte, write_bytes, write_word};
 use elf32_read::image::Image;
 use rv_decode::bits::signed_of;
 use rv_decode::decode::decode;
@@ -123,6 +123,32 @@ impl Machine {
         ensures { (status : ℕ) → zc_step self.old ≡ Wants (EnvCall.Exit status) → self.new ≡ exited status self.old }
     {
         self.exit = Some(self.exit_status());
+        self.commits += 1;
+    }
+
+    /// Makes the commit of the read that `step` wants, of which these bytes came.
+    pub fn answer_read(&mut self, bytes: &[u8])
+        requires room { self.old.commits < 2 ^ 64 - 1 }
+        requires wanted { WantsRead (length bytes.now) (zc_step self.old) }
+        ensures { self.new ≡ has_read bytes.now self.old }
+    {
+        let len = self.regs[12];
+        let fits = bytes.len() as u64 <= u64::from(len);
+        prove!(fits);
+        write_bytes(self.regions.as_mut_slice(), self.regs[11], bytes);
+        self.regs[10] = bytes.len() as u32;
+        self.pc = self.pc.wrapping_add(4);
+        self.commits += 1;
+    }
+
+    /// Makes the commit of the write that `step` wants.
+    pub fn answer_write(&mut self)
+        requires room { self.old.commits < 2 ^ 64 - 1 }
+        requires wanted { WantsWrite (zc_step self.old) }
+        ensures { self.new ≡ has_written self.old }
+    {
+        self.regs[10] = self.regs[12];
+        self.pc = self.pc.wrapping_add(4);
         self.commits += 1;
     }
 
@@ -426,9 +452,27 @@ impl Machine {
     fn call(&self) -> Step
         ensures { result ≡ answer_of (called self.now) }
     {
+        let (a0, at, len) = (self.regs[10], self.regs[11], self.regs[12]);
         match self.regs[17] {
             93 => Step::Wants(EnvCall::Exit(self.exit_status())),
+            63 if a0 == 0 => self.buffered(EnvCall::Read { at, len }),
+            64 if a0 == 1 || a0 == 2 => {
+                let fd = a0 as u8;
+                self.buffered(EnvCall::Write { fd, at, len })
+            }
             _ => Step::Stopped(Reason::UnknownCall),
+        }
+    }
+
+    // A call with a buffer, which must lie in memory for data.
+    fn buffered(&self, call: EnvCall) -> Step
+        ensures { result ≡ answer_of (buffered self.now call) }
+    {
+        let (at, len) = (u64::from(self.regs[11]), u64::from(self.regs[12]));
+        if len == 0 || reaches(self.regions.as_slice(), Access::Data, at, len) {
+            Step::Wants(call)
+        } else {
+            Step::Stopped(Reason::BadAccess)
         }
     }
 

@@ -1,6 +1,6 @@
 // The regions of the machine's memory.
 
-ghost use Rattle.std.specs.Prelude.{◌≡◌, ◌-◌, ◌<◌, ◌≤◌, true, slice_index};
+ghost use Rattle.std.specs.Prelude.{◌≡◌, ◌-◌, ◌<◌, ◌≤◌, true, length, slice_index};
 ghost use Rattle.rv_decode.specs.Memory.{byte_of, cell_at, cells_changed, changed, extent_of, extents_of, lies_in, spans, written};
 ghost use Rattle.zc_machine.specs.Region.{allowed, kind_of};
 
@@ -138,6 +138,15 @@ pub fn write_word(regions: &mut [Region], a: u32, width: u32, word: u32)
 {
     for i in 0..width {
         write_byte(regions, u64::from(a) + u64::from(i), byte_of(word, i));
+    }
+}
+
+/// Writes bytes from an address on, each where there is one.
+pub fn write_bytes(regions: &mut [Region], a: u32, bytes: &[u8])
+    ensures { regions.new ≡ changed (written a (length bytes.now) (slice_index bytes.now)) regions.old }
+{
+    for i in 0..bytes.len() {
+        write_byte(regions, u64::from(a) + i as u64, bytes[i]);
     }
 }
 

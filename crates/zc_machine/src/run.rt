@@ -48,7 +48,7 @@ pub fn run<C: Console>(
                 machine.answer_exit();
                 return RunEnd::Exit(status);
             }
-            // No step wants these yet.
+            // A run doesn't make these yet.
             Step::Wants(EnvCall::Read { .. } | EnvCall::Write { .. }) => {
                 return RunEnd::Stopped(Reason::UnknownCall);
             }

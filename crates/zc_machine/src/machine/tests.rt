@@ -1,6 +1,6 @@
 // Small images, loaded and stepped.
 
-ghost use Rattle.std.specs.Prelude.{◌≡◌, IfOk, None};
+ghost use Rattle.std.specs.Prelude.{◌≡◌, ◌<◌, ◌-◌, ◌^◌, IfOk, None};
 
 use super::*;
 use std::process::Abort;
@@ -89,6 +89,60 @@ fn an_interrupt_leaves_the_run_as_it_was(rt: HostRuntime) -> Result<(), Fail> {
     );
     assert_eq!(rt; (machine.pc(), machine.commits()), (0x10000, 0));
     expect_three(&rt, &mut machine);
+    Ok(())
+}
+
+// Worked by hand, as the words of the next test.
+#[test]
+fn calls_are_wanted_if_their_buffer_lies_in_memory(rt: HostRuntime) -> Result<(), Fail> {
+    // addi a7, x0, 63; addi a1, sp, -16; ecall: a read of no bytes, as a2 is 0
+    let (machine, last) = three_steps(rt.alloc(), [0x03F0_0893, 0xFF01_0593, 0x0000_0073])?;
+    let none = EnvCall::Read {
+        at: 0x0FFF_FFF0,
+        len: 0,
+    };
+    assert_eq!(rt; last, Step::Wants(none));
+    assert_eq!(rt; machine.commits(), 2);
+    // addi a7, x0, 63; addi a2, x0, 4; ecall: a1 is 0, where no memory is
+    let (machine, last) = three_steps(rt.alloc(), [0x03F0_0893, 0x0040_0613, 0x0000_0073])?;
+    assert_eq!(rt; last, Step::Stopped(Reason::BadAccess));
+    assert_eq!(rt; machine.commits(), 2);
+    // addi a7, x0, 64; addi a0, x0, 3; ecall: no stream has the number 3
+    let (machine, last) = three_steps(rt.alloc(), [0x0400_0893, 0x0030_0513, 0x0000_0073])?;
+    assert_eq!(rt; last, Step::Stopped(Reason::UnknownCall));
+    assert_eq!(rt; machine.commits(), 2);
+    Ok(())
+}
+
+// Makes the next step, and answers the call that it wants: a read with no byte.
+fn answer(machine: &mut Machine)
+    requires { machine.old.commits < 2 ^ 64 - 1 }
+{
+    match machine.step() {
+        Step::Wants(EnvCall::Read { .. }) => machine.answer_read(&[]),
+        Step::Wants(EnvCall::Write { .. }) => machine.answer_write(),
+        Step::Wants(EnvCall::Exit(_)) | Step::Committed | Step::Ended(_) | Step::Stopped(_) => {}
+    }
+}
+
+// A read and a write of no bytes: addi a7, x0, 63, ecall, and zeros; c.li a0, 1, addi a7, x0, 64, ecall,
+// c.li a1, 0.
+#[test]
+fn an_answer_is_a_commit(rt: HostRuntime) -> Result<(), Fail> {
+    let table = [
+        ([0x03F0_0893, 0x0000_0073, 0], 0x1_0008, 2),
+        ([0x0893_4505, 0x0073_0400, 0x4581_0000], 0x1_000A, 3),
+    ];
+    let a0 = Reg::new(10).ok_or("no register")?;
+    for (words, pc, commits) in table {
+        let (mut machine, _) = three_steps(rt.alloc(), words)?;
+        if machine.commits() < 9 {
+            answer(&mut machine);
+        }
+        assert_eq!(rt; machine.pc(), pc, "{words:?}");
+        assert_eq!(rt; machine.commits(), commits, "{words:?}");
+        assert_eq!(rt; machine.register(a0), 0, "{words:?}");
+    }
     Ok(())
 }
 
