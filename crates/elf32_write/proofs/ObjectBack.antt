@@ -11,8 +11,8 @@ use Rattle.std.proofs.lemmas.Option.{slice_get-get_or}
 use Rattle.std.proofs.lemmas.List.FromFn.{fill_by_all, length-map-range_with_len}
 use Rattle.elf32_read.specs.Header.{have_other_size, header_of, headers_of, section_count, section_header_size, section_table}
 use Rattle.elf32_read.specs.Kept.{is_kept}
-use Rattle.elf32_read.specs.Names.{has_end, name_at}
-use Rattle.elf32_read.specs.Object.{counts_elsewhere, has_bad_alignment, has_bad_name, has_bad_symbol, has_cut_code, has_other_flags, has_second_symbol_table, has_too_many_sections, has_two_relas, has_unlinked_sections, is_bad_alignment, is_bad_common, is_bad_symbol, is_badly_aligned, is_changed_twice, is_cut_code, is_of_no_symbol, is_too_long, is_unlinked, is_unnamed_section, is_unnamed_symbol, lacks_section_names, lacks_symbol_names, lacks_symbols, not_elf, object_fault, passes_end, passes_section, truncated}
+use Rattle.elf32_read.specs.Names.{has_end, is_unnamed_section, name_at}
+use Rattle.elf32_read.specs.Object.{counts_elsewhere, has_bad_alignment, has_bad_name, has_bad_symbol, has_cut_code, has_other_flags, has_second_symbol_table, has_too_many_sections, has_two_relas, has_unlinked_sections, is_bad_alignment, is_bad_common, is_bad_symbol, is_badly_aligned, is_changed_twice, is_cut_code, is_of_no_symbol, is_too_long, is_unlinked, is_unnamed_symbol, lacks_section_names, lacks_symbol_names, lacks_symbols, not_elf, object_fault, passes_end, passes_section, truncated}
 use Rattle.elf32_read.specs.Parts.{ObjectParts, SectionParts, SymbolParts, is_kept_section, object_parts, relocs_held, relocs_of, section_parts, symbol_parts}
 use Rattle.elf32_read.specs.Relocs.{relas_for}
 use Rattle.elf32_read.specs.Rows.{first_of}
