@@ -1,5 +1,5 @@
 -- The faults of an object, by number and by name.
-use Rattle.std.specs.Prelude.{ℕ, List, codes}
+use Rattle.std.specs.Prelude.{ℕ, List, codes, Option, Some, None}
 use Rattle.elf32_read.specs.declared.fault.Fault.{Fault}
 use Rattle.elf32_read.specs.declared.fault.Fault.TheVariants.{NotBuilt, NotElf, Truncated, Flags, SectionKind, Alignment, CodeSize, BadName, BadSymbol, Duplicate, Undefined, RelocKind, RelocPlace, LoPair, BadTarget, Range, NoEntry, TooLarge}
 
@@ -44,3 +44,24 @@ fault_name (BadTarget section at) = codes "BadTarget"
 fault_name (Range section at) = codes "Range"
 fault_name NoEntry = codes "NoEntry"
 fault_name TooLarge = codes "TooLarge"
+
+-- the symbol that a fault names, by its index in the object
+abbrev pub fault_symbol : Fault → Option ℕ
+fault_symbol NotBuilt = None
+fault_symbol NotElf = None
+fault_symbol Truncated = None
+fault_symbol Flags = None
+fault_symbol SectionKind = None
+fault_symbol Alignment = None
+fault_symbol CodeSize = None
+fault_symbol BadName = None
+fault_symbol BadSymbol = None
+fault_symbol (Duplicate symbol) = Some symbol
+fault_symbol (Undefined symbol) = Some symbol
+fault_symbol (RelocKind section at) = None
+fault_symbol (RelocPlace section at) = None
+fault_symbol (LoPair section at) = None
+fault_symbol (BadTarget section at) = None
+fault_symbol (Range section at) = None
+fault_symbol NoEntry = None
+fault_symbol TooLarge = None

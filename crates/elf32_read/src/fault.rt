@@ -1,7 +1,7 @@
 // What can be wrong with an object.
 
 ghost use Rattle.std.specs.Prelude.{◌≡◌};
-ghost use Rattle.elf32_read.specs.Fault.{fault_name, fault_number};
+ghost use Rattle.elf32_read.specs.Fault.{fault_name, fault_number, fault_symbol};
 
 use thiserror::Error;
 
@@ -126,6 +126,16 @@ impl Fault {
             Fault::TooLarge => "TooLarge",
         }
     }
+
+    /// The index of the symbol that the fault names, if it names one.
+    pub fn symbol(&self) -> Option<u32>
+        ensures { result ≡ fault_symbol self.now }
+    {
+        match self {
+            Fault::Duplicate { symbol } | Fault::Undefined { symbol } => Some(*symbol),
+            _ => None,
+        }
+    }
 }
 
 #[cfg(test)]
@@ -161,6 +171,8 @@ mod tests {
             assert_eq!(rt; fault.name(), name);
             let shown = fault.to_string(rt.alloc())?;
             assert_eq!(rt; shown.as_str(), name);
+            let want = matches!(number, 9 | 10).then_some(5);
+            assert_eq!(rt; fault.symbol(), want, "{name}");
         }
         Ok(())
     }

@@ -3,6 +3,7 @@ pub mod CommandWords
 pub mod Commands
 pub mod FormsHeld
 pub mod MachineFacts
+pub mod Names
 pub mod Pieces
 pub mod RunFacts
 pub mod TraceFacts

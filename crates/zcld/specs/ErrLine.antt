@@ -1,7 +1,10 @@
 -- The line that names an outcome on standard error, and the status that the program ends with.
-use Rattle.std.specs.Prelude.{ℕ, ◌+◌, ◌/◌, ◌%◌, ◌^◌, nat_lt, if◌then◌else◌, List, [], ◌∷◌, ◌++◌, codes, decimal}
+use Rattle.std.specs.Prelude.{ℕ, ◌+◌, ◌/◌, ◌%◌, ◌^◌, nat_lt, if◌then◌else◌, is_none, List, [], ◌∷◌, ◌++◌, codes, decimal, slice_get, Option, Some, None}
+use Rattle.std.specs.Option.{option_and_then, option_map}
 use Rattle.elf32_read.specs.declared.fault.Fault.{Fault}
-use Rattle.elf32_read.specs.Fault.{fault_number, fault_name}
+use Rattle.elf32_read.specs.Fault.{fault_number, fault_name, fault_symbol}
+use Rattle.elf32_read.specs.Object.{object_fault}
+use Rattle.elf32_read.specs.Parts.{object_parts}
 use Rattle.elf32_read.specs.ImageFault.{image_fault_number}
 use Rattle.zc_base.specs.declared.place.Place.{Place}
 use Rattle.sym_machine.specs.declared.why.Why.{Why}
@@ -19,6 +22,20 @@ line text = text ++ 10 ∷ []
 -- a refusal names the object by its index, and the fault by its number and name
 abbrev pub refusal_text : ℕ → Fault → List ℕ
 refusal_text i fault = codes "refused " ++ decimal i ++ codes " " ++ decimal (fault_number fault) ++ codes " " ++ fault_name fault
+
+-- the name of a symbol of an object, by its index: none if the file can't be read, or has no such symbol
+abbrev pub name_in : ℕ → List ℕ → Option (List ℕ)
+name_in symbol file =
+    if is_none (object_fault file) then option_map (λ s. s.name) (slice_get (object_parts file).symbols symbol) else None
+
+-- the name of the symbol that a fault of an object names, by the object's index
+abbrev pub fault_symbol_name : List (List ℕ) → ℕ → Fault → Option (List ℕ)
+fault_symbol_name files i fault = option_and_then (λ file. option_and_then (λ symbol. name_in symbol file) (fault_symbol fault)) (slice_get files i)
+
+-- a space and a name, if there is one
+abbrev pub after_space : Option (List ℕ) → List ℕ
+after_space None = []
+after_space (Some name) = codes " " ++ name
 
 -- a lower-case hexadecimal digit
 abbrev pub hex_digit : ℕ → ℕ
@@ -43,13 +60,13 @@ stuck_text place why =
     codes "stuck " ++ decimal place.object ++ codes " " ++ decimal place.section ++ codes " " ++ decimal place.offset
     ++ codes " " ++ decimal (why_number why) ++ codes " " ++ why_name why
 
--- the line of each outcome but the one that needs none, given the files that were read: a line may end with a symbol's name
--- in an object, though no fault that is built names a symbol
+-- the line of each outcome but the one that needs none, given the files that were read: a refusal may end with the name of a
+-- symbol of an object
 abbrev pub err_line : List (List ℕ) → Outcome → List ℕ
 err_line files Done = []
 err_line files (Exited code) = line (codes "exited " ++ decimal code)
 err_line files Usage = line (codes "usage")
-err_line files (Refused i fault) = line (refusal_text i fault)
+err_line files (Refused i fault) = line (refusal_text i fault ++ after_space (fault_symbol_name files i fault))
 err_line files ReadFault = line (codes "read fault")
 err_line files WriteFault = line (codes "write fault")
 err_line files OutOfMemory = line (codes "out of memory")

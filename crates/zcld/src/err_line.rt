@@ -1,16 +1,20 @@
 // The line that names an outcome on standard error, made without memory.
 
-ghost use Rattle.std.specs.Prelude.{◌≡◌, ◌≤◌, ℕ, ◌<◌, ◌+◌, ◌++◌, List, decimal, length};
+ghost use Rattle.std.specs.Prelude.{◌≡◌, ◌≤◌, ◌<◌, ◌+◌, ◌++◌, [], None, decimal, length};
+ghost use Rattle.elf32_read.specs.Object.{object_fault};
+ghost use Rattle.std.specs.Option.{option_map};
 ghost use Rattle.std.specs.List.{flat_map};
 ghost use Rattle.psabi_sym.specs.Objects.{contents_of};
 ghost use Rattle.zc_outside.specs.Desk.{OnlyWrites};
 ghost use Rattle.zc_outside.specs.Streams.{KeepsBytes};
 ghost use Rattle.zcld.specs.Call.{WritesLine};
-ghost use Rattle.zcld.specs.ErrLine.{err_line, hex_at, hex_word, line as with_line_feed, refusal_text, stop_text, stuck_text};
+ghost use Rattle.zcld.specs.ErrLine.{err_line, fault_symbol_name, hex_at, hex_word, line as with_line_feed, name_in, refusal_text, stop_text, stuck_text};
+ghost use Rattle.zcld.specs.declared.outcome.Outcome.TheVariants.{Refused};
 
 use crate::outcome::{FileFault, Outcome};
 use arrayvec::ArrayString;
 use elf32_read::fault::Fault;
+use elf32_read::object::Object;
 use itoa::Buffer;
 use sym_machine::why::Why;
 use zc_base::place::Place;
@@ -26,8 +30,61 @@ pub fn report<C: Console>(files: &[Vec<u8>], outcome: &Outcome, console: &mut C)
     ensures out { KeepsBytes (C.shown console.old).out (C.shown console.new).out }
     ensures only { OnlyWrites (C.shown console.old) (C.shown console.new) }
 {
-    let line = line_of(outcome);
-    write_pieces(&[line.as_str().as_bytes()], console);
+    match outcome {
+        Outcome::Refused(object, fault) => report_refusal(files, *object, *fault, console),
+        _ => {
+            let line = line_of(outcome);
+            write_pieces(&[line.as_str().as_bytes()], console);
+        }
+    }
+}
+
+// Writes the line of a refusal.
+fn report_refusal<C: Console>(files: &[Vec<u8>], object: u32, fault: Fault, console: &mut C)
+    ensures line { WritesLine (err_line (contents_of files.now) (Refused object fault))
+        (C.shown console.old) (C.shown console.new) }
+    ensures out { KeepsBytes (C.shown console.old).out (C.shown console.new).out }
+    ensures only { OnlyWrites (C.shown console.old) (C.shown console.new) }
+{
+    match fault_symbol_name(files, object, fault) {
+        Some(name) => {
+            let head = refusal(object, fault, " ");
+            write_pieces(&[head.as_str().as_bytes(), name, b"\n"], console);
+        }
+        None => {
+            let line = refusal(object, fault, "\n");
+            write_pieces(&[line.as_str().as_bytes()], console);
+        }
+    }
+}
+
+// The name of the symbol that a fault names, if it names one that the files have.
+fn fault_symbol_name(files: &[Vec<u8>], object: u32, fault: Fault) -> Option<&[u8]>
+    ensures { option_map (λ name. name.now) result ≡ fault_symbol_name (contents_of files.now) object fault }
+{
+    symbol_name(files.get(object as usize)?, fault.symbol()?)
+}
+
+// The name of a symbol of a file, if it can be read and has the symbol.
+fn symbol_name(file: &[u8], symbol: u32) -> Option<&[u8]>
+    ensures { option_map (λ name. name.now) result ≡ name_in symbol file.now }
+{
+    match Object::read(file) {
+        Ok(object) => symbol_name_of(&object, symbol),
+        Err(_) => None,
+    }
+}
+
+// The name of an object's symbol, if it has it.
+fn symbol_name_of<'a>(object: &Object<'a>, symbol: u32) -> Option<&'a [u8]>
+    requires { object_fault object.now ≡ None }
+    ensures { option_map (λ name. name.now) result ≡ name_in symbol object.now }
+{
+    if symbol < object.symbol_count() {
+        Some(object.symbol(symbol).name)
+    } else {
+        None
+    }
 }
 
 // Writes pieces to standard error one after another, until one is refused.
@@ -47,15 +104,15 @@ fn write_pieces<C: Console>(pieces: &[&[u8]], console: &mut C)
 /// Room for the longest line: `stuck`, a place, and a reason's number and name.
 pub const ROOM: usize = 64;
 
-/// The line of an outcome, with its line feed; empty if there is none.
+/// The line of an outcome without a symbol's name, with its line feed; empty if there is none.
 pub fn line_of(outcome: &Outcome) -> ArrayString<ROOM>
-    ensures { (files : List (List ℕ)) → result.bytes ≡ err_line files outcome.now }
+    ensures { result.bytes ≡ err_line [] outcome.now }
 {
     match outcome {
         Outcome::Done => ArrayString::new(),
         Outcome::Exited(code) => numbered("exited ", u32::from(*code)),
         Outcome::Usage => line("usage"),
-        Outcome::Refused(object, fault) => refusal(*object, *fault),
+        Outcome::Refused(object, fault) => refusal(*object, *fault, "\n"),
         Outcome::ReadFault => line("read fault"),
         Outcome::WriteFault => line("write fault"),
         Outcome::OutOfMemory => line("out of memory"),
@@ -77,9 +134,10 @@ fn line(text: &str) -> ArrayString<ROOM>
     line
 }
 
-// The line of a refusal.
-fn refusal(object: u32, fault: Fault) -> ArrayString<ROOM>
-    ensures { result.bytes ≡ with_line_feed (refusal_text object fault) }
+// The text of a refusal, and its end: a line feed, or a space that a name follows.
+fn refusal(object: u32, fault: Fault, end: &str) -> ArrayString<ROOM>
+    requires { length end.now ≤ 1 }
+    ensures { result.bytes ≡ refusal_text object fault ++ end.now }
 {
     let mut digits = Buffer::new();
     let mut line = ArrayString::new();
@@ -89,7 +147,7 @@ fn refusal(object: u32, fault: Fault) -> ArrayString<ROOM>
     line.push_str(digits.format(fault.number()));
     line.push_str(" ");
     line.push_str(fault.name());
-    line.push_str("\n");
+    line.push_str(end);
     line
 }
 
@@ -170,3 +228,6 @@ fn hex_digit(number: u32, shift: u32) -> char
         char::from(b'a' - 10 + digit)
     }
 }
+
+#[cfg(test)]
+mod tests;

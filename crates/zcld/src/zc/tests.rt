@@ -130,7 +130,8 @@ fn calls_of_the_outside_that_fail_are_named(rt: HostRuntime) -> Result<(), Fail>
 #[test]
 fn objects_that_are_not_held_or_too_long_are_read_faults(rt: HostRuntime) -> Result<(), Fail> {
     expect_words(&rt, &ZC, "zc --out o --cert c y", &READ_FAULT)?;
-    for (length, end) in [(4_194_305, READ_FAULT), (4_194_304, NOT_ELF)] {
+    let not_elf = refused(Fault::NotElf, "refused 0 1 NotElf\n");
+    for (length, end) in [(4_194_305, READ_FAULT), (4_194_304, not_elf)] {
         let zeros = vec![in rt.alloc(); 0u8; length]?;
         let call = Call {
             file: File::Bytes(zeros.as_slice()),
