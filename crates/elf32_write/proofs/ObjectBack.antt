@@ -24,12 +24,13 @@ use Rattle.elf32_write.specs.NameTable.{name_table}
 use Rattle.elf32_write.specs.ObjectFile.{FileSection, added_sections, each_after, given_section, headers_for, null_symbol, object_bytes, rela_section, relocated, section_total, symbol_entries, symbol_entry, symbol_names, symtab_index, symtab_section}
 use Rattle.elf32_write.specs.Ranges.{IsPartsSized}
 use Rattle.elf32_write.specs.Writable.{IsObjectOf, is_name, IsWithin, IsWritable, IsWritableSection, IsWritableSymbol, added_part, added_parts, can_be_given, null_part, null_symbol_part}
+use Rattle.elf32_write.specs.SectionTable.{with_relas}
 use Rattle.elf32_write.proofs.AllSections.{IsNumbered, added_at, added_dropped, all_added, all_relocated, all_sections, given_at, length-added, sections_whole, sections_words, shows_at}
 use Rattle.elf32_write.proofs.FileHeaderBack.{IsSmall, all_of, count_back, flags_back, header_back, header_size_back, length-object_bytes, listed_back, magic_back, table_back}
 use Rattle.elf32_write.proofs.Linkable.{IsLinkable, given_linkable, implied, names_linkable, not_badly_aligned, not_cut, not_of_no_symbol, not_unlinked, rela_linkable, symtab_linkable}
 use Rattle.elf32_write.proofs.RelocsBack.{IsReloc, one_table, relocs_of_given}
 use Rattle.elf32_write.proofs.SectionsBack.{Shows, kept_back, names_found, null_shown, shows_all}
-use Rattle.elf32_write.proofs.Stages.{length-file_sections, length-symbols, room_symbol_names, with_relas}
+use Rattle.elf32_write.proofs.Stages.{length-file_sections, length-symbols, room_symbol_names}
 use Rattle.elf32_write.proofs.SymbolsBack.{ShowsSymbol, entries_back, length-with_relas, links_back, split_symtab, symbol_content_back, symbol_names_back, symbol_read, symbol_tables_back, symbols_shown}
 use Rattle.elf32_write.proofs.WritableRoom.{symbols_within, writable_info, writable_room}
 use Rattle.elf32_write.proofs.Zipped.{none_counted, zip_map, zip_none}

@@ -16,10 +16,10 @@ use Rattle.elf32_read.specs.Relocs.{changes, reloc_at, relas_for, relocs_in}
 use Rattle.elf32_read.specs.declared.reloc.Reloc.{Reloc}
 use Rattle.elf32_write.specs.ObjectFile.{FileSection, file_sections, given_section, given_sections, rela_section, rela_sections, reloc_bytes, relocated, symtab_index, symtab_section}
 use Rattle.elf32_write.specs.Ranges.{IsRelocSized}
+use Rattle.elf32_write.specs.SectionTable.{with_relas}
 use Rattle.elf32_write.proofs.After.{rows_back}
 use Rattle.elf32_write.proofs.HeadersBack.{first_word_back, word_back}
 use Rattle.elf32_write.proofs.SectionsBack.{Shows, null_shown}
-use Rattle.elf32_write.proofs.Stages.{with_relas}
 use Rattle.elf32_write.proofs.SymbolsBack.{shstrtab, split_symtab, strtab}
 use Rattle.elf32_write.proofs.Zipped.{none_kept, zip_kept}
 

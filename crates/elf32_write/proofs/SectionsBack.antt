@@ -16,11 +16,12 @@ use Rattle.elf32_write.specs.Image.{pad, padded, section_bytes}
 use Rattle.elf32_write.specs.NameTable.{name_table}
 use Rattle.elf32_write.specs.ObjectFile.{FileSection, contents, each_after, headers_for, headers_offset, names_of, names_section, object_bytes, object_header, section_header, section_names, section_total}
 use Rattle.elf32_write.specs.Writable.{is_name}
+use Rattle.elf32_write.specs.SectionTable.{with_names}
 use Rattle.elf32_write.proofs.After.{part_between}
 use Rattle.elf32_write.proofs.FileHeaderBack.{IsSmall, all_of, count_back, header_back, length-object_bytes, length-object_header, name_section_back}
 use Rattle.elf32_write.proofs.NamesBack.{Stands, name_back}
 use Rattle.elf32_write.proofs.Room.{contents_within}
-use Rattle.elf32_write.proofs.Stages.{stages, with_names}
+use Rattle.elf32_write.proofs.Stages.{stages}
 use Rattle.elf32_write.proofs.WritableRoom.{names_of_all}
 
 -- ---- contents

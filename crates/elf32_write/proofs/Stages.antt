@@ -7,19 +7,10 @@ use Rattle.elf32_read.specs.Parts.{SectionParts, SymbolParts}
 use Rattle.elf32_read.specs.declared.symbol_entry.SymbolEntry.{SymbolEntry}
 use Rattle.elf32_write.specs.NameTable.{name_bytes, name_table}
 use Rattle.elf32_write.specs.ObjectFile.{FileSection, added_sections, each_after, symbol_bytes, symbol_entries, symbol_entry, file_sections, given_section, given_sections, names_of, names_section, rela_section, rela_sections, relocated, section_names, symbol_names, symtab_index, symtab_section}
-use Rattle.elf32_write.specs.SectionTable.{HasOffsets, HasRoom, Holds}
+use Rattle.elf32_write.specs.SectionTable.{HasOffsets, HasRoom, Holds, with_names, with_relas, with_symbols}
 use Rattle.elf32_write.specs.declared.section_table.SectionTable.{SectionTable}
 use Rattle.elf32_write.proofs.EachAfter.{name_table_push}
 use Rattle.elf32_write.proofs.Room.{room_last, room_offsets, room_within}
-
-unfoldable pub with_relas : List SectionParts → List FileSection
-with_relas xs = given_sections xs ++ rela_sections xs
-
-unfoldable pub with_symbols : List SectionParts → List SymbolParts → List FileSection
-with_symbols xs ys = with_relas xs ++ symtab_section (symtab_index xs) ys ∷ []
-
-unfoldable pub with_names : List SectionParts → List SymbolParts → List FileSection
-with_names xs ys = with_symbols xs ys ++ names_section (codes ".strtab") (symbol_names ys) ∷ []
 
 -- the last section has the names of those before it and its own
 pub names_so_far : (xs : List SectionParts) (ys : List SymbolParts) → names_of (with_names xs ys) ++ codes ".shstrtab" ∷ [] ≡ section_names xs

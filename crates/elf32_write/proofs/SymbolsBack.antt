@@ -18,13 +18,14 @@ use Rattle.elf32_write.specs.NameTable.{name_table}
 use Rattle.elf32_write.specs.ObjectFile.{FileSection, HasInfo, added_sections, each_after, file_sections, given_section, given_sections, headers_for, names_section, null_symbol, object_bytes, rela_section, rela_sections, relocated, section_header, section_names, symbol_bytes, symbol_entries, symbol_entry, symbol_names, symtab_index, symtab_section}
 use Rattle.elf32_write.specs.Ranges.{IsSymbolSized}
 use Rattle.elf32_write.specs.Writable.{is_name}
+use Rattle.elf32_write.specs.SectionTable.{with_relas, with_symbols}
 use Rattle.elf32_write.proofs.After.{half_of_bytes, half_in-append, rows_back}
 use Rattle.elf32_write.proofs.EachAfter.{each_after-append}
 use Rattle.elf32_write.proofs.FileHeaderBack.{IsSmall, all_of, count_back, header_back, start_within}
 use Rattle.elf32_write.proofs.HeadersBack.{first_word_back, word_back}
 use Rattle.elf32_write.proofs.NamesBack.{Stands, name_back}
 use Rattle.elf32_write.proofs.SectionsBack.{IsSized, content_back}
-use Rattle.elf32_write.proofs.Stages.{length-each_after, length-file_sections, length-symbols, with_relas, with_symbols}
+use Rattle.elf32_write.proofs.Stages.{length-each_after, length-file_sections, length-symbols}
 use Rattle.elf32_write.proofs.SymbolsMore.{name_table_within}
 use Rattle.elf32_write.proofs.Zipped.{none_kept}
 

@@ -5,10 +5,10 @@ use Rattle.std.proofs.lemmas.List.Elements.{All-weaker}
 use Rattle.elf32_read.specs.Parts.{ObjectParts, SectionParts, SymbolParts}
 use Rattle.elf32_write.specs.NameTable.{name_table}
 use Rattle.elf32_write.specs.ObjectFile.{FileSection, HasInfo, contents, file_sections, names_of, names_section, section_names, symbol_names, symtab_index, symtab_section}
-use Rattle.elf32_write.specs.SectionTable.{HasRoom}
+use Rattle.elf32_write.specs.SectionTable.{HasRoom, with_names, with_relas, with_symbols}
 use Rattle.elf32_write.specs.Writable.{IsWritable, IsWritableSection, IsWritableSymbol}
 use Rattle.elf32_write.proofs.Room.{length-last}
-use Rattle.elf32_write.proofs.Stages.{length-symbols, names_so_far, stages, with_names, with_relas, with_symbols}
+use Rattle.elf32_write.proofs.Stages.{length-symbols, names_so_far, stages}
 
 -- the names of all sections are the content of the last
 pub names_of_all : (xs : List SectionParts) (ys : List SymbolParts) → names_of (file_sections xs ys) ≡ section_names xs

@@ -1,8 +1,9 @@
--- A table of sections, as the code fills it.
+-- A table of sections, as the code fills it, and in which order.
 use Rattle.std.specs.Prelude.{◌≡◌, ℕ, ◌+◌, ◌^◌, ◌<◌, List, [], ◌∷◌, ◌++◌, length, codes}
 use Rattle.elf32_read.specs.Header.{Header}
+use Rattle.elf32_read.specs.Parts.{SectionParts, SymbolParts}
 use Rattle.elf32_write.specs.NameTable.{name_table}
-use Rattle.elf32_write.specs.ObjectFile.{FileSection, contents, headers_for, names_of, names_section}
+use Rattle.elf32_write.specs.ObjectFile.{FileSection, contents, given_sections, headers_for, names_of, names_section, rela_sections, symbol_names, symtab_index, symtab_section}
 use Rattle.elf32_write.specs.declared.section_table.SectionTable.{SectionTable}
 
 -- .shstrtab after these sections: their names, and its own
@@ -28,3 +29,17 @@ pub record Holds (sections : List FileSection) (table : SectionTable) : Type 0 w
 pub record HasRoom (sections : List FileSection) : Type 0 where
   pub contents_fit : 52 + length (contents sections) < 2 ^ 32
   pub names_fit : length (name_table (names_of sections)) < 2 ^ 32
+
+-- ---- all sections, as they are added
+
+-- the given ones, and their relocations
+unfoldable pub with_relas : List SectionParts → List FileSection
+with_relas xs = given_sections xs ++ rela_sections xs
+
+-- and the symbols
+unfoldable pub with_symbols : List SectionParts → List SymbolParts → List FileSection
+with_symbols xs ys = with_relas xs ++ symtab_section (symtab_index xs) ys ∷ []
+
+-- and the names of the symbols: all but the last
+unfoldable pub with_names : List SectionParts → List SymbolParts → List FileSection
+with_names xs ys = with_symbols xs ys ++ names_section (codes ".strtab") (symbol_names ys) ∷ []

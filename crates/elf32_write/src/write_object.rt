@@ -3,7 +3,7 @@
 ghost use Rattle.std.specs.Prelude.{◌≡◌, ◌^◌, ◌<◌, ◌++◌, length, All, IfOk, OnOk};
 ghost use Rattle.elf32_write.specs.ObjectFile.{HasInfo, file_sections, object_bytes, object_header};
 ghost use Rattle.elf32_write.specs.Ranges.{IsPartsSized};
-ghost use Rattle.elf32_write.specs.SectionTable.{HasRoom, Holds};
+ghost use Rattle.elf32_write.specs.SectionTable.{HasRoom, Holds, with_names};
 ghost use Rattle.elf32_write.specs.Writable.{IsObjectOf, IsWritable};
 
 use crate::fields::{push_halves, push_words};
@@ -36,8 +36,8 @@ fn push_object_header(
     push_halves(out, &[52, 0, 0, 40, count, count - 1])
 }
 
-// All sections of the file.
-fn sections_of(
+// All sections of the file but the last.
+fn sections_before_names(
     alloc: Global,
     sections: &[PartSection],
     symbols: &[PartSymbol],
@@ -46,7 +46,7 @@ fn sections_of(
     requires room { HasRoom (file_sections sections.now symbols.now) }
     requires relocs { All (λ s. All (λ r. r.symbol < 2 ^ 24) s.relocs) sections.now }
     requires info { All HasInfo symbols.now }
-    ensures held { IfOk result (λ table. Holds (file_sections sections.now symbols.now) table) }
+    ensures held { IfOk result (λ table. Holds (with_names sections.now symbols.now) table) }
     ensures sized { OnOk result (IsPartsSized sections.now symbols.now) }
 {
     let symtab = 1 + sections.len() as u32 + relocated_count(sections) as u32;
@@ -71,6 +71,23 @@ fn sections_of(
         ..NULL
     };
     table.add(b".strtab", strtab_header, &written.names)?;
+    Ok(table)
+}
+
+// All sections of the file.
+fn sections_of(
+    alloc: Global,
+    sections: &[PartSection],
+    symbols: &[PartSymbol],
+) -> Result<SectionTable, AllocError>
+    requires count { length (file_sections sections.now symbols.now) < 4096 }
+    requires room { HasRoom (file_sections sections.now symbols.now) }
+    requires relocs { All (λ s. All (λ r. r.symbol < 2 ^ 24) s.relocs) sections.now }
+    requires info { All HasInfo symbols.now }
+    ensures held { IfOk result (λ table. Holds (file_sections sections.now symbols.now) table) }
+    ensures sized { OnOk result (IsPartsSized sections.now symbols.now) }
+{
+    let mut table = sections_before_names(alloc, sections, symbols)?;
     table.add_names()?;
     Ok(table)
 }
