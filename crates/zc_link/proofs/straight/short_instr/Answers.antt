@@ -1,6 +1,5 @@
 use Rattle.std.proofs.Common.{◌≡◌, Some, true, rules, ap, ◌∙◌, sym}
 use Rattle.rv_decode.specs.declared.instr.Instr.TheVariants.{WithImm}
-use Rattle.rv_decode.specs.declared.instr.ImmOp.TheVariants.{Addi}
 use Rattle.zc_link.specs.Straight.{is_li}
 use Rattle.zc_link.proofs.ShortForms.{li_is_addi, li_of_word}
 use Rattle.zc_link.proofs.straight.short_instr.Goals as goal
