@@ -1,7 +1,7 @@
 -- Numbers in two's complement: what is read fits, and what fits is read back.
-use Rattle.std.proofs.Common.{◌≡◌, ℕ, ◌+◌, ◌-◌, ◌*◌, ◌%◌, ◌^◌, ◌<◌, Bool, true, false, cond, refl, ap, ◌∙◌, arith, ltb, ℤ, pos, negsuc}
+use Rattle.std.proofs.Common.{◌≡◌, ℕ, ◌-◌, ◌*◌, ◌%◌, ◌^◌, ◌<◌, Bool, true, false, cond, refl, arith, ltb, pos, negsuc}
 use Rattle.std.proofs.lemmas.Bool.{ltb-true, ltb-false}
-use Rattle.rv_decode.specs.Bits.{FitsIn, IsEven, as_word, signed}
+use Rattle.rv_decode.specs.Bits.{FitsIn, IsEven, signed}
 
 -- what is read fits
 pub signed-fits : (bits n : ℕ) → 2 ^ bits ≡ 2 * 2 ^ (bits - 1) → n < 2 ^ bits → FitsIn bits (signed bits n)

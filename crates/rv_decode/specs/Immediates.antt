@@ -1,5 +1,5 @@
 -- The immediates that a word has room for (RISC-V unprivileged manual, "Immediate Encoding Variants").
-use Rattle.std.specs.Prelude.{ℕ, ℤ, pos, negsuc, ◌<◌, ◌^◌}
+use Rattle.std.specs.Prelude.{ℤ, pos, negsuc, ◌<◌, ◌^◌}
 use Rattle.rv_decode.specs.Bits.{FitsIn, IsEven}
 use Rattle.rv_decode.specs.declared.instr.Instr.{Instr}
 use Rattle.rv_decode.specs.declared.instr.Instr.TheVariants.{Upper, Jal, Jalr, Branch, Load, Store, WithImm, WithReg, Fence, Ecall, Ebreak, Csrrw}

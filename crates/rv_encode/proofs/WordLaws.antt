@@ -7,7 +7,7 @@ use Rattle.rv_decode.specs.declared.instr.ImmOp.{ImmOp}
 use Rattle.rv_decode.specs.declared.instr.RegOp.{RegOp}
 use Rattle.rv_decode.specs.Bits.{field, signed}
 use Rattle.rv_decode.specs.Decode.{branch_ops, decoded, funct_of, reg_ops, row_of, shift_ops}
-use Rattle.rv_decode.specs.Formats.{funct3_of, imm_b_of, opcode_of, rd_of, rs1_of, rs2_of, shamt_of}
+use Rattle.rv_decode.specs.Formats.{funct3_of, imm_b_of, opcode_of, rd_of, rs1_of, rs2_of}
 use Rattle.rv_decode.specs.Immediates.{ImmInRange, IsAmount}
 use Rattle.rv_decode.proofs.DecodeLaws.{OfBranch, OfReg, OfShift, format-decoded}
 use Rattle.rv_decode.proofs.RowLaws.{row_found}

@@ -1,4 +1,4 @@
-use Rattle.std.proofs.Common.{◌≡◌, ◌+◌, sym, ap, ap₂, ◌∙◌}
+use Rattle.std.proofs.Common.{◌≡◌, ◌+◌, sym, ap, ◌∙◌}
 use Rattle.std.specs.Prelude.{slice_index}
 use Rattle.rv_decode.specs.Memory.{changed, written}
 use Rattle.zc_machine.proofs.RegionLaws.{changed-after, changed-none, written_more, written_none}
