@@ -7,7 +7,9 @@ use Rattle.std.proofs.lemmas.List.Elements.{All-append, All-cons, All-filter, Al
 use Rattle.elf32_read.specs.Header.{header_of, headers_of, section_count}
 use Rattle.elf32_read.specs.Parts.{ObjectParts, SectionParts, SymbolParts}
 use Rattle.elf32_write.specs.Image.{pad, padded}
-use Rattle.elf32_write.specs.ObjectFile.{FileSection, added_sections, contents, file_sections, given_section, given_sections, names_section, object_bytes, rela_section, rela_sections, relocated, section_names, symbol_names, symtab_index, symtab_section}
+use Rattle.elf32_write.specs.Entries.{symbol_names}
+use Rattle.elf32_write.specs.FileSections.{FileSection, added_sections, file_sections, given_section, given_sections, names_section, rela_section, rela_sections, relocated, section_names, symtab_index, symtab_section}
+use Rattle.elf32_write.specs.ObjectFile.{contents, object_bytes}
 use Rattle.elf32_write.specs.Ranges.{IsSectionSized}
 use Rattle.elf32_write.specs.SectionTable.{HasRoom}
 use Rattle.elf32_write.specs.Writable.{IsWritableSection}

@@ -5,7 +5,9 @@ use Rattle.std.proofs.lemmas.List.{map-append}
 use Rattle.std.proofs.lemmas.List.Concat.{flat_map-append}
 use Rattle.elf32_write.specs.Image.{padded}
 use Rattle.elf32_write.specs.NameTable.{name_bytes, name_start, name_table}
-use Rattle.elf32_write.specs.ObjectFile.{FileSection, contents, each_after, headers_for, names_of, section_header}
+use Rattle.elf32_write.specs.EachAfter.{each_after}
+use Rattle.elf32_write.specs.FileSections.{FileSection, names_of}
+use Rattle.elf32_write.specs.ObjectFile.{contents, headers_for, section_header}
 use Rattle.elf32_write.specs.SectionTable.{Holds}
 use Rattle.elf32_write.specs.declared.section_table.SectionTable.{SectionTable}
 

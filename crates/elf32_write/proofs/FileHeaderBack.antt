@@ -10,7 +10,9 @@ use Rattle.elf32_read.specs.Header.{Header, begins_as, file_flags, header_of, he
 use Rattle.elf32_read.specs.Parts.{ObjectParts}
 use Rattle.elf32_write.specs.Image.{null_section, section_bytes}
 use Rattle.elf32_write.specs.NameTable.{name_start, name_table}
-use Rattle.elf32_write.specs.ObjectFile.{FileSection, contents, each_after, file_sections, headers_for, headers_offset, names_of, object_bytes, object_header, section_header, section_total}
+use Rattle.elf32_write.specs.EachAfter.{each_after}
+use Rattle.elf32_write.specs.FileSections.{FileSection, file_sections, names_of}
+use Rattle.elf32_write.specs.ObjectFile.{contents, headers_for, headers_offset, object_bytes, object_header, section_header, section_total}
 use Rattle.elf32_write.specs.SectionTable.{HasRoom}
 use Rattle.elf32_write.proofs.After.{half_of_bytes, word_of_bytes}
 use Rattle.elf32_write.proofs.EachAfter.{each_after-append}

@@ -11,7 +11,8 @@ use Rattle.elf32_read.specs.Object.{is_bad_alignment, is_badly_aligned, is_cut_c
 use Rattle.elf32_read.specs.Parts.{SectionParts, SymbolParts, is_code_section, is_kept_section}
 use Rattle.elf32_read.specs.Relocs.{relocs_in}
 use Rattle.elf32_read.specs.Symbols.{symbol_count}
-use Rattle.elf32_write.specs.ObjectFile.{FileSection, given_section, names_section, rela_section, reloc_bytes, symbol_bytes, symbol_entries, symtab_section}
+use Rattle.elf32_write.specs.Entries.{reloc_bytes, symbol_bytes, symbol_entries}
+use Rattle.elf32_write.specs.FileSections.{FileSection, given_section, names_section, rela_section, symtab_section}
 use Rattle.elf32_write.specs.Writable.{IsWritableSection, can_be_kept}
 use Rattle.elf32_write.proofs.RelocsBack.{IsReloc, length-reloc_bytes, relocs_back}
 use Rattle.elf32_write.proofs.SectionsBack.{Shows, is_kept_file, kept_back}

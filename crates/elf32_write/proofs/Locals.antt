@@ -3,7 +3,7 @@ use Rattle.std.proofs.Common.{◌≡◌, ℕ, ◌+◌, ◌-◌, ◌<◌, ◌==�
 use Rattle.std.specs.List.{prefix_len, suffix_len}
 use Rattle.std.proofs.lemmas.List.{length_push, reverse-append, take_more, length-take-le}
 use Rattle.elf32_read.specs.Parts.{SymbolParts}
-use Rattle.elf32_write.specs.ObjectFile.{after_locals}
+use Rattle.elf32_write.specs.Entries.{after_locals}
 
 -- how many pass from the end back, with one more
 suffix_len_push : {X : Type 0} (p : X → Bool) (xs : List X) (x : X) → suffix_len p (xs ++ x ∷ []) ≡ cond (p x) (1 + suffix_len p xs) 0

@@ -21,7 +21,10 @@ use Rattle.elf32_read.specs.declared.fault.Fault.TheVariants.{NotElf, Truncated,
 use Rattle.elf32_read.specs.declared.reloc.Reloc.{Reloc}
 use Rattle.elf32_read.specs.declared.symbol_entry.SymbolEntry.{SymbolEntry}
 use Rattle.elf32_write.specs.NameTable.{name_table}
-use Rattle.elf32_write.specs.ObjectFile.{FileSection, added_sections, each_after, given_section, headers_for, null_symbol, object_bytes, rela_section, relocated, section_total, symbol_entries, symbol_entry, symbol_names, symtab_index, symtab_section}
+use Rattle.elf32_write.specs.EachAfter.{each_after}
+use Rattle.elf32_write.specs.Entries.{null_symbol, symbol_entries, symbol_entry, symbol_names}
+use Rattle.elf32_write.specs.FileSections.{FileSection, added_sections, given_section, rela_section, relocated, symtab_index, symtab_section}
+use Rattle.elf32_write.specs.ObjectFile.{headers_for, object_bytes, section_total}
 use Rattle.elf32_write.specs.Ranges.{IsPartsSized}
 use Rattle.elf32_write.specs.Writable.{IsObjectOf, is_name, IsWithin, IsWritable, IsWritableSection, IsWritableSymbol, added_part, added_parts, can_be_given, null_part, null_symbol_part}
 use Rattle.elf32_write.specs.SectionTable.{with_relas}

@@ -4,7 +4,7 @@ use Rattle.std.specs.Prelude.{filter, nat_lt}
 use Rattle.std.specs.List.{enumerate_from}
 use Rattle.std.proofs.lemmas.List.Elements.{filter-append}
 use Rattle.elf32_read.specs.Parts.{SectionParts}
-use Rattle.elf32_write.specs.ObjectFile.{relocated}
+use Rattle.elf32_write.specs.FileSections.{relocated}
 use Rattle.elf32_write.proofs.SymbolsMore.{taken}
 
 -- elements are numbered on after others

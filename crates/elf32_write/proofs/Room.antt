@@ -5,7 +5,8 @@ use Rattle.std.proofs.lemmas.List.Concat.{flat_map-append}
 use Rattle.elf32_write.specs.Image.{pad, padded}
 use Rattle.elf32_write.specs.NameTable.{name_table}
 use Rattle.elf32_read.specs.Parts.{SectionParts}
-use Rattle.elf32_write.specs.ObjectFile.{FileSection, contents, given_section, names_of, rela_section, relocated}
+use Rattle.elf32_write.specs.FileSections.{FileSection, given_section, names_of, rela_section, relocated}
+use Rattle.elf32_write.specs.ObjectFile.{contents}
 use Rattle.elf32_write.specs.SectionTable.{HasOffsets, HasRoom, Holds}
 use Rattle.elf32_write.specs.declared.section_table.SectionTable.{SectionTable}
 use Rattle.elf32_write.proofs.Relocated.{relocated_more, relocated_split}

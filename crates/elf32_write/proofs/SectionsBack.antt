@@ -14,7 +14,9 @@ use Rattle.elf32_read.specs.Object.{passes_end}
 use Rattle.elf32_read.specs.Parts.{ObjectParts}
 use Rattle.elf32_write.specs.Image.{pad, padded, section_bytes}
 use Rattle.elf32_write.specs.NameTable.{name_table}
-use Rattle.elf32_write.specs.ObjectFile.{FileSection, contents, each_after, headers_for, headers_offset, names_of, names_section, object_bytes, object_header, section_header, section_names, section_total}
+use Rattle.elf32_write.specs.EachAfter.{each_after}
+use Rattle.elf32_write.specs.FileSections.{FileSection, names_of, names_section, section_names}
+use Rattle.elf32_write.specs.ObjectFile.{contents, headers_for, headers_offset, object_bytes, object_header, section_header, section_total}
 use Rattle.elf32_write.specs.Writable.{is_name}
 use Rattle.elf32_write.specs.SectionTable.{with_names}
 use Rattle.elf32_write.proofs.After.{part_between}

@@ -6,7 +6,9 @@ use Rattle.std.proofs.lemmas.List.{map-append, length-map}
 use Rattle.elf32_read.specs.Parts.{SectionParts, SymbolParts}
 use Rattle.elf32_read.specs.declared.symbol_entry.SymbolEntry.{SymbolEntry}
 use Rattle.elf32_write.specs.NameTable.{name_bytes, name_table}
-use Rattle.elf32_write.specs.ObjectFile.{FileSection, added_sections, each_after, symbol_bytes, symbol_entries, symbol_entry, file_sections, given_section, given_sections, names_of, names_section, rela_section, rela_sections, relocated, section_names, symbol_names, symtab_index, symtab_section}
+use Rattle.elf32_write.specs.EachAfter.{each_after}
+use Rattle.elf32_write.specs.Entries.{symbol_bytes, symbol_entries, symbol_entry, symbol_names}
+use Rattle.elf32_write.specs.FileSections.{FileSection, added_sections, file_sections, given_section, given_sections, names_of, names_section, rela_section, rela_sections, relocated, section_names, symtab_index, symtab_section}
 use Rattle.elf32_write.specs.SectionTable.{HasOffsets, HasRoom, Holds, with_names, with_relas, with_symbols}
 use Rattle.elf32_write.specs.declared.section_table.SectionTable.{SectionTable}
 use Rattle.elf32_write.proofs.EachAfter.{name_table_push}

@@ -15,7 +15,10 @@ use Rattle.elf32_read.specs.Symbols.{entries_in, has_symbols, symbol_content, sy
 use Rattle.elf32_read.specs.declared.symbol_entry.SymbolEntry.{SymbolEntry}
 use Rattle.elf32_write.specs.Image.{null_section}
 use Rattle.elf32_write.specs.NameTable.{name_table}
-use Rattle.elf32_write.specs.ObjectFile.{FileSection, HasInfo, added_sections, each_after, file_sections, given_section, given_sections, headers_for, names_section, null_symbol, object_bytes, rela_section, rela_sections, relocated, section_header, section_names, symbol_bytes, symbol_entries, symbol_entry, symbol_names, symtab_index, symtab_section}
+use Rattle.elf32_write.specs.EachAfter.{each_after}
+use Rattle.elf32_write.specs.Entries.{HasInfo, null_symbol, symbol_bytes, symbol_entries, symbol_entry, symbol_names}
+use Rattle.elf32_write.specs.FileSections.{FileSection, added_sections, file_sections, given_section, given_sections, names_section, rela_section, rela_sections, relocated, section_names, symtab_index, symtab_section}
+use Rattle.elf32_write.specs.ObjectFile.{headers_for, object_bytes, section_header}
 use Rattle.elf32_write.specs.Ranges.{IsSymbolSized}
 use Rattle.elf32_write.specs.Writable.{is_name}
 use Rattle.elf32_write.specs.SectionTable.{with_relas, with_symbols}

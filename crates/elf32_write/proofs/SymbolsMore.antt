@@ -6,7 +6,7 @@ use Rattle.std.proofs.lemmas.List.Elements.{All-more}
 use Rattle.std.proofs.lemmas.List.Concat.{flat_map-append}
 use Rattle.elf32_read.specs.Parts.{SymbolParts}
 use Rattle.elf32_write.specs.NameTable.{name_bytes, name_table}
-use Rattle.elf32_write.specs.ObjectFile.{symbol_bytes, symbol_entries, symbol_entry, symbol_names}
+use Rattle.elf32_write.specs.Entries.{symbol_bytes, symbol_entries, symbol_entry, symbol_names}
 use Rattle.elf32_write.proofs.EachAfter.{each_after_push, name_table_push}
 
 -- the first names have no longer a table than all

@@ -4,7 +4,9 @@ use Rattle.std.proofs.lemmas.List.{map-append}
 use Rattle.std.proofs.lemmas.List.Elements.{All-weaker}
 use Rattle.elf32_read.specs.Parts.{ObjectParts, SectionParts, SymbolParts}
 use Rattle.elf32_write.specs.NameTable.{name_table}
-use Rattle.elf32_write.specs.ObjectFile.{FileSection, HasInfo, contents, file_sections, names_of, names_section, section_names, symbol_names, symtab_index, symtab_section}
+use Rattle.elf32_write.specs.Entries.{HasInfo, symbol_names}
+use Rattle.elf32_write.specs.FileSections.{FileSection, file_sections, names_of, names_section, section_names, symtab_index, symtab_section}
+use Rattle.elf32_write.specs.ObjectFile.{contents}
 use Rattle.elf32_write.specs.SectionTable.{HasRoom, with_names, with_relas, with_symbols}
 use Rattle.elf32_write.specs.Writable.{IsWritable, IsWritableSection, IsWritableSymbol}
 use Rattle.elf32_write.proofs.Room.{length-last}

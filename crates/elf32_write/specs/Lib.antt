@@ -1,3 +1,6 @@
+pub mod EachAfter
+pub mod Entries
+pub mod FileSections
 pub mod Image
 pub mod Loadable
 pub mod NameTable

@@ -3,7 +3,9 @@ use Rattle.std.specs.Prelude.{◌≡◌, ℕ, ◌+◌, ◌^◌, ◌<◌, List, [
 use Rattle.elf32_read.specs.Header.{Header}
 use Rattle.elf32_read.specs.Parts.{SectionParts, SymbolParts}
 use Rattle.elf32_write.specs.NameTable.{name_table}
-use Rattle.elf32_write.specs.ObjectFile.{FileSection, contents, given_sections, headers_for, names_of, names_section, rela_sections, symbol_names, symtab_index, symtab_section}
+use Rattle.elf32_write.specs.Entries.{symbol_names}
+use Rattle.elf32_write.specs.FileSections.{FileSection, given_sections, names_of, names_section, rela_sections, symtab_index, symtab_section}
+use Rattle.elf32_write.specs.ObjectFile.{contents, headers_for}
 use Rattle.elf32_write.specs.declared.section_table.SectionTable.{SectionTable}
 
 -- .shstrtab after these sections: their names, and its own
@@ -14,10 +16,10 @@ last_section sections = names_section (codes ".shstrtab") (names_of sections ++ 
 abbrev pub file_section : List ℕ → Header → List ℕ → FileSection
 file_section name h content = record { name = name; kind = h.kind; flags = h.flags; size = h.size; link = h.link; info = h.info; align = h.align; entry_size = h.entry_size; content = content }
 
--- one more section, with a name of at most so many bytes, has an offset and a name's offset that have room in a word
-pub record HasOffsets (longest : ℕ) (table : SectionTable) : Type 0 where
+-- where one more section's content begins has room in a word, and so has what stands so many bytes after the names
+pub record HasOffsets (more : ℕ) (table : SectionTable) : Type 0 where
   pub contents_end : 52 + length table.contents.items < 2 ^ 32
-  pub names_end : length table.names.items + longest < 2 ^ 32
+  pub names_end : length table.names.items + more < 2 ^ 32
 
 -- the table has section 0 and these, in order
 pub record Holds (sections : List FileSection) (table : SectionTable) : Type 0 where

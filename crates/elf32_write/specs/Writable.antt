@@ -5,7 +5,8 @@ use Rattle.elf32_read.specs.Header.{is_empty_kind}
 use Rattle.elf32_read.specs.Kept.{has_flags}
 use Rattle.elf32_read.specs.Object.{is_bad_alignment, object_fault}
 use Rattle.elf32_read.specs.Parts.{ObjectParts, SectionParts, SymbolParts, is_code_section, is_kept_section, object_parts}
-use Rattle.elf32_write.specs.ObjectFile.{FileSection, added_sections, object_size, section_total}
+use Rattle.elf32_write.specs.FileSections.{FileSection, added_sections}
+use Rattle.elf32_write.specs.ObjectFile.{object_size, section_total}
 
 -- a name has no zero
 abbrev pub is_name : List ℕ → Bool

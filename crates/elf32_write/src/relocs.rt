@@ -2,7 +2,7 @@
 
 ghost use Rattle.std.specs.Prelude.{◌≡◌, ◌^◌, ◌<◌, ◌++◌, All, IfOk, OnOk};
 ghost use Rattle.std.specs.List.{flat_map};
-ghost use Rattle.elf32_write.specs.ObjectFile.{reloc_bytes};
+ghost use Rattle.elf32_write.specs.Entries.{reloc_bytes};
 ghost use Rattle.elf32_write.specs.Ranges.{IsRelocSized};
 
 use crate::fields::push_words;

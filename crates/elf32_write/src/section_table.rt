@@ -2,7 +2,8 @@
 
 ghost use Rattle.std.specs.Prelude.{◌≡◌, ◌^◌, ◌<◌, ◌≤◌, ◌+◌, ◌++◌, ◌∷◌, [], List, length, map, All, IfOk, OnOk};
 ghost use Rattle.std.specs.List.{flat_map};
-ghost use Rattle.elf32_write.specs.ObjectFile.{FileSection, given_sections, rela_section, reloc_bytes, relocated};
+ghost use Rattle.elf32_write.specs.Entries.{reloc_bytes};
+ghost use Rattle.elf32_write.specs.FileSections.{FileSection, given_sections, rela_section, relocated};
 ghost use Rattle.elf32_write.specs.Ranges.{IsHeaderSized, IsRelocSized, IsSectionSized};
 ghost use Rattle.elf32_write.specs.SectionTable.{HasOffsets, HasRoom, Holds, file_section, last_section};
 

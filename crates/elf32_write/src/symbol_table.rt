@@ -3,7 +3,7 @@
 ghost use Rattle.std.specs.Prelude.{◌≡◌, ◌^◌, ◌<◌, ◌≤◌, ◌+◌, ◌++◌, ◌∷◌, [], length, All, IfOk, OnOk};
 ghost use Rattle.std.specs.List.{flat_map};
 ghost use Rattle.elf32_write.specs.NameTable.{name_table};
-ghost use Rattle.elf32_write.specs.ObjectFile.{HasInfo, after_locals, symbol_bytes, symbol_entries, symbol_names};
+ghost use Rattle.elf32_write.specs.Entries.{HasInfo, after_locals, symbol_bytes, symbol_entries, symbol_names};
 ghost use Rattle.elf32_write.specs.Ranges.{IsEntrySized, IsSymbolSized};
 
 use crate::fields::{push_half, push_words};

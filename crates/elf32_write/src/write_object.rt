@@ -1,7 +1,9 @@
 // Objects.
 
 ghost use Rattle.std.specs.Prelude.{◌≡◌, ◌^◌, ◌<◌, ◌++◌, length, All, IfOk, OnOk};
-ghost use Rattle.elf32_write.specs.ObjectFile.{HasInfo, file_sections, object_bytes, object_header};
+ghost use Rattle.elf32_write.specs.Entries.{HasInfo};
+ghost use Rattle.elf32_write.specs.FileSections.{file_sections};
+ghost use Rattle.elf32_write.specs.ObjectFile.{object_bytes, object_header};
 ghost use Rattle.elf32_write.specs.Ranges.{IsPartsSized};
 ghost use Rattle.elf32_write.specs.SectionTable.{HasRoom, Holds, with_names};
 ghost use Rattle.elf32_write.specs.Writable.{IsObjectOf, IsWritable};

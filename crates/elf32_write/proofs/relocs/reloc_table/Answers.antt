@@ -4,7 +4,7 @@ use Rattle.std.proofs.lemmas.List.{take_more}
 use Rattle.std.proofs.lemmas.List.Concat.{flat_map-append}
 use Rattle.std.proofs.lemmas.List.Elements.{All-more}
 use Rattle.elf32_read.specs.declared.reloc.Reloc.{Reloc}
-use Rattle.elf32_write.specs.ObjectFile.{reloc_bytes}
+use Rattle.elf32_write.specs.Entries.{reloc_bytes}
 use Rattle.elf32_write.specs.Ranges.{IsRelocSized}
 use Rattle.elf32_write.proofs.relocs.reloc_table.Goals as goal
 

@@ -1,6 +1,6 @@
 use Rattle.std.proofs.Common.{◌≡◌, All, take}
 use Rattle.std.specs.List.{flat_map}
-use Rattle.elf32_write.specs.ObjectFile.{reloc_bytes}
+use Rattle.elf32_write.specs.Entries.{reloc_bytes}
 use Rattle.elf32_write.specs.Ranges.{IsRelocSized}
 use Rattle.elf32_write.proofs.relocs.reloc_table.Given as goal
 

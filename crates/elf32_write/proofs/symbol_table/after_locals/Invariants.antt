@@ -1,5 +1,5 @@
 use Rattle.std.proofs.Common.{◌≡◌, ◌+◌, ◌≤◌, take}
-use Rattle.elf32_write.specs.ObjectFile.{after_locals}
+use Rattle.elf32_write.specs.Entries.{after_locals}
 use Rattle.elf32_write.proofs.symbol_table.after_locals.Given as goal
 
 abbrev pub invariant-loop-i : goal.invariant-loop-i

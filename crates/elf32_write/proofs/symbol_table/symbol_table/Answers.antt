@@ -1,7 +1,7 @@
 use Rattle.std.proofs.Common.{◌≡◌, ◌++◌, length, take, sym, ap, ◌∙◌, arith}
 use Rattle.std.specs.List.{flat_map}
 use Rattle.elf32_write.specs.NameTable.{name_bytes, name_start, name_table}
-use Rattle.elf32_write.specs.ObjectFile.{symbol_bytes, symbol_entries, symbol_entry, symbol_names}
+use Rattle.elf32_write.specs.Entries.{symbol_bytes, symbol_entries, symbol_entry, symbol_names}
 use Rattle.elf32_write.specs.Ranges.{IsSymbolSized}
 use Rattle.elf32_write.proofs.SymbolsMore.{all_more, entries_more, names_more, symbol_names_within, taken}
 use Rattle.elf32_write.proofs.symbol_table.symbol_table.Goals as goal

@@ -1,7 +1,7 @@
 use Rattle.std.proofs.Common.{◌≡◌, All, take}
 use Rattle.std.specs.List.{flat_map}
 use Rattle.elf32_write.specs.NameTable.{name_table}
-use Rattle.elf32_write.specs.ObjectFile.{symbol_bytes, symbol_entries, symbol_names}
+use Rattle.elf32_write.specs.Entries.{symbol_bytes, symbol_entries, symbol_names}
 use Rattle.elf32_write.specs.Ranges.{IsSymbolSized}
 use Rattle.elf32_write.proofs.symbol_table.symbol_table.Given as goal
 

@@ -2,7 +2,8 @@
 use Rattle.std.proofs.Common.{◌≡◌, ℕ, ◌+◌, ◌++◌, [], ◌∷◌, List, length, map, codes, sym, ap, ◌∙◌, arith, rules}
 use Rattle.std.specs.List.{flat_map}
 use Rattle.elf32_read.specs.Parts.{SectionParts, SymbolParts}
-use Rattle.elf32_write.specs.ObjectFile.{FileSection, after_locals, given_sections, names_section, rela_section, relocated, symbol_bytes, symbol_entries, symbol_names, symtab_index, symtab_section}
+use Rattle.elf32_write.specs.Entries.{after_locals, symbol_bytes, symbol_entries, symbol_names}
+use Rattle.elf32_write.specs.FileSections.{FileSection, given_sections, names_section, rela_section, relocated, symtab_index, symtab_section}
 use Rattle.elf32_write.specs.NameTable.{name_table}
 use Rattle.elf32_write.specs.SectionTable.{Holds, with_names, with_relas, with_symbols}
 use Rattle.elf32_write.specs.declared.section_table.SectionTable.{SectionTable}

@@ -1,7 +1,7 @@
 -- The last section is added to those before it.
 use Rattle.std.proofs.Common.{◌++◌, [], ◌∷◌, List, codes, ap, ◌∙◌, subst}
 use Rattle.elf32_read.specs.Parts.{SectionParts, SymbolParts}
-use Rattle.elf32_write.specs.ObjectFile.{file_sections, names_section}
+use Rattle.elf32_write.specs.FileSections.{file_sections, names_section}
 use Rattle.elf32_write.specs.SectionTable.{Holds, last_section, with_names}
 use Rattle.elf32_write.specs.declared.section_table.SectionTable.{SectionTable}
 use Rattle.elf32_write.proofs.Stages.{names_so_far, room_last_section, stages}

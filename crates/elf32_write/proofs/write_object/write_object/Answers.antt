@@ -2,7 +2,8 @@ use Rattle.std.proofs.Common.{◌≡◌, ℕ, subst, ◌+◌, ◌++◌, [], List
 use Rattle.std.specs.List.{flat_map}
 use Rattle.elf32_read.specs.Parts.{ObjectParts, SectionParts, SymbolParts}
 use Rattle.elf32_write.specs.Image.{section_bytes}
-use Rattle.elf32_write.specs.ObjectFile.{contents, file_sections, headers_for, headers_offset, object_bytes, object_header, section_header, section_total}
+use Rattle.elf32_write.specs.FileSections.{file_sections}
+use Rattle.elf32_write.specs.ObjectFile.{contents, headers_for, headers_offset, object_bytes, object_header, section_header, section_total}
 use Rattle.elf32_write.specs.Ranges.{IsPartsSized}
 use Rattle.elf32_write.specs.SectionTable.{Holds}
 use Rattle.elf32_write.specs.Writable.{IsObjectOf}

@@ -1,7 +1,7 @@
 use Rattle.std.proofs.Common.{◌≡◌, ℕ, ◌++◌, [], ◌∷◌, map, take, sym, ap, ◌∙◌, arith, subst}
 use Rattle.std.proofs.lemmas.List.{map_push}
 use Rattle.elf32_read.specs.Parts.{SectionParts}
-use Rattle.elf32_write.specs.ObjectFile.{given_section}
+use Rattle.elf32_write.specs.FileSections.{given_section}
 use Rattle.elf32_write.specs.Ranges.{IsHeaderSized, IsSectionSized}
 use Rattle.elf32_write.specs.SectionTable.{Holds, file_section}
 use Rattle.elf32_write.proofs.SymbolsMore.{all_more, taken}

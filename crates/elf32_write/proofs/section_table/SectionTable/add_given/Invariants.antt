@@ -1,5 +1,5 @@
 use Rattle.std.proofs.Common.{All, map, take}
-use Rattle.elf32_write.specs.ObjectFile.{given_section}
+use Rattle.elf32_write.specs.FileSections.{given_section}
 use Rattle.elf32_write.specs.Ranges.{IsSectionSized}
 use Rattle.elf32_write.specs.SectionTable.{Holds}
 use Rattle.elf32_write.proofs.section_table.SectionTable.add_given.Given as goal

@@ -2,7 +2,7 @@ use Rattle.std.proofs.Common.{◌≡◌, ◌+◌, ◌∷◌, [], ◌++◌, ◌�
 use Rattle.std.proofs.lemmas.Result.{on_ok_weaker}
 use Rattle.elf32_write.specs.Image.{padded}
 use Rattle.elf32_write.specs.NameTable.{name_bytes}
-use Rattle.elf32_write.specs.ObjectFile.{names_of}
+use Rattle.elf32_write.specs.FileSections.{names_of}
 use Rattle.elf32_write.specs.SectionTable.{last_section}
 use Rattle.elf32_write.proofs.EachAfter.{holds_more, name_table_push}
 use Rattle.elf32_write.proofs.section_table.SectionTable.add_names.Goals as goal

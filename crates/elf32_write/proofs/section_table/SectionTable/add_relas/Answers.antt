@@ -3,7 +3,7 @@ use Rattle.std.proofs.lemmas.Bool.{ltb-false}
 use Rattle.std.proofs.lemmas.List.{nil_from_length}
 use Rattle.std.proofs.lemmas.List.Elements.{All-nil}
 use Rattle.elf32_read.specs.Parts.{SectionParts}
-use Rattle.elf32_write.specs.ObjectFile.{given_section, rela_section, relocated}
+use Rattle.elf32_write.specs.FileSections.{given_section, rela_section, relocated}
 use Rattle.elf32_write.specs.Ranges.{IsRelocSized}
 use Rattle.elf32_write.specs.SectionTable.{HasRoom}
 use Rattle.elf32_write.proofs.Relocated.{relocated_more}

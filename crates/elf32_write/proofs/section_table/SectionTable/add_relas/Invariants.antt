@@ -1,5 +1,5 @@
 use Rattle.std.proofs.Common.{◌++◌, All, map, take}
-use Rattle.elf32_write.specs.ObjectFile.{given_section, rela_section, relocated}
+use Rattle.elf32_write.specs.FileSections.{given_section, rela_section, relocated}
 use Rattle.elf32_write.specs.Ranges.{IsRelocSized}
 use Rattle.elf32_write.specs.SectionTable.{Holds}
 use Rattle.elf32_write.proofs.section_table.SectionTable.add_relas.Given as goal

@@ -5,7 +5,8 @@ use Rattle.std.proofs.lemmas.List.Elements.{All-from_recursion}
 use Rattle.elf32_read.specs.Header.{Header}
 use Rattle.elf32_read.specs.Parts.{ObjectParts, SectionParts, SymbolParts}
 use Rattle.elf32_read.specs.declared.reloc.Reloc.{Reloc}
-use Rattle.elf32_write.specs.ObjectFile.{added_sections, file_sections, object_size, section_total}
+use Rattle.elf32_write.specs.FileSections.{added_sections, file_sections}
+use Rattle.elf32_write.specs.ObjectFile.{object_size, section_total}
 use Rattle.elf32_write.specs.Writable.{IsWritable, IsWritableSection, IsWritableSymbol}
 use Rattle.elf32_write.proofs.write_object.tests.mixed.Goals as goal
 
