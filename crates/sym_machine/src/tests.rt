@@ -11,20 +11,23 @@ use zc_base::mem_map::MemMap;
 use zc_base::place::Place;
 use zc_outside::mem_console::MemConsole;
 
-// Two sections: NULL, and 12 bytes of code at 52. Their headers begin at 64.
-const OBJECT: [u8; 144] = [
+// Three sections: NULL, 12 bytes of code at 52, and the names, all of which are empty. Their headers
+// begin at 64.
+const OBJECT: [u8; 184] = [
     // The file's header, 52 bytes.
     0x7F, 0x45, 0x4C, 0x46, 1, 1, 1, 0, 0, 0, 0, 0, 0, 0, 0, 0, //
     1, 0, 0xF3, 0, 1, 0, 0, 0, 0, 0, 0, 0, //
     0, 0, 0, 0, 64, 0, 0, 0, 0, 0, 0, 0, //
-    52, 0, 0, 0, 0, 0, 40, 0, 2, 0, 0, 0, //
+    52, 0, 0, 0, 0, 0, 40, 0, 3, 0, 2, 0, //
     // addi a0,x0,3; addi a7,x0,93; ecall
     0x13, 0x05, 0x30, 0x00, 0x93, 0x08, 0xD0, 0x05, 0x73, 0x00, 0x00, 0x00, //
     // The sections' headers, 40 bytes each.
     0, 0, 0, 0, 0, 0, 0, 0, 0, 0, 0, 0, 0, 0, 0, 0, 0, 0, 0, 0, //
     0, 0, 0, 0, 0, 0, 0, 0, 0, 0, 0, 0, 0, 0, 0, 0, 0, 0, 0, 0, //
-    1, 0, 0, 0, 1, 0, 0, 0, 6, 0, 0, 0, 0, 0, 0, 0, 52, 0, 0, 0, //
+    0, 0, 0, 0, 1, 0, 0, 0, 6, 0, 0, 0, 0, 0, 0, 0, 52, 0, 0, 0, //
     12, 0, 0, 0, 0, 0, 0, 0, 0, 0, 0, 0, 4, 0, 0, 0, 0, 0, 0, 0, //
+    0, 0, 0, 0, 3, 0, 0, 0, 0, 0, 0, 0, 0, 0, 0, 0, 64, 0, 0, 0, //
+    1, 0, 0, 0, 0, 0, 0, 0, 0, 0, 0, 0, 1, 0, 0, 0, 0, 0, 0, 0, //
 ];
 
 fn cut_of(alloc: Global, object: &[u8]) -> Result<Cut, Fail> {
