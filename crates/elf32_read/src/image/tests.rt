@@ -1,6 +1,7 @@
 // Images made by hand.
 
 use super::*;
+use crate::fixture::{Row, changed};
 use crate::image_fault::ImageFault::{BadPlaces, BadSegment, NotElf, TooLarge, Truncated};
 use std::test::Fail;
 
@@ -73,114 +74,128 @@ fn an_image_has_its_segments_and_places(rt: HostRuntime) -> Result<(), Fail> {
     Ok(())
 }
 
-// Each row: at most four bytes to change, each with its place, and the first fault then.
-#[test]
-fn the_first_fault_is_answered(rt: HostRuntime) {
-    let rows: [(&str, &[(usize, u8)], Option<ImageFault>); 39] = [
-        ("as it is", &[], None),
-        ("both known flags", &[(36, 0x11)], None),
-        ("an unknown flag", &[(36, 2)], Some(NotElf)),
-        ("an unknown high flag", &[(37, 1)], Some(NotElf)),
-        ("an object", &[(16, 1)], Some(NotElf)),
-        ("program headers of 33 bytes", &[(42, 0x21)], Some(NotElf)),
-        ("section headers of 41 bytes", &[(46, 0x29)], Some(NotElf)),
-        (
-            "section headers of 41 bytes, none",
-            &[(46, 0x29), (48, 0)],
-            None,
-        ),
-        (
-            "program headers past the end",
-            &[(44, 0x0D)],
-            Some(Truncated),
-        ),
-        ("section headers past the end", &[(48, 7)], Some(Truncated)),
-        ("text past the end", &[(57, 2)], Some(Truncated)),
-        ("places past the end", &[(401, 2)], Some(Truncated)),
-        ("zeros past the end", &[(363, 1)], None),
-        ("no segment", &[(44, 0)], Some(BadSegment)),
-        (
-            "text with less memory than bytes",
-            &[(72, 9)],
-            Some(BadSegment),
-        ),
-        ("text that can be written", &[(76, 7)], Some(BadSegment)),
-        ("text below its place", &[(62, 0)], Some(BadSegment)),
-        ("text up to the data", &[(72, 0), (74, 0x0F)], None),
-        (
-            "text into the data",
-            &[(72, 1), (74, 0x0F)],
-            Some(BadSegment),
-        ),
-        ("data of 4 MiB", &[(106, 0x40)], None),
-        (
-            "data of 4 MiB and a byte",
-            &[(104, 1), (106, 0x40)],
-            Some(BadSegment),
-        ),
-        ("data below its place", &[(94, 0x0F)], Some(BadSegment)),
-        (
-            "an empty code segment in the text",
-            &[(94, 1), (92, 4), (108, 5)],
-            None,
-        ),
-        (
-            "a code segment over the text's end",
-            &[(94, 1), (92, 9), (108, 5), (104, 2)],
-            Some(BadSegment),
-        ),
-        (
-            "a code segment after the text",
-            &[(94, 1), (92, 0x0A), (108, 5), (104, 2)],
-            None,
-        ),
-        ("an odd entry", &[(24, 1)], Some(BadSegment)),
-        ("the entry at the text's end", &[(24, 0x0A)], None),
-        (
-            "the entry past the text's end",
-            &[(24, 0x0C)],
-            Some(BadSegment),
-        ),
-        ("the names in no section", &[(50, 6)], Some(BadPlaces)),
-        ("the names in no STRTAB", &[(50, 4)], Some(BadPlaces)),
-        ("a name past the table", &[(380, 0x29)], Some(BadPlaces)),
-        ("an empty name", &[(380, 0x28)], None),
-        ("two lists of places", &[(340, 0x12)], Some(BadPlaces)),
-        ("a list without content", &[(384, 8)], Some(BadPlaces)),
-        (
-            "a list with a part of an entry",
-            &[(400, 0x2F)],
-            Some(BadPlaces),
-        ),
-        ("the same place twice", &[(144, 0)], Some(BadPlaces)),
-        ("an address below the text", &[(138, 0)], Some(BadPlaces)),
-        ("an address at the data", &[(172, 0), (174, 0x10)], None),
-        (
-            "an address past it",
-            &[(172, 1), (174, 0x10)],
-            Some(BadPlaces),
-        ),
-    ];
-    for (row, changes, want) in rows {
-        assert!(rt; changes.len() <= 4, "{row}");
-        let mut bytes = IMAGE;
-        for (at, byte) in changes {
-            assert!(rt; *at < bytes.len());
-            bytes[*at] = *byte;
-        }
-        let got = match Image::read(&bytes, MemMap::standard()) {
-            Ok(_) => None,
-            Err(fault) => Some(fault),
-        };
-        assert_eq!(rt; got, want, "{row}");
+const FAULTS: [Row<ImageFault>; 39] = [
+    ("as it is", &[], None),
+    ("both known flags", &[(36, 0x11)], None),
+    ("an unknown flag", &[(36, 2)], Some(NotElf)),
+    ("an unknown high flag", &[(36, 0x101)], Some(NotElf)),
+    ("an object", &[(16, 0x00F3_0001)], Some(NotElf)),
+    (
+        "program headers of 33 bytes",
+        &[(40, 0x0021_0034)],
+        Some(NotElf),
+    ),
+    (
+        "section headers of 41 bytes",
+        &[(44, 0x0029_0002)],
+        Some(NotElf),
+    ),
+    (
+        "section headers of 41 bytes, none",
+        &[(44, 0x0029_0002), (48, 0x0005_0000)],
+        None,
+    ),
+    (
+        "program headers past the end",
+        &[(44, 0x0028_000D)],
+        Some(Truncated),
+    ),
+    (
+        "section headers past the end",
+        &[(48, 0x0005_0007)],
+        Some(Truncated),
+    ),
+    ("text past the end", &[(56, 0x274)], Some(Truncated)),
+    ("places past the end", &[(400, 0x230)], Some(Truncated)),
+    ("zeros past the end", &[(360, 0x0100_0000)], None),
+    ("no segment", &[(44, 0x0028_0000)], Some(BadSegment)),
+    (
+        "text with less memory than bytes",
+        &[(72, 9)],
+        Some(BadSegment),
+    ),
+    ("text that can be written", &[(76, 7)], Some(BadSegment)),
+    ("text below its place", &[(60, 0)], Some(BadSegment)),
+    ("text up to the data", &[(72, 0x000F_0000)], None),
+    ("text into the data", &[(72, 0x000F_0001)], Some(BadSegment)),
+    ("data of 4 MiB", &[(104, 0x0040_0000)], None),
+    (
+        "data of 4 MiB and a byte",
+        &[(104, 0x0040_0001)],
+        Some(BadSegment),
+    ),
+    (
+        "data below its place",
+        &[(92, 0x000F_0000)],
+        Some(BadSegment),
+    ),
+    (
+        "an empty code segment in the text",
+        &[(92, 0x0001_0004), (108, 5)],
+        None,
+    ),
+    (
+        "a code segment over the text's end",
+        &[(92, 0x0001_0009), (108, 5), (104, 2)],
+        Some(BadSegment),
+    ),
+    (
+        "a code segment after the text",
+        &[(92, 0x0001_000A), (108, 5), (104, 2)],
+        None,
+    ),
+    ("an odd entry", &[(24, 0x0001_0001)], Some(BadSegment)),
+    ("the entry at the text's end", &[(24, 0x0001_000A)], None),
+    (
+        "the entry past the text's end",
+        &[(24, 0x0001_000C)],
+        Some(BadSegment),
+    ),
+    (
+        "the names in no section",
+        &[(48, 0x0006_0006)],
+        Some(BadPlaces),
+    ),
+    (
+        "the names in no STRTAB",
+        &[(48, 0x0004_0006)],
+        Some(BadPlaces),
+    ),
+    ("a name past the table", &[(380, 0x29)], Some(BadPlaces)),
+    ("an empty name", &[(380, 0x28)], None),
+    ("two lists of places", &[(340, 0x12)], Some(BadPlaces)),
+    ("a list without content", &[(384, 8)], Some(BadPlaces)),
+    (
+        "a list with a part of an entry",
+        &[(400, 0x2F)],
+        Some(BadPlaces),
+    ),
+    ("the same place twice", &[(144, 0)], Some(BadPlaces)),
+    ("an address below the text", &[(136, 0)], Some(BadPlaces)),
+    ("an address at the data", &[(172, 0x0010_0000)], None),
+    ("an address past it", &[(172, 0x0010_0001)], Some(BadPlaces)),
+];
+
+fn fault_of(bytes: &[u8]) -> Option<ImageFault> {
+    match Image::read(bytes, MemMap::standard()) {
+        Ok(_) => None,
+        Err(fault) => Some(fault),
     }
+}
+
+#[test]
+fn the_first_fault_is_answered(rt: HostRuntime) -> Result<(), Fail> {
+    for (row, changes, want) in FAULTS {
+        let bytes = changed(rt.alloc(), &IMAGE, changes)?;
+        assert_eq!(rt; fault_of(&bytes), want, "{row}");
+    }
+    Ok(())
 }
 
 #[test]
 fn a_file_of_more_than_eight_mebibytes_is_too_large(rt: HostRuntime) -> Result<(), Fail> {
     let zeros = vec![in rt.alloc(); 0; 0x80_0001]?;
-    let map = MemMap::standard();
-    assert!(rt; matches!(Image::read(&zeros, map), Err(TooLarge)));
-    assert!(rt; matches!(Image::read(&zeros[1..], map), Err(NotElf)));
+    assert_eq!(rt; fault_of(&zeros), Some(TooLarge));
+    assert_eq!(rt; fault_of(&zeros[1..]), Some(NotElf));
     Ok(())
 }

@@ -4,9 +4,8 @@ use super::*;
 use crate::fault::Fault::{
     Alignment, BadName, BadSymbol, CodeSize, Flags, NotElf, SectionKind, TooLarge, Truncated,
 };
-use std::alloc::{AllocError, Global};
+use crate::fixture::{Row, changed};
 use std::test::Fail;
-use zc_base::fields::put_u32;
 
 // Sections: NULL, .text, .rela.text, .bss, .eh_frame, .rela.eh_frame, .symtab and .strtab, which has all
 // names. The relocation of .eh_frame, which is dropped, is the file's first bytes.
@@ -96,11 +95,8 @@ const VALUE: usize = 4;
 
 const BIND: usize = 12;
 
-// What is changed, the words to change, each with its place, and the first fault then.
-type Row = (&'static str, &'static [(usize, u32)], Option<Fault>);
-
 // The file as a whole.
-const FILES: [Row; 27] = [
+const FILES: [Row<Fault>; 27] = [
     ("as it is", &[], None),
     ("another system", &[(4, 0x0301_0101), (8, 1)], None),
     ("another e_version", &[(20, 9)], None),
@@ -155,7 +151,7 @@ const FILES: [Row; 27] = [
 ];
 
 // Sections that are never linked.
-const KINDS: [Row; 31] = [
+const KINDS: [Row<Fault>; 31] = [
     ("headers, but no sections", &[(48, 0)], Some(SectionKind)),
     ("no headers and no sections", &[(32, 0), (48, 0)], None),
     (
@@ -286,7 +282,7 @@ const KINDS: [Row; 31] = [
 ];
 
 // Alignments, sizes, names and symbols.
-const OTHERS: [Row; 43] = [
+const OTHERS: [Row<Fault>; 43] = [
     ("code aligned to 3", &[(TEXT + ALIGN, 3)], Some(Alignment)),
     ("code aligned to 256", &[(TEXT + ALIGN, 256)], None),
     (
@@ -439,20 +435,10 @@ fn fault_of(bytes: &[u8]) -> Option<Fault> {
     }
 }
 
-fn changed(alloc: Global, changes: &[(usize, u32)]) -> Result<Vec<u8>, AllocError> {
-    let mut bytes = Vec::from_slice(alloc, &OBJECT)?;
-    for (at, word) in changes {
-        if *at < bytes.len() && bytes.len() - *at >= 4 {
-            put_u32(&mut bytes, *at, *word);
-        }
-    }
-    Ok(bytes)
-}
-
 #[test]
 fn faults_of_the_file_come_first(rt: HostRuntime) -> Result<(), Fail> {
     for (row, changes, want) in FILES {
-        let bytes = changed(rt.alloc(), changes)?;
+        let bytes = changed(rt.alloc(), &OBJECT, changes)?;
         assert_eq!(rt; fault_of(&bytes), want, "{row}");
     }
     Ok(())
@@ -461,7 +447,7 @@ fn faults_of_the_file_come_first(rt: HostRuntime) -> Result<(), Fail> {
 #[test]
 fn some_sections_are_never_linked(rt: HostRuntime) -> Result<(), Fail> {
     for (row, changes, want) in KINDS {
-        let bytes = changed(rt.alloc(), changes)?;
+        let bytes = changed(rt.alloc(), &OBJECT, changes)?;
         assert_eq!(rt; fault_of(&bytes), want, "{row}");
     }
     Ok(())
@@ -470,7 +456,7 @@ fn some_sections_are_never_linked(rt: HostRuntime) -> Result<(), Fail> {
 #[test]
 fn alignments_sizes_names_and_symbols_are_looked_at(rt: HostRuntime) -> Result<(), Fail> {
     for (row, changes, want) in OTHERS {
-        let bytes = changed(rt.alloc(), changes)?;
+        let bytes = changed(rt.alloc(), &OBJECT, changes)?;
         assert_eq!(rt; fault_of(&bytes), want, "{row}");
     }
     Ok(())
