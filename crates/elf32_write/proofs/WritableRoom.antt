@@ -7,7 +7,7 @@ use Rattle.elf32_write.specs.NameTable.{name_table}
 use Rattle.elf32_write.specs.Entries.{HasInfo, symbol_names}
 use Rattle.elf32_write.specs.FileSections.{FileSection, file_sections, names_of, names_section, section_names, symtab_index, symtab_section}
 use Rattle.elf32_write.specs.ObjectFile.{contents}
-use Rattle.elf32_write.specs.SectionTable.{HasRoom, with_names, with_relas, with_symbols}
+use Rattle.elf32_write.specs.SectionTable.{HasRoom, PartsFit, with_names, with_relas, with_symbols}
 use Rattle.elf32_write.specs.Writable.{IsWritable, IsWritableSection, IsWritableSymbol}
 use Rattle.elf32_write.proofs.Room.{length-last}
 use Rattle.elf32_write.proofs.Stages.{length-symbols, names_so_far, stages}
@@ -53,3 +53,11 @@ writable_relocs parts w =
 pub writable_info : (parts : ObjectParts) → IsWritable parts → All HasInfo parts.symbols
 writable_info parts w =
     All-weaker (IsWritableSymbol parts) HasInfo (λ s h. record { bind = omega (arith, h.bind); kind = h.kind }) parts.symbols w.symbols
+
+pub writable_fits : (parts : ObjectParts) → IsWritable parts → PartsFit parts.sections parts.symbols
+writable_fits parts w = record {
+  count = omega (arith, w.count);
+  room = writable_room parts w;
+  relocs = writable_relocs parts w;
+  info = writable_info parts w;
+}

@@ -1,10 +1,10 @@
 -- A table of sections, as the code fills it, and in which order.
-use Rattle.std.specs.Prelude.{◌≡◌, ℕ, ◌+◌, ◌^◌, ◌<◌, List, [], ◌∷◌, ◌++◌, length, codes}
+use Rattle.std.specs.Prelude.{◌≡◌, ℕ, ◌+◌, ◌^◌, ◌<◌, List, [], ◌∷◌, ◌++◌, length, codes, All}
 use Rattle.elf32_read.specs.Header.{Header}
 use Rattle.elf32_read.specs.Parts.{SectionParts, SymbolParts}
 use Rattle.elf32_write.specs.NameTable.{name_table}
-use Rattle.elf32_write.specs.Entries.{symbol_names}
-use Rattle.elf32_write.specs.FileSections.{FileSection, given_sections, names_of, names_section, rela_sections, symtab_index, symtab_section}
+use Rattle.elf32_write.specs.Entries.{HasInfo, symbol_names}
+use Rattle.elf32_write.specs.FileSections.{FileSection, file_sections, given_sections, names_of, names_section, rela_sections, symtab_index, symtab_section}
 use Rattle.elf32_write.specs.ObjectFile.{contents, headers_for}
 use Rattle.elf32_write.specs.declared.section_table.SectionTable.{SectionTable}
 
@@ -45,3 +45,10 @@ with_symbols xs ys = with_relas xs ++ symtab_section (symtab_index xs) ys ∷ []
 -- and the names of the symbols: all but the last
 unfoldable pub with_names : List SectionParts → List SymbolParts → List FileSection
 with_names xs ys = with_symbols xs ys ++ names_section (codes ".strtab") (symbol_names ys) ∷ []
+
+-- what is counted and written of these has room in its fields
+pub record PartsFit (sections : List SectionParts) (symbols : List SymbolParts) : Type 0 where
+  pub count : length (file_sections sections symbols) < 4096
+  pub room : HasRoom (file_sections sections symbols)
+  pub relocs : All (λ s. All (λ r. r.symbol < 2 ^ 24) s.relocs) sections
+  pub info : All HasInfo symbols

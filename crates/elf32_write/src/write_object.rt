@@ -1,11 +1,10 @@
 // Objects.
 
-ghost use Rattle.std.specs.Prelude.{◌≡◌, ◌^◌, ◌<◌, ◌++◌, length, All, IfOk, OnOk};
-ghost use Rattle.elf32_write.specs.Entries.{HasInfo};
+ghost use Rattle.std.specs.Prelude.{◌≡◌, ◌<◌, ◌++◌, IfOk, OnOk};
 ghost use Rattle.elf32_write.specs.FileSections.{file_sections};
 ghost use Rattle.elf32_write.specs.ObjectFile.{object_bytes, object_header};
 ghost use Rattle.elf32_write.specs.Ranges.{IsPartsSized};
-ghost use Rattle.elf32_write.specs.SectionTable.{HasRoom, Holds, with_names};
+ghost use Rattle.elf32_write.specs.SectionTable.{Holds, PartsFit, with_names};
 ghost use Rattle.elf32_write.specs.Writable.{IsObjectOf, IsWritable};
 
 use crate::fields::{push_halves, push_words};
@@ -44,10 +43,7 @@ fn sections_before_names(
     sections: &[PartSection],
     symbols: &[PartSymbol],
 ) -> Result<SectionTable, AllocError>
-    requires count { length (file_sections sections.now symbols.now) < 4096 }
-    requires room { HasRoom (file_sections sections.now symbols.now) }
-    requires relocs { All (λ s. All (λ r. r.symbol < 2 ^ 24) s.relocs) sections.now }
-    requires info { All HasInfo symbols.now }
+    requires { PartsFit sections.now symbols.now }
     ensures held { IfOk result (λ table. Holds (with_names sections.now symbols.now) table) }
     ensures sized { OnOk result (IsPartsSized sections.now symbols.now) }
 {
@@ -82,10 +78,7 @@ fn sections_of(
     sections: &[PartSection],
     symbols: &[PartSymbol],
 ) -> Result<SectionTable, AllocError>
-    requires count { length (file_sections sections.now symbols.now) < 4096 }
-    requires room { HasRoom (file_sections sections.now symbols.now) }
-    requires relocs { All (λ s. All (λ r. r.symbol < 2 ^ 24) s.relocs) sections.now }
-    requires info { All HasInfo symbols.now }
+    requires { PartsFit sections.now symbols.now }
     ensures held { IfOk result (λ table. Holds (file_sections sections.now symbols.now) table) }
     ensures sized { OnOk result (IsPartsSized sections.now symbols.now) }
 {
@@ -94,7 +87,8 @@ fn sections_of(
     Ok(table)
 }
 
-/// The file of an object with these parts, in time linear in its length.
+/// The file of a relocatable object with these parts (System V gABI, "ELF Header" and "Sections"), in time linear in its
+/// length.
 #[tactic(auto, unfolding(crate::specs::ObjectFile::object_bytes))]
 pub fn write_object(alloc: Global, parts: &ObjectParts) -> Result<Vec<u8>, AllocError>
     requires { IsWritable parts.now }

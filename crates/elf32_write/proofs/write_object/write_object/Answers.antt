@@ -10,7 +10,7 @@ use Rattle.elf32_write.specs.Writable.{IsObjectOf}
 use Rattle.elf32_write.proofs.ObjectBack.{object_back}
 use Rattle.elf32_write.specs.declared.section_table.SectionTable.{SectionTable}
 use Rattle.elf32_write.proofs.Stages.{length-each_after}
-use Rattle.elf32_write.proofs.WritableRoom.{writable_relocs, writable_room}
+use Rattle.elf32_write.proofs.WritableRoom.{writable_fits}
 use Rattle.elf32_write.proofs.write_object.write_object.Goals as goal
 
 -- the table holds the sections of the parts
@@ -20,16 +20,11 @@ table_held parts sections symbols table e f held = rw (sym e, sym f) held
 parts_sized : (parts : ObjectParts) (sections : List SectionParts) (symbols : List SymbolParts) → sections ≡ parts.sections → symbols ≡ parts.symbols → IsPartsSized sections symbols → IsPartsSized parts.sections parts.symbols
 parts_sized parts sections symbols e f sized = rw (sym e, sym f) sized
 
-pub sections_of-requires-clause-room : goal.sections_of-requires-clause-room
-sections_of-requires-clause-room c =
+pub sections_of-requires : goal.sections_of-requires
+sections_of-requires c =
     let sections = c.deref.ensures.value ∙ ap (λ p. p.sections) c.parts.view_is in
     let symbols = c.deref-2.ensures.value ∙ ap (λ p. p.symbols) c.parts.view_is in
-    rw (sections, symbols) (writable_room c.args.parts.now c.requires)
-
-pub sections_of-requires-clause-relocs : goal.sections_of-requires-clause-relocs
-sections_of-requires-clause-relocs c =
-    let sections = c.deref.ensures.value ∙ ap (λ p. p.sections) c.parts.view_is in
-    rw sections (writable_relocs c.args.parts.now c.requires)
+    rw (sections, symbols) (writable_fits c.args.parts.now c.requires)
 
 pub overflow_cast-len : goal.overflow_cast-len
 overflow_cast-len c =

@@ -1,12 +1,11 @@
 -- The parts of the second object can be written.
-use Rattle.std.proofs.Common.{◌≡◌, ℕ, ◌≤◌, ◌<◌, List, [], ◌∷◌, length, codes, refl, sym, ap, ◌∙◌, lit<, lit≤, arith, subst, pos, negsuc}
+use Rattle.std.proofs.Common.{◌≡◌, ℕ, ◌<◌, List, [], ◌∷◌, codes, refl, sym, ◌∙◌, lit<, lit≤, arith, subst, pos, negsuc}
 use Rattle.std.specs.Int.Count.{ones}
 use Rattle.std.proofs.lemmas.List.Elements.{All-from_recursion}
 use Rattle.elf32_read.specs.Header.{Header}
 use Rattle.elf32_read.specs.Parts.{ObjectParts, SectionParts, SymbolParts}
 use Rattle.elf32_read.specs.declared.reloc.Reloc.{Reloc}
 use Rattle.elf32_write.specs.FileSections.{added_sections, file_sections}
-use Rattle.elf32_write.specs.ObjectFile.{object_size, section_total}
 use Rattle.elf32_write.specs.Writable.{IsWritable, IsWritableSection, IsWritableSymbol}
 use Rattle.elf32_write.proofs.write_object.tests.mixed.Goals as goal
 

@@ -1,11 +1,10 @@
 -- The parts of three instructions can be written.
-use Rattle.std.proofs.Common.{◌≡◌, ℕ, ◌≤◌, ◌<◌, List, [], ◌∷◌, length, codes, refl, sym, ap, ◌∙◌, lit<, lit≤, arith, subst}
+use Rattle.std.proofs.Common.{◌≡◌, ◌<◌, [], ◌∷◌, codes, refl, sym, ◌∙◌, lit<, lit≤, arith, subst}
 use Rattle.std.specs.Int.Count.{ones}
 use Rattle.std.proofs.lemmas.List.Elements.{All-cons, All-nil}
 use Rattle.elf32_read.specs.Header.{Header}
 use Rattle.elf32_read.specs.Parts.{ObjectParts, SectionParts, SymbolParts}
 use Rattle.elf32_write.specs.FileSections.{added_sections, file_sections}
-use Rattle.elf32_write.specs.ObjectFile.{object_size, section_total}
 use Rattle.elf32_write.specs.Writable.{IsWritable, IsWritableSection, IsWritableSymbol}
 use Rattle.elf32_write.proofs.write_object.tests.three.Goals as goal
 
