@@ -1,3 +1,8 @@
+pub mod Data
+pub mod Faults
 pub mod Inputs
 pub mod LinkFault
+pub mod Listed
+pub mod Names
 pub mod Objects
+pub mod Resolve

@@ -2,6 +2,7 @@
 //! an addend resolves to.
 #![tactic(auto)]
 
+pub mod data_class;
 pub mod link_fault;
 pub mod objects;
 pub mod target;

@@ -1,0 +1,15 @@
+// Classes of data.
+
+/// Where in memory a section of data stands, or a common symbol: the classes stand in this order.
+#[derive(Clone, Copy, PartialEq, Eq, Debug)]
+pub enum DataClass {
+    /// The program doesn't write to it. It isn't protected, either.
+    ReadOnly,
+    Data,
+    /// `.sdata` and its kin, near the global pointer.
+    SmallData,
+    /// `.sbss` and its kin.
+    SmallZero,
+    Zero,
+    Common,
+}
