@@ -6,7 +6,8 @@ use Rattle.std.proofs.lemmas.Bool.{ltb-false}
 use Rattle.elf32_read.specs.declared.fault.Fault.{Fault}
 use Rattle.elf32_read.specs.declared.fault.Fault.TheVariants.{TooLarge}
 use Rattle.elf32_read.specs.Object.{object_fault}
-use Rattle.psabi_sym.specs.Inputs.{Inputs, fault_from, gather_fault, most_objects}
+use Rattle.psabi_sym.specs.Inputs.{Inputs}
+use Rattle.psabi_sym.specs.Faults.{fault_from, gather_fault, most_objects}
 
 -- if neither this object nor a later one has a fault, this one has none, and no later one has
 none_of_both : (i : ℕ) (fault : Option Fault) (rest : Option (ℕ × Fault)) → option_or (option_map (λ f. (i, f)) fault) rest ≡ None → (fault ≡ None) × (rest ≡ None)

@@ -1,1 +1,5 @@
+pub mod BlockLaws
+pub mod CommonLaws
 pub mod Gathered
+pub mod RowLaws
+pub mod Tables

@@ -1,21 +1,21 @@
 -- Where data lies in memory: sections by class, then common symbols. Code has no part in it.
-use Rattle.std.specs.Prelude.{ℕ, ◌+◌, Bool, not, ◌&&◌, ◌||◌, ◌==◌, nat_eq, max, if◌then◌else◌, is_none, List, [], ◌∷◌, ◌++◌, map, filter, codes, Option}
-use Rattle.std.specs.Int.{next_multiple_of}
-use Rattle.std.specs.List.{find, flat_map, fold, starts_with, zip}
-use Rattle.std.specs.Option.{option_map}
+use Rattle.std.specs.Prelude.{ℕ, ◌+◌, Bool, false, not, ◌&&◌, ◌||◌, ◌==◌, nat_eq, max, if◌then◌else◌, is_none, List, [], ◌∷◌, ◌++◌, map, filter, codes, Option, Some, None}
+use Rattle.std.specs.List.{find, fold, starts_with}
+use Rattle.std.specs.Option.{option_and_then, option_map}
 use Rattle.elf32_read.specs.Kept.{has_flags}
 use Rattle.elf32_read.specs.Parts.{ObjectParts, SectionParts, is_kept_section}
+use Rattle.psabi_sym.specs.Blocks.{aligned_up, end_from, placed_from}
+use Rattle.psabi_sym.specs.Classes.{classes_before, same_class}
 use Rattle.psabi_sym.specs.Inputs.{ParsedInputs}
-use Rattle.psabi_sym.specs.Listed.{ListedSection, ListedSymbol, all_sections, all_symbols}
+use Rattle.psabi_sym.specs.Listed.{ListedSection, ListedSymbol, all_sections, all_symbols, section_at, sections_before}
 use Rattle.psabi_sym.specs.Names.{commons_of, firsts, is_common, same_name, strong_definition}
+use Rattle.psabi_sym.specs.declared.block.Block.{Block}
 use Rattle.psabi_sym.specs.declared.data_class.DataClass.{DataClass}
 use Rattle.psabi_sym.specs.declared.data_class.DataClass.TheVariants.{ReadOnly, Data, SmallData, SmallZero, Zero, Common}
+use Rattle.psabi_sym.specs.declared.section_row.SectionRole.{SectionRole}
+use Rattle.psabi_sym.specs.declared.section_row.SectionRole.TheVariants.{Code, InClass, Dropped}
 
 -- ---- classes
-
--- a section that is kept and holds no instructions (EXECINSTR, 4)
-abbrev pub is_data_section : SectionParts → Bool
-is_data_section s = is_kept_section s && not (has_flags 4 s.flags)
 
 -- this name, or one that begins with it and a dot
 abbrev pub is_of_kin : List ℕ → List ℕ → Bool
@@ -27,78 +27,63 @@ class_of s =
     if s.kind == 8 then (if is_of_kin (codes ".sbss") s.name then SmallZero else Zero)
     else (if not (has_flags 1 s.flags) then ReadOnly else (if is_of_kin (codes ".sdata") s.name then SmallData else Data))
 
--- the classes that stand before a class in memory
-abbrev pub classes_before : DataClass → List DataClass
-classes_before ReadOnly = []
-classes_before Data = ReadOnly ∷ []
-classes_before SmallData = ReadOnly ∷ Data ∷ []
-classes_before SmallZero = ReadOnly ∷ Data ∷ SmallData ∷ []
-classes_before Zero = ReadOnly ∷ Data ∷ SmallData ∷ SmallZero ∷ []
-classes_before Common = ReadOnly ∷ Data ∷ SmallData ∷ SmallZero ∷ Zero ∷ []
+-- what a section is: dropped if it isn't kept, and else code (EXECINSTR, 4) or data
+unfoldable pub role_of : SectionParts → SectionRole
+role_of s = if not (is_kept_section s) then Dropped else (if has_flags 4 s.flags then Code else InClass (class_of s))
 
--- whether two classes are one
-abbrev pub same_class : DataClass → DataClass → Bool
-same_class first second = class_number first == class_number second
-  where
-    class_number : DataClass → ℕ
-    class_number ReadOnly = 0
-    class_number Data = 1
-    class_number SmallData = 2
-    class_number SmallZero = 3
-    class_number Zero = 4
-    class_number Common = 5
 
--- ---- blocks: what takes room, by its alignment and size
+-- data of this class
+abbrev pub has_class : DataClass → SectionRole → Bool
+has_class class Code = false
+has_class class (InClass own) = same_class own class
+has_class class Dropped = false
 
--- an alignment and a size
-abbrev pub Block : Type 0
-Block = ℕ × ℕ
+-- a section is data of this class
+abbrev pub is_of_class : DataClass → ListedSection → Bool
+is_of_class class l = has_class class (role_of l.section)
 
--- an address rounded up to a multiple of an alignment, of which 0 counts as 1
-abbrev pub aligned_up : ℕ → ℕ → ℕ
-aligned_up align at = next_multiple_of at (max 1 align)
-
--- where blocks begin, one after another from an address on
-pub starts_from : ℕ → List Block → List ℕ
-starts_from at [] = []
-starts_from at (b ∷ bs) = aligned_up b.0 at ∷ starts_from (aligned_up b.0 at + b.1) bs
-
--- where the last of them ends
-pub end_from : ℕ → List Block → ℕ
-end_from at [] = at
-end_from at (b ∷ bs) = end_from (aligned_up b.0 at + b.1) bs
+-- ---- what takes room
 
 -- the greatest number
 abbrev pub greatest : List ℕ → ℕ
 greatest numbers = fold max 0 numbers
 
--- the sections of data of a class, by object and index
-abbrev pub sections_of : DataClass → List ObjectParts → List ListedSection
-sections_of class objects =
-    filter (λ l. is_data_section l.section && same_class (class_of l.section) class) (all_sections objects)
+-- the room of a section
+abbrev pub section_block : ListedSection → Block
+section_block l = record { align = l.section.align; size = l.section.size }
+
+-- what these sections of a class take, in order
+abbrev pub blocks_in : DataClass → List ListedSection → List Block
+blocks_in class sections = map section_block (filter (is_of_class class) sections)
 
 -- the common symbols that take room, the first of each name in order: no strong definition has its name
-abbrev pub commons_placed : List ObjectParts → List ListedSymbol
+unfoldable pub commons_placed : List ObjectParts → List ListedSymbol
 commons_placed objects =
     firsts (filter (λ l. is_common l.symbol && is_none (strong_definition objects l.symbol.name)) (all_symbols objects))
 
--- the room of a section
-abbrev pub section_block : ListedSection → Block
-section_block l = (l.section.align, l.section.size)
-
 -- the room of a name: the greatest alignment, which is the value, and the greatest size of its common symbols
-abbrev pub common_block : List ObjectParts → ListedSymbol → Block
-common_block objects l =
-    let same = commons_of objects l.symbol.name in (greatest (map (λ m. m.symbol.value) same), greatest (map (λ m. m.symbol.size) same))
+abbrev pub common_block : List ObjectParts → List ℕ → Block
+common_block objects name = let same = commons_of objects name in record {
+  align = greatest (map (λ l. max 1 l.symbol.value) same);
+  size = greatest (map (λ l. l.symbol.size) same);
+}
+
+-- the room of a symbol's name
+abbrev pub listed_block : List ObjectParts → ListedSymbol → Block
+listed_block objects l = common_block objects l.symbol.name
+
+-- what the common symbols take, in order
+abbrev pub common_blocks : List ObjectParts → List Block
+common_blocks objects = map (listed_block objects) (commons_placed objects)
 
 -- all that a class has
 abbrev pub blocks_of : List ObjectParts → DataClass → List Block
-blocks_of objects ReadOnly = map section_block (sections_of ReadOnly objects)
-blocks_of objects Data = map section_block (sections_of Data objects)
-blocks_of objects SmallData = map section_block (sections_of SmallData objects)
-blocks_of objects SmallZero = map section_block (sections_of SmallZero objects)
-blocks_of objects Zero = map section_block (sections_of Zero objects)
-blocks_of objects Common = map (common_block objects) (commons_placed objects)
+blocks_of objects ReadOnly = blocks_in ReadOnly (all_sections objects)
+blocks_of objects Data = blocks_in Data (all_sections objects)
+blocks_of objects SmallData = blocks_in SmallData (all_sections objects)
+blocks_of objects SmallZero = blocks_in SmallZero (all_sections objects)
+blocks_of objects Zero = blocks_in Zero (all_sections objects)
+blocks_of objects Common = common_blocks objects
 
 -- ---- addresses
 
@@ -107,31 +92,35 @@ abbrev pub end_after : List ObjectParts → ℕ → DataClass → ℕ
 end_after objects at class = end_from (aligned_up 16 at) (blocks_of objects class)
 
 -- where a class begins
-abbrev pub class_start : ParsedInputs → DataClass → ℕ
+unfoldable pub class_start : ParsedInputs → DataClass → ℕ
 class_start inputs class = aligned_up 16 (fold (end_after inputs.objects) inputs.map.data_low (classes_before class))
 
 -- where a class ends
-abbrev pub class_end : ParsedInputs → DataClass → ℕ
+unfoldable pub class_end : ParsedInputs → DataClass → ℕ
 class_end inputs class = end_from (class_start inputs class) (blocks_of inputs.objects class)
 
--- the sections of a class, each with its address
-abbrev pub placed_sections : ParsedInputs → DataClass → List (ListedSection × ℕ)
-placed_sections inputs class =
-    zip (sections_of class inputs.objects) (starts_from (class_start inputs class) (blocks_of inputs.objects class))
+-- where a section of a class begins: after those of its class that stand before it
+abbrev pub address_in : ParsedInputs → ℕ → ℕ → SectionParts → DataClass → ℕ
+address_in inputs o i s class =
+    aligned_up s.align (end_from (class_start inputs class) (blocks_in class (sections_before inputs.objects o i)))
+
+-- the same by what the section is: code and what is dropped has no address
+abbrev pub role_address : ParsedInputs → ℕ → ℕ → SectionParts → SectionRole → Option ℕ
+role_address inputs o i s Code = None
+role_address inputs o i s (InClass class) = Some (address_in inputs o i s class)
+role_address inputs o i s Dropped = None
 
 -- the address of a section of data, by its object's index and its own
 unfoldable pub data_address : ParsedInputs → ℕ → ℕ → Option ℕ
-data_address inputs object section =
-    option_map (λ e. e.1)
-    (find (λ e. e.0.object == object && e.0.index == section)
-    (flat_map (placed_sections inputs) (ReadOnly ∷ Data ∷ SmallData ∷ SmallZero ∷ Zero ∷ [])))
+data_address inputs o i = option_and_then (λ s. role_address inputs o i s (role_of s)) (section_at inputs.objects o i)
+
+-- the common symbols that take room, each with its address
+abbrev pub placed_commons : ParsedInputs → List (ListedSymbol × ℕ)
+placed_commons inputs = placed_from (listed_block inputs.objects) (class_start inputs Common) (commons_placed inputs.objects)
 
 -- the address of a name that is common
 unfoldable pub common_address : ParsedInputs → List ℕ → Option ℕ
-common_address inputs name =
-    option_map (λ e. e.1)
-    (find (λ e. same_name e.0.symbol.name name)
-    (zip (commons_placed inputs.objects) (starts_from (class_start inputs Common) (blocks_of inputs.objects Common))))
+common_address inputs name = option_map (λ e. e.1) (find (λ e. same_name e.0.symbol.name name) (placed_commons inputs))
 
 -- where the data ends whose bytes a file holds
 abbrev pub data_file_end : ParsedInputs → ℕ

@@ -1,3 +1,5 @@
+pub mod Blocks
+pub mod Classes
 pub mod Data
 pub mod Faults
 pub mod Inputs
@@ -6,3 +8,4 @@ pub mod Listed
 pub mod Names
 pub mod Objects
 pub mod Resolve
+pub mod Rows

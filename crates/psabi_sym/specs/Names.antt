@@ -13,31 +13,31 @@ same_name first second = pointwise nat_eq first second
 abbrev pub is_common : SymbolParts → Bool
 is_common s = s.home == 0xFFF2
 
--- a symbol with a home of its own: neither undefined (SHN_UNDEF, 0) nor common
-abbrev pub is_definition : SymbolParts → Bool
-is_definition s = not (s.home == 0) && not (is_common s)
+-- a symbol with a home of its own, neither undefined (SHN_UNDEF, 0) nor common, and this binding
+abbrev pub is_definition : ℕ → SymbolParts → Bool
+is_definition bind s = s.bind == bind && not (s.home == 0) && not (is_common s)
 
 -- a global (1) definition
 abbrev pub is_strong : SymbolParts → Bool
-is_strong s = s.bind == 1 && is_definition s
+is_strong s = is_definition 1 s
 
--- a weak (2) definition
-abbrev pub is_weak : SymbolParts → Bool
-is_weak s = s.bind == 2 && is_definition s
+-- the first definition of a name with this binding
+abbrev pub first_definition : ℕ → List ObjectParts → List ℕ → Option ListedSymbol
+first_definition bind objects name = find (λ l. is_definition bind l.symbol && same_name l.symbol.name name) (all_symbols objects)
 
 -- the first strong definition of a name
 abbrev pub strong_definition : List ObjectParts → List ℕ → Option ListedSymbol
-strong_definition objects name = find (λ l. is_strong l.symbol && same_name l.symbol.name name) (all_symbols objects)
+strong_definition objects name = first_definition 1 objects name
 
--- the first weak definition of a name
+-- the first weak (2) definition of a name
 abbrev pub weak_definition : List ObjectParts → List ℕ → Option ListedSymbol
-weak_definition objects name = find (λ l. is_weak l.symbol && same_name l.symbol.name name) (all_symbols objects)
+weak_definition objects name = first_definition 2 objects name
 
 -- the common symbols of a name
 abbrev pub commons_of : List ObjectParts → List ℕ → List ListedSymbol
 commons_of objects name = filter (λ l. is_common l.symbol && same_name l.symbol.name name) (all_symbols objects)
 
 -- of symbols, the first of each name
-pub firsts : List ListedSymbol → List ListedSymbol
+abbrev pub firsts : List ListedSymbol → List ListedSymbol
 firsts [] = []
 firsts (l ∷ ls) = l ∷ filter (λ m. not (same_name m.symbol.name l.symbol.name)) (firsts ls)

@@ -2,7 +2,14 @@
 //! an addend resolves to.
 #![tactic(auto)]
 
+pub mod block;
+mod commons;
 pub mod data_class;
+mod layout;
 pub mod link_fault;
+mod name_tables;
 pub mod objects;
+pub mod section_row;
+pub mod sums;
+pub mod symbol_row;
 pub mod target;

@@ -1,7 +1,7 @@
 // The objects of a link.
 
 ghost use Rattle.std.specs.Prelude.{◌≡◌, ◌≤◌, ◌<◌, List, ℕ, length, None, Some, IfOk, IfErr, slice_get};
-ghost use Rattle.psabi_sym.specs.Inputs.{fault_from, gather_fault};
+ghost use Rattle.psabi_sym.specs.Faults.{fault_from, gather_fault};
 ghost use Rattle.psabi_sym.specs.LinkFault.{IsRefusal};
 ghost use Rattle.psabi_sym.specs.Objects.{contents_of};
 
@@ -23,7 +23,8 @@ pub struct Objects {
 
 impl Model for Objects {
     ghost use Rattle.std.specs.Prelude.{◌≡◌, None};
-    ghost use Rattle.psabi_sym.specs.Inputs.{Inputs, gather_fault};
+    ghost use Rattle.psabi_sym.specs.Faults.{gather_fault};
+    ghost use Rattle.psabi_sym.specs.Inputs.{Inputs};
     ghost use Rattle.psabi_sym.specs.Objects.{contents_of};
 
     ghost Value = { Inputs };
@@ -36,7 +37,7 @@ impl Model for Objects {
 
 impl Objects {
     /// The objects with these bytes, which are copied, and a memory map, or why they aren't linked.
-    #[tactic(auto, unfolding(crate::specs::Inputs::gather_fault))]
+    #[tactic(auto, unfolding(crate::specs::Faults::gather_fault))]
     pub fn gather(alloc: Global, bytes: &[Vec<u8>], map: MemMap) -> Result<Objects, LinkFault>
         ensures ok { IfOk result (λ objects.
             (objects ≡ record { files = contents_of bytes.now; map = map }) × (gather_fault objects ≡ None)) }

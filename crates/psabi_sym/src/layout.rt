@@ -1,0 +1,43 @@
+// Where sections of data lie.
+
+ghost use Rattle.std.specs.Prelude.{◌≡◌, ◌+◌, ◌^◌, ◌<◌, ℕ, Some, length, max, slice_get, slice_index, take, if◌then◌else◌};
+ghost use Rattle.psabi_sym.specs.Blocks.{aligned_up, end_from, room_of_all};
+ghost use Rattle.psabi_sym.specs.Data.{has_class};
+ghost use Rattle.psabi_sym.specs.Rows.{row_address, row_blocks};
+ghost use Rattle.psabi_sym.specs.declared.section_row.SectionRow.{SectionRow};
+
+use crate::data_class::DataClass;
+use crate::section_row::SectionRow;
+
+const CLASS_ALIGN: u32 = 16;
+
+/// The address, rounded up to a multiple of the alignment, of which 0 counts as 1.
+#[tactic(auto, unfolding(crate::specs::Blocks::aligned_up))]
+pub fn aligned_up(align: u32, at: u32) -> u32
+    requires { at + max 1 align < 2 ^ 32 }
+    ensures value { result ≡ aligned_up align at }
+    ensures most { result < at + max 1 align }
+{
+    at.next_multiple_of(align.max(1))
+}
+
+/// Places the sections of a class one after another, from an address on: where they end. The table of
+/// addresses has one for each section.
+#[tactic(auto, using(crate::proofs::RowLaws::fits_here))]
+pub fn place_class(rows: &[SectionRow], class: DataClass, from: u32, addresses: &mut [u32]) -> u32
+    requires same_length { length addresses.old ≡ length rows.now }
+    requires room { from + 16 + room_of_all (row_blocks class rows.now) < 2 ^ 32 }
+    ensures end { result ≡ end_from (aligned_up 16 from) (row_blocks class rows.now) }
+    ensures placed { (k : ℕ) (r : SectionRow) → slice_get rows.now k ≡ Some r → slice_index addresses.new k
+        ≡ (if has_class class r.role then row_address class (aligned_up 16 from) rows.now k r else slice_index addresses.old k) }
+{
+    let mut at = aligned_up(CLASS_ALIGN, from);
+    for (k, row) in rows.iter().enumerate() {
+        if row.is_of(class) {
+            at = aligned_up(row.align, at);
+            addresses[k] = at;
+            at += row.size;
+        }
+    }
+    at
+}
