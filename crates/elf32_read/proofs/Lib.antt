@@ -1,6 +1,11 @@
+pub mod Alone
 pub mod Ascending
+pub mod Dropped
 pub mod Entries
 pub mod Faultless
 pub mod Filtered
+pub mod Held
 pub mod Listed
+pub mod Marks
 pub mod Named
+pub mod Strings

@@ -1,12 +1,13 @@
 -- Sections by their names, and at most one of a kind.
-use Rattle.std.proofs.Common.{◌≡◌, ℕ, ◌≤◌, List, [], length, drop, true, false, Option, Some, None, refl, ap, arith, inl, inr}
-use Rattle.std.specs.Prelude.{◌==◌, is_some, not}
+use Rattle.std.proofs.Common.{◌≡◌, ℕ, ◌≤◌, ◌<◌, List, [], length, drop, true, false, Option, Some, None, refl, ap, ◌∙◌, arith, inl, inr}
+use Rattle.std.specs.Prelude.{◌==◌, is_some, nat_lt, not}
 use Rattle.std.specs.List.{list_any}
 use Rattle.std.specs.Option.{option_to_list}
-use Rattle.std.proofs.lemmas.Bool.{cases_lt}
+use Rattle.std.proofs.lemmas.Bool.{cases_lt, le-ltb, lt-ltb}
 use Rattle.std.proofs.lemmas.List.{drop_all}
 use Rattle.elf32_read.specs.Header.{Header}
 use Rattle.elf32_read.specs.Image.{is_unnamed}
+use Rattle.elf32_read.specs.Names.{has_end}
 
 -- a name that ends begins in the table
 pub named_within : (names : List ℕ) (header : Header) → is_unnamed names header ≡ false → header.name ≤ length names
@@ -28,3 +29,11 @@ length-option_to_list (Some x) some = refl
 pub option_to_list-none : {X : Type 0} (found : Option X) → is_some found ≡ false → option_to_list found ≡ []
 option_to_list-none None none = refl
 option_to_list-none (Some x) none = absurd cc
+
+-- names that begin where the last has ended have no end
+pub ends_past : (names : List ℕ) (end at : ℕ) → ((k : ℕ) → has_end names k ≡ nat_lt k end) → end ≤ at → not (has_end names at) ≡ true
+ends_past names end at ends past = ap not (ends at ∙ le-ltb at end past)
+
+-- and all others have one
+pub ends_within : (names : List ℕ) (end at : ℕ) → ((k : ℕ) → has_end names k ≡ nat_lt k end) → at < end → not (has_end names at) ≡ false
+ends_within names end at ends within = ap not (ends at ∙ lt-ltb at end within)

@@ -1,6 +1,6 @@
 -- The headers of a little-endian ELF file of class 32 (System V gABI, "ELF Header", "Sections" and
 -- "Program Header").
-use Rattle.std.specs.Prelude.{ℕ, ◌+◌, ◌*◌, Bool, not, ◌&&◌, ◌||◌, ◌==◌, if◌then◌else◌, List, [], take, drop, map, slice_index}
+use Rattle.std.specs.Prelude.{◌≡◌, ◌<◌, ℕ, ◌+◌, ◌*◌, Bool, not, ◌&&◌, ◌||◌, ◌==◌, if◌then◌else◌, List, [], ◌∷◌, take, drop, map, filter, slice_index, Option, Some, None}
 use Rattle.std.specs.List.{range_with_len}
 use Rattle.zc_base.specs.Fields.{half_in, word_in}
 use Rattle.elf32_read.specs.declared.header.SectionHeader.{SectionHeader}
@@ -74,6 +74,11 @@ header_of bytes i = let at = section_table bytes + 40 * i in record {
 -- the headers of all sections, in order
 abbrev pub headers_of : List ℕ → List Header
 headers_of bytes = map (header_of bytes) (range_with_len 0 (section_count bytes))
+
+-- of all sections the one with this index passes a test, or none does
+abbrev pub IsOnly : (Header → Bool) → List ℕ → Option ℕ → Type 0
+IsOnly test bytes None = filter test (headers_of bytes) ≡ []
+IsOnly test bytes (Some i) = (i < section_count bytes) × (filter test (headers_of bytes) ≡ header_of bytes i ∷ [])
 
 -- a section without content in the file: NULL (0) or NOBITS (8)
 abbrev pub is_empty_kind : ℕ → Bool

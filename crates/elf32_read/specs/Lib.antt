@@ -3,6 +3,7 @@ pub mod Header
 pub mod Image
 pub mod ImageFault
 pub mod Kept
+pub mod Lent
 pub mod Names
 pub mod Object
 pub mod Parts

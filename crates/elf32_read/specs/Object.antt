@@ -1,6 +1,6 @@
 -- Objects by their bytes: each fault by its test, in the order in which they are looked for (System V gABI, "ELF Header",
 -- "Sections", "Symbol Table" and "Relocation"; RISC-V ELF psABI, "File Header").
-use Rattle.std.specs.Prelude.{◌+◌, ◌*◌, ◌%◌, Bool, not, ◌&&◌, ◌||◌, ◌==◌, nat_lt, nat_le, if◌then◌else◌, List, ℕ, [], ◌∷◌, length, drop, Option}
+use Rattle.std.specs.Prelude.{◌≡◌, ◌≤◌, ◌<◌, ◌+◌, ◌*◌, ◌%◌, Bool, false, not, ◌&&◌, ◌||◌, ◌==◌, nat_lt, nat_le, if◌then◌else◌, List, ℕ, [], ◌∷◌, length, drop, Option, None}
 use Rattle.std.specs.Int.{is_power_of_two}
 use Rattle.std.specs.List.{list_any, range_with_len}
 use Rattle.elf32_read.specs.Header.{Header, begins_as, content_of, file_flags, have_other_size, header_of, headers_of, is_empty_kind, name_section, section_count, section_header_size, section_table}
@@ -8,9 +8,9 @@ use Rattle.elf32_read.specs.Kept.{has_flags, is_kept, is_kept_code}
 use Rattle.elf32_read.specs.Names.{has_end, lacks_strings, section_names}
 use Rattle.elf32_read.specs.Relocs.{relas_for, relocs_in}
 use Rattle.elf32_read.specs.Rows.{first_of}
-use Rattle.elf32_read.specs.Symbols.{symbol_count, symbol_entries, symbol_names, symbol_tables}
+use Rattle.elf32_read.specs.Symbols.{IsSymbolSection, symbol_content, symbol_count, symbol_entries, symbol_names, symbol_tables}
 use Rattle.elf32_read.specs.declared.fault.Fault.{Fault}
-use Rattle.elf32_read.specs.declared.fault.Fault.TheVariants.{NotElf, Truncated}
+use Rattle.elf32_read.specs.declared.fault.Fault.TheVariants.{NotElf, Truncated, Flags, SectionKind, Alignment, CodeSize, BadName, BadSymbol, TooLarge}
 use Rattle.elf32_read.specs.declared.reloc.Reloc.{Reloc}
 use Rattle.elf32_read.specs.declared.symbol_entry.SymbolEntry.{SymbolEntry}
 
@@ -41,6 +41,12 @@ passes_end bytes header = not (is_empty_kind header.kind) && nat_lt (length byte
 -- the file ends before its section headers do, or before the content of a section does
 abbrev pub truncated : List ℕ → Bool
 truncated bytes = lacks_headers bytes || list_any (passes_end bytes) (headers_of bytes)
+
+-- the headers and the contents lie in the file
+pub record IsWhole (bytes : List ℕ) : Type 0 where
+  pub long : 52 ≤ length bytes
+  pub headers : section_table bytes + 40 * section_count bytes ≤ length bytes
+  pub contents : (i : ℕ) → i < section_count bytes → passes_end bytes (header_of bytes i) ≡ false
 
 -- e_flags has another bit than TSO (0x10)
 abbrev pub has_other_flags : List ℕ → Bool
@@ -89,14 +95,21 @@ is_kept_rela bytes h = h.kind == 4 && nat_lt h.info (section_count bytes) && is_
 abbrev pub is_odd_rela : List ℕ → Header → Bool
 is_odd_rela bytes h = is_kept_rela bytes h && (not (h.entry_size == 12) || not (h.size % 12 == 0))
 
--- one whose symbols aren't those of the SYMTAB
+-- the section with this index is none, or no SYMTAB
+abbrev pub lacks_symbols : List ℕ → ℕ → Bool
+lacks_symbols bytes i = nat_le (section_count bytes) i || not ((header_of bytes i).kind == 2)
+
+-- one whose symbols aren't those of the SYMTAB: sh_link names it
 abbrev pub has_other_symbols : List ℕ → Header → Bool
-has_other_symbols bytes h =
-    is_kept_rela bytes h && (nat_le (section_count bytes) h.link || not ((header_of bytes h.link).kind == 2))
+has_other_symbols bytes h = is_kept_rela bytes h && lacks_symbols bytes h.link
 
 -- a kept section with two RELA
-abbrev pub has_two_relas : List ℕ → ℕ → Bool
-has_two_relas bytes i = is_kept bytes (header_of bytes i) && nat_lt 1 (length (relas_for bytes i))
+abbrev pub is_changed_twice : List ℕ → ℕ → Bool
+is_changed_twice bytes i = is_kept bytes (header_of bytes i) && nat_lt 1 (length (relas_for bytes i))
+
+-- there is such a section
+abbrev pub has_two_relas : List ℕ → Bool
+has_two_relas bytes = list_any (is_changed_twice bytes) (range_with_len 0 (section_count bytes))
 
 -- a RELA for a section that isn't there
 abbrev pub is_rela_of_none : List ℕ → Header → Bool
@@ -111,8 +124,7 @@ is_unlinked bytes h =
 -- the object has sections that are never linked
 abbrev pub has_unlinked_sections : List ℕ → Bool
 has_unlinked_sections bytes =
-    counts_elsewhere bytes || has_second_symbol_table bytes || list_any (is_unlinked bytes) (headers_of bytes)
-    || list_any (has_two_relas bytes) (range_with_len 0 (section_count bytes))
+    counts_elsewhere bytes || has_second_symbol_table bytes || list_any (is_unlinked bytes) (headers_of bytes) || has_two_relas bytes
 
 -- ---- alignments and sizes
 
@@ -143,6 +155,10 @@ has_cut_code bytes = list_any (is_cut_code bytes) (headers_of bytes)
 
 -- ---- names
 
+-- sections without a table of names
+abbrev pub lacks_section_names : List ℕ → Bool
+lacks_section_names bytes = not (section_count bytes == 0) && lacks_strings bytes (name_section bytes)
+
 -- a section's name has no end
 abbrev pub is_unnamed_section : List ℕ → Header → Bool
 is_unnamed_section bytes h = not (has_end (section_names bytes) h.name)
@@ -158,7 +174,7 @@ lacks_symbol_names bytes h = lacks_strings bytes h.link
 -- there are sections or symbols without a table of their names, or one whose name has no end
 abbrev pub has_bad_name : List ℕ → Bool
 has_bad_name bytes =
-    (not (section_count bytes == 0) && lacks_strings bytes (name_section bytes))
+    lacks_section_names bytes
     || list_any (lacks_symbol_names bytes) (symbol_tables bytes)
     || list_any (is_unnamed_section bytes) (headers_of bytes)
     || list_any (is_unnamed_symbol bytes) (symbol_entries bytes)
@@ -209,4 +225,14 @@ has_bad_symbol bytes =
 
 -- the first fault of an object's bytes, or none
 unfoldable pub object_fault : List ℕ → Option Fault
-object_fault bytes = first_of ((not_elf bytes, NotElf) ∷ (truncated bytes, Truncated) ∷ [])
+object_fault bytes = first_of (
+    (is_too_long bytes, TooLarge) ∷ (not_elf bytes, NotElf) ∷ (has_too_many_sections bytes, TooLarge) ∷ (truncated bytes, Truncated)
+    ∷ (has_other_flags bytes, Flags) ∷ (has_unlinked_sections bytes, SectionKind) ∷ (has_bad_alignment bytes, Alignment)
+    ∷ (has_cut_code bytes, CodeSize) ∷ (has_bad_name bytes, BadName) ∷ (has_bad_symbol bytes, BadSymbol) ∷ [])
+
+-- an object without a fault, with the section of its symbols, their entries and their names
+pub record IsRead (bytes : List ℕ) (section : Option ℕ) (entries names : List ℕ) : Type 0 where
+  pub faultless : object_fault bytes ≡ None
+  pub section_read : IsSymbolSection bytes section
+  pub entries_read : entries ≡ symbol_content bytes
+  pub names_read : names ≡ symbol_names bytes

@@ -3,7 +3,7 @@
 use Rattle.std.specs.Prelude.{ℕ, Bool, not, ◌&&◌, nat_eq, if◌then◌else◌, List, [], map, codes}
 use Rattle.std.specs.Cmp.Lexicographic.{pointwise}
 use Rattle.std.specs.List.{flat_map, range_with_len}
-use Rattle.elf32_read.specs.Header.{content_of, file_flags, header_of, section_count}
+use Rattle.elf32_read.specs.Header.{Header, content_of, file_flags, header_of, section_count}
 use Rattle.elf32_read.specs.Kept.{has_flags, is_kept}
 use Rattle.elf32_read.specs.Names.{name_at, section_names}
 use Rattle.elf32_read.specs.Relocs.{relas_for, relocs_in}
@@ -48,10 +48,13 @@ is_code_section s = is_kept_section s && has_flags 4 s.flags
 
 -- ---- what a file reads as
 
+-- the relocations that a section holds
+abbrev pub relocs_held : List ℕ → Header → List Reloc
+relocs_held file h = relocs_in (content_of file h)
+
 -- the relocations of a section; a section that is dropped has none
 abbrev pub relocs_of : List ℕ → ℕ → List Reloc
-relocs_of file i =
-    if is_kept file (header_of file i) then flat_map (λ h. relocs_in (content_of file h)) (relas_for file i) else []
+relocs_of file i = if is_kept file (header_of file i) then flat_map (relocs_held file) (relas_for file i) else []
 
 -- a section by its index
 abbrev pub section_parts : List ℕ → ℕ → SectionParts

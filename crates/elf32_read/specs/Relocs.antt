@@ -1,5 +1,5 @@
 -- The relocations of an object (System V gABI, "Relocation").
-use Rattle.std.specs.Prelude.{ℕ, ◌+◌, ◌*◌, ◌/◌, ◌%◌, ◌&&◌, ◌==◌, List, length, map, filter}
+use Rattle.std.specs.Prelude.{ℕ, Bool, ◌+◌, ◌*◌, ◌/◌, ◌%◌, ◌&&◌, ◌==◌, List, length, map, filter}
 use Rattle.std.specs.Int.{w32, cast_signed}
 use Rattle.std.specs.List.{range_with_len}
 use Rattle.zc_base.specs.Fields.{word_in}
@@ -19,6 +19,10 @@ reloc_at content k = let at = 12 * k in record {
 abbrev pub relocs_in : List ℕ → List Reloc
 relocs_in content = map (reloc_at content) (range_with_len 0 (length content / 12))
 
--- the sections with relocations, RELA (4), for the section with this index: sh_info names it
+-- the section has relocations, RELA (4), of the section with this index: sh_info names it
+abbrev pub changes : ℕ → Header → Bool
+changes i h = h.kind == 4 && h.info == i
+
+-- all such sections, in order
 abbrev pub relas_for : List ℕ → ℕ → List Header
-relas_for bytes i = filter (λ h. h.kind == 4 && h.info == i) (headers_of bytes)
+relas_for bytes i = filter (changes i) (headers_of bytes)

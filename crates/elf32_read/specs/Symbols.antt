@@ -1,19 +1,27 @@
 -- The symbols of an object (System V gABI, "Symbol Table").
-use Rattle.std.specs.Prelude.{ℕ, ◌+◌, ◌*◌, ◌/◌, ◌%◌, ◌==◌, List, [], length, map, filter, slice_index, slice_get, Option}
+use Rattle.std.specs.Prelude.{ℕ, Bool, ◌+◌, ◌*◌, ◌/◌, ◌%◌, ◌==◌, List, [], length, map, filter, slice_index, slice_get, Option}
 use Rattle.std.specs.List.{range_with_len}
 use Rattle.std.specs.Option.{option_map_or}
 use Rattle.zc_base.specs.Fields.{half_in, word_in}
-use Rattle.elf32_read.specs.Header.{Header, content_of, headers_of}
+use Rattle.elf32_read.specs.Header.{Header, IsOnly, content_of, headers_of}
 use Rattle.elf32_read.specs.Names.{strings_of}
 use Rattle.elf32_read.specs.declared.symbol_entry.SymbolEntry.{SymbolEntry}
 
--- the sections with symbols, SYMTAB (2), in order
+-- the section has symbols, SYMTAB (2)
+abbrev pub has_symbols : Header → Bool
+has_symbols h = h.kind == 2
+
+-- all such sections, in order
 abbrev pub symbol_tables : List ℕ → List Header
-symbol_tables bytes = filter (λ h. h.kind == 2) (headers_of bytes)
+symbol_tables bytes = filter has_symbols (headers_of bytes)
 
 -- the one that is read
 abbrev pub symbol_table : List ℕ → Option Header
 symbol_table bytes = slice_get (symbol_tables bytes) 0
+
+-- its index, if there is one
+abbrev pub IsSymbolSection : List ℕ → Option ℕ → Type 0
+IsSymbolSection bytes i = IsOnly has_symbols bytes i
 
 -- its entries, as they stand in the file
 abbrev pub symbol_content : List ℕ → List ℕ
@@ -35,10 +43,18 @@ symbol_entry_at content i = let at = 16 * i in record {
   home = half_in content (at + 14);
 }
 
+-- all entries of a table, in order
+abbrev pub entries_in : List ℕ → List SymbolEntry
+entries_in content = map (symbol_entry_at content) (range_with_len 0 (length content / 16))
+
+-- all entries of an object
+abbrev pub symbol_entries : List ℕ → List SymbolEntry
+symbol_entries bytes = entries_in (symbol_content bytes)
+
+-- the entry with this index
+abbrev pub symbol_entry_of : List ℕ → ℕ → SymbolEntry
+symbol_entry_of bytes i = symbol_entry_at (symbol_content bytes) i
+
 -- how many symbols there are, with symbol 0
 abbrev pub symbol_count : List ℕ → ℕ
 symbol_count bytes = length (symbol_content bytes) / 16
-
--- all entries, in order
-abbrev pub symbol_entries : List ℕ → List SymbolEntry
-symbol_entries bytes = map (symbol_entry_at (symbol_content bytes)) (range_with_len 0 (symbol_count bytes))

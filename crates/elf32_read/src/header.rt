@@ -2,12 +2,40 @@
 // Header").
 
 ghost use Rattle.std.specs.Prelude.{◌≡◌, ◌≢◌, ◌≤◌, ◌+◌, ◌*◌, length};
+ghost use Rattle.elf32_read.specs.Kept.{has_flags};
 ghost use Rattle.elf32_read.specs.Header.{begins_as, content_of, entry_of, file_flags, have_other_size, header_of, is_empty_kind, name_section, program_count, program_header_of, program_header_size, program_table, section_count, section_header_size, section_table};
 
+use crate::section_flags::SectionFlags;
+use bitflags::Flags;
 use zc_base::fields::{u16_at, u32_at};
 
 /// The kind of a program header that loads a segment, PT_LOAD.
 pub const LOAD: u32 = 1;
+
+/// Kinds of sections, sh_type.
+pub const NULL: u32 = 0;
+
+pub const PROGBITS: u32 = 1;
+
+pub const SYMTAB: u32 = 2;
+
+pub const STRTAB: u32 = 3;
+
+pub const RELA: u32 = 4;
+
+pub const NOBITS: u32 = 8;
+
+pub const REL: u32 = 9;
+
+pub const INIT_ARRAY: u32 = 14;
+
+pub const FINI_ARRAY: u32 = 15;
+
+pub const PREINIT_ARRAY: u32 = 16;
+
+pub const GROUP: u32 = 17;
+
+pub const SYMTAB_SHNDX: u32 = 18;
 
 /// A section header: the words sh_name, sh_type, sh_flags, sh_addr, sh_offset, sh_size, sh_link,
 /// sh_info, sh_addralign and sh_entsize.
@@ -23,6 +51,15 @@ pub struct SectionHeader {
     pub info: u32,
     pub align: u32,
     pub entry_size: u32,
+}
+
+impl SectionHeader {
+    /// Whether these are among the section's flags.
+    pub fn has(&self, flags: SectionFlags) -> bool
+        ensures { result ≡ has_flags flags.bits self.now.flags }
+    {
+        SectionFlags { bits: self.flags }.contains(flags)
+    }
 }
 
 /// A program header: the words p_type, p_offset, p_vaddr, p_paddr, p_filesz, p_memsz, p_flags and
@@ -179,7 +216,7 @@ pub fn program_header(bytes: &[u8], i: u32) -> ProgramHeader
 pub fn is_without_content(kind: u32) -> bool
     ensures { result ≡ is_empty_kind kind }
 {
-    kind == 0 || kind == 8
+    kind == NULL || kind == NOBITS
 }
 
 /// The content of a section.

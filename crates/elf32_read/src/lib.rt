@@ -3,17 +3,25 @@
 //! nothing here takes memory.
 #![tactic(auto)]
 
+mod alignments;
 mod bounds;
 pub mod fault;
 mod header;
 pub mod image;
 pub mod image_fault;
+mod kinds;
 mod loads;
+mod names;
 pub mod object;
 mod places;
+mod relas;
 pub mod reloc;
 pub mod section;
 pub mod section_flags;
+mod sections;
 pub mod segment;
 mod segments;
+pub mod symbol;
 pub mod symbol_entry;
+mod symbols;
+mod unnamed;

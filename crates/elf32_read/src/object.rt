@@ -1,19 +1,35 @@
 // Objects.
 
-ghost use Rattle.std.specs.Prelude.{◌≡◌, ◌≢◌, ◌≤◌, ◌<◌, ◌^◌, List, ℕ, length, None, Some, MatchResult};
-ghost use Rattle.elf32_read.specs.Header.{content_of, file_flags, header_of, section_count};
-ghost use Rattle.elf32_read.specs.Object.{not_elf, object_fault, truncated};
+ghost use Rattle.std.specs.Prelude.{◌≡◌, ◌≤◌, ◌<◌, List, ℕ, [], length, slice_get, None, Some, MatchOption, MatchResult};
+ghost use Rattle.elf32_read.specs.Header.{file_flags, header_of, section_count};
+ghost use Rattle.elf32_read.specs.Lent.{IsSection, IsSymbol};
+ghost use Rattle.elf32_read.specs.Object.{has_other_flags, not_elf, object_fault, truncated, IsRead};
+ghost use Rattle.elf32_read.specs.Parts.{relocs_held, relocs_of, section_parts, symbol_parts};
+ghost use Rattle.elf32_read.specs.Symbols.{symbol_count, symbol_entry_of, IsSymbolSection};
 
+use crate::alignments::{has_bad_alignment, has_cut_code};
 use crate::bounds::{has_truncated_section, lacks_headers};
 use crate::fault::Fault;
-use crate::header::{
-    begins_as, content, file_flags, has_other_section_headers, section_count, section_header,
-};
+use crate::header::{begins_as, file_flags, has_other_section_headers, section_count};
+use crate::kinds::has_unlinked_sections;
+use crate::names::name_at;
+use crate::relas::{MOST_SECTIONS, RELA_SIZE, rela_for, reloc};
+use crate::reloc::Reloc;
 use crate::section::Section;
 use crate::section_flags::SectionFlags;
+use crate::sections::Sections;
+use crate::symbol::Symbol;
+use crate::symbols::{
+    SYMBOL_SIZE, SymbolTable, has_bad_symbol, symbol_entry, symbol_section, symbol_table,
+};
+use crate::unnamed::has_bad_name;
 use std::marker::Model;
 
 const RELOCATABLE: u16 = 1;
+
+const MOST_BYTES: usize = 0x40_0000;
+
+const TSO: u32 = 0x10;
 
 fn is_no_object(bytes: &[u8]) -> bool
     ensures { result ≡ not_elf bytes.now }
@@ -28,78 +44,223 @@ fn is_truncated(bytes: &[u8]) -> bool
     lacks_headers(bytes) || has_truncated_section(bytes)
 }
 
+fn has_other_flags(bytes: &[u8]) -> bool
+    requires { 52 ≤ length bytes.now }
+    ensures { result ≡ has_other_flags bytes.now }
+{
+    !matches!(file_flags(bytes), 0 | TSO)
+}
+
 /// A relocatable object without a fault. Clauses see it as its bytes.
 #[derive(Drop)]
 pub struct Object<'a> {
-    bytes: &'a [u8],
+    sections: Sections<'a>,
+    symbol_section: Option<u32>,
+    symbols: SymbolTable<'a>,
 }
 
 impl<'a> Model for Object<'a> {
     ghost Value = { List ℕ };
 
-    ghost view = { λ object. object.bytes.now };
+    ghost view = { λ object. object.sections };
 
-    ghost invariant = { λ object. object_fault object.bytes.now ≡ None };
+    ghost invariant = { λ object.
+        IsRead object.sections object.symbol_section object.symbols.entries.now object.symbols.names.now };
 }
 
 impl<'a> Object<'a> {
-    /// The object that the bytes are, or their first fault. It reads each section's header once.
+    /// The object that the bytes are, or their first fault. It looks at each header, symbol,
+    /// relocation and byte of a name table a fixed number of times.
     #[tactic(auto, unfolding(crate::specs::Object::object_fault))]
     pub fn read(bytes: &'a [u8]) -> Result<Object<'a>, Fault>
         ensures { MatchResult result
             (λ object. (object ≡ bytes.entry.now) × (object_fault bytes.entry.now ≡ None))
             (λ fault. object_fault bytes.entry.now ≡ Some fault) }
     {
+        if MOST_BYTES < bytes.len() {
+            return Err(Fault::TooLarge);
+        }
         if is_no_object(bytes) {
             return Err(Fault::NotElf);
+        }
+        if MOST_SECTIONS < section_count(bytes) as usize {
+            return Err(Fault::TooLarge);
         }
         if is_truncated(bytes) {
             return Err(Fault::Truncated);
         }
-        Ok(Object { bytes })
+        if has_other_flags(bytes) {
+            return Err(Fault::Flags);
+        }
+        let sections = Sections::new(bytes);
+        if has_unlinked_sections(&sections) {
+            return Err(Fault::SectionKind);
+        }
+        let symbol_section = symbol_section(&sections);
+        let symbols = symbol_table(&sections, symbol_section);
+        if has_bad_alignment(&sections, symbols.entries) {
+            return Err(Fault::Alignment);
+        }
+        if has_cut_code(&sections) {
+            return Err(Fault::CodeSize);
+        }
+        if has_bad_name(&sections, symbol_section, &symbols) {
+            return Err(Fault::BadName);
+        }
+        if has_bad_symbol(&sections, symbols.entries) {
+            return Err(Fault::BadSymbol);
+        }
+        Ok(Object {
+            sections,
+            symbol_section,
+            symbols,
+        })
     }
 
-    /// The object of bytes that were read before. It tests nothing again.
+    /// The object of bytes that were read before. It looks through the headers for the symbols,
+    /// and tests nothing again.
     pub fn known(bytes: &'a [u8]) -> Object<'a>
         requires { object_fault bytes.now ≡ None }
         ensures { result ≡ bytes.entry.now }
     {
-        Object { bytes }
+        let section = symbol_section(&Sections::new(bytes));
+        Object::known_with(bytes, section)
+    }
+
+    /// The object of bytes that were read before, with what `symbol_section` was then. It looks at
+    /// a fixed number of headers.
+    pub fn known_with(bytes: &'a [u8], symbol_section: Option<u32>) -> Object<'a>
+        requires faultless { object_fault bytes.now ≡ None }
+        requires symbols { IsSymbolSection bytes.now symbol_section }
+        ensures { result ≡ bytes.entry.now }
+    {
+        let sections = Sections::new(bytes);
+        let symbols = symbol_table(&sections, symbol_section);
+        Object {
+            sections,
+            symbol_section,
+            symbols,
+        }
     }
 
     /// The flags of the file, e_flags (RISC-V ELF psABI, "File Header").
     pub fn flags(&self) -> u32
         ensures { result ≡ file_flags self.now }
     {
-        file_flags(self.bytes)
+        file_flags(self.sections.bytes())
     }
 
     /// How many sections there are, with the first, which is NULL in most files.
     pub fn section_count(&self) -> u32
         ensures count { result ≡ section_count self.now }
-        ensures small { result < 2 ^ 16 }
+        ensures most { result ≤ 4096 }
         ensures faultless { object_fault self.now ≡ None }
     {
-        u32::from(section_count(self.bytes))
+        self.sections.count()
     }
 
-    /// A section, by its index.
+    /// A section, by its index. It looks at each byte of its name.
     pub fn section(&self, i: u32) -> Section<'a>
         requires { i < section_count self.now }
-        ensures kind { result.kind ≡ (header_of self.now i).kind }
-        ensures flags { result.flags.bits ≡ (header_of self.now i).flags }
-        ensures size { result.size ≡ (header_of self.now i).size }
-        ensures align { result.align ≡ (header_of self.now i).align }
-        ensures bytes { result.bytes.now ≡ content_of self.now (header_of self.now i) }
-        ensures whole { result.kind ≢ 0 → result.kind ≢ 8 → length result.bytes.now ≡ result.size }
+        ensures { IsSection result (section_parts self.now i) }
     {
-        let header = section_header(self.bytes, i);
+        let header = self.sections.header(i);
         Section {
+            name: name_at(self.sections.names(), header.name),
             kind: header.kind,
             flags: SectionFlags { bits: header.flags },
             size: header.size,
             align: header.align,
-            bytes: content(self.bytes, header),
+            bytes: self.sections.content(&header),
+        }
+    }
+
+    /// The section that holds the symbols, by its index, if there is one.
+    pub fn symbol_section(&self) -> Option<u32>
+        ensures { IsSymbolSection self.now result }
+    {
+        self.symbol_section
+    }
+
+    /// How many symbols there are, with symbol 0.
+    pub fn symbol_count(&self) -> u32
+        ensures { result ≡ symbol_count self.now }
+    {
+        self.symbols.entries.len() as u32 / SYMBOL_SIZE
+    }
+
+    /// A symbol, by its index. It looks at each byte of its name.
+    pub fn symbol(&self, i: u32) -> Symbol<'a>
+        requires { i < symbol_count self.now }
+        ensures { IsSymbol result (symbol_parts self.now (symbol_entry_of self.now i)) }
+    {
+        let entry = symbol_entry(self.symbols.entries, i as usize);
+        Symbol {
+            name: name_at(self.symbols.names, entry.name),
+            value: entry.value,
+            size: entry.size,
+            bind: entry.bind,
+            kind: entry.kind,
+            home: entry.home,
+        }
+    }
+
+    /// The section with the relocations of a section, by its index; none if the section is dropped
+    /// or has no relocations. It looks through all headers.
+    pub fn rela_of(&self, section: u32) -> Option<u32>
+        requires { section < section_count self.now }
+        ensures { MatchOption result
+            (relocs_of self.now section ≡ [])
+            (λ rela. (rela < section_count self.now)
+            × (relocs_of self.now section ≡ relocs_held self.now (header_of self.now rela))) }
+    {
+        rela_for(&self.sections, section)
+    }
+
+    /// How many relocations a section holds, by its own index.
+    pub fn rela_count(&self, rela: u32) -> u32
+        requires { rela < section_count self.now }
+        ensures { result ≡ length (relocs_held self.now (header_of self.now rela)) }
+    {
+        let header = self.sections.header(rela);
+        self.sections.content(&header).len() as u32 / RELA_SIZE
+    }
+
+    /// A relocation, by the index of the section that holds it and its own index there.
+    pub fn rela(&self, rela: u32, k: u32) -> Reloc
+        requires rela { rela < section_count self.now }
+        requires k { k < length (relocs_held self.now (header_of self.now rela)) }
+        ensures { slice_get (relocs_held self.now (header_of self.now rela)) k ≡ Some result }
+    {
+        let header = self.sections.header(rela);
+        reloc(self.sections.content(&header), k as usize)
+    }
+
+    /// How many relocations a section has; none if it is dropped. It looks through all headers.
+    pub fn reloc_count(&self, section: u32) -> u32
+        requires { section < section_count self.now }
+        ensures { result ≡ length (relocs_of self.now section) }
+    {
+        match self.rela_of(section) {
+            None => 0,
+            Some(rela) => self.rela_count(rela),
+        }
+    }
+
+    /// A relocation of a section, by its index there. It looks through all headers.
+    pub fn reloc(&self, section: u32, k: u32) -> Reloc
+        requires section { section < section_count self.now }
+        requires k { k < length (relocs_of self.now section) }
+        ensures { slice_get (relocs_of self.now section) k ≡ Some result }
+    {
+        match self.rela_of(section) {
+            None => Reloc {
+                offset: 0,
+                symbol: 0,
+                kind: 0,
+                addend: 0,
+            },
+            Some(rela) => self.rela(rela, k),
         }
     }
 }

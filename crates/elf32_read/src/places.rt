@@ -1,6 +1,6 @@
 // The places that an image lists.
 
-ghost use Rattle.std.specs.Prelude.{◌≡◌, ℕ, ◌≤◌, ◌<◌, ◌+◌, ◌*◌, ◌==◌, nat_lt, true, false, drop, length, MatchResult};
+ghost use Rattle.std.specs.Prelude.{◌≡◌, ℕ, ◌≤◌, ◌<◌, ◌+◌, ◌*◌, true, false, length, MatchResult};
 ghost use Rattle.std.specs.List.{list_any};
 ghost use Rattle.std.specs.Option.{option_to_list};
 ghost use Rattle.elf32_read.specs.Header.{content_of, headers_of, section_count, section_table};
@@ -11,14 +11,13 @@ ghost use Rattle.elf32_read.specs.declared.image_fault.ImageFault.TheVariants.{B
 ghost use Rattle.zc_base.specs.Places.{is_before};
 
 use crate::header::{
-    SectionHeader, content, is_without_content, name_section, section_count, section_header,
+    STRTAB, SectionHeader, content, is_without_content, name_section, section_count, section_header,
 };
 use crate::image_fault::ImageFault;
+use crate::names::names_end;
 use zc_base::fields::{u16_at, u32_at};
 use zc_base::mem_map::MemMap;
 use zc_base::place::Place;
-
-const STRTAB: u32 = 3;
 
 const NAME: &[u8; 13] = b".zcld.places\0";
 
@@ -85,19 +84,6 @@ fn lacks_names(bytes: &[u8]) -> bool
 {
     let i = name_section(bytes);
     section_count(bytes) <= i || section_header(bytes, u32::from(i)).kind != STRTAB
-}
-
-// Where the last name ends: an offset has a zero at it or after it exactly if it is below.
-fn names_end(names: &[u8]) -> usize
-    ensures { (k : ℕ) → list_any (λ byte. byte == 0) (drop k names.now) ≡ nat_lt k result }
-{
-    let mut end = 0;
-    for (i, byte) in names.iter().enumerate() {
-        if *byte == 0 {
-            end = i + 1;
-        }
-    }
-    end
 }
 
 #[tactic(auto, using(crate::proofs::Listed::none_listed_more))]

@@ -4,11 +4,12 @@ use crate::section_flags::SectionFlags;
 
 /// A section of an object, by its header (System V gABI, "Sections").
 ///
-/// `kind` is sh_type, `size` is sh_size in bytes, and `align` is sh_addralign as it stands, which
-/// `Object::read` doesn't look at. `bytes` is the section's content; it is empty if the file
+/// `name` is without the zero that ends it, `kind` is sh_type, `size` is sh_size in bytes, and
+/// `align` is sh_addralign as it stands. `bytes` is the section's content; it is empty if the file
 /// holds none, for the kinds NULL and NOBITS.
 #[derive(Clone, Copy, PartialEq, Eq, Debug)]
 pub struct Section<'a> {
+    pub name: &'a [u8],
     pub kind: u32,
     pub flags: SectionFlags,
     pub size: u32,

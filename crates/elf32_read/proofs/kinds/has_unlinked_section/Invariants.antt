@@ -1,0 +1,8 @@
+use Rattle.std.proofs.Common.{◌≡◌, map, false}
+use Rattle.std.specs.List.{list_any, range_with_len}
+use Rattle.elf32_read.specs.Header.{header_of}
+use Rattle.elf32_read.specs.Object.{is_unlinked}
+use Rattle.elf32_read.proofs.kinds.has_unlinked_section.Given as goal
+
+abbrev pub invariant-loop-i : goal.invariant-loop-i
+invariant-loop-i l = list_any (is_unlinked l.sections) (map (header_of l.sections) (range_with_len 0 l.i)) ≡ false

@@ -1,0 +1,38 @@
+// Names in tables of strings (System V gABI, "String Table").
+
+ghost use Rattle.std.specs.Prelude.{◌≡◌, ℕ, ◌==◌, nat_eq, nat_lt, drop};
+ghost use Rattle.std.specs.List.{starts_with};
+ghost use Rattle.elf32_read.specs.Names.{has_end, name_at};
+
+/// Whether a name, which is given with the zero that ends it, begins at an offset of a table.
+pub fn is_name_at(ended: &[u8], table: &[u8], at: u32) -> bool
+    ensures { result ≡ starts_with nat_eq (drop at table.now) ended.now }
+{
+    table[table.len().min(at as usize)..].starts_with(ended)
+}
+
+/// Where the last name ends: an offset has a zero at it or after it exactly if it is below.
+pub fn names_end(names: &[u8]) -> usize
+    ensures { (k : ℕ) → has_end names.now k ≡ nat_lt k result }
+{
+    let mut end = 0;
+    for (i, byte) in names.iter().enumerate() {
+        if *byte == 0 {
+            end = i + 1;
+        }
+    }
+    end
+}
+
+/// The name that begins at an offset of a table. It looks at each byte of the name.
+pub fn name_at(table: &[u8], at: u32) -> &[u8]
+    ensures { result.now ≡ name_at table.entry.now at }
+{
+    let rest = &table[table.len().min(at as usize)..];
+    for (i, byte) in rest.iter().enumerate() {
+        if *byte == 0 {
+            return &rest[..i];
+        }
+    }
+    rest
+}
