@@ -7,5 +7,6 @@ pub mod Filtered
 pub mod Held
 pub mod Listed
 pub mod Marks
+pub mod RelaTable
 pub mod Named
 pub mod Strings

@@ -22,12 +22,12 @@ pub record AreMarked (bytes : List ℕ) (marks : List Bool) (n : ℕ) : Type 0 w
 
 module _ (bytes : List ℕ) where
   -- a RELA for a kept section, by its parts
-  record IsFor (h : Header) (k : ℕ) : Type 0 where
+  pub record IsFor (h : Header) (k : ℕ) : Type 0 where
     pub within : k < section_count bytes
     pub kept : is_kept bytes (header_of bytes k) ≡ true
     pub changes : changes k h ≡ true
 
-  rela_is_for : (h : Header) → is_kept_rela bytes h ≡ true → IsFor h h.info
+  pub rela_is_for : (h : Header) → is_kept_rela bytes h ≡ true → IsFor h h.info
   rela_is_for h rela =
       let both = and_parts (eqb h.kind 4 && ltb h.info (section_count bytes)) (is_kept bytes (header_of bytes h.info)) rela in
       let parts = and_parts (eqb h.kind 4) (ltb h.info (section_count bytes)) both.0 in
@@ -38,7 +38,7 @@ module _ (bytes : List ℕ) where
       }
 
   -- what changes a kept section is a RELA for a kept section
-  for_is_rela : (h : Header) (k : ℕ) → IsFor h k → is_kept_rela bytes h ≡ true
+  pub for_is_rela : (h : Header) (k : ℕ) → IsFor h k → is_kept_rela bytes h ≡ true
   for_is_rela h k for =
       let parts = and_parts (eqb h.kind 4) (eqb h.info k) for.changes in
       let same : h.info ≡ k = eqb-true h.info k parts.1 in

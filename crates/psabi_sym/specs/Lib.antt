@@ -4,6 +4,7 @@ pub mod Data
 pub mod Faults
 pub mod Inputs
 pub mod LinkFault
+pub mod Loaded
 pub mod Listed
 pub mod Names
 pub mod Objects

@@ -1,6 +1,6 @@
 -- Sections and symbols as a link keeps them: what it asks of them later, with a number for each name.
-use Rattle.std.specs.Prelude.{ℕ, Bool, not, ◌&&◌, ◌==◌, max, List, [], ◌∷◌, filter, map, take, if◌then◌else◌, is_none, ◌+◌, Option, Some, None}
-use Rattle.std.specs.List.{find, position_or_len}
+use Rattle.std.specs.Prelude.{ℕ, Bool, not, ◌&&◌, ◌==◌, max, List, [], ◌∷◌, ◌++◌, filter, map, take, if◌then◌else◌, is_none, ◌+◌, Option, Some, None}
+use Rattle.std.specs.List.{find, list_any, position_or_len}
 use Rattle.std.specs.Option.{option_map, option_or}
 use Rattle.psabi_sym.specs.Blocks.{aligned_up, end_from}
 use Rattle.psabi_sym.specs.Data.{greatest, has_class, role_of}
@@ -34,6 +34,10 @@ row_address class start rows k r = aligned_up r.align (end_from start (row_block
 -- the number of a name among names: the place where it was first seen, or how many there are
 abbrev pub number_of : List (List ℕ) → List ℕ → ℕ
 number_of names name = position_or_len (same_name name) names
+
+-- names with one more, which goes last if it is new
+abbrev pub with_name : List (List ℕ) → List ℕ → List (List ℕ)
+with_name names name = if list_any (same_name name) names then names else names ++ name ∷ []
 
 -- the row of a symbol
 abbrev pub symbol_row : List (List ℕ) → ListedSymbol → SymbolRow
