@@ -1,6 +1,9 @@
 pub mod BlockLaws
 pub mod CommonLaws
+pub mod FlatLaws
 pub mod Gathered
 pub mod NumberLaws
+pub mod NumberedLaws
+pub mod PartLaws
 pub mod RowLaws
 pub mod Tables

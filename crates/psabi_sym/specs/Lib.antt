@@ -8,5 +8,6 @@ pub mod Loaded
 pub mod Listed
 pub mod Names
 pub mod Objects
+pub mod Numbered
 pub mod Resolve
 pub mod Rows

@@ -1,10 +1,11 @@
 -- Sections and symbols as a link keeps them: what it asks of them later, with a number for each name.
-use Rattle.std.specs.Prelude.{ℕ, Bool, not, ◌&&◌, ◌==◌, max, List, [], ◌∷◌, ◌++◌, filter, map, take, if◌then◌else◌, is_none, ◌+◌, Option, Some, None}
+use Rattle.std.specs.Prelude.{ℕ, Bool, not, ◌&&◌, ◌==◌, max, List, [], ◌∷◌, ◌++◌, filter, length, map, take, if◌then◌else◌, is_none, ◌+◌, Option, Some, None}
 use Rattle.std.specs.List.{find, list_any, position_or_len}
 use Rattle.std.specs.Option.{option_map, option_or}
+use Rattle.elf32_read.specs.Parts.{ObjectParts, SectionParts}
 use Rattle.psabi_sym.specs.Blocks.{aligned_up, end_from}
 use Rattle.psabi_sym.specs.Data.{greatest, has_class, role_of}
-use Rattle.psabi_sym.specs.Listed.{ListedSection, ListedSymbol}
+use Rattle.psabi_sym.specs.Listed.{ListedSection, ListedSymbol, all_sections, all_symbols}
 use Rattle.psabi_sym.specs.Names.{same_name}
 use Rattle.psabi_sym.specs.declared.block.Block.{Block}
 use Rattle.psabi_sym.specs.declared.data_class.DataClass.{DataClass}
@@ -14,8 +15,19 @@ use Rattle.psabi_sym.specs.declared.symbol_row.SymbolRow.{SymbolRow}
 -- ---- sections
 
 -- the row of a section
+abbrev pub part_row : SectionParts → SectionRow
+part_row s = record { role = role_of s; align = s.align; size = s.size }
+
 abbrev pub section_row : ListedSection → SectionRow
-section_row l = record { role = role_of l.section; align = l.section.align; size = l.section.size }
+section_row l = part_row l.section
+
+-- where the sections of an object begin among all
+abbrev pub section_starts : List ObjectParts → ℕ → ℕ
+section_starts objects o = length (all_sections (take o objects))
+
+-- where the symbols of an object begin among all
+abbrev pub symbol_starts : List ObjectParts → ℕ → ℕ
+symbol_starts objects o = length (all_symbols (take o objects))
 
 -- the room of a section by its row
 abbrev pub row_block : SectionRow → Block
