@@ -1,14 +1,18 @@
 -- Sections and symbols as a link keeps them: what it asks of them later, with a number for each name.
-use Rattle.std.specs.Prelude.{ℕ, Bool, not, ◌&&◌, ◌==◌, max, List, [], ◌∷◌, ◌++◌, filter, length, map, take, if◌then◌else◌, is_none, ◌+◌, Option, Some, None}
-use Rattle.std.specs.List.{find, list_any, position_or_len}
+use Rattle.std.specs.Prelude.{◌≡◌, false, slice_get, slice_index, ℕ, Bool, not, ◌&&◌, ◌==◌, max, List, [], ◌∷◌, ◌++◌, filter, length, map, take, if◌then◌else◌, is_none, ◌+◌, Option, Some, None}
+use Rattle.std.specs.List.{find, fold, list_any, position_or_len}
 use Rattle.std.specs.Option.{option_map, option_or}
 use Rattle.elf32_read.specs.Parts.{ObjectParts, SectionParts}
-use Rattle.psabi_sym.specs.Blocks.{aligned_up, end_from}
+use Rattle.psabi_sym.specs.Blocks.{aligned_up, end_from, room_of}
+use Rattle.psabi_sym.specs.Classes.{classes_before, same_class}
 use Rattle.psabi_sym.specs.Data.{greatest, has_class, role_of}
 use Rattle.psabi_sym.specs.Listed.{ListedSection, ListedSymbol, all_sections, all_symbols}
 use Rattle.psabi_sym.specs.Names.{same_name}
 use Rattle.psabi_sym.specs.declared.block.Block.{Block}
 use Rattle.psabi_sym.specs.declared.data_class.DataClass.{DataClass}
+use Rattle.psabi_sym.specs.declared.data_class.DataClass.TheVariants.{Common}
+use Rattle.psabi_sym.specs.declared.section_row.SectionRole.{SectionRole}
+use Rattle.psabi_sym.specs.declared.section_row.SectionRole.TheVariants.{Code, InClass, Dropped}
 use Rattle.psabi_sym.specs.declared.section_row.SectionRow.{SectionRow}
 use Rattle.psabi_sym.specs.declared.symbol_row.SymbolRow.{SymbolRow}
 
@@ -40,6 +44,29 @@ row_blocks class rows = map row_block (filter (λ r. has_class class r.role) row
 -- where a section of a class begins, by its place among the rows, if the class begins at an address
 abbrev pub row_address : DataClass → ℕ → List SectionRow → ℕ → SectionRow → ℕ
 row_address class start rows k r = aligned_up r.align (end_from start (row_blocks class (take k rows)))
+
+-- where a class ends that is placed from an address on, by rows
+abbrev pub row_end : List SectionRow → ℕ → DataClass → ℕ
+row_end rows at class = end_from (aligned_up 16 at) (row_blocks class rows)
+
+-- where a class begins, by rows, if data begins at an address
+abbrev pub row_start : List SectionRow → ℕ → DataClass → ℕ
+row_start rows low class = aligned_up 16 (fold (row_end rows) low (classes_before class))
+
+-- the table has the address of each section of data
+abbrev pub ArePlaced : List SectionRow → ℕ → List ℕ → Type 0
+ArePlaced rows low addresses =
+    (k : ℕ) (r : SectionRow) (class : DataClass) → slice_get rows k ≡ Some r → r.role ≡ InClass class → same_class class Common ≡ false
+    → slice_index addresses k ≡ row_address class (row_start rows low class) rows k r
+
+-- the room that a section may take in data, by its row
+abbrev pub role_room : SectionRole → ℕ → ℕ
+role_room Code room = 0
+role_room (InClass class) room = room
+role_room Dropped room = 0
+
+abbrev pub row_data_room : SectionRow → ℕ
+row_data_room r = role_room r.role (room_of (row_block r))
 
 -- ---- symbols
 

@@ -1,9 +1,11 @@
 // Where sections of data lie.
 
-ghost use Rattle.std.specs.Prelude.{◌≡◌, ◌+◌, ◌^◌, ◌<◌, ℕ, Some, length, max, slice_get, slice_index, take, if◌then◌else◌};
+ghost use Rattle.std.specs.Prelude.{◌≡◌, ◌+◌, ◌^◌, ◌<◌, ◌≤◌, ℕ, Some, length, max, slice_get, slice_index, take, if◌then◌else◌};
 ghost use Rattle.psabi_sym.specs.Blocks.{aligned_up, end_from, room_of_all};
 ghost use Rattle.psabi_sym.specs.Data.{has_class};
-ghost use Rattle.psabi_sym.specs.Rows.{row_address, row_blocks};
+ghost use Rattle.psabi_sym.specs.Rows.{row_address, row_blocks, row_data_room, row_end, row_start, ArePlaced};
+ghost use Rattle.psabi_sym.specs.declared.data_class.DataClass.TheVariants.{SmallData, SmallZero, Zero};
+ghost use Rattle.std.specs.List.{sum_by};
 ghost use Rattle.psabi_sym.specs.declared.section_row.SectionRow.{SectionRow};
 
 use crate::data_class::DataClass;
@@ -40,4 +42,40 @@ pub fn place_class(rows: &[SectionRow], class: DataClass, from: u32, addresses: 
         }
     }
     at
+}
+
+/// Where classes of data begin and end: where small data begins and ends, where small zeroed data
+/// begins, and where all sections end.
+#[derive(Clone, Copy, PartialEq, Eq, Debug)]
+pub struct ClassEnds {
+    pub small_data: u32,
+    pub file_end: u32,
+    pub small_zero: u32,
+    pub end: u32,
+}
+
+/// Places all sections, class after class, from an address on. The table of addresses has one for
+/// each section.
+pub fn place_classes(rows: &[SectionRow], low: u32, addresses: &mut [u32]) -> ClassEnds
+    requires same_length { length addresses.old ≡ length rows.now }
+    requires room { low + 96 + sum_by row_data_room rows.now < 2 ^ 32 }
+    ensures addresses { ArePlaced rows.now low addresses.new }
+    ensures small_data { result.small_data ≡ row_start rows.now low SmallData }
+    ensures file_end { result.file_end ≡ end_from (row_start rows.now low SmallData) (row_blocks SmallData rows.now) }
+    ensures small_zero { result.small_zero ≡ row_start rows.now low SmallZero }
+    ensures end { result.end ≡ end_from (row_start rows.now low Zero) (row_blocks Zero rows.now) }
+    ensures most { result.end ≤ low + 80 + sum_by row_data_room rows.now }
+    ensures small_data_most { result.small_data ≤ low + 96 + sum_by row_data_room rows.now }
+{
+    let read_only = place_class(rows, DataClass::ReadOnly, low, addresses);
+    let data = place_class(rows, DataClass::Data, read_only, addresses);
+    let file_end = place_class(rows, DataClass::SmallData, data, addresses);
+    let small_zero_end = place_class(rows, DataClass::SmallZero, file_end, addresses);
+    let end = place_class(rows, DataClass::Zero, small_zero_end, addresses);
+    ClassEnds {
+        small_data: aligned_up(CLASS_ALIGN, data),
+        file_end,
+        small_zero: aligned_up(CLASS_ALIGN, file_end),
+        end,
+    }
 }
