@@ -6,4 +6,5 @@ pub mod NumberLaws
 pub mod NumberedLaws
 pub mod PartLaws
 pub mod RowLaws
+pub mod SumLaws
 pub mod Tables

@@ -1,8 +1,9 @@
 -- What an object's parts have at an index.
-use Rattle.std.proofs.Common.{◌≡◌, ℕ, ◌+◌, ◌-◌, ◌/◌, ◌<◌, ◌≤◌, List, [], ◌∷◌, ◌++◌, length, get_or, take, drop, refl, sym, ap, ◌∙◌, arith, map}
+use Rattle.std.proofs.Common.{◌≡◌, ℕ, ◌+◌, ◌-◌, ◌/◌, ◌<◌, ◌≤◌, List, [], ◌∷◌, ◌++◌, length, get_or, take, drop, refl, sym, ap, ◌∙◌, arith, map, Some, slice_get}
 use Rattle.std.specs.List.{enumerate_from, range_with_len}
 use Rattle.std.proofs.lemmas.List.{get_or-map, length-map, take_more, get_or-drop, length-drop}
 use Rattle.std.proofs.lemmas.List.FromFn.{get_or-enumerate_from, get_or-map-range_with_len, get_or-range_with_len, length-enumerate_from, length-map-range_with_len, length-range_with_len}
+use Rattle.std.proofs.lemmas.Option.{slice_get-get_or}
 use Rattle.elf32_read.specs.Header.{section_count}
 use Rattle.elf32_read.specs.Parts.{ObjectParts, SectionParts, SymbolParts, object_parts, section_parts, symbol_parts}
 use Rattle.elf32_read.specs.Symbols.{symbol_content, symbol_count, symbol_entries, symbol_entry_at, symbol_entry_of}
@@ -29,6 +30,16 @@ module _ (file : List ℕ) where
       let long : length (symbol_entries file) ≡ symbol_count file = length-map-range_with_len all 0 (length (symbol_content file) / 16) in
       get_or-map (symbol_parts file) (symbol_entries file) i (all 0) d (omega (arith, within, long))
       ∙ ap (symbol_parts file) (get_or-map-range_with_len all 0 (length (symbol_content file) / 16) i i (all 0) within (omega arith))
+
+  pub section_got : (i : ℕ) → i < section_count file → slice_get (object_parts file).sections i ≡ Some (section_parts file i)
+  section_got i within =
+      slice_get-get_or (object_parts file).sections i (section_parts file i) (omega (arith, within, section_count_is))
+      ∙ ap Some (section_is i (section_parts file i) within)
+
+  pub symbol_got : (i : ℕ) → i < symbol_count file → slice_get (object_parts file).symbols i ≡ Some (symbol_parts file (symbol_entry_of file i))
+  symbol_got i within =
+      slice_get-get_or (object_parts file).symbols i (symbol_parts file (symbol_entry_of file i)) (omega (arith, within, symbol_count_is))
+      ∙ ap Some (symbol_is i (symbol_parts file (symbol_entry_of file i)) within)
 
 module _ (o : ℕ) (object : ObjectParts) where
   pub length-sections_in : length (sections_in (o, object)) ≡ length object.sections

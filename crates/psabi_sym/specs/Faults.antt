@@ -7,11 +7,14 @@ use Rattle.elf32_read.specs.declared.fault.Fault.{Fault}
 use Rattle.elf32_read.specs.declared.fault.Fault.TheVariants.{TooLarge, Duplicate, Undefined}
 use Rattle.elf32_read.specs.declared.reloc.Reloc.{Reloc}
 use Rattle.elf32_read.specs.Object.{object_fault}
-use Rattle.elf32_read.specs.Parts.{ObjectParts, SectionParts, SymbolParts, is_code_section, is_kept_section, object_parts}
+use Rattle.elf32_read.specs.Parts.{ObjectParts, SectionParts, SymbolParts, object_parts}
+use Rattle.psabi_sym.specs.Data.{role_of}
 use Rattle.psabi_sym.specs.Inputs.{Inputs, ParsedInputs, parsed}
 use Rattle.psabi_sym.specs.Listed.{ListedSymbol, all_symbols}
 use Rattle.psabi_sym.specs.Names.{is_common, is_strong, strong_definition}
 use Rattle.psabi_sym.specs.Resolve.{name_definition}
+use Rattle.psabi_sym.specs.declared.section_row.SectionRole.{SectionRole}
+use Rattle.psabi_sym.specs.declared.section_row.SectionRole.TheVariants.{Code, InClass, Dropped}
 use Rattle.psabi_sym.specs.declared.sums.Sums.{Sums}
 
 -- ---- files
@@ -31,9 +34,11 @@ fault_from i (file ∷ files) = option_or (option_map (λ fault. (i, fault)) (ob
 
 -- ---- sums
 
--- the least power of two above a number below 256
+-- the least power of two above a number from 1 to 255
 abbrev pub power_above : ℕ → ℕ
-power_above n = option_map_or (λ k. 2 ^ k) (find (λ k. nat_lt n (2 ^ k)) (range_with_len 0 8)) 256
+power_above n =
+    if nat_lt n 2 then 2 else (if nat_lt n 4 then 4 else (if nat_lt n 8 then 8 else (if nat_lt n 16 then 16 else
+    (if nat_lt n 32 then 32 else (if nat_lt n 64 then 64 else (if nat_lt n 128 then 128 else 256))))))
 
 -- the room that an ALIGN with this addend may take: it aligns to the power of two above its addend, 256 at most
 abbrev pub align_room : ℤ → ℕ
@@ -45,13 +50,24 @@ align_room (negsuc n) = 256
 unfoldable pub reloc_room : Reloc → ℕ
 reloc_room r = if r.kind == 43 then align_room r.addend else 0
 
--- the room that a section may take in code: its bytes, its alignment of at least 4, and its ALIGNs
-abbrev pub code_room : SectionParts → ℕ
-code_room s = if is_code_section s then s.size + max 4 s.align + sum_by reloc_room s.relocs else 0
+-- the room that a section may take in code by what it is: its bytes, its alignment of at least 4, and its ALIGNs
+abbrev pub room_in_code : SectionParts → SectionRole → ℕ
+room_in_code s Code = s.size + max 4 s.align + sum_by reloc_room s.relocs
+room_in_code s (InClass class) = 0
+room_in_code s Dropped = 0
 
--- the room that a section may take in data: its bytes, and its alignment, of which 0 counts as 1
+-- the room that a section may take in data by what it is: its bytes, and its alignment, of which 0 counts as 1
+abbrev pub room_in_data : SectionParts → SectionRole → ℕ
+room_in_data s Code = 0
+room_in_data s (InClass class) = s.size + max 1 s.align
+room_in_data s Dropped = 0
+
+-- the same of a section
+abbrev pub code_room : SectionParts → ℕ
+code_room s = room_in_code s (role_of s)
+
 abbrev pub data_room : SectionParts → ℕ
-data_room s = if is_kept_section s && not (is_code_section s) then s.size + max 1 s.align else 0
+data_room s = room_in_data s (role_of s)
 
 -- the room that a symbol may take in data: a common one's size, and its alignment, which is its value
 abbrev pub common_room : SymbolParts → ℕ
@@ -65,7 +81,7 @@ abbrev pub object_data : ObjectParts → ℕ
 object_data object = sum_by data_room object.sections + sum_by common_room (drop 1 object.symbols)
 
 -- the sums over files
-unfoldable pub sums_of : List (List ℕ) → Sums
+abbrev pub sums_of : List (List ℕ) → Sums
 sums_of files = record {
   file_bytes = sum_by length files;
   code_room = sum_by (λ f. object_code (object_parts f)) files;

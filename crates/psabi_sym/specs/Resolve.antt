@@ -3,12 +3,14 @@ use Rattle.std.specs.Prelude.{ℕ, zero, suc, ◌+◌, ◌%◌, ◌^◌, ℤ, po
 use Rattle.std.specs.Int.{w32, cast_unsigned}
 use Rattle.std.specs.List.{find}
 use Rattle.std.specs.Option.{option_map, option_map_or, option_or}
-use Rattle.elf32_read.specs.Parts.{SectionParts, SymbolParts, is_code_section}
-use Rattle.psabi_sym.specs.Data.{class_end, class_start, common_address, data_address}
+use Rattle.elf32_read.specs.Parts.{SectionParts, SymbolParts}
+use Rattle.psabi_sym.specs.Data.{address_in, class_end, class_start, common_address, role_of}
 use Rattle.psabi_sym.specs.Inputs.{ParsedInputs}
 use Rattle.psabi_sym.specs.Listed.{ListedSymbol, section_at, symbol_at}
 use Rattle.psabi_sym.specs.Names.{is_common, same_name, strong_definition, weak_definition}
 use Rattle.psabi_sym.specs.declared.data_class.DataClass.TheVariants.{SmallData, SmallZero, Common}
+use Rattle.psabi_sym.specs.declared.section_row.SectionRole.{SectionRole}
+use Rattle.psabi_sym.specs.declared.section_row.SectionRole.TheVariants as role
 use Rattle.psabi_sym.specs.declared.target.Target.{Target}
 use Rattle.psabi_sym.specs.declared.target.Target.TheVariants.{Code, Number, Absent, Nowhere}
 
@@ -62,11 +64,14 @@ abbrev pub code_target : ℕ → ℕ → SectionParts → ℤ → Target
 code_target o i section offset =
     option_map_or (λ n. Code (record { object = o; section = i; offset = n })) (offset_within section.size offset) Nowhere
 
--- in a section by its object's index and its own: a place in code, an address in data, nowhere if it is dropped
+-- in a section by its object's index and its own, by what it is: a place in code, an address in data, nowhere if it is dropped
+abbrev pub role_target : ParsedInputs → ℕ → ℕ → ℕ → ℤ → SectionParts → SectionRole → Target
+role_target inputs o i value addend section role.Code = code_target o i section (pos value +ℤ addend)
+role_target inputs o i value addend section (role.InClass class) = number (address_in inputs o i section class + value) addend
+role_target inputs o i value addend section role.Dropped = Nowhere
+
 abbrev pub section_target : ParsedInputs → ℕ → ℕ → ℕ → ℤ → SectionParts → Target
-section_target inputs o i value addend section =
-    if is_code_section section then code_target o i section (pos value +ℤ addend)
-    else option_map_or (λ at. number (at + value) addend) (data_address inputs o i) Nowhere
+section_target inputs o i value addend section = role_target inputs o i value addend section (role_of section)
 
 -- where a symbol with a home leads: a number by itself if it is ABS (0xFFF1)
 abbrev pub home_target : ParsedInputs → ℕ → SymbolParts → ℤ → Target

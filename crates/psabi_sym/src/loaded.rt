@@ -1,6 +1,6 @@
 // Objects in memory.
 
-ghost use Rattle.std.specs.Prelude.{◌≡◌, ◌<◌, IfOk, List, ℕ, None, length};
+ghost use Rattle.std.specs.Prelude.{◌≡◌, ◌<◌, ◌≤◌, IfOk, List, ℕ, None, length};
 ghost use Rattle.elf32_read.specs.Header.{section_count};
 ghost use Rattle.elf32_read.specs.Object.{object_fault};
 ghost use Rattle.elf32_read.specs.Relas.{IsRelaOf};
@@ -57,7 +57,8 @@ impl Loaded {
 
     /// How many bytes it has.
     pub fn len(&self) -> usize
-        ensures { result ≡ length self.now }
+        ensures count { result ≡ length self.now }
+        ensures most { result ≤ 0x40_0000 }
     {
         self.bytes.len()
     }

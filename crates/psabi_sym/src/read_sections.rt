@@ -51,9 +51,9 @@ fn class_of(section: &Section) -> DataClass
     DataClass::Data
 }
 
-// What the section is.
+/// What a section is to a link.
 #[tactic(auto, unfolding(crate::specs::Data::role_of))]
-fn role_of(section: &Section) -> SectionRole
+pub fn role_of(section: &Section) -> SectionRole
     ensures { (parts : SectionParts) → IsSection section.now parts → result ≡ role_of parts }
 {
     if !is_kept(section) {
