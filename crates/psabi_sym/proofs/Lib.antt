@@ -8,3 +8,4 @@ pub mod PartLaws
 pub mod RowLaws
 pub mod SumLaws
 pub mod Tables
+pub mod UsedLaws

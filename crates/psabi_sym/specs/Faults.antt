@@ -113,9 +113,13 @@ is_second objects l =
 unfoldable pub duplicate_fault : List ObjectParts → Option (ℕ × Fault)
 duplicate_fault objects = option_map (λ l. (l.object, Duplicate l.index)) (find (is_second objects) (all_symbols objects))
 
--- a relocation of the object names the symbol
+-- a relocation names the symbol with this index
+abbrev pub names : ℕ → List Reloc → Bool
+names symbol relocs = list_any (λ r. r.symbol == symbol) relocs
+
+-- a relocation of the object does
 abbrev pub is_used_in : ObjectParts → ℕ → Bool
-is_used_in object symbol = list_any (λ s. list_any (λ r. r.symbol == symbol) s.relocs) object.sections
+is_used_in object symbol = list_any (λ s. names symbol s.relocs) object.sections
 
 -- the same of a symbol of one of the objects
 unfoldable pub is_used : List ObjectParts → ListedSymbol → Bool

@@ -19,3 +19,4 @@ pub mod sums;
 pub mod symbol_row;
 mod symbols;
 pub mod target;
+mod used;
