@@ -6,6 +6,7 @@ pub mod Inputs
 pub mod LinkFault
 pub mod Loaded
 pub mod Listed
+pub mod Meanings
 pub mod Names
 pub mod Objects
 pub mod Numbered

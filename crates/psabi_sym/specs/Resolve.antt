@@ -9,6 +9,7 @@ use Rattle.psabi_sym.specs.Inputs.{ParsedInputs}
 use Rattle.psabi_sym.specs.Listed.{ListedSymbol, section_at, symbol_at}
 use Rattle.psabi_sym.specs.Names.{is_common, same_name, strong_definition, weak_definition}
 use Rattle.psabi_sym.specs.declared.data_class.DataClass.TheVariants.{SmallData, SmallZero, Common}
+use Rattle.psabi_sym.specs.declared.meaning.LinkerNumbers.{LinkerNumbers}
 use Rattle.psabi_sym.specs.declared.section_row.SectionRole.{SectionRole}
 use Rattle.psabi_sym.specs.declared.section_row.SectionRole.TheVariants as role
 use Rattle.psabi_sym.specs.declared.target.Target.{Target}
@@ -16,18 +17,28 @@ use Rattle.psabi_sym.specs.declared.target.Target.TheVariants.{Code, Number, Abs
 
 -- ---- names that the linker defines
 
--- the global pointer, the start of zeroed data, the end of data, and the top of the stack, if no object defines them
-abbrev pub linker_names : ParsedInputs → List (List ℕ × ℕ)
-linker_names inputs =
-    (codes "__global_pointer$", class_start inputs SmallData + 0x800)
-    ∷ (codes "__bss_start", class_start inputs SmallZero)
-    ∷ (codes "_end", class_end inputs Common)
-    ∷ (codes "__stack_top", inputs.map.stack_high)
-    ∷ []
+-- the global pointer, the start of zeroed data, the end of data, and the top of the stack
+abbrev pub linker_numbers : ParsedInputs → LinkerNumbers
+linker_numbers inputs = record {
+  global_pointer = class_start inputs SmallData + 0x800;
+  bss_start = class_start inputs SmallZero;
+  end = class_end inputs Common;
+  stack_top = inputs.map.stack_high;
+}
+
+-- the names that stand for them, if no object defines them
+abbrev pub linker_names : LinkerNumbers → List (List ℕ × ℕ)
+linker_names numbers =
+    (codes "__global_pointer$", numbers.global_pointer) ∷ (codes "__bss_start", numbers.bss_start) ∷ (codes "_end", numbers.end)
+    ∷ (codes "__stack_top", numbers.stack_top) ∷ []
+
+-- the number of such a name
+unfoldable pub linker_number : LinkerNumbers → List ℕ → Option ℕ
+linker_number numbers name = option_map (λ e. e.1) (find (λ e. same_name name e.0) (linker_names numbers))
 
 -- the value of such a name
-unfoldable pub linker_value : ParsedInputs → List ℕ → Option ℕ
-linker_value inputs name = option_map (λ e. e.1) (find (λ e. same_name e.0 name) (linker_names inputs))
+abbrev pub linker_value : ParsedInputs → List ℕ → Option ℕ
+linker_value inputs name = linker_number (linker_numbers inputs) name
 
 -- ---- what defines a name
 

@@ -1,7 +1,7 @@
 -- Sections and symbols as a link keeps them: what it asks of them later, with a number for each name.
 use Rattle.std.specs.Prelude.{◌≡◌, false, slice_get, slice_index, ℕ, Bool, not, ◌&&◌, ◌==◌, max, List, [], ◌∷◌, ◌++◌, filter, length, map, take, if◌then◌else◌, is_none, ◌+◌, Option, Some, None}
 use Rattle.std.specs.List.{find, fold, list_any, position_or_len}
-use Rattle.std.specs.Option.{option_map, option_or}
+use Rattle.std.specs.Option.{option_map, option_map_or, option_or}
 use Rattle.elf32_read.specs.Parts.{ObjectParts, SectionParts}
 use Rattle.psabi_sym.specs.Blocks.{aligned_up, end_from, room_of}
 use Rattle.psabi_sym.specs.Classes.{classes_before, same_class}
@@ -148,3 +148,8 @@ row_address_of placed name = option_map (λ e. e.1) (find (λ e. e.0.name == nam
 -- the room that a symbol may take in data, by its row
 abbrev pub row_common_room : SymbolRow → ℕ
 row_common_room r = if row_is_common r then r.size + max 1 r.value else 0
+
+-- a strong definition of a name whose first is another symbol, by rows
+abbrev pub row_is_second : List SymbolRow → SymbolRow → Bool
+row_is_second rows r =
+    row_defines 1 r && option_map_or (λ first. not (first.object == r.object && first.index == r.index)) (first_row 1 rows r.name) false

@@ -9,6 +9,7 @@ mod layout;
 pub mod link_fault;
 mod loaded;
 mod name_tables;
+pub mod meaning;
 mod names;
 pub mod objects;
 mod read_sections;
