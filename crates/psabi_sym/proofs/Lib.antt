@@ -1,5 +1,7 @@
 pub mod BlockLaws
+pub mod BridgeLaws
 pub mod CommonLaws
+pub mod DefinedLaws
 pub mod FlatLaws
 pub mod Gathered
 pub mod NumberLaws

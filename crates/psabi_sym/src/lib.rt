@@ -12,6 +12,7 @@ mod name_tables;
 pub mod meaning;
 mod names;
 pub mod objects;
+mod probe;
 mod read_sections;
 mod read_symbols;
 mod sections;
