@@ -207,3 +207,10 @@ pub rooms_fit : (files : List (List ℕ)) (names : List (List ℕ)) → sum_faul
     → sum_by row_data_room (map section_row (all_sections (map object_parts files))) + sum_by row_common_room (map (symbol_row names) (all_symbols (map object_parts files))) + 96 ≤ 0x40_0000
 rooms_fit files names none =
     omega (arith, data_fits files none, row_sums (map object_parts files) names, fold-map (λ a o. a + object_data o) object_parts 0 files)
+
+-- where all data ends
+pub class_end_common : (names : List (List ℕ)) (inputs : ParsedInputs) (numbered : All (λ l. number_of names l.symbol.name < length names) (all_symbols inputs.objects))
+    → end_from (class_start inputs Common) (map (row_room (map (symbol_row names) (all_symbols inputs.objects)))
+        (placed_rows (map (symbol_row names) (all_symbols inputs.objects)) (map (symbol_row names) (all_symbols inputs.objects)))) ≡ class_end inputs Common
+unfolding class_end
+class_end_common names inputs numbered = commons_end names inputs.objects numbered (class_start inputs Common)

@@ -1,7 +1,7 @@
 -- Laws of numbered symbols: more names leave the rows as they are, and one more symbol adds its row.
 use Rattle.std.proofs.Common.{◌≡◌, ℕ, ◌+◌, ◌<◌, ◌≤◌, List, [], ◌∷◌, ◌++◌, length, get_or, refl, sym, ap, ◌∙◌, arith, map, All, length-append, subst}
 use Rattle.std.proofs.lemmas.List.{map_push}
-use Rattle.std.proofs.lemmas.List.Elements.{All-head, All-push, All-tail, All-weaker}
+use Rattle.std.proofs.lemmas.List.Elements.{All-head, All-map, All-same, All-push, All-tail, All-weaker}
 use Rattle.psabi_sym.specs.Listed.{ListedSymbol}
 use Rattle.psabi_sym.specs.Numbered.{IsNumbered}
 use Rattle.psabi_sym.specs.Rows.{number_of, symbol_row, with_name}
@@ -41,3 +41,8 @@ pub numbered_as : {names names' : List (List ℕ)} {listed listed' : List Listed
     → names ≡ names' → listed ≡ listed' → rows ≡ rows' → IsNumbered names listed rows → IsNumbered names' listed' rows'
 numbered_as {names} {names'} {listed} {listed'} {rows} {rows'} n l r h =
     subst (λ x. IsNumbered names' listed' x) r (subst (λ x. IsNumbered names' x rows) l (subst (λ x. IsNumbered x listed rows) n h))
+
+-- each row has a number among the names
+pub named_rows : (names : List (List ℕ)) (listed : List ListedSymbol) (rows : List SymbolRow) → IsNumbered names listed rows → All (λ r. r.name < length names) rows
+named_rows names listed rows numbered =
+    All-same (λ r. r.name < length names) rows (map (symbol_row names) listed) numbered.rows_are (All-map (λ r. r.name < length names) (symbol_row names) listed numbered.numbered)

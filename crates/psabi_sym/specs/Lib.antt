@@ -12,3 +12,4 @@ pub mod Objects
 pub mod Numbered
 pub mod Resolve
 pub mod Rows
+pub mod Tables

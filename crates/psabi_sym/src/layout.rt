@@ -1,6 +1,6 @@
 // Where sections of data lie.
 
-ghost use Rattle.std.specs.Prelude.{◌≡◌, ◌+◌, ◌^◌, ◌<◌, ◌≤◌, ℕ, Some, length, max, slice_get, slice_index, take, if◌then◌else◌};
+ghost use Rattle.std.specs.Prelude.{◌≡◌, IfOk, ◌+◌, ◌^◌, ◌<◌, ◌≤◌, ℕ, Some, length, max, slice_get, slice_index, take, if◌then◌else◌};
 ghost use Rattle.psabi_sym.specs.Blocks.{aligned_up, end_from, room_of_all};
 ghost use Rattle.psabi_sym.specs.Data.{has_class};
 ghost use Rattle.psabi_sym.specs.Rows.{row_address, row_blocks, row_data_room, row_end, row_start, ArePlaced};
@@ -10,6 +10,7 @@ ghost use Rattle.psabi_sym.specs.declared.section_row.SectionRow.{SectionRow};
 
 use crate::data_class::DataClass;
 use crate::section_row::SectionRow;
+use std::alloc::{AllocError, Global};
 
 const CLASS_ALIGN: u32 = 16;
 
@@ -54,6 +55,13 @@ pub struct ClassEnds {
     pub end: u32,
 }
 
+/// Where the sections of data lie: the address of each, and where classes begin and end.
+#[derive(Debug, Drop)]
+pub struct Layout {
+    pub addresses: Vec<u32>,
+    pub ends: ClassEnds,
+}
+
 /// Places all sections, class after class, from an address on. The table of addresses has one for
 /// each section.
 pub fn place_classes(rows: &[SectionRow], low: u32, addresses: &mut [u32]) -> ClassEnds
@@ -78,4 +86,22 @@ pub fn place_classes(rows: &[SectionRow], low: u32, addresses: &mut [u32]) -> Cl
         small_zero: aligned_up(CLASS_ALIGN, file_end),
         end,
     }
+}
+
+/// The address of each section from an address on, and where classes begin and end.
+pub fn lay_out(alloc: Global, rows: &[SectionRow], low: u32) -> Result<Layout, AllocError>
+    requires { low + 96 + sum_by row_data_room rows.now < 2 ^ 32 }
+    ensures addresses { IfOk result (λ layout. ArePlaced rows.now low layout.addresses.items) }
+    ensures count { IfOk result (λ layout. length layout.addresses.items ≡ length rows.now) }
+    ensures small_data { IfOk result (λ layout. layout.ends.small_data ≡ row_start rows.now low SmallData) }
+    ensures file_end { IfOk result (λ layout. layout.ends.file_end
+        ≡ end_from (row_start rows.now low SmallData) (row_blocks SmallData rows.now)) }
+    ensures small_zero { IfOk result (λ layout. layout.ends.small_zero ≡ row_start rows.now low SmallZero) }
+    ensures end { IfOk result (λ layout. layout.ends.end ≡ end_from (row_start rows.now low Zero) (row_blocks Zero rows.now)) }
+    ensures most { IfOk result (λ layout. layout.ends.end ≤ low + 80 + sum_by row_data_room rows.now) }
+    ensures small_data_most { IfOk result (λ layout. layout.ends.small_data ≤ low + 96 + sum_by row_data_room rows.now) }
+{
+    let mut addresses = vec![in alloc; 0; rows.len()]?;
+    let ends = place_classes(rows, low, &mut addresses);
+    Ok(Layout { addresses, ends })
 }

@@ -5,6 +5,7 @@
 pub mod block;
 mod commons;
 pub mod data_class;
+mod definitions;
 mod layout;
 pub mod link_fault;
 mod loaded;
@@ -12,7 +13,6 @@ mod name_tables;
 pub mod meaning;
 mod names;
 pub mod objects;
-mod probe;
 mod read_sections;
 mod read_symbols;
 mod sections;
