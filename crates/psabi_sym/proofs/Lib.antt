@@ -2,6 +2,7 @@ pub mod BlockLaws
 pub mod BridgeLaws
 pub mod CommonLaws
 pub mod DefinedLaws
+pub mod FaultLaws
 pub mod FlatLaws
 pub mod Gathered
 pub mod NumberLaws
