@@ -1,9 +1,9 @@
 -- Where data lies in memory: sections by class, then common symbols. Code has no part in it.
-use Rattle.std.specs.Prelude.{ℕ, ◌+◌, Bool, false, not, ◌&&◌, ◌||◌, ◌==◌, nat_eq, max, if◌then◌else◌, is_none, List, [], ◌∷◌, ◌++◌, map, filter, codes, Option, Some, None}
+use Rattle.std.specs.Prelude.{ℕ, ◌+◌, Bool, true, false, not, ◌&&◌, ◌||◌, ◌==◌, nat_eq, max, if◌then◌else◌, is_none, List, [], ◌∷◌, ◌++◌, map, filter, codes, Option, Some, None}
 use Rattle.std.specs.List.{find, fold, starts_with}
-use Rattle.std.specs.Option.{option_and_then, option_map}
+use Rattle.std.specs.Option.{option_and_then, option_map, option_map_or}
 use Rattle.elf32_read.specs.Kept.{has_flags}
-use Rattle.elf32_read.specs.Parts.{ObjectParts, SectionParts, is_kept_section}
+use Rattle.elf32_read.specs.Parts.{ObjectParts, SectionParts, is_code_section, is_kept_section}
 use Rattle.psabi_sym.specs.Blocks.{aligned_up, end_from, placed_from}
 use Rattle.psabi_sym.specs.Classes.{classes_before, same_class}
 use Rattle.psabi_sym.specs.Inputs.{ParsedInputs}
@@ -37,6 +37,12 @@ abbrev pub has_class : DataClass → SectionRole → Bool
 has_class class Code = false
 has_class class (InClass own) = same_class own class
 has_class class Dropped = false
+
+-- code
+abbrev pub is_code_role : SectionRole → Bool
+is_code_role Code = true
+is_code_role (InClass class) = false
+is_code_role Dropped = false
 
 -- a section is data of this class
 abbrev pub is_of_class : DataClass → ListedSection → Bool
@@ -121,6 +127,10 @@ placed_commons inputs = placed_from (listed_block inputs.objects) (class_start i
 -- the address of a name that is common
 unfoldable pub common_address : ParsedInputs → List ℕ → Option ℕ
 common_address inputs name = option_map (λ e. e.1) (find (λ e. same_name e.0.symbol.name name) (placed_commons inputs))
+
+-- a section is code, by its object's index and its own
+abbrev pub is_code_at : List ObjectParts → ℕ → ℕ → Bool
+is_code_at objects o i = option_map_or is_code_section (section_at objects o i) false
 
 -- where the data ends whose bytes a file holds
 abbrev pub data_file_end : ParsedInputs → ℕ

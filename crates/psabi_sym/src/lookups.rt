@@ -2,10 +2,12 @@
 
 ghost use Rattle.std.specs.Prelude.{◌≡◌, pos, ◌+ℤ◌};
 ghost use Rattle.psabi_sym.specs.Places.{place_in};
-ghost use Rattle.psabi_sym.specs.Resolve.{number, offset_within, undefined_target};
-ghost use Rattle.elf32_read.specs.Parts.{SymbolParts};
+ghost use Rattle.psabi_sym.specs.Resolve.{code_target, number, offset_within, undefined_target};
+ghost use Rattle.elf32_read.specs.Parts.{SectionParts, SymbolParts};
 
+use crate::symbol_row::SymbolRow;
 use crate::target::Target;
+use zc_base::place::Place;
 
 const WEAK: u8 = 2;
 
@@ -51,4 +53,19 @@ pub fn undefined(bind: u8, addend: i32) -> Target
         return Target::Absent(addend.cast_unsigned());
     }
     Target::Nowhere
+}
+
+/// A place in a section of code of this size, or at its end, by a symbol's place and an addend.
+pub fn code_target(row: &SymbolRow, size: u32, addend: i32) -> Target
+    ensures { (section : SectionParts) → section.size ≡ size
+        → result ≡ code_target row.now.object row.now.home section (pos row.now.value +ℤ addend) }
+{
+    match offset_within(size, row.value, addend) {
+        None => Target::Nowhere,
+        Some(offset) => Target::Code(Place {
+            object: row.object,
+            section: row.home,
+            offset,
+        }),
+    }
 }

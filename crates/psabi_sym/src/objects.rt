@@ -1,8 +1,12 @@
 // The objects of a link.
 
-ghost use Rattle.std.specs.Prelude.{◌≡◌, ◌≤◌, ◌<◌, List, ℕ, length, map, None, Some, IfOk, IfErr, slice_get, pos};
+ghost use Rattle.std.specs.Prelude.{◌≡◌, ◌≤◌, ◌<◌, List, ℕ, length, map, None, Some, IfOk, IfErr, IsSome, [], slice_get, slice_index_or};
 ghost use Rattle.zc_base.specs.MemMap.{IsMap};
-ghost use Rattle.psabi_sym.specs.Data.{data_address, data_end, data_file_end};
+ghost use Rattle.psabi_sym.specs.Data.{data_address, data_end, data_file_end, is_code_at};
+ghost use Rattle.psabi_sym.specs.Resolve.{home_target, resolved};
+ghost use Rattle.elf32_read.specs.Header.{section_count};
+ghost use Rattle.elf32_read.specs.Parts.{SymbolParts};
+ghost use Rattle.elf32_read.specs.Relas.{IsRelaOf};
 ghost use Rattle.psabi_sym.specs.Faults.{fault_from, gather_fault};
 ghost use Rattle.psabi_sym.specs.Inputs.{Inputs, parsed};
 ghost use Rattle.psabi_sym.specs.LinkFault.{IsRefusal};
@@ -11,10 +15,15 @@ ghost use Rattle.psabi_sym.specs.Objects.{contents_of};
 use crate::definitions::Definitions;
 use crate::link_fault::LinkFault;
 use crate::loaded::Loaded;
+use crate::lookups::{code_target, number, place, undefined};
+use crate::meaning::Meaning;
 use crate::named::name_objects;
+use crate::section_row::SectionRole;
 use crate::sections::Sections;
 use crate::sums::first_too_large;
+use crate::symbol_row::SymbolRow;
 use crate::symbols::Symbols;
+use crate::target::Target;
 use elf32_read::fault::Fault;
 use elf32_read::object::Object;
 use std::alloc::{AllocError, Global};
@@ -22,6 +31,10 @@ use std::marker::Model;
 use zc_base::mem_map::MemMap;
 
 const MOST_OBJECTS: usize = 256;
+
+const LOCAL: u8 = 0;
+
+const ABS: u16 = 0xFFF1;
 
 /// The objects of a link, in their order, and the memory map. They have no fault of their own, and
 /// none between them.
@@ -131,6 +144,81 @@ impl Objects {
         ensures { result ≡ data_end (parsed self.now) }
     {
         self.definitions.end
+    }
+}
+
+impl Objects {
+    /// Whether a section is code, by its object's index and its own.
+    pub fn is_code(&self, object: u16, section: u16) -> bool
+        ensures { result ≡ is_code_at (parsed self.now).objects object section }
+    {
+        match place(&self.sections.starts, object, u32::from(section)) {
+            None => false,
+            Some(k) => self.sections.rows[k].is_code(),
+        }
+    }
+
+    /// The address of a section of data, by its object's index and its own.
+    #[tactic(auto, unfolding(crate::specs::Data::data_address))]
+    pub fn data_address(&self, object: u16, section: u16) -> u32
+        requires { IsSome (data_address (parsed self.now) object section) }
+        ensures { data_address (parsed self.now) object section ≡ Some result }
+    {
+        match place(&self.sections.starts, object, u32::from(section)) {
+            None => 0,
+            Some(k) => self.definitions.addresses[k],
+        }
+    }
+
+    /// The section with the relocations of a section, by its object's index and its own; none if it
+    /// has none.
+    pub fn rela_of(&self, object: u16, section: u16) -> Option<u32>
+        requires object { object < length self.now.files }
+        requires section { section < section_count (slice_index_or self.now.files object []) }
+        ensures { IsRelaOf (slice_index_or self.now.files object []) section result }
+    {
+        self.objects[object as usize].rela_of(u32::from(section))
+    }
+
+    // Where a symbol with a home leads.
+    fn home_target(&self, row: &SymbolRow, addend: i32) -> Target
+        ensures { (s : SymbolParts) → s.home ≡ row.now.home → s.value ≡ row.now.value
+            → result ≡ home_target (parsed self.now) row.now.object s addend }
+    {
+        if row.home == ABS {
+            return number(row.value, addend);
+        }
+        let Some(k) = place(&self.sections.starts, row.object, u32::from(row.home)) else {
+            return Target::Nowhere;
+        };
+        match self.sections.rows[k].role {
+            SectionRole::Code => code_target(row, self.sections.rows[k].size, addend),
+            SectionRole::InClass(_) => {
+                number(self.definitions.addresses[k].wrapping_add(row.value), addend)
+            }
+            SectionRole::Dropped => Target::Nowhere,
+        }
+    }
+
+    /// What a symbol with an addend resolves to, by its object's index and its own.
+    pub fn resolve(&self, object: u16, symbol: u32, addend: i32) -> Target
+        ensures { result ≡ resolved (parsed self.now) object symbol addend }
+    {
+        if symbol == 0 {
+            return number(0, addend);
+        }
+        let Some(k) = place(&self.symbols.starts, object, symbol - 1) else {
+            return Target::Nowhere;
+        };
+        let row = self.symbols.rows[k];
+        if !row.is_common() && row.bind == LOCAL {
+            return self.home_target(&row, addend);
+        }
+        match self.definitions.meanings[row.name as usize] {
+            Meaning::Symbol(other) => self.home_target(&other, addend),
+            Meaning::Number(n) => number(n, addend),
+            Meaning::Nothing => undefined(row.bind, addend),
+        }
     }
 }
 

@@ -1,7 +1,7 @@
 // Sections, as a link keeps them.
 
 ghost use Rattle.std.specs.Prelude.{◌≡◌};
-ghost use Rattle.psabi_sym.specs.Data.{has_class};
+ghost use Rattle.psabi_sym.specs.Data.{has_class, is_code_role};
 
 use crate::data_class::DataClass;
 
@@ -22,6 +22,13 @@ pub struct SectionRow {
 }
 
 impl SectionRow {
+    /// Whether the section is code.
+    pub fn is_code(&self) -> bool
+        ensures { result ≡ is_code_role self.now.role }
+    {
+        matches!(self.role, SectionRole::Code)
+    }
+
     /// Whether the section is data of this class.
     pub fn is_of(&self, class: DataClass) -> bool
         ensures { result ≡ has_class class self.now.role }
