@@ -1,27 +1,37 @@
 -- What look-ups find in the tables of gathered objects.
-use Rattle.std.proofs.Common.{◌≡◌, ℕ, zero, suc, ◌+◌, ◌-◌, ◌<◌, ◌≤◌, List, [], length, get_or, map, refl, sym, ap, ◌∙◌, arith, Option, Some, None, slice_get, subst}
+use Rattle.std.proofs.Common.{◌≡◌, ℕ, zero, suc, ◌+◌, ◌-◌, ◌<◌, ◌≤◌, List, [], length, get_or, map, refl, sym, ap, ◌∙◌, arith, Option, Some, None, slice_get, subst, IsSome, cond, eqb, ℤ, ◌%◌, ◌/◌, ◌*◌, ◌^◌}
+use Rattle.std.proofs.Math.Nat.{add-mul-mod_self_left, mod-add-div}
+use Rattle.std.proofs.lemmas.Bool.{false≢true}
 use Rattle.std.proofs.lemmas.List.{get_or-map, length-map}
 use Rattle.std.proofs.lemmas.Option.{slice_get-get_or}
 use Rattle.elf32_read.specs.Parts.{ObjectParts, SectionParts, SymbolParts}
 use Rattle.psabi_sym.specs.declared.data_class.DataClass.{DataClass}
 use Rattle.psabi_sym.specs.declared.definitions.Definitions.{Definitions}
 use Rattle.psabi_sym.specs.declared.meaning.Meaning.{Meaning}
-use Rattle.psabi_sym.specs.declared.meaning.Meaning.TheVariants.{Nothing}
-use Rattle.psabi_sym.specs.declared.section_row.SectionRole.TheVariants.{InClass}
+use Rattle.psabi_sym.specs.declared.meaning.Meaning.TheVariants.{Symbol, Number, Nothing}
+use Rattle.psabi_sym.specs.declared.section_row.SectionRole.{SectionRole}
+use Rattle.psabi_sym.specs.declared.section_row.SectionRole.TheVariants.{Code, InClass, Dropped}
 use Rattle.psabi_sym.specs.declared.section_row.SectionRow.{SectionRow}
 use Rattle.psabi_sym.specs.declared.sections.Sections.{Sections}
 use Rattle.psabi_sym.specs.declared.symbol_row.SymbolRow.{SymbolRow}
 use Rattle.psabi_sym.specs.declared.symbols.Symbols.{Symbols}
-use Rattle.psabi_sym.specs.Data.{address_in, role_of}
+use Rattle.psabi_sym.specs.Data.{address_in, role_address, role_of}
 use Rattle.psabi_sym.specs.Gathered.{IsGathered}
-use Rattle.psabi_sym.specs.Inputs.{Inputs, parsed}
+use Rattle.std.specs.Option.{option_map_or}
+use Rattle.psabi_sym.specs.Inputs.{Inputs, ParsedInputs, parsed}
 use Rattle.psabi_sym.specs.Listed.{ListedSymbol, all_sections, all_symbols, section_at, symbol_at}
 use Rattle.psabi_sym.specs.Meanings.{meaning_row}
 use Rattle.psabi_sym.specs.Places.{place_in}
-use Rattle.psabi_sym.specs.Resolve.{name_definition}
+use Rattle.psabi_sym.specs.Resolve.{Definition, name_definition, number, resolved, section_target, symbol_target, word_of}
+use Rattle.psabi_sym.specs.Resolve.Definition.{InObject, AtNumber}
+use Rattle.psabi_sym.specs.declared.target.Target.{Target}
+use Rattle.psabi_sym.specs.declared.target.Target.TheVariants.{Nowhere, Number as TargetNumber}
 use Rattle.psabi_sym.specs.Rows.{ArePlaced, number_of, part_row, section_row, symbol_row}
 use Rattle.psabi_sym.proofs.FoundLaws.{IsFoundSection, IsFoundSymbol, section_found, section_none, symbol_found, symbol_none}
 use Rattle.psabi_sym.proofs.PlaceLaws.{address_there, place_within, row_there, symbol_there}
+
+pub some_none : IsSome {T = ℕ} None → ⊥
+some_none h = false≢true h
 
 module _ (inputs : Inputs) (sections : Sections) (symbols : Symbols) (definitions : Definitions) (gathered : IsGathered inputs sections symbols definitions) where
   objects : List ObjectParts
@@ -55,6 +65,13 @@ module _ (inputs : Inputs) (sections : Sections) (symbols : Symbols) (definition
         ap (λ n. get_or definitions.addresses.items n 0) found.place
         ∙ address_there (parsed inputs) o i found.object found.section found.at found.is definitions.addresses.items class
           (subst (λ rows. ArePlaced rows inputs.map.data_low definitions.addresses.items) gathered.indexed.sections_are gathered.defined.placed) role
+
+    -- the address of a section that has one
+    pub data_address_is : (role : SectionRole) → role_of found.section ≡ role → IsSome (role_address (parsed inputs) o i found.section role)
+        → role_address (parsed inputs) o i found.section role ≡ Some (get_or definitions.addresses.items k 0)
+    data_address_is Code is some = absurd (some_none some)
+    data_address_is (InClass class) is some = ap Some (sym (address_is class is))
+    data_address_is Dropped is some = absurd (some_none some)
 
   -- ---- symbols
 
@@ -100,3 +117,38 @@ module _ (inputs : Inputs) (sections : Sections) (symbols : Symbols) (definition
         ap (λ m. get_or definitions.meanings.items (number_of gathered.defined.named.names m.symbol.name) Nothing) (sym (all_is l).1)
         ∙ gathered.defined.named.meant k l (all_is l).0
         ∙ ap (λ m. meaning_row gathered.defined.named.names (name_definition (parsed inputs) m.symbol.name)) (all_is l).1
+
+-- a symbol after symbol 0
+pub resolved_next : (inputs : ParsedInputs) (o n : ℕ) (addend : ℤ) → resolved inputs o (n + 1) addend ≡ option_map_or (λ symbol. symbol_target inputs o symbol addend) (symbol_at inputs.objects o (n + 1)) Nowhere
+unfolding resolved
+resolved_next inputs o n addend =
+    let next : n + 1 ≡ suc n = omega arith in
+    ap (λ s. resolved inputs o s addend) next ∙ ap (λ s. option_map_or (λ symbol. symbol_target inputs o symbol addend) (symbol_at inputs.objects o s) Nowhere) (sym next)
+
+-- a symbol with a home by its home and value alone
+abbrev pub home_value_target : ParsedInputs → ℕ → ℕ → ℕ → ℤ → Target
+home_value_target inputs o home value addend =
+    cond (eqb home 0xFFF1) (number value addend) (option_map_or (section_target inputs o home value addend) (section_at inputs.objects o home) Nowhere)
+
+-- what a name stands for, by its meaning
+pub symbol_meaning : (names : List (List ℕ)) (o : Option Definition) (row : SymbolRow) → Symbol row ≡ meaning_row names o → (l : ListedSymbol) × (o ≡ Some (InObject l)) × (row ≡ symbol_row names l)
+symbol_meaning names None row is = absurd cc
+symbol_meaning names (Some (InObject l)) row is = (l, refl, cc)
+symbol_meaning names (Some (AtNumber n)) row is = absurd cc
+
+pub number_meaning : (names : List (List ℕ)) (o : Option Definition) (n : ℕ) → Number n ≡ meaning_row names o → o ≡ Some (AtNumber n)
+number_meaning names None n is = absurd cc
+number_meaning names (Some (InObject l)) n is = absurd cc
+number_meaning names (Some (AtNumber m)) n is = let same : m ≡ n = cc in ap (λ k. Some (AtNumber k)) same
+
+pub nothing_meaning : (names : List (List ℕ)) (o : Option Definition) → Nothing ≡ meaning_row names o → o ≡ None
+nothing_meaning names None is = refl
+nothing_meaning names (Some (InObject l)) is = absurd cc
+nothing_meaning names (Some (AtNumber n)) is = absurd cc
+
+-- a number modulo 2^32 before an addend
+pub number_wrapped : (n : ℕ) (addend : ℤ) → number (n % 2 ^ 32) addend ≡ number n addend
+number_wrapped n addend =
+    let w = word_of addend in
+    let parts : n + w ≡ n % 4294967296 + w + 4294967296 * (n / 4294967296) = omega (arith, mod-add-div n 4294967296) in
+    ap (λ k. TargetNumber k) (sym (ap (λ k. k % 4294967296) parts ∙ add-mul-mod_self_left (n % 4294967296 + w) 4294967296 (n / 4294967296)))

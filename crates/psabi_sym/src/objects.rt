@@ -1,9 +1,11 @@
 // The objects of a link.
 
-ghost use Rattle.std.specs.Prelude.{◌≡◌, ◌≤◌, ◌<◌, List, ℕ, length, map, None, Some, IfOk, IfErr, IsSome, [], slice_get, slice_index_or};
+ghost use Rattle.std.specs.Prelude.{◌≡◌, ◌≤◌, ◌<◌, List, ℕ, length, map, None, Some, IfOk, IfErr, IsSome, Option, [], slice_get, slice_index_or};
 ghost use Rattle.zc_base.specs.MemMap.{IsMap};
 ghost use Rattle.psabi_sym.specs.Data.{data_address, data_end, data_file_end, is_code_at};
-ghost use Rattle.psabi_sym.specs.Resolve.{home_target, resolved};
+ghost use Rattle.psabi_sym.specs.Resolve.{Definition, definition_target, home_target, resolved, undefined_target};
+ghost use Rattle.psabi_sym.specs.Meanings.{meaning_row};
+ghost use Rattle.std.specs.Option.{option_map_or};
 ghost use Rattle.elf32_read.specs.Header.{section_count};
 ghost use Rattle.elf32_read.specs.Parts.{SymbolParts};
 ghost use Rattle.elf32_read.specs.Relas.{IsRelaOf};
@@ -200,6 +202,18 @@ impl Objects {
         }
     }
 
+    // Where a name leads, by what it stands for and the binding of the symbol that has it.
+    fn meaning_target(&self, meaning: Meaning, bind: u8, addend: i32) -> Target
+        ensures { (names : List (List ℕ)) (o : Option Definition) (s : SymbolParts) → meaning ≡ meaning_row names o → s.bind ≡ bind
+            → result ≡ option_map_or (definition_target (parsed self.now) addend) o (undefined_target s addend) }
+    {
+        match meaning {
+            Meaning::Symbol(row) => self.home_target(&row, addend),
+            Meaning::Number(n) => number(n, addend),
+            Meaning::Nothing => undefined(bind, addend),
+        }
+    }
+
     /// What a symbol with an addend resolves to, by its object's index and its own.
     pub fn resolve(&self, object: u16, symbol: u32, addend: i32) -> Target
         ensures { result ≡ resolved (parsed self.now) object symbol addend }
@@ -214,11 +228,8 @@ impl Objects {
         if !row.is_common() && row.bind == LOCAL {
             return self.home_target(&row, addend);
         }
-        match self.definitions.meanings[row.name as usize] {
-            Meaning::Symbol(other) => self.home_target(&other, addend),
-            Meaning::Number(n) => number(n, addend),
-            Meaning::Nothing => undefined(row.bind, addend),
-        }
+        let meaning = self.definitions.meanings[row.name as usize];
+        self.meaning_target(meaning, row.bind, addend)
     }
 }
 
