@@ -13,6 +13,7 @@ object or an image, as it was made or with mutations, and what is odd about the 
 - after `zc` ended with 0 the image and the certificate are there, and else no file is there or has changed, but
   for the image alone after a write fault or where memory ran out;
 - the text of the image is that of the object's code, with its short forms;
+- `zc` refuses an object for its first fault of reading (`object_faults.py`), and others only as NotBuilt;
 - `zc` and `trace` refuse an object alike;
 - where `trace` isn't stuck, `run` of the image ends as `trace` of the object does.
 
@@ -30,6 +31,8 @@ import sys
 import tempfile
 import time
 
+from object_faults import NAMES as FAULTS, object_fault
+
 TIME_OUT = 20
 STEPS = '1000'
 MIB = 1 << 20
@@ -38,7 +41,6 @@ OBJECT_LIMIT = 4 * MIB
 IMAGE_LIMIT = 8 * MIB
 CERTIFICATE = b'zcld certificate 1\nprice 0 0 0\nnet 0\nend\n'
 
-FAULTS = ('NotBuilt', 'NotElf', 'Truncated')
 REASONS = (None, 'Illegal', 'BadAccess', 'Misaligned', 'Break', 'UnknownCall')
 WHYS = (None, 'AddressUnknown', 'ConditionUnknown', 'TargetUnknown', 'ArgumentUnknown', 'BadAddress', 'Misaligned',
         'StackPointer', 'NoInstruction', 'UnknownCall')
@@ -66,6 +68,8 @@ FILE_FIELDS = [(i, 1) for i in range(16)] + [(16, 2), (18, 2), (20, 4), (24, 4),
                                              (42, 2), (44, 2), (46, 2), (48, 2), (50, 2)]
 SECTION_FIELDS = [(at, 4) for at in range(0, 40, 4)]
 PROGRAM_FIELDS = [(at, 4) for at in range(0, 32, 4)]
+SYMBOL_FIELDS = [(0, 4), (4, 4), (8, 4), (12, 1), (13, 1), (14, 2)]
+RELOC_FIELDS = [(0, 4), (4, 4), (8, 4)]
 
 
 class Wrong(Exception):
@@ -100,24 +104,47 @@ def straight_words(rng):
     return words or [0x73]
 
 
-def section(name, kind, flags, at, size, align):
-    return struct.pack('<10I', name, kind, flags, 0, at, size, 0, 0, align, 0)
+NAMES_OF_SECTIONS = b'\0.text\0.data\0.eh_frame\0.rela.text\0.symtab\0.names\0'
+NAMES_OF_SYMBOLS = b'\0_start\0table\0'
+TEXT, DATA, EH_FRAME, RELA_TEXT, SYMTAB, STRINGS = (NAMES_OF_SECTIONS.index(name) for name in (
+    b'.text', b'.data', b'.eh_frame', b'.rela.text', b'.symtab', b'.names'))
+
+
+def symbols(rng, most):
+    """A table of symbols that are taken, with symbol 0."""
+    rows = [(0, 0, 0, 0, 0)]
+    for _ in range(rng.choice((1, 1, 2, 9))):
+        home = rng.choice((1, 1, 0, 0xFFF1, 0xFFF2))
+        value = {1: rng.choice((0, most)), 0: 0, 0xFFF2: rng.choice((0, 1, 4, 4096))}.get(home, rng.getrandbits(32))
+        bind = rng.choice((1, 1, 2) if home in (0, 0xFFF2) else (0, 1, 2))
+        rows.append((rng.choice((0, 1, 8)), value, rng.randrange(9), bind << 4 | rng.randrange(5), home))
+    return b''.join(struct.pack('<IIIBBH', name, value, size, info, 0, home) for name, value, size, info, home in rows)
 
 
 def made_object(rng):
     """An object of straight code, with sections beside it that a compiler might add."""
     text = struct.pack(f'<{len(words)}I', *words) if (words := straight_words(rng)) else b''
-    names = b'\0.text\0.shstrtab\0\0\0\0'
-    gap = bytes(rng.choice((0, 0, 4, 12)))
-    at_text, at_names = 52 + len(gap), 52 + len(gap) + len(text)
-    sections = [bytes(40), section(1, 1, 6, at_text, len(text), rng.choice((0, 1, 2, 4)))]
+    parts = [(0, 0, 0, b'', 0, 0, 0, 0, 0), (TEXT, 1, 6, text, len(text), 0, 0, rng.choice((0, 1, 2, 4)), 0)]
+    table = symbols(rng, len(text))
+    reloc = struct.pack('<3I', 0, rng.randrange(len(table) // 16) << 8 | 23, 0)
     for _ in range(rng.choice((0, 0, 1, 3, 60))):
-        sections.append(rng.choice((section(0, 1, 3, at_names, 0, 1), section(0, 8, 3, at_names, 0, 1),
-                                    section(0, 1, 0x30, at_text, len(text), 1), section(0, 2, 0, 0, 0, 4))))
-    sections.append(section(7, 3, 0, at_names, len(names), 1))
-    header = struct.pack('<16sHHIIIIIHHHHHH', b'\x7fELF\1\1\1', 1, 243, 1, 0, 0, at_names + len(names), 0, 52, 0, 0, 40,
-                         len(sections), len(sections) - 1)
-    return header + gap + text + names + b''.join(sections)
+        parts.append(rng.choice(((DATA, 1, 3, b'', 0, 0, 0, 1, 0), (DATA, 8, 3, b'', 0, 0, 0, 1, 0),
+                                 (DATA, 1, 0x30, text, len(text), 0, 0, 1, 0),
+                                 (EH_FRAME, 1, 2, b'', 0, 0, 0, 4, 0))))
+    if rng.random() < 0.2:
+        changed = rng.choice((1, 1, len(parts) - 1))
+        parts.append((RELA_TEXT, 4, 0x40, reloc, 12, len(parts) + 1, changed, 4, 12))
+    if rng.random() < 0.7 or parts[-1][1] == 4:
+        parts.append((SYMTAB, 2, 0, table, len(table), len(parts) + 2, 0, 4, 16))
+    parts.append((STRINGS, 3, 0, NAMES_OF_SECTIONS, len(NAMES_OF_SECTIONS), 0, 0, 1, 0))
+    parts.append((STRINGS, 3, 0, NAMES_OF_SYMBOLS, len(NAMES_OF_SYMBOLS), 0, 0, 1, 0))
+    content, headers = bytes(rng.choice((0, 0, 4, 12))), b''
+    for name, kind, flags, part, size, link, info, align, entry in parts:
+        headers += struct.pack('<10I', name, kind, flags, 0, 52 + len(content), size, link, info, align, entry)
+        content += part + bytes(-len(part) % 4)
+    header = struct.pack('<16sHHIIIIIHHHHHH', b'\x7fELF\1\1\1', 1, 243, 1, 0, 0, 52 + len(content),
+                         rng.choice((0, 0, 0x10)), 52, 0, 0, 40, len(parts), len(parts) - 2)
+    return header + content + headers
 
 
 def code_of(data):
@@ -176,6 +203,20 @@ def section_field(rng, data):
         change_field(rng, data, base + 40 * rng.choice((1, rng.randrange(max(1, count)))), SECTION_FIELDS)
 
 
+def entry_field(rng, data):
+    """A field of a symbol or a relocation."""
+    if object_fault(data) in (1, 2, 17):
+        return
+    base, count = struct.unpack_from('<I', data, 32)[0], struct.unpack_from('<H', data, 48)[0]
+    headers = [struct.unpack_from('<10I', data, base + 40 * i) for i in range(count)]
+    tables = [(at, size, fields) for _, kind, _, _, at, size, _, _, _, _ in headers
+              for wanted, fields in ((2, SYMBOL_FIELDS), (4, RELOC_FIELDS)) if kind == wanted and size]
+    if tables:
+        at, size, fields = rng.choice(tables)
+        length = sum(width for _, width in fields)
+        change_field(rng, data, at + length * rng.randrange(max(1, size // length)), fields)
+
+
 def program_field(rng, data):
     if len(data) >= 52:
         base = struct.unpack_from('<I', data, 28)[0] or 52
@@ -225,8 +266,8 @@ def lengthen(rng, data):
         data.extend(bytes(max(0, rng.choice((OBJECT_LIMIT, IMAGE_LIMIT)) + rng.randrange(-1, 2) - len(data))))
 
 
-MUTATIONS = (flip, file_field, section_field, section_field, section_field, program_field, change_word, truncate,
-             insert, remove, double, overwrite, lengthen)
+MUTATIONS = (flip, file_field, section_field, section_field, section_field, entry_field, entry_field, program_field,
+             change_word, truncate, insert, remove, double, overwrite, lengthen)
 
 
 # ---- calls
@@ -360,6 +401,7 @@ class Case:
         linked, link_line = program.call('zc', '--out', place['out'], '--cert', place['cert'], place['file'],
                                          memory=memory)
         self.check_files(linked, before, files_in(folder))
+        self.check_refusal(linked, link_line)
         traced, trace_line = program.call('trace', '--steps', STEPS, place['file'], memory=memory)
         program.call('run', '--steps', STEPS, place['file'], memory=memory)
         if 'out of memory' in (linked, traced) or linked == 'write fault':
@@ -373,6 +415,12 @@ class Case:
             if traced != 'stuck' and run_line != trace_line:
                 raise Wrong(f'trace says {trace_line!r}, but run {run_line!r}')
             program.counts['both', 'agree' if traced != 'stuck' else 'trace is stuck'] += 1
+
+    def check_refusal(self, linked, line):
+        fault = object_fault(self.data)
+        told = f'refused 0 {fault or 0} {FAULTS[fault or 0]}'
+        if linked in ('done', 'write fault') and fault or linked == 'refused' and line != told:
+            raise Wrong(f'zc says {line!r}, but the first fault is {fault and FAULTS[fault]}')
 
     def check_files(self, linked, before, after):
         if linked == 'done':

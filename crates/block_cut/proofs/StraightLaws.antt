@@ -7,7 +7,7 @@ use Rattle.std.proofs.lemmas.Bool.{not-false, or_parts, and_parts, ltb-false, le
 use Rattle.std.proofs.lemmas.List.{length-drop, length-take}
 use Rattle.elf32_read.specs.declared.fault.Fault.{Fault}
 use Rattle.elf32_read.specs.declared.fault.Fault.TheVariants.{NotBuilt}
-use Rattle.elf32_read.specs.Header.{file_flags, header_of, is_empty_kind, section_count}
+use Rattle.elf32_read.specs.Header.{header_of, is_empty_kind, section_count}
 use Rattle.elf32_read.specs.Object.{object_fault}
 use Rattle.elf32_read.proofs.Faultless.{content_within, faultless_whole}
 use Rattle.elf32_read.proofs.Listed.{none_listed}
@@ -48,20 +48,18 @@ straight : (file : List ℕ) → object_fault file ≡ None → is_unbuilt file 
 unfolding is_unbuilt
 straight file read built =
     let code = header_of file 1 in
-    let flagged = not (eqb (file_flags file) 0) in
     let few = ltb (section_count file) 2 in
     let other = not (is_straight_code code) in
     let all = or_parts (has_other_parts file) (list_any is_unknown (words_in (code_of file))) built in
-    let three = or_parts (flagged || few || other) _ all.0 in
-    let two = or_parts (flagged || few) other three.0 in
-    let one = or_parts flagged few two.0 in
+    let three = or_parts (few || other) _ all.0 in
+    let two = or_parts few other three.0 in
     let is = not-false (is_straight_code code) two.1 in
     let most = and_parts (eqb code.kind 1 && eqb code.flags 6 && leb code.align 4 && eqb (code.size % 4) 0 && leb 4 code.size) (leb code.size 65536) is in
     let least = and_parts (eqb code.kind 1 && eqb code.flags 6 && leb code.align 4 && eqb (code.size % 4) 0) _ most.0 in
     let whole = and_parts (eqb code.kind 1 && eqb code.flags 6 && leb code.align 4) _ least.0 in
     let aligned = and_parts (eqb code.kind 1 && eqb code.flags 6) _ whole.0 in
     let kinds = and_parts (eqb code.kind 1) _ aligned.0 in
-    let two_sections = ltb-false (section_count file) 2 one.1 in
+    let two_sections = ltb-false (section_count file) 2 two.0 in
     let counted : 1 < section_count file = omega arith in
     let kind = eqb-true code.kind 1 kinds.0 in
     record {

@@ -3,7 +3,7 @@ use Rattle.std.specs.Prelude.{ℕ, zero, suc, ◌+◌, ◌/◌, ◌%◌, Bool, n
 use Rattle.std.specs.List.{list_any, range_with_len}
 use Rattle.std.specs.Int.RustNames.{bit_and}
 use Rattle.zc_base.specs.Fields.{word_in}
-use Rattle.elf32_read.specs.Header.{Header, header_of, section_count, content_of, file_flags}
+use Rattle.elf32_read.specs.Header.{Header, header_of, section_count, content_of}
 use Rattle.rv_decode.specs.Decode.{decoded}
 
 -- n words from an offset on
@@ -28,9 +28,9 @@ is_straight_code h = h.kind == 1 && h.flags == 6 && nat_le h.align 4 && h.size %
 abbrev pub takes_memory : Header → Bool
 takes_memory h = bit_and h.flags 2 == 2 && not (h.size == 0)
 
--- a section that changes others or ties them together: RELA (4), REL (9) or GROUP (17)
+-- a section that changes others: RELA (4)
 abbrev pub changes_others : Header → Bool
-changes_others h = h.kind == 4 || h.kind == 9 || h.kind == 17
+changes_others h = h.kind == 4
 
 -- a section that this link has no place for, by its index: memory beside the code, or a change of it
 abbrev pub is_unbuilt_section : ℕ × Header → Bool
@@ -44,12 +44,11 @@ indexed object i = (i, header_of object i)
 abbrev pub is_unknown : ℕ → Bool
 is_unknown word = is_none (decoded word)
 
--- an object with more than straight code, or without: it has flags, no section 1 or no code in it, or another section that
--- this link has no place for
+-- an object with more than straight code, or without: it has no section 1 or no code in it, or another section that this
+-- link has no place for
 abbrev pub has_other_parts : List ℕ → Bool
 has_other_parts object =
-    not (file_flags object == 0)
-    || nat_lt (section_count object) 2
+    nat_lt (section_count object) 2
     || not (is_straight_code (header_of object 1))
     || list_any is_unbuilt_section (map (indexed object) (range_with_len 0 (section_count object)))
 

@@ -19,10 +19,6 @@ const PROGBITS: u32 = 1;
 
 const RELA: u32 = 4;
 
-const REL: u32 = 9;
-
-const GROUP: u32 = 17;
-
 // The flags of code: ALLOC and EXECINSTR.
 const CODE: u32 = 6;
 
@@ -33,10 +29,7 @@ const MOST_CODE: u32 = 65536;
 pub fn has_other_parts(object: &Object) -> bool
     ensures { result ≡ has_other_parts object.now }
 {
-    object.flags() != 0
-        || object.section_count() < 2
-        || !is_straight_code(object)
-        || has_unbuilt_section(object)
+    object.section_count() < 2 || !is_straight_code(object) || has_unbuilt_section(object)
 }
 
 // Whether section 1 is straight code.
@@ -84,7 +77,7 @@ fn takes_memory(section: &Section) -> bool
 fn changes_others(section: &Section) -> bool
     ensures { (h : Header) → h.kind ≡ section.now.kind → result ≡ changes_others h }
 {
-    matches!(section.kind, RELA | REL | GROUP)
+    section.kind == RELA
 }
 
 /// The items of the words of code, or none if the table of instructions lacks a word.

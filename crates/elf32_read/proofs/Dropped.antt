@@ -1,6 +1,7 @@
 -- A test over the values of a function from 1 on: the first value is dropped.
 use Rattle.std.proofs.Common.{◌≡◌, ℕ, zero, suc, ◌+◌, ◌-◌, ◌<◌, ◌≤◌, [], ◌∷◌, drop, length, get_or, map, Bool, true, false, refl, sym, ap, ◌∙◌, arith}
 use Rattle.std.specs.List.{list_any, range_with_len}
+use Rattle.std.proofs.lemmas.Bool.{false_from_ne_true}
 use Rattle.std.proofs.lemmas.List.Folds.{list_any-append, list_any_at}
 use Rattle.std.proofs.lemmas.List.FromFn.{length-map-range_with_len, get_or-map-range_with_len, map-range_with_len_more}
 
@@ -28,3 +29,7 @@ none_dropped p f (suc n) i le within none =
     let most : i ≤ suc n = within (omega arith) in
     let last : suc n ≡ i = omega arith in
     ap (λ k. list_any p (drop 1 (map f (range_with_len 0 k)))) last ∙ none
+
+-- if none passes, this one does not
+pub none_dropped_at : {X : Type 0} (p : X → Bool) (f : ℕ → X) (n i : ℕ) → list_any p (drop 1 (map f (range_with_len 0 n))) ≡ false → 1 ≤ i → i < n → p (f i) ≡ false
+none_dropped_at p f n i none some lt = false_from_ne_true (p (f i)) (λ h. cc (some_dropped p f n i (f i) refl some lt h, none))

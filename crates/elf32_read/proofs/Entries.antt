@@ -1,9 +1,9 @@
 -- The entries of a list of places, by their index.
-use Rattle.std.proofs.Common.{◌≡◌, ℕ, ◌<◌, ◌/◌, List, length, Some, ap, ◌∙◌, arith}
+use Rattle.std.proofs.Common.{◌≡◌, ℕ, ◌<◌, ◌/◌, List, length, Some}
 use Rattle.std.specs.Prelude.{slice_get}
-use Rattle.std.proofs.lemmas.List.FromFn.{length-map-range_with_len, get_or-map-range_with_len}
-use Rattle.std.proofs.lemmas.Option.{slice_get-get_or}
+use Rattle.std.proofs.lemmas.List.FromFn.{length-map-range_with_len}
 use Rattle.elf32_read.specs.Places.{entry_at, entries_of}
+use Rattle.elf32_read.proofs.Listed.{slice_get-listed}
 
 -- each has twelve bytes
 pub length-entries_of : (entries : List ℕ) → length (entries_of entries) ≡ length entries / 12
@@ -11,7 +11,4 @@ length-entries_of entries = length-map-range_with_len (entry_at entries) 0 (leng
 
 -- the one at an index
 pub slice_get-entries_of : (entries : List ℕ) (i : ℕ) → i < length entries / 12 → slice_get (entries_of entries) i ≡ Some (entry_at entries i)
-slice_get-entries_of entries i lt =
-    let inside : i < length (entries_of entries) = omega (arith, lt, length-entries_of entries) in
-    slice_get-get_or (entries_of entries) i (entry_at entries i) inside
-    ∙ ap Some (get_or-map-range_with_len (entry_at entries) 0 (length entries / 12) i i (entry_at entries i) lt (omega arith))
+slice_get-entries_of entries i lt = slice_get-listed (entry_at entries) (length entries / 12) i lt

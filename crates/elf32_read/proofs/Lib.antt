@@ -1,12 +1,15 @@
 pub mod Alone
 pub mod Ascending
+pub mod Decided
 pub mod Dropped
 pub mod Entries
 pub mod Faultless
+pub mod FaultlessImage
 pub mod Filtered
 pub mod Held
 pub mod Listed
 pub mod Marks
 pub mod RelaTable
 pub mod Named
+pub mod PartsLaws
 pub mod Strings

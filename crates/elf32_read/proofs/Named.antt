@@ -1,24 +1,9 @@
--- Sections by their names, and at most one of a kind.
-use Rattle.std.proofs.Common.{◌≡◌, ℕ, ◌≤◌, ◌<◌, List, [], length, drop, true, false, Option, Some, None, refl, ap, ◌∙◌, arith, inl, inr}
-use Rattle.std.specs.Prelude.{◌==◌, is_some, nat_lt, not}
-use Rattle.std.specs.List.{list_any}
+-- Names by where their table's last one ends, and at most one section of a kind.
+use Rattle.std.proofs.Common.{◌≡◌, ℕ, ◌≤◌, ◌<◌, List, [], length, true, false, Option, Some, None, refl, ap, ◌∙◌}
+use Rattle.std.specs.Prelude.{is_some, nat_lt, not}
 use Rattle.std.specs.Option.{option_to_list}
-use Rattle.std.proofs.lemmas.Bool.{cases_lt, le-ltb, lt-ltb}
-use Rattle.std.proofs.lemmas.List.{drop_all}
-use Rattle.elf32_read.specs.Header.{Header}
-use Rattle.elf32_read.specs.Image.{is_unnamed}
+use Rattle.std.proofs.lemmas.Bool.{le-ltb, lt-ltb}
 use Rattle.elf32_read.specs.Names.{has_end}
-
--- a name that ends begins in the table
-pub named_within : (names : List ℕ) (header : Header) → is_unnamed names header ≡ false → header.name ≤ length names
-named_within names header named =
-    elim (cases_lt (length names) header.name) [
-      | inl past ↦
-          let empty : drop header.name names ≡ [] = drop_all header.name names (omega arith) in
-          let unnamed : is_unnamed names header ≡ true = ap (λ l. not (list_any (λ byte. byte == 0) l)) empty in
-          absurd (cc (named, unnamed))
-      | inr within ↦ within
-    ]
 
 -- one is there
 pub length-option_to_list : {X : Type 0} (found : Option X) → is_some found ≡ true → length (option_to_list found) ≡ 1

@@ -1,12 +1,13 @@
 -- Images by their bytes (System V gABI, "ELF Header", "Sections" and "Program Header"): each fault by
 -- its test.
-use Rattle.std.specs.Prelude.{◌≡◌, ◌≤◌, None, ℕ, ◌+◌, ◌*◌, ◌%◌, Bool, false, not, ◌&&◌, ◌||◌, ◌==◌, nat_lt, nat_le, List, [], ◌∷◌, length, drop, Option}
+use Rattle.std.specs.Prelude.{◌≡◌, ◌≤◌, None, ℕ, ◌+◌, ◌*◌, ◌%◌, Bool, false, not, ◌&&◌, ◌||◌, ◌==◌, nat_lt, List, [], ◌∷◌, length, Option}
 use Rattle.std.specs.List.{list_any}
 use Rattle.zc_base.specs.declared.mem_map.MemMap.{MemMap}
-use Rattle.elf32_read.specs.Header.{Header, entry_of, file_flags, program_table, program_header_size, program_count, section_header_size, section_count, name_section, begins_as, header_of, headers_of, is_empty_kind, content_of, have_other_size}
+use Rattle.elf32_read.specs.Header.{Header, entry_of, file_flags, program_table, program_header_size, program_count, section_header_size, section_count, name_section, begins_as, headers_of, is_empty_kind, content_of, have_other_size}
 use Rattle.elf32_read.specs.declared.header.ProgramHeader.{ProgramHeader}
-use Rattle.elf32_read.specs.Object.{lacks_headers, passes_end}
-use Rattle.elf32_read.specs.Places.{names_of, places_sections, places_of, entries_of, is_ascending, is_outside}
+use Rattle.elf32_read.specs.Names.{is_unnamed_section, lacks_strings}
+use Rattle.elf32_read.specs.Object.{truncated}
+use Rattle.elf32_read.specs.Places.{places_sections, places_of, entries_of, is_ascending, is_outside}
 use Rattle.elf32_read.specs.Rows.{first_of}
 use Rattle.elf32_read.specs.Segments.{loads_of, is_code, is_writable, is_in_place, overlap, is_entry_of}
 use Rattle.elf32_read.specs.declared.image_fault.ImageFault.{ImageFault}
@@ -39,8 +40,7 @@ load_passes_end bytes header = nat_lt (length bytes) (header.offset + header.fil
 -- the file ends before its headers do, or before the bytes of a segment or the content of a section
 abbrev pub image_truncated : List ℕ → Bool
 image_truncated bytes =
-    lacks_program_headers bytes || lacks_headers bytes || list_any (load_passes_end bytes) (loads_of bytes)
-    || list_any (passes_end bytes) (headers_of bytes)
+    lacks_program_headers bytes || truncated bytes || list_any (load_passes_end bytes) (loads_of bytes)
 
 -- a segment with more bytes in the file than in memory, with code that can be written, or out of
 -- its place in memory
@@ -60,17 +60,9 @@ bad_segments bytes memory =
     nat_lt 16 (length (loads_of bytes)) || list_any (is_bad_load memory) (loads_of bytes) || some_overlap (loads_of bytes)
     || entry_of bytes % 2 == 1 || not (list_any (is_entry_of (entry_of bytes)) (loads_of bytes))
 
--- the section that should hold the names is none, or no STRTAB (3)
-abbrev pub lacks_names : List ℕ → Bool
-lacks_names bytes = nat_le (section_count bytes) (name_section bytes) || not ((header_of bytes (name_section bytes)).kind == 3)
-
--- the section's name has no ending zero
-abbrev pub is_unnamed : List ℕ → Header → Bool
-is_unnamed names header = not (list_any (λ byte. byte == 0) (drop header.name names))
-
--- there is no table of names, or a name in it has no end
+-- there is no table of the sections' names, or a name in it has no end
 abbrev pub bad_names : List ℕ → Bool
-bad_names bytes = lacks_names bytes || list_any (is_unnamed (names_of bytes)) (headers_of bytes)
+bad_names bytes = lacks_strings bytes (name_section bytes) || list_any (is_unnamed_section bytes) (headers_of bytes)
 
 -- a section of places without content in the file, or with a part of an entry at its end
 abbrev pub is_bad_list : Header → Bool

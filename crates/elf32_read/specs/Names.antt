@@ -1,7 +1,7 @@
 -- Names in tables of strings (System V gABI, "String Table"): each begins at an offset, and the next zero ends it.
 use Rattle.std.specs.Prelude.{ℕ, Bool, not, ◌||◌, ◌==◌, nat_eq, nat_le, if◌then◌else◌, List, [], ◌∷◌, ◌++◌, drop}
 use Rattle.std.specs.List.{list_any, starts_with, take_while}
-use Rattle.elf32_read.specs.Header.{content_of, header_of, name_section, section_count}
+use Rattle.elf32_read.specs.Header.{Header, content_of, header_of, name_section, section_count}
 
 -- from this offset on, the table has a zero
 abbrev pub has_end : List ℕ → ℕ → Bool
@@ -26,3 +26,7 @@ strings_of bytes i = if lacks_strings bytes i then [] else content_of bytes (hea
 -- the names of the sections: e_shstrndx is the index of their table
 abbrev pub section_names : List ℕ → List ℕ
 section_names bytes = strings_of bytes (name_section bytes)
+
+-- the section's name has no end
+abbrev pub is_unnamed_section : List ℕ → Header → Bool
+is_unnamed_section bytes h = not (has_end (section_names bytes) h.name)

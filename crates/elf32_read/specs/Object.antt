@@ -5,7 +5,7 @@ use Rattle.std.specs.Int.{is_power_of_two}
 use Rattle.std.specs.List.{list_any, range_with_len}
 use Rattle.elf32_read.specs.Header.{Header, begins_as, content_of, file_flags, have_other_size, header_of, headers_of, is_empty_kind, name_section, section_count, section_header_size, section_table}
 use Rattle.elf32_read.specs.Kept.{has_flags, is_kept, is_kept_code}
-use Rattle.elf32_read.specs.Names.{has_end, lacks_strings, section_names}
+use Rattle.elf32_read.specs.Names.{has_end, is_unnamed_section, lacks_strings}
 use Rattle.elf32_read.specs.Relocs.{relas_for, relocs_in}
 use Rattle.elf32_read.specs.Rows.{first_of}
 use Rattle.elf32_read.specs.Symbols.{IsSymbolSection, symbol_content, symbol_count, symbol_entries, symbol_names, symbol_tables}
@@ -158,10 +158,6 @@ has_cut_code bytes = list_any (is_cut_code bytes) (headers_of bytes)
 -- sections without a table of names
 abbrev pub lacks_section_names : List ℕ → Bool
 lacks_section_names bytes = not (section_count bytes == 0) && lacks_strings bytes (name_section bytes)
-
--- a section's name has no end
-abbrev pub is_unnamed_section : List ℕ → Header → Bool
-is_unnamed_section bytes h = not (has_end (section_names bytes) h.name)
 
 -- a symbol's name has no end
 abbrev pub is_unnamed_symbol : List ℕ → SymbolEntry → Bool

@@ -1,23 +1,20 @@
 -- The places that an image lists: its section .zcld.places, of entries of twelve bytes.
-use Rattle.std.specs.Prelude.{ℕ, ◌+◌, ◌*◌, ◌/◌, Bool, true, ◌&&◌, ◌||◌, nat_lt, nat_eq, List, [], ◌∷◌, ◌++◌, length, drop, map, filter, codes}
-use Rattle.std.specs.List.{flat_map, range_with_len, starts_with}
+use Rattle.std.specs.Prelude.{ℕ, ◌+◌, ◌*◌, ◌/◌, Bool, true, ◌&&◌, ◌||◌, nat_lt, List, [], ◌∷◌, length, map, filter, codes}
+use Rattle.std.specs.List.{flat_map, range_with_len}
 use Rattle.zc_base.specs.Fields.{half_in, word_in}
 use Rattle.zc_base.specs.declared.mem_map.MemMap.{MemMap}
 use Rattle.zc_base.specs.declared.place.Place.{Place}
 use Rattle.zc_base.specs.Places.{is_before}
-use Rattle.elf32_read.specs.Header.{Header, name_section, header_of, headers_of, content_of}
-
--- the names of the sections, each ended by a zero (System V gABI, "String Table")
-abbrev pub names_of : List ℕ → List ℕ
-names_of bytes = content_of bytes (header_of bytes (name_section bytes))
+use Rattle.elf32_read.specs.Header.{Header, content_of, headers_of}
+use Rattle.elf32_read.specs.Names.{is_name_at, section_names}
 
 -- the section is named .zcld.places
 abbrev pub holds_places : List ℕ → Header → Bool
-holds_places names header = starts_with nat_eq (drop header.name names) (codes ".zcld.places" ++ 0 ∷ [])
+holds_places bytes header = is_name_at (codes ".zcld.places") (section_names bytes) header.name
 
 -- the sections with places, in order
 unfoldable pub places_sections : List ℕ → List Header
-places_sections bytes = filter (holds_places (names_of bytes)) (headers_of bytes)
+places_sections bytes = filter (holds_places bytes) (headers_of bytes)
 
 -- an entry: a half for the object, a half for the section, a word for the offset, and a word for
 -- the address

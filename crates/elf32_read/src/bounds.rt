@@ -4,7 +4,7 @@ ghost use Rattle.std.specs.Prelude.{◌≡◌, ◌≤◌, ◌+◌, ◌*◌, ◌&
 ghost use Rattle.std.specs.List.{list_any};
 ghost use Rattle.elf32_read.specs.Header.{header_of, headers_of, program_count, program_header_of, program_table, section_count, section_table};
 ghost use Rattle.elf32_read.specs.Image.{lacks_program_headers, load_passes_end};
-ghost use Rattle.elf32_read.specs.Object.{lacks_headers, passes_end};
+ghost use Rattle.elf32_read.specs.Object.{lacks_headers, passes_end, truncated};
 ghost use Rattle.elf32_read.specs.Segments.{loads_of};
 
 use crate::header::{
@@ -12,8 +12,8 @@ use crate::header::{
     section_header, section_table,
 };
 
-/// Whether the section headers pass the end.
-pub fn lacks_headers(bytes: &[u8]) -> bool
+// Whether the section headers pass the end.
+fn lacks_headers(bytes: &[u8]) -> bool
     requires { 52 ≤ length bytes.now }
     ensures { result ≡ lacks_headers bytes.now }
 {
@@ -38,9 +38,9 @@ fn is_section_truncated(bytes: &[u8], i: u32) -> bool
     !is_without_content(header.kind) && bytes.len() < header.offset as usize + header.size as usize
 }
 
-/// Whether the content of some section passes the end.
+// Whether the content of some section passes the end.
 #[tactic(auto, using(crate::proofs::Listed::none_listed_more))]
-pub fn has_truncated_section(bytes: &[u8]) -> bool
+fn has_truncated_section(bytes: &[u8]) -> bool
     requires start { 52 ≤ length bytes.now }
     requires within { section_table bytes.now + 40 * section_count bytes.now ≤ length bytes.now }
     ensures { result ≡ list_any (passes_end bytes.now) (headers_of bytes.now) }
@@ -51,6 +51,14 @@ pub fn has_truncated_section(bytes: &[u8]) -> bool
         }
     }
     false
+}
+
+/// Whether a file ends before its section headers do, or before the content of a section does.
+pub fn is_truncated(bytes: &[u8]) -> bool
+    requires { 52 ≤ length bytes.now }
+    ensures { result ≡ truncated bytes.now }
+{
+    lacks_headers(bytes) || has_truncated_section(bytes)
 }
 
 // Whether a program header loads bytes that pass the end.

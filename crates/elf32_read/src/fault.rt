@@ -5,8 +5,8 @@ ghost use Rattle.elf32_read.specs.Fault.{fault_name, fault_number};
 
 use thiserror::Error;
 
-/// Why the linker refuses an object. A fault is shown as its name. Today `NotBuilt`, `NotElf` and
-/// `Truncated` are given, and the others are named for later.
+/// Why the linker refuses an object. A fault is shown as its name. `Object::read` gives those from
+/// `NotElf` to `BadSymbol`, and `TooLarge`. Of the others only `NotBuilt` is given today.
 ///
 /// `symbol` is the index of a symbol in its object, `section` that of a section, and `at` the
 /// offset of a relocation or of a branch in that section.

@@ -8,9 +8,7 @@ ghost use Rattle.elf32_read.specs.Places.{places_of};
 ghost use Rattle.elf32_read.specs.Segment.{segment_data};
 ghost use Rattle.elf32_read.specs.Segments.{segment_of, segments_of};
 
-use crate::bounds::{
-    has_truncated_load, has_truncated_section, lacks_headers, lacks_program_headers,
-};
+use crate::bounds::{has_truncated_load, is_truncated, lacks_program_headers};
 use crate::header::{
     ProgramHeader, begins_as, entry_of, file_flags, has_other_section_headers, program_count,
     program_header_size,
@@ -18,6 +16,7 @@ use crate::header::{
 use crate::image_fault::ImageFault;
 use crate::loads::{Loads, loads_in};
 use crate::places::{ENTRY_SIZE, entry, places_in};
+use crate::sections::Sections;
 use crate::segment::Segment;
 use crate::segments::{has_bad_segments, is_code};
 use std::marker::Model;
@@ -38,14 +37,11 @@ fn is_no_image(bytes: &[u8]) -> bool
         || has_other_section_headers(bytes)
 }
 
-fn is_truncated(bytes: &[u8]) -> bool
+fn is_truncated_image(bytes: &[u8]) -> bool
     requires { 52 ≤ length bytes.now }
     ensures { result ≡ image_truncated bytes.now }
 {
-    lacks_program_headers(bytes)
-        || lacks_headers(bytes)
-        || has_truncated_load(bytes)
-        || has_truncated_section(bytes)
+    lacks_program_headers(bytes) || is_truncated(bytes) || has_truncated_load(bytes)
 }
 
 // The segment that a program header loads.
@@ -94,7 +90,7 @@ impl<'a> Image<'a> {
         if is_no_image(bytes) {
             return Err(ImageFault::NotElf);
         }
-        if is_truncated(bytes) {
+        if is_truncated_image(bytes) {
             return Err(ImageFault::Truncated);
         }
         let Some(loads) = loads_in(bytes) else {
@@ -103,7 +99,7 @@ impl<'a> Image<'a> {
         if has_bad_segments(bytes, &map, loads.as_slice()) {
             return Err(ImageFault::BadSegment);
         }
-        let entries = places_in(bytes, &map)?;
+        let entries = places_in(&Sections::new(bytes), &map)?;
         Ok(Image {
             bytes,
             map,

@@ -3,13 +3,13 @@
 ghost use Rattle.std.specs.Prelude.{◌≡◌, ◌≤◌, ◌<◌, List, ℕ, [], length, replicate, slice_get, slice_index_or, None, Some, MatchOption, MatchResult};
 ghost use Rattle.elf32_read.specs.Header.{file_flags, header_of, section_count};
 ghost use Rattle.elf32_read.specs.Lent.{IsSection, IsSymbol};
-ghost use Rattle.elf32_read.specs.Object.{has_other_flags, not_elf, object_fault, truncated, IsRead};
+ghost use Rattle.elf32_read.specs.Object.{has_other_flags, not_elf, object_fault, IsRead};
 ghost use Rattle.elf32_read.specs.Parts.{relocs_held, relocs_of, section_parts, symbol_parts};
 ghost use Rattle.elf32_read.specs.Relas.{IsRelaOf};
 ghost use Rattle.elf32_read.specs.Symbols.{symbol_count, symbol_entry_of, IsSymbolSection};
 
 use crate::alignments::{has_bad_alignment, has_cut_code};
-use crate::bounds::{has_truncated_section, lacks_headers};
+use crate::bounds::is_truncated;
 use crate::fault::Fault;
 use crate::header::{begins_as, file_flags, has_other_section_headers, section_count};
 use crate::kinds::has_unlinked_sections;
@@ -37,13 +37,6 @@ fn is_no_object(bytes: &[u8]) -> bool
     ensures { result ≡ not_elf bytes.now }
 {
     bytes.len() < 52 || !begins_as(RELOCATABLE, bytes) || has_other_section_headers(bytes)
-}
-
-fn is_truncated(bytes: &[u8]) -> bool
-    requires { 52 ≤ length bytes.now }
-    ensures { result ≡ truncated bytes.now }
-{
-    lacks_headers(bytes) || has_truncated_section(bytes)
 }
 
 fn has_other_flags(bytes: &[u8]) -> bool
@@ -265,12 +258,7 @@ impl<'a> Object<'a> {
         ensures { slice_get (relocs_of self.now section) k ≡ Some result }
     {
         match self.rela_of(section) {
-            None => Reloc {
-                offset: 0,
-                symbol: 0,
-                kind: 0,
-                addend: 0,
-            },
+            None => unreachable!(),
             Some(rela) => self.rela(rela, k),
         }
     }

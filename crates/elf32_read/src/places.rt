@@ -1,20 +1,20 @@
 // The places that an image lists.
 
-ghost use Rattle.std.specs.Prelude.{◌≡◌, ℕ, ◌≤◌, ◌<◌, ◌+◌, ◌*◌, true, false, length, MatchResult};
+ghost use Rattle.std.specs.Prelude.{◌≡◌, ◌≤◌, ◌<◌, ◌+◌, ◌*◌, true, false, length, MatchResult};
 ghost use Rattle.std.specs.List.{list_any};
 ghost use Rattle.std.specs.Option.{option_to_list};
-ghost use Rattle.elf32_read.specs.Header.{content_of, headers_of, section_count, section_table};
-ghost use Rattle.elf32_read.specs.Image.{bad_names, bad_places, is_bad_list, is_bad_section, is_unnamed, lacks_names};
+ghost use Rattle.elf32_read.specs.Header.{content_of};
+ghost use Rattle.elf32_read.specs.Image.{bad_names, bad_places, is_bad_list, is_bad_section};
 ghost use Rattle.elf32_read.specs.Object.{passes_end};
-ghost use Rattle.elf32_read.specs.Places.{entries_of, entry_at, holds_places, is_ascending, is_outside, names_of, places_of, places_sections};
+ghost use Rattle.elf32_read.specs.Places.{entries_of, entry_at, holds_places, is_ascending, is_outside, places_of, places_sections};
 ghost use Rattle.elf32_read.specs.declared.image_fault.ImageFault.TheVariants.{BadPlaces};
 ghost use Rattle.zc_base.specs.Places.{is_before};
 
-use crate::header::{
-    STRTAB, SectionHeader, content, is_without_content, name_section, section_count, section_header,
-};
+use crate::header::{SectionHeader, is_without_content, name_section};
 use crate::image_fault::ImageFault;
-use crate::names::names_end;
+use crate::names::is_name_at;
+use crate::sections::Sections;
+use crate::unnamed::has_unnamed_section;
 use zc_base::fields::{u16_at, u32_at};
 use zc_base::mem_map::MemMap;
 use zc_base::place::Place;
@@ -76,36 +76,18 @@ fn has_outside(map: &MemMap, entries: &[u8]) -> bool
     false
 }
 
-// Whether the section of the names is none, or no table of strings.
-fn lacks_names(bytes: &[u8]) -> bool
-    requires start { 52 ≤ length bytes.now }
-    requires within { section_table bytes.now + 40 * section_count bytes.now ≤ length bytes.now }
-    ensures { result ≡ lacks_names bytes.now }
+// Whether there is no table of the sections' names, or a name in it has no end.
+fn has_bad_names(sections: &Sections) -> bool
+    ensures { result ≡ bad_names sections.now }
 {
-    let i = name_section(bytes);
-    section_count(bytes) <= i || section_header(bytes, u32::from(i)).kind != STRTAB
+    sections.lacks_strings(u32::from(name_section(sections.bytes())))
+        || has_unnamed_section(sections)
 }
 
-#[tactic(auto, using(crate::proofs::Listed::none_listed_more))]
-fn has_unnamed(bytes: &[u8], names: &[u8]) -> bool
-    requires start { 52 ≤ length bytes.now }
-    requires within { section_table bytes.now + 40 * section_count bytes.now ≤ length bytes.now }
-    ensures { result ≡ list_any (is_unnamed names.now) (headers_of bytes.now) }
+fn holds_places(sections: &Sections, header: &SectionHeader) -> bool
+    ensures { result ≡ holds_places sections.now header.now }
 {
-    let end = names_end(names);
-    for i in 0..u32::from(section_count(bytes)) {
-        if end <= section_header(bytes, i).name as usize {
-            return true;
-        }
-    }
-    false
-}
-
-fn holds_places(names: &[u8], header: &SectionHeader) -> bool
-    requires { header.now.name ≤ length names.now }
-    ensures { result ≡ holds_places names.now header.now }
-{
-    names[header.name as usize..].starts_with(NAME)
+    is_name_at(NAME, sections.names(), header.name)
 }
 
 fn is_bad_list(header: &SectionHeader) -> bool
@@ -116,19 +98,16 @@ fn is_bad_list(header: &SectionHeader) -> bool
 
 // The section with places, unless there is more than one.
 #[tactic(auto, unfolding(crate::specs::Places::places_sections))]
-fn places_section(bytes: &[u8], names: &[u8]) -> Result<Option<SectionHeader>, ImageFault>
-    requires start { 52 ≤ length bytes.now }
-    requires within { section_table bytes.now + 40 * section_count bytes.now ≤ length bytes.now }
-    requires names { names.now ≡ names_of bytes.now }
-    requires named { list_any (is_unnamed names.now) (headers_of bytes.now) ≡ false }
+fn places_section(sections: &Sections) -> Result<Option<SectionHeader>, ImageFault>
     ensures { MatchResult result
-        (λ found. places_sections bytes.now ≡ option_to_list found)
-        (λ fault. (fault ≡ BadPlaces) × (1 < length (places_sections bytes.now))) }
+        (λ found. (places_sections sections.now ≡ option_to_list found)
+        × (list_any (passes_end sections.now) (option_to_list found) ≡ false))
+        (λ fault. (fault ≡ BadPlaces) × (1 < length (places_sections sections.now))) }
 {
     let mut found = None;
-    for i in 0..u32::from(section_count(bytes)) {
-        let header = section_header(bytes, i);
-        if holds_places(names, &header) {
+    for i in 0..sections.count() {
+        let header = sections.header(i);
+        if holds_places(sections, &header) {
             if found.is_some() {
                 return Err(ImageFault::BadPlaces);
             }
@@ -138,38 +117,23 @@ fn places_section(bytes: &[u8], names: &[u8]) -> Result<Option<SectionHeader>, I
     Ok(found)
 }
 
-// The names of the sections, unless there is no table of them or a name has no end.
-fn names_in(bytes: &[u8]) -> Result<&[u8], ImageFault>
-    requires start { 52 ≤ length bytes.now }
-    requires within { section_table bytes.now + 40 * section_count bytes.now ≤ length bytes.now }
-    requires whole { list_any (passes_end bytes.now) (headers_of bytes.now) ≡ false }
-    ensures { MatchResult result
-        (λ names. (bad_names bytes.entry.now ≡ false) × (names.now ≡ names_of bytes.entry.now))
-        (λ fault. (fault ≡ BadPlaces) × (bad_names bytes.entry.now ≡ true)) }
-{
-    if lacks_names(bytes) {
-        return Err(ImageFault::BadPlaces);
-    }
-    let names = content(bytes, section_header(bytes, u32::from(name_section(bytes))));
-    if has_unnamed(bytes, names) {
-        return Err(ImageFault::BadPlaces);
-    }
-    Ok(names)
-}
-
 // The list of a section of places, unless it is bad.
-fn list_in<'a>(bytes: &'a [u8], map: &MemMap, header: SectionHeader) -> Result<&'a [u8], ImageFault>
-    requires { passes_end bytes.now header ≡ false }
+fn list_in<'a>(
+    sections: &Sections<'a>,
+    map: &MemMap,
+    header: &SectionHeader,
+) -> Result<&'a [u8], ImageFault>
+    requires { passes_end sections.now header.now ≡ false }
     ensures { MatchResult result
-        (λ list. (list.now ≡ content_of bytes.entry.now header)
-        × (length list.now ≤ length bytes.entry.now)
-        × (is_bad_section bytes.entry.now map.now header ≡ false))
-        (λ fault. (fault ≡ BadPlaces) × (is_bad_section bytes.entry.now map.now header ≡ true)) }
+        (λ list. (list.now ≡ content_of sections.now header.now)
+        × (length list.now ≤ length sections.now)
+        × (is_bad_section sections.now map.now header.now ≡ false))
+        (λ fault. (fault ≡ BadPlaces) × (is_bad_section sections.now map.now header.now ≡ true)) }
 {
-    if is_bad_list(&header) {
+    if is_bad_list(header) {
         return Err(ImageFault::BadPlaces);
     }
-    let list = content(bytes, header);
+    let list = sections.content(header);
     if !are_ascending(list) || has_outside(map, list) {
         return Err(ImageFault::BadPlaces);
     }
@@ -178,22 +142,21 @@ fn list_in<'a>(bytes: &'a [u8], map: &MemMap, header: SectionHeader) -> Result<&
 
 /// The entries of the places that an image lists, none if it has no list, unless the list is
 /// bad.
-pub fn places_in<'a>(bytes: &'a [u8], map: &MemMap) -> Result<&'a [u8], ImageFault>
-    requires start { 52 ≤ length bytes.now }
-    requires within { section_table bytes.now + 40 * section_count bytes.now ≤ length bytes.now }
-    requires whole { list_any (passes_end bytes.now) (headers_of bytes.now) ≡ false }
+pub fn places_in<'a>(sections: &Sections<'a>, map: &MemMap) -> Result<&'a [u8], ImageFault>
     ensures { MatchResult result
-        (λ list. (bad_places bytes.entry.now map.now ≡ false)
-        × (length list.now ≤ length bytes.entry.now)
-        × (entries_of list.now ≡ places_of bytes.entry.now))
-        (λ fault. (fault ≡ BadPlaces) × (bad_places bytes.entry.now map.now ≡ true)) }
+        (λ list. (bad_places sections.now map.now ≡ false)
+        × (length list.now ≤ length sections.now)
+        × (entries_of list.now ≡ places_of sections.now))
+        (λ fault. (fault ≡ BadPlaces) × (bad_places sections.now map.now ≡ true)) }
 {
-    if section_count(bytes) == 0 {
+    if sections.count() == 0 {
         return Ok(&[]);
     }
-    let names = names_in(bytes)?;
-    match places_section(bytes, names)? {
+    if has_bad_names(sections) {
+        return Err(ImageFault::BadPlaces);
+    }
+    match places_section(sections)? {
         None => Ok(&[]),
-        Some(header) => list_in(bytes, map, header),
+        Some(header) => list_in(sections, map, &header),
     }
 }

@@ -3,8 +3,8 @@
 ghost use Rattle.std.specs.Prelude.{◌≡◌, not};
 ghost use Rattle.std.specs.List.{list_any};
 ghost use Rattle.elf32_read.specs.Header.{headers_of};
-ghost use Rattle.elf32_read.specs.Names.{has_end};
-ghost use Rattle.elf32_read.specs.Object.{has_bad_name, is_unnamed_section, lacks_section_names, lacks_symbol_names};
+ghost use Rattle.elf32_read.specs.Names.{has_end, is_unnamed_section};
+ghost use Rattle.elf32_read.specs.Object.{has_bad_name, lacks_section_names, lacks_symbol_names};
 ghost use Rattle.elf32_read.specs.Symbols.{entries_in, symbol_content, symbol_names, symbol_tables, IsSymbolSection};
 
 use crate::header::name_section;

@@ -1,7 +1,7 @@
 -- An image reads back. The file is cut into what stands before the section headers and these; from
 -- there the headers read back as they were written, and with them each test of the reader computes.
 use Rattle.std.proofs.Common.{◌≡◌, ℕ, ◌+◌, ◌*◌, ◌/◌, ◌%◌, ◌^◌, ◌<◌, ◌≤◌, List, [], ◌∷◌, ◌++◌, length, get_or, map, take, drop, lit<, refl, sym, ap, ◌∙◌, arith, append_assoc, length-append, inl, inr, true, false, not}
-use Rattle.std.specs.Prelude.{All, replicate, filter, ◌==◌, nat_lt, nat_le, min, max, None}
+use Rattle.std.specs.Prelude.{All, Bool, codes, cond, replicate, filter, ◌==◌, nat_lt, nat_le, min, max, None}
 use Rattle.std.specs.List.{flat_map, range_with_len, list_any}
 use Rattle.std.proofs.lemmas.List.{length-replicate, append-nil}
 use Rattle.std.proofs.lemmas.Bool.{cases_lt, le-ltb, le-leb, lt-leb, ne_eqb, or_from, or_left, and_from, and_right}
@@ -9,10 +9,11 @@ use Rattle.std.proofs.lemmas.List.Elements.{All-from_recursion}
 use Rattle.zc_base.specs.Fields.{half_in, word_in}
 use Rattle.zc_base.specs.declared.mem_map.MemMap.{MemMap}
 use Rattle.zc_base.specs.declared.place.Place.{Place}
-use Rattle.elf32_read.specs.Header.{begins_as, entry_of, file_flags, program_table, section_table, program_count, program_header_size, section_count, section_header_size, name_section, header_of, headers_of, program_header_of, program_headers_of, content_of, have_other_size}
-use Rattle.elf32_read.specs.Image.{too_large, are_known_flags, not_image, lacks_program_headers, load_passes_end, image_truncated, is_bad_load, some_overlap, bad_segments, is_unnamed, is_bad_list, is_bad_section, bad_places, image_fault}
+use Rattle.elf32_read.specs.Header.{Header, begins_as, entry_of, file_flags, program_table, section_table, program_count, program_header_size, section_count, section_header_size, name_section, header_of, headers_of, program_header_of, program_headers_of, content_of, have_other_size}
+use Rattle.elf32_read.specs.Image.{too_large, are_known_flags, not_image, lacks_program_headers, load_passes_end, image_truncated, is_bad_load, some_overlap, bad_segments, is_bad_list, is_bad_section, bad_places, image_fault}
+use Rattle.elf32_read.specs.Names.{has_end, is_name_at, is_unnamed_section, lacks_strings, section_names}
 use Rattle.elf32_read.specs.Object.{lacks_headers, passes_end}
-use Rattle.elf32_read.specs.Places.{names_of, holds_places, places_sections, entry_at, entries_of, places_of, is_ascending, is_outside}
+use Rattle.elf32_read.specs.Places.{places_sections, entry_at, entries_of, places_of, is_ascending, is_outside}
 use Rattle.elf32_read.specs.Segments.{loads_of, overlap, is_entry_of, segment_of}
 use Rattle.elf32_read.specs.Rows.{first_of}
 use Rattle.elf32_read.specs.declared.image_fault.ImageFault.TheVariants.{NotElf, Truncated, BadSegment, BadPlaces, TooLarge}
@@ -278,7 +279,7 @@ is_whole parts w =
     let named : passes_end bytes (names_section parts) ≡ false = le-ltb (length bytes) (names_offset parts + 41) (omega (arith, long)) in
     let sections : list_any (passes_end bytes) (headers_of bytes) ≡ false =
     ap (list_any (passes_end bytes)) (sections_back parts w) ∙ or_from _ _ text (or_from _ _ data_part (or_from _ _ places (or_from _ _ named refl))) in
-    or_from _ _ (or_from _ _ (or_from _ _ programs headers) loads) sections
+    or_from _ _ (or_from _ _ programs (or_from _ _ headers sections)) loads
 
 has_good_segments : (parts : Parts) (memory : MemMap) → Words parts → IsLoadable parts memory → bad_segments (image_bytes parts) memory ≡ false
 has_good_segments parts memory w loadable =
@@ -313,14 +314,24 @@ names_header_back parts w =
     sym (ap (λ n. map (header_of bytes) (range_with_len 0 n)) (section_count_back parts)) ∙ sections_back parts w in
     ap (header_of bytes) (name_section_back parts) ∙ ap (λ l. get_or l 5 (header_of bytes 5)) listed
 
-names_of_back : (parts : Parts) → Words parts → names_of (image_bytes parts) ≡ names
-names_of_back parts w = ap (content_of (image_bytes parts)) (names_header_back parts w) ∙ names_back parts
+has_strings : (parts : Parts) → Words parts → lacks_strings (image_bytes parts) (name_section (image_bytes parts)) ≡ false
+has_strings parts w =
+    let bytes = image_bytes parts in
+    let index : nat_le (section_count bytes) (name_section bytes) ≡ false = lt-leb (section_count bytes) (name_section bytes) (omega (arith, section_count_back parts, name_section_back parts)) in
+    or_from _ _ index (ap (λ header. not (header.kind == 3)) (names_header_back parts w))
+
+section_names_back : (parts : Parts) → Words parts → section_names (image_bytes parts) ≡ names
+section_names_back parts w =
+    let bytes = image_bytes parts in
+    ap (λ b. cond b [] (content_of bytes (header_of bytes (name_section bytes)))) (has_strings parts w)
+    ∙ ap (content_of bytes) (names_header_back parts w) ∙ names_back parts
 
 places_sections_back : (parts : Parts) → Words parts → places_sections (image_bytes parts) ≡ places_section parts ∷ []
 unfolding places_sections
 places_sections_back parts w =
-    ap (λ l. filter (holds_places l) (headers_of (image_bytes parts))) (names_of_back parts w)
-    ∙ ap (filter (holds_places names)) (sections_back parts w)
+    let named : List ℕ → Header → Bool = λ table header. is_name_at (codes ".zcld.places") table header.name in
+    ap (λ l. filter (named l) (headers_of (image_bytes parts))) (section_names_back parts w)
+    ∙ ap (filter (named names)) (sections_back parts w)
 
 entries_of_back : (parts : Parts) → All IsEntry parts.places → entries_of (content_of (image_bytes parts) (places_section parts)) ≡ parts.places
 entries_of_back parts small =
@@ -340,10 +351,9 @@ places_back parts w small =
 has_good_places : (parts : Parts) (memory : MemMap) → Words parts → IsLoadable parts memory → bad_places (image_bytes parts) memory ≡ false
 has_good_places parts memory w loadable =
     let bytes = image_bytes parts in
-    let index : nat_le (section_count bytes) (name_section bytes) ≡ false = lt-leb (section_count bytes) (name_section bytes) (omega (arith, section_count_back parts, name_section_back parts)) in
-    let kind = ap (λ header. not (header.kind == 3)) (names_header_back parts w) in
-    let named : list_any (is_unnamed (names_of bytes)) (headers_of bytes) ≡ false =
-    ap (λ l. list_any (is_unnamed l) (headers_of bytes)) (names_of_back parts w) ∙ ap (list_any (is_unnamed names)) (sections_back parts w) in
+    let unnamed : List ℕ → Header → Bool = λ table header. not (has_end table header.name) in
+    let named : list_any (is_unnamed_section bytes) (headers_of bytes) ≡ false =
+    ap (λ l. list_any (unnamed l) (headers_of bytes)) (section_names_back parts w) ∙ ap (list_any (unnamed names)) (sections_back parts w) in
     let once : nat_lt 1 (length (places_sections bytes)) ≡ false = ap (λ l. nat_lt 1 (length l)) (places_sections_back parts w) in
     let content = content_of bytes (places_section parts) in
     let listed : entries_of content ≡ parts.places = entries_of_back parts loadable.entries in
@@ -353,7 +363,7 @@ has_good_places parts memory w loadable =
     let inside : list_any (is_outside memory) (entries_of content) ≡ false = ap (list_any (is_outside memory)) listed ∙ loadable.inside in
     let good : list_any (is_bad_section bytes memory) (places_sections bytes) ≡ false =
     ap (list_any (is_bad_section bytes memory)) (places_sections_back parts w) ∙ or_from _ _ (or_from _ _ (or_from _ _ whole ascending) inside) refl in
-    and_right (not (section_count bytes == 0)) _ (or_from _ _ (or_from _ _ (or_from _ _ (or_from _ _ index kind) named) once) good)
+    and_right (not (section_count bytes == 0)) _ (or_from _ _ (or_from _ _ (or_from _ _ (has_strings parts w) named) once) good)
 
 -- flags that are known are small
 known_small : (flags : ℕ) → are_known_flags flags ≡ true → flags < 2 ^ 32

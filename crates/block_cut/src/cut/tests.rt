@@ -1,21 +1,21 @@
 // An object cut by hand.
 
 use super::*;
-use elf32_read::fault::Fault::{NotBuilt, NotElf};
+use elf32_read::fault::Fault::{CodeSize, Flags, NotBuilt, NotElf, SectionKind};
 use rv_decode::instr::{ImmOp, Instr};
 use std::alloc::AllocError;
 use std::test::Fail;
 use zc_base::mem_map::MemMap;
 use zc_base::reg::Reg;
 
-// Three sections: NULL, 12 bytes of code at 52, and an empty one outside of memory. Their headers
-// begin at 64.
-const OBJECT: [u8; 184] = [
+// Four sections: NULL, 12 bytes of code at 52, an empty one outside of memory, and the names, all of
+// which are empty. Their headers begin at 64.
+const OBJECT: [u8; 224] = [
     // The file's header, 52 bytes.
     0x7F, 0x45, 0x4C, 0x46, 1, 1, 1, 0, 0, 0, 0, 0, 0, 0, 0, 0, //
     1, 0, 0xF3, 0, 1, 0, 0, 0, 0, 0, 0, 0, //
     0, 0, 0, 0, 64, 0, 0, 0, 0, 0, 0, 0, //
-    52, 0, 0, 0, 0, 0, 40, 0, 3, 0, 0, 0, //
+    52, 0, 0, 0, 0, 0, 40, 0, 4, 0, 3, 0, //
     // addi a0,x0,3; addi a7,x0,93; ecall
     0x13, 0x05, 0x30, 0x00, 0x93, 0x08, 0xD0, 0x05, 0x73, 0x00, 0x00, 0x00, //
     // The sections' headers, 40 bytes each.
@@ -25,6 +25,8 @@ const OBJECT: [u8; 184] = [
     12, 0, 0, 0, 0, 0, 0, 0, 0, 0, 0, 0, 4, 0, 0, 0, 0, 0, 0, 0, //
     0, 0, 0, 0, 1, 0, 0, 0, 0, 0, 0, 0, 0, 0, 0, 0, 64, 0, 0, 0, //
     0, 0, 0, 0, 0, 0, 0, 0, 0, 0, 0, 0, 1, 0, 0, 0, 0, 0, 0, 0, //
+    0, 0, 0, 0, 3, 0, 0, 0, 0, 0, 0, 0, 0, 0, 0, 0, 64, 0, 0, 0, //
+    1, 0, 0, 0, 0, 0, 0, 0, 0, 0, 0, 0, 1, 0, 0, 0, 0, 0, 0, 0, //
 ];
 
 // The cut of these objects in the standard map.
@@ -88,20 +90,21 @@ fn words_are_items_one_after_another(rt: HostRuntime) -> Result<(), Fail> {
 // Each row: at most two bytes to change, each with its place, and the fault then.
 #[test]
 fn an_object_with_more_than_straight_code_is_refused(rt: HostRuntime) -> Result<(), Fail> {
-    let rows: [(&str, &[(usize, u8)], Option<Fault>); 15] = [
+    let rows: [(&str, &[(usize, u8)], Option<Fault>); 16] = [
         ("as it is", &[], None),
         ("no object", &[(0, 0)], Some(NotElf)),
-        ("file flags", &[(36, 1)], Some(NotBuilt)),
-        ("no section 1", &[(48, 1)], Some(NotBuilt)),
-        ("code that isn't PROGBITS", &[(108, 8)], Some(NotBuilt)),
-        ("code that can be written", &[(112, 7)], Some(NotBuilt)),
+        ("file flags", &[(36, 1)], Some(Flags)),
+        ("file flags that are taken", &[(36, 0x10)], None),
+        ("no section 1", &[(32, 0), (48, 0)], Some(NotBuilt)),
+        ("code that can be written", &[(112, 7)], Some(SectionKind)),
+        ("section 1 is data", &[(112, 2)], Some(NotBuilt)),
         ("an alignment of 8", &[(136, 8)], Some(NotBuilt)),
-        ("a part of a word", &[(124, 10)], Some(NotBuilt)),
+        ("a part of a word", &[(124, 10)], Some(CodeSize)),
         ("no word", &[(124, 0)], Some(NotBuilt)),
         ("other memory", &[(152, 2), (164, 4)], Some(NotBuilt)),
         ("other memory, empty", &[(152, 2)], None),
         ("relocations", &[(148, 4)], Some(NotBuilt)),
-        ("a group", &[(148, 17)], Some(NotBuilt)),
+        ("a group", &[(148, 17)], Some(SectionKind)),
         ("an unknown first word", &[(52, 0)], Some(NotBuilt)),
         ("an unknown last word", &[(60, 0)], Some(NotBuilt)),
     ];

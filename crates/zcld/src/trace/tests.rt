@@ -18,15 +18,16 @@ fn addi(rd: u32, first: u32, imm: i32) -> u32 {
     ((imm.cast_unsigned() & 0xFFF) << 20) | (first << 15) | (rd << 7) | 0x13
 }
 
-// What makes these words the object's code. They take the place of the symbols too, which the linker
-// doesn't read, and the header of section 1 says how long they are.
-fn code(words: [u32; 4]) -> [Change; 5] {
+// What makes these words the object's code. They take the place of the symbols too, which the object
+// then lacks, and the header of section 1 says how long they are.
+fn code(words: [u32; 4]) -> [Change; 6] {
     [
         Change::Word(52, words[0]),
         Change::Word(56, words[1]),
         Change::Word(60, words[2]),
         Change::Word(64, words[3]),
         Change::Word(200, 16),
+        Change::Word(224, 0),
     ]
 }
 

@@ -9,23 +9,10 @@ use std::test::Fail;
 
 const CERTIFICATE: &str = "zcld certificate 1\nprice 0 0 0\nnet 0\nend\n";
 
-const NOT_BUILT: End = End(
-    Outcome::Refused(0, Fault::NotBuilt),
-    "refused 0 0 NotBuilt\n",
-    121,
-);
-
-const NOT_ELF: End = End(
-    Outcome::Refused(0, Fault::NotElf),
-    "refused 0 1 NotElf\n",
-    121,
-);
-
-const TRUNCATED: End = End(
-    Outcome::Refused(0, Fault::Truncated),
-    "refused 0 2 Truncated\n",
-    121,
-);
+// The object is refused for this fault.
+fn refused(fault: Fault, line: &str) -> End {
+    End(Outcome::Refused(0, fault), line, 121)
+}
 
 // The options come in either order, and an empty word is a name like any other.
 #[test]
@@ -47,27 +34,52 @@ fn three_instructions_become_an_image_of_460_bytes(rt: HostRuntime) -> Result<()
     Ok(())
 }
 
-// Changes of e_flags, the sections' count, the header of section 1 (its kind, flags, size and
-// alignment), a word, and a section beside it; the magic number, where section 1's content begins, and
-// the file's length.
+// Changes of the magic number, the file's length, e_flags, the header of section 1 (its kind, flags,
+// size and alignment), the name and the value of a symbol, the count of sections, and a word.
 #[test]
-fn objects_that_are_not_straight_code_are_named(rt: HostRuntime) -> Result<(), Fail> {
+fn objects_that_are_not_linked_are_named(rt: HostRuntime) -> Result<(), Fail> {
+    let not_built = refused(Fault::NotBuilt, "refused 0 0 NotBuilt\n");
     for (change, end) in [
-        (Change::Byte(36, 1), NOT_BUILT),
-        (Change::Byte(48, 1), NOT_BUILT),
-        (Change::Byte(184, 8), NOT_BUILT),
-        (Change::Byte(188, 7), NOT_BUILT),
-        (Change::Byte(200, 0), NOT_BUILT),
-        (Change::Byte(200, 10), NOT_BUILT),
-        (Change::Byte(212, 8), NOT_BUILT),
-        (Change::Byte(53, 0x15), NOT_BUILT),
-        (Change::Byte(224, 4), NOT_BUILT),
-        (Change::Byte(224, 9), NOT_BUILT),
-        (Change::Byte(224, 17), NOT_BUILT),
-        (Change::Byte(228, 2), NOT_BUILT),
-        (Change::Byte(0, 0), NOT_ELF),
-        (Change::Byte(199, 1), TRUNCATED),
-        (Change::Length(339), TRUNCATED),
+        (
+            Change::Byte(0, 0),
+            refused(Fault::NotElf, "refused 0 1 NotElf\n"),
+        ),
+        (
+            Change::Length(339),
+            refused(Fault::Truncated, "refused 0 2 Truncated\n"),
+        ),
+        (
+            Change::Byte(36, 1),
+            refused(Fault::Flags, "refused 0 3 Flags\n"),
+        ),
+        (
+            Change::Byte(188, 7),
+            refused(Fault::SectionKind, "refused 0 4 SectionKind\n"),
+        ),
+        (
+            Change::Byte(212, 3),
+            refused(Fault::Alignment, "refused 0 5 Alignment\n"),
+        ),
+        (
+            Change::Byte(200, 10),
+            refused(Fault::CodeSize, "refused 0 6 CodeSize\n"),
+        ),
+        (
+            Change::Byte(80, 8),
+            refused(Fault::BadName, "refused 0 7 BadName\n"),
+        ),
+        (
+            Change::Byte(84, 13),
+            refused(Fault::BadSymbol, "refused 0 8 BadSymbol\n"),
+        ),
+        (
+            Change::Byte(49, 0x11),
+            refused(Fault::TooLarge, "refused 0 17 TooLarge\n"),
+        ),
+        (Change::Byte(188, 2), not_built),
+        (Change::Byte(200, 0), not_built),
+        (Change::Byte(212, 8), not_built),
+        (Change::Byte(53, 0x15), not_built),
     ] {
         let changes = [change];
         let call = Call {
@@ -145,7 +157,10 @@ fn calls_of_the_outside_that_fail_are_named(rt: HostRuntime) -> Result<(), Fail>
 fn objects_that_are_not_held_or_too_long_are_read_faults(rt: HostRuntime) -> Result<(), Fail> {
     let words = "zc --out o --cert c y";
     expect(&rt, &Call { words, ..ZC }, &READ_FAULT)?;
-    for (length, end) in [(4_194_305, READ_FAULT), (4_194_304, NOT_ELF)] {
+    for (length, end) in [
+        (4_194_305, READ_FAULT),
+        (4_194_304, refused(Fault::NotElf, "refused 0 1 NotElf\n")),
+    ] {
         let zeros = vec![in rt.alloc(); 0u8; length]?;
         let call = Call {
             file: zeros.as_slice(),

@@ -1,8 +1,7 @@
 use Rattle.std.proofs.Common.{sym, ap, ◌∙◌, arith}
 use Rattle.std.specs.Prelude.{not}
 use Rattle.elf32_read.specs.Header.{section_count, header_of}
-use Rattle.elf32_read.specs.Names.{has_end}
-use Rattle.elf32_read.specs.Object.{is_unnamed_section}
+use Rattle.elf32_read.specs.Names.{has_end, is_unnamed_section}
 use Rattle.elf32_read.proofs.Listed.{some_listed}
 use Rattle.elf32_read.proofs.Named.{ends_past}
 use Rattle.elf32_read.proofs.unnamed.has_unnamed_section.Goals as goal

@@ -1,5 +1,5 @@
 use Rattle.std.proofs.Common.{arith}
-use Rattle.elf32_read.proofs.Faultless.{faultless_whole_image}
+use Rattle.elf32_read.proofs.FaultlessImage.{faultless_whole_image}
 use Rattle.elf32_read.proofs.image.Image.entry.Goals as goal
 
 pub entry_of-requires : goal.entry_of-requires

@@ -1,7 +1,7 @@
 use Rattle.std.proofs.Common.{length, sym, ap, ◌∙◌, arith}
 use Rattle.elf32_read.specs.Places.{places_of}
 use Rattle.elf32_read.proofs.Entries.{length-entries_of}
-use Rattle.elf32_read.proofs.Faultless.{faultless_whole_image}
+use Rattle.elf32_read.proofs.FaultlessImage.{faultless_whole_image}
 use Rattle.elf32_read.proofs.image.Image.place_count.Goals as goal
 
 pub overflow_cast-result : goal.overflow_cast-result

@@ -5,7 +5,7 @@ use Rattle.std.proofs.lemmas.List.{length-map}
 use Rattle.std.proofs.lemmas.Option.{slice_get-map, slice_get-get_or}
 use Rattle.elf32_read.specs.Image.{load_passes_end}
 use Rattle.elf32_read.specs.Segments.{loads_of, segment_of, segments_of}
-use Rattle.elf32_read.proofs.Faultless.{faultless_whole_image}
+use Rattle.elf32_read.proofs.FaultlessImage.{faultless_whole_image}
 use Rattle.elf32_read.proofs.Listed.{none_at}
 use Rattle.elf32_read.proofs.image.Image.segment.Goals as goal
 
