@@ -1,13 +1,11 @@
 -- What look-ups find in the tables of gathered objects.
-use Rattle.std.proofs.Common.{◌≡◌, ℕ, zero, suc, ◌+◌, ◌-◌, ◌<◌, ◌≤◌, List, [], length, get_or, map, refl, sym, ap, ◌∙◌, arith, Option, Some, None, slice_get, subst, IsSome, cond, eqb, ℤ, ◌%◌, ◌/◌, ◌*◌, ◌^◌}
+use Rattle.std.proofs.Common.{◌≡◌, ℕ, suc, ◌+◌, ◌<◌, List, length, get_or, map, refl, sym, ap, ◌∙◌, arith, Option, Some, None, subst, IsSome, cond, eqb, ℤ, ◌%◌, ◌/◌, ◌*◌, ◌^◌}
 use Rattle.std.proofs.Math.Nat.{add-mul-mod_self_left, mod-add-div}
 use Rattle.std.proofs.lemmas.Bool.{false≢true}
 use Rattle.std.proofs.lemmas.List.{get_or-map, length-map}
-use Rattle.std.proofs.lemmas.Option.{slice_get-get_or}
-use Rattle.elf32_read.specs.Parts.{ObjectParts, SectionParts, SymbolParts}
+use Rattle.elf32_read.specs.Parts.{ObjectParts}
 use Rattle.psabi_sym.specs.declared.data_class.DataClass.{DataClass}
 use Rattle.psabi_sym.specs.declared.definitions.Definitions.{Definitions}
-use Rattle.psabi_sym.specs.declared.meaning.Meaning.{Meaning}
 use Rattle.psabi_sym.specs.declared.meaning.Meaning.TheVariants.{Symbol, Number, Nothing}
 use Rattle.psabi_sym.specs.declared.section_row.SectionRole.{SectionRole}
 use Rattle.psabi_sym.specs.declared.section_row.SectionRole.TheVariants.{Code, InClass, Dropped}
@@ -64,7 +62,7 @@ module _ (inputs : Inputs) (sections : Sections) (symbols : Symbols) (definition
     address_is class role =
         ap (λ n. get_or definitions.addresses.items n 0) found.place
         ∙ address_there (parsed inputs) o i found.object found.section found.at found.is definitions.addresses.items class
-          (subst (λ rows. ArePlaced rows inputs.map.data_low definitions.addresses.items) gathered.indexed.sections_are gathered.defined.placed) role
+        (subst (λ rows. ArePlaced rows inputs.map.data_low definitions.addresses.items) gathered.indexed.sections_are gathered.defined.placed) role
 
     -- the address of a section that has one
     pub data_address_is : (role : SectionRole) → role_of found.section ≡ role → IsSome (role_address (parsed inputs) o i found.section role)

@@ -1,6 +1,6 @@
 -- Laws of blocks one after another: where they end if one more follows, and that their rooms bound it.
-use Rattle.std.proofs.Common.{◌≡◌, ℕ, ◌+◌, ◌-◌, ◌%◌, ◌^◌, ◌<◌, ◌≤◌, List, [], ◌∷◌, ◌++◌, length, get_or, take, max, refl, sym, ap, ◌∙◌, arith, map}
-use Rattle.std.proofs.lemmas.List.Sums.{sum_by-cons, sum_by_push}
+use Rattle.std.proofs.Common.{◌≡◌, ℕ, ◌+◌, ◌<◌, ◌≤◌, List, [], ◌∷◌, ◌++◌, max, refl, ap, arith, map}
+use Rattle.std.proofs.lemmas.List.Sums.{sum_by-cons}
 use Rattle.psabi_sym.specs.declared.block.Block.{Block}
 use Rattle.psabi_sym.specs.Blocks.{aligned_up, end_from, room_of, room_of_all, placed_from}
 

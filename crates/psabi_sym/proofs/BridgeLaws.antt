@@ -1,19 +1,17 @@
 -- From rows to sections and symbols: what tables by rows have is what the definitions say.
-use Rattle.std.proofs.Common.{◌≡◌, ℕ, zero, suc, ◌+◌, ◌<◌, ◌≤◌, Bool, true, false, cond, eqb, not, ◌&&◌, List, [], ◌∷◌, ◌++◌, length, get_or, take, drop, map, max, refl, sym, ap, ◌∙◌, arith, filter, fold, Option, Some, None, is_none, slice_get, All}
-use Rattle.std.specs.List.{find, flat_map, enumerate_from, sum_by, zip}
-use Rattle.std.specs.Option.{option_map, option_map_or, option_or}
+use Rattle.std.proofs.Common.{◌≡◌, ℕ, suc, ◌+◌, ◌<◌, Bool, true, false, cond, eqb, not, ◌&&◌, List, [], ◌∷◌, length, get_or, map, max, refl, sym, ap, ◌∙◌, arith, filter, Option, Some, None, is_none, All}
+use Rattle.std.specs.List.{find}
+use Rattle.std.specs.Option.{option_map, option_map_or}
 use Rattle.std.proofs.lemmas.List.Elements.{All-cons, All-filter, All-head, All-tail}
-use Rattle.elf32_read.specs.Parts.{ObjectParts, SectionParts, SymbolParts}
-use Rattle.psabi_sym.specs.declared.block.Block.{Block}
+use Rattle.elf32_read.specs.Parts.{ObjectParts}
 use Rattle.psabi_sym.specs.declared.data_class.DataClass.{DataClass}
-use Rattle.psabi_sym.specs.declared.section_row.SectionRow.{SectionRow}
 use Rattle.psabi_sym.specs.declared.symbol_row.SymbolRow.{SymbolRow}
 use Rattle.psabi_sym.specs.Blocks.{aligned_up, end_from, placed_from}
 use Rattle.psabi_sym.specs.Data.{blocks_in, common_block, commons_placed, greatest, has_class, is_of_class, listed_block, section_block}
 use Rattle.psabi_sym.specs.Faults.{is_second, same_symbol}
-use Rattle.psabi_sym.specs.Listed.{ListedSection, ListedSymbol, all_sections, all_symbols}
+use Rattle.psabi_sym.specs.Listed.{ListedSection, ListedSymbol, all_symbols}
 use Rattle.psabi_sym.specs.Names.{commons_of, first_definition, firsts, is_common, is_definition, same_name, strong_definition}
-use Rattle.psabi_sym.specs.Rows.{common_rows, first_row, first_rows, number_of, placed_rows, row_address_of, row_is_second, row_block, row_blocks, row_common_block, row_defines, row_is_common, row_room, row_takes_room, section_row, symbol_row}
+use Rattle.psabi_sym.specs.Rows.{first_row, first_rows, number_of, placed_rows, row_address_of, row_is_second, row_block, row_blocks, row_common_block, row_defines, row_is_common, row_room, row_takes_room, section_row, symbol_row}
 use Rattle.psabi_sym.proofs.NumberLaws.{number_same, same_is}
 
 -- ---- lists
@@ -50,7 +48,7 @@ row_blocks_are class (s ∷ ss) = by (is_of_class class s) (row_blocks_are class
   where
     by : (b : Bool) → row_blocks class (map section_row ss) ≡ blocks_in class ss
         → map row_block (cond b (section_row s ∷ filter (λ r. has_class class r.role) (map section_row ss)) (filter (λ r. has_class class r.role) (map section_row ss)))
-          ≡ map section_block (cond b (s ∷ filter (is_of_class class) ss) (filter (is_of_class class) ss))
+        ≡ map section_block (cond b (s ∷ filter (is_of_class class) ss) (filter (is_of_class class) ss))
     by true rest = ap (λ t. section_block s ∷ t) rest
     by false rest = rest
 
@@ -78,7 +76,7 @@ module _ (names : List (List ℕ)) (objects : List ObjectParts)
       → row_common_block (map (symbol_row names) (all_symbols objects)) (number_of names name) ≡ common_block objects name
   common_block_is name there =
       let same = filter-map (symbol_row names) (λ r. row_is_common r && eqb r.name (number_of names name)) (λ l. is_common l.symbol && same_name l.symbol.name name) (all_symbols objects)
-          (λ k d within. named_and (is_common (get_or (all_symbols objects) k d).symbol) name (get_or (all_symbols objects) k d) there) in
+      (λ k d within. named_and (is_common (get_or (all_symbols objects) k d).symbol) name (get_or (all_symbols objects) k d) there) in
       λ j. record {
         align = (ap (λ rs. greatest (map (λ r. max 1 r.value) rs)) same ∙ ap greatest (map-map (λ r. max 1 r.value) (symbol_row names) (commons_of objects name))) j;
         size = (ap (λ rs. greatest (map (λ r. r.size) rs)) same ∙ ap greatest (map-map (λ r. r.size) (symbol_row names) (commons_of objects name))) j;
@@ -96,7 +94,7 @@ module _ (names : List (List ℕ)) (objects : List ObjectParts)
       ap (λ t. symbol_row names l ∷ t)
       (ap (filter (λ s. not (eqb s.name (number_of names l.symbol.name)))) (firsts_are ls (All-tail (λ m. number_of names m.symbol.name < length names) l ls all))
       ∙ filter-map (symbol_row names) (λ s. not (eqb s.name (number_of names l.symbol.name))) (λ m. not (same_name m.symbol.name l.symbol.name)) (firsts ls)
-        (λ k d within. ap not (number_same names (get_or (firsts ls) k d).symbol.name l.symbol.name here)))
+      (λ k d within. ap not (number_same names (get_or (firsts ls) k d).symbol.name l.symbol.name here)))
 
   -- what is placed
   pub placed_are : placed_rows (map (symbol_row names) (all_symbols objects)) (map (symbol_row names) (all_symbols objects)) ≡ map (symbol_row names) (commons_placed objects)
@@ -104,9 +102,9 @@ module _ (names : List (List ℕ)) (objects : List ObjectParts)
   placed_are =
       let takes = λ (l : ListedSymbol). is_common l.symbol && is_none (strong_definition objects l.symbol.name) in
       ap first_rows (filter-map (symbol_row names) (row_takes_room (map (symbol_row names) (all_symbols objects))) takes (all_symbols objects)
-        (λ k d within.
-          let l = get_or (all_symbols objects) k d in
-          ap (λ t. is_common l.symbol && t) (ap is_none (first_row_is 1 l.symbol.name (numbered k d within)) ∙ is_none-map (strong_definition objects l.symbol.name))))
+      (λ k d within.
+      let l = get_or (all_symbols objects) k d in
+      ap (λ t. is_common l.symbol && t) (ap is_none (first_row_is 1 l.symbol.name (numbered k d within)) ∙ is_none-map (strong_definition objects l.symbol.name))))
       ∙ firsts_are (filter takes (all_symbols objects)) (All-filter takes (λ l. number_of names l.symbol.name < length names) (all_symbols objects) numbered)
 
   -- the room of a symbol's name
@@ -120,12 +118,12 @@ module _ (names : List (List ℕ)) (objects : List ObjectParts)
   ends_are ls all =
       map-map (row_room (map (symbol_row names) (all_symbols objects))) (symbol_row names) ls
       ∙ map-same (λ l. row_room (map (symbol_row names) (all_symbols objects)) (symbol_row names l)) (listed_block objects) ls
-        (λ k d within. room_is (get_or ls k d) (all k d within))
+      (λ k d within. room_is (get_or ls k d) (all k d within))
 
   -- the address of a name among what is placed
   address_is : (start : ℕ) (name : List ℕ) → number_of names name < length names → (ls : List ListedSymbol) → All (λ l. number_of names l.symbol.name < length names) ls
       → row_address_of (placed_from (row_room (map (symbol_row names) (all_symbols objects))) start (map (symbol_row names) ls)) (number_of names name)
-        ≡ option_map (λ e. e.1) (find (λ e. same_name e.0.symbol.name name) (placed_from (listed_block objects) start ls))
+      ≡ option_map (λ e. e.1) (find (λ e. same_name e.0.symbol.name name) (placed_from (listed_block objects) start ls))
   address_is start name there [] all = refl
   address_is start name there (l ∷ ls) all =
       let room = row_room (map (symbol_row names) (all_symbols objects)) in
@@ -138,9 +136,9 @@ module _ (names : List (List ℕ)) (objects : List ObjectParts)
     where
       by : (t : Bool) (begin next : ℕ)
           → row_address_of (placed_from (row_room (map (symbol_row names) (all_symbols objects))) next (map (symbol_row names) ls)) (number_of names name)
-            ≡ option_map (λ e. e.1) (find (λ e. same_name e.0.symbol.name name) (placed_from (listed_block objects) next ls))
+          ≡ option_map (λ e. e.1) (find (λ e. same_name e.0.symbol.name name) (placed_from (listed_block objects) next ls))
           → option_map {T = SymbolRow × ℕ} (λ e. e.1) (cond t (Some (symbol_row names l, begin)) (find (λ e. eqb e.0.name (number_of names name)) (placed_from (row_room (map (symbol_row names) (all_symbols objects))) next (map (symbol_row names) ls))))
-            ≡ option_map {T = ListedSymbol × ℕ} (λ e. e.1) (cond t (Some (l, begin)) (find (λ e. same_name e.0.symbol.name name) (placed_from (listed_block objects) next ls)))
+          ≡ option_map {T = ListedSymbol × ℕ} (λ e. e.1) (cond t (Some (l, begin)) (find (λ e. same_name e.0.symbol.name name) (placed_from (listed_block objects) next ls)))
       by true begin next rest = refl
       by false begin next rest = rest
 
@@ -160,14 +158,14 @@ module _ (names : List (List ℕ)) (objects : List ObjectParts)
   -- a name that is common, and where all end
   pub common_is : (start : ℕ) (name : List ℕ) → number_of names name < length names
       → row_address_of (placed_from (row_room (map (symbol_row names) (all_symbols objects))) start (placed_rows (map (symbol_row names) (all_symbols objects)) (map (symbol_row names) (all_symbols objects)))) (number_of names name)
-        ≡ option_map (λ e. e.1) (find (λ e. same_name e.0.symbol.name name) (placed_from (listed_block objects) start (commons_placed objects)))
+      ≡ option_map (λ e. e.1) (find (λ e. same_name e.0.symbol.name name) (placed_from (listed_block objects) start (commons_placed objects)))
   common_is start name there =
       ap (λ rs. row_address_of (placed_from (row_room (map (symbol_row names) (all_symbols objects))) start rs) (number_of names name)) placed_are
       ∙ address_is start name there (commons_placed objects) placed_numbered
 
   pub commons_end : (start : ℕ)
       → end_from start (map (row_room (map (symbol_row names) (all_symbols objects))) (placed_rows (map (symbol_row names) (all_symbols objects)) (map (symbol_row names) (all_symbols objects))))
-        ≡ end_from start (map (listed_block objects) (commons_placed objects))
+      ≡ end_from start (map (listed_block objects) (commons_placed objects))
   commons_end start = ap (λ rs. end_from start (map (row_room (map (symbol_row names) (all_symbols objects))) rs)) placed_are ∙ ap (end_from start) (ends_are (commons_placed objects) placed_numbered)
 
   -- a second strong definition
@@ -186,7 +184,7 @@ module _ (names : List (List ℕ)) (objects : List ObjectParts)
   duplicate_is =
       ap (option_map {U = ℕ × ℕ} (λ r. (r.object, r.index)))
       (find-map (symbol_row names) (row_is_second (map (symbol_row names) (all_symbols objects))) (is_second objects) (all_symbols objects)
-        (λ k d within. second_is (get_or (all_symbols objects) k d) (numbered k d within)))
+      (λ k d within. second_is (get_or (all_symbols objects) k d) (numbered k d within)))
       ∙ by (find (is_second objects) (all_symbols objects))
     where
       by : (o : Option ListedSymbol) → option_map {U = ℕ × ℕ} (λ r. (r.object, r.index)) (option_map (symbol_row names) o) ≡ option_map (λ l. (l.object, l.index)) o

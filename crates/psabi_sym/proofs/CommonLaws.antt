@@ -1,12 +1,12 @@
 -- Laws of common symbols by their rows. A name is placed at its first row that takes room, so what is placed grows by a row
 -- if its name has no address yet. The room of all that is placed is bounded by a sum over all rows, since the room of a name is
 -- bounded by that of its own rows.
-use Rattle.std.proofs.Common.{◌≡◌, ℕ, zero, suc, ◌+◌, ◌^◌, ◌<◌, ◌≤◌, ◌≢◌, Bool, true, false, cond, eqb, not, ◌&&◌, ◌||◌, List, [], ◌∷◌, ◌++◌, length, get_or, take, max, refl, sym, ap, ◌∙◌, arith, map, filter, fold, inl, inr, Option, Some, None, is_none, All, ◌⊎◌, set}
+use Rattle.std.proofs.Common.{◌≡◌, ℕ, zero, suc, ◌+◌, ◌<◌, ◌≤◌, Bool, true, false, cond, eqb, not, ◌&&◌, ◌||◌, List, [], ◌∷◌, ◌++◌, length, get_or, take, max, refl, sym, ap, ◌∙◌, arith, map, filter, fold, inl, inr, Option, Some, None, is_none, All, ◌⊎◌, set}
 use Rattle.std.specs.List.{find, list_any, range_with_len, sum_by}
 use Rattle.std.specs.Option.{option_map, option_or}
 use Rattle.std.proofs.lemmas.Bool.{and_parts, cases_Bool, eq-eqb, eqb-true, eqb-false, ne_eqb}
 use Rattle.std.proofs.lemmas.List.{append-nil, get_or-take, length-take-le, map_push}
-use Rattle.std.proofs.lemmas.List.Elements.{All-cons, All-filter, All-head, All-nil, All-tail, filter-append, filter_more, filter_passes}
+use Rattle.std.proofs.lemmas.List.Elements.{All-cons, All-filter, All-head, All-nil, All-tail, filter-append, filter_more}
 use Rattle.std.proofs.lemmas.List.Folds.{fold-map}
 use Rattle.std.proofs.lemmas.List.Sums.{sum_by-cons, sum_by_push}
 use Rattle.psabi_sym.specs.declared.block.Block.{Block}
@@ -111,13 +111,13 @@ address_push (p ∷ ps) r v k = by (eqb p.0.name k) (address_push ps r v k)
 -- what is placed, with one more row
 pub placed_more : (all rows : List SymbolRow) (f : SymbolRow → Block) (at i : ℕ) (d : SymbolRow) → i < length rows
     → placed_rows all (take (i + 1) rows) ≡ placed_rows all (take i rows)
-      ++ cond (row_takes_room all (get_or rows i d) && is_none (row_address_of (placed_from f at (placed_rows all (take i rows))) (get_or rows i d).name)) (get_or rows i d ∷ []) []
+    ++ cond (row_takes_room all (get_or rows i d) && is_none (row_address_of (placed_from f at (placed_rows all (take i rows))) (get_or rows i d).name)) (get_or rows i d ∷ []) []
 unfolding placed_rows
 placed_more all rows f at i d within =
     let r = get_or rows i d in
     let before = filter (row_takes_room all) (take i rows) in
     let new : is_none (row_address_of (placed_from f at (first_rows before)) r.name) ≡ not (list_any (has_name r.name) before) =
-        address_is_none f at r.name (first_rows before) ∙ ap not (any_firsts r.name before) in
+    address_is_none f at r.name (first_rows before) ∙ ap not (any_firsts r.name before) in
     ap first_rows (filter_more (row_takes_room all) rows i d within)
     ∙ by (row_takes_room all r)
     ∙ ap (λ b. first_rows before ++ cond (row_takes_room all r && b) (r ∷ []) []) (sym new)
@@ -270,11 +270,11 @@ placed_room rows n few =
     let placed = first_rows (filter (row_takes_room rows) (take n rows)) in
     let fits = λ (r : SymbolRow). room_of (row_room rows r) ≤ room_of_name rows r.name in
     let each : All fits placed = All-firsts fits (filter (row_takes_room rows) (take n rows))
-        (All-passing (row_takes_room rows) fits (take n rows) (λ i d within takes.
-          let below : i < n = omega (arith, length-take-le n rows few) in
-          let same : get_or (take n rows) i d ≡ get_or rows i d = get_or-take n rows i d below in
-          let common : row_is_common (get_or rows i d) ≡ true = ap row_is_common (sym same) ∙ (and_parts (row_is_common (get_or (take n rows) i d)) _ takes).0 in
-          rw same (block_room rows (get_or rows i d).name (common_among rows i d (omega arith) common)))) in
+    (All-passing (row_takes_room rows) fits (take n rows) (λ i d within takes.
+    let below : i < n = omega (arith, length-take-le n rows few) in
+    let same : get_or (take n rows) i d ≡ get_or rows i d = get_or-take n rows i d below in
+    let common : row_is_common (get_or rows i d) ≡ true = ap row_is_common (sym same) ∙ (and_parts (row_is_common (get_or (take n rows) i d)) _ takes).0 in
+    rw same (block_room rows (get_or rows i d).name (common_among rows i d (omega arith) common)))) in
     omega (arith, fold-map (λ a b. a + room_of b) (row_room rows) 0 placed, sum_at_most (λ r. room_of (row_room rows r)) (λ r. room_of_name rows r.name) placed each, firsts_room (filter (row_takes_room rows) (take n rows)) rows)
 
 -- ---- a step of placing
@@ -297,7 +297,7 @@ module _ (rows : List SymbolRow) (start i : ℕ) (d : SymbolRow) (within : i < l
   -- where all ends, with one that is
   pub end_next : is_next rows (take i rows) start (get_or rows i d) ≡ true
       → end_from start (map (row_room rows) (placed_rows rows (take (i + 1) rows)))
-        ≡ aligned_up (row_room rows (get_or rows i d)).align (end_from start (map (row_room rows) (placed_rows rows (take i rows)))) + (row_room rows (get_or rows i d)).size
+      ≡ aligned_up (row_room rows (get_or rows i d)).align (end_from start (map (row_room rows) (placed_rows rows (take i rows)))) + (row_room rows (get_or rows i d)).size
   end_next is =
       ap (λ l. end_from start (map (row_room rows) l)) (next is)
       ∙ ap (end_from start) (map_push (row_room rows) (placed_rows rows (take i rows)) (get_or rows i d))
@@ -308,16 +308,21 @@ module _ (rows : List SymbolRow) (start i : ℕ) (d : SymbolRow) (within : i < l
       → end_from start (map (row_room rows) (placed_rows rows (take i rows))) + room_of (row_room rows (get_or rows i d)) ≤ start + sum_by row_common_room rows
   next_fits is =
       let placed = placed_rows rows (take i rows) in
-      omega (arith, end_from_fits start (map (row_room rows) placed), placed_room rows (i + 1) (omega arith),
-        ap (λ l. room_of_all (map (row_room rows) l)) (next is), ap room_of_all (map_push (row_room rows) placed (get_or rows i d)),
-        sum_by_push room_of (map (row_room rows) placed) (row_room rows (get_or rows i d)))
+      omega (
+        arith,
+        end_from_fits start (map (row_room rows) placed),
+        placed_room rows (i + 1) (omega arith),
+        ap (λ l. room_of_all (map (row_room rows) l)) (next is),
+        ap room_of_all (map_push (row_room rows) placed (get_or rows i d)),
+        sum_by_push room_of (map (row_room rows) placed) (row_room rows (get_or rows i d)),
+      )
 
   -- the addresses, with one that is
   pub address_next : (k : ℕ) → is_next rows (take i rows) start (get_or rows i d) ≡ true
       → row_address_of (placed_from (row_room rows) start (placed_rows rows (take (i + 1) rows))) k
-        ≡ option_or (row_address_of (placed_from (row_room rows) start (placed_rows rows (take i rows))) k)
-          (cond (eqb (get_or rows i d).name k)
-            (Some (aligned_up (row_room rows (get_or rows i d)).align (end_from start (map (row_room rows) (placed_rows rows (take i rows)))))) None)
+      ≡ option_or (row_address_of (placed_from (row_room rows) start (placed_rows rows (take i rows))) k)
+      (cond (eqb (get_or rows i d).name k)
+      (Some (aligned_up (row_room rows (get_or rows i d)).align (end_from start (map (row_room rows) (placed_rows rows (take i rows)))))) None)
   address_next k is =
       ap (λ l. row_address_of (placed_from (row_room rows) start l) k) (next is)
       ∙ ap (λ l. row_address_of l k) (placed_from_push (row_room rows) start (placed_rows rows (take i rows)) (get_or rows i d))
@@ -328,7 +333,7 @@ pub table_next : (rows : List SymbolRow) (start i : ℕ) (d : SymbolRow) (within
     → is_next rows (take i rows) start (get_or rows i d) ≡ true
     → v ≡ aligned_up (row_room rows (get_or rows i d)).align (end_from start (map (row_room rows) (placed_rows rows (take i rows))))
     → set (map (row_address_of (placed_from (row_room rows) start (placed_rows rows (take i rows)))) (range_with_len 0 n)) (get_or rows i d).name (Some v)
-      ≡ map (row_address_of (placed_from (row_room rows) start (placed_rows rows (take (i + 1) rows)))) (range_with_len 0 n)
+    ≡ map (row_address_of (placed_from (row_room rows) start (placed_rows rows (take (i + 1) rows)))) (range_with_len 0 n)
 table_next rows start i d within n v named is here =
     let r = get_or rows i d in
     let f : ℕ → Option ℕ = row_address_of (placed_from (row_room rows) start (placed_rows rows (take i rows))) in
@@ -338,8 +343,8 @@ table_next rows start i d within n v named is here =
     ∙ ap (λ o. option_or o (cond (eqb r.name r.name) (Some (aligned_up (row_room rows r).align (end_from start (map (row_room rows) (placed_rows rows (take i rows)))))) None)) (sym none)
     ∙ sym (address_next rows start i d within r.name is))
     (λ k ne. sym (address_next rows start i d within k is
-      ∙ ap (λ b. option_or (f k) (cond b (Some (aligned_up (row_room rows r).align (end_from start (map (row_room rows) (placed_rows rows (take i rows)))))) None)) (ne_eqb r.name k (λ q. ne (sym q)))
-      ∙ or_none (f k)))
+    ∙ ap (λ b. option_or (f k) (cond b (Some (aligned_up (row_room rows r).align (end_from start (map (row_room rows) (placed_rows rows (take i rows)))))) None)) (ne_eqb r.name k (λ q. ne (sym q)))
+    ∙ or_none (f k)))
   where
     none_is : (o : Option ℕ) → is_none o ≡ true → o ≡ None
     none_is None h = refl

@@ -1,10 +1,9 @@
 -- What names stand for by tables, and the sums over objects by rows, are what the definitions say.
-use Rattle.std.proofs.Common.{◌≡◌, ℕ, zero, suc, ◌+◌, ◌-◌, ◌<◌, ◌≤◌, Bool, true, false, cond, not, ◌&&◌, ◌||◌, List, [], ◌∷◌, ◌++◌, length, get_or, take, drop, map, max, refl, sym, ap, ◌∙◌, arith, fold, Option, Some, None, is_none, All, eqb, nat_lt}
+use Rattle.std.proofs.Common.{◌≡◌, ℕ, zero, suc, ◌+◌, ◌<◌, ◌≤◌, Bool, true, false, cond, ◌&&◌, List, [], ◌∷◌, length, get_or, take, drop, map, max, refl, sym, ap, ◌∙◌, arith, Option, Some, None, is_none, All, eqb, nat_lt}
 use Rattle.std.specs.List.{find, flat_map, enumerate_from, range_with_len, sum_by, zip}
-use Rattle.std.specs.Option.{option_map, option_map_or, option_or}
+use Rattle.std.specs.Option.{option_map, option_or}
 use Rattle.std.proofs.lemmas.Bool.{ltb-false, or_parts}
 use Rattle.std.proofs.lemmas.List.{take_all}
-use Rattle.std.proofs.lemmas.List.Elements.{All-head, All-tail}
 use Rattle.std.proofs.lemmas.List.Folds.{fold-map}
 use Rattle.std.proofs.lemmas.List.Sums.{sum_by-append, sum_by-cons}
 use Rattle.elf32_read.specs.declared.fault.Fault.{Fault}
@@ -13,13 +12,12 @@ use Rattle.elf32_read.specs.Parts.{ObjectParts, SectionParts, SymbolParts, objec
 use Rattle.psabi_sym.specs.declared.data_class.DataClass.TheVariants.{ReadOnly, Data, SmallData, SmallZero, Zero, Common}
 use Rattle.psabi_sym.specs.declared.meaning.LinkerNumbers.{LinkerNumbers}
 use Rattle.psabi_sym.specs.declared.meaning.Meaning.{Meaning}
-use Rattle.psabi_sym.specs.declared.meaning.Meaning.TheVariants.{Symbol, Number, Nothing}
+use Rattle.psabi_sym.specs.declared.meaning.Meaning.TheVariants.{Nothing}
 use Rattle.psabi_sym.specs.declared.section_row.SectionRole.{SectionRole}
 use Rattle.psabi_sym.specs.declared.section_row.SectionRole.TheVariants.{Code, InClass, Dropped}
-use Rattle.psabi_sym.specs.declared.section_row.SectionRow.{SectionRow}
 use Rattle.psabi_sym.specs.declared.symbol_row.SymbolRow.{SymbolRow}
 use Rattle.psabi_sym.specs.Blocks.{aligned_up, end_from, placed_from}
-use Rattle.psabi_sym.specs.Data.{class_end, class_start, common_address, commons_placed, listed_block, role_of}
+use Rattle.psabi_sym.specs.Data.{class_end, class_start, common_address, role_of}
 use Rattle.psabi_sym.specs.Faults.{are_too_large, common_room, data_room, is_missing, is_used, object_data, room_in_data, sum_fault, sums_of}
 use Rattle.psabi_sym.specs.Inputs.{ParsedInputs}
 use Rattle.psabi_sym.specs.Listed.{ListedSection, ListedSymbol, all_sections, all_symbols, sections_in, symbols_in}
@@ -27,8 +25,8 @@ use Rattle.psabi_sym.specs.Meanings.{is_nothing, meaning_at, meaning_of, meaning
 use Rattle.psabi_sym.specs.Names.{strong_definition, weak_definition}
 use Rattle.psabi_sym.specs.Resolve.{Definition, linker_number, linker_numbers, linker_value, name_definition}
 use Rattle.psabi_sym.specs.Resolve.Definition.{InObject, AtNumber}
-use Rattle.psabi_sym.specs.Rows.{first_row, number_of, placed_rows, role_room, row_address_of, row_blocks, row_common_room, row_data_room, row_end, row_room, row_start, section_row, symbol_row}
-use Rattle.psabi_sym.proofs.BridgeLaws.{common_is, commons_end, find-map, first_row_is, map-map, number_at, row_blocks_are}
+use Rattle.psabi_sym.specs.Rows.{first_row, number_of, placed_rows, role_room, row_address_of, row_blocks, row_common_room, row_data_room, row_room, row_start, section_row, symbol_row}
+use Rattle.psabi_sym.proofs.BridgeLaws.{common_is, commons_end, find-map, first_row_is, number_at, row_blocks_are}
 use Rattle.psabi_sym.proofs.Tables.{table_at}
 
 -- ---- classes
@@ -60,7 +58,7 @@ module _ (inputs : ParsedInputs) where
 -- what a name is, by cases
 meaning_is : (names : List (List ℕ)) (strong weak : Option ListedSymbol) (common linker : Option ℕ)
     → meaning_of (option_map (symbol_row names) strong) common (option_map (symbol_row names) weak) linker
-      ≡ meaning_row names (option_or (option_map InObject strong) (option_or (option_map AtNumber common) (option_or (option_map InObject weak) (option_map AtNumber linker))))
+    ≡ meaning_row names (option_or (option_map InObject strong) (option_or (option_map AtNumber common) (option_or (option_map InObject weak) (option_map AtNumber linker))))
 meaning_is names (Some s) weak common linker = refl
 meaning_is names None weak (Some n) linker = refl
 meaning_is names None (Some w) None linker = refl
@@ -79,7 +77,7 @@ module _ (names : List (List ℕ)) (inputs : ParsedInputs)
       → strong ≡ map (first_row 1 (map (symbol_row names) (all_symbols inputs.objects))) (range_with_len 0 (length names))
       → weak ≡ map (first_row 2 (map (symbol_row names) (all_symbols inputs.objects))) (range_with_len 0 (length names))
       → commons ≡ map (row_address_of (placed_from (row_room (map (symbol_row names) (all_symbols inputs.objects))) (class_start inputs Common)
-          (placed_rows (map (symbol_row names) (all_symbols inputs.objects)) (map (symbol_row names) (all_symbols inputs.objects))))) (range_with_len 0 (length names))
+      (placed_rows (map (symbol_row names) (all_symbols inputs.objects)) (map (symbol_row names) (all_symbols inputs.objects))))) (range_with_len 0 (length names))
       → numbers ≡ linker_numbers inputs
       → meaning_at names strong commons weak numbers (number_of names name) ≡ meaning_row names (name_definition inputs name)
   unfolding name_definition common_address
@@ -97,16 +95,16 @@ module _ (names : List (List ℕ)) (inputs : ParsedInputs)
   pub undefined_is : (meanings : List Meaning)
       → All (λ l. get_or meanings (number_of names l.symbol.name) Nothing ≡ meaning_row names (name_definition inputs l.symbol.name)) (all_symbols inputs.objects)
       → option_map {U = ℕ × ℕ} (λ e. (e.0.object, e.0.index)) (find (row_is_missing meanings) (zip (map (symbol_row names) (all_symbols inputs.objects)) (map (is_used inputs.objects) (all_symbols inputs.objects))))
-        ≡ option_map (λ l. (l.object, l.index)) (find (is_missing inputs) (all_symbols inputs.objects))
+      ≡ option_map (λ l. (l.object, l.index)) (find (is_missing inputs) (all_symbols inputs.objects))
   undefined_is meanings each =
       let both : ListedSymbol → SymbolRow × Bool = λ l. (symbol_row names l, is_used inputs.objects l) in
       ap (λ zs. option_map {T = SymbolRow × Bool} {U = ℕ × ℕ} (λ e. (e.0.object, e.0.index)) (find (row_is_missing meanings) zs)) (zip-map (all_symbols inputs.objects))
       ∙ ap (option_map {T = SymbolRow × Bool} {U = ℕ × ℕ} (λ e. (e.0.object, e.0.index)))
-        (find-map both (row_is_missing meanings) (is_missing inputs) (all_symbols inputs.objects)
-          (λ k d within.
-            let l = get_or (all_symbols inputs.objects) k d in
-            ap (λ m. eqb l.symbol.bind 1 && eqb l.symbol.home 0 && is_used inputs.objects l && is_nothing m) (each k d within)
-            ∙ ap (λ b. eqb l.symbol.bind 1 && eqb l.symbol.home 0 && is_used inputs.objects l && b) (nothing_is names (name_definition inputs l.symbol.name))))
+      (find-map both (row_is_missing meanings) (is_missing inputs) (all_symbols inputs.objects)
+      (λ k d within.
+      let l = get_or (all_symbols inputs.objects) k d in
+      ap (λ m. eqb l.symbol.bind 1 && eqb l.symbol.home 0 && is_used inputs.objects l && is_nothing m) (each k d within)
+      ∙ ap (λ b. eqb l.symbol.bind 1 && eqb l.symbol.home 0 && is_used inputs.objects l && b) (nothing_is names (name_definition inputs l.symbol.name))))
       ∙ by (find (is_missing inputs) (all_symbols inputs.objects))
     where
       zip-map : (ls : List ListedSymbol) → zip (map (symbol_row names) ls) (map (is_used inputs.objects) ls) ≡ map (λ l. (symbol_row names l, is_used inputs.objects l)) ls
@@ -151,15 +149,22 @@ sum_objects n [] = refl
 sum_objects n (o ∷ os) =
     let sections = flat_map sections_in (enumerate_from (n + 1) os) in
     let symbols = flat_map symbols_in (enumerate_from (n + 1) os) in
-    omega (arith, sum_by-append (λ l. data_room l.section) (sections_in (n, o)) sections, sum_by-append (λ l. common_room l.symbol) (symbols_in (n, o)) symbols,
-      sum_sections n 0 o.sections, sum_first n o.symbols, sum_by-cons object_data o os, sum_objects (n + 1) os)
+    omega (
+      arith,
+      sum_by-append (λ l. data_room l.section) (sections_in (n, o)) sections,
+      sum_by-append (λ l. common_room l.symbol) (symbols_in (n, o)) symbols,
+      sum_sections n 0 o.sections,
+      sum_first n o.symbols,
+      sum_by-cons object_data o os,
+      sum_objects (n + 1) os,
+    )
 
 row_sums : (objects : List ObjectParts) (names : List (List ℕ))
     → sum_by row_data_room (map section_row (all_sections objects)) + sum_by row_common_room (map (symbol_row names) (all_symbols objects)) ≡ sum_by object_data objects
 unfolding all_sections all_symbols
 row_sums objects names =
     (λ j. (fold-map (λ a r. a + row_data_room r) section_row 0 (flat_map sections_in (enumerate_from 0 objects)) ∙ rooms (flat_map sections_in (enumerate_from 0 objects))) j
-      + fold-map (λ a r. a + row_common_room r) (symbol_row names) 0 (flat_map symbols_in (enumerate_from 0 objects)) j)
+    + fold-map (λ a r. a + row_common_room r) (symbol_row names) 0 (flat_map symbols_in (enumerate_from 0 objects)) j)
     ∙ sum_objects 0 objects
   where
     rooms : (ls : List ListedSection) → sum_by (λ l. row_data_room (section_row l)) ls ≡ sum_by (λ l. data_room l.section) ls
@@ -211,6 +216,6 @@ rooms_fit files names none =
 -- where all data ends
 pub class_end_common : (names : List (List ℕ)) (inputs : ParsedInputs) (numbered : All (λ l. number_of names l.symbol.name < length names) (all_symbols inputs.objects))
     → end_from (class_start inputs Common) (map (row_room (map (symbol_row names) (all_symbols inputs.objects)))
-        (placed_rows (map (symbol_row names) (all_symbols inputs.objects)) (map (symbol_row names) (all_symbols inputs.objects)))) ≡ class_end inputs Common
+    (placed_rows (map (symbol_row names) (all_symbols inputs.objects)) (map (symbol_row names) (all_symbols inputs.objects)))) ≡ class_end inputs Common
 unfolding class_end
 class_end_common names inputs numbered = commons_end names inputs.objects numbered (class_start inputs Common)

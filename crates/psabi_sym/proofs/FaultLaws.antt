@@ -1,5 +1,5 @@
 -- Faults by an object's index and a symbol's, and the first of several.
-use Rattle.std.proofs.Common.{◌≡◌, ℕ, ◌+◌, ◌<◌, ◌≤◌, List, [], ◌∷◌, length, Option, Some, None, refl, sym, ap, ◌∙◌}
+use Rattle.std.proofs.Common.{◌≡◌, ℕ, Option, Some, None, refl}
 use Rattle.std.specs.Option.{option_map, option_or}
 use Rattle.std.proofs.lemmas.Option.{some_pair_parts}
 use Rattle.elf32_read.specs.declared.fault.Fault.{Fault}

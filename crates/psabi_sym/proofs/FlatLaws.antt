@@ -1,16 +1,13 @@
 -- Lists of what all objects have, one object after another: what stands at a place, and before it.
-use Rattle.std.proofs.Common.{◌≡◌, ℕ, zero, suc, ◌+◌, ◌-◌, ◌<◌, ◌≤◌, List, [], ◌∷◌, ◌++◌, length, get_or, take, drop, refl, sym, ap, ◌∙◌, arith, map, append_assoc, length-append, Some, slice_get}
+use Rattle.std.proofs.Common.{◌≡◌, ℕ, zero, suc, ◌+◌, ◌<◌, ◌≤◌, List, [], ◌∷◌, ◌++◌, length, get_or, take, drop, refl, sym, ap, ◌∙◌, arith, map, append_assoc, Some, slice_get}
 use Rattle.std.specs.List.{enumerate_from, flat_map}
-use Rattle.std.specs.Option.{option_map_or}
-use Rattle.std.proofs.lemmas.List.{append-nil, drop_more, get_or-map, length-map, take_more, take_at, take-append-drop, take-append-le, take-map, drop-map, length-take-le}
+use Rattle.std.proofs.lemmas.List.{append-nil, get_or-map, length-map, take_more, take-append-le, length-take-le}
 use Rattle.std.proofs.lemmas.List.Concat.{flat_map-append, get_or-flat_map}
 use Rattle.std.proofs.lemmas.List.FromFn.{get_or-enumerate_from, length-enumerate_from}
-use Rattle.std.proofs.lemmas.Option.{slice_get-get_or, get_or_from_slice_get, slice_get_within}
-use Rattle.elf32_read.specs.Parts.{ObjectParts, SectionParts, SymbolParts}
-use Rattle.psabi_sym.specs.Listed.{ListedSection, ListedSymbol, all_sections, all_symbols, sections_before, sections_in, symbols_in}
+use Rattle.std.proofs.lemmas.Option.{get_or_from_slice_get, slice_get_within}
+use Rattle.elf32_read.specs.Parts.{ObjectParts, SectionParts}
+use Rattle.psabi_sym.specs.Listed.{all_sections, all_symbols, sections_in, symbols_in}
 use Rattle.psabi_sym.specs.Rows.{part_row, section_row}
-use Rattle.psabi_sym.specs.declared.section_row.SectionRow.{SectionRow}
-use Rattle.psabi_sym.proofs.PartLaws.{length-sections_in, section_listed, symbol_listed, length-symbols_in}
 
 -- numbering goes on
 enumerate_push : {X : Type 0} (n : ℕ) (xs : List X) (x : X) → enumerate_from n (xs ++ x ∷ []) ≡ enumerate_from n xs ++ (n + length xs, x) ∷ []
@@ -39,7 +36,7 @@ module _ {X : Type 0} (f : ℕ × ObjectParts → List X) where
       let all = enumerate_from 0 objects in
       let inside : o < length objects = slice_get_within objects o object at in
       let here : get_or all o (0, object) ≡ (o, object) =
-          get_or-enumerate_from 0 objects o (0, object) inside ∙ (λ i. (added i, get_or_from_slice_get objects o object object at i)) in
+      get_or-enumerate_from 0 objects o (0, object) inside ∙ (λ i. (added i, get_or_from_slice_get objects o object object at i)) in
       let numbered : o < length all = omega (arith, inside, length-enumerate_from 0 objects) in
       ap (λ l. get_or (flat_map f all) (length (flat_map f l) + j) d) (sym (enumerate_take 0 o objects))
       ∙ get_or-flat_map f all o j (0, object) d numbered (omega (arith, within, ap (λ e. length (f e)) here))
@@ -51,7 +48,7 @@ module _ {X : Type 0} (f : ℕ × ObjectParts → List X) where
   -- and what stands before it
   pub flat_before : (objects : List ObjectParts) (o j : ℕ) (object : ObjectParts) → slice_get objects o ≡ Some object → j ≤ length (f (o, object))
       → take (length (flat_map f (enumerate_from 0 (take o objects))) + j) (flat_map f (enumerate_from 0 objects))
-        ≡ flat_map f (enumerate_from 0 (take o objects)) ++ take j (f (o, object))
+      ≡ flat_map f (enumerate_from 0 (take o objects)) ++ take j (f (o, object))
   flat_before objects o j object at within =
       let before = flat_map f (enumerate_from 0 (take o objects)) in
       ap (λ l. take (length before + j) l) (split objects o object at)

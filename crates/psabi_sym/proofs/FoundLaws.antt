@@ -1,10 +1,9 @@
 -- Sections and symbols that were found by their places.
-use Rattle.std.proofs.Common.{◌≡◌, ℕ, zero, suc, ◌+◌, ◌-◌, ◌<◌, ◌≤◌, List, [], length, get_or, map, refl, sym, ap, ◌∙◌, arith, Option, Some, None, slice_get, inl, inr}
+use Rattle.std.proofs.Common.{◌≡◌, ℕ, ◌+◌, ◌≤◌, List, [], length, get_or, map, refl, sym, ap, ◌∙◌, arith, Option, Some, None, slice_get, inl, inr}
 use Rattle.std.specs.List.{range_with_len}
 use Rattle.std.specs.Option.{option_and_then}
 use Rattle.std.proofs.lemmas.Option.{slice_get-get_or, slice_get_past}
 use Rattle.elf32_read.specs.Parts.{ObjectParts, SectionParts, SymbolParts}
-use Rattle.psabi_sym.specs.Inputs.{ParsedInputs}
 use Rattle.psabi_sym.specs.Listed.{section_at, sections_in, symbol_at, symbols_in}
 use Rattle.psabi_sym.specs.Places.{place_in}
 use Rattle.psabi_sym.specs.Rows.{section_starts, symbol_starts}
@@ -58,7 +57,7 @@ module _ (objects : List ObjectParts) (starts : List ℕ) (o i : ℕ) where
         | inl there ↦
             let object = there.0 in
             let is : slice_get object.sections i ≡ Some (get_or object.sections i no_section) =
-                slice_get-get_or object.sections i no_section (omega (arith, there.2, length-sections_in o object)) in
+            slice_get-get_or object.sections i no_section (omega (arith, there.2, length-sections_in o object)) in
             let place : k ≡ section_starts objects o + i = same_number (sym some ∙ there.3) ∙ ap (λ f. f o + i) (sym (section_starts_are objects)) in
             record {
               object = object;
@@ -95,7 +94,7 @@ module _ (objects : List ObjectParts) (starts : List ℕ) (o i : ℕ) where
         | inl there ↦
             let object = there.0 in
             let is : slice_get object.symbols (i + 1) ≡ Some (get_or object.symbols (i + 1) no_symbol) =
-                slice_get-get_or object.symbols (i + 1) no_symbol (omega (arith, there.2, length-symbols_in o object)) in
+            slice_get-get_or object.symbols (i + 1) no_symbol (omega (arith, there.2, length-symbols_in o object)) in
             let place : k ≡ symbol_starts objects o + i = same_number (sym some ∙ there.3) ∙ ap (λ f. f o + i) (sym (symbol_starts_are objects)) in
             record {
               object = object;

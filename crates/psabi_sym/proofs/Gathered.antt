@@ -74,4 +74,4 @@ pub only_names : (inputs : Inputs) → length inputs.files ≤ 256 → fault_fro
 unfolding gather_fault
 only_names inputs few readable sums =
     (λ j. option_or (cond (le-ltb most_objects (length inputs.files) few j) (Some (most_objects, TooLarge)) None)
-      (option_or (readable j) (option_or (sums j) (first_some (duplicate_fault (parsed inputs).objects ∷ undefined_fault (parsed inputs) ∷ [])))))
+    (option_or (readable j) (option_or (sums j) (first_some (duplicate_fault (parsed inputs).objects ∷ undefined_fault (parsed inputs) ∷ [])))))

@@ -1,5 +1,5 @@
 -- Laws of numbered symbols: more names leave the rows as they are, and one more symbol adds its row.
-use Rattle.std.proofs.Common.{◌≡◌, ℕ, ◌+◌, ◌<◌, ◌≤◌, List, [], ◌∷◌, ◌++◌, length, get_or, refl, sym, ap, ◌∙◌, arith, map, All, length-append, subst}
+use Rattle.std.proofs.Common.{◌≡◌, ℕ, ◌<◌, List, [], ◌∷◌, ◌++◌, length, refl, sym, ap, ◌∙◌, arith, map, All, length-append, subst}
 use Rattle.std.proofs.lemmas.List.{map_push}
 use Rattle.std.proofs.lemmas.List.Elements.{All-head, All-map, All-same, All-push, All-tail, All-weaker}
 use Rattle.psabi_sym.specs.Listed.{ListedSymbol}
@@ -26,8 +26,8 @@ numbered_more names listed rows l before named =
     let grown = with_name names name in
     let bounds = length-with_name names name in
     let kept : All (λ m. number_of grown m.symbol.name < length grown) listed =
-        All-weaker (λ m. number_of names m.symbol.name < length names) (λ m. number_of grown m.symbol.name < length grown)
-        (λ m there. omega (arith, number_kept names name m.symbol.name there, there, bounds.0)) listed before.numbered in
+    All-weaker (λ m. number_of names m.symbol.name < length names) (λ m. number_of grown m.symbol.name < length grown)
+    (λ m there. omega (arith, number_kept names name m.symbol.name there, there, bounds.0)) listed before.numbered in
     record {
       rows_are =
           ap (λ t. t ++ symbol_row grown l ∷ []) (before.rows_are ∙ rows_kept names name listed before.numbered)

@@ -1,16 +1,15 @@
 -- What stands at the place of a section or a symbol, and before it.
-use Rattle.std.proofs.Common.{◌≡◌, ◌≢◌, ℕ, zero, suc, ◌+◌, ◌-◌, ◌<◌, ◌≤◌, Bool, true, false, cond, not, ◌&&◌, List, [], ◌∷◌, ◌++◌, length, get_or, take, map, refl, sym, ap, ◌∙◌, arith, Option, Some, None, slice_get, ◌⊎◌, inl, inr, nat_lt, length-append, eqb, codes}
-use Rattle.std.specs.List.{enumerate_from, flat_map, fold, range_with_len}
-use Rattle.std.specs.Option.{option_and_then, option_map_or}
+use Rattle.std.proofs.Common.{◌≡◌, ℕ, ◌+◌, ◌<◌, ◌≤◌, Bool, true, false, cond, not, ◌&&◌, List, [], ◌∷◌, ◌++◌, length, get_or, take, map, refl, sym, ap, ◌∙◌, arith, Option, Some, None, slice_get, ◌⊎◌, inl, inr, nat_lt, length-append, eqb, codes}
+use Rattle.std.specs.List.{enumerate_from, flat_map, range_with_len}
+use Rattle.std.specs.Option.{option_map_or}
 use Rattle.std.proofs.lemmas.Bool.{cases_lt, le-ltb, lt-ltb}
 use Rattle.std.proofs.lemmas.List.{get_or-map, length-map, length-take, length-take-le, take-map, take_more}
 use Rattle.std.proofs.lemmas.List.FromFn.{get_or-map-range_with_len, length-map-range_with_len}
-use Rattle.std.proofs.lemmas.Option.{get_or_from_slice_get, slice_get-get_or, slice_get_past, slice_get_within}
+use Rattle.std.proofs.lemmas.Option.{get_or_from_slice_get, slice_get-get_or, slice_get_within}
 use Rattle.elf32_read.specs.Kept.{has_flags}
 use Rattle.elf32_read.specs.Parts.{ObjectParts, SectionParts, SymbolParts, is_code_section, is_kept_section}
 use Rattle.psabi_sym.specs.declared.data_class.DataClass.{DataClass}
 use Rattle.psabi_sym.specs.declared.data_class.DataClass.TheVariants.{ReadOnly, Data, SmallData, SmallZero, Zero, Common}
-use Rattle.psabi_sym.specs.declared.section_row.SectionRole.{SectionRole}
 use Rattle.psabi_sym.specs.declared.section_row.SectionRole.TheVariants.{Code, InClass, Dropped}
 use Rattle.psabi_sym.specs.declared.section_row.SectionRow.{SectionRow}
 use Rattle.psabi_sym.specs.Blocks.{aligned_up, end_from}
@@ -19,7 +18,7 @@ use Rattle.psabi_sym.specs.Data.{address_in, blocks_in, class_of, class_start, i
 use Rattle.psabi_sym.specs.Inputs.{ParsedInputs}
 use Rattle.psabi_sym.specs.Listed.{ListedSection, ListedSymbol, all_sections, all_symbols, sections_before, sections_in, symbols_in}
 use Rattle.psabi_sym.specs.Places.{place_in}
-use Rattle.psabi_sym.specs.Rows.{ArePlaced, part_row, row_address, row_blocks, row_end, row_start, section_row, section_starts, symbol_starts}
+use Rattle.psabi_sym.specs.Rows.{ArePlaced, part_row, row_blocks, row_start, section_row, section_starts, symbol_starts}
 use Rattle.psabi_sym.proofs.BridgeLaws.{row_blocks_are}
 use Rattle.psabi_sym.proofs.FlatLaws.{flat_at, flat_before, flat_push}
 use Rattle.psabi_sym.proofs.PartLaws.{length-sections_in, length-symbols_in, section_listed, symbol_listed}
@@ -51,7 +50,7 @@ module _ {X : Type 0} (f : ℕ × ObjectParts → List X) (objects : List Object
   -- a place is one of an object's, or there is none
   pub place_cases : (starts : List ℕ) (o i : ℕ) → starts ≡ map begins (range_with_len 0 (length objects + 1))
       → ((object : ObjectParts) × (slice_get objects o ≡ Some object) × (i < length (f (o, object))) × (place_in starts o i ≡ Some (begins o + i)))
-        ⊎ (((object : ObjectParts) → slice_get objects o ≡ Some object → length (f (o, object)) ≤ i) × (place_in starts o i ≡ None))
+      ⊎ (((object : ObjectParts) → slice_get objects o ≡ Some object → length (f (o, object)) ≤ i) × (place_in starts o i ≡ None))
   place_cases starts o i is = by (slice_get objects o) refl
     where
       count : length starts ≡ length objects + 1
@@ -62,11 +61,13 @@ module _ {X : Type 0} (f : ℕ × ObjectParts → List X) (objects : List Object
 
       by : (found : Option ObjectParts) → slice_get objects o ≡ found
           → ((object : ObjectParts) × (slice_get objects o ≡ Some object) × (i < length (f (o, object))) × (place_in starts o i ≡ Some (begins o + i)))
-            ⊎ (((object : ObjectParts) → slice_get objects o ≡ Some object → length (f (o, object)) ≤ i) × (place_in starts o i ≡ None))
+          ⊎ (((object : ObjectParts) → slice_get objects o ≡ Some object → length (f (o, object)) ≤ i) × (place_in starts o i ≡ None))
       by None none =
           let past : length objects ≤ o = elim (cases_lt o (length objects)) [ inl lt ↦ absurd (cc (none, slice_get-get_or objects o (record { flags = 0; sections = []; symbols = [] }) lt)) | inr le ↦ le ] in
-          inr ((λ object at. absurd (cc (none, at))),
-            ap (λ b. cond (b && nat_lt (get_or starts o 0 + i) (get_or starts (o + 1) 0)) (Some (get_or starts o 0 + i)) None) (le-ltb (o + 1) (length starts) (omega (arith, count, past))))
+          inr (
+            (λ object at. absurd (cc (none, at))),
+            ap (λ b. cond (b && nat_lt (get_or starts o 0 + i) (get_or starts (o + 1) 0)) (Some (get_or starts o 0 + i)) None) (le-ltb (o + 1) (length starts) (omega (arith, count, past))),
+          )
       by (Some object) at =
           let within = slice_get_within objects o object at in
           let here = start o (omega arith) in
@@ -75,12 +76,18 @@ module _ {X : Type 0} (f : ℕ × ObjectParts → List X) (objects : List Object
           elim (cases_lt i (length (f (o, object)))) [
             | inl inside ↦
                 let below : nat_lt (get_or starts o 0 + i) (get_or starts (o + 1) 0) ≡ true = lt-ltb (get_or starts o 0 + i) (get_or starts (o + 1) 0) (omega (arith, here, next, inside)) in
-                inl (object, at, inside,
-                  (λ j. cond (known j && below j) (Some (get_or starts o 0 + i)) None) ∙ ap (λ n. Some (n + i)) here)
+                inl (
+                  object,
+                  at,
+                  inside,
+                  (λ j. cond (known j && below j) (Some (get_or starts o 0 + i)) None) ∙ ap (λ n. Some (n + i)) here,
+                )
             | inr past ↦
                 let above : nat_lt (get_or starts o 0 + i) (get_or starts (o + 1) 0) ≡ false = le-ltb (get_or starts o 0 + i) (get_or starts (o + 1) 0) (omega (arith, here, next, past)) in
-                inr ((λ other also. let same : object ≡ other = cc in omega (arith, past, ap (λ x. length (f (o, x))) same)),
-                  (λ j. cond (known j && above j) (Some (get_or starts o 0 + i)) None))
+                inr (
+                  (λ other also. let same : object ≡ other = cc in omega (arith, past, ap (λ x. length (f (o, x))) same)),
+                  (λ j. cond (known j && above j) (Some (get_or starts o 0 + i)) None),
+                )
           ]
 
 -- ---- what a section is
@@ -169,7 +176,7 @@ module _ (inputs : ParsedInputs) where
         let k = section_starts inputs.objects o + i in
         let other = not_common s class role in
         let before : row_blocks class (take k rows) ≡ blocks_in class (sections_before inputs.objects o i) =
-            ap (row_blocks class) (take-map section_row k (all_sections inputs.objects)) ∙ row_blocks_are class (take k (all_sections inputs.objects)) ∙ ap (blocks_in class) before_there in
+        ap (row_blocks class) (take-map section_row k (all_sections inputs.objects)) ∙ row_blocks_are class (take k (all_sections inputs.objects)) ∙ ap (blocks_in class) before_there in
         placed k (part_row s) class (slice_get-get_or rows k (part_row s) place_within ∙ ap Some (row_there (part_row s))) role other
         ∙ (λ j. aligned_up s.align (end_from (row_start_is class other j) (before j)))
 
@@ -182,10 +189,11 @@ pub symbol_there : (objects : List ObjectParts) (o s : ℕ) (object : ObjectPart
 unfolding all_symbols
 symbol_there objects o s object symbol d at is =
     let inside : s + 1 < length object.symbols = slice_get_within object.symbols (s + 1) symbol is in
-    let listed : s < length (symbols_in (o, object)) = omega (arith, inside, length-symbols_in o object) in
-    (begins_within symbols_in objects o s object at listed,
+    let listed : s < length (symbols_in (o, object)) = omega (arith, inside, length-symbols_in o object) in (
+      begins_within symbols_in objects o s object at listed,
       flat_at symbols_in objects o s object d at listed ∙ symbol_listed o object s symbol d inside
-      ∙ ap (λ x. record { object = o; index = s + 1; symbol = x }) (get_or_from_slice_get object.symbols (s + 1) symbol symbol is))
+          ∙ ap (λ x. record { object = o; index = s + 1; symbol = x }) (get_or_from_slice_get object.symbols (s + 1) symbol symbol is),
+    )
 
 -- where symbols and sections begin, by the general word
 pub section_starts_are : (objects : List ObjectParts) → section_starts objects ≡ begins sections_in objects

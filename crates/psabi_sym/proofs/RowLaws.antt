@@ -1,11 +1,10 @@
 -- Laws of rows of sections: what a class takes grows by a row that is of the class, and its room is a sum over all rows.
-use Rattle.std.proofs.Common.{◌≡◌, ℕ, ◌+◌, ◌^◌, ◌<◌, ◌≤◌, Bool, true, false, cond, List, [], ◌∷◌, ◌++◌, length, get_or, take, max, refl, sym, ap, ◌∙◌, arith, map, filter, slice_get, Some}
+use Rattle.std.proofs.Common.{◌≡◌, ℕ, ◌+◌, ◌<◌, ◌≤◌, Bool, true, false, cond, List, [], ◌∷◌, ◌++◌, length, get_or, take, max, refl, sym, ap, ◌∙◌, arith, map, filter, slice_get, Some}
 use Rattle.std.specs.List.{sum_by}
 use Rattle.std.proofs.lemmas.List.{append-nil, map-append}
 use Rattle.std.proofs.lemmas.Bool.{cond-false, cond-true}
 use Rattle.std.proofs.lemmas.List.Elements.{filter_more}
 use Rattle.std.proofs.lemmas.List.Sums.{sum_by-cons, sum_by_more_le}
-use Rattle.psabi_sym.specs.declared.block.Block.{Block}
 use Rattle.psabi_sym.specs.declared.data_class.DataClass.{DataClass}
 use Rattle.psabi_sym.specs.declared.section_row.SectionRow.{SectionRow}
 use Rattle.psabi_sym.specs.Blocks.{aligned_up, end_from, room_of, room_of_all}
@@ -87,15 +86,24 @@ one_class Dropped n = omega arith
 -- the rooms of the classes are no more than the room of all sections
 class_sums : (rows : List SectionRow)
     → sum_by (class_room ReadOnly) rows + sum_by (class_room Data) rows + sum_by (class_room SmallData) rows + sum_by (class_room SmallZero) rows + sum_by (class_room Zero) rows
-      ≤ sum_by row_data_room rows
+    ≤ sum_by row_data_room rows
 class_sums [] = omega arith
 class_sums (r ∷ rs) =
-    omega (arith, sum_by-cons (class_room ReadOnly) r rs, sum_by-cons (class_room Data) r rs, sum_by-cons (class_room SmallData) r rs, sum_by-cons (class_room SmallZero) r rs, sum_by-cons (class_room Zero) r rs,
-      sum_by-cons row_data_room r rs, one_class r.role (room_of (row_block r)), class_sums rs)
+    omega (
+      arith,
+      sum_by-cons (class_room ReadOnly) r rs,
+      sum_by-cons (class_room Data) r rs,
+      sum_by-cons (class_room SmallData) r rs,
+      sum_by-cons (class_room SmallZero) r rs,
+      sum_by-cons (class_room Zero) r rs,
+      sum_by-cons row_data_room r rs,
+      one_class r.role (room_of (row_block r)),
+      class_sums rs,
+    )
 
 pub class_rooms : (rows : List SectionRow)
     → room_of_all (row_blocks ReadOnly rows) + room_of_all (row_blocks Data rows) + room_of_all (row_blocks SmallData rows) + room_of_all (row_blocks SmallZero rows) + room_of_all (row_blocks Zero rows)
-      ≤ sum_by row_data_room rows
+    ≤ sum_by row_data_room rows
 class_rooms rows = omega (arith, rooms_are ReadOnly rows, rooms_are Data rows, rooms_are SmallData rows, rooms_are SmallZero rows, rooms_are Zero rows, class_sums rows)
 
 -- a table after a class was placed

@@ -1,5 +1,5 @@
 -- Laws of marks at the symbols that relocations name.
-use Rattle.std.proofs.Common.{◌≡◌, ◌≢◌, ℕ, zero, suc, ◌+◌, ◌<◌, ◌≤◌, Bool, true, false, eqb, ◌||◌, List, [], ◌∷◌, ◌++◌, length, get_or, set, take, drop, map, min, refl, sym, ap, ◌∙◌, arith, Some, slice_get, inl, inr, get_or-set_same, get_or-set_other}
+use Rattle.std.proofs.Common.{◌≡◌, ℕ, ◌+◌, ◌<◌, ◌≤◌, Bool, true, false, eqb, ◌||◌, List, [], ◌∷◌, length, get_or, set, take, drop, map, min, refl, sym, ap, ◌∙◌, arith, Some, slice_get, inl, inr, get_or-set_same, get_or-set_other}
 use Rattle.std.specs.List.{enumerate_from, list_any}
 use Rattle.std.specs.Option.{option_map_or}
 use Rattle.std.proofs.lemmas.Bool.{cases_eq, eq-eqb, ne_eqb}
@@ -10,7 +10,7 @@ use Rattle.std.proofs.lemmas.Option.{get_or_from_slice_get, slice_get_within}
 use Rattle.elf32_read.specs.declared.reloc.Reloc.{Reloc}
 use Rattle.elf32_read.specs.Parts.{ObjectParts, SymbolParts}
 use Rattle.psabi_sym.specs.Faults.{is_used, is_used_in, names}
-use Rattle.psabi_sym.specs.Listed.{ListedSymbol, symbols_in}
+use Rattle.psabi_sym.specs.Listed.{symbols_in}
 
 -- one more element
 pub any_next : {X : Type 0} (p : X → Bool) (xs : List X) (k : ℕ) (x : X) → slice_get xs k ≡ Some x → list_any p (take (k + 1) xs) ≡ (list_any p (take k xs) || p x)
@@ -67,9 +67,9 @@ marks_are object marks f long each =
     let count : length all ≡ length object.symbols = length-enumerate_from 0 object.symbols in
     same_lists marks (map (λ s. f s.0) all) (long ∙ sym (length-map all (λ s. f s.0) ∙ count))
     (λ k d within.
-      let inside : k < length object.symbols = omega (arith, within, long) in
-      get_or_default marks k d false within ∙ each k within
-      ∙ sym (get_or-map (λ (s : ℕ × SymbolParts). f s.0) all k (0, none) d (omega (arith, inside, count)) ∙ ap (λ (s : ℕ × SymbolParts). f s.0) (get_or-enumerate_from 0 object.symbols k (0, none) inside) ∙ ap f (omega arith)))
+    let inside : k < length object.symbols = omega (arith, within, long) in
+    get_or_default marks k d false within ∙ each k within
+    ∙ sym (get_or-map (λ (s : ℕ × SymbolParts). f s.0) all k (0, none) d (omega (arith, inside, count)) ∙ ap (λ (s : ℕ × SymbolParts). f s.0) (get_or-enumerate_from 0 object.symbols k (0, none) inside) ∙ ap f (omega arith)))
   where
     none : SymbolParts
     none = record { name = []; value = 0; size = 0; bind = 0; kind = 0; home = 0 }

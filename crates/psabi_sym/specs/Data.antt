@@ -1,5 +1,5 @@
 -- Where data lies in memory: sections by class, then common symbols. Code has no part in it.
-use Rattle.std.specs.Prelude.{ℕ, ◌+◌, Bool, true, false, not, ◌&&◌, ◌||◌, ◌==◌, nat_eq, max, if◌then◌else◌, is_none, List, [], ◌∷◌, ◌++◌, map, filter, codes, Option, Some, None}
+use Rattle.std.specs.Prelude.{ℕ, Bool, true, false, not, ◌&&◌, ◌||◌, ◌==◌, nat_eq, max, if◌then◌else◌, is_none, List, ◌++◌, map, filter, codes, Option, Some, None}
 use Rattle.std.specs.List.{find, fold, starts_with}
 use Rattle.std.specs.Option.{option_and_then, option_map, option_map_or}
 use Rattle.elf32_read.specs.Kept.{has_flags}
@@ -30,7 +30,6 @@ class_of s =
 -- what a section is: dropped if it isn't kept, and else code (EXECINSTR, 4) or data
 unfoldable pub role_of : SectionParts → SectionRole
 role_of s = if not (is_kept_section s) then Dropped else (if has_flags 4 s.flags then Code else InClass (class_of s))
-
 
 -- data of this class
 abbrev pub has_class : DataClass → SectionRole → Bool

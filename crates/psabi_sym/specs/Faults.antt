@@ -1,6 +1,6 @@
 -- Faults of objects, in the order in which they are looked for: too many objects, one that can't be read, sums that are too
 -- large, and names that are defined twice or not at all.
-use Rattle.std.specs.Prelude.{ℕ, zero, suc, ◌+◌, ◌^◌, ℤ, pos, negsuc, Bool, false, not, ◌&&◌, ◌||◌, ◌==◌, nat_lt, max, if◌then◌else◌, is_none, List, [], ◌∷◌, length, drop, take, Option, Some, None, slice_get}
+use Rattle.std.specs.Prelude.{ℕ, zero, suc, ◌+◌, ℤ, pos, negsuc, Bool, false, not, ◌&&◌, ◌||◌, ◌==◌, nat_lt, max, if◌then◌else◌, is_none, List, [], ◌∷◌, length, drop, take, Option, Some, None, slice_get}
 use Rattle.std.specs.List.{find, list_any, range_with_len, sum_by}
 use Rattle.std.specs.Option.{option_map, option_map_or, option_or}
 use Rattle.elf32_read.specs.declared.fault.Fault.{Fault}

@@ -1,5 +1,5 @@
 -- Objects in memory, with all that is kept beside their files.
-use Rattle.std.specs.Prelude.{◌≡◌, ℕ, List, None}
+use Rattle.std.specs.Prelude.{◌≡◌, None}
 use Rattle.zc_base.specs.MemMap.{IsMap}
 use Rattle.psabi_sym.specs.Faults.{gather_fault}
 use Rattle.psabi_sym.specs.Inputs.{Inputs, parsed}

@@ -45,7 +45,7 @@ pub fn place_commons(
         ≡ end_from (aligned_up 16 from) (map (row_room rows.now) (placed_rows rows.now rows.now))) }
     ensures addresses { IfOk result (λ commons. commons.addresses.items
         ≡ map (row_address_of (placed_from (row_room rows.now) (aligned_up 16 from) (placed_rows rows.now rows.now)))
-            (range_with_len 0 (length blocks.now))) }
+        (range_with_len 0 (length blocks.now))) }
 {
     let mut addresses = vec![in alloc; None; blocks.len()]?;
     let mut at = aligned_up(CLASS_ALIGN, from);

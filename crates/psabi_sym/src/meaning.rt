@@ -140,7 +140,11 @@ fn is_missing(row: &SymbolRow, used: bool, meaning: Meaning) -> bool
 
 /// The first symbol that is global and undefined, that a relocation names, and whose name stands for
 /// nothing: its object's index and its own.
-pub fn first_undefined(rows: &[SymbolRow], used: &[bool], meanings: &[Meaning]) -> Option<(u32, u32)>
+pub fn first_undefined(
+    rows: &[SymbolRow],
+    used: &[bool],
+    meanings: &[Meaning],
+) -> Option<(u32, u32)>
     requires same_length { length used.now ≡ length rows.now }
     requires named { All (λ r. r.name < length meanings.now) rows.now }
     ensures { result ≡ option_map (λ e. (e.0.object, e.0.index)) (find (row_is_missing meanings.now) (zip rows.now used.now)) }

@@ -64,7 +64,15 @@ pub fn name_objects(
             fault: Fault::Duplicate { symbol },
         });
     }
-    let definitions = define(alloc, objects, memory, sections, &symbols.rows, names, &strong)?;
+    let definitions = define(
+        alloc,
+        objects,
+        memory,
+        sections,
+        &symbols.rows,
+        names,
+        &strong,
+    )?;
     let used = used_symbols(alloc, objects)?;
     if let Some((index, symbol)) = first_undefined(&symbols.rows, &used, &definitions.meanings) {
         return Err(LinkFault::Object {

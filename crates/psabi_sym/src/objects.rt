@@ -196,7 +196,10 @@ impl Objects {
         match self.sections.rows[k].role {
             SectionRole::Code => code_target(row, self.sections.rows[k].size, addend),
             SectionRole::InClass(_) => {
-                number(self.definitions.addresses[k].wrapping_add(row.value), addend)
+                number(
+                    self.definitions.addresses[k].wrapping_add(row.value),
+                    addend,
+                )
             }
             SectionRole::Dropped => Target::Nowhere,
         }
@@ -258,3 +261,5 @@ fn load(alloc: Global, files: &[Vec<u8>]) -> Result<Vec<Loaded>, AllocError>
     Ok(objects)
 }
 
+#[cfg(test)]
+mod tests;

@@ -4,6 +4,7 @@ ghost use Rattle.std.specs.Prelude.{◌≡◌};
 ghost use Rattle.psabi_sym.specs.Rows.{row_defines, row_is_common};
 
 const UNDEFINED: u16 = 0;
+
 const COMMON: u16 = 0xFFF2;
 
 /// What a link keeps of a symbol: its object's index and its own, the number of its name, and the

@@ -1,4 +1,4 @@
-use Rattle.std.proofs.Common.{rules, ◌≡◌, ◌<◌, ◌≤◌, ℕ, refl, sym, ap, ◌∙◌, [], None, arith, length, get_or, take, map, is_none, ◌+◌, set, Some}
+use Rattle.std.proofs.Common.{rules, ◌≡◌, ◌<◌, refl, sym, ap, ◌∙◌, [], None, arith, length, get_or, map, ◌+◌, set, Some}
 use Rattle.std.specs.List.{range_with_len}
 use Rattle.psabi_sym.specs.declared.block.Block.{Block}
 use Rattle.psabi_sym.specs.declared.symbol_row.SymbolRow.{SymbolRow}

@@ -1,9 +1,9 @@
-use Rattle.std.proofs.Common.{◌≡◌, ◌+◌, ◌<◌, ◌≤◌, ℕ, Some, true, false, length, max, slice_get, slice_index, get_or, take, cond, sym, refl, ap, ◌∙◌, arith, get_or-set_same, get_or-set_other, ◌≢◌, inl, inr, set}
+use Rattle.std.proofs.Common.{◌≡◌, ◌+◌, ℕ, slice_get, slice_index, get_or, cond, sym, ap, ◌∙◌, arith, get_or-set_same, get_or-set_other, ◌≢◌, inl, inr, set}
 use Rattle.std.proofs.lemmas.Bool.{cases_eq}
 use Rattle.std.proofs.lemmas.Option.{get_or_from_slice_get, slice_get_within}
-use Rattle.psabi_sym.specs.Blocks.{aligned_up, end_from, room_of_all}
+use Rattle.psabi_sym.specs.Blocks.{aligned_up}
 use Rattle.psabi_sym.specs.Data.{has_class}
-use Rattle.psabi_sym.specs.Rows.{row_address, row_blocks}
+use Rattle.psabi_sym.specs.Rows.{row_address}
 use Rattle.psabi_sym.specs.declared.section_row.SectionRow.{SectionRow}
 use Rattle.psabi_sym.specs.declared.section_row.SectionRole.TheVariants.{Code}
 use Rattle.psabi_sym.proofs.RowLaws.{end_more, end_same, fits_here}
@@ -36,7 +36,7 @@ loop-k-preserved c =
       | then-is_of w ↦
           let has = sym c.is_of.ensures ∙ w.if-is_of.true in
           let value : w.aligned_up-at-then-is_of.result ≡ row_address class start rows k here =
-              w.aligned_up-at-then-is_of.ensures.value ∙ ap (aligned_up here.align) c.loop-k.invariant.so_far in
+          w.aligned_up-at-then-is_of.ensures.value ∙ ap (aligned_up here.align) c.loop-k.invariant.so_far in
           record {
             so_far = w.at-is ∙ ap (λ n. n + here.size) value ∙ end_more class start rows k row0 (omega arith) has;
             placed = λ j r lt at. elim (cases_eq j k) [

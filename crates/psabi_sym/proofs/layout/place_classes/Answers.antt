@@ -1,4 +1,4 @@
-use Rattle.std.proofs.Common.{◌≡◌, arith, ap, sym, subst, ◌∙◌, get_or}
+use Rattle.std.proofs.Common.{◌≡◌, arith, ap, subst, ◌∙◌}
 use Rattle.psabi_sym.specs.declared.data_class.DataClass.TheVariants.{ReadOnly, Data, SmallData, SmallZero, Zero}
 use Rattle.psabi_sym.specs.Rows.{row_end}
 use Rattle.psabi_sym.proofs.RowLaws.{IsTable, class_rooms, placed_all, row_end-le}

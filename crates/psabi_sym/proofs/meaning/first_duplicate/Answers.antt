@@ -1,4 +1,4 @@
-use Rattle.std.proofs.Common.{◌≡◌, ◌+◌, ◌<◌, ℕ, Bool, true, false, cond, None, Some, length, get_or, drop, ap, sym, ◌∙◌, arith}
+use Rattle.std.proofs.Common.{◌≡◌, ◌+◌, ◌<◌, true, false, cond, None, Some, length, get_or, drop, ap, sym, ◌∙◌, arith}
 use Rattle.std.specs.List.{find}
 use Rattle.std.specs.Option.{option_map}
 use Rattle.std.proofs.lemmas.List.{drop_more}
@@ -20,7 +20,7 @@ returns-then-is_second c =
     let first = table_at (first_row 1 rows) c.args.strong.now (length c.args.strong.now) r.name None c.requires.strong (c.requires.named i row0 within) in
     let is : row_is_second rows r ≡ true = sym (c.is_second.ensures rows first) ∙ c.if-is_second.true in
     let found : find (row_is_second rows) rows ≡ Some r =
-        c.loop-row.invariant ∙ ap (find (row_is_second rows)) (drop_more rows i row0 within) ∙ ap (λ b. cond b (Some r) (find (row_is_second rows) (drop (i + 1) rows))) is in
+    c.loop-row.invariant ∙ ap (find (row_is_second rows)) (drop_more rows i row0 within) ∙ ap (λ b. cond b (Some r) (find (row_is_second rows) (drop (i + 1) rows))) is in
     ap (λ n. Some (n, r.index)) c.from.ensures ∙ ap (option_map {T = SymbolRow} (λ s. (s.object, s.index))) (sym found)
 
 pub loop-row-preserved : goal.loop-row-preserved

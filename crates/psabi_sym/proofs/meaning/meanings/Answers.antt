@@ -1,5 +1,4 @@
-use Rattle.std.proofs.Common.{◌≡◌, ◌∷◌, [], ◌++◌, ◌<◌, ℕ, List, Bor, None, length, get_or, map, ap, sym, ◌∙◌, arith}
-use Rattle.std.specs.List.{range_with_len}
+use Rattle.std.proofs.Common.{◌≡◌, ◌∷◌, [], ◌++◌, ℕ, List, Bor, None, get_or, map, ap, sym, ◌∙◌, arith}
 use Rattle.std.proofs.lemmas.List.{get_or-map}
 use Rattle.std.proofs.lemmas.List.FromFn.{map-range_with_len_more}
 use Rattle.psabi_sym.specs.Meanings.{meaning_at, meaning_of}
@@ -19,5 +18,5 @@ loop-k-preserved c =
     let linker = c.linker_number-linker.ensures ∙ ap (linker_number c.args.numbers.now) name in
     c.in_ok-push.ensures.items
     ∙ (λ j. c.loop-k.invariant j
-      ++ ((c.meaning_of.ensures ∙ ap (meaning_of (get_or c.args.strong.now k None) (get_or c.args.commons.now k None) (get_or c.args.weak.now k None)) linker) j ∷ []))
+    ++ ((c.meaning_of.ensures ∙ ap (meaning_of (get_or c.args.strong.now k None) (get_or c.args.commons.now k None) (get_or c.args.weak.now k None)) linker) j ∷ []))
     ∙ sym (map-range_with_len_more f 0 k k (omega arith))

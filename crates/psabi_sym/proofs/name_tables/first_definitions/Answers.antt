@@ -1,8 +1,5 @@
-use Rattle.std.proofs.Common.{rules, ◌≡◌, ◌<◌, ℕ, IfOk, map, All, ◌+◌, length, Bool, true, false, nat_eq, List, [], ◌∷◌, ◌++◌, None, arith, refl, ◌∙◌}
-use Rattle.std.proofs.lemmas.Grind.{common_steps}
-use Rattle.std.specs.List.{range_with_len}
-use Rattle.psabi_sym.specs.Rows.{first_row, row_common_block}
-use Rattle.psabi_sym.specs.declared.symbol_row.SymbolRow.{SymbolRow}
+use Rattle.std.proofs.Common.{rules, [], None, refl, ◌∙◌}
+use Rattle.psabi_sym.specs.Rows.{first_row}
 use Rattle.psabi_sym.proofs.Tables.{table_start}
 use Rattle.psabi_sym.proofs.name_tables.first_definitions.Goals as goal
 

@@ -1,4 +1,4 @@
-use Rattle.std.proofs.Common.{◌≡◌, Some, slice_get, length, map, ap, sym, ◌∙◌, arith}
+use Rattle.std.proofs.Common.{◌≡◌, Some, slice_get, ap, sym, ◌∙◌, arith}
 use Rattle.std.proofs.lemmas.List.{get_or-map, length-map}
 use Rattle.std.proofs.lemmas.Option.{slice_get-get_or}
 use Rattle.elf32_read.specs.Object.{object_fault}
@@ -12,6 +12,6 @@ new-requires c =
     let i = c.loop-file.file-index in
     let file = c.file-item.result in
     let at : slice_get (contents_of files) i ≡ Some file.items =
-        slice_get-get_or (contents_of files) i file.items (omega (arith, length-map files (λ f. f.items)))
-        ∙ ap Some (get_or-map (λ f. f.items) files i file file.items (omega arith) ∙ ap (λ f. f.items) (sym c.file-item.is)) in
+    slice_get-get_or (contents_of files) i file.items (omega (arith, length-map files (λ f. f.items)))
+    ∙ ap Some (get_or-map (λ f. f.items) files i file file.items (omega arith) ∙ ap (λ f. f.items) (sym c.file-item.is)) in
     ap object_fault c.deref.ensures.value ∙ readable_from 0 (contents_of files) i file.items c.requires at

@@ -1,4 +1,4 @@
-use Rattle.std.proofs.Common.{◌≡◌, ◌++◌, ◌+◌, ◌-◌, ◌<◌, ◌≤◌, None, ℕ, [], ◌∷◌, List, map, length, get_or, take, ap, sym, refl, subst, ◌∙◌, arith, append_assoc}
+use Rattle.std.proofs.Common.{◌≡◌, ◌++◌, ◌+◌, ◌-◌, ◌<◌, ◌≤◌, None, ℕ, [], ◌∷◌, List, length, get_or, take, ap, sym, subst, ◌∙◌, arith, append_assoc}
 use Rattle.std.proofs.lemmas.List.{append-nil, take_more, take_all}
 use Rattle.elf32_read.specs.Parts.{object_parts, symbol_parts}
 use Rattle.elf32_read.specs.Object.{object_fault}
@@ -42,35 +42,35 @@ loop-i-preserved c =
     let l : ListedSymbol = record { object = c.args.index; index = i; symbol = parts } in
     let long : i < length (object_parts file).symbols = omega (arith, within, symbol_count_is file) in
     let listed_is : get_or all (i - 1) l ≡ l =
-        symbol_listed c.args.index (object_parts file) (i - 1) parts l (omega (arith, first, long))
-        ∙ ap (λ n. record { object = c.args.index; index = n; symbol = get_or (object_parts file).symbols n parts }) (omega (arith, first))
-        ∙ ap (λ s. record { object = c.args.index; index = i; symbol = s }) (symbol_is file i parts within ∙ ap (λ f. symbol_parts f (symbol_entry_of f i)) (sym same)) in
+    symbol_listed c.args.index (object_parts file) (i - 1) parts l (omega (arith, first, long))
+    ∙ ap (λ n. record { object = c.args.index; index = n; symbol = get_or (object_parts file).symbols n parts }) (omega (arith, first))
+    ∙ ap (λ s. record { object = c.args.index; index = i; symbol = s }) (symbol_is file i parts within ∙ ap (λ f. symbol_parts f (symbol_entry_of f i)) (sym same)) in
     let more : take (i - 1) all ++ l ∷ [] ≡ take (i + 1 - 1) all =
-        ap (λ x. take (i - 1) all ++ x ∷ []) (sym listed_is)
-        ∙ sym (take_more all (i - 1) l (omega (arith, first, long, length-symbols_in c.args.index (object_parts file))))
-        ∙ ap (λ n. take n all) (omega (arith, first)) in
+    ap (λ x. take (i - 1) all ++ x ∷ []) (sym listed_is)
+    ∙ sym (take_more all (i - 1) l (omega (arith, first, long, length-symbols_in c.args.index (object_parts file))))
+    ∙ ap (λ n. take n all) (omega (arith, first)) in
     let names = c.loop-i.names in
     let grown = with_name names name in
     let grown_is : c.number.new.self ≡ grown = c.in_ok-name.ensures.names in
     let number_is : c.in_ok-name.name ≡ number_of grown name = c.in_ok-name.ensures.number ∙ ap (λ n. number_of n name) grown_is in
     let row_is : record { object = c.args.index; home = c.symbol-symbol.result.home; index = i; name = c.in_ok-name.name; value = c.symbol-symbol.result.value; size = c.symbol-symbol.result.size; bind = c.symbol-symbol.result.bind }
-        ≡ symbol_row (with_name names parts.name) l = λ j. record {
-          object = c.args.index;
-          home = is.home j;
-          index = i;
-          name = (number_is ∙ ap (λ n. number_of (with_name names n) n) is.name) j;
-          value = is.value j;
-          size = is.size j;
-          bind = is.bind j;
-        } in
+    ≡ symbol_row (with_name names parts.name) l = λ j. record {
+      object = c.args.index;
+      home = is.home j;
+      index = i;
+      name = (number_is ∙ ap (λ n. number_of (with_name names n) n) is.name) j;
+      value = is.value j;
+      size = is.size j;
+      bind = is.bind j;
+    } in
     let there : number_of (with_name names parts.name) parts.name < length (with_name names parts.name) =
-        omega (arith, c.in_ok-name.ensures.within, c.in_ok-name.ensures.number, ap length grown_is, ap (λ n. number_of n name) grown_is, ap (λ n. number_of (with_name names n) n) is.name, ap (λ n. length (with_name names n)) is.name) in
+    omega (arith, c.in_ok-name.ensures.within, c.in_ok-name.ensures.number, ap length grown_is, ap (λ n. number_of n name) grown_is, ap (λ n. number_of (with_name names n) n) is.name, ap (λ n. length (with_name names n)) is.name) in
     record {
       numbered = λ listed before.
-        numbered_as (ap (with_name names) (sym is.name) ∙ sym grown_is)
-        (append_assoc listed (take (i - 1) all) (l ∷ []) ∙ ap (λ t. listed ++ t) more)
-        (ap (λ r. c.loop-i.rows.items ++ r ∷ []) (sym row_is) ∙ sym c.in_ok-push.ensures.items)
-        (numbered_more names (listed ++ take (i - 1) all) c.loop-i.rows.items l (c.loop-i.invariant.numbered listed before) there);
+          numbered_as (ap (with_name names) (sym is.name) ∙ sym grown_is)
+          (append_assoc listed (take (i - 1) all) (l ∷ []) ∙ ap (λ t. listed ++ t) more)
+          (ap (λ r. c.loop-i.rows.items ++ r ∷ []) (sym row_is) ∙ sym c.in_ok-push.ensures.items)
+          (numbered_more names (listed ++ take (i - 1) all) c.loop-i.rows.items l (c.loop-i.invariant.numbered listed before) there);
       within = omega arith;
       few = omega (arith, ap length grown_is, (length-with_name names name).1, c.loop-i.invariant.few, first);
       rows = omega (arith, c.in_ok-push.ensures.len, c.loop-i.invariant.rows, first);

@@ -1,4 +1,4 @@
-use Rattle.std.proofs.Common.{◌≡◌, ◌++◌, ◌+◌, ◌-◌, ◌≤◌, ℕ, List, take, length, vec_len, max}
+use Rattle.std.proofs.Common.{◌≡◌, ◌++◌, ◌+◌, ◌-◌, ◌≤◌, List, take, length, vec_len, max}
 use Rattle.elf32_read.specs.Parts.{object_parts}
 use Rattle.psabi_sym.specs.Listed.{ListedSymbol, symbols_in}
 use Rattle.psabi_sym.specs.Numbered.{IsNumbered}

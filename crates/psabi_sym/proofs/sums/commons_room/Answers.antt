@@ -1,4 +1,4 @@
-use Rattle.std.proofs.Common.{◌≡◌, ◌≤◌, ◌<◌, ◌+◌, ◌-◌, ◌^◌, ℕ, List, None, Some, suc, drop, take, length, slice_get, ap, sym, ◌∙◌, arith}
+use Rattle.std.proofs.Common.{◌≡◌, ◌≤◌, ◌<◌, ◌+◌, ◌-◌, ℕ, List, None, Some, suc, drop, take, slice_get, ap, ◌∙◌, arith}
 use Rattle.std.specs.List.{sum_by}
 use Rattle.std.proofs.lemmas.List.{length-drop, take_all}
 use Rattle.elf32_read.specs.Object.{object_fault}
@@ -28,9 +28,9 @@ loop-i-preserved c =
     let parts = symbol_parts file (symbol_entry_of file i) in
     let back : suc (i - 1) ≡ i = omega arith in
     let at : slice_get (drop 1 (object_parts file).symbols) (i - 1) ≡ Some parts =
-        slice_get-drop_one (object_parts file).symbols (i - 1) ∙ ap (slice_get (object_parts file).symbols) back ∙ symbol_got file i within in
+    slice_get-drop_one (object_parts file).symbols (i - 1) ∙ ap (slice_get (object_parts file).symbols) back ∙ symbol_got file i within in
     let room : c.common_room-room.result ≡ common_room parts =
-        c.common_room-room.ensures.value (symbol_parts read (symbol_entry_of read i)) c.symbol.ensures ∙ ap (λ f. common_room (symbol_parts f (symbol_entry_of f i))) same in
+    c.common_room-room.ensures.value (symbol_parts read (symbol_entry_of read i)) c.symbol.ensures ∙ ap (λ f. common_room (symbol_parts f (symbol_entry_of f i))) same in
     let next : i - 1 + 1 ≡ i + 1 - 1 = omega arith in
     record {
       room = omega (arith, sum_next common_room (drop 1 (object_parts file).symbols) (i - 1) parts at, c.loop-i.invariant.room, room, ap (λ n. sum_by common_room (take n (drop 1 (object_parts file).symbols))) next);

@@ -1,4 +1,4 @@
-use Rattle.std.proofs.Common.{◌≡◌, ◌≤◌, ◌<◌, ◌+◌, ◌-◌, ℕ, List, ◌∷◌, Bool, true, false, None, Some, cond, suc, take, length, get_or, ap, sym, refl, ◌∙◌, arith}
+use Rattle.std.proofs.Common.{◌≡◌, ◌<◌, ◌+◌, ◌-◌, ℕ, List, ◌∷◌, Bool, true, false, Some, cond, suc, take, length, get_or, ap, sym, ◌∙◌, arith}
 use Rattle.std.specs.List.{find, range_with_len, sum_by}
 use Rattle.std.proofs.lemmas.List.Sums.{sum_by_more}
 use Rattle.elf32_read.specs.Parts.{object_parts}

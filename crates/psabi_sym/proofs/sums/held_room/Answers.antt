@@ -1,4 +1,4 @@
-use Rattle.std.proofs.Common.{◌≡◌, arith}
+use Rattle.std.proofs.Common.{arith}
 use Rattle.elf32_read.specs.Header.{header_of}
 use Rattle.elf32_read.specs.Parts.{relocs_held}
 use Rattle.psabi_sym.specs.Faults.{reloc_room}

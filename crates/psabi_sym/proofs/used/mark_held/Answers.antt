@@ -1,4 +1,4 @@
-use Rattle.std.proofs.Common.{◌≡◌, ap, ◌∙◌, arith, slice_index_or, false}
+use Rattle.std.proofs.Common.{ap, ◌∙◌, arith, slice_index_or, false}
 use Rattle.elf32_read.specs.Header.{header_of}
 use Rattle.elf32_read.specs.Parts.{relocs_held}
 use Rattle.psabi_sym.proofs.UsedLaws.{marked_more, marked_same}

@@ -1,4 +1,4 @@
-use Rattle.std.proofs.Common.{◌≡◌, ◌<◌, ◌||◌, length, take, ap, sym, ◌∙◌, arith, slice_index_or, false}
+use Rattle.std.proofs.Common.{◌<◌, ◌||◌, take, ap, sym, ◌∙◌, arith, slice_index_or, false}
 use Rattle.std.specs.List.{list_any}
 use Rattle.std.proofs.lemmas.List.{take_all}
 use Rattle.elf32_read.specs.Header.{section_count}
@@ -25,4 +25,4 @@ returns c = λ s within.
     let all = (object_parts file).sections in
     c.loop-i.invariant s within
     ∙ ap (λ l. slice_index_or c.args.marks.now s false || list_any (λ t. names s t.relocs) l)
-      (take_all c.loop-i.i all (omega (arith, section_count_is file, ap section_count c.object.ensures.object, c.section_count-i-end.ensures.count)))
+    (take_all c.loop-i.i all (omega (arith, section_count_is file, ap section_count c.object.ensures.object, c.section_count-i-end.ensures.count)))

@@ -1,4 +1,4 @@
-use Rattle.std.proofs.Common.{◌≡◌, ◌+◌, ◌%◌, ◌^◌, ℕ, ap, sym, cond, eqb, pos, ◌+ℤ◌, to_z, of_z, w32, ◌∙◌, arith, None, Some, refl}
+use Rattle.std.proofs.Common.{◌≡◌, ◌+◌, ◌%◌, ap, sym, cond, pos, ◌+ℤ◌, to_z, of_z, w32, ◌∙◌, arith}
 use Rattle.std.specs.Option.{option_map_or}
 use Rattle.std.proofs.lemmas.Bool.{ne_eqb}
 use Rattle.std.proofs.lemmas.Int.{to_z-of_z}
@@ -21,10 +21,10 @@ returns-in_default c =
     let addend = to_z w32 (of_z w32 c.args.addend) in
     let none = no_section_there here c.self.inside.sections c.self.inside.symbols c.self.inside.definitions c.self.invariant c.deref.result.now o home c.from.result c.place.result c.deref.ensures.value c.from.ensures c.place.ensures c.in_default.is in
     let answer : Nowhere ≡ home_value_target (parsed here) o home value c.args.addend =
-        sym (ap (λ b. cond b (number value c.args.addend) (option_map_or (section_target (parsed here) o home value c.args.addend) (section_at (parsed here).objects o home) Nowhere)) (ne_eqb home 0xFFF1 c.if-row.false)
-        ∙ ap (λ s. option_map_or (section_target (parsed here) o home value c.args.addend) s Nowhere) none) in
+    sym (ap (λ b. cond b (number value c.args.addend) (option_map_or (section_target (parsed here) o home value c.args.addend) (section_at (parsed here).objects o home) Nowhere)) (ne_eqb home 0xFFF1 c.if-row.false)
+    ∙ ap (λ s. option_map_or (section_target (parsed here) o home value c.args.addend) s Nowhere) none) in
     λ s home_is value_is.
-      answer ∙ (λ j. home_value_target (parsed (c.self.view_is j)) o (sym home_is j) (sym value_is j) c.args.addend)
+    answer ∙ (λ j. home_value_target (parsed (c.self.view_is j)) o (sym home_is j) (sym value_is j) c.args.addend)
 
 pub index-requires : goal.index-requires
 index-requires c =
@@ -54,16 +54,16 @@ returns-in-Code c =
     let found = section_there here c.self.inside.sections c.self.inside.symbols c.self.inside.definitions c.self.invariant c.deref.result.now c.args.row.now.object c.args.row.now.home c.from.result c.in-Some.k c.place.result c.deref.ensures.value c.from.ensures c.place.ensures c.in-Some.is in
     let row = c.index.ensures ∙ row_is here c.self.inside.sections c.self.inside.symbols c.self.inside.definitions c.self.invariant c.args.row.now.object c.args.row.now.home c.in-Some.k found c.index.result.now in
     let target : home_value_target (parsed here) o home value c.args.addend ≡ role_target (parsed here) o home value c.args.addend found.section (role_of found.section) =
-        ap (λ b. cond b (number value c.args.addend) (option_map_or (section_target (parsed here) o home value c.args.addend) (section_at (parsed here).objects o home) Nowhere)) (ne_eqb home 0xFFF1 c.if-row.false)
-        ∙ ap (λ s. option_map_or (section_target (parsed here) o home value c.args.addend) s Nowhere) found.found in
+    ap (λ b. cond b (number value c.args.addend) (option_map_or (section_target (parsed here) o home value c.args.addend) (section_at (parsed here).objects o home) Nowhere)) (ne_eqb home 0xFFF1 c.if-row.false)
+    ∙ ap (λ s. option_map_or (section_target (parsed here) o home value c.args.addend) s Nowhere) found.found in
     let role : role_of found.section ≡ Code = ap (λ r. r.role) (sym row) ∙ c.in-Code.is in
     let size = ap (λ r. r.size) (sym (c.index-in-Code.ensures ∙ row_is here c.self.inside.sections c.self.inside.symbols c.self.inside.definitions c.self.invariant c.args.row.now.object c.args.row.now.home c.in-Some.k found c.index-in-Code.result.now)) in
     let addend_is = to_z-of_z w32 c.args.addend c.ranges.addend in
     let answer : c.code_target.result ≡ home_value_target (parsed here) o home value c.args.addend =
-        c.code_target.ensures found.section size ∙ ap (λ a. code_target o home found.section (pos value +ℤ a)) addend_is
-        ∙ sym (target ∙ ap (role_target (parsed here) o home value c.args.addend found.section) role) in
+    c.code_target.ensures found.section size ∙ ap (λ a. code_target o home found.section (pos value +ℤ a)) addend_is
+    ∙ sym (target ∙ ap (role_target (parsed here) o home value c.args.addend found.section) role) in
     λ s home_is value_is.
-      answer ∙ (λ j. home_value_target (parsed (c.self.view_is j)) o (sym home_is j) (sym value_is j) c.args.addend)
+    answer ∙ (λ j. home_value_target (parsed (c.self.view_is j)) o (sym home_is j) (sym value_is j) c.args.addend)
 
 pub returns-in-InClass : goal.returns-in-InClass
 returns-in-InClass c =
@@ -75,17 +75,17 @@ returns-in-InClass c =
     let found = section_there here c.self.inside.sections c.self.inside.symbols c.self.inside.definitions c.self.invariant c.deref.result.now c.args.row.now.object c.args.row.now.home c.from.result c.in-Some.k c.place.result c.deref.ensures.value c.from.ensures c.place.ensures c.in-Some.is in
     let row = c.index.ensures ∙ row_is here c.self.inside.sections c.self.inside.symbols c.self.inside.definitions c.self.invariant c.args.row.now.object c.args.row.now.home c.in-Some.k found c.index.result.now in
     let target : home_value_target (parsed here) o home value c.args.addend ≡ role_target (parsed here) o home value c.args.addend found.section (role_of found.section) =
-        ap (λ b. cond b (number value c.args.addend) (option_map_or (section_target (parsed here) o home value c.args.addend) (section_at (parsed here).objects o home) Nowhere)) (ne_eqb home 0xFFF1 c.if-row.false)
-        ∙ ap (λ s. option_map_or (section_target (parsed here) o home value c.args.addend) s Nowhere) found.found in
+    ap (λ b. cond b (number value c.args.addend) (option_map_or (section_target (parsed here) o home value c.args.addend) (section_at (parsed here).objects o home) Nowhere)) (ne_eqb home 0xFFF1 c.if-row.false)
+    ∙ ap (λ s. option_map_or (section_target (parsed here) o home value c.args.addend) s Nowhere) found.found in
     let role : role_of found.section ≡ InClass c.in-InClass.field-0 = ap (λ r. r.role) (sym row) ∙ c.in-InClass.is in
     let address = sym (sym (get_or_read c.self.inside.definitions.addresses.items c.in-Some.k c.index-in-InClass.result.now (address_inside here c.self.inside.sections c.self.inside.symbols c.self.inside.definitions c.self.invariant c.args.row.now.object c.args.row.now.home c.in-Some.k found) c.index-in-InClass.ensures 0)) ∙ address_is here c.self.inside.sections c.self.inside.symbols c.self.inside.definitions c.self.invariant c.args.row.now.object c.args.row.now.home c.in-Some.k found c.in-InClass.field-0 role in
     let addend_is = to_z-of_z w32 c.args.addend c.ranges.addend in
     let answer : c.number-in-InClass.result ≡ home_value_target (parsed here) o home value c.args.addend =
-        c.number-in-InClass.ensures ∙ (λ j. number ((address j + value) % 4294967296) (addend_is j))
-        ∙ number_wrapped (address_in (parsed here) o home found.section c.in-InClass.field-0 + value) c.args.addend
-        ∙ sym (target ∙ ap (role_target (parsed here) o home value c.args.addend found.section) role) in
+    c.number-in-InClass.ensures ∙ (λ j. number ((address j + value) % 4294967296) (addend_is j))
+    ∙ number_wrapped (address_in (parsed here) o home found.section c.in-InClass.field-0 + value) c.args.addend
+    ∙ sym (target ∙ ap (role_target (parsed here) o home value c.args.addend found.section) role) in
     λ s home_is value_is.
-      answer ∙ (λ j. home_value_target (parsed (c.self.view_is j)) o (sym home_is j) (sym value_is j) c.args.addend)
+    answer ∙ (λ j. home_value_target (parsed (c.self.view_is j)) o (sym home_is j) (sym value_is j) c.args.addend)
 
 pub returns-in-Dropped : goal.returns-in-Dropped
 returns-in-Dropped c =
@@ -97,11 +97,10 @@ returns-in-Dropped c =
     let found = section_there here c.self.inside.sections c.self.inside.symbols c.self.inside.definitions c.self.invariant c.deref.result.now c.args.row.now.object c.args.row.now.home c.from.result c.in-Some.k c.place.result c.deref.ensures.value c.from.ensures c.place.ensures c.in-Some.is in
     let row = c.index.ensures ∙ row_is here c.self.inside.sections c.self.inside.symbols c.self.inside.definitions c.self.invariant c.args.row.now.object c.args.row.now.home c.in-Some.k found c.index.result.now in
     let target : home_value_target (parsed here) o home value c.args.addend ≡ role_target (parsed here) o home value c.args.addend found.section (role_of found.section) =
-        ap (λ b. cond b (number value c.args.addend) (option_map_or (section_target (parsed here) o home value c.args.addend) (section_at (parsed here).objects o home) Nowhere)) (ne_eqb home 0xFFF1 c.if-row.false)
-        ∙ ap (λ s. option_map_or (section_target (parsed here) o home value c.args.addend) s Nowhere) found.found in
+    ap (λ b. cond b (number value c.args.addend) (option_map_or (section_target (parsed here) o home value c.args.addend) (section_at (parsed here).objects o home) Nowhere)) (ne_eqb home 0xFFF1 c.if-row.false)
+    ∙ ap (λ s. option_map_or (section_target (parsed here) o home value c.args.addend) s Nowhere) found.found in
     let role : role_of found.section ≡ Dropped = ap (λ r. r.role) (sym row) ∙ c.in-Dropped.is in
     let answer : Nowhere ≡ home_value_target (parsed here) o home value c.args.addend =
-        sym (target ∙ ap (role_target (parsed here) o home value c.args.addend found.section) role) in
+    sym (target ∙ ap (role_target (parsed here) o home value c.args.addend found.section) role) in
     λ s home_is value_is.
-      answer ∙ (λ j. home_value_target (parsed (c.self.view_is j)) o (sym home_is j) (sym value_is j) c.args.addend)
-
+    answer ∙ (λ j. home_value_target (parsed (c.self.view_is j)) o (sym home_is j) (sym value_is j) c.args.addend)

@@ -1,4 +1,4 @@
-use Rattle.std.proofs.Common.{◌≡◌, ap, sym, ◌∙◌, arith, false}
+use Rattle.std.proofs.Common.{ap, sym, ◌∙◌, arith, false}
 use Rattle.std.specs.Option.{option_map_or}
 use Rattle.elf32_read.specs.Parts.{is_code_section}
 use Rattle.psabi_sym.specs.Data.{is_code_at, is_code_role}

@@ -1,4 +1,4 @@
-use Rattle.std.proofs.Common.{◌≡◌, ℕ, ap, sym, to_z, of_z, w32, ◌∙◌, refl}
+use Rattle.std.proofs.Common.{ap, sym, w32, ◌∙◌}
 use Rattle.std.specs.Option.{option_map_or}
 use Rattle.std.proofs.lemmas.Int.{to_z-of_z}
 use Rattle.psabi_sym.specs.Inputs.{parsed}

@@ -1,5 +1,4 @@
-use Rattle.std.proofs.Common.{length, ap, arith}
-use Rattle.psabi_sym.specs.Inputs.{Inputs}
+use Rattle.std.proofs.Common.{arith}
 use Rattle.psabi_sym.proofs.Gathered.{few_gathered}
 use Rattle.psabi_sym.proofs.objects.Objects.object_count.Goals as goal
 
