@@ -11,7 +11,8 @@ use Rattle.elf32_read.specs.Header.{header_of, is_empty_kind, section_count}
 use Rattle.elf32_read.specs.Object.{object_fault}
 use Rattle.elf32_read.proofs.Faultless.{content_within, faultless_whole}
 use Rattle.elf32_read.proofs.Listed.{none_listed}
-use Rattle.psabi_sym.specs.Inputs.{Inputs, gather_fault}
+use Rattle.psabi_sym.specs.Faults.{gather_fault}
+use Rattle.psabi_sym.specs.Inputs.{Inputs}
 use Rattle.psabi_sym.specs.LinkFault.{IsRefusal}
 use Rattle.psabi_sym.specs.declared.link_fault.LinkFault.{LinkFault}
 use Rattle.psabi_sym.specs.declared.link_fault.LinkFault.TheVariants.{Object, OutOfMemory}

@@ -3,7 +3,8 @@ use Rattle.std.specs.Prelude.{ℕ, if◌then◌else◌, List, [], ◌∷◌, Opt
 use Rattle.std.specs.Option.{option_or}
 use Rattle.elf32_read.specs.declared.fault.Fault.{Fault}
 use Rattle.elf32_read.specs.declared.fault.Fault.TheVariants.{NotBuilt}
-use Rattle.psabi_sym.specs.Inputs.{Inputs, gather_fault}
+use Rattle.psabi_sym.specs.Faults.{gather_fault}
+use Rattle.psabi_sym.specs.Inputs.{Inputs}
 use Rattle.block_cut.specs.Straight.{is_unbuilt}
 
 -- what isn't built: links of other than one object, and of an object that isn't straight code alone

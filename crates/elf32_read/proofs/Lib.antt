@@ -9,6 +9,7 @@ pub mod Filtered
 pub mod Held
 pub mod Listed
 pub mod Marks
+pub mod RelaTable
 pub mod Named
 pub mod PartsLaws
 pub mod Strings

@@ -27,7 +27,7 @@ module _ (bytes : List ℕ) where
     pub kept : is_kept bytes (header_of bytes k) ≡ true
     pub changes : changes k h ≡ true
 
-  rela_is_for : (h : Header) → is_kept_rela bytes h ≡ true → IsFor h h.info
+  pub rela_is_for : (h : Header) → is_kept_rela bytes h ≡ true → IsFor h h.info
   rela_is_for h rela =
       let both = and_parts (eqb h.kind 4 && ltb h.info (section_count bytes)) (is_kept bytes (header_of bytes h.info)) rela in
       let parts = and_parts (eqb h.kind 4) (ltb h.info (section_count bytes)) both.0 in

@@ -8,6 +8,7 @@ pub mod Names
 pub mod Object
 pub mod Parts
 pub mod Places
+pub mod Relas
 pub mod Relocs
 pub mod Rows
 pub mod Segment

@@ -16,6 +16,7 @@ mod loads;
 mod names;
 pub mod object;
 mod places;
+mod rela_table;
 mod relas;
 pub mod reloc;
 pub mod section;

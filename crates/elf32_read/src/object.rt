@@ -1,10 +1,11 @@
 // Objects.
 
-ghost use Rattle.std.specs.Prelude.{◌≡◌, ◌≤◌, ◌<◌, List, ℕ, [], length, slice_get, None, Some, MatchOption, MatchResult};
+ghost use Rattle.std.specs.Prelude.{◌≡◌, ◌≤◌, ◌<◌, List, ℕ, [], length, replicate, slice_get, slice_index_or, None, Some, MatchOption, MatchResult};
 ghost use Rattle.elf32_read.specs.Header.{file_flags, header_of, section_count};
 ghost use Rattle.elf32_read.specs.Lent.{IsSection, IsSymbol};
 ghost use Rattle.elf32_read.specs.Object.{has_other_flags, not_elf, object_fault, IsRead};
 ghost use Rattle.elf32_read.specs.Parts.{relocs_held, relocs_of, section_parts, symbol_parts};
+ghost use Rattle.elf32_read.specs.Relas.{IsRelaOf};
 ghost use Rattle.elf32_read.specs.Symbols.{symbol_count, symbol_entry_of, IsSymbolSection};
 
 use crate::alignments::{has_bad_alignment, has_cut_code};
@@ -13,6 +14,7 @@ use crate::fault::Fault;
 use crate::header::{begins_as, file_flags, has_other_section_headers, section_count};
 use crate::kinds::has_unlinked_sections;
 use crate::names::name_at;
+use crate::rela_table::fill_relas;
 use crate::relas::{MOST_SECTIONS, RELA_SIZE, rela_for, reloc};
 use crate::reloc::Reloc;
 use crate::section::Section;
@@ -208,6 +210,15 @@ impl<'a> Object<'a> {
             × (relocs_of self.now section ≡ relocs_held self.now (header_of self.now rela))) }
     {
         rela_for(&self.sections, section)
+    }
+
+    /// Fills a table with the section that holds the relocations of each section, by the section's
+    /// index. It looks at each header twice.
+    pub fn relas(&self, table: &mut [Option<u32>])
+        requires { table.old ≡ replicate (section_count self.now) None }
+        ensures { (s : ℕ) → s < section_count self.now → IsRelaOf self.now s (slice_index_or table.new s None) }
+    {
+        fill_relas(&self.sections, table);
     }
 
     /// How many relocations a section holds, by its own index.

@@ -1,12 +1,14 @@
 -- What holds of inputs without a fault of reading: there are few objects, and each of them is read.
-use Rattle.std.proofs.Common.{◌≡◌, ℕ, zero, suc, ◌≤◌, List, [], ◌∷◌, length, Option, Some, None, Bool, true, false, cond, refl, ltb}
+use Rattle.std.proofs.Common.{◌≡◌, ℕ, zero, suc, ◌≤◌, List, [], ◌∷◌, length, Option, Some, None, Bool, true, false, cond, refl, ltb, ap, ◌<◌}
 use Rattle.std.specs.Prelude.{slice_get}
 use Rattle.std.specs.Option.{option_map, option_or}
-use Rattle.std.proofs.lemmas.Bool.{ltb-false}
+use Rattle.std.proofs.lemmas.Bool.{le-ltb, lt-ltb, ltb-false}
 use Rattle.elf32_read.specs.declared.fault.Fault.{Fault}
 use Rattle.elf32_read.specs.declared.fault.Fault.TheVariants.{TooLarge}
 use Rattle.elf32_read.specs.Object.{object_fault}
-use Rattle.psabi_sym.specs.Inputs.{Inputs, fault_from, gather_fault, most_objects}
+use Rattle.psabi_sym.specs.Inputs.{Inputs, parsed}
+use Rattle.psabi_sym.specs.Faults.{count_fault, duplicate_fault, fault_from, first_some, gather_fault, most_objects, sum_fault, undefined_fault}
+use Rattle.psabi_sym.proofs.FaultLaws.{neither}
 
 -- if neither this object nor a later one has a fault, this one has none, and no later one has
 none_of_both : (i : ℕ) (fault : Option Fault) (rest : Option (ℕ × Fault)) → option_or (option_map (λ f. (i, f)) fault) rest ≡ None → (fault ≡ None) × (rest ≡ None)
@@ -14,7 +16,7 @@ none_of_both i None rest h = (refl, h)
 none_of_both i (Some fault) rest h = absurd cc
 
 -- each object is read without a fault
-readable_from : (i : ℕ) (files : List (List ℕ)) (k : ℕ) (file : List ℕ) → fault_from i files ≡ None → slice_get files k ≡ Some file → object_fault file ≡ None
+pub readable_from : (i : ℕ) (files : List (List ℕ)) (k : ℕ) (file : List ℕ) → fault_from i files ≡ None → slice_get files k ≡ Some file → object_fault file ≡ None
 readable_from i [] k file none is = absurd cc
 readable_from i (first ∷ files) zero file none is =
     let same : first ≡ file = cc in
@@ -22,17 +24,54 @@ readable_from i (first ∷ files) zero file none is =
 readable_from i (first ∷ files) (suc k) file none is =
     readable_from (suc i) files k file (none_of_both i (object_fault first) (fault_from (suc i) files) none).1 is
 
--- few, and none that can't be read
-both : (inputs : Inputs) → gather_fault inputs ≡ None → (length inputs.files ≤ 256) × (fault_from 0 inputs.files ≡ None)
-unfolding gather_fault
-both inputs = tested (ltb most_objects (length inputs.files)) refl
+-- inputs without a fault have none of each kind
+pub record IsFaultless (inputs : Inputs) : Type 0 where
+  pub few : length inputs.files ≤ 256
+  pub readable : fault_from 0 inputs.files ≡ None
+  pub sums : sum_fault inputs.files ≡ None
+  pub names : first_some (duplicate_fault (parsed inputs).objects ∷ undefined_fault (parsed inputs) ∷ []) ≡ None
+
+-- few files have no fault of their number
+few_files : (files : List (List ℕ)) → count_fault files ≡ None → length files ≤ 256
+few_files files = by (ltb most_objects (length files)) refl
   where
-    tested : (b : Bool) → ltb most_objects (length inputs.files) ≡ b → cond b (Some (most_objects, TooLarge)) (fault_from 0 inputs.files) ≡ None → (length inputs.files ≤ 256) × (fault_from 0 inputs.files ≡ None)
-    tested true many none = absurd cc
-    tested false few none = (ltb-false most_objects (length inputs.files) few, none)
+    by : (b : Bool) → ltb most_objects (length files) ≡ b → cond {A = Option (ℕ × Fault)} b (Some (most_objects, TooLarge)) None ≡ None → length files ≤ 256
+    by true many h = absurd cc
+    by false few h = ltb-false most_objects (length files) few
+
+pub all_none : (inputs : Inputs) → gather_fault inputs ≡ None → IsFaultless inputs
+unfolding gather_fault
+all_none inputs none =
+    let names = first_some (duplicate_fault (parsed inputs).objects ∷ undefined_fault (parsed inputs) ∷ []) in
+    let count = neither (count_fault inputs.files) (option_or (fault_from 0 inputs.files) (option_or (sum_fault inputs.files) names)) none in
+    let read = neither (fault_from 0 inputs.files) (option_or (sum_fault inputs.files) names) count.1 in
+    let sums = neither (sum_fault inputs.files) names read.1 in
+    record { few = few_files inputs.files count.0; readable = read.0; sums = sums.0; names = sums.1 }
 
 pub few_gathered : (inputs : Inputs) → gather_fault inputs ≡ None → length inputs.files ≤ 256
-few_gathered inputs none = (both inputs none).0
+few_gathered inputs none = (all_none inputs none).few
 
 pub readable : (inputs : Inputs) (i : ℕ) (file : List ℕ) → gather_fault inputs ≡ None → slice_get inputs.files i ≡ Some file → object_fault file ≡ None
-readable inputs i file none is = readable_from 0 inputs.files i file (both inputs none).1 is
+readable inputs i file none is = readable_from 0 inputs.files i file (all_none inputs none).readable is
+
+-- too many come first
+pub too_many : (inputs : Inputs) → most_objects < length inputs.files → gather_fault inputs ≡ Some (most_objects, TooLarge)
+unfolding gather_fault
+too_many inputs many =
+    let rest = option_or (fault_from 0 inputs.files) (option_or (sum_fault inputs.files) (first_some (duplicate_fault (parsed inputs).objects ∷ undefined_fault (parsed inputs) ∷ []))) in
+    ap (λ b. option_or (cond b (Some (most_objects, TooLarge)) None) rest) (lt-ltb most_objects (length inputs.files) many)
+
+-- then what can't be read
+pub unreadable : (inputs : Inputs) (index : ℕ) (fault : Fault) → length inputs.files ≤ 256 → fault_from 0 inputs.files ≡ Some (index, fault) → gather_fault inputs ≡ Some (index, fault)
+unfolding gather_fault
+unreadable inputs index fault few is =
+    let rest = option_or (sum_fault inputs.files) (first_some (duplicate_fault (parsed inputs).objects ∷ undefined_fault (parsed inputs) ∷ [])) in
+    (λ j. option_or (cond (le-ltb most_objects (length inputs.files) few j) (Some (most_objects, TooLarge)) None) (option_or (is j) rest))
+
+-- and names last
+pub only_names : (inputs : Inputs) → length inputs.files ≤ 256 → fault_from 0 inputs.files ≡ None → sum_fault inputs.files ≡ None
+    → gather_fault inputs ≡ first_some (duplicate_fault (parsed inputs).objects ∷ undefined_fault (parsed inputs) ∷ [])
+unfolding gather_fault
+only_names inputs few readable sums =
+    (λ j. option_or (cond (le-ltb most_objects (length inputs.files) few j) (Some (most_objects, TooLarge)) None)
+    (option_or (readable j) (option_or (sums j) (first_some (duplicate_fault (parsed inputs).objects ∷ undefined_fault (parsed inputs) ∷ [])))))

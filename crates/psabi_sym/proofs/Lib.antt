@@ -1,1 +1,17 @@
+pub mod AccessLaws
+pub mod BlockLaws
+pub mod BridgeLaws
+pub mod CommonLaws
+pub mod DefinedLaws
+pub mod FaultLaws
+pub mod FlatLaws
+pub mod FoundLaws
 pub mod Gathered
+pub mod NumberLaws
+pub mod NumberedLaws
+pub mod PartLaws
+pub mod PlaceLaws
+pub mod RowLaws
+pub mod SumLaws
+pub mod Tables
+pub mod UsedLaws

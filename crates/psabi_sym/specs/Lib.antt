@@ -1,3 +1,17 @@
+pub mod Blocks
+pub mod Classes
+pub mod Data
+pub mod Faults
+pub mod Gathered
 pub mod Inputs
 pub mod LinkFault
+pub mod Loaded
+pub mod Listed
+pub mod Meanings
+pub mod Names
 pub mod Objects
+pub mod Numbered
+pub mod Places
+pub mod Resolve
+pub mod Rows
+pub mod Tables

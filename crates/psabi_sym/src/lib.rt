@@ -2,6 +2,25 @@
 //! an addend resolves to.
 #![tactic(auto)]
 
+pub mod block;
+mod commons;
+pub mod data_class;
+mod definitions;
+mod layout;
 pub mod link_fault;
+mod loaded;
+mod lookups;
+pub mod meaning;
+mod name_tables;
+mod named;
+mod names;
 pub mod objects;
+mod read_sections;
+mod read_symbols;
+pub mod section_row;
+mod sections;
+pub mod sums;
+pub mod symbol_row;
+mod symbols;
 pub mod target;
+mod used;

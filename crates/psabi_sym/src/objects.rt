@@ -1,11 +1,31 @@
 // The objects of a link.
 
-ghost use Rattle.std.specs.Prelude.{◌≡◌, ◌≤◌, ◌<◌, List, ℕ, length, None, Some, IfOk, IfErr, slice_get};
-ghost use Rattle.psabi_sym.specs.Inputs.{fault_from, gather_fault};
+ghost use Rattle.std.specs.Prelude.{◌≡◌, ◌≤◌, ◌<◌, List, ℕ, length, map, None, Some, IfOk, IfErr, IsSome, Option, [], slice_get, slice_index_or};
+ghost use Rattle.zc_base.specs.MemMap.{IsMap};
+ghost use Rattle.psabi_sym.specs.Data.{data_address, data_end, data_file_end, is_code_at};
+ghost use Rattle.psabi_sym.specs.Resolve.{Definition, definition_target, home_target, resolved, undefined_target};
+ghost use Rattle.psabi_sym.specs.Meanings.{meaning_row};
+ghost use Rattle.std.specs.Option.{option_map_or};
+ghost use Rattle.elf32_read.specs.Header.{section_count};
+ghost use Rattle.elf32_read.specs.Parts.{SymbolParts};
+ghost use Rattle.elf32_read.specs.Relas.{IsRelaOf};
+ghost use Rattle.psabi_sym.specs.Faults.{fault_from, gather_fault};
+ghost use Rattle.psabi_sym.specs.Inputs.{Inputs, parsed};
 ghost use Rattle.psabi_sym.specs.LinkFault.{IsRefusal};
 ghost use Rattle.psabi_sym.specs.Objects.{contents_of};
 
+use crate::definitions::Definitions;
 use crate::link_fault::LinkFault;
+use crate::loaded::Loaded;
+use crate::lookups::{code_target, number, place, undefined};
+use crate::meaning::Meaning;
+use crate::named::name_objects;
+use crate::section_row::SectionRole;
+use crate::sections::Sections;
+use crate::sums::first_too_large;
+use crate::symbol_row::SymbolRow;
+use crate::symbols::Symbols;
+use crate::target::Target;
 use elf32_read::fault::Fault;
 use elf32_read::object::Object;
 use std::alloc::{AllocError, Global};
@@ -14,30 +34,37 @@ use zc_base::mem_map::MemMap;
 
 const MOST_OBJECTS: usize = 256;
 
-/// The objects of a link, in their order, and the memory map. Each object was read without a fault.
+const LOCAL: u8 = 0;
+
+const ABS: u16 = 0xFFF1;
+
+/// The objects of a link, in their order, and the memory map. They have no fault of their own, and
+/// none between them.
 #[derive(Debug, Drop)]
 pub struct Objects {
-    files: Vec<Vec<u8>>,
+    objects: Vec<Loaded>,
     map: MemMap,
+    sections: Sections,
+    symbols: Symbols,
+    definitions: Definitions,
 }
 
 impl Model for Objects {
-    ghost use Rattle.std.specs.Prelude.{◌≡◌, None};
-    ghost use Rattle.psabi_sym.specs.Inputs.{Inputs, gather_fault};
-    ghost use Rattle.psabi_sym.specs.Objects.{contents_of};
+    ghost use Rattle.psabi_sym.specs.Gathered.{IsGathered};
+    ghost use Rattle.psabi_sym.specs.Inputs.{Inputs};
 
     ghost Value = { Inputs };
 
-    ghost view = { λ objects. record { files = contents_of objects.files.items; map = objects.map } };
+    ghost view = { λ objects. record { files = objects.objects.items; map = objects.map } };
 
     ghost invariant = { λ objects.
-        gather_fault (record { files = contents_of objects.files.items; map = objects.map }) ≡ None };
+        IsGathered (record { files = objects.objects.items; map = objects.map }) objects.sections objects.symbols objects.definitions };
 }
 
 impl Objects {
     /// The objects with these bytes, which are copied, and a memory map, or why they aren't linked.
-    #[tactic(auto, unfolding(crate::specs::Inputs::gather_fault))]
     pub fn gather(alloc: Global, bytes: &[Vec<u8>], map: MemMap) -> Result<Objects, LinkFault>
+        requires { IsMap map }
         ensures ok { IfOk result (λ objects.
             (objects ≡ record { files = contents_of bytes.now; map = map }) × (gather_fault objects ≡ None)) }
         ensures err { IfErr result (λ fault.
@@ -52,8 +79,35 @@ impl Objects {
         if let Some((index, fault)) = first_unreadable(bytes) {
             return Err(LinkFault::Object { index, fault });
         }
-        let files = copies_of(alloc, bytes)?;
-        Ok(Objects { files, map })
+        Objects::index(alloc, load(alloc, bytes)?, map)
+    }
+
+    // Objects that can be read, with their tables, or the first fault between them.
+    #[tactic(auto, unfolding(crate::specs::Faults::gather_fault, crate::specs::Faults::sum_fault))]
+    fn index(alloc: Global, objects: Vec<Loaded>, map: MemMap) -> Result<Objects, LinkFault>
+        requires few { length objects.items ≤ 256 }
+        requires readable { fault_from 0 objects.items ≡ None }
+        requires is_map { IsMap map }
+        ensures ok { IfOk result (λ gathered. gathered ≡ record { files = objects.items; map = map }) }
+        ensures err { IfErr result (IsRefusal (gather_fault (record { files = objects.items; map = map }))) }
+    {
+        if let Some(index) = first_too_large(&objects) {
+            return Err(LinkFault::Object {
+                index,
+                fault: Fault::TooLarge,
+            });
+        }
+        let sections = Sections::new(alloc, &objects)?;
+        match name_objects(alloc, &objects, &map, &sections.rows) {
+            Err(fault) => Err(fault),
+            Ok(named) => Ok(Objects {
+                objects,
+                map,
+                sections,
+                symbols: named.symbols,
+                definitions: named.definitions,
+            }),
+        }
     }
 
     /// How many objects there are.
@@ -62,7 +116,7 @@ impl Objects {
         ensures most { result ≤ 256 }
         ensures faultless { gather_fault self.now ≡ None }
     {
-        self.files.len() as u32
+        self.objects.len() as u32
     }
 
     /// An object, by its index.
@@ -70,7 +124,7 @@ impl Objects {
         requires { i < length self.now.files }
         ensures { slice_get self.now.files i ≡ Some result }
     {
-        Object::known(&self.files[i as usize])
+        self.objects[i as usize].object()
     }
 
     /// The memory map.
@@ -78,6 +132,107 @@ impl Objects {
         ensures { result ≡ self.now.map }
     {
         self.map
+    }
+
+    /// Where the data ends whose bytes a file holds.
+    pub fn data_file_end(&self) -> u32
+        ensures { result ≡ data_file_end (parsed self.now) }
+    {
+        self.definitions.file_end
+    }
+
+    /// Where all data ends in memory.
+    pub fn data_end(&self) -> u32
+        ensures { result ≡ data_end (parsed self.now) }
+    {
+        self.definitions.end
+    }
+}
+
+impl Objects {
+    /// Whether a section is code, by its object's index and its own.
+    pub fn is_code(&self, object: u16, section: u16) -> bool
+        ensures { result ≡ is_code_at (parsed self.now).objects object section }
+    {
+        match place(&self.sections.starts, object, u32::from(section)) {
+            None => false,
+            Some(k) => self.sections.rows[k].is_code(),
+        }
+    }
+
+    /// The address of a section of data, by its object's index and its own.
+    #[tactic(auto, unfolding(crate::specs::Data::data_address))]
+    pub fn data_address(&self, object: u16, section: u16) -> u32
+        requires { IsSome (data_address (parsed self.now) object section) }
+        ensures { data_address (parsed self.now) object section ≡ Some result }
+    {
+        match place(&self.sections.starts, object, u32::from(section)) {
+            None => 0,
+            Some(k) => self.definitions.addresses[k],
+        }
+    }
+
+    /// The section with the relocations of a section, by its object's index and its own; none if it
+    /// has none.
+    pub fn rela_of(&self, object: u16, section: u16) -> Option<u32>
+        requires object { object < length self.now.files }
+        requires section { section < section_count (slice_index_or self.now.files object []) }
+        ensures { IsRelaOf (slice_index_or self.now.files object []) section result }
+    {
+        self.objects[object as usize].rela_of(u32::from(section))
+    }
+
+    // Where a symbol with a home leads.
+    fn home_target(&self, row: &SymbolRow, addend: i32) -> Target
+        ensures { (s : SymbolParts) → s.home ≡ row.now.home → s.value ≡ row.now.value
+            → result ≡ home_target (parsed self.now) row.now.object s addend }
+    {
+        if row.home == ABS {
+            return number(row.value, addend);
+        }
+        let Some(k) = place(&self.sections.starts, row.object, u32::from(row.home)) else {
+            return Target::Nowhere;
+        };
+        match self.sections.rows[k].role {
+            SectionRole::Code => code_target(row, self.sections.rows[k].size, addend),
+            SectionRole::InClass(_) => {
+                number(
+                    self.definitions.addresses[k].wrapping_add(row.value),
+                    addend,
+                )
+            }
+            SectionRole::Dropped => Target::Nowhere,
+        }
+    }
+
+    // Where a name leads, by what it stands for and the binding of the symbol that has it.
+    fn meaning_target(&self, meaning: Meaning, bind: u8, addend: i32) -> Target
+        ensures { (names : List (List ℕ)) (o : Option Definition) (s : SymbolParts) → meaning ≡ meaning_row names o → s.bind ≡ bind
+            → result ≡ option_map_or (definition_target (parsed self.now) addend) o (undefined_target s addend) }
+    {
+        match meaning {
+            Meaning::Symbol(row) => self.home_target(&row, addend),
+            Meaning::Number(n) => number(n, addend),
+            Meaning::Nothing => undefined(bind, addend),
+        }
+    }
+
+    /// What a symbol with an addend resolves to, by its object's index and its own.
+    pub fn resolve(&self, object: u16, symbol: u32, addend: i32) -> Target
+        ensures { result ≡ resolved (parsed self.now) object symbol addend }
+    {
+        if symbol == 0 {
+            return number(0, addend);
+        }
+        let Some(k) = place(&self.symbols.starts, object, symbol - 1) else {
+            return Target::Nowhere;
+        };
+        let row = self.symbols.rows[k];
+        if !row.is_common() && row.bind == LOCAL {
+            return self.home_target(&row, addend);
+        }
+        let meaning = self.definitions.meanings[row.name as usize];
+        self.meaning_target(meaning, row.bind, addend)
     }
 }
 
@@ -94,15 +249,16 @@ fn first_unreadable(files: &[Vec<u8>]) -> Option<(u32, Fault)>
     None
 }
 
-// A copy of each file.
-fn copies_of(alloc: Global, files: &[Vec<u8>]) -> Result<Vec<Vec<u8>>, AllocError>
-    ensures { IfOk result (λ copies. contents_of copies.items ≡ contents_of files.now) }
+// A copy of each object.
+fn load(alloc: Global, files: &[Vec<u8>]) -> Result<Vec<Loaded>, AllocError>
+    requires { fault_from 0 (contents_of files.now) ≡ None }
+    ensures { IfOk result (λ objects. objects.items ≡ contents_of files.now) }
 {
-    let mut copies = Vec::with_capacity(alloc, files.len())?;
+    let mut objects = Vec::with_capacity(alloc, files.len())?;
     for file in files {
-        copies.push(Vec::from_slice(alloc, file)?)?;
+        objects.push(Loaded::new(alloc, file)?)?;
     }
-    Ok(copies)
+    Ok(objects)
 }
 
 #[cfg(test)]

@@ -1,5 +1,5 @@
 use Rattle.std.proofs.Common.{◌≡◌, drop}
-use Rattle.psabi_sym.specs.Inputs.{fault_from}
+use Rattle.psabi_sym.specs.Faults.{fault_from}
 use Rattle.psabi_sym.specs.Objects.{contents_of}
 use Rattle.psabi_sym.proofs.objects.first_unreadable.Given as goal
 

@@ -1,0 +1,152 @@
+-- What look-ups find in the tables of gathered objects.
+use Rattle.std.proofs.Common.{◌≡◌, ℕ, suc, ◌+◌, ◌<◌, List, length, get_or, map, refl, sym, ap, ◌∙◌, arith, Option, Some, None, subst, IsSome, cond, eqb, ℤ, ◌%◌, ◌/◌, ◌*◌, ◌^◌}
+use Rattle.std.proofs.Math.Nat.{add-mul-mod_self_left, mod-add-div}
+use Rattle.std.proofs.lemmas.Bool.{false≢true}
+use Rattle.std.proofs.lemmas.List.{get_or-map, length-map}
+use Rattle.elf32_read.specs.Parts.{ObjectParts}
+use Rattle.psabi_sym.specs.declared.data_class.DataClass.{DataClass}
+use Rattle.psabi_sym.specs.declared.definitions.Definitions.{Definitions}
+use Rattle.psabi_sym.specs.declared.meaning.Meaning.TheVariants.{Symbol, Number, Nothing}
+use Rattle.psabi_sym.specs.declared.section_row.SectionRole.{SectionRole}
+use Rattle.psabi_sym.specs.declared.section_row.SectionRole.TheVariants.{Code, InClass, Dropped}
+use Rattle.psabi_sym.specs.declared.section_row.SectionRow.{SectionRow}
+use Rattle.psabi_sym.specs.declared.sections.Sections.{Sections}
+use Rattle.psabi_sym.specs.declared.symbol_row.SymbolRow.{SymbolRow}
+use Rattle.psabi_sym.specs.declared.symbols.Symbols.{Symbols}
+use Rattle.psabi_sym.specs.Data.{address_in, role_address, role_of}
+use Rattle.psabi_sym.specs.Gathered.{IsGathered}
+use Rattle.std.specs.Option.{option_map_or}
+use Rattle.psabi_sym.specs.Inputs.{Inputs, ParsedInputs, parsed}
+use Rattle.psabi_sym.specs.Listed.{ListedSymbol, all_sections, all_symbols, section_at, symbol_at}
+use Rattle.psabi_sym.specs.Meanings.{meaning_row}
+use Rattle.psabi_sym.specs.Places.{place_in}
+use Rattle.psabi_sym.specs.Resolve.{Definition, name_definition, number, resolved, section_target, symbol_target, word_of}
+use Rattle.psabi_sym.specs.Resolve.Definition.{InObject, AtNumber}
+use Rattle.psabi_sym.specs.declared.target.Target.{Target}
+use Rattle.psabi_sym.specs.declared.target.Target.TheVariants.{Nowhere, Number as TargetNumber}
+use Rattle.psabi_sym.specs.Rows.{ArePlaced, number_of, part_row, section_row, symbol_row}
+use Rattle.psabi_sym.proofs.FoundLaws.{IsFoundSection, IsFoundSymbol, section_found, section_none, symbol_found, symbol_none}
+use Rattle.psabi_sym.proofs.PlaceLaws.{address_there, place_within, row_there, symbol_there}
+
+pub some_none : IsSome {T = ℕ} None → ⊥
+some_none h = false≢true h
+
+module _ (inputs : Inputs) (sections : Sections) (symbols : Symbols) (definitions : Definitions) (gathered : IsGathered inputs sections symbols definitions) where
+  objects : List ObjectParts
+  objects = (parsed inputs).objects
+
+  -- ---- sections
+
+  pub no_section_there : (starts : List ℕ) (o i n : ℕ) (r : Option ℕ) → starts ≡ sections.starts.items → n ≡ i → r ≡ place_in starts o n → r ≡ None → section_at (parsed inputs).objects o i ≡ None
+  no_section_there starts o i n r is same place none =
+      section_none (parsed inputs).objects starts o i (is ∙ gathered.indexed.sections_begin) (ap (place_in starts o) (sym same) ∙ sym place ∙ none)
+
+  pub section_there : (starts : List ℕ) (o i n k : ℕ) (r : Option ℕ) → starts ≡ sections.starts.items → n ≡ i → r ≡ place_in starts o n → r ≡ Some k → IsFoundSection (parsed inputs).objects o i k
+  section_there starts o i n k r is same place some =
+      section_found (parsed inputs).objects starts o i k (is ∙ gathered.indexed.sections_begin) (ap (place_in starts o) (sym same) ∙ sym place ∙ some)
+
+  module _ (o i k : ℕ) (found : IsFoundSection (parsed inputs).objects o i k) where
+    pub row_inside : k < length sections.rows.items
+    row_inside =
+        omega (arith, found.place, place_within (parsed inputs) o i found.object found.section found.at found.is, ap length gathered.indexed.sections_are)
+
+    pub row_is : (d : SectionRow) → get_or sections.rows.items k d ≡ part_row found.section
+    row_is d =
+        ap (λ l. get_or l k d) gathered.indexed.sections_are ∙ ap (λ n. get_or (map section_row (all_sections (parsed inputs).objects)) n d) found.place
+        ∙ row_there (parsed inputs) o i found.object found.section found.at found.is d
+
+    pub address_inside : k < length definitions.addresses.items
+    address_inside = omega (arith, row_inside, gathered.defined.count)
+
+    pub address_is : (class : DataClass) → role_of found.section ≡ InClass class → get_or definitions.addresses.items k 0 ≡ address_in (parsed inputs) o i found.section class
+    address_is class role =
+        ap (λ n. get_or definitions.addresses.items n 0) found.place
+        ∙ address_there (parsed inputs) o i found.object found.section found.at found.is definitions.addresses.items class
+        (subst (λ rows. ArePlaced rows inputs.map.data_low definitions.addresses.items) gathered.indexed.sections_are gathered.defined.placed) role
+
+    -- the address of a section that has one
+    pub data_address_is : (role : SectionRole) → role_of found.section ≡ role → IsSome (role_address (parsed inputs) o i found.section role)
+        → role_address (parsed inputs) o i found.section role ≡ Some (get_or definitions.addresses.items k 0)
+    data_address_is Code is some = absurd (some_none some)
+    data_address_is (InClass class) is some = ap Some (sym (address_is class is))
+    data_address_is Dropped is some = absurd (some_none some)
+
+  -- ---- symbols
+
+  pub no_symbol_there : (starts : List ℕ) (o s n : ℕ) (r : Option ℕ) → starts ≡ symbols.starts.items → s ≡ n + 1 → r ≡ place_in starts o n → r ≡ None → symbol_at (parsed inputs).objects o s ≡ None
+  no_symbol_there starts o s n r is same place none =
+      ap (symbol_at (parsed inputs).objects o) same ∙ symbol_none (parsed inputs).objects starts o n (is ∙ gathered.indexed.symbols_begin) (sym place ∙ none)
+
+  pub symbol_found_there : (starts : List ℕ) (o n k : ℕ) (r : Option ℕ) → starts ≡ symbols.starts.items → r ≡ place_in starts o n → r ≡ Some k → IsFoundSymbol (parsed inputs).objects o n k
+  symbol_found_there starts o n k r is place some = symbol_found (parsed inputs).objects starts o n k (is ∙ gathered.indexed.symbols_begin) (sym place ∙ some)
+
+  module _ (o n k : ℕ) (found : IsFoundSymbol (parsed inputs).objects o n k) where
+    names : List (List ℕ)
+    names = gathered.defined.named.names
+
+    here : ListedSymbol
+    here = record { object = o; index = n + 1; symbol = found.symbol }
+
+    all_is : (d : ListedSymbol) → (k < length (all_symbols (parsed inputs).objects)) × (get_or (all_symbols (parsed inputs).objects) k d ≡ record { object = o; index = n + 1; symbol = found.symbol })
+    all_is d =
+        let there = symbol_there (parsed inputs).objects o n found.object found.symbol d found.at found.is in
+        (omega (arith, found.place, there.0), ap (λ j. get_or (all_symbols (parsed inputs).objects) j d) found.place ∙ there.1)
+
+    pub symbol_inside : k < length symbols.rows.items
+    symbol_inside =
+        omega (arith, (all_is (record { object = o; index = n + 1; symbol = found.symbol })).0, ap length gathered.defined.named.numbered.rows_are, length-map (all_symbols (parsed inputs).objects) (symbol_row gathered.defined.named.names))
+
+    pub symbol_is : (d : SymbolRow) → get_or symbols.rows.items k d ≡ symbol_row gathered.defined.named.names (record { object = o; index = n + 1; symbol = found.symbol })
+    symbol_is d =
+        let l : ListedSymbol = record { object = o; index = n + 1; symbol = found.symbol } in
+        ap (λ rows. get_or rows k d) gathered.defined.named.numbered.rows_are
+        ∙ get_or-map (symbol_row gathered.defined.named.names) (all_symbols (parsed inputs).objects) k l d (all_is l).0
+        ∙ ap (symbol_row gathered.defined.named.names) (all_is l).1
+
+    -- its name has a number, and a meaning
+    pub number_inside : number_of gathered.defined.named.names found.symbol.name < length definitions.meanings.items
+    number_inside =
+        let l : ListedSymbol = record { object = o; index = n + 1; symbol = found.symbol } in
+        omega (arith, gathered.defined.named.numbered.numbered k l (all_is l).0, gathered.defined.named.count, ap (λ m. number_of gathered.defined.named.names m.symbol.name) (all_is l).1)
+
+    pub meaning_is : get_or definitions.meanings.items (number_of gathered.defined.named.names found.symbol.name) Nothing ≡ meaning_row gathered.defined.named.names (name_definition (parsed inputs) found.symbol.name)
+    meaning_is =
+        let l : ListedSymbol = record { object = o; index = n + 1; symbol = found.symbol } in
+        ap (λ m. get_or definitions.meanings.items (number_of gathered.defined.named.names m.symbol.name) Nothing) (sym (all_is l).1)
+        ∙ gathered.defined.named.meant k l (all_is l).0
+        ∙ ap (λ m. meaning_row gathered.defined.named.names (name_definition (parsed inputs) m.symbol.name)) (all_is l).1
+
+-- a symbol after symbol 0
+pub resolved_next : (inputs : ParsedInputs) (o n : ℕ) (addend : ℤ) → resolved inputs o (n + 1) addend ≡ option_map_or (λ symbol. symbol_target inputs o symbol addend) (symbol_at inputs.objects o (n + 1)) Nowhere
+unfolding resolved
+resolved_next inputs o n addend =
+    let next : n + 1 ≡ suc n = omega arith in
+    ap (λ s. resolved inputs o s addend) next ∙ ap (λ s. option_map_or (λ symbol. symbol_target inputs o symbol addend) (symbol_at inputs.objects o s) Nowhere) (sym next)
+
+-- a symbol with a home by its home and value alone
+abbrev pub home_value_target : ParsedInputs → ℕ → ℕ → ℕ → ℤ → Target
+home_value_target inputs o home value addend =
+    cond (eqb home 0xFFF1) (number value addend) (option_map_or (section_target inputs o home value addend) (section_at inputs.objects o home) Nowhere)
+
+-- what a name stands for, by its meaning
+pub symbol_meaning : (names : List (List ℕ)) (o : Option Definition) (row : SymbolRow) → Symbol row ≡ meaning_row names o → (l : ListedSymbol) × (o ≡ Some (InObject l)) × (row ≡ symbol_row names l)
+symbol_meaning names None row is = absurd cc
+symbol_meaning names (Some (InObject l)) row is = (l, refl, cc)
+symbol_meaning names (Some (AtNumber n)) row is = absurd cc
+
+pub number_meaning : (names : List (List ℕ)) (o : Option Definition) (n : ℕ) → Number n ≡ meaning_row names o → o ≡ Some (AtNumber n)
+number_meaning names None n is = absurd cc
+number_meaning names (Some (InObject l)) n is = absurd cc
+number_meaning names (Some (AtNumber m)) n is = let same : m ≡ n = cc in ap (λ k. Some (AtNumber k)) same
+
+pub nothing_meaning : (names : List (List ℕ)) (o : Option Definition) → Nothing ≡ meaning_row names o → o ≡ None
+nothing_meaning names None is = refl
+nothing_meaning names (Some (InObject l)) is = absurd cc
+nothing_meaning names (Some (AtNumber n)) is = absurd cc
+
+-- a number modulo 2^32 before an addend
+pub number_wrapped : (n : ℕ) (addend : ℤ) → number (n % 2 ^ 32) addend ≡ number n addend
+number_wrapped n addend =
+    let w = word_of addend in
+    let parts : n + w ≡ n % 4294967296 + w + 4294967296 * (n / 4294967296) = omega (arith, mod-add-div n 4294967296) in
+    ap (λ k. TargetNumber k) (sym (ap (λ k. k % 4294967296) parts ∙ add-mul-mod_self_left (n % 4294967296 + w) 4294967296 (n / 4294967296)))

@@ -1,0 +1,204 @@
+-- From rows to sections and symbols: what tables by rows have is what the definitions say.
+use Rattle.std.proofs.Common.{◌≡◌, ℕ, suc, ◌+◌, ◌<◌, Bool, true, false, cond, eqb, not, ◌&&◌, List, [], ◌∷◌, length, get_or, map, max, refl, sym, ap, ◌∙◌, arith, filter, Option, Some, None, is_none, All}
+use Rattle.std.specs.List.{find}
+use Rattle.std.specs.Option.{option_map, option_map_or}
+use Rattle.std.proofs.lemmas.List.Elements.{All-cons, All-filter, All-head, All-tail}
+use Rattle.elf32_read.specs.Parts.{ObjectParts}
+use Rattle.psabi_sym.specs.declared.data_class.DataClass.{DataClass}
+use Rattle.psabi_sym.specs.declared.symbol_row.SymbolRow.{SymbolRow}
+use Rattle.psabi_sym.specs.Blocks.{aligned_up, end_from, placed_from}
+use Rattle.psabi_sym.specs.Data.{blocks_in, common_block, commons_placed, greatest, has_class, is_of_class, listed_block, section_block}
+use Rattle.psabi_sym.specs.Faults.{is_second, same_symbol}
+use Rattle.psabi_sym.specs.Listed.{ListedSection, ListedSymbol, all_symbols}
+use Rattle.psabi_sym.specs.Names.{commons_of, first_definition, firsts, is_common, is_definition, same_name, strong_definition}
+use Rattle.psabi_sym.specs.Rows.{first_row, first_rows, number_of, placed_rows, row_address_of, row_is_second, row_block, row_blocks, row_common_block, row_defines, row_is_common, row_room, row_takes_room, section_row, symbol_row}
+use Rattle.psabi_sym.proofs.NumberLaws.{number_same, same_is}
+
+-- ---- lists
+
+pub find-map : {X Y : Type 0} (f : X → Y) (p : Y → Bool) (q : X → Bool) (xs : List X) → All (λ x. p (f x) ≡ q x) xs → find p (map f xs) ≡ option_map f (find q xs)
+find-map f p q [] same = refl
+find-map f p q (x ∷ xs) same = by (q x) (All-head (λ y. p (f y) ≡ q y) x xs same) (find-map f p q xs (All-tail (λ y. p (f y) ≡ q y) x xs same))
+  where
+    by : (b : Bool) → p (f x) ≡ b → find p (map f xs) ≡ option_map f (find q xs) → find p (map f (x ∷ xs)) ≡ option_map f (cond b (Some x) (find q xs))
+    by true is rest = ap (λ t. cond t (Some (f x)) (find p (map f xs))) is
+    by false is rest = ap (λ t. cond t (Some (f x)) (find p (map f xs))) is ∙ rest
+
+pub filter-map : {X Y : Type 0} (f : X → Y) (p : Y → Bool) (q : X → Bool) (xs : List X) → All (λ x. p (f x) ≡ q x) xs → filter p (map f xs) ≡ map f (filter q xs)
+filter-map f p q [] same = refl
+filter-map f p q (x ∷ xs) same = by (q x) (All-head (λ y. p (f y) ≡ q y) x xs same) (filter-map f p q xs (All-tail (λ y. p (f y) ≡ q y) x xs same))
+  where
+    by : (b : Bool) → p (f x) ≡ b → filter p (map f xs) ≡ map f (filter q xs) → filter p (map f (x ∷ xs)) ≡ map f (cond b (x ∷ filter q xs) (filter q xs))
+    by true is rest = (λ j. cond (is j) (f x ∷ filter p (map f xs)) (filter p (map f xs))) ∙ ap (λ t. f x ∷ t) rest
+    by false is rest = (λ j. cond (is j) (f x ∷ filter p (map f xs)) (filter p (map f xs))) ∙ rest
+
+pub map-map : {X Y Z : Type 0} (g : Y → Z) (f : X → Y) (xs : List X) → map g (map f xs) ≡ map (λ x. g (f x)) xs
+map-map g f [] = refl
+map-map g f (x ∷ xs) = ap (λ t. g (f x) ∷ t) (map-map g f xs)
+
+pub map-same : {X Y : Type 0} (f g : X → Y) (xs : List X) → All (λ x. f x ≡ g x) xs → map f xs ≡ map g xs
+map-same f g [] same = refl
+map-same f g (x ∷ xs) same = λ j. All-head (λ y. f y ≡ g y) x xs same j ∷ map-same f g xs (All-tail (λ y. f y ≡ g y) x xs same) j
+
+-- ---- sections
+
+pub row_blocks_are : (class : DataClass) (sections : List ListedSection) → row_blocks class (map section_row sections) ≡ blocks_in class sections
+row_blocks_are class [] = refl
+row_blocks_are class (s ∷ ss) = by (is_of_class class s) (row_blocks_are class ss)
+  where
+    by : (b : Bool) → row_blocks class (map section_row ss) ≡ blocks_in class ss
+        → map row_block (cond b (section_row s ∷ filter (λ r. has_class class r.role) (map section_row ss)) (filter (λ r. has_class class r.role) (map section_row ss)))
+        ≡ map section_block (cond b (s ∷ filter (is_of_class class) ss) (filter (is_of_class class) ss))
+    by true rest = ap (λ t. section_block s ∷ t) rest
+    by false rest = rest
+
+-- ---- symbols
+
+module _ (names : List (List ℕ)) (objects : List ObjectParts)
+    (numbered : All (λ l. number_of names l.symbol.name < length names) (all_symbols objects)) where
+  rows : List SymbolRow
+  rows = map (symbol_row names) (all_symbols objects)
+
+  -- a test of a name by number
+  named_and : (b : Bool) (name : List ℕ) (l : ListedSymbol) → number_of names name < length names
+      → (b && eqb (number_of names l.symbol.name) (number_of names name)) ≡ (b && same_name l.symbol.name name)
+  named_and b name l there = ap (λ t. b && t) (number_same names l.symbol.name name there)
+
+  -- the first definition of a name
+  pub first_row_is : (bind : ℕ) (name : List ℕ) → number_of names name < length names
+      → first_row bind (map (symbol_row names) (all_symbols objects)) (number_of names name) ≡ option_map (symbol_row names) (first_definition bind objects name)
+  first_row_is bind name there =
+      find-map (symbol_row names) (λ r. row_defines bind r && eqb r.name (number_of names name)) (λ l. is_definition bind l.symbol && same_name l.symbol.name name) (all_symbols objects)
+      (λ k d within. named_and (is_definition bind (get_or (all_symbols objects) k d).symbol) name (get_or (all_symbols objects) k d) there)
+
+  -- the room of a name
+  pub common_block_is : (name : List ℕ) → number_of names name < length names
+      → row_common_block (map (symbol_row names) (all_symbols objects)) (number_of names name) ≡ common_block objects name
+  common_block_is name there =
+      let same = filter-map (symbol_row names) (λ r. row_is_common r && eqb r.name (number_of names name)) (λ l. is_common l.symbol && same_name l.symbol.name name) (all_symbols objects)
+      (λ k d within. named_and (is_common (get_or (all_symbols objects) k d).symbol) name (get_or (all_symbols objects) k d) there) in
+      λ j. record {
+        align = (ap (λ rs. greatest (map (λ r. max 1 r.value) rs)) same ∙ ap greatest (map-map (λ r. max 1 r.value) (symbol_row names) (commons_of objects name))) j;
+        size = (ap (λ rs. greatest (map (λ r. r.size) rs)) same ∙ ap greatest (map-map (λ r. r.size) (symbol_row names) (commons_of objects name))) j;
+      }
+
+  is_none-map : (o : Option ListedSymbol) → is_none (option_map (symbol_row names) o) ≡ is_none o
+  is_none-map None = refl
+  is_none-map (Some l) = refl
+
+  -- the firsts of each name
+  firsts_are : (ls : List ListedSymbol) → All (λ l. number_of names l.symbol.name < length names) ls → first_rows (map (symbol_row names) ls) ≡ map (symbol_row names) (firsts ls)
+  firsts_are [] all = refl
+  firsts_are (l ∷ ls) all =
+      let here = All-head (λ m. number_of names m.symbol.name < length names) l ls all in
+      ap (λ t. symbol_row names l ∷ t)
+      (ap (filter (λ s. not (eqb s.name (number_of names l.symbol.name)))) (firsts_are ls (All-tail (λ m. number_of names m.symbol.name < length names) l ls all))
+      ∙ filter-map (symbol_row names) (λ s. not (eqb s.name (number_of names l.symbol.name))) (λ m. not (same_name m.symbol.name l.symbol.name)) (firsts ls)
+      (λ k d within. ap not (number_same names (get_or (firsts ls) k d).symbol.name l.symbol.name here)))
+
+  -- what is placed
+  pub placed_are : placed_rows (map (symbol_row names) (all_symbols objects)) (map (symbol_row names) (all_symbols objects)) ≡ map (symbol_row names) (commons_placed objects)
+  unfolding placed_rows commons_placed
+  placed_are =
+      let takes = λ (l : ListedSymbol). is_common l.symbol && is_none (strong_definition objects l.symbol.name) in
+      ap first_rows (filter-map (symbol_row names) (row_takes_room (map (symbol_row names) (all_symbols objects))) takes (all_symbols objects)
+      (λ k d within.
+      let l = get_or (all_symbols objects) k d in
+      ap (λ t. is_common l.symbol && t) (ap is_none (first_row_is 1 l.symbol.name (numbered k d within)) ∙ is_none-map (strong_definition objects l.symbol.name))))
+      ∙ firsts_are (filter takes (all_symbols objects)) (All-filter takes (λ l. number_of names l.symbol.name < length names) (all_symbols objects) numbered)
+
+  -- the room of a symbol's name
+  room_is : (l : ListedSymbol) → number_of names l.symbol.name < length names
+      → row_room (map (symbol_row names) (all_symbols objects)) (symbol_row names l) ≡ listed_block objects l
+  room_is l there = common_block_is l.symbol.name there
+
+  -- where all that is placed ends
+  ends_are : (ls : List ListedSymbol) → All (λ l. number_of names l.symbol.name < length names) ls
+      → map (row_room (map (symbol_row names) (all_symbols objects))) (map (symbol_row names) ls) ≡ map (listed_block objects) ls
+  ends_are ls all =
+      map-map (row_room (map (symbol_row names) (all_symbols objects))) (symbol_row names) ls
+      ∙ map-same (λ l. row_room (map (symbol_row names) (all_symbols objects)) (symbol_row names l)) (listed_block objects) ls
+      (λ k d within. room_is (get_or ls k d) (all k d within))
+
+  -- the address of a name among what is placed
+  address_is : (start : ℕ) (name : List ℕ) → number_of names name < length names → (ls : List ListedSymbol) → All (λ l. number_of names l.symbol.name < length names) ls
+      → row_address_of (placed_from (row_room (map (symbol_row names) (all_symbols objects))) start (map (symbol_row names) ls)) (number_of names name)
+      ≡ option_map (λ e. e.1) (find (λ e. same_name e.0.symbol.name name) (placed_from (listed_block objects) start ls))
+  address_is start name there [] all = refl
+  address_is start name there (l ∷ ls) all =
+      let room = row_room (map (symbol_row names) (all_symbols objects)) in
+      let here = All-head (λ m. number_of names m.symbol.name < length names) l ls all in
+      let b = listed_block objects l in
+      let begin = aligned_up b.align start in
+      ap (λ c. row_address_of ((symbol_row names l, aligned_up c.align start) ∷ placed_from room (aligned_up c.align start + c.size) (map (symbol_row names) ls)) (number_of names name)) (room_is l here)
+      ∙ ap (λ t. option_map {T = SymbolRow × ℕ} (λ e. e.1) (cond t (Some (symbol_row names l, begin)) (find (λ e. eqb e.0.name (number_of names name)) (placed_from room (begin + b.size) (map (symbol_row names) ls))))) (number_same names l.symbol.name name there)
+      ∙ by (same_name l.symbol.name name) begin (begin + b.size) (address_is (begin + b.size) name there ls (All-tail (λ m. number_of names m.symbol.name < length names) l ls all))
+    where
+      by : (t : Bool) (begin next : ℕ)
+          → row_address_of (placed_from (row_room (map (symbol_row names) (all_symbols objects))) next (map (symbol_row names) ls)) (number_of names name)
+          ≡ option_map (λ e. e.1) (find (λ e. same_name e.0.symbol.name name) (placed_from (listed_block objects) next ls))
+          → option_map {T = SymbolRow × ℕ} (λ e. e.1) (cond t (Some (symbol_row names l, begin)) (find (λ e. eqb e.0.name (number_of names name)) (placed_from (row_room (map (symbol_row names) (all_symbols objects))) next (map (symbol_row names) ls))))
+          ≡ option_map {T = ListedSymbol × ℕ} (λ e. e.1) (cond t (Some (l, begin)) (find (λ e. same_name e.0.symbol.name name) (placed_from (listed_block objects) next ls)))
+      by true begin next rest = refl
+      by false begin next rest = rest
+
+  -- firsts keep what each symbol has
+  All-firsts : (P : ListedSymbol → Type 0) (ls : List ListedSymbol) → All P ls → All P (firsts ls)
+  All-firsts P [] all = all
+  All-firsts P (l ∷ ls) all =
+      All-cons P l _ (All-head P l ls all) (All-filter (λ m. not (same_name m.symbol.name l.symbol.name)) P (firsts ls) (All-firsts P ls (All-tail P l ls all)))
+
+  -- what is placed has a number
+  placed_numbered : All (λ l. number_of names l.symbol.name < length names) (commons_placed objects)
+  unfolding commons_placed
+  placed_numbered =
+      All-firsts (λ l. number_of names l.symbol.name < length names) _
+      (All-filter (λ l. is_common l.symbol && is_none (strong_definition objects l.symbol.name)) (λ l. number_of names l.symbol.name < length names) (all_symbols objects) numbered)
+
+  -- a name that is common, and where all end
+  pub common_is : (start : ℕ) (name : List ℕ) → number_of names name < length names
+      → row_address_of (placed_from (row_room (map (symbol_row names) (all_symbols objects))) start (placed_rows (map (symbol_row names) (all_symbols objects)) (map (symbol_row names) (all_symbols objects)))) (number_of names name)
+      ≡ option_map (λ e. e.1) (find (λ e. same_name e.0.symbol.name name) (placed_from (listed_block objects) start (commons_placed objects)))
+  common_is start name there =
+      ap (λ rs. row_address_of (placed_from (row_room (map (symbol_row names) (all_symbols objects))) start rs) (number_of names name)) placed_are
+      ∙ address_is start name there (commons_placed objects) placed_numbered
+
+  pub commons_end : (start : ℕ)
+      → end_from start (map (row_room (map (symbol_row names) (all_symbols objects))) (placed_rows (map (symbol_row names) (all_symbols objects)) (map (symbol_row names) (all_symbols objects))))
+      ≡ end_from start (map (listed_block objects) (commons_placed objects))
+  commons_end start = ap (λ rs. end_from start (map (row_room (map (symbol_row names) (all_symbols objects))) rs)) placed_are ∙ ap (end_from start) (ends_are (commons_placed objects) placed_numbered)
+
+  -- a second strong definition
+  pub second_is : (l : ListedSymbol) → number_of names l.symbol.name < length names → row_is_second (map (symbol_row names) (all_symbols objects)) (symbol_row names l) ≡ is_second objects l
+  second_is l there =
+      ap (λ o. is_definition 1 l.symbol && option_map_or (λ first. not (eqb first.object l.object && eqb first.index l.index)) o false) (first_row_is 1 l.symbol.name there)
+      ∙ ap (λ b. is_definition 1 l.symbol && b) (by (strong_definition objects l.symbol.name))
+    where
+      by : (o : Option ListedSymbol)
+          → option_map_or (λ first. not (eqb first.object l.object && eqb first.index l.index)) (option_map (symbol_row names) o) false ≡ option_map_or (λ first. not (same_symbol first l)) o false
+      by None = refl
+      by (Some first) = refl
+
+  pub duplicate_is : option_map {U = ℕ × ℕ} (λ r. (r.object, r.index)) (find (row_is_second (map (symbol_row names) (all_symbols objects))) (map (symbol_row names) (all_symbols objects)))
+      ≡ option_map (λ l. (l.object, l.index)) (find (is_second objects) (all_symbols objects))
+  duplicate_is =
+      ap (option_map {U = ℕ × ℕ} (λ r. (r.object, r.index)))
+      (find-map (symbol_row names) (row_is_second (map (symbol_row names) (all_symbols objects))) (is_second objects) (all_symbols objects)
+      (λ k d within. second_is (get_or (all_symbols objects) k d) (numbered k d within)))
+      ∙ by (find (is_second objects) (all_symbols objects))
+    where
+      by : (o : Option ListedSymbol) → option_map {U = ℕ × ℕ} (λ r. (r.object, r.index)) (option_map (symbol_row names) o) ≡ option_map (λ l. (l.object, l.index)) o
+      by None = refl
+      by (Some l) = refl
+
+-- the name with a number is the name
+pub number_at : (names : List (List ℕ)) (name d : List ℕ) → number_of names name < length names → get_or names (number_of names name) d ≡ name
+number_at [] name d there = absurd (omega arith)
+number_at (x ∷ xs) name d there = by (same_name name x) refl (number_at xs name d)
+  where
+    by : (b : Bool) → same_name name x ≡ b → (number_of xs name < length xs → get_or xs (number_of xs name) d ≡ name) → get_or (x ∷ xs) (number_of (x ∷ xs) name) d ≡ name
+    by true is rest = ap (λ t. get_or (x ∷ xs) (cond (not t) (1 + number_of xs name) 0) d) is ∙ sym (same_is name x is)
+    by false is rest =
+        let inside : number_of xs name < length xs = omega (arith, there, ap (λ t. cond (not t) (1 + number_of xs name) 0) is) in
+        let next : 1 + number_of xs name ≡ suc (number_of xs name) = omega arith in
+        ap (λ t. get_or (x ∷ xs) (cond (not t) (1 + number_of xs name) 0) d) is ∙ ap (λ n. get_or (x ∷ xs) n d) next ∙ rest inside

@@ -1,0 +1,78 @@
+use Rattle.std.proofs.Common.{rules, ◌≡◌, ◌<◌, refl, sym, ap, ◌∙◌, [], None, arith, length, get_or, map, ◌+◌, set, Some}
+use Rattle.std.specs.List.{range_with_len}
+use Rattle.psabi_sym.specs.declared.block.Block.{Block}
+use Rattle.psabi_sym.specs.declared.symbol_row.SymbolRow.{SymbolRow}
+use Rattle.psabi_sym.specs.Blocks.{aligned_up, end_from, placed_from}
+use Rattle.psabi_sym.specs.Rows.{placed_rows, row_address_of, row_common_block, row_room}
+use Rattle.psabi_sym.proofs.CommonLaws.{end_next, next_by_tables, next_fits, stays, table_next}
+use Rattle.psabi_sym.proofs.Tables.{table_at, table_start}
+use Rattle.psabi_sym.proofs.commons.place_commons.Goals as goal
+use Rattle.psabi_sym.proofs.commons.place_commons.Goals.{then-takes_room, else-takes_room}
+
+-- what reads past the end would give
+abbrev row0 : SymbolRow
+row0 = record { object = 0; home = 0; index = 0; name = 0; value = 0; size = 0; bind = 0 }
+
+abbrev block0 : Block
+block0 = record { align = 0; size = 0 }
+
+pub loop-row-init : goal.loop-row-init
+unfolding placed_rows
+loop-row-init c = record {
+  end = c.aligned_up-at.ensures.value;
+  addresses = c.in_ok-addresses.ensures.items_if_clones_equal (λ y h. search rules)
+      ∙ table_start (row_address_of []) (length c.args.blocks.now) None (λ k. refl);
+}
+
+pub aligned_up-at-requires-then-takes_room : goal.aligned_up-at-requires-then-takes_room
+aligned_up-at-requires-then-takes_room c =
+    let rows = c.args.rows.now in
+    let i = c.loop-row.row-index in
+    let start = aligned_up 16 c.args.from in
+    let n = length c.args.blocks.now in
+    let r = get_or rows i row0 in
+    let named : r.name < n = c.requires.named i row0 (omega arith) in
+    let is = next_by_tables rows start i n row0 c.args.strong.now c.loop-row.addresses.items c.index.result.now c.takes_room.result c.takes_room.ensures c.requires.strong c.loop-row.invariant.addresses c.index.ensures named ∙ c.if-takes_room.true in
+    let block : get_or c.args.blocks.now r.name block0 ≡ row_room rows r = table_at (row_common_block rows) c.args.blocks.now n r.name block0 c.requires.blocks named in
+    let fits = next_fits rows start i row0 (omega arith) is in
+    omega (arith, fits, ap (λ b. b.align) block)
+
+pub overflow_add-at : goal.overflow_add-at
+overflow_add-at c =
+    let rows = c.args.rows.now in
+    let i = c.loop-row.row-index in
+    let start = aligned_up 16 c.args.from in
+    let n = length c.args.blocks.now in
+    let r = get_or rows i row0 in
+    let named : r.name < n = c.requires.named i row0 (omega arith) in
+    let is = next_by_tables rows start i n row0 c.args.strong.now c.loop-row.addresses.items c.index.result.now c.takes_room.result c.takes_room.ensures c.requires.strong c.loop-row.invariant.addresses c.index.ensures named ∙ c.if-takes_room.true in
+    let block : get_or c.args.blocks.now r.name block0 ≡ row_room rows r = table_at (row_common_block rows) c.args.blocks.now n r.name block0 c.requires.blocks named in
+    let fits = next_fits rows start i row0 (omega arith) is in
+    omega (arith, fits, ap (λ b. b.align) block, ap (λ b. b.size) block)
+
+pub loop-row-preserved : goal.loop-row-preserved
+loop-row-preserved c =
+    let rows = c.args.rows.now in
+    let i = c.loop-row.row-index in
+    let start = aligned_up 16 c.args.from in
+    let n = length c.args.blocks.now in
+    let r = get_or rows i row0 in
+    let within : i < length rows = omega arith in
+    let named : r.name < n = c.requires.named i row0 within in
+    let tests = next_by_tables rows start i n row0 c.args.strong.now c.loop-row.addresses.items c.index.result.now c.takes_room.result c.takes_room.ensures c.requires.strong c.loop-row.invariant.addresses c.index.ensures named in
+    let block : get_or c.args.blocks.now r.name block0 ≡ row_room rows r = table_at (row_common_block rows) c.args.blocks.now n r.name block0 c.requires.blocks named in
+    elim c.if-takes_room.branch [
+      | then-takes_room w ↦
+          let is = tests ∙ w.if-takes_room.true in
+          let value = w.aligned_up-at-then-takes_room.ensures.value ∙ (λ j. aligned_up (block j).align (c.loop-row.invariant.end j)) in
+          record {
+            end = w.at-is ∙ (λ j. value j + (block j).size) ∙ sym (end_next rows start i row0 within is);
+            addresses = ap (λ v. v.items) w.addresses-is ∙ ap (λ l. set l r.name (Some w.aligned_up-at-then-takes_room.result)) c.loop-row.invariant.addresses ∙ table_next rows start i row0 within n w.aligned_up-at-then-takes_room.result named is value;
+          }
+      | else-takes_room w ↦
+          let same = sym (stays rows start i row0 within (tests ∙ w.if-takes_room.false)) in
+          record {
+            end = w.at-is ∙ c.loop-row.invariant.end ∙ ap (λ l. end_from start (map (row_room rows) l)) same;
+            addresses = ap (λ v. v.items) w.addresses-is ∙ c.loop-row.invariant.addresses ∙ ap (λ l. map (row_address_of (placed_from (row_room rows) start l)) (range_with_len 0 n)) same;
+          }
+    ]

@@ -1,0 +1,7 @@
+use Rattle.std.proofs.Common.{◌≡◌, take, map}
+use Rattle.std.specs.List.{range_with_len}
+use Rattle.psabi_sym.specs.Rows.{first_row}
+use Rattle.psabi_sym.proofs.name_tables.first_definitions.Given as goal
+
+abbrev pub invariant-loop-row : goal.invariant-loop-row
+invariant-loop-row l = l.table.items ≡ map (first_row l.bind (take l.row-index l.rows)) (range_with_len 0 l.count)

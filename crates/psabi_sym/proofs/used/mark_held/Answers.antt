@@ -1,0 +1,18 @@
+use Rattle.std.proofs.Common.{ap, ◌∙◌, arith, slice_index_or, false}
+use Rattle.elf32_read.specs.Header.{header_of}
+use Rattle.elf32_read.specs.Parts.{relocs_held}
+use Rattle.psabi_sym.proofs.UsedLaws.{marked_more, marked_same}
+use Rattle.psabi_sym.proofs.used.mark_held.Goals as goal
+use Rattle.psabi_sym.proofs.used.mark_held.Goals.{then-symbol-marks, else-symbol-marks}
+
+pub loop-k-preserved : goal.loop-k-preserved
+loop-k-preserved c = λ s within.
+    let held = relocs_held c.args.object.now (header_of c.args.object.now c.args.rela) in
+    elim c.if-symbol-marks.branch [
+      | then-symbol-marks w ↦
+          ap (λ l. slice_index_or l s false) w.marks-is
+          ∙ marked_more c.args.marks.now c.loop-k.marks held c.loop-k.k c.rela-symbol.result c.rela-symbol.ensures (omega arith) c.loop-k.invariant (omega arith) s within
+      | else-symbol-marks w ↦
+          ap (λ l. slice_index_or l s false) w.marks-is
+          ∙ marked_same c.args.marks.now c.loop-k.marks held c.loop-k.k c.rela-symbol.result c.rela-symbol.ensures (omega arith) c.loop-k.invariant (omega arith) s within
+    ]

@@ -1,0 +1,140 @@
+-- Where data lies in memory: sections by class, then common symbols. Code has no part in it.
+use Rattle.std.specs.Prelude.{ℕ, Bool, true, false, not, ◌&&◌, ◌||◌, ◌==◌, nat_eq, max, if◌then◌else◌, is_none, List, ◌++◌, map, filter, codes, Option, Some, None}
+use Rattle.std.specs.List.{find, fold, starts_with}
+use Rattle.std.specs.Option.{option_and_then, option_map, option_map_or}
+use Rattle.elf32_read.specs.Kept.{has_flags}
+use Rattle.elf32_read.specs.Parts.{ObjectParts, SectionParts, is_code_section, is_kept_section}
+use Rattle.psabi_sym.specs.Blocks.{aligned_up, end_from, placed_from}
+use Rattle.psabi_sym.specs.Classes.{classes_before, same_class}
+use Rattle.psabi_sym.specs.Inputs.{ParsedInputs}
+use Rattle.psabi_sym.specs.Listed.{ListedSection, ListedSymbol, all_sections, all_symbols, section_at, sections_before}
+use Rattle.psabi_sym.specs.Names.{commons_of, firsts, is_common, same_name, strong_definition}
+use Rattle.psabi_sym.specs.declared.block.Block.{Block}
+use Rattle.psabi_sym.specs.declared.data_class.DataClass.{DataClass}
+use Rattle.psabi_sym.specs.declared.data_class.DataClass.TheVariants.{ReadOnly, Data, SmallData, SmallZero, Zero, Common}
+use Rattle.psabi_sym.specs.declared.section_row.SectionRole.{SectionRole}
+use Rattle.psabi_sym.specs.declared.section_row.SectionRole.TheVariants.{Code, InClass, Dropped}
+
+-- ---- classes
+
+-- this name, or one that begins with it and a dot
+abbrev pub is_of_kin : List ℕ → List ℕ → Bool
+is_of_kin base name = same_name name base || starts_with nat_eq name (base ++ codes ".")
+
+-- the class of a section of data: NOBITS (8) is zero, and without WRITE (1) the rest is read only
+abbrev pub class_of : SectionParts → DataClass
+class_of s =
+    if s.kind == 8 then (if is_of_kin (codes ".sbss") s.name then SmallZero else Zero)
+    else (if not (has_flags 1 s.flags) then ReadOnly else (if is_of_kin (codes ".sdata") s.name then SmallData else Data))
+
+-- what a section is: dropped if it isn't kept, and else code (EXECINSTR, 4) or data
+unfoldable pub role_of : SectionParts → SectionRole
+role_of s = if not (is_kept_section s) then Dropped else (if has_flags 4 s.flags then Code else InClass (class_of s))
+
+-- data of this class
+abbrev pub has_class : DataClass → SectionRole → Bool
+has_class class Code = false
+has_class class (InClass own) = same_class own class
+has_class class Dropped = false
+
+-- code
+abbrev pub is_code_role : SectionRole → Bool
+is_code_role Code = true
+is_code_role (InClass class) = false
+is_code_role Dropped = false
+
+-- a section is data of this class
+abbrev pub is_of_class : DataClass → ListedSection → Bool
+is_of_class class l = has_class class (role_of l.section)
+
+-- ---- what takes room
+
+-- the greatest number
+abbrev pub greatest : List ℕ → ℕ
+greatest numbers = fold max 0 numbers
+
+-- the room of a section
+abbrev pub section_block : ListedSection → Block
+section_block l = record { align = l.section.align; size = l.section.size }
+
+-- what these sections of a class take, in order
+abbrev pub blocks_in : DataClass → List ListedSection → List Block
+blocks_in class sections = map section_block (filter (is_of_class class) sections)
+
+-- the common symbols that take room, the first of each name in order: no strong definition has its name
+unfoldable pub commons_placed : List ObjectParts → List ListedSymbol
+commons_placed objects =
+    firsts (filter (λ l. is_common l.symbol && is_none (strong_definition objects l.symbol.name)) (all_symbols objects))
+
+-- the room of a name: the greatest alignment, which is the value, and the greatest size of its common symbols
+abbrev pub common_block : List ObjectParts → List ℕ → Block
+common_block objects name = let same = commons_of objects name in record {
+  align = greatest (map (λ l. max 1 l.symbol.value) same);
+  size = greatest (map (λ l. l.symbol.size) same);
+}
+
+-- the room of a symbol's name
+abbrev pub listed_block : List ObjectParts → ListedSymbol → Block
+listed_block objects l = common_block objects l.symbol.name
+
+-- what the common symbols take, in order
+abbrev pub common_blocks : List ObjectParts → List Block
+common_blocks objects = map (listed_block objects) (commons_placed objects)
+
+-- all that a class has
+abbrev pub blocks_of : List ObjectParts → DataClass → List Block
+blocks_of objects ReadOnly = blocks_in ReadOnly (all_sections objects)
+blocks_of objects Data = blocks_in Data (all_sections objects)
+blocks_of objects SmallData = blocks_in SmallData (all_sections objects)
+blocks_of objects SmallZero = blocks_in SmallZero (all_sections objects)
+blocks_of objects Zero = blocks_in Zero (all_sections objects)
+blocks_of objects Common = common_blocks objects
+
+-- ---- addresses
+
+-- where a class that is placed from an address on ends: it begins at a multiple of 16
+abbrev pub end_after : List ObjectParts → ℕ → DataClass → ℕ
+end_after objects at class = end_from (aligned_up 16 at) (blocks_of objects class)
+
+-- where a class begins
+unfoldable pub class_start : ParsedInputs → DataClass → ℕ
+class_start inputs class = aligned_up 16 (fold (end_after inputs.objects) inputs.map.data_low (classes_before class))
+
+-- where a class ends
+unfoldable pub class_end : ParsedInputs → DataClass → ℕ
+class_end inputs class = end_from (class_start inputs class) (blocks_of inputs.objects class)
+
+-- where a section of a class begins: after those of its class that stand before it
+abbrev pub address_in : ParsedInputs → ℕ → ℕ → SectionParts → DataClass → ℕ
+address_in inputs o i s class =
+    aligned_up s.align (end_from (class_start inputs class) (blocks_in class (sections_before inputs.objects o i)))
+
+-- the same by what the section is: code and what is dropped has no address
+abbrev pub role_address : ParsedInputs → ℕ → ℕ → SectionParts → SectionRole → Option ℕ
+role_address inputs o i s Code = None
+role_address inputs o i s (InClass class) = Some (address_in inputs o i s class)
+role_address inputs o i s Dropped = None
+
+-- the address of a section of data, by its object's index and its own
+unfoldable pub data_address : ParsedInputs → ℕ → ℕ → Option ℕ
+data_address inputs o i = option_and_then (λ s. role_address inputs o i s (role_of s)) (section_at inputs.objects o i)
+
+-- the common symbols that take room, each with its address
+abbrev pub placed_commons : ParsedInputs → List (ListedSymbol × ℕ)
+placed_commons inputs = placed_from (listed_block inputs.objects) (class_start inputs Common) (commons_placed inputs.objects)
+
+-- the address of a name that is common
+unfoldable pub common_address : ParsedInputs → List ℕ → Option ℕ
+common_address inputs name = option_map (λ e. e.1) (find (λ e. same_name e.0.symbol.name name) (placed_commons inputs))
+
+-- a section is code, by its object's index and its own
+abbrev pub is_code_at : List ObjectParts → ℕ → ℕ → Bool
+is_code_at objects o i = option_map_or is_code_section (section_at objects o i) false
+
+-- where the data ends whose bytes a file holds
+abbrev pub data_file_end : ParsedInputs → ℕ
+data_file_end inputs = class_end inputs SmallData
+
+-- where all data ends
+abbrev pub data_end : ParsedInputs → ℕ
+data_end inputs = class_end inputs Common

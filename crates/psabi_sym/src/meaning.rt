@@ -1,0 +1,158 @@
+// What names stand for.
+
+ghost use Rattle.std.specs.Prelude.{◌≡◌, ◌&&◌, ◌==◌, ◌<◌, ℕ, All, IfOk, None, false, length, map, slice_index_or, [], List};
+ghost use Rattle.std.specs.List.{find, range_with_len, zip};
+ghost use Rattle.std.specs.Option.{option_map};
+ghost use Rattle.psabi_sym.specs.declared.meaning.Meaning.{Meaning};
+ghost use Rattle.psabi_sym.specs.declared.meaning.Meaning.TheVariants.{Nothing};
+ghost use Rattle.psabi_sym.specs.Meanings.{meaning_at, meaning_of, row_is_missing};
+ghost use Rattle.psabi_sym.specs.Resolve.{linker_number};
+ghost use Rattle.psabi_sym.specs.Rows.{first_row, row_is_second};
+ghost use Rattle.psabi_sym.specs.declared.symbol_row.SymbolRow.{SymbolRow};
+
+use crate::symbol_row::SymbolRow;
+use std::alloc::{AllocError, Global};
+
+const GLOBAL: u8 = 1;
+
+const UNDEFINED: u16 = 0;
+
+/// What a name stands for: a symbol that defines it, a number, which is an address of data or a value
+/// of the linker's, or nothing.
+#[derive(Clone, Copy, PartialEq, Eq, Debug)]
+pub enum Meaning {
+    Symbol(SymbolRow),
+    Number(u32),
+    Nothing,
+}
+
+/// The numbers that the linker's own names stand for.
+#[derive(Clone, Copy, PartialEq, Eq, Debug)]
+pub struct LinkerNumbers {
+    pub global_pointer: u32,
+    pub bss_start: u32,
+    pub end: u32,
+    pub stack_top: u32,
+}
+
+// The number of a name of the linker's.
+#[tactic(auto, unfolding(crate::specs::Resolve::linker_number))]
+fn linker_number(numbers: &LinkerNumbers, name: &[u8]) -> Option<u32>
+    ensures { result ≡ linker_number numbers.now name.now }
+{
+    if name == b"__global_pointer$".as_slice() {
+        return Some(numbers.global_pointer);
+    }
+    if name == b"__bss_start".as_slice() {
+        return Some(numbers.bss_start);
+    }
+    if name == b"_end".as_slice() {
+        return Some(numbers.end);
+    }
+    if name == b"__stack_top".as_slice() {
+        return Some(numbers.stack_top);
+    }
+    None
+}
+
+// What a name is, by its first strong definition, its address if it is common, its first weak
+// definition, and its number if it is the linker's.
+fn meaning_of(
+    strong: Option<SymbolRow>,
+    common: Option<u32>,
+    weak: Option<SymbolRow>,
+    linker: Option<u32>,
+) -> Meaning
+    ensures { result ≡ meaning_of strong common weak linker }
+{
+    if let Some(row) = strong {
+        return Meaning::Symbol(row);
+    }
+    if let Some(address) = common {
+        return Meaning::Number(address);
+    }
+    if let Some(row) = weak {
+        return Meaning::Symbol(row);
+    }
+    match linker {
+        Some(number) => Meaning::Number(number),
+        None => Meaning::Nothing,
+    }
+}
+
+/// What each name is, by tables with an entry for each name.
+pub fn meanings(
+    alloc: Global,
+    names: &[&[u8]],
+    strong: &[Option<SymbolRow>],
+    commons: &[Option<u32>],
+    weak: &[Option<SymbolRow>],
+    numbers: &LinkerNumbers,
+) -> Result<Vec<Meaning>, AllocError>
+    requires strong { length strong.now ≡ length names.now }
+    requires commons { length commons.now ≡ length names.now }
+    requires weak { length weak.now ≡ length names.now }
+    ensures { IfOk result (λ meanings. meanings.items
+        ≡ map (meaning_at (map (λ name. name.now) names.now) strong.now commons.now weak.now numbers.now) (range_with_len 0 (length names.now))) }
+{
+    let mut meanings = Vec::with_capacity(alloc, names.len())?;
+    for k in 0..names.len() {
+        let linker = linker_number(numbers, names[k]);
+        meanings.push(meaning_of(strong[k], commons[k], weak[k], linker))?;
+    }
+    Ok(meanings)
+}
+
+// The symbol is a strong definition of a name whose first strong definition is another symbol.
+fn is_second(row: &SymbolRow, first: Option<SymbolRow>) -> bool
+    ensures { (rows : List SymbolRow) → first ≡ first_row 1 rows row.now.name → result ≡ row_is_second rows row.now }
+{
+    match first {
+        None => false,
+        Some(first) => {
+            row.defines(GLOBAL) && !(first.object == row.object && first.index == row.index)
+        }
+    }
+}
+
+/// The first strong definition of a name that an earlier symbol defines strongly: its object's index
+/// and its own.
+pub fn first_duplicate(rows: &[SymbolRow], strong: &[Option<SymbolRow>]) -> Option<(u32, u32)>
+    requires named { All (λ r. r.name < length strong.now) rows.now }
+    requires strong { strong.now ≡ map (first_row 1 rows.now) (range_with_len 0 (length strong.now)) }
+    ensures { result ≡ option_map (λ r. (r.object, r.index)) (find (row_is_second rows.now) rows.now) }
+{
+    for row in rows {
+        if is_second(row, strong[row.name as usize]) {
+            return Some((u32::from(row.object), row.index));
+        }
+    }
+    None
+}
+
+// The symbol is global and undefined, a relocation names it, and its name stands for nothing.
+fn is_missing(row: &SymbolRow, used: bool, meaning: Meaning) -> bool
+    ensures { (meanings : List Meaning) → meaning ≡ slice_index_or meanings row.now.name Nothing
+        → result ≡ row_is_missing meanings (row.now, used) }
+{
+    row.bind == GLOBAL && row.home == UNDEFINED && used && matches!(meaning, Meaning::Nothing)
+}
+
+/// The first symbol that is global and undefined, that a relocation names, and whose name stands for
+/// nothing: its object's index and its own.
+pub fn first_undefined(
+    rows: &[SymbolRow],
+    used: &[bool],
+    meanings: &[Meaning],
+) -> Option<(u32, u32)>
+    requires same_length { length used.now ≡ length rows.now }
+    requires named { All (λ r. r.name < length meanings.now) rows.now }
+    ensures { result ≡ option_map (λ e. (e.0.object, e.0.index)) (find (row_is_missing meanings.now) (zip rows.now used.now)) }
+{
+    for (i, row) in rows.iter().enumerate() {
+        if is_missing(row, used[i], meanings[row.name as usize]) {
+            return Some((u32::from(row.object), row.index));
+        }
+    }
+    None
+}

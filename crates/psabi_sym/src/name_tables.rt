@@ -1,0 +1,70 @@
+// What each name has among the symbols, by the number of the name.
+
+ghost use Rattle.std.specs.Prelude.{◌≡◌, ◌<◌, ℕ, IfOk, map, All};
+ghost use Rattle.std.specs.List.{range_with_len};
+ghost use Rattle.psabi_sym.specs.Rows.{first_of_both, first_row, grown_block, no_block, row_common_block};
+ghost use Rattle.psabi_sym.specs.declared.symbol_row.SymbolRow.{SymbolRow};
+
+use crate::block::Block;
+use crate::symbol_row::SymbolRow;
+use std::alloc::{AllocError, Global};
+
+// The definition that was found before a symbol, or else the symbol, if it is one.
+fn first_of(found: Option<SymbolRow>, row: &SymbolRow, bind: u8) -> Option<SymbolRow>
+    ensures { result ≡ first_of_both bind found row.now }
+{
+    if found.is_none() && row.defines(bind) {
+        return Some(*row);
+    }
+    found
+}
+
+// The room of common symbols with one more symbol, if it is common.
+fn grown(block: Block, row: &SymbolRow) -> Block
+    ensures { result ≡ grown_block block row.now }
+{
+    if !row.is_common() {
+        return block;
+    }
+    Block {
+        align: block.align.max(row.value.max(1)),
+        size: block.size.max(row.size),
+    }
+}
+
+/// Of each name below `count`, the first definition with this binding.
+#[tactic(auto, using(crate::proofs::Tables::first_row_step))]
+pub fn first_definitions(
+    alloc: Global,
+    rows: &[SymbolRow],
+    count: usize,
+    bind: u8,
+) -> Result<Vec<Option<SymbolRow>>, AllocError>
+    requires { All (λ r. r.name < count) rows.now }
+    ensures { IfOk result (λ table. table.items ≡ map (first_row bind rows.now) (range_with_len 0 count)) }
+{
+    let mut table = vec![in alloc; None; count]?;
+    for row in rows {
+        let name = row.name as usize;
+        table[name] = first_of(table[name], row, bind);
+    }
+    Ok(table)
+}
+
+/// Of each name below `count`, the room of its common symbols: none without any.
+#[tactic(auto, using(crate::proofs::Tables::common_block_step))]
+pub fn common_blocks(
+    alloc: Global,
+    rows: &[SymbolRow],
+    count: usize,
+) -> Result<Vec<Block>, AllocError>
+    requires { All (λ r. r.name < count) rows.now }
+    ensures { IfOk result (λ table. table.items ≡ map (row_common_block rows.now) (range_with_len 0 count)) }
+{
+    let mut table = vec![in alloc; Block { align: 0, size: 0 }; count]?;
+    for row in rows {
+        let name = row.name as usize;
+        table[name] = grown(table[name], row);
+    }
+    Ok(table)
+}

@@ -1,0 +1,84 @@
+// What a link keeps of sections.
+
+ghost use Rattle.std.specs.Prelude.{◌≡◌, ◌++◌, ◌^◌, ◌<◌, map, codes, vec_len, ◌+◌, ◌≤◌, OnOk};
+ghost use Rattle.elf32_read.specs.Header.{section_count};
+ghost use Rattle.elf32_read.specs.Parts.{object_parts, section_parts, SectionParts, is_kept_section};
+ghost use Rattle.elf32_read.specs.Lent.{IsSection};
+ghost use Rattle.psabi_sym.specs.Data.{class_of, is_of_kin, role_of};
+ghost use Rattle.psabi_sym.specs.Rows.{part_row};
+
+use crate::data_class::DataClass;
+use crate::loaded::Loaded;
+use crate::section_row::{SectionRole, SectionRow};
+use bitflags::Flags;
+use elf32_read::section::Section;
+use elf32_read::section_flags::SectionFlags;
+use std::alloc::{AllocError, Global};
+
+const NOBITS: u32 = 8;
+
+// The section is kept: it has ALLOC, and isn't the table for unwinding the stack.
+fn is_kept(section: &Section) -> bool
+    ensures { (parts : SectionParts) → IsSection section.now parts → result ≡ is_kept_section parts }
+{
+    section.flags.contains(SectionFlags::ALLOC) && section.name != b".eh_frame".as_slice()
+}
+
+// The name is this one, or begins with it and a dot.
+fn is_of_kin(name: &[u8], base: &[u8], base_and_dot: &[u8]) -> bool
+    requires { base_and_dot.now ≡ base.now ++ codes "." }
+    ensures { result ≡ is_of_kin base.now name.now }
+{
+    name == base || name.starts_with(base_and_dot)
+}
+
+// The class of a section that is kept and isn't code.
+fn class_of(section: &Section) -> DataClass
+    ensures { (parts : SectionParts) → IsSection section.now parts → result ≡ class_of parts }
+{
+    if section.kind == NOBITS {
+        if is_of_kin(section.name, b".sbss", b".sbss.") {
+            return DataClass::SmallZero;
+        }
+        return DataClass::Zero;
+    }
+    if !section.flags.contains(SectionFlags::WRITE) {
+        return DataClass::ReadOnly;
+    }
+    if is_of_kin(section.name, b".sdata", b".sdata.") {
+        return DataClass::SmallData;
+    }
+    DataClass::Data
+}
+
+/// What a section is to a link.
+#[tactic(auto, unfolding(crate::specs::Data::role_of))]
+pub fn role_of(section: &Section) -> SectionRole
+    ensures { (parts : SectionParts) → IsSection section.now parts → result ≡ role_of parts }
+{
+    if !is_kept(section) {
+        return SectionRole::Dropped;
+    }
+    if section.flags.contains(SectionFlags::EXECINSTR) {
+        return SectionRole::Code;
+    }
+    SectionRole::InClass(class_of(section))
+}
+
+/// Adds the sections of an object to rows.
+pub fn add_sections(loaded: &Loaded, rows: &mut Vec<SectionRow>) -> Result<(), AllocError>
+    ensures added { OnOk result (rows.new.items ≡ rows.old.items ++ map part_row (object_parts loaded.now).sections) }
+    ensures few { OnOk result (vec_len rows.new ≤ vec_len rows.old + 4096) }
+{
+    let object = loaded.object();
+    for i in 0..object.section_count() {
+        let section = object.section(i);
+        let role = role_of(&section);
+        rows.push(SectionRow {
+            role,
+            align: section.align,
+            size: section.size,
+        })?;
+    }
+    Ok(())
+}

@@ -1,0 +1,41 @@
+// Sections, as a link keeps them.
+
+ghost use Rattle.std.specs.Prelude.{◌≡◌};
+ghost use Rattle.psabi_sym.specs.Data.{has_class, is_code_role};
+
+use crate::data_class::DataClass;
+
+/// What a section is to a link: it is code, or data of a class, or it is dropped.
+#[derive(Clone, Copy, PartialEq, Eq, Debug)]
+pub enum SectionRole {
+    Code,
+    InClass(DataClass),
+    Dropped,
+}
+
+/// What a link keeps of a section.
+#[derive(Clone, Copy, PartialEq, Eq, Debug)]
+pub struct SectionRow {
+    pub role: SectionRole,
+    pub align: u32,
+    pub size: u32,
+}
+
+impl SectionRow {
+    /// Whether the section is code.
+    pub fn is_code(&self) -> bool
+        ensures { result ≡ is_code_role self.now.role }
+    {
+        matches!(self.role, SectionRole::Code)
+    }
+
+    /// Whether the section is data of this class.
+    pub fn is_of(&self, class: DataClass) -> bool
+        ensures { result ≡ has_class class self.now.role }
+    {
+        match self.role {
+            SectionRole::InClass(own) => own.is(class),
+            SectionRole::Code | SectionRole::Dropped => false,
+        }
+    }
+}

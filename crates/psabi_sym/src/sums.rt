@@ -1,0 +1,213 @@
+// Sums over objects, of which each has a limit.
+
+ghost use Rattle.std.specs.Prelude.{◌≡◌, ◌≤◌, ◌<◌, ◌+◌, ◌*◌, ◌^◌, length, drop, map, take};
+ghost use Rattle.std.specs.List.{find, range_with_len, sum_by};
+ghost use Rattle.elf32_read.specs.Header.{header_of, section_count};
+ghost use Rattle.elf32_read.specs.Lent.{IsSymbol};
+ghost use Rattle.elf32_read.specs.Parts.{object_parts, relocs_held, relocs_of, section_parts, SymbolParts};
+ghost use Rattle.psabi_sym.specs.Faults.{align_room, are_too_large, code_room, common_room, data_room, object_code, object_data, power_above, reloc_room, sums_of};
+
+use crate::loaded::Loaded;
+use crate::read_sections::role_of;
+use crate::section_row::SectionRole;
+use elf32_read::object::Object;
+use elf32_read::reloc::Reloc;
+use elf32_read::symbol::Symbol;
+
+const MOST_BYTES: u64 = 0x200_0000;
+
+const MOST_CODE: u64 = 0x4_0000;
+
+const MOST_DATA: u64 = 0x40_0000;
+
+// Each of the six classes of data is aligned to 16 bytes.
+const CLASS_GAPS: u64 = 96;
+
+const ALIGN: u8 = 43;
+
+const COMMON: u16 = 0xFFF2;
+
+/// How many bytes the files of objects have, and the room that they may take in code and in data.
+#[derive(Clone, Copy, PartialEq, Eq, Debug)]
+pub struct Sums {
+    pub file_bytes: u64,
+    pub code_room: u64,
+    pub data_room: u64,
+}
+
+// The least power of two above a number from 1 to 255.
+fn power_above(n: u32) -> u32
+    ensures value { result ≡ power_above n }
+    ensures most { result ≤ 256 }
+{
+    match n {
+        0..=1 => 2,
+        2..=3 => 4,
+        4..=7 => 8,
+        8..=15 => 16,
+        16..=31 => 32,
+        32..=63 => 64,
+        64..=127 => 128,
+        _ => 256,
+    }
+}
+
+// The room that an ALIGN with this addend may take.
+fn align_room(addend: i32) -> u32
+    ensures value { result ≡ align_room addend }
+    ensures most { result ≤ 256 }
+{
+    if addend < 1 || 255 < addend {
+        return 256;
+    }
+    power_above(addend as u32)
+}
+
+// The room that a relocation may take in code.
+#[tactic(auto, unfolding(crate::specs::Faults::reloc_room))]
+fn reloc_room(reloc: Reloc) -> u32
+    ensures value { result ≡ reloc_room reloc }
+    ensures most { result ≤ 256 }
+{
+    if reloc.kind != ALIGN {
+        return 0;
+    }
+    align_room(reloc.addend)
+}
+
+// The room of the relocations that a section holds.
+fn held_room(object: &Object, rela: u32) -> u64
+    requires { rela < section_count object.now }
+    ensures value { result ≡ sum_by reloc_room (relocs_held object.now (header_of object.now rela)) }
+    ensures most { result < 2 ^ 40 }
+{
+    let mut room = 0;
+    for k in 0..object.rela_count(rela) {
+        room += u64::from(reloc_room(object.rela(rela, k)));
+    }
+    room
+}
+
+// The room of the relocations of a section.
+fn relocs_room(loaded: &Loaded, section: u32) -> u64
+    requires { section < section_count loaded.now }
+    ensures value { result ≡ sum_by reloc_room (relocs_of loaded.now section) }
+    ensures most { result < 2 ^ 40 }
+{
+    match loaded.rela_of(section) {
+        None => 0,
+        Some(rela) => held_room(&loaded.object(), rela),
+    }
+}
+
+// The room that a section may take in code, and in data.
+fn section_room(loaded: &Loaded, i: u32) -> (u64, u64)
+    requires { i < section_count loaded.now }
+    ensures code { result.0 ≡ code_room (section_parts loaded.now i) }
+    ensures data_is { result.1 ≡ data_room (section_parts loaded.now i) }
+    ensures code_most { result.0 < 2 ^ 41 }
+    ensures data_most { result.1 < 2 ^ 34 }
+{
+    let section = loaded.object().section(i);
+    let size = u64::from(section.size);
+    match role_of(&section) {
+        SectionRole::Code => {
+            let room = size + u64::from(section.align.max(4)) + relocs_room(loaded, i);
+            (room, 0)
+        }
+        SectionRole::InClass(_) => (0, size + u64::from(section.align.max(1))),
+        SectionRole::Dropped => (0, 0),
+    }
+}
+
+// The room that the sections of an object may take in code, and in data.
+fn sections_room(loaded: &Loaded) -> (u64, u64)
+    ensures code { result.0 ≡ object_code (object_parts loaded.now) }
+    ensures data_is { result.1 ≡ sum_by data_room (object_parts loaded.now).sections }
+    ensures code_most { result.0 ≤ 2 ^ 53 }
+    ensures data_most { result.1 ≤ 2 ^ 46 }
+{
+    let mut code = 0;
+    let mut held = 0;
+    for i in 0..loaded.object().section_count() {
+        let room = section_room(loaded, i);
+        code += room.0;
+        held += room.1;
+    }
+    (code, held)
+}
+
+// The room that a symbol may take in data.
+fn common_room(symbol: &Symbol) -> u64
+    ensures value { (parts : SymbolParts) → IsSymbol symbol.now parts → result ≡ common_room parts }
+    ensures most { result ≤ 2 ^ 33 }
+{
+    if symbol.home != COMMON {
+        return 0;
+    }
+    u64::from(symbol.size) + u64::from(symbol.value.max(1))
+}
+
+// The room that the common symbols of an object may take in data.
+fn commons_room(loaded: &Loaded) -> u64
+    ensures value { result ≡ sum_by common_room (drop 1 (object_parts loaded.now).symbols) }
+    ensures most { result ≤ 2 ^ 52 }
+{
+    let object = loaded.object();
+    let mut room = 0;
+    for i in 1..object.symbol_count() {
+        room += common_room(&object.symbol(i));
+    }
+    room
+}
+
+impl Sums {
+    // The sums with one more object.
+    fn with(self, loaded: &Loaded) -> Sums
+        requires few_bytes { self.file_bytes ≤ 2 ^ 62 }
+        requires little_code { self.code_room ≤ 2 ^ 62 }
+        requires little_data { self.data_room ≤ 2 ^ 62 }
+        ensures file_bytes { result.file_bytes ≡ self.file_bytes + length loaded.now }
+        ensures code { result.code_room ≡ self.code_room + object_code (object_parts loaded.now) }
+        ensures data_is { result.data_room ≡ self.data_room + object_data (object_parts loaded.now) }
+        ensures few_bytes { result.file_bytes ≤ self.file_bytes + 2 ^ 54 }
+        ensures little_code { result.code_room ≤ self.code_room + 2 ^ 54 }
+        ensures little_data { result.data_room ≤ self.data_room + 2 ^ 54 }
+    {
+        let room = sections_room(loaded);
+        Sums {
+            file_bytes: self.file_bytes + loaded.len() as u64,
+            code_room: self.code_room + room.0,
+            data_room: self.data_room + (room.1 + commons_room(loaded)),
+        }
+    }
+
+    // Whether one of them passes its limit.
+    fn are_too_large(&self) -> bool
+        requires { self.now.data_room ≤ 2 ^ 63 }
+        ensures { result ≡ are_too_large self.now }
+    {
+        MOST_BYTES < self.file_bytes
+            || MOST_CODE < self.code_room
+            || MOST_DATA < self.data_room + CLASS_GAPS
+    }
+}
+
+/// The first object with which a sum is too large.
+pub fn first_too_large(objects: &[Loaded]) -> Option<u32>
+    requires { length objects.now ≤ 256 }
+    ensures { result ≡ find (λ i. are_too_large (sums_of (take (i + 1) objects.now))) (range_with_len 0 (length objects.now)) }
+{
+    let mut sums = Sums {
+        file_bytes: 0,
+        code_room: 0,
+        data_room: 0,
+    };
+    for (i, object) in objects.iter().enumerate() {
+        sums = sums.with(object);
+        if sums.are_too_large() {
+            return Some(i as u32);
+        }
+    }
+    None
+}

@@ -1,0 +1,37 @@
+// Symbols, as a link keeps them.
+
+ghost use Rattle.std.specs.Prelude.{◌≡◌};
+ghost use Rattle.psabi_sym.specs.Rows.{row_defines, row_is_common};
+
+const UNDEFINED: u16 = 0;
+
+const COMMON: u16 = 0xFFF2;
+
+/// What a link keeps of a symbol: its object's index and its own, the number of its name, and the
+/// fields of its entry but for the type (System V gABI, "Symbol Table").
+#[derive(Clone, Copy, PartialEq, Eq, Debug)]
+pub struct SymbolRow {
+    pub object: u16,
+    pub home: u16,
+    pub index: u32,
+    pub name: u32,
+    pub value: u32,
+    pub size: u32,
+    pub bind: u8,
+}
+
+impl SymbolRow {
+    /// Whether it defines its name with this binding: it is neither undefined nor common.
+    pub fn defines(&self, bind: u8) -> bool
+        ensures { result ≡ row_defines bind self.now }
+    {
+        self.bind == bind && self.home != UNDEFINED && self.home != COMMON
+    }
+
+    /// Whether it is common.
+    pub fn is_common(&self) -> bool
+        ensures { result ≡ row_is_common self.now }
+    {
+        self.home == COMMON
+    }
+}
