@@ -39,8 +39,8 @@ module _ (bytes : List ℕ) (once : has_two_relas bytes ≡ false) where
   found_next_same table n h is before other = record {
     room = before.room;
     kept = λ s within kept.
-      let not_for : changes s h ≡ false = false_from_ne_true (changes s h) (λ yes. cc (other, for_is_rela bytes h s (record { within = within; kept = kept; changes = yes }))) in
-      found_same (changes s) (header_of bytes) n (get_or table s None) (before.kept s within kept) (sym (ap (changes s) is) ∙ not_for);
+        let not_for : changes s h ≡ false = false_from_ne_true (changes s h) (λ yes. cc (other, for_is_rela bytes h s (record { within = within; kept = kept; changes = yes }))) in
+        found_same (changes s) (header_of bytes) n (get_or table s None) (before.kept s within kept) (sym (ap (changes s) is) ∙ not_for);
     dropped = before.dropped;
   }
 
@@ -60,8 +60,8 @@ module _ (bytes : List ℕ) (once : has_two_relas bytes ≡ false) where
           (found_same (changes s) (header_of bytes) n (get_or table s None) (before.kept s within kept) (sym (ap (changes s) is) ∙ no))
     ];
     dropped = λ s within dropped.
-      let other : s ≢ h.info = λ same. cc (dropped, ap (λ j. is_kept bytes (header_of bytes j)) same, (rela_is_for bytes h rela).kept) in
-      get_or-set_other table h.info s (Some n) None other ∙ before.dropped s within dropped;
+        let other : s ≢ h.info = λ same. cc (dropped, ap (λ j. is_kept bytes (header_of bytes j)) same, (rela_is_for bytes h rela).kept) in
+        get_or-set_other table h.info s (Some n) None other ∙ before.dropped s within dropped;
   }
     where
       room : h.info < length table
