@@ -171,8 +171,6 @@ mod tests {
             assert_eq!(rt; fault.name(), name);
             let shown = fault.to_string(rt.alloc())?;
             assert_eq!(rt; shown.as_str(), name);
-            let want = matches!(number, 9 | 10).then_some(5);
-            assert_eq!(rt; fault.symbol(), want, "{name}");
         }
         Ok(())
     }
