@@ -13,7 +13,7 @@ object or an image, as it was made or with mutations, and what is odd about the 
 - after `zc` ended with 0 the image and the certificate are there, and else no file is there or has changed, but
   for the image alone after a write fault or where memory ran out;
 - the text of the image is that of the object's code, with its short forms;
-- `zc` refuses an object for its first fault of reading (`object_faults.py`), and others only as NotBuilt;
+- `zc` refuses an object for its first fault (`object_faults.py`), and others only as NotBuilt;
 - `zc` and `trace` refuse an object alike;
 - where `trace` isn't stuck, `run` of the image ends as `trace` of the object does.
 
@@ -31,7 +31,7 @@ import sys
 import tempfile
 import time
 
-from object_faults import NAMES as FAULTS, object_fault
+from object_faults import NAMES as FAULTS, link_fault, object_fault
 
 TIME_OUT = 20
 STEPS = '1000'
@@ -49,7 +49,7 @@ WHYS = (None, 'AddressUnknown', 'ConditionUnknown', 'TargetUnknown', 'ArgumentUn
 OUTCOMES = {
     'exited': (r'exited (\d+)', None, ('run', 'trace')),
     'usage': (r'usage', 120, ('zc', 'run', 'trace')),
-    'refused': (r'refused 0 (\d+) (\w+)', 121, ('zc', 'trace')),
+    'refused': (r'refused 0 (\d+) (\w+)(?s: .*)?', 121, ('zc', 'trace')),
     'read fault': (r'read fault', 122, ('zc', 'run', 'trace')),
     'write fault': (r'write fault', 123, ('zc',)),
     'out of memory': (r'out of memory', 124, ('zc', 'run', 'trace')),
@@ -281,7 +281,7 @@ def named(command, status, err, out):
         raise Wrong(f'{command}: standard output has {out[:80]!r}')
     if (status, err) == (0, b'') and command == 'zc':
         return 'done', ''
-    line = err[:-1].decode('ascii', 'replace')
+    line = err[:-1].decode('latin-1')
     for name, (pattern, usual, commands) in OUTCOMES.items():
         match = re.fullmatch(pattern, line)
         if match and err.endswith(b'\n') and command in commands:
@@ -327,7 +327,7 @@ class Program:
     def call(self, command, *words, memory=MOST_MEMORY):
         ended = self.ended((command, *words), memory)
         name, line = named(command, ended.returncode, ended.stderr, ended.stdout)
-        told = re.sub(r' 0 (?=\d+ \w+$)', ' ', line) if name == 'refused' else name
+        told = ' '.join(line.split(' ')[i] for i in (0, 2, 3)) if name == 'refused' else name
         if name in ('stopped', 'stuck'):
             told = name + ' ' + re.search(r'[A-Z]\w+', line)[0]
         self.counts[command, line if name == 'bad image' else told] += 1
@@ -417,8 +417,10 @@ class Case:
             program.counts['both', 'agree' if traced != 'stuck' else 'trace is stuck'] += 1
 
     def check_refusal(self, linked, line):
-        fault = object_fault(self.data)
+        fault, symbol = link_fault(self.data)
         told = f'refused 0 {fault or 0} {FAULTS[fault or 0]}'
+        if symbol is not None:
+            told += ' ' + symbol.decode('latin-1')
         if linked in ('done', 'write fault') and fault or linked == 'refused' and line != told:
             raise Wrong(f'zc says {line!r}, but the first fault is {fault and FAULTS[fault]}')
 

@@ -10,6 +10,9 @@ import sys
 NAMES = ('NotBuilt', 'NotElf', 'Truncated', 'Flags', 'SectionKind', 'Alignment', 'CodeSize', 'BadName', 'BadSymbol',
          'Duplicate', 'Undefined', 'RelocKind', 'RelocPlace', 'LoPair', 'BadTarget', 'Range', 'NoEntry', 'TooLarge')
 
+LINKER_NAMES = (b'__global_pointer$', b'__bss_start', b'_end', b'__stack_top')
+ALIGN = 43
+
 NULL, PROGBITS, SYMTAB, STRTAB, RELA, NOBITS, REL, GROUP, SYMTAB_SHNDX = 0, 1, 2, 3, 4, 8, 9, 17, 18
 MEMORY = (PROGBITS, NOBITS, 14, 15, 16)
 WRITE, ALLOC, EXECINSTR, TLS, COMPRESSED = 1, 2, 4, 0x400, 0x800
@@ -100,6 +103,49 @@ class Object:
                        for _, info, _ in struct.iter_unpack('<3I', s.content)))
 
 
+    def relocations(self, is_code=False):
+        """The relocations of kept sections, or of kept code alone: the symbol, the type and the addend."""
+        for s in self.kept_relas():
+            if not is_code or self.sections[s.info].flags & EXECINSTR:
+                for _, info, addend in struct.iter_unpack('<IIi', s.content):
+                    yield info >> 8, info & 255, addend
+
+    def is_too_large(self):
+        """Whether the code or the data may take more room than a link has."""
+        code = [s for s in self.kept_sections() if s.flags & EXECINSTR]
+        rooms = sum(s.size + max(4, s.align) for s in code)
+        rooms += sum(1 << addend.bit_length() if 1 <= addend <= 255 else 256
+                     for _, kind, addend in self.relocations(True) if kind == ALIGN)
+        data = sum(s.size + max(1, s.align) for s in self.kept_sections() if not s.flags & EXECINSTR)
+        data += sum(size + max(1, value) for _, value, size, _, _, home in self.symbols[1:] if home == COMMON)
+        return rooms > 1 << 18 or data + 96 > 4 << 20
+
+    def symbol_name(self, i):
+        return string_at(self.strings(self.tables[0].link), self.symbols[i][0])
+
+    def second_definition(self):
+        """The first symbol that is a second strong definition of its name, or none."""
+        seen = set()
+        for i, (_, _, _, info, _, home) in enumerate(self.symbols):
+            if i and info >> 4 == 1 and home not in (UNDEF, COMMON):
+                if self.symbol_name(i) in seen:
+                    return i
+                seen.add(self.symbol_name(i))
+        return None
+
+    def missing_definition(self):
+        """The first global symbol that a relocation uses and nothing defines, or none."""
+        defined = set(LINKER_NAMES)
+        for i, (_, _, _, info, _, home) in enumerate(self.symbols):
+            if i and (home == COMMON or home != UNDEF and info >> 4):
+                defined.add(self.symbol_name(i))
+        used = {symbol for symbol, _, _ in self.relocations()}
+        for i, (_, _, _, info, _, home) in enumerate(self.symbols):
+            if i in used and i and info >> 4 == 1 and home == UNDEF and self.symbol_name(i) not in defined:
+                return i
+        return None
+
+
 def not_elf(data):
     return (len(data) < 52 or data[:7] != b'\x7fELF\1\1\1' or struct.unpack_from('<2H', data, 16) != (1, 243)
             or struct.unpack_from('<2H', data, 46)[1] != 0 and struct.unpack_from('<H', data, 46)[0] != 40)
@@ -130,11 +176,25 @@ def object_fault(data):
     return 8 if read.has_bad_symbol() else None
 
 
+def link_fault(data):
+    """The number of the first fault of a link of this object alone, and the name of a symbol; none for each that isn't there."""
+    fault = object_fault(data)
+    if fault is not None:
+        return fault, None
+    read = Object(data)
+    if read.is_too_large():
+        return 17, None
+    for fault, symbol in ((9, read.second_definition()), (10, read.missing_definition())):
+        if symbol is not None:
+            return fault, read.symbol_name(symbol)
+    return None, None
+
+
 def main():
     for path in sys.argv[1:]:
         with open(path, 'rb') as file:
-            fault = object_fault(file.read())
-        print(path, 'none' if fault is None else f'{fault} {NAMES[fault]}')
+            fault, name = link_fault(file.read())
+        print(path, 'none' if fault is None else f'{fault} {NAMES[fault]}', '' if name is None else repr(name))
 
 
 if __name__ == '__main__':
