@@ -1,5 +1,5 @@
 -- The bytes of a buffer: as many as are asked, piece after piece.
-use Rattle.std.proofs.Common.{◌≡◌, ℕ, zero, suc, ◌+◌, ◌<◌, ◌≤◌, List, [], ◌∷◌, ◌++◌, length, get_or, take, refl, sym, ap, ◌∙◌, arith, slice_index}
+use Rattle.std.proofs.Common.{◌≡◌, ℕ, zero, suc, ◌+◌, ◌-◌, ◌<◌, ◌≤◌, List, [], ◌∷◌, ◌++◌, length, get_or, take, refl, sym, ap, ◌∙◌, arith, slice_index}
 use Rattle.std.proofs.lemmas.List.{get_or-take, get_or_default, length-take-le, same_lists}
 use Rattle.rv_decode.specs.State.{ZcCore, byte_in}
 use Rattle.zc_machine.specs.Buffer.{bytes_at}
@@ -28,6 +28,13 @@ module _ (z : ZcCore) where
       let more : suc m + n ≡ suc (m + n) = omega arith in
       let next : suc a + m ≡ a + suc m = omega arith in
       ap (bytes_at z a) more ∙ ap (λ xs. byte_in z a ∷ xs) (bytes_at-add (suc a) m n ∙ ap (λ x. bytes_at z (suc a) m ++ bytes_at z x n) next)
+
+  -- the first of them, and a piece of the rest
+  pub bytes_at-piece : (a done : ℕ) (piece : List ℕ) → piece ≡ bytes_at z (a + done) (length piece) → bytes_at z a done ++ piece ≡ bytes_at z a (done + length piece)
+  bytes_at-piece a done piece is = ap (λ xs. bytes_at z a done ++ xs) is ∙ sym (bytes_at-add a done (length piece))
+
+  pub bytes_at-rest : (a m n : ℕ) → m ≤ n → bytes_at z a m ++ bytes_at z (a + m) (n - m) ≡ bytes_at z a n
+  bytes_at-rest a m n within = let all : m + (n - m) ≡ n = omega arith in sym (bytes_at-add a m (n - m)) ∙ ap (bytes_at z a) all
 
   -- what an access reaches begins with them
   pub reach_bytes : (way : Access) (a n : ℕ) (cells : List ℕ) → Reaches way z.memory a cells → n ≤ length cells → take n cells ≡ bytes_at z a n
