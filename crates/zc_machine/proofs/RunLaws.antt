@@ -1,5 +1,5 @@
 -- A run by its turns: how far it has come, and where each kind of step leads.
-use Rattle.std.proofs.Common.{◌≡◌, ℕ, ◌+◌, ◌<◌, List, [], ◌∷◌, ◌++◌, take, drop, Some, None, Ok, refl, sym, ap, ◌∙◌, arith}
+use Rattle.std.proofs.Common.{◌≡◌, ℕ, ◌+◌, ◌<◌, List, [], ◌∷◌, ◌++◌, take, drop, Some, None, Ok, refl, sym, ap, ap₂, ◌∙◌, arith}
 use Rattle.interrupt_plan.specs.Plan.{Entry, cuts_at}
 use Rattle.rv_decode.specs.State as event
 use Rattle.rv_decode.specs.State.{Event, ZcCore, ZcState}
@@ -38,6 +38,16 @@ pub wants_again : (z now : ZcCore) (c : EnvCall) (a : Step) → a ≡ answer_of 
 wants_again z now c a answers left is =
     let wants = wants_step (zc_step z) c (sym is ∙ answers) in
     ap zc_step (left ∙ ap (λ s. core_after s z) wants) ∙ wants
+
+-- and changes nothing
+pub record Wanted (z z2 : ZcCore) (c : EnvCall) : Type 0 where
+  pub wants : zc_step z ≡ Wants c
+  pub stays : z2 ≡ z
+
+pub wanted : (z z2 : ZcCore) (c : EnvCall) → answer.Wants c ≡ answer_of (zc_step z) → z2 ≡ core_after (zc_step z) z → Wanted z z2 c
+wanted z z2 c answers left =
+    let wants = wants_step (zc_step z) c answers in
+    record { wants = wants; stays = left ∙ ap (λ s. core_after s z) wants }
 
 pub stopped_step : (s : ZcStep) (reason : Reason) → answer.Stopped reason ≡ answer_of s → s ≡ Stopped reason
 stopped_step (Committed z) reason e = absurd cc
@@ -88,6 +98,11 @@ Came-start run desk running start = record {
   only = OnlyWrites-refl desk;
 }
 
+-- it came to this machine by one commit more
+pub record Next (run : Course) (z z2 : ZcCore) (left : List ℕ) (before now : Desk) : Type 0 where
+  pub counts : z2.commits ≡ z.commits + 1
+  pub came : Came run z2 left before now
+
 -- ---- a turn from there, whose interrupts leave z'
 
 module _
@@ -115,44 +130,54 @@ module _
   exit_kept : z'.exit ≡ None
   exit_kept = ap (λ y. y.exit) cuts ∙ (all_cuts_keep (cuts_at run.plan z.commits) z).exit ∙ came.running
 
-  -- a commit that leads to a state
+  -- a commit that leads to a state is one more
   goes_on :
       (r : ZcState) (desk : Desk) → committed (zc_step z') there ≡ Ok r → r.core.commits ≡ z'.commits + 1 → r.core.exit ≡ z'.exit
-      → Wrote (out_of r.events) (err_of r.events) before desk → OnlyWrites now desk → Came run r.core r.input before desk
-  goes_on r desk turn counts exit wrote only = record {
-    events = r.events;
-    so_far = ap (zc_after run.first run.input run.plan) (counts ∙ ap (λ k. k + 1) commits_kept) ∙ after_more r turn;
-    running = exit ∙ exit_kept;
-    wrote = wrote;
-    only = OnlyWrites-trans came.only only;
-  }
-
-  -- an instruction that commits
-  pub committed_came : (z2 : ZcCore) → answer.Committed ≡ answer_of (zc_step z') → z2 ≡ core_after (zc_step z') z' → Came run z2 left before now
-  committed_came z2 answers is =
-      let q = committed_step z' (zc_step z') (step_shows z') answers in
-      goes_on (record { core = z2; input = left; events = came.events }) now
-      (q.made there ∙ sym (ap (λ y. Ok (record { core = y; input = left; events = came.events })) is))
-      (ap (λ y. y.commits) is ∙ q.counts) (ap (λ y. y.exit) is ∙ q.exit) came.wrote (OnlyWrites-refl now)
+      → Wrote (out_of r.events) (err_of r.events) before desk → OnlyWrites now desk → Next run z r.core r.input before desk
+  goes_on r desk turn counts exit wrote only =
+      let more = counts ∙ ap (λ k. k + 1) commits_kept in
+      record {
+        counts = more;
+        came = record {
+          events = r.events;
+          so_far = ap (zc_after run.first run.input run.plan) more ∙ after_more r turn;
+          running = exit ∙ exit_kept;
+          wrote = wrote;
+          only = OnlyWrites-trans came.only only;
+        };
+      }
 
   module _ (z2 : ZcCore) where
+    -- an instruction that commits
+    pub committed_next : answer.Committed ≡ answer_of (zc_step z') → z2 ≡ core_after (zc_step z') z' → Next run z z2 left before now
+    committed_next answers is =
+        let q = committed_step z' (zc_step z') (step_shows z') answers in
+        goes_on (record { core = z2; input = left; events = came.events }) now
+        (q.made there ∙ sym (ap (λ y. Ok (record { core = y; input = left; events = came.events })) is))
+        (ap (λ y. y.commits) is ∙ q.counts) (ap (λ y. y.exit) is ∙ q.exit) came.wrote (OnlyWrites-refl now)
+
     -- a read
-    pub read_came : (at len : ℕ) → zc_step z' ≡ Wants (Read at len) → z2 ≡ has_read (take len left) z' → Came run z2 (drop len left) before now
-    read_came at len wants is =
-        let e = event.Read (take len left) in
-        goes_on (record { core = z2; input = drop len left; events = came.events ++ e ∷ [] }) now
-        (ap (λ s. committed s there) wants ∙ sym (ap (λ y. Ok (record { core = y; input = drop len left; events = came.events ++ e ∷ [] })) is))
-        (ap (λ y. y.commits) is) (ap (λ y. y.exit) is) (Wrote-event came.events e before now now came.wrote (Wrote-none now)) (OnlyWrites-refl now)
+    pub read_next :
+        (at len : ℕ) (front rest : List ℕ) → zc_step z' ≡ Wants (Read at len) → front ≡ take len left → rest ≡ drop len left → z2 ≡ has_read front z'
+        → Next run z z2 rest before now
+    read_next at len front rest wants first others is =
+        let events : List Event = came.events ++ event.Read (take len left) ∷ [] in
+        goes_on (record { core = z2; input = rest; events = events }) now
+        (ap (λ s. committed s there) wants
+        ∙ sym (ap₂ (λ y left2. Ok (record { core = y; input = left2; events = events })) (is ∙ ap (λ bytes. has_read bytes z') first) others))
+        (ap (λ y. y.commits) is) (ap (λ y. y.exit) is)
+        (Wrote-event came.events (event.Read (take len left)) before now now came.wrote (Wrote-none now)) (OnlyWrites-refl now)
 
     -- a write whose bytes stand
-    pub write_came :
+    pub write_next :
         (fd at len : ℕ) (desk : Desk) → zc_step z' ≡ Wants (Write fd at len) → z2 ≡ has_written z' → WroteTo fd (bytes_at z' at len) now desk → OnlyWrites now desk
-        → Came run z2 left before desk
-    write_came fd at len desk wants is wrote only =
-        let e = event.Write fd (bytes_at z' at len) in
-        goes_on (record { core = z2; input = left; events = came.events ++ e ∷ [] }) desk
-        (ap (λ s. committed s there) wants ∙ sym (ap (λ y. Ok (record { core = y; input = left; events = came.events ++ e ∷ [] })) is))
-        (ap (λ y. y.commits) is) (ap (λ y. y.exit) is) (Wrote-event came.events e before now desk came.wrote wrote) only
+        → Next run z z2 left before desk
+    write_next fd at len desk wants is wrote only =
+        let events : List Event = came.events ++ event.Write fd (bytes_at z' at len) ∷ [] in
+        goes_on (record { core = z2; input = left; events = events }) desk
+        (ap (λ s. committed s there) wants ∙ sym (ap (λ y. Ok (record { core = y; input = left; events = events })) is))
+        (ap (λ y. y.commits) is) (ap (λ y. y.exit) is)
+        (Wrote-event came.events (event.Write fd (bytes_at z' at len)) before now desk came.wrote wrote) only
 
   -- a program that runs doesn't end without its exit
   pub none_ended : (status : ℕ) → answer.Ended status ≡ answer_of (zc_step z') → ⊥

@@ -48,7 +48,7 @@ pub fn run<C: Console>(
         match machine.step() {
             Step::Committed => {}
             Step::Wants(EnvCall::Read { len, .. }) => {
-                let (front, rest) = left.split_at(left.len().min(len as usize));
+                let (front, rest) = left.split_at((len as usize).min(left.len()));
                 machine.answer_read(front);
                 left = rest;
             }

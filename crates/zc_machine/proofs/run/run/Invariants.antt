@@ -3,8 +3,8 @@ use Rattle.zc_machine.specs.Cursor.{IsAt}
 use Rattle.zc_machine.proofs.RunLaws.{Came}
 use Rattle.zc_machine.proofs.run.run.Given as goal
 
-abbrev pub invariant-loop-machine : goal.invariant-loop-machine
-invariant-loop-machine g l = record {
+abbrev pub invariant-loop-left : goal.invariant-loop-left
+invariant-loop-left g l = record {
   within : l.machine.commits ≤ l.steps;
   at : IsAt l.plan l.next l.machine.commits;
   came :
@@ -12,5 +12,5 @@ invariant-loop-machine g l = record {
       (g.C.Console.shown l.initial.console) (g.C.Console.shown l.console);
 }
 
-abbrev pub decreases-loop-machine : goal.decreases-loop-machine
-decreases-loop-machine g l = l.steps - l.machine.commits
+abbrev pub decreases-loop-left : goal.decreases-loop-left
+decreases-loop-left g l = l.steps - l.machine.commits
