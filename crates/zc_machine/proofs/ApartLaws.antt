@@ -1,6 +1,6 @@
 -- The regions of an image without a fault have no address in common, under each map that a link may be made for: the reader
 -- refuses segments that overlap or lie out of their place.
-use Rattle.std.proofs.Common.{◌≡◌, ℕ, ◌+◌, ◌-◌, ◌^◌, ◌<◌, ◌≤◌, List, [], ◌∷◌, length, Bool, true, false, cond, map, max, min, None, ap, ◌∙◌, arith, leb, ltb, take, drop, length-append}
+use Rattle.std.proofs.Common.{◌≡◌, ℕ, ◌+◌, ◌-◌, ◌^◌, ◌≤◌, List, [], ◌∷◌, length, Bool, true, false, cond, map, max, min, None, arith, leb, ltb, take, drop, length-append}
 use Rattle.std.specs.Prelude.{◌==◌, ◌&&◌, ◌||◌, not, ◌%◌, All}
 use Rattle.std.specs.List.{list_any}
 use Rattle.std.proofs.lemmas.Bool.{and_parts, leb-true, ltb-false, not-false, or_parts}
@@ -11,7 +11,7 @@ use Rattle.zc_base.specs.declared.mem_map.MemMap.{MemMap}
 use Rattle.elf32_read.proofs.Decided.{first_no}
 use Rattle.elf32_read.specs.Header.{entry_of}
 use Rattle.elf32_read.specs.Image.{bad_segments, image_fault, image_truncated, is_bad_load, not_image, some_overlap, too_large}
-use Rattle.elf32_read.specs.Segments.{file_end, is_code, is_entry_of, is_in_place, is_writable, lies_in, loads_of, memory_end, overlap, segment_of, segments_of}
+use Rattle.elf32_read.specs.Segments.{is_code, is_in_place, is_writable, lies_in, loads_of, memory_end, overlap, segment_of, segments_of}
 use Rattle.elf32_read.specs.declared.header.ProgramHeader.{ProgramHeader}
 use Rattle.elf32_read.specs.declared.image_fault.ImageFault.TheVariants.{BadSegment, NotElf, TooLarge, Truncated}
 use Rattle.rv_decode.specs.Memory.{Extent, blank, extent_of, extents_of}

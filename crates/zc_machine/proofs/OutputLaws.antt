@@ -1,12 +1,12 @@
 -- Bytes on the console's streams: one piece after another, and one write after the events before it.
-use Rattle.std.proofs.Common.{◌≡◌, ℕ, ◌<◌, ◌≤◌, ◌+◌, List, [], ◌∷◌, ◌++◌, length, take, Bool, true, false, cond, eqb, Option, Some, None, refl, sym, ap, ap₂, subst, ◌∙◌, ◌⊎◌, inl, inr, arith, length-append}
+use Rattle.std.proofs.Common.{◌≡◌, ℕ, ◌<◌, ◌≤◌, ◌+◌, List, [], ◌∷◌, ◌++◌, length, take, Bool, true, false, cond, eqb, Option, Some, None, refl, sym, ap, subst, ◌∙◌, arith, length-append}
 use Rattle.std.proofs.lemmas.Grind.{flat_map-append}
 use Rattle.std.proofs.lemmas.List.{append-nil, take-append-le}
 use Rattle.std.proofs.Math.Seq.{take-append-add}
-use Rattle.rv_decode.specs.State.{Event, Read, Write}
+use Rattle.rv_decode.specs.State.{Event, Write}
 use Rattle.rv_decode.specs.Written.{err_of, out_of, piece_of, written_to}
 use Rattle.zc_machine.specs.Output.{WrotePart, WroteTo}
-use Rattle.zc_outside.specs.Desk.{Desk, OnlyWrites, Wrote}
+use Rattle.zc_outside.specs.Desk.{Desk, Wrote}
 use Rattle.zc_outside.specs.Streams.{Adds, AddsPart, KeepsBytes}
 use Rattle.zc_outside.proofs.Desk.{Wrote-append, Wrote-none}
 use Rattle.zc_outside.proofs.Kept.{KeepsBytes-Adds-none}

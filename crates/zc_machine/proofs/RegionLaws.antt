@@ -1,10 +1,10 @@
 -- Regions without a common address: what spans an access is the one region there, and a write changes no other.
-use Rattle.std.proofs.Common.{◌≡◌, ℕ, zero, suc, ◌+◌, ◌-◌, ◌^◌, ◌<◌, ◌≤◌, List, [], ◌∷◌, ◌++◌, Bool, true, false, cond, length, get_or, set, take, drop, refl, sym, subst, ap, ap₂, ◌∙◌, ⊎_elim, arith, leb, ltb, length-append, length-drop, slice_index, ◌⊎◌, inl, inr}
+use Rattle.std.proofs.Common.{◌≡◌, ℕ, zero, suc, ◌+◌, ◌-◌, ◌^◌, ◌<◌, ◌≤◌, List, [], ◌∷◌, ◌++◌, Bool, true, false, cond, length, get_or, set, take, drop, refl, sym, subst, ap, ap₂, ◌∙◌, arith, leb, ltb, length-append, length-drop, slice_index, ◌⊎◌, inl, inr}
 use Rattle.std.specs.Prelude.{◌&&◌, ◌||◌, All}
 use borrow.Rule.Slice.PartMut.{put_mid}
-use Rattle.std.proofs.lemmas.Bool.{and_from, and_left, and_parts, and_right, cases_lt, cond-false, cond-true, false_from_ne_true, false≢true, le-leb, leb-true, lt-leb, lt-ltb, ltb-true, or_cases, or_from, or_right}
+use Rattle.std.proofs.lemmas.Bool.{and_from, and_parts, and_right, cases_lt, cond-false, cond-true, false_from_ne_true, false≢true, le-leb, leb-true, lt-leb, lt-ltb, ltb-true, or_from}
 use Rattle.std.proofs.lemmas.List.{get_or-drop, get_or_default, get_or-append_right, get_or-take, get_or_append_left, length-take-le, same_lists}
-use Rattle.std.proofs.lemmas.List.Elements.{All-get_or, All-head, All-tail}
+use Rattle.std.proofs.lemmas.List.Elements.{All-head, All-tail}
 use Rattle.rv_decode.specs.Memory.{Extent, Kind, Region, cell_at, cells_changed, changed, extent_of, extents_of, lies_in, spans, written}
 use Rattle.rv_decode.proofs.MemoryLaws.{extents-changed, get_or-cells_changed, is_covered, length-cells_changed, lies_covered, lies_inside, spans_inside, untouched}
 use Rattle.zc_machine.specs.Memory.{Apart, AreApart, Reaches}

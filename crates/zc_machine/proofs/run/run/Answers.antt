@@ -1,4 +1,4 @@
-use Rattle.std.proofs.Common.{◌≡◌, ℕ, List, take, drop, min, length, sym, ap, ap₂, subst, ◌∙◌, arith}
+use Rattle.std.proofs.Common.{◌≡◌, take, drop, sym, ap, subst, ◌∙◌, arith}
 use Rattle.std.proofs.lemmas.List.{drop_min, take_min}
 use Rattle.rv_decode.specs.State.{ZcCore}
 use Rattle.zc_machine.specs.declared.answer.EnvCall.TheVariants.{Exit, Read, Write}
@@ -7,11 +7,10 @@ use Rattle.zc_machine.specs.Buffer.{InMemory, bytes_at}
 use Rattle.zc_machine.specs.Cursor.{IsAt}
 use Rattle.zc_machine.specs.Output.{WrotePart, WroteTo}
 use Rattle.zc_machine.specs.RunEnd.{Course}
-use Rattle.zc_machine.specs.Step.{Wants, Stopped, zc_step}
-use Rattle.zc_machine.proofs.RunLaws.{Came, Came-start, Next, commits_kept, committed_next, exit_ran, none_ended, read_next, refused_ran, spent_ran, stop_ran, stopped_step, wanted, write_next}
+use Rattle.zc_machine.specs.Step.{Stopped, zc_step}
+use Rattle.zc_machine.proofs.RunLaws.{Came-start, commits_kept, committed_next, exit_ran, none_ended, read_next, refused_ran, spent_ran, stop_ran, stopped_step, wanted, write_next}
 use Rattle.zc_machine.proofs.StepLaws.{write_shows}
 use Rattle.zc_machine.proofs.run.run.Goals as goal
-use Rattle.zc_outside.specs.Desk.{Desk}
 
 pub loop-left-init : goal.loop-left-init
 loop-left-init g c =

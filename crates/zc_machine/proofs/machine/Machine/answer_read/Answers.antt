@@ -1,4 +1,4 @@
-use Rattle.std.proofs.Common.{◌≡◌, ℕ, ◌<◌, true, length, slice_index, ap, subst, ◌∙◌, sym, arith}
+use Rattle.std.proofs.Common.{◌≡◌, ◌<◌, true, length, slice_index, ap, ◌∙◌, sym, arith}
 use Rattle.rv_decode.specs.Memory.{changed, extents_of, is_data, lies_in, written}
 use Rattle.rv_decode.specs.State.{ZcCore, reg_in}
 use Rattle.rv_decode.proofs.MemoryLaws.{lies_inside}

@@ -1,4 +1,4 @@
-use Rattle.std.proofs.Common.{◌≡◌, subst, ◌∙◌}
+use Rattle.std.proofs.Common.{subst, ◌∙◌}
 use Rattle.rv_decode.specs.State.{ZcCore}
 use Rattle.zc_machine.specs.Memory.{Reaches}
 use Rattle.zc_machine.specs.declared.region.Access.TheVariants.{Fetch}

@@ -1,6 +1,3 @@
-use Rattle.std.proofs.Common.{◌≡◌, sym, ap, subst}
-use Rattle.rv_decode.specs.Memory.{extents_of}
-use Rattle.zc_machine.specs.Memory.{AreApart}
 use Rattle.zc_machine.proofs.ApartLaws.{first_apart}
 use Rattle.zc_machine.proofs.machine.Machine.load.Goals as goal
 

@@ -1,4 +1,4 @@
-use Rattle.std.proofs.Common.{◌≡◌, if◌then◌else◌, List, ℕ, length, slice_index, sym, ap, ◌∙◌}
+use Rattle.std.proofs.Common.{if◌then◌else◌, List, ℕ, length, slice_index, sym, ap, ◌∙◌}
 use Rattle.rv_decode.specs.Effect.{store_width}
 use Rattle.rv_decode.specs.Memory.{byte_of, changed, written}
 use Rattle.rv_decode.specs.declared.instr.StoreOp.{StoreOp}
