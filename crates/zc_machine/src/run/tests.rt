@@ -76,16 +76,16 @@ fn an_exit_ends_for_good(rt: HostRuntime) -> Result<(), Fail> {
 // Reads up to 8 bytes to the stack, writes them to a stream, and exits with their number.
 fn echo(fd: u32) -> [u32; 10] {
     [
-        0x03F0_0893,                   // addi a7, x0, 63
-        0xFF01_0593,                   // addi a1, sp, -16
-        0x0080_0613,                   // addi a2, x0, 8
-        0x0000_0073,                   // ecall
-        0x0005_0613,                   // addi a2, a0, 0
+        0x03F0_0893, // addi a7, x0, 63
+        0xFF01_0593, // addi a1, sp, -16
+        0x0080_0613, // addi a2, x0, 8
+        0x0000_0073, // ecall
+        0x0005_0613, // addi a2, a0, 0
         0x0000_0513 | (fd % 16) << 20, // addi a0, x0, fd
-        0x0400_0893,                   // addi a7, x0, 64
-        0x0000_0073,                   // ecall
-        0x05D0_0893,                   // addi a7, x0, 93
-        0x0000_0073,                   // ecall
+        0x0400_0893, // addi a7, x0, 64
+        0x0000_0073, // ecall
+        0x05D0_0893, // addi a7, x0, 93
+        0x0000_0073, // ecall
     ]
 }
 
@@ -121,51 +121,63 @@ const LONG: [u32; 10] = [
     0x0000_0073, // ecall
 ];
 
-// Runs these words over an input and a console whose calls with these numbers fail: the run should end so, with these bytes on
-// both streams.
-fn expect_output<R: Abort + AllocGlobal>(
-    rt: &R,
+// How a run of these words ends, and what it wrote to both streams, over a console whose calls with these numbers fail.
+fn output_of(
+    alloc: Global,
     words: &[u32],
-    (input, fails): (&[u8], &[u32]),
-    end: RunEnd,
-    (out, err): (&[u8], &[u8]),
-) -> Result<(), Fail> {
-    let text = text_of(rt.alloc(), words)?;
-    let mut machine = load(rt.alloc(), text.as_slice())?;
-    let mut console = MemConsole::new(rt.alloc(), b"", fails)?;
-    let plan = empty_plan(rt.alloc());
-    let ended = run(&mut machine, &plan, input, 99, &mut console);
-    assert_eq!(rt; ended, end, "{words:?}");
-    assert_eq!(rt; console.out_bytes(), out, "{words:?}");
-    assert_eq!(rt; console.err_bytes(), err, "{words:?}");
-    Ok(())
+    input: &[u8],
+    fails: &[u32],
+) -> Result<(RunEnd, Vec<u8>, Vec<u8>), Fail> {
+    let text = text_of(alloc, words)?;
+    let mut machine = load(alloc, text.as_slice())?;
+    let mut console = MemConsole::new(alloc, b"", fails)?;
+    let plan = empty_plan(alloc);
+    let end = run(&mut machine, &plan, input, 99, &mut console);
+    let out = Vec::from_slice(alloc, console.out_bytes())?;
+    let err = Vec::from_slice(alloc, console.err_bytes())?;
+    Ok((end, out, err))
 }
 
 #[test]
 fn a_program_reads_and_writes(rt: HostRuntime) -> Result<(), Fail> {
-    let exit = RunEnd::Exit;
-    let none = b"".as_slice();
-    let two = b"hi".as_slice();
-    let nine = b"123456789".as_slice();
-    expect_output(&rt, &echo(1), (two, &[]), exit(2), (two, none))?;
-    expect_output(&rt, &echo(2), (two, &[]), exit(2), (none, two))?;
-    expect_output(&rt, &echo(1), (nine, &[]), exit(8), (&nine[..8], none))?;
-    expect_output(&rt, &echo(1), (none, &[0]), exit(0), (none, none))?;
-    expect_output(&rt, &TWICE, (nine, &[]), exit(4), (&nine[..4], none))?;
     let unknown = RunEnd::Stopped(Reason::UnknownCall);
-    expect_output(&rt, &echo(3), (two, &[]), unknown, (none, none))
+    let table = [
+        (1, "hi", RunEnd::Exit(2), "hi", ""),
+        (2, "hi", RunEnd::Exit(2), "", "hi"),
+        (1, "123456789", RunEnd::Exit(8), "12345678", ""),
+        (1, "", RunEnd::Exit(0), "", ""),
+        (3, "hi", unknown, "", ""),
+    ];
+    for (fd, input, want, out, err) in table {
+        let got = output_of(rt.alloc(), &echo(fd), input.as_bytes(), &[])?;
+        let shown = (got.0, got.1.as_slice(), got.2.as_slice());
+        assert_eq!(rt;
+            shown,
+            (want, out.as_bytes(), err.as_bytes()),
+            "{fd} {input}"
+        );
+    }
+    Ok(())
 }
 
 #[test]
+fn a_read_goes_on_where_the_last_one_ended(rt: HostRuntime) -> Result<(), Fail> {
+    let got = output_of(rt.alloc(), &TWICE, b"abcdef", &[])?;
+    assert_eq!(rt;
+        (got.0, got.1.as_slice()),
+        (RunEnd::Exit(4), b"abcd".as_slice())
+    );
+    Ok(())
+}
+
+// The first piece of the long write has four bytes, and the second a page.
+#[test]
 fn a_refused_write_ends_the_run(rt: HostRuntime) -> Result<(), Fail> {
     let refused = RunEnd::Console(ConsoleFault::Failed);
-    let none = b"".as_slice();
-    let five = b"abcde".as_slice();
-    let mut long = Vec::from_slice(rt.alloc(), five)?;
-    long.resize(4100, 0)?;
-    let all = long.as_slice();
-    expect_output(&rt, &LONG, (five, &[]), RunEnd::Exit(4), (all, none))?;
-    expect_output(&rt, &LONG, (five, &[0]), refused, (none, none))?;
-    expect_output(&rt, &LONG, (five, &[1]), refused, (b"abcd", none))?;
-    expect_output(&rt, &echo(2), (five, &[0]), refused, (none, none))
+    let table = [(9, RunEnd::Exit(4), 4100), (1, refused, 4), (0, refused, 0)];
+    for (fails, want, written) in table {
+        let got = output_of(rt.alloc(), &LONG, b"abcde", &[fails])?;
+        assert_eq!(rt; (got.0, got.1.len()), (want, written), "{fails}");
+    }
+    Ok(())
 }

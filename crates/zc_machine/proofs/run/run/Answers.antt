@@ -67,8 +67,8 @@ loop-left-preserved-in-Wants-Read g c =
     let first : front ≡ take w.len left = c.split_at.ensures.front ∙ ap (λ n. take n left) c.min.ensures ∙ take_min w.len left in
     let others : c.split_at.result.1.now ≡ drop w.len left = c.split_at.ensures.back ∙ ap (λ n. drop n left) c.min.ensures ∙ drop_min w.len left in
     let next =
-        read_next c.loop-left.invariant.came c.interrupt-next.new.machine c.interrupt-next.ensures.made c.answer_read.new.self w.field-0-0 w.len front _ asks.wants first others
-        (c.answer_read.ensures ∙ ap (has_read front) asks.stays) in
+    read_next c.loop-left.invariant.came c.interrupt-next.new.machine c.interrupt-next.ensures.made c.answer_read.new.self w.field-0-0 w.len front _ asks.wants first others
+    (c.answer_read.ensures ∙ ap (has_read front) asks.stays) in
     let counts = next.counts in
     record { within = omega arith; at = subst (IsAt c.args.plan.now c.interrupt-next.result) (sym counts) c.interrupt-next.ensures.reached; came = next.came }
 
@@ -118,8 +118,8 @@ loop-left-preserved g c =
     let after = g.C.Console.shown c.write.new.console in
     let wrote = subst (λ (y : ZcCore). WroteTo w.fd (bytes_at y w.at w.len) now after) asks.stays c.in_default.ensures.ok in
     let next =
-        write_next c.loop-left.invariant.came c.interrupt-next.new.machine c.interrupt-next.ensures.made c.answer_write.new.self w.fd w.at w.len after asks.wants
-        (c.answer_write.ensures ∙ ap has_written asks.stays) wrote c.in_default.ensures.writes in
+    write_next c.loop-left.invariant.came c.interrupt-next.new.machine c.interrupt-next.ensures.made c.answer_write.new.self w.fd w.at w.len after asks.wants
+    (c.answer_write.ensures ∙ ap has_written asks.stays) wrote c.in_default.ensures.writes in
     let counts = next.counts in
     record { within = omega arith; at = subst (IsAt c.args.plan.now c.interrupt-next.result) (sym counts) c.interrupt-next.ensures.reached; came = next.came }
 

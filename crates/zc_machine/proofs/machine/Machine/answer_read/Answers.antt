@@ -23,10 +23,10 @@ returns c =
     let shown = read_shows z wanted.0 wanted.1 wanted.2 in
     let few = wanted.3 in
     let lies : 0 < n → lies_in is_data (extents_of z.memory) (reg_in z 11) n ≡ true =
-        λ some. lies_inside is_data (extents_of z.memory) wanted.0 wanted.1 (reg_in z 11) n (shown.2 (omega (arith, some, few))) (omega (arith, shown)) (omega (arith, shown, few)) in
+    λ some. lies_inside is_data (extents_of z.memory) wanted.0 wanted.1 (reg_in z 11) n (shown.2 (omega (arith, some, few))) (omega (arith, shown)) (omega (arith, shown, few)) in
     let made : 0 < n → c.write.result ≡ true = λ some. c.write.ensures.reached ∙ ap (λ (y : ZcCore). lies_in is_data (extents_of y.memory) (reg_in y 11) n) c.self.view_is ∙ lies some in
     let memory : c.write.new.self ≡ changed (written (reg_in z 11) n (slice_index bytes)) z.memory =
-        c.write.ensures.after
-        ∙ changed-made _ n (slice_index bytes) c.self.inside.memory c.write.result made
-        ∙ ap (λ (y : ZcCore). changed (written (reg_in y 11) n (slice_index bytes)) y.memory) c.self.view_is in
+    c.write.ensures.after
+    ∙ changed-made _ n (slice_index bytes) c.self.inside.memory c.write.result made
+    ∙ ap (λ (y : ZcCore). changed (written (reg_in y 11) n (slice_index bytes)) y.memory) c.self.view_is in
     λ i. record (has_read bytes (c.self.view_is i)) { memory = memory i }
