@@ -1,4 +1,4 @@
-// The object of three instructions, its image, and calls over one file in memory. The object and the
+// The object of three instructions, its image, and calls over two files in memory. The object and the
 // image were worked out by hand from the ELF format.
 //
 // The check proves each test, and pays there for each assertion and each row of a table. So rows are lines
@@ -6,6 +6,7 @@
 
 use crate::call::zcld;
 use crate::outcome::{Outcome, status};
+use elf32_read::fault::Fault;
 use std::alloc::{AllocError, Global};
 use std::process::Abort;
 use std::test::Fail;
@@ -83,8 +84,8 @@ pub enum File<'a> {
     Bytes(&'a [u8]),
 }
 
-/// A call: its words, with a space between, the one file `x` of its store, and what is changed, as
-/// `Setup` reads it. The console has an input of five bytes.
+/// A call: its words, with a space between, the file `x` of its store, and what is changed, as `Setup`
+/// reads it. The store's other file `z` is the object. The console has an input of five bytes.
 #[derive(Clone, Copy)]
 pub struct Call<'a> {
     pub words: &'a str,
@@ -112,8 +113,21 @@ pub const TRACE: Call = Call {
     ..ZC
 };
 
+/// Two objects are linked.
+pub const ZC_TWO: Call = Call {
+    words: "zc --out o --cert c x z",
+    ..ZC
+};
+
+/// Two objects are traced.
+pub const TRACE_TWO: Call = Call {
+    words: "trace x z",
+    ..ZC
+};
+
 /// How a call should end: the outcome, its line, the program's status, how many bytes of the input are
-/// left, and how many of the files `o` and `c` stand. Nothing else is written, and `x` stays as it was.
+/// left, and how many of the files `o` and `c` stand. Nothing else is written, and `x` and `z` stay as
+/// they were.
 #[derive(Clone, Copy)]
 pub struct End<'a> {
     pub outcome: Outcome,
@@ -169,12 +183,22 @@ pub const WRITE_FAULT: End = End {
     ..USAGE
 };
 
+/// A refusal of an object, with its line.
+pub fn refused(object: u32, fault: Fault, line: &str) -> End<'_> {
+    End {
+        outcome: Outcome::Refused(object, fault),
+        line,
+        status: 121,
+        ..USAGE
+    }
+}
+
 /// The same, with a line that couldn't be written.
 pub fn unsaid(end: End) -> End {
     End { line: "", ..end }
 }
 
-/// What a call left: how many bytes of the input, and whether `x` is as it was.
+/// What a call left: how many bytes of the input, and whether `x` and `z` are as they were.
 #[derive(Drop)]
 pub struct Left {
     pub outcome: Outcome,
@@ -204,10 +228,13 @@ fn bytes_of(file: File) -> &[u8] {
     }
 }
 
-// The file of a call, and the numbers of the store's and the console's calls that fail.
+// The files `x` and `z` of a call, which of them is changed next, and the numbers of the store's and the
+// console's calls that fail.
 #[derive(Drop)]
 struct Setup {
-    file: Vec<u8>,
+    first: Vec<u8>,
+    second: Vec<u8>,
+    at_second: bool,
     store_fails: Vec<u32>,
     console_fails: Vec<u32>,
 }
@@ -215,7 +242,9 @@ struct Setup {
 impl Setup {
     fn new(alloc: Global, call: &Call) -> Result<Setup, Fail> {
         let mut setup = Setup {
-            file: Vec::from_slice(alloc, bytes_of(call.file))?,
+            first: Vec::from_slice(alloc, bytes_of(call.file))?,
+            second: Vec::from_slice(alloc, &THREE)?,
+            at_second: false,
             store_fails: Vec::new(alloc),
             console_fails: Vec::new(alloc),
         };
@@ -227,13 +256,16 @@ impl Setup {
 
     // Makes a change: `s1` and `c1` let call 1 of the store or the console fail, `..51` cuts the file to
     // 51 bytes, and `16:f3` or `16:000000f3` writes the byte or the word with these hexadecimal digits.
+    // Those after `/` change the file `z`.
     fn change(&mut self, change: &str) -> Result<(), Fail> {
-        if let Some(number) = change.strip_prefix("s") {
+        if change == "/" {
+            self.at_second = true;
+        } else if let Some(number) = change.strip_prefix("s") {
             self.store_fails.push(number.parse::<u32>()?)?;
         } else if let Some(number) = change.strip_prefix("c") {
             self.console_fails.push(number.parse::<u32>()?)?;
         } else if let Some(length) = change.strip_prefix("..") {
-            self.file.truncate(length.parse::<usize>()?);
+            self.file().truncate(length.parse::<usize>()?);
         } else {
             let (at, digits) = change.split_once(":").ok_or("no change")?;
             self.write(at.parse::<usize>()?, digits)?;
@@ -241,12 +273,22 @@ impl Setup {
         Ok(())
     }
 
-    fn write(&mut self, at: usize, digits: &str) -> Result<(), Fail> {
-        let length = self.file.len();
-        if digits.len() == 8 && at < length && length - at >= 4 {
-            put_u32(&mut self.file, at, u32::from_str_radix(digits, 16)?);
+    // The file that is changed.
+    fn file(&mut self) -> &mut Vec<u8> {
+        if self.at_second {
+            &mut self.second
         } else {
-            *self.file.get_mut(at).ok_or("no byte")? = u8::from_str_radix(digits, 16)?;
+            &mut self.first
+        }
+    }
+
+    fn write(&mut self, at: usize, digits: &str) -> Result<(), Fail> {
+        let file = self.file();
+        let length = file.len();
+        if digits.len() == 8 && at < length && length - at >= 4 {
+            put_u32(file, at, u32::from_str_radix(digits, 16)?);
+        } else {
+            *file.get_mut(at).ok_or("no byte")? = u8::from_str_radix(digits, 16)?;
         }
         Ok(())
     }
@@ -257,11 +299,13 @@ pub fn make(alloc: Global, call: &Call) -> Result<Left, Fail> {
     let words = words_in(alloc, call.words)?;
     let setup = Setup::new(alloc, call)?;
     let mut store = MemStore::new(alloc, setup.store_fails.as_slice())?;
-    store.add("x", setup.file.as_slice())?;
+    store.add("x", setup.first.as_slice())?;
+    store.add("z", setup.second.as_slice())?;
     let mut console = MemConsole::new(alloc, b"input", setup.console_fails.as_slice())?;
     let outcome = zcld(alloc, words.as_slice(), &mut store, &mut console);
     let input = console.take(&mut [0; 8])?;
-    let is_kept = store.file("x") == Some(setup.file.as_slice());
+    let is_kept = store.file("x") == Some(setup.first.as_slice())
+        && store.file("z") == Some(setup.second.as_slice());
     Ok(Left {
         outcome,
         store,

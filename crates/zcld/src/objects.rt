@@ -40,3 +40,6 @@ pub fn gathered(alloc: Global, files: &[Vec<u8>]) -> Result<Objects, Outcome>
 {
     Ok(Objects::gather(alloc, files, MemMap::standard())?)
 }
+
+#[cfg(test)]
+mod tests;

@@ -1,8 +1,8 @@
 // Objects on the symbolic machine, and beside them their images on the Zc machine.
 
 use crate::fixture::{
-    Call, EXITED_3, End, File, Left, READ_FAULT, RUN, SPENT, TRACE, USAGE, ZC, expect_changes,
-    expect_words, make, unsaid,
+    Call, EXITED_3, End, File, Left, READ_FAULT, RUN, SPENT, TRACE, ZC, expect_changes,
+    expect_words, make, refused, unsaid,
 };
 use crate::outcome::Outcome;
 use elf32_read::fault::Fault;
@@ -60,13 +60,6 @@ const PAST_THE_CODE: End = End {
     ..ARGUMENT
 };
 
-const NOT_BUILT: End = End {
-    outcome: Outcome::Refused(0, Fault::NotBuilt),
-    line: "refused 0 0 NotBuilt\n",
-    status: 121,
-    ..USAGE
-};
-
 // Changes of the three instructions: the call comes before a7 or a0 is known, a7 is 94, the stack pointer
 // moves up or gets an unknown number, `nop` stands in the place of `ecall`, and a word is unknown.
 #[test]
@@ -80,7 +73,8 @@ fn a_program_is_stuck_where_its_meaning_ends(rt: HostRuntime) -> Result<(), Fail
     expect_changes(&rt, &TRACE, "56:05e00893", &UNKNOWN_CALL)?;
     expect_changes(&rt, &TRACE, "52:01010113\n52:00148113", &STACK)?;
     expect_changes(&rt, &TRACE, "60:00000013", &PAST_THE_CODE)?;
-    expect_changes(&rt, &TRACE, "56:00000000", &NOT_BUILT)
+    let not_built = refused(0, Fault::NotBuilt, "refused 0 0 NotBuilt\n");
+    expect_changes(&rt, &TRACE, "56:00000000", &not_built)
 }
 
 // The store's call 0 reads the object. The input's bytes are taken by the console's call 0, its end is

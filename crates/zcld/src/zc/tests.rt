@@ -1,30 +1,13 @@
 // What the command `zc` writes, refuses and names.
 
 use crate::fixture::{
-    Call, DONE, End, File, READ_FAULT, THREE_IMAGE, USAGE, WRITE_FAULT, ZC, expect, expect_changes,
-    expect_words, make, unsaid,
+    Call, DONE, End, File, READ_FAULT, THREE_IMAGE, WRITE_FAULT, ZC, expect, expect_changes,
+    expect_words, make, refused, unsaid,
 };
 use crate::outcome::Outcome;
 use elf32_read::fault::Fault;
 use std::alloc::Global;
 use std::test::Fail;
-
-const NOT_BUILT: End = End {
-    outcome: Outcome::Refused(0, Fault::NotBuilt),
-    line: "refused 0 0 NotBuilt\n",
-    status: 121,
-    ..USAGE
-};
-
-// The object is refused for this fault.
-fn refused(fault: Fault, line: &str) -> End<'_> {
-    let outcome = Outcome::Refused(0, fault);
-    End {
-        outcome,
-        line,
-        ..NOT_BUILT
-    }
-}
 
 // The outcome, the file `o` and the file `c` of a call.
 fn linked(alloc: Global, call: &Call) -> Result<(Outcome, Vec<u8>, Vec<u8>), Fail> {
@@ -57,7 +40,8 @@ fn an_image_and_a_certificate_are_put_under_their_names(rt: HostRuntime) -> Resu
 // Changes of section 1 (its kind, its size and its alignment), and of a word.
 #[test]
 fn objects_that_are_not_straight_code_are_named(rt: HostRuntime) -> Result<(), Fail> {
-    expect_changes(&rt, &ZC, "188:02\n200:00\n212:08\n53:15", &NOT_BUILT)
+    let not_built = refused(0, Fault::NotBuilt, "refused 0 0 NotBuilt\n");
+    expect_changes(&rt, &ZC, "188:02\n200:00\n212:08\n53:15", &not_built)
 }
 
 // Changes of the magic number, the file's length, e_flags, the header of section 1 (its flags, alignment
@@ -76,7 +60,7 @@ fn objects_that_can_not_be_read_are_named(rt: HostRuntime) -> Result<(), Fail> {
         ("49:11", Fault::TooLarge, "refused 0 17 TooLarge\n"),
     ];
     for (change, fault, line) in rows {
-        expect_changes(&rt, &ZC, change, &refused(fault, line))?;
+        expect_changes(&rt, &ZC, change, &refused(0, fault, line))?;
     }
     Ok(())
 }
@@ -130,7 +114,7 @@ fn calls_of_the_outside_that_fail_are_named(rt: HostRuntime) -> Result<(), Fail>
 #[test]
 fn objects_that_are_not_held_or_too_long_are_read_faults(rt: HostRuntime) -> Result<(), Fail> {
     expect_words(&rt, &ZC, "zc --out o --cert c y", &READ_FAULT)?;
-    let not_elf = refused(Fault::NotElf, "refused 0 1 NotElf\n");
+    let not_elf = refused(0, Fault::NotElf, "refused 0 1 NotElf\n");
     for (length, end) in [(4_194_305, READ_FAULT), (4_194_304, not_elf)] {
         let zeros = vec![in rt.alloc(); 0u8; length]?;
         let call = Call {
