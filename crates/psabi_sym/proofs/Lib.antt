@@ -13,6 +13,7 @@ pub mod NumberedLaws
 pub mod PartLaws
 pub mod PlaceLaws
 pub mod RowLaws
+pub mod StartLaws
 pub mod SumLaws
 pub mod Tables
 pub mod UsedLaws

@@ -15,4 +15,5 @@ pub mod Numbered
 pub mod Places
 pub mod Resolve
 pub mod Rows
+pub mod Start
 pub mod Tables

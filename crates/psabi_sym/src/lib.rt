@@ -20,6 +20,7 @@ mod read_sections;
 mod read_symbols;
 pub mod section_row;
 mod sections;
+mod start;
 pub mod sums;
 pub mod symbol_row;
 mod symbols;
