@@ -1,5 +1,5 @@
 -- Runs of the symbolic machine, one step at a time.
-use Rattle.std.proofs.Common.{◌≡◌, ℕ, zero, suc, ◌+◌, ◌<◌, ◌≤◌, List, [], ◌∷◌, ◌++◌, length, take, Some, None, Ok, Err, true, refl, ap, sym, ◌∙◌, arith, append_assoc}
+use Rattle.std.proofs.Common.{◌≡◌, ℕ, zero, suc, ◌+◌, ◌<◌, List, [], ◌∷◌, ◌++◌, length, take, Some, None, Ok, Err, refl, ap, sym, ◌∙◌, arith}
 use Rattle.std.proofs.lemmas.List.{append-nil}
 use Rattle.std.proofs.lemmas.List.Concat.{flat_map-append}
 use Rattle.zc_base.specs.declared.place.Place.{Place}
@@ -16,7 +16,7 @@ use Rattle.sym_machine.specs.Change.{Change, Does, Goes, Stops, place_does}
 use Rattle.sym_machine.specs.Kept.{IsOf}
 use Rattle.sym_machine.specs.Program.{Program}
 use Rattle.sym_machine.specs.Run.{plain, plain_turn, recorded}
-use Rattle.sym_machine.specs.RunEnd.{Course, Traced, TracedTo, TracedToRefusal, WroteInPart}
+use Rattle.sym_machine.specs.RunEnd.{Course, Traced, TracedTo, TracedToRefusal}
 use Rattle.sym_machine.specs.State.{PlainCore, PlainState, first_plain}
 use Rattle.sym_machine.specs.Step.{PlainStep, Went, Stuck, after_change, ends, made, plain_step}
 use Rattle.sym_machine.proofs.StepLaws.{Ended, ended, extents-step, step_past_exit, step_running}

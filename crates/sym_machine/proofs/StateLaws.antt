@@ -1,8 +1,8 @@
 -- Ends of steps of a state as it is kept: the step of the definition ends in the state that is then kept.
-use Rattle.std.proofs.Common.{◌≡◌, ◌≢◌, ℕ, ◌+◌, ◌-◌, ◌%◌, ◌<◌, ◌≤◌, List, [], ◌∷◌, length, get_or, set, take, drop, map, min, Bool, true, false, cond, eqb, Option, Some, None, refl, sym, ap, ap₂, ◌∙◌, arith, inl, get_or-set_same, get_or-set_other, length-set, subst}
+use Rattle.std.proofs.Common.{◌≡◌, ◌≢◌, ℕ, ◌-◌, ◌%◌, ◌<◌, ◌≤◌, List, [], ◌∷◌, length, get_or, set, take, drop, map, min, false, eqb, Option, Some, None, refl, sym, ap, ◌∙◌, arith, inl, get_or-set_same, get_or-set_other, length-set, subst}
 use Rattle.std.specs.Prelude.{slice_index_or, nat_le, ◌&&◌}
 use Rattle.std.proofs.lemmas.Bool.{cond-false, ne_eqb}
-use Rattle.std.proofs.lemmas.List.{get_or_default, length-map, map-set, same_lists}
+use Rattle.std.proofs.lemmas.List.{get_or_default, map-set, same_lists}
 use Rattle.zc_base.specs.declared.mem_map.MemMap.{MemMap}
 use Rattle.zc_base.specs.declared.place.Place.{Place}
 use Rattle.rv_decode.specs.Memory.{Extent, Stack, blank, changed, extents_of, written}
@@ -15,8 +15,8 @@ use Rattle.sym_machine.specs.declared.why.Why.TheVariants.{StackPointer}
 use Rattle.sym_machine.specs.declared.word.SymByte.{SymByte}
 use Rattle.sym_machine.specs.declared.word.SymByte.TheVariants.{Num, Undef}
 use Rattle.sym_machine.specs.declared.word.SymWord.{SymWord}
-use Rattle.sym_machine.specs.Answer.{RunsOn, StepAnswers}
-use Rattle.sym_machine.specs.Change.{Change, Goes, exit_does, gives, onward, place_does, puts, read_count, read_does}
+use Rattle.sym_machine.specs.Answer.{StepAnswers}
+use Rattle.sym_machine.specs.Change.{Change, Goes, exit_does, gives, onward, place_does, puts, read_does}
 use Rattle.sym_machine.specs.Kept.{IsChanged, IsKept, IsWorking, Kept, above_only, kept_from, regions_of, stack_cells, word_of, words_of}
 use Rattle.sym_machine.specs.Program.{Program, first_memory}
 use Rattle.sym_machine.specs.State.{PlainCore, reg_of}

@@ -1,19 +1,19 @@
 -- A step of the symbolic machine: it begins by the exit's status, and when it ends, sp is a number within the stack and the
 -- bytes below it become undefined (Ended).
-use Rattle.std.proofs.Common.{◌≡◌, ℕ, suc, ◌≤◌, List, [], ◌∷◌, length, Option, Some, None, Bool, true, false, cond, refl, sym, ap, ap₂, ◌∙◌, leb, ltb, slice_index_or}
+use Rattle.std.proofs.Common.{◌≡◌, ℕ, ◌≤◌, List, [], ◌∷◌, length, Option, Some, None, Bool, true, false, cond, refl, sym, ap, ◌∙◌, leb, ltb, slice_index_or}
 use Rattle.std.specs.Prelude.{◌&&◌}
 use Rattle.std.proofs.lemmas.Bool.{and_from, and_parts, cond-true, cond-false, le-leb, leb-true}
 use Rattle.zc_base.specs.declared.mem_map.MemMap.{MemMap}
-use Rattle.rv_decode.specs.Memory.{Region, cells_changed, changed, extents_of, written}
+use Rattle.rv_decode.specs.Memory.{Region, changed, extents_of, written}
 use Rattle.rv_decode.specs.State.{Event}
 use Rattle.rv_decode.proofs.MemoryLaws.{extents-changed}
 use Rattle.sym_machine.specs.declared.why.Why.TheVariants.{StackPointer}
 use Rattle.sym_machine.specs.declared.word.SymByte.{SymByte}
 use Rattle.sym_machine.specs.declared.word.SymByte.TheVariants.{Undef}
-use Rattle.sym_machine.specs.Change.{Change, Does, Goes, Stops, place_does}
+use Rattle.sym_machine.specs.Change.{Does, Goes, Stops, place_does}
 use Rattle.sym_machine.specs.Program.{Program}
 use Rattle.sym_machine.specs.State.{PlainCore, reg_of}
-use Rattle.sym_machine.specs.Step.{PlainStep, Went, Stuck, after_change, ends, ends_at, made, plain_step, step_from, undefined_below, with_stores}
+use Rattle.sym_machine.specs.Step.{Went, Stuck, after_change, ends, ends_at, made, plain_step, step_from, undefined_below, with_stores}
 use Rattle.sym_machine.specs.Words.{number_of}
 
 -- ---- the beginning

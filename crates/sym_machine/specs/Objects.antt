@@ -19,7 +19,7 @@ program_of inputs = record {
   next = next_at inputs.objects;
   is_end = is_end_at inputs.objects;
   is_leader = is_leader_at inputs.objects;
-  entry = entry_of inputs.objects;
+  entry = entry_of inputs;
   map = inputs.map;
   bytes = data_bytes inputs;
 }

@@ -10,8 +10,8 @@ ghost use Rattle.sym_machine.specs.Objects.{program_of};
 ghost use Rattle.sym_machine.specs.State.{reg_of};
 ghost use Rattle.sym_machine.specs.Step.{made, plain_step};
 
-use crate::known::condition;
 use crate::held::Held;
+use crate::known::condition;
 use crate::results::{imm_word, reg_word, sum_code, sum_number, upper_word};
 use crate::state::State;
 use crate::step::SymStep;
@@ -151,12 +151,7 @@ impl State {
     }
 
     // A jump, if it goes to a place in code, with the next place's address in a register.
-    fn jump(
-        &mut self,
-        to: Option<Place>,
-        rd: Reg,
-        next: Place,
-    ) -> Result<SymStep, AllocError>
+    fn jump(&mut self, to: Option<Place>, rd: Reg, next: Place) -> Result<SymStep, AllocError>
         requires { self.old.core.exit ≡ None }
         ensures { Makes result (made self.old.map self.old.core (jump_does to rd next)) self.old.core self.new.core }
     {
@@ -200,7 +195,10 @@ impl State {
     {
         match instr {
             Instr::Branch {
-                op, first, second, ..
+                op,
+                first,
+                second,
+                ..
             } => {
                 let taken = condition(cut, *op, self.register(*first), self.register(*second));
                 Ok(self.branch(taken, to, next))

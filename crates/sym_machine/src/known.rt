@@ -83,7 +83,9 @@ fn equal(cut: &Cut, a: &Held, b: &Held) -> Option<bool>
 {
     match (known_of(a), known_of(b)) {
         (Known::Number(m), Known::Number(n)) => Some(m == n),
-        (Known::Number(n), Known::Code(_)) | (Known::Code(_), Known::Number(n)) => is_code_address(n),
+        (Known::Number(n), Known::Code(_)) | (Known::Code(_), Known::Number(n)) => is_code_address(
+            n,
+        ),
         (Known::Code(q), Known::Code(r)) => equal_places(cut, q, r),
         (Known::Unknown, _) | (_, Known::Unknown) => None,
     }

@@ -1,8 +1,7 @@
-use Rattle.std.proofs.Common.{◌≡◌, ℕ, zero, suc, ◌+◌, ◌-◌, ◌≤◌, List, [], ◌∷◌, ◌++◌, length, map, replicate, take, refl, ap, ap₂, sym, ◌∙◌, arith}
-use Rattle.std.proofs.lemmas.List.{length-append, length-map, length-replicate, map-append, take_all}
-use Rattle.psabi_sym.specs.Contents.{data_contents}
-use Rattle.psabi_sym.specs.Data.{data_end, data_file_end}
-use Rattle.psabi_sym.specs.Inputs.{ParsedInputs, parsed}
+use Rattle.std.proofs.Common.{◌≡◌, ℕ, zero, suc, ◌+◌, ◌-◌, ◌≤◌, List, ◌∷◌, ◌++◌, length, map, replicate, take, refl, ap, ap₂, sym, ◌∙◌, arith}
+use Rattle.std.proofs.lemmas.List.{length-map, map-append, take_all}
+use Rattle.psabi_sym.specs.Data.{data_file_end}
+use Rattle.psabi_sym.specs.Inputs.{parsed}
 use Rattle.psabi_sym.proofs.ContentLaws.{data_file_end-le, data_low-le, length-data_contents}
 use Rattle.sym_machine.specs.declared.word.SymByte.{SymByte}
 use Rattle.sym_machine.specs.declared.word.SymByte.TheVariants.{Num}

@@ -1,5 +1,5 @@
 -- Each step brings the run one step further; a write that the console refused ends it.
-use Rattle.std.proofs.Common.{◌≡◌, ◌+◌, ◌<◌, ◌∷◌, [], ℕ, Ok, ap, sym, ◌∙◌, arith, subst, ⊎_elim, take, List}
+use Rattle.std.proofs.Common.{◌≡◌, ◌+◌, ◌∷◌, [], ℕ, sym, arith, subst, ⊎_elim, take, List}
 use Rattle.psabi_sym.specs.Inputs.{parsed}
 use Rattle.rv_decode.specs.State.{Write}
 use Rattle.rv_decode.specs.Written.{err_of, out_of}
@@ -7,7 +7,7 @@ use Rattle.zc_outside.specs.Desk.{OnlyWrites, Wrote}
 use Rattle.zc_outside.proofs.Desk.{OnlyWrites-refl, OnlyWrites-trans}
 use Rattle.sym_machine.specs.declared.step.SymStep.{SymStep}
 use Rattle.sym_machine.specs.declared.step.SymStep.TheVariants as answer
-use Rattle.sym_machine.specs.Answer.{Makes, StepAnswers}
+use Rattle.sym_machine.specs.Answer.{StepAnswers}
 use Rattle.sym_machine.specs.Objects.{program_of}
 use Rattle.sym_machine.specs.Program.{Program}
 use Rattle.sym_machine.specs.RunEnd.{Course, TracedTo, WrotePart}

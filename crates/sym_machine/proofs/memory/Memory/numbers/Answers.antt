@@ -1,4 +1,4 @@
-use Rattle.std.proofs.Common.{◌≡◌, ◌+◌, ◌++◌, ◌∷◌, [], ap₂, ap, sym, ◌∙◌, refl, ⊎_elim, arith, Some}
+use Rattle.std.proofs.Common.{◌≡◌, ◌+◌, ap₂, ap, sym, ◌∙◌, ⊎_elim, arith, Some}
 use Rattle.rv_decode.specs.Memory.{cell_at}
 use Rattle.sym_machine.specs.declared.word.SymByte.TheVariants.{Undef}
 use Rattle.sym_machine.specs.Change.{then_number}

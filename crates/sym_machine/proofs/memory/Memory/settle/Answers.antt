@@ -1,4 +1,4 @@
-use Rattle.std.proofs.Common.{◌≡◌, ◌-◌, ◌≤◌, length, ap, sym, ◌∙◌, arith, refl, rules}
+use Rattle.std.proofs.Common.{◌≡◌, ◌-◌, ◌≤◌, length, ap, ◌∙◌, arith, refl}
 use Rattle.rv_decode.specs.Memory.{changed}
 use Rattle.sym_machine.specs.Kept.{Kept, regions_of}
 use Rattle.sym_machine.specs.Step.{undefined_below}

@@ -4,7 +4,7 @@ use Rattle.std.specs.Prelude.{slice_index_or}
 use Rattle.rv_decode.specs.Memory.{written}
 use Rattle.sym_machine.specs.declared.word.SymByte.{SymByte}
 use Rattle.sym_machine.specs.declared.word.SymByte.TheVariants.{Num, Undef}
-use Rattle.sym_machine.specs.Kept.{IsChanged, IsKept, Kept}
+use Rattle.sym_machine.specs.Kept.{IsChanged, IsKept}
 use Rattle.sym_machine.proofs.MemoryLaws.{write_more, write_none}
 use Rattle.sym_machine.proofs.memory.Memory.write.Goals as goal
 

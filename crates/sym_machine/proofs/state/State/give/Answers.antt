@@ -1,5 +1,5 @@
 -- A register that is neither register 0 nor sp is set.
-use Rattle.std.proofs.Common.{◌≡◌, ◌≢◌, ℕ, None, ap, ◌∙◌, drop, subst, refl, set, arith}
+use Rattle.std.proofs.Common.{◌≡◌, ℕ, None, ap, ◌∙◌, drop, subst, refl, set, arith}
 use Rattle.sym_machine.specs.declared.step.SymStep.TheVariants as answer
 use Rattle.sym_machine.specs.Answer.{StepAnswers}
 use Rattle.sym_machine.specs.Change.{Goes, gives}

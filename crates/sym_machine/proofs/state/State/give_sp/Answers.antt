@@ -1,15 +1,13 @@
 -- sp is set, if it is a number within the stack.
-use Rattle.std.proofs.Common.{◌≡◌, ℕ, ◌≤◌, ◌<◌, length, None, Some, true, false, ap, sym, ◌∙◌, drop, subst, set, leb, arith}
+use Rattle.std.proofs.Common.{◌≡◌, ◌<◌, length, None, ap, sym, ◌∙◌, drop, subst, set, leb, arith}
 use Rattle.std.specs.Prelude.{◌&&◌}
 use Rattle.std.proofs.lemmas.Bool.{and_parts, leb-true}
 use Rattle.zc_base.specs.declared.mem_map.MemMap.{MemMap}
-use Rattle.rv_decode.specs.Memory.{changed}
 use Rattle.sym_machine.specs.declared.step.SymStep.TheVariants as answer
 use Rattle.sym_machine.specs.Answer.{StepAnswers}
 use Rattle.sym_machine.specs.Change.{Goes, gives}
-use Rattle.sym_machine.specs.Kept.{Kept, Working, regions_of, word_of}
-use Rattle.sym_machine.specs.State.{PlainCore}
-use Rattle.sym_machine.specs.Step.{PlainStep, made, undefined_below}
+use Rattle.sym_machine.specs.Kept.{Working, word_of}
+use Rattle.sym_machine.specs.Step.{PlainStep, made}
 use Rattle.sym_machine.proofs.StateLaws.{core_of, gives_sp, sp_outside, sp_unknown, working_sp}
 use Rattle.sym_machine.proofs.state.State.give_sp.Goals as goal
 

@@ -1,9 +1,8 @@
-use Rattle.std.proofs.Common.{◌≡◌, ◌-◌, ◌∷◌, [], List, None, ap, sym, ◌∙◌}
+use Rattle.std.proofs.Common.{◌≡◌, ◌-◌, ◌∷◌, [], None, ap, ◌∙◌}
 use Rattle.zc_base.specs.declared.mem_map.MemMap.{MemMap}
 use Rattle.psabi_sym.specs.Inputs.{Inputs, parsed}
-use Rattle.rv_decode.specs.Memory.{Region, Data, Stack, blank}
+use Rattle.rv_decode.specs.Memory.{Data, Stack, blank}
 use Rattle.rv_decode.specs.State.{start_regs}
-use Rattle.sym_machine.specs.declared.word.SymByte.{SymByte}
 use Rattle.sym_machine.specs.declared.word.SymByte.TheVariants.{Undef}
 use Rattle.sym_machine.specs.Kept.{regions_of, stack_cells}
 use Rattle.sym_machine.specs.Objects.{data_bytes, program_of}

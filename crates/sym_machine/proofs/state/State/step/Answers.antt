@@ -1,12 +1,10 @@
 -- A step goes by the exit's status, and then by what stands at the place.
 use Rattle.std.proofs.Common.{◌≡◌, None, Some, ap, sym, ◌∙◌, refl, inr, subst}
 use Rattle.std.specs.Option.{option_map}
-use Rattle.zc_base.specs.declared.place.Place.{Place}
 use Rattle.psabi_sym.specs.Inputs.{parsed}
 use Rattle.rv_decode.specs.Memory.{extents_of}
-use Rattle.block_cut.specs.Items.{item_at, next_at}
 use Rattle.sym_machine.specs.Answer.{Makes, StepAnswers}
-use Rattle.sym_machine.specs.Change.{Does, item_does, place_does}
+use Rattle.sym_machine.specs.Change.{place_does}
 use Rattle.sym_machine.specs.Kept.{Working}
 use Rattle.sym_machine.specs.Objects.{program_of}
 use Rattle.sym_machine.specs.Program.{Program}

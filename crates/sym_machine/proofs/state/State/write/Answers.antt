@@ -1,8 +1,6 @@
-use Rattle.std.proofs.Common.{◌≡◌, ℕ, ◌∷◌, [], None, ap, ◌∙◌, drop, subst, refl, set, arith}
+use Rattle.std.proofs.Common.{◌≡◌, ◌∷◌, [], None, ap, ◌∙◌, drop, subst, refl, set, arith}
 use Rattle.rv_decode.specs.State.{Write}
 use Rattle.sym_machine.specs.declared.held.Held.TheVariants as held
-use Rattle.sym_machine.specs.declared.step.SymStep.TheVariants as answer
-use Rattle.sym_machine.specs.Answer.{StepAnswers}
 use Rattle.sym_machine.specs.Change.{Goes, gives}
 use Rattle.sym_machine.specs.Kept.{Working}
 use Rattle.sym_machine.specs.Step.{Went, made}
