@@ -1,5 +1,5 @@
--- The rows of the tables of halfwords: which bits each has, and which halfwords are hints (RISC-V unprivileged manual, "RVC
--- Instruction Set Listings"; RISC-V Zc specification 1.0, "Zcb").
+-- The rows of the tables of halfwords, by their bits (RISC-V unprivileged manual, "RVC Instruction Set Listings"; RISC-V Zc
+-- specification 1.0, "Zcb").
 use Rattle.std.specs.Prelude.{ℕ, ◌+◌, ◌*◌, List, [], ◌∷◌, Option, Some, None, Bool, ◌==◌, if◌then◌else◌}
 use Rattle.std.specs.Option.{option_and_then}
 use Rattle.rv_decode.specs.Bits.{field}
