@@ -241,8 +241,9 @@ fn contents_stand_at_their_addresses(rt: HostRuntime) -> Result<(), Fail> {
 
 #[test]
 fn relocations_stand_in_the_section_that_names_theirs(rt: HostRuntime) -> Result<(), Fail> {
-    let mut files = copies(rt.alloc(), &[&CALLER])?;
-    files[0][CALLED] = WEAK;
+    let mut caller = CALLER;
+    caller[CALLED] = WEAK;
+    let files = copies(rt.alloc(), &[&caller])?;
     let objects = Objects::gather(rt.alloc(), &files, MemMap::standard())?;
     for section in 0..objects.object(0).section_count() as u16 {
         let want = if section == 1 { Some(3) } else { None };
