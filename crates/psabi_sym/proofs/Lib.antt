@@ -2,6 +2,7 @@ pub mod AccessLaws
 pub mod BlockLaws
 pub mod BridgeLaws
 pub mod CommonLaws
+pub mod ContentLaws
 pub mod DefinedLaws
 pub mod FaultLaws
 pub mod FlatLaws

@@ -1,5 +1,6 @@
 pub mod Blocks
 pub mod Classes
+pub mod Contents
 pub mod Data
 pub mod Faults
 pub mod Gathered

@@ -4,6 +4,7 @@
 
 pub mod block;
 mod commons;
+mod contents;
 pub mod data_class;
 mod definitions;
 mod layout;

@@ -1,6 +1,6 @@
 // The objects of a link.
 
-ghost use Rattle.std.specs.Prelude.{◌≡◌, ◌≤◌, ◌<◌, List, ℕ, length, map, None, Some, IfOk, IfErr, IsSome, Option, [], slice_get, slice_index_or};
+ghost use Rattle.std.specs.Prelude.{◌≡◌, ◌+◌, ◌≤◌, ◌<◌, List, ℕ, length, map, None, Some, IfOk, IfErr, IsSome, Option, [], slice_get, slice_index_or};
 ghost use Rattle.zc_base.specs.MemMap.{IsMap};
 ghost use Rattle.psabi_sym.specs.Data.{data_address, data_end, data_file_end, is_code_at};
 ghost use Rattle.psabi_sym.specs.Resolve.{Definition, definition_target, home_target, name_target, resolved, undefined_target};
@@ -131,7 +131,8 @@ impl Objects {
 
     /// The memory map.
     pub fn map(&self) -> MemMap
-        ensures { result ≡ self.now.map }
+        ensures value { result ≡ self.now.map }
+        ensures is_map { IsMap result }
     {
         self.map
     }
@@ -145,7 +146,8 @@ impl Objects {
 
     /// Where all data ends in memory.
     pub fn data_end(&self) -> u32
-        ensures { result ≡ data_end (parsed self.now) }
+        ensures value { result ≡ data_end (parsed self.now) }
+        ensures most { result ≤ self.now.map.data_low + 0x40_0000 }
     {
         self.definitions.end
     }
