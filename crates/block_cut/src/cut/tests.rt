@@ -107,29 +107,32 @@ fn addi(rd: u8, imm: i32) -> Option<Item> {
     }))
 }
 
+fn ecall() -> Option<Item> {
+    Some(Item::Op(Instr::Ecall))
+}
+
 #[test]
 fn each_word_of_code_is_an_item_of_its_section(rt: HostRuntime) -> Result<(), Fail> {
     let Ok(cut) = cut_of(rt.alloc(), &[], &[UNNAMED, (WORD + 2, 0x40)]) else {
         panic!(rt; "refused");
     };
-    let ecall = Some(Item::Op(Instr::Ecall));
     let rows = [
         ("first", place(0, 1, 0), addi(10, 3)),
         ("second", place(0, 1, 4), addi(0, 0)),
-        ("last", place(0, 1, 12), ecall),
+        ("last", place(0, 1, 12), ecall()),
         ("within a word", place(0, 1, 2), None),
         ("the end", place(0, 1, 16), None),
         ("far out", place(0, 1, 0xFFFF_FFFC), None),
         ("section 0", place(0, 0, 0), None),
         ("data", place(0, 2, 0), None),
         ("more code", place(0, 3, 0), addi(17, 93)),
-        ("its last", place(0, 3, 4), ecall),
+        ("its last", place(0, 3, 4), ecall()),
         ("its end", place(0, 3, 8), None),
         ("code without a word", place(0, 4, 0), None),
         ("what is dropped", place(0, 5, 0), None),
         ("no section", place(0, 10, 0), None),
         ("the other object", place(1, 1, 0), addi(10, 4)),
-        ("its last code", place(1, 3, 4), ecall),
+        ("its last code", place(1, 3, 4), ecall()),
         ("no object", place(2, 1, 0), None),
     ];
     for (row, p, want) in rows {
@@ -178,7 +181,7 @@ fn a_branch_goes_to_a_place_or_is_copied_unread(rt: HostRuntime) -> Result<(), F
         ("jump into a word", 0x0020_00EF, raw(0x0020_00EF)),
         ("a write to jvt", 0x0172_9073, raw(0x0172_9073)),
         ("no instruction", 0, raw(0)),
-        ("ecall", 0x0000_0073, Some(Item::Op(Instr::Ecall))),
+        ("ecall", 0x0000_0073, ecall()),
     ];
     for (row, word, want) in rows {
         let [a, b, c, d] = word.to_le_bytes();
@@ -273,15 +276,14 @@ fn the_start_may_stand_in_any_object(rt: HostRuntime) -> Result<(), Fail> {
     Ok(())
 }
 
-// Each row: the alignments of code in both objects, and how far behind the text's start lie section 3 of
-// the first object, and sections 1, 3 and 4 of the second.
+// Each row: the alignments of code in both objects, and the addresses of the second word of section 3 in
+// the first, and of sections 1, 3 and 4 in the second. The text begins at 0x10000, and ends with section 4.
 #[test]
 fn code_lies_at_multiples_of_its_alignment(rt: HostRuntime) -> Result<(), Fail> {
-    let text = MemMap::standard().text;
-    for (first, second, want) in [
-        ([4, 0], 16, [0x10, 0x18, 0x30, 0x38]),
-        ([1, 0], 1, [0x10, 0x18, 0x28, 0x30]),
-        ([0, 1], 8, [0x10, 0x100, 0x110, 0x118]),
+    for (first, second, want, text) in [
+        ([4, 0], 16, [0x1_0014, 0x1_0018, 0x1_0030, 0x1_0038], 0x38),
+        ([1, 0], 1, [0x1_0014, 0x1_0018, 0x1_0028, 0x1_0030], 0x30),
+        ([0, 1], 8, [0x1_0014, 0x1_0100, 0x1_0110, 0x1_0118], 0x118),
     ] {
         let changes = [
             (FIRST_ALIGN, first[0]),
@@ -292,18 +294,21 @@ fn code_lies_at_multiples_of_its_alignment(rt: HostRuntime) -> Result<(), Fail> 
         let Ok(cut) = cut_of(rt.alloc(), &changes[..3], &changes) else {
             panic!(rt; "refused");
         };
-        let address = |object, section, offset| cut.plain_address(place(object, section, offset));
-        assert_eq!(rt; address(0, 1, 12), Some(text + 12));
-        assert_eq!(rt; address(0, 1, 16), Some(text + 16));
-        assert_eq!(rt; address(0, 3, 4), Some(text + want[0] + 4));
-        assert_eq!(rt; address(1, 1, 0), Some(text + want[1]));
-        assert_eq!(rt; address(1, 3, 8), Some(text + want[2] + 8));
-        assert_eq!(rt; address(1, 4, 0), Some(text + want[3]));
-        assert_eq!(rt; address(0, 1, 18), None);
-        assert_eq!(rt; address(0, 1, 20), None);
-        assert_eq!(rt; address(0, 2, 0), None);
-        assert_eq!(rt; cut.counts().text, want[3]);
-        assert_eq!(rt; cut.counts().items, 12);
+        let rows = [
+            ("an item", place(0, 1, 12), Some(0x1_000C)),
+            ("an end", place(0, 1, 16), Some(0x1_0010)),
+            ("another section", place(0, 3, 4), Some(want[0])),
+            ("another object", place(1, 1, 0), Some(want[1])),
+            ("its other section", place(1, 3, 0), Some(want[2])),
+            ("code without a word", place(1, 4, 0), Some(want[3])),
+            ("behind an end", place(0, 1, 20), None),
+            ("within a word", place(0, 1, 10), None),
+            ("data", place(0, 2, 0), None),
+        ];
+        for (row, p, address) in rows {
+            assert_eq!(rt; cut.plain_address(p), address, "{row}");
+        }
+        assert_eq!(rt; (cut.counts().text, cut.counts().items), (text, 12));
     }
     Ok(())
 }

@@ -12,7 +12,7 @@ use Rattle.block_cut.proofs.code.Code.new.Goals as goal
 
 pub loop-i-init : goal.loop-i-init
 loop-i-init c = record {
-  code = none_yet (parsed c.args.objects.now) (record { text = c.new.result; sections = c.new-2.result }) c.new.ensures.items (c.new.ensures.end ∙ ap (λ m. m.text) c.map.ensures) c.new-2.ensures.items;
+  code = none_yet (parsed c.args.objects.now) (record { text = c.new.result; sections = c.new-2.result }) c.new.ensures.items (c.new.ensures.end ∙ ap (λ m. m.text) c.map.ensures.value) c.new-2.ensures.items;
   built = λ k d lt. absurd (omega (arith, lt));
 }
 
