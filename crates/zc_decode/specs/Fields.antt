@@ -3,7 +3,7 @@
 use Rattle.std.specs.Prelude.{ℕ, ℤ, ◌+◌, ◌-◌, ◌*◌, ◌^◌}
 use Rattle.rv_decode.specs.Bits.{field, signed}
 
--- which rows come in question: bits 15 to 13 and 1 to 0, as one number of five bits
+-- which rows are possible: bits 15 to 13 and 1 to 0, as one number of five bits
 abbrev pub group_of : ℕ → ℕ
 group_of half = field half 13 3 * 4 + field half 0 2
 

@@ -4,7 +4,7 @@ use Rattle.zc_decode.specs.Fields.{amount_of, ci_bits_of, rd_of}
 use Rattle.zc_decode.specs.declared.form.Form.{Form}
 use Rattle.zc_decode.specs.declared.form.Form.TheVariants.{CAddi4spn, CLw, CSw, CLbu, CLhu, CLh, CSb, CSh, CNop, CAddi, CJal, CLi, CAddi16sp, CLui, CSrli, CSrai, CAndi, CSub, CXor, COr, CAnd, CMul, CZextB, CNot, CJ, CBeqz, CBnez, CSlli, CLwsp, CJr, CMv, CEbreak, CJalr, CAdd, CSwsp}
 
--- whether a halfword of a row is a hint: it changes nothing but pc
+-- whether the standard names a halfword of a row as a hint
 abbrev pub is_hint : Form → ℕ → Bool
 is_hint CAddi4spn half = false
 is_hint CLw half = false

@@ -1,10 +1,10 @@
 // The rows of the tables of halfwords.
 
-/// A row of the tables of halfwords, by the name of its instruction: Zca with Zcb's rows among them, by
-/// the low two bits and then the high three (RISC-V unprivileged manual, "RVC Instruction Set Listings";
+/// A row of the tables of halfwords, by the name of its instruction: those of Zca and Zcb by quadrant,
+/// with Zcb's after Zca's in quadrant 0 (RISC-V unprivileged manual, "RVC Instruction Set Listings";
 /// RISC-V Zc specification 1.0, "Zcb").
 ///
-/// The order is that of the tables: of two rows that have a halfword for an instruction, the first is
+/// The order is this project's own. Of two rows that have a halfword for an instruction, the first is
 /// the one to take.
 #[derive(Clone, Copy, PartialEq, Eq, Debug)]
 pub enum Form {

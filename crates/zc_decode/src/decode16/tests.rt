@@ -1,4 +1,4 @@
-// Halfwords as LLVM's disassembler reads them, and halfwords beside the tables.
+// Halfwords as LLVM's disassembler reads them, and halfwords outside the tables.
 
 use super::*;
 use crate::fields::register;
@@ -19,7 +19,7 @@ fn mixed(sum: u32, half: u16) -> u32 {
 
 fn fields(i: Instr) -> (u32, u32, u32, u32) {
     match i {
-        Instr::Upper { rd, imm, .. } => (0, at(rd), 0, imm),
+        Instr::Upper { op, rd, imm } => (op as u32, at(rd), 0, imm),
         Instr::Jal { rd, distance } => (32, at(rd), 0, distance.cast_unsigned()),
         Instr::Jalr { rd, base, imm } => (64, at(rd), at(base), imm.cast_unsigned()),
         Instr::Branch {
@@ -51,7 +51,10 @@ fn fields(i: Instr) -> (u32, u32, u32, u32) {
             first,
             second,
         } => (224 + op as u32, at(rd), at(first), at(second)),
-        _ => (256, 0, 0, 0),
+        Instr::Ebreak => (256, 0, 0, 0),
+        Instr::Ecall => (257, 0, 0, 0),
+        Instr::Fence { rest } => (258, 0, 0, rest),
+        Instr::Csrrw { rd, source } => (259, at(rd), at(source), 0),
     }
 }
 
@@ -71,7 +74,7 @@ fn all_halfwords_are_read_as_llvm_reads_them(rt: HostRuntime) {
     assert_eq!(rt; (count, sum), (29799, 0xF4FA_3007));
 }
 
-// Zcb's rows, of the standard's own examples.
+// Rows of Zcb.
 #[test]
 fn halfwords_of_zcb_decode(rt: HostRuntime) {
     let (a0, a1) = (register(10), register(11));

@@ -1,5 +1,5 @@
-// Words, and the halfwords that LLVM's assembler or disassembler has for their instructions. Each form is
-// met at its least and its greatest immediate, and beyond.
+// Words, and the halfwords that the assemblers of GNU and LLVM, or LLVM's disassembler, have for their
+// instructions. Each form is met at its least and its greatest immediate, and at the next ones beyond.
 
 use super::*;
 use rv_decode::decode::decode;
@@ -16,6 +16,7 @@ fn short(word: u32) -> u16 {
 #[test]
 fn operations_with_an_immediate_have_their_halfwords(rt: HostRuntime) {
     let table = [
+        (0x0001_0513, 0x850A), // addi a0,sp,0
         (0x0041_0513, 0x0048), // addi a0,sp,4
         (0x3FC1_0513, 0x1FE8), // addi a0,sp,1020
         (0x4001_0513, 0x0000), // addi a0,sp,1024
@@ -46,9 +47,13 @@ fn operations_with_an_immediate_have_their_halfwords(rt: HostRuntime) {
         (0x0000_1137, 0x0000), // lui sp,1
         (0x0000_1037, 0x0000), // lui x0,1
         (0x0000_1517, 0x0000), // auipc a0,1
+        (0x0005_5513, 0x0000), // srli a0,a0,0
+        (0x0015_5513, 0x8105), // srli a0,a0,1
         (0x01F5_5513, 0x817D), // srli a0,a0,31
         (0x01F2_D293, 0x0000), // srli t0,t0,31
+        (0x4005_5513, 0x0000), // srai a0,a0,0
         (0x4015_5513, 0x8505), // srai a0,a0,1
+        (0x41F5_5513, 0x857D), // srai a0,a0,31
         (0x0015_D513, 0x0000), // srli a0,a1,1
         (0x01F5_7513, 0x897D), // andi a0,a0,31
         (0x0205_7513, 0x0000), // andi a0,a0,32
@@ -59,6 +64,7 @@ fn operations_with_an_immediate_have_their_halfwords(rt: HostRuntime) {
         (0xFFF5_4513, 0x9D75), // xori a0,a0,-1
         (0xFFE5_4513, 0x0000), // xori a0,a0,-2
         (0x0015_6513, 0x0000), // ori a0,a0,1
+        (0x0005_1513, 0x0000), // slli a0,a0,0
         (0x01F5_1513, 0x057E), // slli a0,a0,31
         (0x0015_1513, 0x0506), // slli a0,a0,1
         (0x0015_9513, 0x0000), // slli a0,a1,1
@@ -97,27 +103,45 @@ fn operations_on_two_registers_have_their_halfwords(rt: HostRuntime) {
 fn loads_and_stores_have_their_halfwords(rt: HostRuntime) {
     let table = [
         (0x0005_A503, 0x4188), // lw a0,0(a1)
+        (0xFFC5_A503, 0x0000), // lw a0,-4(a1)
         (0x07C5_A503, 0x5DE8), // lw a0,124(a1)
         (0x0805_A503, 0x0000), // lw a0,128(a1)
         (0x0025_A503, 0x0000), // lw a0,2(a1)
         (0x0005_A283, 0x0000), // lw t0,0(a1)
+        (0x00F4_2023, 0xC01C), // sw a5,0(s0)
+        (0xFEF4_2E23, 0x0000), // sw a5,-4(s0)
         (0x06F4_2E23, 0xDC7C), // sw a5,124(s0)
         (0x08F4_2023, 0x0000), // sw a5,128(s0)
+        (0x0005_C503, 0x8188), // lbu a0,0(a1)
+        (0xFFF5_C503, 0x0000), // lbu a0,-1(a1)
         (0x0035_C503, 0x81E8), // lbu a0,3(a1)
         (0x0045_C503, 0x0000), // lbu a0,4(a1)
+        (0x0005_D503, 0x8588), // lhu a0,0(a1)
+        (0xFFE5_D503, 0x0000), // lhu a0,-2(a1)
         (0x0025_D503, 0x85A8), // lhu a0,2(a1)
         (0x0045_D503, 0x0000), // lhu a0,4(a1)
+        (0x0005_9503, 0x85C8), // lh a0,0(a1)
+        (0xFFE5_9503, 0x0000), // lh a0,-2(a1)
         (0x0025_9503, 0x85E8), // lh a0,2(a1)
+        (0x0045_9503, 0x0000), // lh a0,4(a1)
         (0x0015_9503, 0x0000), // lh a0,1(a1)
+        (0x00A5_8023, 0x8988), // sb a0,0(a1)
+        (0xFEA5_8FA3, 0x0000), // sb a0,-1(a1)
         (0x00A5_81A3, 0x89E8), // sb a0,3(a1)
         (0x00A5_8223, 0x0000), // sb a0,4(a1)
+        (0x00A5_9023, 0x8D88), // sh a0,0(a1)
+        (0xFEA5_9F23, 0x0000), // sh a0,-2(a1)
         (0x00A5_9123, 0x8DA8), // sh a0,2(a1)
         (0x00A5_9223, 0x0000), // sh a0,4(a1)
         (0x0005_8503, 0x0000), // lb a0,0(a1)
+        (0x0001_2283, 0x4282), // lw t0,0(sp)
+        (0xFFC1_2283, 0x0000), // lw t0,-4(sp)
         (0x0FC1_2283, 0x52FE), // lw t0,252(sp)
         (0x1001_2283, 0x0000), // lw t0,256(sp)
         (0x0001_2003, 0x0000), // lw x0,0(sp)
         (0x07C1_2503, 0x5576), // lw a0,124(sp)
+        (0x0001_2023, 0xC002), // sw x0,0(sp)
+        (0xFE01_2E23, 0x0000), // sw x0,-4(sp)
         (0x0E01_2E23, 0xDF82), // sw x0,252(sp)
         (0x1001_2023, 0x0000), // sw x0,256(sp)
     ];
@@ -143,6 +167,9 @@ fn jumps_and_branches_have_their_halfwords(rt: HostRuntime) {
         (0xF0F0_00E3, 0xD381), // beq x0,a5,.-256
         (0xEE04_0FE3, 0x0000), // beq s0,x0,.-258
         (0x0E04_1F63, 0xEC7D), // bne s0,x0,.+254
+        (0x1004_1063, 0x0000), // bne s0,x0,.+256
+        (0xF004_10E3, 0xF001), // bne s0,x0,.-256
+        (0xEE04_1FE3, 0x0000), // bne s0,x0,.-258
         (0x00A4_1463, 0x0000), // bne s0,a0,.+8
         (0x0002_9463, 0x0000), // bne t0,x0,.+8
         (0x0004_4463, 0x0000), // blt s0,x0,.+8
@@ -181,7 +208,7 @@ fn spells(half: u16, want: Instr) -> bool {
     }
 }
 
-// Of the 29,799 halfwords that decode 330 are hints that no halfword stands for.
+// Of the 29,799 halfwords that decode 330 are hints whose normal form no other halfword has.
 #[test]
 fn halfwords_come_back_with_one_normal_form(rt: HostRuntime) {
     let mut found = 0_u32;
