@@ -1,6 +1,9 @@
-pub mod CutLaws
+pub mod CodeLaws
+pub mod FaultLaws
 pub mod ItemLaws
-pub mod ItemLoop
+pub mod ListedLaws
+pub mod RoomLaws
 pub mod StartLaws
-pub mod StraightLaws
-pub mod WordLaws
+pub mod TableLaws
+pub mod TextLaws
+pub mod WholeLaws

@@ -1,26 +1,32 @@
 // The objects with their code cut into items.
 
-ghost use Rattle.std.specs.Prelude.{◌≡◌, ◌<◌, ◌+◌, ◌^◌, None, IfOk, IfErr, IfSome, slice_get};
+ghost use Rattle.std.specs.Prelude.{◌≡◌, ◌<◌, ◌+◌, ◌^◌, None, IfOk, IfErr, IfSome};
 ghost use Rattle.std.specs.Option.{option_map};
-ghost use Rattle.psabi_sym.specs.Inputs.{parsed};
+ghost use Rattle.psabi_sym.specs.Faults.{gather_fault};
+ghost use Rattle.psabi_sym.specs.Inputs.{parsed, Inputs};
 ghost use Rattle.psabi_sym.specs.LinkFault.{IsRefusal};
+ghost use Rattle.block_cut.specs.Cut.{IsCode};
 ghost use Rattle.block_cut.specs.Faults.{first_fault};
-ghost use Rattle.block_cut.specs.Items.{entry_of, item_at, next_at};
+ghost use Rattle.block_cut.specs.Items.{entry_of, item_at, next_at, start_only};
+ghost use Rattle.block_cut.specs.PlainLayout.{plain_address, plain_counts};
 
+use crate::code::Code;
 use crate::item::Item;
-use crate::straight::{has_other_parts, items_in};
 use elf32_read::fault::Fault;
 use psabi_sym::link_fault::LinkFault;
 use psabi_sym::objects::Objects;
+use psabi_sym::target::Target;
 use std::alloc::Global;
 use std::marker::Model;
+use zc_base::counts::Counts;
 use zc_base::place::Place;
 
 /// The objects of a link without a fault, with their code cut into items. Each word was decoded once.
 #[derive(Debug, Drop)]
 pub struct Cut {
     objects: Objects,
-    items: Vec<Item>,
+    code: Code,
+    entry: Place,
 }
 
 impl Model for Cut {
@@ -31,58 +37,40 @@ impl Model for Cut {
 
     ghost view = { λ cut. cut.objects };
 
-    ghost invariant = { λ cut. IsCut cut.objects cut.items.items };
-}
-
-// The fault of what isn't linked so far, in an object by its index.
-fn not_built(index: u32) -> LinkFault
-    ensures { result ≡ LinkFault.Object index Fault.NotBuilt }
-{
-    LinkFault::Object {
-        index,
-        fault: Fault::NotBuilt,
-    }
-}
-
-// The item with an index.
-fn nth_item(items: &[Item], i: u32) -> Option<Item>
-    ensures { result ≡ slice_get items.now i }
-{
-    items.get(i as usize).copied()
+    ghost invariant = { λ cut. IsCut cut.objects cut.code cut.entry };
 }
 
 impl Cut {
-    /// Cuts the code of the objects into items, or says why they aren't linked.
+    /// Cuts the code of the objects into items, or says why they aren't linked. It takes time linear in
+    /// the objects' bytes, sections and relocations.
     pub fn new(alloc: Global, objects: Objects) -> Result<Cut, LinkFault>
         ensures same { IfOk result (λ cut. cut ≡ objects) }
         ensures faultless { IfOk result (λ _. first_fault objects ≡ None) }
         ensures err { IfErr result (λ fault. IsRefusal (first_fault objects) fault) }
     {
-        // With no object the first is missing, and of several the second is one too many.
-        let count = objects.object_count();
-        if count != 1 {
-            return Err(not_built(count.min(1)));
-        }
-        let object = objects.object(0);
-        if has_other_parts(&object) {
-            return Err(not_built(0));
-        }
-        match items_in(alloc, object.section(1).bytes)? {
-            Some(items) => Ok(Cut { objects, items }),
-            None => Err(not_built(0)),
+        let code = match Code::new(alloc, &objects) {
+            Err(fault) => return Err(fault),
+            Ok(code) => code,
+        };
+        match start_only(&code, objects.start()) {
+            None => Err(LinkFault::Object {
+                index: 0,
+                fault: Fault::NoEntry,
+            }),
+            Some(entry) => Ok(Cut {
+                objects,
+                code,
+                entry,
+            }),
         }
     }
 
-    /// The item at a place, if one starts there. It takes constant time.
+    /// The item at a place, if one starts there. It takes constant time, as do all that follow.
     pub fn item(&self, p: Place) -> Option<Item>
         ensures item { result ≡ item_at (parsed self.now).objects p }
         ensures room { IfSome result (λ _. p.offset + 4 < 2 ^ 32) }
     {
-        let items = &self.items;
-        if p.object != 0 || p.section != 1 || p.offset % 4 != 0 {
-            return None;
-        }
-        nth_item(items, p.offset / 4)
+        self.code.item(p)
     }
 
     /// The place after the item at a place, if one starts there.
@@ -100,15 +88,22 @@ impl Cut {
         })
     }
 
+    /// The address in the plain layout of a place where an item starts or a section of code ends.
+    pub fn plain_address(&self, p: Place) -> Option<u32>
+        ensures { result ≡ plain_address (parsed self.now) p }
+    {
+        let section = self.code.section(p.object, p.section)?;
+        if !section.has_target(p.offset) {
+            return None;
+        }
+        Some(section.address + p.offset)
+    }
+
     /// The place where the program starts.
     pub fn entry(&self) -> Place
-        ensures { result ≡ entry_of (parsed self.now).objects }
+        ensures { result ≡ entry_of (parsed self.now) }
     {
-        Place {
-            object: 0,
-            section: 1,
-            offset: 0,
-        }
+        self.entry
     }
 
     /// The objects.
@@ -118,6 +113,37 @@ impl Cut {
     {
         &self.objects
     }
+
+    /// What the plain layout counts.
+    pub fn counts(&self) -> Counts
+        ensures { result ≡ plain_counts (parsed self.now) }
+    {
+        let text = &self.code.text;
+        Counts {
+            text: text.end - self.objects.map().text,
+            items: text.items.len() as u32,
+            short: 0,
+            long: 0,
+            pushes: 0,
+            pops: 0,
+            moves: 0,
+            table: 0,
+        }
+    }
+}
+
+// The place that a target is, if an item starts there.
+fn start_only(code: &Code, target: Target) -> Option<Place>
+    ensures { (inputs : Inputs) → gather_fault inputs ≡ None → IsCode (parsed inputs) code.now
+        → result ≡ start_only (parsed inputs).objects target }
+{
+    let Target::Code(p) = target else {
+        return None;
+    };
+    if !code.has_start(p) {
+        return None;
+    }
+    Some(p)
 }
 
 #[cfg(test)]

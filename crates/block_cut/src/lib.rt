@@ -1,7 +1,11 @@
-//! The code of the objects, cut into items. So far the objects of a link are one object of straight
-//! code.
+//! The code of the objects, cut into items.
 #![tactic(auto)]
 
+mod code;
+mod code_section;
 pub mod cut;
 pub mod item;
-mod straight;
+mod plain_layout;
+mod relocs;
+mod spelled;
+mod text;

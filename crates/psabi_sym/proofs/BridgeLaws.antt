@@ -149,7 +149,7 @@ module _ (names : List (List ℕ)) (objects : List ObjectParts)
       All-cons P l _ (All-head P l ls all) (All-filter (λ m. not (same_name m.symbol.name l.symbol.name)) P (firsts ls) (All-firsts P ls (All-tail P l ls all)))
 
   -- what is placed has a number
-  placed_numbered : All (λ l. number_of names l.symbol.name < length names) (commons_placed objects)
+  pub placed_numbered : All (λ l. number_of names l.symbol.name < length names) (commons_placed objects)
   unfolding commons_placed
   placed_numbered =
       All-firsts (λ l. number_of names l.symbol.name < length names) _

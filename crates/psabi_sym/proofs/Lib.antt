@@ -2,6 +2,7 @@ pub mod AccessLaws
 pub mod BlockLaws
 pub mod BridgeLaws
 pub mod CommonLaws
+pub mod ContentLaws
 pub mod DefinedLaws
 pub mod FaultLaws
 pub mod FlatLaws
@@ -12,6 +13,7 @@ pub mod NumberedLaws
 pub mod PartLaws
 pub mod PlaceLaws
 pub mod RowLaws
+pub mod StartLaws
 pub mod SumLaws
 pub mod Tables
 pub mod UsedLaws

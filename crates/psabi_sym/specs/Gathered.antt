@@ -3,6 +3,7 @@ use Rattle.std.specs.Prelude.{◌≡◌, None}
 use Rattle.zc_base.specs.MemMap.{IsMap}
 use Rattle.psabi_sym.specs.Faults.{gather_fault}
 use Rattle.psabi_sym.specs.Inputs.{Inputs, parsed}
+use Rattle.psabi_sym.specs.Start.{IsStart}
 use Rattle.psabi_sym.specs.Tables.{AreDefined, AreIndexed}
 use Rattle.psabi_sym.specs.declared.definitions.Definitions.{Definitions}
 use Rattle.psabi_sym.specs.declared.sections.Sections.{Sections}
@@ -14,3 +15,4 @@ pub record IsGathered (inputs : Inputs) (sections : Sections) (symbols : Symbols
   pub is_map : IsMap inputs.map
   pub indexed : AreIndexed (parsed inputs) sections.rows.items sections.starts.items symbols.starts.items
   pub defined : AreDefined (parsed inputs) sections.rows.items definitions.addresses.items symbols.rows.items definitions.meanings.items definitions.file_end definitions.end
+  pub start : IsStart (parsed inputs) definitions.start

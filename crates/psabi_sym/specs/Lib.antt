@@ -1,5 +1,6 @@
 pub mod Blocks
 pub mod Classes
+pub mod Contents
 pub mod Data
 pub mod Faults
 pub mod Gathered
@@ -14,4 +15,5 @@ pub mod Numbered
 pub mod Places
 pub mod Resolve
 pub mod Rows
+pub mod Start
 pub mod Tables

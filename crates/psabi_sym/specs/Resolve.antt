@@ -95,6 +95,12 @@ abbrev pub definition_target : ParsedInputs → ℤ → Definition → Target
 definition_target inputs addend (InObject l) = home_target inputs l.object l.symbol addend
 definition_target inputs addend (AtNumber n) = number n addend
 
+-- ---- names
+
+-- where a name leads that no symbol of an object stands for: nowhere if nothing defines it
+abbrev pub name_target : ParsedInputs → List ℕ → Target
+name_target inputs name = option_map_or (definition_target inputs (pos 0)) (name_definition inputs name) Nowhere
+
 -- ---- symbols
 
 -- what nothing defines: a weak (2) symbol is absent, which is no error

@@ -8,6 +8,7 @@ ghost use Rattle.psabi_sym.specs.Faults.{sum_fault};
 ghost use Rattle.psabi_sym.specs.Listed.{all_sections, all_symbols};
 ghost use Rattle.psabi_sym.specs.Numbered.{IsNumbered};
 ghost use Rattle.psabi_sym.specs.Rows.{first_row, section_row};
+ghost use Rattle.psabi_sym.specs.Start.{IsStart};
 ghost use Rattle.psabi_sym.specs.Tables.{AreDefined};
 
 use crate::commons::place_commons;
@@ -16,6 +17,7 @@ use crate::loaded::Loaded;
 use crate::meaning::{LinkerNumbers, Meaning, meanings};
 use crate::name_tables::{common_blocks, first_definitions};
 use crate::section_row::SectionRow;
+use crate::start::start_meaning;
 use crate::symbol_row::SymbolRow;
 use std::alloc::{AllocError, Global};
 use zc_base::mem_map::MemMap;
@@ -25,12 +27,13 @@ const WEAK: u8 = 2;
 // How far after the start of small data the global pointer stands.
 const GLOBAL_POINTER: u32 = 0x800;
 
-/// The address of each section, what each name stands for, and where data ends, in the file and in
-/// memory.
+/// The address of each section, what each name stands for and what `_start` does, and where data ends,
+/// in the file and in memory.
 #[derive(Debug, Drop)]
 pub struct Definitions {
     pub addresses: Vec<u32>,
     pub meanings: Vec<Meaning>,
+    pub start: Meaning,
     pub file_end: u32,
     pub end: u32,
 }
@@ -51,8 +54,9 @@ pub fn define(
     requires sections { sections.now ≡ map section_row (all_sections (map object_parts objects.now)) }
     requires symbols { IsNumbered (map (λ name. name.now) names.now) (all_symbols (map object_parts objects.now)) symbols.now }
     requires strong { strong.now ≡ map (first_row 1 symbols.now) (range_with_len 0 (length names.now)) }
-    ensures { IfOk result (λ definitions. AreDefined (record { objects = map object_parts objects.now; map = memory.now })
+    ensures tables { IfOk result (λ definitions. AreDefined (record { objects = map object_parts objects.now; map = memory.now })
         sections.now definitions.addresses.items symbols.now definitions.meanings.items definitions.file_end definitions.end) }
+    ensures start { IfOk result (λ definitions. IsStart (record { objects = map object_parts objects.now; map = memory.now }) definitions.start) }
 {
     let weak = first_definitions(alloc, symbols, names.len(), WEAK)?;
     let blocks = common_blocks(alloc, symbols, names.len())?;
@@ -65,9 +69,11 @@ pub fn define(
         stack_top: memory.stack_high,
     };
     let meanings = meanings(alloc, names, strong, &commons.addresses, &weak, &numbers)?;
+    let start = start_meaning(names, &meanings);
     Ok(Definitions {
         addresses: layout.addresses,
         meanings,
+        start,
         file_end: layout.ends.file_end,
         end: commons.end,
     })

@@ -4,6 +4,7 @@
 
 pub mod block;
 mod commons;
+mod contents;
 pub mod data_class;
 mod definitions;
 mod layout;
@@ -19,6 +20,7 @@ mod read_sections;
 mod read_symbols;
 pub mod section_row;
 mod sections;
+mod start;
 pub mod sums;
 pub mod symbol_row;
 mod symbols;

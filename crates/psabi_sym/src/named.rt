@@ -8,6 +8,7 @@ ghost use Rattle.psabi_sym.specs.Faults.{duplicate_fault, first_some, sum_fault,
 ghost use Rattle.psabi_sym.specs.LinkFault.{IsRefusal};
 ghost use Rattle.psabi_sym.specs.Listed.{all_sections};
 ghost use Rattle.psabi_sym.specs.Rows.{section_row, symbol_starts};
+ghost use Rattle.psabi_sym.specs.Start.{IsStart};
 ghost use Rattle.psabi_sym.specs.Tables.{AreDefined};
 
 use crate::definitions::{Definitions, define};
@@ -47,6 +48,7 @@ pub fn name_objects(
     requires sections { sections.now ≡ map section_row (all_sections (map object_parts objects.now)) }
     ensures defined { IfOk result (λ named. AreDefined (record { objects = map object_parts objects.now; map = memory.now })
         sections.now named.definitions.addresses.items named.symbols.rows.items named.definitions.meanings.items named.definitions.file_end named.definitions.end) }
+    ensures start { IfOk result (λ named. IsStart (record { objects = map object_parts objects.now; map = memory.now }) named.definitions.start) }
     ensures starts { IfOk result (λ named. named.symbols.starts.items
         ≡ map (symbol_starts (map object_parts objects.now)) (range_with_len 0 (length objects.now + 1))) }
     ensures none { IfOk result (λ named. first_some (duplicate_fault (map object_parts objects.now)

@@ -1,9 +1,9 @@
 // The objects of a link.
 
-ghost use Rattle.std.specs.Prelude.{◌≡◌, ◌≤◌, ◌<◌, List, ℕ, length, map, None, Some, IfOk, IfErr, IsSome, Option, [], slice_get, slice_index_or};
+ghost use Rattle.std.specs.Prelude.{◌≡◌, ◌+◌, ◌≤◌, ◌<◌, List, ℕ, length, map, None, Some, IfOk, IfErr, IsSome, Option, [], slice_get, slice_index_or};
 ghost use Rattle.zc_base.specs.MemMap.{IsMap};
 ghost use Rattle.psabi_sym.specs.Data.{data_address, data_end, data_file_end, is_code_at};
-ghost use Rattle.psabi_sym.specs.Resolve.{Definition, definition_target, home_target, resolved, undefined_target};
+ghost use Rattle.psabi_sym.specs.Resolve.{Definition, definition_target, home_target, name_target, resolved, undefined_target};
 ghost use Rattle.psabi_sym.specs.Meanings.{meaning_row};
 ghost use Rattle.std.specs.Option.{option_map_or};
 ghost use Rattle.elf32_read.specs.Header.{section_count};
@@ -13,6 +13,7 @@ ghost use Rattle.psabi_sym.specs.Faults.{fault_from, gather_fault};
 ghost use Rattle.psabi_sym.specs.Inputs.{Inputs, parsed};
 ghost use Rattle.psabi_sym.specs.LinkFault.{IsRefusal};
 ghost use Rattle.psabi_sym.specs.Objects.{contents_of};
+ghost use Rattle.psabi_sym.specs.Start.{start_name};
 
 use crate::definitions::Definitions;
 use crate::link_fault::LinkFault;
@@ -115,6 +116,7 @@ impl Objects {
         ensures count { result ≡ length self.now.files }
         ensures most { result ≤ 256 }
         ensures faultless { gather_fault self.now ≡ None }
+        ensures is_map { IsMap self.now.map }
     {
         self.objects.len() as u32
     }
@@ -129,7 +131,8 @@ impl Objects {
 
     /// The memory map.
     pub fn map(&self) -> MemMap
-        ensures { result ≡ self.now.map }
+        ensures value { result ≡ self.now.map }
+        ensures is_map { IsMap result }
     {
         self.map
     }
@@ -143,7 +146,8 @@ impl Objects {
 
     /// Where all data ends in memory.
     pub fn data_end(&self) -> u32
-        ensures { result ≡ data_end (parsed self.now) }
+        ensures value { result ≡ data_end (parsed self.now) }
+        ensures most { result ≤ self.now.map.data_low + 0x40_0000 }
     {
         self.definitions.end
     }
@@ -233,6 +237,13 @@ impl Objects {
         }
         let meaning = self.definitions.meanings[row.name as usize];
         self.meaning_target(meaning, row.bind, addend)
+    }
+
+    /// Where `_start` leads, at which a program starts; nowhere if nothing defines it.
+    pub fn start(&self) -> Target
+        ensures { result ≡ name_target (parsed self.now) start_name }
+    {
+        self.meaning_target(self.definitions.start, LOCAL, 0)
     }
 }
 

@@ -1,3 +1,4 @@
 pub mod StepLaws
+pub mod MemoryLaws
+pub mod StateLaws
 pub mod RunLaws
-pub mod Examples

@@ -1,20 +1,19 @@
 -- A step of the symbolic machine: it begins by the exit's status, and when it ends, sp is a number within the stack and the
--- bytes below it become undefined (Ended). While no byte of the stack was written, that changes nothing.
-use Rattle.std.proofs.Common.{◌≡◌, ℕ, zero, suc, ◌-◌, ◌≤◌, List, [], ◌∷◌, Option, Some, None, Bool, true, false, cond, refl, sym, ap, ◌∙◌, leb, replicate}
+-- bytes below it become undefined (Ended).
+use Rattle.std.proofs.Common.{◌≡◌, ℕ, ◌≤◌, List, [], ◌∷◌, length, Option, Some, None, Bool, true, false, cond, refl, sym, ap, ◌∙◌, leb, ltb, slice_index_or}
 use Rattle.std.specs.Prelude.{◌&&◌}
-use Rattle.std.proofs.lemmas.Bool.{and_parts, cond-true, cond-false, leb-true}
+use Rattle.std.proofs.lemmas.Bool.{and_from, and_parts, cond-true, cond-false, le-leb, leb-true}
 use Rattle.zc_base.specs.declared.mem_map.MemMap.{MemMap}
-use Rattle.rv_decode.specs.Memory.{Region, Data, Stack, blank, cells_changed, changed}
+use Rattle.rv_decode.specs.Memory.{Region, changed, extents_of, written}
 use Rattle.rv_decode.specs.State.{Event}
+use Rattle.rv_decode.proofs.MemoryLaws.{extents-changed}
 use Rattle.sym_machine.specs.declared.why.Why.TheVariants.{StackPointer}
 use Rattle.sym_machine.specs.declared.word.SymByte.{SymByte}
 use Rattle.sym_machine.specs.declared.word.SymByte.TheVariants.{Undef}
-use Rattle.sym_machine.specs.Answer.{is_within}
-use Rattle.sym_machine.specs.Change.{place_does}
-use Rattle.sym_machine.specs.Objects.{bare_memory}
+use Rattle.sym_machine.specs.Change.{Does, Goes, Stops, place_does}
 use Rattle.sym_machine.specs.Program.{Program}
 use Rattle.sym_machine.specs.State.{PlainCore, reg_of}
-use Rattle.sym_machine.specs.Step.{Went, Stuck, ends, ends_at, made, plain_step, step_from, undefined_below}
+use Rattle.sym_machine.specs.Step.{Went, Stuck, after_change, ends, ends_at, made, plain_step, step_from, undefined_below, with_stores}
 use Rattle.sym_machine.specs.Words.{number_of}
 
 -- ---- the beginning
@@ -25,7 +24,7 @@ unfolding plain_step
 step_past_exit p s status exited = ap (λ e. step_from e p s) exited
 
 -- before it, a step makes what stands at the place
-pub step_running : (p : Program) (s : PlainCore) → s.exit ≡ None → plain_step p s ≡ made p.map s (place_does (p.item s.place) s (p.next s.place))
+pub step_running : (p : Program) (s : PlainCore) → s.exit ≡ None → plain_step p s ≡ made p.map s (place_does p (p.item s.place) s (p.next s.place))
 unfolding plain_step
 step_running p s running = ap (λ e. step_from e p s) running
 
@@ -59,40 +58,59 @@ ended map s s' events events' h = known (number_of (reg_of s 2)) refl h
     known None is g = absurd cc
     known (Some sp) is g = within sp (leb map.stack_low sp && leb sp map.stack_high) is refl g
 
--- ---- the end while no byte of the stack was written
-
-either_undefined : (b : Bool) → cond b Undef Undef ≡ Undef
-either_undefined true = refl
-either_undefined false = refl
-
-cells_undefined : (map : MemMap) (sp a n : ℕ) → cells_changed (undefined_below map sp) a (replicate n Undef) ≡ replicate n Undef
-cells_undefined map sp a zero = refl
-cells_undefined map sp a (suc n) =
-    ap (λ x. x ∷ cells_changed (undefined_below map sp) (suc a) (replicate n Undef)) (either_undefined _) ∙ ap (λ xs. Undef ∷ xs) (cells_undefined map sp (suc a) n)
-
--- a stack that is undefined stays so
-bare_stays : (map : MemMap) (sp : ℕ) (of : MemMap) → changed (undefined_below map sp) (bare_memory of) ≡ bare_memory of
-unfolding blank
-bare_stays map sp of =
-    let with_stack : List SymByte → List (Region SymByte) = λ cells. record { kind = Data; at = of.data_low; cells = [] } ∷ record { kind = Stack; at = of.stack_low; cells = cells } ∷ [] in
-    ap with_stack (cells_undefined map sp of.stack_low (of.stack_high - of.stack_low))
-
--- with sp within the stack a step goes on with the state that it leaves, and changes no byte
-pub ends_within : (map of : MemMap) (s left : PlainCore) (events : List Event) → is_within map (number_of (reg_of s 2)) ≡ true → s.memory ≡ bare_memory of → left ≡ s → ends map s events ≡ Went left events
+-- with sp within the stack a step goes on
+pub ends_within : (map : MemMap) (sp : ℕ) (s : PlainCore) (events : List Event) → number_of (reg_of s 2) ≡ Some sp → map.stack_low ≤ sp → sp ≤ map.stack_high → ends map s events ≡ Went (settled map sp s) events
 unfolding ends
-ends_within map of s left events within bare same = by_sp (number_of (reg_of s 2)) within ∙ ap (λ x. Went x events) (sym same)
-  where
-    by_sp : (o : Option ℕ) → is_within map o ≡ true → ends_at o map s events ≡ Went s events
-    by_sp None h = absurd cc
-    by_sp (Some sp) h =
-        let stays : changed (undefined_below map sp) s.memory ≡ s.memory = ap (changed (undefined_below map sp)) bare ∙ bare_stays map sp of ∙ sym bare in
-        cond-true (leb map.stack_low sp && leb sp map.stack_high) _ _ h ∙ ap (λ m. Went (record s { memory = m }) events) stays
+ends_within map sp s events is low high =
+    ap (λ o. ends_at o map s events) is
+    ∙ cond-true (leb map.stack_low sp && leb sp map.stack_high) _ _ (and_from (leb map.stack_low sp) (leb sp map.stack_high) (le-leb map.stack_low sp low) (le-leb sp map.stack_high high))
 
--- with sp outside, or unknown, the step is stuck
-pub ends_outside : (map : MemMap) (s : PlainCore) (events : List Event) → is_within map (number_of (reg_of s 2)) ≡ false → ends map s events ≡ Stuck StackPointer
+-- with sp outside it is stuck
+pub ends_outside : (map : MemMap) (sp : ℕ) (s : PlainCore) (events : List Event) → number_of (reg_of s 2) ≡ Some sp → (leb map.stack_low sp && leb sp map.stack_high) ≡ false → ends map s events ≡ Stuck StackPointer
 unfolding ends
-ends_outside map s events outside = by_sp (number_of (reg_of s 2)) outside
+ends_outside map sp s events is out =
+    ap (λ o. ends_at o map s events) is ∙ cond-false (leb map.stack_low sp && leb sp map.stack_high) _ _ out
+
+-- and so it is with an unknown sp
+pub ends_unknown : (map : MemMap) (s : PlainCore) (events : List Event) → number_of (reg_of s 2) ≡ None → ends map s events ≡ Stuck StackPointer
+unfolding ends
+ends_unknown map s events is = ap (λ o. ends_at o map s events) is
+
+-- only where the stack lies plays a part
+pub made_by : (m n : MemMap) (s : PlainCore) (d : Does) → m.stack_low ≡ n.stack_low → m.stack_high ≡ n.stack_high → made m s d ≡ made n s d
+unfolding ends
+made_by m n s (Stops why) low high = refl
+made_by m n s (Goes c) low high = by (number_of (reg_of (after_change c s) 2))
   where
-    by_sp : (o : Option ℕ) → is_within map o ≡ false → ends_at o map s events ≡ Stuck StackPointer
-    by_sp None h = refl
-    by_sp (Some sp) h = cond-false (leb map.stack_low sp && leb sp map.stack_high) _ _ h
+    by : (o : Option ℕ) → ends_at o m (after_change c s) c.events ≡ ends_at o n (after_change c s) c.events
+    by None = refl
+    by (Some sp) = λ j.
+        cond (leb (low j) sp && leb sp (high j))
+        (Went (record (after_change c s) { memory = changed (λ a old. cond (leb (low j) a && ltb a sp) Undef old) (after_change c s).memory }) c.events)
+        (Stuck StackPointer)
+
+-- ---- where memory lies
+
+extents-with_stores : (ws : List (ℕ × List SymByte)) (memory : List (Region SymByte)) → extents_of (with_stores ws memory) ≡ extents_of memory
+extents-with_stores [] memory = refl
+extents-with_stores (w ∷ ws) memory =
+    let f = written w.0 (length w.1) (λ i. slice_index_or w.1 i Undef) in
+    extents-with_stores ws (changed f memory) ∙ extents-changed f memory
+
+extents-made : (map : MemMap) (s s' : PlainCore) (d : Does) (events : List Event) → made map s d ≡ Went s' events → extents_of s'.memory ≡ extents_of s.memory
+extents-made map s s' (Stops why) events h = absurd cc
+extents-made map s s' (Goes c) events h =
+    let end = (ended map (after_change c s) s' c.events events h).0 in
+    ap (λ (t : PlainCore). extents_of t.memory) end.state
+    ∙ extents-changed (undefined_below map end.sp) (with_stores c.stores s.memory)
+    ∙ extents-with_stores c.stores s.memory
+
+-- a step moves no memory
+pub extents-step : (p : Program) (s s' : PlainCore) (events : List Event) → plain_step p s ≡ Went s' events → extents_of s'.memory ≡ extents_of s.memory
+extents-step p s s' events h = by s.exit refl
+  where
+    by : (e : Option ℕ) → s.exit ≡ e → extents_of s'.memory ≡ extents_of s.memory
+    by None is = extents-made p.map s s' (place_does p (p.item s.place) s (p.next s.place)) events (sym (step_running p s is) ∙ h)
+    by (Some status) is =
+        let same : Went s [] ≡ Went s' events = sym (step_past_exit p s status is) ∙ h in
+        ap (λ (t : PlainCore). extents_of t.memory) (let e : s' ≡ s = cc in e)

@@ -1,18 +1,28 @@
 -- What an item does: a change, or the cause for which the machine is stuck.
-use Rattle.std.specs.Prelude.{ℕ, ◌%◌, ◌==◌, if◌then◌else◌, List, [], ◌∷◌, Option, Some, None}
+use Rattle.std.specs.Prelude.{ℕ, zero, suc, ◌+◌, ◌%◌, Bool, ◌==◌, ◌||◌, min, if◌then◌else◌, List, [], ◌∷◌, length, map, take, Option, Some, None}
 use Rattle.zc_base.specs.declared.place.Place.{Place}
 use Rattle.rv_decode.specs.declared.instr.Instr.{Instr}
 use Rattle.rv_decode.specs.declared.instr.Instr.TheVariants.{Upper, Jal, Jalr, Load, Store, WithImm, WithReg, Fence, Ecall, Ebreak, Csrrw}
 use Rattle.rv_decode.specs.declared.instr.Instr.TheVariants as instr
+use Rattle.rv_decode.specs.declared.instr.LoadOp.{LoadOp}
+use Rattle.rv_decode.specs.declared.instr.LoadOp.TheVariants.{Lb, Lh, Lw, Lbu, Lhu}
+use Rattle.rv_decode.specs.declared.instr.StoreOp.{StoreOp}
+use Rattle.rv_decode.specs.declared.instr.StoreOp.TheVariants.{Sb, Sh, Sw}
+use Rattle.rv_decode.specs.Effect.{load_width, store_width}
+use Rattle.rv_decode.specs.Memory.{Region, cell_at, extents_of, is_data, lies_in}
+use Rattle.rv_decode.specs.State.{Event, Exit, Read, Write}
 use Rattle.block_cut.specs.declared.item.Item.{Item}
 use Rattle.block_cut.specs.declared.item.Item.TheVariants.{Op, Hi, Lo, PcHi, PcLo, Branch, Jump, Call, Align, Word, Raw, RawPair}
-use Rattle.rv_decode.specs.State.{Event, Exit}
+use Rattle.sym_machine.specs.declared.arguments.Arguments.{Arguments}
 use Rattle.sym_machine.specs.declared.why.Why.{Why}
-use Rattle.sym_machine.specs.declared.why.Why.TheVariants.{TargetUnknown, ArgumentUnknown, NoInstruction, UnknownCall}
+use Rattle.sym_machine.specs.declared.why.Why.TheVariants.{AddressUnknown, ConditionUnknown, TargetUnknown, ArgumentUnknown, BadAddress, Misaligned, NoInstruction, UnknownCall}
 use Rattle.sym_machine.specs.declared.word.SymByte.{SymByte}
+use Rattle.sym_machine.specs.declared.word.SymByte.TheVariants.{Num, Part, Undef}
 use Rattle.sym_machine.specs.declared.word.SymWord.{SymWord}
-use Rattle.sym_machine.specs.Words.{number_of, imm_word}
-use Rattle.sym_machine.specs.State.{PlainCore, reg_of}
+use Rattle.sym_machine.specs.Conditions.{condition}
+use Rattle.sym_machine.specs.Program.{Program}
+use Rattle.sym_machine.specs.State.{PlainCore, cell_of, reg_of}
+use Rattle.sym_machine.specs.Words.{code_of, code_word, imm_word, number_of, number_word, reg_word, signed_byte, signed_half, sum_word, upper_word, zero_byte, zero_half}
 
 -- a change of state: the next place, words for registers in their order, bytes for memory from addresses on, how many
 -- bytes of input are taken, the exit's status, and the events
@@ -32,10 +42,58 @@ pub data Does : Type 0 where
 abbrev pub onward : Place → Change
 onward q = record { place = q; writes = []; stores = []; taken = 0; exit = None; events = [] }
 
--- a word for a register, and the next item; there is none of an operation that isn't built
-abbrev pub gives : ℕ → Option SymWord → Place → Does
-gives rd None next = Stops NoInstruction
-gives rd (Some w) next = Goes (record (onward next) { writes = (rd, w) ∷ [] })
+-- a word for a register, and then a place
+abbrev pub gives : ℕ → SymWord → Place → Change
+gives rd w q = record (onward q) { writes = (rd, w) ∷ [] }
+
+-- ---- memory
+
+-- whether so many bytes from an address on lie in data, or in the stack
+abbrev pub in_memory : PlainCore → ℕ → ℕ → Bool
+in_memory s a n = lies_in is_data (extents_of s.memory) a n
+
+-- an access of n bytes, by its address: its alignment is looked at before its place
+abbrev pub reaching : ℕ → Option ℕ → PlainCore → (ℕ → Does) → Does
+reaching n None s go = Stops AddressUnknown
+reaching n (Some a) s go = if a % n == 0 then (if in_memory s a n then go a else Stops BadAddress) else Stops Misaligned
+
+-- what a load gives: its bytes are copied, and those above are signs or zeros
+abbrev pub load_word : LoadOp → PlainCore → ℕ → SymWord
+load_word Lb s a = signed_byte (cell_of s a)
+load_word Lh s a = signed_half (cell_of s a) (cell_of s (a + 1))
+load_word Lw s a = record { b0 = cell_of s a; b1 = cell_of s (a + 1); b2 = cell_of s (a + 2); b3 = cell_of s (a + 3) }
+load_word Lbu s a = zero_byte (cell_of s a)
+load_word Lhu s a = zero_half (cell_of s a) (cell_of s (a + 1))
+
+-- a load, by its address
+abbrev pub load_does : LoadOp → ℕ → Option ℕ → PlainCore → Place → Does
+load_does op rd address s next = reaching (load_width op) address s (λ a. Goes (gives rd (load_word op s a) next))
+
+-- what a store writes: the low bytes of a word
+abbrev pub stored_bytes : StoreOp → SymWord → List SymByte
+stored_bytes Sb w = w.b0 ∷ []
+stored_bytes Sh w = w.b0 ∷ w.b1 ∷ []
+stored_bytes Sw w = w.b0 ∷ w.b1 ∷ w.b2 ∷ w.b3 ∷ []
+
+-- bytes for memory from an address on, and then a place
+abbrev pub puts : ℕ → List SymByte → Place → Change
+puts a bytes q = record (onward q) { stores = (a, bytes) ∷ [] }
+
+-- a store of a word, by its address
+abbrev pub store_does : StoreOp → SymWord → Option ℕ → PlainCore → Place → Does
+store_does op w address s next = reaching (store_width op) address s (λ a. Goes (puts a (stored_bytes op w) next))
+
+-- ---- jumps and branches
+
+-- a jump, if it goes to a place in code, with the next place's address in a register
+abbrev pub jump_does : Option Place → ℕ → Place → Does
+jump_does None rd next = Stops TargetUnknown
+jump_does (Some q) rd next = Goes (gives rd (code_word next) q)
+
+-- a branch, by its condition
+abbrev pub branch_does : Option Bool → Place → Place → Does
+branch_does None to next = Stops ConditionUnknown
+branch_does (Some taken) to next = Goes (onward (if taken then to else next))
 
 -- ---- environment calls
 
@@ -44,44 +102,142 @@ abbrev pub exit_does : Option ℕ → Place → Does
 exit_does None at = Stops ArgumentUnknown
 exit_does (Some a0) at = Goes (record (onward at) { exit = Some (a0 % 256); events = Exit (a0 % 256) ∷ [] })
 
--- a call, by a7: 93 is the exit
-abbrev pub call_does : Option ℕ → PlainCore → Does
-call_does None s = Stops ArgumentUnknown
-call_does (Some a7) s = if a7 == 93 then exit_does (number_of (reg_of s 10)) s.place else Stops UnknownCall
+-- what a call with a buffer uses, by a0, a1 and a2, if all of it is known; of no bytes a1 isn't looked at
+abbrev pub arguments_of : Option ℕ → Option ℕ → Option ℕ → Option Arguments
+arguments_of None a1 a2 = None
+arguments_of (Some a0) a1 None = None
+arguments_of (Some a0) None (Some len) = if len == 0 then Some (record { a0 = a0; at = 0; len = 0 }) else None
+arguments_of (Some a0) (Some at) (Some len) = Some (record { a0 = a0; at = at; len = len })
+
+-- whether a buffer lies in memory; one of no bytes does anywhere
+abbrev pub is_buffer : PlainCore → Arguments → Bool
+is_buffer s c = c.len == 0 || in_memory s c.at c.len
+
+-- a call with a buffer; a0 says whether there is such a call
+abbrev pub buffered : (ℕ → Bool) → Option Arguments → PlainCore → (Arguments → Does) → Does
+buffered known None s go = Stops ArgumentUnknown
+buffered known (Some c) s go = if known c.a0 then (if is_buffer s c then go c else Stops BadAddress) else Stops UnknownCall
+
+-- the same by the registers
+abbrev pub with_buffer : (ℕ → Bool) → PlainCore → (Arguments → Does) → Does
+with_buffer known s go =
+    buffered known (arguments_of (number_of (reg_of s 10)) (number_of (reg_of s 11)) (number_of (reg_of s 12))) s go
+
+-- how many bytes are read
+abbrev pub read_count : PlainCore → Arguments → ℕ
+read_count s c = min c.len (length s.input)
+
+-- the first bytes of the input go to the buffer, and their number to a0
+abbrev pub read_does : PlainCore → Place → Arguments → Does
+read_does s next c =
+    let bytes = take (read_count s c) s.input in
+    Goes (record (onward next) {
+      writes = (10, number_word (read_count s c)) ∷ [];
+      stores = (c.at, map Num bytes) ∷ [];
+      taken = read_count s c;
+      events = Read bytes ∷ [];
+    })
+
+-- a byte before others, if all are numbers
+abbrev pub then_number : SymByte → Option (List ℕ) → Option (List ℕ)
+then_number (Num b) None = None
+then_number (Num b) (Some bytes) = Some (b ∷ bytes)
+then_number (Part v i) bytes = None
+then_number Undef bytes = None
+
+-- the n bytes of memory from an address on, if all are numbers
+abbrev pub numbers_at : List (Region SymByte) → ℕ → ℕ → Option (List ℕ)
+numbers_at memory a zero = Some []
+numbers_at memory a (suc n) = then_number (cell_at Undef memory a) (numbers_at memory (suc a) n)
+
+-- bytes go out, if they are numbers, and their number goes to a0
+abbrev pub output_does : Option (List ℕ) → Place → Arguments → Does
+output_does None next c = Stops ArgumentUnknown
+output_does (Some bytes) next c = Goes (record (gives 10 (number_word c.len) next) { events = Write c.a0 bytes ∷ [] })
+
+-- a write of the buffer's bytes
+abbrev pub write_does : PlainCore → Place → Arguments → Does
+write_does s next c = output_does (numbers_at s.memory c.at c.len) next c
+
+-- a0 says that a read is from the input, and a write to the output (1) or to the output for errors (2)
+abbrev pub is_input : ℕ → Bool
+is_input a0 = a0 == 0
+
+abbrev pub is_output : ℕ → Bool
+is_output a0 = a0 == 1 || a0 == 2
+
+-- a call, by a7: 93 is the exit, 63 reads, and 64 writes
+abbrev pub call_does : Option ℕ → PlainCore → Place → Does
+call_does None s next = Stops ArgumentUnknown
+call_does (Some a7) s next =
+    if a7 == 93 then exit_does (number_of (reg_of s 10)) s.place else
+    (if a7 == 63 then with_buffer is_input s (read_does s next) else
+    (if a7 == 64 then with_buffer is_output s (write_does s next) else
+    Stops UnknownCall))
 
 -- ---- items
 
--- an instruction without relocation, by its format, with the place after it; one that isn't built is no instruction
+-- an instruction without relocation, by its format, with the place after it; a branch or a `jal` is an item of its own
 abbrev pub op_does : Instr → PlainCore → Place → Does
-op_does (Upper op rd imm) s next = Stops NoInstruction
+op_does (Upper op rd imm) s next = Goes (gives rd (upper_word op imm) next)
 op_does (Jal rd distance) s next = Stops NoInstruction
-op_does (Jalr rd base imm) s next = Stops NoInstruction
+op_does (Jalr rd base imm) s next = jump_does (code_of (sum_word (reg_of s base) imm)) rd next
 op_does (instr.Branch op first second distance) s next = Stops NoInstruction
-op_does (Load op rd base imm) s next = Stops NoInstruction
-op_does (Store op source base imm) s next = Stops NoInstruction
-op_does (WithImm op rd first imm) s next = gives rd (imm_word op (reg_of s first) imm) next
-op_does (WithReg op rd first second) s next = Stops NoInstruction
-op_does (Fence rest) s next = Stops NoInstruction
-op_does Ecall s next = call_does (number_of (reg_of s 17)) s
+op_does (Load op rd base imm) s next = load_does op rd (number_of (sum_word (reg_of s base) imm)) s next
+op_does (Store op source base imm) s next = store_does op (reg_of s source) (number_of (sum_word (reg_of s base) imm)) s next
+op_does (WithImm op rd first imm) s next = Goes (gives rd (imm_word op (reg_of s first) imm) next)
+op_does (WithReg op rd first second) s next = Goes (gives rd (reg_word op first second (reg_of s first) (reg_of s second)) next)
+op_does (Fence rest) s next = Goes (onward next)
+op_does Ecall s next = call_does (number_of (reg_of s 17)) s next
 op_does Ebreak s next = Stops NoInstruction
 op_does (Csrrw rd source) s next = Stops NoInstruction
 
--- an item; no relocation makes one yet
-abbrev pub item_does : Item → PlainCore → Place → Does
-item_does (Op i) s next = op_does i s next
-item_does (Hi i t) s next = Stops NoInstruction
-item_does (Lo i t) s next = Stops NoInstruction
-item_does (PcHi i t) s next = Stops NoInstruction
-item_does (PcLo i q) s next = Stops NoInstruction
-item_does (Branch i to) s next = Stops NoInstruction
-item_does (Jump i to) s next = Stops NoInstruction
-item_does (Call rd temp to) s next = Stops NoInstruction
-item_does (Align bytes) s next = Stops NoInstruction
-item_does (Word t) s next = Stops NoInstruction
-item_does (Raw word) s next = Stops NoInstruction
-item_does (RawPair first second) s next = Stops TargetUnknown
+-- a branch to a place
+abbrev pub branch_to : Program → Instr → Place → PlainCore → Place → Does
+branch_to p (instr.Branch op first second distance) to s next = branch_does (condition p op (reg_of s first) (reg_of s second)) to next
+branch_to p (Upper op rd imm) to s next = Stops NoInstruction
+branch_to p (Jal rd distance) to s next = Stops NoInstruction
+branch_to p (Jalr rd base imm) to s next = Stops NoInstruction
+branch_to p (Load op rd base imm) to s next = Stops NoInstruction
+branch_to p (Store op source base imm) to s next = Stops NoInstruction
+branch_to p (WithImm op rd first imm) to s next = Stops NoInstruction
+branch_to p (WithReg op rd first second) to s next = Stops NoInstruction
+branch_to p (Fence rest) to s next = Stops NoInstruction
+branch_to p Ecall to s next = Stops NoInstruction
+branch_to p Ebreak to s next = Stops NoInstruction
+branch_to p (Csrrw rd source) to s next = Stops NoInstruction
+
+-- a `jal` to a place
+abbrev pub jump_to : Instr → Place → Place → Does
+jump_to (Jal rd distance) to next = jump_does (Some to) rd next
+jump_to (Upper op rd imm) to next = Stops NoInstruction
+jump_to (Jalr rd base imm) to next = Stops NoInstruction
+jump_to (instr.Branch op first second distance) to next = Stops NoInstruction
+jump_to (Load op rd base imm) to next = Stops NoInstruction
+jump_to (Store op source base imm) to next = Stops NoInstruction
+jump_to (WithImm op rd first imm) to next = Stops NoInstruction
+jump_to (WithReg op rd first second) to next = Stops NoInstruction
+jump_to (Fence rest) to next = Stops NoInstruction
+jump_to Ecall to next = Stops NoInstruction
+jump_to Ebreak to next = Stops NoInstruction
+jump_to (Csrrw rd source) to next = Stops NoInstruction
+
+-- an item, with the place after it; no relocation makes one yet
+abbrev pub item_does : Program → Item → PlainCore → Place → Does
+item_does p (Op i) s next = op_does i s next
+item_does p (Hi i t) s next = Stops NoInstruction
+item_does p (Lo i t) s next = Stops NoInstruction
+item_does p (PcHi i t) s next = Stops NoInstruction
+item_does p (PcLo i q) s next = Stops NoInstruction
+item_does p (Branch i to) s next = branch_to p i to s next
+item_does p (Jump i to) s next = jump_to i to next
+item_does p (Call rd temp to) s next = Stops NoInstruction
+item_does p (Align bytes) s next = Stops NoInstruction
+item_does p (Word t) s next = Stops NoInstruction
+item_does p (Raw word) s next = Stops NoInstruction
+item_does p (RawPair first second) s next = Stops TargetUnknown
 
 -- what stands at a place; the end of a section has no item
-abbrev pub place_does : Option Item → PlainCore → Place → Does
-place_does None s next = Stops NoInstruction
-place_does (Some i) s next = item_does i s next
+abbrev pub place_does : Program → Option Item → PlainCore → Place → Does
+place_does p None s next = Stops NoInstruction
+place_does p (Some i) s next = item_does p i s next

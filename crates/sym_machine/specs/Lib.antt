@@ -3,8 +3,10 @@ pub mod Words
 pub mod Program
 pub mod Objects
 pub mod State
+pub mod Conditions
 pub mod Change
 pub mod Step
 pub mod Run
 pub mod RunEnd
 pub mod Answer
+pub mod Kept

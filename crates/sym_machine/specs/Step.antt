@@ -67,7 +67,7 @@ made map s (Stops why) = Stuck why
 
 -- one step, by the exit's status; after the exit the state stays
 abbrev pub step_from : Option ℕ → Program → PlainCore → PlainStep
-step_from None p s = made p.map s (place_does (p.item s.place) s (p.next s.place))
+step_from None p s = made p.map s (place_does p (p.item s.place) s (p.next s.place))
 step_from (Some status) p s = Went s []
 
 -- one step

@@ -1,12 +1,23 @@
--- Words of abstract bytes.
-use Rattle.std.specs.Prelude.{ℕ, ℤ, pos, negsuc, ◌+◌, ◌*◌, Bool, false, ◌==◌, if◌then◌else◌, Option, Some, None}
+-- Words of abstract bytes: which number or value a word is, and what operations make of words.
+use Rattle.std.specs.Prelude.{ℕ, ℤ, pos, negsuc, ◌+◌, ◌*◌, Bool, false, ◌&&◌, ◌==◌, nat_lt, if◌then◌else◌, Option, Some, None}
+use Rattle.zc_base.specs.Places.{same_place}
+use Rattle.zc_base.specs.declared.place.Place.{Place}
+use Rattle.rv_decode.specs.declared.instr.UpperOp.{UpperOp}
+use Rattle.rv_decode.specs.declared.instr.UpperOp.TheVariants.{Lui, Auipc}
 use Rattle.rv_decode.specs.declared.instr.ImmOp.{ImmOp}
 use Rattle.rv_decode.specs.declared.instr.ImmOp.TheVariants.{Addi, Slti, Sltiu, Xori, Ori, Andi, Slli, Srli, Srai}
+use Rattle.rv_decode.specs.declared.instr.RegOp.{RegOp}
+use Rattle.rv_decode.specs.declared.instr.RegOp.TheVariants.{Add, Sub, Sll, Slt, Sltu, Xor, Srl, Sra, Or, And, Mul, Mulh, Mulhsu, Mulhu, Div, Divu, Rem, Remu}
 use Rattle.rv_decode.specs.Bits.{add32}
 use Rattle.rv_decode.specs.Memory.{byte_of}
+use Rattle.rv_decode.specs.Results.{imm_result, reg_result, upper_result}
 use Rattle.sym_machine.specs.declared.word.SymByte.{SymByte}
-use Rattle.sym_machine.specs.declared.word.SymByte.TheVariants.{Num, Undef}
+use Rattle.sym_machine.specs.declared.word.SymByte.TheVariants.{Num, Part, Undef}
 use Rattle.sym_machine.specs.declared.word.SymWord.{SymWord}
+use Rattle.sym_machine.specs.declared.word.Value.{Value}
+use Rattle.sym_machine.specs.declared.word.Value.TheVariants.{Code, AbsHi, PcHi}
+
+-- ---- numbers
 
 -- a word whose bytes are undefined
 abbrev pub undef_word : SymWord
@@ -25,6 +36,50 @@ number_of_bytes a b c d = None
 abbrev pub number_of : SymWord → Option ℕ
 number_of w = number_of_bytes w.b0 w.b1 w.b2 w.b3
 
+-- ---- values
+
+-- a value's word: its four parts
+abbrev pub value_word : Value → SymWord
+value_word v = record { b0 = Part v 0; b1 = Part v 1; b2 = Part v 2; b3 = Part v 3 }
+
+-- the word of a place's address
+abbrev pub code_word : Place → SymWord
+code_word q = value_word (Code q)
+
+-- whether two values are one
+abbrev pub same_value : Value → Value → Bool
+same_value (Code q) (Code r) = same_place q r
+same_value (Code q) (AbsHi r) = false
+same_value (Code q) (PcHi r) = false
+same_value (AbsHi q) (Code r) = false
+same_value (AbsHi q) (AbsHi r) = same_place q r
+same_value (AbsHi q) (PcHi r) = false
+same_value (PcHi q) (Code r) = false
+same_value (PcHi q) (AbsHi r) = false
+same_value (PcHi q) (PcHi r) = same_place q r
+
+-- whether a byte is this part of a value
+abbrev pub is_part : Value → ℕ → SymByte → Bool
+is_part v i (Num n) = false
+is_part v i (Part w j) = same_value v w && i == j
+is_part v i Undef = false
+
+-- whether a word is a value: its bytes are the parts, in order
+abbrev pub is_value : Value → SymWord → Bool
+is_value v w = is_part v 0 w.b0 && (is_part v 1 w.b1 && (is_part v 2 w.b2 && is_part v 3 w.b3))
+
+-- the place whose address a word is, by its first byte
+abbrev pub code_from : SymByte → SymWord → Option Place
+code_from (Num n) w = None
+code_from (Part (Code q) i) w = if is_value (Code q) w then Some q else None
+code_from (Part (AbsHi q) i) w = None
+code_from (Part (PcHi q) i) w = None
+code_from Undef w = None
+
+-- the place whose address a word is, if it is one
+abbrev pub code_of : SymWord → Option Place
+code_of w = code_from w.b0 w
+
 -- ---- results
 
 -- the result of an operation on a number, and an undefined word if there is none
@@ -32,23 +87,96 @@ abbrev pub numeric : Option ℕ → (ℕ → ℕ) → SymWord
 numeric None f = undef_word
 numeric (Some n) f = number_word (f n)
 
+-- the same of two numbers
+abbrev pub numeric2 : Option ℕ → Option ℕ → (ℕ → ℕ → ℕ) → SymWord
+numeric2 None None f = undef_word
+numeric2 None (Some b) f = undef_word
+numeric2 (Some a) None f = undef_word
+numeric2 (Some a) (Some b) f = number_word (f a b)
+
 -- whether an immediate is 0
 abbrev pub is_zero : ℤ → Bool
 is_zero (pos n) = n == 0
 is_zero (negsuc n) = false
 
+-- and whether it is 1
+abbrev pub is_one : ℤ → Bool
+is_one (pos n) = n == 1
+is_one (negsuc n) = false
+
+-- a number if there is a code place, and else a word
+abbrev pub code_or : Option Place → ℕ → SymWord → SymWord
+code_or None n w = w
+code_or (Some q) n w = number_word n
+
 -- a sum with an immediate; with 0 it copies the word, whatever the word is
 abbrev pub sum_word : SymWord → ℤ → SymWord
 sum_word w imm = if is_zero imm then w else numeric (number_of w) (λ n. add32 n imm)
 
--- the operations on a register's word and an immediate; none for one that no machine here has yet
-abbrev pub imm_word : ImmOp → SymWord → ℤ → Option SymWord
-imm_word Addi w imm = Some (sum_word w imm)
-imm_word Slti w imm = None
-imm_word Sltiu w imm = None
-imm_word Xori w imm = None
-imm_word Ori w imm = None
-imm_word Andi w imm = None
-imm_word Slli w imm = None
-imm_word Srli w imm = None
-imm_word Srai w imm = None
+-- an operation on a register's word and an immediate, if the word is a number
+abbrev pub imm_numeric : ImmOp → SymWord → ℤ → SymWord
+imm_numeric op w imm = numeric (number_of w) (λ n. imm_result op n imm)
+
+-- the operations on a register's word and an immediate; no code address is below 1
+abbrev pub imm_word : ImmOp → SymWord → ℤ → SymWord
+imm_word Addi w imm = sum_word w imm
+imm_word Slti w imm = imm_numeric Slti w imm
+imm_word Sltiu w imm = code_or (if is_one imm then code_of w else None) 0 (imm_numeric Sltiu w imm)
+imm_word Xori w imm = imm_numeric Xori w imm
+imm_word Ori w imm = imm_numeric Ori w imm
+imm_word Andi w imm = imm_numeric Andi w imm
+imm_word Slli w imm = imm_numeric Slli w imm
+imm_word Srli w imm = imm_numeric Srli w imm
+imm_word Srai w imm = imm_numeric Srai w imm
+
+-- an operation on the words of two registers, if both are numbers
+abbrev pub reg_numeric : RegOp → SymWord → SymWord → SymWord
+reg_numeric op a b = numeric2 (number_of a) (number_of b) (reg_result op)
+
+-- the operations on two registers, by the registers' numbers and their words; a sum with register 0 copies the other word,
+-- and register 0 is below each code address
+abbrev pub reg_word : RegOp → ℕ → ℕ → SymWord → SymWord → SymWord
+reg_word Add first second a b = if second == 0 then a else (if first == 0 then b else reg_numeric Add a b)
+reg_word Sub first second a b = reg_numeric Sub a b
+reg_word Sll first second a b = reg_numeric Sll a b
+reg_word Slt first second a b = reg_numeric Slt a b
+reg_word Sltu first second a b = code_or (if first == 0 then code_of b else None) 1 (reg_numeric Sltu a b)
+reg_word Xor first second a b = reg_numeric Xor a b
+reg_word Srl first second a b = reg_numeric Srl a b
+reg_word Sra first second a b = reg_numeric Sra a b
+reg_word Or first second a b = reg_numeric Or a b
+reg_word And first second a b = reg_numeric And a b
+reg_word Mul first second a b = reg_numeric Mul a b
+reg_word Mulh first second a b = reg_numeric Mulh a b
+reg_word Mulhsu first second a b = reg_numeric Mulhsu a b
+reg_word Mulhu first second a b = reg_numeric Mulhu a b
+reg_word Div first second a b = reg_numeric Div a b
+reg_word Divu first second a b = reg_numeric Divu a b
+reg_word Rem first second a b = reg_numeric Rem a b
+reg_word Remu first second a b = reg_numeric Remu a b
+
+-- an upper immediate; what is added to the program counter isn't known
+abbrev pub upper_word : UpperOp → ℕ → SymWord
+upper_word Lui imm = number_word (upper_result Lui 0 imm)
+upper_word Auipc imm = undef_word
+
+-- ---- words that are loaded
+
+-- the bytes above a byte with a sign, which isn't known of all
+abbrev pub sign_of : SymByte → SymByte
+sign_of (Num b) = Num (if nat_lt b 128 then 0 else 255)
+sign_of (Part v i) = Undef
+sign_of Undef = Undef
+
+-- a byte, or two, with their sign above, or with zeros
+abbrev pub signed_byte : SymByte → SymWord
+signed_byte b = record { b0 = b; b1 = sign_of b; b2 = sign_of b; b3 = sign_of b }
+
+abbrev pub signed_half : SymByte → SymByte → SymWord
+signed_half low high = record { b0 = low; b1 = high; b2 = sign_of high; b3 = sign_of high }
+
+abbrev pub zero_byte : SymByte → SymWord
+zero_byte b = record { b0 = b; b1 = Num 0; b2 = Num 0; b3 = Num 0 }
+
+abbrev pub zero_half : SymByte → SymByte → SymWord
+zero_half low high = record { b0 = low; b1 = high; b2 = Num 0; b3 = Num 0 }

@@ -2,11 +2,17 @@
 //! is chosen for them, with bytes that may be undefined.
 #![tactic(auto)]
 
-mod change;
+pub mod arguments;
+mod calls;
+mod first_data;
+pub mod held;
+mod items;
+pub mod known;
+pub mod memory;
 mod results;
 pub mod run;
+pub mod state;
+pub mod step;
 pub mod sym;
-#[cfg(test)]
-mod tests;
 pub mod why;
 pub mod word;

@@ -1,31 +1,63 @@
 // The results of operations on words.
 
 ghost use Rattle.std.specs.Prelude.{◌≡◌};
+ghost use Rattle.sym_machine.specs.Kept.{word_of};
 ghost use Rattle.sym_machine.specs.Words as words;
-ghost use Rattle.sym_machine.specs.Words.{sum_word};
+ghost use Rattle.sym_machine.specs.Words.{code_of, number_of, sum_word};
 
-use crate::word::SymWord;
-use rv_decode::instr::ImmOp;
+use crate::held::Held;
+use rv_decode::instr::{ImmOp, RegOp, UpperOp};
+use rv_decode::results::{imm_result, reg_result, upper_result};
+use zc_base::place::Place;
+use zc_base::reg::Reg;
 
 // A word's sum with an immediate.
-fn sum(word: SymWord, imm: i32) -> SymWord
-    ensures { result ≡ sum_word word imm }
+fn sum(word: &Held, imm: i32) -> Held
+    ensures { word_of result ≡ sum_word (word_of word.now) imm }
 {
     if imm == 0 {
-        return word;
+        return *word;
     }
     match word.number() {
-        Some(n) => SymWord::of_number(n.wrapping_add(imm.cast_unsigned())),
-        None => SymWord::UNDEFINED,
+        Some(n) => Held::Number(n.wrapping_add(imm.cast_unsigned())),
+        None => Held::UNDEFINED,
     }
 }
 
-/// What an operation on a register's word and an immediate gives, if it is one that is built.
-pub fn imm_word(op: ImmOp, word: SymWord, imm: i32) -> Option<SymWord>
-    ensures { result ≡ words.imm_word op word imm }
+/// The number of a word's sum with an immediate, if it is one.
+pub fn sum_number(word: &Held, imm: i32) -> Option<u32>
+    ensures { result ≡ number_of (sum_word (word_of word.now) imm) }
+{
+    match word.number() {
+        Some(n) => Some(n.wrapping_add(imm.cast_unsigned())),
+        None => None,
+    }
+}
+
+/// The place whose address a word's sum with an immediate is, if it is one.
+pub fn sum_code(word: &Held, imm: i32) -> Option<Place>
+    ensures { result ≡ code_of (sum_word (word_of word.now) imm) }
+{
+    if imm == 0 { word.code() } else { None }
+}
+
+// An operation on a register's word and an immediate, if the word is a number.
+fn imm_numeric(op: ImmOp, word: &Held, imm: i32) -> Held
+    ensures { word_of result ≡ words.imm_numeric op (word_of word.now) imm }
+{
+    match word.number() {
+        Some(n) => Held::Number(imm_result(op, n, imm)),
+        None => Held::UNDEFINED,
+    }
+}
+
+/// What an operation on a register's word and an immediate gives.
+pub fn imm_word(op: ImmOp, word: &Held, imm: i32) -> Held
+    ensures { word_of result ≡ words.imm_word op (word_of word.now) imm }
 {
     match op {
-        ImmOp::Addi => Some(sum(word, imm)),
+        ImmOp::Addi => sum(word, imm),
+        ImmOp::Sltiu if imm == 1 && word.code().is_some() => Held::Number(0),
         ImmOp::Slti
         | ImmOp::Sltiu
         | ImmOp::Xori
@@ -33,6 +65,55 @@ pub fn imm_word(op: ImmOp, word: SymWord, imm: i32) -> Option<SymWord>
         | ImmOp::Andi
         | ImmOp::Slli
         | ImmOp::Srli
-        | ImmOp::Srai => None,
+        | ImmOp::Srai => imm_numeric(op, word, imm),
+    }
+}
+
+// An operation on the words of two registers, if both are numbers.
+fn reg_numeric(op: RegOp, a: &Held, b: &Held) -> Held
+    ensures { word_of result ≡ words.reg_numeric op (word_of a.now) (word_of b.now) }
+{
+    match (a.number(), b.number()) {
+        (Some(m), Some(n)) => Held::Number(reg_result(op, m, n)),
+        _ => Held::UNDEFINED,
+    }
+}
+
+/// What an operation on two registers gives, by the registers and their words.
+pub fn reg_word(op: RegOp, first: Reg, second: Reg, a: &Held, b: &Held) -> Held
+    ensures { word_of result ≡ words.reg_word op first second (word_of a.now) (word_of b.now) }
+{
+    match op {
+        RegOp::Add if second.number() == 0 => *a,
+        RegOp::Add if first.number() == 0 => *b,
+        RegOp::Sltu if first.number() == 0 && b.code().is_some() => Held::Number(1),
+        RegOp::Add
+        | RegOp::Sub
+        | RegOp::Sll
+        | RegOp::Slt
+        | RegOp::Sltu
+        | RegOp::Xor
+        | RegOp::Srl
+        | RegOp::Sra
+        | RegOp::Or
+        | RegOp::And
+        | RegOp::Mul
+        | RegOp::Mulh
+        | RegOp::Mulhsu
+        | RegOp::Mulhu
+        | RegOp::Div
+        | RegOp::Divu
+        | RegOp::Rem
+        | RegOp::Remu => reg_numeric(op, a, b),
+    }
+}
+
+/// What an instruction with an upper immediate gives.
+pub fn upper_word(op: UpperOp, imm: u32) -> Held
+    ensures { word_of result ≡ words.upper_word op imm }
+{
+    match op {
+        UpperOp::Lui => Held::Number(upper_result(op, 0, imm)),
+        UpperOp::Auipc => Held::UNDEFINED,
     }
 }

@@ -1,42 +1,71 @@
 // Runs of the symbolic machine.
 
-ghost use Rattle.std.specs.Prelude.{◌≡◌};
+ghost use Rattle.std.specs.Prelude.{◌≡◌, ◌∷◌, [], true, OnOk, OnErr, IfErr};
 ghost use Rattle.psabi_sym.specs.Inputs.{parsed};
+ghost use Rattle.rv_decode.specs.State.{Write};
+ghost use Rattle.rv_decode.specs.Written.{err_of, out_of};
+ghost use Rattle.sym_machine.specs.Change.{is_output};
 ghost use Rattle.sym_machine.specs.Objects.{program_of};
-ghost use Rattle.sym_machine.specs.RunEnd.{Course, Traced};
+ghost use Rattle.sym_machine.specs.RunEnd.{Course, IfConsole, Traced, WrotePart};
 ghost use Rattle.sym_machine.specs.State.{first_plain};
-ghost use Rattle.zc_outside.specs.Desk.{OnlyWrites};
+ghost use Rattle.zc_outside.specs.Desk.{OnlyWrites, WriteCause, Wrote};
 
-use crate::sym::{Sym, SymStep};
+use crate::step::SymStep;
+use crate::sym::Sym;
 use crate::why::Why;
 use block_cut::cut::Cut;
 use zc_base::place::Place;
-use zc_outside::console::Console;
+use zc_outside::console::{Console, ConsoleFault};
 
-/// How a run ends: the program exited with a status, it is stuck at a place, or all steps were made.
+/// How a run ends: the program exited with a status, it is stuck at a place, all steps were made, the
+/// console refused a write, or there was no memory for a step.
 #[derive(Clone, Copy, PartialEq, Eq, Debug)]
 pub enum TraceEnd {
     Exited(u8),
     Stuck(Place, Why),
     Spent,
+    Console(ConsoleFault),
+    OutOfMemory,
 }
 
-/// Runs the symbolic machine from the objects' start for at most so many steps.
-///
-/// No step writes yet, so nothing is written to the console; a program that writes brings the
-/// console's fault as a further end.
+/// Runs the symbolic machine from the objects' start for at most so many steps. What the program writes
+/// goes to the console, each write in one piece.
 pub fn run<C: Console>(sym: &mut Sym, cut: &Cut, steps: u64, console: &mut C) -> TraceEnd
     requires start { sym.old ≡ first_plain (program_of (parsed cut.now)) sym.old.input }
     ensures ran { let course : Course = record { program = program_of (parsed cut.now); input = sym.old.input; steps = steps } in
         Traced course result (C.shown console.old) (C.shown console.new) }
+    ensures cause { IfConsole result (WriteCause (C.shown console.old) (C.shown console.new)) }
     ensures writes { OnlyWrites (C.shown console.old) (C.shown console.new) }
 {
     for _turn in 0..steps {
-        match sym.step(cut) {
-            SymStep::Done => {}
+        let Ok(step) = sym.step(cut) else {
+            return TraceEnd::OutOfMemory;
+        };
+        match step {
+            SymStep::Done | SymStep::Read { .. } => {}
+            SymStep::Wrote { fd, bytes } => {
+                if let Err(fault) = write_to(console, fd, &bytes) {
+                    return TraceEnd::Console(fault);
+                }
+            }
             SymStep::Exited(status) => return TraceEnd::Exited(status),
             SymStep::Stuck(place, why) => return TraceEnd::Stuck(place, why),
         }
     }
     TraceEnd::Spent
+}
+
+// Writes bytes to the stream with a number.
+fn write_to<C: Console>(console: &mut C, fd: u8, bytes: &[u8]) -> Result<(), ConsoleFault>
+    requires { is_output fd ≡ true }
+    ensures ok { OnOk result (Wrote (out_of (Write fd bytes.now ∷ [])) (err_of (Write fd bytes.now ∷ [])) (C.shown console.old) (C.shown console.new)) }
+    ensures err { OnErr result (WrotePart fd bytes.now (C.shown console.old) (C.shown console.new)) }
+    ensures cause { IfErr result (WriteCause (C.shown console.old) (C.shown console.new)) }
+    ensures writes { OnlyWrites (C.shown console.old) (C.shown console.new) }
+{
+    if fd == 1 {
+        console.out(bytes)
+    } else {
+        console.err(bytes)
+    }
 }

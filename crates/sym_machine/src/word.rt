@@ -1,7 +1,8 @@
 // Words whose bytes may depend on where code will lie.
 
 ghost use Rattle.std.specs.Prelude.{◌≡◌};
-ghost use Rattle.sym_machine.specs.Words.{number_of, number_word};
+ghost use Rattle.sym_machine.specs.Words.{code_of, is_part, is_value, number_of, sign_of};
+ghost use Rattle.zc_base.specs.Places as places;
 
 use zc_base::place::Place;
 
@@ -22,6 +23,30 @@ pub enum SymByte {
     Undef,
 }
 
+impl SymByte {
+    /// The bytes above it, if it has a sign.
+    pub fn sign(self) -> SymByte
+        ensures { result ≡ sign_of self }
+    {
+        match self {
+            SymByte::Num(byte) if byte < 128 => SymByte::Num(0),
+            SymByte::Num(_) => SymByte::Num(255),
+            SymByte::Part(_, _) | SymByte::Undef => SymByte::Undef,
+        }
+    }
+
+    // Whether the byte is this part of a place's address.
+    fn is_code_part(&self, q: Place, i: u8) -> bool
+        ensures { result ≡ is_part (Value.Code q) i self.now }
+    {
+        match self {
+            SymByte::Part(Value::Code(r), j) => same_place(q, *r) && i == *j,
+            SymByte::Part(Value::AbsHi(_) | Value::PcHi(_), _) => false,
+            SymByte::Num(_) | SymByte::Undef => false,
+        }
+    }
+}
+
 /// A word of four abstract bytes, the lowest first.
 #[derive(Clone, Copy, PartialEq, Eq, Debug)]
 pub struct SymWord {
@@ -40,19 +65,6 @@ impl SymWord {
         b3: SymByte::Undef,
     };
 
-    /// The word of a number.
-    pub fn of_number(n: u32) -> SymWord
-        ensures { result ≡ number_word n }
-    {
-        let bytes = n.to_le_bytes();
-        SymWord {
-            b0: SymByte::Num(bytes[0]),
-            b1: SymByte::Num(bytes[1]),
-            b2: SymByte::Num(bytes[2]),
-            b3: SymByte::Num(bytes[3]),
-        }
-    }
-
     /// The number that the word is, if it is one.
     pub fn number(&self) -> Option<u32>
         ensures { result ≡ number_of self.now }
@@ -64,4 +76,31 @@ impl SymWord {
             _ => None,
         }
     }
+
+    /// The place whose address the word is, if it is one.
+    pub fn code(&self) -> Option<Place>
+        ensures { result ≡ code_of self.now }
+    {
+        match self.b0 {
+            SymByte::Part(Value::Code(q), _) if self.is_code(q) => Some(q),
+            _ => None,
+        }
+    }
+
+    // Whether the word is the address of a place.
+    fn is_code(&self, q: Place) -> bool
+        ensures { result ≡ is_value (Value.Code q) self.now }
+    {
+        self.b0.is_code_part(q, 0)
+            && self.b1.is_code_part(q, 1)
+            && self.b2.is_code_part(q, 2)
+            && self.b3.is_code_part(q, 3)
+    }
+}
+
+/// Whether two places are the same.
+pub fn same_place(p: Place, q: Place) -> bool
+    ensures { result ≡ places.same_place p q }
+{
+    p.object == q.object && p.section == q.section && p.offset == q.offset
 }

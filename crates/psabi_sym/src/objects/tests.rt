@@ -236,3 +236,39 @@ fn sums_come_before_names(rt: HostRuntime) -> Result<(), Fail> {
     assert_eq!(rt; refusal(rt.alloc(), &files), fault(0, Fault::TooLarge));
     Ok(())
 }
+
+// Each row: bytes of the first object to change, each with its place, and where `_start` leads then. In
+// the names of symbols, `_start` begins at 11, in the place of `abs`, and `t` at 16.
+#[test]
+fn a_program_starts_where_its_name_leads(rt: HostRuntime) -> Result<(), Fail> {
+    let code = Target::Code(Place {
+        object: 0,
+        section: 1,
+        offset: 4,
+    });
+    let rows: [(&str, &[(usize, u8)], Target); 5] = [
+        ("a number", &[], Target::Number(0x1234)),
+        ("code", &[(104, 11), (168, 16)], code),
+        ("data", &[(120, 11), (168, 16)], Target::Number(0x0010_0011)),
+        (
+            "a dropped section",
+            &[(168, 16), (184, 11)],
+            Target::Nowhere,
+        ),
+        ("no such name", &[(168, 16)], Target::Nowhere),
+    ];
+    for (row, changes, want) in rows {
+        let mut first = FIRST;
+        for (i, byte) in b"_start\0".iter().enumerate() {
+            first[307 + i] = *byte;
+        }
+        for (at, byte) in changes {
+            assert!(rt; *at < first.len());
+            first[*at] = *byte;
+        }
+        let files = copies(rt.alloc(), &[&first])?;
+        let objects = Objects::gather(rt.alloc(), &files, MemMap::standard())?;
+        assert_eq!(rt; objects.start(), want, "{row}");
+    }
+    Ok(())
+}

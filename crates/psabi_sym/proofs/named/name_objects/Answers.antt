@@ -85,7 +85,7 @@ first_undefined-requires-clause-named c =
     let count : length c.as_slice-names.result.now ≡ length names =
     sym (length-map c.as_slice-names.result.now (λ (name : Bor (List ℕ)). name.now)) ∙ ap length c.as_slice-names.ensures in
     let inputs : ParsedInputs = record { objects = objects; map = c.args.memory.now } in
-    let own = c.in_ok-definitions.ensures.named in
+    let own = c.in_ok-definitions.ensures.tables.named in
     let rows_are : c.deref-6.result.now ≡ map (symbol_row own.names) listed = c.deref-6.ensures.value ∙ sym c.deref-4.ensures.value ∙ own.numbered.rows_are in
     let own_named = named_rows own.names listed c.deref-4.result.now own.numbered in
     let meanings : length c.deref-8.result.now ≡ length own.names = ap length c.deref-8.ensures.value ∙ own.count in
@@ -106,7 +106,7 @@ returns-in-Some-first_undefined-clause-err c =
     c.first_duplicate.ensures ∙ ap (λ (r : List SymbolRow). option_map {U = ℕ × ℕ} (λ s. (s.object, s.index)) (find (row_is_second r) r)) (c.deref-2.ensures.value ∙ numbered.rows_are)
     ∙ duplicate_is names objects numbered.numbered in
     let inputs : ParsedInputs = record { objects = objects; map = c.args.memory.now } in
-    let own = c.in_ok-definitions.ensures.named in
+    let own = c.in_ok-definitions.ensures.tables.named in
     let rows_are : c.deref-6.result.now ≡ map (symbol_row own.names) listed = c.deref-6.ensures.value ∙ sym c.deref-4.ensures.value ∙ own.numbered.rows_are in
     let missing : c.first_undefined.result ≡ option_map (λ l. (l.object, l.index)) (find (is_missing inputs) listed) =
     c.first_undefined.ensures
@@ -131,7 +131,7 @@ returns-clause-none c =
     c.first_duplicate.ensures ∙ ap (λ (r : List SymbolRow). option_map {U = ℕ × ℕ} (λ s. (s.object, s.index)) (find (row_is_second r) r)) (c.deref-2.ensures.value ∙ numbered.rows_are)
     ∙ duplicate_is names objects numbered.numbered in
     let inputs : ParsedInputs = record { objects = objects; map = c.args.memory.now } in
-    let own = c.in_ok-definitions.ensures.named in
+    let own = c.in_ok-definitions.ensures.tables.named in
     let rows_are : c.deref-6.result.now ≡ map (symbol_row own.names) listed = c.deref-6.ensures.value ∙ sym c.deref-4.ensures.value ∙ own.numbered.rows_are in
     let missing : c.first_undefined.result ≡ option_map (λ l. (l.object, l.index)) (find (is_missing inputs) listed) =
     c.first_undefined.ensures

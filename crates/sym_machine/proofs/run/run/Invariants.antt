@@ -1,12 +1,11 @@
-use Rattle.std.proofs.Common.{◌≡◌, Ok, None}
 use Rattle.psabi_sym.specs.Inputs.{parsed}
+use Rattle.zc_outside.specs.Desk.{OnlyWrites}
 use Rattle.sym_machine.specs.Objects.{program_of}
-use Rattle.sym_machine.specs.Run.{plain}
-use Rattle.sym_machine.proofs.RunLaws.{silent}
+use Rattle.sym_machine.proofs.RunLaws.{Came}
 use Rattle.sym_machine.proofs.run.run.Given as goal
 
 abbrev pub invariant-loop-turn : goal.invariant-loop-turn
-invariant-loop-turn g l = record {
-  ran : plain (program_of (parsed l.cut)) l.initial.sym.input l._turn ≡ Ok (silent l.sym);
-  running : l.sym.exit ≡ None;
+invariant-loop-turn g l = let shown = g.C.Console.shown in record {
+  came : Came (record { program = program_of (parsed l.cut); input = l.fn.sym.input; steps = l.steps }) l._turn l.sym (shown l.fn.console) (shown l.console);
+  writes : OnlyWrites (shown l.fn.console) (shown l.console);
 }

@@ -1,0 +1,90 @@
+-- Code of objects without a fault is in the file whole, and has whole words.
+use Rattle.std.proofs.Common.{◌≡◌, ◌≢◌, ℕ, ◌%◌, ◌<◌, ◌≤◌, List, length, true, Option, Some, None, slice_get, refl, sym, ap, ◌∙◌, arith, cond, Bool, false, inl, inr}
+use Rattle.std.specs.Prelude.{◌&&◌}
+use Rattle.std.specs.Option.{option_and_then, option_map}
+use Rattle.std.proofs.lemmas.Bool.{ltb-false, cases_lt}
+use Rattle.std.proofs.lemmas.Option.{slice_get-map, slice_get_past}
+use Rattle.zc_base.specs.declared.place.Place.{Place}
+use Rattle.elf32_read.specs.Header.{header_of, section_count}
+use Rattle.elf32_read.specs.Kept.{has_flags, is_kept_code}
+use Rattle.elf32_read.specs.Object.{object_fault}
+use Rattle.elf32_read.specs.Parts.{ObjectParts, SectionParts, is_code_section, object_parts, section_parts}
+use Rattle.elf32_read.proofs.Faultless.{content_short, content_whole, faultless_whole, is_kept_section-parts, kept_code, no_fault}
+use Rattle.psabi_sym.specs.Faults.{gather_fault}
+use Rattle.psabi_sym.specs.Inputs.{Inputs, parsed}
+use Rattle.psabi_sym.specs.Listed.{section_at}
+use Rattle.psabi_sym.proofs.Gathered.{readable}
+use Rattle.psabi_sym.proofs.PartLaws.{section_count_is, section_got}
+use Rattle.block_cut.specs.Items.{code_at, code_only}
+
+-- the content is as long as the section, has whole words, and is no longer than a file
+pub record IsWhole (s : SectionParts) : Type 0 where
+  pub bytes : length s.bytes ≡ s.size
+  pub words : length s.bytes % 4 ≡ 0
+  pub short : length s.bytes ≤ 0x40_0000
+
+-- of an object
+pub file_whole : (file : List ℕ) (i : ℕ) → object_fault file ≡ None → i < section_count file → is_code_section (section_parts file i) ≡ true → IsWhole (section_parts file i)
+file_whole file i read lt code =
+    let h = header_of file i in
+    let kept : is_kept_code file h ≡ true = ap (λ b. b && has_flags 4 h.flags) (sym (is_kept_section-parts file read i lt)) ∙ code in
+    let is = kept_code file read i lt kept in
+    let not_null : h.kind ≢ 0 = λ e. omega (arith, e, is.kind) in
+    let not_nobits : h.kind ≢ 8 = λ e. omega (arith, e, is.kind) in
+    let bytes = content_whole file h ((faultless_whole file read).contents i lt) not_null not_nobits in
+    record {
+      bytes = bytes;
+      words = ap (λ n. n % 4) bytes ∙ is.words;
+      short = omega (arith, content_short file h, ltb-false 0x40_0000 (length file) (no_fault file read).short);
+    }
+
+-- a section of a file is one of the inputs
+pub section_there : (inputs : Inputs) (o i : ℕ) (file : List ℕ) → slice_get inputs.files o ≡ Some file → i < section_count file → section_at (parsed inputs).objects o i ≡ Some (section_parts file i)
+section_there inputs o i file at within =
+    ap (option_and_then (λ (object : ObjectParts). slice_get object.sections i)) (slice_get-map object_parts inputs.files o ∙ ap (option_map object_parts) at)
+    ∙ section_got file i within
+
+-- and the other way round
+pub record IsSectionOf (inputs : Inputs) (o i : ℕ) (s : SectionParts) : Type 0 where
+  pub file : List ℕ
+  pub at : slice_get inputs.files o ≡ Some file
+  pub within : i < section_count file
+  pub is : s ≡ section_parts file i
+
+pub section_of : (inputs : Inputs) (o i : ℕ) (s : SectionParts) → section_at (parsed inputs).objects o i ≡ Some s → IsSectionOf inputs o i s
+section_of inputs o i s is =
+    by (slice_get inputs.files o) refl
+    (sym (ap (option_and_then (λ (object : ObjectParts). slice_get object.sections i)) (slice_get-map object_parts inputs.files o)) ∙ is)
+  where
+    by : (found : Option (List ℕ)) → slice_get inputs.files o ≡ found → option_and_then (λ (object : ObjectParts). slice_get object.sections i) (option_map object_parts found) ≡ Some s → IsSectionOf inputs o i s
+    by None at is = absurd cc
+    by (Some file) at is = elim (cases_lt i (section_count file)) [
+      | inl lt ↦
+          let same : section_parts file i ≡ s = cc (section_got file i lt, is) in
+          record { file = file; at = at; within = lt; is = sym same }
+      | inr le ↦ absurd (cc (is, slice_get_past (object_parts file).sections i (omega (arith, le, section_count_is file))))
+    ]
+
+-- of inputs
+pub inputs_whole : (inputs : Inputs) (o i : ℕ) (s : SectionParts) → gather_fault inputs ≡ None → section_at (parsed inputs).objects o i ≡ Some s → is_code_section s ≡ true → IsWhole s
+inputs_whole inputs o i s none is code =
+    let of = section_of inputs o i s is in
+    rw of.is (file_whole of.file i (readable inputs o of.file none of.at) of.within (ap is_code_section (sym of.is) ∙ code))
+
+-- code is a section that is code
+pub code_is_section : (objects : List ObjectParts) (q : Place) (s : SectionParts) → code_at objects q ≡ Some s → (section_at objects q.object q.section ≡ Some s) × (is_code_section s ≡ true)
+code_is_section objects q s at = by (section_at objects q.object q.section) refl at
+  where
+    by : (o : Option SectionParts) → section_at objects q.object q.section ≡ o → option_and_then code_only o ≡ Some s → (section_at objects q.object q.section ≡ Some s) × (is_code_section s ≡ true)
+    by None is at = absurd cc
+    by (Some t) is at = tested (is_code_section t) refl at
+      where
+        tested : (b : Bool) → is_code_section t ≡ b → cond b (Some t) None ≡ Some s → (section_at objects q.object q.section ≡ Some s) × (is_code_section s ≡ true)
+        tested true code at = let same : t ≡ s = cc in (is ∙ ap Some same, ap is_code_section (sym same) ∙ code)
+        tested false code at = absurd cc
+
+-- so the code at a place is whole
+pub code_whole : (inputs : Inputs) (q : Place) (s : SectionParts) → gather_fault inputs ≡ None → code_at (parsed inputs).objects q ≡ Some s → IsWhole s
+code_whole inputs q s none at =
+    let is = code_is_section (parsed inputs).objects q s at in
+    inputs_whole inputs q.object q.section s none is.0 is.1

@@ -1,0 +1,172 @@
+-- Where data lies is bounded by the map, and the contents of data have room from its start to the end of small data.
+use Rattle.std.proofs.Common.{◌≡◌, ℕ, ◌+◌, ◌-◌, ◌<◌, ◌≤◌, List, [], ◌∷◌, ◌++◌, Bool, true, false, cond, eqb, length, take, drop, map, max, replicate, refl, ap, ◌∙◌, arith, Option, Some, None, slice_get}
+use Rattle.std.specs.List.{fold, sum_by}
+use Rattle.std.specs.Option.{option_and_then, option_map, option_map_or}
+use Rattle.std.proofs.lemmas.List.{length-append, length-drop, length-replicate, length-take, take_all}
+use Rattle.std.proofs.lemmas.Option.{slice_get-map}
+use Rattle.elf32_read.specs.Header.{section_count}
+use Rattle.elf32_read.specs.Parts.{ObjectParts, SectionParts, object_parts, section_parts}
+use Rattle.psabi_sym.specs.declared.block.Block.{Block}
+use Rattle.psabi_sym.specs.declared.data_class.DataClass.{DataClass}
+use Rattle.psabi_sym.specs.declared.data_class.DataClass.TheVariants.{ReadOnly, Data, SmallData, SmallZero, Zero, Common}
+use Rattle.psabi_sym.specs.declared.definitions.Definitions.{Definitions}
+use Rattle.psabi_sym.specs.declared.section_row.SectionRole.TheVariants.{Code, InClass, Dropped}
+use Rattle.psabi_sym.specs.declared.sections.Sections.{Sections}
+use Rattle.psabi_sym.specs.declared.symbols.Symbols.{Symbols}
+use Rattle.psabi_sym.specs.Blocks.{aligned_up, end_from}
+use Rattle.psabi_sym.specs.Classes.{classes_before}
+use Rattle.psabi_sym.specs.Contents.{data_contents, overlaid, with_content}
+use Rattle.psabi_sym.specs.Data.{address_in, blocks_in, blocks_of, class_end, class_start, data_address, data_end, data_file_end, end_after, role_address, role_of}
+use Rattle.psabi_sym.specs.Gathered.{IsGathered}
+use Rattle.psabi_sym.specs.Inputs.{Inputs, ParsedInputs, parsed}
+use Rattle.psabi_sym.specs.Listed.{ListedSection, all_sections, all_symbols, section_at, sections_before}
+use Rattle.psabi_sym.specs.Rows.{placed_rows, row_end, row_room, section_row, symbol_row}
+use Rattle.psabi_sym.proofs.BlockLaws.{aligned_up-lt, end_from_fits}
+use Rattle.psabi_sym.proofs.CommonLaws.{placed_room}
+use Rattle.psabi_sym.proofs.DefinedLaws.{class_end_common, common_start_is, rooms_fit}
+use Rattle.psabi_sym.proofs.Gathered.{all_none}
+use Rattle.psabi_sym.proofs.PartLaws.{section_got}
+use Rattle.psabi_sym.proofs.RowLaws.{class_rooms, row_end-le}
+
+-- ---- nothing lies below the map's start of data
+
+aligned_up-ge : (align at : ℕ) → at ≤ aligned_up align at
+unfolding aligned_up
+aligned_up-ge align at = omega arith
+
+end_from-ge : (at : ℕ) (bs : List Block) → at ≤ end_from at bs
+end_from-ge at [] = omega arith
+end_from-ge at (b ∷ bs) = omega (arith, aligned_up-ge b.align at, end_from-ge (aligned_up b.align at + b.size) bs)
+
+ends-ge : (objects : List ObjectParts) (at : ℕ) (cs : List DataClass) → at ≤ fold (end_after objects) at cs
+ends-ge objects at [] = omega arith
+ends-ge objects at (c ∷ cs) =
+    omega (arith, aligned_up-ge 16 at, end_from-ge (aligned_up 16 at) (blocks_of objects c), ends-ge objects (end_after objects at c) cs)
+
+module _ (inputs : ParsedInputs) where
+  class_start-ge : (class : DataClass) → inputs.map.data_low ≤ class_start inputs class
+  unfolding class_start
+  class_start-ge class =
+      let before = fold (end_after inputs.objects) inputs.map.data_low (classes_before class) in
+      omega (arith, ends-ge inputs.objects inputs.map.data_low (classes_before class), aligned_up-ge 16 before)
+
+  -- the address of a section of data
+  pub address_in-ge : (o i : ℕ) (s : SectionParts) (class : DataClass) → inputs.map.data_low ≤ address_in inputs o i s class
+  address_in-ge o i s class =
+      let before = blocks_in class (sections_before inputs.objects o i) in
+      omega (arith, class_start-ge class, end_from-ge (class_start inputs class) before, aligned_up-ge s.align (end_from (class_start inputs class) before))
+
+  -- small data ends above it
+  pub data_low-le : inputs.map.data_low ≤ data_file_end inputs
+  unfolding class_end
+  data_low-le = omega (arith, class_start-ge SmallData, end_from-ge (class_start inputs SmallData) (blocks_of inputs.objects SmallData))
+
+  -- and no later than all data
+  pub data_file_end-le : data_file_end inputs ≤ data_end inputs
+  unfolding class_end class_start
+  data_file_end-le =
+      let before = fold (end_after inputs.objects) inputs.map.data_low (ReadOnly ∷ Data ∷ SmallData ∷ []) in
+      let rest = fold (end_after inputs.objects) before (SmallZero ∷ Zero ∷ []) in
+      omega (arith, ends-ge inputs.objects before (SmallZero ∷ Zero ∷ []), aligned_up-ge 16 rest, end_from-ge (aligned_up 16 rest) (blocks_of inputs.objects Common))
+
+-- ---- nor far above it
+
+-- data have 4 MiB at most
+pub data_end-most : (inputs : Inputs) (sections : Sections) (symbols : Symbols) (definitions : Definitions) → IsGathered inputs sections symbols definitions
+    → data_end (parsed inputs) ≤ inputs.map.data_low + 0x40_0000
+data_end-most inputs sections symbols definitions gathered =
+    let objects = (parsed inputs).objects in
+    let low = inputs.map.data_low in
+    let named = gathered.defined.named in
+    let rows = map section_row (all_sections objects) in
+    let names = map (symbol_row named.names) (all_symbols objects) in
+    let e1 = row_end rows low ReadOnly in
+    let e2 = row_end rows e1 Data in
+    let e3 = row_end rows e2 SmallData in
+    let e4 = row_end rows e3 SmallZero in
+    let placed = placed_rows names names in
+    let all : take (length names) names ≡ names = take_all (length names) names (omega arith) in
+    omega (
+      arith,
+      rooms_fit inputs.files named.names (all_none inputs gathered.faultless).sums,
+      class_rooms rows,
+      row_end-le rows low ReadOnly,
+      row_end-le rows e1 Data,
+      row_end-le rows e2 SmallData,
+      row_end-le rows e3 SmallZero,
+      row_end-le rows e4 Zero,
+      aligned_up-lt 16 (row_end rows e4 Zero),
+      common_start_is (parsed inputs),
+      end_from_fits (class_start (parsed inputs) Common) (map (row_room names) placed),
+      placed_room names (length names) (omega arith),
+      ap (λ l. sum_by (λ (b : Block). b.size + max 1 b.align) (map (row_room names) (placed_rows names l))) all,
+      class_end_common named.names (parsed inputs) named.numbered.numbered,
+    )
+
+-- ---- contents
+
+pub length-overlaid : {X : Type 0} (at : ℕ) (new old : List X) → length (overlaid at new old) ≡ length old
+length-overlaid at new old =
+    omega (
+      arith,
+      length-append (take at old) (take (length old - at) new ++ drop (at + length new) old),
+      length-append (take (length old - at) new) (drop (at + length new) old),
+      length-take at old,
+      length-take (length old - at) new,
+      length-drop (at + length new) old,
+    )
+
+length-with_content : (inputs : ParsedInputs) (bytes : List ℕ) (l : ListedSection) → length (with_content inputs bytes l) ≡ length bytes
+length-with_content inputs bytes l = by (eqb l.section.kind 8) (data_address inputs l.object l.index)
+  where
+    by : (b : Bool) (o : Option ℕ) → length (cond b bytes (option_map_or (λ at. overlaid (at - inputs.map.data_low) l.section.bytes bytes) o bytes)) ≡ length bytes
+    by true o = refl
+    by false None = refl
+    by false (Some at) = length-overlaid (at - inputs.map.data_low) l.section.bytes bytes
+
+pub length-data_contents : (inputs : ParsedInputs) → length (data_contents inputs) ≡ data_file_end inputs - inputs.map.data_low
+unfolding data_contents
+length-data_contents inputs =
+    let zeros = replicate (data_file_end inputs - inputs.map.data_low) 0 in
+    all zeros (all_sections inputs.objects) ∙ length-replicate (data_file_end inputs - inputs.map.data_low) 0
+  where
+    all : (bytes : List ℕ) (ls : List ListedSection) → length (fold (with_content inputs) bytes ls) ≡ length bytes
+    all bytes [] = refl
+    all bytes (l ∷ ls) = all (with_content inputs bytes l) ls ∙ length-with_content inputs bytes l
+
+-- ---- a section of an object
+
+-- a section by its file
+pub section_there : (inputs : Inputs) (o i : ℕ) (file : List ℕ) → slice_get inputs.files o ≡ Some file → i < section_count file
+    → section_at (parsed inputs).objects o i ≡ Some (section_parts file i)
+section_there inputs o i file at within =
+    ap (option_and_then (λ (object : ObjectParts). slice_get object.sections i)) (slice_get-map object_parts inputs.files o ∙ ap (option_map object_parts) at)
+    ∙ section_got file i within
+
+module _ (inputs : ParsedInputs) (o i : ℕ) (s : SectionParts) (at : section_at inputs.objects o i ≡ Some s) where
+  found : data_address inputs o i ≡ role_address inputs o i s (role_of s)
+  unfolding data_address
+  found = ap (option_and_then (λ (t : SectionParts). role_address inputs o i t (role_of t))) at
+
+  -- one that is data has an address, and no other has
+  pub address_of_data : (class : DataClass) → role_of s ≡ InClass class → data_address inputs o i ≡ Some (address_in inputs o i s class)
+  address_of_data class role = found ∙ ap (role_address inputs o i s) role
+
+  pub none_of_code : role_of s ≡ Code → data_address inputs o i ≡ None
+  none_of_code role = found ∙ ap (role_address inputs o i s) role
+
+  pub none_of_dropped : role_of s ≡ Dropped → data_address inputs o i ≡ None
+  none_of_dropped role = found ∙ ap (role_address inputs o i s) role
+
+  here : ListedSection
+  here = record { object = o; index = i; section = s }
+
+  -- its content, if it is data, and else nothing
+  pub content_none : (bytes : List ℕ) → data_address inputs o i ≡ None → with_content inputs bytes (record { object = o; index = i; section = s }) ≡ bytes
+  content_none bytes none =
+      ap (λ a. cond (eqb s.kind 8) bytes (option_map_or (λ at. overlaid (at - inputs.map.data_low) s.bytes bytes) a bytes)) none
+      ∙ by (eqb s.kind 8)
+    where
+      by : (b : Bool) → cond b bytes bytes ≡ bytes
+      by true = refl
+      by false = refl

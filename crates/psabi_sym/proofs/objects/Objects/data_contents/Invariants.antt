@@ -1,0 +1,11 @@
+use Rattle.std.proofs.Common.{◌≡◌, ◌-◌, replicate, take}
+use Rattle.std.specs.List.{fold}
+use Rattle.psabi_sym.specs.Contents.{with_content}
+use Rattle.psabi_sym.specs.Data.{data_file_end}
+use Rattle.psabi_sym.specs.Inputs.{parsed}
+use Rattle.psabi_sym.specs.Listed.{all_sections}
+use Rattle.psabi_sym.proofs.objects.Objects.data_contents.Given as goal
+
+abbrev pub invariant-loop-o : goal.invariant-loop-o
+invariant-loop-o l = let inputs = parsed l.self in
+    l.bytes.items ≡ fold (with_content inputs) (replicate (data_file_end inputs - inputs.map.data_low) 0) (all_sections (take l.o inputs.objects))

@@ -1,0 +1,206 @@
+-- Ends of steps of a state as it is kept: the step of the definition ends in the state that is then kept.
+use Rattle.std.proofs.Common.{◌≡◌, ◌≢◌, ℕ, ◌-◌, ◌%◌, ◌<◌, ◌≤◌, List, [], ◌∷◌, length, get_or, set, take, drop, map, min, false, eqb, Option, Some, None, refl, sym, ap, ◌∙◌, arith, inl, get_or-set_same, get_or-set_other, length-set, subst}
+use Rattle.std.specs.Prelude.{slice_index_or, nat_le, ◌&&◌}
+use Rattle.std.proofs.lemmas.Bool.{cond-false, ne_eqb}
+use Rattle.std.proofs.lemmas.List.{get_or_default, map-set, same_lists}
+use Rattle.zc_base.specs.declared.mem_map.MemMap.{MemMap}
+use Rattle.zc_base.specs.declared.place.Place.{Place}
+use Rattle.rv_decode.specs.Memory.{Extent, Stack, blank, changed, extents_of, written}
+use Rattle.rv_decode.specs.State.{Event, Exit, Read, Write, set_reg}
+use Rattle.sym_machine.specs.declared.arguments.Arguments.{Arguments}
+use Rattle.sym_machine.specs.declared.held.Held.{Held}
+use Rattle.sym_machine.specs.declared.held.Held.TheVariants as held
+use Rattle.sym_machine.specs.declared.step.SymStep.TheVariants as answer
+use Rattle.sym_machine.specs.declared.why.Why.TheVariants.{StackPointer}
+use Rattle.sym_machine.specs.declared.word.SymByte.{SymByte}
+use Rattle.sym_machine.specs.declared.word.SymByte.TheVariants.{Num, Undef}
+use Rattle.sym_machine.specs.declared.word.SymWord.{SymWord}
+use Rattle.sym_machine.specs.Answer.{StepAnswers}
+use Rattle.sym_machine.specs.Change.{Change, Goes, exit_does, gives, onward, place_does, puts, read_does}
+use Rattle.sym_machine.specs.Kept.{IsChanged, IsKept, IsWorking, Kept, above_only, kept_from, regions_of, stack_cells, word_of, words_of}
+use Rattle.sym_machine.specs.Program.{Program, first_memory}
+use Rattle.sym_machine.specs.State.{PlainCore, reg_of}
+use Rattle.sym_machine.specs.Step.{Stuck, Went, after_change, ends, made, plain_step, undefined_below}
+use Rattle.sym_machine.specs.Words.{number_of, number_word, undef_word}
+use Rattle.rv_decode.proofs.MemoryLaws.{get_or_blank, length_blank}
+use Rattle.sym_machine.proofs.MemoryLaws.{changed-after, get_or-stack_cells, length-stack_cells, settled_stays}
+use Rattle.sym_machine.proofs.StepLaws.{ends_outside, ends_unknown, ends_within, made_by, step_running}
+
+-- ---- registers
+
+-- a register that is set, but register 0
+pub words_set : (R : List Held) (r : ℕ) (w : Held) → r ≢ 0 → words_of (set R r w) ≡ set_reg (words_of R) r (word_of w)
+words_set R r w some = map-set word_of R r w ∙ sym (cond-false (eqb r 0) (words_of R) (set (words_of R) r (word_of w)) (ne_eqb r 0 some))
+
+-- registers with one that is neither register 0 nor sp
+pub working_set : (R : List Held) (k k' : Kept) (r : ℕ) (w : Held) → IsWorking (words_of R) k → IsKept k' → kept_from k' ≡ kept_from k → r ≢ 0 → r ≢ 2
+    → IsWorking (words_of (set R r w)) k'
+working_set R k k' r w is kept from some other =
+    let same = map-set word_of R r w in record {
+      registers_are = record {
+        count = ap length same ∙ length-set (words_of R) r (word_of w) ∙ is.registers_are.count;
+        first = ap (λ l. get_or l 0 undef_word) same ∙ get_or-set_other (words_of R) r 0 (word_of w) undef_word (λ e. some (sym e)) ∙ is.registers_are.first;
+      };
+      sp = ap (λ l. number_of (get_or l 2 undef_word)) same ∙ ap number_of (get_or-set_other (words_of R) r 2 (word_of w) undef_word (λ e. other (sym e))) ∙ is.sp ∙ ap Some (sym from);
+      kept = kept;
+    }
+
+-- and with another sp
+pub working_sp : (R : List Held) (k k' : Kept) (w : Held) (sp : ℕ) → IsWorking (words_of R) k → IsKept k' → kept_from k' ≡ sp → number_of (word_of w) ≡ Some sp
+    → IsWorking (words_of (set R 2 w)) k'
+working_sp R k k' w sp is kept from number =
+    let same = map-set word_of R 2 w in
+    let inside : 2 ≤ length (words_of R) = omega (arith, is.registers_are.count) in record {
+      registers_are = record {
+        count = ap length same ∙ length-set (words_of R) 2 (word_of w) ∙ is.registers_are.count;
+        first = ap (λ l. get_or l 0 undef_word) same ∙ get_or-set_other (words_of R) 2 0 (word_of w) undef_word (λ e. omega (arith, e)) ∙ is.registers_are.first;
+      };
+      sp = ap (λ l. number_of (get_or l 2 undef_word)) same ∙ ap number_of (get_or-set_same (words_of R) 2 (word_of w) undef_word (omega (arith, is.registers_are.count))) ∙ number ∙ ap Some (sym from);
+      kept = kept;
+    }
+
+-- ---- ends
+
+-- the state that registers and memory are
+abbrev pub core_of : Place → List Held → Kept → List ℕ → Option ℕ → PlainCore
+core_of place R k input exit = record { place = place; regs = words_of R; memory = regions_of k; input = input; exit = exit }
+
+module _ (k : Kept) (is : IsKept k) where
+  -- neither sp nor memory changes
+  kept_ends : (s : PlainCore) (events : List Event) → number_of (reg_of s 2) ≡ Some (kept_from k) → s.memory ≡ regions_of k → ends k.map s events ≡ Went s events
+  kept_ends s events sp memory =
+      ends_within k.map (kept_from k) s events sp (omega (arith, is.within)) (omega arith)
+      ∙ ap (λ m. Went (record s { memory = m }) events) (ap (changed (undefined_below k.map (kept_from k))) memory ∙ settled_stays k is ∙ sym memory)
+
+  -- memory changes, and sp doesn't
+  changed_ends : (f : ℕ → SymByte → SymByte) (k' : Kept) → IsChanged f k k' → (s : PlainCore) (events : List Event) → number_of (reg_of s 2) ≡ Some (kept_from k)
+      → s.memory ≡ changed f (regions_of k) → ends k.map s events ≡ Went (record s { memory = regions_of k' }) events
+  changed_ends f k' new s events sp memory =
+      ends_within k.map (kept_from k) s events sp (omega (arith, is.within)) (omega arith)
+      ∙ ap (λ m. Went (record s { memory = m }) events)
+      (ap (changed (undefined_below k.map (kept_from k))) memory
+      ∙ changed-after (undefined_below k.map (kept_from k)) f (above_only k f) (λ x c. refl) (regions_of k) ∙ sym new.regions)
+
+module _ (k : Kept) (R : List Held) (is : IsWorking (words_of R) k) (place to : Place) (input : List ℕ) (exit : Option ℕ) (running : exit ≡ None) where
+  abbrev core : PlainCore
+  core = core_of place R k input exit
+
+  pub goes_on : StepAnswers (made k.map (core_of place R k input exit) (Goes (onward to))) answer.Done (core_of place R k input exit) (core_of to R k input exit)
+  goes_on = (
+    running,
+    running,
+    kept_ends k is.kept (after_change (onward to) core) [] is.sp refl ∙ ap (λ e. Went (core_of to R k input e) []) (sym running),
+  )
+
+  -- a register but register 0 and sp is set, with these events
+  set_ends : (r : ℕ) (w : Held) (events : List Event) → r ≢ 0 → r ≢ 2
+      → ends k.map (after_change (gives r (word_of w) to) core) events ≡ Went (core_of to (set R r w) k input exit) events
+  set_ends r w events some other =
+      let s = after_change (gives r (word_of w) to) core in
+      let words = words_set R r w some in
+      kept_ends k is.kept s events (ap (λ l. number_of (get_or l 2 undef_word)) (sym words) ∙ (working_set R k k r w is is.kept refl some other).sp) refl
+      ∙ (λ j. Went (record { place = to; regs = sym words j; memory = regions_of k; input = input; exit = sym running j }) events)
+
+  pub gives_on : (r : ℕ) (w : Held) → r ≢ 0 → r ≢ 2
+      → StepAnswers (made k.map (core_of place R k input exit) (Goes (gives r (word_of w) to))) answer.Done (core_of place R k input exit) (core_of to (set R r w) k input exit)
+  gives_on r w some other = (running, running, set_ends r w [] some other)
+
+  -- sp is set to a number within the stack
+  pub gives_sp : (w : Held) (sp : ℕ) (k' : Kept) → number_of (word_of w) ≡ Some sp → k.map.stack_low ≤ sp → sp ≤ k.map.stack_high
+      → regions_of k' ≡ changed (undefined_below k.map sp) (regions_of k)
+      → StepAnswers (made k.map (core_of place R k input exit) (Goes (gives 2 (word_of w) to))) answer.Done (core_of place R k input exit) (core_of to (set R 2 w) k' input exit)
+  gives_sp w sp k' number low high regions =
+      let s = after_change (gives 2 (word_of w) to) core in
+      let set = get_or-set_same (words_of R) 2 (word_of w) undef_word (omega (arith, is.registers_are.count)) in (
+        running,
+        running,
+        ends_within k.map sp s [] (ap number_of set ∙ number) low high
+            ∙ (λ j. Went (record { place = to; regs = sym (map-set word_of R 2 w) j; memory = sym regions j; input = input; exit = sym running j }) []),
+      )
+
+  -- bytes are written
+  pub puts_on : (a : ℕ) (bytes : List SymByte) (k' : Kept) → IsChanged (written a (length bytes) (λ i. slice_index_or bytes i Undef)) k k'
+      → StepAnswers (made k.map (core_of place R k input exit) (Goes (puts a bytes to))) answer.Done (core_of place R k input exit) (core_of to R k' input exit)
+  puts_on a bytes k' new = (
+    running,
+    running,
+    changed_ends k is.kept (written a (length bytes) (λ i. slice_index_or bytes i Undef)) k' new (after_change (puts a bytes to) core) [] is.sp refl
+        ∙ ap (λ e. Went (core_of to R k' input e) []) (sym running),
+  )
+
+  -- input is read
+  pub reads_on : (c : Arguments) (n : ℕ) (k' : Kept) → n ≡ min c.len (length input)
+      → IsChanged (written c.at (length (map Num (take n input))) (λ i. slice_index_or (map Num (take n input)) i Undef)) k k'
+      → StepAnswers (made k.map (core_of place R k input exit) (read_does (core_of place R k input exit) to c)) (answer.Read n) (core_of place R k input exit) (core_of to (set R 10 (held.Number n)) k' (drop n input) exit)
+  reads_on c n k' count new =
+      let change : Change = record { place = to; writes = (10, number_word n) ∷ []; stores = (c.at, map Num (take n input)) ∷ []; taken = n; exit = None; events = Read (take n input) ∷ [] } in
+      let s = after_change change core in
+      let words = words_set R 10 (held.Number n) (λ e. omega (arith, e)) in
+      let sp = ap (λ l. number_of (get_or l 2 undef_word)) (sym words) ∙ (working_set R k k 10 (held.Number n) is is.kept refl (λ e. omega (arith, e)) (λ e. omega (arith, e))).sp in
+      subst (λ (m : ℕ). StepAnswers (made k.map (core_of place R k input exit) (Goes (record { place = to; writes = (10, number_word m) ∷ []; stores = (c.at, map Num (take m input)) ∷ []; taken = m; exit = None; events = Read (take m input) ∷ [] }))) (answer.Read n) (core_of place R k input exit) (core_of to (set R 10 (held.Number n)) k' (drop n input) exit))
+      count (
+        omega (arith, count),
+        (
+          running,
+          running,
+          changed_ends k is.kept (written c.at (length (map Num (take n input))) (λ i. slice_index_or (map Num (take n input)) i Undef)) k' new s change.events sp refl
+              ∙ (λ j. Went (record { place = to; regs = sym words j; memory = regions_of k'; input = drop n input; exit = sym running j }) change.events),
+        ),
+      )
+
+  -- bytes are written out
+  pub writes_on : (c : Arguments) (bytes : List ℕ)
+      → made k.map (core_of place R k input exit) (Goes (record (gives 10 (number_word c.len) to) { events = Write c.a0 bytes ∷ [] })) ≡ Went (core_of to (set R 10 (held.Number c.len)) k input exit) (Write c.a0 bytes ∷ [])
+  writes_on c bytes = set_ends 10 (held.Number c.len) (Write c.a0 bytes ∷ []) (λ e. omega (arith, e)) (λ e. omega (arith, e))
+
+  -- the program exits
+  pub exits : (a0 : ℕ) → StepAnswers (made k.map (core_of place R k input exit) (exit_does (Some a0) place)) (answer.Exited (a0 % 256)) (core_of place R k input exit) (core_of place R k input (Some (a0 % 256)))
+  exits a0 =
+      let s = core_of place R k input (Some (a0 % 256)) in
+      inl (running, refl, kept_ends k is.kept s (Exit (a0 % 256) ∷ []) is.sp refl)
+
+-- ---- sp that isn't allowed
+
+module _ (map : MemMap) (s : PlainCore) (many : 2 < length s.regs) (w : SymWord) (to : Place) where
+  sp_is : reg_of (after_change (gives 2 w to) s) 2 ≡ w
+  sp_is = get_or-set_same s.regs 2 w undef_word many
+
+  -- no number
+  pub sp_unknown : number_of w ≡ None → made map s (Goes (gives 2 w to)) ≡ Stuck StackPointer
+  sp_unknown none = ends_unknown map (after_change (gives 2 w to) s) [] (ap number_of sp_is ∙ none)
+
+  -- a number that isn't in the stack
+  pub sp_outside : (sp : ℕ) → number_of w ≡ Some sp → (nat_le map.stack_low sp && nat_le sp map.stack_high) ≡ false → made map s (Goes (gives 2 w to)) ≡ Stuck StackPointer
+  sp_outside sp is out = ends_outside map sp (after_change (gives 2 w to) s) [] (ap number_of sp_is ∙ is) out
+
+-- ---- programs
+
+abbrev second : List Extent → Extent
+second (a ∷ b ∷ rest) = b
+second (a ∷ []) = a
+second [] = record { kind = Stack; at = 0; size = 0 }
+
+-- memory that lies where a program's does has its stack where the program has it
+module _ (k : Kept) (is : IsKept k) (p : Program) (of : extents_of (regions_of k) ≡ extents_of (first_memory p)) where
+  low_is : k.map.stack_low ≡ p.map.stack_low
+  low_is = ap (λ es. (second es).at) of
+
+  high_is : k.map.stack_high ≡ p.map.stack_high
+  high_is =
+      let sizes : k.map.stack_high - k.map.stack_low ≡ p.map.stack_high - p.map.stack_low = sym (length-stack_cells k.map k.above) ∙ ap (λ es. (second es).size) of ∙ length_blank (p.map.stack_high - p.map.stack_low) Undef in
+      omega (arith, is.stack, low_is, sizes)
+
+  -- so a step is the program's
+  pub step_of : (s : PlainCore) → s.exit ≡ None → plain_step p s ≡ made k.map s (place_does p (p.item s.place) s (p.next s.place))
+  step_of s running = step_running p s running ∙ made_by p.map k.map s (place_does p (p.item s.place) s (p.next s.place)) (sym low_is) (sym high_is)
+
+-- a stack that nothing was written to
+pub bare_stack : (map : MemMap) → stack_cells map [] ≡ blank (map.stack_high - map.stack_low) Undef
+bare_stack map =
+    let size = map.stack_high - map.stack_low in
+    same_lists _ _ (length-stack_cells map [] ∙ sym (length_blank size Undef))
+    (λ i d lt. let within : i < size = omega (arith, length-stack_cells map [], lt) in
+    get_or-stack_cells map [] i d within ∙ sym (get_or_blank_at size i d within))
+  where
+    get_or_blank_at : (n i : ℕ) (d : SymByte) → i < n → get_or (blank n Undef) i d ≡ Undef
+    get_or_blank_at n i d lt = get_or_default (blank n Undef) i d Undef (omega (arith, length_blank n Undef, lt)) ∙ get_or_blank n i Undef

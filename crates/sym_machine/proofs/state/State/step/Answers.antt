@@ -1,0 +1,56 @@
+-- A step goes by the exit's status, and then by what stands at the place.
+use Rattle.std.proofs.Common.{◌≡◌, None, Some, ap, sym, ◌∙◌, refl, inr, subst}
+use Rattle.std.specs.Option.{option_map}
+use Rattle.psabi_sym.specs.Inputs.{parsed}
+use Rattle.rv_decode.specs.Memory.{extents_of}
+use Rattle.sym_machine.specs.Answer.{Makes, StepAnswers}
+use Rattle.sym_machine.specs.Change.{place_does}
+use Rattle.sym_machine.specs.Kept.{Working}
+use Rattle.sym_machine.specs.Objects.{program_of}
+use Rattle.sym_machine.specs.Program.{Program}
+use Rattle.sym_machine.specs.State.{PlainCore}
+use Rattle.sym_machine.specs.Step.{PlainStep, made, plain_step}
+use Rattle.sym_machine.proofs.StateLaws.{step_of}
+use Rattle.sym_machine.proofs.StepLaws.{step_past_exit}
+use Rattle.sym_machine.proofs.state.State.step.Goals as goal
+use Rattle.sym_machine.proofs.state.State.step.Goals.{After-item}
+
+pub returns-in-Some : goal.returns-in-Some
+returns-in-Some c =
+    let exited = sym (ap (λ (w : Working). w.core.exit) c.self.view_is) ∙ c.in-Some.is in
+    inr (exited, refl, step_past_exit (program_of (parsed c.args.cut.now)) c.args.self.now.core c.in-Some.status exited)
+
+-- a step of the definition, by what stands at the place
+step_here : (c : After-item) → plain_step (program_of (parsed c.args.cut.now)) c.args.self.now.core
+    ≡ (let p = program_of (parsed c.args.cut.now) in
+    made c.args.self.now.map c.args.self.now.core (place_does p (p.item c.self.inside.place) c.args.self.now.core (p.next c.self.inside.place)))
+step_here c =
+    let p : Program = program_of (parsed c.args.cut.now) in
+    let s : PlainCore = c.args.self.now.core in
+    let i = c.self.inside in
+    let running : s.exit ≡ None = sym (ap (λ (w : Working). w.core.exit) c.self.view_is) ∙ c.in_default.is in
+    let of = ap (λ (w : Working). extents_of w.core.memory) c.self.view_is ∙ c.requires in
+    let map : i.memory.map ≡ c.args.self.now.map = ap (λ (w : Working). w.map) c.self.view_is in
+    let place : s.place ≡ i.place = ap (λ (w : Working). w.core.place) (sym c.self.view_is) in
+    step_of i.memory c.self.invariant.0.kept p of s running ∙ (λ j. made (map j) s (place_does p (p.item (place j)) s (p.next (place j))))
+
+pub returns-in_default-item : goal.returns-in_default-item
+unfolding program_of
+returns-in_default-item c =
+    let p : Program = program_of (parsed c.args.cut.now) in
+    let s : PlainCore = c.args.self.now.core in
+    let none : p.item c.self.inside.place ≡ None = sym c.item.ensures.item ∙ c.in_default-item.is in
+    let is = step_here (goal.at.returns-in_default-item c).After-item ∙ ap (λ o. made c.args.self.now.map s (place_does p o s (p.next c.self.inside.place))) none in
+    subst (λ (st : PlainStep). StepAnswers st c.stuck.result s s) (sym is) c.stuck.ensures
+
+pub returns : goal.returns
+unfolding program_of
+returns c =
+    let p : Program = program_of (parsed c.args.cut.now) in
+    let s : PlainCore = c.args.self.now.core in
+    let item = c.in-Some-item.item in
+    let here : p.item c.self.inside.place ≡ Some item = sym c.item.ensures.item ∙ c.in-Some-item.is in
+    let found : Some (p.next c.self.inside.place) ≡ Some c.in-Some-next.next = ap (option_map (λ _. p.next c.self.inside.place)) (sym here) ∙ sym c.next.ensures ∙ c.in-Some-next.is in
+    let next : p.next c.self.inside.place ≡ c.in-Some-next.next = cc in
+    let is = step_here (goal.at.returns c).After-item ∙ (λ j. made c.args.self.now.map s (place_does p (here j) s (next j))) in
+    subst (λ (st : PlainStep). Makes c.step_item.result st s c.step_item.new.self.core) (sym is) c.step_item.ensures

@@ -1,0 +1,32 @@
+use Rattle.std.proofs.Common.{◌≡◌, ◌∷◌, [], None, ap, ◌∙◌, drop, subst, refl, set, arith}
+use Rattle.rv_decode.specs.State.{Write}
+use Rattle.sym_machine.specs.declared.held.Held.TheVariants as held
+use Rattle.sym_machine.specs.Change.{Goes, gives}
+use Rattle.sym_machine.specs.Kept.{Working}
+use Rattle.sym_machine.specs.Step.{Went, made}
+use Rattle.sym_machine.specs.Words.{number_word}
+use Rattle.sym_machine.proofs.StateLaws.{core_of, working_set, writes_on}
+use Rattle.sym_machine.proofs.state.State.write.Goals as goal
+
+pub invariant_of-self : goal.invariant_of-self
+invariant_of-self c =
+    let i = c.self.inside in
+    let is = c.self.invariant.0 in
+    (working_set i.registers i.memory i.memory 10 (held.Number c.args.arguments.len) is is.kept refl (λ e. omega (arith, e)) (λ e. omega (arith, e)), c.self.invariant.1)
+
+pub returns : goal.returns
+returns c =
+    let i = c.self.inside in
+    let running : i.exit ≡ None = ap (λ (w : Working). w.core.exit) c.self.view_is ∙ c.requires.running in
+    let input = drop i.taken i.input.items in
+    let call = c.args.arguments in
+    let event = Write call.a0 c.args.bytes.items in
+    let after = core_of c.args.to (set i.registers 10 (held.Number call.len)) i.memory input i.exit in (
+      c.requires.stream,
+      (
+        c.requires.running,
+        running,
+        subst (λ (w : Working). made w.map w.core (Goes (record (gives 10 (number_word call.len) c.args.to) { events = event ∷ [] })) ≡ Went after (event ∷ [])) c.self.view_is
+            (writes_on i.memory i.registers c.self.invariant.0 i.place c.args.to input i.exit running call c.args.bytes.items),
+      ),
+    )

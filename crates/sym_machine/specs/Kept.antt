@@ -1,0 +1,84 @@
+-- What the machine keeps of a state, and the state that this stands for.
+use Rattle.std.specs.Prelude.{◌≡◌, ℕ, ◌+◌, ◌-◌, ◌<◌, ◌≤◌, List, [], ◌∷◌, length, map, Some, slice_index_or}
+use Rattle.std.specs.List.{range_with_len}
+use Rattle.zc_base.specs.declared.mem_map.MemMap.{MemMap}
+use Rattle.rv_decode.specs.Memory.{Region, Data, Stack, changed, extents_of}
+use Rattle.sym_machine.specs.declared.held.Held.{Held}
+use Rattle.sym_machine.specs.declared.held.Held.TheVariants as held
+use Rattle.sym_machine.specs.declared.word.SymByte.{SymByte}
+use Rattle.sym_machine.specs.declared.word.SymByte.TheVariants.{Undef}
+use Rattle.sym_machine.specs.declared.word.SymWord.{SymWord}
+use Rattle.sym_machine.specs.Program.{Program, first_memory}
+use Rattle.sym_machine.specs.State.{IsRegisters, PlainCore}
+use Rattle.sym_machine.specs.Step.{undefined_below}
+use Rattle.sym_machine.specs.Words.{code_word, number_of, number_word, undef_word}
+
+-- ---- words
+
+-- the word that a register holds
+abbrev pub word_of : Held → SymWord
+word_of (held.Number n) = number_word n
+word_of (held.Code q) = code_word q
+word_of (held.Bytes w) = w
+
+-- the words of registers
+abbrev pub words_of : List Held → List SymWord
+words_of registers = map word_of registers
+
+-- ---- memory
+
+-- the map, the bytes of data, and those of the stack from sp up, from the stack's end downwards
+pub record Kept : Type 0 where
+  pub map : MemMap
+  pub bytes : List SymByte
+  pub above : List SymByte
+
+-- all bytes of the stack; those that aren't kept are undefined
+unfoldable pub stack_cells : MemMap → List SymByte → List SymByte
+stack_cells m above =
+    map (λ i. slice_index_or above (m.stack_high - m.stack_low - 1 - i) Undef) (range_with_len 0 (m.stack_high - m.stack_low))
+
+-- the memory that they are
+abbrev pub regions_of : Kept → List (Region SymByte)
+regions_of k =
+    record { kind = Data; at = k.map.data_low; cells = k.bytes }
+    ∷ record { kind = Stack; at = k.map.stack_low; cells = stack_cells k.map k.above }
+    ∷ []
+
+-- the lowest address whose byte is kept
+abbrev pub kept_from : Kept → ℕ
+kept_from k = k.map.stack_high - length k.above
+
+-- the bytes that are kept are the stack's, and data lie below the stack
+pub record IsKept (k : Kept) : Type 0 where
+  pub stack : k.map.stack_low < k.map.stack_high
+  pub within : k.map.stack_low + length k.above ≤ k.map.stack_high
+  pub apart : k.map.data_low + length k.bytes ≤ k.map.stack_low
+
+-- a change of each byte, after which the stack below what is kept is undefined, as it was
+abbrev pub above_only : Kept → (ℕ → SymByte → SymByte) → ℕ → SymByte → SymByte
+above_only k f a old = undefined_below k.map (kept_from k) a (f a old)
+
+-- memory with this change, of which as much is kept as before
+pub record IsChanged (f : ℕ → SymByte → SymByte) (old new : Kept) : Type 0 where
+  pub kept : IsKept new
+  pub map : new.map ≡ old.map
+  pub from : kept_from new ≡ kept_from old
+  pub regions : regions_of new ≡ changed (above_only old f) (regions_of old)
+
+-- ---- states
+
+-- a state, with the map by which its memory lies
+pub record Working : Type 0 where
+  pub core : PlainCore
+  pub map : MemMap
+
+-- registers, and memory that is kept from sp up
+pub record IsWorking (registers : List SymWord) (memory : Kept) : Type 0 where
+  pub registers_are : IsRegisters registers
+  pub sp : number_of (slice_index_or registers 2 undef_word) ≡ Some (kept_from memory)
+  pub kept : IsKept memory
+
+-- a state of this program: its memory lies where the program's does
+abbrev pub IsOf : Program → PlainCore → Type 0
+IsOf p s = extents_of s.memory ≡ extents_of (first_memory p)

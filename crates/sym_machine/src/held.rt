@@ -1,0 +1,133 @@
+// Words as registers hold them.
+
+ghost use Rattle.std.specs.Prelude.{◌≡◌};
+ghost use Rattle.sym_machine.specs.Kept.{word_of};
+ghost use Rattle.sym_machine.specs.Words.{code_of, number_of, signed_byte, signed_half, zero_byte, zero_half};
+
+use crate::word::{SymByte, SymWord, Value};
+use zc_base::place::Place;
+
+/// A word as a register holds it. Most words are numbers, which this form tells without a look at
+/// four bytes. A word of bytes may be a number or a code address too.
+#[derive(Clone, Copy, PartialEq, Eq, Debug)]
+pub enum Held {
+    Number(u32),
+    Code(Place),
+    Bytes(SymWord),
+}
+
+impl Held {
+    /// A word whose bytes are undefined.
+    pub const UNDEFINED: Held = Held::Bytes(SymWord::UNDEFINED);
+
+    /// The word of four bytes, the lowest first.
+    pub fn of_bytes(bytes: SymWord) -> Held
+        ensures { word_of result ≡ bytes }
+    {
+        match (bytes.b0, bytes.b1, bytes.b2, bytes.b3) {
+            (SymByte::Num(a), SymByte::Num(b), SymByte::Num(c), SymByte::Num(d)) => {
+                Held::Number(u32::from_le_bytes([a, b, c, d]))
+            }
+            _ => Held::Bytes(bytes),
+        }
+    }
+
+    /// The word of a byte with its sign above.
+    pub fn of_signed_byte(byte: SymByte) -> Held
+        ensures { word_of result ≡ signed_byte byte }
+    {
+        let sign = byte.sign();
+        Held::of_bytes(SymWord {
+            b0: byte,
+            b1: sign,
+            b2: sign,
+            b3: sign,
+        })
+    }
+
+    /// The word of two bytes with their sign above.
+    pub fn of_signed_half(low: SymByte, high: SymByte) -> Held
+        ensures { word_of result ≡ signed_half low high }
+    {
+        let sign = high.sign();
+        Held::of_bytes(SymWord {
+            b0: low,
+            b1: high,
+            b2: sign,
+            b3: sign,
+        })
+    }
+
+    /// The word of a byte with zeros above.
+    pub fn of_byte(byte: SymByte) -> Held
+        ensures { word_of result ≡ zero_byte byte }
+    {
+        Held::of_bytes(SymWord {
+            b0: byte,
+            b1: SymByte::Num(0),
+            b2: SymByte::Num(0),
+            b3: SymByte::Num(0),
+        })
+    }
+
+    /// The word of two bytes with zeros above.
+    pub fn of_half(low: SymByte, high: SymByte) -> Held
+        ensures { word_of result ≡ zero_half low high }
+    {
+        Held::of_bytes(SymWord {
+            b0: low,
+            b1: high,
+            b2: SymByte::Num(0),
+            b3: SymByte::Num(0),
+        })
+    }
+
+    /// The number that the word is, if it is one.
+    pub fn number(&self) -> Option<u32>
+        ensures { result ≡ number_of (word_of self.now) }
+    {
+        match self {
+            Held::Number(n) => Some(*n),
+            Held::Code(_) => None,
+            Held::Bytes(bytes) => bytes.number(),
+        }
+    }
+
+    /// The place whose address the word is, if it is one.
+    pub fn code(&self) -> Option<Place>
+        ensures { result ≡ code_of (word_of self.now) }
+    {
+        match self {
+            Held::Number(_) => None,
+            Held::Code(q) => Some(*q),
+            Held::Bytes(bytes) => bytes.code(),
+        }
+    }
+
+    /// The word's bytes.
+    pub fn bytes(&self) -> SymWord
+        ensures { result ≡ word_of self.now }
+    {
+        match self {
+            Held::Number(n) => {
+                let bytes = n.to_le_bytes();
+                SymWord {
+                    b0: SymByte::Num(bytes[0]),
+                    b1: SymByte::Num(bytes[1]),
+                    b2: SymByte::Num(bytes[2]),
+                    b3: SymByte::Num(bytes[3]),
+                }
+            }
+            Held::Code(q) => {
+                let value = Value::Code(*q);
+                SymWord {
+                    b0: SymByte::Part(value, 0),
+                    b1: SymByte::Part(value, 1),
+                    b2: SymByte::Part(value, 2),
+                    b3: SymByte::Part(value, 3),
+                }
+            }
+            Held::Bytes(bytes) => *bytes,
+        }
+    }
+}

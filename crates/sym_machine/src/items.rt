@@ -1,0 +1,269 @@
+// Steps by what stands at a place.
+
+ghost use Rattle.std.specs.Prelude.{◌≡◌, ◌==◌, ◌<◌, ◌≤◌, ◌%◌, ℕ, None};
+ghost use Rattle.psabi_sym.specs.Inputs.{parsed};
+ghost use Rattle.rv_decode.specs.Effect as effects;
+ghost use Rattle.sym_machine.specs.Answer.{Makes, StepAnswers, reached};
+ghost use Rattle.sym_machine.specs.Change.{Does, branch_does, branch_to, item_does, jump_does, jump_to, load_does, op_does, reaching, store_does};
+ghost use Rattle.sym_machine.specs.Kept.{IsOf};
+ghost use Rattle.sym_machine.specs.Objects.{program_of};
+ghost use Rattle.sym_machine.specs.State.{reg_of};
+ghost use Rattle.sym_machine.specs.Step.{made, plain_step};
+
+use crate::held::Held;
+use crate::known::condition;
+use crate::results::{imm_word, reg_word, sum_code, sum_number, upper_word};
+use crate::state::State;
+use crate::step::SymStep;
+use crate::why::Why;
+use block_cut::cut::Cut;
+use block_cut::item::Item;
+use rv_decode::instr::{Instr, LoadOp, StoreOp};
+use std::alloc::AllocError;
+use zc_base::place::Place;
+use zc_base::reg::Reg;
+
+impl State {
+    /// The step of an item, with the place after it.
+    pub fn step_item(&mut self, cut: &Cut, item: &Item, next: Place) -> Result<SymStep, AllocError>
+        requires { self.old.core.exit ≡ None }
+        ensures { Makes result (made self.old.map self.old.core (item_does (program_of (parsed cut.now)) item.now self.old.core next)) self.old.core self.new.core }
+    {
+        match item {
+            Item::Op(instr) => self.step_op(instr, next),
+            Item::Branch(instr, to) => self.step_branch(cut, instr, *to, next),
+            Item::Jump(instr, to) => self.step_jump(instr, *to, next),
+            Item::RawPair(_, _) => Ok(self.stuck(Why::TargetUnknown)),
+            // No relocation makes one of these yet.
+            Item::Hi(_, _)
+            | Item::Lo(_, _)
+            | Item::PcHi(_, _)
+            | Item::PcLo(_, _)
+            | Item::Call { .. }
+            | Item::Align(_)
+            | Item::Word(_)
+            | Item::Raw(_) => Ok(self.stuck(Why::NoInstruction)),
+        }
+    }
+
+    // An instruction without relocation.
+    fn step_op(&mut self, instr: &Instr, next: Place) -> Result<SymStep, AllocError>
+        requires { self.old.core.exit ≡ None }
+        ensures { Makes result (made self.old.map self.old.core (op_does instr.now self.old.core next)) self.old.core self.new.core }
+    {
+        match instr {
+            Instr::Upper { op, rd, imm } => self.give(*rd, upper_word(*op, *imm), next),
+            Instr::Jalr { rd, base, imm } => {
+                let to = sum_code(self.register(*base), *imm);
+                self.jump(to, *rd, next)
+            }
+            Instr::Load { op, rd, base, imm } => {
+                let address = sum_number(self.register(*base), *imm);
+                self.step_load(*op, *rd, address, next)
+            }
+            Instr::Store {
+                op,
+                source,
+                base,
+                imm,
+            } => {
+                let address = sum_number(self.register(*base), *imm);
+                self.step_store(*op, *source, address, next)
+            }
+            Instr::WithImm { op, rd, first, imm } => {
+                let word = imm_word(*op, self.register(*first), *imm);
+                self.give(*rd, word, next)
+            }
+            Instr::WithReg {
+                op,
+                rd,
+                first,
+                second,
+            } => {
+                let (a, b) = (self.register(*first), self.register(*second));
+                let word = reg_word(*op, *first, *second, a, b);
+                self.give(*rd, word, next)
+            }
+            Instr::Fence { .. } => Ok(self.go(next)),
+            Instr::Ecall => self.step_call(next),
+            Instr::Jal { .. } | Instr::Branch { .. } | Instr::Ebreak | Instr::Csrrw { .. } => {
+                Ok(self.stuck(Why::NoInstruction))
+            }
+        }
+    }
+
+    // The address of an access of so many bytes, or why it can't be made.
+    fn reach(&self, n: u32, address: Option<u32>) -> Result<u32, Why>
+        requires { 0 < n }
+        ensures { (go : ℕ → Does) → reaching n address self.now.core go ≡ reached result go }
+    {
+        let Some(a) = address else {
+            return Err(Why::AddressUnknown);
+        };
+        if !is_multiple(a, n) {
+            return Err(Why::Misaligned);
+        }
+        if !self.reaches(a, n) {
+            return Err(Why::BadAddress);
+        }
+        Ok(a)
+    }
+
+    // A load from an address.
+    fn step_load(
+        &mut self,
+        op: LoadOp,
+        rd: Reg,
+        address: Option<u32>,
+        next: Place,
+    ) -> Result<SymStep, AllocError>
+        requires { self.old.core.exit ≡ None }
+        ensures { Makes result (made self.old.map self.old.core (load_does op rd address self.old.core next)) self.old.core self.new.core }
+    {
+        match self.reach(load_width(op), address) {
+            Ok(a) => {
+                let word = self.loaded(op, a);
+                self.give(rd, word, next)
+            }
+            Err(why) => Ok(self.stuck(why)),
+        }
+    }
+
+    // A store to an address.
+    fn step_store(
+        &mut self,
+        op: StoreOp,
+        source: Reg,
+        address: Option<u32>,
+        next: Place,
+    ) -> Result<SymStep, AllocError>
+        requires { self.old.core.exit ≡ None }
+        ensures { Makes result (made self.old.map self.old.core (store_does op (reg_of self.old.core source) address self.old.core next)) self.old.core self.new.core }
+    {
+        match self.reach(store_width(op), address) {
+            Ok(a) => {
+                let word = self.register(source).bytes();
+                let bytes = [word.b0, word.b1, word.b2, word.b3];
+                Ok(self.put(a, &bytes[..store_width(op) as usize], next))
+            }
+            Err(why) => Ok(self.stuck(why)),
+        }
+    }
+
+    // A jump, if it goes to a place in code, with the next place's address in a register.
+    fn jump(&mut self, to: Option<Place>, rd: Reg, next: Place) -> Result<SymStep, AllocError>
+        requires { self.old.core.exit ≡ None }
+        ensures { Makes result (made self.old.map self.old.core (jump_does to rd next)) self.old.core self.new.core }
+    {
+        match to {
+            Some(to) => self.give(rd, Held::Code(next), to),
+            None => Ok(self.stuck(Why::TargetUnknown)),
+        }
+    }
+
+    // A `jal` to a place.
+    fn step_jump(&mut self, instr: &Instr, to: Place, next: Place) -> Result<SymStep, AllocError>
+        requires { self.old.core.exit ≡ None }
+        ensures { Makes result (made self.old.map self.old.core (jump_to instr.now to next)) self.old.core self.new.core }
+    {
+        match instr {
+            Instr::Jal { rd, .. } => self.jump(Some(to), *rd, next),
+            Instr::Upper { .. }
+            | Instr::Jalr { .. }
+            | Instr::Branch { .. }
+            | Instr::Load { .. }
+            | Instr::Store { .. }
+            | Instr::WithImm { .. }
+            | Instr::WithReg { .. }
+            | Instr::Fence { .. }
+            | Instr::Ecall
+            | Instr::Ebreak
+            | Instr::Csrrw { .. } => Ok(self.stuck(Why::NoInstruction)),
+        }
+    }
+
+    // A branch to a place.
+    fn step_branch(
+        &mut self,
+        cut: &Cut,
+        instr: &Instr,
+        to: Place,
+        next: Place,
+    ) -> Result<SymStep, AllocError>
+        requires { self.old.core.exit ≡ None }
+        ensures { Makes result (made self.old.map self.old.core (branch_to (program_of (parsed cut.now)) instr.now to self.old.core next)) self.old.core self.new.core }
+    {
+        match instr {
+            Instr::Branch {
+                op,
+                first,
+                second,
+                ..
+            } => {
+                let taken = condition(cut, *op, self.register(*first), self.register(*second));
+                Ok(self.branch(taken, to, next))
+            }
+            Instr::Upper { .. }
+            | Instr::Jal { .. }
+            | Instr::Jalr { .. }
+            | Instr::Load { .. }
+            | Instr::Store { .. }
+            | Instr::WithImm { .. }
+            | Instr::WithReg { .. }
+            | Instr::Fence { .. }
+            | Instr::Ecall
+            | Instr::Ebreak
+            | Instr::Csrrw { .. } => Ok(self.stuck(Why::NoInstruction)),
+        }
+    }
+
+    // A branch, by its condition.
+    fn branch(&mut self, taken: Option<bool>, to: Place, next: Place) -> SymStep
+        requires { self.old.core.exit ≡ None }
+        ensures { StepAnswers (made self.old.map self.old.core (branch_does taken to next)) result self.old.core self.new.core }
+    {
+        match taken {
+            Some(true) => self.go(to),
+            Some(false) => self.go(next),
+            None => self.stuck(Why::ConditionUnknown),
+        }
+    }
+}
+
+// Whether a number is a multiple of another. The widths of accesses need no division.
+fn is_multiple(a: u32, n: u32) -> bool
+    requires { 0 < n }
+    ensures { result ≡ (a % n == 0) }
+{
+    match n {
+        1 => true,
+        2 => a % 2 == 0,
+        4 => a % 4 == 0,
+        _ => a % n == 0,
+    }
+}
+
+// How many bytes a load takes.
+fn load_width(op: LoadOp) -> u32
+    ensures width { result ≡ effects.load_width op }
+    ensures some { 0 < result }
+{
+    match op {
+        LoadOp::Lb | LoadOp::Lbu => 1,
+        LoadOp::Lh | LoadOp::Lhu => 2,
+        LoadOp::Lw => 4,
+    }
+}
+
+// How many bytes a store writes.
+fn store_width(op: StoreOp) -> u32
+    ensures width { result ≡ effects.store_width op }
+    ensures some { 0 < result }
+    ensures few { result ≤ 4 }
+{
+    match op {
+        StoreOp::Sb => 1,
+        StoreOp::Sh => 2,
+        StoreOp::Sw => 4,
+    }
+}
