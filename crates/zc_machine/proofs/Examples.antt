@@ -2,7 +2,7 @@
 use Rattle.std.specs.Prelude.{◌≡◌, ℕ, true, List, [], ◌∷◌, Result, Ok, Err, refl}
 use Rattle.rv_decode.specs.Decode.{decoded}
 use Rattle.rv_decode.specs.Memory.{blank}
-use Rattle.rv_decode.specs.State.{ZcCore, ZcState, Event, Exit, byte_in}
+use Rattle.rv_decode.specs.State.{ZcCore, ZcState, Event, Exit, Read, Write, byte_in}
 use Rattle.interrupt_plan.specs.Plan.{Entry}
 use Rattle.zc_machine.specs.declared.reason.Reason.{Reason}
 use Rattle.zc_machine.specs.declared.reason.Reason.TheVariants.{Illegal, BadAccess, UnknownCall}
@@ -82,3 +82,22 @@ not_at_sp = refl
 not_in_code : byte_in (cut (record { done = []; dirt = (0x10000, 0xEE) ∷ [] }) at_work) 0x10000 ≡ 0x0D
 unfolding at_work loaded three first_core blank
 not_in_code = refl
+
+-- ---- calls
+
+-- addi a7, x0, 63; addi a1, sp, -16; addi a2, x0, 8; ecall; addi a2, a0, 0; addi a0, x0, 1; addi a7, x0, 64; ecall
+echo : List ℕ
+echo =
+    0x93 ∷ 0x08 ∷ 0xF0 ∷ 0x03
+    ∷ 0x93 ∷ 0x05 ∷ 0x01 ∷ 0xFF
+    ∷ 0x13 ∷ 0x06 ∷ 0x80 ∷ 0x00
+    ∷ 0x73 ∷ 0x00 ∷ 0x00 ∷ 0x00
+    ∷ 0x13 ∷ 0x06 ∷ 0x05 ∷ 0x00
+    ∷ 0x13 ∷ 0x05 ∷ 0x10 ∷ 0x00
+    ∷ 0x93 ∷ 0x08 ∷ 0x00 ∷ 0x04
+    ∷ 0x73 ∷ 0x00 ∷ 0x00 ∷ 0x00 ∷ []
+
+-- a read with more room than input takes all of it, and a write gives it out
+echo_answers : shown (zc_after (loaded echo 32) (0x68 ∷ 0x69 ∷ []) [] 8) ≡ Ok (Read (0x68 ∷ 0x69 ∷ []) ∷ Write 1 (0x68 ∷ 0x69 ∷ []) ∷ [], 8)
+unfolding decoded echo loaded first_core blank zc_after zc_turn zc_step
+echo_answers = refl

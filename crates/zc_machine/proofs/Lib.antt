@@ -1,8 +1,13 @@
 pub mod Examples
 pub mod FetchLaws
-pub mod LoadLaws
 pub mod RegionLaws
+pub mod ReachLaws
+pub mod AccessLaws
+pub mod BufferLaws
+pub mod LoadLaws
+pub mod ApartLaws
 pub mod StepLaws
 pub mod CutLaws
 pub mod TurnLaws
+pub mod OutputLaws
 pub mod RunLaws

@@ -1,124 +1,261 @@
--- A byte that is written to a region and to a list of them, and bytes one after another.
-use Rattle.std.proofs.Common.{◌≡◌, ℕ, suc, ◌+◌, ◌-◌, ◌<◌, ◌≤◌, List, [], ◌∷◌, ◌++◌, true, false, length, get_or, set, take, drop, refl, sym, ap, ap₂, ◌∙◌, ⊎_elim, arith, leb, ltb}
-use Rattle.std.specs.Prelude.{◌&&◌}
-use Rattle.std.proofs.lemmas.Bool.{and_from, le-leb, lt-ltb, leb-true, cond-true, and_parts, cases_eq, cases_lt, false≢true}
-use Rattle.std.proofs.lemmas.List.{append_assoc, drop_more, get_or-set_other, get_or-set_same, get_or_at, length-set, length-take-le, same_lists, set_at, take_more}
-use Rattle.rv_decode.specs.Memory.{Region, cells_changed, changed, extent_of, spans, written}
-use Rattle.rv_decode.proofs.MemoryLaws.{get_or-cells_changed, length-cells_changed, untouched}
+-- Regions without a common address: what spans an access is the one region there, and a write changes no other.
+use Rattle.std.proofs.Common.{◌≡◌, ℕ, zero, suc, ◌+◌, ◌-◌, ◌^◌, ◌<◌, ◌≤◌, List, [], ◌∷◌, ◌++◌, Bool, true, false, cond, length, get_or, set, take, drop, refl, sym, subst, ap, ap₂, ◌∙◌, arith, leb, ltb, length-append, length-drop, slice_index, ◌⊎◌, inl, inr}
+use Rattle.std.specs.Prelude.{◌&&◌, ◌||◌, All}
+use borrow.Rule.Slice.PartMut.{put_mid}
+use Rattle.std.proofs.lemmas.Bool.{and_from, and_parts, and_right, both_ways, cases_lt, cond-false, cond-true, false_from_ne_true, false≢true, le-leb, leb-true, lt-leb, lt-ltb, ltb-true, or_from}
+use Rattle.std.proofs.lemmas.List.{get_or-drop, get_or_default, get_or-append_right, get_or-take, get_or_append_left, length-take-le, same_lists}
+use Rattle.std.proofs.lemmas.List.Elements.{All-head, All-tail}
+use Rattle.rv_decode.specs.Memory.{Extent, Kind, Region, cell_at, cells_changed, changed, extent_of, extents_of, lies_in, spans, written}
+use Rattle.rv_decode.proofs.MemoryLaws.{extents-changed, get_or-cells_changed, is_covered, length-cells_changed, lies_covered, lies_inside, spans_inside, untouched}
+use Rattle.zc_machine.specs.Memory.{Apart, AreApart, Reaches}
+use Rattle.zc_machine.specs.Region.{allowed}
+use Rattle.zc_machine.specs.declared.region.Access.{Access}
 
-module _ (a b : ℕ) where
-  -- the address itself gets the byte
-  touched : (x old : ℕ) → x ≡ a → written a 1 (λ _. b) x old ≡ b
-  touched x old is =
-      cond-true (leb a x && ltb x (a + 1)) b old
-      (and_from (leb a x) (ltb x (a + 1)) (le-leb a x (omega arith)) (lt-ltb x (a + 1) (omega arith)))
+-- two tests agree if each holds where the other does
+same_tests : (b c : Bool) → (b ≡ true → c ≡ true) → (c ≡ true → b ≡ true) → b ≡ c
+same_tests true c to from = sym (to refl)
+same_tests false true to from = from refl
+same_tests false false to from = refl
 
-  -- a region that lies elsewhere stays
-  pub cells_kept : (at : ℕ) (cs : List ℕ) → (at ≤ a → a < at + length cs → ⊥) → cells_changed (written a 1 (λ _. b)) at cs ≡ cs
+-- ---- where a region lies
+
+spans_bounds : (e : Extent) (a n : ℕ) → spans e a n ≡ true → (e.at ≤ a) × (a + n ≤ e.at + e.size)
+spans_bounds e a n h =
+    let q = and_parts (leb e.at a) (leb (a + n) (e.at + e.size)) h in
+    (leb-true e.at a q.0, leb-true (a + n) (e.at + e.size) q.1)
+
+spans_from : (e : Extent) (a n : ℕ) → e.at ≤ a → a + n ≤ e.at + e.size → spans e a n ≡ true
+spans_from e a n low high = and_from (leb e.at a) (leb (a + n) (e.at + e.size)) (le-leb e.at a low) (le-leb (a + n) (e.at + e.size) high)
+
+-- what is no byte of a region is no larger part of it
+spans_none : (e : Extent) (a n : ℕ) → 0 < n → spans e a 1 ≡ false → spans e a n ≡ false
+spans_none e a n some out = false_from_ne_true (spans e a n) (λ h. false≢true (sym out ∙ spans_inside e a n a 1 h (omega arith) (omega arith)))
+
+lies_none : (fits : Kind → Bool) (es : List Extent) (a n : ℕ) → 0 < n → is_covered es a ≡ false → lies_in fits es a n ≡ false
+lies_none fits es a n some out =
+    false_from_ne_true (lies_in fits es a n) (λ h. false≢true (sym out ∙ lies_covered fits es a (lies_inside fits es a n a 1 h (omega arith) (omega arith))))
+
+-- ---- regions apart
+
+-- no address is in both
+apart_no : (e f : Extent) → Apart e f → (x : ℕ) → e.at ≤ x → x < e.at + e.size → f.at ≤ x → x < f.at + f.size → ⊥
+apart_no e f apart x a b c d = omega (arith, apart, a, b, c, d)
+
+apart_out : (e f : Extent) (x : ℕ) → Apart e f → spans e x 1 ≡ true → spans f x 1 ≡ false
+apart_out e f x apart here = false_from_ne_true (spans f x 1) (λ there. let p = spans_bounds e x 1 here in let q = spans_bounds f x 1 there in apart_no e f apart x p.0 (omega (arith, p)) q.0 (omega (arith, q)))
+
+apart_before : (e f : Extent) (x : ℕ) → Apart e f → spans f x 1 ≡ true → spans e x 1 ≡ false
+apart_before e f x apart there = false_from_ne_true (spans e x 1) (λ here. both_ways (spans f x 1) (apart_out e f x apart here) there)
+
+apart_uncovered : (e : Extent) (es : List Extent) (x : ℕ) → All (Apart e) es → spans e x 1 ≡ true → is_covered es x ≡ false
+apart_uncovered e [] x apart here = refl
+apart_uncovered e (f ∷ fs) x apart here = or_from (spans f x 1) (is_covered fs x) (apart_out e f x (All-head (Apart e) f fs apart) here) (apart_uncovered e fs x (All-tail (Apart e) f fs apart) here)
+
+-- the first is apart from the one at an index of the rest
+apart_at : (r : Region ℕ) (rs : List (Region ℕ)) (i : ℕ) (d : Region ℕ) → All (Apart (extent_of r)) (extents_of rs) → i < length rs → Apart (extent_of r) (extent_of (get_or rs i d))
+apart_at r [] i d apart lt = absurd (omega arith)
+apart_at r (s ∷ ss) zero d apart lt = All-head (Apart (extent_of r)) (extent_of s) (extents_of ss) apart
+apart_at r (s ∷ ss) (suc i) d apart lt = apart_at r ss i d (All-tail (Apart (extent_of r)) (extent_of s) (extents_of ss) apart) (omega arith)
+
+-- each ends at 2^32 or before
+below_at : (rs : List (Region ℕ)) (i : ℕ) (d : Region ℕ) → AreApart (extents_of rs) → i < length rs → (get_or rs i d).at + length (get_or rs i d).cells ≤ 2 ^ 32
+below_at [] i d apart lt = absurd (omega arith)
+below_at (r ∷ rs) zero d apart lt = apart.0
+below_at (r ∷ rs) (suc i) d apart lt = below_at rs i d apart.2 (omega arith)
+
+-- ---- the one region at an address
+
+-- an access from there lies in memory if it lies in that region
+lies_at :
+    (fits : Kind → Bool) (rs : List (Region ℕ)) (i : ℕ) (d : Region ℕ) (a n : ℕ) → AreApart (extents_of rs) → i < length rs → fits (get_or rs i d).kind ≡ true
+    → spans (extent_of (get_or rs i d)) a 1 ≡ true → 0 < n → lies_in fits (extents_of rs) a n ≡ spans (extent_of (get_or rs i d)) a n
+lies_at fits [] i d a n apart lt fit here some = absurd (omega arith)
+lies_at fits (r ∷ rs) zero d a n apart lt fit here some =
+    let none = lies_none fits (extents_of rs) a n some (apart_uncovered (extent_of r) (extents_of rs) a apart.1 here) in
+    ap₂ (λ b c. (b && spans (extent_of r) a n) || c) fit none ∙ either (spans (extent_of r) a n)
+  where
+    either : (b : Bool) → (b || false) ≡ b
+    either true = refl
+    either false = refl
+lies_at fits (r ∷ rs) (suc i) d a n apart lt fit here some =
+    let out = spans_none (extent_of r) a n some (apart_before (extent_of r) (extent_of (get_or rs i d)) a (apart_at r rs i d apart.1 (omega arith)) here) in
+    ap (λ b. b || lies_in fits (extents_of rs) a n) (and_right (fits r.kind) (spans (extent_of r) a n) out) ∙ lies_at fits rs i d a n apart.2 (omega arith) fit here some
+
+-- a cell there is that region's
+cell_at_at :
+    (rs : List (Region ℕ)) (i : ℕ) (d : Region ℕ) (x : ℕ) → AreApart (extents_of rs) → i < length rs → spans (extent_of (get_or rs i d)) x 1 ≡ true
+    → cell_at 0 rs x ≡ get_or (get_or rs i d).cells (x - (get_or rs i d).at) 0
+cell_at_at [] i d x apart lt here = absurd (omega arith)
+cell_at_at (r ∷ rs) zero d x apart lt here = cond-true (spans (extent_of r) x 1) (get_or r.cells (x - r.at) 0) (cell_at 0 rs x) here
+cell_at_at (r ∷ rs) (suc i) d x apart lt here =
+    cond-false (spans (extent_of r) x 1) (get_or r.cells (x - r.at) 0) (cell_at 0 rs x) (apart_before (extent_of r) (extent_of (get_or rs i d)) x (apart_at r rs i d apart.1 (omega arith)) here)
+    ∙ cell_at_at rs i d x apart.2 (omega arith) here
+
+-- ---- what an access reaches
+
+-- the rest of the region there
+reached :
+    (access : Access) (rs : List (Region ℕ)) (i : ℕ) (d : Region ℕ) (a : ℕ) → AreApart (extents_of rs) → i < length rs → (allowed access (get_or rs i d).kind && spans (extent_of (get_or rs i d)) a 1) ≡ true
+    → Reaches access rs a (drop (a - (get_or rs i d).at) (get_or rs i d).cells)
+reached access rs i d a apart lt holds = record {
+  lies = λ n some. lies_at (allowed access) rs i d a n apart lt q.0 q.1 some ∙ same_tests (spans (extent_of r) a n) (leb n (length (drop (a - r.at) r.cells)))
+      (λ h. let s = spans_bounds (extent_of r) a n h in le-leb n (length (drop (a - r.at) r.cells)) (omega (arith, size, s)))
+      (λ h. let s = leb-true n (length (drop (a - r.at) r.cells)) h in spans_from (extent_of r) a n p.0 (omega (arith, size, s, p)));
+  holds = λ k less.
+      let here = spans_from (extent_of r) (a + k) 1 (omega (arith, p)) (omega (arith, size, less, p)) in
+      let same : a + k - r.at ≡ a - r.at + k = omega (arith, p) in
+      cell_at_at rs i d (a + k) apart lt here ∙ ap (λ j. get_or r.cells j 0) same ∙ sym (get_or-drop (a - r.at) r.cells k 0);
+  below = omega (arith, size, p, below_at rs i d apart lt);
+}
+  where
+    r : Region ℕ
+    r = get_or rs i d
+
+    q : (allowed access r.kind ≡ true) × (spans (extent_of r) a 1 ≡ true)
+    q = and_parts (allowed access r.kind) (spans (extent_of r) a 1) holds
+
+    p : (r.at ≤ a) × (a + 1 ≤ r.at + length r.cells)
+    p = spans_bounds (extent_of r) a 1 q.1
+
+    size : length (drop (a - r.at) r.cells) ≡ length r.cells - (a - r.at)
+    size = length-drop (a - r.at) r.cells
+
+pub item_reached :
+    (access : Access) (rs : List (Region ℕ)) (i : ℕ) (r : Region ℕ) (a : ℕ) → AreApart (extents_of rs) → i < length rs → r ≡ get_or rs i r → (allowed access r.kind && spans (extent_of r) a 1) ≡ true
+    → Reaches access rs a (drop (a - r.at) r.cells)
+item_reached access rs i r a apart lt is holds =
+    subst (λ (x : Region ℕ). Reaches access rs a (drop (a - x.at) x.cells)) (sym is)
+    (reached access rs i r a apart lt (ap (λ (x : Region ℕ). allowed access x.kind && spans (extent_of x) a 1) (sym is) ∙ holds))
+
+-- nothing, if no region has such a byte there
+pub unreached : (access : Access) (rs : List (Region ℕ)) (a : ℕ) → a < 2 ^ 32 → lies_in (allowed access) (extents_of rs) a 1 ≡ false → Reaches access rs a []
+unreached access rs a small none = record {
+  lies = λ n some.
+      false_from_ne_true (lies_in (allowed access) (extents_of rs) a n) (λ h. false≢true (sym none ∙ lies_inside (allowed access) (extents_of rs) a n a 1 h (omega arith) (omega arith)))
+      ∙ sym (lt-leb n 0 some);
+  holds = λ i less. absurd (omega arith);
+  below = omega arith;
+}
+
+-- ---- a write
+
+module _ (a n : ℕ) (given : ℕ → ℕ) where
+  abbrev pub written_region : Region ℕ → Region ℕ
+  written_region r = record r { cells = cells_changed (written a n given) r.at r.cells }
+
+  -- a region that has none of the addresses stays
+  cells_kept : (at : ℕ) (cs : List ℕ) → ((x : ℕ) → at ≤ x → x < at + length cs → a ≤ x → x < a + n → ⊥) → cells_changed (written a n given) at cs ≡ cs
   cells_kept at [] out = refl
   cells_kept at (c ∷ cs) out =
-      ap₂ (λ x xs. x ∷ xs) (untouched a 1 (λ _. b) at c (λ low high. out (omega arith) (omega arith)))
-      (cells_kept (suc at) cs (λ low high. out (omega arith) (omega arith)))
+      ap₂ (λ x xs. x ∷ xs) (untouched a n given at c (λ low high. out at (omega arith) (omega arith) low high))
+      (cells_kept (suc at) cs (λ x l h low high. out x (omega arith) (omega arith) low high))
 
-  -- in one that holds the address, the cell there gets the byte
-  pub cells_set : (at : ℕ) (cs : List ℕ) → at ≤ a → a < at + length cs → cells_changed (written a 1 (λ _. b)) at cs ≡ set cs (a - at) b
-  cells_set at cs low high = same_lists _ _ (length-cells_changed (written a 1 (λ _. b)) at cs ∙ sym (length-set cs (a - at) b)) each
+  kept : (r : Region ℕ) (e : Extent) → spans e a n ≡ true → ((x : ℕ) → e.at ≤ x → x < e.at + e.size → r.at ≤ x → x < r.at + length r.cells → ⊥) → written_region r ≡ r
+  kept r e here out =
+      let p = spans_bounds e a n here in
+      ap (λ cs. record r { cells = cs }) (cells_kept r.at r.cells (λ x l h low high. out x (omega (arith, p, low)) (omega (arith, p, high)) l h))
+
+  all_kept : (rs : List (Region ℕ)) (e : Extent) → spans e a n ≡ true → All (Apart e) (extents_of rs) → changed (written a n given) rs ≡ rs
+  all_kept [] e here apart = refl
+  all_kept (r ∷ rs) e here apart =
+      ap₂ (λ x xs. x ∷ xs) (kept r e here (apart_no e (extent_of r) (All-head (Apart e) (extent_of r) (extents_of rs) apart)))
+      (all_kept rs e here (All-tail (Apart e) (extent_of r) (extents_of rs) apart))
+
+  -- only the region that spans them changes
+  changed_at :
+      (rs : List (Region ℕ)) (i : ℕ) (d : Region ℕ) → AreApart (extents_of rs) → i < length rs → spans (extent_of (get_or rs i d)) a n ≡ true
+      → set rs i (written_region (get_or rs i d)) ≡ changed (written a n given) rs
+  changed_at [] i d apart lt here = absurd (omega arith)
+  changed_at (r ∷ rs) zero d apart lt here = sym (ap (λ xs. written_region r ∷ xs) (all_kept rs (extent_of r) here apart.1))
+  changed_at (r ∷ rs) (suc i) d apart lt here =
+      let e = extent_of (get_or rs i d) in
+      let no = apart_no (extent_of r) e (apart_at r rs i d apart.1 (omega arith)) in
+      ap₂ (λ x xs. x ∷ xs) (sym (kept r e here (λ x l h low high. no x low high l h))) (changed_at rs i d apart.2 (omega arith) here)
+
+  pub item_changed :
+      (rs : List (Region ℕ)) (i : ℕ) (r : Region ℕ) → AreApart (extents_of rs) → i < length rs → r ≡ get_or rs i r → spans (extent_of r) a n ≡ true
+      → set rs i (written_region r) ≡ changed (written a n given) rs
+  item_changed rs i r apart lt is here =
+      ap (λ x. set rs i (written_region x)) is ∙ changed_at rs i r apart lt (ap (λ (x : Region ℕ). spans (extent_of x) a n) (sym is) ∙ here)
+
+-- the cells of a region after bytes were written to it
+module _ (a : ℕ) (bytes : List ℕ) where
+  abbrev n : ℕ
+  n = length bytes
+
+  after : (x old : ℕ) → a ≤ x → x < a + n → written a n (slice_index bytes) x old ≡ slice_index bytes (x - a)
+  after x old low high = cond-true (leb a x && ltb x (a + n)) (slice_index bytes (x - a)) old (and_from (leb a x) (ltb x (a + n)) (le-leb a x low) (lt-ltb x (a + n) high))
+
+  pub cells_written : (at : ℕ) (cs : List ℕ) → at ≤ a → a + n ≤ at + length cs → put_mid (a - at) n cs bytes ≡ cells_changed (written a n (slice_index bytes)) at cs
+  cells_written at cs low high = same_lists _ _ (sum ∙ sym (length-cells_changed (written a n (slice_index bytes)) at cs)) each
     where
-      each : (k d : ℕ) → k < length (cells_changed (written a 1 (λ _. b)) at cs) → get_or (cells_changed (written a 1 (λ _. b)) at cs) k d ≡ get_or (set cs (a - at) b) k d
-      each k d lt =
-          let size = length-cells_changed (written a 1 (λ _. b)) at cs in
-          let here : k < length cs = omega arith in
-          get_or-cells_changed (written a 1 (λ _. b)) at k cs d here
-          ∙ ⊎_elim
-          (λ same. touched (at + k) (get_or cs k d) (omega arith) ∙ sym (ap (λ i. get_or (set cs i b) k d) (sym same) ∙ get_or-set_same cs k b d here))
-          (λ other. untouched a 1 (λ _. b) (at + k) (get_or cs k d) (λ l h. other (omega arith)) ∙ sym (get_or-set_other cs (a - at) k b d other))
-          (cases_eq k (a - at))
+      start : ℕ
+      start = a - at
 
-  -- the same of the whole region
-  abbrev pub with_byte : Region ℕ → Region ℕ
-  with_byte r = record r { cells = set r.cells (a - r.at) b }
+      front : length (take start cs) ≡ start
+      front = length-take-le start cs (omega (arith, low, high))
 
-  pub region_set : (r : Region ℕ) → spans (extent_of r) a 1 ≡ true → record r { cells = set r.cells (a - r.at) b } ≡ record r { cells = cells_changed (written a 1 (λ _. b)) r.at r.cells }
-  region_set r here =
-      let q = and_parts (leb r.at a) (leb (a + 1) (r.at + length r.cells)) here in
-      let low = leb-true r.at a q.0 in
-      let high = leb-true (a + 1) (r.at + length r.cells) q.1 in
-      ap (λ cs. record r { cells = cs }) (sym (cells_set r.at r.cells low (omega arith)))
+      rest : List ℕ
+      rest = drop n (drop start cs)
 
-  pub region_kept : (r : Region ℕ) → spans (extent_of r) a 1 ≡ false → r ≡ record r { cells = cells_changed (written a 1 (λ _. b)) r.at r.cells }
-  region_kept r out =
-      ap (λ cs. record r { cells = cs }) (sym (cells_kept r.at r.cells (λ low high. false≢true (sym out ∙ and_from (leb r.at a) (leb (a + 1) (r.at + length r.cells)) (le-leb r.at a low) (le-leb (a + 1) (r.at + length r.cells) (omega arith))))))
+      sum : length (take start cs ++ (bytes ++ rest)) ≡ length cs
+      sum = omega (arith, length-append (take start cs) (bytes ++ rest), length-append bytes rest, front, length-drop n (drop start cs), length-drop start cs, low, high)
 
--- ---- a change that reaches one region after another
+      each : (k d : ℕ) → k < length (take start cs ++ (bytes ++ rest)) → get_or (take start cs ++ (bytes ++ rest)) k d ≡ get_or (cells_changed (written a n (slice_index bytes)) at cs) k d
+      each k d lt = by_part (cases_lt k start) (cases_lt k (start + n)) ∙ sym (get_or-cells_changed (written a n (slice_index bytes)) at k cs d (omega (arith, lt, sum)))
+        where
+          by_part : (k < start) ⊎ (start ≤ k) → (k < start + n) ⊎ (start + n ≤ k) → get_or (take start cs ++ (bytes ++ rest)) k d ≡ written a n (slice_index bytes) (at + k) (get_or cs k d)
+          by_part (inl before) within =
+              get_or_append_left (take start cs) (bytes ++ rest) d k (omega (arith, before, front))
+              ∙ get_or-take start cs k d before
+              ∙ sym (untouched a n (slice_index bytes) (at + k) (get_or cs k d) (λ l h. omega (arith, l, before)))
+          by_part (inr later) (inl within) =
+              let same : at + k - a ≡ k - start = omega (arith, low, later) in
+              get_or-append_right (take start cs) (bytes ++ rest) start k d front later
+              ∙ get_or_append_left bytes rest d (k - start) (omega (arith, within, later))
+              ∙ get_or_default bytes (k - start) d 0 (omega (arith, within, later))
+              ∙ sym (after (at + k) (get_or cs k d) (omega (arith, later, low)) (omega (arith, within, low)) ∙ ap (slice_index bytes) same)
+          by_part (inr later) (inr past) =
+              let same : start + (n + (k - start - n)) ≡ k = omega (arith, past) in
+              get_or-append_right (take start cs) (bytes ++ rest) start k d front later
+              ∙ get_or-append_right bytes rest n (k - start) d refl (omega (arith, past))
+              ∙ get_or-drop n (drop start cs) (k - start - n) d
+              ∙ get_or-drop start cs (n + (k - start - n)) d
+              ∙ ap (λ j. get_or cs j d) same
+              ∙ sym (untouched a n (slice_index bytes) (at + k) (get_or cs k d) (λ l h. omega (arith, h, past, low)))
 
-module _ (f : ℕ → ℕ → ℕ) where
-  length-changed : (rs : List (Region ℕ)) → length (changed f rs) ≡ length rs
-  length-changed [] = refl
-  length-changed (r ∷ rs) = ap suc (length-changed rs)
+-- ---- changes that are the same
 
-  changed-append : (rs ss : List (Region ℕ)) → changed f (rs ++ ss) ≡ changed f rs ++ changed f ss
-  changed-append [] ss = refl
-  changed-append (r ∷ rs) ss = ap (λ xs. record r { cells = cells_changed f r.at r.cells } ∷ xs) (changed-append rs ss)
+-- bytes that are given alike at each address that is written
+pub written-same : (a n : ℕ) (f g : ℕ → ℕ) → ((i : ℕ) → i < n → f i ≡ g i) → (x c : ℕ) → written a n f x c ≡ written a n g x c
+written-same a n f g same x c = either (leb a x && ltb x (a + n)) refl
+  where
+    either : (b : Bool) → (leb a x && ltb x (a + n)) ≡ b → cond b (f (x - a)) c ≡ cond b (g (x - a)) c
+    either true h =
+        let q = and_parts (leb a x) (ltb x (a + n)) h in
+        same (x - a) (omega (arith, leb-true a x q.0, ltb-true x (a + n) q.1))
+    either false h = refl
 
-  region_changed : Region ℕ → Region ℕ
-  region_changed r = record r { cells = cells_changed f r.at r.cells }
+-- a change that leaves each cell as it is
+cells_changed-none : (f : ℕ → ℕ → ℕ) → ((x c : ℕ) → f x c ≡ c) → (at : ℕ) (cs : List ℕ) → cells_changed f at cs ≡ cs
+cells_changed-none f stays at [] = refl
+cells_changed-none f stays at (c ∷ cs) = ap₂ (λ x xs. x ∷ xs) (stays at c) (cells_changed-none f stays (suc at) cs)
 
-  pub changed_more :
-      (rs now : List (Region ℕ)) (i : ℕ) (d new : Region ℕ) → i < length rs → now ≡ changed f (take i rs) ++ drop i rs
-      → new ≡ (let r = get_or now i d in record r { cells = cells_changed f r.at r.cells }) → set now i new ≡ changed f (take (i + 1) rs) ++ drop (i + 1) rs
-  unfolding region_changed
-  changed_more rs now i d new lt so_far is =
-      let done = changed f (take i rs) in
-      let rest = drop (i + 1) rs in
-      let size : length done ≡ i = length-changed (take i rs) ∙ length-take-le i rs (omega arith) in
-      let split = so_far ∙ ap (λ xs. done ++ xs) (drop_more rs i d lt) in
-      let here = ap (λ xs. get_or xs i d) split ∙ get_or_at done (get_or rs i d) rest d i size in
-      let front = ap (changed f) (take_more rs i d lt) ∙ changed-append (take i rs) (get_or rs i d ∷ []) in
-      ap (λ xs. set xs i new) split ∙ set_at done (get_or rs i d) rest new i size
-      ∙ ap (λ x. done ++ x ∷ rest) (is ∙ ap region_changed here)
-      ∙ sym (ap (λ xs. xs ++ rest) front ∙ append_assoc done (region_changed (get_or rs i d) ∷ []) rest)
+changed-none : (f : ℕ → ℕ → ℕ) → ((x c : ℕ) → f x c ≡ c) → (rs : List (Region ℕ)) → changed f rs ≡ rs
+changed-none f stays [] = refl
+changed-none f stays (r ∷ rs) = ap₂ (λ cs xs. record r { cells = cs } ∷ xs) (cells_changed-none f stays r.at r.cells) (changed-none f stays rs)
 
--- ---- changes one after another
-
-module _ (f g h : ℕ → ℕ → ℕ) (both : (x c : ℕ) → f x (g x c) ≡ h x c) where
-  cells_changed-after : (at : ℕ) (cs : List ℕ) → cells_changed f at (cells_changed g at cs) ≡ cells_changed h at cs
-  cells_changed-after at [] = refl
-  cells_changed-after at (c ∷ cs) = ap₂ (λ x xs. x ∷ xs) (both at c) (cells_changed-after (suc at) cs)
-
-  pub changed-after : (rs : List (Region ℕ)) → changed f (changed g rs) ≡ changed h rs
-  changed-after [] = refl
-  changed-after (r ∷ rs) = ap₂ (λ cs xs. record r { cells = cs } ∷ xs) (cells_changed-after r.at r.cells) (changed-after rs)
-
-module _ (f : ℕ → ℕ → ℕ) (stays : (x c : ℕ) → f x c ≡ c) where
-  cells_changed-none : (at : ℕ) (cs : List ℕ) → cells_changed f at cs ≡ cs
-  cells_changed-none at [] = refl
-  cells_changed-none at (c ∷ cs) = ap₂ (λ x xs. x ∷ xs) (stays at c) (cells_changed-none (suc at) cs)
-
-  pub changed-none : (rs : List (Region ℕ)) → changed f rs ≡ rs
-  changed-none [] = refl
-  changed-none (r ∷ rs) = ap₂ (λ cs xs. record r { cells = cs } ∷ xs) (cells_changed-none r.at r.cells) (changed-none rs)
-
--- an address in the range gets its byte
-written_in : (a n : ℕ) (given : ℕ → ℕ) (x old : ℕ) → a ≤ x → x < a + n → written a n given x old ≡ given (x - a)
-written_in a n given x old low high =
-    cond-true (leb a x && ltb x (a + n)) (given (x - a)) old (and_from (leb a x) (ltb x (a + n)) (le-leb a x low) (lt-ltb x (a + n) high))
+-- where regions lie stays, if a change is made or not
+pub extents-either : (f : ℕ → ℕ → ℕ) (rs : List (Region ℕ)) (b : Bool) → extents_of (cond b (changed f rs) rs) ≡ extents_of rs
+extents-either f rs true = extents-changed f rs
+extents-either f rs false = refl
 
 -- no byte is written
-pub written_none : (a : ℕ) (given : ℕ → ℕ) (x c : ℕ) → written a 0 given x c ≡ c
-written_none a given x c = untouched a 0 given x c (λ low high. omega (arith, low, high))
+pub changed-written_none : (a : ℕ) (given : ℕ → ℕ) (rs : List (Region ℕ)) → changed (written a 0 given) rs ≡ rs
+changed-written_none a given rs = changed-none (written a 0 given) (λ x c. untouched a 0 given x c (λ low high. omega (arith, low, high))) rs
 
--- one byte more
-pub written_more : (a n : ℕ) (given : ℕ → ℕ) (x c : ℕ) → written (a + n) 1 (λ _. given n) x (written a n given x c) ≡ written a (n + 1) given x c
-written_more a n given x c = ⊎_elim
-    (λ before. untouched (a + n) 1 (λ _. given n) x (written a n given x c) (λ low high. omega (arith, before, low)) ∙ ⊎_elim
-    (λ below. untouched a n given x c (λ low high. omega (arith, below, low)) ∙ sym (untouched a (n + 1) given x c (λ low high. omega (arith, below, low))))
-    (λ above. written_in a n given x c above before ∙ sym (written_in a (n + 1) given x c above (omega (arith, before))))
-    (cases_lt x a))
-    (λ past. ⊎_elim
-    (λ here. written_in (a + n) 1 (λ _. given n) x (written a n given x c) (omega (arith, here)) (omega (arith, here))
-    ∙ sym (written_in a (n + 1) given x c (omega (arith, here)) (omega (arith, here)) ∙ ap given (let e : x - a ≡ n = omega (arith, here) in e)))
-    (λ other. untouched (a + n) 1 (λ _. given n) x (written a n given x c) (λ low high. other (omega (arith, low, high)))
-    ∙ untouched a n given x c (λ low high. omega (arith, high, past))
-    ∙ sym (untouched a (n + 1) given x c (λ low high. other (omega (arith, high, past)))))
-    (cases_eq x (a + n)))
-    (cases_lt x (a + n))
+-- a write that is made if any byte is written
+pub changed-made : (a n : ℕ) (given : ℕ → ℕ) (rs : List (Region ℕ)) (b : Bool) → (0 < n → b ≡ true) → cond b (changed (written a n given) rs) rs ≡ changed (written a n given) rs
+changed-made a n given rs true made = refl
+changed-made a zero given rs false made = sym (changed-written_none a given rs)
+changed-made a (suc n) given rs false made = absurd (false≢true (made (omega arith)))

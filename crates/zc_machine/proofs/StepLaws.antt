@@ -1,6 +1,7 @@
 -- What each kind of step shows of the state that it is made in.
 use Rattle.std.specs.Prelude.{◌&&◌, ◌||◌}
-use Rattle.std.proofs.Common.{◌≡◌, ℕ, ◌+◌, ◌%◌, Bool, true, false, cond, eqb, Option, Some, None, refl, subst}
+use Rattle.std.proofs.Common.{◌≡◌, ℕ, ◌+◌, ◌%◌, ◌⊎◌, inl, inr, ⊎_elim, Bool, true, false, cond, eqb, Option, Some, None, refl, subst, arith}
+use Rattle.std.proofs.lemmas.Bool.{and_parts, eqb-true, or_cases}
 use Rattle.rv_decode.specs.State.{ZcCore, reg_in}
 use Rattle.rv_decode.specs.Bits.{add32}
 use Rattle.rv_decode.specs.Effect.{Effect, Commits, BadAccess, Misaligned, effect, gives, load_result, load_width, onward, reaching, store_width, stored}
@@ -15,6 +16,7 @@ use Rattle.zc_machine.specs.declared.reason.Reason.TheVariants as reason
 use Rattle.zc_machine.specs.declared.reason.Reason.TheVariants.{UnknownCall}
 use Rattle.zc_machine.specs.declared.answer.EnvCall.{EnvCall}
 use Rattle.zc_machine.specs.declared.answer.EnvCall.TheVariants.{Exit, Read, Write}
+use Rattle.zc_machine.specs.Buffer.{InMemory}
 use Rattle.zc_machine.specs.Fetch.{Fetched, Found, Missing, fetched_at}
 use Rattle.zc_machine.specs.Step.{ZcStep, Committed, Wants, Ended, Stopped, buffered, called, effect_step, made, step_from, zc_step}
 
@@ -28,33 +30,49 @@ access_step P z n a go made stopped = either (eqb (a % n) 0) (lies_in is_data (e
     either false c = stopped reason.Misaligned
 
 -- a commit counts and doesn't exit, the status of an exit is the low byte of a0, what is read and written is told by a0, a1 and
--- a2, and only an exit ends
+-- a2 and lies in memory, and only an exit ends
 abbrev pub Shows : ZcCore → ZcStep → Type 0
 Shows z (Committed z') = (z'.commits ≡ z.commits + 1) × (z'.exit ≡ z.exit)
 Shows z (Wants (Exit status)) = status ≡ reg_in z 10 % 256
-Shows z (Wants (Read at len)) = (at ≡ reg_in z 11) × (len ≡ reg_in z 12)
-Shows z (Wants (Write fd at len)) = (fd ≡ reg_in z 10) × (at ≡ reg_in z 11) × (len ≡ reg_in z 12)
+Shows z (Wants (Read at len)) = (at ≡ reg_in z 11) × (len ≡ reg_in z 12) × InMemory z at len
+Shows z (Wants (Write fd at len)) = (at ≡ reg_in z 11) × (len ≡ reg_in z 12) × InMemory z at len × ((fd ≡ 1) ⊎ (fd ≡ 2))
 Shows z (Ended status) = z.exit ≡ Some status
 Shows z (Stopped reason) = Unit {0}
 
 module _ (z : ZcCore) where
-  buffer_shows : (c : EnvCall) → Shows z (Wants c) → Shows z (buffered z c)
-  buffer_shows c shows = either (eqb (reg_in z 12) 0 || lies_in is_data (extents_of z.memory) (reg_in z 11) (reg_in z 12))
+  abbrev read : EnvCall
+  read = Read (reg_in z 11) (reg_in z 12)
+
+  abbrev write : EnvCall
+  write = Write (reg_in z 10) (reg_in z 11) (reg_in z 12)
+
+  buffer_shows : (c : EnvCall) → (InMemory z (reg_in z 11) (reg_in z 12) → Shows z (Wants c)) → Shows z (buffered z c)
+  buffer_shows c shows = either (eqb (reg_in z 12) 0 || lies_in is_data (extents_of z.memory) (reg_in z 11) (reg_in z 12)) refl
     where
-      either : (b : Bool) → Shows z (cond b (Wants c) (Stopped reason.BadAccess))
-      either true = shows
-      either false = tt
+      either : (b : Bool) → (eqb (reg_in z 12) 0 || lies_in is_data (extents_of z.memory) (reg_in z 11) (reg_in z 12)) ≡ b → Shows z (cond b (Wants c) (Stopped reason.BadAccess))
+      either true h = shows (λ some. ⊎_elim
+          (λ none. absurd (let zero = eqb-true (reg_in z 12) 0 none in omega (arith, some, zero)))
+          (λ lies. lies)
+          (or_cases (eqb (reg_in z 12) 0) (lies_in is_data (extents_of z.memory) (reg_in z 11) (reg_in z 12)) h))
+      either false h = tt
+
+  -- a stream that is written to has the number 1 or 2
+  stream : (eqb (reg_in z 17) 64 && (eqb (reg_in z 10) 1 || eqb (reg_in z 10) 2)) ≡ true → (reg_in z 10 ≡ 1) ⊎ (reg_in z 10 ≡ 2)
+  stream h = ⊎_elim
+      (λ out. inl (eqb-true (reg_in z 10) 1 out))
+      (λ err. inr (eqb-true (reg_in z 10) 2 err))
+      (or_cases (eqb (reg_in z 10) 1) (eqb (reg_in z 10) 2) (and_parts (eqb (reg_in z 17) 64) (eqb (reg_in z 10) 1 || eqb (reg_in z 10) 2) h).1)
 
   call_shows : Shows z (called z)
-  call_shows =
-      either _ _ (eqb (reg_in z 17) 93) (eqb (reg_in z 17) 63 && eqb (reg_in z 10) 0) (eqb (reg_in z 17) 64 && (eqb (reg_in z 10) 1 || eqb (reg_in z 10) 2))
-      (buffer_shows (Read (reg_in z 11) (reg_in z 12)) (refl, refl)) (buffer_shows (Write (reg_in z 10) (reg_in z 11) (reg_in z 12)) (refl, refl, refl))
+  call_shows = by_number (eqb (reg_in z 17) 93) (eqb (reg_in z 17) 63 && eqb (reg_in z 10) 0) (eqb (reg_in z 17) 64 && (eqb (reg_in z 10) 1 || eqb (reg_in z 10) 2)) refl
     where
-      either : (s t : ZcStep) (a b c : Bool) → Shows z s → Shows z t → Shows z (cond a (Wants (Exit (reg_in z 10 % 256))) (cond b s (cond c t (Stopped UnknownCall))))
-      either s t true b c shows_read shows_write = refl
-      either s t false true c shows_read shows_write = shows_read
-      either s t false false true shows_read shows_write = shows_write
-      either s t false false false shows_read shows_write = tt
+      by_number :
+          (a b c : Bool) → (eqb (reg_in z 17) 64 && (eqb (reg_in z 10) 1 || eqb (reg_in z 10) 2)) ≡ c
+          → Shows z (cond a (Wants (Exit (reg_in z 10 % 256))) (cond b (buffered z read) (cond c (buffered z write) (Stopped UnknownCall))))
+      by_number true b c is = refl
+      by_number false true c is = buffer_shows read (λ m. (refl, refl, m))
+      by_number false false true is = buffer_shows write (λ m. (refl, refl, m, stream is))
+      by_number false false false is = tt
 
   effect_shows : (i : Instr) (size : ℕ) → Shows z (effect_step (effect i size z) z)
   effect_shows (Upper op rd imm) size = (refl, refl)
@@ -92,6 +110,10 @@ module _ (z : ZcCore) where
   pub exit_status : (status : ℕ) → zc_step z ≡ Wants (Exit status) → status ≡ reg_in z 10 % 256
   exit_status status e = subst (Shows z) e step_shows
 
-  -- the length of the read that is wanted
-  pub read_length : (at len : ℕ) → zc_step z ≡ Wants (Read at len) → len ≡ reg_in z 12
-  read_length at len e = (subst (Shows z) e step_shows).1
+  -- a read that is wanted has a buffer in memory, told by a1 and a2
+  pub read_shows : (at len : ℕ) → zc_step z ≡ Wants (Read at len) → (at ≡ reg_in z 11) × (len ≡ reg_in z 12) × InMemory z at len
+  read_shows at len e = subst (Shows z) e step_shows
+
+  -- so has a write, and it is to stream 1 or 2
+  pub write_shows : (fd at len : ℕ) → zc_step z ≡ Wants (Write fd at len) → (at ≡ reg_in z 11) × (len ≡ reg_in z 12) × InMemory z at len × ((fd ≡ 1) ⊎ (fd ≡ 2))
+  write_shows fd at len e = subst (Shows z) e step_shows

@@ -1,11 +1,15 @@
 pub mod Reason
 pub mod Region
+pub mod Memory
 pub mod Fetch
+pub mod Cells
 pub mod Step
 pub mod Answer
+pub mod Buffer
 pub mod Interrupt
 pub mod Cursor
 pub mod Run
+pub mod Output
 pub mod RunEnd
 pub mod Load
 pub use Rattle.elf32_read.specs.Header

@@ -1,24 +1,25 @@
 -- Runs of the machine under a plan of interrupts.
-use Rattle.std.specs.Prelude.{ℕ, zero, suc, ◌+◌, List, [], ◌∷◌, ◌++◌, Option, Some, None, Result, Ok, Err}
+use Rattle.std.specs.Prelude.{ℕ, zero, suc, List, [], ◌∷◌, ◌++◌, take, drop, Option, Some, None, Result, Ok, Err}
 use Rattle.interrupt_plan.specs.Plan.{Cut, Entry, cuts_at}
 use Rattle.rv_decode.specs.Run.{◌>>=◌}
-use Rattle.rv_decode.specs.State.{ZcCore, ZcState, Exit}
+use Rattle.rv_decode.specs.State.{ZcCore, ZcState, Exit, Read, Write}
 use Rattle.zc_machine.specs.declared.reason.Reason.{Reason}
-use Rattle.zc_machine.specs.declared.reason.Reason.TheVariants.{UnknownCall}
 use Rattle.zc_machine.specs.declared.answer.EnvCall.{EnvCall}
 use Rattle.zc_machine.specs.declared.answer.EnvCall.TheVariants as call
+use Rattle.zc_machine.specs.Answer.{exited, has_read, has_written}
+use Rattle.zc_machine.specs.Buffer.{bytes_at}
 use Rattle.zc_machine.specs.Step.{ZcStep, Committed, Wants, Ended, Stopped, zc_step}
 use Rattle.zc_machine.specs.Interrupt.{all_cuts}
 
--- the environment's answer to a call is a commit; of the other calls a run has no answers yet
+-- the environment's answer to a call is a commit with an event: the exit; a read of as many bytes as the buffer has room for and
+-- the input has; or a write of all bytes of the buffer
 abbrev pub answered : EnvCall → ZcState → Result ZcState Reason
-answered (call.Exit status) r =
-    Ok (record r {
-      core = record r.core { exit = Some status; commits = r.core.commits + 1 };
-      events = r.events ++ Exit status ∷ [];
-    })
-answered (call.Read at len) r = Err UnknownCall
-answered (call.Write fd at len) r = Err UnknownCall
+answered (call.Exit status) r = Ok (record r { core = exited status r.core; events = r.events ++ Exit status ∷ [] })
+answered (call.Read at len) r =
+    let bytes = take len r.input in
+    Ok (record r { core = has_read bytes r.core; input = drop len r.input; events = r.events ++ Read bytes ∷ [] })
+answered (call.Write fd at len) r =
+    Ok (record r { core = has_written r.core; events = r.events ++ Write fd (bytes_at r.core at len) ∷ [] })
 
 -- the state after a step, with the environment's answer if it wants one
 abbrev pub committed : ZcStep → ZcState → Result ZcState Reason

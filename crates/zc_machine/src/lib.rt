@@ -2,8 +2,11 @@
 #![tactic(auto)]
 
 pub mod answer;
+mod cells;
 mod load;
 pub mod machine;
+mod memory;
+mod output;
 pub mod reason;
 mod region;
 pub mod run;

@@ -1,7 +1,7 @@
 // The regions of the machine's memory.
 
-ghost use Rattle.std.specs.Prelude.{◌≡◌, ◌-◌, ◌<◌, ◌≤◌, true, length, slice_index};
-ghost use Rattle.rv_decode.specs.Memory.{byte_of, cell_at, cells_changed, changed, extent_of, extents_of, lies_in, spans, written};
+ghost use Rattle.std.specs.Prelude.{◌≡◌, ◌+◌, ◌-◌, ◌≤◌, ◌&&◌, true, drop, length, slice_index};
+ghost use Rattle.rv_decode.specs.Memory.{cells_changed, extent_of, spans, written};
 ghost use Rattle.zc_machine.specs.Region.{allowed, kind_of};
 
 use std::marker::Model;
@@ -71,89 +71,44 @@ impl Region {
         Region { kind, at, cells }
     }
 
+    /// Whether so many cells from an address on lie in the region, and an access may reach them.
+    pub fn holds(&self, access: Access, address: u32, count: usize) -> bool
+        ensures { result ≡ (allowed access self.now.kind && spans (extent_of self.now) address count) }
+    {
+        self.kind.allows(access) && self.spans(address, count)
+    }
+
     // Whether so many cells from an address on lie in the region.
-    fn spans(&self, address: u64, count: u64) -> bool
+    fn spans(&self, address: u32, count: usize) -> bool
         ensures { result ≡ spans (extent_of self.now) address count }
     {
-        let at = u64::from(self.at);
-        let size = self.cells.len() as u64;
-        at <= address && count <= size && address - at <= size - count
+        let size = self.cells.len();
+        self.at <= address && count <= size && (address - self.at) as usize <= size - count
     }
 
-    // The cell at an address.
-    fn cell(&self, address: u64) -> u8
+    /// The cells from an address of the region on.
+    pub fn cells_from(&self, address: u32) -> &[u8]
         requires { spans (extent_of self.now) address 1 ≡ true }
-        ensures { result ≡ slice_index self.now.cells (address - self.now.at) }
+        ensures { result.now ≡ drop (address - self.now.at) self.now.cells }
     {
-        self.cells[(address - u64::from(self.at)) as usize]
+        &self.cells[(address - self.at) as usize..]
     }
 
-    // Writes a cell, if it is one of the region's.
-    fn write(&mut self, a: u64, b: u8)
-        ensures { self.new ≡ record self.old { cells = cells_changed (written a 1 (λ _. b)) self.old.at self.old.cells } }
+    /// Writes bytes from an address on.
+    pub fn write(&mut self, address: u32, bytes: &[u8])
+        requires { spans (extent_of self.old) address (length bytes.now) ≡ true }
+        ensures { self.new ≡ record self.old { cells = cells_changed (written address (length bytes.now) (slice_index bytes.now)) self.old.at self.old.cells } }
     {
-        if self.spans(a, 1) {
-            self.cells[(a - u64::from(self.at)) as usize] = b;
-        }
+        write_cells(self.cells.as_mut_slice(), self.at, address, bytes);
     }
 }
 
-/// Whether so many cells from an address on lie in one region that an access may reach.
-pub fn reaches(regions: &[Region], access: Access, a: u64, n: u64) -> bool
-    ensures { result ≡ lies_in (allowed access) (extents_of regions.now) a n }
+// Writes bytes to cells of which the first has the address `at`.
+fn write_cells(cells: &mut [u8], at: u32, address: u32, bytes: &[u8])
+    requires low { at ≤ address }
+    requires high { address + length bytes.now ≤ at + length cells.old }
+    ensures { cells.new ≡ cells_changed (written address (length bytes.now) (slice_index bytes.now)) at cells.old }
 {
-    for region in regions {
-        if region.kind.allows(access) && region.spans(a, n) {
-            return true;
-        }
-    }
-    false
-}
-
-/// The byte at an address, and 0 if there is none.
-pub fn byte_at(regions: &[Region], a: u64) -> u8
-    ensures { result ≡ cell_at 0 regions.now a }
-{
-    for region in regions {
-        if region.spans(a, 1) {
-            return region.cell(a);
-        }
-    }
-    0
-}
-
-/// Writes the byte at an address, if there is one.
-pub fn write_byte(regions: &mut [Region], a: u64, b: u8)
-    ensures { regions.new ≡ changed (written a 1 (λ _. b)) regions.old }
-{
-    for region in regions.iter_mut() {
-        region.write(a, b);
-    }
-}
-
-/// Writes the low `width` bytes of a word from an address on, each where there is one.
-pub fn write_word(regions: &mut [Region], a: u32, width: u32, word: u32)
-    requires { width ≤ 4 }
-    ensures { regions.new ≡ changed (written a width (byte_of word)) regions.old }
-{
-    for i in 0..width {
-        write_byte(regions, u64::from(a) + u64::from(i), byte_of(word, i));
-    }
-}
-
-/// Writes bytes from an address on, each where there is one.
-pub fn write_bytes(regions: &mut [Region], a: u32, bytes: &[u8])
-    ensures { regions.new ≡ changed (written a (length bytes.now) (slice_index bytes.now)) regions.old }
-{
-    for i in 0..bytes.len() {
-        write_byte(regions, u64::from(a) + i as u64, bytes[i]);
-    }
-}
-
-// Byte i of a word, the lowest first.
-fn byte_of(word: u32, i: u32) -> u8
-    requires { i < 4 }
-    ensures { result ≡ byte_of word i }
-{
-    (word / 256u32.pow(i) % 256) as u8
+    let start = (address - at) as usize;
+    cells[start..start + bytes.len()].copy_from_slice(bytes);
 }

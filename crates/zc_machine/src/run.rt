@@ -9,6 +9,7 @@ ghost use Rattle.zc_outside.specs.Desk.{OnlyWrites, WriteCause};
 
 use crate::answer::{EnvCall, Step};
 use crate::machine::Machine;
+use crate::output::write;
 use crate::reason::Reason;
 use interrupt_plan::plan::Plan;
 use zc_outside::console::{Console, ConsoleFault};
@@ -24,7 +25,8 @@ pub enum RunEnd {
 }
 
 /// Runs a machine from its start for at most so many commits, of which an exit is one, and makes the
-/// interrupts of a plan before the commits that they name.
+/// interrupts of a plan before the commits that they name. What it reads comes from the front of the
+/// input, and what it writes goes to the console at once, piece by piece.
 pub fn run<C: Console>(
     machine: &mut Machine,
     plan: &Plan,
@@ -40,17 +42,25 @@ pub fn run<C: Console>(
     ensures writes { OnlyWrites (C.shown console.old) (C.shown console.new) }
 {
     let mut next = 0;
+    let mut left = input;
     while machine.commits() < steps {
         next = interrupt(machine, plan, next);
         match machine.step() {
             Step::Committed => {}
+            Step::Wants(EnvCall::Read { len, .. }) => {
+                let (front, rest) = left.split_at((len as usize).min(left.len()));
+                machine.answer_read(front);
+                left = rest;
+            }
+            Step::Wants(EnvCall::Write { fd, at, len }) => {
+                if let Err(fault) = write(machine, fd, at, len, console) {
+                    return RunEnd::Console(fault);
+                }
+                machine.answer_write();
+            }
             Step::Wants(EnvCall::Exit(status)) => {
                 machine.answer_exit();
                 return RunEnd::Exit(status);
-            }
-            // A run doesn't make these yet.
-            Step::Wants(EnvCall::Read { .. } | EnvCall::Write { .. }) => {
-                return RunEnd::Stopped(Reason::UnknownCall);
             }
             Step::Ended(status) => return RunEnd::Exit(status),
             Step::Stopped(reason) => return RunEnd::Stopped(reason),

@@ -3,35 +3,45 @@
 ghost use Rattle.std.specs.Prelude.{◌≡◌, ◌<◌, ◌-◌, ◌^◌, IfOk, None};
 
 use super::*;
+use crate::answer::EnvCall;
 use std::process::Abort;
 use std::test::Fail;
 use zc_base::fields::put_u32;
 use zc_base::mem_map::MemMap;
 
-// A file's header and one program header, of code at 0x10000 in the twelve bytes after them.
+// A file's header and one program header, of code at 0x10000 that comes after them.
 const HEADERS: [u8; 84] = [
     0x7F, 0x45, 0x4C, 0x46, 1, 1, 1, 0, 0, 0, 0, 0, 0, 0, 0, 0, //
     2, 0, 0xF3, 0, 1, 0, 0, 0, 0, 0, 1, 0, 0x34, 0, 0, 0, 0, 0, //
     0, 0, 1, 0, 0, 0, 0x34, 0, 0x20, 0, 1, 0, 0x28, 0, 0, 0, 0, 0, //
     1, 0, 0, 0, 0x54, 0, 0, 0, 0, 0, 1, 0, 0, 0, 1, 0, //
-    0x0C, 0, 0, 0, 0x0C, 0, 0, 0, 5, 0, 0, 0, 4, 0, 0, 0, //
+    0, 0, 0, 0, 0, 0, 0, 0, 5, 0, 0, 0, 4, 0, 0, 0, //
 ];
 
 /// c.li a0, 3; addi a7, x0, 93; ecall
-pub const THREE: [u8; 12] = [0x0D, 0x45, 0x93, 8, 0xD0, 5, 0x73, 0, 0, 0, 0, 0];
+pub const THREE: [u8; 10] = [0x0D, 0x45, 0x93, 8, 0xD0, 5, 0x73, 0, 0, 0];
 
-/// The machine with this text, of which so many bytes are loaded.
+/// The machine with this text.
 #[tactic(auto, unfolding(crate::specs::Load::first_core))]
-pub fn load(alloc: Global, text: &[u8; 12], size: u32) -> Result<Machine, Fail>
+pub fn load(alloc: Global, text: &[u8]) -> Result<Machine, Fail>
     ensures { IfOk result (λ machine. (machine.exit ≡ None) × (machine.commits ≡ 0)) }
 {
-    let mut bytes = [0u8; 96];
-    bytes[..84].copy_from_slice(&HEADERS);
-    bytes[84..].copy_from_slice(text);
-    put_u32(&mut bytes, 68, size);
-    put_u32(&mut bytes, 72, size);
-    let image = Image::read(&bytes, MemMap::standard())?;
+    let size = u32::try_from(text.len())?;
+    let mut bytes = Vec::from_slice(alloc, &HEADERS)?;
+    put_u32(bytes.as_mut_slice(), 68, size);
+    put_u32(bytes.as_mut_slice(), 72, size);
+    bytes.extend_from_slice(text)?;
+    let image = Image::read(bytes.as_slice(), MemMap::standard())?;
     Ok(Machine::load(alloc, &image)?)
+}
+
+/// The text of these words.
+pub fn text_of(alloc: Global, words: &[u32]) -> Result<Vec<u8>, Fail> {
+    let mut text = Vec::new(alloc);
+    for word in words {
+        text.extend_from_slice(&word.to_le_bytes())?;
+    }
+    Ok(text)
 }
 
 fn register(machine: &Machine, number: u8) -> Option<u32> {
@@ -62,7 +72,7 @@ fn expect_three<R: Abort>(rt: &R, machine: &mut Machine) {
 
 #[test]
 fn a_machine_starts_at_the_entry_with_an_empty_stack(rt: HostRuntime) -> Result<(), Fail> {
-    let machine = load(rt.alloc(), &THREE, 10)?;
+    let machine = load(rt.alloc(), &THREE)?;
     assert_eq!(rt; (machine.pc(), machine.commits()), (0x10000, 0));
     for number in 0..32 {
         let want = if number == 2 { 0x1000_0000 } else { 0 };
@@ -73,7 +83,7 @@ fn a_machine_starts_at_the_entry_with_an_empty_stack(rt: HostRuntime) -> Result<
 
 #[test]
 fn each_step_commits_or_changes_nothing(rt: HostRuntime) -> Result<(), Fail> {
-    let mut machine = load(rt.alloc(), &THREE, 10)?;
+    let mut machine = load(rt.alloc(), &THREE)?;
     expect_three(&rt, &mut machine);
     let registers = (register(&machine, 10), register(&machine, 17));
     assert_eq!(rt; registers, (Some(3), Some(93)));
@@ -82,7 +92,7 @@ fn each_step_commits_or_changes_nothing(rt: HostRuntime) -> Result<(), Fail> {
 
 #[test]
 fn an_interrupt_leaves_the_run_as_it_was(rt: HostRuntime) -> Result<(), Fail> {
-    let mut machine = load(rt.alloc(), &THREE, 10)?;
+    let mut machine = load(rt.alloc(), &THREE)?;
     machine.cut(
         &[],
         &[(0x0FFF_FFFF, 0xEE), (0x1000_0000, 0xEE), (0x10000, 0xEE)],
@@ -148,11 +158,8 @@ fn an_answer_is_a_commit(rt: HostRuntime) -> Result<(), Fail> {
 
 // The machine after three steps of these three words, and what the third answers.
 fn three_steps(alloc: Global, words: [u32; 3]) -> Result<(Machine, Step), Fail> {
-    let mut text = [0u8; 12];
-    put_u32(&mut text, 0, words[0]);
-    put_u32(&mut text, 4, words[1]);
-    put_u32(&mut text, 8, words[2]);
-    let mut machine = load(alloc, &text, 12)?;
+    let text = text_of(alloc, &words)?;
+    let mut machine = load(alloc, text.as_slice())?;
     let mut answer = Step::Committed;
     for _ in 0..3 {
         if machine.commits() < 9 {
@@ -160,6 +167,35 @@ fn three_steps(alloc: Global, words: [u32; 3]) -> Result<(Machine, Step), Fail> 
         }
     }
     Ok((machine, answer))
+}
+
+fn piece_length(machine: &Machine, at: u32, len: u32) -> Option<usize> {
+    if len == 0 {
+        return None;
+    }
+    Some(machine.piece(at, len)?.len())
+}
+
+// The stack lies from 0x0FF00000 to 0x10000000, and text at 0x10000.
+#[test]
+fn pieces_end_at_their_buffer_or_at_a_page(rt: HostRuntime) -> Result<(), Fail> {
+    let machine = load(rt.alloc(), &THREE)?;
+    let table = [
+        (0x0FFF_FFFC, 4, Some(4)),
+        (0x0FFF_FFFC, 5, None),
+        (0x0FFF_EFFE, 4, Some(2)),
+        (0x0FFF_F000, 5000, None),
+        (0x0FFF_F000, 4096, Some(4096)),
+        (0x0FF0_0000, 0x10_0000, Some(4096)),
+        (0x0FEF_FFFF, 2, None),
+        (0x1_0000, 1, None),
+        (0, 1, None),
+        (0xFFFF_FFFF, 0xFFFF_FFFF, None),
+    ];
+    for (at, len, want) in table {
+        assert_eq!(rt; piece_length(&machine, at, len), want, "{at:08x} {len}");
+    }
+    Ok(())
 }
 
 // Worked by hand; sp starts at 0x10000000, and text at 0x10000.

@@ -1,102 +1,154 @@
-use Rattle.std.proofs.Common.{rules, ◌≡◌, ℕ, List, Ok, Err, None, sym, ap, subst, ◌∙◌, arith}
-use Rattle.interrupt_plan.specs.Plan.{Entry, cuts_at}
-use Rattle.rv_decode.specs.State.{ZcCore, ZcState}
-use Rattle.zc_machine.specs.declared.reason.Reason.TheVariants.{UnknownCall}
-use Rattle.zc_machine.specs.declared.answer.EnvCall.TheVariants.{Exit}
-use Rattle.zc_machine.specs.Answer.{core_after, exited}
+use Rattle.std.proofs.Common.{◌≡◌, take, drop, sym, ap, subst, ◌∙◌, arith}
+use Rattle.std.proofs.lemmas.List.{drop_min, take_min}
+use Rattle.rv_decode.specs.State.{ZcCore}
+use Rattle.zc_machine.specs.declared.answer.EnvCall.TheVariants.{Exit, Read, Write}
+use Rattle.zc_machine.specs.Answer.{core_after, exited, has_read, has_written}
+use Rattle.zc_machine.specs.Buffer.{InMemory, bytes_at}
 use Rattle.zc_machine.specs.Cursor.{IsAt}
-use Rattle.zc_machine.specs.Interrupt.{all_cuts}
-use Rattle.zc_machine.specs.Run.{answered, committed, first_state, zc_after}
-use Rattle.zc_machine.specs.Step.{Wants, Stopped, zc_step}
-use Rattle.zc_machine.proofs.RunLaws.{Turning, commits_kept, committed_came, exit_ran, none_ended, spent_ran, stop_ran, stopped_step, wants_step, zc_after-none}
+use Rattle.zc_machine.specs.Output.{WrotePart, WroteTo}
+use Rattle.zc_machine.specs.RunEnd.{Course}
+use Rattle.zc_machine.specs.Step.{Stopped, zc_step}
+use Rattle.zc_machine.proofs.RunLaws.{Came-start, commits_kept, committed_next, exit_ran, none_ended, read_next, refused_ran, spent_ran, stop_ran, stopped_step, wanted, write_next}
+use Rattle.zc_machine.proofs.StepLaws.{write_shows}
 use Rattle.zc_machine.proofs.run.run.Goals as goal
 
-turning : (first : ZcCore) (input : List ℕ) (plan : List Entry) (steps : ℕ) (z z' : ZcCore) → zc_after first input plan z.commits ≡ Ok (first_state z input) → z.exit ≡ None → z' ≡ all_cuts (cuts_at plan z.commits) z → Turning (record { first = first; input = input; plan = plan; steps = steps }) z z'
-turning first input plan steps z z' so_far running cuts = record { so_far = so_far; running = running; cuts = cuts }
-
-pub loop-machine-init : goal.loop-machine-init
-loop-machine-init g c =
+pub loop-left-init : goal.loop-left-init
+loop-left-init g c =
     let start = c.requires.start in
+    let run : Course = record { first = c.args.machine.now; input = c.args.input.now; plan = c.args.plan.now; steps = c.args.steps } in
     record {
       within = omega arith;
-      running = c.requires.running;
       at = record { within = omega arith; past = λ j d lt. absurd (omega arith); ahead = λ j d low lt. omega arith };
-      so_far = ap (zc_after c.args.machine.now c.args.input.now c.args.plan.now) start ∙ zc_after-none c.args.machine.now c.args.input.now c.args.plan.now;
+      came = Came-start run _ c.requires.running start;
     }
 
 pub step-requires : goal.step-requires
 step-requires g c =
-    let kept = c.loop-machine.invariant in
-    let t = turning _ _ _ c.args.steps _ _ kept.so_far kept.running c.interrupt-next.ensures.made in
-    let same = commits_kept _ _ _ t in
+    let same = commits_kept c.loop-left.invariant.came c.interrupt-next.new.machine c.interrupt-next.ensures.made in
     omega arith
 
-pub loop-machine-smaller : goal.loop-machine-smaller
-loop-machine-smaller g c =
-    let kept = c.loop-machine.invariant in
-    let t = turning _ _ _ c.args.steps _ _ kept.so_far kept.running c.interrupt-next.ensures.made in
-    let came = committed_came _ _ _ t c.step.new.self c.in-Committed.ensures.answer c.in-Committed.ensures.state in
-    let counts = came.counts in
+-- ---- an instruction that commits
+
+pub loop-left-smaller-in-Committed : goal.loop-left-smaller-in-Committed
+loop-left-smaller-in-Committed g c =
+    let next = committed_next c.loop-left.invariant.came c.interrupt-next.new.machine c.interrupt-next.ensures.made c.step.new.self c.in-Committed.ensures.answer c.in-Committed.ensures.state in
+    let counts = next.counts in
     omega arith
 
-pub loop-machine-preserved : goal.loop-machine-preserved
-loop-machine-preserved g c =
-    let kept = c.loop-machine.invariant in
-    let t = turning _ _ _ c.args.steps _ _ kept.so_far kept.running c.interrupt-next.ensures.made in
-    let came = committed_came _ _ _ t c.step.new.self c.in-Committed.ensures.answer c.in-Committed.ensures.state in
-    let counts = came.counts in
-    record {
-      within = omega arith;
-      running = came.running;
-      at = subst (IsAt c.args.plan.now c.interrupt-next.result) (sym counts) c.interrupt-next.ensures.reached;
-      so_far = came.so_far;
-    }
+pub loop-left-preserved-in-Committed : goal.loop-left-preserved-in-Committed
+loop-left-preserved-in-Committed g c =
+    let next = committed_next c.loop-left.invariant.came c.interrupt-next.new.machine c.interrupt-next.ensures.made c.step.new.self c.in-Committed.ensures.answer c.in-Committed.ensures.state in
+    let counts = next.counts in
+    record { within = omega arith; at = subst (IsAt c.args.plan.now c.interrupt-next.result) (sym counts) c.interrupt-next.ensures.reached; came = next.came }
+
+-- ---- a read
+
+pub answer_read-requires-clause-room : goal.answer_read-requires-clause-room
+answer_read-requires-clause-room g c =
+    let w = c.in-Wants-Read in
+    let asks = wanted c.interrupt-next.new.machine c.step.new.self (Read w.field-0-0 w.len) (cc w.ensures.answer) c.step.ensures.state in
+    let same = ap (λ (y : ZcCore). y.commits) asks.stays ∙ commits_kept c.loop-left.invariant.came c.interrupt-next.new.machine c.interrupt-next.ensures.made in
+    omega arith
+
+pub loop-left-smaller-in-Wants-Read : goal.loop-left-smaller-in-Wants-Read
+loop-left-smaller-in-Wants-Read g c =
+    let w = c.in-Wants-Read in
+    let asks = wanted c.interrupt-next.new.machine c.step.new.self (Read w.field-0-0 w.len) (cc w.ensures.answer) c.step.ensures.state in
+    let same = ap (λ (y : ZcCore). y.commits) asks.stays ∙ commits_kept c.loop-left.invariant.came c.interrupt-next.new.machine c.interrupt-next.ensures.made in
+    let counts = ap (λ (y : ZcCore). y.commits) c.answer_read.ensures in
+    omega arith
+
+pub loop-left-preserved-in-Wants-Read : goal.loop-left-preserved-in-Wants-Read
+loop-left-preserved-in-Wants-Read g c =
+    let w = c.in-Wants-Read in
+    let left = c.loop-left.left.now in
+    let front = c.split_at.result.0.now in
+    let asks = wanted c.interrupt-next.new.machine c.step.new.self (Read w.field-0-0 w.len) (cc w.ensures.answer) c.step.ensures.state in
+    let first : front ≡ take w.len left = c.split_at.ensures.front ∙ ap (λ n. take n left) c.min.ensures ∙ take_min w.len left in
+    let others : c.split_at.result.1.now ≡ drop w.len left = c.split_at.ensures.back ∙ ap (λ n. drop n left) c.min.ensures ∙ drop_min w.len left in
+    let next =
+    read_next c.loop-left.invariant.came c.interrupt-next.new.machine c.interrupt-next.ensures.made c.answer_read.new.self w.field-0-0 w.len front _ asks.wants first others
+    (c.answer_read.ensures ∙ ap (has_read front) asks.stays) in
+    let counts = next.counts in
+    record { within = omega arith; at = subst (IsAt c.args.plan.now c.interrupt-next.result) (sym counts) c.interrupt-next.ensures.reached; came = next.came }
+
+-- ---- a write
+
+pub write-requires-clause-stream : goal.write-requires-clause-stream
+write-requires-clause-stream g c =
+    let w = c.in-Wants-Write in
+    let asks = wanted c.interrupt-next.new.machine c.step.new.self (Write w.fd w.at w.len) (cc w.ensures.answer) c.step.ensures.state in
+    (write_shows c.interrupt-next.new.machine w.fd w.at w.len asks.wants).3
+
+pub write-requires-clause-memory : goal.write-requires-clause-memory
+write-requires-clause-memory g c =
+    let w = c.in-Wants-Write in
+    let asks = wanted c.interrupt-next.new.machine c.step.new.self (Write w.fd w.at w.len) (cc w.ensures.answer) c.step.ensures.state in
+    subst (λ (y : ZcCore). InMemory y w.at w.len) (sym asks.stays) (write_shows c.interrupt-next.new.machine w.fd w.at w.len asks.wants).2
+
+pub returns-in-Err-clause-ran : goal.returns-in-Err-clause-ran
+returns-in-Err-clause-ran g c =
+    let w = c.in-Wants-Write in
+    let asks = wanted c.interrupt-next.new.machine c.step.new.self (Write w.fd w.at w.len) (cc w.ensures.answer) c.step.ensures.state in
+    let now = g.C.Console.shown c.loop-left.console in
+    let after = g.C.Console.shown c.write.new.console in
+    let part = subst (λ (y : ZcCore). WrotePart w.fd (bytes_at y w.at w.len) now after) asks.stays c.in-Err.ensures.err in
+    refused_ran c.loop-left.invariant.came c.interrupt-next.new.machine c.interrupt-next.ensures.made c.step.new.self (omega arith) w.fd w.at w.len c.in-Err.fault after asks.wants part
+
+pub answer_write-requires-clause-room : goal.answer_write-requires-clause-room
+answer_write-requires-clause-room g c =
+    let w = c.in-Wants-Write in
+    let asks = wanted c.interrupt-next.new.machine c.step.new.self (Write w.fd w.at w.len) (cc w.ensures.answer) c.step.ensures.state in
+    let same = ap (λ (y : ZcCore). y.commits) asks.stays ∙ commits_kept c.loop-left.invariant.came c.interrupt-next.new.machine c.interrupt-next.ensures.made in
+    omega arith
+
+pub loop-left-smaller : goal.loop-left-smaller
+loop-left-smaller g c =
+    let w = c.in-Wants-Write in
+    let asks = wanted c.interrupt-next.new.machine c.step.new.self (Write w.fd w.at w.len) (cc w.ensures.answer) c.step.ensures.state in
+    let same = ap (λ (y : ZcCore). y.commits) asks.stays ∙ commits_kept c.loop-left.invariant.came c.interrupt-next.new.machine c.interrupt-next.ensures.made in
+    let counts = ap (λ (y : ZcCore). y.commits) c.answer_write.ensures in
+    omega arith
+
+pub loop-left-preserved : goal.loop-left-preserved
+loop-left-preserved g c =
+    let w = c.in-Wants-Write in
+    let asks = wanted c.interrupt-next.new.machine c.step.new.self (Write w.fd w.at w.len) (cc w.ensures.answer) c.step.ensures.state in
+    let now = g.C.Console.shown c.loop-left.console in
+    let after = g.C.Console.shown c.write.new.console in
+    let wrote = subst (λ (y : ZcCore). WroteTo w.fd (bytes_at y w.at w.len) now after) asks.stays c.in_default.ensures.ok in
+    let next =
+    write_next c.loop-left.invariant.came c.interrupt-next.new.machine c.interrupt-next.ensures.made c.answer_write.new.self w.fd w.at w.len after asks.wants
+    (c.answer_write.ensures ∙ ap has_written asks.stays) wrote c.in_default.ensures.writes in
+    let counts = next.counts in
+    record { within = omega arith; at = subst (IsAt c.args.plan.now c.interrupt-next.result) (sym counts) c.interrupt-next.ensures.reached; came = next.came }
+
+-- ---- ends
 
 pub answer_exit-requires-clause-room : goal.answer_exit-requires-clause-room
 answer_exit-requires-clause-room g c =
-    let kept = c.loop-machine.invariant in
-    let z' = c.interrupt-next.new.machine in
-    let t = turning _ _ _ c.args.steps _ _ kept.so_far kept.running c.interrupt-next.ensures.made in
-    let wants : zc_step z' ≡ Wants (Exit c.in-Wants-Exit.status) = wants_step (zc_step z') (Exit c.in-Wants-Exit.status) (cc c.in-Wants-Exit.ensures.answer) in
-    let stays : c.step.new.self ≡ z' = c.step.ensures.state ∙ ap (λ s. core_after s z') wants in
-    let same = ap (λ (y : ZcCore). y.commits) stays ∙ commits_kept _ _ _ t in
+    let w = c.in-Wants-Exit in
+    let asks = wanted c.interrupt-next.new.machine c.step.new.self (Exit w.status) (cc w.ensures.answer) c.step.ensures.state in
+    let same = ap (λ (y : ZcCore). y.commits) asks.stays ∙ commits_kept c.loop-left.invariant.came c.interrupt-next.new.machine c.interrupt-next.ensures.made in
     omega arith
 
 pub returns-in-Wants-Exit-clause-ran : goal.returns-in-Wants-Exit-clause-ran
 returns-in-Wants-Exit-clause-ran g c =
-    let kept = c.loop-machine.invariant in
-    let z' = c.interrupt-next.new.machine in
-    let t = turning _ _ _ c.args.steps _ _ kept.so_far kept.running c.interrupt-next.ensures.made in
-    let wants : zc_step z' ≡ Wants (Exit c.in-Wants-Exit.status) = wants_step (zc_step z') (Exit c.in-Wants-Exit.status) (cc c.in-Wants-Exit.ensures.answer) in
-    let stays : c.step.new.self ≡ z' = c.step.ensures.state ∙ ap (λ s. core_after s z') wants in
-    exit_ran _ _ _ t _ _ (omega arith) c.in-Wants-Exit.status wants
-    (c.answer_exit.ensures c.in-Wants-Exit.status (ap zc_step stays ∙ wants) ∙ ap (exited c.in-Wants-Exit.status) stays)
-
-pub returns-in-Wants-Read-clause-ran : goal.returns-in-Wants-Read-clause-ran
-returns-in-Wants-Read-clause-ran g c =
-    let kept = c.loop-machine.invariant in
-    let z' = c.interrupt-next.new.machine in
-    let t = turning _ _ _ c.args.steps _ _ kept.so_far kept.running c.interrupt-next.ensures.made in
-    let w = c.in-Wants-Read in
-    let wants : zc_step z' ≡ Wants w.field-0 = wants_step (zc_step z') w.field-0 (cc w.ensures.answer) in
-    let unknown : (r : ZcState) → answered w.field-0 r ≡ Err UnknownCall = λ r. search rules in
-    stop_ran _ _ _ t _ _ (omega arith) UnknownCall (λ r. ap (λ s. committed s r) wants ∙ unknown r) (w.ensures.state ∙ ap (λ s. core_after s z') wants)
+    let w = c.in-Wants-Exit in
+    let asks = wanted c.interrupt-next.new.machine c.step.new.self (Exit w.status) (cc w.ensures.answer) c.step.ensures.state in
+    exit_ran c.loop-left.invariant.came c.interrupt-next.new.machine c.interrupt-next.ensures.made c.answer_exit.new.self (omega arith) w.status asks.wants
+    (c.answer_exit.ensures w.status (ap zc_step asks.stays ∙ asks.wants) ∙ ap (exited w.status) asks.stays)
 
 pub returns-in-Ended-clause-ran : goal.returns-in-Ended-clause-ran
-returns-in-Ended-clause-ran g c =
-    let kept = c.loop-machine.invariant in
-    let t = turning _ _ _ c.args.steps _ _ kept.so_far kept.running c.interrupt-next.ensures.made in
-    absurd (none_ended _ _ _ t c.in-Ended.status c.in-Ended.ensures.answer)
+returns-in-Ended-clause-ran g c = absurd (none_ended c.loop-left.invariant.came c.interrupt-next.new.machine c.interrupt-next.ensures.made c.in-Ended.status c.in-Ended.ensures.answer)
 
 pub returns-in-Stopped-clause-ran : goal.returns-in-Stopped-clause-ran
 returns-in-Stopped-clause-ran g c =
-    let kept = c.loop-machine.invariant in
     let z' = c.interrupt-next.new.machine in
-    let t = turning _ _ _ c.args.steps _ _ kept.so_far kept.running c.interrupt-next.ensures.made in
     let stops : zc_step z' ≡ Stopped c.in-Stopped.reason = stopped_step (zc_step z') c.in-Stopped.reason c.in-Stopped.ensures.answer in
-    stop_ran _ _ _ t _ _ (omega arith) c.in-Stopped.reason (λ r. ap (λ s. committed s r) stops) (c.in-Stopped.ensures.state ∙ ap (λ s. core_after s z') stops)
+    stop_ran c.loop-left.invariant.came z' c.interrupt-next.ensures.made c.step.new.self (omega arith) c.in-Stopped.reason stops (c.in-Stopped.ensures.state ∙ ap (λ s. core_after s z') stops)
 
 pub returns-clause-ran : goal.returns-clause-ran
 returns-clause-ran g c =
-    let kept = c.loop-machine.invariant in
-    spent_ran (record { first = c.args.machine.now; input = c.args.input.now; plan = c.args.plan.now; steps = c.args.steps }) _ _ kept.so_far kept.running (omega arith)
+    let kept = c.loop-left.invariant in
+    spent_ran (record { first = c.args.machine.now; input = c.args.input.now; plan = c.args.plan.now; steps = c.args.steps }) _ _ _ _ kept.came (omega arith)

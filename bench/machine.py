@@ -1,0 +1,209 @@
+#!/usr/bin/env python3
+"""Measures how fast `run` makes commits.
+
+    bench/machine.py [--repeats R] [--commits N] [PROGRAM]        PROGRAM is build/zcld where none is given
+
+Three images are made by rule, each a loop: of arithmetic, of loads and stores (in data and on the stack, of each width), and of
+calls and returns. Each makes about N commits, and is run R times, in turn with the same image under `--steps 0`. A rate comes
+from the difference of the least processor times, so start-up isn't in it. Instructions of the processor for a commit come from
+`perf stat` where the system allows it, and from `valgrind --tool=callgrind` of a short run otherwise; callgrind also says which
+functions they go into. The same images run on `qemu-riscv32` and `spike`, where these are installed.
+"""
+import argparse
+import os
+import re
+import shutil
+import struct
+import subprocess
+import sys
+import tempfile
+
+from run import Call, SPENT, processor_name, table
+
+TEXT = 0x10000
+DATA = 0x100000
+PAGE = 4096
+
+ZERO, RA, SP, COUNT, BASE, A0, A7 = 0, 1, 2, 5, 8, 10, 17
+
+# The commits of a run that callgrind follows.
+FOLLOWED = 100_000
+
+
+def word_i(opcode, funct3, rd, rs1, imm):
+    return (imm & 0xFFF) << 20 | rs1 << 15 | funct3 << 12 | rd << 7 | opcode
+
+
+def word_r(funct7, funct3, rd, rs1, rs2):
+    return funct7 << 25 | rs2 << 20 | rs1 << 15 | funct3 << 12 | rd << 7 | 0x33
+
+
+def word_s(funct3, rs2, rs1, imm):
+    return (imm >> 5 & 0x7F) << 25 | rs2 << 20 | rs1 << 15 | funct3 << 12 | (imm & 0x1F) << 7 | 0x23
+
+
+def addi(rd, rs1, imm):
+    return word_i(0x13, 0, rd, rs1, imm)
+
+
+def lui(rd, imm):
+    return imm << 12 | rd << 7 | 0x37
+
+
+def jal(rd, distance):
+    return ((distance >> 20 & 1) << 31 | (distance >> 1 & 0x3FF) << 21 | (distance >> 11 & 1) << 20
+            | (distance >> 12 & 0xFF) << 12 | rd << 7 | 0x6F)
+
+
+def bne(rs1, rs2, distance):
+    return ((distance >> 12 & 1) << 31 | (distance >> 5 & 0x3F) << 25 | rs2 << 20 | rs1 << 15 | 1 << 12
+            | (distance >> 1 & 0xF) << 8 | (distance >> 11 & 1) << 7 | 0x63)
+
+
+def ret():
+    return word_i(0x67, 0, ZERO, RA, 0)
+
+
+ARITHMETIC = [
+    word_r(0, 0, 6, 6, 7),             # add x6,x6,x7
+    word_r(0, 4, 7, 7, 6),             # xor x7,x7,x6
+    word_i(0x13, 1, 11, 6, 3),         # slli x11,x6,3
+    word_r(0, 3, 9, 7, 11),            # sltu x9,x7,x11
+    word_r(0x20, 0, 12, 9, 6),         # sub x12,x9,x6
+    word_r(1, 0, 13, 12, 6),           # mul x13,x12,x6
+]
+
+ACCESSES = [
+    word_i(0x03, 2, 6, BASE, 0),       # lw x6,0(x8)
+    addi(6, 6, 1),
+    word_s(2, 6, BASE, 0),             # sw x6,0(x8)
+    word_i(0x03, 5, 7, BASE, 2),       # lhu x7,2(x8)
+    word_s(1, 6, BASE, 8),             # sh x6,8(x8)
+    word_i(0x03, 0, 9, BASE, 5),       # lb x9,5(x8)
+    word_s(0, 6, BASE, 4),             # sb x6,4(x8)
+    word_i(0x03, 2, 11, SP, -4),       # lw x11,-4(sp)
+    word_s(2, 6, SP, -4),              # sw x6,-4(sp)
+]
+
+# The function stands before the loop: it keeps ra on the stack and calls one that only counts.
+COUNTS = [addi(A0, A0, 1), ret()]
+CALLED = [addi(SP, SP, -16), word_s(2, RA, SP, 12), jal(RA, -16), word_i(0x03, 2, RA, SP, 12), addi(SP, SP, 16), ret()]
+
+
+def looped(body, each, commits, before=()):
+    """A program that makes the body so often that there are about so many commits, then exits with 0."""
+    start = [lui(BASE, DATA >> 12), *count(commits // (each + 2))]
+    loop = [*body(4 * (len(before) + len(start))), addi(COUNT, COUNT, -1)]
+    loop.append(bne(COUNT, ZERO, -4 * len(loop)))
+    words = [*before, *start, *loop, addi(A0, ZERO, 0), addi(A7, ZERO, 93), 0x73]
+    return struct.pack(f'<{len(words)}I', *words), TEXT + 4 * len(before)
+
+
+def count(times):
+    low = (times & 0xFFF ^ 0x800) - 0x800
+    return [lui(COUNT, (times - low) >> 12), addi(COUNT, COUNT, low)]
+
+
+def image(text, entry):
+    """An executable with the code and 4,096 zeroed bytes of data (System V gABI, "Program Header")."""
+    header = struct.pack('<16sHHIIIIIHHHHHH', b'\x7fELF\1\1\1', 2, 243, 1, entry, 52, 0, 0, 52, 32, 2, 40, 0, 0)
+    segments = (struct.pack('<8I', 1, PAGE, TEXT, TEXT, len(text), len(text), 5, PAGE)
+                + struct.pack('<8I', 1, 0, DATA, DATA, 0, PAGE, 6, PAGE))
+    return (header + segments).ljust(PAGE, b'\0') + text
+
+
+def programs(commits):
+    called = [*COUNTS, *CALLED]
+    return {
+        'arithmetic': looped(lambda at: ARITHMETIC, len(ARITHMETIC), commits),
+        'loads and stores': looped(lambda at: ACCESSES, len(ACCESSES), commits),
+        'calls and returns': looped(lambda at: [jal(RA, 4 * len(COUNTS) - at)], 1 + len(called), commits, called),
+    }
+
+
+def instructions(words):
+    """Instructions that a call takes in user space, as `perf stat` counts them, or none where it can't."""
+    if shutil.which('perf') is None:
+        return None
+    told = subprocess.run(['perf', 'stat', '-x', ',', '-e', 'instructions:u', '--', *words], stdin=subprocess.DEVNULL,
+                          stdout=subprocess.DEVNULL, stderr=subprocess.PIPE, text=True, check=False).stderr
+    found = re.search(r'^(\d+),,instructions', told, re.MULTILINE)
+    return int(found.group(1)) if found else None
+
+
+def followed(program, file, steps, folder):
+    """The total of a short run under callgrind, and the functions that take most of it, or none without valgrind."""
+    if shutil.which('valgrind') is None:
+        return None
+    out = os.path.join(folder, 'callgrind.out')
+    subprocess.run(['valgrind', '--tool=callgrind', f'--callgrind-out-file={out}', program, 'run', '--steps', str(steps), file],
+                   stdin=subprocess.DEVNULL, stdout=subprocess.DEVNULL, stderr=subprocess.DEVNULL, check=False)
+    told = subprocess.run(['callgrind_annotate', '--threshold=99', out], stdout=subprocess.PIPE, text=True, check=False).stdout
+    rows = re.findall(r'^\s*([\d,]+) \([^)]*\)\s+\S*?:(\S+)', told, re.MULTILINE)
+    total = re.search(r'^\s*([\d,]+).*PROGRAM TOTALS', told, re.MULTILINE)
+    number = lambda text: int(text.replace(',', ''))
+    return number(total.group(1)), {name: number(count) for count, name in rows}
+
+
+def per_commit(program, file, commits, folder):
+    """Instructions a commit beyond start-up, how they were counted, and the functions that take a part of them."""
+    counted = [instructions([program, 'run', '--steps', str(steps), file]) for steps in (commits * 2, 0)]
+    both = [followed(program, file, steps, folder) for steps in (FOLLOWED, 0)]
+    parts = []
+    if None not in both:
+        (more, by_name), (less, at_start) = both
+        spent = {name: number - at_start.get(name, 0) for name, number in by_name.items()}
+        parts = [f'{name} {number / FOLLOWED:.1f}' for name, number in sorted(spent.items(), key=lambda row: -row[1])
+                 if number >= FOLLOWED]
+    if None not in counted:
+        return f'{(counted[0] - counted[1]) / commits:.1f}', 'perf', parts
+    if None not in both:
+        return f'{(more - less) / FOLLOWED:.1f}', 'callgrind', parts
+    return '-', 'not counted', parts
+
+
+def others(file):
+    """The least processor time of the image on other machines that are installed, by their names."""
+    calls = {'qemu-riscv32': ['qemu-riscv32', file], 'spike': ['spike', '--isa=rv32im', 'pk', file]}
+    return {name: least([shutil.which(name), *words[1:]], 0, 3) for name, words in calls.items() if shutil.which(name)}
+
+
+def least(words, status, repeats):
+    call = Call(words, status)
+    for _ in range(repeats):
+        call.make()
+    return min(call.processor)
+
+
+def main():
+    arguments = argparse.ArgumentParser(description='Measures how fast `run` makes commits.')
+    arguments.add_argument('program', nargs='?', default=os.path.join('build', 'zcld'))
+    arguments.add_argument('--repeats', type=int, default=5)
+    arguments.add_argument('--commits', type=int, default=10_000_000)
+    given = arguments.parse_args()
+    program = os.path.abspath(given.program)
+    if not os.access(program, os.X_OK):
+        sys.exit(f'{given.program} is no program: `make` builds it')
+    print(f'Processor: {processor_name()}, load {os.getloadavg()[0]:.1f}.')
+    rows, parts = [], {}
+    with tempfile.TemporaryDirectory() as folder:
+        for name, (text, entry) in programs(given.commits).items():
+            file = os.path.join(folder, f'{name.replace(" ", "-")}.elf')
+            with open(file, 'wb') as made:
+                made.write(image(text, entry))
+            os.chmod(file, 0o755)
+            start_up = least([program, 'run', '--steps', '0', file], SPENT, given.repeats)
+            took = least([program, 'run', '--steps', str(given.commits * 2), file], 0, given.repeats) - start_up
+            each, way, parts[name] = per_commit(program, file, given.commits, folder)
+            rows.append((name, f'{given.commits / took / 1e6:.1f}', each, way,
+                         ', '.join(f'{other} {given.commits / time / 1e6:.0f}' for other, time in others(file).items()) or '-'))
+    table(('loop', 'millions of commits a second', 'instructions a commit', 'counted by', 'others, millions a second'), rows)
+    if all(row[-1] == '-' for row in rows):
+        print('\nNeither qemu-riscv32 nor spike is installed.')
+    print('\nFunctions that take an instruction a commit or more, by callgrind:\n')
+    for name, named in parts.items():
+        print(f'{name}: {", ".join(named) or "none told"}')
+
+
+if __name__ == '__main__':
+    main()

@@ -1,0 +1,78 @@
+// The machine's memory.
+
+ghost use Rattle.std.specs.Prelude.{◌≡◌, if◌then◌else◌, length, slice_index};
+ghost use Rattle.rv_decode.specs.Memory.{changed, extents_of, lies_in, written};
+ghost use Rattle.zc_machine.specs.Memory.{AreApart, Reaches};
+ghost use Rattle.zc_machine.specs.Region.{allowed};
+
+use crate::region::{Access, Region};
+use std::marker::Model;
+
+/// Regions without a common address.
+#[derive(Drop)]
+pub struct Memory {
+    regions: Vec<Region>,
+}
+
+impl Model for Memory {
+    ghost use Rattle.std.specs.Prelude.{ℕ, List};
+    ghost use Rattle.rv_decode.specs.Memory.{Region as RegionOf, extents_of};
+    ghost use Rattle.zc_machine.specs.Memory.{AreApart};
+
+    ghost Value = { List (RegionOf ℕ) };
+
+    ghost view = { λ m. m.regions.items };
+
+    ghost invariant = { λ m. AreApart (extents_of m.regions.items) };
+}
+
+impl Memory {
+    /// The memory of these regions.
+    pub fn new(regions: Vec<Region>) -> Memory
+        requires { AreApart (extents_of regions.items) }
+        ensures { result ≡ regions.items }
+    {
+        Memory { regions }
+    }
+
+    /// The cells from an address on that an access may reach at once.
+    pub fn reach(&self, access: Access, address: u32) -> &[u8]
+        ensures { Reaches access self.now address result.now }
+    {
+        reach(self.regions.as_slice(), access, address)
+    }
+
+    /// Writes bytes from an address on, if an access may reach them, and says whether it may.
+    pub fn write(&mut self, access: Access, address: u32, bytes: &[u8]) -> bool
+        ensures reached { result ≡ lies_in (allowed access) (extents_of self.old) address (length bytes.now) }
+        ensures after { self.new ≡ (if result then changed (written address (length bytes.now) (slice_index bytes.now)) self.old else self.old) }
+    {
+        write(self.regions.as_mut_slice(), access, address, bytes)
+    }
+}
+
+fn reach(regions: &[Region], access: Access, address: u32) -> &[u8]
+    requires { AreApart (extents_of regions.now) }
+    ensures { Reaches access regions.now address result.now }
+{
+    for region in regions {
+        if region.holds(access, address, 1) {
+            return region.cells_from(address);
+        }
+    }
+    &[]
+}
+
+fn write(regions: &mut [Region], access: Access, address: u32, bytes: &[u8]) -> bool
+    requires { AreApart (extents_of regions.old) }
+    ensures reached { result ≡ lies_in (allowed access) (extents_of regions.old) address (length bytes.now) }
+    ensures after { regions.new ≡ (if result then changed (written address (length bytes.now) (slice_index bytes.now)) regions.old else regions.old) }
+{
+    for region in regions.iter_mut() {
+        if region.holds(access, address, bytes.len()) {
+            region.write(address, bytes);
+            return true;
+        }
+    }
+    false
+}
