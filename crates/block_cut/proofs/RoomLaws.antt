@@ -103,7 +103,7 @@ blocks_fit (l ∷ ls) = by (is_code_section l.section) refl (blocks_fit ls)
     by false code rest = omega (arith, sum_is, rest)
 
 -- all of them take little
-all_fit : (inputs : Inputs) → gather_fault inputs ≡ None → room_of_all (code_blocks (all_sections (parsed inputs).objects)) ≤ 0x4_0000
+pub all_fit : (inputs : Inputs) → gather_fault inputs ≡ None → room_of_all (code_blocks (all_sections (parsed inputs).objects)) ≤ 0x4_0000
 unfolding all_sections
 all_fit inputs none =
     omega (

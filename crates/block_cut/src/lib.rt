@@ -6,6 +6,6 @@ mod code_section;
 pub mod cut;
 pub mod item;
 mod plain_layout;
-mod relocs;
+pub mod relocs;
 mod spelled;
 mod text;

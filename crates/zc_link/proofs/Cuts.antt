@@ -111,6 +111,7 @@ module _ {p : Program} {e : Image} (room : Room p e) where
           (λ out. rw (sp.bytes a out) (al.memory a m))
           (where_is a);
       names = al.names;
+      lies = al.lies;
       extents = sp.extents ∙ al.extents;
       text = λ a text. ⊎_elim
           (λ inside. absurd (

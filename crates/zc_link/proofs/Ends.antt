@@ -6,7 +6,7 @@ use Rattle.std.proofs.lemmas.Bool.{and_from, cond-true, cond_both, le-leb, lt-lt
 use Rattle.zc_base.specs.declared.mem_map.MemMap.{MemMap}
 use Rattle.zc_base.specs.declared.place.Place.{Place}
 use Rattle.rv_decode.specs.State.{ZcCore, ZcState, byte_in, reg_in}
-use Rattle.rv_decode.proofs.MemoryLaws.{cell-changed_default}
+use Rattle.rv_decode.proofs.MemoryLaws.{cell-changed_default, extents-changed}
 use Rattle.sym_machine.specs.declared.word.SymByte.{SymByte}
 use Rattle.sym_machine.specs.declared.word.SymByte.TheVariants.{Undef}
 use Rattle.sym_machine.specs.Program.{Program}
@@ -58,6 +58,7 @@ ends_alike {p} {e} {s} {s'} {z} end ready = subst (λ x. Alike p e x z) (sym end
       registers = ready.names.registers;
       memory = λ a m. settled_holds (NamesByte p) p.map end.sp s a tt (ready.names.memory a m);
     };
+    lies = extents-changed (undefined_below p.map end.sp) s.memory ∙ ready.lies;
     extents = ready.extents;
     text = ready.text;
     table = ready.table;

@@ -1,30 +1,41 @@
 -- Environment calls. The machine asks for the call whose number and arguments the program's words are, and its environment
--- answers; after the exit the states are over.
-use Rattle.std.proofs.Common.{◌≡◌, ℕ, ◌+◌, ◌%◌, ◌<◌, List, [], ◌∷◌, ◌++◌, Option, Some, None, Bool, true, false, cond, refl, sym, ap, ◌∙◌, subst, inr, arith, eqb}
-use Rattle.std.proofs.lemmas.Bool.{cond-true, eq-eqb, eqb-true}
+-- answers: a read fills the buffer and a write takes it, and both go on; after the exit the states are over.
+use Rattle.std.proofs.Common.{◌≡◌, ℕ, zero, suc, ◌+◌, ◌%◌, ◌^◌, ◌<◌, List, [], ◌∷◌, ◌++◌, length, map, take, drop, Option, Some, None, Ok, Bool, true, false, cond, refl, sym, ap, ◌∙◌, subst, inl, inr, arith, eqb}
+use Rattle.std.specs.Prelude.{◌||◌, ◌⊎◌}
+use Rattle.std.proofs.lemmas.Bool.{cond-true, eq-eqb, eqb-true, or_left, or_right}
 use Rattle.interrupt_plan.specs.Plan.{Cut}
 use Rattle.rv_decode.specs.declared.instr.Instr.TheVariants.{Ecall}
-use Rattle.rv_decode.specs.State.{Exit, ZcState, reg_in}
-use Rattle.sym_machine.specs.declared.why.Why.TheVariants.{UnknownCall}
-use Rattle.sym_machine.specs.Change.{Change, Goes, Stops, call_does, exit_does, onward}
+use Rattle.rv_decode.specs.Memory.{extents_of, is_data, lies_in}
+use Rattle.rv_decode.specs.State.{Event, Exit, Read, Write, ZcCore, ZcState, reg_in}
+use Rattle.sym_machine.specs.declared.arguments.Arguments.{Arguments}
+use Rattle.sym_machine.specs.declared.why.Why.TheVariants.{BadAddress, UnknownCall}
+use Rattle.sym_machine.specs.declared.word.SymByte.TheVariants.{Num}
+use Rattle.sym_machine.specs.Change.{Change, Does, Goes, Stops, arguments_of, buffered, call_does, exit_does, gives, is_buffer, is_input, is_output, numbers_at, onward, output_does, read_count, read_does, with_buffer, write_does}
 use Rattle.sym_machine.specs.Program.{Program}
 use Rattle.sym_machine.specs.State.{PlainState, reg_of}
 use Rattle.sym_machine.specs.Step.{after_change}
-use Rattle.sym_machine.specs.Words.{number_of}
+use Rattle.sym_machine.specs.Words.{number_of, number_word}
 use Rattle.zc_machine.specs.declared.answer.EnvCall.{EnvCall}
 use Rattle.zc_machine.specs.declared.answer.EnvCall.TheVariants as call
+use Rattle.zc_machine.specs.Answer.{has_read, has_written}
+use Rattle.zc_machine.specs.Buffer.{bytes_at}
 use Rattle.zc_machine.specs.Run.{answered, committed, zc_turn}
 use Rattle.zc_machine.specs.Step.{Wants, called, effect_step}
-use Rattle.zc_link.specs.Image.{Image, place_address}
+use Rattle.zc_link.specs.Image.{Image, loaded, place_address}
 use Rattle.zc_link.specs.Pieces.{OpLaid}
 use Rattle.zc_link.specs.Room.{Room}
 use Rattle.zc_link.specs.Simulates.{Comes}
+use Rattle.zc_link.specs.Sound.{Ready}
+use Rattle.zc_link.specs.Stands.{WordStands}
 use Rattle.zc_link.specs.Values.{value_in}
+use Rattle.zc_link.proofs.Buffers.{IsBuffer, buffer_lies, numbers_are, read_agrees, taken_bytes}
 use Rattle.zc_link.proofs.Commits.{AfterCuts, after_cuts, zc_turns-one}
 use Rattle.sym_machine.proofs.StepLaws.{Ended}
-use Rattle.zc_link.proofs.Ends.{ends_stands}
-use Rattle.zc_link.proofs.Singles.{FromSound}
-use Rattle.zc_link.proofs.Words.{number_is}
+use Rattle.zc_link.proofs.Ends.{ends_alike, ends_stands}
+use Rattle.zc_link.proofs.Ready.{ready_fed, ready_moved, ready_set}
+use Rattle.zc_link.proofs.Singles.{FromSound, below_top}
+use Rattle.zc_link.proofs.Words.{number_is, number_names, number_stands}
+use Rattle.zc_link.proofs.Writes.{ready_changed}
 
 module _
     {p : Program} {e : Image} {r r' : PlainState} {cuts : ℕ → List Cut} {z : ZcState} (room : Room p e) (from : FromSound p e r r' cuts z)
@@ -79,17 +90,169 @@ module _
       (subst (λ c. Ended p.map (after_change c r.core) r'.core) (sym made) from.step.end)
       (from.step.events ∙ ap (λ (c : Change). r.events ++ c.events) (sym made))
 
+  -- ---- calls that go on
+
+  -- the place after the call is listed, four bytes on
+  next_listed : place_address e (p.next r.core.place) ≡ Some ((w.now.pc + 4) % 2 ^ 32)
+  next_listed =
+      let four = laid.four refl in
+      laid.laid.next ∙ ap Some (below_top z.core.pc w.now.pc laid.laid.at.size w.pc laid.laid.at.small ∙ ap (λ n. (w.now.pc + n) % 2 ^ 32) four)
+
+  -- the environment's answer to a call leaves states that are ready, with an event
+  answer_comes :
+      (c : Change) (event : Event) (core : ZcCore) (input : List ℕ) → c ≡ from.step.change → c.place ≡ p.next r.core.place → c.events ≡ event ∷ []
+      → zc_turn (cuts 0) z ≡ Ok (record { core = core; input = input; events = z.events ++ event ∷ [] })
+      → core.pc ≡ (w.now.pc + 4) % 2 ^ 32 → drop c.taken r.core.input ≡ input → Ready p e (after_change c r.core) core → Comes p e cuts 1 z r'
+  answer_comes c event core input made place events turn pc left ready =
+      let end : Ended p.map (after_change c r.core) r'.core = subst (λ x. Ended p.map (after_change x r.core) r'.core) (sym made) from.step.end in
+      let z1 : ZcState = record { core = core; input = input; events = z.events ++ event ∷ [] } in
+      record {
+        after = z1;
+        runs = zc_turns-one cuts z z1 turn;
+        together = inl record {
+          alike = ends_alike end ready;
+          input = ap (λ s. s.input) end.state ∙ left;
+          place = ap (λ s. place_address e s.place) end.state ∙ ap (place_address e) place ∙ next_listed ∙ ap Some (sym pc);
+        };
+        events = ap (λ l. l ++ event ∷ []) from.same ∙ sym (from.step.events ∙ ap (λ (x : Change). r.events ++ x.events) (sym made) ∙ ap (λ l. r.events ++ l) events);
+      }
+
+  -- ---- buffers
+
+  -- the arguments are the machine's, but that of no bytes a1 isn't looked at
+  record AreHeld (c : Arguments) : Type 0 where
+    a0 : c.a0 ≡ reg_in w.now 10
+    len : c.len ≡ reg_in w.now 12
+    at : (c.len ≡ 0) ⊎ (c.at ≡ reg_in w.now 11)
+
+  are_held :
+      (o0 o1 o2 : Option ℕ) (c : Arguments) → number_of (reg_of r.core 10) ≡ o0 → number_of (reg_of r.core 11) ≡ o1 → number_of (reg_of r.core 12) ≡ o2
+      → arguments_of o0 o1 o2 ≡ Some c → AreHeld c
+  are_held None o1 o2 c is0 is1 is2 h = absurd cc
+  are_held (Some a0) o1 None c is0 is1 is2 h = absurd cc
+  are_held (Some a0) (Some at) (Some len) c is0 is1 is2 h =
+      let same : record { a0 = a0; at = at; len = len } ≡ c = cc in
+      subst AreHeld same (record { a0 = holds 10 a0 (omega arith) is0; len = holds 12 len (omega arith) is2; at = inr (holds 11 at (omega arith) is1) })
+  are_held (Some a0) None (Some len) c is0 is1 is2 h = by (eqb len 0) refl h
+    where
+      by : (b : Bool) → eqb len 0 ≡ b → cond b (Some (record { a0 = a0; at = 0; len = 0 })) None ≡ Some c → AreHeld c
+      by true none g =
+          let same : record { a0 = a0; at = 0; len = 0 } ≡ c = cc in
+          subst AreHeld same (record { a0 = holds 10 a0 (omega arith) is0; len = sym (eqb-true len 0 none) ∙ holds 12 len (omega arith) is2; at = inl refl })
+      by false some g = absurd cc
+
+  -- what is known of a call with a buffer that goes on
+  record HasBuffer (known : ℕ → Bool) (go : Arguments → Does) : Type 0 where
+    arguments : Arguments
+    held : AreHeld arguments
+    does : go arguments ≡ Goes from.step.change
+    is_known : known arguments.a0 ≡ true
+    buffer : IsBuffer p arguments.at (reg_in w.now 11) arguments.len
+
+  -- where the buffer lies
+  place_of : (c : Arguments) → AreHeld c → is_buffer r.core c ≡ true → IsBuffer p c.at (reg_in w.now 11) c.len
+  place_of c held lies = by (eqb c.len 0) refl held.at
+    where
+      by : (b : Bool) → eqb c.len 0 ≡ b → (c.len ≡ 0) ⊎ (c.at ≡ reg_in w.now 11) → IsBuffer p c.at (reg_in w.now 11) c.len
+      by true none at = inl (eqb-true c.len 0 none)
+      by false some (inl none) = inl none
+      by false some (inr at) = inr (at, buffer_lies room r.core c.at c.len w.alike.lies (sym (ap (λ b. b || lies_in is_data (extents_of r.core.memory) c.at c.len) some) ∙ lies))
+
+  has_buffer : (known : ℕ → Bool) (go : Arguments → Does) → with_buffer known r.core go ≡ Goes from.step.change → HasBuffer known go
+  has_buffer known go h = by_arguments (arguments_of (number_of (reg_of r.core 10)) (number_of (reg_of r.core 11)) (number_of (reg_of r.core 12))) refl h
+    where
+      tested :
+          (c : Arguments) (k b : Bool) → AreHeld c → known c.a0 ≡ k → is_buffer r.core c ≡ b
+          → cond k (cond b (go c) (Stops BadAddress)) (Stops UnknownCall) ≡ Goes from.step.change → HasBuffer known go
+      tested c true true held k b g = record { arguments = c; held = held; does = g; is_known = k; buffer = place_of c held b }
+      tested c true false held k b g = absurd cc
+      tested c false b held k lies g = absurd cc
+
+      by_arguments :
+          (o : Option Arguments) → arguments_of (number_of (reg_of r.core 10)) (number_of (reg_of r.core 11)) (number_of (reg_of r.core 12)) ≡ o
+          → buffered known o r.core go ≡ Goes from.step.change → HasBuffer known go
+      by_arguments None is g = absurd cc
+      by_arguments (Some c) is g = tested c (known c.a0) (is_buffer r.core c) (are_held _ _ _ c refl refl refl is) refl refl g
+
+  -- the machine finds the buffer too
+  buffer_found : (at len : ℕ) → IsBuffer p at (reg_in w.now 11) len → (eqb len 0 || lies_in is_data (extents_of w.now.memory) (reg_in w.now 11) len) ≡ true
+  buffer_found at len (inl none) = or_left (eqb len 0) _ (eq-eqb len 0 none)
+  buffer_found at zero (inr lies) = refl
+  buffer_found at (suc n) (inr lies) =
+      or_right (eqb (suc n) 0) _
+      (ap (λ es. lies_in is_data es (reg_in w.now 11) (suc n)) w.alike.extents
+      ∙ ap (λ a. lies_in is_data (extents_of (loaded e).memory) a (suc n)) (sym lies.0)
+      ∙ room.reaches at (suc n) (omega arith) lies.1)
+
+  -- ---- reads
+
+  wants_read : (c : Arguments) → AreHeld c → reg_in w.now 17 ≡ 63 → is_input c.a0 ≡ true → IsBuffer p c.at (reg_in w.now 11) c.len → called w.now ≡ Wants (call.Read (reg_in w.now 11) c.len)
+  wants_read c held a7 known buffer =
+      let input : is_input (reg_in w.now 10) ≡ true = ap is_input (sym held.a0) ∙ known in
+      let found = ap (λ n. eqb n 0 || lies_in is_data (extents_of w.now.memory) (reg_in w.now 11) n) (sym held.len) ∙ buffer_found c.at c.len buffer in
+      rw (a7, input, found) (ap (λ n. Wants (call.Read (reg_in w.now 11) n)) (sym held.len))
+
+  read_comes : reg_in w.now 17 ≡ 63 → with_buffer is_input r.core (read_does r.core (p.next r.core.place)) ≡ Goes from.step.change → Comes p e cuts 1 z r'
+  read_comes a7 h =
+      let b = has_buffer is_input (read_does r.core (p.next r.core.place)) h in
+      let a = b.arguments in
+      let s = r.core in
+      let to : ℕ = reg_in w.now 11 in
+      let n = read_count s a in
+      let bytes = take n s.input in
+      let t = taken_bytes a.len s.input z.input from.sound.input in
+      let c : Change = record (onward (p.next s.place)) { writes = (10, number_word n) ∷ []; stores = (a.at, map Num bytes) ∷ []; taken = n; events = Read bytes ∷ [] } in
+      let made : c ≡ from.step.change = (let d = b.does in cc) in
+      let core = has_read bytes w.now in
+      let low : n < 2 ^ 32 = omega (arith, w.alike.core.words 12, b.held.len) in
+      let number : WordStands (value_in p (place_address e)) (number_word n) (length bytes) = subst (WordStands (value_in p (place_address e)) (number_word n)) (sym t.count) (number_stands (value_in p (place_address e)) n) in
+      let ready = ready_moved (ready_fed (ready_set (ready_changed room _ _ (read_agrees room a.at to a.len bytes b.buffer t.short (t.are w.alike.plain.input)) w.alike.ready) 10 (length bytes) (number_word n) (omega (arith, low, t.count)) number (number_names p n)) n) (p.next s.place) _ _ in
+      answer_comes c (Read bytes) core (drop a.len z.input) made refl refl
+      (asked (call.Read to a.len) (wants_read a b.held a7 b.is_known b.buffer) ∙ ap (λ l. Ok (record { core = has_read l w.now; input = drop a.len z.input; events = z.events ++ Read l ∷ [] })) (sym t.same))
+      refl t.rest ready
+
+  -- ---- writes
+
+  wants_write : (c : Arguments) → AreHeld c → reg_in w.now 17 ≡ 64 → is_output c.a0 ≡ true → IsBuffer p c.at (reg_in w.now 11) c.len → called w.now ≡ Wants (call.Write c.a0 (reg_in w.now 11) c.len)
+  wants_write c held a7 known buffer =
+      let output : is_output (reg_in w.now 10) ≡ true = ap is_output (sym held.a0) ∙ known in
+      let found = ap (λ n. eqb n 0 || lies_in is_data (extents_of w.now.memory) (reg_in w.now 11) n) (sym held.len) ∙ buffer_found c.at c.len buffer in
+      rw (a7, output, found) (λ i. Wants (call.Write (sym held.a0 i) (reg_in w.now 11) (sym held.len i)))
+
+  write_comes : reg_in w.now 17 ≡ 64 → with_buffer is_output r.core (write_does r.core (p.next r.core.place)) ≡ Goes from.step.change → Comes p e cuts 1 z r'
+  write_comes a7 h =
+      let b = has_buffer is_output (write_does r.core (p.next r.core.place)) h in
+      by b.arguments b.held b.is_known b.buffer (numbers_at r.core.memory b.arguments.at b.arguments.len) refl b.does
+    where
+      by : (a : Arguments) → AreHeld a → is_output a.a0 ≡ true → IsBuffer p a.at (reg_in w.now 11) a.len → (o : Option (List ℕ)) → numbers_at r.core.memory a.at a.len ≡ o
+          → output_does o (p.next r.core.place) a ≡ Goes from.step.change → Comes p e cuts 1 z r'
+      by a held known buffer None is g = absurd cc
+      by a held known buffer (Some bytes) is g =
+          let V = value_in p (place_address e) in
+          let c : Change = record (gives 10 (number_word a.len) (p.next r.core.place)) { events = Write a.a0 bytes ∷ [] } in
+          let made : c ≡ from.step.change = cc in
+          let same : bytes ≡ bytes_at w.now (reg_in w.now 11) a.len = numbers_are room w.alike.ready a.at (reg_in w.now 11) a.len bytes buffer is in
+          let number : WordStands V (number_word a.len) (reg_in w.now 12) = subst (λ n. WordStands V (number_word n) (reg_in w.now 12)) (sym held.len) (number_stands V (reg_in w.now 12)) in
+          let ready = ready_moved (ready_set w.alike.ready 10 (reg_in w.now 12) (number_word a.len) (w.alike.core.words 12) number (number_names p a.len)) (p.next r.core.place) _ _ in
+          answer_comes c (Write a.a0 bytes) (has_written w.now) z.input made refl refl
+          (asked (call.Write a.a0 (reg_in w.now 11) a.len) (wants_write a held a7 known buffer) ∙ ap (λ l. Ok (record { core = has_written w.now; input = z.input; events = z.events ++ Write a.a0 l ∷ [] })) (sym same))
+          refl from.sound.input ready
+
   -- ---- all calls, by a7
 
-  pub call_comes : call_does (number_of (reg_of r.core 17)) r.core ≡ Goes from.step.change → Comes p e cuts 1 z r'
+  pub call_comes : call_does (number_of (reg_of r.core 17)) r.core (p.next r.core.place) ≡ Goes from.step.change → Comes p e cuts 1 z r'
   call_comes h = known (number_of (reg_of r.core 17)) refl h
     where
       by_number :
-          (a7 : ℕ) (b : Bool) → a7 ≡ reg_in w.now 17 → eqb a7 93 ≡ b
-          → cond b (exit_does (number_of (reg_of r.core 10)) r.core.place) (Stops UnknownCall) ≡ Goes from.step.change → Comes p e cuts 1 z r'
-      by_number a7 true is exit g = exit_comes (number_of (reg_of r.core 10)) refl (sym is ∙ eqb-true a7 93 exit) g
-      by_number a7 false is other g = absurd cc
+          (a7 : ℕ) (x y v : Bool) → a7 ≡ reg_in w.now 17 → eqb a7 93 ≡ x → eqb a7 63 ≡ y → eqb a7 64 ≡ v
+          → cond x (exit_does (number_of (reg_of r.core 10)) r.core.place)
+          (cond y (with_buffer is_input r.core (read_does r.core (p.next r.core.place)))
+          (cond v (with_buffer is_output r.core (write_does r.core (p.next r.core.place))) (Stops UnknownCall))) ≡ Goes from.step.change → Comes p e cuts 1 z r'
+      by_number a7 true y v is exit read write g = exit_comes (number_of (reg_of r.core 10)) refl (sym is ∙ eqb-true a7 93 exit) g
+      by_number a7 false true v is exit read write g = read_comes (sym is ∙ eqb-true a7 63 read) g
+      by_number a7 false false true is exit read write g = write_comes (sym is ∙ eqb-true a7 64 write) g
+      by_number a7 false false false is exit read write g = absurd cc
 
-      known : (o : Option ℕ) → number_of (reg_of r.core 17) ≡ o → call_does o r.core ≡ Goes from.step.change → Comes p e cuts 1 z r'
+      known : (o : Option ℕ) → number_of (reg_of r.core 17) ≡ o → call_does o r.core (p.next r.core.place) ≡ Goes from.step.change → Comes p e cuts 1 z r'
       known None is g = absurd cc
-      known (Some a7) is g = by_number a7 (eqb a7 93) (holds 17 a7 (omega arith) is) refl g
+      known (Some a7) is g = by_number a7 (eqb a7 93) (eqb a7 63) (eqb a7 64) (holds 17 a7 (omega arith) is) refl refl refl g

@@ -3,22 +3,24 @@ use Rattle.std.specs.Prelude.{◌≡◌, ℕ, List, [], ◌∷◌, Some, None, r
 use Rattle.zc_base.specs.declared.place.Place.{Place}
 use Rattle.zc_link.specs.Places.{address_in}
 use Rattle.zc_link.specs.Simulates.{lead_from}
-use Rattle.block_cut.specs.Cut.{place_at}
 use Rattle.zc_link.specs.Values.{pc_upper}
+
+place_at : ℕ → Place
+place_at offset = record { object = 0; section = 1; offset = offset }
 
 places : List (Place × ℕ)
 places = (place_at 0, 0x10000) ∷ (place_at 4, 0x10002) ∷ []
 
 listed : address_in places (place_at 4) ≡ Some 0x10002
-unfolding places
+unfolding places place_at
 listed = refl
 
 not_listed : address_in places (place_at 2) ≡ None
-unfolding places
+unfolding places place_at
 not_listed = refl
 
 other_section : address_in places (record { object = 0; section = 2; offset = 4 }) ≡ None
-unfolding places
+unfolding places place_at
 other_section = refl
 
 -- no commit comes before a program whose start is the image's entry; or else three do, of the stub

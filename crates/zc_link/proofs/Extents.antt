@@ -1,7 +1,7 @@
 -- Where the regions of memory lie: no interrupt, no cell of data and no commit changes it, so on every way from a sound pair they
 -- lie as they were loaded.
-use Rattle.std.proofs.Common.{◌≡◌, ℕ, ◌%◌, List, [], ◌∷◌, length, take, slice_index, Option, Some, None, Ok, Bool, true, false, cond, refl, ap, ◌∙◌, eqb}
-use Rattle.std.specs.Prelude.{◌&&◌, ◌||◌}
+use Rattle.std.proofs.Common.{◌≡◌, ℕ, ◌+◌, ◌%◌, List, [], ◌∷◌, length, take, Option, Some, None, Ok, Bool, true, false, cond, refl, ap, ◌∙◌, eqb}
+use Rattle.std.specs.Prelude.{◌&&◌, ◌||◌, slice_index}
 use Rattle.std.proofs.lemmas.Bool.{cond_both}
 use Rattle.interrupt_plan.specs.Plan.{Cut}
 use Rattle.rv_decode.specs.declared.instr.Instr.{Instr}
@@ -18,7 +18,7 @@ use Rattle.zc_decode.specs.Effect.{short_effect}
 use Rattle.zc_machine.specs.declared.reason.Reason.TheVariants.{BadAccess, UnknownCall}
 use Rattle.zc_machine.specs.declared.answer.EnvCall.{EnvCall}
 use Rattle.zc_machine.specs.declared.answer.EnvCall.TheVariants as call
-use Rattle.zc_machine.specs.Answer.{exited, has_read, has_written}
+use Rattle.zc_machine.specs.Answer.{has_read, has_written}
 use Rattle.zc_machine.specs.Fetch.{Fetched, Found, Missing, fetched_at}
 use Rattle.zc_machine.specs.Interrupt.{all_dirtied, cut, dirtied, is_free}
 use Rattle.zc_machine.specs.Run.{answered, committed, turn_from, zc_turn}
@@ -114,15 +114,13 @@ turn_extents z z' h = by_exit z.core.exit h
   where
     by_call : (c : EnvCall) → answered c z ≡ Ok z' → SameExtents z.core z'.core
     by_call (call.Exit status) g =
-        let same : z'.core ≡ exited status z.core = cc in
+        let same : z'.core ≡ record z.core { exit = Some status; commits = z.core.commits + 1 } = cc in
         ap (λ x. extents_of x.memory) same
     by_call (call.Read at len) g =
         let bytes = take len z.input in
         let same : z'.core ≡ has_read bytes z.core = cc in
         ap (λ x. extents_of x.memory) same ∙ extents-changed (written (reg_in z.core 11) (length bytes) (slice_index bytes)) z.core.memory
-    by_call (call.Write fd at len) g =
-        let same : z'.core ≡ has_written z.core = cc in
-        ap (λ x. extents_of x.memory) same
+    by_call (call.Write fd at len) g = let same : z'.core ≡ has_written z.core = cc in ap (λ x. extents_of x.memory) same
 
     by_step : (t : ZcStep) → StepKeeps z.core t → committed t z ≡ Ok z' → SameExtents z.core z'.core
     by_step (Committed y) keeps g = let same : z'.core ≡ y = cc in ap (λ x. extents_of x.memory) same ∙ keeps

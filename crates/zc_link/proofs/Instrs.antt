@@ -1,26 +1,26 @@
 -- What one instruction does, whatever the place and pc: if the symbolic machine makes a change, the machine's effect commits,
 -- and the states are ready again. First what all instructions come to, then a law for each format.
-use Rattle.std.proofs.Common.{◌≡◌, ℕ, ◌+◌, ◌%◌, ◌^◌, ◌<◌, [], ◌∷◌, Option, Some, None, refl, sym, ap, ◌∙◌, subst, ℤ}
+use Rattle.std.proofs.Common.{◌≡◌, ℕ, ◌+◌, ◌%◌, ◌^◌, ◌<◌, [], Some, refl, sym, ap, ◌∙◌, subst, ℤ}
 use Rattle.zc_base.specs.declared.place.Place.{Place}
 use Rattle.rv_decode.specs.declared.instr.Instr.{Instr}
 use Rattle.rv_decode.specs.declared.instr.Instr.TheVariants.{WithImm}
-use Rattle.rv_decode.specs.declared.instr.ImmOp.{ImmOp}
+use Rattle.rv_decode.specs.declared.instr.ImmOp.TheVariants.{Addi}
+use Rattle.rv_decode.specs.Bits.{add32}
 use Rattle.rv_decode.specs.Effect.{Commits, effect, gives as effect_gives, onward as core_onward}
-use Rattle.rv_decode.specs.Results.{imm_result}
 use Rattle.rv_decode.specs.State.{ZcCore, reg_in, set_reg}
 use Rattle.rv_decode.proofs.ResultLaws.{imm_result-below}
 use Rattle.sym_machine.specs.declared.word.SymWord.{SymWord}
-use Rattle.sym_machine.specs.Change.{Change, Goes, gives, onward}
+use Rattle.sym_machine.specs.Change.{Change, Goes, gives}
 use Rattle.sym_machine.specs.Program.{Program}
 use Rattle.sym_machine.specs.State.{PlainCore, reg_of}
 use Rattle.sym_machine.specs.Step.{after_change}
-use Rattle.sym_machine.specs.Words.{imm_word}
+use Rattle.sym_machine.specs.Words.{sum_word}
 use Rattle.zc_link.specs.Image.{Image, place_address}
 use Rattle.zc_link.specs.Sound.{NamesWord, Ready}
 use Rattle.zc_link.specs.Stands.{WordStands}
 use Rattle.zc_link.specs.Values.{value_in}
 use Rattle.zc_link.proofs.Ready.{ready_moved, ready_set}
-use Rattle.zc_link.proofs.Words.{imm_names, imm_stands}
+use Rattle.zc_link.proofs.Words.{sum_names, sum_stands}
 
 -- ---- what instructions come to
 
@@ -59,7 +59,7 @@ module _ {p : Program} {e : Image} {s : PlainCore} {z : ZcCore} (ready : Ready p
   -- a result that goes to a register
   register_goes :
       (i : Instr) (rd v : ℕ) (w : SymWord) → effect i size z ≡ effect_gives v rd size z → v < 2 ^ 32
-      → WordStands (value_in p (place_address e)) w v → NamesWord p w → gives rd (Some w) next ≡ Goes c → GoesOn p e i size c s next z
+      → WordStands (value_in p (place_address e)) w v → NamesWord p w → Goes (gives rd w next) ≡ Goes c → GoesOn p e i size c s next z
   register_goes i rd v w does small stands names h = subst (λ x. GoesOn p e i size x s next z) same (record {
     made = record {
       after = core_onward z size (set_reg z.regs rd v);
@@ -71,19 +71,13 @@ module _ {p : Program} {e : Image} {s : PlainCore} {z : ZcCore} (ready : Ready p
     pc = refl;
   })
     where
-      same : record (onward next) { writes = (rd, w) ∷ [] } ≡ c
+      same : gives rd w next ≡ c
       same = cc
 
-  -- an operation on a register and an immediate
-  pub imm_goes :
-      (op : ImmOp) (rd first : ℕ) (imm : ℤ) → first < 32 → gives rd (imm_word op (reg_of s first) imm) next ≡ Goes c
-      → GoesOn p e (WithImm op rd first imm) size c s next z
-  imm_goes op rd first imm low h = by_word (imm_word op (reg_of s first) imm) refl h
-    where
-      by_word : (o : Option SymWord) → imm_word op (reg_of s first) imm ≡ o → gives rd o next ≡ Goes c → GoesOn p e (WithImm op rd first imm) size c s next z
-      by_word None is g = absurd cc
-      by_word (Some w) is g =
-          let n = reg_in z first in
-          let stands = imm_stands (value_in p (place_address e)) op (reg_of s first) w imm n (ready.core.words first) (ready.registers first low) is in
-          let names = imm_names p op (reg_of s first) w imm (ready.names.registers first low) is in
-          register_goes (WithImm op rd first imm) rd (imm_result op n imm) w refl (imm_result-below op n imm (ready.core.words first)) stands names g
+  -- the sum of a register and an immediate
+  pub addi_goes : (rd first : ℕ) (imm : ℤ) → first < 32 → Goes (gives rd (sum_word (reg_of s first) imm) next) ≡ Goes c → GoesOn p e (WithImm Addi rd first imm) size c s next z
+  addi_goes rd first imm low h =
+      let n = reg_in z first in
+      register_goes (WithImm Addi rd first imm) rd (add32 n imm) (sum_word (reg_of s first) imm) refl (imm_result-below Addi n imm (ready.core.words first))
+      (sum_stands (value_in p (place_address e)) (reg_of s first) imm n (ready.core.words first) (ready.registers first low))
+      (sum_names p (reg_of s first) imm (ready.names.registers first low)) h

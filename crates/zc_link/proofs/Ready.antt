@@ -1,6 +1,7 @@
--- States stay Ready if they move to another place and pc, and if a register is set in both: what an instruction changes is a
--- chain of such changes.
-use Rattle.std.proofs.Common.{ℕ, ◌^◌, ◌<◌, None, refl, ◌∙◌, sym}
+-- States stay Ready if they move to another place and pc, if input is taken, and if a register is set in both: what an
+-- instruction changes is a chain of such changes.
+use Rattle.std.proofs.Common.{ℕ, ◌^◌, ◌<◌, None, drop, refl, ◌∙◌, sym}
+use Rattle.std.proofs.lemmas.List.Elements.{All-drop}
 use Rattle.zc_base.specs.declared.place.Place.{Place}
 use Rattle.rv_decode.specs.State.{ZcCore, set_reg}
 use Rattle.rv_decode.proofs.RegisterLaws.{length-set_reg, set_reg_both, set_reg_core, set_reg_each}
@@ -24,6 +25,23 @@ module _ {p : Program} {e : Image} {s : PlainCore} {z : ZcCore} (ready : Ready p
     registers = ready.registers;
     memory = ready.memory;
     names = record { registers = ready.names.registers; memory = ready.names.memory };
+    lies = ready.lies;
+    extents = ready.extents;
+    text = ready.text;
+    table = ready.table;
+  }
+
+  -- nor what of the input is left, but that it is bytes
+  pub ready_fed : (n : ℕ) → Ready p e (record s { input = drop n s.input }) z
+  ready_fed n = record {
+    running = ready.running;
+    going = ready.going;
+    plain = record { count = ready.plain.count; input = All-drop (λ b. b < 256) n s.input ready.plain.input };
+    core = ready.core;
+    registers = ready.registers;
+    memory = ready.memory;
+    names = record { registers = ready.names.registers; memory = ready.names.memory };
+    lies = ready.lies;
     extents = ready.extents;
     text = ready.text;
     table = ready.table;
@@ -46,6 +64,7 @@ module _ {p : Program} {e : Image} {s : PlainCore} {z : ZcCore} (ready : Ready p
       registers = λ r lt. set_reg_each (NamesWord p) (number_word 0) undef_word s.regs rd r w names (ready.names.registers r lt);
       memory = ready.names.memory;
     };
+    lies = ready.lies;
     extents = ready.extents;
     text = ready.text;
     table = ready.table;

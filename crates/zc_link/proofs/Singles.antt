@@ -28,7 +28,7 @@ pub record FromSound (p : Program) (e : Image) (r r' : PlainState) (cuts : ℕ �
   pub step : Stepped p r r'
 
 -- an address below 2^32 doesn't come round
-below_top : (a b size : ℕ) → b ≡ a → a + size < 2 ^ 32 → a + size ≡ (b + size) % 2 ^ 32
+pub below_top : (a b size : ℕ) → b ≡ a → a + size < 2 ^ 32 → a + size ≡ (b + size) % 2 ^ 32
 below_top a b size same small = omega arith
 
 -- an instruction that moves to a listed place, from every state that the interrupts may leave

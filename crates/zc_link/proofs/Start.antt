@@ -103,6 +103,7 @@ module _ {p : Program} {e : Image} {pace : Pace} (laid : Laid p e pace) where
         registers = λ r lt. start_stands input r;
         memory = laid.first;
         names = record { registers = λ r lt. start_names input r; memory = laid.names };
+        lies = refl;
         extents = refl;
         text = λ a _. refl;
         table = λ elsewhere. absurd (elsewhere at_entry);

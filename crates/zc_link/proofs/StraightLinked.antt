@@ -1,99 +1,156 @@
--- The link of straight code: its file reads back as the image of the code's words, which is laid as a layout owes; so it
--- keeps step with the objects' program, and does what the program does.
-use Rattle.std.proofs.Common.{◌≡◌, ℕ, ◌+◌, ◌*◌, ◌<◌, ◌≤◌, List, [], ◌∷◌, length, Some, None, true, refl, sym, ap, ◌∙◌, subst, arith, get_or}
-use Rattle.std.specs.Prelude.{filter}
+-- The link of straight code: its file reads back as the image of the code's words and the data, which is laid as a layout owes; so
+-- it keeps step with the objects' program, and does what the program does.
+use Rattle.std.proofs.Common.{◌≡◌, ℕ, ◌+◌, ◌-◌, ◌^◌, ◌<◌, ◌≤◌, List, [], ◌∷◌, ◌++◌, length, map, filter, replicate, Some, None, true, refl, sym, ap, ◌∙◌, subst, arith, get_or}
+use Rattle.std.specs.Option.{option_and_then, unwrap_or}
 use Rattle.zc_base.specs.MemMap.{IsMap}
-use Rattle.zc_base.specs.declared.mem_map.MemMap.{MemMap}
-use Rattle.zc_base.specs.declared.place.Place.{Place}
-use Rattle.elf32_read.specs.Header.{header_of}
 use Rattle.elf32_read.specs.Segments.{SegmentData}
 use Rattle.elf32_write.specs.Image.{Fits, image_bytes}
 use Rattle.elf32_write.specs.Loadable.{ReadsBack}
 use Rattle.elf32_write.specs.Parts.{Parts}
 use Rattle.elf32_write.proofs.ImageBack.{image_back}
-use Rattle.psabi_sym.specs.Inputs.{Inputs, parsed}
+use Rattle.psabi_sym.specs.Contents.{data_contents}
+use Rattle.psabi_sym.specs.Data.{data_end, data_file_end}
+use Rattle.psabi_sym.specs.Faults.{gather_fault}
+use Rattle.psabi_sym.specs.Inputs.{Inputs, ParsedInputs, parsed}
+use Rattle.psabi_sym.proofs.ContentLaws.{data_file_end-le, data_low-le, length-data_contents}
 use Rattle.block_cut.specs.Faults.{first_fault}
-use Rattle.block_cut.specs.Straight.{code_of, words_in}
-use Rattle.block_cut.proofs.ItemLaws.{op_at-word}
-use Rattle.block_cut.proofs.StraightLaws.{IsStraight}
-use Rattle.block_cut.proofs.WordLaws.{length-words_in, words_below}
-use Rattle.sym_machine.specs.Objects.{program_of}
+use Rattle.block_cut.specs.Items.{entry_of}
+use Rattle.block_cut.proofs.FaultLaws.{IsFaultless, faultless}
+use Rattle.sym_machine.specs.Objects.{data_bytes, program_of}
+use Rattle.sym_machine.specs.Program.{Program}
+use Rattle.sym_machine.specs.declared.word.SymByte.TheVariants.{Num}
+use Rattle.zc_link.specs.Faults.{unlinked_fault}
 use Rattle.zc_link.specs.Image.{Image, image_in, image_unless}
-use Rattle.zc_link.specs.Linked.{IsZcLink, TextEnds, only_file, straight_parts, zc_elf}
+use Rattle.zc_link.specs.Linked.{IsZcLink, TextEnds, code_of, listed_places, straight_parts, zc_elf}
 use Rattle.zc_link.specs.Places.{address_in}
 use Rattle.zc_link.specs.Preserves.{KeepsStep}
 use Rattle.zc_link.specs.Simulates.{pace_of}
-use Rattle.block_cut.specs.Cut.{place_at}
-use Rattle.zc_link.specs.Straight.{places_from, text_of}
+use Rattle.zc_link.specs.Straight.{CodeSection, all_words, code_size, last_end, text_of}
 use Rattle.zc_link.proofs.Induction.{preserves, quietly}
 use Rattle.zc_link.proofs.Simulation.{simulates}
-use Rattle.zc_link.proofs.OneObject.{one}
-use Rattle.zc_link.proofs.StraightLaid.{laid}
-use Rattle.zc_link.proofs.StraightParts.{fits, image_with, loadable, parts_with}
-use Rattle.zc_link.proofs.StraightPieces.{offset_whole, text_short}
-use Rattle.zc_link.proofs.StraightPlaces.{address_found}
+use Rattle.zc_link.proofs.StraightItems.{are_items, entry_placed}
+use Rattle.zc_link.proofs.StraightLaid.{AreItems, IsPlaced, laid, placed_address}
+use Rattle.zc_link.proofs.StraightObjects.{rising}
+use Rattle.zc_link.proofs.StraightParts.{AreSmall, fits, image_with, length-text_of, loadable, parts_with}
+use Rattle.zc_link.proofs.StraightPlaces.{address_found, last_found}
+use Rattle.zc_link.proofs.StraightSections.{Among}
+use Rattle.zc_link.proofs.StraightSmall.{code_small, codes_room}
 
-few : (file : List ℕ) → IsStraight file → length (words_in (code_of file)) ≤ 16384
-few file straight = omega (arith, length-words_in (code_of file), straight.size, straight.short)
+-- all data has 4 MiB at most
+abbrev pub HasDataRoom : ParsedInputs → Type 0
+HasDataRoom p = data_end p ≤ p.map.data_low + 0x40_0000
 
--- ---- one object of straight code
+-- what is known of objects that are linked: no fault stands in them, the map is one that a link may be made for, words and bytes of
+-- data are in range, and data has its room
+pub record IsLinkable (inputs : Inputs) : Type 0 where
+  pub faultless : first_fault inputs ≡ None
+  pub linked : unlinked_fault (parsed inputs).objects ≡ None
+  pub is_map : IsMap inputs.map
+  pub words : (k : ℕ) → get_or (all_words (code_of (parsed inputs))) k 0 < 2 ^ 32
+  pub bytes : (k : ℕ) → get_or (data_contents (parsed inputs)) k 0 < 256
+  pub room : HasDataRoom (parsed inputs)
 
-module _ (file : List ℕ) (map : MemMap) (straight : IsStraight file) (are : (k : ℕ) → get_or (code_of file) k 0 < 256) (is : IsMap map) where
-  abbrev inputs : Inputs
-  inputs = record { files = file ∷ []; map = map }
+-- the zeros after the bytes of data
+abbrev zeros : ParsedInputs → ℕ
+zeros p = data_end p - data_file_end p
 
-  abbrev words : List ℕ
-  words = words_in (code_of file)
+pub are_small : (inputs : Inputs) → gather_fault inputs ≡ None → HasDataRoom (parsed inputs) → AreSmall (code_of (parsed inputs)) (data_contents (parsed inputs)) (zeros (parsed inputs))
+are_small inputs none room =
+    let p = parsed inputs in
+    record {
+      rising = rising p.objects;
+      rooms = codes_room inputs none;
+      code = code_small inputs none;
+      memory = omega (arith, length-data_contents p, data_low-le p, data_file_end-le p, room);
+    }
 
+-- the parts of the objects fit in a file
+pub parts_fit : (inputs : Inputs) → gather_fault inputs ≡ None → IsMap inputs.map → HasDataRoom (parsed inputs) → Fits (straight_parts (parsed inputs))
+parts_fit inputs none is room = fits inputs.map (code_of (parsed inputs)) (data_contents (parsed inputs)) (zeros (parsed inputs)) is (are_small inputs none room) _
+
+some_among : (cs : List CodeSection) (c : CodeSection) (before : ℕ) → Among cs c before → 0 < length cs
+some_among [] c before among = absurd among
+some_among (d ∷ ds) c before among = omega arith
+
+module _ (inputs : Inputs) (is : IsLinkable inputs) where
+  abbrev p : ParsedInputs
+  p = parsed inputs
+
+  abbrev program : Program
+  program = program_of p
+
+  abbrev sections : List CodeSection
+  sections = code_of p
+
+  cut : IsFaultless inputs
+  cut = faultless inputs is.faultless
+
+  small : AreSmall sections (data_contents p) (zeros p)
+  small = are_small inputs cut.gathered is.room
+
+  items : AreItems program sections
+  items = are_items inputs cut.gathered is.linked is.words
+
+  entry : IsPlaced sections (entry_of p)
+  entry = entry_placed inputs cut.gathered is.linked cut.entry cut.entry_found
+
+  bytes_are : program.bytes ≡ map Num (data_contents p ++ replicate (zeros p) 0)
+  unfolding program_of data_bytes
+  bytes_are = refl
+
+  -- the address of the program's start is listed
+  start : ℕ
+  start = placed_address inputs.map.text sections (entry_of p) entry
+
+  start_listed : address_in (listed_places p) (entry_of p) ≡ Some start
+  unfolding start
+  start_listed = ap (address_in (listed_places p)) entry.place ∙ address_found sections inputs.map.text entry.section entry.before entry.index small.rising entry.among entry.within
+
+  -- the parts, with this address
   abbrev parts : Parts
-  parts = parts_with map words
+  parts = parts_with inputs.map start sections (data_contents p) (zeros p)
+
+  parts_are : straight_parts p ≡ parts
+  parts_are = ap (λ o. parts_with inputs.map (unwrap_or o inputs.map.text) sections (data_contents p) (zeros p)) start_listed
 
   abbrev image : Image
-  image = image_with map parts
+  image = image_with inputs.map parts
 
-  few_words : length words ≤ 16384
-  few_words = few file straight
+  back : ReadsBack parts inputs.map (zc_elf inputs)
+  unfolding zc_elf start
+  back =
+      subst (λ x. ReadsBack parts inputs.map (image_bytes x)) (sym parts_are)
+      (image_back parts inputs.map (fits inputs.map sections (data_contents p) (zeros p) is.is_map small start)
+      (loadable inputs.map sections (data_contents p) (zeros p) is.is_map small start (entry.before + entry.index) refl))
 
-  back : ReadsBack parts map (zc_elf inputs)
-  unfolding zc_elf
-  back = image_back parts map (fits map words is few_words) (loadable map words is few_words)
-
-  read : image_in (zc_elf inputs) map ≡ Some image
+  read : image_in (zc_elf inputs) inputs.map ≡ Some image
   unfolding image_in
   read =
-      ap (λ fault. image_unless fault (zc_elf inputs) map) back.faultless
-      ∙ (λ i. Some (record { entry = back.entry i; segments = back.segments_back i; places = back.places i; map = map }))
+      ap (λ fault. image_unless fault (zc_elf inputs) inputs.map) back.faultless
+      ∙ (λ i. Some (record { entry = back.entry i; segments = back.segments_back i; places = back.places i; map = inputs.map }))
 
   keeps_step : KeepsStep inputs (zc_elf inputs)
+  unfolding program_of start
   keeps_step = record {
     image = image;
     read = read;
-    simulates = simulates (program_of (parsed inputs)) image (pace_of (parsed inputs))
-        (laid (parsed inputs) words is few_words (op_at-word file straight) (words_below (code_of file) are));
+    simulates = simulates program image (pace_of p) (laid program sections (data_contents p) (zeros p) is.is_map small bytes_are is.bytes items entry);
   }
 
-  -- the text is no longer than the code
-  short : length (text_of words) ≤ length (code_of file)
-  unfolding text_of
-  short = omega (arith, text_short words, length-words_in (code_of file))
-
-  -- the text ends at the address of the section's end
-  text_end : TextEnds map (zc_elf inputs) (place_at (header_of file 1).size) (length (code_of file))
+  -- the text ends at the address of the last section's end
+  text_end : TextEnds inputs.map (zc_elf inputs) (last_end sections) (code_size sections)
   text_end =
-      let whole : 4 * length words ≡ (header_of file 1).size = omega (arith, length-words_in (code_of file), straight.size, straight.words) in
-      let text : SegmentData = record { at = map.text; size = length (text_of words); code = true; bytes = text_of words } in
+      let text : SegmentData = record { at = inputs.map.text; size = length (text_of (all_words sections)); code = true; bytes = text_of (all_words sections) } in
       record {
         text = text;
         alone = ap (filter (λ s. s.code)) back.segments_back;
         start = refl;
-        end = ap (λ l. address_in l (place_at (header_of file 1).size)) back.places
-            ∙ address_found words 0 map.text (length words) (header_of file 1).size (omega arith) (omega arith)
-            ∙ ap (λ n. Some (map.text + n)) (offset_whole words);
-        short = short;
+        end = ap (λ l. option_and_then (address_in l) (last_end sections)) back.places ∙ last_found sections inputs.map.text small.rising (some_among sections entry.section entry.before entry.among);
+        short = length-text_of (all_words sections);
       }
 
-  linked_alone : IsZcLink inputs (record { elf = zc_elf inputs })
-  linked_alone =
+  linked_whole : IsZcLink inputs (record { elf = zc_elf inputs })
+  linked_whole =
       let does = preserves inputs (zc_elf inputs) keeps_step in
       record {
         bytes = refl;
@@ -104,38 +161,7 @@ module _ (file : List ℕ) (map : MemMap) (straight : IsStraight file) (are : (k
         text_end = text_end;
       }
 
--- ---- what the code is given
-
--- the parts of the one object's code
-abbrev pub parts_of : Inputs → Parts
-parts_of inputs = straight_parts inputs.map (code_of (only_file inputs))
-
-pub parts_same : (inputs : Inputs) (map : MemMap) (code text rest : List ℕ) (places : List (Place × ℕ)) → map ≡ inputs.map → code ≡ code_of (only_file inputs)
-    → text ≡ text_of (words_in code) → places ≡ places_from 0 map.text (words_in code) → rest ≡ []
-    → record { entry = map.text; flags = 1; text_at = map.text; text = text; data_at = map.data_low; data_bytes = rest; zero = 0; places = places } ≡ parts_of inputs
-parts_same inputs map code text rest places is_map is_code is_text is_places no_rest =
-    let texts = is_text ∙ ap (λ b. text_of (words_in b)) is_code in
-    let listed = is_places ∙ (λ i. places_from 0 (is_map i).text (words_in (is_code i))) in
-    λ i. record {
-      entry = (is_map i).text;
-      flags = 1;
-      text_at = (is_map i).text;
-      text = texts i;
-      data_at = (is_map i).data_low;
-      data_bytes = no_rest i;
-      zero = 0;
-      places = listed i;
-    }
-
-pub parts_fit : (inputs : Inputs) → first_fault inputs ≡ None → IsMap inputs.map → Fits (parts_of inputs)
-parts_fit inputs none is = fits inputs.map (words_in (code_of (only_file inputs))) is (few (only_file inputs) (one inputs none).straight)
-
--- the file of these parts is the link
-pub linked : (inputs : Inputs) → first_fault inputs ≡ None → IsMap inputs.map → ((k : ℕ) → get_or (code_of (only_file inputs)) k 0 < 256) → (elf : List ℕ) → elf ≡ image_bytes (parts_of inputs) → IsZcLink inputs (record { elf = elf })
-unfolding zc_elf
-linked inputs none is are elf written =
-    let file = only_file inputs in
-    let known = one inputs none in
-    let same : record { files = file ∷ []; map = inputs.map } ≡ inputs = λ i. record { files = sym known.alone i; map = inputs.map } in
-    let whole : IsZcLink inputs (record { elf = zc_elf inputs }) = subst (λ (x : Inputs). IsZcLink x (record { elf = zc_elf x })) same (linked_alone file inputs.map known.straight are is) in
-    subst (λ l. IsZcLink inputs (record { elf = l })) (sym written) whole
+  -- the file of these parts is the link
+  pub linked : (elf : List ℕ) → elf ≡ image_bytes (straight_parts p) → IsZcLink inputs (record { elf = elf })
+  unfolding zc_elf
+  linked elf written = subst (λ l. IsZcLink inputs (record { elf = l })) (sym written) linked_whole

@@ -2,8 +2,8 @@
 use Rattle.std.proofs.Common.{◌≡◌, ℕ, zero, suc, ◌+◌, ◌*◌, ◌%◌, ◌<◌, ◌≤◌, List, [], ◌∷◌, ◌++◌, length, true, false, sym, ap, ◌∙◌, ◌⊎◌, inl, inr, ⊎_elim, arith, get_or, take, drop, length-append}
 use Rattle.std.specs.List.{flat_map}
 use Rattle.std.proofs.lemmas.Bool.{cases_Bool, cond_both, cond-true, cond-false}
-use Rattle.std.proofs.Math.Seq.{take-length}
-use Rattle.std.proofs.lemmas.List.{append-nil, take-append-drop, take_more}
+use Rattle.std.proofs.Math.Seq.{take-append-add, take-length}
+use Rattle.std.proofs.lemmas.List.{append-nil, take-append-drop, take-append-le, take_more}
 use Rattle.std.proofs.lemmas.List.Concat.{flat_map-append}
 use Rattle.zc_base.specs.Fields.{half_bytes, word_bytes}
 use Rattle.rv_decode.specs.Decode.{decoded}
@@ -66,6 +66,17 @@ offset_within words k =
 pub offset_whole : (words : List ℕ) → offset_of words (length words) ≡ length (text_of words)
 unfolding text_of
 offset_whole words = ap (λ l. length (flat_map piece l)) (take-length words)
+
+-- the words that come first begin where they did
+pub offset_first : (xs ys : List ℕ) (k : ℕ) → k ≤ length xs → offset_of (xs ++ ys) k ≡ offset_of xs k
+offset_first xs ys k le = ap (λ l. length (flat_map piece l)) (take-append-le k xs ys le)
+
+-- and the later ones after all of them
+pub offset_later : (xs ys : List ℕ) (n : ℕ) → offset_of (xs ++ ys) (length xs + n) ≡ length (text_of xs) + offset_of ys n
+unfolding text_of
+offset_later xs ys n =
+    ap (λ l. length (flat_map piece l)) (take-append-add xs ys n)
+    ∙ ap length (flat_map-append piece xs (take n ys)) ∙ length-append (flat_map piece xs) (flat_map piece (take n ys))
 
 pub text_short : (ws : List ℕ) → length (flat_map piece ws) ≤ 4 * length ws
 text_short [] = omega arith

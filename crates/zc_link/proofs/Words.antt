@@ -1,18 +1,15 @@
--- Words that stand for numbers: a number stands for itself alone, an undefined word for any; and if the symbolic machine has
--- a result, it stands for the machine's. An operation that joins adds a line to each of the last two laws.
+-- Words that stand for numbers: a number stands for itself alone, an undefined word for any; and the sum that the symbolic machine
+-- has stands for the machine's, and names no other places.
 use Rattle.std.proofs.Common.{◌≡◌, ℕ, ◌+◌, ◌*◌, ◌^◌, ◌<◌, Option, Some, None, Bool, true, false, cond, refl, subst, arith, ℤ, pos, negsuc}
 use Rattle.std.proofs.lemmas.Bool.{eqb-true}
-use Rattle.rv_decode.specs.declared.instr.ImmOp.{ImmOp}
-use Rattle.rv_decode.specs.declared.instr.ImmOp.TheVariants.{Addi, Slti, Sltiu, Xori, Ori, Andi, Slli, Srli, Srai}
 use Rattle.rv_decode.specs.Bits.{add32}
-use Rattle.rv_decode.specs.Results.{imm_result}
 use Rattle.rv_decode.specs.Memory.{byte_of}
 use Rattle.sym_machine.specs.declared.word.Value.{Value}
 use Rattle.sym_machine.specs.declared.word.SymByte.{SymByte}
 use Rattle.sym_machine.specs.declared.word.SymByte.TheVariants.{Num, Part, Undef}
 use Rattle.sym_machine.specs.declared.word.SymWord.{SymWord}
 use Rattle.sym_machine.specs.Program.{Program}
-use Rattle.sym_machine.specs.Words.{imm_word, is_zero, number_of, number_of_bytes, number_word, numeric, sum_word, undef_word}
+use Rattle.sym_machine.specs.Words.{is_zero, number_of, number_of_bytes, number_word, numeric, sum_word, undef_word}
 use Rattle.zc_link.specs.Sound.{NamesWord}
 use Rattle.zc_link.specs.Stands.{ByteStands, WordStands}
 
@@ -66,23 +63,6 @@ module _ (V : Value → Option ℕ) where
       either true zero = rw (sum_zero imm n small zero) h
       either false other = numeric_stands (number_of w) (λ m. add32 m imm) n (λ m is. number_is w n m small h is)
 
-  -- ---- results
-
-  -- the word that the symbolic machine has stands for the machine's result
-  pub imm_stands :
-      (op : ImmOp) (w x : SymWord) (imm : ℤ) (n : ℕ) → n < 2 ^ 32 → WordStands V w n → imm_word op w imm ≡ Some x → WordStands V x (imm_result op n imm)
-  imm_stands Addi w x imm n small h is =
-      let same : sum_word w imm ≡ x = cc in
-      subst (λ y. WordStands V y (add32 n imm)) same (sum_stands w imm n small h)
-  imm_stands Slti w x imm n small h is = absurd cc
-  imm_stands Sltiu w x imm n small h is = absurd cc
-  imm_stands Xori w x imm n small h is = absurd cc
-  imm_stands Ori w x imm n small h is = absurd cc
-  imm_stands Andi w x imm n small h is = absurd cc
-  imm_stands Slli w x imm n small h is = absurd cc
-  imm_stands Srli w x imm n small h is = absurd cc
-  imm_stands Srai w x imm n small h is = absurd cc
-
 -- ---- the places that words name
 
 module _ (p : Program) where
@@ -103,16 +83,3 @@ module _ (p : Program) where
       either : (b : Bool) → NamesWord p (cond b w (numeric (number_of w) (λ n. add32 n imm)))
       either true = names
       either false = numeric_names (number_of w) (λ n. add32 n imm)
-
-  pub imm_names : (op : ImmOp) (w x : SymWord) (imm : ℤ) → NamesWord p w → imm_word op w imm ≡ Some x → NamesWord p x
-  imm_names Addi w x imm names is =
-      let same : sum_word w imm ≡ x = cc in
-      subst (NamesWord p) same (sum_names w imm names)
-  imm_names Slti w x imm names is = absurd cc
-  imm_names Sltiu w x imm names is = absurd cc
-  imm_names Xori w x imm names is = absurd cc
-  imm_names Ori w x imm names is = absurd cc
-  imm_names Andi w x imm names is = absurd cc
-  imm_names Slli w x imm names is = absurd cc
-  imm_names Srli w x imm names is = absurd cc
-  imm_names Srai w x imm names is = absurd cc

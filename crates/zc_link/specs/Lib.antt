@@ -9,4 +9,5 @@ pub mod Room
 pub mod Pieces
 pub mod Laid
 pub mod Straight
+pub mod Faults
 pub mod Linked

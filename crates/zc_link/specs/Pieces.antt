@@ -1,5 +1,5 @@
 -- What starts at a listed place, and what is laid for it: its instructions stand at the place's address.
-use Rattle.std.specs.Prelude.{◌≡◌, ℕ, ◌+◌, ◌^◌, ◌<◌, Option, Some, None}
+use Rattle.std.specs.Prelude.{◌≡◌, ℕ, ◌+◌, ◌^◌, ◌<◌, true, Option, Some, None}
 use Rattle.zc_base.specs.declared.place.Place.{Place}
 use Rattle.rv_decode.specs.declared.instr.Instr.{Instr}
 use Rattle.rv_decode.specs.declared.instr.Instr.TheVariants.{Ecall}
@@ -13,6 +13,7 @@ use Rattle.sym_machine.specs.State.{PlainCore}
 use Rattle.zc_decode.specs.declared.short.Short.{Short}
 use Rattle.zc_decode.specs.declared.short.Short.TheVariants.{Base}
 use Rattle.zc_machine.specs.Fetch.{Found, fetched_at}
+use Rattle.zc_link.specs.Faults.{is_linked}
 use Rattle.zc_link.specs.Image.{Image, loaded, place_address}
 
 -- what starts at a place: an item alone, so far
@@ -49,12 +50,14 @@ pub record AloneLaid (p : Program) (e : Image) (q : Place) (a : ℕ) (i : Instr)
 
 -- ---- items
 
--- one without relocation; `ecall` has no short form
+-- one without relocation, so far of an instruction that is linked; `ecall` has no short form
 pub record OpLaid (p : Program) (e : Image) (q : Place) (a : ℕ) (i : Instr) : Type 0 where
   pub laid : AloneLaid p e q a i
   pub four : i ≡ Ecall → laid.at.size ≡ 4
+  pub linked : is_linked i ≡ true
 
--- an item that is one instruction; of those that the symbolic machine is stuck at nothing is owed
+-- an item that is one instruction; of those that the symbolic machine is stuck at nothing is owed, and branches and jumps to
+-- places aren't laid yet
 abbrev pub ItemLaid : Program → Image → Place → ℕ → Option Item → Type 0
 ItemLaid p e q a None = Unit {0}
 ItemLaid p e q a (Some (Op i)) = OpLaid p e q a i
@@ -62,8 +65,8 @@ ItemLaid p e q a (Some (Hi i t)) = Unit {0}
 ItemLaid p e q a (Some (Lo i t)) = Unit {0}
 ItemLaid p e q a (Some (PcHi i t)) = Unit {0}
 ItemLaid p e q a (Some (PcLo i from)) = Unit {0}
-ItemLaid p e q a (Some (Branch i to)) = Unit {0}
-ItemLaid p e q a (Some (Jump i to)) = Unit {0}
+ItemLaid p e q a (Some (Branch i to)) = ⊥
+ItemLaid p e q a (Some (Jump i to)) = ⊥
 ItemLaid p e q a (Some (Call rd temp to)) = Unit {0}
 ItemLaid p e q a (Some (Align bytes)) = Unit {0}
 ItemLaid p e q a (Some (Word t)) = Unit {0}

@@ -8,7 +8,7 @@ use Rattle.sym_machine.specs.declared.word.SymByte.{SymByte}
 use Rattle.sym_machine.specs.declared.word.SymByte.TheVariants.{Num, Part, Undef}
 use Rattle.sym_machine.specs.declared.word.SymWord.{SymWord}
 use Rattle.sym_machine.specs.declared.word.Value.TheVariants.{Code, AbsHi, PcHi}
-use Rattle.sym_machine.specs.Program.{Program}
+use Rattle.sym_machine.specs.Program.{Program, first_memory}
 use Rattle.sym_machine.specs.State.{IsPlainState, PlainCore, cell_of, reg_of}
 use Rattle.sym_machine.specs.Words.{number_of}
 use Rattle.zc_link.specs.Image.{Image, loaded, place_address}
@@ -40,9 +40,9 @@ pub record Names (p : Program) (s : PlainCore) : Type 0 where
 
 -- ---- states
 
--- neither has exited, and both are states; registers and memory stand for the machine's, whose regions and text are as they
--- were loaded; and if the text begins with a table of jumps, jvt is the text's start: then the image doesn't start at the
--- program's start
+-- neither has exited, and both are states; registers and memory stand for the machine's; the regions of both are as they were
+-- at the start, and so is the machine's text; and if the text begins with a table of jumps, jvt is the text's start: then the
+-- image doesn't start at the program's start
 pub record Ready (p : Program) (e : Image) (s : PlainCore) (z : ZcCore) : Type 0 where
   pub running : s.exit ≡ None
   pub going : z.exit ≡ None
@@ -51,6 +51,7 @@ pub record Ready (p : Program) (e : Image) (s : PlainCore) (z : ZcCore) : Type 0
   pub registers : (r : ℕ) → r < 32 → WordStands (value_in p (place_address e)) (reg_of s r) (reg_in z r)
   pub memory : (a : ℕ) → IsMemory p a → ByteStands (value_in p (place_address e)) (cell_of s a) (byte_in z a)
   pub names : Names p s
+  pub lies : extents_of s.memory ≡ extents_of (first_memory p)
   pub extents : extents_of z.memory ≡ extents_of (loaded e).memory
   pub text : (a : ℕ) → lies_in is_text (extents_of (loaded e).memory) a 1 ≡ true → byte_in z a ≡ byte_in (loaded e) a
   pub table : (place_address e p.entry ≡ Some e.entry → ⊥) → z.jvt ≡ e.map.text

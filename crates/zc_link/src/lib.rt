@@ -3,4 +3,7 @@
 
 pub mod link_zc;
 pub mod linked;
+mod listed;
+mod short_form;
 mod straight;
+mod unlinked;

@@ -3,7 +3,7 @@ use Rattle.std.proofs.Common.{arith, sym, ap, ◌∙◌}
 use Rattle.std.proofs.lemmas.Grind.{common_steps}
 use Rattle.zc_base.specs.Fields.{half_bytes}
 use Rattle.zc_link.proofs.StraightPieces.{piece_long, piece_short}
-use Rattle.zc_link.proofs.straight.put_item.Goals as goal
+use Rattle.zc_link.proofs.short_form.put_item.Goals as goal
 
 pub returns-in-Some : goal.returns-in-Some
 returns-in-Some c =

@@ -2,7 +2,7 @@ use Rattle.std.proofs.Common.{◌≡◌, Some, true, rules, ap, ◌∙◌, sym}
 use Rattle.rv_decode.specs.declared.instr.Instr.TheVariants.{WithImm}
 use Rattle.zc_link.specs.Straight.{is_li}
 use Rattle.zc_link.proofs.ShortForms.{li_is_addi, li_of_word}
-use Rattle.zc_link.proofs.straight.short_instr.Goals as goal
+use Rattle.zc_link.proofs.short_form.short_instr.Goals as goal
 
 pub returns-then-imm-lt32-clause-half : goal.returns-then-imm-lt32-clause-half
 returns-then-imm-lt32-clause-half c word d =
