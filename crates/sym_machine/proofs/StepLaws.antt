@@ -1,16 +1,21 @@
 -- A step of the symbolic machine: it begins by the exit's status, and when it ends, sp is a number within the stack and the
 -- bytes below it become undefined (Ended).
-use Rattle.std.proofs.Common.{◌≡◌, ℕ, ◌≤◌, List, [], ◌∷◌, length, Option, Some, None, Bool, true, false, cond, refl, sym, ap, ◌∙◌, leb, ltb, slice_index_or}
+use Rattle.std.proofs.Common.{◌≡◌, ℕ, ◌≤◌, List, [], ◌∷◌, length, Option, Some, None, Result, Ok, Err, Bool, true, false, cond, refl, sym, ap, ◌∙◌, ⊎_elim, leb, ltb, slice_index_or}
 use Rattle.std.specs.Prelude.{◌&&◌}
+use Rattle.std.specs.declared.alloc.AllocError.{AllocError}
 use Rattle.std.proofs.lemmas.Bool.{and_from, and_parts, cond-true, cond-false, le-leb, leb-true}
 use Rattle.zc_base.specs.declared.mem_map.MemMap.{MemMap}
 use Rattle.rv_decode.specs.Memory.{Region, changed, extents_of, written}
 use Rattle.rv_decode.specs.State.{Event}
 use Rattle.rv_decode.proofs.MemoryLaws.{extents-changed}
+use Rattle.sym_machine.specs.declared.step.SymStep.{SymStep}
+use Rattle.sym_machine.specs.declared.step.SymStep.TheVariants as answer
 use Rattle.sym_machine.specs.declared.why.Why.TheVariants.{StackPointer}
 use Rattle.sym_machine.specs.declared.word.SymByte.{SymByte}
 use Rattle.sym_machine.specs.declared.word.SymByte.TheVariants.{Undef}
+use Rattle.sym_machine.specs.Answer.{Makes}
 use Rattle.sym_machine.specs.Change.{Does, Goes, Stops, place_does}
+use Rattle.sym_machine.specs.Kept.{IsOf}
 use Rattle.sym_machine.specs.Program.{Program}
 use Rattle.sym_machine.specs.State.{PlainCore, reg_of}
 use Rattle.sym_machine.specs.Step.{Went, Stuck, after_change, ends, ends_at, made, plain_step, step_from, undefined_below, with_stores}
@@ -114,3 +119,13 @@ extents-step p s s' events h = by s.exit refl
     by (Some status) is =
         let same : Went s [] ≡ Went s' events = sym (step_past_exit p s status is) ∙ h in
         ap (λ (t : PlainCore). extents_of t.memory) (let e : s' ≡ s = cc in e)
+
+-- nor does any answer
+pub of_again : (p : Program) (r : Result SymStep AllocError) (s s' : PlainCore) → Makes r (plain_step p s) s s' → IsOf p s → IsOf p s'
+of_again p (Ok answer.Done) s s' h of = extents-step p s s' [] h.2 ∙ of
+of_again p (Ok (answer.Read count)) s s' h of = extents-step p s s' _ h.1.2 ∙ of
+of_again p (Ok (answer.Wrote fd bytes)) s s' h of = extents-step p s s' _ h.1.2 ∙ of
+of_again p (Ok (answer.Exited status)) s s' h of =
+    ⊎_elim (λ now. extents-step p s s' _ now.2 ∙ of) (λ before. ap (λ (t : PlainCore). extents_of t.memory) before.1 ∙ of) h
+of_again p (Ok (answer.Stuck place why)) s s' h of = ap (λ (t : PlainCore). extents_of t.memory) h.1 ∙ of
+of_again p (Err e) s s' h of = ap (λ (t : PlainCore). extents_of t.memory) h ∙ of

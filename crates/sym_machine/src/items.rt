@@ -52,7 +52,7 @@ impl State {
         ensures { Makes result (made self.old.map self.old.core (op_does instr.now self.old.core next)) self.old.core self.new.core }
     {
         match instr {
-            Instr::Upper { op, rd, imm } => self.give(*rd, upper_word(*op, *imm), next),
+            Instr::Upper { op, rd, imm } => self.give(*rd, &upper_word(*op, *imm), next),
             Instr::Jalr { rd, base, imm } => {
                 let to = sum_code(self.register(*base), *imm);
                 self.jump(to, *rd, next)
@@ -72,7 +72,7 @@ impl State {
             }
             Instr::WithImm { op, rd, first, imm } => {
                 let word = imm_word(*op, self.register(*first), *imm);
-                self.give(*rd, word, next)
+                self.give(*rd, &word, next)
             }
             Instr::WithReg {
                 op,
@@ -82,7 +82,7 @@ impl State {
             } => {
                 let (a, b) = (self.register(*first), self.register(*second));
                 let word = reg_word(*op, *first, *second, a, b);
-                self.give(*rd, word, next)
+                self.give(*rd, &word, next)
             }
             Instr::Fence { .. } => Ok(self.go(next)),
             Instr::Ecall => self.step_call(next),
@@ -123,7 +123,7 @@ impl State {
         match self.reach(load_width(op), address) {
             Ok(a) => {
                 let word = self.loaded(op, a);
-                self.give(rd, word, next)
+                self.give(rd, &word, next)
             }
             Err(why) => Ok(self.stuck(why)),
         }
@@ -156,7 +156,7 @@ impl State {
         ensures { Makes result (made self.old.map self.old.core (jump_does to rd next)) self.old.core self.new.core }
     {
         match to {
-            Some(to) => self.give(rd, Held::Code(next), to),
+            Some(to) => self.give(rd, &Held::Code(next), to),
             None => Ok(self.stuck(Why::TargetUnknown)),
         }
     }

@@ -172,15 +172,15 @@ impl State {
     }
 
     /// Gives a word to a register, and goes on to a place.
-    pub fn give(&mut self, rd: Reg, word: Held, to: Place) -> Result<SymStep, AllocError>
+    pub fn give(&mut self, rd: Reg, word: &Held, to: Place) -> Result<SymStep, AllocError>
         requires { self.old.core.exit ≡ None }
-        ensures { Makes result (made self.old.map self.old.core (Goes (gives rd (word_of word) to))) self.old.core self.new.core }
+        ensures { Makes result (made self.old.map self.old.core (Goes (gives rd (word_of word.now) to))) self.old.core self.new.core }
     {
         match rd.number() {
             0 => Ok(self.go(to)),
             2 => self.give_sp(word, to),
             r => {
-                self.registers[r as usize] = word;
+                self.registers[r as usize] = *word;
                 self.place = to;
                 Ok(SymStep::Done)
             }
@@ -188,9 +188,9 @@ impl State {
     }
 
     // Gives a word to sp, if it is a number within the stack, and goes on to a place.
-    fn give_sp(&mut self, word: Held, to: Place) -> Result<SymStep, AllocError>
+    fn give_sp(&mut self, word: &Held, to: Place) -> Result<SymStep, AllocError>
         requires { self.old.core.exit ≡ None }
-        ensures { Makes result (made self.old.map self.old.core (Goes (gives 2 (word_of word) to))) self.old.core self.new.core }
+        ensures { Makes result (made self.old.map self.old.core (Goes (gives 2 (word_of word.now) to))) self.old.core self.new.core }
     {
         let _ = &self.registers;
         let Some(sp) = word.number() else {
@@ -200,7 +200,7 @@ impl State {
             return Ok(self.stuck(Why::StackPointer));
         }
         self.memory.settle(sp)?;
-        self.registers[2] = word;
+        self.registers[2] = *word;
         self.place = to;
         Ok(SymStep::Done)
     }

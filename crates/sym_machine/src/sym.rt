@@ -31,7 +31,8 @@ impl Model for Sym {
 impl Sym {
     /// The state at the objects' start, with this input.
     pub fn start(alloc: Global, cut: &Cut, input: &[u8]) -> Result<Sym, AllocError>
-        ensures { IfOk result (λ s. s ≡ first_plain (program_of (parsed cut.now)) input.now) }
+        ensures first { IfOk result (λ s. s ≡ first_plain (program_of (parsed cut.now)) input.now) }
+        ensures of { IfOk result (λ s. IsOf (program_of (parsed cut.now)) s) }
     {
         let state = State::start(alloc, cut, input)?;
         Ok(Sym { state })
@@ -42,7 +43,8 @@ impl Sym {
     /// each step answers the same again.
     pub fn step(&mut self, cut: &Cut) -> Result<SymStep, AllocError>
         requires { IsOf (program_of (parsed cut.now)) self.old }
-        ensures { Makes result (plain_step (program_of (parsed cut.now)) self.old) self.old self.new }
+        ensures makes { Makes result (plain_step (program_of (parsed cut.now)) self.old) self.old self.new }
+        ensures of { IsOf (program_of (parsed cut.now)) self.new }
     {
         self.state.step(cut)
     }

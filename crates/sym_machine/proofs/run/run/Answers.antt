@@ -36,7 +36,7 @@ loop-turn-preserved g c =
     let first = shown c.args.console.now in
     let now = shown c.loop-turn.console in
     let came = c.loop-turn.invariant.came in
-    let made = λ (a : SymStep) (is : c.in-Ok.step ≡ a). subst (λ (b : SymStep). StepAnswers (plain_step p s) b s s') is c.in-Ok.ensures in
+    let made = λ (a : SymStep) (is : c.in-Ok.step ≡ a). subst (λ (b : SymStep). StepAnswers (plain_step p s) b s s') is c.in-Ok.ensures.makes in
     elim c.match-step-2.branch [
       | in-Done w ↦
           let next : Came run (n + 1) s' first now = ⊎_elim
@@ -66,7 +66,7 @@ returns-in-Err-clause-ran g c =
     let s : PlainCore = c.loop-turn.sym in
     let fd = c.in-Wrote.fd in
     let made : StepAnswers (plain_step p s) (answer.Wrote fd c.in-Wrote.bytes) s c.step.new.self =
-    subst (λ (a : SymStep). StepAnswers (plain_step p s) a s c.step.new.self) c.in-Wrote.is c.in-Ok.ensures in
+    subst (λ (a : SymStep). StepAnswers (plain_step p s) a s c.step.new.self) c.in-Wrote.is c.in-Ok.ensures.makes in
     let part : WrotePart fd c.in-Wrote.bytes.items (g.C.Console.shown c.loop-turn.console) (g.C.Console.shown c.write_to.new.console) =
     subst (λ (l : List ℕ). WrotePart fd l (g.C.Console.shown c.loop-turn.console) (g.C.Console.shown c.write_to.new.console)) c.deref.ensures.value c.in-Err.ensures.err in
     refused run c.loop-turn._turn s _ _ c.loop-turn.invariant.came c.step.new.self fd c.in-Wrote.bytes.items (g.C.Console.shown c.write_to.new.console) made.1.2 (omega arith) part.count part.part part.wrote
@@ -77,7 +77,7 @@ returns-in-Exited-clause-ran g c =
     let run : Course = record { program = p; input = c.args.sym.now.input; steps = c.args.steps } in
     let s : PlainCore = c.loop-turn.sym in
     let made : StepAnswers (plain_step p s) (answer.Exited c.in-Exited.status) s c.step.new.self =
-    subst (λ (a : SymStep). StepAnswers (plain_step p s) a s c.step.new.self) c.in-Exited.is c.in-Ok.ensures in
+    subst (λ (a : SymStep). StepAnswers (plain_step p s) a s c.step.new.self) c.in-Exited.is c.in-Ok.ensures.makes in
     ⊎_elim
     (λ now. exited run c.loop-turn._turn s _ _ c.loop-turn.invariant.came c.step.new.self c.in-Exited.status now.1 now.2 (omega arith))
     (λ before. absurd (let running = c.loop-turn.invariant.came.running in cc))
@@ -89,7 +89,7 @@ returns-in-Stuck-clause-ran g c =
     let run : Course = record { program = p; input = c.args.sym.now.input; steps = c.args.steps } in
     let s : PlainCore = c.loop-turn.sym in
     let made : StepAnswers (plain_step p s) (answer.Stuck c.in-Stuck.place c.in-Stuck.why) s c.step.new.self =
-    subst (λ (a : SymStep). StepAnswers (plain_step p s) a s c.step.new.self) c.in-Stuck.is c.in-Ok.ensures in
+    subst (λ (a : SymStep). StepAnswers (plain_step p s) a s c.step.new.self) c.in-Stuck.is c.in-Ok.ensures.makes in
     stuck run c.loop-turn._turn s _ _ c.loop-turn.invariant.came c.in-Stuck.place c.in-Stuck.why made.2 made.3 (omega arith)
 
 pub returns-clause-ran : goal.returns-clause-ran

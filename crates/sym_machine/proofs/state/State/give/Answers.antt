@@ -12,7 +12,7 @@ pub invariant_of-self : goal.invariant_of-self
 invariant_of-self c =
     let i = c.self.inside in
     let is = c.self.invariant.0 in
-    (working_set i.registers i.memory i.memory c.number.result c.args.word is is.kept refl (λ e. omega (arith, e)) (λ e. omega (arith, e)), c.self.invariant.1)
+    (working_set i.registers i.memory i.memory c.number.result c.args.word.now is is.kept refl (λ e. omega (arith, e)) (λ e. omega (arith, e)), c.self.invariant.1)
 
 pub returns-in_default : goal.returns-in_default
 returns-in_default c =
@@ -20,7 +20,7 @@ returns-in_default c =
     let running : i.exit ≡ None = ap (λ (w : Working). w.core.exit) c.self.view_is ∙ c.requires in
     let input = drop i.taken i.input.items in
     let r = c.number.result in
-    let after = core_of c.args.to (set i.registers r c.args.word) i.memory input i.exit in
-    subst (λ (w : Working). StepAnswers (made w.map w.core (Goes (gives c.args.rd (word_of c.args.word) c.args.to))) answer.Done w.core after) c.self.view_is
-    (subst (λ (n : ℕ). StepAnswers (made i.memory.map (core_of i.place i.registers i.memory input i.exit) (Goes (gives n (word_of c.args.word) c.args.to))) answer.Done (core_of i.place i.registers i.memory input i.exit) after) c.number.ensures.value
-    (gives_on i.memory i.registers c.self.invariant.0 i.place c.args.to input i.exit running r c.args.word (λ e. omega (arith, e)) (λ e. omega (arith, e))))
+    let after = core_of c.args.to (set i.registers r c.args.word.now) i.memory input i.exit in
+    subst (λ (w : Working). StepAnswers (made w.map w.core (Goes (gives c.args.rd (word_of c.args.word.now) c.args.to))) answer.Done w.core after) c.self.view_is
+    (subst (λ (n : ℕ). StepAnswers (made i.memory.map (core_of i.place i.registers i.memory input i.exit) (Goes (gives n (word_of c.args.word.now) c.args.to))) answer.Done (core_of i.place i.registers i.memory input i.exit) after) c.number.ensures.value
+    (gives_on i.memory i.registers c.self.invariant.0 i.place c.args.to input i.exit running r c.args.word.now (λ e. omega (arith, e)) (λ e. omega (arith, e))))

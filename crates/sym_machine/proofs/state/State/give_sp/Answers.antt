@@ -15,7 +15,7 @@ pub returns-in_default : goal.returns-in_default
 returns-in_default c =
     let s = c.args.self.now.core in
     let many : 2 < length s.regs = omega (arith, c.self.invariant.0.registers_are.count, ap (λ (w : Working). length w.core.regs) c.self.view_is) in
-    subst (λ (st : PlainStep). StepAnswers st c.stuck.result s s) (sym (sp_unknown c.args.self.now.map s many (word_of c.args.word) c.args.to (sym c.number.ensures ∙ c.in_default.is))) c.stuck.ensures
+    subst (λ (st : PlainStep). StepAnswers st c.stuck.result s s) (sym (sp_unknown c.args.self.now.map s many (word_of c.args.word.now) c.args.to (sym c.number.ensures ∙ c.in_default.is))) c.stuck.ensures
 
 pub returns-then-not-has_sp : goal.returns-then-not-has_sp
 returns-then-not-has_sp c =
@@ -24,12 +24,12 @@ returns-then-not-has_sp c =
     let map : c.self.inside.memory.map ≡ c.args.self.now.map = ap (λ (w : Working). w.map) c.self.view_is in
     let out = ap (λ (m : MemMap). leb m.stack_low c.in-Some.sp && leb c.in-Some.sp m.stack_high) (sym map) ∙ sym c.has_sp.ensures ∙ c.if-not-has_sp.true in
     subst (λ (st : PlainStep). StepAnswers st c.stuck-then-not-has_sp.result s s)
-    (sym (sp_outside c.args.self.now.map s many (word_of c.args.word) c.args.to c.in-Some.sp (sym c.number.ensures ∙ c.in-Some.is) out)) c.stuck-then-not-has_sp.ensures
+    (sym (sp_outside c.args.self.now.map s many (word_of c.args.word.now) c.args.to c.in-Some.sp (sym c.number.ensures ∙ c.in-Some.is) out)) c.stuck-then-not-has_sp.ensures
 
 pub invariant_of-self-2 : goal.invariant_of-self-2
 invariant_of-self-2 c =
     let i = c.self.inside in
-    (working_sp i.registers i.memory c.settle.new.self c.args.word c.in-Some.sp c.self.invariant.0 c.in_ok-settle.ensures.kept c.in_ok-settle.ensures.from (sym c.number.ensures ∙ c.in-Some.is), c.self.invariant.1)
+    (working_sp i.registers i.memory c.settle.new.self c.args.word.now c.in-Some.sp c.self.invariant.0 c.in_ok-settle.ensures.kept c.in_ok-settle.ensures.from (sym c.number.ensures ∙ c.in-Some.is), c.self.invariant.1)
 
 pub returns : goal.returns
 returns c =
@@ -40,5 +40,5 @@ returns c =
     let has = and_parts (leb i.memory.map.stack_low sp) (leb sp i.memory.map.stack_high) (sym c.has_sp.ensures ∙ c.if-not-has_sp.false) in
     let low = leb-true i.memory.map.stack_low sp has.0 in
     let high = leb-true sp i.memory.map.stack_high has.1 in
-    subst (λ (w : Working). StepAnswers (made w.map w.core (Goes (gives 2 (word_of c.args.word) c.args.to))) answer.Done w.core (core_of c.args.to (set i.registers 2 c.args.word) c.settle.new.self input i.exit)) c.self.view_is
-    (gives_sp i.memory i.registers c.self.invariant.0 i.place c.args.to input i.exit running c.args.word sp c.settle.new.self (sym c.number.ensures ∙ c.in-Some.is) low high c.in_ok-settle.ensures.regions)
+    subst (λ (w : Working). StepAnswers (made w.map w.core (Goes (gives 2 (word_of c.args.word.now) c.args.to))) answer.Done w.core (core_of c.args.to (set i.registers 2 c.args.word.now) c.settle.new.self input i.exit)) c.self.view_is
+    (gives_sp i.memory i.registers c.self.invariant.0 i.place c.args.to input i.exit running c.args.word.now sp c.settle.new.self (sym c.number.ensures ∙ c.in-Some.is) low high c.in_ok-settle.ensures.regions)
