@@ -1,4 +1,5 @@
 pub mod CodeLaws
+pub mod Examples
 pub mod FaultLaws
 pub mod ItemLaws
 pub mod ListedLaws

@@ -1,5 +1,5 @@
 -- One more section of a text.
-use Rattle.std.proofs.Common.{◌≡◌, ℕ, ◌+◌, ◌/◌, List, [], ◌∷◌, ◌++◌, length, map, max, true, false, cond, Some, None, sym, ap, ◌∙◌, arith}
+use Rattle.std.proofs.Common.{◌≡◌, ℕ, ◌+◌, ◌/◌, [], ◌∷◌, ◌++◌, length, map, max, true, false, cond, Some, None, sym, ap, ◌∙◌, arith}
 use Rattle.std.specs.List.{flat_map}
 use Rattle.std.specs.Option.{option_and_then}
 use Rattle.std.proofs.lemmas.List.{append-nil, length-append, length-map}
@@ -21,9 +21,6 @@ use Rattle.block_cut.proofs.StartLaws.{starts_in-words, word_place}
 use Rattle.block_cut.proofs.WholeLaws.{IsWhole}
 
 module _ (inputs : ParsedInputs) (o i : ℕ) (s : SectionParts) (found : section_at inputs.objects o i ≡ Some s) where
-  before : List ListedSection
-  before = sections_before inputs.objects o i
-
   -- a section adds its items
   items_more : flat_map (items_in inputs.objects) (sections_before inputs.objects o (i + 1)) ≡ flat_map (items_in inputs.objects) (sections_before inputs.objects o i) ++ items_in inputs.objects (listed o i s)
   items_more =

@@ -36,7 +36,8 @@ fn nth_item(items: &[Item], i: usize) -> Option<Item>
 
 impl Code {
     /// Cuts the code of all objects, or names the first with a relocation that isn't read yet. It makes
-    /// each object once, and looks at each word, section and relocation once.
+    /// each object once, decodes each word once, and looks at each section and relocation a fixed number
+    /// of times.
     pub fn new(alloc: Global, objects: &Objects) -> Result<Code, LinkFault>
         ensures gathered { gather_fault objects.now ≡ None }
         ensures is_map { IsMap objects.now.map }

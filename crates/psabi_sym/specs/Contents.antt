@@ -6,7 +6,8 @@ use Rattle.psabi_sym.specs.Data.{data_address, data_file_end}
 use Rattle.psabi_sym.specs.Inputs.{ParsedInputs}
 use Rattle.psabi_sym.specs.Listed.{ListedSection, all_sections}
 
--- a list with another over it, from an index on; what would stand past its end is left out
+-- a list with another over it, from an index on; what would stand past its end is left out, which never happens to data: its
+-- classes with content end where the list does
 abbrev pub overlaid : {X : Type 0} → ℕ → List X → List X → List X
 overlaid at new old = take at old ++ (take (length old - at) new ++ drop (at + length new) old)
 

@@ -97,7 +97,7 @@ definition_target inputs addend (AtNumber n) = number n addend
 
 -- ---- names
 
--- where a name leads that no symbol of an object stands for: nowhere if nothing defines it
+-- where a name leads by itself, whichever symbol refers to it: nowhere if nothing defines it
 abbrev pub name_target : ParsedInputs → List ℕ → Target
 name_target inputs name = option_map_or (definition_target inputs (pos 0)) (name_definition inputs name) Nowhere
 

@@ -27,8 +27,8 @@ const WEAK: u8 = 2;
 // How far after the start of small data the global pointer stands.
 const GLOBAL_POINTER: u32 = 0x800;
 
-/// The address of each section, what each name stands for and what `_start` does, and where data ends,
-/// in the file and in memory.
+/// The address of each section, what each name and `_start` stand for, and where data ends, in the
+/// file and in memory.
 #[derive(Debug, Drop)]
 pub struct Definitions {
     pub addresses: Vec<u32>,

@@ -3,6 +3,7 @@ pub mod RowLaws
 pub mod BitLaws
 pub mod DecodeLaws
 pub mod ResultLaws
+pub mod NormalLaws
 pub mod RegisterLaws
 pub mod MemoryLaws
 pub mod RunLaws

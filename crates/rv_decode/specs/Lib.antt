@@ -7,5 +7,6 @@ pub mod Memory
 pub mod State
 pub mod Results
 pub mod Effect
+pub mod Normal
 pub mod Run
 pub mod Written

@@ -6,5 +6,6 @@ pub mod bits;
 pub mod decode;
 mod formats;
 pub mod instr;
+pub mod normal;
 mod ops;
 pub mod results;

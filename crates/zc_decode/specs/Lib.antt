@@ -1,2 +1,5 @@
+pub mod Fields
+pub mod Rows
+pub mod Hints
 pub mod Halfwords
 pub mod Effect

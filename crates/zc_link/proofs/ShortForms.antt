@@ -1,8 +1,8 @@
 -- The halfword that is written for a word spells the word's instruction.
-use Rattle.std.proofs.Common.{◌≡◌, ℕ, ◌+◌, ◌-◌, ◌*◌, ◌%◌, ◌^◌, ◌<◌, ◌≤◌, Some, Bool, true, false, not, cond, refl, sym, ap, ap₂, ◌∙◌, arith, ℤ, pos, negsuc, eqb, ltb}
+use Rattle.std.proofs.Common.{◌≡◌, ℕ, ◌-◌, ◌%◌, ◌^◌, ◌<◌, ◌≤◌, Some, Bool, true, false, not, cond, refl, sym, ap, ap₂, ◌∙◌, arith, ℤ, pos, negsuc, eqb, ltb}
 use Rattle.std.specs.Prelude.{◌&&◌, FitsSigned}
 use Rattle.std.specs.Int.{w32, cast_signed, cast_unsigned}
-use Rattle.std.proofs.lemmas.Bool.{eqb-true, and_parts, eq-eqb, ltb-true, ltb-false, lt-ltb, le-ltb, cond-true, false≢true}
+use Rattle.std.proofs.lemmas.Bool.{eqb-true, and_parts, ltb-true, ltb-false, lt-ltb, le-ltb, false≢true}
 use Rattle.std.proofs.lemmas.Int.{to_z-of_z}
 use Rattle.rv_decode.specs.declared.instr.Instr.{Instr}
 use Rattle.rv_decode.specs.declared.instr.Instr.TheVariants.{WithImm}
@@ -14,7 +14,11 @@ use Rattle.rv_decode.specs.Formats.{imm_i_of, rd_of, rs1_of, shamt_of}
 use Rattle.rv_decode.proofs.DecodeLaws.{Format, OfUpper, OfJal, OfJalr, OfBranch, OfLoad, OfStore, OfImm, OfShift, OfReg, OfFence, OfEcall, OfEbreak, OfCsrrw, decoded-format, decoded-in_range}
 use Rattle.rv_decode.proofs.RowLaws.{row_found}
 use Rattle.zc_decode.specs.declared.short.Short.TheVariants.{Base}
-use Rattle.zc_decode.specs.Halfwords.{decoded16, expanded, imm_ci_of, li_of, quadrant1_of}
+use Rattle.zc_decode.specs.Fields.{ci_bits_of, group_of, imm_ci_of}
+use Rattle.zc_decode.specs.Halfwords.{decoded16}
+use Rattle.zc_decode.specs.Rows.{always}
+use Rattle.zc_decode.specs.declared.form.Form.TheVariants.{CLi}
+use Rattle.zc_decode.proofs.FormLaws.{decoded_by_form, form_in_group}
 use Rattle.zc_link.specs.Straight.{is_addi, is_li, is_six_bits, li_half, short_of}
 
 -- the fields of the halfword of c.li
@@ -22,7 +26,7 @@ pub record LiFields (rd imm : ℕ) : Type 0 where
   pub low : field (li_half rd imm) 0 2 ≡ 1
   pub high : field (li_half rd imm) 13 3 ≡ 2
   pub register : field (li_half rd imm) 7 5 ≡ rd
-  pub immediate : field (li_half rd imm) 2 5 + 32 * field (li_half rd imm) 12 1 ≡ imm % 64
+  pub immediate : ci_bits_of (li_half rd imm) ≡ imm % 64
   pub small : li_half rd imm < 2 ^ 16
 
 pub li_fields : (rd imm : ℕ) → rd < 32 → imm < 4096 → LiFields rd imm
@@ -46,10 +50,8 @@ six_bits imm small e = either (ltb imm 2048) refl e
 -- a halfword with the fields of c.li spells it
 li_decodes : (half rd : ℕ) (imm : ℤ) → field half 0 2 ≡ 1 → field half 13 3 ≡ 2 → field half 7 5 ≡ rd → imm_ci_of half ≡ imm → decoded16 half ≡ Some (Base (WithImm Addi rd 0 imm))
 li_decodes half rd imm low high register immediate =
-    let is : li_of half ≡ WithImm Addi rd 0 imm = cc in
-    let quadrant : quadrant1_of half ≡ Some (li_of half) = cond-true (eqb (field half 13 3) 2) _ _ (eq-eqb (field half 13 3) 2 high) in
-    let base : expanded half ≡ Some (WithImm Addi rd 0 imm) = cond-true (eqb (field half 0 2) 1) _ _ (eq-eqb (field half 0 2) 1 low) ∙ quadrant ∙ ap (λ i. Some i) is in
-    rw base refl
+    let group : group_of half ≡ 0b010_01 = omega (arith, low, high) in
+    decoded_by_form half CLi (form_in_group half 0b010_01 (always CLi) group refl) ∙ (λ i. Some (Base (WithImm Addi (register i) 0 (immediate i))))
 
 -- the halfword for a word that c.li has a form for
 addi_short : (word : ℕ) → is_li (Some (WithImm Addi (rd_of word) (rs1_of word) (imm_i_of word))) ≡ true → decoded16 (short_of word) ≡ Some (Base (WithImm Addi (rd_of word) (rs1_of word) (imm_i_of word)))

@@ -1,5 +1,5 @@
 -- Bytes on the console's streams: one piece after another, and one write after the events before it.
-use Rattle.std.proofs.Common.{◌≡◌, ℕ, ◌<◌, ◌≤◌, ◌+◌, List, [], ◌∷◌, ◌++◌, length, take, Bool, true, false, cond, eqb, Option, Some, None, refl, sym, ap, subst, ◌∙◌, arith, length-append}
+use Rattle.std.proofs.Common.{◌≡◌, ℕ, ◌≤◌, ◌+◌, List, [], ◌∷◌, ◌++◌, length, take, Bool, true, false, cond, eqb, refl, sym, ap, subst, ◌∙◌, arith, length-append}
 use Rattle.std.proofs.lemmas.Grind.{flat_map-append}
 use Rattle.std.proofs.lemmas.List.{append-nil, take-append-le}
 use Rattle.std.proofs.Math.Seq.{take-append-add}
@@ -7,9 +7,7 @@ use Rattle.rv_decode.specs.State.{Event, Write}
 use Rattle.rv_decode.specs.Written.{err_of, out_of, piece_of, written_to}
 use Rattle.zc_machine.specs.Output.{WrotePart, WroteTo}
 use Rattle.zc_outside.specs.Desk.{Desk, Wrote}
-use Rattle.zc_outside.specs.Streams.{Adds, AddsPart, KeepsBytes}
-use Rattle.zc_outside.proofs.Desk.{Wrote-append, Wrote-none}
-use Rattle.zc_outside.proofs.Kept.{KeepsBytes-Adds-none}
+use Rattle.zc_outside.proofs.Desk.{Wrote-append}
 
 -- ---- one stream
 
@@ -21,20 +19,9 @@ piece_of-append stream fd xs ys = either (eqb fd stream)
     either true = refl
     either false = refl
 
--- nothing on both
-piece_of-none : (stream fd : ℕ) → [] ≡ piece_of stream (Write fd [])
-piece_of-none stream fd = either (eqb fd stream)
-  where
-    either : (b : Bool) → ◌≡◌ {A = List ℕ} [] (cond b [] [])
-    either true = refl
-    either false = refl
-
 -- what is added, and the same told otherwise
 rewrite_Wrote : (out out' err err' : List ℕ) (before after : Desk) → out ≡ out' → err ≡ err' → Wrote out err before after → Wrote out' err' before after
 rewrite_Wrote out out' err err' before after p q wrote = subst (λ e. Wrote out' e before after) q (subst (λ o. Wrote o err before after) p wrote)
-
-pub WroteTo-none : (fd : ℕ) (desk : Desk) → WroteTo fd [] desk desk
-WroteTo-none fd desk = rewrite_Wrote [] (piece_of 1 (Write fd [])) [] (piece_of 2 (Write fd [])) desk desk (piece_of-none 1 fd) (piece_of-none 2 fd) (Wrote-none desk)
 
 pub WroteTo-append : (fd : ℕ) (xs ys : List ℕ) (a b c : Desk) → WroteTo fd xs a b → WroteTo fd ys b c → WroteTo fd (xs ++ ys) a c
 WroteTo-append fd xs ys a b c first second =
@@ -55,31 +42,6 @@ WrotePart-append fd xs ys a b first = record {
   part = omega (arith, length-append xs ys, first.part);
   wrote = let within : first.count ≤ length xs = omega (arith, first.part) in subst (λ bytes. WroteTo fd bytes a b) (sym (take-append-le first.count xs ys within)) first.wrote;
 }
-
--- ---- a call of the console
-
--- which bytes of a refused piece stand; if the stream isn't told, say none of them
-part_told : (xs ys : Option (List ℕ)) (bytes : List ℕ) → 0 < length bytes → AddsPart xs ys bytes → (count : ℕ) × (count < length bytes) × Adds xs ys (take count bytes)
-part_told None ys bytes some added = (0, some, tt)
-part_told (Some xs) None bytes some added = absurd added
-part_told (Some xs) (Some ys) bytes some added = added
-
-module _ (bytes : List ℕ) (a b : Desk) where
-  pub out_WroteTo : Adds a.out b.out bytes → KeepsBytes a.err b.err → WroteTo 1 bytes a b
-  out_WroteTo added kept = record { out = added; err = KeepsBytes-Adds-none a.err b.err kept }
-
-  pub err_WroteTo : Adds a.err b.err bytes → KeepsBytes a.out b.out → WroteTo 2 bytes a b
-  err_WroteTo added kept = record { out = KeepsBytes-Adds-none a.out b.out kept; err = added }
-
-  pub out_WrotePart : 0 < length bytes → AddsPart a.out b.out bytes → KeepsBytes a.err b.err → WrotePart 1 bytes a b
-  out_WrotePart some added kept =
-      let told = part_told a.out b.out bytes some added in
-      record { count = told.0; part = told.1; wrote = record { out = told.2; err = KeepsBytes-Adds-none a.err b.err kept } }
-
-  pub err_WrotePart : 0 < length bytes → AddsPart a.err b.err bytes → KeepsBytes a.out b.out → WrotePart 2 bytes a b
-  err_WrotePart some added kept =
-      let told = part_told a.err b.err bytes some added in
-      record { count = told.0; part = told.1; wrote = record { out = KeepsBytes-Adds-none a.out b.out kept; err = told.2 } }
 
 -- ---- events
 

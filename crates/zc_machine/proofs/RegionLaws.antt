@@ -2,7 +2,7 @@
 use Rattle.std.proofs.Common.{◌≡◌, ℕ, zero, suc, ◌+◌, ◌-◌, ◌^◌, ◌<◌, ◌≤◌, List, [], ◌∷◌, ◌++◌, Bool, true, false, cond, length, get_or, set, take, drop, refl, sym, subst, ap, ap₂, ◌∙◌, arith, leb, ltb, length-append, length-drop, slice_index, ◌⊎◌, inl, inr}
 use Rattle.std.specs.Prelude.{◌&&◌, ◌||◌, All}
 use borrow.Rule.Slice.PartMut.{put_mid}
-use Rattle.std.proofs.lemmas.Bool.{and_from, and_parts, and_right, cases_lt, cond-false, cond-true, false_from_ne_true, false≢true, le-leb, leb-true, lt-leb, lt-ltb, ltb-true, or_from}
+use Rattle.std.proofs.lemmas.Bool.{and_from, and_parts, and_right, both_ways, cases_lt, cond-false, cond-true, false_from_ne_true, false≢true, le-leb, leb-true, lt-leb, lt-ltb, ltb-true, or_from}
 use Rattle.std.proofs.lemmas.List.{get_or-drop, get_or_default, get_or-append_right, get_or-take, get_or_append_left, length-take-le, same_lists}
 use Rattle.std.proofs.lemmas.List.Elements.{All-head, All-tail}
 use Rattle.rv_decode.specs.Memory.{Extent, Kind, Region, cell_at, cells_changed, changed, extent_of, extents_of, lies_in, spans, written}
@@ -37,15 +37,15 @@ lies_none fits es a n some out =
 
 -- ---- regions apart
 
--- an address of one isn't in the other
-apart_out : (e f : Extent) (x : ℕ) → Apart e f → spans e x 1 ≡ true → spans f x 1 ≡ false
-apart_out e f x apart here = false_from_ne_true (spans f x 1) (λ there. let p = spans_bounds e x 1 here in let q = spans_bounds f x 1 there in absurd (omega (arith, apart, p, q)))
-
+-- no address is in both
 apart_no : (e f : Extent) → Apart e f → (x : ℕ) → e.at ≤ x → x < e.at + e.size → f.at ≤ x → x < f.at + f.size → ⊥
 apart_no e f apart x a b c d = omega (arith, apart, a, b, c, d)
 
+apart_out : (e f : Extent) (x : ℕ) → Apart e f → spans e x 1 ≡ true → spans f x 1 ≡ false
+apart_out e f x apart here = false_from_ne_true (spans f x 1) (λ there. let p = spans_bounds e x 1 here in let q = spans_bounds f x 1 there in apart_no e f apart x p.0 (omega (arith, p)) q.0 (omega (arith, q)))
+
 apart_before : (e f : Extent) (x : ℕ) → Apart e f → spans f x 1 ≡ true → spans e x 1 ≡ false
-apart_before e f x apart there = false_from_ne_true (spans e x 1) (λ here. let p = spans_bounds e x 1 here in let q = spans_bounds f x 1 there in absurd (omega (arith, apart, p, q)))
+apart_before e f x apart there = false_from_ne_true (spans e x 1) (λ here. both_ways (spans f x 1) (apart_out e f x apart here) there)
 
 apart_uncovered : (e : Extent) (es : List Extent) (x : ℕ) → All (Apart e) es → spans e x 1 ≡ true → is_covered es x ≡ false
 apart_uncovered e [] x apart here = refl

@@ -56,7 +56,7 @@ fn reach(regions: &[Region], access: Access, address: u32) -> &[u8]
     ensures { Reaches access regions.now address result.now }
 {
     for region in regions {
-        if region.holds(access, address, 1) {
+        if region.has(access, address) {
             return region.cells_from(address);
         }
     }

@@ -71,7 +71,16 @@ impl Region {
         Region { kind, at, cells }
     }
 
-    /// Whether so many cells from an address on lie in the region, and an access may reach them.
+    /// Whether the cell at an address lies in the region, and an access may reach it.
+    pub fn has(&self, access: Access, address: u32) -> bool
+        ensures { result ≡ (allowed access self.now.kind && spans (extent_of self.now) address 1) }
+    {
+        self.kind.allows(access)
+            && self.at <= address
+            && ((address - self.at) as usize) < self.cells.len()
+    }
+
+    /// The same of so many cells from an address on.
     pub fn holds(&self, access: Access, address: u32, count: usize) -> bool
         ensures { result ≡ (allowed access self.now.kind && spans (extent_of self.now) address count) }
     {

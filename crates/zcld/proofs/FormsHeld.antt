@@ -1,5 +1,5 @@
 -- What is found of a form and its values as the program holds them is found of those in the definitions.
-use Rattle.std.proofs.Common.{◌≡◌, ℕ, ◌+◌, ◌-◌, ◌≤◌, List, [], ◌∷◌, length, map, take, drop, get_or, set, Bool, true, false, cond, suc, zero, not, ◌&&◌, ◌||◌, is_some, Option, Some, None, refl, sym, ap, arith, Bor, String, ◌==◌, if◌then◌else◌}
+use Rattle.std.proofs.Common.{◌≡◌, ℕ, ◌+◌, ◌-◌, ◌≤◌, List, [], ◌∷◌, length, map, take, drop, get_or, set, Bool, true, false, cond, suc, zero, not, ◌&&◌, ◌||◌, is_some, Option, Some, None, refl, sym, ap, arith, Bor, String, if◌then◌else◌}
 use Rattle.std.proofs.Math.ListN.{length-map}
 use Rattle.std.proofs.lemmas.List.{map-set, take_rest}
 use Rattle.std.proofs.lemmas.List.Folds.{list_all-map}
@@ -9,7 +9,7 @@ use Rattle.std.specs.List.{list_all, position, prefix_len, zip}
 use Rattle.std.specs.Option.{option_and_then, option_copied, option_map}
 use Rattle.zcld.specs.declared.command_line.Form.{Form}
 use Rattle.zcld.specs.declared.command_line.OptionForm.{OptionForm}
-use Rattle.zcld.specs.Command.{begins_with_dash, form_of, is_complete, option_of, spelled_from, texts, with_value, words_of}
+use Rattle.zcld.specs.Command.{begins_with_dash, form_of, is_complete, option_of, spelled_from, takes_words, texts, with_value, words_of}
 
 -- how many elements pass first
 prefix_len-map : {X Y : Type 0} (p : Y → Bool) (f : X → Y) (xs : List X) → prefix_len p (map f xs) ≡ prefix_len (λ x. p (f x)) xs
@@ -33,7 +33,7 @@ required_held (option ∷ options) (Some value ∷ values) = ap (λ b. (not opti
 pub complete_held : {A : Type 0} (form : Form) (values : List (Option (Bor (List ℕ)))) (positional : List (String A))
     → is_complete (form_of form) (words_of values positional)
     ≡ (list_all (λ (option, value). not option.required || is_some value) (zip form.options.now values)
-    && (length positional == form.positional) && list_all (λ word. not (begins_with_dash (string_bytes word))) positional)
+    && takes_words form.positional (length positional) && list_all (λ word. not (begins_with_dash (string_bytes word))) positional)
 unfolding is_complete
 complete_held form values positional =
     rw (required_held form.options.now values, list_all-map (λ word. not (begins_with_dash word)) string_bytes positional, length-map) refl

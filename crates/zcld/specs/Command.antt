@@ -12,6 +12,8 @@ use Rattle.zcld.specs.declared.command_line.CommandLine.{CommandLine}
 use Rattle.zcld.specs.declared.command_line.CommandLine.TheVariants as line
 use Rattle.zcld.specs.declared.command_line.Form as code_form
 use Rattle.zcld.specs.declared.command_line.OptionForm as code_option
+use Rattle.zcld.specs.declared.command_line.Positional.{Positional}
+use Rattle.zcld.specs.declared.command_line.Positional.TheVariants.{Exactly, OneOrMore}
 
 -- a command with the names of its files, and how many steps it may make
 pub data Command : Type 0 where
@@ -49,10 +51,15 @@ pub record OptionForm : Type 0 where
   pub name : List ℕ
   pub required : Bool
 
--- what comes after a command's name: options in any order, and then so many positional words
+-- what comes after a command's name: options in any order, and then positional words
 pub record Form : Type 0 where
   pub options : List OptionForm
-  pub positional : ℕ
+  pub positional : Positional
+
+-- a form has so many positional words, or at least one
+abbrev pub takes_words : Positional → ℕ → Bool
+takes_words (Exactly wanted) count = count == wanted
+takes_words OneOrMore count = nat_le 1 count
 
 -- an option that must be given
 abbrev pub required : List ℕ → OptionForm
@@ -62,17 +69,17 @@ required name = record { name = name; required = true }
 abbrev pub optional : List ℕ → OptionForm
 optional name = record { name = name; required = false }
 
--- `zc --out OUT --cert CERT OBJ`
+-- `zc --out OUT --cert CERT OBJ...`
 abbrev pub zc_form : Form
-zc_form = record { options = required (codes "--out") ∷ required (codes "--cert") ∷ []; positional = 1 }
+zc_form = record { options = required (codes "--out") ∷ required (codes "--cert") ∷ []; positional = OneOrMore }
 
 -- `run [--steps N] IMAGE`
 abbrev pub run_form : Form
-run_form = record { options = optional (codes "--steps") ∷ []; positional = 1 }
+run_form = record { options = optional (codes "--steps") ∷ []; positional = Exactly 1 }
 
--- `trace [--steps N] OBJ`
+-- `trace [--steps N] OBJ...`
 abbrev pub trace_form : Form
-trace_form = record { options = optional (codes "--steps") ∷ []; positional = 1 }
+trace_form = record { options = optional (codes "--steps") ∷ []; positional = OneOrMore }
 
 -- ---- the words of a form
 
@@ -107,10 +114,10 @@ has_required form values = list_all (λ (option, value). not option.required || 
 abbrev pub has_no_option : List (List ℕ) → Bool
 has_no_option words = list_all (λ word. not (begins_with_dash word)) words
 
--- no required option is missing, and there are as many positional words as the form has, of which none is an option
+-- no required option is missing, and the positional words are as many as the form has, and none of them is an option
 unfoldable pub is_complete : Form → Spelled → Bool
 is_complete form (Words values positional) =
-    has_required form values && (length positional == form.positional) && has_no_option positional
+    has_required form values && takes_words form.positional (length positional) && has_no_option positional
 
 -- the values before any option
 abbrev pub no_values : Form → List (Option (List ℕ))

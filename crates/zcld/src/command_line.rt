@@ -6,7 +6,7 @@ ghost use Rattle.std.specs.List.{list_all, position, zip};
 ghost use Rattle.std.specs.Option.{option_and_then, option_copied, option_map};
 ghost use Rattle.std.specs.Str.{bytes_eq};
 ghost use Rattle.std.specs.String.{string_bytes};
-ghost use Rattle.zcld.specs.Command.{begins_with_dash, command_of, form_of, is_complete, is_number as spells_number, meant, no_values, run_form, run_of, spelled, spelled_from, steps_given, steps_of, texts, trace_form, trace_of, with_value, words_of, zc_form, zc_of};
+ghost use Rattle.zcld.specs.Command.{begins_with_dash, command_of, form_of, is_complete, is_number as spells_number, meant, no_values, run_form, run_of, spelled, spelled_from, steps_given, steps_of, takes_words, texts, trace_form, trace_of, with_value, words_of, zc_form, zc_of};
 
 /// The most digits of a number word.
 pub const MOST_DIGITS: usize = 20;
@@ -42,10 +42,17 @@ struct OptionForm {
     required: bool,
 }
 
-// What comes after a command's name: options in any order, and then so many positional words.
+// How many positional words a command has.
+#[derive(Clone, Copy)]
+enum Positional {
+    Exactly(usize),
+    OneOrMore,
+}
+
+// What comes after a command's name: options in any order, and then positional words.
 struct Form {
     options: &'static [OptionForm],
-    positional: usize,
+    positional: Positional,
 }
 
 const OUT: OptionForm = OptionForm {
@@ -63,22 +70,22 @@ const STEPS: OptionForm = OptionForm {
     required: false,
 };
 
-// `zc --out OUT --cert CERT OBJ`
+// `zc --out OUT --cert CERT OBJ...`
 const ZC: Form = Form {
     options: &[OUT, CERT],
-    positional: 1,
+    positional: Positional::OneOrMore,
 };
 
 // `run [--steps N] IMAGE`
 const RUN: Form = Form {
     options: &[STEPS],
-    positional: 1,
+    positional: Positional::Exactly(1),
 };
 
-// `trace [--steps N] OBJ`
+// `trace [--steps N] OBJ...`
 const TRACE: Form = Form {
     options: &[STEPS],
-    positional: 1,
+    positional: Positional::OneOrMore,
 };
 
 /// The command that the words spell, after the program's own name.
@@ -213,8 +220,18 @@ fn completes(form: &Form, values: &[Option<&str>], positional: &[String]) -> boo
     ensures { result ≡ is_complete (form_of form.now) (words_of values.now positional.now) }
 {
     has_all_required(form, values)
-        && positional.len() == form.positional
+        && takes(form.positional, positional.len())
         && are_positional(positional)
+}
+
+// Whether there may be so many positional words.
+fn takes(positional: Positional, count: usize) -> bool
+    ensures { result ≡ takes_words positional count }
+{
+    match positional {
+        Positional::Exactly(wanted) => count == wanted,
+        Positional::OneOrMore => 1 <= count,
+    }
 }
 
 fn has_all_required(form: &Form, values: &[Option<&str>]) -> bool

@@ -110,6 +110,18 @@ const CALLER: [u8; 396] = [
 
 const BSS_SIZE: usize = 216;
 
+// Where the binding of `g` stands, and what it is for a weak symbol.
+const CALLED: usize = 96;
+
+const WEAK: u8 = 0x20;
+
+// The data of both: `abc` and `jklmn` are read only, `defg` is data, and `hi` small data.
+const CONTENTS: [u8; 34] = [
+    97, 98, 99, 0, 106, 107, 108, 109, 110, 0, 0, 0, 0, 0, 0, 0, //
+    100, 101, 102, 103, 0, 0, 0, 0, 0, 0, 0, 0, 0, 0, 0, 0, //
+    104, 105, //
+];
+
 fn refusal(alloc: Global, files: &[Vec<u8>]) -> Option<LinkFault> {
     Objects::gather(alloc, files, MemMap::standard()).err()
 }
@@ -212,8 +224,31 @@ fn data_stands_class_after_class(rt: HostRuntime) -> Result<(), Fail> {
     }
     assert_eq!(rt; objects.data_file_end(), 0x0010_0022);
     assert_eq!(rt; objects.data_end(), 0x0010_005B);
-    assert!(rt; objects.is_code(0, 1));
-    assert!(rt; !objects.is_code(0, 2));
+    for (section, want) in [(0, false), (1, true), (2, false), (7, false), (11, false)] {
+        assert_eq!(rt; objects.is_code(0, section), want);
+    }
+    Ok(())
+}
+
+#[test]
+fn contents_stand_at_their_addresses(rt: HostRuntime) -> Result<(), Fail> {
+    let files = copies(rt.alloc(), &[&FIRST, &SECOND])?;
+    let objects = Objects::gather(rt.alloc(), &files, MemMap::standard())?;
+    let bytes = objects.data_contents(rt.alloc())?;
+    assert_eq!(rt; bytes.as_slice(), CONTENTS.as_slice());
+    Ok(())
+}
+
+#[test]
+fn relocations_stand_in_the_section_that_names_theirs(rt: HostRuntime) -> Result<(), Fail> {
+    let mut caller = CALLER;
+    caller[CALLED] = WEAK;
+    let files = copies(rt.alloc(), &[&caller])?;
+    let objects = Objects::gather(rt.alloc(), &files, MemMap::standard())?;
+    for section in 0..objects.object(0).section_count() as u16 {
+        let want = if section == 1 { Some(3) } else { None };
+        assert_eq!(rt; objects.rela_of(0, section), want);
+    }
     Ok(())
 }
 

@@ -124,6 +124,8 @@ fn calls_are_wanted_if_their_buffer_lies_in_memory(rt: HostRuntime) -> Result<()
     Ok(())
 }
 
+mod halfwords;
+
 // Makes the next step, and answers the call that it wants: a read with no byte.
 fn answer(machine: &mut Machine)
     requires { machine.old.commits < 2 ^ 64 - 1 }

@@ -14,6 +14,7 @@ zc x --out o --cert c
 run --steps 1000000001 x
 run x --steps 3
 trace --steps  x
-trace x x";
+trace x z -x
+run x x";
     expect_words(&rt, &ZC, lines, &USAGE)
 }

@@ -38,6 +38,7 @@ const COMMANDS: &str = r#"zc --out o --cert c x.o => zc "o" "c" ["x.o"]
 zc --cert c --out o x.o => zc "o" "c" ["x.o"]
 zc --out  --cert c x.o => zc "" "c" ["x.o"]
 zc --out o --cert c o => zc "o" "c" ["o"]
+zc --out o --cert c y.o x.o y.o => zc "o" "c" ["y.o", "x.o", "y.o"]
 run x => run 10000000 "x"
 run  => run 10000000 ""
 run --steps 7 x => run 7 "x"
@@ -46,7 +47,8 @@ run --steps 1000000000 x => run 1000000000 "x"
 run --steps 00000000000000000003 x => run 3 "x"
 trace x.o => trace 10000000 ["x.o"]
 trace --steps 7 x.o => trace 7 ["x.o"]
-trace trace => trace 10000000 ["trace"]"#;
+trace trace => trace 10000000 ["trace"]
+trace --steps 7 x.o  y.o => trace 7 ["x.o", "", "y.o"]"#;
 
 #[test]
 fn words_of_a_form_spell_its_command(rt: HostRuntime) -> Result<(), Fail> {
@@ -55,8 +57,8 @@ fn words_of_a_form_spell_its_command(rt: HostRuntime) -> Result<(), Fail> {
 
 // In this order: no command, or none of this name; a required option is missing; an option that isn't the
 // command's; one twice; a value that begins with `-`, or none; the two files that are written are one; a
-// positional word that begins with `-`, or none, or two; an option after the file; and no number, or one
-// that is too long or too large.
+// positional word that begins with `-`, also as the last of several, or none, or two images; an option
+// after a file; and no number, or one that is too long or too large.
 const NO_COMMANDS: &str = " => none
 frob x => none
 ZC --out o --cert c x.o => none
@@ -81,12 +83,17 @@ run --steps => none
 zc --out a --cert a x.o => none
 run -x => none
 zc --out o --cert c -x.o => none
+zc --out o --cert c x.o -y.o => none
+trace x.o y.o -z.o => none
 trace => none
+trace --steps 3 => none
 zc --out o --cert c => none
+run => none
 run x x => none
-zc --out o --cert c x.o y.o => none
 run x --steps 3 => none
+trace x.o --steps 3 => none
 zc --out o x.o --cert c => none
+zc --out o --cert c x.o --out o y.o => none
 run --steps  x => none
 run --steps +3 x => none
 run --steps 3x x => none

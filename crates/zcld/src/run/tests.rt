@@ -1,7 +1,8 @@
 // Runs of small images.
 
 use crate::fixture::{
-    EXITED_3, End, READ_FAULT, RUN, SPENT, USAGE, expect_changes, expect_words, unsaid,
+    Call, EXITED_3, End, File, READ_FAULT, RUN, SPENT, USAGE, WRITE_FAULT, expect, expect_changes,
+    expect_words, unsaid,
 };
 use crate::outcome::{FileFault, Outcome};
 use elf32_read::image_fault::ImageFault;
@@ -122,4 +123,56 @@ fn calls_of_the_outside_that_fail_are_named(rt: HostRuntime) -> Result<(), Fail>
     expect_changes(&rt, &RUN, "s0 c0", &unsaid(READ_FAULT))?;
     expect_changes(&rt, &RUN, "c2", &unsaid(EXITED_3))?;
     expect_changes(&rt, &RUN, "s1 c4", &EXITED_3)
+}
+
+// An image of another linker: it reads up to 8 bytes to the stack, writes them to standard output, and
+// exits with their number.
+const ECHO: [u8; 124] = [
+    0x7F, 0x45, 0x4C, 0x46, 0x01, 0x01, 0x01, 0x00, 0x00, 0x00, 0x00, 0x00, 0x00, 0x00, 0x00, 0x00,
+    0x02, 0x00, 0xF3, 0x00, 0x01, 0x00, 0x00, 0x00, 0x00, 0x00, 0x01, 0x00, 0x34, 0x00, 0x00, 0x00,
+    0x00, 0x00, 0x00, 0x00, 0x00, 0x00, 0x00, 0x00, 0x34, 0x00, 0x20, 0x00, 0x01, 0x00, 0x28, 0x00,
+    0x00, 0x00, 0x00, 0x00, 0x01, 0x00, 0x00, 0x00, 0x54, 0x00, 0x00, 0x00, 0x00, 0x00, 0x01, 0x00,
+    0x00, 0x00, 0x01, 0x00, 0x28, 0x00, 0x00, 0x00, 0x28, 0x00, 0x00, 0x00, 0x05, 0x00, 0x00, 0x00,
+    0x04, 0x00, 0x00, 0x00, 0x93, 0x08, 0xF0, 0x03, 0x93, 0x05, 0x01, 0xFF, 0x13, 0x06, 0x80, 0x00,
+    0x73, 0x00, 0x00, 0x00, 0x13, 0x06, 0x05, 0x00, 0x13, 0x05, 0x10, 0x00, 0x93, 0x08, 0x00, 0x04,
+    0x73, 0x00, 0x00, 0x00, 0x93, 0x08, 0xD0, 0x05, 0x73, 0x00, 0x00, 0x00,
+];
+
+// Room for two bytes, and the other stream. The console's calls 0 and 1 take the input, call 2 is the
+// program's write, and call 3 the line.
+#[test]
+fn what_a_program_writes_goes_out_before_the_line(rt: HostRuntime) -> Result<(), Fail> {
+    let echo = Call {
+        file: File::Bytes(&ECHO),
+        ..RUN
+    };
+    let echoed = End {
+        outcome: Outcome::Exited(5),
+        out: "input",
+        line: "exited 5\n",
+        status: 5,
+        ..EXITED_3
+    };
+    let two = End {
+        outcome: Outcome::Exited(2),
+        out: "in",
+        line: "exited 2\n",
+        status: 2,
+        ..EXITED_3
+    };
+    let other = End {
+        out: "",
+        line: "inputexited 5\n",
+        ..echoed
+    };
+    let refused = End {
+        input: 0,
+        ..WRITE_FAULT
+    };
+    expect(&rt, &echo, &echoed)?;
+    expect_changes(&rt, &echo, "92:00200613", &two)?;
+    expect_changes(&rt, &echo, "104:00200513", &other)?;
+    expect_changes(&rt, &echo, "c2\n104:00200513 c2", &refused)?;
+    expect_changes(&rt, &echo, "c3", &unsaid(echoed))?;
+    expect_changes(&rt, &echo, "c2 c3", &unsaid(refused))
 }

@@ -5,9 +5,9 @@ use Rattle.zc_machine.specs.Region.{allowed}
 use Rattle.zc_machine.proofs.RegionLaws.{item_reached, unreached}
 use Rattle.zc_machine.proofs.memory.reach.Goals as goal
 
-pub returns-then-holds : goal.returns-then-holds
-returns-then-holds c =
-    rw c.cells_from.ensures (item_reached c.args.access c.args.regions.now c.loop-region.region-index c.region-item.result c.args.address c.requires (omega arith) c.region-item.is (cc c.if-holds.ensures))
+pub returns-then-has : goal.returns-then-has
+returns-then-has c =
+    rw c.cells_from.ensures (item_reached c.args.access c.args.regions.now c.loop-region.region-index c.region-item.result c.args.address c.requires (omega arith) c.region-item.is (cc c.if-has.ensures))
 
 pub returns : goal.returns
 returns c =

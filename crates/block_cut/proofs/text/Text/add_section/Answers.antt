@@ -29,7 +29,6 @@ overflow_cast-row c =
     let file = c.args.object.now in
     let o = c.args.o in
     let i = c.args.i in
-    let s = section_parts file i in
     let here = code_here inputs o i file c.requires.faultless c.requires.object c.requires.section (sym c.is_code.ensures ∙ c.if-not-is_code.false) in
     omega (arith, here.fits, c.requires.so_far.few, c.requires.so_far.end_is, c.requires.is_map.code, c.requires.is_map.data_room, c.requires.is_map.top, c.len.ensures, c.args.self.now.items.ok.0)
 
@@ -39,7 +38,6 @@ begin_after-requires c =
     let file = c.args.object.now in
     let o = c.args.o in
     let i = c.args.i in
-    let s = section_parts file i in
     let here = code_here inputs o i file c.requires.faultless c.requires.object c.requires.section (sym c.is_code.ensures ∙ c.if-not-is_code.false) in
     let is = subst (λ n. IsSection c.section-section.result (section_parts file n)) c.from.ensures c.section-section.ensures in
     omega (arith, here.fits, is.align, c.requires.so_far.end_is, c.requires.is_map.code, c.requires.is_map.data_room, c.requires.is_map.top)
@@ -50,7 +48,6 @@ add_items-requires-clause-words c =
     let file = c.args.object.now in
     let o = c.args.o in
     let i = c.args.i in
-    let s = section_parts file i in
     let here = code_here inputs o i file c.requires.faultless c.requires.object c.requires.section (sym c.is_code.ensures ∙ c.if-not-is_code.false) in
     let is = subst (λ n. IsSection c.section-section.result (section_parts file n)) c.from.ensures c.section-section.ensures in
     ap (λ b. length b % 4) is.bytes ∙ here.whole.words
@@ -61,7 +58,6 @@ overflow_add-self c =
     let file = c.args.object.now in
     let o = c.args.o in
     let i = c.args.i in
-    let s = section_parts file i in
     let here = code_here inputs o i file c.requires.faultless c.requires.object c.requires.section (sym c.is_code.ensures ∙ c.if-not-is_code.false) in
     let is = subst (λ n. IsSection c.section-section.result (section_parts file n)) c.from.ensures c.section-section.ensures in
     let begin = aligned_up-lt (max 4 c.section-section.result.align) c.args.self.now.end in

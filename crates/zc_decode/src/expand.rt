@@ -1,0 +1,134 @@
+// The instructions of 32 bits that halfwords stand for.
+
+ghost use Rattle.std.specs.Prelude.{◌≡◌, ◌<◌, pos};
+ghost use Rattle.zc_decode.specs.Halfwords.{expansion};
+
+use crate::fields::{
+    addi4spn, addi16sp, amount, branch, byte_offset, half_offset, high_reg, imm_ci, jump, low_reg,
+    lui, lwsp, register, swsp, word_offset,
+};
+use crate::form::Form;
+use rv_decode::bits::register_at;
+use rv_decode::instr::{BranchOp, ImmOp, Instr, LoadOp, RegOp, StoreOp, UpperOp};
+use zc_base::reg::Reg;
+
+/// What a halfword of a row stands for.
+pub fn expand(form: Form, half: u32) -> Instr
+    ensures { result ≡ expansion form half }
+{
+    let (rd, rs2) = (register_at(half, 7), register_at(half, 2));
+    let (high, low) = (high_reg(half), low_reg(half));
+    match form {
+        Form::CAddi4spn => with_imm(ImmOp::Addi, low, register(2), addi4spn(half)),
+        Form::CLw => load(LoadOp::Lw, low, high, word_offset(half)),
+        Form::CSw => store(StoreOp::Sw, low, high, word_offset(half)),
+        Form::CLbu => load(LoadOp::Lbu, low, high, byte_offset(half)),
+        Form::CLhu => load(LoadOp::Lhu, low, high, half_offset(half)),
+        Form::CLh => load(LoadOp::Lh, low, high, half_offset(half)),
+        Form::CSb => store(StoreOp::Sb, low, high, byte_offset(half)),
+        Form::CSh => store(StoreOp::Sh, low, high, half_offset(half)),
+        Form::CNop => with_imm(ImmOp::Addi, register(0), register(0), imm_ci(half)),
+        Form::CAddi => with_imm(ImmOp::Addi, rd, rd, imm_ci(half)),
+        Form::CJal => jal(1, jump(half)),
+        Form::CLi => with_imm(ImmOp::Addi, rd, register(0), imm_ci(half)),
+        Form::CAddi16sp => with_imm(ImmOp::Addi, register(2), register(2), addi16sp(half)),
+        Form::CLui => upper(rd, lui(half)),
+        Form::CSrli => with_imm(ImmOp::Srli, high, high, amount(half)),
+        Form::CSrai => with_imm(ImmOp::Srai, high, high, amount(half)),
+        Form::CAndi => with_imm(ImmOp::Andi, high, high, imm_ci(half)),
+        Form::CSub => with_reg(RegOp::Sub, high, high, low),
+        Form::CXor => with_reg(RegOp::Xor, high, high, low),
+        Form::COr => with_reg(RegOp::Or, high, high, low),
+        Form::CAnd => with_reg(RegOp::And, high, high, low),
+        Form::CMul => with_reg(RegOp::Mul, high, high, low),
+        Form::CZextB => with_imm(ImmOp::Andi, high, high, 255),
+        Form::CNot => with_imm(ImmOp::Xori, high, high, -1),
+        Form::CJ => jal(0, jump(half)),
+        Form::CBeqz => branch_if_zero(BranchOp::Beq, high, branch(half)),
+        Form::CBnez => branch_if_zero(BranchOp::Bne, high, branch(half)),
+        Form::CSlli => with_imm(ImmOp::Slli, rd, rd, amount(half)),
+        Form::CLwsp => load(LoadOp::Lw, rd, register(2), lwsp(half)),
+        Form::CJr => jalr(0, rd),
+        Form::CMv => with_reg(RegOp::Add, rd, register(0), rs2),
+        Form::CEbreak => Instr::Ebreak,
+        Form::CJalr => jalr(1, rd),
+        Form::CAdd => with_reg(RegOp::Add, rd, rd, rs2),
+        Form::CSwsp => store(StoreOp::Sw, rs2, register(2), swsp(half)),
+    }
+}
+
+fn with_imm(op: ImmOp, rd: Reg, first: Reg, imm: i32) -> Instr
+    ensures { result ≡ Instr.WithImm op rd first imm }
+{
+    Instr::WithImm { op, rd, first, imm }
+}
+
+fn with_reg(op: RegOp, rd: Reg, first: Reg, second: Reg) -> Instr
+    ensures { result ≡ Instr.WithReg op rd first second }
+{
+    Instr::WithReg {
+        op,
+        rd,
+        first,
+        second,
+    }
+}
+
+fn load(op: LoadOp, rd: Reg, base: Reg, imm: i32) -> Instr
+    ensures { result ≡ Instr.Load op rd base imm }
+{
+    Instr::Load { op, rd, base, imm }
+}
+
+fn store(op: StoreOp, source: Reg, base: Reg, imm: i32) -> Instr
+    ensures { result ≡ Instr.Store op source base imm }
+{
+    Instr::Store {
+        op,
+        source,
+        base,
+        imm,
+    }
+}
+
+fn upper(rd: Reg, imm: u32) -> Instr
+    ensures { result ≡ Instr.Upper UpperOp.Lui rd imm }
+{
+    Instr::Upper {
+        op: UpperOp::Lui,
+        rd,
+        imm,
+    }
+}
+
+fn jal(rd: u32, distance: i32) -> Instr
+    requires { rd < 32 }
+    ensures { result ≡ Instr.Jal rd distance }
+{
+    Instr::Jal {
+        rd: register(rd),
+        distance,
+    }
+}
+
+fn jalr(rd: u32, base: Reg) -> Instr
+    requires { rd < 32 }
+    ensures { result ≡ Instr.Jalr rd base (pos 0) }
+{
+    Instr::Jalr {
+        rd: register(rd),
+        base,
+        imm: 0,
+    }
+}
+
+fn branch_if_zero(op: BranchOp, first: Reg, distance: i32) -> Instr
+    ensures { result ≡ Instr.Branch op first 0 distance }
+{
+    Instr::Branch {
+        op,
+        first,
+        second: register(0),
+        distance,
+    }
+}

@@ -1,0 +1,9 @@
+pub mod NumberLaws
+pub mod HalfLaws
+pub mod RowFits
+pub mod MemoryRows
+pub mod ImmRows
+pub mod RegRows
+pub mod JumpRows
+pub mod RoundTrips
+pub mod EncodingLaws

@@ -1,0 +1,27 @@
+-- What is shown of each row: the halfword for an instruction is of the row, is no hint, and spells it.
+use Rattle.std.proofs.Common.{◌≡◌, ℕ, ◌^◌, ◌<◌, Some, Option, None, false}
+use Rattle.std.specs.Option.{option_or}
+use Rattle.std.specs.Prelude.{◌⊎◌}
+use Rattle.std.proofs.Common.{inl, inr}
+use Rattle.rv_decode.specs.declared.instr.Instr.{Instr}
+use Rattle.rv_decode.specs.Normal.{normal_of}
+use Rattle.zc_decode.specs.Halfwords.{expansion}
+use Rattle.zc_decode.specs.Hints.{is_hint}
+use Rattle.zc_decode.specs.Rows.{form_of}
+use Rattle.zc_decode.specs.declared.form.Form.{Form}
+
+-- a halfword of a row that spells an instruction in normal form
+pub record Row (form : Form) (half : ℕ) (i : Instr) : Type 0 where
+  pub small : half < 2 ^ 16
+  pub row : form_of half ≡ Some form
+  pub no_hint : is_hint form half ≡ false
+  pub is : normal_of (expansion form half) ≡ i
+
+-- of some row
+abbrev pub InRow : ℕ → Instr → Type 0
+InRow half i = (form : Form) × Row form half i
+
+-- what two in turn give comes from one of them
+pub either_of : (first second : Option ℕ) (half : ℕ) → option_or first second ≡ Some half → (first ≡ Some half) ⊎ (second ≡ Some half)
+either_of None second half is = inr is
+either_of (Some k) second half is = inl is

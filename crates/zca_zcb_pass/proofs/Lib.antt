@@ -1,0 +1,2 @@
+pub mod FormEffects
+pub mod ReachLaws

@@ -1,0 +1,93 @@
+-- A short branch or jump is found only if its distance reaches.
+use Rattle.std.proofs.Common.{◌≡◌, ℕ, ◌-◌, ◌%◌, ◌^◌, ◌<◌, Option, Some, None, Bool, true, false, cond, refl, sym, subst, arith, ℤ, pos, negsuc, eqb, ltb}
+use Rattle.std.specs.Prelude.{◌&&◌, IfSome}
+use Rattle.std.proofs.lemmas.Bool.{and_from, and_parts, eq-eqb}
+use Rattle.rv_decode.specs.declared.instr.Instr.{Instr}
+use Rattle.rv_decode.specs.declared.instr.Instr.TheVariants.{Upper, Jal, Jalr, Branch, Load, Store, WithImm, WithReg, Fence, Ecall, Ebreak, Csrrw}
+use Rattle.rv_decode.specs.declared.instr.BranchOp.{BranchOp}
+use Rattle.rv_decode.specs.declared.instr.BranchOp.TheVariants.{Beq, Bne, Blt, Bge, Bltu, Bgeu}
+use Rattle.rv_decode.specs.Bits.{IsEven}
+use Rattle.rv_decode.specs.Normal.{greater_branch, normal_branch}
+use Rattle.rv_decode.proofs.BitLaws.{signed-even}
+use Rattle.psabi_reloc.specs.Reaches.{is_even_of, short_branch_reach, short_jump_reach}
+use Rattle.zc_decode.specs.declared.short.Short.TheVariants.{Base}
+use Rattle.zc_encode.specs.Halves.{encoded16, half_for, has_bits, is_popular, is_signed, jump_half, low_bits, zero_half}
+use Rattle.zc_encode.proofs.NumberLaws.{SignedOf, and_three, signed_nine, signed_twelve, when_some}
+use Rattle.zca_zcb_pass.specs.Forms.{IsBranch, IsJump, with_distance}
+
+-- an even number of so many bits
+even_of : (bits : ℕ) (z : ℤ) → has_bits bits z ≡ true → IsEven z → is_even_of bits z ≡ true
+even_of bits (pos n) few even = and_from (ltb n (2 ^ (bits - 1))) (eqb (n % 2) 0) few (eq-eqb (n % 2) 0 even)
+even_of bits (negsuc n) few even = and_from (ltb n (2 ^ (bits - 1))) (eqb (n % 2) 1) few (eq-eqb (n % 2) 1 even)
+
+signed_reaches : (bits : ℕ) (z : ℤ) → 2 ^ bits % 2 ≡ 0 → low_bits bits z < 2 ^ bits → SignedOf bits 2 z → is_signed bits 2 z ≡ true → is_even_of bits z ≡ true
+signed_reaches bits z whole below s h =
+    even_of bits z (and_parts (has_bits bits z) (eqb (low_bits bits z % 2) 0) h).0 (subst IsEven s.value (signed-even bits (low_bits bits z) whole below s.whole))
+
+zero_reaches : (group first second half : ℕ) (distance : ℤ) → zero_half group first second distance ≡ Some half → short_branch_reach distance ≡ true
+zero_reaches group first second half distance h =
+    let t = when_some (eqb second 0 && (is_popular first && is_signed 9 2 distance)) _ half h in
+    let fits = (and_three (eqb second 0) (is_popular first) (is_signed 9 2 distance) t.0).2 in
+    signed_reaches 9 distance refl (omega arith) (signed_nine distance fits) fits
+
+jump_half_reaches : (group half : ℕ) (distance : ℤ) → jump_half group distance ≡ Some half → short_jump_reach distance ≡ true
+jump_half_reaches group half distance h =
+    let fits = (when_some (is_signed 12 2 distance) _ half h).0 in
+    signed_reaches 12 distance refl (omega arith) (signed_twelve distance fits) fits
+
+-- ---- branches
+
+greater_reaches : (op : BranchOp) (group first second half : ℕ) (distance : ℤ) → ((a b : ℕ) → half_for (Branch op a b distance) ≡ zero_half group a b distance) → half_for (greater_branch op first second distance) ≡ Some half → short_branch_reach distance ≡ true
+greater_reaches op group first second half distance is h = either (ltb first second) h
+  where
+    either : (t : Bool) → half_for (cond t (Branch op second first distance) (Branch op first second distance)) ≡ Some half → short_branch_reach distance ≡ true
+    either true g = zero_reaches group second first half distance (rw (is second first) at g)
+    either false g = zero_reaches group first second half distance (rw (is first second) at g)
+
+normal_reaches : (op : BranchOp) (first second half : ℕ) (distance : ℤ) → half_for (normal_branch op first second distance) ≡ Some half → short_branch_reach distance ≡ true
+normal_reaches Beq first second half distance h = greater_reaches Beq 0b110_01 first second half distance (λ a b. refl) h
+normal_reaches Bne first second half distance h = greater_reaches Bne 0b111_01 first second half distance (λ a b. refl) h
+normal_reaches Blt first second half distance h = absurd cc
+normal_reaches Bge first second half distance h = absurd cc
+normal_reaches Bltu first second half distance h = absurd cc
+normal_reaches Bgeu first second half distance h = absurd cc
+
+pub branch_reaches : (i : Instr) (distance : ℤ) (o : Option ℕ) → o ≡ encoded16 (Base (with_distance i distance)) → IsBranch i → IfSome o (λ _. short_branch_reach distance ≡ true)
+branch_reaches i distance None is branch = tt
+branch_reaches (Branch op first second old) distance (Some half) is branch = normal_reaches op first second half distance (sym is)
+branch_reaches (Upper op rd imm) distance (Some half) is branch = absurd branch
+branch_reaches (Jal rd old) distance (Some half) is branch = absurd branch
+branch_reaches (Jalr rd base imm) distance (Some half) is branch = absurd branch
+branch_reaches (Load op rd base imm) distance (Some half) is branch = absurd branch
+branch_reaches (Store op source base imm) distance (Some half) is branch = absurd branch
+branch_reaches (WithImm op rd first imm) distance (Some half) is branch = absurd branch
+branch_reaches (WithReg op rd first second) distance (Some half) is branch = absurd branch
+branch_reaches (Fence rest) distance (Some half) is branch = absurd branch
+branch_reaches Ecall distance (Some half) is branch = absurd branch
+branch_reaches Ebreak distance (Some half) is branch = absurd branch
+branch_reaches (Csrrw rd source) distance (Some half) is branch = absurd branch
+
+-- ---- jumps
+
+jal_reaches : (rd half : ℕ) (distance : ℤ) → half_for (Jal rd distance) ≡ Some half → short_jump_reach distance ≡ true
+jal_reaches rd half distance h = by_tests (eqb rd 1) (eqb rd 0) h
+  where
+    by_tests : (a b : Bool) → cond a (jump_half 0b001_01 distance) (cond b (jump_half 0b101_01 distance) None) ≡ Some half → short_jump_reach distance ≡ true
+    by_tests true b g = jump_half_reaches 0b001_01 half distance g
+    by_tests false true g = jump_half_reaches 0b101_01 half distance g
+    by_tests false false g = absurd cc
+
+pub jump_reaches : (i : Instr) (distance : ℤ) (o : Option ℕ) → o ≡ encoded16 (Base (with_distance i distance)) → IsJump i → IfSome o (λ _. short_jump_reach distance ≡ true)
+jump_reaches i distance None is jump = tt
+jump_reaches (Jal rd old) distance (Some half) is jump = jal_reaches rd half distance (sym is)
+jump_reaches (Branch op first second old) distance (Some half) is jump = absurd jump
+jump_reaches (Upper op rd imm) distance (Some half) is jump = absurd jump
+jump_reaches (Jalr rd base imm) distance (Some half) is jump = absurd jump
+jump_reaches (Load op rd base imm) distance (Some half) is jump = absurd jump
+jump_reaches (Store op source base imm) distance (Some half) is jump = absurd jump
+jump_reaches (WithImm op rd first imm) distance (Some half) is jump = absurd jump
+jump_reaches (WithReg op rd first second) distance (Some half) is jump = absurd jump
+jump_reaches (Fence rest) distance (Some half) is jump = absurd jump
+jump_reaches Ecall distance (Some half) is jump = absurd jump
+jump_reaches Ebreak distance (Some half) is jump = absurd jump
+jump_reaches (Csrrw rd source) distance (Some half) is jump = absurd jump
