@@ -48,15 +48,15 @@ def code(words):
 
 
 def made_object(text):
-    """An ELF object with the code as section 1 and its names as section 2 (System V gABI, "Object Files")."""
-    names = b'\0.text\0.shstrtab\0\0\0\0'
-    at_names = 52 + len(text)
-    header = struct.pack('<16sHHIIIIIHHHHHH', b'\x7fELF\1\1\1', 1, 243, 1, 0, 0, at_names + len(names), 0,
-                         52, 0, 0, 40, 3, 2)
-    sections = (bytes(40)
-                + struct.pack('<10I', 1, 1, 6, 0, 52, len(text), 0, 0, 4, 0)
-                + struct.pack('<10I', 7, 3, 0, 0, at_names, len(names), 0, 0, 1, 0))
-    return header + text + names + sections
+    """An ELF object with the code as section 1, where `_start` is (System V gABI, "Object Files")."""
+    symbols = bytes(16) + struct.pack('<IIIBBH', 1, 0, 0, 16, 0, 1)
+    parts = (text, symbols, b'\0_start\0', b'\0.text\0.symtab\0.strtab\0.shstrtab\0\0\0\0')
+    at = [52 + sum(map(len, parts[:i])) for i in range(5)]
+    header = struct.pack('<16sHHIIIIIHHHHHH', b'\x7fELF\1\1\1', 1, 243, 1, 0, 0, at[4], 0, 52, 0, 0, 40, 5, 4)
+    sections = ((1, 1, 6, 0, 0, 4, 0), (7, 2, 0, 3, 1, 4, 16), (15, 3, 0, 0, 0, 1, 0), (23, 3, 0, 0, 0, 1, 0))
+    return b''.join((header, *parts, bytes(40), *(
+        struct.pack('<10I', name, kind, flags, 0, at[i], len(parts[i]), link, info, align, entry)
+        for i, (name, kind, flags, link, info, align, entry) in enumerate(sections))))
 
 
 def with_zeroed_data(image, size):

@@ -3,19 +3,20 @@
 
     fuzz/fuzz.py [--seed S] [--count N] [--seconds T] [--only CASE] [--keep FOLDER] [PROGRAM]
 
-PROGRAM is build/zcld where none is given. A case is fixed by the seed and its number: a file, which is an
-object or an image, as it was made or with mutations, and what is odd about the call. Each file goes to `zc`,
-`trace` and `run`, and an image that `zc` wrote to `run`. Checked are:
+PROGRAM is build/zcld where none is given. A case is fixed by the seed and its number: a list of files, which are
+objects or an image, as they were made or with mutations, and what is odd about the call. All files go to `zc` and
+`trace`, the first to `run`, and an image that `zc` wrote to `run`. Checked are:
 
-- the call ends, by no signal, within its time-out, with a status that has a name and a line of that name on
-  standard error and nothing else, and nothing on standard output;
+- the call ends, by no signal, within its time-out, with a status that has a name and a line of that name at the
+  end of standard error; `zc`, and `run` and `trace` of files that are refused, write nothing else;
 - it is an outcome that this command has;
 - after `zc` ended with 0 the image and the certificate are there, and else no file is there or has changed, but
   for the image alone after a write fault or where memory ran out;
-- the text of the image is that of the object's code, with its short forms;
-- `zc` refuses an object for its first fault (`object_faults.py`), and others only as NotBuilt;
-- `zc` and `trace` refuse an object alike;
-- where `trace` isn't stuck, `run` of the image ends as `trace` of the object does.
+- the image is the one that `object_link.py` makes, byte for byte;
+- `zc` and `trace` refuse files exactly where they have a fault, and name the first (`object_faults.py`);
+- where `trace` isn't stuck, `run` of the image writes what `trace` of the objects does, and ends as it does; where
+  it is, `run` writes that and maybe more;
+- and so it is of a plain image that `object_link.py` makes of any code that `trace` takes.
 
 The status is 1 where a check failed. FOLDER then has the files of those cases.
 """
@@ -31,7 +32,8 @@ import sys
 import tempfile
 import time
 
-from object_faults import NAMES as FAULTS, link_fault, object_fault
+from object_faults import NAMES as FAULTS, object_fault, told, trace_fault, zc_fault
+from object_link import image as image_of
 
 TIME_OUT = 20
 STEPS = '1000'
@@ -47,18 +49,20 @@ WHYS = (None, 'AddressUnknown', 'ConditionUnknown', 'TargetUnknown', 'ArgumentUn
 
 # For each outcome: its line, the status, and the commands that have it.
 OUTCOMES = {
-    'exited': (r'exited (\d+)', None, ('run', 'trace')),
+    'exited': (r'exited (?P<status>\d+)', None, ('run', 'trace')),
     'usage': (r'usage', 120, ('zc', 'run', 'trace')),
-    'refused': (r'refused 0 (\d+) (\w+)(?s: .*)?', 121, ('zc', 'trace')),
+    'refused': (r'refused \d+ (?P<number>\d+) (?P<name>\w+)(?s: .*)?', 121, ('zc', 'trace')),
     'read fault': (r'read fault', 122, ('zc', 'run', 'trace')),
-    'write fault': (r'write fault', 123, ('zc',)),
+    'write fault': (r'write fault', 123, ('zc', 'run', 'trace')),
     'out of memory': (r'out of memory', 124, ('zc', 'run', 'trace')),
     'bad image': (r'bad image [1-5]', 125, ('run',)),
-    'stopped': (r'stopped (\d+) (\w+) [0-9a-f]{8}', 126, ('run',)),
-    'stuck': (r'stuck 0 \d+ \d+ (\d+) (\w+)', 126, ('trace',)),
+    'stopped': (r'stopped (?P<number>\d+) (?P<name>\w+) [0-9a-f]{8}', 126, ('run',)),
+    'stuck': (r'stuck \d+ \d+ \d+ (?P<number>\d+) (?P<name>\w+)', 126, ('trace',)),
     'spent': (r'spent', 127, ('run', 'trace')),
 }
 NAMES = {'refused': FAULTS, 'stopped': REASONS, 'stuck': WHYS}
+# The outcomes after which the program itself may have written.
+RUNS = ('exited', 'stopped', 'stuck', 'spent', 'write fault', 'out of memory')
 
 EDGES = (0, 1, 2, 3, 4, 5, 6, 7, 8, 9, 17, 39, 40, 41, 51, 52, 53, 0x7F, 0x80, 0xFF, 0xFFFE, 0xFFFF, 0x10000, 0x10001,
          0xFFFFF, 0x100000, 0x4FFFFF, 0x500000, 0x0FF00000, 0x10000000, 0x7FFFFFFF, 0x80000000, 0xFFFFFFD8, 0xFFFFFFFC,
@@ -76,95 +80,179 @@ class Wrong(Exception):
     """A check that failed."""
 
 
-# ---- objects
+# ---- code
 
 
 def addi(to, source, value):
     return (value & 0xFFF) << 20 | source << 15 | to << 7 | 0x13
 
 
-EXIT = (0x05D00893, 0x00000073)
+ECALL = 0x73
+EXIT = (addi(17, 0, 93), ECALL)
+
+
+def call_words(rng):
+    """A read or a write, of bytes of the stack."""
+    size = rng.choice((0, 1, 4, 5, 16))
+    given = rng.choice((63, 63, 64))
+    return (addi(17, 0, given), addi(10, 0, rng.choice((0, 1, 1, 2)) if given == 64 else 0),
+            addi(11, 2, rng.choice((0, 0, 4, -4, -16, 16))), addi(12, rng.choice((0, 0, 0, 10)), size), ECALL)
 
 
 def straight_words(rng):
     """Code of `addi` and `ecall` in which an exit is likely, and sometimes isn't the end."""
     count = rng.choice((0, 1, 2, rng.randrange(40), rng.randrange(40), rng.randrange(1500)))
     few = rng.random() < 0.7
-    words = []
+    words = [addi(2, 2, -16)] if rng.random() < 0.5 else []
     for _ in range(count):
         to = rng.choice((0, 5, 6, 10, 10, 17)) if few else rng.randrange(32)
         source = rng.choice((0, 0, 0, to)) if few else rng.randrange(32)
         value = rng.choice((-2048, -33, -32, -1, 0, 1, 31, 32, 93, 2047, rng.randrange(-2048, 2048)))
         words.append(addi(to, source, value))
+    for _ in range(rng.choice((0, 0, 1, 2, 5))):
+        words += call_words(rng)
     if rng.random() < 0.9:
         words += [addi(10, 0, rng.choice((0, 3, 117, 118, 119, 127, 255, 256, -1, 2047)))] * rng.randrange(2)
         words += EXIT
-    if rng.random() < 0.05:
-        words.insert(rng.randrange(len(words) + 1), rng.choice((0x73, 0x00100073, rng.getrandbits(32))))
-    return words or [0x73]
+    return words
 
 
-NAMES_OF_SECTIONS = b'\0.text\0.data\0.eh_frame\0.rela.text\0.symtab\0.names\0'
-NAMES_OF_SYMBOLS = b'\0_start\0table\0'
-TEXT, DATA, EH_FRAME, RELA_TEXT, SYMTAB, STRINGS = (NAMES_OF_SECTIONS.index(name) for name in (
-    b'.text', b'.data', b'.eh_frame', b'.rela.text', b'.symtab', b'.names'))
+# The opcodes with a register that is written, as 7-bit opcode and, if it decides, funct3 and funct7.
+OPS = ([(0x13, f3, None) for f3 in (0, 2, 3, 4, 6, 7)] + [(0x13, 1, 0), (0x13, 5, 0), (0x13, 5, 32)]
+       + [(0x33, f3, 0) for f3 in range(8)] + [(0x33, 0, 32), (0x33, 5, 32)] + [(0x33, f3, 1) for f3 in range(8)]
+       + [(0x37, None, None), (0x17, None, None), (0x0F, 0, None)])
 
 
-def symbols(rng, most):
-    """A table of symbols that are taken, with symbol 0."""
-    rows = [(0, 0, 0, 0, 0)]
-    for _ in range(rng.choice((1, 1, 2, 9))):
-        home = rng.choice((1, 1, 0, 0xFFF1, 0xFFF2))
-        value = {1: rng.choice((0, most)), 0: 0, 0xFFF2: rng.choice((0, 1, 4, 4096))}.get(home, rng.getrandbits(32))
-        bind = rng.choice((1, 1, 2) if home in (0, 0xFFF2) else (0, 1, 2))
-        rows.append((rng.choice((0, 1, 8)), value, rng.randrange(9), bind << 4 | rng.randrange(5), home))
-    return b''.join(struct.pack('<IIIBBH', name, value, size, info, 0, home) for name, value, size, info, home in rows)
+def any_word(rng):
+    """A word of RV32IM, in few registers, near the stack pointer, with short ways to go; sometimes any word."""
+    to, first, second = (rng.choice((0, 5, 10, 10, 11, 12, 17)) for _ in range(3))
+    near = rng.choice((0, 4, 8, 12, rng.randrange(-8, 20))) & 0xFFF
+    which = rng.randrange(20)
+    if which < 11:
+        opcode, f3, f7 = rng.choice(OPS)
+        word = rng.getrandbits(32) if rng.random() < 0.3 else near << 20
+        word = word & ~0x01F00000 | second << 20 if opcode == 0x33 else word
+        word = word & ~0xFE000000 | f7 << 25 if f7 is not None else word
+        f3 = rng.randrange(8) if f3 is None else f3
+        return word & 0xFFF00000 | first << 15 | f3 << 12 | to << 7 | opcode
+    if which < 13:
+        return near << 20 | 2 << 15 | rng.choice((0, 1, 2, 4, 5)) << 12 | to << 7 | 0x03
+    if which < 15:
+        return near >> 5 << 25 | second << 20 | 2 << 15 | rng.randrange(3) << 12 | (near & 31) << 7 | 0x23
+    if which < 18:
+        return (rng.choice((2, 4, 6)) << 8 | second << 20 | first << 15 | rng.choice((0, 1, 4, 5, 6, 7)) << 12 | 0x63
+                | rng.choice((0, 0, 0, 0xFE000080)))
+    if which < 19:
+        return rng.choice((8, 12, -4, 6)) << 20 & 0x7FE00000 | rng.choice((0, 1)) << 7 | 0x6F
+    return rng.choice((0x00008067, ECALL, 0x00100073, rng.getrandbits(32)))
 
 
-def made_object(rng):
-    """An object of straight code, with sections beside it that a compiler might add."""
-    text = struct.pack(f'<{len(words)}I', *words) if (words := straight_words(rng)) else b''
-    parts = [(0, 0, 0, b'', 0, 0, 0, 0, 0), (TEXT, 1, 6, text, len(text), 0, 0, rng.choice((0, 1, 2, 4)), 0)]
-    table = symbols(rng, len(text))
-    reloc = struct.pack('<3I', 0, rng.randrange(len(table) // 16) << 8 | 23, 0)
-    for _ in range(rng.choice((0, 0, 1, 3, 60))):
-        parts.append(rng.choice(((DATA, 1, 3, b'', 0, 0, 0, 1, 0), (DATA, 8, 3, b'', 0, 0, 0, 1, 0),
-                                 (DATA, 1, 0x30, text, len(text), 0, 0, 1, 0),
-                                 (EH_FRAME, 1, 2, b'', 0, 0, 0, 4, 0))))
-    if rng.random() < 0.2:
-        changed = rng.choice((1, 1, len(parts) - 1))
-        parts.append((RELA_TEXT, 4, 0x40, reloc, 12, len(parts) + 1, changed, 4, 12))
-    if rng.random() < 0.7 or parts[-1][1] == 4:
-        parts.append((SYMTAB, 2, 0, table, len(table), len(parts) + 2, 0, 4, 16))
-    parts.append((STRINGS, 3, 0, NAMES_OF_SECTIONS, len(NAMES_OF_SECTIONS), 0, 0, 1, 0))
-    parts.append((STRINGS, 3, 0, NAMES_OF_SYMBOLS, len(NAMES_OF_SYMBOLS), 0, 0, 1, 0))
+def any_words(rng):
+    """Code of RV32IM."""
+    words = [addi(2, 2, -32), *(addi(to, 0, rng.randrange(-40, 40)) for to in (5, 10, 11, 12, 17))]
+    words += [any_word(rng) for _ in range(rng.choice((3, 10, 10, 100)))]
+    for _ in range(rng.choice((0, 0, 1))):
+        words += call_words(rng)
+    return words + [*EXIT]
+
+
+# ---- objects
+
+SECTION_NAMES = (b'.text', b'.text.second', b'.data', b'.data.second', b'.sdata', b'.sdata.second', b'.bss', b'.sbss',
+                 b'.sbss.second', b'.rodata', b'.init_array', b'.eh_frame', b'.comment', b'.rela', b'.symtab', b'.names')
+SYMBOL_NAMES = (b'', b'_start', b'table', b'main', b'buffer', b'_end', b'_starts')
+NONE, HI20, RELAX, ALIGN = 0, 26, 51, 43
+
+
+def names_of(names):
+    """A table of strings, and where each name stands in it."""
+    table, places = b'\0', {}
+    for name in names:
+        places[name] = len(table) if name else 0
+        table += name + b'\0' if name else b''
+    return table, places
+
+
+NAMES_OF_SECTIONS, SECTION_AT = names_of(SECTION_NAMES)
+NAMES_OF_SYMBOLS, SYMBOL_AT = names_of(SYMBOL_NAMES)
+
+
+class Part:
+    """A section: its name, type, flags, content, size and alignment, and what it is linked to."""
+
+    def __init__(self, name, kind, flags, content, size=None, align=1, link=0, info=0, entry=0):
+        self.name, self.kind, self.flags, self.content, self.align = name, kind, flags, content, align
+        self.size, self.link, self.info, self.entry = len(content) if size is None else size, link, info, entry
+
+
+def code_part(rng, is_straight):
+    words = (straight_words if is_straight else any_words)(rng)
+    align = rng.choice((0, 1, 2, 4, 4, 4, 16) if rng.random() < 0.1 else (0, 1, 2, 4, 4, 4))
+    return Part(rng.choice((b'.text', b'.text', b'.text.second')), 1, 6, struct.pack(f'<{len(words)}I', *words), align=align)
+
+
+def data_part(rng):
+    content = rng.choice((b'', b'hi\n', rng.randbytes(rng.choice((1, 4, 7, 64)))))
+    align = rng.choice((0, 1, 1, 2, 4, 4, 8, 16, 64, 4096))
+    name, kind, flags = rng.choice((
+        (b'.data', 1, 3), (b'.data.second', 1, 3), (b'.sdata', 1, 3), (b'.sdata.second', 1, 3), (b'.rodata', 1, 2),
+        (b'.init_array', 14, 3), (b'.data', 1, 0x13), (b'.bss', 8, 3), (b'.sbss', 8, 3), (b'.sbss.second', 8, 3),
+        (b'.sbss', 8, 2), (b'.eh_frame', 1, 2), (b'.eh_frame', 1, 6), (b'.comment', 1, 0x30)))
+    if kind == 8:
+        return Part(name, kind, flags, b'', size=rng.choice((0, 1, 4, 100, 5000)), align=align)
+    return Part(name, kind, flags, content, align=align)
+
+
+def symbols(rng, parts, is_first):
+    """A table of symbols that are taken, with symbol 0; of the first object `_start` is most likely global code."""
+    rows = [(b'', 0, 0, 0, 0)]
+    if is_first and rng.random() < 0.95:
+        code = [i for i, part in enumerate(parts) if part.flags == 6 and part.size and part.name != b'.eh_frame']
+        home = rng.choice(code) if code and rng.random() < 0.97 else rng.randrange(len(parts))
+        size = parts[home].size
+        value = rng.choice((0, 0, 0, 0, 0, 0, 4, size, 2)) if rng.random() < 0.2 else 0
+        rows.append((b'_start', min(value, size), 0, rng.choice((1, 1, 1, 2)) << 4, home))
+    for _ in range(rng.choice((0, 1, 2, 9))):
+        home = rng.choice((rng.randrange(1, len(parts)) if len(parts) > 1 else 0, 0, 0xFFF1, 0xFFF2))
+        value = {0: 0, 0xFFF1: rng.getrandbits(32), 0xFFF2: rng.choice((0, 1, 4, 64, 4096))}.get(home)
+        if value is None:
+            value = rng.choice((0, parts[home].size))
+        bind = rng.choice((1, 2) if home == 0 else (0, 0, 1, 2, 2, 2))
+        name = rng.choice(SYMBOL_NAMES if home != 0xFFF2 and rng.random() < 0.2 else (b'table', b'main', b'buffer', b'_end'))
+        rows.append((name, value, rng.randrange(9), bind << 4 | rng.randrange(5), home))
+    return b''.join(struct.pack('<IIIBBH', SYMBOL_AT[name], value, size, info, 0, home)
+                    for name, value, size, info, home in rows)
+
+
+def made_object(rng, is_straight=True, is_first=True):
+    """An object of code, with sections beside it that a compiler might add."""
+    parts = [Part(b'', 0, 0, b'', align=0)]
+    wanted = [code_part] * rng.choice((1, 1, 1, 2, 3) if is_first else (0, 1, 2))
+    wanted += [data_part] * rng.choice((0, 0, 1, 3, 6, 60))
+    if not is_first or rng.random() < 0.5:
+        rng.shuffle(wanted)
+    parts += [code_part(rng, is_straight) if make is code_part else data_part(rng) for make in wanted]
+    table = symbols(rng, parts, is_first)
+    given = len(parts)
+    for _ in range(rng.choice((0, 0, 0, 1, 2)) if given > 1 else 0):
+        kind = rng.choice((NONE, RELAX)) if rng.random() < 0.8 else rng.choice((HI20, 1, ALIGN, 23))
+        entries = b''.join(struct.pack('<3I', 4 * k, rng.randrange(len(table) // 16) << 8 | kind, 0)
+                           for k in range(rng.choice((1, 1, 3))))
+        about = rng.randrange(1, given)
+        if all(part.info != about for part in parts):
+            parts.append(Part(b'.rela', 4, 0x40, entries, align=4, link=-1, info=about, entry=12))
+    parts.append(Part(b'.symtab', 2, 0, table, align=4, link=len(parts) + 2, entry=16))
+    for part in parts:
+        part.link = len(parts) - 1 if part.link == -1 else part.link
+    parts += (Part(b'.names', 3, 0, NAMES_OF_SECTIONS), Part(b'.names', 3, 0, NAMES_OF_SYMBOLS))
     content, headers = bytes(rng.choice((0, 0, 4, 12))), b''
-    for name, kind, flags, part, size, link, info, align, entry in parts:
-        headers += struct.pack('<10I', name, kind, flags, 0, 52 + len(content), size, link, info, align, entry)
-        content += part + bytes(-len(part) % 4)
+    for part in parts:
+        headers += struct.pack('<10I', SECTION_AT.get(part.name, 0), part.kind, part.flags, 0, 52 + len(content), part.size,
+                               part.link, part.info, part.align, part.entry)
+        content += part.content + bytes(-len(part.content) % 4)
     header = struct.pack('<16sHHIIIIIHHHHHH', b'\x7fELF\1\1\1', 1, 243, 1, 0, 0, 52 + len(content),
                          rng.choice((0, 0, 0x10)), 52, 0, 0, 40, len(parts), len(parts) - 2)
     return header + content + headers
-
-
-def code_of(data):
-    """The content of section 1."""
-    table = struct.unpack_from('<I', data, 32)[0]
-    at, size = struct.unpack_from('<2I', data, table + 40 + 16)
-    return data[at:at + size]
-
-
-def short_forms(code):
-    """The code with `addi rd,x0,imm` as c.li where rd isn't x0 and imm has six bits (Zca, "c.li")."""
-    out = b''
-    for (word,) in struct.iter_unpack('<I', code):
-        to, value = word >> 7 & 31, word >> 20
-        value -= (value & 0x800) << 1
-        if word & 0xFF07F == 0x13 and to and -32 <= value < 32:
-            out += struct.pack('<H', 0x4001 | (value & 32) << 7 | to << 7 | (value & 31) << 2)
-        else:
-            out += struct.pack('<I', word)
-    return out
 
 
 # ---- mutations
@@ -273,25 +361,42 @@ MUTATIONS = (flip, file_field, section_field, section_field, section_field, entr
 # ---- calls
 
 
-def named(command, status, err, out):
-    """The outcome that a status and a line of standard error spell, with the line."""
-    if status < 0:
-        raise Wrong(f'{command}: signal {-status}')
-    if out:
-        raise Wrong(f'{command}: standard output has {out[:80]!r}')
-    if (status, err) == (0, b'') and command == 'zc':
-        return 'done', ''
-    line = err[:-1].decode('latin-1')
-    for name, (pattern, usual, commands) in OUTCOMES.items():
-        match = re.fullmatch(pattern, line)
-        if match and err.endswith(b'\n') and command in commands:
-            wanted = min(int(match[1]), 118) if usual is None else usual
-            if status != wanted or usual is None and int(match[1]) > 255:
-                break
-            if name in NAMES and NAMES[name][int(match[1])] != match[2]:
-                break
-            return name, line
-    raise Wrong(f'{command}: status {status} with {err[:200]!r}')
+class Ended:
+    """How a call ended: its outcome, with the line, and what stands on standard output and, before the line, on
+    standard error."""
+
+    def __init__(self, command, status, out, err):
+        if status < 0:
+            raise Wrong(f'{command}: signal {-status}')
+        self.out, self.name, self.line, self.err = out, 'done', b'', err
+        if (status, err) != (0, b'') or command != 'zc':
+            self.find(command, status, err)
+        if (self.out or self.err) and (command == 'zc' or self.name not in RUNS):
+            raise Wrong(f'{command}: {self.name}, but it wrote {self.out[:80]!r} and {self.err[:80]!r}')
+
+    def find(self, command, status, err):
+        text = err.decode('latin-1')
+        for name, (pattern, usual, commands) in OUTCOMES.items():
+            match = re.search(pattern + r'\n\Z', text)
+            if match and command in commands and usual in (None, status):
+                found = match.groupdict()
+                if usual is None and (int(found['status']) > 255 or status != min(int(found['status']), 118)):
+                    continue
+                if name in NAMES and NAMES[name][int(found['number'])] != found['name']:
+                    continue
+                self.name, self.line, self.err = name, err[match.start():-1], err[:match.start()]
+                self.what = found.get('name')
+                return
+        raise Wrong(f'{command}: status {status} with {err[:200]!r}')
+
+    def told(self):
+        """The outcome, and what it names."""
+        if self.name == 'bad image':
+            return self.line.decode('latin-1')
+        return self.name + (' ' + self.what if self.name in NAMES else '')
+
+    def __str__(self):
+        return f'{self.line.decode("latin-1")!r} after {self.out[:40]!r} and {self.err[:40]!r}'
 
 
 class Program:
@@ -303,15 +408,15 @@ class Program:
         self.slowest = 0.0
         self.least_memory = self.least()
 
-    def ended(self, words, memory):
+    def ended(self, words, memory, given=b''):
         """The call's end, where the process may have so much memory."""
         def limit():
             resource.setrlimit(resource.RLIMIT_AS, (memory, memory))
 
         begun = time.monotonic()
         try:
-            return subprocess.run([self.path, *words], stdin=subprocess.DEVNULL, capture_output=True, timeout=TIME_OUT,
-                                  check=False, preexec_fn=limit)
+            return subprocess.run([self.path, *words], input=given, capture_output=True, timeout=TIME_OUT, check=False,
+                                  preexec_fn=limit)
         except subprocess.TimeoutExpired:
             raise Wrong(f'{words[0]}: no end after {TIME_OUT} s') from None
         finally:
@@ -324,14 +429,11 @@ class Program:
                 return memory + MIB // 16
         raise Wrong('the program does not start')
 
-    def call(self, command, *words, memory=MOST_MEMORY):
-        ended = self.ended((command, *words), memory)
-        name, line = named(command, ended.returncode, ended.stderr, ended.stdout)
-        told = ' '.join(line.split(' ')[i] for i in (0, 2, 3)) if name == 'refused' else name
-        if name in ('stopped', 'stuck'):
-            told = name + ' ' + re.search(r'[A-Z]\w+', line)[0]
-        self.counts[command, line if name == 'bad image' else told] += 1
-        return name, line
+    def call(self, command, *words, memory=MOST_MEMORY, given=b''):
+        process = self.ended((command, *words), memory, given)
+        ended = Ended(command, process.returncode, process.stdout, process.stderr)
+        self.counts[command, ended.told()] += 1
+        return ended
 
 
 def files_in(folder):
@@ -343,32 +445,42 @@ def files_in(folder):
 
 
 class Case:
-    """A file, how it was made, and what is odd about the call."""
+    """A list of files, how they were made, and what is odd about the call."""
 
     def __init__(self, seed, number, example, image):
         rng = random.Random(f'{seed} {number}')
-        start = rng.choice(('example', 'image', 'image', 'made', 'made', 'made'))
-        data = bytearray({'example': example, 'image': image}.get(start) or made_object(rng))
-        self.how = [start]
-        for _ in range(rng.choice((0, 1, 1, 1, 2, 3, 6) if start == 'made' else (1, 1, 1, 2, 3, 6))):
+        self.how, self.files = [], []
+        is_straight = rng.random() < 0.5
+        for i in range(rng.choice((1, 1, 1, 2, 2, 3, 6))):
+            start = rng.choice(('example', 'image', 'image', 'made', 'made', 'made')) if i == 0 else 'made'
+            data = {'example': example, 'image': image}.get(start) or made_object(rng, is_straight, i == 0)
+            self.files.append(bytearray(data))
+            self.how.append(start)
+        for _ in range(rng.choice((0, 0, 1, 1, 1, 2, 3, 6)) if self.how[0] == 'made' else rng.choice((0, 1, 1, 1, 2, 3, 6))):
+            i = rng.randrange(len(self.files))
             mutation = rng.choice(MUTATIONS)
-            mutation(rng, data)
-            self.how.append(mutation.__name__)
-        self.data = bytes(data)
+            mutation(rng, self.files[i])
+            self.how.append(f'{mutation.__name__} of {i}')
+        self.files = [bytes(data) for data in self.files]
+        if rng.random() < 0.002:
+            self.files *= rng.choice((128, 257))
         self.odd = rng.choice(('no folder for OUT', 'no folder for CERT', 'no file', 'words', 'little memory')
                               + (None,) * 45)
         self.rng = rng
         self.stale = rng.random() < 0.5
+        self.given = rng.choice((b'', b'input', rng.randbytes(rng.randrange(40))))
 
     def check(self, program, folder):
-        place = {name: os.path.join(folder, name) for name in ('file', 'out', 'cert')}
-        with open(place['file'], 'wb') as file:
-            file.write(self.data)
+        names = [os.path.join(folder, f'file{i}') for i in range(len(self.files))]
+        place = {name: os.path.join(folder, name) for name in ('out', 'cert')}
+        for name, data in zip(names, self.files):
+            with open(name, 'wb') as file:
+                file.write(data)
         for name in ('out', 'cert') if self.stale else ():
             with open(place[name], 'wb') as file:
                 file.write(b'what was there')
         if self.odd == 'words':
-            self.check_words(program, place)
+            self.check_words(program, folder, names, place)
             return
         memory = MOST_MEMORY
         if self.odd == 'little memory':
@@ -379,66 +491,71 @@ class Case:
         elif self.odd == 'no folder for CERT':
             place['cert'] = os.path.join(folder, 'none', 'cert')
         elif self.odd == 'no file':
-            os.remove(place['file'])
-        self.check_link(program, folder, place, memory)
+            os.remove(self.rng.choice(names))
+        self.check_link(program, folder, names, place, memory)
 
-    def check_words(self, program, place):
+    def check_words(self, program, folder, names, place):
         """Words that spell no command, such as steps that are no number or too many."""
         steps = self.rng.choice(('', '-1', '+1', '0x10', '1000000001', '18446744073709551616', '0' * 21, '1 '))
-        words = self.rng.choice((('run',), ('trace', '--steps', steps, place['file']),
-                                 ('run', '--steps', place['file']), ('zc', place['file']),
-                                 ('zc', '--out', place['out'], place['file']),
-                                 ('zc', '--out', place['out'], '--cert', place['out'], place['file']),
-                                 ('run', '--step', STEPS, place['file']), ('run', '-' + place['file'])))
-        before = files_in(os.path.dirname(place['file']))
-        if program.call(*words)[0] != 'usage':
+        words = self.rng.choice((('run',), ('trace',), ('trace', '--steps', steps, *names), ('run', names[0], names[0]),
+                                 ('trace', *names, '-x'), ('run', '--steps', names[0]), ('zc', *names),
+                                 ('zc', '--out', place['out'], *names), ('zc', '--out', place['out'], '--cert', place['cert']),
+                                 ('zc', '--out', place['out'], '--cert', place['out'], *names),
+                                 ('run', '--step', STEPS, names[0]), ('run', '-' + names[0])))
+        before = files_in(folder)
+        if program.call(*words).name != 'usage':
             raise Wrong(f'{words}: not refused as usage')
-        if files_in(os.path.dirname(place['file'])) != before:
+        if files_in(folder) != before:
             raise Wrong('usage: a file changed')
 
-    def check_link(self, program, folder, place, memory):
+    def check_link(self, program, folder, names, place, memory):
         before = files_in(folder)
-        linked, link_line = program.call('zc', '--out', place['out'], '--cert', place['cert'], place['file'],
-                                         memory=memory)
+        linked = program.call('zc', '--out', place['out'], '--cert', place['cert'], *names, memory=memory)
         self.check_files(linked, before, files_in(folder))
-        self.check_refusal(linked, link_line)
-        traced, trace_line = program.call('trace', '--steps', STEPS, place['file'], memory=memory)
-        program.call('run', '--steps', STEPS, place['file'], memory=memory)
-        if 'out of memory' in (linked, traced) or linked == 'write fault':
-            return
-        if link_line != trace_line and 'refused' in (linked, traced):
-            raise Wrong(f'zc says {link_line!r}, but trace {trace_line!r}')
-        if linked == 'done':
-            ran, run_line = program.call('run', '--steps', STEPS, place['out'], memory=memory)
-            if ran == 'out of memory':
-                return
-            if traced != 'stuck' and run_line != trace_line:
-                raise Wrong(f'trace says {trace_line!r}, but run {run_line!r}')
-            program.counts['both', 'agree' if traced != 'stuck' else 'trace is stuck'] += 1
+        traced = program.call('trace', '--steps', STEPS, *names, memory=memory, given=self.given)
+        program.call('run', '--steps', STEPS, names[0], memory=memory, given=self.given)
+        check_refusal('zc', linked, zc_fault(self.files), ('done', 'write fault'))
+        check_refusal('trace', traced, trace_fault(self.files), ('exited', 'stuck', 'spent', 'write fault'))
+        if linked.name == 'done':
+            self.check_image(program, traced, place['out'], memory, 'image')
+        if traced.name in ('exited', 'stuck', 'spent'):
+            plain = os.path.join(folder, 'plain')
+            with open(plain, 'wb') as file:
+                file.write(image_of(self.files, is_plain=True))
+            self.check_image(program, traced, plain, memory, 'plain')
 
-    def check_refusal(self, linked, line):
-        fault, symbol = link_fault(self.data)
-        told = f'refused 0 {fault or 0} {FAULTS[fault or 0]}'
-        if symbol is not None:
-            told += ' ' + symbol.decode('latin-1')
-        if linked in ('done', 'write fault') and fault or linked == 'refused' and line != told:
-            raise Wrong(f'zc says {line!r}, but the first fault is {fault and FAULTS[fault]}')
+    def check_image(self, program, traced, image, memory, kind):
+        """The image does what the objects do."""
+        ran = program.call('run', '--steps', STEPS, image, memory=memory, given=self.given)
+        if 'out of memory' not in (traced.name, ran.name):
+            check_runs(traced, ran)
+            program.counts[kind, 'agrees' if traced.name != 'stuck' else 'trace is stuck'] += 1
 
     def check_files(self, linked, before, after):
-        if linked == 'done':
-            self.check_image(after.get('out', b''), after.get('cert', b''))
-        written = {'done': ('out', 'cert'), 'write fault': ('out',), 'out of memory': ('out',)}.get(linked, ())
+        if linked.name == 'done':
+            if after.get('out') != image_of(self.files):
+                raise Wrong('zc: done, but the image is another')
+            if after.get('cert') != CERTIFICATE:
+                raise Wrong('zc: done, but the certificate is another')
+        written = {'done': ('out', 'cert'), 'write fault': ('out',), 'out of memory': ('out',)}.get(linked.name, ())
         before, after = ({name: data for name, data in files.items() if name not in written}
                          for files in (before, after))
         if before != after:
-            raise Wrong(f'zc: {linked}, but a file changed: {sorted(after)}')
+            raise Wrong(f'zc: {linked.name}, but a file changed: {sorted(after)}')
 
-    def check_image(self, image, certificate):
-        text = short_forms(code_of(self.data))
-        if image[116:116 + len(text)] != text or image[52 + 16:52 + 20] != struct.pack('<I', len(text)):
-            raise Wrong('zc: done, but the text is another')
-        if certificate != CERTIFICATE:
-            raise Wrong('zc: done, but the certificate is another')
+
+def check_refusal(command, ended, fault, accepted):
+    """The files are refused exactly where they have a fault, and the first is named."""
+    if ended.name in accepted and fault or ended.name == 'refused' and ended.line != told(fault):
+        raise Wrong(f'{command} says {ended}, but the first fault is {told(fault)!r}')
+
+
+def check_runs(traced, ran):
+    """Both wrote the same and ended alike, or the trace is stuck and the run may go on."""
+    same = (traced.out, traced.err, traced.line) == (ran.out, ran.err, ran.line)
+    begins = ran.out.startswith(traced.out) and ran.err.startswith(traced.err)
+    if not (begins if traced.name == 'stuck' else same):
+        raise Wrong(f'trace says {traced}, but run {ran}')
 
 
 # ---- the run
@@ -447,18 +564,20 @@ class Case:
 def linked_example(program, example):
     with tempfile.TemporaryDirectory() as folder:
         out = os.path.join(folder, 'out')
-        if program.call('zc', '--out', out, '--cert', os.path.join(folder, 'cert'), example)[0] != 'done':
+        if program.call('zc', '--out', out, '--cert', os.path.join(folder, 'cert'), example).name != 'done':
             raise Wrong('the example is not linked')
         with open(out, 'rb') as file:
             return file.read()
 
 
-def keep(folder, seed, number, data):
+def keep(folder, seed, number, files):
+    """Writes the files of a case, and gives the names of the first few."""
     os.makedirs(folder, exist_ok=True)
-    path = os.path.join(folder, f'seed-{seed}-case-{number}')
-    with open(path, 'wb') as file:
-        file.write(data)
-    return path
+    paths = [os.path.join(folder, f'seed-{seed}-case-{number}-{i}') for i in range(len(files))]
+    for path, data in zip(paths, files):
+        with open(path, 'wb') as file:
+            file.write(data)
+    return ' '.join(paths[:6])
 
 
 def fuzz(program, given, example, image):
@@ -475,8 +594,8 @@ def fuzz(program, given, example, image):
                 case.check(program, folder)
             except Wrong as reason:
                 wrong += 1
-                print(f'WRONG: case {number}, {" ".join(case.how)}, {case.odd}: {reason}; '
-                      f'file: {keep(given.keep, given.seed, number, case.data)}')
+                print(f'WRONG: case {number}, {", ".join(case.how)}, {case.odd}: {reason}; '
+                      f'files: {keep(given.keep, given.seed, number, case.files)}')
     return made, wrong
 
 
@@ -496,7 +615,7 @@ def main():
     image = linked_example(program, example)
     begun = time.monotonic()
     made, wrong = fuzz(program, given, data, image)
-    calls = sum(count for (command, _), count in program.counts.items() if command != 'both')
+    calls = sum(count for (command, _), count in program.counts.items() if command in ('zc', 'trace', 'run'))
     print(f'seed {given.seed}: {made} cases, {calls} calls in {time.monotonic() - begun:.0f} s, '
           f'the longest {program.slowest * 1000:.0f} ms')
     for (command, told), count in sorted(program.counts.items()):

@@ -1,8 +1,8 @@
-"""The first fault of an object, by the System V gABI and the RISC-V ELF psABI.
+"""The first fault of a list of objects, by the System V gABI and the RISC-V ELF psABI.
 
     fuzz/object_faults.py FILE...
 
-It knows nothing of the program, so that both can be compared.
+says how `zc` and `trace` refuse the files. It knows nothing of the program, so that both can be compared.
 """
 import struct
 import sys
@@ -11,7 +11,7 @@ NAMES = ('NotBuilt', 'NotElf', 'Truncated', 'Flags', 'SectionKind', 'Alignment',
          'Duplicate', 'Undefined', 'RelocKind', 'RelocPlace', 'LoPair', 'BadTarget', 'Range', 'NoEntry', 'TooLarge')
 
 LINKER_NAMES = (b'__global_pointer$', b'__bss_start', b'_end', b'__stack_top')
-ALIGN = 43
+RELOC_NONE, ALIGN, RELAX = 0, 43, 51
 
 NULL, PROGBITS, SYMTAB, STRTAB, RELA, NOBITS, REL, GROUP, SYMTAB_SHNDX = 0, 1, 2, 3, 4, 8, 9, 17, 18
 MEMORY = (PROGBITS, NOBITS, 14, 15, 16)
@@ -102,48 +102,35 @@ class Object:
                 or any(info >> 8 >= len(self.symbols) for s in self.kept_relas()
                        for _, info, _ in struct.iter_unpack('<3I', s.content)))
 
+    def is_code(self, i):
+        return self.kept[i] and bool(self.sections[i].flags & EXECINSTR)
 
     def relocations(self, is_code=False):
         """The relocations of kept sections, or of kept code alone: the symbol, the type and the addend."""
         for s in self.kept_relas():
-            if not is_code or self.sections[s.info].flags & EXECINSTR:
+            if not is_code or self.is_code(s.info):
                 for _, info, addend in struct.iter_unpack('<IIi', s.content):
                     yield info >> 8, info & 255, addend
 
-    def is_too_large(self):
-        """Whether the code or the data may take more room than a link has."""
-        code = [s for s in self.kept_sections() if s.flags & EXECINSTR]
-        rooms = sum(s.size + max(4, s.align) for s in code)
-        rooms += sum(1 << addend.bit_length() if 1 <= addend <= 255 else 256
-                     for _, kind, addend in self.relocations(True) if kind == ALIGN)
-        data = sum(s.size + max(1, s.align) for s in self.kept_sections() if not s.flags & EXECINSTR)
-        data += sum(size + max(1, value) for _, value, size, _, _, home in self.symbols[1:] if home == COMMON)
-        return rooms > 1 << 18 or data + 96 > 4 << 20
+    def code_room(self):
+        """The most room that the code may take."""
+        return (sum(s.size + max(4, s.align) for i, s in enumerate(self.sections) if self.is_code(i))
+                + sum(1 << addend.bit_length() if 1 <= addend <= 255 else 256
+                      for _, kind, addend in self.relocations(True) if kind == ALIGN))
+
+    def data_room(self):
+        """The most room that the data may take."""
+        return (sum(s.size + max(1, s.align) for s in self.kept_sections() if not s.flags & EXECINSTR)
+                + sum(size + max(1, value) for _, value, size, _, _, home in self.symbols[1:] if home == COMMON))
 
     def symbol_name(self, i):
         return string_at(self.strings(self.tables[0].link), self.symbols[i][0])
 
-    def second_definition(self):
-        """The first symbol that is a second strong definition of its name, or none."""
-        seen = set()
-        for i, (_, _, _, info, _, home) in enumerate(self.symbols):
-            if i and info >> 4 == 1 and home not in (UNDEF, COMMON):
-                if self.symbol_name(i) in seen:
-                    return i
-                seen.add(self.symbol_name(i))
-        return None
-
-    def missing_definition(self):
-        """The first global symbol that a relocation uses and nothing defines, or none."""
-        defined = set(LINKER_NAMES)
-        for i, (_, _, _, info, _, home) in enumerate(self.symbols):
-            if i and (home == COMMON or home != UNDEF and info >> 4):
-                defined.add(self.symbol_name(i))
-        used = {symbol for symbol, _, _ in self.relocations()}
-        for i, (_, _, _, info, _, home) in enumerate(self.symbols):
-            if i in used and i and info >> 4 == 1 and home == UNDEF and self.symbol_name(i) not in defined:
-                return i
-        return None
+    def named_symbols(self):
+        """Each symbol but symbol 0: its index, name, value, size, binding and home."""
+        for i, (_, value, size, info, _, home) in enumerate(self.symbols):
+            if i:
+                yield i, self.symbol_name(i), value, size, info >> 4, home
 
 
 def not_elf(data):
@@ -176,25 +163,129 @@ def object_fault(data):
     return 8 if read.has_bad_symbol() else None
 
 
-def link_fault(data):
-    """The number of the first fault of a link of this object alone, and the name of a symbol; none for each that isn't there."""
-    fault = object_fault(data)
-    if fault is not None:
-        return fault, None
-    read = Object(data)
-    if read.is_too_large():
-        return 17, None
-    for fault, symbol in ((9, read.second_definition()), (10, read.missing_definition())):
-        if symbol is not None:
-            return fault, read.symbol_name(symbol)
-    return None, None
+# ---- faults between objects
+
+
+def gather_fault(files):
+    """The first fault of a list of files before their code is looked at, or none: the object's index, the fault's number, and
+    the name of a symbol or none."""
+    if len(files) > 256:
+        return 256, 17, None
+    for i, data in enumerate(files):
+        fault = object_fault(data)
+        if fault is not None:
+            return i, fault, None
+    objects = [Object(data) for data in files]
+    length = code = data = 0
+    for i, read in enumerate(objects):
+        length, code, data = length + len(files[i]), code + read.code_room(), data + read.data_room()
+        if length > 32 << 20 or code > 1 << 18 or data + 96 > 4 << 20:
+            return i, 17, None
+    return second_definition(objects) or missing_definition(objects)
+
+
+def second_definition(objects):
+    """The first symbol that is a second global definition of its name."""
+    seen = set()
+    for i, read in enumerate(objects):
+        for _, name, _, _, bind, home in read.named_symbols():
+            if bind == 1 and home not in (UNDEF, COMMON):
+                if name in seen:
+                    return i, 9, name
+                seen.add(name)
+    return None
+
+
+def missing_definition(objects):
+    """The first global symbol that a relocation uses and nothing defines."""
+    defined = set(LINKER_NAMES)
+    for read in objects:
+        defined.update(name for _, name, _, _, bind, home in read.named_symbols()
+                       if home == COMMON or home != UNDEF and bind)
+    for i, read in enumerate(objects):
+        used = {symbol for symbol, _, _ in read.relocations()}
+        for k, name, _, _, bind, home in read.named_symbols():
+            if k in used and bind == 1 and home == UNDEF and name not in defined:
+                return i, 10, name
+    return None
+
+
+def definition(objects, wanted):
+    """What a name is: its global definition, else common, else its first weak definition: the object's index, the home and
+    the value, or none."""
+    found = {1: None, 2: None, COMMON: None}
+    for i, read in enumerate(objects):
+        for _, name, value, _, bind, home in read.named_symbols():
+            if name == wanted and (home == COMMON or home != UNDEF and bind):
+                key = COMMON if home == COMMON else bind
+                found[key] = found[key] or (i, home, value)
+    return found[1] or found[COMMON] or found[2]
+
+
+def entry(objects):
+    """Where the program starts: the object, the section and the offset of `_start`, if an instruction of code starts there."""
+    found = definition(objects, b'_start')
+    if found is None:
+        return None
+    i, home, value = found
+    read = objects[i]
+    is_start = home < read.count and read.is_code(home) and value % 4 == 0 and value < read.sections[home].size
+    return (i, home, value) if is_start else None
+
+
+def has_relocation(read):
+    return any(kind not in (RELOC_NONE, RELAX) for _, kind, _ in read.relocations())
+
+
+def is_linked(word):
+    """`addi` and `ecall`, of which links are built."""
+    return word & 0x707F == 0x13 or word == 0x73
+
+
+def is_unlinked(read):
+    """Whether the object has something that no link is built of."""
+    return has_relocation(read) or any(
+        s.align > 4 or not all(is_linked(word) for word, in struct.iter_unpack('<I', s.content))
+        for i, s in enumerate(read.sections) if read.is_code(i))
+
+
+def refusal(files, is_unbuilt):
+    """The first fault of a command that refuses objects of this kind."""
+    found = gather_fault(files)
+    if found:
+        return found
+    objects = [Object(data) for data in files]
+    unbuilt = next((i for i, read in enumerate(objects) if is_unbuilt(read)), None)
+    if unbuilt is not None:
+        return unbuilt, 0, None
+    return None if entry(objects) else (0, 16, None)
+
+
+def zc_fault(files):
+    """The first fault for which `zc` refuses the files."""
+    return refusal(files, is_unlinked)
+
+
+def trace_fault(files):
+    """The first fault for which `trace` refuses the files."""
+    return refusal(files, has_relocation)
+
+
+def told(found):
+    """The line of a refusal, or an empty one."""
+    if found is None:
+        return b''
+    i, fault, name = found
+    return f'refused {i} {fault} {NAMES[fault]}'.encode() + (b'' if name is None else b' ' + name)
 
 
 def main():
+    files = []
     for path in sys.argv[1:]:
         with open(path, 'rb') as file:
-            fault, name = link_fault(file.read())
-        print(path, 'none' if fault is None else f'{fault} {NAMES[fault]}', '' if name is None else repr(name))
+            files.append(file.read())
+    for command, found in (('zc', zc_fault(files)), ('trace', trace_fault(files))):
+        print(f'{command}:', told(found).decode('latin-1') or 'no fault')
 
 
 if __name__ == '__main__':

@@ -1,9 +1,12 @@
 -- What is known of `trace`: its refusals, how its work ends, and what that does to the counts.
-use Rattle.std.proofs.Common.{ℕ, List, refl, sym, subst, inl, inr}
+use Rattle.std.proofs.Common.{ℕ, List, refl, sym, subst, ◌⊎◌, inl, inr}
 use Rattle.psabi_sym.specs.Inputs.{Inputs}
+use Rattle.block_cut.specs.Faults.{first_fault}
+use Rattle.sym_machine.specs.RunEnd.{IfConsole}
 use Rattle.sym_machine.specs.declared.run.TraceEnd.{TraceEnd}
 use Rattle.sym_machine.specs.declared.run.TraceEnd.TheVariants as end
-use Rattle.zc_outside.specs.Desk.{Desk, OnlyWrites}
+use Rattle.zc_outside.specs.Desk.{Desk, OnlyWrites, WriteCause}
+use Rattle.zc_outside.specs.declared.console.ConsoleFault.TheVariants as console
 use Rattle.zcld.specs.declared.outcome.Outcome.{Outcome}
 use Rattle.zcld.specs.Call.{task_of}
 use Rattle.zcld.specs.Command.{Trace}
@@ -11,22 +14,30 @@ use Rattle.zcld.specs.Objects.{inputs_of}
 use Rattle.zcld.specs.Trace.{TraceWork, Traces, trace_outcome}
 use Rattle.zcld.specs.Task.{Task}
 use Rattle.zcld.proofs.Answering.{Facts, IsAnswer, no_memory}
-use Rattle.zcld.proofs.MachineFacts.{machine_ends, machine_moves, no_writes}
-use Rattle.zcld.proofs.ZcFacts.{objects_refuse}
-
--- each end is an answer
-end_of_trace : (answer : TraceEnd) → IsAnswer (trace_outcome answer)
-end_of_trace (end.Exited code) = tt
-end_of_trace (end.Stuck place why) = tt
-end_of_trace end.Spent = tt
+use Rattle.zcld.proofs.MachineFacts.{IsRefusedWrite, machine_ends, machine_moves, no_writes}
+use Rattle.zcld.proofs.ZcFacts.{fault_refuses}
 
 module _ (steps : ℕ) (objects : List (List ℕ)) where
   abbrev task : Task
   task = task_of (Trace steps objects)
 
-  traces_end : (inputs : Inputs) (input : List ℕ) (outcome : Outcome) (before after : Desk) → Traces inputs steps input outcome before after → IsAnswer outcome
-  traces_end inputs input outcome before after (inl memory) = no_memory outcome memory.0
-  traces_end inputs input outcome before after (inr run) = subst IsAnswer (sym run.outcome_is) (end_of_trace run.answer)
+  -- each end but a write that was refused is an answer
+  end_of_trace :
+      (answer : TraceEnd) (before after : Desk) → IfConsole answer (WriteCause before after) →
+      IsAnswer (trace_outcome answer) ⊎ IsRefusedWrite task (trace_outcome answer) before after
+  end_of_trace (end.Exited code) before after cause = inl tt
+  end_of_trace (end.Stuck place why) before after cause = inl tt
+  end_of_trace end.Spent before after cause = inl tt
+  end_of_trace (end.Console console.Failed) before after cause = inr (record { writes = refl; known = λ e. cc; counted = cause.0; unsure = cause.1 })
+  end_of_trace (end.Console console.OutOfMemory) before after cause = inl tt
+  end_of_trace end.OutOfMemory before after cause = inl tt
+
+  traces_end :
+      (inputs : Inputs) (input : List ℕ) (outcome : Outcome) (before after : Desk) → Traces inputs steps input outcome before after →
+      IsAnswer outcome ⊎ IsRefusedWrite task outcome before after
+  traces_end inputs input outcome before after (inl memory) = inl (no_memory outcome memory.0)
+  traces_end inputs input outcome before after (inr run) =
+      subst (λ o. IsAnswer o ⊎ IsRefusedWrite task o before after) (sym run.outcome_is) (end_of_trace run.answer before after run.cause)
 
   traces_write : (inputs : Inputs) (input : List ℕ) (outcome : Outcome) (before after : Desk) → Traces inputs steps input outcome before after → OnlyWrites before after
   traces_write inputs input outcome before after (inl memory) = no_writes before after memory.1
@@ -34,7 +45,7 @@ module _ (steps : ℕ) (objects : List (List ℕ)) where
 
   pub trace_facts : Facts task (TraceWork steps)
   trace_facts = record {
-    refuses = objects_refuse;
-    ends = λ files. machine_ends task refl (Traces (inputs_of files) steps) (λ input outcome before after traces. inl (traces_end (inputs_of files) input outcome before after traces));
+    refuses = λ files. fault_refuses (first_fault (inputs_of files));
+    ends = λ files. machine_ends task refl (Traces (inputs_of files) steps) (traces_end (inputs_of files));
     moves = λ files. machine_moves task refl (Traces (inputs_of files) steps) (traces_write (inputs_of files));
   }

@@ -1,27 +1,23 @@
 -- What is known of `zc`: its refusals, how its work ends, and what that does to the counts.
 use Rattle.std.proofs.Common.{◌≡◌, ℕ, List, Option, Some, None, refl, sym, ap, subst, ◌⊎◌, inl, inr, arith}
 use Rattle.std.proofs.lemmas.Option.{same_Some, none-some}
-use Rattle.std.specs.Option.{option_map}
 use Rattle.elf32_read.specs.declared.fault.Fault.{Fault}
-use Rattle.block_cut.specs.Faults.{first_fault}
+use Rattle.zc_link.specs.Faults.{zc_fault}
 use Rattle.zc_outside.specs.Shelf.{OnlyPuts, Shelf}
 use Rattle.zc_outside.specs.World.{World}
 use Rattle.zcld.specs.declared.outcome.Outcome.{Outcome}
 use Rattle.zcld.specs.declared.outcome.Outcome.TheVariants.{Done, Refused, WriteFault, OutOfMemory}
 use Rattle.zcld.specs.Call.{task_of}
 use Rattle.zcld.specs.Command.{Zc}
-use Rattle.zcld.specs.Objects.{inputs_of, objects_refusal}
+use Rattle.zcld.specs.Objects.{inputs_of, refused_for}
 use Rattle.zcld.specs.Zc.{PutsInTurn, ZcWork}
 use Rattle.zc_outside.proofs.Shelf.{OnlyPuts-refl}
 use Rattle.zcld.proofs.Answering.{Facts, IsAnswer, IsFaulted, Moves, no_memory}
 
 -- a refusal of objects is an answer
-pub objects_refuse : (files : List (List ℕ)) (outcome : Outcome) → objects_refusal files ≡ Some outcome → IsAnswer outcome
-objects_refuse files outcome is = by_fault (first_fault (inputs_of files)) is
-  where
-    by_fault : (found : Option (ℕ × Fault)) → option_map (λ f. Refused f.0 f.1) found ≡ Some outcome → IsAnswer outcome
-    by_fault None none = absurd (none-some outcome none)
-    by_fault (Some f) some = subst IsAnswer (same_Some (Refused f.0 f.1) outcome some) tt
+pub fault_refuses : (found : Option (ℕ × Fault)) (outcome : Outcome) → refused_for found ≡ Some outcome → IsAnswer outcome
+fault_refuses None outcome none = absurd (none-some outcome none)
+fault_refuses (Some f) outcome some = subst IsAnswer (same_Some (Refused f.0 f.1) outcome some) tt
 
 -- a put that failed was counted, at a store that isn't sure
 puts_end :
@@ -60,4 +56,4 @@ module _ (out cert : List ℕ) (objects : List (List ℕ)) where
       }
 
   pub zc_facts : Facts (task_of (Zc out cert objects)) (ZcWork out cert)
-  zc_facts = record { refuses = objects_refuse; ends = zc_ends; moves = zc_moves }
+  zc_facts = record { refuses = λ files. fault_refuses (zc_fault (inputs_of files)); ends = zc_ends; moves = zc_moves }

@@ -5,6 +5,8 @@ use Rattle.zc_base.specs.MemMap.{standard_map}
 use Rattle.zc_outside.specs.Wanted.{Wanted, each_within}
 use Rattle.psabi_sym.specs.Inputs.{Inputs}
 use Rattle.block_cut.specs.Faults.{first_fault}
+use Rattle.zc_link.specs.Faults.{zc_fault}
+use Rattle.elf32_read.specs.declared.fault.Fault.{Fault}
 use Rattle.zcld.specs.declared.outcome.Outcome.{Outcome}
 use Rattle.zcld.specs.declared.outcome.Outcome.TheVariants.{Refused, OutOfMemory}
 use Rattle.zcld.specs.declared.limits.TheConstants.{OBJECT_LIMIT}
@@ -14,13 +16,21 @@ abbrev pub inputs_of : List (List ℕ) → Inputs
 inputs_of files = record { files = files; map = standard_map }
 
 -- a refusal names the first fault that stands in the objects, with its object's index
-abbrev pub objects_refusal : List (List ℕ) → Option Outcome
-objects_refusal files = option_map (λ found. Refused found.0 found.1) (first_fault (inputs_of files))
+abbrev pub refused_for : Option (ℕ × Fault) → Option Outcome
+refused_for fault = option_map (λ found. Refused found.0 found.1) fault
+
+-- the refusal of a link, of which code that isn't linked yet is a fault
+abbrev pub link_refusal : List (List ℕ) → Option Outcome
+link_refusal files = refused_for (zc_fault (inputs_of files))
+
+-- the refusal of a trace
+abbrev pub trace_refusal : List (List ℕ) → Option Outcome
+trace_refusal files = refused_for (first_fault (inputs_of files))
 
 -- objects are read up to their limit
 abbrev pub objects_wanted : List (List ℕ) → List Wanted
 objects_wanted names = each_within OBJECT_LIMIT names
 
--- why objects that were read go no further: they are refused, or memory ran out
-abbrev pub RefusalCause : List (List ℕ) → Outcome → Type 0
-RefusalCause files outcome = (objects_refusal files ≡ Some outcome) ⊎ (outcome ≡ OutOfMemory)
+-- why objects that were read go no further: they are refused for this fault, or memory ran out
+abbrev pub RefusalCause : Option (ℕ × Fault) → Outcome → Type 0
+RefusalCause fault outcome = (refused_for fault ≡ Some outcome) ⊎ (outcome ≡ OutOfMemory)

@@ -76,12 +76,14 @@ pub const THREE_IMAGE: [u8; 460] = [
     0x00, 0x00, 0x00, 0x00, 0x01, 0x00, 0x00, 0x00, 0x00, 0x00, 0x00, 0x00,
 ];
 
-/// The file `x` of a call.
+/// The file `x` of a call. `Code` is the object with other words in the place of the three instructions,
+/// each as eight hexadecimal digits.
 #[derive(Clone, Copy)]
 pub enum File<'a> {
     Object,
     Image,
     Bytes(&'a [u8]),
+    Code(&'a str),
 }
 
 /// A call: its words, with a space between, the file `x` of its store, and what is changed, as `Setup`
@@ -125,12 +127,13 @@ pub const TRACE_TWO: Call = Call {
     ..ZC
 };
 
-/// How a call should end: the outcome, its line, the program's status, how many bytes of the input are
-/// left, and how many of the files `o` and `c` stand. Nothing else is written, and `x` and `z` stay as
-/// they were.
+/// How a call should end: the outcome, what is written to standard output and to standard error, where
+/// the outcome's line is the last, the program's status, how many bytes of the input are left, and how
+/// many of the files `o` and `c` stand. `x` and `z` stay as they were.
 #[derive(Clone, Copy)]
 pub struct End<'a> {
     pub outcome: Outcome,
+    pub out: &'a str,
     pub line: &'a str,
     pub status: u8,
     pub input: usize,
@@ -139,6 +142,7 @@ pub struct End<'a> {
 
 pub const DONE: End = End {
     outcome: Outcome::Done,
+    out: "",
     line: "",
     status: 0,
     input: 5,
@@ -152,6 +156,7 @@ pub const EXITED_3: End = End {
     status: 3,
     input: 0,
     files: 0,
+    ..DONE
 };
 
 pub const SPENT: End = End {
@@ -165,8 +170,8 @@ pub const USAGE: End = End {
     outcome: Outcome::Usage,
     line: "usage\n",
     status: 120,
-    input: 5,
     files: 0,
+    ..DONE
 };
 
 pub const READ_FAULT: End = End {
@@ -220,11 +225,46 @@ fn words_in(alloc: Global, text: &str) -> Result<Vec<String>, AllocError> {
     Ok(words)
 }
 
-fn bytes_of(file: File) -> &[u8] {
+fn file_of(alloc: Global, file: File) -> Result<Vec<u8>, Fail> {
     match file {
-        File::Object => &THREE,
-        File::Image => &THREE_IMAGE,
-        File::Bytes(bytes) => bytes,
+        File::Object => Ok(Vec::from_slice(alloc, &THREE)?),
+        File::Image => Ok(Vec::from_slice(alloc, &THREE_IMAGE)?),
+        File::Bytes(bytes) => Ok(Vec::from_slice(alloc, bytes)?),
+        File::Code(words) => object_of(alloc, words),
+    }
+}
+
+// The object with this code, and with all that comes after it moved.
+fn object_of(alloc: Global, words: &str) -> Result<Vec<u8>, Fail> {
+    let mut object = Vec::from_slice(alloc, &THREE[..52])?;
+    let mut size = 0u32;
+    for word in words.split_whitespace() {
+        object.extend_from_slice(&u32::from_str_radix(word, 16)?.to_le_bytes())?;
+        size = size.wrapping_add(4);
+    }
+    object.extend_from_slice(&THREE[64..])?;
+    let headers = size.wrapping_add(128);
+    write_word(&mut object, 32, headers)?;
+    write_word(&mut object, headers.wrapping_add(60), size)?;
+    for (field, at) in [(96, 52), (136, 84), (176, 92)] {
+        write_word(
+            &mut object,
+            headers.wrapping_add(field),
+            size.wrapping_add(at),
+        )?;
+    }
+    Ok(object)
+}
+
+// Writes a word, if the file has it.
+fn write_word(file: &mut [u8], at: u32, word: u32) -> Result<(), Fail> {
+    let at = at as usize;
+    let length = file.len();
+    if at < length && length - at >= 4 {
+        put_u32(file, at, word);
+        Ok(())
+    } else {
+        Err(Fail::new("no word"))
     }
 }
 
@@ -242,7 +282,7 @@ struct Setup {
 impl Setup {
     fn new(alloc: Global, call: &Call) -> Result<Setup, Fail> {
         let mut setup = Setup {
-            first: Vec::from_slice(alloc, bytes_of(call.file))?,
+            first: file_of(alloc, call.file)?,
             second: Vec::from_slice(alloc, &THREE)?,
             at_second: false,
             store_fails: Vec::new(alloc),
@@ -254,8 +294,8 @@ impl Setup {
         Ok(setup)
     }
 
-    // Makes a change: `s1` and `c1` let call 1 of the store or the console fail, `..51` cuts the file to
-    // 51 bytes, and `16:f3` or `16:000000f3` writes the byte or the word with these hexadecimal digits.
+    // Makes a change: `s1` and `c1` let call 1 of the store or the console fail, `..51` makes the file 51
+    // bytes long, with zeros after those that it has, and `16:f3` or `16:000000f3` writes the byte or the word with these hexadecimal digits.
     // Those after `/` change the file `z`.
     fn change(&mut self, change: &str) -> Result<(), Fail> {
         if change == "/" {
@@ -265,10 +305,10 @@ impl Setup {
         } else if let Some(number) = change.strip_prefix("c") {
             self.console_fails.push(number.parse::<u32>()?)?;
         } else if let Some(length) = change.strip_prefix("..") {
-            self.file().truncate(length.parse::<usize>()?);
+            self.file().resize(length.parse::<usize>()?, 0)?;
         } else {
             let (at, digits) = change.split_once(":").ok_or("no change")?;
-            self.write(at.parse::<usize>()?, digits)?;
+            self.write(at.parse::<u32>()?, digits)?;
         }
         Ok(())
     }
@@ -282,14 +322,11 @@ impl Setup {
         }
     }
 
-    fn write(&mut self, at: usize, digits: &str) -> Result<(), Fail> {
-        let file = self.file();
-        let length = file.len();
-        if digits.len() == 8 && at < length && length - at >= 4 {
-            put_u32(file, at, u32::from_str_radix(digits, 16)?);
-        } else {
-            *file.get_mut(at).ok_or("no byte")? = u8::from_str_radix(digits, 16)?;
+    fn write(&mut self, at: u32, digits: &str) -> Result<(), Fail> {
+        if digits.len() == 8 {
+            return write_word(self.file(), at, u32::from_str_radix(digits, 16)?);
         }
+        *self.file().get_mut(at as usize).ok_or("no byte")? = u8::from_str_radix(digits, 16)?;
         Ok(())
     }
 }
@@ -330,7 +367,7 @@ pub fn expect<R: Abort + AllocGlobal>(rt: &R, call: &Call, end: &End) -> Result<
     let want = (
         end.outcome,
         end.line.as_bytes(),
-        b"".as_slice(),
+        end.out.as_bytes(),
         end.status,
         (end.input, end.files, true),
     );

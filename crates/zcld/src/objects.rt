@@ -1,17 +1,15 @@
-// The objects that a command links or traces: their files are read, and then they are gathered.
+// The files of the objects that a command links or traces.
 
-ghost use Rattle.std.specs.Prelude.{◌≡◌, IfOk, IfErr, OnOk};
+ghost use Rattle.std.specs.Prelude.{IfErr, OnOk};
 ghost use Rattle.psabi_sym.specs.Objects.{contents_of};
 ghost use Rattle.zc_outside.specs.Wanted.{AreRead, ReadsAll};
 ghost use Rattle.zcld.specs.Command.{texts};
-ghost use Rattle.zcld.specs.Objects.{RefusalCause, inputs_of, objects_wanted};
+ghost use Rattle.zcld.specs.Objects.{objects_wanted};
 ghost use Rattle.zcld.specs.Task.{UnreadCause};
 
 use crate::limits::OBJECT_LIMIT;
 use crate::outcome::Outcome;
-use psabi_sym::objects::Objects;
 use std::alloc::Global;
-use zc_base::mem_map::MemMap;
 use zc_outside::read_files::read_files;
 use zc_outside::store::Store;
 
@@ -30,15 +28,6 @@ pub fn read_objects<S: Store>(
 {
     read_files(alloc, names, OBJECT_LIMIT, files, store)?;
     Ok(())
-}
-
-/// The objects in these files, under the standard map, or how the call ends without them.
-#[tactic(auto, using(block_cut::proofs::StraightLaws::gather_refusal))]
-pub fn gathered(alloc: Global, files: &[Vec<u8>]) -> Result<Objects, Outcome>
-    ensures ok { IfOk result (λ objects. objects ≡ inputs_of (contents_of files.now)) }
-    ensures err { IfErr result (RefusalCause (contents_of files.now)) }
-{
-    Ok(Objects::gather(alloc, files, MemMap::standard())?)
 }
 
 #[cfg(test)]

@@ -11,13 +11,15 @@ ghost use Rattle.zcld.specs.Objects.{RefusalCause, inputs_of};
 ghost use Rattle.zcld.specs.Trace.{Traces, trace_outcome as outcome_of_end};
 
 use crate::input::take_all;
-use crate::objects::{gathered, read_objects};
+use crate::objects::read_objects;
 use crate::outcome::Outcome;
 use block_cut::cut::Cut;
+use psabi_sym::objects::Objects;
 use std::alloc::Global;
 use sym_machine::run::{TraceEnd, run as run_machine};
 use sym_machine::sym::Sym;
-use zc_outside::console::Console;
+use zc_base::mem_map::MemMap;
+use zc_outside::console::{Console, ConsoleFault};
 use zc_outside::store::Store;
 
 /// Runs the objects under these names at the places of their own code, over the console's whole input,
@@ -43,12 +45,13 @@ pub fn trace<S: Store, C: Console>(
 }
 
 // The objects in these files, cut into items, or how the call ends without that.
+#[tactic(auto, using(block_cut::proofs::FaultLaws::gather_refusal))]
 fn cut_files(alloc: Global, files: &[Vec<u8>]) -> Result<Cut, Outcome>
     ensures faultless { IfOk result (λ cut. first_fault (inputs_of (contents_of files.now)) ≡ None) }
     ensures ok { IfOk result (λ cut. cut ≡ inputs_of (contents_of files.now)) }
-    ensures err { IfErr result (RefusalCause (contents_of files.now)) }
+    ensures err { IfErr result (RefusalCause (first_fault (inputs_of (contents_of files.now)))) }
 {
-    let objects = gathered(alloc, files)?;
+    let objects = Objects::gather(alloc, files, MemMap::standard())?;
     Ok(Cut::new(alloc, objects)?)
 }
 
@@ -75,6 +78,10 @@ fn trace_outcome(end: TraceEnd) -> Outcome
         TraceEnd::Exited(code) => Outcome::Exited(code),
         TraceEnd::Stuck(place, why) => Outcome::Stuck(place, why),
         TraceEnd::Spent => Outcome::Spent,
+        TraceEnd::Console(ConsoleFault::Failed) => Outcome::WriteFault,
+        TraceEnd::Console(ConsoleFault::OutOfMemory) | TraceEnd::OutOfMemory => {
+            Outcome::OutOfMemory
+        }
     }
 }
 

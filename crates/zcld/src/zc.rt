@@ -2,7 +2,7 @@
 
 ghost use Rattle.std.specs.Prelude.{◌≡◌, ◌≢◌, IfOk, IfErr, None};
 ghost use Rattle.psabi_sym.specs.Objects.{contents_of};
-ghost use Rattle.block_cut.specs.Faults.{first_fault};
+ghost use Rattle.zc_link.specs.Faults.{zc_fault};
 ghost use Rattle.zc_link.specs.Linked.{IsZcLink};
 ghost use Rattle.zc_outside.specs.Desk.{Desk};
 ghost use Rattle.zc_outside.specs.Shelf.{OnlyPuts};
@@ -12,9 +12,11 @@ ghost use Rattle.zcld.specs.Command.{Zc, texts};
 ghost use Rattle.zcld.specs.Objects.{RefusalCause, inputs_of};
 ghost use Rattle.zcld.specs.Zc.{PutsInTurn, empty_certificate};
 
-use crate::objects::{gathered, read_objects};
+use crate::objects::read_objects;
 use crate::outcome::Outcome;
+use psabi_sym::objects::Objects;
 use std::alloc::Global;
+use zc_base::mem_map::MemMap;
 use zc_link::link_zc::link_zc;
 use zc_link::linked::Linked;
 use zc_outside::store::{Store, StoreFault};
@@ -44,12 +46,13 @@ pub fn zc<S: Store>(
 }
 
 // What the objects in these files are linked to, or how the call ends without that.
+#[tactic(auto, using(crate::proofs::Refusals::gather_refuses_link))]
 fn link(alloc: Global, files: &[Vec<u8>]) -> Result<Linked, Outcome>
-    ensures faultless { IfOk result (λ linked. first_fault (inputs_of (contents_of files.now)) ≡ None) }
+    ensures faultless { IfOk result (λ linked. zc_fault (inputs_of (contents_of files.now)) ≡ None) }
     ensures ok { IfOk result (λ linked. IsZcLink (inputs_of (contents_of files.now)) linked) }
-    ensures err { IfErr result (RefusalCause (contents_of files.now)) }
+    ensures err { IfErr result (RefusalCause (zc_fault (inputs_of (contents_of files.now)))) }
 {
-    let objects = gathered(alloc, files)?;
+    let objects = Objects::gather(alloc, files, MemMap::standard())?;
     Ok(link_zc(alloc, objects)?)
 }
 

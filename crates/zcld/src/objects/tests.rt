@@ -28,6 +28,28 @@ trace x z y";
     expect_both(&rt, "0:00 s1", &READ_FAULT)
 }
 
+// A section of relocations is added, whose one entry lies at this offset of the file: in the code, whose
+// second word then names symbol 1, or in the header of the code, of type 6; a name in the second object is
+// then undefined, or its relocation isn't built, and the first object's `_start` is renamed.
+#[test]
+fn relocations_of_a_second_object_are_looked_at(rt: HostRuntime) -> Result<(), Fail> {
+    let undefined = refused(
+        1,
+        Fault::Undefined { symbol: 1 },
+        "refused 1 10 Undefined _start\n",
+    );
+    let names = "94:00 56:00000100 356:00000034";
+    let not_built = refused(1, Fault::NotBuilt, "refused 1 0 NotBuilt\n");
+    let alloc = rt.alloc();
+    for (changes, end) in [(names, undefined), ("356:000000b8", not_built)] {
+        let changes = format!(in alloc;
+            "97:66 / ..380 48:06 344:00000004 360:0000000c 364:00000002 368:00000001 376:0000000c {changes}"
+        )?;
+        expect_both(&rt, changes.as_str(), &end)?;
+    }
+    Ok(())
+}
+
 // Faults of both objects, of the second alone, and between them: changes of e_flags, the magic number and
 // the file's length, and none, so that both define `_start`. With a change of its name in the first object
 // the third is the second that defines `_start`.

@@ -1,8 +1,8 @@
 // Runs of small images.
 
 use crate::fixture::{
-    Call, EXITED_3, End, File, READ_FAULT, RUN, SPENT, USAGE, expect_changes, expect_words, make,
-    unsaid,
+    Call, EXITED_3, End, File, READ_FAULT, RUN, SPENT, USAGE, WRITE_FAULT, expect, expect_changes,
+    expect_words, unsaid,
 };
 use crate::outcome::{FileFault, Outcome};
 use elf32_read::image_fault::ImageFault;
@@ -142,35 +142,37 @@ const ECHO: [u8; 124] = [
 // program's write, and call 3 the line.
 #[test]
 fn what_a_program_writes_goes_out_before_the_line(rt: HostRuntime) -> Result<(), Fail> {
-    let exited = Outcome::Exited(5);
-    let table = [
-        ("", exited, "input", "exited 5\n"),
-        ("92:00200613", Outcome::Exited(2), "in", "exited 2\n"),
-        ("104:00200513", exited, "", "inputexited 5\n"),
-        ("c2", Outcome::WriteFault, "", "write fault\n"),
-        ("c3", exited, "input", ""),
-        ("c2 c3", Outcome::WriteFault, "", ""),
-    ];
-    for (changes, outcome, out, err) in table {
-        let file = File::Bytes(&ECHO);
-        let left = make(
-            rt.alloc(),
-            &Call {
-                file,
-                changes,
-                ..RUN
-            },
-        )?;
-        let said = (
-            left.outcome,
-            left.console.out_bytes(),
-            left.console.err_bytes(),
-        );
-        assert_eq!(rt;
-            said,
-            (outcome, out.as_bytes(), err.as_bytes()),
-            "{changes}"
-        );
-    }
-    Ok(())
+    let echo = Call {
+        file: File::Bytes(&ECHO),
+        ..RUN
+    };
+    let echoed = End {
+        outcome: Outcome::Exited(5),
+        out: "input",
+        line: "exited 5\n",
+        status: 5,
+        ..EXITED_3
+    };
+    let two = End {
+        outcome: Outcome::Exited(2),
+        out: "in",
+        line: "exited 2\n",
+        status: 2,
+        ..EXITED_3
+    };
+    let other = End {
+        out: "",
+        line: "inputexited 5\n",
+        ..echoed
+    };
+    let refused = End {
+        input: 0,
+        ..WRITE_FAULT
+    };
+    expect(&rt, &echo, &echoed)?;
+    expect_changes(&rt, &echo, "92:00200613", &two)?;
+    expect_changes(&rt, &echo, "104:00200513", &other)?;
+    expect_changes(&rt, &echo, "c2\n104:00200513 c2", &refused)?;
+    expect_changes(&rt, &echo, "c3", &unsaid(echoed))?;
+    expect_changes(&rt, &echo, "c2 c3", &unsaid(refused))
 }

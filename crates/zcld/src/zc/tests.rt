@@ -1,8 +1,8 @@
 // What the command `zc` writes, refuses and names.
 
 use crate::fixture::{
-    Call, DONE, End, File, READ_FAULT, THREE_IMAGE, WRITE_FAULT, ZC, expect, expect_changes,
-    expect_words, make, refused, unsaid,
+    Call, DONE, EXITED_3, End, File, READ_FAULT, RUN, SPENT, THREE_IMAGE, WRITE_FAULT, ZC, ZC_TWO,
+    expect, expect_changes, expect_words, make, refused, unsaid,
 };
 use crate::outcome::Outcome;
 use elf32_read::fault::Fault;
@@ -37,11 +37,40 @@ fn an_image_and_a_certificate_are_put_under_their_names(rt: HostRuntime) -> Resu
     expect_words(&rt, &ZC, "zc --out  --cert c x", &End { files: 1, ..DONE })
 }
 
-// Changes of section 1 (its kind, its size and its alignment), and of a word.
+// Changes of the alignment of the code, and of a word; the second object is named where the first has its
+// `_start` renamed. The program starts nowhere if the name isn't there, is at the code's end, or of data.
 #[test]
 fn objects_that_are_not_straight_code_are_named(rt: HostRuntime) -> Result<(), Fail> {
     let not_built = refused(0, Fault::NotBuilt, "refused 0 0 NotBuilt\n");
-    expect_changes(&rt, &ZC, "188:02\n200:00\n212:08\n53:15", &not_built)
+    expect_changes(&rt, &ZC, "212:08\n53:15\n53:15 97:66", &not_built)?;
+    let second = refused(1, Fault::NotBuilt, "refused 1 0 NotBuilt\n");
+    expect_changes(&rt, &ZC_TWO, "97:66 / 212:08\n97:66 / 53:15", &second)?;
+    let no_entry = refused(0, Fault::NoEntry, "refused 0 16 NoEntry\n");
+    expect_changes(&rt, &ZC, "97:66\n200:00\n188:02", &no_entry)
+}
+
+// The text and the entry of an image of two objects, of which the second has `_start`, and how it ends.
+#[test]
+fn two_objects_become_one_image(rt: HostRuntime) -> Result<(), Fail> {
+    let two = Call {
+        words: "zc --out o --cert c x z",
+        changes: "97:66",
+        ..ZC
+    };
+    let (outcome, image, _) = linked(rt.alloc(), &two)?;
+    let file = File::Bytes(image.as_slice());
+    let said = (outcome, image.get(24..28), image.get(116..136));
+    let text: [u8; 20] = [
+        0x0D, 0x45, 0x93, 0x08, 0xD0, 0x05, 0x73, 0x00, 0x00, 0x00, 0x0D, 0x45, 0x93, 0x08, 0xD0,
+        0x05, 0x73, 0x00, 0x00, 0x00,
+    ];
+    let entry: [u8; 4] = [0x0A, 0x00, 0x01, 0x00];
+    assert_eq!(rt;
+        said,
+        (Outcome::Done, Some(entry.as_slice()), Some(text.as_slice()))
+    );
+    expect_words(&rt, &Call { file, ..RUN }, "run --steps 3 x", &EXITED_3)?;
+    expect_words(&rt, &Call { file, ..RUN }, "run --steps 2 x", &SPENT)
 }
 
 // Changes of the magic number, the file's length, e_flags, the header of section 1 (its flags, alignment
