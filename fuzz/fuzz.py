@@ -450,7 +450,7 @@ class Case:
     def __init__(self, seed, number, example, image):
         rng = random.Random(f'{seed} {number}')
         self.how, self.files = [], []
-        is_straight = rng.random() < 0.7
+        is_straight = rng.random() < 0.5
         for i in range(rng.choice((1, 1, 1, 2, 2, 3, 6))):
             start = rng.choice(('example', 'image', 'image', 'made', 'made', 'made')) if i == 0 else 'made'
             data = {'example': example, 'image': image}.get(start) or made_object(rng, is_straight, i == 0)

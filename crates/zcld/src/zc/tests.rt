@@ -53,8 +53,9 @@ fn objects_that_are_not_straight_code_are_named(rt: HostRuntime) -> Result<(), F
 #[test]
 fn two_objects_become_one_image(rt: HostRuntime) -> Result<(), Fail> {
     let two = Call {
+        words: "zc --out o --cert c x z",
         changes: "97:66",
-        ..ZC_TWO
+        ..ZC
     };
     let (outcome, image, _) = linked(rt.alloc(), &two)?;
     let file = File::Bytes(image.as_slice());
