@@ -243,7 +243,7 @@ fn contents_stand_at_their_addresses(rt: HostRuntime) -> Result<(), Fail> {
 fn relocations_stand_in_the_section_that_names_theirs(rt: HostRuntime) -> Result<(), Fail> {
     let mut caller = CALLER;
     caller[CALLED] = WEAK;
-    let files = copies(rt.alloc(), &[&caller])?;
+    let files = vec![in rt.alloc(); Vec::from_slice(rt.alloc(), &caller)?]?;
     let objects = Objects::gather(rt.alloc(), &files, MemMap::standard())?;
     for section in 0..objects.object(0).section_count() as u16 {
         let want = if section == 1 { Some(3) } else { None };
