@@ -1,28 +1,24 @@
 -- The sections of an object that was read: which stands at an index, among all that a link has.
 use Rattle.std.proofs.Common.{◌≡◌, ℕ, ◌+◌, ◌<◌, List, ◌∷◌, refl, drop, map, Bool, true, false, Some, ap, ◌∙◌, arith, slice_get}
 use Rattle.std.specs.List.{list_any, range_with_len}
-use Rattle.std.specs.Option.{option_and_then, option_map, option_map_or}
+use Rattle.std.specs.Option.{option_map, option_map_or}
 use Rattle.std.proofs.lemmas.List.{drop_more}
 use Rattle.std.proofs.lemmas.Option.{get_or_from_slice_get, slice_get-map, slice_get_within}
 use Rattle.elf32_read.specs.Header.{section_count}
-use Rattle.elf32_read.specs.Parts.{ObjectParts, SectionParts, is_code_section, object_parts, section_parts}
+use Rattle.elf32_read.specs.Parts.{SectionParts, is_code_section, object_parts, section_parts}
 use Rattle.elf32_read.proofs.Listed.{list_any_listed}
 use Rattle.psabi_sym.specs.Data.{is_code_at}
 use Rattle.psabi_sym.specs.Inputs.{Inputs, parsed}
-use Rattle.psabi_sym.specs.Listed.{section_at}
+use Rattle.psabi_sym.proofs.ContentLaws.{section_there}
 use Rattle.psabi_sym.proofs.PartLaws.{section_count_is, section_got}
 
 -- an object's parts are among all
 pub object_at : (inputs : Inputs) (o : ℕ) (file : List ℕ) → slice_get inputs.files o ≡ Some file → slice_get (parsed inputs).objects o ≡ Some (object_parts file)
 object_at inputs o file at = slice_get-map object_parts inputs.files o ∙ ap (option_map object_parts) at
 
-module _ (inputs : Inputs) (o i : ℕ) (file : List ℕ) (at : slice_get inputs.files o ≡ Some file) (within : i < section_count file) where
-  pub section_there : section_at (parsed inputs).objects o i ≡ Some (section_parts file i)
-  section_there = ap (option_and_then (λ (x : ObjectParts). slice_get x.sections i)) (object_at inputs o file at) ∙ section_got file i within
-
-  -- whether it is code
-  pub code_there : is_code_at (parsed inputs).objects o i ≡ is_code_section (section_parts file i)
-  code_there = ap (λ s. option_map_or is_code_section s false) section_there
+-- whether a section is code
+pub code_there : (inputs : Inputs) (o i : ℕ) (file : List ℕ) → slice_get inputs.files o ≡ Some file → i < section_count file → is_code_at (parsed inputs).objects o i ≡ is_code_section (section_parts file i)
+code_there inputs o i file at within = ap (λ s. option_map_or is_code_section s false) (section_there inputs o i file at within)
 
 -- a test of an object's sections, at one that passes
 pub any_section : (p : SectionParts → Bool) (file : List ℕ) (i : ℕ) → i < section_count file → p (section_parts file i) ≡ true → list_any p (object_parts file).sections ≡ true

@@ -28,11 +28,6 @@ places_step words w rest q q' r a a' n old new all is before more is_r is_n is_q
 pub text_whole : (words old all : List ℕ) → words ≡ [] → old ++ flat_map piece words ≡ all → old ≡ all
 text_whole words old all is before = sym (append-nil old) ∙ sym (ap (λ ws. old ++ flat_map piece ws) is) ∙ before
 
-pub places_whole : (words : List ℕ) (q r : Place) (a n : ℕ) (old new all : List (Place × ℕ)) → words ≡ [] → old ++ places_from q a words ≡ all → new ≡ old ++ (r, n) ∷ [] → r ≡ q → n ≡ a → new ≡ all
-places_whole words q r a n old new all is before more is_r is_n =
-    let same : old ++ (r, n) ∷ [] ≡ old ++ (q, a) ∷ [] = λ i. old ++ (is_r i, is_n i) ∷ [] in
-    more ∙ same ∙ sym (ap (λ ws. old ++ places_from q a ws) is) ∙ before
-
 -- so far there is no more than there is in the end
 pub text_short : (words rest old now : List ℕ) → now ++ flat_map piece rest ≡ old ++ flat_map piece words → length now ≤ length old + length (text_of words)
 unfolding text_of
