@@ -1,13 +1,14 @@
 #!/usr/bin/env python3
-"""Measures how fast `run` makes commits.
+"""Measures how fast `run` makes commits, and `trace` steps.
 
-    bench/machine.py [--repeats R] [--commits N] [PROGRAM]        PROGRAM is build/zcld where none is given
+    bench/machine.py [--repeats R] [--commits N] [PROGRAM]        PROGRAM is build/zcld if none is given
 
-Three images are made by rule, each a loop: of arithmetic, of loads and stores (in data and on the stack, of each width), and of
-calls and returns. Each makes about N commits, and is run R times, in turn with the same image under `--steps 0`. A rate comes
-from the difference of the least processor times, so start-up isn't in it. Instructions of the processor for a commit come from
-`perf stat` where the system allows it, and from `valgrind --tool=callgrind` of a short run otherwise; callgrind also says which
-functions they go into. The same images run on `qemu-riscv32` and `spike`, where these are installed.
+Three programs are made by rule, each a loop: of arithmetic, of loads and stores (in data and on the stack, of each width), and
+of calls and returns. Each makes about N commits, and is run R times as an image by `run`, R times as an object by `trace`, and
+as often by each with `--steps 0`. A rate comes from the difference of the least processor times, so start-up isn't in it.
+Instructions of the processor for a commit or step come from `perf stat` if the system allows it, and else from `valgrind
+--tool=callgrind` of a short run; callgrind also says which functions they go into. The images run on `qemu-riscv32` and `spike`
+too, if these are installed; their start-up is in their figures.
 """
 import argparse
 import os
@@ -18,6 +19,7 @@ import subprocess
 import sys
 import tempfile
 
+from objects import CODE, DATA as HELD, NOBITS, PROGBITS, Made
 from run import Call, SPENT, processor_name, table
 
 TEXT = 0x10000
@@ -92,7 +94,7 @@ CALLED = [addi(SP, SP, -16), word_s(2, RA, SP, 12), jal(RA, -16), word_i(0x03, 2
 
 def looped(body, each, commits, before=()):
     """A program that makes the body so often that there are about so many commits, then exits with 0."""
-    start = [lui(BASE, DATA >> 12), *count(commits // (each + 2))]
+    start = [addi(6, ZERO, 1), addi(7, ZERO, 2), addi(A0, ZERO, 0), lui(BASE, DATA >> 12), *count(commits // (each + 2))]
     loop = [*body(4 * (len(before) + len(start))), addi(COUNT, COUNT, -1)]
     loop.append(bne(COUNT, ZERO, -4 * len(loop)))
     words = [*before, *start, *loop, addi(A0, ZERO, 0), addi(A7, ZERO, 93), 0x73]
@@ -110,6 +112,15 @@ def image(text, entry):
     segments = (struct.pack('<8I', 1, PAGE, TEXT, TEXT, len(text), len(text), 5, PAGE)
                 + struct.pack('<8I', 1, 0, DATA, DATA, 0, PAGE, 6, PAGE))
     return (header + segments).ljust(PAGE, b'\0') + text
+
+
+def object_of(text, entry):
+    """An object with the code, whose `_start` is the entry, and with 4,096 zeroed bytes of data."""
+    made = Made()
+    code = made.add(b'.text', PROGBITS, CODE, text)
+    made.add(b'.bss', NOBITS, HELD, b'', PAGE)
+    made.name('_start', code, entry - TEXT)
+    return made.bytes()
 
 
 def programs(commits):
@@ -131,12 +142,12 @@ def instructions(words):
     return int(found.group(1)) if found else None
 
 
-def followed(program, file, steps, folder):
+def followed(words, folder):
     """The total of a short run under callgrind, and the functions that take most of it, or none without valgrind."""
     if shutil.which('valgrind') is None:
         return None
     out = os.path.join(folder, 'callgrind.out')
-    subprocess.run(['valgrind', '--tool=callgrind', f'--callgrind-out-file={out}', program, 'run', '--steps', str(steps), file],
+    subprocess.run(['valgrind', '--tool=callgrind', f'--callgrind-out-file={out}', *words],
                    stdin=subprocess.DEVNULL, stdout=subprocess.DEVNULL, stderr=subprocess.DEVNULL, check=False)
     told = subprocess.run(['callgrind_annotate', '--threshold=99', out], stdout=subprocess.PIPE, text=True, check=False).stdout
     rows = re.findall(r'^\s*([\d,]+) \([^)]*\)\s+\S*?:(\S+)', told, re.MULTILINE)
@@ -145,10 +156,10 @@ def followed(program, file, steps, folder):
     return number(total.group(1)), {name: number(count) for count, name in rows}
 
 
-def per_commit(program, file, commits, folder):
+def per_commit(program, command, file, commits, folder):
     """Instructions a commit beyond start-up, how they were counted, and the functions that take a part of them."""
-    counted = [instructions([program, 'run', '--steps', str(steps), file]) for steps in (commits * 2, 0)]
-    both = [followed(program, file, steps, folder) for steps in (FOLLOWED, 0)]
+    counted = [instructions([program, command, '--steps', str(steps), file]) for steps in (commits * 2, 0)]
+    both = [followed([program, command, '--steps', str(steps), file], folder) for steps in (FOLLOWED, 0)]
     parts = []
     if None not in both:
         (more, by_name), (less, at_start) = both
@@ -176,7 +187,7 @@ def least(words, status, repeats):
 
 
 def main():
-    arguments = argparse.ArgumentParser(description='Measures how fast `run` makes commits.')
+    arguments = argparse.ArgumentParser(description='Measures how fast `run` makes commits, and `trace` steps.')
     arguments.add_argument('program', nargs='?', default=os.path.join('build', 'zcld'))
     arguments.add_argument('--repeats', type=int, default=5)
     arguments.add_argument('--commits', type=int, default=10_000_000)
@@ -188,16 +199,20 @@ def main():
     rows, parts = [], {}
     with tempfile.TemporaryDirectory() as folder:
         for name, (text, entry) in programs(given.commits).items():
-            file = os.path.join(folder, f'{name.replace(" ", "-")}.elf')
-            with open(file, 'wb') as made:
-                made.write(image(text, entry))
-            os.chmod(file, 0o755)
-            start_up = least([program, 'run', '--steps', '0', file], SPENT, given.repeats)
-            took = least([program, 'run', '--steps', str(given.commits * 2), file], 0, given.repeats) - start_up
-            each, way, parts[name] = per_commit(program, file, given.commits, folder)
-            rows.append((name, f'{given.commits / took / 1e6:.1f}', each, way,
-                         ', '.join(f'{other} {given.commits / time / 1e6:.0f}' for other, time in others(file).items()) or '-'))
-    table(('loop', 'millions of commits a second', 'instructions a commit', 'counted by', 'others, millions a second'), rows)
+            for command, data in (('run', image(text, entry)), ('trace', object_of(text, entry))):
+                file = os.path.join(folder, f'{name.replace(" ", "-")}.{command}')
+                with open(file, 'wb') as made:
+                    made.write(data)
+                os.chmod(file, 0o755)
+                start_up = least([program, command, '--steps', '0', file], SPENT, given.repeats)
+                took = least([program, command, '--steps', str(given.commits * 2), file], 0, given.repeats) - start_up
+                what = f'{name}, {command}'
+                each, way, parts[what] = per_commit(program, command, file, given.commits, folder)
+                other = others(file) if command == 'run' else {}
+                rows.append((what, f'{given.commits / took / 1e6:.1f}', each, way,
+                             ', '.join(f'{it} {given.commits / time / 1e6:.0f}' for it, time in other.items()) or '-'))
+    table(('loop', 'millions of commits or steps a second', 'instructions each', 'counted by', 'others, millions a second'),
+          rows)
     if all(row[-1] == '-' for row in rows):
         print('\nNeither qemu-riscv32 nor spike is installed.')
     print('\nFunctions that take an instruction a commit or more, by callgrind:\n')
