@@ -52,10 +52,11 @@ fn objects_that_are_not_straight_code_are_named(rt: HostRuntime) -> Result<(), F
 // The text and the entry of an image of two objects, of which the second has `_start`, and how it ends.
 #[test]
 fn two_objects_become_one_image(rt: HostRuntime) -> Result<(), Fail> {
+    let object = File::Object;
     let two = Call {
         words: "zc --out o --cert c x z",
+        file: object,
         changes: "97:66",
-        ..ZC
     };
     let (outcome, image, _) = linked(rt.alloc(), &two)?;
     let file = File::Bytes(image.as_slice());
