@@ -1,7 +1,12 @@
 // Types of relocations.
 
 ghost use Rattle.std.specs.Prelude.{◌≡◌, Some};
-ghost use Rattle.psabi_reloc.specs.Kinds.{field_length, kind_of};
+ghost use Rattle.psabi_reloc.specs.Kinds.{field_length, fits, kind_of};
+
+use crate::spelled::{
+    spells_auipc, spells_branch, spells_call, spells_jal, spells_lui, spells_store, spells_sum,
+};
+use rv_decode::instr::Instr;
 
 /// What a relocation asks for (RISC-V ELF psABI, "Relocations").
 ///
@@ -61,13 +66,7 @@ impl RelocKind {
         match self {
             RelocKind::Ignored => 0,
             RelocKind::Call => 8,
-            RelocKind::Align => {
-                if addend < 0 {
-                    0
-                } else {
-                    addend as u32
-                }
-            }
+            RelocKind::Align => { if addend < 0 { 0 } else { addend as u32 } }
             RelocKind::Word
             | RelocKind::Branch
             | RelocKind::Jal
@@ -77,6 +76,23 @@ impl RelocKind {
             | RelocKind::Hi20
             | RelocKind::Lo12I
             | RelocKind::Lo12S => 4,
+        }
+    }
+
+    /// Whether the words at a relocation of this kind are such as it may change, by what they spell.
+    /// The second counts for a call alone.
+    pub fn fits(self, first: Option<Instr>, second: Option<Instr>) -> bool
+        ensures { result ≡ fits self first second }
+    {
+        match self {
+            RelocKind::Ignored | RelocKind::Word | RelocKind::Align => true,
+            RelocKind::Branch => spells_branch(first),
+            RelocKind::Jal => spells_jal(first),
+            RelocKind::Call => spells_call(first, second),
+            RelocKind::PcrelHi20 => spells_auipc(first),
+            RelocKind::Hi20 => spells_lui(first),
+            RelocKind::PcrelLo12I | RelocKind::Lo12I => spells_sum(first),
+            RelocKind::PcrelLo12S | RelocKind::Lo12S => spells_store(first),
         }
     }
 }

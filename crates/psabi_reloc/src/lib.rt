@@ -4,3 +4,4 @@
 pub mod kind;
 pub mod parts;
 pub mod reaches;
+mod spelled;
