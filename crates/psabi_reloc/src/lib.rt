@@ -3,5 +3,6 @@
 
 pub mod kind;
 pub mod parts;
+pub mod put;
 pub mod reaches;
 mod spelled;
