@@ -96,3 +96,6 @@ impl RelocKind {
         }
     }
 }
+
+#[cfg(test)]
+mod tests;
