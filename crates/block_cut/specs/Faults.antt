@@ -1,35 +1,126 @@
--- Why objects are refused: the first fault that stands in them.
-use Rattle.std.specs.Prelude.{ℕ, Bool, not, ◌&&◌, ◌==◌, is_none, if◌then◌else◌, List, [], ◌∷◌, Option, Some, None}
-use Rattle.std.specs.List.{list_any, position}
-use Rattle.std.specs.Option.{option_map}
+-- Why objects are refused: the first fault that stands in them, with its object's index.
+use Rattle.std.specs.Prelude.{ℕ, ℤ, pos, negsuc, ◌+◌, ◌-◌, ◌-ℤ◌, Bool, true, false, not, ◌&&◌, ◌||◌, ◌==◌, is_none, if◌then◌else◌, List, [], ◌∷◌, map, Option, Some, None}
+use Rattle.std.specs.List.{find}
+use Rattle.std.specs.Option.{option_map, option_map_or, option_and_then}
+use Rattle.zc_base.specs.declared.place.Place.{Place}
 use Rattle.elf32_read.specs.Parts.{ObjectParts, SectionParts}
 use Rattle.elf32_read.specs.declared.fault.Fault.{Fault}
-use Rattle.elf32_read.specs.declared.fault.Fault.TheVariants.{NoEntry, NotBuilt}
+use Rattle.elf32_read.specs.declared.fault.Fault.TheVariants.{RelocKind, RelocPlace, LoPair, BadTarget, Range, NoEntry}
 use Rattle.elf32_read.specs.declared.reloc.Reloc.{Reloc}
 use Rattle.psabi_sym.specs.Faults.{first_some, gather_fault}
 use Rattle.psabi_sym.specs.Inputs.{Inputs, ParsedInputs, parsed}
-use Rattle.block_cut.specs.Items.{entry_in}
+use Rattle.psabi_sym.specs.Listed.{ListedSection, all_sections}
+use Rattle.psabi_sym.specs.Resolve.{resolved}
+use Rattle.psabi_sym.specs.declared.target.Target.{Target}
+use Rattle.psabi_sym.specs.declared.target.Target.TheVariants.{Code, Number, Absent, Nowhere}
+use Rattle.psabi_reloc.specs.Kinds.{kind_of}
+use Rattle.psabi_reloc.specs.Reaches.{branch_reach}
+use Rattle.block_cut.specs.Items.{all_places, entry_in, is_target_at, item_at, target_of}
+use Rattle.block_cut.specs.PlainLayout.{plain_address}
+use Rattle.block_cut.specs.Relocs.{is_bad_kind, is_bad_place, is_ignored, is_pcrel_lo, is_transfer, is_upper_on}
+use Rattle.block_cut.specs.declared.item.Item.{Item}
+use Rattle.block_cut.specs.declared.item.Item.TheVariants.{Op, Hi, Lo, PcHi, PcLo, Branch, Jump, Call, Align, Word, Raw, RawPair}
 
--- a relocation that isn't read yet: neither NONE (0) nor RELAX (51), which change nothing (RISC-V ELF psABI, "Relocations")
-abbrev pub is_unbuilt_reloc : Reloc → Bool
-is_unbuilt_reloc r = not (r.kind == 0) && not (r.kind == 51)
+-- ---- relocations
 
--- a section that one changes; what is dropped has no relocations
-abbrev pub is_unbuilt_section : SectionParts → Bool
-is_unbuilt_section s = list_any is_unbuilt_reloc s.relocs
+-- a lower part goes with an upper part that stands where its symbol is, in the same section
+abbrev pub is_pair_at : ListedSection → Target → Bool
+is_pair_at l (Code q) = (q.object == l.object) && ((q.section == l.index) && is_upper_on l.section q.offset)
+is_pair_at l (Number n) = false
+is_pair_at l (Absent n) = false
+is_pair_at l Nowhere = false
 
--- an object with such a section
-abbrev pub is_unbuilt : ObjectParts → Bool
-is_unbuilt object = list_any is_unbuilt_section object.sections
+-- an addend of 0
+abbrev pub is_nothing : ℤ → Bool
+is_nothing (pos n) = n == 0
+is_nothing (negsuc n) = false
 
--- the first such object
-unfoldable pub unbuilt_fault : List ObjectParts → Option (ℕ × Fault)
-unbuilt_fault objects = option_map (λ i. (i, NotBuilt)) (position is_unbuilt objects)
+-- a lower part that doesn't
+abbrev pub is_lonely : ParsedInputs → ListedSection → Reloc → Bool
+is_lonely inputs l r =
+    is_pcrel_lo (kind_of r.kind) && (not (is_nothing r.addend) || not (is_pair_at l (resolved inputs l.object r.symbol (pos 0))))
+
+-- code and data may lead to an item's start or to a section's end, and what makes an instruction go somewhere to no number
+abbrev pub is_lost : List ObjectParts → Bool → Target → Bool
+is_lost objects transfers (Code to) = not (is_target_at objects to)
+is_lost objects transfers (Number n) = transfers
+is_lost objects transfers (Absent n) = false
+is_lost objects transfers Nowhere = true
+
+-- a relocation that leads nowhere
+abbrev pub is_astray : ParsedInputs → ListedSection → Reloc → Bool
+is_astray inputs l r = not (is_ignored (kind_of r.kind)) && is_lost inputs.objects (is_transfer (kind_of r.kind)) (target_of inputs l.object r)
+
+-- a fault, if it stands
+abbrev pub if_so : Bool → Fault → Option Fault
+if_so true fault = Some fault
+if_so false fault = None
+
+-- the first fault of a relocation
+abbrev pub reloc_fault : ParsedInputs → ListedSection → Reloc → Option Fault
+reloc_fault inputs l r = first_some (
+    if_so (is_bad_kind l.section (kind_of r.kind)) (RelocKind l.index r.offset)
+    ∷ if_so (is_bad_place l.section r) (RelocPlace l.index r.offset)
+    ∷ if_so (is_lonely inputs l r) (LoPair l.index r.offset)
+    ∷ if_so (is_astray inputs l r) (BadTarget l.index r.offset)
+    ∷ [])
+
+-- that of a section, in the order of its relocations, with its object's index
+abbrev pub section_fault : ParsedInputs → ListedSection → Option (ℕ × Fault)
+section_fault inputs l = option_map (λ fault. (l.object, fault)) (first_some (map (reloc_fault inputs l) l.section.relocs))
+
+-- the first of all relocations, by object, section and entry
+unfoldable pub relocs_fault : ParsedInputs → Option (ℕ × Fault)
+relocs_fault inputs = first_some (map (section_fault inputs) (all_sections inputs.objects))
+
+-- ---- the start
 
 -- `_start` isn't where an item of code starts
 unfoldable pub entry_fault : ParsedInputs → Option (ℕ × Fault)
 entry_fault inputs = if is_none (entry_in inputs) then Some (0, NoEntry) else None
 
--- the first fault of the inputs, with its object's index: those between objects, then those of code
+-- ---- branches
+
+-- the way from an address to another, if both are known
+abbrev pub distance_between : Option ℕ → Option ℕ → Option ℤ
+distance_between None to = None
+distance_between (Some from) None = None
+distance_between (Some from) (Some to) = Some (pos to -ℤ pos from)
+
+-- the way from a place to another in the plain layout
+abbrev pub plain_distance : ParsedInputs → Place → Place → Option ℤ
+plain_distance inputs q to = distance_between (plain_address inputs q) (plain_address inputs to)
+
+-- where a branch leads
+abbrev pub branch_target : Item → Option Place
+branch_target (Op i) = None
+branch_target (Hi i t) = None
+branch_target (Lo i t) = None
+branch_target (PcHi i t) = None
+branch_target (PcLo i from) = None
+branch_target (Branch i to) = Some to
+branch_target (Jump i to) = None
+branch_target (Call rd temp to) = None
+branch_target (Align bytes) = None
+branch_target (Word t) = None
+branch_target (Raw word) = None
+branch_target (RawPair first second) = None
+
+-- a branch at a place that doesn't reach so far
+abbrev pub is_far : ParsedInputs → Place → Place → Bool
+is_far inputs q to = option_map_or (λ d. not (branch_reach d)) (plain_distance inputs q to) false
+
+-- a branch stands at a place that doesn't reach in the plain layout
+abbrev pub is_out_of_reach : ParsedInputs → Place → Bool
+is_out_of_reach inputs q = option_map_or (is_far inputs q) (option_and_then branch_target (item_at inputs q)) false
+
+-- the first such place
+unfoldable pub range_fault : ParsedInputs → Option (ℕ × Fault)
+range_fault inputs = option_map (λ q. (q.object, Range q.section q.offset)) (find (is_out_of_reach inputs) (all_places inputs.objects))
+
+-- ---- the first fault
+
+-- the first fault of the inputs, with its object's index: those between objects, of relocations, of the start, and of branches
 unfoldable pub first_fault : Inputs → Option (ℕ × Fault)
-first_fault inputs = first_some (gather_fault inputs ∷ unbuilt_fault (parsed inputs).objects ∷ entry_fault (parsed inputs) ∷ [])
+first_fault inputs = first_some (
+    gather_fault inputs ∷ relocs_fault (parsed inputs) ∷ entry_fault (parsed inputs) ∷ range_fault (parsed inputs) ∷ [])

@@ -1,23 +1,28 @@
--- What the bytes of objects spell at places in code, in sections that have no relocations (System V gABI, "Sections";
+-- What the bytes and relocations of objects spell at places in code (System V gABI, "Sections"; RISC-V ELF psABI, "Relocations";
 -- RISC-V unprivileged manual, "Base Instruction Formats" and "Control Transfer Instructions").
-use Rattle.std.specs.Prelude.{ℕ, zero, suc, ◌+◌, ℤ, pos, negsuc, ◌+ℤ◌, Bool, false, ◌||◌, ◌==◌, nat_le, if◌then◌else◌, List, [], ◌∷◌, length, map, Option, Some, None}
+use Rattle.std.specs.Prelude.{ℕ, zero, suc, ◌+◌, ℤ, pos, negsuc, ◌+ℤ◌, Bool, false, ◌||◌, ◌==◌, nat_lt, if◌then◌else◌, List, [], ◌∷◌, length, map, Option, Some, None}
 use Rattle.std.specs.List.{flat_map, list_any}
 use Rattle.std.specs.Option.{option_and_then, option_map_or, unwrap_or}
 use Rattle.zc_base.specs.Fields.{word_in}
-use Rattle.zc_base.specs.Places.{same_place}
 use Rattle.zc_base.specs.declared.place.Place.{Place}
 use Rattle.elf32_read.specs.Parts.{ObjectParts, SectionParts, is_code_section}
+use Rattle.elf32_read.specs.declared.reloc.Reloc.{Reloc}
 use Rattle.psabi_sym.specs.Inputs.{ParsedInputs}
 use Rattle.psabi_sym.specs.Listed.{ListedSection, all_sections, section_at}
-use Rattle.psabi_sym.specs.Resolve.{name_target}
+use Rattle.psabi_sym.specs.Resolve.{name_target, resolved}
 use Rattle.psabi_sym.specs.Start.{start_name}
 use Rattle.psabi_sym.specs.declared.target.Target.{Target}
 use Rattle.psabi_sym.specs.declared.target.Target.TheVariants.{Code, Number, Absent, Nowhere}
+use Rattle.psabi_reloc.specs.Kinds.{kind_of, padding_length}
+use Rattle.psabi_reloc.specs.Patched.{with_distance}
+use Rattle.psabi_reloc.specs.declared.kind.RelocKind.{RelocKind}
+use Rattle.psabi_reloc.specs.declared.kind.RelocKind.TheVariants as kind
 use Rattle.rv_decode.specs.declared.instr.Instr.{Instr}
 use Rattle.rv_decode.specs.declared.instr.Instr.TheVariants as instr
 use Rattle.rv_decode.specs.Decode.{decoded}
+use Rattle.block_cut.specs.Relocs.{field_of, reloc_on}
 use Rattle.block_cut.specs.declared.item.Item.{Item}
-use Rattle.block_cut.specs.declared.item.Item.TheVariants.{Op, Branch, Jump, Raw}
+use Rattle.block_cut.specs.declared.item.Item.TheVariants.{Op, Hi, Lo, PcHi, PcLo, Branch, Jump, Call, Align, Word, Raw, RawPair}
 
 -- ---- sections of code
 
@@ -31,37 +36,36 @@ code_at objects q = option_and_then code_only (section_at objects q.object q.sec
 
 -- ---- places
 
--- the bytes of the item at a place: 4, while no relocation makes an item longer and no compressed code is read
-abbrev pub size_at : List ObjectParts → Place → ℕ
-size_at objects q = 4
+-- the bytes of what stands at an offset of a section: those that its relocation changes, and else a word
+abbrev pub size_on : SectionParts → ℕ → ℕ
+size_on s n = option_map_or field_of (reloc_on s n) 4
+
+-- the offsets where items start, from one on: each after the item before it, as long as the section goes on
+abbrev pub starts_from : ℕ → SectionParts → ℕ → List ℕ
+starts_from zero s n = []
+starts_from (suc fuel) s n = if nat_lt n (length s.bytes) then n ∷ starts_from fuel s (n + size_on s n) else []
+
+-- all of a section; there are no more than bytes
+unfoldable pub starts_in : SectionParts → List ℕ
+starts_in s = starts_from (length s.bytes) s 0
+
+-- whether an item starts at an offset of a section
+abbrev pub starts_on : SectionParts → ℕ → Bool
+starts_on s n = list_any (λ m. m == n) (starts_in s)
 
 -- the place after the item at a place
 abbrev pub next_at : List ObjectParts → Place → Place
-next_at objects q = record q { offset = q.offset + size_at objects q }
-
--- the places where items start, from one on: each after the item before it, as long as an item ends in the section
-abbrev pub starts_from : ℕ → List ObjectParts → ℕ → Place → List Place
-starts_from zero objects end q = []
-starts_from (suc fuel) objects end q =
-    if nat_le (q.offset + size_at objects q) end then q ∷ starts_from fuel objects end (next_at objects q) else []
-
--- all of a section of code, given a place in it; there are no more than bytes
-unfoldable pub starts_in : List ObjectParts → SectionParts → Place → List Place
-starts_in objects section q = starts_from (length section.bytes) objects (length section.bytes) (record q { offset = 0 })
-
--- whether an item starts at a place of a section of code
-abbrev pub starts_at : List ObjectParts → Place → SectionParts → Bool
-starts_at objects q section = list_any (same_place q) (starts_in objects section q)
+next_at objects q = record q { offset = q.offset + option_map_or (λ s. size_on s q.offset) (code_at objects q) 4 }
 
 -- whether an item starts at a place
 abbrev pub is_start_at : List ObjectParts → Place → Bool
-is_start_at objects q = option_map_or (starts_at objects q) (code_at objects q) false
+is_start_at objects q = option_map_or (λ s. starts_on s q.offset) (code_at objects q) false
 
 -- whether a place is the end of a section of code
 abbrev pub is_end_at : List ObjectParts → Place → Bool
-is_end_at objects q = option_map_or (λ section. q.offset == length section.bytes) (code_at objects q) false
+is_end_at objects q = option_map_or (λ s. q.offset == length s.bytes) (code_at objects q) false
 
--- whether a branch or jump may lead to a place: an item starts there, or its section ends there
+-- whether code may lead to a place: an item starts there, or its section ends there
 abbrev pub is_target_at : List ObjectParts → Place → Bool
 is_target_at objects q = is_start_at objects q || is_end_at objects q
 
@@ -74,9 +78,9 @@ place_on q (negsuc n) = None
 abbrev pub place_away : Place → ℤ → Option Place
 place_away q distance = place_on q (pos q.offset +ℤ distance)
 
--- ---- items
+-- ---- items without relocation
 
--- a place, if a branch or jump may lead there
+-- a place, if code may lead there
 abbrev pub target_only : List ObjectParts → Place → Option Place
 target_only objects p = if is_target_at objects p then Some p else None
 
@@ -111,36 +115,88 @@ spelled objects q (Some i) word = instr_item objects q i word
 abbrev pub item_of : List ObjectParts → Place → ℕ → Item
 item_of objects q word = spelled objects q (decoded word) word
 
+-- ---- items with one
+
+-- the item of an instruction, or else a word that is copied unread
+abbrev pub of_instr : Option Instr → ℕ → (Instr → Item) → Item
+of_instr first word item = option_map_or item first (Raw word)
+
+-- the item that goes to a place, or another, which goes nowhere: a weak symbol that no object defines is no place
+abbrev pub to_place : Target → (Place → Item) → Item → Item
+to_place (Code to) item other = item to
+to_place (Number n) item other = other
+to_place (Absent n) item other = other
+to_place Nowhere item other = other
+
+-- the call that an `auipc` and a `jalr` are
+abbrev pub call_item : Option Instr → Option Instr → Item → Place → Item
+call_item (Some (instr.Upper op temp upper)) (Some (instr.Jalr rd base lower)) other to = Call rd temp to
+call_item first second other to = other
+
+-- what two words are with a relocation of this kind to this target; the second counts for a call alone
+abbrev pub reloc_item : RelocKind → ℤ → Target → ℕ → ℕ → Item
+reloc_item kind.Ignored addend t word second = Raw word
+reloc_item kind.Word addend t word second = Word t
+reloc_item kind.Branch addend t word second = of_instr (decoded word) word (λ i. to_place t (Branch (with_distance i (pos 0))) (Raw word))
+reloc_item kind.Jal addend t word second = of_instr (decoded word) word (λ i. to_place t (Jump (with_distance i (pos 0))) (Raw word))
+reloc_item kind.Call addend t word second = to_place t (call_item (decoded word) (decoded second) (RawPair word second)) (RawPair word second)
+reloc_item kind.PcrelHi20 addend t word second = of_instr (decoded word) word (λ i. PcHi i t)
+reloc_item kind.PcrelLo12I addend t word second = of_instr (decoded word) word (λ i. to_place t (PcLo i) (Raw word))
+reloc_item kind.PcrelLo12S addend t word second = of_instr (decoded word) word (λ i. to_place t (PcLo i) (Raw word))
+reloc_item kind.Hi20 addend t word second = of_instr (decoded word) word (λ i. Hi i t)
+reloc_item kind.Lo12I addend t word second = of_instr (decoded word) word (λ i. Lo i t)
+reloc_item kind.Lo12S addend t word second = of_instr (decoded word) word (λ i. Lo i t)
+reloc_item kind.Align addend t word second = Align (padding_length addend)
+
+-- the same by the kind's number; a kind that isn't known says nothing
+abbrev pub known_item : Option RelocKind → ℤ → Target → ℕ → ℕ → Item
+known_item None addend t word second = Raw word
+known_item (Some k) addend t word second = reloc_item k addend t word second
+
+-- ---- items
+
+-- what a relocation's symbol, with its addend, resolves to, by its object
+abbrev pub target_of : ParsedInputs → ℕ → Reloc → Target
+target_of inputs o r = resolved inputs o r.symbol r.addend
+
+-- the item at a place with this relocation, by its words
+abbrev pub item_under : ParsedInputs → Place → Option Reloc → ℕ → ℕ → Item
+item_under inputs q None word second = item_of inputs.objects q word
+item_under inputs q (Some r) word second = known_item (kind_of r.kind) r.addend (target_of inputs q.object r) word second
+
 -- the item that starts at a place of a section
-abbrev pub item_in : List ObjectParts → SectionParts → Place → Item
-item_in objects section q = item_of objects q (word_in section.bytes q.offset)
+abbrev pub item_in : ParsedInputs → SectionParts → Place → Item
+item_in inputs s q = item_under inputs q (reloc_on s q.offset) (word_in s.bytes q.offset) (word_in s.bytes (q.offset + 4))
 
 -- the item at a place of a section, if one starts there
-abbrev pub item_from : List ObjectParts → Place → SectionParts → Option Item
-item_from objects q section = if starts_at objects q section then Some (item_in objects section q) else None
+abbrev pub item_from : ParsedInputs → Place → SectionParts → Option Item
+item_from inputs q s = if starts_on s q.offset then Some (item_in inputs s q) else None
 
 -- the item at a place; none if no item of code starts there
-unfoldable pub item_at : List ObjectParts → Place → Option Item
-item_at objects q = option_and_then (item_from objects q) (code_at objects q)
-
--- whether the item at a place, if one starts there, leads a basic block: so far the first item of a section alone
-abbrev pub is_leader_at : List ObjectParts → Place → Bool
-is_leader_at objects q = q.offset == 0
+unfoldable pub item_at : ParsedInputs → Place → Option Item
+item_at inputs q = option_and_then (item_from inputs q) (code_at inputs.objects q)
 
 -- ---- all items
 
--- where a section begins
-abbrev pub section_start : ListedSection → Place
-section_start l = record { object = l.object; section = l.index; offset = 0 }
+-- a place in a section
+abbrev pub place_of : ListedSection → ℕ → Place
+place_of l n = record { object = l.object; section = l.index; offset = n }
 
--- the items of a section, in order; what isn't code has none
-abbrev pub items_in : List ObjectParts → ListedSection → List Item
-items_in objects l =
-    if is_code_section l.section then map (item_in objects l.section) (starts_in objects l.section (section_start l)) else []
+-- the places of a section where items start, in order; what isn't code has none
+abbrev pub places_of : ListedSection → List Place
+places_of l = if is_code_section l.section then map (place_of l) (starts_in l.section) else []
 
--- the items of all code, by object, section and offset
-abbrev pub all_items : List ObjectParts → List Item
-all_items objects = flat_map (items_in objects) (all_sections objects)
+-- those of all code, by object, section and offset
+abbrev pub all_places : List ObjectParts → List Place
+all_places objects = flat_map places_of (all_sections objects)
+
+-- the items of a section, in order
+abbrev pub items_in : ParsedInputs → ListedSection → List Item
+items_in inputs l = map (item_in inputs l.section) (places_of l)
+
+-- the items of all code
+abbrev pub all_items : ParsedInputs → List Item
+all_items inputs = flat_map (items_in inputs) (all_sections inputs.objects)
 
 -- ---- where a program starts
 

@@ -1,0 +1,108 @@
+-- Where basic blocks begin: what the link may not take into the middle of something longer.
+use Rattle.std.specs.Prelude.{ℕ, Bool, true, false, not, ◌&&◌, ◌||◌, ◌==◌, List, Option, Some, None}
+use Rattle.std.specs.List.{list_any}
+use Rattle.std.specs.Option.{option_map_or}
+use Rattle.zc_base.specs.Places.{same_place}
+use Rattle.zc_base.specs.declared.place.Place.{Place}
+use Rattle.elf32_read.specs.Parts.{ObjectParts, SymbolParts, is_code_section}
+use Rattle.elf32_read.specs.declared.reloc.Reloc.{Reloc}
+use Rattle.psabi_sym.specs.Inputs.{ParsedInputs}
+use Rattle.psabi_sym.specs.Listed.{ListedSection, ListedSymbol, all_sections, all_symbols, section_at}
+use Rattle.psabi_sym.specs.declared.target.Target.{Target}
+use Rattle.psabi_sym.specs.declared.target.Target.TheVariants.{Code, Number, Absent, Nowhere}
+use Rattle.psabi_reloc.specs.Kinds.{kind_of}
+use Rattle.rv_decode.specs.declared.instr.Instr.{Instr}
+use Rattle.rv_decode.specs.declared.instr.Instr.TheVariants as instr
+use Rattle.block_cut.specs.Items.{all_places, item_at, next_at, target_of}
+use Rattle.block_cut.specs.Relocs.{is_ignored}
+use Rattle.block_cut.specs.declared.item.Item.{Item}
+use Rattle.block_cut.specs.declared.item.Item.TheVariants.{Op, Hi, Lo, PcHi, PcLo, Branch, Jump, Call, Align, Word, Raw, RawPair}
+
+-- ---- targets of relocations
+
+-- a target is this place
+abbrev pub is_place : Place → Target → Bool
+is_place q (Code to) = same_place to q
+is_place q (Number n) = false
+is_place q (Absent n) = false
+is_place q Nowhere = false
+
+-- a relocation that asks for something leads to a place
+abbrev pub reloc_leads : ParsedInputs → Place → ℕ → Reloc → Bool
+reloc_leads inputs q o r = not (is_ignored (kind_of r.kind)) && is_place q (target_of inputs o r)
+
+-- one of a section does; what is dropped has none
+abbrev pub section_leads : ParsedInputs → Place → ListedSection → Bool
+section_leads inputs q l = list_any (reloc_leads inputs q l.object) l.section.relocs
+
+-- ---- items that lead somewhere
+
+-- `jalr`
+abbrev pub is_jalr : Instr → Bool
+is_jalr (instr.Upper op rd imm) = false
+is_jalr (instr.Jal rd distance) = false
+is_jalr (instr.Jalr rd base imm) = true
+is_jalr (instr.Branch op first second distance) = false
+is_jalr (instr.Load op rd base imm) = false
+is_jalr (instr.Store op source base imm) = false
+is_jalr (instr.WithImm op rd first imm) = false
+is_jalr (instr.WithReg op rd first second) = false
+is_jalr (instr.Fence rest) = false
+is_jalr instr.Ecall = false
+is_jalr instr.Ebreak = false
+is_jalr (instr.Csrrw rd source) = false
+
+-- a basic block ends with the item: a branch, a jump, a call, or a `jalr`
+abbrev pub ends_block : Item → Bool
+ends_block (Op i) = is_jalr i
+ends_block (Hi i t) = false
+ends_block (Lo i t) = is_jalr i
+ends_block (PcHi i t) = false
+ends_block (PcLo i from) = is_jalr i
+ends_block (Branch i to) = true
+ends_block (Jump i to) = true
+ends_block (Call rd temp to) = true
+ends_block (Align bytes) = false
+ends_block (Word t) = false
+ends_block (Raw word) = false
+ends_block (RawPair first second) = false
+
+-- the place that a branch or jump leads to is this one
+abbrev pub goes_to : Place → Item → Bool
+goes_to q (Op i) = false
+goes_to q (Hi i t) = false
+goes_to q (Lo i t) = false
+goes_to q (PcHi i t) = false
+goes_to q (PcLo i from) = false
+goes_to q (Branch i to) = same_place to q
+goes_to q (Jump i to) = same_place to q
+goes_to q (Call rd temp to) = same_place to q
+goes_to q (Align bytes) = false
+goes_to q (Word t) = false
+goes_to q (Raw word) = false
+goes_to q (RawPair first second) = false
+
+-- what stands at a place leads to another: it goes there, or it ends a block and the other is next
+abbrev pub item_leads : ParsedInputs → Place → Place → Bool
+item_leads inputs q p =
+    option_map_or (λ i. goes_to q i || (ends_block i && same_place (next_at inputs.objects p) q)) (item_at inputs p) false
+
+-- ---- symbols
+
+-- global (1) or weak (2), or a function (STT_FUNC, 2), and defined at this place of a section of code
+abbrev pub symbol_leads : List ObjectParts → Place → ListedSymbol → Bool
+symbol_leads objects q l =
+    (l.symbol.bind == 1 || (l.symbol.bind == 2 || l.symbol.kind == 2))
+    && (same_place (record { object = l.object; section = l.symbol.home; offset = l.symbol.value }) q
+    && option_map_or is_code_section (section_at objects l.object l.symbol.home) false)
+
+-- ---- leaders
+
+-- a basic block begins at a place: at a section's start, where a relocation, a branch or a jump leads, after what ends a block,
+-- and where a symbol is defined that others may use or that is a function
+unfoldable pub is_leader_at : ParsedInputs → Place → Bool
+is_leader_at inputs q =
+    q.offset == 0
+    || (list_any (section_leads inputs q) (all_sections inputs.objects)
+    || (list_any (item_leads inputs q) (all_places inputs.objects)
+    || list_any (symbol_leads inputs.objects q) (all_symbols inputs.objects)))
