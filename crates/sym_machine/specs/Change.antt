@@ -4,6 +4,10 @@ use Rattle.zc_base.specs.declared.place.Place.{Place}
 use Rattle.rv_decode.specs.declared.instr.Instr.{Instr}
 use Rattle.rv_decode.specs.declared.instr.Instr.TheVariants.{Upper, Jal, Jalr, Load, Store, WithImm, WithReg, Fence, Ecall, Ebreak, Csrrw}
 use Rattle.rv_decode.specs.declared.instr.Instr.TheVariants as instr
+use Rattle.rv_decode.specs.declared.instr.UpperOp.{UpperOp}
+use Rattle.rv_decode.specs.declared.instr.UpperOp.TheVariants.{Lui, Auipc}
+use Rattle.rv_decode.specs.declared.instr.ImmOp.{ImmOp}
+use Rattle.rv_decode.specs.declared.instr.ImmOp.TheVariants.{Addi, Slti, Sltiu, Xori, Ori, Andi, Slli, Srli, Srai}
 use Rattle.rv_decode.specs.declared.instr.LoadOp.{LoadOp}
 use Rattle.rv_decode.specs.declared.instr.LoadOp.TheVariants.{Lb, Lh, Lw, Lbu, Lhu}
 use Rattle.rv_decode.specs.declared.instr.StoreOp.{StoreOp}
@@ -19,10 +23,12 @@ use Rattle.sym_machine.specs.declared.why.Why.TheVariants.{AddressUnknown, Condi
 use Rattle.sym_machine.specs.declared.word.SymByte.{SymByte}
 use Rattle.sym_machine.specs.declared.word.SymByte.TheVariants.{Num, Part, Undef}
 use Rattle.sym_machine.specs.declared.word.SymWord.{SymWord}
+use Rattle.sym_machine.specs.declared.word.Value.TheVariants as value
+use Rattle.sym_machine.specs.AddressParts.{bytes_of, high_word, low_sum, pc_low_sum, pc_target}
 use Rattle.sym_machine.specs.Conditions.{condition}
 use Rattle.sym_machine.specs.Program.{Program}
 use Rattle.sym_machine.specs.State.{PlainCore, cell_of, reg_of}
-use Rattle.sym_machine.specs.Words.{code_of, code_word, imm_word, number_of, number_word, reg_word, signed_byte, signed_half, sum_word, upper_word, zero_byte, zero_half}
+use Rattle.sym_machine.specs.Words.{code_of, code_word, imm_word, number_of, number_word, reg_word, signed_byte, signed_half, sum_word, undef_word, upper_word, value_word, zero_byte, zero_half}
 
 -- a change of state: the next place, words for registers in their order, bytes for memory from addresses on, how many
 -- bytes of input are taken, the exit's status, and the events
@@ -73,7 +79,7 @@ load_does op rd address s next = reaching (load_width op) address s (λ a. Goes 
 abbrev pub stored_bytes : StoreOp → SymWord → List SymByte
 stored_bytes Sb w = w.b0 ∷ []
 stored_bytes Sh w = w.b0 ∷ w.b1 ∷ []
-stored_bytes Sw w = w.b0 ∷ w.b1 ∷ w.b2 ∷ w.b3 ∷ []
+stored_bytes Sw w = bytes_of w
 
 -- bytes for memory from an address on, and then a place
 abbrev pub puts : ℕ → List SymByte → Place → Change
@@ -177,20 +183,80 @@ call_does (Some a7) s next =
 
 -- ---- items
 
+-- of the operations with an immediate, `addi` alone is a sum
+abbrev pub addi_does : ImmOp → ℕ → SymWord → Place → Does
+addi_does Addi rd w next = Goes (gives rd w next)
+addi_does Slti rd w next = Stops NoInstruction
+addi_does Sltiu rd w next = Stops NoInstruction
+addi_does Xori rd w next = Stops NoInstruction
+addi_does Ori rd w next = Stops NoInstruction
+addi_does Andi rd w next = Stops NoInstruction
+addi_does Slli rd w next = Stops NoInstruction
+addi_does Srli rd w next = Stops NoInstruction
+addi_does Srai rd w next = Stops NoInstruction
+
+-- `addi`, a load, a store or `jalr`, by the word of the sum of its base and its immediate
+abbrev pub by_sum : Instr → SymWord → PlainCore → Place → Does
+by_sum (Upper op rd imm) w s next = Stops NoInstruction
+by_sum (Jal rd distance) w s next = Stops NoInstruction
+by_sum (Jalr rd base imm) w s next = jump_does (code_of w) rd next
+by_sum (instr.Branch op first second distance) w s next = Stops NoInstruction
+by_sum (Load op rd base imm) w s next = load_does op rd (number_of w) s next
+by_sum (Store op source base imm) w s next = store_does op (reg_of s source) (number_of w) s next
+by_sum (WithImm op rd first imm) w s next = addi_does op rd w next
+by_sum (WithReg op rd first second) w s next = Stops NoInstruction
+by_sum (Fence rest) w s next = Stops NoInstruction
+by_sum Ecall w s next = Stops NoInstruction
+by_sum Ebreak w s next = Stops NoInstruction
+by_sum (Csrrw rd source) w s next = Stops NoInstruction
+
+-- the register whose word such a sum begins with
+abbrev pub base_of : Instr → ℕ
+base_of (Upper op rd imm) = 0
+base_of (Jal rd distance) = 0
+base_of (Jalr rd base imm) = base
+base_of (instr.Branch op first second distance) = 0
+base_of (Load op rd base imm) = base
+base_of (Store op source base imm) = base
+base_of (WithImm op rd first imm) = first
+base_of (WithReg op rd first second) = 0
+base_of (Fence rest) = 0
+base_of Ecall = 0
+base_of Ebreak = 0
+base_of (Csrrw rd source) = 0
+
 -- an instruction without relocation, by its format, with the place after it; a branch or a `jal` is an item of its own
 abbrev pub op_does : Instr → PlainCore → Place → Does
 op_does (Upper op rd imm) s next = Goes (gives rd (upper_word op imm) next)
 op_does (Jal rd distance) s next = Stops NoInstruction
-op_does (Jalr rd base imm) s next = jump_does (code_of (sum_word (reg_of s base) imm)) rd next
+op_does (Jalr rd base imm) s next = by_sum (Jalr rd base imm) (sum_word (reg_of s base) imm) s next
 op_does (instr.Branch op first second distance) s next = Stops NoInstruction
-op_does (Load op rd base imm) s next = load_does op rd (number_of (sum_word (reg_of s base) imm)) s next
-op_does (Store op source base imm) s next = store_does op (reg_of s source) (number_of (sum_word (reg_of s base) imm)) s next
+op_does (Load op rd base imm) s next = by_sum (Load op rd base imm) (sum_word (reg_of s base) imm) s next
+op_does (Store op source base imm) s next = by_sum (Store op source base imm) (sum_word (reg_of s base) imm) s next
 op_does (WithImm op rd first imm) s next = Goes (gives rd (imm_word op (reg_of s first) imm) next)
 op_does (WithReg op rd first second) s next = Goes (gives rd (reg_word op first second (reg_of s first) (reg_of s second)) next)
 op_does (Fence rest) s next = Goes (onward next)
 op_does Ecall s next = call_does (number_of (reg_of s 17)) s next
 op_does Ebreak s next = Stops NoInstruction
 op_does (Csrrw rd source) s next = Stops NoInstruction
+
+-- the upper part of an address for a register: a `lui` or an `auipc`, as the relocation asks
+abbrev pub upper_does : UpperOp → Instr → SymWord → Place → Does
+upper_does Lui (Upper Lui rd imm) w next = Goes (gives rd w next)
+upper_does Lui (Upper Auipc rd imm) w next = Stops NoInstruction
+upper_does Auipc (Upper Lui rd imm) w next = Stops NoInstruction
+upper_does Auipc (Upper Auipc rd imm) w next = Goes (gives rd w next)
+upper_does op (Jal rd distance) w next = Stops NoInstruction
+upper_does op (Jalr rd base imm) w next = Stops NoInstruction
+upper_does op (instr.Branch kind first second distance) w next = Stops NoInstruction
+upper_does op (Load kind rd base imm) w next = Stops NoInstruction
+upper_does op (Store kind source base imm) w next = Stops NoInstruction
+upper_does op (WithImm kind rd first imm) w next = Stops NoInstruction
+upper_does op (WithReg kind rd first second) w next = Stops NoInstruction
+upper_does op (Fence rest) w next = Stops NoInstruction
+upper_does op Ecall w next = Stops NoInstruction
+upper_does op Ebreak w next = Stops NoInstruction
+upper_does op (Csrrw rd source) w next = Stops NoInstruction
 
 -- a branch to a place
 abbrev pub branch_to : Program → Instr → Place → PlainCore → Place → Does
@@ -222,17 +288,24 @@ jump_to Ecall to next = Stops NoInstruction
 jump_to Ebreak to next = Stops NoInstruction
 jump_to (Csrrw rd source) to next = Stops NoInstruction
 
--- an item, with the place after it; no relocation makes one yet
+-- a call to a place: what its first register holds afterwards isn't known, and then the link register gets the next place's
+-- address. Register 0 takes no part of an address, so a call by it goes to no place
+abbrev pub call_to : ℕ → ℕ → Place → Place → Does
+call_to rd temp to next =
+    if temp == 0 then Stops TargetUnknown
+    else Goes (record (onward to) { writes = (temp, undef_word) ∷ (rd, code_word next) ∷ [] })
+
+-- an item, with the place after it
 abbrev pub item_does : Program → Item → PlainCore → Place → Does
 item_does p (Op i) s next = op_does i s next
-item_does p (Hi i t) s next = Stops NoInstruction
-item_does p (Lo i t) s next = Stops NoInstruction
-item_does p (PcHi i t) s next = Stops NoInstruction
-item_does p (PcLo i q) s next = Stops NoInstruction
+item_does p (Hi i t) s next = upper_does Lui i (high_word t) next
+item_does p (Lo i t) s next = by_sum i (low_sum t (reg_of s (base_of i))) s next
+item_does p (PcHi i t) s next = upper_does Auipc i (value_word (value.PcHi s.place)) next
+item_does p (PcLo i q) s next = by_sum i (pc_low_sum q (pc_target (p.item q)) (reg_of s (base_of i))) s next
 item_does p (Branch i to) s next = branch_to p i to s next
 item_does p (Jump i to) s next = jump_to i to next
-item_does p (Call rd temp to) s next = Stops NoInstruction
-item_does p (Align bytes) s next = Stops NoInstruction
+item_does p (Call rd temp to) s next = call_to rd temp to next
+item_does p (Align bytes) s next = Goes (onward next)
 item_does p (Word t) s next = Stops NoInstruction
 item_does p (Raw word) s next = Stops NoInstruction
 item_does p (RawPair first second) s next = Stops TargetUnknown

@@ -1,5 +1,6 @@
 pub mod Why
 pub mod Words
+pub mod AddressParts
 pub mod Program
 pub mod Objects
 pub mod State

@@ -1,24 +1,37 @@
 -- The program that objects are.
 use Rattle.std.specs.Prelude.{◌-◌, List, ◌++◌, map, replicate}
-use Rattle.psabi_sym.specs.Contents.{data_contents}
+use Rattle.std.specs.List.{fold}
+use Rattle.psabi_sym.specs.Contents.{data_contents, overlaid}
 use Rattle.psabi_sym.specs.Data.{data_end, data_file_end}
 use Rattle.psabi_sym.specs.Inputs.{ParsedInputs}
-use Rattle.block_cut.specs.Items.{entry_of, is_end_at, is_leader_at, item_at, next_at}
+use Rattle.block_cut.specs.DataWords.{data_words}
+use Rattle.block_cut.specs.Items.{entry_of, is_end_at, item_at, next_at}
+use Rattle.block_cut.specs.Leaders.{is_leader_at}
+use Rattle.block_cut.specs.declared.data_word.DataWord.{DataWord}
 use Rattle.sym_machine.specs.declared.word.SymByte.{SymByte}
 use Rattle.sym_machine.specs.declared.word.SymByte.TheVariants.{Num}
+use Rattle.sym_machine.specs.AddressParts.{target_bytes}
 use Rattle.sym_machine.specs.Program.{Program}
 
--- the bytes of data: those that files hold, and zeros from there to the data's end
+-- the bytes of data as files hold them, and zeros from there to the data's end
+abbrev pub unfilled_bytes : ParsedInputs → List SymByte
+unfilled_bytes inputs = map Num (data_contents inputs ++ replicate (data_end inputs - data_file_end inputs) 0)
+
+-- bytes from the map's start of data on, with those of a word over them
+abbrev pub with_word : ParsedInputs → List SymByte → DataWord → List SymByte
+with_word inputs bytes w = overlaid (w.at - inputs.map.data_low) (target_bytes w.target) bytes
+
+-- the bytes of data, with each word that holds an address filled in
 unfoldable pub data_bytes : ParsedInputs → List SymByte
-data_bytes inputs = map Num (data_contents inputs ++ replicate (data_end inputs - data_file_end inputs) 0)
+data_bytes inputs = fold (with_word inputs) (unfilled_bytes inputs) (data_words inputs)
 
 -- the objects' own items, one after another, and their data
 unfoldable pub program_of : ParsedInputs → Program
 program_of inputs = record {
-  item = item_at inputs.objects;
+  item = item_at inputs;
   next = next_at inputs.objects;
   is_end = is_end_at inputs.objects;
-  is_leader = is_leader_at inputs.objects;
+  is_leader = is_leader_at inputs;
   entry = entry_of inputs;
   map = inputs.map;
   bytes = data_bytes inputs;
