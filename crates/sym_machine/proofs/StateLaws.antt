@@ -1,7 +1,8 @@
 -- Ends of steps of a state as it is kept: the step of the definition ends in the state that is then kept.
-use Rattle.std.proofs.Common.{◌≡◌, ◌≢◌, ℕ, ◌-◌, ◌%◌, ◌<◌, ◌≤◌, List, [], ◌∷◌, length, get_or, set, take, drop, map, min, false, eqb, Option, Some, None, refl, sym, ap, ◌∙◌, arith, inl, get_or-set_same, get_or-set_other, length-set, subst}
+use Rattle.std.proofs.Common.{◌≡◌, ◌≢◌, ℕ, ◌-◌, ◌%◌, ◌<◌, ◌≤◌, List, [], ◌∷◌, length, get_or, set, take, drop, map, min, true, false, eqb, ⊎_elim, Option, Some, None, refl, sym, ap, ◌∙◌, arith, inl, get_or-set_same, get_or-set_other, length-set, subst}
 use Rattle.std.specs.Prelude.{slice_index_or, nat_le, ◌&&◌}
-use Rattle.std.proofs.lemmas.Bool.{cond-false, ne_eqb}
+use Rattle.std.proofs.lemmas.Bool.{cond-false, cond-true, ne_eqb}
+use Rattle.std.proofs.lemmas.Bool.Decides.{eqb_tells}
 use Rattle.std.proofs.lemmas.List.{get_or_default, map-set, same_lists}
 use Rattle.zc_base.specs.declared.mem_map.MemMap.{MemMap}
 use Rattle.zc_base.specs.declared.place.Place.{Place}
@@ -11,18 +12,19 @@ use Rattle.sym_machine.specs.declared.arguments.Arguments.{Arguments}
 use Rattle.sym_machine.specs.declared.held.Held.{Held}
 use Rattle.sym_machine.specs.declared.held.Held.TheVariants as held
 use Rattle.sym_machine.specs.declared.step.SymStep.TheVariants as answer
-use Rattle.sym_machine.specs.declared.why.Why.TheVariants.{StackPointer}
+use Rattle.sym_machine.specs.declared.why.Why.TheVariants.{StackPointer, TargetUnknown}
 use Rattle.sym_machine.specs.declared.word.SymByte.{SymByte}
 use Rattle.sym_machine.specs.declared.word.SymByte.TheVariants.{Num, Undef}
 use Rattle.sym_machine.specs.declared.word.SymWord.{SymWord}
 use Rattle.sym_machine.specs.Answer.{StepAnswers}
-use Rattle.sym_machine.specs.Change.{Change, Goes, exit_does, gives, onward, place_does, puts, read_does}
+use Rattle.sym_machine.specs.Change.{Change, Goes, Stops, call_to, exit_does, gives, onward, place_does, puts, read_does}
 use Rattle.sym_machine.specs.Kept.{IsChanged, IsKept, IsWorking, Kept, above_only, kept_from, regions_of, stack_cells, word_of, words_of}
 use Rattle.sym_machine.specs.Program.{Program, first_memory}
 use Rattle.sym_machine.specs.State.{PlainCore, reg_of}
 use Rattle.sym_machine.specs.Step.{Stuck, Went, after_change, ends, made, plain_step, undefined_below}
-use Rattle.sym_machine.specs.Words.{number_of, number_word, undef_word}
+use Rattle.sym_machine.specs.Words.{code_word, number_of, number_word, undef_word}
 use Rattle.rv_decode.proofs.MemoryLaws.{get_or_blank, length_blank}
+use Rattle.rv_decode.proofs.RegisterLaws.{length-set_reg}
 use Rattle.sym_machine.proofs.MemoryLaws.{changed-after, get_or-stack_cells, length-stack_cells, settled_stays}
 use Rattle.sym_machine.proofs.StepLaws.{ends_outside, ends_unknown, ends_within, made_by, step_running}
 
@@ -64,6 +66,17 @@ working_sp R k k' w sp is kept from number =
 -- the state that registers and memory are
 abbrev pub core_of : Place → List Held → Kept → List ℕ → Option ℕ → PlainCore
 core_of place R k input exit = record { place = place; regs = words_of R; memory = regions_of k; input = input; exit = exit }
+
+-- what a call does but for register 0 as its first one
+abbrev pub calls : ℕ → ℕ → Place → Place → Change
+calls rd temp next to = record (onward to) { writes = (temp, undef_word) ∷ (rd, code_word next) ∷ [] }
+
+pub call_goes : (rd temp : ℕ) (to next : Place) → temp ≢ 0 → call_to rd temp to next ≡ Goes (calls rd temp next to)
+call_goes rd temp to next some = cond-false (eqb temp 0) (Stops TargetUnknown) (Goes (calls rd temp next to)) (ne_eqb temp 0 some)
+
+-- a register whose word isn't known
+abbrev pub forgotten : Held
+forgotten = held.Bytes undef_word
 
 module _ (k : Kept) (is : IsKept k) where
   -- neither sp nor memory changes
@@ -116,6 +129,33 @@ module _ (k : Kept) (R : List Held) (is : IsWorking (words_of R) k) (place to : 
         running,
         ends_within k.map sp s [] (ap number_of set ∙ number) low high
             ∙ (λ j. Went (record { place = to; regs = sym (map-set word_of R 2 w) j; memory = sym regions j; input = input; exit = sym running j }) []),
+      )
+
+  -- a register isn't known any more, and then another one gets a word; neither is sp
+  pub calls_on : (t r : ℕ) (next : Place) → t ≢ 0 → t ≢ 2 → r ≢ 0 → r ≢ 2
+      → StepAnswers (made k.map (core_of place R k input exit) (Goes (calls r t next to))) answer.Done (core_of place R k input exit) (core_of to (set (set R t forgotten) r (held.Code next)) k input exit)
+  calls_on t r next some other link apart =
+      let R' = set R t forgotten in
+      let is' = working_set R k k t forgotten is is.kept refl some other in
+      let words = words_set R t forgotten some in
+      let linked = words_set R' r (held.Code next) link ∙ ap (λ l. set_reg l r (code_word next)) words in
+      let s = after_change (calls r t next to) core in (
+        running,
+        running,
+        kept_ends k is.kept s [] (ap (λ l. number_of (get_or l 2 undef_word)) (sym linked) ∙ (working_set R' k k r (held.Code next) is' is.kept refl link apart).sp) refl
+            ∙ (λ j. Went (record { place = to; regs = sym linked j; memory = regions_of k; input = input; exit = sym running j }) []),
+      )
+
+  -- the same if the other one is register 0, which stays
+  pub calls_off : (t : ℕ) (next : Place) → t ≢ 0 → t ≢ 2
+      → StepAnswers (made k.map (core_of place R k input exit) (Goes (calls 0 t next to))) answer.Done (core_of place R k input exit) (core_of to (set R t forgotten) k input exit)
+  calls_off t next some other =
+      let words = words_set R t forgotten some in
+      let s = after_change (calls 0 t next to) core in (
+        running,
+        running,
+        kept_ends k is.kept s [] (ap (λ l. number_of (get_or l 2 undef_word)) (sym words) ∙ (working_set R k k t forgotten is is.kept refl some other).sp) refl
+            ∙ (λ j. Went (record { place = to; regs = sym words j; memory = regions_of k; input = input; exit = sym running j }) []),
       )
 
   -- bytes are written
@@ -172,6 +212,33 @@ module _ (map : MemMap) (s : PlainCore) (many : 2 < length s.regs) (w : SymWord)
   -- a number that isn't in the stack
   pub sp_outside : (sp : ℕ) → number_of w ≡ Some sp → (nat_le map.stack_low sp && nat_le sp map.stack_high) ≡ false → made map s (Goes (gives 2 w to)) ≡ Stuck StackPointer
   sp_outside sp is out = ends_outside map sp (after_change (gives 2 w to) s) [] (ap number_of sp_is ∙ is) out
+
+-- a call after which sp is no number, since it gets the next place's address or isn't known
+module _ (map : MemMap) (s : PlainCore) (many : 2 < length s.regs) (to next : Place) where
+  -- the link register is sp
+  pub call_links_sp : (temp : ℕ) → made map s (Goes (calls 2 temp next to)) ≡ Stuck StackPointer
+  call_links_sp temp =
+      let regs = set_reg s.regs temp undef_word in
+      ends_unknown map (after_change (calls 2 temp next to) s) []
+      (ap number_of (get_or-set_same regs 2 (code_word next) undef_word (omega (arith, length-set_reg s.regs temp undef_word, many))))
+
+  -- the first register is
+  pub call_forgets_sp : (rd : ℕ) → rd ≢ 2 → made map s (Goes (calls rd 2 next to)) ≡ Stuck StackPointer
+  call_forgets_sp rd apart = ends_unknown map (after_change (calls rd 2 next to) s) [] (⊎_elim none linked (eqb_tells rd 0))
+    where
+      regs : List SymWord
+      regs = set s.regs 2 undef_word
+
+      unknown : number_of (get_or regs 2 undef_word) ≡ None
+      unknown = ap number_of (get_or-set_same s.regs 2 undef_word undef_word many)
+
+      none : (eqb rd 0 ≡ true) × (rd ≡ 0) → number_of (get_or (set_reg regs rd (code_word next)) 2 undef_word) ≡ None
+      none is = ap (λ l. number_of (get_or l 2 undef_word)) (cond-true (eqb rd 0) regs (set regs rd (code_word next)) is.0) ∙ unknown
+
+      linked : (eqb rd 0 ≡ false) × (rd ≢ 0) → number_of (get_or (set_reg regs rd (code_word next)) 2 undef_word) ≡ None
+      linked is =
+          ap (λ l. number_of (get_or l 2 undef_word)) (cond-false (eqb rd 0) regs (set regs rd (code_word next)) is.0)
+          ∙ ap number_of (get_or-set_other regs rd 2 (code_word next) undef_word (λ e. apart (sym e))) ∙ unknown
 
 -- ---- programs
 

@@ -1,16 +1,34 @@
 // The bytes of data at a program's start.
 
 ghost use Rattle.std.specs.Prelude.{◌≡◌, ◌≤◌, IfOk, length};
+ghost use Rattle.std.specs.List.{fold};
+ghost use Rattle.psabi_sym.specs.Contents.{overlaid};
 ghost use Rattle.psabi_sym.specs.Inputs.{parsed};
-ghost use Rattle.sym_machine.specs.Objects.{data_bytes};
+ghost use Rattle.block_cut.specs.DataWords.{data_words};
+ghost use Rattle.sym_machine.specs.AddressParts as parts;
+ghost use Rattle.sym_machine.specs.Objects.{data_bytes, unfilled_bytes, with_word};
 
+use crate::address_parts::target_word;
 use crate::word::SymByte;
+use block_cut::cut::Cut;
 use psabi_sym::objects::Objects;
+use psabi_sym::target::Target;
 use std::alloc::{AllocError, Global};
 
-/// The bytes of data that files hold, and zeros from there to the data's end.
-pub fn first_data(alloc: Global, objects: &Objects) -> Result<Vec<SymByte>, AllocError>
-    ensures bytes { IfOk result (λ bytes. bytes.items ≡ data_bytes (parsed objects.now)) }
+/// The bytes of data, with each word that holds an address filled in.
+#[tactic(auto, unfolding(crate::specs::Objects::data_bytes))]
+pub fn first_data(alloc: Global, cut: &Cut) -> Result<Vec<SymByte>, AllocError>
+    ensures bytes { IfOk result (λ bytes. bytes.items ≡ data_bytes (parsed cut.now)) }
+    ensures most { IfOk result (λ bytes. length bytes.items ≤ 0x40_0000) }
+{
+    let mut bytes = unfilled(alloc, cut.objects())?;
+    fill(cut, bytes.as_mut_slice());
+    Ok(bytes)
+}
+
+// The bytes of data that files hold, and zeros from there to the data's end.
+fn unfilled(alloc: Global, objects: &Objects) -> Result<Vec<SymByte>, AllocError>
+    ensures bytes { IfOk result (λ bytes. bytes.items ≡ unfilled_bytes (parsed objects.now)) }
     ensures most { IfOk result (λ bytes. length bytes.items ≤ 0x40_0000) }
 {
     let contents = objects.data_contents(alloc)?;
@@ -22,4 +40,36 @@ pub fn first_data(alloc: Global, objects: &Objects) -> Result<Vec<SymByte>, Allo
     }
     bytes.resize(size, SymByte::Num(0))?;
     Ok(bytes)
+}
+
+// Puts the words of data over bytes.
+fn fill(cut: &Cut, bytes: &mut [SymByte])
+    ensures { bytes.new ≡ fold (with_word (parsed cut.now)) bytes.old (data_words (parsed cut.now)) }
+{
+    let low = cut.objects().map().data_low;
+    for word in cut.data_words() {
+        overlay(
+            &target_bytes(word.target),
+            word.at.saturating_sub(low) as usize,
+            bytes,
+        );
+    }
+}
+
+// The bytes of a word that holds a target.
+fn target_bytes(target: Target) -> [SymByte; 4]
+    ensures { result ≡ parts.target_bytes target }
+{
+    let word = target_word(target).bytes();
+    [word.b0, word.b1, word.b2, word.b3]
+}
+
+// Puts bytes over others from an index on, as far as these go.
+fn overlay(new: &[SymByte], at: usize, old: &mut [SymByte])
+    ensures { old.new ≡ overlaid at new.now old.old }
+{
+    if at < old.len() {
+        let count = new.len().min(old.len() - at);
+        old[at..at + count].copy_from_slice(&new[..count]);
+    }
 }

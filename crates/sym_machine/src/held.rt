@@ -2,7 +2,7 @@
 
 ghost use Rattle.std.specs.Prelude.{◌≡◌};
 ghost use Rattle.sym_machine.specs.Kept.{word_of};
-ghost use Rattle.sym_machine.specs.Words.{code_of, number_of, signed_byte, signed_half, zero_byte, zero_half};
+ghost use Rattle.sym_machine.specs.Words.{code_of, is_value, number_of, signed_byte, signed_half, value_word, zero_byte, zero_half};
 
 use crate::word::{SymByte, SymWord, Value};
 use zc_base::place::Place;
@@ -30,6 +30,18 @@ impl Held {
             }
             _ => Held::Bytes(bytes),
         }
+    }
+
+    /// A value's word.
+    pub fn of_value(value: Value) -> Held
+        ensures { word_of result ≡ value_word value }
+    {
+        Held::Bytes(SymWord {
+            b0: SymByte::Part(value, 0),
+            b1: SymByte::Part(value, 1),
+            b2: SymByte::Part(value, 2),
+            b3: SymByte::Part(value, 3),
+        })
     }
 
     /// The word of a byte with its sign above.
@@ -102,6 +114,13 @@ impl Held {
             Held::Code(q) => Some(*q),
             Held::Bytes(bytes) => bytes.code(),
         }
+    }
+
+    /// Whether the word is a value.
+    pub fn is_value(&self, value: Value) -> bool
+        ensures { result ≡ is_value value (word_of self.now) }
+    {
+        self.bytes().is_value(value)
     }
 
     /// The word's bytes.

@@ -4,21 +4,23 @@ ghost use Rattle.std.specs.Prelude.{◌≡◌, ◌==◌, ◌<◌, ◌≤◌, ◌
 ghost use Rattle.psabi_sym.specs.Inputs.{parsed};
 ghost use Rattle.rv_decode.specs.Effect as effects;
 ghost use Rattle.sym_machine.specs.Answer.{Makes, StepAnswers, reached};
-ghost use Rattle.sym_machine.specs.Change.{Does, branch_does, branch_to, item_does, jump_does, jump_to, load_does, op_does, reaching, store_does};
-ghost use Rattle.sym_machine.specs.Kept.{IsOf};
+ghost use Rattle.sym_machine.specs.Change.{Does, base_of, branch_does, branch_to, by_sum, item_does, jump_does, jump_to, load_does, op_does, reaching, store_does, upper_does};
+ghost use Rattle.sym_machine.specs.Kept.{word_of};
 ghost use Rattle.sym_machine.specs.Objects.{program_of};
 ghost use Rattle.sym_machine.specs.State.{reg_of};
-ghost use Rattle.sym_machine.specs.Step.{made, plain_step};
+ghost use Rattle.sym_machine.specs.Step.{made};
 
+use crate::address_parts::{high_word, low_sum, pc_low_sum};
 use crate::held::Held;
 use crate::known::condition;
-use crate::results::{imm_word, reg_word, sum_code, sum_number, upper_word};
+use crate::results::{imm_word, reg_word, sum, upper_word};
 use crate::state::State;
 use crate::step::SymStep;
 use crate::why::Why;
+use crate::word::Value;
 use block_cut::cut::Cut;
 use block_cut::item::Item;
-use rv_decode::instr::{Instr, LoadOp, StoreOp};
+use rv_decode::instr::{ImmOp, Instr, LoadOp, StoreOp, UpperOp};
 use std::alloc::AllocError;
 use zc_base::place::Place;
 use zc_base::reg::Reg;
@@ -31,18 +33,27 @@ impl State {
     {
         match item {
             Item::Op(instr) => self.step_op(instr, next),
+            Item::Hi(instr, target) => {
+                self.step_upper(UpperOp::Lui, instr, &high_word(*target), next)
+            }
+            Item::Lo(instr, target) => {
+                let word = low_sum(*target, &self.base(instr));
+                self.step_sum(instr, &word, next)
+            }
+            Item::PcHi(instr, _) => {
+                let word = Held::of_value(Value::PcHi(self.place()));
+                self.step_upper(UpperOp::Auipc, instr, &word, next)
+            }
+            Item::PcLo(instr, q) => {
+                let word = pc_low_sum(cut, *q, &self.base(instr));
+                self.step_sum(instr, &word, next)
+            }
             Item::Branch(instr, to) => self.step_branch(cut, instr, *to, next),
             Item::Jump(instr, to) => self.step_jump(instr, *to, next),
+            Item::Call { rd, temp, to } => Ok(self.call(*rd, *temp, *to, next)),
+            Item::Align(_) => Ok(self.go(next)),
+            Item::Word(_) | Item::Raw(_) => Ok(self.stuck(Why::NoInstruction)),
             Item::RawPair(_, _) => Ok(self.stuck(Why::TargetUnknown)),
-            // No relocation makes one of these yet.
-            Item::Hi(_, _)
-            | Item::Lo(_, _)
-            | Item::PcHi(_, _)
-            | Item::PcLo(_, _)
-            | Item::Call { .. }
-            | Item::Align(_)
-            | Item::Word(_)
-            | Item::Raw(_) => Ok(self.stuck(Why::NoInstruction)),
         }
     }
 
@@ -53,22 +64,11 @@ impl State {
     {
         match instr {
             Instr::Upper { op, rd, imm } => self.give(*rd, &upper_word(*op, *imm), next),
-            Instr::Jalr { rd, base, imm } => {
-                let to = sum_code(self.register(*base), *imm);
-                self.jump(to, *rd, next)
-            }
-            Instr::Load { op, rd, base, imm } => {
-                let address = sum_number(self.register(*base), *imm);
-                self.step_load(*op, *rd, address, next)
-            }
-            Instr::Store {
-                op,
-                source,
-                base,
-                imm,
-            } => {
-                let address = sum_number(self.register(*base), *imm);
-                self.step_store(*op, *source, address, next)
+            Instr::Jalr { base, imm, .. }
+            | Instr::Load { base, imm, .. }
+            | Instr::Store { base, imm, .. } => {
+                let word = sum(self.register(*base), *imm);
+                self.step_sum(instr, &word, next)
             }
             Instr::WithImm { op, rd, first, imm } => {
                 let word = imm_word(*op, self.register(*first), *imm);
@@ -89,6 +89,88 @@ impl State {
             Instr::Jal { .. } | Instr::Branch { .. } | Instr::Ebreak | Instr::Csrrw { .. } => {
                 Ok(self.stuck(Why::NoInstruction))
             }
+        }
+    }
+
+    // The word in the register that the sum of an instruction begins with.
+    fn base(&self, instr: &Instr) -> Held
+        ensures { word_of result ≡ reg_of self.now.core (base_of instr.now) }
+    {
+        match instr {
+            Instr::Jalr { base, .. }
+            | Instr::Load { base, .. }
+            | Instr::Store { base, .. }
+            | Instr::WithImm { first: base, .. } => *self.register(*base),
+            Instr::Upper { .. }
+            | Instr::Jal { .. }
+            | Instr::Branch { .. }
+            | Instr::WithReg { .. }
+            | Instr::Fence { .. }
+            | Instr::Ecall
+            | Instr::Ebreak
+            | Instr::Csrrw { .. } => Held::Number(0),
+        }
+    }
+
+    // `addi`, a load, a store or `jalr`, by the word of its sum.
+    fn step_sum(&mut self, instr: &Instr, word: &Held, next: Place) -> Result<SymStep, AllocError>
+        requires { self.old.core.exit ≡ None }
+        ensures { Makes result (made self.old.map self.old.core (by_sum instr.now (word_of word.now) self.old.core next)) self.old.core self.new.core }
+    {
+        match instr {
+            Instr::Jalr { rd, .. } => self.jump(word.code(), *rd, next),
+            Instr::Load { op, rd, .. } => self.step_load(*op, *rd, word.number(), next),
+            Instr::Store { op, source, .. } => {
+                self.step_store(*op, *source, word.number(), next)
+            }
+            Instr::WithImm {
+                op: ImmOp::Addi,
+                rd,
+                ..
+            } => self.give(*rd, word, next),
+            Instr::Upper { .. }
+            | Instr::Jal { .. }
+            | Instr::Branch { .. }
+            | Instr::WithImm { .. }
+            | Instr::WithReg { .. }
+            | Instr::Fence { .. }
+            | Instr::Ecall
+            | Instr::Ebreak
+            | Instr::Csrrw { .. } => Ok(self.stuck(Why::NoInstruction)),
+        }
+    }
+
+    // The upper part of an address for a register, by this operation.
+    fn step_upper(
+        &mut self,
+        op: UpperOp,
+        instr: &Instr,
+        word: &Held,
+        next: Place,
+    ) -> Result<SymStep, AllocError>
+        requires { self.old.core.exit ≡ None }
+        ensures { Makes result (made self.old.map self.old.core (upper_does op instr.now (word_of word.now) next)) self.old.core self.new.core }
+    {
+        match instr {
+            Instr::Upper { op: own, rd, .. } => match (op, *own) {
+                (UpperOp::Lui, UpperOp::Lui) | (UpperOp::Auipc, UpperOp::Auipc) => {
+                    self.give(*rd, word, next)
+                }
+                (UpperOp::Lui, UpperOp::Auipc) | (UpperOp::Auipc, UpperOp::Lui) => {
+                    Ok(self.stuck(Why::NoInstruction))
+                }
+            },
+            Instr::Jal { .. }
+            | Instr::Jalr { .. }
+            | Instr::Branch { .. }
+            | Instr::Load { .. }
+            | Instr::Store { .. }
+            | Instr::WithImm { .. }
+            | Instr::WithReg { .. }
+            | Instr::Fence { .. }
+            | Instr::Ecall
+            | Instr::Ebreak
+            | Instr::Csrrw { .. } => Ok(self.stuck(Why::NoInstruction)),
         }
     }
 

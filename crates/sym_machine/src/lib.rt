@@ -2,6 +2,7 @@
 //! is chosen for them, with bytes that may be undefined.
 #![tactic(auto)]
 
+mod address_parts;
 pub mod arguments;
 mod calls;
 mod first_data;

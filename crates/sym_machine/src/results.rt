@@ -3,16 +3,15 @@
 ghost use Rattle.std.specs.Prelude.{◌≡◌};
 ghost use Rattle.sym_machine.specs.Kept.{word_of};
 ghost use Rattle.sym_machine.specs.Words as words;
-ghost use Rattle.sym_machine.specs.Words.{code_of, number_of, sum_word};
+ghost use Rattle.sym_machine.specs.Words.{sum_word};
 
 use crate::held::Held;
 use rv_decode::instr::{ImmOp, RegOp, UpperOp};
 use rv_decode::results::{imm_result, reg_result, upper_result};
-use zc_base::place::Place;
 use zc_base::reg::Reg;
 
-// A word's sum with an immediate.
-fn sum(word: &Held, imm: i32) -> Held
+/// A word's sum with an immediate.
+pub fn sum(word: &Held, imm: i32) -> Held
     ensures { word_of result ≡ sum_word (word_of word.now) imm }
 {
     if imm == 0 {
@@ -22,23 +21,6 @@ fn sum(word: &Held, imm: i32) -> Held
         Some(n) => Held::Number(n.wrapping_add(imm.cast_unsigned())),
         None => Held::UNDEFINED,
     }
-}
-
-/// The number of a word's sum with an immediate, if it is one.
-pub fn sum_number(word: &Held, imm: i32) -> Option<u32>
-    ensures { result ≡ number_of (sum_word (word_of word.now) imm) }
-{
-    match word.number() {
-        Some(n) => Some(n.wrapping_add(imm.cast_unsigned())),
-        None => None,
-    }
-}
-
-/// The place whose address a word's sum with an immediate is, if it is one.
-pub fn sum_code(word: &Held, imm: i32) -> Option<Place>
-    ensures { result ≡ code_of (sum_word (word_of word.now) imm) }
-{
-    if imm == 0 { word.code() } else { None }
 }
 
 // An operation on a register's word and an immediate, if the word is a number.

@@ -1,9 +1,9 @@
 // The state of the symbolic machine, and how each step ends.
 
-ghost use Rattle.std.specs.Prelude.{◌≡◌, ◌<◌, ◌≤◌, ◌%◌, ◌&&◌, nat_le, IfOk, MatchOption, None, Some, true};
+ghost use Rattle.std.specs.Prelude.{◌≡◌, ◌<◌, ◌≤◌, ◌%◌, IfOk, MatchOption, None, Some, true};
 ghost use Rattle.psabi_sym.specs.Inputs.{parsed};
 ghost use Rattle.sym_machine.specs.Answer.{Makes, StepAnswers};
-ghost use Rattle.sym_machine.specs.Change.{Goes, Stops, exit_does, gives, in_memory, is_output, load_word, numbers_at, onward, output_does, puts, read_does};
+ghost use Rattle.sym_machine.specs.Change.{Goes, Stops, call_to, exit_does, gives, in_memory, is_output, load_word, numbers_at, onward, output_does, puts, read_does};
 ghost use Rattle.sym_machine.specs.Kept.{IsOf, word_of};
 ghost use Rattle.sym_machine.specs.Objects.{program_of};
 ghost use Rattle.sym_machine.specs.State.{first_plain, reg_of};
@@ -66,7 +66,7 @@ impl State {
         ensures { IfOk result (λ s. s.core ≡ first_plain (program_of (parsed cut.now)) input.now) }
     {
         let map = cut.objects().map();
-        let data = first_data(alloc, cut.objects())?;
+        let data = first_data(alloc, cut)?;
         let input = Vec::from_slice(alloc, input)?;
         let mut registers = [Held::UNDEFINED; 32];
         registers[0] = Held::Number(0);
@@ -80,6 +80,13 @@ impl State {
             exit: None,
             alloc,
         })
+    }
+
+    /// The place of the next item.
+    pub fn place(&self) -> Place
+        ensures { result ≡ self.now.core.place }
+    {
+        self.place
     }
 
     /// The word in a register.
@@ -203,6 +210,28 @@ impl State {
         self.registers[2] = *word;
         self.place = to;
         Ok(SymStep::Done)
+    }
+
+    /// Calls a place: the first register isn't known afterwards, and the link register gets the next
+    /// place's address. Register 0 takes no part of an address, and sp stays a number.
+    pub fn call(&mut self, rd: Reg, temp: Reg, to: Place, next: Place) -> SymStep
+        requires { self.old.core.exit ≡ None }
+        ensures { StepAnswers (made self.old.map self.old.core (call_to rd temp to next)) result self.old.core self.new.core }
+    {
+        let _ = &self.registers;
+        let (link, part) = (rd.number() as usize, temp.number() as usize);
+        if part == 0 {
+            return self.stuck(Why::TargetUnknown);
+        }
+        if link == 2 || part == 2 {
+            return self.stuck(Why::StackPointer);
+        }
+        self.registers[part] = Held::UNDEFINED;
+        if link != 0 {
+            self.registers[link] = Held::Code(next);
+        }
+        self.place = to;
+        SymStep::Done
     }
 
     /// Writes bytes to memory from an address on, and goes on to a place.

@@ -1,7 +1,7 @@
 // Words whose bytes may depend on where code will lie.
 
 ghost use Rattle.std.specs.Prelude.{◌≡◌};
-ghost use Rattle.sym_machine.specs.Words.{code_of, is_part, is_value, number_of, sign_of};
+ghost use Rattle.sym_machine.specs.Words.{code_of, is_part, is_value, number_of, same_value, sign_of};
 ghost use Rattle.zc_base.specs.Places as places;
 
 use zc_base::place::Place;
@@ -35,13 +35,12 @@ impl SymByte {
         }
     }
 
-    // Whether the byte is this part of a place's address.
-    fn is_code_part(&self, q: Place, i: u8) -> bool
-        ensures { result ≡ is_part (Value.Code q) i self.now }
+    // Whether the byte is this part of a value.
+    fn is_part(&self, value: Value, i: u8) -> bool
+        ensures { result ≡ is_part value i self.now }
     {
         match self {
-            SymByte::Part(Value::Code(r), j) => same_place(q, *r) && i == *j,
-            SymByte::Part(Value::AbsHi(_) | Value::PcHi(_), _) => false,
+            SymByte::Part(other, j) => same_value(value, *other) && i == *j,
             SymByte::Num(_) | SymByte::Undef => false,
         }
     }
@@ -82,19 +81,33 @@ impl SymWord {
         ensures { result ≡ code_of self.now }
     {
         match self.b0 {
-            SymByte::Part(Value::Code(q), _) if self.is_code(q) => Some(q),
+            SymByte::Part(Value::Code(q), _) if self.is_value(Value::Code(q)) => Some(q),
             _ => None,
         }
     }
 
-    // Whether the word is the address of a place.
-    fn is_code(&self, q: Place) -> bool
-        ensures { result ≡ is_value (Value.Code q) self.now }
+    /// Whether the word is a value.
+    pub fn is_value(&self, value: Value) -> bool
+        ensures { result ≡ is_value value self.now }
     {
-        self.b0.is_code_part(q, 0)
-            && self.b1.is_code_part(q, 1)
-            && self.b2.is_code_part(q, 2)
-            && self.b3.is_code_part(q, 3)
+        self.b0.is_part(value, 0)
+            && self.b1.is_part(value, 1)
+            && self.b2.is_part(value, 2)
+            && self.b3.is_part(value, 3)
+    }
+}
+
+// Whether two values are one.
+fn same_value(a: Value, b: Value) -> bool
+    ensures { result ≡ same_value a b }
+{
+    match (a, b) {
+        (Value::Code(q), Value::Code(r))
+        | (Value::AbsHi(q), Value::AbsHi(r))
+        | (Value::PcHi(q), Value::PcHi(r)) => same_place(q, r),
+        (Value::Code(_), Value::AbsHi(_) | Value::PcHi(_))
+        | (Value::AbsHi(_), Value::Code(_) | Value::PcHi(_))
+        | (Value::PcHi(_), Value::Code(_) | Value::AbsHi(_)) => false,
     }
 }
 

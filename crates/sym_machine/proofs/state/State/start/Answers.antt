@@ -16,9 +16,8 @@ unfolding program_of
 returns c =
     let inputs = c.args.cut.now in
     let same : c.objects.result.now ≡ inputs = c.objects.ensures.same in
-    let same_too : c.objects-2.result.now ≡ inputs = c.objects-2.ensures.same in
     let map : c.map-map.result ≡ inputs.map = c.map-map.ensures.value ∙ ap (λ (i : Inputs). i.map) same in
-    let bytes : c.in_ok-data.data.items ≡ data_bytes (parsed inputs) = c.in_ok-data.ensures.bytes ∙ ap (λ (i : Inputs). data_bytes (parsed i)) same_too in
+    let bytes : c.in_ok-data.data.items ≡ data_bytes (parsed inputs) = c.in_ok-data.ensures.bytes in
     let stack : stack_cells c.map-map.result [] ≡ blank (inputs.map.stack_high - inputs.map.stack_low) Undef =
     bare_stack c.map-map.result ∙ ap (λ (m : MemMap). blank (m.stack_high - m.stack_low) Undef) map in
     let memory : regions_of c.new.result ≡ first_memory (program_of (parsed inputs)) =

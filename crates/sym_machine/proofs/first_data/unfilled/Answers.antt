@@ -5,8 +5,7 @@ use Rattle.psabi_sym.specs.Inputs.{parsed}
 use Rattle.psabi_sym.proofs.ContentLaws.{data_file_end-le, data_low-le, length-data_contents}
 use Rattle.sym_machine.specs.declared.word.SymByte.{SymByte}
 use Rattle.sym_machine.specs.declared.word.SymByte.TheVariants.{Num}
-use Rattle.sym_machine.specs.Objects.{data_bytes}
-use Rattle.sym_machine.proofs.first_data.first_data.Goals as goal
+use Rattle.sym_machine.proofs.first_data.unfilled.Goals as goal
 
 pub overflow_sub-zeros : goal.overflow_sub-zeros
 overflow_sub-zeros c = omega (arith, data_file_end-le (parsed c.args.objects.now), c.data_file_end.ensures, c.data_end.ensures.value)
@@ -26,7 +25,6 @@ filled contents bytes zeros is =
     ∙ sym (map-append Num contents (replicate zeros 0))
 
 pub returns-clause-bytes : goal.returns-clause-bytes
-unfolding data_bytes
 returns-clause-bytes c =
     let inputs = parsed c.args.objects.now in
     let contents = c.in_ok-contents.contents.items in
