@@ -7,6 +7,7 @@ use Rattle.sym_machine.specs.declared.word.SymByte.TheVariants.{Undef}
 use Rattle.sym_machine.specs.Program.{Program, first_memory}
 use Rattle.sym_machine.specs.State.{PlainCore}
 use Rattle.zc_link.specs.Image.{Image, loaded, place_address}
+use Rattle.zc_link.specs.Leads.{Leads}
 use Rattle.zc_link.specs.Pieces.{Piece, PieceLaid, commits_of, span_of}
 use Rattle.zc_link.specs.Room.{Room}
 use Rattle.zc_link.specs.Simulates.{Pace}
@@ -21,6 +22,7 @@ pub data Begins (p : Program) (e : Image) : Type 0 where
 -- if this holds of a program and an image, the image keeps step with the program at this pace
 pub record Laid (p : Program) (e : Image) (pace : Pace) : Type 0 where
   pub room : Room p e
+  pub leads : Leads p
   pub begins : Begins p e
   -- what starts at each place, in so many items and so many commits
   pub piece : Place → Piece

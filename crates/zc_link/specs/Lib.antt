@@ -5,6 +5,7 @@ pub mod Stands
 pub mod Sound
 pub mod Simulates
 pub mod Preserves
+pub mod Leads
 pub mod Room
 pub mod Pieces
 pub mod Laid

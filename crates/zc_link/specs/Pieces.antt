@@ -1,11 +1,17 @@
 -- What starts at a listed place, and what is laid for it: its instructions stand at the place's address.
-use Rattle.std.specs.Prelude.{◌≡◌, ℕ, ◌+◌, ◌^◌, ◌<◌, true, Option, Some, None}
+use Rattle.std.specs.Prelude.{◌≡◌, ℕ, zero, suc, ℤ, pos, ◌+◌, ◌-◌, ◌*◌, ◌/◌, ◌%◌, ◌^◌, ◌<◌, Option, Some, None}
 use Rattle.zc_base.specs.declared.place.Place.{Place}
 use Rattle.rv_decode.specs.declared.instr.Instr.{Instr}
-use Rattle.rv_decode.specs.declared.instr.Instr.TheVariants.{Ecall}
+use Rattle.rv_decode.specs.declared.instr.Instr.TheVariants.{Ecall, Jal, Jalr, Upper, WithImm}
+use Rattle.rv_decode.specs.declared.instr.ImmOp.TheVariants.{Addi}
+use Rattle.rv_decode.specs.declared.instr.UpperOp.TheVariants.{Auipc}
+use Rattle.rv_decode.specs.Bits.{add32}
 use Rattle.rv_decode.specs.Effect.{effect}
 use Rattle.rv_decode.specs.Registers.{HasRegisters}
 use Rattle.rv_decode.specs.State.{IsCore, ZcCore}
+use Rattle.psabi_reloc.specs.Parts.{hi20_of, lo12_of}
+use Rattle.psabi_reloc.specs.Patched.{with_distance, with_imm, with_upper}
+use Rattle.psabi_sym.specs.declared.target.Target.{Target}
 use Rattle.block_cut.specs.declared.item.Item.{Item}
 use Rattle.block_cut.specs.declared.item.Item.TheVariants.{Op, Hi, Lo, PcHi, PcLo, Branch, Jump, Call, Align, Word, Raw, RawPair}
 use Rattle.sym_machine.specs.Program.{Program}
@@ -13,20 +19,26 @@ use Rattle.sym_machine.specs.State.{PlainCore}
 use Rattle.zc_decode.specs.declared.short.Short.{Short}
 use Rattle.zc_decode.specs.declared.short.Short.TheVariants.{Base}
 use Rattle.zc_machine.specs.Fetch.{Found, fetched_at}
-use Rattle.zc_link.specs.Faults.{is_linked}
 use Rattle.zc_link.specs.Image.{Image, loaded, place_address}
+use Rattle.zc_link.specs.Values.{pc_target, target_value, way}
 
--- what starts at a place: an item alone, so far
+-- what starts at a place: an item that is one instruction, or an ALIGN of so many, or a call of two
 pub data Piece : Type 0 where
   Alone : Piece
+  AlignOf : (count : ℕ) → Piece
+  CallOf : Piece
 
 -- its number of items
 abbrev pub span_of : Piece → ℕ
 span_of Alone = 1
+span_of (AlignOf count) = 1
+span_of CallOf = 1
 
 -- its number of commits, by the program's state
 abbrev pub commits_of : Program → PlainCore → Piece → ℕ
 commits_of p s Alone = 1
+commits_of p s (AlignOf count) = count
+commits_of p s CallOf = 2
 
 -- ---- instructions
 
@@ -35,6 +47,11 @@ pub record OneAt (e : Image) (a : ℕ) (short : Short) : Type 0 where
   pub size : ℕ
   pub here : fetched_at (loaded e) a ≡ Found short size
   pub small : a + size < 2 ^ 32
+
+-- two stand there, one after the other
+pub record TwoAt (e : Image) (a : ℕ) (first second : Short) : Type 0 where
+  pub one : OneAt e a first
+  pub two : OneAt e (a + one.size) second
 
 -- another instruction has the same effect on every state of the machine
 abbrev pub SameEffect : Instr → Instr → Type 0
@@ -50,29 +67,101 @@ pub record AloneLaid (p : Program) (e : Image) (q : Place) (a : ℕ) (i : Instr)
 
 -- ---- items
 
--- one without relocation, so far of an instruction that is linked; `ecall` has no short form
+-- one without relocation; `ecall` has no short form
 pub record OpLaid (p : Program) (e : Image) (q : Place) (a : ℕ) (i : Instr) : Type 0 where
   pub laid : AloneLaid p e q a i
   pub four : i ≡ Ecall → laid.at.size ≡ 4
-  pub linked : is_linked i ≡ true
 
--- an item that is one instruction; of those that the symbolic machine is stuck at nothing is owed, and branches and jumps to
--- places aren't laid yet
+-- the upper part of the target's address
+pub record HiLaid (p : Program) (e : Image) (q : Place) (a : ℕ) (i : Instr) (t : Target) : Type 0 where
+  pub value : ℕ
+  pub is : target_value (place_address e) t ≡ Some value
+  pub laid : AloneLaid p e q a (with_upper i (hi20_of value))
+
+-- the lower part
+pub record LoLaid (p : Program) (e : Image) (q : Place) (a : ℕ) (i : Instr) (t : Target) : Type 0 where
+  pub value : ℕ
+  pub is : target_value (place_address e) t ≡ Some value
+  pub laid : AloneLaid p e q a (with_imm i (lo12_of value))
+
+-- the upper part of the way from here to the target
+pub record PcHiLaid (p : Program) (e : Image) (q : Place) (a : ℕ) (i : Instr) (t : Target) : Type 0 where
+  pub value : ℕ
+  pub is : target_value (place_address e) t ≡ Some value
+  pub laid : AloneLaid p e q a (with_upper i (hi20_of (way a value)))
+
+-- the lower part of the way from the `auipc` at another place to what that leads to
+pub record PcLoLaid (p : Program) (e : Image) (q : Place) (a : ℕ) (i : Instr) (from : Place) : Type 0 where
+  pub to : Target
+  pub leads : pc_target (p.item from) ≡ Some to
+  pub address : ℕ
+  pub listed : place_address e from ≡ Some address
+  pub value : ℕ
+  pub is : target_value (place_address e) to ≡ Some value
+  pub laid : AloneLaid p e q a (with_imm i (lo12_of (way address value)))
+
+-- a branch or a jump with its distance
+pub record ReachLaid (p : Program) (e : Image) (q : Place) (a : ℕ) (i : Instr) (to : Place) : Type 0 where
+  pub distance : ℤ
+  pub reaches : place_address e to ≡ Some (add32 a distance)
+  pub laid : AloneLaid p e q a (with_distance i distance)
+
+-- a call that is one `jal`
+pub record JumpCallLaid (p : Program) (e : Image) (q : Place) (a rd temp : ℕ) (to : Place) : Type 0 where
+  pub distance : ℤ
+  pub reaches : place_address e to ≡ Some (add32 a distance)
+  pub temp_low : temp < 32
+  pub laid : AloneLaid p e q a (Jal rd distance)
+
+-- an item that is one instruction; of what the symbolic machine is stuck at, and of a section's end, nothing is owed, and padding
+-- isn't one instruction
 abbrev pub ItemLaid : Program → Image → Place → ℕ → Option Item → Type 0
 ItemLaid p e q a None = Unit {0}
 ItemLaid p e q a (Some (Op i)) = OpLaid p e q a i
-ItemLaid p e q a (Some (Hi i t)) = Unit {0}
-ItemLaid p e q a (Some (Lo i t)) = Unit {0}
-ItemLaid p e q a (Some (PcHi i t)) = Unit {0}
-ItemLaid p e q a (Some (PcLo i from)) = Unit {0}
-ItemLaid p e q a (Some (Branch i to)) = ⊥
-ItemLaid p e q a (Some (Jump i to)) = ⊥
-ItemLaid p e q a (Some (Call rd temp to)) = Unit {0}
-ItemLaid p e q a (Some (Align bytes)) = Unit {0}
+ItemLaid p e q a (Some (Hi i t)) = HiLaid p e q a i t
+ItemLaid p e q a (Some (Lo i t)) = LoLaid p e q a i t
+ItemLaid p e q a (Some (PcHi i t)) = PcHiLaid p e q a i t
+ItemLaid p e q a (Some (PcLo i from)) = PcLoLaid p e q a i from
+ItemLaid p e q a (Some (Branch i to)) = ReachLaid p e q a i to
+ItemLaid p e q a (Some (Jump i to)) = ReachLaid p e q a i to
+ItemLaid p e q a (Some (Call rd temp to)) = JumpCallLaid p e q a rd temp to
+ItemLaid p e q a (Some (Align bytes)) = ⊥
 ItemLaid p e q a (Some (Word t)) = Unit {0}
 ItemLaid p e q a (Some (Raw word)) = Unit {0}
 ItemLaid p e q a (Some (RawPair first second)) = Unit {0}
 
--- a piece
+-- ---- items of several instructions
+
+-- so many instructions that do nothing (`addi x0,x0,0`) stand one after another from an address to another
+abbrev pub Nops : Image → ℕ → ℕ → ℕ → Type 0
+Nops e a zero b = b ≡ a
+Nops e a (suc count) b = (at : OneAt e a (Base (WithImm Addi 0 0 (pos 0)))) × Nops e (a + at.size) count b
+
+-- an ALIGN and its padding
+pub record AlignLaid (p : Program) (e : Image) (q : Place) (a count : ℕ) : Type 0 where
+  pub bytes : ℕ
+  pub item : p.item q ≡ Some (Align bytes)
+  pub end : ℕ
+  pub nops : Nops e a count end
+  pub next : place_address e (p.next q) ≡ Some end
+
+-- a call of two words: an `auipc` and a `jalr` whose parts lead from here to the place
+pub record CallLaid (p : Program) (e : Image) (q : Place) (a : ℕ) : Type 0 where
+  pub rd : ℕ
+  pub temp : ℕ
+  pub to : Place
+  pub item : p.item q ≡ Some (Call rd temp to)
+  pub rd_low : rd < 32
+  pub temp_low : temp < 32
+  pub upper : ℕ
+  pub lower : ℤ
+  pub at : TwoAt e a (Base (Upper Auipc temp upper)) (Base (Jalr rd temp lower))
+  pub reaches : place_address e to ≡ Some (add32 ((a + upper * 2 ^ 12) % 2 ^ 32) lower / 2 * 2)
+  pub next : place_address e (p.next q) ≡ Some (a + at.one.size + at.two.size)
+
+-- ---- pieces
+
 abbrev pub PieceLaid : Program → Image → Place → ℕ → Piece → Type 0
 PieceLaid p e q a Alone = ItemLaid p e q a (p.item q)
+PieceLaid p e q a (AlignOf count) = AlignLaid p e q a count
+PieceLaid p e q a CallOf = CallLaid p e q a

@@ -2,6 +2,7 @@
 use Rattle.std.specs.Prelude.{◌≡◌, ℕ, ◌+◌, ◌%◌, ◌^◌, ◌<◌, ◌≤◌, ◌⊎◌, false, true, Some}
 use Rattle.zc_base.specs.declared.place.Place.{Place}
 use Rattle.rv_decode.specs.Memory.{extents_of, is_data, is_text, lies_in}
+use Rattle.sym_machine.specs.Conditions.{is_solid}
 use Rattle.sym_machine.specs.Program.{Program, data_end}
 use Rattle.zc_link.specs.Image.{Image, loaded, place_address}
 
@@ -25,3 +26,7 @@ pub record Room (p : Program) (e : Image) : Type 0 where
       (a : ℕ) → lies_in is_text (extents_of (loaded e).memory) a 1 ≡ true → lies_in is_data (extents_of (loaded e).memory) a 1 ≡ false
   -- places have even addresses above 0
   pub even : (q : Place) (a : ℕ) → place_address e q ≡ Some a → (a % 2 ≡ 0) × (0 < a) × (a < 2 ^ 32)
+  -- of two that have room of their own the addresses differ
+  pub distinct :
+      (q r : Place) (a : ℕ) → is_solid (p.item q) ≡ true → is_solid (p.item r) ≡ true → place_address e q ≡ Some a
+      → place_address e r ≡ Some a → q ≡ r

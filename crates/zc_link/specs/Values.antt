@@ -24,9 +24,13 @@ abbrev pub pc_target : Option Item → Option Target
 pc_target (Some (item.PcHi i t)) = Some t
 pc_target other = None
 
+-- the way from an address to another, modulo 2^32
+abbrev pub way : ℕ → ℕ → ℕ
+way a t = (t + (2 ^ 32 - a)) % 2 ^ 32
+
 -- what an `auipc` at address a gives on the way to address t
 abbrev pub pc_upper : ℕ → ℕ → ℕ
-pc_upper a t = (a + hi20_of ((t + (2 ^ 32 - a)) % 2 ^ 32) * 2 ^ 12) % 2 ^ 32
+pc_upper a t = (a + hi20_of (way a t) * 2 ^ 12) % 2 ^ 32
 
 -- what a value is: a place's address, the upper part of one, or what an `auipc` at a place gives
 abbrev pub value_in : Program → (Place → Option ℕ) → Value → Option ℕ
