@@ -1,5 +1,5 @@
 -- What starts at a listed place, and what is laid for it: its instructions stand at the place's address.
-use Rattle.std.specs.Prelude.{◌≡◌, ℕ, zero, suc, ℤ, pos, ◌+◌, ◌-◌, ◌*◌, ◌/◌, ◌%◌, ◌^◌, ◌<◌, Option, Some, None}
+use Rattle.std.specs.Prelude.{◌≡◌, ℕ, zero, suc, ℤ, pos, ◌+◌, ◌*◌, ◌/◌, ◌%◌, ◌^◌, ◌<◌, Option, Some, None}
 use Rattle.zc_base.specs.declared.place.Place.{Place}
 use Rattle.rv_decode.specs.declared.instr.Instr.{Instr}
 use Rattle.rv_decode.specs.declared.instr.Instr.TheVariants.{Ecall, Jal, Jalr, Upper, WithImm}
@@ -14,13 +14,14 @@ use Rattle.psabi_reloc.specs.Patched.{with_distance, with_imm, with_upper}
 use Rattle.psabi_sym.specs.declared.target.Target.{Target}
 use Rattle.block_cut.specs.declared.item.Item.{Item}
 use Rattle.block_cut.specs.declared.item.Item.TheVariants.{Op, Hi, Lo, PcHi, PcLo, Branch, Jump, Call, Align, Word, Raw, RawPair}
+use Rattle.sym_machine.specs.AddressParts.{pc_target}
 use Rattle.sym_machine.specs.Program.{Program}
 use Rattle.sym_machine.specs.State.{PlainCore}
 use Rattle.zc_decode.specs.declared.short.Short.{Short}
 use Rattle.zc_decode.specs.declared.short.Short.TheVariants.{Base}
 use Rattle.zc_machine.specs.Fetch.{Found, fetched_at}
 use Rattle.zc_link.specs.Image.{Image, loaded, place_address}
-use Rattle.zc_link.specs.Values.{pc_target, target_value, way}
+use Rattle.zc_link.specs.Values.{target_value, way}
 
 -- what starts at a place: an item that is one instruction, or an ALIGN of so many, or a call of two
 pub data Piece : Type 0 where

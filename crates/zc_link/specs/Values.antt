@@ -5,11 +5,10 @@ use Rattle.std.specs.Option.{option_map, option_and_then}
 use Rattle.zc_base.specs.declared.place.Place.{Place}
 use Rattle.psabi_sym.specs.declared.target.Target.{Target}
 use Rattle.psabi_sym.specs.declared.target.Target.TheVariants as target
-use Rattle.block_cut.specs.declared.item.Item.{Item}
-use Rattle.block_cut.specs.declared.item.Item.TheVariants as item
 use Rattle.psabi_reloc.specs.Parts.{hi20_of}
 use Rattle.sym_machine.specs.declared.word.Value.{Value}
 use Rattle.sym_machine.specs.declared.word.Value.TheVariants.{Code, AbsHi, PcHi}
+use Rattle.sym_machine.specs.AddressParts.{pc_target}
 use Rattle.sym_machine.specs.Program.{Program}
 
 -- the address of what a symbol resolves to
@@ -18,11 +17,6 @@ target_value A (target.Code q) = A q
 target_value A (target.Number n) = Some n
 target_value A (target.Absent n) = Some n
 target_value A target.Nowhere = None
-
--- what the relocation of an `auipc` resolves to
-abbrev pub pc_target : Option Item → Option Target
-pc_target (Some (item.PcHi i t)) = Some t
-pc_target other = None
 
 -- the way from an address to another, modulo 2^32
 abbrev pub way : ℕ → ℕ → ℕ
