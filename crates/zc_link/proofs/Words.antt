@@ -1,7 +1,8 @@
--- Words that stand for numbers: a number stands for itself alone, an undefined word for any; and the sum that the symbolic machine
--- has stands for the machine's, and names no other places.
-use Rattle.std.proofs.Common.{◌≡◌, ℕ, ◌+◌, ◌*◌, ◌^◌, ◌<◌, Option, Some, None, Bool, true, false, cond, refl, subst, arith, ℤ, pos, negsuc}
+-- Words that stand for numbers: a number stands for itself alone, an undefined word for any; and a result of numbers or a sum that
+-- the symbolic machine has stands for the machine's, and names no other places.
+use Rattle.std.proofs.Common.{◌≡◌, ℕ, ◌+◌, ◌*◌, ◌^◌, ◌<◌, Option, Some, None, Bool, true, false, cond, refl, sym, subst, arith, ℤ, pos, negsuc}
 use Rattle.std.proofs.lemmas.Bool.{eqb-true}
+use Rattle.zc_base.specs.declared.place.Place.{Place}
 use Rattle.rv_decode.specs.Bits.{add32}
 use Rattle.rv_decode.specs.Memory.{byte_of}
 use Rattle.sym_machine.specs.declared.word.Value.{Value}
@@ -9,7 +10,7 @@ use Rattle.sym_machine.specs.declared.word.SymByte.{SymByte}
 use Rattle.sym_machine.specs.declared.word.SymByte.TheVariants.{Num, Part, Undef}
 use Rattle.sym_machine.specs.declared.word.SymWord.{SymWord}
 use Rattle.sym_machine.specs.Program.{Program}
-use Rattle.sym_machine.specs.Words.{is_zero, number_of, number_of_bytes, number_word, numeric, sum_word, undef_word}
+use Rattle.sym_machine.specs.Words.{code_or, is_zero, number_of, number_of_bytes, number_word, numeric, numeric2, sum_word, undef_word}
 use Rattle.zc_link.specs.Sound.{NamesWord}
 use Rattle.zc_link.specs.Stands.{ByteStands, WordStands}
 
@@ -46,11 +47,37 @@ module _ (V : Value → Option ℕ) where
   pub number_is : (w : SymWord) (n m : ℕ) → n < 2 ^ 32 → WordStands V w n → number_of w ≡ Some m → m ≡ n
   number_is w n m small h is = bytes_are w.b0 w.b1 w.b2 w.b3 n m small h.b0 h.b1 h.b2 h.b3 is
 
-  -- ---- sums
+  -- ---- results
 
   numeric_stands : (o : Option ℕ) (f : ℕ → ℕ) (n : ℕ) → ((m : ℕ) → o ≡ Some m → m ≡ n) → WordStands V (numeric o f) (f n)
   numeric_stands None f n is = undef_stands (f n)
   numeric_stands (Some m) f n is = subst (λ k. WordStands V (number_word (f m)) (f k)) (is m refl) (number_stands (f m))
+
+  pub number_results :
+      (w : SymWord) (f : ℕ → ℕ) (n : ℕ) → n < 2 ^ 32 → WordStands V w n → WordStands V (numeric (number_of w) f) (f n)
+  number_results w f n small h = numeric_stands (number_of w) f n (λ m is. number_is w n m small h is)
+
+  numeric2_stands :
+      (o u : Option ℕ) (f : ℕ → ℕ → ℕ) (m n : ℕ) → ((k : ℕ) → o ≡ Some k → k ≡ m) → ((k : ℕ) → u ≡ Some k → k ≡ n)
+      → WordStands V (numeric2 o u f) (f m n)
+  numeric2_stands None None f m n left right = undef_stands (f m n)
+  numeric2_stands None (Some l) f m n left right = undef_stands (f m n)
+  numeric2_stands (Some k) None f m n left right = undef_stands (f m n)
+  numeric2_stands (Some k) (Some l) f m n left right = rw (sym (left k refl), sym (right l refl)) (number_stands (f k l))
+
+  pub number_results2 :
+      (a b : SymWord) (f : ℕ → ℕ → ℕ) (m n : ℕ) → m < 2 ^ 32 → n < 2 ^ 32 → WordStands V a m → WordStands V b n
+      → WordStands V (numeric2 (number_of a) (number_of b) f) (f m n)
+  number_results2 a b f m n small_m small_n ha hb =
+      numeric2_stands (number_of a) (number_of b) f m n (λ k is. number_is a m k small_m ha is) (λ k is. number_is b n k small_n hb is)
+
+  -- a number that is known if there is a place, and else a word
+  pub code_or_stands :
+      (o : Option Place) (k : ℕ) (w : SymWord) (n : ℕ) → ((q : Place) → o ≡ Some q → n ≡ k) → WordStands V w n → WordStands V (code_or o k w) n
+  code_or_stands None k w n is h = h
+  code_or_stands (Some q) k w n is h = rw (is q refl) (number_stands k)
+
+  -- ---- sums with an immediate
 
   sum_zero : (imm : ℤ) (n : ℕ) → n < 2 ^ 32 → is_zero imm ≡ true → add32 n imm ≡ n
   sum_zero (pos k) n small is = let zero : k ≡ 0 = eqb-true k 0 is in omega arith
@@ -61,7 +88,7 @@ module _ (V : Value → Option ℕ) where
     where
       either : (b : Bool) → is_zero imm ≡ b → WordStands V (cond b w (numeric (number_of w) (λ m. add32 m imm))) (add32 n imm)
       either true zero = rw (sum_zero imm n small zero) h
-      either false other = numeric_stands (number_of w) (λ m. add32 m imm) n (λ m is. number_is w n m small h is)
+      either false other = number_results w (λ m. add32 m imm) n small h
 
 -- ---- the places that words name
 
@@ -72,9 +99,19 @@ module _ (p : Program) where
   pub undef_names : NamesWord p undef_word
   undef_names = (tt, tt, tt, tt)
 
-  numeric_names : (o : Option ℕ) (f : ℕ → ℕ) → NamesWord p (numeric o f)
+  pub numeric_names : (o : Option ℕ) (f : ℕ → ℕ) → NamesWord p (numeric o f)
   numeric_names None f = undef_names
   numeric_names (Some n) f = number_names (f n)
+
+  pub numeric2_names : (o u : Option ℕ) (f : ℕ → ℕ → ℕ) → NamesWord p (numeric2 o u f)
+  numeric2_names None None f = undef_names
+  numeric2_names None (Some l) f = undef_names
+  numeric2_names (Some k) None f = undef_names
+  numeric2_names (Some k) (Some l) f = number_names (f k l)
+
+  pub code_or_names : (o : Option Place) (k : ℕ) (w : SymWord) → NamesWord p w → NamesWord p (code_or o k w)
+  code_or_names None k w names = names
+  code_or_names (Some q) k w names = number_names k
 
   -- a sum is a copy, or it names none
   pub sum_names : (w : SymWord) (imm : ℤ) → NamesWord p w → NamesWord p (sum_word w imm)
