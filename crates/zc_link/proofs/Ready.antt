@@ -1,9 +1,9 @@
--- States stay Ready if they move to another place and pc, if input is taken, and if a register is set in both: what an
--- instruction changes is a chain of such changes.
+-- States stay Ready if they move to another place and pc, if input is taken, if a register is set in both, and if the program forgets
+-- one: what an instruction changes is a chain of such changes.
 use Rattle.std.proofs.Common.{ℕ, ◌^◌, ◌<◌, None, drop, refl, ◌∙◌, sym}
 use Rattle.std.proofs.lemmas.List.Elements.{All-drop}
 use Rattle.zc_base.specs.declared.place.Place.{Place}
-use Rattle.rv_decode.specs.State.{ZcCore, set_reg}
+use Rattle.rv_decode.specs.State.{ZcCore, reg_in, set_reg}
 use Rattle.rv_decode.proofs.RegisterLaws.{length-set_reg, set_reg_both, set_reg_core, set_reg_each}
 use Rattle.sym_machine.specs.declared.word.SymWord.{SymWord}
 use Rattle.sym_machine.specs.Program.{Program}
@@ -13,6 +13,7 @@ use Rattle.zc_link.specs.Image.{Image, place_address}
 use Rattle.zc_link.specs.Sound.{NamesWord, Ready}
 use Rattle.zc_link.specs.Stands.{WordStands}
 use Rattle.zc_link.specs.Values.{value_in}
+use Rattle.zc_link.proofs.Words.{undef_names, undef_stands}
 
 module _ {p : Program} {e : Image} {s : PlainCore} {z : ZcCore} (ready : Ready p e s z) where
   -- nothing of Ready speaks of the place, of pc, or of the number of commits
@@ -62,6 +63,27 @@ module _ {p : Program} {e : Image} {s : PlainCore} {z : ZcCore} (ready : Ready p
     memory = ready.memory;
     names = record {
       registers = λ r lt. set_reg_each (NamesWord p) (number_word 0) undef_word s.regs rd r w names (ready.names.registers r lt);
+      memory = ready.names.memory;
+    };
+    lies = ready.lies;
+    extents = ready.extents;
+    text = ready.text;
+    table = ready.table;
+  }
+
+  -- the program forgets what a register holds
+  pub ready_forgets : (rd : ℕ) → Ready p e (record s { regs = set_reg s.regs rd undef_word }) z
+  ready_forgets rd = record {
+    running = ready.running;
+    going = ready.going;
+    plain = record { count = length-set_reg s.regs rd undef_word ∙ ready.plain.count; input = ready.plain.input };
+    core = ready.core;
+    registers = λ r lt.
+        set_reg_each (λ w. WordStands (value_in p (place_address e)) w (reg_in z r)) (number_word 0) undef_word s.regs rd r undef_word
+        (undef_stands (value_in p (place_address e)) (reg_in z r)) (ready.registers r lt);
+    memory = ready.memory;
+    names = record {
+      registers = λ r lt. set_reg_each (NamesWord p) (number_word 0) undef_word s.regs rd r undef_word (undef_names p) (ready.names.registers r lt);
       memory = ready.names.memory;
     };
     lies = ready.lies;

@@ -19,6 +19,10 @@ use Rattle.zc_link.specs.Values.{value_in}
 pub data Begins (p : Program) (e : Image) : Type 0 where
   AtEntry : place_address e p.entry ≡ Some e.entry → Begins p e
 
+-- the pace of pieces that start at places: their items, and their commits
+abbrev pub laid_pace : Program → (Place → Piece) → Pace
+laid_pace p piece = record { span = λ q. span_of (piece q); weight = λ s. commits_of p s (piece s.place) }
+
 -- if this holds of a program and an image, the image keeps step with the program at this pace
 pub record Laid (p : Program) (e : Image) (pace : Pace) : Type 0 where
   pub room : Room p e

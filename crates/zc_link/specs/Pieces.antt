@@ -108,10 +108,9 @@ pub record ReachLaid (p : Program) (e : Image) (q : Place) (a : ℕ) (i : Instr)
   pub laid : AloneLaid p e q a (with_distance i distance)
 
 -- a call that is one `jal`
-pub record JumpCallLaid (p : Program) (e : Image) (q : Place) (a rd temp : ℕ) (to : Place) : Type 0 where
+pub record JumpCallLaid (p : Program) (e : Image) (q : Place) (a rd : ℕ) (to : Place) : Type 0 where
   pub distance : ℤ
   pub reaches : place_address e to ≡ Some (add32 a distance)
-  pub temp_low : temp < 32
   pub laid : AloneLaid p e q a (Jal rd distance)
 
 -- an item that is one instruction; of what the symbolic machine is stuck at, and of a section's end, nothing is owed, and padding
@@ -125,7 +124,7 @@ ItemLaid p e q a (Some (PcHi i t)) = PcHiLaid p e q a i t
 ItemLaid p e q a (Some (PcLo i from)) = PcLoLaid p e q a i from
 ItemLaid p e q a (Some (Branch i to)) = ReachLaid p e q a i to
 ItemLaid p e q a (Some (Jump i to)) = ReachLaid p e q a i to
-ItemLaid p e q a (Some (Call rd temp to)) = JumpCallLaid p e q a rd temp to
+ItemLaid p e q a (Some (Call rd temp to)) = JumpCallLaid p e q a rd to
 ItemLaid p e q a (Some (Align bytes)) = ⊥
 ItemLaid p e q a (Some (Word t)) = Unit {0}
 ItemLaid p e q a (Some (Raw word)) = Unit {0}
