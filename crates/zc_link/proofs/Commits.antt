@@ -27,6 +27,7 @@ pub record AfterCuts (p : Program) (e : Image) (i : Instr) (size : ℕ) (s : Pla
   pub now : ZcCore
   pub alike : Alike p e s now
   pub pc : now.pc ≡ z.core.pc
+  pub regs : now.regs ≡ z.core.regs
   pub turn : zc_turn cuts z ≡ committed (effect_step (effect i size now) now) (record z { core = now })
 
 pub after_cuts :
@@ -37,6 +38,7 @@ after_cuts {p} {e} {s} {z} {i} room cuts are at al = record {
   now = all_cuts cuts z.core;
   alike = alike;
   pc = pc;
+  regs = ap (λ x. x.regs) spoiled.rest;
   turn = zc_turn-running cuts z al.going
       ∙ ap (λ o. committed (step_from o (all_cuts cuts z.core)) (record z { core = all_cuts cuts z.core })) alike.going
       ∙ ap (λ f. committed (made f (all_cuts cuts z.core)) (record z { core = all_cuts cuts z.core })) fetched;

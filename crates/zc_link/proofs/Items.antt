@@ -1,77 +1,155 @@
--- What each item comes to, by cases on all of them: an item that is one instruction is one commit, by the law of its format. Other
--- items aren't laid yet, or the symbolic machine is stuck at them, so there is nothing to show.
-use Rattle.std.proofs.Common.{◌≡◌, ℕ, List, Option, Some, None, true, ℤ}
-use Rattle.std.proofs.lemmas.Bool.{false≢true}
+-- What each item comes to, by cases on all of them: an item that is one instruction is one commit, by the law of its format. At other
+-- items the symbolic machine is stuck, or they are several instructions, so there is nothing to show.
+use Rattle.std.proofs.Common.{◌≡◌, ℕ, ◌+◌, ◌%◌, ◌^◌, List, Option, Some, None, true, refl, sym, ap, ◌∙◌, subst}
+use Rattle.zc_base.specs.declared.place.Place.{Place}
 use Rattle.interrupt_plan.specs.Plan.{Cut}
+use Rattle.psabi_reloc.specs.Parts.{hi20_of}
+use Rattle.psabi_reloc.specs.Patched.{with_upper}
+use Rattle.psabi_sym.specs.declared.target.Target.{Target}
 use Rattle.rv_decode.specs.declared.instr.Instr.{Instr}
-use Rattle.rv_decode.specs.declared.instr.Instr.TheVariants.{Upper, Jal, Jalr, Load, Store, WithImm, WithReg, Fence, Ecall, Ebreak, Csrrw}
 use Rattle.rv_decode.specs.declared.instr.Instr.TheVariants as instr
-use Rattle.rv_decode.specs.declared.instr.ImmOp.{ImmOp}
-use Rattle.rv_decode.specs.declared.instr.ImmOp.TheVariants.{Addi, Slti, Sltiu, Xori, Ori, Andi, Slli, Srli, Srai}
-use Rattle.rv_decode.specs.State.{ZcState}
+use Rattle.rv_decode.specs.Bits.{add32}
+use Rattle.rv_decode.specs.State.{ZcCore, ZcState, reg_in}
 use Rattle.block_cut.specs.declared.item.Item.{Item}
 use Rattle.block_cut.specs.declared.item.Item.TheVariants.{Op, Hi, Lo, PcHi, PcLo, Branch, Jump, Call, Align, Word, Raw, RawPair}
-use Rattle.sym_machine.specs.Change.{Goes, gives, op_does, place_does}
+use Rattle.sym_machine.specs.AddressParts.{pc_target}
+use Rattle.sym_machine.specs.Change.{Goes, branch_to, jump_to, op_does, place_does}
 use Rattle.sym_machine.specs.Program.{Program}
 use Rattle.sym_machine.specs.State.{PlainState, reg_of}
-use Rattle.sym_machine.specs.Words.{imm_word, sum_word}
-use Rattle.zc_link.specs.Faults.{is_linked_op}
-use Rattle.zc_link.specs.Image.{Image}
-use Rattle.zc_link.specs.Pieces.{AloneLaid, ItemLaid, OpLaid}
+use Rattle.sym_machine.specs.Words.{sum_word}
+use Rattle.zc_link.specs.Image.{Image, place_address}
+use Rattle.zc_link.specs.Leads.{Leads, NamesTarget}
+use Rattle.zc_link.specs.Pieces.{AloneLaid, ItemLaid, OpLaid, PcHiLaid, ReachLaid}
 use Rattle.zc_link.specs.Room.{Room}
 use Rattle.zc_link.specs.Simulates.{Comes}
+use Rattle.zc_link.specs.Sound.{Ready}
+use Rattle.zc_link.specs.Values.{value_in, way}
+use Rattle.zc_link.proofs.Calls.{jump_call_comes}
 use Rattle.zc_link.proofs.Environment.{call_comes}
-use Rattle.zc_link.proofs.Instrs.{addi_goes, moves_on}
+use Rattle.zc_link.proofs.Instrs.{GoesOn, branch_moves, fence_goes, imm_goes, jalr_moves, jump_moves, load_goes, moves_on, reg_goes, store_goes, upper_goes}
+use Rattle.zc_link.proofs.Relocated.{hi_goes, lo_moves, pc_hi_goes, pc_lo_moves}
 use Rattle.zc_link.proofs.Singles.{FromSound, single_comes}
+use Rattle.zc_link.proofs.Words.{sum_stands}
 
-module _ {p : Program} {e : Image} {r r' : PlainState} {cuts : ℕ → List Cut} {z : ZcState} (room : Room p e) (from : FromSound p e r r' cuts z) where
-  -- a sum of a register and an immediate
-  addi_comes :
-      (rd first : ℕ) (imm : ℤ) → AloneLaid p e r.core.place z.core.pc (WithImm Addi rd first imm)
-      → Goes (gives rd (sum_word (reg_of r.core first) imm) (p.next r.core.place)) ≡ Goes from.step.change → Comes p e cuts 1 z r'
-  addi_comes rd first imm laid h =
-      single_comes room from laid
-      (λ y at al listed. moves_on listed (addi_goes al.ready laid.at.size from.step.change (p.next r.core.place) rd first imm laid.registers.1 h))
+-- what the `auipc` at a place leads to is named
+pc_named : {p : Program} → Leads p → (q : Place) (t : Target) → pc_target (p.item q) ≡ Some t → NamesTarget p t
+pc_named {p} leads q t h = by (p.item q) refl h
+  where
+    by : (o : Option Item) → p.item q ≡ o → pc_target o ≡ Some t → NamesTarget p t
+    by None is g = absurd cc
+    by (Some (Op i)) is g = absurd cc
+    by (Some (Hi i u)) is g = absurd cc
+    by (Some (Lo i u)) is g = absurd cc
+    by (Some (PcHi i t1)) is g = let same : t1 ≡ t = cc in subst (NamesTarget p) same (leads.item q (PcHi i t1) is)
+    by (Some (PcLo i from)) is g = absurd cc
+    by (Some (Branch i to)) is g = absurd cc
+    by (Some (Jump i to)) is g = absurd cc
+    by (Some (Call rd temp to)) is g = absurd cc
+    by (Some (Align bytes)) is g = absurd cc
+    by (Some (Word u)) is g = absurd cc
+    by (Some (Raw word)) is g = absurd cc
+    by (Some (RawPair first second)) is g = absurd cc
 
-  -- an operation on a register and an immediate
-  imm_comes :
-      (op : ImmOp) (rd first : ℕ) (imm : ℤ) → is_linked_op op ≡ true → AloneLaid p e r.core.place z.core.pc (WithImm op rd first imm)
-      → Goes (gives rd (imm_word op (reg_of r.core first) imm) (p.next r.core.place)) ≡ Goes from.step.change → Comes p e cuts 1 z r'
-  imm_comes Addi rd first imm linked laid h = addi_comes rd first imm laid h
-  imm_comes Slti rd first imm linked laid h = absurd (false≢true linked)
-  imm_comes Sltiu rd first imm linked laid h = absurd (false≢true linked)
-  imm_comes Xori rd first imm linked laid h = absurd (false≢true linked)
-  imm_comes Ori rd first imm linked laid h = absurd (false≢true linked)
-  imm_comes Andi rd first imm linked laid h = absurd (false≢true linked)
-  imm_comes Slli rd first imm linked laid h = absurd (false≢true linked)
-  imm_comes Srli rd first imm linked laid h = absurd (false≢true linked)
-  imm_comes Srai rd first imm linked laid h = absurd (false≢true linked)
+module _ {p : Program} {e : Image} {r r' : PlainState} {cuts : ℕ → List Cut} {z : ZcState} (room : Room p e) (leads : Leads p) (from : FromSound p e r r' cuts z) where
+  -- an instruction that goes on
+  goes_comes :
+      {i : Instr} → (laid : AloneLaid p e r.core.place z.core.pc i)
+      → ((y : ZcCore) → y.pc ≡ z.core.pc → Ready p e r.core y → GoesOn p e i laid.at.size from.step.change r.core (p.next r.core.place) y) → Comes p e cuts 1 z r'
+  goes_comes laid law = single_comes room from laid (λ y at al listed. moves_on listed (law y at al.ready))
 
-  op_comes : (i : Instr) → OpLaid p e r.core.place z.core.pc i → op_does i r.core (p.next r.core.place) ≡ Goes from.step.change → Comes p e cuts 1 z r'
-  op_comes (Upper op rd imm) laid h = absurd (false≢true laid.linked)
-  op_comes (Jal rd distance) laid h = absurd (false≢true laid.linked)
-  op_comes (Jalr rd base imm) laid h = absurd (false≢true laid.linked)
-  op_comes (instr.Branch op first second distance) laid h = absurd (false≢true laid.linked)
-  op_comes (Load op rd base imm) laid h = absurd (false≢true laid.linked)
-  op_comes (Store op source base imm) laid h = absurd (false≢true laid.linked)
-  op_comes (WithImm op rd first imm) laid h = imm_comes op rd first imm laid.linked laid.laid h
-  op_comes (WithReg op rd first second) laid h = absurd (false≢true laid.linked)
-  op_comes (Fence rest) laid h = absurd (false≢true laid.linked)
-  op_comes Ecall laid h = call_comes room from laid h
-  op_comes Ebreak laid h = absurd cc
-  op_comes (Csrrw rd source) laid h = absurd cc
+  -- ---- items without relocation
 
-  pub item_comes : (o : Option Item) → ItemLaid p e r.core.place z.core.pc o → place_does p o r.core (p.next r.core.place) ≡ Goes from.step.change → Comes p e cuts 1 z r'
-  item_comes None laid h = absurd cc
-  item_comes (Some (Op i)) laid h = op_comes i laid h
-  item_comes (Some (Hi i t)) laid h = absurd cc
-  item_comes (Some (Lo i t)) laid h = absurd cc
-  item_comes (Some (PcHi i t)) laid h = absurd cc
-  item_comes (Some (PcLo i q)) laid h = absurd cc
-  item_comes (Some (Branch i to)) laid h = absurd laid
-  item_comes (Some (Jump i to)) laid h = absurd laid
-  item_comes (Some (Call rd temp to)) laid h = absurd cc
-  item_comes (Some (Align bytes)) laid h = absurd cc
-  item_comes (Some (Word t)) laid h = absurd cc
-  item_comes (Some (Raw word)) laid h = absurd cc
-  item_comes (Some (RawPair first second)) laid h = absurd cc
+  op_comes :
+      (i : Instr) → p.item r.core.place ≡ Some (Op i) → OpLaid p e r.core.place z.core.pc i → op_does i r.core (p.next r.core.place) ≡ Goes from.step.change
+      → Comes p e cuts 1 z r'
+  op_comes (instr.Upper op rd imm) item laid h = goes_comes laid.laid (λ y at ready. upper_goes room ready laid.laid.at.size from.step.change (p.next r.core.place) op rd imm h)
+  op_comes (instr.Jal rd distance) item laid h = absurd cc
+  op_comes (instr.Jalr rd base imm) item laid h =
+      single_comes room from laid.laid (λ y at al listed.
+      let ready = al.ready in
+      jalr_moves room ready laid.laid.at.size from.step.change (p.next r.core.place) listed rd base imm (sum_word (reg_of r.core base) imm) (leads.next r.core.place (Op (instr.Jalr rd base imm)) item refl)
+      (sum_stands (value_in p (place_address e)) (reg_of r.core base) imm (reg_in y base) (ready.core.words base) (ready.registers base laid.laid.registers.1)) h)
+  op_comes (instr.Branch op first second distance) item laid h = absurd cc
+  op_comes (instr.Load op rd base imm) item laid h =
+      goes_comes laid.laid (λ y at ready. load_goes room ready laid.laid.at.size from.step.change (p.next r.core.place) op rd base imm (sum_word (reg_of r.core base) imm) (sum_stands (value_in p (place_address e)) (reg_of r.core base) imm (reg_in y base) (ready.core.words base) (ready.registers base laid.laid.registers.1)) h)
+  op_comes (instr.Store op source base imm) item laid h =
+      goes_comes laid.laid (λ y at ready. store_goes room ready laid.laid.at.size from.step.change (p.next r.core.place) op source base imm (sum_word (reg_of r.core base) imm) laid.laid.registers.0 (sum_stands (value_in p (place_address e)) (reg_of r.core base) imm (reg_in y base) (ready.core.words base) (ready.registers base laid.laid.registers.1)) h)
+  op_comes (instr.WithImm op rd first imm) item laid h = goes_comes laid.laid (λ y at ready. imm_goes room ready laid.laid.at.size from.step.change (p.next r.core.place) op rd first imm laid.laid.registers.1 h)
+  op_comes (instr.WithReg op rd first second) item laid h = goes_comes laid.laid (λ y at ready. reg_goes room ready laid.laid.at.size from.step.change (p.next r.core.place) op rd first second laid.laid.registers.1 laid.laid.registers.2 h)
+  op_comes (instr.Fence rest) item laid h = goes_comes laid.laid (λ y at ready. fence_goes room ready laid.laid.at.size from.step.change (p.next r.core.place) rest h)
+  op_comes instr.Ecall item laid h = call_comes room from laid h
+  op_comes instr.Ebreak item laid h = absurd cc
+  op_comes (instr.Csrrw rd source) item laid h = absurd cc
+
+  -- ---- branches and jumps to places
+
+  branch_comes :
+      (i : Instr) (to : Place) → ReachLaid p e r.core.place z.core.pc i to → branch_to p i to r.core (p.next r.core.place) ≡ Goes from.step.change → Comes p e cuts 1 z r'
+  branch_comes (instr.Upper op rd imm) to laid h = absurd cc
+  branch_comes (instr.Jal rd distance) to laid h = absurd cc
+  branch_comes (instr.Jalr rd base imm) to laid h = absurd cc
+  branch_comes (instr.Branch op first second distance) to laid h =
+      single_comes room from laid.laid (λ y at al listed.
+      branch_moves room al.ready laid.laid.at.size from.step.change (p.next r.core.place) listed op first second laid.distance to laid.laid.registers.0 laid.laid.registers.1
+      (laid.reaches ∙ ap (λ a. Some (add32 a laid.distance)) (sym at)) h)
+  branch_comes (instr.Load op rd base imm) to laid h = absurd cc
+  branch_comes (instr.Store op source base imm) to laid h = absurd cc
+  branch_comes (instr.WithImm op rd first imm) to laid h = absurd cc
+  branch_comes (instr.WithReg op rd first second) to laid h = absurd cc
+  branch_comes (instr.Fence rest) to laid h = absurd cc
+  branch_comes instr.Ecall to laid h = absurd cc
+  branch_comes instr.Ebreak to laid h = absurd cc
+  branch_comes (instr.Csrrw rd source) to laid h = absurd cc
+
+  jump_comes :
+      (i : Instr) (to : Place) → p.item r.core.place ≡ Some (Jump i to) → ReachLaid p e r.core.place z.core.pc i to
+      → jump_to i to (p.next r.core.place) ≡ Goes from.step.change → Comes p e cuts 1 z r'
+  jump_comes (instr.Upper op rd imm) to item laid h = absurd cc
+  jump_comes (instr.Jal rd distance) to item laid h =
+      single_comes room from laid.laid (λ y at al listed.
+      jump_moves room al.ready laid.laid.at.size from.step.change (p.next r.core.place) listed (instr.Jal rd laid.distance) rd (add32 y.pc laid.distance) to
+      (leads.next r.core.place (Jump (instr.Jal rd distance) to) item refl) refl (laid.reaches ∙ ap (λ a. Some (add32 a laid.distance)) (sym at)) h)
+  jump_comes (instr.Jalr rd base imm) to item laid h = absurd cc
+  jump_comes (instr.Branch op first second distance) to item laid h = absurd cc
+  jump_comes (instr.Load op rd base imm) to item laid h = absurd cc
+  jump_comes (instr.Store op source base imm) to item laid h = absurd cc
+  jump_comes (instr.WithImm op rd first imm) to item laid h = absurd cc
+  jump_comes (instr.WithReg op rd first second) to item laid h = absurd cc
+  jump_comes (instr.Fence rest) to item laid h = absurd cc
+  jump_comes instr.Ecall to item laid h = absurd cc
+  jump_comes instr.Ebreak to item laid h = absurd cc
+  jump_comes (instr.Csrrw rd source) to item laid h = absurd cc
+
+  -- ---- all items
+
+  -- the upper part of the way from here
+  pc_hi_comes :
+      (i : Instr) (t : Target) → p.item r.core.place ≡ Some (PcHi i t) → PcHiLaid p e r.core.place z.core.pc i t
+      → place_does p (Some (PcHi i t)) r.core (p.next r.core.place) ≡ Goes from.step.change → Comes p e cuts 1 z r'
+  pc_hi_comes i t item laid h = goes_comes laid.laid (λ y at ready.
+      subst (λ a. GoesOn p e (with_upper i (hi20_of (way a laid.value))) laid.laid.at.size from.step.change r.core (p.next r.core.place) y) at
+      (pc_hi_goes room ready laid.laid.at.size from.step.change (p.next r.core.place) i r.core.place t laid.value (ap pc_target item)
+      (from.sound.place ∙ ap Some (sym at)) laid.is h))
+
+  pub item_comes :
+      (o : Option Item) → p.item r.core.place ≡ o → ItemLaid p e r.core.place z.core.pc o
+      → place_does p o r.core (p.next r.core.place) ≡ Goes from.step.change → Comes p e cuts 1 z r'
+  item_comes None item laid h = absurd cc
+  item_comes (Some (Op i)) item laid h = op_comes i item laid h
+  item_comes (Some (Hi i t)) item laid h = goes_comes laid.laid (λ y at ready. hi_goes room ready laid.laid.at.size from.step.change (p.next r.core.place) i t laid.value laid.is h)
+  item_comes (Some (Lo i t)) item laid h =
+      single_comes room from laid.laid (λ y at al listed.
+      lo_moves room al.ready laid.laid.at.size from.step.change (p.next r.core.place) listed i t laid.value laid.is (leads.item r.core.place (Lo i t) item) laid.laid.registers
+      (leads.next r.core.place (Lo i t) item) h)
+  item_comes (Some (PcHi i t)) item laid h = pc_hi_comes i t item laid h
+  item_comes (Some (PcLo i q)) item laid h =
+      single_comes room from laid.laid (λ y at al listed.
+      pc_lo_moves room al.ready laid.laid.at.size from.step.change (p.next r.core.place) listed i q laid.to laid.address laid.value laid.leads (pc_named leads q) laid.listed laid.is
+      laid.laid.registers (leads.next r.core.place (PcLo i q) item) h)
+  item_comes (Some (Branch i to)) item laid h = branch_comes i to laid h
+  item_comes (Some (Jump i to)) item laid h = jump_comes i to item laid h
+  item_comes (Some (Call rd temp to)) item laid h = jump_call_comes room from rd temp to (leads.next r.core.place (Call rd temp to) item refl) laid h
+  item_comes (Some (Align bytes)) item laid h = absurd laid
+  item_comes (Some (Word t)) item laid h = absurd cc
+  item_comes (Some (Raw word)) item laid h = absurd cc
+  item_comes (Some (RawPair first second)) item laid h = absurd cc

@@ -1,23 +1,30 @@
 -- A piece's law is its step: from a sound pair the steps of its items are its commits, whatever interrupts come before them.
-use Rattle.std.proofs.Common.{◌≡◌, ℕ, ◌<◌, List, None, Ok, ap, ◌∙◌, arith}
+use Rattle.std.proofs.Common.{◌≡◌, ℕ, ◌<◌, List, Ok, refl, ap, ◌∙◌, arith}
 use Rattle.interrupt_plan.specs.Plan.{AreCuts, Cut}
 use Rattle.rv_decode.specs.Run.{iterate}
 use Rattle.rv_decode.specs.State.{ZcState}
 use Rattle.rv_decode.proofs.RunLaws.{bind_ok}
+use Rattle.block_cut.specs.declared.item.Item.TheVariants.{Call}
 use Rattle.sym_machine.specs.Program.{Program}
 use Rattle.sym_machine.specs.Run.{plain_turn}
 use Rattle.sym_machine.specs.State.{PlainState}
 use Rattle.zc_link.specs.Image.{Image}
-use Rattle.zc_link.specs.Pieces.{Alone, Piece, PieceLaid, commits_of, span_of}
+use Rattle.zc_link.specs.Leads.{Leads}
+use Rattle.zc_link.specs.Pieces.{AlignOf, Alone, CallOf, Piece, PieceLaid, commits_of, span_of}
 use Rattle.zc_link.specs.Room.{Room}
 use Rattle.zc_link.specs.Simulates.{Comes, IsInside}
 use Rattle.zc_link.specs.Sound.{Sound}
 use Rattle.sym_machine.proofs.RunLaws.{stepped}
+use Rattle.zc_link.proofs.Calls.{call_comes}
 use Rattle.zc_link.proofs.Items.{item_comes}
+use Rattle.zc_link.proofs.Padding.{align_comes}
+use Rattle.zc_link.proofs.Singles.{FromSound}
 
 -- a piece has an item
 pub span_some : (x : Piece) → 0 < span_of x
 span_some Alone = omega arith
+span_some (AlignOf count) = omega arith
+span_some CallOf = omega arith
 
 -- the step of an item alone
 one_turn : (p : Program) (r r' : PlainState) → iterate (plain_turn p) 1 r ≡ Ok r' → plain_turn p r ≡ Ok r'
@@ -27,15 +34,22 @@ one_turn p r r' h =
     first.1 ∙ ap Ok last
 
 pub piece_comes :
-    {p : Program} {e : Image} {r r' : PlainState} {z : ZcState} (x : Piece) → Room p e → (cuts : ℕ → List Cut) → AreCuts cuts → Sound p e r.core z
+    {p : Program} {e : Image} {r r' : PlainState} {z : ZcState} (x : Piece) → Room p e → Leads p → (cuts : ℕ → List Cut) → AreCuts cuts → Sound p e r.core z
     → z.events ≡ r.events → PieceLaid p e r.core.place z.core.pc x → iterate (plain_turn p) (span_of x) r ≡ Ok r'
     → Comes p e cuts (commits_of p r.core x) z r'
-piece_comes {p = p} {r = r} {r' = r'} Alone room cuts are so same laid h =
-    let step = stepped p r r' so.alike.running (one_turn p r r' h) in
-    item_comes room (record { sound = so; same = same; are = are; step = step }) (p.item r.core.place) laid step.does
+piece_comes {p} {e} {r} {r'} {z} x room leads cuts are so same laid h = by x laid h
+  where
+    from : iterate (plain_turn p) 1 r ≡ Ok r' → FromSound p e r r' cuts z
+    from g = record { sound = so; same = same; are = are; step = stepped p r r' so.alike.running (one_turn p r r' g) }
 
--- an item alone has no place inside
+    by : (y : Piece) → PieceLaid p e r.core.place z.core.pc y → iterate (plain_turn p) (span_of y) r ≡ Ok r' → Comes p e cuts (commits_of p r.core y) z r'
+    by Alone item g = item_comes room leads (from g) (p.item r.core.place) refl item (from g).step.does
+    by (AlignOf count) align g = align_comes count room (from g) align
+    by CallOf call g = call_comes room (from g) call (leads.next r.core.place (Call call.rd call.temp call.to) call.item refl)
+
+-- a piece of one item has no place inside
 pub piece_inside :
-    (p : Program) (e : Image) (r r' : PlainState) (x : Piece) (a k : ℕ) → PieceLaid p e r.core.place a x → 0 < k → k < span_of x → r.core.exit ≡ None
-    → iterate (plain_turn p) k r ≡ Ok r' → IsInside e r r'
-piece_inside p e r r' Alone a k laid some lt running h = absurd (omega (arith, some, lt))
+    (p : Program) (e : Image) (r r' : PlainState) (x : Piece) (k : ℕ) → 0 < k → k < span_of x → IsInside e r r'
+piece_inside p e r r' Alone k some lt = absurd (omega (arith, some, lt))
+piece_inside p e r r' (AlignOf count) k some lt = absurd (omega (arith, some, lt))
+piece_inside p e r r' CallOf k some lt = absurd (omega (arith, some, lt))

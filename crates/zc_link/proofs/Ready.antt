@@ -10,7 +10,7 @@ use Rattle.sym_machine.specs.Program.{Program}
 use Rattle.sym_machine.specs.State.{PlainCore}
 use Rattle.sym_machine.specs.Words.{number_word, undef_word}
 use Rattle.zc_link.specs.Image.{Image, place_address}
-use Rattle.zc_link.specs.Sound.{NamesWord, Ready}
+use Rattle.zc_link.specs.Sound.{Alike, NamesWord, Ready}
 use Rattle.zc_link.specs.Stands.{WordStands}
 use Rattle.zc_link.specs.Values.{value_in}
 use Rattle.zc_link.proofs.Words.{undef_names, undef_stands}
@@ -91,3 +91,25 @@ module _ {p : Program} {e : Image} {s : PlainCore} {z : ZcCore} (ready : Ready p
     text = ready.text;
     table = ready.table;
   }
+
+-- what is alike stays so if pc and the number of commits change
+pub alike_moved : {p : Program} {e : Image} {s : PlainCore} {z : ZcCore} (pc commits : ℕ) → Alike p e s z → Alike p e s (record z { pc = pc; commits = commits })
+alike_moved pc commits al = record {
+  ready = record {
+    running = al.running;
+    going = al.going;
+    plain = al.plain;
+    core = record { count = al.core.count; words = al.core.words; bytes = al.core.bytes };
+    registers = al.registers;
+    memory = al.memory;
+    names = al.names;
+    lies = al.lies;
+    extents = al.extents;
+    text = al.text;
+    table = al.table;
+  };
+  sp = al.sp;
+  low = al.low;
+  high = al.high;
+  below = al.below;
+}

@@ -19,13 +19,6 @@ use Rattle.zc_link.proofs.Pieces.{piece_comes, piece_inside, span_some}
 use Rattle.zc_link.proofs.Start.{starts}
 
 module _ (p : Program) (e : Image) (pace : Pace) (laid : Laid p e pace) where
-  -- from a listed place on, by the piece that is laid there
-  listed_inside :
-      (k : ℕ) (r r' : PlainState) → 0 < k → k < span_of (laid.piece r.core.place) → r.core.exit ≡ None → iterate (plain_turn p) k r ≡ Ok r'
-      → (o : Option ℕ) → place_address e r.core.place ≡ o → IsSome o → IsInside e r r'
-  listed_inside k r r' some lt running h (Some a) is listed = piece_inside p e r r' (laid.piece r.core.place) a k (laid.each r.core.place a is) some lt running h
-  listed_inside k r r' some lt running h None is listed = absurd (false≢true listed)
-
   pub simulates : Simulates p e pace
   simulates = record {
     some = λ q. rw (laid.spans q) (span_some (laid.piece q));
@@ -33,9 +26,8 @@ module _ (p : Program) (e : Image) (pace : Pace) (laid : Laid p e pace) where
     step = λ r r' h cuts are z so same.
         let steps = ap (λ k. iterate (plain_turn p) k r) (sym (laid.spans r.core.place)) ∙ h in
         subst (λ k. Comes p e cuts k z r') (sym (laid.weights r.core))
-        (piece_comes (laid.piece r.core.place) laid.room cuts are so same (laid.each r.core.place z.core.pc so.place) steps);
-    inside = λ k r r' some lt listed running h.
-        listed_inside k r r' some (rw (laid.spans r.core.place) at lt) running h (place_address e r.core.place) refl listed;
+        (piece_comes (laid.piece r.core.place) laid.room laid.leads cuts are so same (laid.each r.core.place z.core.pc so.place) steps);
+    inside = λ k r r' some lt listed running h. piece_inside p e r r' (laid.piece r.core.place) k some (rw (laid.spans r.core.place) at lt);
     start = λ input bytes cuts are. starts laid input bytes cuts;
     cuts_apart = cuts_apart laid;
     commits_apart = commits_apart laid;

@@ -8,17 +8,18 @@ use Rattle.rv_decode.specs.Effect.{Commits, effect}
 use Rattle.rv_decode.specs.State.{ZcCore, ZcState}
 use Rattle.sym_machine.specs.Program.{Program}
 use Rattle.sym_machine.specs.State.{PlainState}
-use Rattle.zc_machine.specs.Run.{committed, zc_turn}
+use Rattle.sym_machine.specs.Step.{after_change}
+use Rattle.zc_machine.specs.Run.{committed, zc_turn, zc_turns}
 use Rattle.zc_machine.specs.Step.{effect_step}
 use Rattle.zc_link.specs.Image.{Image, place_address}
 use Rattle.zc_link.specs.Pieces.{AloneLaid}
 use Rattle.zc_link.specs.Room.{Room}
 use Rattle.zc_link.specs.Simulates.{Comes}
-use Rattle.zc_link.specs.Sound.{Alike, Sound}
+use Rattle.zc_link.specs.Sound.{Alike, Ready, Sound}
 use Rattle.zc_link.proofs.Commits.{after_cuts, zc_turns-one}
 use Rattle.sym_machine.proofs.RunLaws.{Stepped}
 use Rattle.zc_link.proofs.Ends.{ends_alike}
-use Rattle.zc_link.proofs.Instrs.{Moves}
+use Rattle.zc_link.proofs.Instrs.{IsQuiet, Moves}
 
 -- a sound pair, a step of the program from it, and interrupts before each commit
 pub record FromSound (p : Program) (e : Image) (r r' : PlainState) (cuts : ℕ → List Cut) (z : ZcState) : Type 0 where
@@ -30,6 +31,22 @@ pub record FromSound (p : Program) (e : Image) (r r' : PlainState) (cuts : ℕ �
 -- an address below 2^32 doesn't come round
 pub below_top : (a b size : ℕ) → b ≡ a → a + size < 2 ^ 32 → a + size ≡ (b + size) % 2 ^ 32
 below_top a b size same small = omega arith
+
+-- some commits, of which the last leaves states that are ready after the step's change, at a listed place
+pub comes_after :
+    {p : Program} {e : Image} {r r' : PlainState} {cuts : ℕ → List Cut} {z : ZcState} (from : FromSound p e r r' cuts z) (k : ℕ) (y : ZcCore)
+    → zc_turns cuts k z ≡ Ok (record z { core = y }) → Ready p e (after_change from.step.change r.core) y → IsQuiet from.step.change
+    → place_address e from.step.change.place ≡ Some y.pc → Comes p e cuts k z r'
+comes_after {e = e} {r = r} {z = z} from k y runs ready quiet place = record {
+  after = record z { core = y };
+  runs = runs;
+  together = inl record {
+    alike = ends_alike from.step.end ready;
+    input = ap (λ s. s.input) from.step.end.state ∙ ap (λ n. drop n r.core.input) quiet.taken ∙ from.sound.input;
+    place = ap (λ s. place_address e s.place) from.step.end.state ∙ place;
+  };
+  events = from.same ∙ sym (from.step.events ∙ ap (λ l. r.events ++ l) quiet.events ∙ append-nil r.events);
+}
 
 -- an instruction that moves to a listed place, from every state that the interrupts may leave
 pub single_comes :
@@ -44,13 +61,4 @@ single_comes {p} {e} {r} {r'} {cuts} {z} room from laid law =
     let after = moves.made.after in
     let does : effect laid.here laid.at.size w.now ≡ Commits after = laid.same laid.at.size w.now w.alike.core ∙ moves.made.commits in
     let turn : zc_turn (cuts 0) z ≡ Ok (record z { core = after }) = w.turn ∙ ap (λ x. committed (effect_step x w.now) (record z { core = w.now })) does in
-    record {
-      after = record z { core = after };
-      runs = zc_turns-one cuts z (record z { core = after }) turn;
-      together = inl record {
-        alike = ends_alike from.step.end moves.made.ready;
-        input = ap (λ s. s.input) from.step.end.state ∙ ap (λ n. drop n r.core.input) moves.made.quiet.taken ∙ from.sound.input;
-        place = ap (λ s. place_address e s.place) from.step.end.state ∙ moves.place;
-      };
-      events = from.same ∙ sym (from.step.events ∙ ap (λ l. r.events ++ l) moves.made.quiet.events ∙ append-nil r.events);
-    }
+    comes_after from 1 after (zc_turns-one cuts z (record z { core = after }) turn) moves.made.ready moves.made.quiet moves.place

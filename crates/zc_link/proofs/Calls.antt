@@ -1,0 +1,195 @@
+-- Calls. The program forgets a register, and goes to the place with the next one's address in another. An image does so by one `jal`,
+-- or by an `auipc` and a `jalr`; between these two the first register holds what the program doesn't know. It isn't sp, or the
+-- program would be stuck.
+use Rattle.std.proofs.Common.{◌≡◌, ◌≢◌, ℕ, ◌+◌, ◌*◌, ◌/◌, ◌%◌, ◌^◌, ◌<◌, List, [], ◌∷◌, length, Some, None, Ok, Bool, true, false, cond, refl, sym, ap, ◌∙◌, subst, arith, eqb, ⊎_elim}
+use Rattle.std.proofs.lemmas.Bool.{cases_eq, eqb-false}
+use Rattle.zc_base.specs.declared.place.Place.{Place}
+use Rattle.interrupt_plan.specs.Plan.{Cut}
+use Rattle.rv_decode.specs.declared.instr.Instr.TheVariants.{Jal, Jalr, Upper}
+use Rattle.rv_decode.specs.declared.instr.UpperOp.TheVariants.{Auipc}
+use Rattle.rv_decode.specs.Bits.{add32}
+use Rattle.rv_decode.specs.Effect.{after, onward as core_onward}
+use Rattle.rv_decode.specs.Results.{upper_result}
+use Rattle.rv_decode.specs.State.{ZcCore, ZcState, reg_in, set_reg}
+use Rattle.rv_decode.proofs.RegisterLaws.{length-set_reg, reads, reads-set_reg_other, reads-set_reg_same}
+use Rattle.block_cut.specs.declared.item.Item.TheVariants.{Call}
+use Rattle.sym_machine.specs.declared.why.Why.TheVariants.{TargetUnknown}
+use Rattle.sym_machine.specs.declared.word.SymWord.{SymWord}
+use Rattle.sym_machine.specs.declared.word.Value.{Value}
+use Rattle.sym_machine.specs.Change.{Change, Goes, Stops, call_to, onward, place_does}
+use Rattle.sym_machine.specs.Program.{Program}
+use Rattle.sym_machine.specs.State.{PlainCore, PlainState, reg_of}
+use Rattle.sym_machine.specs.Step.{after_change}
+use Rattle.sym_machine.specs.Words.{code_word, number_of, number_word, undef_word}
+use Rattle.sym_machine.proofs.StepLaws.{Ended}
+use Rattle.zc_decode.specs.declared.short.Short.TheVariants.{Base}
+use Rattle.zc_machine.specs.Fetch.{fetched_at}
+use Rattle.zc_machine.specs.Run.{zc_turn, zc_turns}
+use Rattle.zc_machine.proofs.TurnLaws.{zc_turns-more}
+use Rattle.zc_link.specs.Image.{Image, loaded, place_address}
+use Rattle.zc_link.specs.Pieces.{CallLaid, JumpCallLaid, OneAt}
+use Rattle.zc_link.specs.Room.{Room}
+use Rattle.zc_link.specs.Simulates.{Comes}
+use Rattle.zc_link.specs.Sound.{Alike, IsNamed, Ready}
+use Rattle.zc_link.specs.Values.{value_in}
+use Rattle.zc_link.proofs.Addresses.{code_names, code_stands}
+use Rattle.zc_link.proofs.Commits.{AfterCuts, after_cuts, zc_turns-one}
+use Rattle.zc_link.proofs.Instrs.{IsQuiet, Moves}
+use Rattle.zc_link.proofs.Ready.{ready_forgets, ready_moved, ready_set}
+use Rattle.zc_link.proofs.Singles.{FromSound, below_top, comes_after, single_comes}
+use Rattle.zc_link.proofs.Words.{undef_names, undef_stands}
+
+-- what a call changes
+abbrev call_change : ℕ → ℕ → Place → Place → Change
+call_change rd temp to next = record (onward to) { writes = (temp, undef_word) ∷ (rd, code_word next) ∷ [] }
+
+record Called (rd temp : ℕ) (to next : Place) (c : Change) : Type 0 where
+  some : temp ≢ 0
+  change : call_change rd temp to next ≡ c
+
+called : (rd temp : ℕ) (to next : Place) (c : Change) → call_to rd temp to next ≡ Goes c → Called rd temp to next c
+called rd temp to next c h = tested (eqb temp 0) refl h
+  where
+    tested : (b : Bool) → eqb temp 0 ≡ b → cond b (Stops TargetUnknown) (Goes (call_change rd temp to next)) ≡ Goes c → Called rd temp to next c
+    tested true is g = absurd cc
+    tested false is g = record { some = eqb-false temp 0 is; change = cc }
+
+-- the word in sp
+abbrev sp_word : List SymWord → SymWord
+sp_word regs = reads (number_word 0) undef_word regs 2
+
+module _ {p : Program} {e : Image} {r r' : PlainState} {cuts : ℕ → List Cut} {z : ZcState} (room : Room p e) (from : FromSound p e r r' cuts z) where
+  -- ---- by one instruction
+
+  pub jump_call_comes :
+      (rd temp : ℕ) (to : Place) → IsNamed p (p.next r.core.place) → JumpCallLaid p e r.core.place z.core.pc rd to
+      → call_to rd temp to (p.next r.core.place) ≡ Goes from.step.change → Comes p e cuts 1 z r'
+  jump_call_comes rd temp to named laid h = single_comes room from laid.laid law
+    where
+      law :
+          (y : ZcCore) → y.pc ≡ z.core.pc → Alike p e r.core y → place_address e (p.next r.core.place) ≡ Some (after y laid.laid.at.size)
+          → Moves p e (Jal rd laid.distance) laid.laid.at.size from.step.change r.core y
+      law y at al listed =
+          let next = p.next r.core.place in
+          let size = laid.laid.at.size in
+          let link = after y size in
+          let is = called rd temp to next from.step.change h in
+          subst (λ c. Moves p e (Jal rd laid.distance) size c r.core y) is.change (record {
+            made = record {
+              after = record (core_onward y size (set_reg y.regs rd link)) { pc = add32 y.pc laid.distance };
+              commits = refl;
+              ready = ready_moved (ready_set (ready_forgets al.ready temp) rd link (code_word next) (omega arith) (code_stands room next link listed) (code_names p next named)) to _ _;
+              quiet = record { events = refl; taken = refl };
+            };
+            place = laid.reaches ∙ ap (λ a. Some (add32 a laid.distance)) (sym at);
+          })
+
+  -- ---- by two
+
+  -- sp isn't the register that is forgotten
+  no_sp : (regs : List SymWord) (rd temp : ℕ) (q : Place) (sp : ℕ) → length regs ≡ 32 → number_of (sp_word (set_reg (set_reg regs temp undef_word) rd (code_word q))) ≡ Some sp → temp ≢ 2
+  no_sp regs rd temp q sp long is temp_sp = ⊎_elim
+      (λ rd_sp.
+      let l = length-set_reg regs temp undef_word in
+      let w : sp_word (set_reg (set_reg regs temp undef_word) rd (code_word q)) ≡ code_word q =
+          ap (λ k. sp_word (set_reg (set_reg regs temp undef_word) k (code_word q))) rd_sp
+          ∙ reads-set_reg_same (number_word 0) undef_word (set_reg regs temp undef_word) 2 (code_word q) (λ (none : 2 ≡ 0). omega (arith, none)) (omega (arith, l, long)) in
+      let none : number_of (code_word q) ≡ Some sp = ap number_of (sym w) ∙ is in
+      absurd cc)
+      (λ other.
+      let w : sp_word (set_reg (set_reg regs temp undef_word) rd (code_word q)) ≡ undef_word =
+          reads-set_reg_other (number_word 0) undef_word (set_reg regs temp undef_word) rd (code_word q) 2 (λ x. other (sym x))
+          ∙ ap (λ k. sp_word (set_reg regs k undef_word)) temp_sp
+          ∙ reads-set_reg_same (number_word 0) undef_word regs 2 undef_word (λ (none : 2 ≡ 0). omega (arith, none)) (omega (arith, long)) in
+      let none : number_of undef_word ≡ Some sp = ap number_of (sym w) ∙ is in
+      absurd cc)
+      (cases_eq rd 2)
+
+  module _ (laid : CallLaid p e r.core.place z.core.pc) (is : Called laid.rd laid.temp laid.to (p.next r.core.place) from.step.change) where
+    -- the state before the first word
+    abbrev first : AfterCuts p e (Upper Auipc laid.temp laid.upper) laid.at.one.size r.core (cuts 0) z
+    first = after_cuts room (cuts 0) (from.are 0) laid.at.one from.sound.alike
+
+    -- what that gives
+    abbrev way_part : ℕ
+    way_part = upper_result Auipc first.now.pc laid.upper
+
+    -- the states after it, with the program's register forgotten
+    abbrev between : ZcCore
+    between = core_onward first.now laid.at.one.size (set_reg first.now.regs laid.temp way_part)
+
+    abbrev forgotten : PlainCore
+    forgotten = record r.core { regs = set_reg r.core.regs laid.temp undef_word; exit = None }
+
+    not_sp : laid.temp ≢ 2
+    not_sp =
+        let end = subst (λ c. Ended p.map (after_change c r.core) r'.core) (sym is.change) from.step.end in
+        no_sp r.core.regs laid.rd laid.temp (p.next r.core.place) end.sp from.sound.alike.plain.count end.is
+
+    between_alike : Alike p e forgotten between
+    between_alike =
+        let same_word = reads-set_reg_other (number_word 0) undef_word r.core.regs laid.temp undef_word 2 (λ x. not_sp (sym x)) in
+        let same : reg_in between 2 ≡ reg_in first.now 2 = reads-set_reg_other 0 0 first.now.regs laid.temp way_part 2 (λ x. not_sp (sym x)) in
+        let al = first.alike in
+        record {
+          ready = ready_moved (ready_set al.ready laid.temp way_part undef_word (omega arith) (undef_stands (value_in p (place_address e)) way_part) (undef_names p)) r.core.place _ _;
+          sp = ap number_of same_word ∙ al.sp ∙ ap Some (sym same);
+          low = rw same al.low;
+          high = rw same al.high;
+          below = λ a low lt. al.below a low (rw same at lt);
+        }
+
+    between_pc : between.pc ≡ z.core.pc + laid.at.one.size
+    between_pc = sym (below_top z.core.pc first.now.pc laid.at.one.size first.pc laid.at.one.small)
+
+    -- the state before the second word
+    abbrev after_first : ZcState
+    after_first = record z { core = between }
+
+    abbrev second_at : OneAt e between.pc (Base (Jalr laid.rd laid.temp laid.lower))
+    second_at = record {
+      size = laid.at.two.size;
+      here = ap (fetched_at (loaded e)) between_pc ∙ laid.at.two.here;
+      small = omega (arith, laid.at.two.small, between_pc);
+    }
+
+    abbrev second : AfterCuts p e (Jalr laid.rd laid.temp laid.lower) laid.at.two.size forgotten (cuts 1) after_first
+    second = after_cuts room (cuts 1) (from.are 1) second_at between_alike
+
+    abbrev link : ℕ
+    link = after second.now laid.at.two.size
+
+    link_is : link ≡ z.core.pc + laid.at.one.size + laid.at.two.size
+    link_is = sym (below_top between.pc second.now.pc laid.at.two.size second.pc second_at.small) ∙ ap (λ a. a + laid.at.two.size) between_pc
+
+    -- the register holds what the first word gave
+    held : reg_in second.now laid.temp ≡ way_part
+    held =
+        let long = first.alike.core.count in
+        let low = laid.temp_low in
+        ap (λ regs. reads 0 0 regs laid.temp) second.regs
+        ∙ reads-set_reg_same 0 0 first.now.regs laid.temp way_part is.some (omega (arith, long, low))
+
+    abbrev there : ZcCore
+    there = record (core_onward second.now laid.at.two.size (set_reg second.now.regs laid.rd link)) { pc = add32 (reg_in second.now laid.temp) laid.lower / 2 * 2 }
+
+    runs : zc_turns cuts 2 z ≡ Ok (record z { core = there })
+    runs = zc_turns-more cuts 1 z after_first (record z { core = there }) (zc_turns-one cuts z after_first first.turn) second.turn
+
+    reached : place_address e laid.to ≡ Some there.pc
+    reached = laid.reaches ∙ ap (λ x. Some (add32 x laid.lower / 2 * 2)) (ap (λ a. (a + laid.upper * 2 ^ 12) % 2 ^ 32) (sym first.pc) ∙ sym held)
+
+    two_comes : IsNamed p (p.next r.core.place) → Comes p e cuts 2 z r'
+    two_comes named =
+        let next = p.next r.core.place in
+        let ready : Ready p e (after_change (call_change laid.rd laid.temp laid.to next) r.core) there =
+            ready_moved (ready_set second.alike.ready laid.rd link (code_word next) (omega arith)
+            (code_stands room next link (laid.next ∙ ap Some (sym link_is))) (code_names p next named)) laid.to _ _ in
+        comes_after from 2 there runs (subst (λ c. Ready p e (after_change c r.core) there) is.change ready)
+        (subst IsQuiet is.change (record { events = refl; taken = refl }))
+        (ap (λ (c : Change). place_address e c.place) (sym is.change) ∙ reached)
+
+  pub call_comes : (laid : CallLaid p e r.core.place z.core.pc) → IsNamed p (p.next r.core.place) → Comes p e cuts 2 z r'
+  call_comes laid named =
+      let does = ap (λ o. place_does p o r.core (p.next r.core.place)) (sym laid.item) ∙ from.step.does in
+      two_comes laid (called laid.rd laid.temp laid.to (p.next r.core.place) from.step.change does) named
