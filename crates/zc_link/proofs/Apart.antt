@@ -1,9 +1,11 @@
 -- Interrupts and cells of data lie apart. An interrupt writes in the stack, a cell lies in data, and the stack begins at or after
--- data's end: so an interrupt does the same whatever data hold. A piece has one commit so far, of which nothing is asked.
-use Rattle.std.proofs.Common.{◌≡◌, ◌≢◌, ℕ, suc, ◌+◌, ◌<◌, List, [], ◌∷◌, Bool, true, false, cond, refl, sym, ap, ap₂, ◌∙◌, ⊎_elim, arith, ltb, leb}
+-- data's end: so an interrupt does the same whatever data hold. And so do the commits of a piece of several instructions.
+use Rattle.std.proofs.Common.{◌≡◌, ◌≢◌, ℕ, suc, ◌+◌, ◌<◌, List, [], ◌∷◌, Bool, true, false, cond, refl, sym, ap, ap₂, ◌∙◌, subst, inl, inr, ⊎_elim, arith, ltb, leb}
 use Rattle.std.specs.Prelude.{◌&&◌, ◌⊎◌}
 use Rattle.std.proofs.lemmas.Bool.{and_parts, leb-true, ltb-true}
 use Rattle.zc_base.specs.declared.place.Place.{Place}
+use Rattle.rv_decode.specs.declared.instr.Instr.TheVariants.{Jalr, Upper}
+use Rattle.rv_decode.specs.declared.instr.UpperOp.TheVariants.{Auipc}
 use Rattle.rv_decode.specs.Memory.{Extent, Region, cells_changed, changed, extents_of, is_stack, lies_in, written}
 use Rattle.rv_decode.specs.State.{ZcCore, ZcState, reg_in}
 use Rattle.rv_decode.proofs.MemoryLaws.{extents-changed}
@@ -12,8 +14,9 @@ use Rattle.sym_machine.specs.State.{PlainCore, PlainState}
 use Rattle.zc_machine.specs.Interrupt.{all_dirtied, dirtied, is_free}
 use Rattle.zc_link.specs.Image.{Image, loaded}
 use Rattle.zc_link.specs.Laid.{Laid}
-use Rattle.zc_link.specs.Pieces.{Alone, Piece, commits_of, span_of}
+use Rattle.zc_link.specs.Pieces.{AlignOf, Alone, CallOf, Piece, PieceLaid, commits_of, span_of}
 use Rattle.zc_link.specs.Simulates.{CommitsApart, Commits, Cuts, CutsApart, FromLoad, FromPair, OnWay, Pace, Pokes, Starts}
+use Rattle.zc_link.proofs.Bare.{Bares, bare_apart, nops_bare, two_bare}
 use Rattle.zc_link.proofs.Cuts.{stack_within}
 use Rattle.zc_link.proofs.Extents.{SameExtents, dirtied_extents, on_way_extents}
 use Rattle.zc_link.proofs.Start.{no_lead}
@@ -89,23 +92,25 @@ module _ {p : Program} {e : Image} {pace : Pace} (laid : Laid p e pace) where
   pub lead_cuts_apart : CutsApart p (FromLoad p e)
   lead_cuts_apart = cuts_apart_from (λ k z from. rw from.loads refl)
 
-  one_commit : (s : PlainCore) → pace.weight s ≡ 1
-  one_commit s = laid.weights s ∙ by_piece (laid.piece s.place)
-    where
-      by_piece : (x : Piece) → commits_of p s x ≡ 1
-      by_piece Alone = refl
-
-  one_step : (q : Place) → pace.span q ≡ 1
-  one_step q = laid.spans q ∙ by_piece (laid.piece q)
-    where
-      by_piece : (x : Piece) → span_of x ≡ 1
-      by_piece Alone = refl
+  -- a piece of several instructions has none that looks at memory
+  piece_bare :
+      (q : Place) (s : PlainCore) (a : ℕ) (x : Piece) → PieceLaid p e q a x → (1 < span_of x) ⊎ (1 < commits_of p s x) → Bares e (commits_of p s x) a
+  piece_bare q s a Alone laid more = ⊎_elim (λ steps. absurd (omega (arith, steps))) (λ commits. absurd (omega (arith, commits))) more
+  piece_bare q s a (AlignOf count) laid more = nops_bare e count a laid.end laid.nops
+  piece_bare q s a CallOf laid more = two_bare e a (Upper Auipc laid.temp laid.upper) (Jalr laid.rd laid.temp laid.lower) tt tt tt laid.at
 
   pub commits_apart : (r : PlainState) → (1 < pace.span r.core.place) ⊎ (1 < pace.weight r.core) → CommitsApart p (FromPair p e pace r)
-  commits_apart r more k z z' way turn a b cell small = ⊎_elim
-      (λ steps. absurd (omega (arith, steps, one_step r.core.place)))
-      (λ commits. absurd (omega (arith, commits, one_commit r.core)))
-      more
+  commits_apart r more = bare_apart laid.room (λ k z from. record {
+    going = from.sound.alike.going;
+    same = record { extents = from.sound.alike.extents; text = from.sound.alike.text };
+    bares = subst (λ n. Bares e n z.core.pc) (sym (from.commits ∙ laid.weights r.core)) (bares z.core.pc (laid.each r.core.place z.core.pc from.sound.place));
+  })
+    where
+      several : (1 < span_of (laid.piece r.core.place)) ⊎ (1 < commits_of p r.core (laid.piece r.core.place))
+      several = ⊎_elim (λ steps. inl (rw (laid.spans r.core.place) at steps)) (λ commits. inr (rw (laid.weights r.core) at commits)) more
+
+      bares : (a : ℕ) → PieceLaid p e r.core.place a (laid.piece r.core.place) → Bares e (commits_of p r.core (laid.piece r.core.place)) a
+      bares a is = piece_bare r.core.place r.core a (laid.piece r.core.place) is several
 
   -- no commit comes before the start
   none_left : {k : ℕ} {z : ZcState} → OnWay p (FromLoad p e) k z → k ≡ 0

@@ -1,0 +1,200 @@
+-- Commits that don't look at memory: they do the same whatever data hold, and leave memory as it is. So do those of a piece of several
+-- instructions, from the first to the last, whatever interrupts come and whatever cells of data are written between them.
+use Rattle.std.proofs.Common.{◌≡◌, ℕ, zero, suc, ◌+◌, ◌%◌, ◌^◌, ◌<◌, ◌≤◌, List, [], ◌∷◌, Option, Some, None, Ok, true, false, refl, sym, ap, ◌∙◌, subst, inl, arith, ltb, pos}
+use Rattle.std.specs.Prelude.{◌&&◌}
+use Rattle.std.proofs.lemmas.Bool.{and_parts, cond_both}
+use Rattle.interrupt_plan.specs.Plan.{Cut}
+use Rattle.rv_decode.specs.declared.instr.Instr.{Instr}
+use Rattle.rv_decode.specs.declared.instr.Instr.TheVariants.{Upper, Jal, Jalr, Branch, Load, Store, WithImm, WithReg, Fence, Ecall, Ebreak, Csrrw}
+use Rattle.rv_decode.specs.declared.instr.ImmOp.TheVariants.{Addi}
+use Rattle.rv_decode.specs.Effect.{Commits, after, effect}
+use Rattle.rv_decode.specs.Memory.{cell_at, changed, extents_of, is_data, is_stack, is_text, lies_in, written}
+use Rattle.rv_decode.specs.State.{ZcCore, ZcState, byte_in, reg_in}
+use Rattle.rv_decode.proofs.MemoryLaws.{cell-changed, extents-changed, is_covered, lies_covered, stack_is_data, untouched}
+use Rattle.sym_machine.specs.Program.{Program}
+use Rattle.zc_decode.specs.declared.short.Short.TheVariants.{Base}
+use Rattle.zc_machine.specs.Fetch.{Found, fetched_at}
+use Rattle.zc_machine.specs.Interrupt.{all_dirtied, cut, dirtied, is_free}
+use Rattle.zc_machine.specs.Run.{committed, zc_turn}
+use Rattle.zc_machine.specs.Step.{effect_step, made, step_from, zc_step}
+use Rattle.zc_machine.proofs.FetchLaws.{SameText, fetched_same}
+use Rattle.zc_machine.proofs.TurnLaws.{zc_turn-running}
+use Rattle.zc_link.specs.Image.{Image, loaded}
+use Rattle.zc_link.specs.Pieces.{Nops, OneAt, TwoAt}
+use Rattle.zc_link.specs.Room.{Room}
+use Rattle.zc_link.specs.Simulates.{Commits as Turns, CommitsApart, Cuts, IsCell, OnWay, Pokes, Starts, poked}
+use Rattle.zc_link.proofs.Singles.{below_top}
+
+-- ---- instructions
+
+-- one that neither loads nor stores nor calls
+abbrev pub IsBare : Instr → Type 0
+IsBare (Upper op rd imm) = Unit {0}
+IsBare (Jal rd distance) = Unit {0}
+IsBare (Jalr rd base imm) = Unit {0}
+IsBare (Branch op first second distance) = Unit {0}
+IsBare (Load op rd base imm) = ⊥
+IsBare (Store op source base imm) = ⊥
+IsBare (WithImm op rd first imm) = Unit {0}
+IsBare (WithReg op rd first second) = Unit {0}
+IsBare (Fence rest) = Unit {0}
+IsBare Ecall = ⊥
+IsBare Ebreak = ⊥
+IsBare (Csrrw rd source) = ⊥
+
+-- and goes on to the next one
+abbrev pub IsOn : Instr → Type 0
+IsOn (Upper op rd imm) = Unit {0}
+IsOn (Jal rd distance) = ⊥
+IsOn (Jalr rd base imm) = ⊥
+IsOn (Branch op first second distance) = ⊥
+IsOn (Load op rd base imm) = ⊥
+IsOn (Store op source base imm) = ⊥
+IsOn (WithImm op rd first imm) = Unit {0}
+IsOn (WithReg op rd first second) = Unit {0}
+IsOn (Fence rest) = Unit {0}
+IsOn Ecall = ⊥
+IsOn Ebreak = ⊥
+IsOn (Csrrw rd source) = ⊥
+
+-- a byte of memory is another
+abbrev with_byte : ℕ → ℕ → ZcCore → ZcCore
+with_byte a b y = record y { memory = changed (written a 1 (λ _. b)) y.memory }
+
+-- its effect: it commits, memory and the exit stay, and with another byte in memory it does the same
+record BareEffect (i : Instr) (size : ℕ) (y : ZcCore) : Type 0 where
+  left : ZcCore
+  commits : effect i size y ≡ Commits left
+  memory : left.memory ≡ y.memory
+  exit : left.exit ≡ y.exit
+  pc : IsOn i → left.pc ≡ after y size
+  apart : (a b : ℕ) → effect i size (with_byte a b y) ≡ Commits (with_byte a b left)
+
+bare_effect : (i : Instr) (size : ℕ) (y : ZcCore) → IsBare i → BareEffect i size y
+bare_effect (Upper op rd imm) size y bare = record { left = _; commits = refl; memory = refl; exit = refl; pc = λ _. refl; apart = λ a b. refl }
+bare_effect (Jal rd distance) size y bare = record { left = _; commits = refl; memory = refl; exit = refl; pc = λ on. absurd on; apart = λ a b. refl }
+bare_effect (Jalr rd base imm) size y bare = record { left = _; commits = refl; memory = refl; exit = refl; pc = λ on. absurd on; apart = λ a b. refl }
+bare_effect (Branch op first second distance) size y bare = record { left = _; commits = refl; memory = refl; exit = refl; pc = λ on. absurd on; apart = λ a b. refl }
+bare_effect (Load op rd base imm) size y bare = absurd bare
+bare_effect (Store op source base imm) size y bare = absurd bare
+bare_effect (WithImm op rd first imm) size y bare = record { left = _; commits = refl; memory = refl; exit = refl; pc = λ _. refl; apart = λ a b. refl }
+bare_effect (WithReg op rd first second) size y bare = record { left = _; commits = refl; memory = refl; exit = refl; pc = λ _. refl; apart = λ a b. refl }
+bare_effect (Fence rest) size y bare = record { left = _; commits = refl; memory = refl; exit = refl; pc = λ _. refl; apart = λ a b. refl }
+bare_effect Ecall size y bare = absurd bare
+bare_effect Ebreak size y bare = absurd bare
+bare_effect (Csrrw rd source) size y bare = absurd bare
+
+-- ---- several of them
+
+-- so many such instructions stand from an address on, one after another; each but the last goes on
+abbrev pub Bares : Image → ℕ → ℕ → Type 0
+Bares e zero a = Unit {0}
+Bares e (suc k) a = (i : Instr) × (at : OneAt e a (Base i)) × IsBare i × (0 < k → IsOn i × Bares e k (a + at.size))
+
+pub nops_bare : (e : Image) (count a b : ℕ) → Nops e a count b → Bares e count a
+nops_bare e zero a b nops = tt
+nops_bare e (suc count) a b nops = (WithImm Addi 0 0 (pos 0), nops.0, tt, λ _. (tt, nops_bare e count (a + nops.0.size) b nops.1))
+
+pub two_bare : (e : Image) (a : ℕ) (i j : Instr) → IsBare i → IsOn i → IsBare j → TwoAt e a (Base i) (Base j) → Bares e 2 a
+two_bare e a i j bare on last at = (i, at.one, bare, λ _. (on, (j, at.two, last, λ more. absurd (omega (arith, more)))))
+
+-- a state from which so many are still to be committed
+pub record OnBare (e : Image) (k : ℕ) (z : ZcState) : Type 0 where
+  pub going : z.core.exit ≡ None
+  pub same : SameText (loaded e) z.core
+  pub bares : Bares e k z.core.pc
+
+-- ---- bytes of data and stack that are written
+
+module _ {p : Program} {e : Image} (room : Room p e) where
+  written_text :
+      (x b : ℕ) (y : ZcCore) → lies_in is_data (extents_of (loaded e).memory) x 1 ≡ true → SameText (loaded e) y
+      → SameText (loaded e) (record y { memory = changed (written x 1 (λ _. b)) y.memory })
+  written_text x b y held_there same = record {
+    extents = extents-changed (written x 1 (λ _. b)) y.memory ∙ same.extents;
+    text = λ a text.
+        let held : is_covered (extents_of y.memory) a ≡ true = ap (λ es. is_covered es a) same.extents ∙ lies_covered is_text (extents_of (loaded e).memory) a text in
+        cell-changed (written x 1 (λ _. b)) y.memory a 0 held
+        ∙ untouched x 1 (λ _. b) a (byte_in y a) (λ low high. other a text (omega (arith, low, high)))
+        ∙ same.text a text;
+  }
+    where
+      other : (a : ℕ) → lies_in is_text (extents_of (loaded e).memory) a 1 ≡ true → a ≡ x → ⊥
+      other a text is =
+          let none = room.apart a text in
+          let some = ap (λ k. lies_in is_data (extents_of (loaded e).memory) k 1) is ∙ held_there in
+          cc
+
+  poked_bare : (k a b : ℕ) (z : ZcState) → IsCell p a → OnBare e k z → OnBare e k (poked a b z)
+  poked_bare k a b z cell on = record {
+    going = on.going;
+    same = written_text a b z.core (room.reaches a 1 (omega arith) (inl (cell.low, omega (arith, cell.high)))) on.same;
+    bares = on.bares;
+  }
+
+  dirtied_bare : (k : ℕ) (d : ℕ × ℕ) (z : ZcState) → OnBare e k z → OnBare e k (record z { core = dirtied d z.core })
+  dirtied_bare k d z on =
+      cond_both (is_free z.core d.0) (record z.core { memory = changed (written d.0 1 (λ i. d.1)) z.core.memory }) z.core (λ y. OnBare e k (record z { core = y }))
+      (λ free.
+      let stack = (and_parts (lies_in is_stack (extents_of z.core.memory) d.0 1) (ltb d.0 (reg_in z.core 2)) free).0 in
+      let held = ap (λ es. lies_in is_data es d.0 1) (sym on.same.extents) ∙ stack_is_data (extents_of z.core.memory) d.0 1 stack in
+      record { going = on.going; same = written_text d.0 d.1 z.core held on.same; bares = on.bares })
+      (λ _. on)
+
+  all_dirtied_bare : (k : ℕ) (ds : List (ℕ × ℕ)) (z : ZcState) → OnBare e k z → OnBare e k (record z { core = all_dirtied ds z.core })
+  all_dirtied_bare k [] z on = on
+  all_dirtied_bare k (d ∷ ds) z on = all_dirtied_bare k ds (record z { core = dirtied d z.core }) (dirtied_bare k d z on)
+
+  -- ---- commits
+
+  -- what a turn without interrupts then is
+  bare_turn : (i : Instr) (size : ℕ) (z : ZcState) (y : ZcCore) → z.core.exit ≡ None → fetched_at z.core z.core.pc ≡ Found (Base i) size → effect i size z.core ≡ Commits y
+      → zc_turn [] z ≡ Ok (record z { core = y })
+  unfolding zc_step
+  bare_turn i size z y going here does =
+      zc_turn-running [] z going
+      ∙ ap (λ o. committed (step_from o z.core) z) going
+      ∙ ap (λ f. committed (made f z.core) z) here
+      ∙ ap (λ x. committed (effect_step x z.core) z) does
+
+  -- one of them is committed
+  record BareTurn (k : ℕ) (z z' : ZcState) : Type 0 where
+    on : OnBare e k z'
+    apart : (a b : ℕ) → IsCell p a → zc_turn [] (poked a b z) ≡ Ok (poked a b z')
+
+  turned : (k : ℕ) (z z' : ZcState) → OnBare e (suc k) z → zc_turn [] z ≡ Ok z' → BareTurn k z z'
+  turned k z z' on turn =
+      let i = on.bares.0 in
+      let at = on.bares.1 in
+      let does = bare_effect i at.size z.core on.bares.2 in
+      let here = fetched_same (loaded e) z.core on.same z.core.pc ∙ at.here in
+      let is : record z { core = does.left } ≡ z' = (let both = sym (bare_turn i at.size z does.left on.going here does.commits) ∙ turn in cc) in
+      subst (BareTurn k z) is (record {
+        on = record {
+          going = does.exit ∙ on.going;
+          same = record {
+            extents = ap extents_of does.memory ∙ on.same.extents;
+            text = λ a text. ap (λ memory. cell_at 0 memory a) does.memory ∙ on.same.text a text;
+          };
+          bares = rest i k (on.bares.3) (λ more. does.pc more ∙ sym (below_top z.core.pc z.core.pc at.size refl at.small));
+        };
+        apart = λ a b cell.
+            let other = poked_bare (suc k) a b z cell on in
+            bare_turn i at.size (poked a b z) (with_byte a b does.left) other.going (fetched_same (loaded e) (poked a b z).core other.same z.core.pc ∙ at.here) (does.apart a b);
+      })
+    where
+      rest : (i : Instr) {b pc : ℕ} (n : ℕ) → (0 < n → IsOn i × Bares e n b) → (IsOn i → pc ≡ b) → Bares e n pc
+      rest i zero more lands = tt
+      rest i (suc n) more lands = let m = more (omega arith) in subst (Bares e (suc n)) (sym (lands m.0)) m.1
+
+  -- ---- on the way
+
+  module _ {From : ℕ → ZcState → Type 0} (from : (k : ℕ) (z : ZcState) → From k z → OnBare e k z) where
+    on_way : {k : ℕ} {z : ZcState} → OnWay p From k z → OnBare e k z
+    on_way (Starts k z is) = from k z is
+    on_way (Cuts k z c is way) = all_dirtied_bare (suc k) c.dirt z (on_way way)
+    on_way (Pokes k z a b is small way) = poked_bare (suc k) a b z is (on_way way)
+    on_way (Turns k z z' way turn) = (turned k z z' (on_way way) turn).on
+
+    pub bare_apart : CommitsApart p From
+    bare_apart k z z' way turn a b cell small = (turned k z z' (on_way way) turn).apart a b cell
