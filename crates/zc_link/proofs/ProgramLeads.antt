@@ -1,0 +1,341 @@
+-- The places that the program of objects without a fault names begin basic blocks, or are ends of sections. What an item's relocation
+-- leads to isn't astray, so an item starts there or a section ends; and a place that a relocation, a branch or a jump leads to, or
+-- that follows what ends a block, is a leader by definition. What holds of a list's element is shown by its place in the list.
+use Rattle.std.proofs.Common.{◌≡◌, ℕ, ◌+◌, ◌⊎◌, ℤ, pos, List, [], ◌∷◌, ◌++◌, map, Option, Some, None, Bool, true, false, cond, refl, sym, ap, ◌∙◌, subst, inl, inr, eqb}
+use Rattle.std.specs.Prelude.{◌&&◌, ◌||◌, not}
+use Rattle.std.specs.List.{find, flat_map, list_any}
+use Rattle.std.specs.Option.{option_and_then, option_map, option_map_or, option_or}
+use Rattle.std.proofs.lemmas.Bool.{and_from, cases_Bool, eqb-true, not-false, or_cases, or_left, or_right}
+use Rattle.std.proofs.lemmas.List.Folds.{list_any-append}
+use Rattle.zc_base.specs.Fields.{word_in}
+use Rattle.zc_base.specs.Places.{same_place}
+use Rattle.zc_base.specs.declared.place.Place.{Place}
+use Rattle.elf32_read.specs.Parts.{ObjectParts, SectionParts, is_code_section}
+use Rattle.elf32_read.specs.declared.fault.Fault.{Fault}
+use Rattle.elf32_read.specs.declared.fault.Fault.TheVariants.{BadTarget, LoPair, RelocKind, RelocPlace}
+use Rattle.elf32_read.specs.declared.reloc.Reloc.{Reloc}
+use Rattle.psabi_reloc.specs.Kinds.{kind_of}
+use Rattle.psabi_reloc.specs.Patched.{with_distance}
+use Rattle.psabi_reloc.specs.declared.kind.RelocKind.{RelocKind as Kind}
+use Rattle.psabi_reloc.specs.declared.kind.RelocKind.TheVariants as kind
+use Rattle.psabi_sym.specs.Faults.{first_some, gather_fault}
+use Rattle.psabi_sym.specs.Inputs.{Inputs, ParsedInputs, parsed}
+use Rattle.psabi_sym.specs.Listed.{ListedSection, all_sections, sections_before}
+use Rattle.psabi_sym.specs.declared.target.Target.{Target}
+use Rattle.psabi_sym.specs.declared.target.Target.TheVariants.{Code, Number, Absent, Nowhere}
+use Rattle.rv_decode.specs.Decode.{decoded}
+use Rattle.rv_decode.specs.declared.instr.Instr.{Instr}
+use Rattle.rv_decode.specs.declared.instr.Instr.TheVariants as instr
+use Rattle.block_cut.specs.declared.item.Item.{Item}
+use Rattle.block_cut.specs.declared.item.Item.TheVariants.{Op, Hi, Lo, PcHi, PcLo, Branch, Jump, Call, Align, Word, Raw, RawPair}
+use Rattle.block_cut.specs.Faults.{first_fault, if_so, is_astray, is_lonely, is_lost, entry_fault, range_fault, reloc_fault, relocs_fault, section_fault}
+use Rattle.block_cut.specs.Items.{all_places, call_item, code_at, instr_item, is_end_at, is_start_at, is_target_at, item_at, item_in, item_under, known_item, next_at, of_instr, place_away, place_of, places_of, reloc_item, spelled, starts_in, starts_on, target_away, target_of, target_only, to_place}
+use Rattle.block_cut.specs.Leaders.{ends_block, goes_to, is_leader_at, is_place, item_leads, reloc_leads, section_leads, symbol_leads}
+use Rattle.block_cut.specs.Relocs.{is_bad_kind, is_bad_place, is_ignored, is_transfer, reloc_on}
+use Rattle.block_cut.proofs.ItemLaws.{IsItemAt, item_found, item_there}
+use Rattle.block_cut.proofs.ListedLaws.{cut_at, listed}
+use Rattle.block_cut.proofs.PlainLaws.{next_start}
+use Rattle.block_cut.proofs.SoundLaws.{sound_at}
+use Rattle.block_cut.proofs.WholeLaws.{code_is_section}
+use Rattle.sym_machine.specs.Objects.{program_of}
+use Rattle.zc_link.specs.Leads.{Leads, NamesItem, NamesTarget}
+use Rattle.zc_link.specs.Sound.{IsNamed}
+use Rattle.zc_link.proofs.PlaceLaws.{same_place-refl}
+
+-- ---- elements of lists
+
+-- an element between others passes, so some element does
+any_there : {X : Type 0} (p : X → Bool) (before rest : List X) (x : X) → p x ≡ true → list_any p (before ++ x ∷ rest) ≡ true
+any_there p before rest x h = list_any-append p before (x ∷ rest) ∙ or_right (list_any p before) (p x || list_any p rest) (or_left (p x) (list_any p rest) h)
+
+-- if none of a list gives anything, none between others does
+none_first : {A : Type 0} (o : Option A) (os : List (Option A)) → first_some (o ∷ os) ≡ None → (o ≡ None) × (first_some os ≡ None)
+none_first None os h = (refl, h)
+none_first (Some a) os h = absurd cc
+
+none_there : {X A : Type 0} (f : X → Option A) (before rest : List X) (x : X) → first_some (map f (before ++ x ∷ rest)) ≡ None → f x ≡ None
+none_there f [] rest x h = (none_first (f x) (map f rest) h).0
+none_there f (y ∷ ys) rest x h = none_there f ys rest x (none_first (f y) (map f (ys ++ x ∷ rest)) h).1
+
+-- what a search finds is an element
+module _ {X : Type 0} (p : X → Bool) where
+  any_found : (q : X → Bool) (xs : List X) (x : X) → find p xs ≡ Some x → q x ≡ true → list_any q xs ≡ true
+  any_found q [] x h passes = absurd cc
+  any_found q (y ∷ ys) x h passes = by (p y) h (λ g. any_found q ys x g passes)
+    where
+      by : (b : Bool) → cond b (Some y) (find p ys) ≡ Some x → (find p ys ≡ Some x → list_any q ys ≡ true) → (q y || list_any q ys) ≡ true
+      by true g rest = let same : y ≡ x = cc in or_left (q y) (list_any q ys) (ap q same ∙ passes)
+      by false g rest = or_right (q y) (list_any q ys) (rest g)
+
+  none_found : {A : Type 0} (f : X → Option A) (xs : List X) (x : X) → find p xs ≡ Some x → first_some (map f xs) ≡ None → f x ≡ None
+  none_found f [] x h none = absurd cc
+  none_found f (y ∷ ys) x h none =
+      let parts = none_first (f y) (map f ys) none in
+      by (p y) h parts.0 (λ g. none_found f ys x g parts.1)
+    where
+      by : (b : Bool) → cond b (Some y) (find p ys) ≡ Some x → f y ≡ None → (find p ys ≡ Some x → f x ≡ None) → f x ≡ None
+      by true g here rest = let same : y ≡ x = cc in ap f (sym same) ∙ here
+      by false g here rest = rest g
+
+-- an offset is one of a list
+any_offset : {X : Type 0} (p : X → Bool) (f : ℕ → X) (ns : List ℕ) (n : ℕ) → list_any (λ m. eqb m n) ns ≡ true → p (f n) ≡ true → list_any p (map f ns) ≡ true
+any_offset p f [] n among h = absurd cc
+any_offset p f (m ∷ ms) n among h = by (or_cases (eqb m n) (list_any (λ k. eqb k n) ms) among) (λ later. any_offset p f ms n later h)
+  where
+    by : (eqb m n ≡ true) ⊎ (list_any (λ k. eqb k n) ms ≡ true) → (list_any (λ k. eqb k n) ms ≡ true → list_any p (map f ms) ≡ true) → (p (f m) || list_any p (map f ms)) ≡ true
+    by (inl here) rest = or_left (p (f m)) (list_any p (map f ms)) (ap (λ k. p (f k)) (eqb-true m n here) ∙ h)
+    by (inr later) rest = or_right (p (f m)) (list_any p (map f ms)) (rest later)
+
+-- an element of one of the lists
+any_flat : {X Y : Type 0} (p : Y → Bool) (f : X → List Y) (before rest : List X) (x : X) → list_any p (f x) ≡ true → list_any p (flat_map f (before ++ x ∷ rest)) ≡ true
+any_flat p f [] rest x h = list_any-append p (f x) (flat_map f rest) ∙ or_left (list_any p (f x)) (list_any p (flat_map f rest)) h
+any_flat p f (y ∷ ys) rest x h =
+    list_any-append p (f y) (flat_map f (ys ++ x ∷ rest)) ∙ or_right (list_any p (f y)) (list_any p (flat_map f (ys ++ x ∷ rest))) (any_flat p f ys rest x h)
+
+-- ---- faults
+
+-- objects without a fault have none of relocations
+record Faultless (inputs : Inputs) : Type 0 where
+  gathered : gather_fault inputs ≡ None
+  relocs : relocs_fault (parsed inputs) ≡ None
+
+faultless : (inputs : Inputs) → first_fault inputs ≡ None → Faultless inputs
+unfolding first_fault
+faultless inputs none =
+    let first = none_first (gather_fault inputs) (relocs_fault (parsed inputs) ∷ entry_fault (parsed inputs) ∷ range_fault (parsed inputs) ∷ []) none in
+    let second = none_first (relocs_fault (parsed inputs)) (entry_fault (parsed inputs) ∷ range_fault (parsed inputs) ∷ []) first.1 in
+    record { gathered = first.0; relocs = second.0 }
+
+mapped_none : {A B : Type 0} (f : A → B) (o : Option A) → option_map f o ≡ None → o ≡ None
+mapped_none f None h = refl
+mapped_none f (Some a) h = absurd cc
+
+not_so : (b : Bool) (fault : Fault) → if_so b fault ≡ None → b ≡ false
+not_so true fault h = absurd cc
+not_so false fault h = refl
+
+-- a relocation without a fault isn't astray
+not_astray : (inputs : ParsedInputs) (l : ListedSection) (r : Reloc) → reloc_fault inputs l r ≡ None → is_astray inputs l r ≡ false
+not_astray inputs l r none =
+    let n = r.offset in
+    let last = if_so (is_astray inputs l r) (BadTarget l.index n) ∷ [] in
+    let lonely = if_so (is_lonely inputs l r) (LoPair l.index n) in
+    let place = if_so (is_bad_place l.section r) (RelocPlace l.index n) in
+    let a = none_first (if_so (is_bad_kind l.section (kind_of r.kind)) (RelocKind l.index n)) (place ∷ lonely ∷ last) none in
+    let b = none_first place (lonely ∷ last) a.1 in
+    let c = none_first lonely last b.1 in
+    not_so (is_astray inputs l r) (BadTarget l.index n) (none_first (if_so (is_astray inputs l r) (BadTarget l.index n)) [] c.1).0
+
+module _ (inputs : Inputs) (none : first_fault inputs ≡ None) where
+  abbrev objects : List ObjectParts
+  objects = (parsed inputs).objects
+
+  fine : Faultless inputs
+  fine = faultless inputs none
+
+  -- ---- places that are named
+
+  -- a target that is a leader
+  named : (to : Place) → is_target_at objects to ≡ true → is_leader_at (parsed inputs) to ≡ true → IsNamed (program_of (parsed inputs)) to
+  unfolding program_of
+  named to target leader = by (or_cases (is_start_at objects to) (is_end_at objects to) target)
+    where
+      starts : (o : Option SectionParts) → code_at objects to ≡ o → option_map_or (λ s. starts_on s to.offset) o false ≡ true → IsNamed (program_of (parsed inputs)) to
+      starts None at h = absurd cc
+      starts (Some s) at h = inl (rw (item_there (parsed inputs) to s at h) refl, rw leader refl)
+
+      by : (is_start_at objects to ≡ true) ⊎ (is_end_at objects to ≡ true) → IsNamed (program_of (parsed inputs)) to
+      by (inl start) = starts (code_at objects to) refl start
+      by (inr end) = inr (rw end refl)
+
+  -- ---- what leads to a place makes it a leader
+
+  -- a relocation of a section of code
+  reloc_leader :
+      (q to : Place) (s : SectionParts) (r : Reloc) → code_at objects q ≡ Some s → reloc_on s q.offset ≡ Some r → is_ignored (kind_of r.kind) ≡ false
+      → target_of (parsed inputs) q.object r ≡ Code to → is_leader_at (parsed inputs) to ≡ true
+  unfolding is_leader_at reloc_on
+  reloc_leader q to s r at found asks leads =
+      let section = (code_is_section objects q s at).0 in
+      let cut = cut_at objects q.object q.section s section in
+      let l = listed q.object q.section s in
+      let place : is_place to (target_of (parsed inputs) q.object r) ≡ true = ap (is_place to) leads ∙ same_place-refl to in
+      let one : reloc_leads (parsed inputs) to q.object r ≡ true = and_from (not (is_ignored (kind_of r.kind))) (is_place to (target_of (parsed inputs) q.object r)) (ap not asks) place in
+      let here : section_leads (parsed inputs) to l ≡ true = any_found _ (reloc_leads (parsed inputs) to q.object) s.relocs r found one in
+      let some : list_any (section_leads (parsed inputs) to) (all_sections objects) ≡ true =
+          ap (list_any (section_leads (parsed inputs) to)) cut.all_are ∙ any_there (section_leads (parsed inputs) to) (sections_before objects q.object q.section) cut.rest l here in
+      or_right (eqb to.offset 0) _ (or_left (list_any (section_leads (parsed inputs) to) (all_sections objects)) _ some)
+
+  -- what stands at a place
+  item_leader : (q to : Place) (i : Item) → item_at (parsed inputs) q ≡ Some i → (goes_to to i || (ends_block i && same_place (next_at objects q) to)) ≡ true → is_leader_at (parsed inputs) to ≡ true
+  unfolding is_leader_at
+  item_leader q to i is leads =
+      let found = item_found (parsed inputs) q i is in
+      let s = found.section in
+      let section = code_is_section objects q s found.code in
+      let cut = cut_at objects q.object q.section s section.0 in
+      let l = listed q.object q.section s in
+      let one : item_leads (parsed inputs) to q ≡ true = ap (λ o. option_map_or (λ x. goes_to to x || (ends_block x && same_place (next_at objects q) to)) o false) is ∙ leads in
+      let among : list_any (item_leads (parsed inputs) to) (map (place_of l) (starts_in s)) ≡ true = any_offset (item_leads (parsed inputs) to) (place_of l) (starts_in s) q.offset found.start one in
+      let here : list_any (item_leads (parsed inputs) to) (places_of l) ≡ true = ap (λ b. list_any (item_leads (parsed inputs) to) (cond b (map (place_of l) (starts_in s)) [])) section.1 ∙ among in
+      let some : list_any (item_leads (parsed inputs) to) (all_places objects) ≡ true =
+          ap (λ ls. list_any (item_leads (parsed inputs) to) (flat_map places_of ls)) cut.all_are ∙ any_flat (item_leads (parsed inputs) to) places_of (sections_before objects q.object q.section) cut.rest l here in
+      or_right (eqb to.offset 0) _ (or_right (list_any (section_leads (parsed inputs) to) (all_sections objects)) _ (or_left (list_any (item_leads (parsed inputs) to) (all_places objects)) _ some))
+
+  -- ---- items with a relocation
+
+  -- where the relocation of an item leads, an item starts or a section ends
+  reloc_target :
+      (q to : Place) (s : SectionParts) (r : Reloc) → code_at objects q ≡ Some s → reloc_on s q.offset ≡ Some r → is_ignored (kind_of r.kind) ≡ false
+      → target_of (parsed inputs) q.object r ≡ Code to → is_target_at objects to ≡ true
+  unfolding relocs_fault reloc_on
+  reloc_target q to s r at found asks leads =
+      let section = (code_is_section objects q s at).0 in
+      let cut = cut_at objects q.object q.section s section in
+      let l = listed q.object q.section s in
+      let all : first_some (map (section_fault (parsed inputs)) (sections_before objects q.object q.section ++ l ∷ cut.rest)) ≡ None =
+          ap (λ ls. first_some (map (section_fault (parsed inputs)) ls)) (sym cut.all_are) ∙ fine.relocs in
+      let own = mapped_none _ (first_some (map (reloc_fault (parsed inputs) l) s.relocs)) (none_there (section_fault (parsed inputs)) (sections_before objects q.object q.section) cut.rest l all) in
+      let one = not_astray (parsed inputs) l r (none_found _ (reloc_fault (parsed inputs) l) s.relocs r found own) in
+      let lost : is_lost objects (is_transfer (kind_of r.kind)) (target_of (parsed inputs) q.object r) ≡ false =
+          ap (λ b. not b && is_lost objects (is_transfer (kind_of r.kind)) (target_of (parsed inputs) q.object r)) (sym asks) ∙ one in
+      not-false (is_target_at objects to) (ap (is_lost objects (is_transfer (kind_of r.kind))) (sym leads) ∙ lost)
+
+  reloc_named :
+      (q to : Place) (s : SectionParts) (r : Reloc) → code_at objects q ≡ Some s → reloc_on s q.offset ≡ Some r → is_ignored (kind_of r.kind) ≡ false
+      → target_of (parsed inputs) q.object r ≡ Code to → IsNamed (program_of (parsed inputs)) to
+  reloc_named q to s r at found asks leads = named to (reloc_target q to s r at found asks leads) (reloc_leader q to s r at found asks leads)
+
+  -- a target whose place is named, if it has one
+  target_named : (t : Target) → ((to : Place) → t ≡ Code to → IsNamed (program_of (parsed inputs)) to) → NamesTarget (program_of (parsed inputs)) t
+  target_named (Code to) place = place to refl
+  target_named (Number n) place = tt
+  target_named (Absent n) place = tt
+  target_named Nowhere place = tt
+
+  -- items of an instruction, and items that go to a place
+  instr_named :
+      (o : Option Instr) (word : ℕ) (f : Instr → Item) → ((i : Instr) → NamesItem (program_of (parsed inputs)) (f i)) → NamesItem (program_of (parsed inputs)) (of_instr o word f)
+  instr_named None word f each = tt
+  instr_named (Some i) word f each = each i
+
+  place_named :
+      (t : Target) (f : Place → Item) (other : Item) → ((to : Place) → t ≡ Code to → NamesItem (program_of (parsed inputs)) (f to))
+      → NamesItem (program_of (parsed inputs)) other → NamesItem (program_of (parsed inputs)) (to_place t f other)
+  place_named (Code to) f other place stays = place to refl
+  place_named (Number n) f other place stays = stays
+  place_named (Absent n) f other place stays = stays
+  place_named Nowhere f other place stays = stays
+
+  call_named : (first second : Option Instr) (one two : ℕ) (to : Place) → IsNamed (program_of (parsed inputs)) to → NamesItem (program_of (parsed inputs)) (call_item first second (RawPair one two) to)
+  call_named (Some (instr.Upper op temp upper)) (Some (instr.Jalr rd base lower)) one two to is = is
+  call_named first second one two to is = tt
+
+  -- by the relocation's kind
+  kind_named :
+      (k : Option Kind) (addend : ℤ) (t : Target) (word second : ℕ) → ((to : Place) → t ≡ Code to → IsNamed (program_of (parsed inputs)) to)
+      → NamesItem (program_of (parsed inputs)) (known_item k addend t word second)
+  kind_named None addend t word second place = tt
+  kind_named (Some kind.Ignored) addend t word second place = tt
+  kind_named (Some kind.Word) addend t word second place = tt
+  kind_named (Some kind.Branch) addend t word second place = instr_named (decoded word) word _ (λ i. place_named t _ (Raw word) place tt)
+  kind_named (Some kind.Jal) addend t word second place = instr_named (decoded word) word _ (λ i. place_named t _ (Raw word) place tt)
+  kind_named (Some kind.Call) addend t word second place =
+      place_named t _ (RawPair word second) (λ to is. call_named (decoded word) (decoded second) word second to (place to is)) tt
+  kind_named (Some kind.PcrelHi20) addend t word second place = instr_named (decoded word) word _ (λ i. target_named t place)
+  kind_named (Some kind.PcrelLo12I) addend t word second place = instr_named (decoded word) word _ (λ i. place_named t _ (Raw word) (λ to is. tt) tt)
+  kind_named (Some kind.PcrelLo12S) addend t word second place = instr_named (decoded word) word _ (λ i. place_named t _ (Raw word) (λ to is. tt) tt)
+  kind_named (Some kind.Hi20) addend t word second place = instr_named (decoded word) word _ (λ i. target_named t place)
+  kind_named (Some kind.Lo12I) addend t word second place = instr_named (decoded word) word _ (λ i. target_named t place)
+  kind_named (Some kind.Lo12S) addend t word second place = instr_named (decoded word) word _ (λ i. target_named t place)
+  kind_named (Some kind.Align) addend t word second place = tt
+
+  -- ---- items without
+
+  -- a branch or a jump goes to a target
+  away_target : (q to : Place) (distance : ℤ) → target_away objects q distance ≡ Some to → is_target_at objects to ≡ true
+  away_target q to distance h = by (place_away q distance) h
+    where
+      only : (p : Place) (b : Bool) → is_target_at objects p ≡ b → cond b (Some p) None ≡ Some to → is_target_at objects to ≡ true
+      only p true is g = let same : p ≡ to = cc in ap (is_target_at objects) (sym same) ∙ is
+      only p false is g = absurd cc
+
+      by : (o : Option Place) → option_and_then (target_only objects) o ≡ Some to → is_target_at objects to ≡ true
+      by None g = absurd cc
+      by (Some p) g = only p (is_target_at objects p) refl g
+
+  -- where the item at a place goes, if code may lead there
+  going_named : (q to : Place) (i : Item) → item_at (parsed inputs) q ≡ Some i → goes_to to i ≡ true → is_target_at objects to ≡ true → IsNamed (program_of (parsed inputs)) to
+  going_named q to i is goes target = named to target (item_leader q to i is (or_left (goes_to to i) _ goes))
+
+  instr_item_named :
+      (q : Place) (i : Instr) (word : ℕ) → item_at (parsed inputs) q ≡ Some (instr_item objects q i word) → NamesItem (program_of (parsed inputs)) (instr_item objects q i word)
+  instr_item_named q (instr.Upper op rd imm) word is = tt
+  instr_item_named q (instr.Jal rd distance) word is = by (target_away objects q distance) refl is
+    where
+      by :
+          (o : Option Place) → target_away objects q distance ≡ o → item_at (parsed inputs) q ≡ Some (option_map_or (Jump (instr.Jal rd (pos 0))) o (Raw word))
+          → NamesItem (program_of (parsed inputs)) (option_map_or (Jump (instr.Jal rd (pos 0))) o (Raw word))
+      by None away here = tt
+      by (Some to) away here = going_named q to (Jump (instr.Jal rd (pos 0)) to) here (same_place-refl to) (away_target q to distance away)
+  instr_item_named q (instr.Jalr rd base imm) word is = tt
+  instr_item_named q (instr.Branch op first second distance) word is = by (target_away objects q distance) refl is
+    where
+      by :
+          (o : Option Place) → target_away objects q distance ≡ o
+          → item_at (parsed inputs) q ≡ Some (option_map_or (Branch (instr.Branch op first second (pos 0))) o (Raw word))
+          → NamesItem (program_of (parsed inputs)) (option_map_or (Branch (instr.Branch op first second (pos 0))) o (Raw word))
+      by None away here = tt
+      by (Some to) away here = going_named q to (Branch (instr.Branch op first second (pos 0)) to) here (same_place-refl to) (away_target q to distance away)
+  instr_item_named q (instr.Load op rd base imm) word is = tt
+  instr_item_named q (instr.Store op source base imm) word is = tt
+  instr_item_named q (instr.WithImm op rd first imm) word is = tt
+  instr_item_named q (instr.WithReg op rd first second) word is = tt
+  instr_item_named q (instr.Fence rest) word is = tt
+  instr_item_named q instr.Ecall word is = tt
+  instr_item_named q instr.Ebreak word is = tt
+  instr_item_named q (instr.Csrrw rd source) word is = tt
+
+  word_named : (q : Place) (o : Option Instr) (word : ℕ) → item_at (parsed inputs) q ≡ Some (spelled objects q o word) → NamesItem (program_of (parsed inputs)) (spelled objects q o word)
+  word_named q None word is = tt
+  word_named q (Some i) word is = instr_item_named q i word is
+
+  -- ---- all items
+
+  item_named : (q : Place) (i : Item) → item_at (parsed inputs) q ≡ Some i → NamesItem (program_of (parsed inputs)) i
+  item_named q i is =
+      let found = item_found (parsed inputs) q i is in
+      let s = found.section in
+      subst (NamesItem (program_of (parsed inputs))) found.item (by s found.code (reloc_on s q.offset) refl (is ∙ ap Some (sym found.item)))
+    where
+      by :
+          (s : SectionParts) → code_at objects q ≡ Some s → (o : Option Reloc) → reloc_on s q.offset ≡ o
+          → item_at (parsed inputs) q ≡ Some (item_under (parsed inputs) q (reloc_on s q.offset) (word_in s.bytes q.offset) (word_in s.bytes (q.offset + 4)))
+          → NamesItem (program_of (parsed inputs)) (item_under (parsed inputs) q (reloc_on s q.offset) (word_in s.bytes q.offset) (word_in s.bytes (q.offset + 4)))
+      by s at None on here =
+          let word = word_in s.bytes q.offset in
+          let second = word_in s.bytes (q.offset + 4) in
+          subst (λ o. NamesItem (program_of (parsed inputs)) (item_under (parsed inputs) q o word second)) (sym on)
+          (word_named q (decoded word) word (here ∙ ap (λ o. Some (item_under (parsed inputs) q o word second)) on))
+      by s at (Some r) on here =
+          let word = word_in s.bytes q.offset in
+          let second = word_in s.bytes (q.offset + 4) in
+          let asks = (sound_at s q.offset r (code_is_section objects q s at).1 on).asks in
+          subst (λ o. NamesItem (program_of (parsed inputs)) (item_under (parsed inputs) q o word second)) (sym on)
+          (kind_named (kind_of r.kind) r.addend (target_of (parsed inputs) q.object r) word second (λ to leads. reloc_named q to s r at on asks leads))
+
+  -- the place after what ends a block
+  after_named : (q : Place) (i : Item) → item_at (parsed inputs) q ≡ Some i → ends_block i ≡ true → IsNamed (program_of (parsed inputs)) (next_at objects q)
+  after_named q i is ends =
+      let next = next_at objects q in
+      let leads : (goes_to next i || (ends_block i && same_place next next)) ≡ true =
+          or_right (goes_to next i) (ends_block i && same_place next next) (and_from (ends_block i) (same_place next next) ends (same_place-refl next)) in
+      named next (target (next_start inputs fine.gathered q i is)) (item_leader q next i is leads)
+    where
+      target : (is_start_at objects (next_at objects q) ≡ true) ⊎ (is_end_at objects (next_at objects q) ≡ true) → is_target_at objects (next_at objects q) ≡ true
+      target (inl start) = or_left (is_start_at objects (next_at objects q)) _ start
+      target (inr end) = or_right (is_start_at objects (next_at objects q)) _ end
+
+  pub leads_faultless : Leads (program_of (parsed inputs))
+  unfolding program_of
+  leads_faultless = record { item = item_named; next = after_named }
