@@ -1,13 +1,13 @@
 -- Loads and stores. An access that the program makes is one of the image's, at the same address. What a load gives stands for what
 -- the machine loads, byte by byte, with signs or zeros above; and the bytes that a store writes stand for the machine's.
-use Rattle.std.proofs.Common.{◌≡◌, ℕ, zero, suc, ◌+◌, ◌-◌, ◌*◌, ◌/◌, ◌%◌, ◌^◌, ◌<◌, ◌≤◌, List, length, Option, Some, None, Bool, true, false, cond, refl, sym, ap, ◌∙◌, subst, arith, ℤ, pos, negsuc, eqb, ltb, get_or}
+use Rattle.std.proofs.Common.{◌≡◌, ℕ, zero, suc, ◌+◌, ◌-◌, ◌*◌, ◌/◌, ◌%◌, ◌^◌, ◌<◌, ◌≤◌, length, Option, Some, None, Bool, true, false, cond, refl, sym, ap, ◌∙◌, subst, arith, pos, negsuc, eqb, ltb, get_or}
 use Rattle.std.proofs.lemmas.Bool.{cond-true, eq-eqb, eqb-true, ltb-false, ltb-true}
 use Rattle.rv_decode.specs.declared.instr.LoadOp.{LoadOp}
 use Rattle.rv_decode.specs.declared.instr.LoadOp.TheVariants.{Lb, Lh, Lw, Lbu, Lhu}
 use Rattle.rv_decode.specs.declared.instr.StoreOp.{StoreOp}
 use Rattle.rv_decode.specs.declared.instr.StoreOp.TheVariants.{Sb, Sh, Sw}
 use Rattle.rv_decode.specs.Bits.{as_word}
-use Rattle.rv_decode.specs.Effect.{Effect, extended, load_result, load_width, reaching as effect_reaching, store_width}
+use Rattle.rv_decode.specs.Effect.{Effect, load_result, load_width, reaching as effect_reaching, store_width}
 use Rattle.rv_decode.specs.Memory.{byte_of, extents_of, is_data, lies_in, written}
 use Rattle.rv_decode.specs.State.{ZcCore, byte_in, half_at, word_at}
 use Rattle.sym_machine.specs.declared.why.Why.TheVariants.{BadAddress, Misaligned}

@@ -1,9 +1,7 @@
 -- Commits that don't look at memory: they do the same whatever data hold, and leave memory as it is. So do those of a piece of several
 -- instructions, from the first to the last, whatever interrupts come and whatever cells of data are written between them.
-use Rattle.std.proofs.Common.{◌≡◌, ℕ, zero, suc, ◌+◌, ◌%◌, ◌^◌, ◌<◌, ◌≤◌, List, [], ◌∷◌, Option, Some, None, Ok, true, false, refl, sym, ap, ◌∙◌, subst, inl, arith, ltb, pos}
-use Rattle.std.specs.Prelude.{◌&&◌}
+use Rattle.std.proofs.Common.{◌≡◌, ℕ, zero, suc, ◌+◌, ◌<◌, List, [], ◌∷◌, None, Ok, true, refl, sym, ap, ◌∙◌, subst, inl, arith, ltb, pos}
 use Rattle.std.proofs.lemmas.Bool.{and_parts, cond_both}
-use Rattle.interrupt_plan.specs.Plan.{Cut}
 use Rattle.rv_decode.specs.declared.instr.Instr.{Instr}
 use Rattle.rv_decode.specs.declared.instr.Instr.TheVariants.{Upper, Jal, Jalr, Branch, Load, Store, WithImm, WithReg, Fence, Ecall, Ebreak, Csrrw}
 use Rattle.rv_decode.specs.declared.instr.ImmOp.TheVariants.{Addi}
@@ -14,7 +12,7 @@ use Rattle.rv_decode.proofs.MemoryLaws.{cell-changed, extents-changed, is_covere
 use Rattle.sym_machine.specs.Program.{Program}
 use Rattle.zc_decode.specs.declared.short.Short.TheVariants.{Base}
 use Rattle.zc_machine.specs.Fetch.{Found, fetched_at}
-use Rattle.zc_machine.specs.Interrupt.{all_dirtied, cut, dirtied, is_free}
+use Rattle.zc_machine.specs.Interrupt.{all_dirtied, dirtied, is_free}
 use Rattle.zc_machine.specs.Run.{committed, zc_turn}
 use Rattle.zc_machine.specs.Step.{effect_step, made, step_from, zc_step}
 use Rattle.zc_machine.proofs.FetchLaws.{SameText, fetched_same}

@@ -1,7 +1,7 @@
 -- Calls. The program forgets a register, and goes to the place with the next one's address in another. An image does so by one `jal`,
 -- or by an `auipc` and a `jalr`; between these two the first register holds what the program doesn't know. It isn't sp, or the
 -- program would be stuck.
-use Rattle.std.proofs.Common.{◌≡◌, ◌≢◌, ℕ, ◌+◌, ◌*◌, ◌/◌, ◌%◌, ◌^◌, ◌<◌, List, [], ◌∷◌, length, Some, None, Ok, Bool, true, false, cond, refl, sym, ap, ◌∙◌, subst, arith, eqb, ⊎_elim}
+use Rattle.std.proofs.Common.{◌≡◌, ◌≢◌, ℕ, ◌+◌, ◌*◌, ◌/◌, ◌%◌, ◌^◌, List, [], ◌∷◌, length, Some, None, Ok, Bool, true, false, cond, refl, sym, ap, ◌∙◌, subst, arith, eqb, ⊎_elim}
 use Rattle.std.proofs.lemmas.Bool.{cases_eq, eqb-false}
 use Rattle.zc_base.specs.declared.place.Place.{Place}
 use Rattle.interrupt_plan.specs.Plan.{Cut}
@@ -12,19 +12,17 @@ use Rattle.rv_decode.specs.Effect.{after, onward as core_onward}
 use Rattle.rv_decode.specs.Results.{upper_result}
 use Rattle.rv_decode.specs.State.{ZcCore, ZcState, reg_in, set_reg}
 use Rattle.rv_decode.proofs.RegisterLaws.{length-set_reg, reads, reads-set_reg_other, reads-set_reg_same}
-use Rattle.block_cut.specs.declared.item.Item.TheVariants.{Call}
 use Rattle.sym_machine.specs.declared.why.Why.TheVariants.{TargetUnknown}
 use Rattle.sym_machine.specs.declared.word.SymWord.{SymWord}
-use Rattle.sym_machine.specs.declared.word.Value.{Value}
 use Rattle.sym_machine.specs.Change.{Change, Goes, Stops, call_to, onward, place_does}
 use Rattle.sym_machine.specs.Program.{Program}
-use Rattle.sym_machine.specs.State.{PlainCore, PlainState, reg_of}
+use Rattle.sym_machine.specs.State.{PlainCore, PlainState}
 use Rattle.sym_machine.specs.Step.{after_change}
 use Rattle.sym_machine.specs.Words.{code_word, number_of, number_word, undef_word}
 use Rattle.sym_machine.proofs.StepLaws.{Ended}
 use Rattle.zc_decode.specs.declared.short.Short.TheVariants.{Base}
 use Rattle.zc_machine.specs.Fetch.{fetched_at}
-use Rattle.zc_machine.specs.Run.{zc_turn, zc_turns}
+use Rattle.zc_machine.specs.Run.{zc_turns}
 use Rattle.zc_machine.proofs.TurnLaws.{zc_turns-more}
 use Rattle.zc_link.specs.Image.{Image, loaded, place_address}
 use Rattle.zc_link.specs.Pieces.{CallLaid, JumpCallLaid, OneAt}
@@ -92,15 +90,15 @@ module _ {p : Program} {e : Image} {r r' : PlainState} {cuts : ℕ → List Cut}
       (λ rd_sp.
       let l = length-set_reg regs temp undef_word in
       let w : sp_word (set_reg (set_reg regs temp undef_word) rd (code_word q)) ≡ code_word q =
-          ap (λ k. sp_word (set_reg (set_reg regs temp undef_word) k (code_word q))) rd_sp
-          ∙ reads-set_reg_same (number_word 0) undef_word (set_reg regs temp undef_word) 2 (code_word q) (λ (none : 2 ≡ 0). omega (arith, none)) (omega (arith, l, long)) in
+      ap (λ k. sp_word (set_reg (set_reg regs temp undef_word) k (code_word q))) rd_sp
+      ∙ reads-set_reg_same (number_word 0) undef_word (set_reg regs temp undef_word) 2 (code_word q) (λ (none : 2 ≡ 0). omega (arith, none)) (omega (arith, l, long)) in
       let none : number_of (code_word q) ≡ Some sp = ap number_of (sym w) ∙ is in
       absurd cc)
       (λ other.
       let w : sp_word (set_reg (set_reg regs temp undef_word) rd (code_word q)) ≡ undef_word =
-          reads-set_reg_other (number_word 0) undef_word (set_reg regs temp undef_word) rd (code_word q) 2 (λ x. other (sym x))
-          ∙ ap (λ k. sp_word (set_reg regs k undef_word)) temp_sp
-          ∙ reads-set_reg_same (number_word 0) undef_word regs 2 undef_word (λ (none : 2 ≡ 0). omega (arith, none)) (omega (arith, long)) in
+      reads-set_reg_other (number_word 0) undef_word (set_reg regs temp undef_word) rd (code_word q) 2 (λ x. other (sym x))
+      ∙ ap (λ k. sp_word (set_reg regs k undef_word)) temp_sp
+      ∙ reads-set_reg_same (number_word 0) undef_word regs 2 undef_word (λ (none : 2 ≡ 0). omega (arith, none)) (omega (arith, long)) in
       let none : number_of undef_word ≡ Some sp = ap number_of (sym w) ∙ is in
       absurd cc)
       (cases_eq rd 2)
@@ -183,8 +181,8 @@ module _ {p : Program} {e : Image} {r r' : PlainState} {cuts : ℕ → List Cut}
     two_comes named =
         let next = p.next r.core.place in
         let ready : Ready p e (after_change (call_change laid.rd laid.temp laid.to next) r.core) there =
-            ready_moved (ready_set second.alike.ready laid.rd link (code_word next) (omega arith)
-            (code_stands room next link (laid.next ∙ ap Some (sym link_is))) (code_names p next named)) laid.to _ _ in
+        ready_moved (ready_set second.alike.ready laid.rd link (code_word next) (omega arith)
+        (code_stands room next link (laid.next ∙ ap Some (sym link_is))) (code_names p next named)) laid.to _ _ in
         comes_after from 2 there runs (subst (λ c. Ready p e (after_change c r.core) there) is.change ready)
         (subst IsQuiet is.change (record { events = refl; taken = refl }))
         (ap (λ (c : Change). place_address e c.place) (sym is.change) ∙ reached)

@@ -1,10 +1,9 @@
 -- What one instruction does, whatever the place and pc: if the symbolic machine makes a change, the machine's effect commits,
 -- and the states are ready again. First what all instructions come to, then a law for each format.
-use Rattle.std.proofs.Common.{◌≡◌, ℕ, ◌+◌, ◌*◌, ◌/◌, ◌%◌, ◌^◌, ◌<◌, [], Option, Some, None, Bool, true, false, cond, refl, sym, ap, ◌∙◌, subst, arith, ℤ, eqb}
-use Rattle.std.proofs.lemmas.Bool.{eqb-true}
+use Rattle.std.proofs.Common.{◌≡◌, ℕ, ◌+◌, ◌*◌, ◌/◌, ◌%◌, ◌^◌, ◌<◌, [], Option, Some, None, Bool, true, false, cond, refl, sym, ap, ◌∙◌, subst, arith, ℤ}
 use Rattle.zc_base.specs.declared.place.Place.{Place}
 use Rattle.rv_decode.specs.declared.instr.Instr.{Instr}
-use Rattle.rv_decode.specs.declared.instr.Instr.TheVariants.{Branch, Fence, Jal, Jalr, Load, Store, Upper, WithImm, WithReg}
+use Rattle.rv_decode.specs.declared.instr.Instr.TheVariants.{Branch, Fence, Jalr, Load, Store, Upper, WithImm, WithReg}
 use Rattle.rv_decode.specs.declared.instr.BranchOp.{BranchOp}
 use Rattle.rv_decode.specs.declared.instr.ImmOp.{ImmOp}
 use Rattle.rv_decode.specs.declared.instr.LoadOp.{LoadOp}
@@ -15,12 +14,12 @@ use Rattle.rv_decode.specs.declared.instr.StoreOp.TheVariants.{Sb, Sh, Sw}
 use Rattle.rv_decode.specs.declared.instr.UpperOp.{UpperOp}
 use Rattle.rv_decode.specs.Bits.{add32}
 use Rattle.rv_decode.specs.Effect.{Commits, after, branch_target, effect, gives as effect_gives, jumps, load_result, load_width, onward as core_onward, store_width, stored}
-use Rattle.rv_decode.specs.Results.{imm_result, is_taken, reg_result, upper_result}
+use Rattle.rv_decode.specs.Results.{imm_result, reg_result, upper_result}
 use Rattle.rv_decode.specs.State.{ZcCore, reg_in, set_reg}
 use Rattle.rv_decode.proofs.ResultLaws.{imm_result-below, reg_result-below, upper_result-below}
 use Rattle.sym_machine.specs.declared.word.SymWord.{SymWord}
 use Rattle.sym_machine.specs.declared.word.Value.{Value}
-use Rattle.sym_machine.specs.Change.{Change, Does, Goes, branch_does, gives, jump_does, load_does, load_word, onward, puts, store_does, stored_bytes}
+use Rattle.sym_machine.specs.Change.{Change, Goes, branch_does, gives, jump_does, load_does, load_word, onward, puts, store_does, stored_bytes}
 use Rattle.sym_machine.specs.Conditions.{condition}
 use Rattle.sym_machine.specs.Program.{Program}
 use Rattle.sym_machine.specs.State.{PlainCore, reg_of}
@@ -231,8 +230,8 @@ module _ {p : Program} {e : Image} {s : PlainCore} {z : ZcCore} (room : Room p e
         known None is g = absurd cc
         known (Some t) is g =
             let taken =
-                condition_is room op (reg_of s first) (reg_of s second) (reg_in z first) (reg_in z second) t (ready.core.words first) (ready.core.words second)
-                (ready.registers first low_first) (ready.registers second low_second) is in
+            condition_is room op (reg_of s first) (reg_of s second) (reg_in z first) (reg_in z second) t (ready.core.words first) (ready.core.words second)
+            (ready.registers first low_first) (ready.registers second low_second) is in
             let same : onward (cond t to next) ≡ c = cc in
             subst (λ x. Moves p e (Branch op first second distance) size x s z) same (record {
               made = record {

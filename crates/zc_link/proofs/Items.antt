@@ -1,6 +1,6 @@
 -- What each item comes to, by cases on all of them: an item that is one instruction is one commit, by the law of its format. At other
 -- items the symbolic machine is stuck, or they are several instructions, so there is nothing to show.
-use Rattle.std.proofs.Common.{◌≡◌, ℕ, ◌+◌, ◌%◌, ◌^◌, List, Option, Some, None, true, refl, sym, ap, ◌∙◌, subst}
+use Rattle.std.proofs.Common.{◌≡◌, ℕ, List, Option, Some, None, refl, sym, ap, ◌∙◌, subst}
 use Rattle.zc_base.specs.declared.place.Place.{Place}
 use Rattle.interrupt_plan.specs.Plan.{Cut}
 use Rattle.psabi_reloc.specs.Parts.{hi20_of}

@@ -1,8 +1,6 @@
 -- Padding. Its instructions do nothing, so the states stay alike from one to the next, whatever interrupts come between them.
-use Rattle.std.proofs.Common.{◌≡◌, ℕ, zero, suc, ◌+◌, ◌%◌, ◌^◌, ◌<◌, List, Some, Ok, refl, sym, ap, ◌∙◌, subst, pos}
+use Rattle.std.proofs.Common.{◌≡◌, ℕ, zero, suc, ◌+◌, List, Some, Ok, refl, sym, ap, ◌∙◌, subst}
 use Rattle.interrupt_plan.specs.Plan.{AreCuts, Cut}
-use Rattle.rv_decode.specs.declared.instr.Instr.TheVariants.{WithImm}
-use Rattle.rv_decode.specs.declared.instr.ImmOp.TheVariants.{Addi}
 use Rattle.rv_decode.specs.Effect.{onward as core_onward}
 use Rattle.rv_decode.specs.Run.{◌>>=◌}
 use Rattle.rv_decode.specs.State.{ZcCore, ZcState}
@@ -37,8 +35,8 @@ module _ {p : Program} {e : Image} (room : Room p e) (s : PlainCore) where
       let y : ZcCore = core_onward w.now at.size w.now.regs in
       let pc : z.core.pc + at.size ≡ y.pc = below_top z.core.pc w.now.pc at.size w.pc at.small in
       let rest =
-          nops_run count b (λ k. cuts (suc k)) (record z { core = y }) (λ k. are (suc k)) (subst (λ a. Nops e a count b) pc nops.1)
-          (alike_moved y.pc y.commits w.alike) in
+      nops_run count b (λ k. cuts (suc k)) (record z { core = y }) (λ k. are (suc k)) (subst (λ a. Nops e a count b) pc nops.1)
+      (alike_moved y.pc y.commits w.alike) in
       record { after = rest.after; runs = ap (λ t. t >>= zc_turns (λ k. cuts (suc k)) count) w.turn ∙ rest.runs; alike = rest.alike; pc = rest.pc }
 
 -- an ALIGN

@@ -1,5 +1,5 @@
 -- When two places are the same.
-use Rattle.std.proofs.Common.{◌≡◌, Bool, true, false, refl, sym, eqb}
+use Rattle.std.proofs.Common.{◌≡◌, true, false, refl, sym, eqb}
 use Rattle.std.specs.Prelude.{◌&&◌}
 use Rattle.std.proofs.lemmas.Bool.{and_parts, eq-eqb, eqb-true, false≢true}
 use Rattle.zc_base.specs.Places.{same_place}

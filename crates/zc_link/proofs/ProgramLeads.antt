@@ -4,18 +4,17 @@
 use Rattle.std.proofs.Common.{◌≡◌, ℕ, ◌+◌, ◌⊎◌, ℤ, pos, List, [], ◌∷◌, ◌++◌, map, Option, Some, None, Bool, true, false, cond, refl, sym, ap, ◌∙◌, subst, inl, inr, eqb}
 use Rattle.std.specs.Prelude.{◌&&◌, ◌||◌, not}
 use Rattle.std.specs.List.{find, flat_map, list_any}
-use Rattle.std.specs.Option.{option_and_then, option_map, option_map_or, option_or}
-use Rattle.std.proofs.lemmas.Bool.{and_from, cases_Bool, eqb-true, not-false, or_cases, or_left, or_right}
+use Rattle.std.specs.Option.{option_and_then, option_map, option_map_or}
+use Rattle.std.proofs.lemmas.Bool.{and_from, eqb-true, not-false, or_cases, or_left, or_right}
 use Rattle.std.proofs.lemmas.List.Folds.{list_any-append}
 use Rattle.zc_base.specs.Fields.{word_in}
 use Rattle.zc_base.specs.Places.{same_place}
 use Rattle.zc_base.specs.declared.place.Place.{Place}
-use Rattle.elf32_read.specs.Parts.{ObjectParts, SectionParts, is_code_section}
+use Rattle.elf32_read.specs.Parts.{ObjectParts, SectionParts}
 use Rattle.elf32_read.specs.declared.fault.Fault.{Fault}
 use Rattle.elf32_read.specs.declared.fault.Fault.TheVariants.{BadTarget, LoPair, RelocKind, RelocPlace}
 use Rattle.elf32_read.specs.declared.reloc.Reloc.{Reloc}
 use Rattle.psabi_reloc.specs.Kinds.{kind_of}
-use Rattle.psabi_reloc.specs.Patched.{with_distance}
 use Rattle.psabi_reloc.specs.declared.kind.RelocKind.{RelocKind as Kind}
 use Rattle.psabi_reloc.specs.declared.kind.RelocKind.TheVariants as kind
 use Rattle.psabi_sym.specs.Faults.{first_some, gather_fault}
@@ -27,12 +26,12 @@ use Rattle.rv_decode.specs.Decode.{decoded}
 use Rattle.rv_decode.specs.declared.instr.Instr.{Instr}
 use Rattle.rv_decode.specs.declared.instr.Instr.TheVariants as instr
 use Rattle.block_cut.specs.declared.item.Item.{Item}
-use Rattle.block_cut.specs.declared.item.Item.TheVariants.{Op, Hi, Lo, PcHi, PcLo, Branch, Jump, Call, Align, Word, Raw, RawPair}
+use Rattle.block_cut.specs.declared.item.Item.TheVariants.{Branch, Jump, Raw, RawPair}
 use Rattle.block_cut.specs.Faults.{first_fault, if_so, is_astray, is_lonely, is_lost, entry_fault, range_fault, reloc_fault, relocs_fault, section_fault}
-use Rattle.block_cut.specs.Items.{all_places, call_item, code_at, instr_item, is_end_at, is_start_at, is_target_at, item_at, item_in, item_under, known_item, next_at, of_instr, place_away, place_of, places_of, reloc_item, spelled, starts_in, starts_on, target_away, target_of, target_only, to_place}
-use Rattle.block_cut.specs.Leaders.{ends_block, goes_to, is_leader_at, is_place, item_leads, reloc_leads, section_leads, symbol_leads}
+use Rattle.block_cut.specs.Items.{all_places, call_item, code_at, instr_item, is_end_at, is_start_at, is_target_at, item_at, item_under, known_item, next_at, of_instr, place_away, place_of, places_of, spelled, starts_in, starts_on, target_away, target_of, target_only, to_place}
+use Rattle.block_cut.specs.Leaders.{ends_block, goes_to, is_leader_at, is_place, item_leads, reloc_leads, section_leads}
 use Rattle.block_cut.specs.Relocs.{is_bad_kind, is_bad_place, is_ignored, is_transfer, reloc_on}
-use Rattle.block_cut.proofs.ItemLaws.{IsItemAt, item_found, item_there}
+use Rattle.block_cut.proofs.ItemLaws.{item_found, item_there}
 use Rattle.block_cut.proofs.ListedLaws.{cut_at, listed}
 use Rattle.block_cut.proofs.PlainLaws.{next_start}
 use Rattle.block_cut.proofs.SoundLaws.{sound_at}
@@ -163,7 +162,7 @@ module _ (inputs : Inputs) (none : first_fault inputs ≡ None) where
       let one : reloc_leads (parsed inputs) to q.object r ≡ true = and_from (not (is_ignored (kind_of r.kind))) (is_place to (target_of (parsed inputs) q.object r)) (ap not asks) place in
       let here : section_leads (parsed inputs) to l ≡ true = any_found _ (reloc_leads (parsed inputs) to q.object) s.relocs r found one in
       let some : list_any (section_leads (parsed inputs) to) (all_sections objects) ≡ true =
-          ap (list_any (section_leads (parsed inputs) to)) cut.all_are ∙ any_there (section_leads (parsed inputs) to) (sections_before objects q.object q.section) cut.rest l here in
+      ap (list_any (section_leads (parsed inputs) to)) cut.all_are ∙ any_there (section_leads (parsed inputs) to) (sections_before objects q.object q.section) cut.rest l here in
       or_right (eqb to.offset 0) _ (or_left (list_any (section_leads (parsed inputs) to) (all_sections objects)) _ some)
 
   -- what stands at a place
@@ -179,7 +178,7 @@ module _ (inputs : Inputs) (none : first_fault inputs ≡ None) where
       let among : list_any (item_leads (parsed inputs) to) (map (place_of l) (starts_in s)) ≡ true = any_offset (item_leads (parsed inputs) to) (place_of l) (starts_in s) q.offset found.start one in
       let here : list_any (item_leads (parsed inputs) to) (places_of l) ≡ true = ap (λ b. list_any (item_leads (parsed inputs) to) (cond b (map (place_of l) (starts_in s)) [])) section.1 ∙ among in
       let some : list_any (item_leads (parsed inputs) to) (all_places objects) ≡ true =
-          ap (λ ls. list_any (item_leads (parsed inputs) to) (flat_map places_of ls)) cut.all_are ∙ any_flat (item_leads (parsed inputs) to) places_of (sections_before objects q.object q.section) cut.rest l here in
+      ap (λ ls. list_any (item_leads (parsed inputs) to) (flat_map places_of ls)) cut.all_are ∙ any_flat (item_leads (parsed inputs) to) places_of (sections_before objects q.object q.section) cut.rest l here in
       or_right (eqb to.offset 0) _ (or_right (list_any (section_leads (parsed inputs) to) (all_sections objects)) _ (or_left (list_any (item_leads (parsed inputs) to) (all_places objects)) _ some))
 
   -- ---- items with a relocation
@@ -194,11 +193,11 @@ module _ (inputs : Inputs) (none : first_fault inputs ≡ None) where
       let cut = cut_at objects q.object q.section s section in
       let l = listed q.object q.section s in
       let all : first_some (map (section_fault (parsed inputs)) (sections_before objects q.object q.section ++ l ∷ cut.rest)) ≡ None =
-          ap (λ ls. first_some (map (section_fault (parsed inputs)) ls)) (sym cut.all_are) ∙ fine.relocs in
+      ap (λ ls. first_some (map (section_fault (parsed inputs)) ls)) (sym cut.all_are) ∙ fine.relocs in
       let own = mapped_none _ (first_some (map (reloc_fault (parsed inputs) l) s.relocs)) (none_there (section_fault (parsed inputs)) (sections_before objects q.object q.section) cut.rest l all) in
       let one = not_astray (parsed inputs) l r (none_found _ (reloc_fault (parsed inputs) l) s.relocs r found own) in
       let lost : is_lost objects (is_transfer (kind_of r.kind)) (target_of (parsed inputs) q.object r) ≡ false =
-          ap (λ b. not b && is_lost objects (is_transfer (kind_of r.kind)) (target_of (parsed inputs) q.object r)) (sym asks) ∙ one in
+      ap (λ b. not b && is_lost objects (is_transfer (kind_of r.kind)) (target_of (parsed inputs) q.object r)) (sym asks) ∙ one in
       not-false (is_target_at objects to) (ap (is_lost objects (is_transfer (kind_of r.kind))) (sym leads) ∙ lost)
 
   reloc_named :
@@ -329,7 +328,7 @@ module _ (inputs : Inputs) (none : first_fault inputs ≡ None) where
   after_named q i is ends =
       let next = next_at objects q in
       let leads : (goes_to next i || (ends_block i && same_place next next)) ≡ true =
-          or_right (goes_to next i) (ends_block i && same_place next next) (and_from (ends_block i) (same_place next next) ends (same_place-refl next)) in
+      or_right (goes_to next i) (ends_block i && same_place next next) (and_from (ends_block i) (same_place next next) ends (same_place-refl next)) in
       named next (target (next_start inputs fine.gathered q i is)) (item_leader q next i is leads)
     where
       target : (is_start_at objects (next_at objects q) ≡ true) ⊎ (is_end_at objects (next_at objects q) ≡ true) → is_target_at objects (next_at objects q) ≡ true

@@ -1,6 +1,6 @@
 -- Instructions with a relocation: an upper part goes to a register, and a lower part is the immediate of a sum. Whatever the sum's
 -- word is, it has only to stand for the machine's sum with that immediate; then the law is that of the format.
-use Rattle.std.proofs.Common.{◌≡◌, ℕ, ◌+◌, ◌*◌, ◌%◌, ◌^◌, ◌<◌, Some, true, refl, subst, arith, ℤ}
+use Rattle.std.proofs.Common.{◌≡◌, ℕ, ◌*◌, ◌^◌, ◌<◌, Some, true, refl, arith, ℤ}
 use Rattle.zc_base.specs.declared.place.Place.{Place}
 use Rattle.psabi_reloc.specs.Parts.{hi20_of, lo12_of}
 use Rattle.psabi_reloc.specs.Patched.{with_imm, with_upper}

@@ -1,18 +1,16 @@
 -- A laid image keeps step with the program: the start is sound, each piece's law is its step, and cells of data lie apart from
--- interrupts. So the image follows the program under every plan.
-use Rattle.std.proofs.Common.{◌≡◌, ℕ, ◌<◌, Option, Some, None, Ok, refl, sym, ap, ◌∙◌, subst}
-use Rattle.std.specs.Prelude.{IsSome}
-use Rattle.std.proofs.lemmas.Bool.{false≢true}
+-- interrupts. So the image follows the program under every plan, and its file preserves the objects' program.
+use Rattle.std.proofs.Common.{◌≡◌, ℕ, List, Some, sym, ap, ◌∙◌, subst}
 use Rattle.interrupt_plan.specs.Plan.{IsPlan}
 use Rattle.rv_decode.specs.Run.{iterate}
+use Rattle.psabi_sym.specs.Inputs.{Inputs, parsed}
+use Rattle.sym_machine.specs.Objects.{program_of}
 use Rattle.sym_machine.specs.Program.{Program}
 use Rattle.sym_machine.specs.Run.{plain_turn}
-use Rattle.sym_machine.specs.State.{PlainState}
-use Rattle.zc_link.specs.Image.{Image, place_address}
+use Rattle.zc_link.specs.Image.{Image, image_in}
 use Rattle.zc_link.specs.Laid.{Laid}
-use Rattle.zc_link.specs.Pieces.{span_of}
-use Rattle.zc_link.specs.Preserves.{FollowsUnder}
-use Rattle.zc_link.specs.Simulates.{Comes, IsInside, Pace, Simulates}
+use Rattle.zc_link.specs.Preserves.{FollowsUnder, Preserves}
+use Rattle.zc_link.specs.Simulates.{Comes, Pace, Simulates}
 use Rattle.zc_link.proofs.Apart.{commits_apart, cuts_apart, lead_commits_apart, lead_cuts_apart}
 use Rattle.zc_link.proofs.Induction as induction
 use Rattle.zc_link.proofs.Pieces.{piece_comes, piece_inside, span_some}
@@ -37,3 +35,10 @@ module _ (p : Program) (e : Image) (pace : Pace) (laid : Laid p e pace) where
 
   pub follows : FollowsUnder IsPlan p e
   follows = induction.follows p e pace simulates
+
+-- ---- files
+
+-- a file whose image is laid for the objects' program preserves it
+pub laid_preserves :
+    (inputs : Inputs) (elf : List ℕ) (e : Image) (pace : Pace) → image_in elf inputs.map ≡ Some e → Laid (program_of (parsed inputs)) e pace → Preserves inputs elf
+laid_preserves inputs elf e pace read laid = record { image = e; read = read; follows = follows (program_of (parsed inputs)) e pace laid }
