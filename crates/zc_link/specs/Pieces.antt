@@ -151,7 +151,6 @@ pub record CallLaid (p : Program) (e : Image) (q : Place) (a : ℕ) : Type 0 whe
   pub temp : ℕ
   pub to : Place
   pub item : p.item q ≡ Some (Call rd temp to)
-  pub rd_low : rd < 32
   pub temp_low : temp < 32
   pub upper : ℕ
   pub lower : ℤ
