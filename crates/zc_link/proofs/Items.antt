@@ -1,6 +1,6 @@
 -- What each item comes to, by cases on all of them: an item that is one instruction is one commit, by the law of its format. At other
 -- items the symbolic machine is stuck, or they are several instructions, so there is nothing to show.
-use Rattle.std.proofs.Common.{◌≡◌, ℕ, List, Option, Some, None, refl, sym, ap, ◌∙◌, subst}
+use Rattle.std.proofs.Common.{◌≡◌, ℕ, List, Option, Some, None, refl, sym, ap, ◌∙◌, subst, ℤ, ◌<◌}
 use Rattle.zc_base.specs.declared.place.Place.{Place}
 use Rattle.interrupt_plan.specs.Plan.{Cut}
 use Rattle.psabi_reloc.specs.Parts.{hi20_of}
@@ -23,6 +23,7 @@ use Rattle.zc_link.specs.Pieces.{AloneLaid, ItemLaid, OpLaid, PcHiLaid, ReachLai
 use Rattle.zc_link.specs.Room.{Room}
 use Rattle.zc_link.specs.Simulates.{Comes}
 use Rattle.zc_link.specs.Sound.{Ready}
+use Rattle.zc_link.specs.Stands.{WordStands}
 use Rattle.zc_link.specs.Values.{value_in, way}
 use Rattle.zc_link.proofs.Calls.{jump_call_comes}
 use Rattle.zc_link.proofs.Environment.{call_comes}
@@ -57,25 +58,35 @@ module _ {p : Program} {e : Image} {r r' : PlainState} {cuts : ℕ → List Cut}
       → ((y : ZcCore) → y.pc ≡ z.core.pc → Ready p e r.core y → GoesOn p e i laid.at.size from.step.change r.core (p.next r.core.place) y) → Comes p e cuts 1 z r'
   goes_comes laid law = single_comes room from laid (λ y at al listed. moves_on listed (law y at al.ready))
 
+  -- the sum of a register and an immediate stands for the machine's
+  base_sum :
+      {y : ZcCore} (base : ℕ) (imm : ℤ) → Ready p e r.core y → base < 32
+      → WordStands (value_in p (place_address e)) (sum_word (reg_of r.core base) imm) (add32 (reg_in y base) imm)
+  base_sum {y} base imm ready low =
+      sum_stands (value_in p (place_address e)) (reg_of r.core base) imm (reg_in y base) (ready.core.words base) (ready.registers base low)
+
   -- ---- items without relocation
 
   op_comes :
       (i : Instr) → p.item r.core.place ≡ Some (Op i) → OpLaid p e r.core.place z.core.pc i → op_does i r.core (p.next r.core.place) ≡ Goes from.step.change
       → Comes p e cuts 1 z r'
-  op_comes (instr.Upper op rd imm) item laid h = goes_comes laid.laid (λ y at ready. upper_goes room ready laid.laid.at.size from.step.change (p.next r.core.place) op rd imm h)
+  op_comes (instr.Upper op rd imm) item laid h = goes_comes laid.laid (λ y at ready.
+      upper_goes room ready laid.laid.at.size from.step.change (p.next r.core.place) op rd imm h)
   op_comes (instr.Jal rd distance) item laid h = absurd cc
-  op_comes (instr.Jalr rd base imm) item laid h =
-      single_comes room from laid.laid (λ y at al listed.
-      let ready = al.ready in
-      jalr_moves room ready laid.laid.at.size from.step.change (p.next r.core.place) listed rd base imm (sum_word (reg_of r.core base) imm) (leads.next r.core.place (Op (instr.Jalr rd base imm)) item refl)
-      (sum_stands (value_in p (place_address e)) (reg_of r.core base) imm (reg_in y base) (ready.core.words base) (ready.registers base laid.laid.registers.1)) h)
+  op_comes (instr.Jalr rd base imm) item laid h = single_comes room from laid.laid (λ y at al listed.
+      jalr_moves room al.ready laid.laid.at.size from.step.change (p.next r.core.place) listed rd base imm (sum_word (reg_of r.core base) imm)
+      (leads.next r.core.place (Op (instr.Jalr rd base imm)) item refl) (base_sum base imm al.ready laid.laid.registers.1) h)
   op_comes (instr.Branch op first second distance) item laid h = absurd cc
-  op_comes (instr.Load op rd base imm) item laid h =
-      goes_comes laid.laid (λ y at ready. load_goes room ready laid.laid.at.size from.step.change (p.next r.core.place) op rd base imm (sum_word (reg_of r.core base) imm) (sum_stands (value_in p (place_address e)) (reg_of r.core base) imm (reg_in y base) (ready.core.words base) (ready.registers base laid.laid.registers.1)) h)
-  op_comes (instr.Store op source base imm) item laid h =
-      goes_comes laid.laid (λ y at ready. store_goes room ready laid.laid.at.size from.step.change (p.next r.core.place) op source base imm (sum_word (reg_of r.core base) imm) laid.laid.registers.0 (sum_stands (value_in p (place_address e)) (reg_of r.core base) imm (reg_in y base) (ready.core.words base) (ready.registers base laid.laid.registers.1)) h)
-  op_comes (instr.WithImm op rd first imm) item laid h = goes_comes laid.laid (λ y at ready. imm_goes room ready laid.laid.at.size from.step.change (p.next r.core.place) op rd first imm laid.laid.registers.1 h)
-  op_comes (instr.WithReg op rd first second) item laid h = goes_comes laid.laid (λ y at ready. reg_goes room ready laid.laid.at.size from.step.change (p.next r.core.place) op rd first second laid.laid.registers.1 laid.laid.registers.2 h)
+  op_comes (instr.Load op rd base imm) item laid h = goes_comes laid.laid (λ y at ready.
+      load_goes room ready laid.laid.at.size from.step.change (p.next r.core.place) op rd base imm (sum_word (reg_of r.core base) imm)
+      (base_sum base imm ready laid.laid.registers.1) h)
+  op_comes (instr.Store op source base imm) item laid h = goes_comes laid.laid (λ y at ready.
+      store_goes room ready laid.laid.at.size from.step.change (p.next r.core.place) op source base imm (sum_word (reg_of r.core base) imm)
+      laid.laid.registers.0 (base_sum base imm ready laid.laid.registers.1) h)
+  op_comes (instr.WithImm op rd first imm) item laid h = goes_comes laid.laid (λ y at ready.
+      imm_goes room ready laid.laid.at.size from.step.change (p.next r.core.place) op rd first imm laid.laid.registers.1 h)
+  op_comes (instr.WithReg op rd first second) item laid h = goes_comes laid.laid (λ y at ready.
+      reg_goes room ready laid.laid.at.size from.step.change (p.next r.core.place) op rd first second laid.laid.registers.1 laid.laid.registers.2 h)
   op_comes (instr.Fence rest) item laid h = goes_comes laid.laid (λ y at ready. fence_goes room ready laid.laid.at.size from.step.change (p.next r.core.place) rest h)
   op_comes instr.Ecall item laid h = call_comes room from laid h
   op_comes instr.Ebreak item laid h = absurd cc

@@ -27,6 +27,7 @@ pub mod Start
 pub mod Induction
 pub mod Simulation
 pub mod Distinct
+pub mod Elements
 pub mod ProgramLeads
 pub mod ShortForms
 pub mod LinkedWords

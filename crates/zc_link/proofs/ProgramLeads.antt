@@ -1,12 +1,11 @@
 -- The places that the program of objects without a fault names begin basic blocks, or are ends of sections. What an item's relocation
 -- leads to isn't astray, so an item starts there or a section ends; and a place that a relocation, a branch or a jump leads to, or
--- that follows what ends a block, is a leader by definition. What holds of a list's element is shown by its place in the list.
+-- that follows what ends a block, is a leader by definition.
 use Rattle.std.proofs.Common.{◌≡◌, ℕ, ◌+◌, ◌⊎◌, ℤ, pos, List, [], ◌∷◌, ◌++◌, map, Option, Some, None, Bool, true, false, cond, refl, sym, ap, ◌∙◌, subst, inl, inr, eqb}
 use Rattle.std.specs.Prelude.{◌&&◌, ◌||◌, not}
-use Rattle.std.specs.List.{find, flat_map, list_any}
+use Rattle.std.specs.List.{flat_map, list_any}
 use Rattle.std.specs.Option.{option_and_then, option_map, option_map_or}
-use Rattle.std.proofs.lemmas.Bool.{and_from, eqb-true, not-false, or_cases, or_left, or_right}
-use Rattle.std.proofs.lemmas.List.Folds.{list_any-append}
+use Rattle.std.proofs.lemmas.Bool.{and_from, not-false, or_cases, or_left, or_right}
 use Rattle.zc_base.specs.Fields.{word_in}
 use Rattle.zc_base.specs.Places.{same_place}
 use Rattle.zc_base.specs.declared.place.Place.{Place}
@@ -37,59 +36,11 @@ use Rattle.block_cut.proofs.PlainLaws.{next_start}
 use Rattle.block_cut.proofs.SoundLaws.{sound_at}
 use Rattle.block_cut.proofs.WholeLaws.{code_is_section}
 use Rattle.sym_machine.specs.Objects.{program_of}
+use Rattle.sym_machine.specs.Program.{Program}
 use Rattle.zc_link.specs.Leads.{Leads, NamesItem, NamesTarget}
 use Rattle.zc_link.specs.Sound.{IsNamed}
+use Rattle.zc_link.proofs.Elements.{any_flat, any_found, any_offset, any_there, none_first, none_found, none_there}
 use Rattle.zc_link.proofs.PlaceLaws.{same_place-refl}
-
--- ---- elements of lists
-
--- an element between others passes, so some element does
-any_there : {X : Type 0} (p : X → Bool) (before rest : List X) (x : X) → p x ≡ true → list_any p (before ++ x ∷ rest) ≡ true
-any_there p before rest x h = list_any-append p before (x ∷ rest) ∙ or_right (list_any p before) (p x || list_any p rest) (or_left (p x) (list_any p rest) h)
-
--- if none of a list gives anything, none between others does
-none_first : {A : Type 0} (o : Option A) (os : List (Option A)) → first_some (o ∷ os) ≡ None → (o ≡ None) × (first_some os ≡ None)
-none_first None os h = (refl, h)
-none_first (Some a) os h = absurd cc
-
-none_there : {X A : Type 0} (f : X → Option A) (before rest : List X) (x : X) → first_some (map f (before ++ x ∷ rest)) ≡ None → f x ≡ None
-none_there f [] rest x h = (none_first (f x) (map f rest) h).0
-none_there f (y ∷ ys) rest x h = none_there f ys rest x (none_first (f y) (map f (ys ++ x ∷ rest)) h).1
-
--- what a search finds is an element
-module _ {X : Type 0} (p : X → Bool) where
-  any_found : (q : X → Bool) (xs : List X) (x : X) → find p xs ≡ Some x → q x ≡ true → list_any q xs ≡ true
-  any_found q [] x h passes = absurd cc
-  any_found q (y ∷ ys) x h passes = by (p y) h (λ g. any_found q ys x g passes)
-    where
-      by : (b : Bool) → cond b (Some y) (find p ys) ≡ Some x → (find p ys ≡ Some x → list_any q ys ≡ true) → (q y || list_any q ys) ≡ true
-      by true g rest = let same : y ≡ x = cc in or_left (q y) (list_any q ys) (ap q same ∙ passes)
-      by false g rest = or_right (q y) (list_any q ys) (rest g)
-
-  none_found : {A : Type 0} (f : X → Option A) (xs : List X) (x : X) → find p xs ≡ Some x → first_some (map f xs) ≡ None → f x ≡ None
-  none_found f [] x h none = absurd cc
-  none_found f (y ∷ ys) x h none =
-      let parts = none_first (f y) (map f ys) none in
-      by (p y) h parts.0 (λ g. none_found f ys x g parts.1)
-    where
-      by : (b : Bool) → cond b (Some y) (find p ys) ≡ Some x → f y ≡ None → (find p ys ≡ Some x → f x ≡ None) → f x ≡ None
-      by true g here rest = let same : y ≡ x = cc in ap f (sym same) ∙ here
-      by false g here rest = rest g
-
--- an offset is one of a list
-any_offset : {X : Type 0} (p : X → Bool) (f : ℕ → X) (ns : List ℕ) (n : ℕ) → list_any (λ m. eqb m n) ns ≡ true → p (f n) ≡ true → list_any p (map f ns) ≡ true
-any_offset p f [] n among h = absurd cc
-any_offset p f (m ∷ ms) n among h = by (or_cases (eqb m n) (list_any (λ k. eqb k n) ms) among) (λ later. any_offset p f ms n later h)
-  where
-    by : (eqb m n ≡ true) ⊎ (list_any (λ k. eqb k n) ms ≡ true) → (list_any (λ k. eqb k n) ms ≡ true → list_any p (map f ms) ≡ true) → (p (f m) || list_any p (map f ms)) ≡ true
-    by (inl here) rest = or_left (p (f m)) (list_any p (map f ms)) (ap (λ k. p (f k)) (eqb-true m n here) ∙ h)
-    by (inr later) rest = or_right (p (f m)) (list_any p (map f ms)) (rest later)
-
--- an element of one of the lists
-any_flat : {X Y : Type 0} (p : Y → Bool) (f : X → List Y) (before rest : List X) (x : X) → list_any p (f x) ≡ true → list_any p (flat_map f (before ++ x ∷ rest)) ≡ true
-any_flat p f [] rest x h = list_any-append p (f x) (flat_map f rest) ∙ or_left (list_any p (f x)) (list_any p (flat_map f rest)) h
-any_flat p f (y ∷ ys) rest x h =
-    list_any-append p (f y) (flat_map f (ys ++ x ∷ rest)) ∙ or_right (list_any p (f y)) (list_any p (flat_map f (ys ++ x ∷ rest))) (any_flat p f ys rest x h)
 
 -- ---- faults
 
@@ -129,21 +80,24 @@ module _ (inputs : Inputs) (none : first_fault inputs ≡ None) where
   abbrev objects : List ObjectParts
   objects = (parsed inputs).objects
 
+  abbrev program : Program
+  program = program_of (parsed inputs)
+
   fine : Faultless inputs
   fine = faultless inputs none
 
   -- ---- places that are named
 
   -- a target that is a leader
-  named : (to : Place) → is_target_at objects to ≡ true → is_leader_at (parsed inputs) to ≡ true → IsNamed (program_of (parsed inputs)) to
+  named : (to : Place) → is_target_at objects to ≡ true → is_leader_at (parsed inputs) to ≡ true → IsNamed program to
   unfolding program_of
   named to target leader = by (or_cases (is_start_at objects to) (is_end_at objects to) target)
     where
-      starts : (o : Option SectionParts) → code_at objects to ≡ o → option_map_or (λ s. starts_on s to.offset) o false ≡ true → IsNamed (program_of (parsed inputs)) to
+      starts : (o : Option SectionParts) → code_at objects to ≡ o → option_map_or (λ s. starts_on s to.offset) o false ≡ true → IsNamed program to
       starts None at h = absurd cc
       starts (Some s) at h = inl (rw (item_there (parsed inputs) to s at h) refl, rw leader refl)
 
-      by : (is_start_at objects to ≡ true) ⊎ (is_end_at objects to ≡ true) → IsNamed (program_of (parsed inputs)) to
+      by : (is_start_at objects to ≡ true) ⊎ (is_end_at objects to ≡ true) → IsNamed program to
       by (inl start) = starts (code_at objects to) refl start
       by (inr end) = inr (rw end refl)
 
@@ -202,11 +156,11 @@ module _ (inputs : Inputs) (none : first_fault inputs ≡ None) where
 
   reloc_named :
       (q to : Place) (s : SectionParts) (r : Reloc) → code_at objects q ≡ Some s → reloc_on s q.offset ≡ Some r → is_ignored (kind_of r.kind) ≡ false
-      → target_of (parsed inputs) q.object r ≡ Code to → IsNamed (program_of (parsed inputs)) to
+      → target_of (parsed inputs) q.object r ≡ Code to → IsNamed program to
   reloc_named q to s r at found asks leads = named to (reloc_target q to s r at found asks leads) (reloc_leader q to s r at found asks leads)
 
   -- a target whose place is named, if it has one
-  target_named : (t : Target) → ((to : Place) → t ≡ Code to → IsNamed (program_of (parsed inputs)) to) → NamesTarget (program_of (parsed inputs)) t
+  target_named : (t : Target) → ((to : Place) → t ≡ Code to → IsNamed program to) → NamesTarget program t
   target_named (Code to) place = place to refl
   target_named (Number n) place = tt
   target_named (Absent n) place = tt
@@ -214,26 +168,26 @@ module _ (inputs : Inputs) (none : first_fault inputs ≡ None) where
 
   -- items of an instruction, and items that go to a place
   instr_named :
-      (o : Option Instr) (word : ℕ) (f : Instr → Item) → ((i : Instr) → NamesItem (program_of (parsed inputs)) (f i)) → NamesItem (program_of (parsed inputs)) (of_instr o word f)
+      (o : Option Instr) (word : ℕ) (f : Instr → Item) → ((i : Instr) → NamesItem program (f i)) → NamesItem program (of_instr o word f)
   instr_named None word f each = tt
   instr_named (Some i) word f each = each i
 
   place_named :
-      (t : Target) (f : Place → Item) (other : Item) → ((to : Place) → t ≡ Code to → NamesItem (program_of (parsed inputs)) (f to))
-      → NamesItem (program_of (parsed inputs)) other → NamesItem (program_of (parsed inputs)) (to_place t f other)
+      (t : Target) (f : Place → Item) (other : Item) → ((to : Place) → t ≡ Code to → NamesItem program (f to))
+      → NamesItem program other → NamesItem program (to_place t f other)
   place_named (Code to) f other place stays = place to refl
   place_named (Number n) f other place stays = stays
   place_named (Absent n) f other place stays = stays
   place_named Nowhere f other place stays = stays
 
-  call_named : (first second : Option Instr) (one two : ℕ) (to : Place) → IsNamed (program_of (parsed inputs)) to → NamesItem (program_of (parsed inputs)) (call_item first second (RawPair one two) to)
+  call_named : (first second : Option Instr) (one two : ℕ) (to : Place) → IsNamed program to → NamesItem program (call_item first second (RawPair one two) to)
   call_named (Some (instr.Upper op temp upper)) (Some (instr.Jalr rd base lower)) one two to is = is
   call_named first second one two to is = tt
 
   -- by the relocation's kind
   kind_named :
-      (k : Option Kind) (addend : ℤ) (t : Target) (word second : ℕ) → ((to : Place) → t ≡ Code to → IsNamed (program_of (parsed inputs)) to)
-      → NamesItem (program_of (parsed inputs)) (known_item k addend t word second)
+      (k : Option Kind) (addend : ℤ) (t : Target) (word second : ℕ) → ((to : Place) → t ≡ Code to → IsNamed program to)
+      → NamesItem program (known_item k addend t word second)
   kind_named None addend t word second place = tt
   kind_named (Some kind.Ignored) addend t word second place = tt
   kind_named (Some kind.Word) addend t word second place = tt
@@ -264,17 +218,17 @@ module _ (inputs : Inputs) (none : first_fault inputs ≡ None) where
       by (Some p) g = only p (is_target_at objects p) refl g
 
   -- where the item at a place goes, if code may lead there
-  going_named : (q to : Place) (i : Item) → item_at (parsed inputs) q ≡ Some i → goes_to to i ≡ true → is_target_at objects to ≡ true → IsNamed (program_of (parsed inputs)) to
+  going_named : (q to : Place) (i : Item) → item_at (parsed inputs) q ≡ Some i → goes_to to i ≡ true → is_target_at objects to ≡ true → IsNamed program to
   going_named q to i is goes target = named to target (item_leader q to i is (or_left (goes_to to i) _ goes))
 
   instr_item_named :
-      (q : Place) (i : Instr) (word : ℕ) → item_at (parsed inputs) q ≡ Some (instr_item objects q i word) → NamesItem (program_of (parsed inputs)) (instr_item objects q i word)
+      (q : Place) (i : Instr) (word : ℕ) → item_at (parsed inputs) q ≡ Some (instr_item objects q i word) → NamesItem program (instr_item objects q i word)
   instr_item_named q (instr.Upper op rd imm) word is = tt
   instr_item_named q (instr.Jal rd distance) word is = by (target_away objects q distance) refl is
     where
       by :
           (o : Option Place) → target_away objects q distance ≡ o → item_at (parsed inputs) q ≡ Some (option_map_or (Jump (instr.Jal rd (pos 0))) o (Raw word))
-          → NamesItem (program_of (parsed inputs)) (option_map_or (Jump (instr.Jal rd (pos 0))) o (Raw word))
+          → NamesItem program (option_map_or (Jump (instr.Jal rd (pos 0))) o (Raw word))
       by None away here = tt
       by (Some to) away here = going_named q to (Jump (instr.Jal rd (pos 0)) to) here (same_place-refl to) (away_target q to distance away)
   instr_item_named q (instr.Jalr rd base imm) word is = tt
@@ -283,7 +237,7 @@ module _ (inputs : Inputs) (none : first_fault inputs ≡ None) where
       by :
           (o : Option Place) → target_away objects q distance ≡ o
           → item_at (parsed inputs) q ≡ Some (option_map_or (Branch (instr.Branch op first second (pos 0))) o (Raw word))
-          → NamesItem (program_of (parsed inputs)) (option_map_or (Branch (instr.Branch op first second (pos 0))) o (Raw word))
+          → NamesItem program (option_map_or (Branch (instr.Branch op first second (pos 0))) o (Raw word))
       by None away here = tt
       by (Some to) away here = going_named q to (Branch (instr.Branch op first second (pos 0)) to) here (same_place-refl to) (away_target q to distance away)
   instr_item_named q (instr.Load op rd base imm) word is = tt
@@ -295,36 +249,36 @@ module _ (inputs : Inputs) (none : first_fault inputs ≡ None) where
   instr_item_named q instr.Ebreak word is = tt
   instr_item_named q (instr.Csrrw rd source) word is = tt
 
-  word_named : (q : Place) (o : Option Instr) (word : ℕ) → item_at (parsed inputs) q ≡ Some (spelled objects q o word) → NamesItem (program_of (parsed inputs)) (spelled objects q o word)
+  word_named : (q : Place) (o : Option Instr) (word : ℕ) → item_at (parsed inputs) q ≡ Some (spelled objects q o word) → NamesItem program (spelled objects q o word)
   word_named q None word is = tt
   word_named q (Some i) word is = instr_item_named q i word is
 
   -- ---- all items
 
-  item_named : (q : Place) (i : Item) → item_at (parsed inputs) q ≡ Some i → NamesItem (program_of (parsed inputs)) i
+  item_named : (q : Place) (i : Item) → item_at (parsed inputs) q ≡ Some i → NamesItem program i
   item_named q i is =
       let found = item_found (parsed inputs) q i is in
       let s = found.section in
-      subst (NamesItem (program_of (parsed inputs))) found.item (by s found.code (reloc_on s q.offset) refl (is ∙ ap Some (sym found.item)))
+      subst (NamesItem program) found.item (by s found.code (reloc_on s q.offset) refl (is ∙ ap Some (sym found.item)))
     where
       by :
           (s : SectionParts) → code_at objects q ≡ Some s → (o : Option Reloc) → reloc_on s q.offset ≡ o
           → item_at (parsed inputs) q ≡ Some (item_under (parsed inputs) q (reloc_on s q.offset) (word_in s.bytes q.offset) (word_in s.bytes (q.offset + 4)))
-          → NamesItem (program_of (parsed inputs)) (item_under (parsed inputs) q (reloc_on s q.offset) (word_in s.bytes q.offset) (word_in s.bytes (q.offset + 4)))
+          → NamesItem program (item_under (parsed inputs) q (reloc_on s q.offset) (word_in s.bytes q.offset) (word_in s.bytes (q.offset + 4)))
       by s at None on here =
           let word = word_in s.bytes q.offset in
           let second = word_in s.bytes (q.offset + 4) in
-          subst (λ o. NamesItem (program_of (parsed inputs)) (item_under (parsed inputs) q o word second)) (sym on)
+          subst (λ o. NamesItem program (item_under (parsed inputs) q o word second)) (sym on)
           (word_named q (decoded word) word (here ∙ ap (λ o. Some (item_under (parsed inputs) q o word second)) on))
       by s at (Some r) on here =
           let word = word_in s.bytes q.offset in
           let second = word_in s.bytes (q.offset + 4) in
           let asks = (sound_at s q.offset r (code_is_section objects q s at).1 on).asks in
-          subst (λ o. NamesItem (program_of (parsed inputs)) (item_under (parsed inputs) q o word second)) (sym on)
+          subst (λ o. NamesItem program (item_under (parsed inputs) q o word second)) (sym on)
           (kind_named (kind_of r.kind) r.addend (target_of (parsed inputs) q.object r) word second (λ to leads. reloc_named q to s r at on asks leads))
 
   -- the place after what ends a block
-  after_named : (q : Place) (i : Item) → item_at (parsed inputs) q ≡ Some i → ends_block i ≡ true → IsNamed (program_of (parsed inputs)) (next_at objects q)
+  after_named : (q : Place) (i : Item) → item_at (parsed inputs) q ≡ Some i → ends_block i ≡ true → IsNamed program (next_at objects q)
   after_named q i is ends =
       let next = next_at objects q in
       let leads : (goes_to next i || (ends_block i && same_place next next)) ≡ true =
@@ -335,6 +289,6 @@ module _ (inputs : Inputs) (none : first_fault inputs ≡ None) where
       target (inl start) = or_left (is_start_at objects (next_at objects q)) _ start
       target (inr end) = or_right (is_start_at objects (next_at objects q)) _ end
 
-  pub leads_faultless : Leads (program_of (parsed inputs))
+  pub leads_faultless : Leads program
   unfolding program_of
   leads_faultless = record { item = item_named; next = after_named }
