@@ -34,6 +34,8 @@ pub mod LinkedWords
 pub mod WordLaws
 pub mod FaultLaws
 pub mod SectionLaws
+pub mod ListedLaws
+pub mod StraightStarts
 pub mod StraightPieces
 pub mod StraightSections
 pub mod StraightPlaces
@@ -45,4 +47,6 @@ pub mod StraightObjects
 pub mod StraightItems
 pub mod StraightSmall
 pub mod StraightLoop
+pub mod StraightStill
+pub mod StraightCounts
 pub mod StraightLinked

@@ -1,8 +1,8 @@
 -- The items of objects that are linked: at each word of code stands its instruction, at a section's end nothing, and the program
 -- starts at one of these words.
-use Rattle.std.proofs.Common.{◌≡◌, ℕ, ◌*◌, ◌/◌, ◌%◌, ◌^◌, ◌<◌, ◌≤◌, List, length, Bool, true, false, cond, Option, Some, None, refl, sym, ap, ◌∙◌, subst, arith, get_or, eqb, ltb, slice_get}
+use Rattle.std.proofs.Common.{◌≡◌, ℕ, ◌+◌, ◌*◌, ◌/◌, ◌%◌, ◌^◌, ◌<◌, ◌≤◌, List, length, Bool, true, false, cond, Option, Some, None, refl, sym, ap, ◌∙◌, subst, arith, get_or, slice_get}
 use Rattle.std.specs.Option.{option_and_then, option_map_or}
-use Rattle.std.proofs.lemmas.Bool.{and_from, and_parts, and_right, eq-eqb, eqb-true, false≢true, le-ltb, lt-ltb, ltb-true}
+use Rattle.std.proofs.lemmas.Bool.{false≢true}
 use Rattle.std.proofs.lemmas.Option.{slice_get-get_or}
 use Rattle.zc_base.specs.Fields.{word_in}
 use Rattle.zc_base.specs.declared.place.Place.{Place}
@@ -17,17 +17,15 @@ use Rattle.psabi_sym.specs.declared.target.Target.TheVariants.{Code, Number, Abs
 use Rattle.rv_decode.specs.declared.instr.Instr.{Instr}
 use Rattle.rv_decode.specs.declared.instr.Instr.TheVariants.{Upper, Jal, Jalr, Branch, Load, Store, WithImm, WithReg, Fence, Ecall, Ebreak, Csrrw}
 use Rattle.block_cut.specs.declared.item.Item.TheVariants.{Op}
-use Rattle.block_cut.specs.Items.{code_at, code_only, entry_in, entry_of, instr_item, is_start_at, item_at, item_in, item_of, spelled, start_only, starts_at}
-use Rattle.block_cut.proofs.FaultLaws.{entry_is}
-use Rattle.block_cut.proofs.ItemLaws.{item_at-code}
-use Rattle.block_cut.proofs.StartLaws.{starts_at-offset}
+use Rattle.block_cut.specs.Items.{code_at, code_only, entry_in, entry_of, instr_item, is_start_at, item_at, item_from, item_of, item_under, next_at, size_on, spelled, start_only, starts_on}
 use Rattle.block_cut.proofs.WholeLaws.{code_is_section, inputs_whole}
 use Rattle.sym_machine.specs.Objects.{program_of}
-use Rattle.zc_link.specs.Faults.{is_linked, is_unlinked_word, unlinked_fault}
+use Rattle.zc_link.specs.Faults.{is_linked, is_relocated, is_unlinked_word, unlinked_fault}
 use Rattle.zc_link.specs.Straight.{all_words, code_sections, place_in, words_in}
-use Rattle.zc_link.proofs.FaultLaws.{any_none, linked_object, linked_words}
+use Rattle.zc_link.proofs.FaultLaws.{any_none, entry_is, linked_object, linked_words}
 use Rattle.zc_link.proofs.LinkedWords.{linked_word}
 use Rattle.zc_link.proofs.StraightLaid.{AreItems, IsPlaced, IsWordItem}
+use Rattle.zc_link.proofs.StraightStarts.{end_starts_none, four, no_reloc, started, word_starts}
 use Rattle.zc_link.proofs.StraightObjects.{IsCodeOf, among_all, code_among, codes_are}
 use Rattle.zc_link.proofs.WordLaws.{get_or-words_in, length-words_in}
 
@@ -54,7 +52,7 @@ module _ (inputs : Inputs) (none : gather_fault inputs ≡ None) (linked : unlin
 
   -- the item of a word in a section of code
   abbrev ItemAt : (o i offset : ℕ) → ℕ → Type 0
-  ItemAt o i offset w = IsWordItem (item_at objects (record { object = o; section = i; offset = offset })) w
+  ItemAt o i offset w = IsWordItem (item_at (parsed inputs) (record { object = o; section = i; offset = offset })) w
 
   module _ (o i : ℕ) (object : ObjectParts) (s : SectionParts) (at : slice_get objects o ≡ Some object) (is : slice_get object.sections i ≡ Some s) (code : is_code_section s ≡ true) where
     abbrev place : ℕ → Place
@@ -69,6 +67,16 @@ module _ (inputs : Inputs) (none : gather_fault inputs ≡ None) (linked : unlin
     whole : length s.bytes % 4 ≡ 0
     whole = (inputs_whole inputs o i s none found code).words
 
+    still : is_relocated s ≡ false
+    still = (linked_object objects o object linked at).still i s is
+
+    -- the item at an offset is that of the word there, if one starts there
+    item_here : (offset : ℕ) → item_at (parsed inputs) (place offset) ≡ cond (starts_on s offset) (Some (item_of objects (place offset) (word_in s.bytes offset))) None
+    unfolding item_at
+    item_here offset =
+        ap (option_and_then (item_from (parsed inputs) (place offset))) (here offset)
+        ∙ ap (λ r. cond (starts_on s offset) (Some (item_under (parsed inputs) (place offset) r (word_in s.bytes offset) (word_in s.bytes (offset + 4)))) None) (no_reloc s still offset)
+
     -- the k-th word is linked
     word_linked : (k : ℕ) → k < length (words_in s.bytes) → is_unlinked_word (get_or (words_in s.bytes) k 0) ≡ false
     word_linked k lt =
@@ -81,39 +89,51 @@ module _ (inputs : Inputs) (none : gather_fault inputs ≡ None) (linked : unlin
         let w = get_or (words_in s.bytes) k 0 in
         let known = linked_word w (word_linked k lt) in
         let inside : 4 * k < length s.bytes = omega (arith, lt, length-words_in s.bytes) in
-        let starts : starts_at objects q s ≡ true =
-        starts_at-offset objects s q whole ∙ and_from (eqb (4 * k % 4) 0) (ltb (4 * k) (length s.bytes)) (eq-eqb (4 * k % 4) 0 (omega arith)) (lt-ltb (4 * k) (length s.bytes) inside) in
         let word : word_in s.bytes (4 * k) ≡ w = sym (get_or-words_in s.bytes k (omega (arith, lt, length-words_in s.bytes))) in
         record {
           instr = known.instr;
-          is = item_at-code objects q s (here (4 * k)) ∙ ap (λ b. cond b (Some (item_in objects s q)) None) starts
+          is = item_here (4 * k) ∙ ap (λ b. cond b (Some (item_of objects q (word_in s.bytes (4 * k)))) None) (word_starts s still whole k inside)
               ∙ ap (λ v. Some (item_of objects q v)) word ∙ ap (λ d. Some (spelled objects q d w)) known.spells ∙ ap Some (linked_item objects q known.instr w known.linked);
           spells = known.spells;
           linked = known.linked;
         }
 
     -- at the end stands none
-    pub no_item : item_at objects (place (4 * length (words_in s.bytes))) ≡ None
+    pub no_item : item_at (parsed inputs) (place (4 * length (words_in s.bytes))) ≡ None
     no_item =
         let n = 4 * length (words_in s.bytes) in
         let past : length s.bytes ≤ n = omega (arith, length-words_in s.bytes, whole) in
-        let none_starts : starts_at objects (place n) s ≡ false =
-        starts_at-offset objects s (place n) whole ∙ and_right (eqb (n % 4) 0) (ltb n (length s.bytes)) (le-ltb n (length s.bytes) past) in
-        item_at-code objects (place n) s (here n) ∙ ap (λ b. cond b (Some (item_in objects s (place n))) None) none_starts
+        item_here n ∙ ap (λ b. cond b (Some (item_of objects (place n) (word_in s.bytes n))) None) (end_starts_none s still whole n past)
+
+  -- each item has four bytes, so the next place is four on
+  next_on : (q : Place) (o : Option SectionParts) → code_at objects q ≡ o → option_map_or (λ s. size_on s q.offset) o 4 ≡ 4
+  next_on q None at = refl
+  next_on q (Some s) at =
+      let section = code_is_section objects q s at in
+      of_object (slice_get objects q.object) refl section.0
+    where
+      of_object : (o : Option ObjectParts) → slice_get objects q.object ≡ o → section_at objects q.object q.section ≡ Some s → size_on s q.offset ≡ 4
+      of_object None is there = absurd (let e = ap (option_and_then (λ (x : ObjectParts). slice_get x.sections q.section)) is in cc)
+      of_object (Some object) is there =
+          let own : slice_get object.sections q.section ≡ Some s = sym (ap (option_and_then (λ (x : ObjectParts). slice_get x.sections q.section)) is) ∙ there in
+          four s ((linked_object objects q.object object linked is).still q.section s own) q.offset
+
+  next_is : (q : Place) → next_at objects q ≡ record q { offset = q.offset + 4 }
+  next_is q = ap (λ n. record q { offset = q.offset + n }) (next_on q (code_at objects q) refl)
 
   -- ---- the program's items
 
   pub are_items : ((k : ℕ) → get_or (all_words (code_sections objects)) k 0 < 2 ^ 32) → AreItems (program_of (parsed inputs)) (code_sections objects)
   unfolding program_of
   are_items small = record {
-    next = λ q. refl;
+    next = next_is;
     word = λ c before k among lt.
         let of = among_all (IsCodeOf objects) (code_sections objects) c before (codes_are objects) among in
         let inside : k < length (words_in of.section.bytes) = omega (arith, lt, ap length of.words) in
-        subst (λ ws. IsWordItem (item_at objects (place_in c (4 * k))) (get_or ws k 0)) (sym of.words) (word_item c.object c.index of.object of.section of.object_at of.section_is of.code k inside);
+        subst (λ ws. IsWordItem (item_at (parsed inputs) (place_in c (4 * k))) (get_or ws k 0)) (sym of.words) (word_item c.object c.index of.object of.section of.object_at of.section_is of.code k inside);
     end = λ c before among.
         let of = among_all (IsCodeOf objects) (code_sections objects) c before (codes_are objects) among in
-        ap (λ ws. item_at objects (place_in c (4 * length ws))) of.words ∙ no_item c.object c.index of.object of.section of.object_at of.section_is of.code;
+        ap (λ ws. item_at (parsed inputs) (place_in c (4 * length ws))) of.words ∙ no_item c.object c.index of.object of.section of.object_at of.section_is of.code;
     small = small;
   }
 
@@ -134,7 +154,7 @@ module _ (inputs : Inputs) (none : gather_fault inputs ≡ None) (linked : unlin
   placed : (p : Place) → is_start_at objects p ≡ true → IsPlaced (code_sections objects) p
   placed p starts = by (code_at objects p) refl starts
     where
-      by : (o : Option SectionParts) → code_at objects p ≡ o → option_map_or (starts_at objects p) o false ≡ true → IsPlaced (code_sections objects) p
+      by : (o : Option SectionParts) → code_at objects p ≡ o → option_map_or (λ s. starts_on s p.offset) o false ≡ true → IsPlaced (code_sections objects) p
       by None at h = absurd (false≢true h)
       by (Some s) at h =
           let section = code_is_section objects p s at in
@@ -142,14 +162,16 @@ module _ (inputs : Inputs) (none : gather_fault inputs ≡ None) (linked : unlin
         where
           of_object :
               (o : Option ObjectParts) → slice_get objects p.object ≡ o → (s : SectionParts) → section_at objects p.object p.section ≡ Some s → is_code_section s ≡ true
-              → starts_at objects p s ≡ true → IsPlaced (code_sections objects) p
+              → starts_on s p.offset ≡ true → IsPlaced (code_sections objects) p
           of_object None is s there code h = absurd (let e = ap (option_and_then (λ (x : ObjectParts). slice_get x.sections p.section)) is in cc)
           of_object (Some object) is s there code h =
               let own : slice_get object.sections p.section ≡ Some s = sym (ap (option_and_then (λ (x : ObjectParts). slice_get x.sections p.section)) is) ∙ there in
               let among = code_among objects p.object p.section object s is own code in
-              let tests = and_parts (eqb (p.offset % 4) 0) (ltb p.offset (length s.bytes)) (sym (starts_at-offset objects s p (inputs_whole inputs p.object p.section s none there code).words) ∙ h) in
-              let word = eqb-true (p.offset % 4) 0 tests.0 in
-              let inside = ltb-true p.offset (length s.bytes) tests.1 in
+              let still = (linked_object objects p.object object linked is).still p.section s own in
+              let words = (inputs_whole inputs p.object p.section s none there code).words in
+              let test = started s still words p.offset h in
+              let word = test.0 in
+              let inside = test.1 in
               let at : p.offset ≡ 4 * (p.offset / 4) = omega (arith, word) in
               record {
                 section = record { object = p.object; index = p.section; words = words_in s.bytes };

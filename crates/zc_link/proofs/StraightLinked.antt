@@ -1,8 +1,10 @@
 -- The link of straight code: its file reads back as the image of the code's words and the data, which is laid as a layout owes; so
 -- it keeps step with the objects' program, and does what the program does.
 use Rattle.std.proofs.Common.{◌≡◌, ℕ, ◌+◌, ◌-◌, ◌^◌, ◌<◌, ◌≤◌, List, [], ◌∷◌, ◌++◌, length, map, filter, replicate, Some, None, true, refl, sym, ap, ◌∙◌, subst, arith, get_or}
+use Rattle.std.specs.List.{fold}
 use Rattle.std.specs.Option.{option_and_then, unwrap_or}
 use Rattle.zc_base.specs.MemMap.{IsMap}
+use Rattle.elf32_read.specs.Places.{places_of}
 use Rattle.elf32_read.specs.Segments.{SegmentData}
 use Rattle.elf32_write.specs.Image.{Fits, image_bytes}
 use Rattle.elf32_write.specs.Loadable.{ReadsBack}
@@ -15,17 +17,18 @@ use Rattle.psabi_sym.specs.Inputs.{Inputs, ParsedInputs, parsed}
 use Rattle.psabi_sym.proofs.ContentLaws.{data_file_end-le, data_low-le, length-data_contents}
 use Rattle.block_cut.specs.Faults.{first_fault}
 use Rattle.block_cut.specs.Items.{entry_of}
-use Rattle.block_cut.proofs.FaultLaws.{IsFaultless, faultless}
-use Rattle.sym_machine.specs.Objects.{data_bytes, program_of}
+use Rattle.block_cut.specs.PlainLayout.{plain_counts}
+use Rattle.sym_machine.specs.Objects.{data_bytes, program_of, unfilled_bytes, with_word}
 use Rattle.sym_machine.specs.Program.{Program}
 use Rattle.sym_machine.specs.declared.word.SymByte.TheVariants.{Num}
 use Rattle.zc_link.specs.Faults.{unlinked_fault}
 use Rattle.zc_link.specs.Image.{Image, image_in, image_unless}
-use Rattle.zc_link.specs.Linked.{IsZcLink, TextEnds, code_of, listed_places, straight_parts, zc_elf}
+use Rattle.zc_link.specs.Linked.{IsZcLink, Link, TextEnds, code_of, listed_places, straight_parts, zc_counts, zc_elf}
 use Rattle.zc_link.specs.Places.{address_in}
-use Rattle.zc_link.specs.Preserves.{KeepsStep}
+use Rattle.zc_link.specs.Preserves.{KeepsStep, Preserves, PreservesQuietly}
 use Rattle.zc_link.specs.Simulates.{pace_of}
 use Rattle.zc_link.specs.Straight.{CodeSection, all_words, code_size, last_end, text_of}
+use Rattle.zc_link.proofs.FaultLaws.{IsFaultless, faultless}
 use Rattle.zc_link.proofs.Induction.{preserves, quietly}
 use Rattle.zc_link.proofs.Simulation.{simulates}
 use Rattle.zc_link.proofs.StraightItems.{are_items, entry_placed}
@@ -35,6 +38,7 @@ use Rattle.zc_link.proofs.StraightParts.{AreSmall, fits, image_with, length-text
 use Rattle.zc_link.proofs.StraightPlaces.{address_found, last_found}
 use Rattle.zc_link.proofs.StraightSections.{Among}
 use Rattle.zc_link.proofs.StraightSmall.{code_small, codes_room}
+use Rattle.zc_link.proofs.StraightStill.{all_still, no_data_words}
 
 -- all data has 4 MiB at most
 abbrev pub HasDataRoom : ParsedInputs → Type 0
@@ -94,9 +98,10 @@ module _ (inputs : Inputs) (is : IsLinkable inputs) where
   entry : IsPlaced sections (entry_of p)
   entry = entry_placed inputs cut.gathered is.linked cut.entry cut.entry_found
 
+  -- no word of data holds an address
   bytes_are : program.bytes ≡ map Num (data_contents p ++ replicate (zeros p) 0)
   unfolding program_of data_bytes
-  bytes_are = refl
+  bytes_are = ap (fold (with_word p) (unfilled_bytes p)) (no_data_words p (all_still inputs cut.gathered is.linked))
 
   -- the address of the program's start is listed
   start : ℕ
@@ -149,19 +154,22 @@ module _ (inputs : Inputs) (is : IsLinkable inputs) where
         short = length-text_of (all_words sections);
       }
 
-  linked_whole : IsZcLink inputs (record { elf = zc_elf inputs })
-  linked_whole =
+  -- the link with this file and these counts
+  linked_whole : (link : Link) → link.elf ≡ zc_elf inputs → link.plain ≡ plain_counts p → link.zc ≡ zc_counts p → IsZcLink inputs link
+  linked_whole link written plain zc =
       let does = preserves inputs (zc_elf inputs) keeps_step in
       record {
-        bytes = refl;
-        preserves = does;
-        quietly = quietly inputs (zc_elf inputs) does;
-        keeps_step = keeps_step;
-        places = back.places;
-        text_end = text_end;
+        bytes = written;
+        preserves = subst (Preserves inputs) (sym written) does;
+        quietly = subst (PreservesQuietly inputs) (sym written) (quietly inputs (zc_elf inputs) does);
+        keeps_step = subst (KeepsStep inputs) (sym written) keeps_step;
+        places = ap places_of written ∙ back.places;
+        text_end = subst (λ l. TextEnds inputs.map l (last_end sections) (code_size sections)) (sym written) text_end;
+        plain = plain;
+        zc = zc;
       }
 
-  -- the file of these parts is the link
-  pub linked : (elf : List ℕ) → elf ≡ image_bytes (straight_parts p) → IsZcLink inputs (record { elf = elf })
+  -- the file of these parts is the link's
+  pub linked : (link : Link) → link.elf ≡ image_bytes (straight_parts p) → link.plain ≡ plain_counts p → link.zc ≡ zc_counts p → IsZcLink inputs link
   unfolding zc_elf
-  linked elf written = subst (λ l. IsZcLink inputs (record { elf = l })) (sym written) linked_whole
+  linked link written plain zc = linked_whole link written plain zc

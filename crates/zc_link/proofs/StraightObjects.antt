@@ -9,13 +9,10 @@ use Rattle.std.proofs.lemmas.List.Elements.{All-append, All-cons, All-head, All-
 use Rattle.elf32_read.specs.Parts.{ObjectParts, SectionParts, is_code_section}
 use Rattle.psabi_sym.specs.Listed.{ListedSection, all_sections, section_at, sections_in}
 use Rattle.zc_link.specs.Straight.{CodeSection, all_words, code_in, code_sections, is_listed_code, listed_code, words_in}
+use Rattle.zc_link.proofs.ListedLaws.{listed_at}
 use Rattle.zc_link.proofs.StraightSections.{Among, IsBefore, IsRising}
 
 -- ---- an object's own
-
--- a section of an object, with its index
-abbrev pub listed_at : ℕ → ℕ × SectionParts → ListedSection
-listed_at o s = record { object = o; index = s.0; section = s.1 }
 
 -- those of sections that are numbered from here on
 abbrev pub code_from : ℕ → ℕ → List SectionParts → List CodeSection

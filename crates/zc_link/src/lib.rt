@@ -4,6 +4,7 @@
 pub mod link_zc;
 pub mod linked;
 mod listed;
+mod relocs;
 mod short_form;
 mod straight;
 mod unlinked;

@@ -8,7 +8,6 @@ ghost use Rattle.elf32_read.specs.Header.{section_count};
 ghost use Rattle.elf32_read.specs.Parts.{object_parts, section_parts};
 ghost use Rattle.psabi_sym.specs.Inputs.{parsed};
 ghost use Rattle.rv_decode.specs.Decode.{decoded};
-ghost use Rattle.zc_base.specs.MemMap.{IsMap};
 ghost use Rattle.zc_link.specs.Faults.{unlinked_fault};
 ghost use Rattle.zc_link.specs.Linked.{code_of, listed_places};
 ghost use Rattle.zc_link.specs.Straight.{all_words, code_in, places_after, places_from, text_of, words_in};
@@ -31,7 +30,6 @@ impl Straight {
     /// The link of a cut's code, which is straight, with its text where the map has it. It takes time
     /// linear in the code and the number of sections.
     pub fn lay(alloc: Global, cut: &Cut) -> Result<Straight, AllocError>
-        requires map { IsMap cut.now.map }
         requires linked { unlinked_fault (parsed cut.now).objects ≡ None }
         ensures text { IfOk result (λ l. l.text.items ≡ text_of (all_words (code_of (parsed cut.now)))) }
         ensures places { IfOk result (λ l. l.places.items ≡ listed_places (parsed cut.now)) }
@@ -89,7 +87,7 @@ impl Straight {
         start: u32,
     ) -> Result<(), AllocError>
         requires first { first.offset ≡ 0 }
-        requires items { (k : ℕ) → k < length (words_in code.now) → item_at (parsed cut.now).objects (record first { offset = 4 * k })
+        requires items { (k : ℕ) → k < length (words_in code.now) → item_at (parsed cut.now) (record first { offset = 4 * k })
             ≡ option_map Op (decoded (slice_index (words_in code.now) k)) }
         requires short { length code.now < 2 ^ 32 }
         requires room { start + length self.old.text.items + length (text_of (words_in code.now)) < 2 ^ 32 }

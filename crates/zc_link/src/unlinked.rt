@@ -9,7 +9,7 @@ ghost use Rattle.rv_decode.specs.Formats.{funct3_of, opcode_of};
 ghost use Rattle.zc_link.specs.Faults.{is_unlinked, is_unlinked_code, is_unlinked_word};
 ghost use Rattle.zc_link.specs.Straight.{words_in};
 
-use block_cut::relocs::is_unbuilt;
+use crate::relocs::is_any_relocated;
 use elf32_read::object::Object;
 use psabi_sym::objects::Objects;
 use rv_decode::bits::field_at;
@@ -41,7 +41,7 @@ fn is_unlinked(objects: &Objects, o: u16, object: &Object) -> bool
     requires { slice_get objects.now.files o ≡ Some object.now }
     ensures { result ≡ is_unlinked (object_parts object.now) }
 {
-    is_unbuilt(objects, o, object) || has_unlinked_code(objects, o, object)
+    is_any_relocated(objects, o, object) || has_unlinked_code(objects, o, object)
 }
 
 // Whether an object has code that isn't linked.

@@ -133,6 +133,9 @@ const DATA: [u8; 36] = *b"abcxbc\0\0\0\0\0\0\0\0\0\0defg\0\0\0\0defg\0\0\0\0hihi
 fn objects_lie_one_after_another_where_the_map_has_them(rt: HostRuntime) -> Result<(), Fail> {
     let second = [UNNAMED, (WORD + 2, 0x40), (64, b'x')];
     let linked = link_of(rt.alloc(), &[], &second)?;
+    let plain = (linked.plain.text, linked.plain.items, linked.plain.short);
+    let zc = (linked.zc.text, linked.zc.items, linked.zc.short);
+    assert_eq!(rt; (plain, zc), ((40, 10, 0), (36, 10, 2)));
     let entry = linked.elf.get(24..28);
     assert_eq!(rt; entry, Some([0, 0, 2, 0].as_slice()));
     let text = Some((MAP.text, 36, true));
@@ -190,10 +193,11 @@ fn the_program_may_start_in_any_object(rt: HostRuntime) -> Result<(), Fail> {
     Ok(())
 }
 
-// Each row: changes of the first object and of the second, which has no `_start` then, and the fault.
+// Each row: changes of the first object and of the second, which has no `_start` then, and the fault. Those
+// of the objects come before what isn't linked yet.
 #[test]
 fn what_is_not_linked_is_refused(rt: HostRuntime) -> Result<(), Fail> {
-    let rows: [(&str, &[(usize, u8)], &[(usize, u8)], Option<(u32, Fault)>); 11] = [
+    let rows: [(&str, &[(usize, u8)], &[(usize, u8)], Option<(u32, Fault)>); 12] = [
         ("as they are", &[], &[], None),
         ("lui", &[(WORD, 0x37)], &[], Some((0, Fault::NotBuilt))),
         (
@@ -216,7 +220,18 @@ fn what_is_not_linked_is_refused(rt: HostRuntime) -> Result<(), Fail> {
             Some((0, Fault::NotBuilt)),
         ),
         ("code at 8", &[], &[(ALIGN, 8)], Some((1, Fault::NotBuilt))),
-        ("HI20", &[], &[(RELOC_KIND, 26)], Some((1, Fault::NotBuilt))),
+        (
+            "a word with an address",
+            &[],
+            &[(RELOC_KIND, 1)],
+            Some((1, Fault::NotBuilt)),
+        ),
+        (
+            "HI20 of an ecall",
+            &[(WORD, 0x37)],
+            &[(RELOC_KIND, 26)],
+            Some((1, Fault::RelocPlace { section: 1, at: 8 })),
+        ),
         ("NONE", &[(RELOC_KIND, 0)], &[], None),
         (
             "no start",
@@ -226,9 +241,9 @@ fn what_is_not_linked_is_refused(rt: HostRuntime) -> Result<(), Fail> {
         ),
         (
             "it comes first",
-            &[(START_NAME, b'y')],
-            &[(WORD, 0x37)],
-            Some((1, Fault::NotBuilt)),
+            &[(START_NAME, b'y'), (WORD, 0x37)],
+            &[],
+            Some((0, Fault::NoEntry)),
         ),
     ];
     for (row, first, second, want) in rows {

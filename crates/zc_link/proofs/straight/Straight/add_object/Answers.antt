@@ -4,7 +4,7 @@ use Rattle.std.proofs.Common.{◌≡◌, ℕ, ◌+◌, ◌*◌, ◌<◌, ◌≤�
 use Rattle.std.specs.Option.{option_map}
 use Rattle.block_cut.specs.Items.{item_at}
 use Rattle.block_cut.specs.declared.item.Item.TheVariants.{Op}
-use Rattle.block_cut.proofs.FaultLaws.{faultless}
+use Rattle.zc_link.proofs.FaultLaws.{faultless}
 use Rattle.elf32_read.specs.Header.{section_count}
 use Rattle.elf32_read.specs.Parts.{is_code_section, object_parts, section_parts}
 use Rattle.psabi_sym.specs.Data.{is_code_at}
@@ -43,11 +43,11 @@ add_section-requires-clause-items c =
     let s = section_parts file i in
     let none = (faultless inputs c.objects.ensures.faultless).gathered in
     let got = section_got file i (omega (arith, c.loop-i-test.true, c.section_count-i-end.ensures.count)) in
-    let each : (k : ℕ) → k < length (words_in s.bytes) → item_at (parsed inputs).objects (record { object = c.args.o; section = i; offset = 4 * k }) ≡ option_map Op (decoded (get_or (words_in s.bytes) k 0)) =
+    let each : (k : ℕ) → k < length (words_in s.bytes) → item_at (parsed inputs) (record { object = c.args.o; section = i; offset = 4 * k }) ≡ option_map Op (decoded (get_or (words_in s.bytes) k 0)) =
     λ k lt.
     let it = word_item inputs none c.requires.linked c.args.o i (object_parts file) s (object_at inputs c.args.o file c.requires.object) got (sym (code_is a) ∙ c.if-is_code.true) k lt in
     it.is ∙ ap (option_map Op) (sym it.spells) in
-    subst (λ bytes. (k : ℕ) → k < length (words_in bytes) → item_at (parsed inputs).objects (record { object = c.args.o; section = i; offset = 4 * k }) ≡ option_map Op (decoded (get_or (words_in bytes) k 0)))
+    subst (λ bytes. (k : ℕ) → k < length (words_in bytes) → item_at (parsed inputs) (record { object = c.args.o; section = i; offset = 4 * k }) ≡ option_map Op (decoded (get_or (words_in bytes) k 0)))
     (sym c.section.ensures.bytes) each
 
 -- what is written so far, with the sections that are left

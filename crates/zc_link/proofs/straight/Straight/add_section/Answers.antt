@@ -29,7 +29,7 @@ put_item-requires c =
     let k = c.loop-k.k in
     let inside : k < length (words_in code) = omega (arith, c.loop-k-test.true, length-words_in code) in
     let word = get_or-words_in code k c.loop-k-test.true ∙ sym c.u32_at.ensures in
-    c.item.ensures.item ∙ ap (item_at (parsed c.args.cut.now).objects) c.loop-k.invariant.at ∙ c.requires.items k inside ∙ ap (λ w. option_map Op (decoded w)) word
+    c.item.ensures.item ∙ ap (item_at (parsed c.args.cut.now)) c.loop-k.invariant.at ∙ c.requires.items k inside ∙ ap (λ w. option_map Op (decoded w)) word
 
 pub loop-k-preserved : goal.loop-k-preserved
 loop-k-preserved c =
