@@ -110,7 +110,7 @@ clean_within task a b c d first last clean = record {
 }
 
 -- nothing was done
-no_moves : (world : World) → Moves world world
+pub no_moves : (world : World) → Moves world world
 no_moves world = record {
   shelf = OnlyPuts-refl world.shelf;
   reads = omega arith;
@@ -208,6 +208,7 @@ module _ (task : Task) (Work : List (List ℕ) → Outcome → World → World �
         unsure = λ told tells sure. fault.unsure (record {
           store = worked.only.shelf.sure ∙ sure.store;
           console = λ takes. subst (λ d. IsTrue d.sure × IsShortInput d.input) (sym worked.only.desk) (sure.console takes);
+          output = λ writes. subst (λ d. IsTrue d.sure) (sym worked.only.desk) (sure.output writes);
         });
       })
     ]

@@ -5,14 +5,16 @@ use Rattle.zc_outside.specs.World.{World}
 use Rattle.zcld.specs.declared.outcome.Outcome.{Outcome}
 use Rattle.zcld.specs.declared.outcome.Outcome.TheVariants.{Usage}
 use Rattle.zcld.specs.Call.{Answers, Calls, Counts, Does, IfCommand, Reports, TellsAll, task_of, work_of}
-use Rattle.zcld.specs.Command.{Command, Run, Trace, Zc}
+use Rattle.zcld.specs.Command.{Command, Plain, Run, Trace, Zc}
 use Rattle.zcld.specs.ErrLine.{err_line}
 use Rattle.zcld.proofs.Answering.{Facts, performed_answers, performed_counts, performed_known}
+use Rattle.zcld.proofs.PlainFacts.{plain_facts}
 use Rattle.zcld.proofs.RunFacts.{run_facts}
 use Rattle.zcld.proofs.TraceFacts.{trace_facts}
 use Rattle.zcld.proofs.ZcFacts.{zc_facts}
 
 facts : (command : Command) → Facts (task_of command) (work_of command)
+facts (Plain out objects) = plain_facts out objects
 facts (Zc out cert objects) = zc_facts out cert objects
 facts (Run steps image) = run_facts steps image
 facts (Trace steps objects) = trace_facts steps objects

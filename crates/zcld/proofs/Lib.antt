@@ -5,6 +5,7 @@ pub mod FormsHeld
 pub mod MachineFacts
 pub mod Names
 pub mod Pieces
+pub mod PlainFacts
 pub mod Refusals
 pub mod RunFacts
 pub mod TraceFacts

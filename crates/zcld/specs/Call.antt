@@ -8,10 +8,11 @@ use Rattle.zc_outside.specs.World.{World}
 use Rattle.zcld.specs.declared.input.TheConstants.{INPUT_LIMIT}
 use Rattle.zcld.specs.declared.outcome.Outcome.{Outcome}
 use Rattle.zcld.specs.declared.outcome.Outcome.TheVariants.{Usage, ReadFault, WriteFault, OutOfMemory}
-use Rattle.zcld.specs.Command.{Command, Run, Trace, Zc}
+use Rattle.zcld.specs.Command.{Command, Plain, Run, Trace, Zc}
 use Rattle.zcld.specs.ErrLine.{err_line}
 use Rattle.zcld.specs.Input.{IsShortInput, RoseAbove}
-use Rattle.zcld.specs.Objects.{link_refusal, objects_wanted, trace_refusal}
+use Rattle.zcld.specs.Objects.{link_refusal, objects_refusal, objects_wanted}
+use Rattle.zcld.specs.Plain.{PlainWork}
 use Rattle.zcld.specs.Run.{RunWork, image_refusal, image_wanted}
 use Rattle.zcld.specs.Task.{Performs, Task}
 use Rattle.zcld.specs.Trace.{TraceWork}
@@ -21,15 +22,18 @@ use Rattle.zcld.specs.Zc.{ZcWork}
 
 -- what each command does outside
 abbrev pub task_of : Command → Task
+task_of (Plain out objects) =
+    record { wanted = objects_wanted objects; refusal = objects_refusal; puts = true; takes = false; writes = true }
 task_of (Zc out cert objects) =
     record { wanted = objects_wanted objects; refusal = link_refusal; puts = true; takes = false; writes = false }
 task_of (Run steps image) =
     record { wanted = image_wanted image; refusal = image_refusal; puts = false; takes = true; writes = true }
 task_of (Trace steps objects) =
-    record { wanted = objects_wanted objects; refusal = trace_refusal; puts = false; takes = true; writes = true }
+    record { wanted = objects_wanted objects; refusal = objects_refusal; puts = false; takes = true; writes = true }
 
 -- the work of each command, once its files are read and accepted
 abbrev pub work_of : Command → List (List ℕ) → Outcome → World → World → Type 0
+work_of (Plain out objects) = PlainWork out
 work_of (Zc out cert objects) = ZcWork out cert
 work_of (Run steps image) = RunWork steps
 work_of (Trace steps objects) = TraceWork steps
@@ -73,10 +77,12 @@ pub record IsClean (task : Task) (before after : World) : Type 0 where
   pub taken : IsTrue task.takes → (¬ Rose before.desk.read_faults after.desk.read_faults) × (¬ RoseAbove INPUT_LIMIT before.desk.taken after.desk.taken)
   pub written : IsTrue task.writes → ¬ Rose before.desk.write_faults after.desk.write_faults
 
--- the store is sure, and if the command takes input, so is the console, and it tells an input that isn't too long
+-- the store is sure, and so is the console, if the command writes to it or takes its input, of which it then tells that it isn't
+-- too long
 pub record IsSure (task : Task) (before : World) : Type 0 where
   pub store : IsTrue before.shelf.sure
   pub console : IsTrue task.takes → IsTrue before.desk.sure × IsShortInput before.desk.input
+  pub output : IsTrue task.writes → IsTrue before.desk.sure
 
 -- the outcome is no fault of the outside
 pub record IsNoFault (outcome : Outcome) : Type 0 where

@@ -17,6 +17,7 @@ use Rattle.zcld.specs.declared.command_line.Positional.TheVariants.{Exactly, One
 
 -- a command with the names of its files, and how many steps it may make
 pub data Command : Type 0 where
+  Plain : (out : List ℕ) (objects : List (List ℕ)) → Command
   Zc : (out cert : List ℕ) (objects : List (List ℕ)) → Command
   Run : (steps : ℕ) (image : List ℕ) → Command
   Trace : (steps : ℕ) (objects : List (List ℕ)) → Command
@@ -68,6 +69,10 @@ required name = record { name = name; required = true }
 -- an option that may be left out
 abbrev pub optional : List ℕ → OptionForm
 optional name = record { name = name; required = false }
+
+-- `plain --out OUT OBJ...`
+abbrev pub plain_form : Form
+plain_form = record { options = required (codes "--out") ∷ []; positional = OneOrMore }
 
 -- `zc --out OUT --cert CERT OBJ...`
 abbrev pub zc_form : Form
@@ -136,6 +141,11 @@ abbrev pub steps_given : Option (List ℕ) → Option ℕ
 steps_given (Some word) = steps_of word
 steps_given None = Some USUAL_STEPS
 
+-- `plain` of its objects
+abbrev pub plain_of : Spelled → Option Command
+plain_of (Words (Some out ∷ []) objects) = Some (Plain out objects)
+plain_of other = None
+
 -- `zc`, whose OUT and CERT differ
 abbrev pub zc_of : Spelled → Option Command
 zc_of (Words (Some out ∷ Some cert ∷ []) objects) = if bytes_eq out cert then None else Some (Zc out cert objects)
@@ -155,14 +165,16 @@ trace_of other = None
 abbrev pub command_of : List (List ℕ) → Option Command
 command_of [] = None
 command_of (name ∷ words) =
-    if bytes_eq name (codes "zc") then option_and_then zc_of (spelled zc_form words) else
+    if bytes_eq name (codes "plain") then option_and_then plain_of (spelled plain_form words) else
+    (if bytes_eq name (codes "zc") then option_and_then zc_of (spelled zc_form words) else
     (if bytes_eq name (codes "run") then option_and_then run_of (spelled run_form words) else
-    (if bytes_eq name (codes "trace") then option_and_then trace_of (spelled trace_form words) else None))
+    (if bytes_eq name (codes "trace") then option_and_then trace_of (spelled trace_form words) else None)))
 
 -- ---- as the program holds them
 
 -- a command
 abbrev pub meant : CommandLine → Command
+meant (line.Plain out objects) = Plain out.now (texts objects.now)
 meant (line.Zc out cert objects) = Zc out.now cert.now (texts objects.now)
 meant (line.Run steps image) = Run steps image.now
 meant (line.Trace steps objects) = Trace steps (texts objects.now)

@@ -5,6 +5,7 @@ pub mod Outcome
 pub mod Task
 pub mod Objects
 pub mod Machines
+pub mod Plain
 pub mod Zc
 pub mod Run
 pub mod Trace

@@ -19,13 +19,13 @@ inputs_of files = record { files = files; map = standard_map }
 abbrev pub refused_for : Option (ℕ × Fault) → Option Outcome
 refused_for fault = option_map (λ found. Refused found.0 found.1) fault
 
--- the refusal of a link, of which code that isn't linked yet is a fault
+-- the refusal of objects
+abbrev pub objects_refusal : List (List ℕ) → Option Outcome
+objects_refusal files = refused_for (first_fault (inputs_of files))
+
+-- the refusal of a link with short forms, of which code that isn't linked yet is a fault
 abbrev pub link_refusal : List (List ℕ) → Option Outcome
 link_refusal files = refused_for (zc_fault (inputs_of files))
-
--- the refusal of a trace
-abbrev pub trace_refusal : List (List ℕ) → Option Outcome
-trace_refusal files = refused_for (first_fault (inputs_of files))
 
 -- objects are read up to their limit
 abbrev pub objects_wanted : List (List ℕ) → List Wanted

@@ -9,6 +9,7 @@ ghost use Rattle.zcld.specs.Command.{command_of, texts};
 use crate::command_line::{CommandLine, read};
 use crate::err_line::report;
 use crate::outcome::Outcome;
+use crate::plain::plain;
 use crate::run::run;
 use crate::trace::trace;
 use crate::zc::zc;
@@ -47,6 +48,9 @@ fn perform<S: Store, C: Console>(
         (world (S.shown store.old) (C.shown console.old)) (world (S.shown store.new) (C.shown console.new)) }
 {
     match read(words) {
+        Some(CommandLine::Plain { out, objects }) => {
+            plain(alloc, out, objects, files, store, console)
+        }
         Some(CommandLine::Zc { out, cert, objects }) => zc(alloc, out, cert, objects, files, store),
         Some(CommandLine::Run { steps, image }) => run(alloc, steps, image, files, store, console),
         Some(CommandLine::Trace { steps, objects }) => {

@@ -6,7 +6,7 @@ ghost use Rattle.std.specs.List.{list_all, position, zip};
 ghost use Rattle.std.specs.Option.{option_and_then, option_copied, option_map};
 ghost use Rattle.std.specs.Str.{bytes_eq};
 ghost use Rattle.std.specs.String.{string_bytes};
-ghost use Rattle.zcld.specs.Command.{begins_with_dash, command_of, form_of, is_complete, is_number as spells_number, meant, no_values, run_form, run_of, spelled, spelled_from, steps_given, steps_of, takes_words, texts, trace_form, trace_of, with_value, words_of, zc_form, zc_of};
+ghost use Rattle.zcld.specs.Command.{begins_with_dash, command_of, form_of, is_complete, is_number as spells_number, meant, no_values, plain_form, plain_of, run_form, run_of, spelled, spelled_from, steps_given, steps_of, takes_words, texts, trace_form, trace_of, with_value, words_of, zc_form, zc_of};
 
 /// The most digits of a number word.
 pub const MOST_DIGITS: usize = 20;
@@ -21,6 +21,10 @@ pub const USUAL_STEPS: u64 = 10_000_000;
 /// the machine may make.
 #[derive(Clone, Copy)]
 pub enum CommandLine<'a> {
+    Plain {
+        out: &'a str,
+        objects: &'a [String],
+    },
     Zc {
         out: &'a str,
         cert: &'a str,
@@ -70,6 +74,12 @@ const STEPS: OptionForm = OptionForm {
     required: false,
 };
 
+// `plain --out OUT OBJ...`
+const PLAIN: Form = Form {
+    options: &[OUT],
+    positional: Positional::OneOrMore,
+};
+
 // `zc --out OUT --cert CERT OBJ...`
 const ZC: Form = Form {
     options: &[OUT, CERT],
@@ -96,11 +106,21 @@ pub fn read(words: &[String]) -> Option<CommandLine<'_>>
         return None;
     };
     match name.as_str() {
+        "plain" => plain(words),
         "zc" => zc(words),
         "run" => run(words),
         "trace" => trace(words),
         _ => None,
     }
+}
+
+fn plain(words: &[String]) -> Option<CommandLine<'_>>
+    ensures { option_map meant result ≡ option_and_then plain_of (spelled plain_form (texts words.now)) }
+{
+    let mut values = [None];
+    let objects = read_form(&PLAIN, words, &mut values)?;
+    let [out] = values;
+    Some(CommandLine::Plain { out: out?, objects })
 }
 
 // `zc`, unless the two files that it writes are one.

@@ -151,8 +151,8 @@ fn refusal(object: u32, fault: Fault, end: &str) -> ArrayString<ROOM>
     line
 }
 
-// A text, a number and a line feed.
-fn numbered(text: &str, number: u32) -> ArrayString<ROOM>
+/// A text, a number and a line feed.
+pub fn numbered(text: &str, number: u32) -> ArrayString<ROOM>
     requires { length text.now ≤ 50 }
     ensures { result.bytes ≡ with_line_feed (text.now ++ decimal number) }
 {

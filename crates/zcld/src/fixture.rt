@@ -102,6 +102,12 @@ pub const ZC: Call = Call {
     changes: "",
 };
 
+/// The object is linked to the image `o`, in which each instruction is as it was.
+pub const PLAIN: Call = Call {
+    words: "plain --out o x",
+    ..ZC
+};
+
 /// The image is run.
 pub const RUN: Call = Call {
     words: "run x",
@@ -118,6 +124,12 @@ pub const TRACE: Call = Call {
 /// Two objects are linked.
 pub const ZC_TWO: Call = Call {
     words: "zc --out o --cert c x z",
+    ..ZC
+};
+
+/// The same of two objects.
+pub const PLAIN_TWO: Call = Call {
+    words: "plain --out o x z",
     ..ZC
 };
 
@@ -147,6 +159,13 @@ pub const DONE: End = End {
     status: 0,
     input: 5,
     files: 2,
+};
+
+/// The end of `plain` of the three instructions.
+pub const DONE_PLAIN: End = End {
+    out: "plain text 12\n",
+    files: 1,
+    ..DONE
 };
 
 /// The end of the three instructions.

@@ -10,6 +10,7 @@ pub mod input;
 pub mod limits;
 pub mod objects;
 pub mod outcome;
+pub mod plain;
 pub mod program;
 pub mod run;
 pub mod trace;

@@ -45,7 +45,7 @@ pub fn trace<S: Store, C: Console>(
 }
 
 // The objects in these files, cut into items, or how the call ends without that.
-#[tactic(auto, using(block_cut::proofs::FaultLaws::gather_refusal))]
+#[tactic(auto, using(crate::proofs::Refusals::gather_refuses))]
 fn cut_files(alloc: Global, files: &[Vec<u8>]) -> Result<Cut, Outcome>
     ensures faultless { IfOk result (λ cut. first_fault (inputs_of (contents_of files.now)) ≡ None) }
     ensures ok { IfOk result (λ cut. cut ≡ inputs_of (contents_of files.now)) }

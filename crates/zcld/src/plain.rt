@@ -1,0 +1,92 @@
+// The command `plain`: objects are linked with their instructions as they are, and the image and the
+// length of its text are written.
+
+ghost use Rattle.std.specs.Prelude.{◌≡◌, IfOk, IfErr, None};
+ghost use Rattle.psabi_sym.specs.Objects.{contents_of};
+ghost use Rattle.block_cut.specs.Faults.{first_fault};
+ghost use Rattle.zc_link.specs.PlainLinked.{IsPlainLink};
+ghost use Rattle.zc_outside.specs.Desk.{OnlyWrites};
+ghost use Rattle.zc_outside.specs.Shelf.{OnlyPuts};
+ghost use Rattle.zc_outside.specs.World.{world};
+ghost use Rattle.zcld.specs.Call.{Does};
+ghost use Rattle.zcld.specs.Command.{Plain, texts};
+ghost use Rattle.zcld.specs.Objects.{RefusalCause, inputs_of};
+ghost use Rattle.zcld.specs.Plain.{PutsAndPrints, plain_line};
+
+use crate::err_line::numbered;
+use crate::objects::read_objects;
+use crate::outcome::Outcome;
+use psabi_sym::objects::Objects;
+use std::alloc::Global;
+use zc_base::mem_map::MemMap;
+use zc_link::linked::Linked;
+use zc_link::plain::link_plain;
+use zc_outside::console::{Console, ConsoleFault};
+use zc_outside::store::{Store, StoreFault};
+
+/// Links the objects under these names to an image `out`, and writes how many bytes its text has.
+pub fn plain<S: Store, C: Console>(
+    alloc: Global,
+    out: &str,
+    objects: &[String],
+    files: &mut Vec<Vec<u8>>,
+    store: &mut S,
+    console: &mut C,
+) -> Outcome
+    ensures { Does (Some (Plain out.now (texts objects.now))) (contents_of files.new.items) result
+        (world (S.shown store.old) (C.shown console.old)) (world (S.shown store.new) (C.shown console.new)) }
+{
+    if let Err(outcome) = read_objects(alloc, objects, files, store) {
+        return outcome;
+    }
+    match link(alloc, files.as_slice()) {
+        Ok(linked) => put_and_print(
+            store,
+            out,
+            linked.elf.as_slice(),
+            linked.plain.text,
+            console,
+        ),
+        Err(outcome) => outcome,
+    }
+}
+
+// What the objects in these files are linked to, or how the call ends without that.
+#[tactic(auto, using(crate::proofs::Refusals::gather_refuses))]
+fn link(alloc: Global, files: &[Vec<u8>]) -> Result<Linked, Outcome>
+    ensures faultless { IfOk result (λ linked. first_fault (inputs_of (contents_of files.now)) ≡ None) }
+    ensures ok { IfOk result (λ linked. IsPlainLink (inputs_of (contents_of files.now)) linked) }
+    ensures err { IfErr result (RefusalCause (first_fault (inputs_of (contents_of files.now)))) }
+{
+    let objects = Objects::gather(alloc, files, MemMap::standard())?;
+    Ok(link_plain(alloc, objects)?)
+}
+
+// Writes the image, then how many bytes its text has, and says how that ended.
+fn put_and_print<S: Store, C: Console>(
+    store: &mut S,
+    out: &str,
+    image: &[u8],
+    text: u32,
+    console: &mut C,
+) -> Outcome
+    ensures done { PutsAndPrints result out.now image.now (plain_line text)
+        (world (S.shown store.old) (C.shown console.old)) (world (S.shown store.new) (C.shown console.new)) }
+    ensures puts { OnlyPuts (S.shown store.old) (S.shown store.new) }
+    ensures writes { OnlyWrites (C.shown console.old) (C.shown console.new) }
+{
+    match store.put(out, image) {
+        Ok(()) => {}
+        Err(StoreFault::OutOfMemory) => return Outcome::OutOfMemory,
+        Err(_) => return Outcome::WriteFault,
+    }
+    let line = numbered("plain text ", text);
+    match console.out(line.as_str().as_bytes()) {
+        Ok(()) => Outcome::Done,
+        Err(ConsoleFault::Failed) => Outcome::WriteFault,
+        Err(ConsoleFault::OutOfMemory) => Outcome::OutOfMemory,
+    }
+}
+
+#[cfg(test)]
+mod tests;
