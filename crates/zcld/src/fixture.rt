@@ -139,6 +139,11 @@ pub const TRACE_TWO: Call = Call {
     ..ZC
 };
 
+/// Changes that give the code of the object one relocation: its offset, 0, stands at 380, its symbol and type,
+/// NONE, at 384, and its addend, 0, at 388.
+pub const RELOC: &str =
+    "..392 48:06 344:00000004 356:0000017c 360:0000000c 364:00000002 368:00000001 376:0000000c";
+
 /// How a call should end: the outcome, what is written to standard output and to standard error, where
 /// the outcome's line is the last, the program's status, how many bytes of the input are left, and how
 /// many of the files `o` and `c` stand. `x` and `z` stay as they were.

@@ -8,6 +8,9 @@ use std::test::Fail;
 fn words_that_spell_no_command_leave_all_as_it_was(rt: HostRuntime) -> Result<(), Fail> {
     let lines = "
 frob
+plain --out o
+plain x --out o
+plain --out o --cert c x
 zc --out o --cert o x
 zc --out o --cert c
 zc x --out o --cert c

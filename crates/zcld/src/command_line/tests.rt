@@ -14,6 +14,9 @@ fn command_in(alloc: Global, line: &str) -> Result<String, AllocError> {
     }
     match read(words.as_slice()) {
         None => String::from_str(alloc, "none"),
+        Some(CommandLine::Plain { out, objects }) => {
+            format!(in alloc; "plain {out:?} {objects:?}")
+        }
         Some(CommandLine::Zc { out, cert, objects }) => {
             format!(in alloc; "zc {out:?} {cert:?} {objects:?}")
         }
@@ -34,7 +37,9 @@ fn expect_commands<R: Abort + AllocGlobal>(rt: &R, rows: &str) -> Result<(), Fai
     Ok(())
 }
 
-const COMMANDS: &str = r#"zc --out o --cert c x.o => zc "o" "c" ["x.o"]
+const COMMANDS: &str = r#"plain --out o x.o => plain "o" ["x.o"]
+plain --out  x.o  y.o => plain "" ["x.o", "", "y.o"]
+zc --out o --cert c x.o => zc "o" "c" ["x.o"]
 zc --cert c --out o x.o => zc "o" "c" ["x.o"]
 zc --out  --cert c x.o => zc "" "c" ["x.o"]
 zc --out o --cert c o => zc "o" "c" ["o"]
@@ -64,6 +69,13 @@ frob x => none
 ZC --out o --cert c x.o => none
 Run x => none
 x run => none
+plain x.o => none
+plain --cert o x.o => none
+plain --out o --cert c x.o => none
+plain --out o --out o x.o => none
+plain --out -o x.o => none
+plain --out o => none
+plain x.o --out o => none
 zc x.o => none
 zc --out o x.o => none
 zc --cert c x.o => none

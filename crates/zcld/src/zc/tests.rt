@@ -1,8 +1,8 @@
 // What the command `zc` writes, refuses and names.
 
 use crate::fixture::{
-    Call, DONE, EXITED_3, End, File, READ_FAULT, RUN, SPENT, THREE_IMAGE, WRITE_FAULT, ZC, ZC_TWO,
-    expect, expect_changes, expect_words, make, refused, unsaid,
+    Call, DONE, EXITED_3, End, File, READ_FAULT, RELOC, RUN, SPENT, THREE_IMAGE, WRITE_FAULT, ZC,
+    ZC_TWO, expect, expect_changes, expect_words, make, refused, unsaid,
 };
 use crate::outcome::Outcome;
 use elf32_read::fault::Fault;
@@ -37,16 +37,19 @@ fn an_image_and_a_certificate_are_put_under_their_names(rt: HostRuntime) -> Resu
     expect_words(&rt, &ZC, "zc --out  --cert c x", &End { files: 1, ..DONE })
 }
 
-// Changes of the alignment of the code, and of a word; the second object is named where the first has its
-// `_start` renamed. The program starts nowhere if the name isn't there, is at the code's end, or of data.
+// Changes of the alignment of the code, and of a word, and a word that holds an address; the second object is
+// named where the first has its `_start` renamed. The program starts nowhere if the name isn't there, is at
+// the code's end, or of data; that is named first.
 #[test]
 fn objects_that_are_not_straight_code_are_named(rt: HostRuntime) -> Result<(), Fail> {
     let not_built = refused(0, Fault::NotBuilt, "refused 0 0 NotBuilt\n");
-    expect_changes(&rt, &ZC, "212:08\n53:15\n53:15 97:66", &not_built)?;
+    expect_changes(&rt, &ZC, "212:08\n53:15", &not_built)?;
+    let word = format!(in rt.alloc(); "{RELOC} 384:00000101")?;
+    expect_changes(&rt, &ZC, word.as_str(), &not_built)?;
     let second = refused(1, Fault::NotBuilt, "refused 1 0 NotBuilt\n");
     expect_changes(&rt, &ZC_TWO, "97:66 / 212:08\n97:66 / 53:15", &second)?;
     let no_entry = refused(0, Fault::NoEntry, "refused 0 16 NoEntry\n");
-    expect_changes(&rt, &ZC, "97:66\n200:00\n188:02", &no_entry)
+    expect_changes(&rt, &ZC, "97:66\n200:00\n188:02\n53:15 97:66", &no_entry)
 }
 
 // The text and the entry of an image of two objects, of which the second has `_start`, and how it ends.
