@@ -1,11 +1,8 @@
-"""The first fault of a list of objects, by the System V gABI and the RISC-V ELF psABI.
+"""The faults of objects, and those between objects before their code is looked at, by the System V gABI.
 
-    fuzz/object_faults.py FILE...
-
-says how `zc` and `trace` refuse the files. It knows nothing of the program, so that both can be compared.
+`object_items.py` has the faults of code. Both know nothing of the program, so that they can be compared with it.
 """
 import struct
-import sys
 
 NAMES = ('NotBuilt', 'NotElf', 'Truncated', 'Flags', 'SectionKind', 'Alignment', 'CodeSize', 'BadName', 'BadSymbol',
          'Duplicate', 'Undefined', 'RelocKind', 'RelocPlace', 'LoPair', 'BadTarget', 'Range', 'NoEntry', 'TooLarge')
@@ -210,83 +207,9 @@ def missing_definition(objects):
     return None
 
 
-def definition(objects, wanted):
-    """What a name is: its global definition, else common, else its first weak definition: the object's index, the home and
-    the value, or none."""
-    found = {1: None, 2: None, COMMON: None}
-    for i, read in enumerate(objects):
-        for _, name, value, _, bind, home in read.named_symbols():
-            if name == wanted and (home == COMMON or home != UNDEF and bind):
-                key = COMMON if home == COMMON else bind
-                found[key] = found[key] or (i, home, value)
-    return found[1] or found[COMMON] or found[2]
-
-
-def entry(objects):
-    """Where the program starts: the object, the section and the offset of `_start`, if an instruction of code starts there."""
-    found = definition(objects, b'_start')
-    if found is None:
-        return None
-    i, home, value = found
-    read = objects[i]
-    is_start = home < read.count and read.is_code(home) and value % 4 == 0 and value < read.sections[home].size
-    return (i, home, value) if is_start else None
-
-
-def has_relocation(read):
-    return any(kind not in (RELOC_NONE, RELAX) for _, kind, _ in read.relocations())
-
-
-def is_linked(word):
-    """`addi` and `ecall`, of which links are built."""
-    return word & 0x707F == 0x13 or word == 0x73
-
-
-def is_unlinked(read):
-    """Whether the object has something that no link is built of."""
-    return has_relocation(read) or any(
-        s.align > 4 or not all(is_linked(word) for word, in struct.iter_unpack('<I', s.content))
-        for i, s in enumerate(read.sections) if read.is_code(i))
-
-
-def refusal(files, is_unbuilt):
-    """The first fault of a command that refuses objects of this kind."""
-    found = gather_fault(files)
-    if found:
-        return found
-    objects = [Object(data) for data in files]
-    unbuilt = next((i for i, read in enumerate(objects) if is_unbuilt(read)), None)
-    if unbuilt is not None:
-        return unbuilt, 0, None
-    return None if entry(objects) else (0, 16, None)
-
-
-def zc_fault(files):
-    """The first fault for which `zc` refuses the files."""
-    return refusal(files, is_unlinked)
-
-
-def trace_fault(files):
-    """The first fault for which `trace` refuses the files."""
-    return refusal(files, has_relocation)
-
-
 def told(found):
     """The line of a refusal, or an empty one."""
     if found is None:
         return b''
     i, fault, name = found
     return f'refused {i} {fault} {NAMES[fault]}'.encode() + (b'' if name is None else b' ' + name)
-
-
-def main():
-    files = []
-    for path in sys.argv[1:]:
-        with open(path, 'rb') as file:
-            files.append(file.read())
-    for command, found in (('zc', zc_fault(files)), ('trace', trace_fault(files))):
-        print(f'{command}:', told(found).decode('latin-1') or 'no fault')
-
-
-if __name__ == '__main__':
-    main()

@@ -1,0 +1,150 @@
+#!/usr/bin/env python3
+"""Compares the plain link of `plain_link.py` with that of GNU ld, byte for byte.
+
+    fuzz/against_ld.py FILE...
+
+Both link the files with the same order of sections, in the memory of docs/FORMATS.md, and GNU ld without relaxation. Compared
+are the entry, the code and the data. Names of sections must tell them apart in a file. GNU ld gets copies of the files: without
+flags to merge strings, and without relocations of branches, jumps and calls to weak names without definition, whose words the plain
+link copies. The status is 1 if they differ.
+
+    fuzz/against_ld.py --seed S --count N
+
+does so with lists of objects by chance (`made_objects.py`) that have no fault.
+"""
+import argparse
+import os
+import random
+import shutil
+import struct
+import subprocess
+import sys
+import tempfile
+
+from made_objects import made_list
+from object_data import ABSENT, DATA_AT, STACK_TOP, TEXT_AT, class_of
+from object_faults import Object
+from object_items import BRANCH, CALLS, JAL, NONE, first_fault
+from plain_link import Plain
+
+LINKERS = ('riscv64-unknown-elf-ld', 'riscv32-unknown-elf-ld', 'riscv64-linux-gnu-ld', 'ld.lld')
+MERGED = 0x30
+
+
+class Differs(Exception):
+    """Two links that aren't the same."""
+
+
+def linker():
+    return next(filter(None, map(shutil.which, LINKERS)), None)
+
+
+def inputs(objects, paths, wanted):
+    """Lines of the linker's script for sections, in their order."""
+    for read, path in zip(objects, paths):
+        for k, section in enumerate(read.sections):
+            if read.kept[k] and wanted(read, k, section):
+                yield f'KEEP("{os.path.abspath(path)}"("{read.name_of(section).decode()}"))'
+
+
+def script(objects, paths, commons):
+    """A linker's script that lays code and data out as the plain link does."""
+    lines = ['ENTRY(_start)', f'__stack_top = {STACK_TOP:#x};', 'SECTIONS {', f'.text {TEXT_AT:#x} : {{ . = ALIGN(4);',
+             *inputs(objects, paths, lambda read, k, _: read.is_code(k)), '}', f'.data {DATA_AT:#x} : {{']
+    for kind in range(5):
+        lines.append('. = ALIGN(16);')
+        lines += {2: ['"__global_pointer$" = . + 0x800;'], 3: ['__bss_start = .;']}.get(kind, [])
+        lines += inputs(objects, paths, lambda read, k, s, kind=kind: not read.is_code(k) and class_of(read, s) == kind)
+    # Common symbols have room, but GNU ld doesn't take them in the order of their names' first sight.
+    lines += ['. = ALIGN(16);', *(f'. = ALIGN({max(1, align)}); "{name.decode()}" = .; . += {size};'
+                                   for name, (size, align) in commons.items()), '_end = .; }', '/DISCARD/ : { *(*) } }']
+    return '\n'.join(lines)
+
+
+def copied(data, i, symbols):
+    """The object without what GNU ld alone does."""
+    read, changed = symbols.objects[i], bytearray(data)
+    for k, section in enumerate(read.sections):
+        struct.pack_into('<I', changed, read.table + 40 * k + 8, section.flags & ~MERGED)
+        for at in range(section.at, section.at + section.size, 12) if section in read.kept_relas() else ():
+            _, info, addend = struct.unpack_from('<IIi', data, at)
+            if info & 255 in (BRANCH, JAL, *CALLS) and symbols.resolve(i, info >> 8, addend)[0] == ABSENT:
+                struct.pack_into('<I', changed, at + 4, info & ~255 | NONE)
+    return changed
+
+
+def linked(program, files, symbols):
+    """The entry, the code and the data that another linker writes."""
+    with tempfile.TemporaryDirectory() as folder:
+        order, out = (os.path.join(folder, name) for name in ('script', 'out'))
+        paths = [os.path.join(folder, f'{i}.o') for i in range(len(files))]
+        for i, (path, data) in enumerate(zip(paths, files)):
+            with open(path, 'wb') as file:
+                file.write(copied(data, i, symbols))
+        with open(order, 'w', encoding='utf-8') as file:
+            file.write(script(symbols.objects, paths, symbols.names.common))
+        done = subprocess.run([program, '-m', 'elf32lriscv', '--no-relax', '--allow-multiple-definition', '-o', out, *paths,
+                               '-T', order], capture_output=True, check=False)
+        if done.returncode:
+            raise Differs(done.stderr.decode()[:500])
+        with open(out, 'rb') as file:
+            data = file.read()
+    read = Object(data)
+    by_name = {read.name_of(section): section for section in read.sections}
+    return struct.unpack_from('<I', data, 24)[0], *(by_name[name].content if name in by_name else b''
+                                                    for name in (b'.text', b'.data'))
+
+
+def compare(program, files):
+    """The bytes of code and of data, which are the same."""
+    plain = Plain([Object(data) for data in files])
+    entry, text, data = linked(program, files, plain.code.symbols)
+    if entry != plain.addresses[plain.code.entry()]:
+        raise Differs(f'the entry is {entry:#x}')
+    for what, at, mine, other in (('code', TEXT_AT, plain.text(), text), ('data', DATA_AT, plain.data(), data)):
+        if what == 'code' and len(mine) != len(other):
+            raise Differs(f'{len(mine)} bytes of code, and {len(other)}')
+        for k in range(0, len(mine), 4):
+            if mine[k:k + 4] != other[k:k + 4].ljust(len(mine[k:k + 4]), b'\0'):
+                raise Differs(f'{what} at {at + k:#x}: {mine[k:k + 4].hex()} and {other[k:k + 4].hex()}')
+    return len(text), len(plain.data())
+
+
+def compare_made(program, seed, count):
+    same = 0
+    for number in range(count):
+        files = made_list(random.Random(f'{seed} {number}'), is_odd=False)
+        if first_fault(files):
+            raise Differs(f'case {number} has a fault: {first_fault(files)}')
+        try:
+            compare(program, files)
+            same += 1
+        except Differs as why:
+            print(f'case {number}: {why}')
+    print(f'{same} of {count} are linked alike')
+    return same < count
+
+
+def main():
+    arguments = argparse.ArgumentParser(description='Compares the plain link with that of GNU ld.')
+    arguments.add_argument('files', nargs='*')
+    arguments.add_argument('--seed', type=int, default=1)
+    arguments.add_argument('--count', type=int, default=0)
+    given = arguments.parse_args()
+    program = linker()
+    if program is None:
+        sys.exit('there is no linker for RISC-V')
+    if given.files:
+        files = []
+        for path in given.files:
+            with open(path, 'rb') as file:
+                files.append(file.read())
+        try:
+            print('the same {} bytes of code, and {} of data'.format(*compare(program, files)))
+        except Differs as why:
+            sys.exit(str(why))
+    return compare_made(program, given.seed, given.count) if given.count else 0
+
+
+if __name__ == '__main__':
+    sys.exit(main())

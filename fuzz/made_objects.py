@@ -1,0 +1,507 @@
+"""Makes lists of objects by chance whose code and data have relocations of all kinds.
+
+Most lists are programs that run to their end: functions call later ones in each way that compilers do, and work on data in each
+way. An odd list has something in it that is no fault of the objects' form, but most likely one of their relocations or layout.
+"""
+import struct
+
+from object_items import (ALIGN, BRANCH, CALL, CALL_PLT, HI20, JAL, LO12_I, LO12_S, NONE, PCREL_HI20, PCREL_LO12_I, PCREL_LO12_S,
+                          R_32, RELAX)
+from written_object import (ABS, COMMON, CONSTANT_FLAGS, DATA_FLAGS, DATA_TYPE, FUNCTION_TYPE, GLOBAL, LOCAL, NOBITS,
+                            PROGBITS, SECTION_TYPE, WEAK, Written)
+
+ZERO, RA, SP, T0, T1, T2, S0, SUM, A0, A1, A2, A7, T3 = 0, 1, 2, 5, 6, 7, 8, 9, 10, 11, 12, 17, 28
+ECALL, NOP = 0x73, 0x13
+
+
+def of_format_i(opcode, f3, to, source, value=0):
+    return (value & 0xFFF) << 20 | source << 15 | f3 << 12 | to << 7 | opcode
+
+
+def addi(to, source, value=0):
+    return of_format_i(0x13, 0, to, source, value)
+
+
+def lw(to, base, offset=0):
+    return of_format_i(0x03, 2, to, base, offset)
+
+
+def sw(source, base, offset=0):
+    return (offset >> 5 & 127) << 25 | source << 20 | base << 15 | 2 << 12 | (offset & 31) << 7 | 0x23
+
+
+def jalr(to, base, offset=0):
+    return of_format_i(0x67, 0, to, base, offset)
+
+
+def add(to, first, second):
+    return second << 20 | first << 15 | to << 7 | 0x33
+
+
+def lui(to):
+    return to << 7 | 0x37
+
+
+def auipc(to):
+    return to << 7 | 0x17
+
+
+def jal(to, distance=0):
+    return ((distance >> 20 & 1) << 31 | (distance >> 1 & 1023) << 21 | (distance >> 11 & 1) << 20
+            | (distance >> 12 & 255) << 12 | to << 7 | 0x6F)
+
+
+def branch(f3, first, second, distance=0):
+    return ((distance >> 12 & 1) << 31 | (distance >> 5 & 63) << 25 | second << 20 | first << 15 | f3 << 12
+            | (distance >> 1 & 15) << 8 | (distance >> 11 & 1) << 7 | 0x63)
+
+
+# ---- data
+
+DATA_SECTIONS = ((b'.data', PROGBITS, DATA_FLAGS), (b'.sdata', PROGBITS, DATA_FLAGS), (b'.rodata', PROGBITS, CONSTANT_FLAGS),
+                 (b'.bss', NOBITS, DATA_FLAGS), (b'.sbss', NOBITS, DATA_FLAGS), (b'.init_array', 14, DATA_FLAGS))
+LINKED_NAMES = (b'__global_pointer$', b'__bss_start', b'_end', b'__stack_top')
+WORDS = 8
+
+
+class Program:
+    """A list of objects that is being made: its functions, and the names of its numbers, tables and of nothing."""
+
+    def __init__(self, rng, is_odd):
+        self.rng, self.is_odd = rng, is_odd
+        self.objects = [Written() for _ in range(rng.choice((1, 2, 2, 3, 5)))]
+        self.functions = [b'f%d' % i for i in range(rng.choice((1, 2, 4, 8)))]
+        self.homes = [rng.randrange(len(self.objects)) for _ in self.functions]
+        self.numbers, self.tables, self.known = [], [], {}
+        self.sections = 0
+        self.names = 0
+
+    def named(self, read, name, **how):
+        """The symbol of a name in an object: the one that defines it there, or an undefined one."""
+        if (id(read), name) not in self.known:
+            self.known[id(read), name] = read.symbol(name, **how)
+        return self.known[id(read), name]
+
+    def new_section(self, read, name, kind, flags, **how):
+        self.sections += 1
+        return read.section(name + b'.%d' % self.sections, kind, flags, **how)
+
+    def new_name(self, start):
+        self.names += 1
+        return start + b'%d' % self.names
+
+    def add_numbers(self, read):
+        """A section of words that are numbers, with a name, or a common or absolute one."""
+        rng = self.rng
+        name = self.new_name(b'n')
+        which = rng.randrange(8)
+        if which == 0:
+            for it in {0: read, 1: rng.choice(self.objects)}.values():
+                self.named(it, name, home=COMMON, value=rng.choice((4, 16, 64)), size=rng.choice((4 * WORDS, 200)),
+                           kind=DATA_TYPE)
+            self.numbers.append((None, name, True))
+            return
+        name_of_section, kind, flags = rng.choice(DATA_SECTIONS)
+        align = rng.choice((4, 4, 8, 64))
+        section = self.new_section(read, name_of_section, kind, flags, align=align, size=4 * WORDS)
+        if kind != NOBITS:
+            section.words(*(rng.getrandbits(32) for _ in range(WORDS)))
+        how = {'home': section, 'kind': DATA_TYPE, 'size': 4 * WORDS}
+        if which == 1:
+            read.symbol(name, bind=LOCAL, **how)
+            self.numbers.append((read, read.symbols[-1], flags != CONSTANT_FLAGS))
+        elif which == 2:
+            read.symbol(b'', bind=LOCAL, home=section, kind=SECTION_TYPE)
+            self.numbers.append((read, read.symbols[-1], flags != CONSTANT_FLAGS))
+        else:
+            bind = WEAK if which == 3 else GLOBAL
+            self.named(read, name, bind=bind, **how)
+            if which == 3 and rng.random() < 0.5:
+                other = rng.choice(self.objects)
+                again = self.new_section(other, b'.data', PROGBITS, DATA_FLAGS)
+                again.words(*range(WORDS))
+                self.named(other, name, bind=rng.choice((GLOBAL, WEAK)), home=again, kind=DATA_TYPE)
+            self.numbers.append((None, name, True))
+
+    def add_table(self, read):
+        """A section of words that name functions, numbers, nothing, or what the linker defines."""
+        rng = self.rng
+        name_of_section, kind, flags = rng.choice(DATA_SECTIONS[:3])
+        section = self.new_section(read, name_of_section, kind, flags, align=rng.choice((4, 16)))
+        name = self.new_name(b't')
+        self.named(read, name, home=section, kind=DATA_TYPE, size=4 * WORDS)
+        held = []
+        for _ in range(WORDS):
+            which = rng.randrange(8)
+            if which < 4:
+                function = rng.randrange(len(self.functions))
+                section.reloc(R_32, self.named(read, self.functions[function]), 0, (rng.choice((0, rng.getrandbits(32))),))
+                held.append(function)
+                continue
+            held.append(None)
+            symbol = (self.number_symbol(read)[0] if which == 4 else self.named(read, b'missing', bind=WEAK) if which == 5 else
+                      None if which == 6 else self.named(read, rng.choice(LINKED_NAMES)))
+            section.reloc(R_32, symbol, rng.choice((0, 0, 4, -4, 0x12345)), (0,))
+        self.tables.append((name, held))
+
+    def number_symbol(self, read, must_change=False):
+        """A symbol of words that are numbers, as it is seen from an object, and an offset in it."""
+        usable = [it for it in self.numbers if it[0] in (None, read) and (it[2] or not must_change)]
+        owner, name, _ = self.rng.choice(usable)
+        return (self.named(read, name) if owner is None else name), 4 * self.rng.randrange(WORDS)
+
+
+# ---- code
+
+
+class Function:
+    """A function that is being made, in a section of code."""
+
+    def __init__(self, program, read, section, index):
+        self.program, self.rng, self.read, self.section, self.index = program, program.rng, read, section, index
+
+    def label(self, name=None):
+        return self.read.symbol(name or self.program.new_name(b'.L'), home=self.section, value=len(self.section.content),
+                                bind=LOCAL)
+
+    def place(self, label):
+        label.value = len(self.section.content)
+
+    def relax(self):
+        """A hint that a linker may pass over."""
+        if self.rng.random() < 0.3:
+            self.section.reloc(RELAX, None)
+            self.section.relocs[-1].offset -= 4
+
+    def pair(self, to, symbol, addend, last):
+        """An upper part, absolute or from the program counter, and a last word with the lower part."""
+        section = self.section
+        is_store = last & 0x7F == 0x23
+        if self.rng.random() < 0.5:
+            section.reloc(HI20, symbol, addend, (lui(to),))
+            self.relax()
+            section.reloc(LO12_S if is_store else LO12_I, symbol, addend, (last,))
+            self.relax()
+        else:
+            label = self.label()
+            section.reloc(PCREL_HI20, symbol, addend, (auipc(to),))
+            self.relax()
+            if self.rng.random() < 0.3:
+                section.words(addi(SUM, SUM, 1))
+            section.reloc(PCREL_LO12_S if is_store else PCREL_LO12_I, label, 0, (last,))
+            self.relax()
+
+    # the ways to call
+
+    def call(self):
+        later = range(self.index + 1, len(self.program.functions))
+        if not later:
+            return
+        symbol = self.program.named(self.read, self.program.functions[self.rng.choice(later)])
+        which = self.rng.randrange(6)
+        if which < 2:
+            self.section.reloc(self.rng.choice((CALL, CALL_PLT)), symbol, 0, (auipc(RA), jalr(RA, RA)))
+        elif which == 2:
+            self.section.reloc(JAL, symbol, 0, (jal(RA),))
+        elif which == 3:
+            self.pair(T0, symbol, 0, jalr(RA, T0))
+        elif which == 4:
+            self.pair(T0, symbol, 0, addi(T1, T0))
+            self.section.words(jalr(RA, T1))
+        else:
+            self.call_by_table(later)
+
+    def call_by_table(self, later):
+        usable = [(name, k) for name, held in self.program.tables for k, function in enumerate(held) if function in later]
+        if usable:
+            name, k = self.rng.choice(usable)
+            self.pair(T0, self.program.named(self.read, name), 4 * k, lw(T1, T0))
+            self.section.words(jalr(RA, T1))
+
+    def call_nothing(self):
+        """A call of a weak name without definition, if it is defined."""
+        symbol = self.program.named(self.read, b'missing', bind=WEAK)
+        self.section.reloc(HI20, symbol, 0, (lui(T0),))
+        self.section.reloc(LO12_I, symbol, 0, (addi(T0, T0),))
+        end = self.label()
+        self.section.reloc(BRANCH, end, 0, (branch(0, T0, ZERO),))
+        self.section.reloc(CALL, symbol, 0, (auipc(RA), jalr(RA, RA)))
+        self.section.reloc(JAL, symbol, 0, (jal(RA),))
+        self.section.reloc(BRANCH, symbol, 0, (branch(1, T0, T1),))
+        self.place(end)
+
+    # work
+
+    def work(self):
+        value = self.rng.randrange(-2048, 2048)
+        self.section.words(self.rng.choice((addi(SUM, SUM, value), of_format_i(0x13, 4, SUM, SUM, value),
+                                            of_format_i(0x13, 1, SUM, SUM, 1), of_format_i(0x13, 3, T0, SUM, value))))
+
+    def load_number(self):
+        symbol, addend = self.program.number_symbol(self.read)
+        self.pair(T0, symbol, addend, self.rng.choice((lw(T1, T0), of_format_i(0x03, 4, T1, T0))))
+        self.section.words(add(SUM, SUM, T1))
+
+    def store_number(self):
+        if any(it[2] and it[0] in (None, self.read) for it in self.program.numbers):
+            symbol, addend = self.program.number_symbol(self.read, must_change=True)
+            self.pair(T0, symbol, addend, sw(SUM, T0))
+
+    def take_address(self):
+        names = [*LINKED_NAMES, b'missing', b'absolute']
+        name = self.rng.choice(names)
+        symbol = self.program.named(self.read, name, **({'bind': WEAK} if name == b'missing' else {}))
+        self.pair(T0, symbol, self.rng.choice((0, 0, 0x7FF, 0x800, -0x801)), addi(T1, T0))
+        self.section.words(add(SUM, SUM, T1))
+
+    def write_number(self):
+        symbol, addend = self.program.number_symbol(self.read)
+        self.pair(A1, symbol, addend, addi(A1, A1))
+        self.section.words(addi(A0, ZERO, self.rng.choice((1, 2))), addi(A2, ZERO, 4), addi(A7, ZERO, 64), ECALL)
+
+    def read_input(self):
+        if any(it[2] and it[0] in (None, self.read) for it in self.program.numbers):
+            symbol, _ = self.program.number_symbol(self.read, must_change=True)
+            self.pair(A1, symbol, 0, addi(A1, A1))
+            self.section.words(addi(A0, ZERO, 0), addi(A2, ZERO, 8), addi(A7, ZERO, 63), ECALL, add(SUM, SUM, A0))
+
+    def skip(self):
+        """A branch over words, with a relocation or without; the condition is one of numbers or of the address of code."""
+        skipped = self.rng.randrange(4)
+        f3 = self.rng.choice((0, 1, 4, 5, 6, 7))
+        first = SUM
+        if self.rng.random() < 0.3:
+            symbol = self.program.named(self.read, self.rng.choice(self.program.functions))
+            self.pair(T2, symbol, 0, addi(T2, T2))
+            f3, first = self.rng.choice((0, 1)), T2
+        if self.rng.random() < 0.5:
+            self.section.words(branch(f3, first, ZERO, 4 + 4 * skipped))
+        else:
+            self.section.reloc(BRANCH, self.label(), 4 + 4 * skipped, (branch(f3, first, ZERO),))
+        for _ in range(skipped):
+            self.work()
+
+    def jump_over(self):
+        """A jump over words that are no instructions."""
+        end = self.label()
+        if self.rng.random() < 0.5:
+            self.section.reloc(JAL, end, 0, (jal(ZERO, self.rng.choice((0, 4, 100))),))
+        else:
+            self.section.words(jal(ZERO, 8))
+            self.section.reloc(R_32, self.word_symbol(), 0, (0,))
+            self.place(end)
+            return
+        for _ in range(self.rng.randrange(4)):
+            if self.rng.random() < 0.5:
+                self.section.reloc(R_32, self.word_symbol(), self.rng.choice((0, 0, 4)), (self.rng.getrandbits(32),))
+            else:
+                self.section.words(self.rng.choice((0, 0xFFFFFFFF, 0x01751073, 0x0000000B, jal(ZERO, 0x80000), jal(ZERO, 2))))
+        self.place(end)
+
+    def word_symbol(self):
+        return self.rng.choice((None, self.program.number_symbol(self.read)[0],
+                                self.program.named(self.read, self.rng.choice(self.program.functions))))
+
+    def align(self):
+        most = self.rng.choice((8, 8, 16, 32, 256))
+        if not self.program.is_odd:
+            self.section.align = max(self.section.align, most)
+        self.section.reloc(ALIGN, None, most - 4, [NOP] * (most // 4 - 1))
+
+    def loop(self):
+        self.section.words(addi(T3, ZERO, self.rng.randrange(1, 5)))
+        start = self.label()
+        is_aligned = self.rng.random() < 0.3
+        if is_aligned:
+            self.align()
+        self.work()
+        self.section.words(addi(T3, T3, -1))
+        if self.rng.random() < 0.5 or is_aligned and not self.program.is_odd:
+            self.section.reloc(BRANCH, start, 0, (branch(1, T3, ZERO),))
+        else:
+            self.section.words(branch(1, T3, ZERO, start.value - len(self.section.content)))
+
+    def far(self):
+        """A jump over more words than a branch reaches, or a branch over as many as it reaches."""
+        count = self.rng.choice((1022, 1022, 1100))
+        end = self.label()
+        if count == 1022:
+            self.section.reloc(BRANCH, end, 0, (branch(0, ZERO, ZERO),))
+        else:
+            self.section.reloc(JAL, end, 0, (jal(ZERO),))
+        self.section.words(*[addi(SUM, SUM, 1)] * count)
+        self.place(end)
+
+    def body(self, count):
+        ways = (self.work, self.load_number, self.store_number, self.take_address, self.write_number, self.read_input,
+                self.skip, self.jump_over, self.align, self.loop, self.call, self.call, self.call_nothing)
+        for _ in range(count):
+            self.rng.choice(ways)()
+        if self.rng.random() < 0.03:
+            self.far()
+
+    def make(self):
+        self.section.words(addi(SP, SP, -16), sw(RA, SP, 12), sw(S0, SP, 8))
+        self.body(self.rng.choice((1, 3, 6)))
+        self.section.words(lw(RA, SP, 12), lw(S0, SP, 8), addi(SP, SP, 16), jalr(ZERO, RA))
+
+
+def add_start(program):
+    """`_start`, which calls functions, writes the sum and exits."""
+    read, rng = program.objects[0], program.rng
+    section = program.new_section(read, b'.text', PROGBITS, 6)
+    if rng.random() < 0.3:
+        section.words(NOP, NOP)
+    read.symbol(b'_start', home=section, value=len(section.content), bind=rng.choice((GLOBAL, GLOBAL, WEAK)))
+    made = Function(program, read, section, -1)
+    section.words(addi(SUM, ZERO, rng.randrange(2048)))
+    made.body(rng.choice((2, 5)))
+    made.call()
+    section.words(addi(SP, SP, -16), sw(SUM, SP), addi(A0, ZERO, 1), addi(A1, SP), addi(A2, ZERO, 4), addi(A7, ZERO, 64), ECALL,
+                  addi(A0, SUM), addi(A7, ZERO, 93), ECALL)
+
+
+def add_functions(program):
+    shared = {}
+    for index, (name, home) in enumerate(zip(program.functions, program.homes)):
+        read = program.objects[home]
+        align = program.rng.choice((1, 2, 4, 4, 4, 16, 256))
+        section = shared.get(home) or program.new_section(read, b'.text', PROGBITS, 6, align=align)
+        if program.rng.random() < 0.5:
+            shared[home] = section
+        start = len(section.content)
+        Function(program, read, section, index).make()
+        symbol = program.named(read, name)
+        symbol.home, symbol.value, symbol.size, symbol.kind = section, start, len(section.content) - start, FUNCTION_TYPE
+
+
+# ---- what is odd
+
+
+def any_reloc(program):
+    """An object, a section and a relocation."""
+    found = [(read, section, reloc) for read in program.objects for section in read.sections for reloc in section.relocs]
+    return program.rng.choice(found) if found else None
+
+
+def odd_reloc(program, read, section, reloc):
+    """Changes a relocation."""
+    rng = program.rng
+    which = rng.randrange(9)
+    if which == 0:
+        reloc.kind = rng.choice((NONE, R_32, 2, BRANCH, JAL, CALL, CALL_PLT, 20, PCREL_HI20, PCREL_LO12_I, PCREL_LO12_S, HI20,
+                                 LO12_I, LO12_S, 35, 39, ALIGN, 44, 45, RELAX, 57, 192, 255))
+    elif which == 1:
+        reloc.offset += rng.choice((-8, -4, -2, -1, 1, 2, 4, 8, 4096))
+    elif which == 2:
+        reloc.addend = rng.choice((0, 1, 2, 3, 4, 8, 12, 60, 252, 253, 255, 256, 260, -1, -4, 0x7FFFFFFF, -0x80000000,
+                                   reloc.addend + 4))
+    elif which == 3:
+        reloc.symbol = rng.choice((None, *read.symbols))
+    elif which == 4:
+        section.relocs.insert(rng.randrange(len(section.relocs) + 1), type(reloc)(reloc.offset, reloc.kind, reloc.symbol, reloc.addend))
+    elif which == 5:
+        rng.shuffle(section.relocs)
+    elif which == 6 and section.kind == PROGBITS and 0 <= reloc.offset <= len(section.content) - 4:
+        word, = struct.unpack_from('<I', section.content, reloc.offset)
+        struct.pack_into('<I', section.content, reloc.offset, rng.choice((word ^ 1 << rng.randrange(32), rng.getrandbits(32), NOP)))
+    elif which == 7:
+        other = rng.choice(section.relocs)
+        reloc.offset, other.offset = other.offset, reloc.offset
+    else:
+        section.relocs.append(type(reloc)(reloc.offset + rng.choice((-4, 0, 4)), rng.choice((R_32, ALIGN, CALL, RELAX, 44, 99)),
+                                          rng.choice((None, *read.symbols)), rng.choice((0, 4, 8, 12, 300))))
+
+
+def odd_symbol(program):
+    """Changes a symbol."""
+    rng = program.rng
+    symbol = rng.choice(rng.choice([read for read in program.objects if read.symbols]).symbols)
+    which = rng.randrange(5)
+    if which == 0:
+        symbol.value += rng.choice((-4, 1, 2, 4, 8))
+    elif which == 1:
+        symbol.bind = rng.choice((LOCAL, GLOBAL, WEAK))
+    elif which == 2:
+        symbol.home = rng.choice((ABS, COMMON, None, *rng.choice(program.objects).sections))
+    elif which == 3:
+        symbol.name = rng.choice((b'_start', b'missing', b'f0', b'', b'_end'))
+    else:
+        symbol.value = rng.choice((0, 1, 4, 0xFFFFFFFF))
+
+
+def odd_section(program):
+    """Changes a section: it is dropped, cut, longer, or aligned in another way."""
+    rng = program.rng
+    section = rng.choice(rng.choice([read for read in program.objects if read.sections]).sections)
+    which = rng.randrange(5)
+    if which == 0:
+        section.flags &= ~2
+    elif which == 1:
+        del section.content[max(0, len(section.content) - 4 * rng.randrange(1, 4)):]
+    elif which == 2:
+        section.align = rng.choice((0, 1, 2, 8, 16, 64, 256))
+    elif which == 3:
+        section.name = rng.choice((b'.eh_frame', b'.sdata', b'.text', b'.sbss.x'))
+    else:
+        section.content[0:0] = bytes(4 * rng.randrange(3))
+
+
+def odd_branch(program):
+    """A branch as far as it reaches or a bit farther, forwards or backwards."""
+    rng = program.rng
+    read = rng.choice(program.objects)
+    section = rng.choice([it for it in read.sections if it.flags == 6] or [None])
+    if section is None:
+        return
+    count = rng.choice((1022, 1023, 1024))
+    if rng.random() < 0.5:
+        label = read.symbol(b'.Lfar', home=section, value=len(section.content) + 4 + 4 * count, bind=LOCAL)
+        section.reloc(BRANCH, label, 0, (branch(0, A0, A1),))
+        section.words(*[NOP] * count)
+    else:
+        label = read.symbol(b'.Lfar', home=section, value=len(section.content), bind=LOCAL)
+        section.words(*[NOP] * count)
+        section.reloc(BRANCH, label, 0, (branch(0, A0, A1),))
+
+
+def make_odd(program):
+    for _ in range(program.rng.choice((1, 1, 1, 2, 4))):
+        which = program.rng.randrange(12)
+        found = any_reloc(program)
+        if which < 8 and found:
+            odd_reloc(program, *found)
+        elif which == 8:
+            odd_section(program)
+        elif which == 9:
+            odd_branch(program)
+        else:
+            odd_symbol(program)
+
+
+def made_list(rng, is_odd):
+    """The files of a list of objects."""
+    program = Program(rng, is_odd)
+    program.objects[-1].symbol(b'absolute', home=ABS, value=rng.getrandbits(32))
+    program.known[id(program.objects[-1]), b'absolute'] = program.objects[-1].symbols[-1]
+    program.add_numbers(program.objects[0])
+    for read in program.objects:
+        program.named(read, b'shared0')
+    again = program.new_section(program.objects[0], b'.data', PROGBITS, DATA_FLAGS)
+    again.words(*range(WORDS))
+    shared = program.named(program.objects[0], b'shared0')
+    shared.home, shared.kind = again, DATA_TYPE
+    program.numbers.append((None, b'shared0', True))
+    for _ in range(rng.choice((1, 3, 6))):
+        program.add_numbers(rng.choice(program.objects))
+    for _ in range(rng.choice((0, 1, 2))):
+        program.add_table(rng.choice(program.objects))
+    if rng.random() < 0.5:
+        add_start(program)
+        add_functions(program)
+    else:
+        add_functions(program)
+        add_start(program)
+    if is_odd:
+        make_odd(program)
+    return [read.bytes() for read in program.objects]

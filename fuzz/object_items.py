@@ -1,0 +1,308 @@
+"""The items of code, and the faults of relocations and of the plain layout (RISC-V ELF psABI, "Relocations").
+
+    fuzz/object_items.py FILE...
+
+lists the items of the files, or says their first fault. It knows nothing of the program, so that both can be compared.
+"""
+import struct
+import sys
+
+from object_data import ABSENT, CODE, NOWHERE, NUMBER, TEXT_AT, Symbols, aligned
+from object_faults import RELA, Object, gather_fault, told
+
+NONE, R_32, BRANCH, JAL, CALL, CALL_PLT, ALIGN, RELAX = 0, 1, 16, 17, 18, 19, 43, 51
+PCREL_HI20, PCREL_LO12_I, PCREL_LO12_S, HI20, LO12_I, LO12_S = 23, 24, 25, 26, 27, 28
+WITHOUT_FIELD = (NONE, RELAX)
+CALLS, LOW_OF_PAIR = (CALL, CALL_PLT), (PCREL_LO12_I, PCREL_LO12_S)
+FIELDS = {R_32: 4, BRANCH: 4, JAL: 4, CALL: 8, CALL_PLT: 8, PCREL_HI20: 4, PCREL_LO12_I: 4, PCREL_LO12_S: 4, HI20: 4,
+          LO12_I: 4, LO12_S: 4}
+KIND_FAULT, PLACE_FAULT, PAIR_FAULT, TARGET_FAULT, RANGE_FAULT, ENTRY_FAULT = 11, 12, 13, 14, 15, 16
+
+
+# ---- words (RISC-V unprivileged manual, "RV32I")
+
+
+def signed(value, bits):
+    return value - (1 << bits) if value >> bits - 1 & 1 else value
+
+
+def is_branch(word):
+    return word & 0x7F == 0x63 and word >> 12 & 7 not in (2, 3)
+
+
+def is_jal(word):
+    return word & 0x7F == 0x6F
+
+
+def is_jalr(word):
+    return word & 0x707F == 0x67
+
+
+def is_lui(word):
+    return word & 0x7F == 0x37
+
+
+def is_auipc(word):
+    return word & 0x7F == 0x17
+
+
+def takes_low_i(word):
+    """addi, a load, or jalr."""
+    return word & 0x707F == 0x13 or word & 0x7F == 0x03 and word >> 12 & 7 in (0, 1, 2, 4, 5) or is_jalr(word)
+
+
+def is_store(word):
+    return word & 0x7F == 0x23 and word >> 12 & 7 <= 2
+
+
+def branch_distance(word):
+    return signed(word >> 31 << 12 | (word >> 7 & 1) << 11 | (word >> 25 & 63) << 5 | (word >> 8 & 15) << 1, 13)
+
+
+def jal_distance(word):
+    return signed(word >> 31 << 20 | (word >> 12 & 255) << 12 | (word >> 20 & 1) << 11 | (word >> 21 & 1023) << 1, 21)
+
+
+def is_known(word):
+    """A word of RV32IM that an item is made of: all but `csrrw`."""
+    opcode, f3, f7 = word & 0x7F, word >> 12 & 7, word >> 25
+    if opcode == 0x13:
+        return f3 not in (1, 5) or f7 == 0 or f3 == 5 and f7 == 0x20
+    if opcode == 0x33:
+        return f7 in (0, 1) or f7 == 0x20 and f3 in (0, 5)
+    return (is_branch(word) or is_jal(word) or takes_low_i(word) or is_lui(word) or is_auipc(word) or is_store(word)
+            or word & 0x707F == 0x0F or word in (0x00000073, 0x00100073))
+
+
+KINDS = {BRANCH: is_branch, JAL: is_jal, PCREL_HI20: is_auipc, HI20: is_lui, PCREL_LO12_I: takes_low_i, LO12_I: takes_low_i,
+         PCREL_LO12_S: is_store, LO12_S: is_store}
+
+
+# ---- entries
+
+
+class Entry:
+    """A relocation of a section: where, of what type, and what it names."""
+
+    def __init__(self, offset, info, addend):
+        self.offset, self.symbol, self.kind, self.addend = offset, info >> 8, info & 255, addend
+        self.size = max(0, addend) if self.kind == ALIGN else FIELDS.get(self.kind, 0)
+        self.overlaps = False
+        self.fault = None
+
+
+def mark_overlaps(entries):
+    """Marks each entry whose field has a byte of another's."""
+    fields = sorted((entry for entry in entries if entry.size), key=lambda entry: entry.offset)
+    end = -1
+    for before, entry in zip([None, *fields], fields):
+        if entry.offset < end:
+            entry.overlaps = True
+        if before and entry.offset < before.offset + before.size:
+            before.overlaps = True
+        end = max(end, entry.offset + entry.size)
+
+
+class Part:
+    """A kept section, with its entries in their order. Those that have a bad type or place are marked."""
+
+    def __init__(self, read, k):
+        self.section, self.is_code = read.sections[k], read.is_code(k)
+        self.entries = [Entry(*row) for s in read.sections if s.kind == RELA and s.info == k
+                        for row in struct.iter_unpack('<IIi', s.content)]
+        mark_overlaps(self.entries)
+        for entry in self.entries:
+            entry.fault = KIND_FAULT if self.is_bad_kind(entry) else PLACE_FAULT if self.is_bad_place(entry) else None
+        self.at = {entry.offset: entry for entry in self.entries if entry.fault is None and entry.kind not in WITHOUT_FIELD}
+        self.high = {entry.offset for entry in self.entries if entry.kind == PCREL_HI20
+                     and is_auipc(self.word(entry.offset))}
+        self.starts = self.found_starts() if self.is_code else {}
+
+    def word(self, at):
+        content = self.section.content
+        return int.from_bytes(content[at:at + 4], 'little') if at + 4 <= len(content) else 0
+
+    def is_bad_kind(self, entry):
+        known = (NONE, R_32, RELAX) if not self.is_code else (NONE, RELAX, ALIGN, *FIELDS)
+        return entry.kind not in known
+
+    def is_bad_place(self, entry):
+        if entry.kind in WITHOUT_FIELD:
+            return False
+        at = entry.offset
+        if at + entry.size > self.section.size or entry.overlaps or self.is_code and at % 4:
+            return True
+        if entry.kind == ALIGN:
+            return not 1 <= entry.addend <= 255 or entry.addend % 4 != 0
+        if entry.kind in CALLS:
+            first, second = self.word(at), self.word(at + 4)
+            return not (is_auipc(first) and is_jalr(second) and second >> 15 & 31 == first >> 7 & 31)
+        return entry.kind in KINDS and not KINDS[entry.kind](self.word(at))
+
+    def found_starts(self):
+        """The size of each item, by the offset where it starts."""
+        starts, at = {}, 0
+        while at < self.section.size:
+            entry = self.at.get(at)
+            starts[at] = entry.size if entry else 4
+            at += starts[at]
+        return starts
+
+
+# ---- items
+
+
+class Item:
+    """What stands at a place of code: its kind, its words as they are, and what it names."""
+
+    def __init__(self, kind, words, target=None):
+        self.kind, self.words, self.target = kind, words, target
+
+
+class Code:
+    """The code of a list of objects without a fault between objects."""
+
+    def __init__(self, objects):
+        self.objects, self.symbols = objects, Symbols(objects)
+        self.parts = {(i, k): Part(read, k) for i, read in enumerate(objects) for k in range(read.count) if read.kept[k]}
+
+    def code_parts(self):
+        return ((place, part) for place, part in self.parts.items() if part.is_code)
+
+    def places(self):
+        """The place of each item, in their order."""
+        return ((i, k, offset) for (i, k), part in self.code_parts() for offset in part.starts)
+
+    def is_start_or_end(self, i, k, offset):
+        part = self.parts[i, k]
+        return offset in part.starts or offset == part.section.size
+
+    # what is wrong with a relocation
+
+    def entry_fault(self, i, k, entry):
+        if entry.fault or entry.kind in WITHOUT_FIELD:
+            return entry.fault
+        if entry.kind in LOW_OF_PAIR and not self.has_high(i, k, entry):
+            return PAIR_FAULT
+        target = self.symbols.resolve(i, entry.symbol, entry.addend)
+        if (target[0] == NOWHERE or target[0] == CODE and not self.is_start_or_end(*target[1:])
+                or target[0] == NUMBER and entry.kind in (BRANCH, JAL, *CALLS)):
+            return TARGET_FAULT
+        return None
+
+    def has_high(self, i, k, entry):
+        """Whether the symbol of a low part is the place of the high one."""
+        target = self.symbols.resolve(i, entry.symbol, 0)
+        return entry.addend == 0 and target[:3] == (CODE, i, k) and target[3] in self.parts[i, k].high
+
+    # items
+
+    def item(self, place):
+        i, k, offset = place
+        part = self.parts[i, k]
+        words = [part.word(at) for at in range(offset, offset + part.starts[offset], 4)]
+        entry = part.at.get(offset)
+        if entry is None:
+            return self.plain_item(place, words)
+        target = self.symbols.resolve(i, entry.symbol, entry.addend)
+        if entry.kind == ALIGN:
+            return Item('Align', words, 1 << entry.addend.bit_length())
+        if entry.kind in CALLS:
+            return Item('RawPair' if target[0] == ABSENT else 'Call', words, target)
+        if entry.kind in (BRANCH, JAL):
+            return Item('Raw' if target[0] == ABSENT else 'Branch' if entry.kind == BRANCH else 'Jump', words, target)
+        kind = {R_32: 'Word', HI20: 'Hi', LO12_I: 'Lo', LO12_S: 'Lo', PCREL_HI20: 'PcHi'}.get(entry.kind, 'PcLo')
+        return Item(kind, words, target)
+
+    def plain_item(self, place, words):
+        """An item without a relocation."""
+        i, k, offset = place
+        word, = words
+        if is_branch(word) or is_jal(word):
+            to = offset + (branch_distance(word) if is_branch(word) else jal_distance(word))
+            if self.is_start_or_end(i, k, to):
+                return Item('Branch' if is_branch(word) else 'Jump', words, (CODE, i, k, to))
+            return Item('Raw', words)
+        return Item('Op' if is_known(word) else 'Raw', words)
+
+    # the plain layout
+
+    def plain_layout(self):
+        """The address of each item and of each section's end, and where the text ends."""
+        addresses, at = {}, TEXT_AT
+        for (i, k), part in self.code_parts():
+            at = aligned(at, max(4, part.section.align))
+            for offset, size in part.starts.items():
+                addresses[i, k, offset] = at
+                entry = part.at.get(offset)
+                is_align = entry is not None and entry.kind == ALIGN
+                at = aligned(at, 1 << entry.addend.bit_length()) if is_align else at + size
+            addresses[i, k, part.section.size] = at
+        return addresses, at
+
+    def entry(self):
+        """The place of `_start`, or none if no item starts there."""
+        found = self.symbols.names.definition(b'_start')
+        if found is None or found[0] is None or found[:2] not in self.parts or found[2] not in self.parts[found[:2]].starts:
+            return None
+        return found
+
+    def far_branch(self):
+        """The place of the first branch that doesn't reach in the plain layout, or none."""
+        addresses, _ = self.plain_layout()
+        for place in self.places():
+            item = self.item(place)
+            if item.kind == 'Branch' and not -4096 <= addresses[item.target[1:]] - addresses[place] <= 4094:
+                return place
+        return None
+
+    def fault(self):
+        """The first fault: the object and the number, or none."""
+        for (i, k), part in self.parts.items():
+            for entry in part.entries:
+                fault = self.entry_fault(i, k, entry)
+                if fault:
+                    return i, fault, None
+        if self.entry() is None:
+            return 0, ENTRY_FAULT, None
+        far = self.far_branch()
+        return far and (far[0], RANGE_FAULT, None)
+
+
+def first_fault(files):
+    """The first fault of a list of files: the object's index, the fault's number, and the name of a symbol or none; or none."""
+    return gather_fault(files) or Code([Object(data) for data in files]).fault()
+
+
+def is_unlinked(read):
+    """Whether the object has something that `zc` doesn't link yet: a relocation, a word that is neither `addi` nor `ecall`, or
+    code aligned above 4."""
+    return (any(kind not in WITHOUT_FIELD for _, kind, _ in read.relocations()) or any(
+        s.align > 4 or not all(word & 0x707F == 0x13 or word == 0x73 for word, in struct.iter_unpack('<I', s.content))
+        for i, s in enumerate(read.sections) if read.is_code(i)))
+
+
+def zc_fault(files):
+    """The first fault for which `zc` refuses the files."""
+    found = first_fault(files)
+    unlinked = None if found else next((i for i, data in enumerate(files) if is_unlinked(Object(data))), None)
+    return found if unlinked is None else (unlinked, 0, None)
+
+
+def main():
+    files = []
+    for path in sys.argv[1:]:
+        with open(path, 'rb') as file:
+            files.append(file.read())
+    found = first_fault(files)
+    if found:
+        sys.exit(told(found).decode('latin-1'))
+    code = Code([Object(data) for data in files])
+    addresses, _ = code.plain_layout()
+    for place in code.places():
+        item = code.item(place)
+        print(*place, f'{addresses[place]:08x}', item.kind, *(f'{word:08x}' for word in item.words), item.target or '')
+
+
+if __name__ == '__main__':
+    main()
