@@ -3,22 +3,23 @@
 
     fuzz/fuzz.py [--seed S] [--count N] [--seconds T] [--only CASE] [--keep FOLDER] [PROGRAM]
 
-PROGRAM is build/zcld where none is given. A case is fixed by the seed and its number: a list of files, which are
-objects or an image, as they were made or with mutations, and what is odd about the call. All files go to `zc` and
-`trace`, the first to `run`, and an image that `zc` wrote to `run`. Checked are:
+PROGRAM is build/zcld if none is given. A case is fixed by the seed and its number: a list of files, which are
+objects or an image, as they were made or with mutations, and what is odd about the call. Half of the lists are objects of code
+and data with relocations (`made_objects.py`). All files go to `zc`, `plain` and `trace`, the first to `run`, and an image that
+was written to `run`. Checked are:
 
 - the call ends, by no signal, within its time-out, with a status that has a name and a line of that name at the
-  end of standard error; `zc`, and `run` and `trace` of files that are refused, write nothing else;
+  end of standard error; `zc`, and `run` and `trace` of files that are refused, write nothing else, and `plain` only
+  the text's length;
 - it is an outcome that this command has;
 - after `zc` ended with 0 the image and the certificate are there, and else no file is there or has changed, but
-  for the image alone after a write fault or where memory ran out;
-- the image is the one that `object_link.py` makes, byte for byte;
-- `zc` and `trace` refuse files exactly where they have a fault, and name the first (`object_faults.py`);
-- where `trace` isn't stuck, `run` of the image writes what `trace` of the objects does, and ends as it does; where
-  it is, `run` writes that and maybe more;
-- and so it is of a plain image that `object_link.py` makes of any code that `trace` takes.
+  for the image alone after a write fault or if memory ran out; so it is for the image of `plain`;
+- the image of `zc` is the one that `object_link.py` makes, and that of `plain` the one of `plain_link.py`, byte for byte;
+- `zc`, `plain` and `trace` refuse files exactly if they have a fault, and name the first (`object_items.py`);
+- if `trace` isn't stuck, `run` of each image writes what `trace` of the objects does, and ends as it does; if it is,
+  `run` writes that and maybe more.
 
-The status is 1 where a check failed. FOLDER then has the files of those cases.
+The status is 1 if a check failed. FOLDER then has the files of those cases.
 """
 import argparse
 import collections
@@ -32,11 +33,16 @@ import sys
 import tempfile
 import time
 
-from object_faults import NAMES as FAULTS, object_fault, told, trace_fault, zc_fault
+from made_objects import made_list
+from object_faults import NAMES as FAULTS, object_fault, told
+from object_items import first_fault, zc_fault
 from object_link import image as image_of
+from plain_link import plain as plain_of
 
 TIME_OUT = 20
-STEPS = '1000'
+STEPS = '2000'
+# As many commits as a plain image may need for these steps.
+PLAIN_STEPS = str(64 * int(STEPS) + 3)
 MIB = 1 << 20
 MOST_MEMORY = 2048 * MIB
 OBJECT_LIMIT = 4 * MIB
@@ -50,19 +56,22 @@ WHYS = (None, 'AddressUnknown', 'ConditionUnknown', 'TargetUnknown', 'ArgumentUn
 # For each outcome: its line, the status, and the commands that have it.
 OUTCOMES = {
     'exited': (r'exited (?P<status>\d+)', None, ('run', 'trace')),
-    'usage': (r'usage', 120, ('zc', 'run', 'trace')),
-    'refused': (r'refused \d+ (?P<number>\d+) (?P<name>\w+)(?s: .*)?', 121, ('zc', 'trace')),
-    'read fault': (r'read fault', 122, ('zc', 'run', 'trace')),
-    'write fault': (r'write fault', 123, ('zc', 'run', 'trace')),
-    'out of memory': (r'out of memory', 124, ('zc', 'run', 'trace')),
+    'usage': (r'usage', 120, ('zc', 'plain', 'run', 'trace')),
+    'refused': (r'refused \d+ (?P<number>\d+) (?P<name>\w+)(?s: .*)?', 121, ('zc', 'plain', 'trace')),
+    'read fault': (r'read fault', 122, ('zc', 'plain', 'run', 'trace')),
+    'write fault': (r'write fault', 123, ('zc', 'plain', 'run', 'trace')),
+    'out of memory': (r'out of memory', 124, ('zc', 'plain', 'run', 'trace')),
     'bad image': (r'bad image [1-5]', 125, ('run',)),
     'stopped': (r'stopped (?P<number>\d+) (?P<name>\w+) [0-9a-f]{8}', 126, ('run',)),
     'stuck': (r'stuck \d+ \d+ \d+ (?P<number>\d+) (?P<name>\w+)', 126, ('trace',)),
     'spent': (r'spent', 127, ('run', 'trace')),
 }
 NAMES = {'refused': FAULTS, 'stopped': REASONS, 'stuck': WHYS}
+LINKS = ('zc', 'plain')
 # The outcomes after which the program itself may have written.
 RUNS = ('exited', 'stopped', 'stuck', 'spent', 'write fault', 'out of memory')
+# The outcomes after which `plain` may have written the text's length, or a part of it.
+SHOWS = ('done', 'write fault', 'out of memory')
 
 EDGES = (0, 1, 2, 3, 4, 5, 6, 7, 8, 9, 17, 39, 40, 41, 51, 52, 53, 0x7F, 0x80, 0xFF, 0xFFFE, 0xFFFF, 0x10000, 0x10001,
          0xFFFFF, 0x100000, 0x4FFFFF, 0x500000, 0x0FF00000, 0x10000000, 0x7FFFFFFF, 0x80000000, 0xFFFFFFD8, 0xFFFFFFFC,
@@ -369,9 +378,10 @@ class Ended:
         if status < 0:
             raise Wrong(f'{command}: signal {-status}')
         self.out, self.name, self.line, self.err = out, 'done', b'', err
-        if (status, err) != (0, b'') or command != 'zc':
+        if (status, err) != (0, b'') or command not in LINKS:
             self.find(command, status, err)
-        if (self.out or self.err) and (command == 'zc' or self.name not in RUNS):
+        may_write = {'zc': (), 'plain': SHOWS}.get(command, RUNS)
+        if self.name not in may_write and self.out or (command in LINKS or self.name not in RUNS) and self.err:
             raise Wrong(f'{command}: {self.name}, but it wrote {self.out[:80]!r} and {self.err[:80]!r}')
 
     def find(self, command, status, err):
@@ -450,13 +460,12 @@ class Case:
     def __init__(self, seed, number, example, image):
         rng = random.Random(f'{seed} {number}')
         self.how, self.files = [], []
-        is_straight = rng.random() < 0.5
-        for i in range(rng.choice((1, 1, 1, 2, 2, 3, 6))):
-            start = rng.choice(('example', 'image', 'image', 'made', 'made', 'made')) if i == 0 else 'made'
-            data = {'example': example, 'image': image}.get(start) or made_object(rng, is_straight, i == 0)
-            self.files.append(bytearray(data))
-            self.how.append(start)
-        for _ in range(rng.choice((0, 0, 1, 1, 1, 2, 3, 6)) if self.how[0] == 'made' else rng.choice((0, 1, 1, 1, 2, 3, 6))):
+        if rng.random() < 0.5:
+            self.take_linked(rng)
+        else:
+            self.take_made(rng, example, image)
+        few = {'made': (0, 0, 1, 1, 1, 2, 3, 6), 'linked': (0, 0, 0, 1)}.get(self.how[0], (0, 1, 1, 1, 2, 3, 6))
+        for _ in range(rng.choice(few)):
             i = rng.randrange(len(self.files))
             mutation = rng.choice(MUTATIONS)
             mutation(rng, self.files[i])
@@ -470,13 +479,27 @@ class Case:
         self.stale = rng.random() < 0.5
         self.given = rng.choice((b'', b'input', rng.randbytes(rng.randrange(40))))
 
+    def take_linked(self, rng):
+        """A list of objects with relocations."""
+        self.files = [bytearray(data) for data in made_list(rng, rng.random() < 0.6)]
+        self.how.append('linked')
+
+    def take_made(self, rng, example, image):
+        """A list that begins with the example, its image or another object, and goes on with objects."""
+        is_straight = rng.random() < 0.5
+        for i in range(rng.choice((1, 1, 1, 2, 2, 3, 6))):
+            start = rng.choice(('example', 'image', 'image', 'made', 'made', 'made')) if i == 0 else 'made'
+            data = {'example': example, 'image': image}.get(start) or made_object(rng, is_straight, i == 0)
+            self.files.append(bytearray(data))
+            self.how.append(start)
+
     def check(self, program, folder):
         names = [os.path.join(folder, f'file{i}') for i in range(len(self.files))]
-        place = {name: os.path.join(folder, name) for name in ('out', 'cert')}
+        place = {name: os.path.join(folder, name) for name in ('out', 'cert', 'plain')}
         for name, data in zip(names, self.files):
             with open(name, 'wb') as file:
                 file.write(data)
-        for name in ('out', 'cert') if self.stale else ():
+        for name in place if self.stale else ():
             with open(place[name], 'wb') as file:
                 file.write(b'what was there')
         if self.odd == 'words':
@@ -487,7 +510,7 @@ class Case:
             most = self.rng.choice((MIB // 4, MIB, 2 * MIB, 6 * MIB))
             memory = program.least_memory + most * self.rng.randrange(64) // 64
         if self.odd == 'no folder for OUT':
-            place['out'] = os.path.join(folder, 'none', 'out')
+            place['out'] = place['plain'] = os.path.join(folder, 'none', 'out')
         elif self.odd == 'no folder for CERT':
             place['cert'] = os.path.join(folder, 'none', 'cert')
         elif self.odd == 'no file':
@@ -500,7 +523,11 @@ class Case:
         words = self.rng.choice((('run',), ('trace',), ('trace', '--steps', steps, *names), ('run', names[0], names[0]),
                                  ('trace', *names, '-x'), ('run', '--steps', names[0]), ('zc', *names),
                                  ('zc', '--out', place['out'], *names), ('zc', '--out', place['out'], '--cert', place['cert']),
-                                 ('zc', '--out', place['out'], '--cert', place['out'], *names),
+                                 ('zc', '--out', place['out'], '--cert', place['out'], *names), ('plain', *names),
+                                 ('plain', '--out', place['plain']), ('plain', '--out', place['plain'], '-x', *names),
+                                 ('plain', '--out', place['plain'], '--out', place['plain'], *names),
+                                 ('plain', '--out', place['plain'], '--cert', place['cert'], *names),
+                                 ('plain', '--steps', STEPS, '--out', place['plain'], *names),
                                  ('run', '--step', STEPS, names[0]), ('run', '-' + names[0])))
         before = files_in(folder)
         if program.call(*words).name != 'usage':
@@ -511,25 +538,42 @@ class Case:
     def check_link(self, program, folder, names, place, memory):
         before = files_in(folder)
         linked = program.call('zc', '--out', place['out'], '--cert', place['cert'], *names, memory=memory)
-        self.check_files(linked, before, files_in(folder))
+        after = files_in(folder)
+        self.check_files(linked, before, after)
+        fault = first_fault(self.files)
+        plain = program.call('plain', '--out', place['plain'], *names, memory=memory)
+        check_refusal('plain', plain, fault, ('done', 'write fault'))
+        self.check_plain(plain, after, files_in(folder))
         traced = program.call('trace', '--steps', STEPS, *names, memory=memory, given=self.given)
         program.call('run', '--steps', STEPS, names[0], memory=memory, given=self.given)
         check_refusal('zc', linked, zc_fault(self.files), ('done', 'write fault'))
-        check_refusal('trace', traced, trace_fault(self.files), ('exited', 'stuck', 'spent', 'write fault'))
+        check_refusal('trace', traced, fault, ('exited', 'stuck', 'spent', 'write fault'))
         if linked.name == 'done':
             self.check_image(program, traced, place['out'], memory, 'image')
-        if traced.name in ('exited', 'stuck', 'spent'):
-            plain = os.path.join(folder, 'plain')
-            with open(plain, 'wb') as file:
-                file.write(image_of(self.files, is_plain=True))
-            self.check_image(program, traced, plain, memory, 'plain')
+        if plain.name == 'done':
+            self.check_image(program, traced, place['plain'], memory, 'plain')
 
     def check_image(self, program, traced, image, memory, kind):
         """The image does what the objects do."""
-        ran = program.call('run', '--steps', STEPS, image, memory=memory, given=self.given)
-        if 'out of memory' not in (traced.name, ran.name):
+        steps = STEPS if kind == 'image' else PLAIN_STEPS
+        ran = program.call('run', '--steps', steps, image, memory=memory, given=self.given)
+        if 'out of memory' in (traced.name, ran.name):
+            return
+        if kind == 'plain' and traced.name == 'spent':
+            check_begins(traced, ran)
+        else:
             check_runs(traced, ran)
-            program.counts[kind, 'agrees' if traced.name != 'stuck' else 'trace is stuck'] += 1
+        program.counts[kind, 'agrees' if traced.name not in ('stuck', 'spent') else f'trace is {traced.name}'] += 1
+
+    def check_plain(self, plain, before, after):
+        if plain.name == 'done' or plain.out:
+            image, length = plain_of(self.files)
+            line = f'plain text {length}\n'.encode()
+            if plain.name == 'done' and after.get('plain') != image:
+                raise Wrong('plain: done, but the image is another')
+            if not (plain.out == line if plain.name == 'done' else line.startswith(plain.out)):
+                raise Wrong(f'plain: {plain.name} with {plain.out!r}, but the text has {length} bytes')
+        self.check_others(plain, 'plain', ('plain',) if plain.name in SHOWS else (), before, after)
 
     def check_files(self, linked, before, after):
         if linked.name == 'done':
@@ -538,10 +582,14 @@ class Case:
             if after.get('cert') != CERTIFICATE:
                 raise Wrong('zc: done, but the certificate is another')
         written = {'done': ('out', 'cert'), 'write fault': ('out',), 'out of memory': ('out',)}.get(linked.name, ())
+        self.check_others(linked, 'zc', written, before, after)
+
+    def check_others(self, ended, command, written, before, after):
+        """No file but those that may be written has changed."""
         before, after = ({name: data for name, data in files.items() if name not in written}
                          for files in (before, after))
         if before != after:
-            raise Wrong(f'zc: {linked.name}, but a file changed: {sorted(after)}')
+            raise Wrong(f'{command}: {ended.name}, but a file changed: {sorted(after)}')
 
 
 def check_refusal(command, ended, fault, accepted):
@@ -550,11 +598,17 @@ def check_refusal(command, ended, fault, accepted):
         raise Wrong(f'{command} says {ended}, but the first fault is {told(fault)!r}')
 
 
+def check_begins(traced, ran):
+    """The run wrote what the trace wrote, and maybe more."""
+    if not (ran.out.startswith(traced.out) and ran.err.startswith(traced.err)):
+        raise Wrong(f'trace says {traced}, but run {ran}')
+
+
 def check_runs(traced, ran):
     """Both wrote the same and ended alike, or the trace is stuck and the run may go on."""
-    same = (traced.out, traced.err, traced.line) == (ran.out, ran.err, ran.line)
-    begins = ran.out.startswith(traced.out) and ran.err.startswith(traced.err)
-    if not (begins if traced.name == 'stuck' else same):
+    if traced.name == 'stuck':
+        check_begins(traced, ran)
+    elif (traced.out, traced.err, traced.line) != (ran.out, ran.err, ran.line):
         raise Wrong(f'trace says {traced}, but run {ran}')
 
 
