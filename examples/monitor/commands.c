@@ -1,4 +1,5 @@
 #include "commands.h"
+#include "calculate.h"
 #include "crc.h"
 
 u32 calls;
@@ -50,6 +51,14 @@ static int dump(const char *rest)
     return 0;
 }
 
+static int calc(const char *rest)
+{
+    int failed, value = calculate(rest, &failed);
+    put_hex((u32)value, 8);
+    put(failed ? " failed\n" : "\n");
+    return failed;
+}
+
 static int greet(const char *rest)
 {
     (void)rest;
@@ -65,6 +74,7 @@ const struct command commands[] = {
     {"crc", "CRC-32 of the rest of the line", crc},
     {"store", "keeps the rest of the line", store},
     {"dump", "shows what is kept", dump},
+    {"calc", "a formula in reverse Polish notation", calc},
     {"greet", "the board's greeting", greet},
     {0, 0, 0},
 };
