@@ -1,5 +1,6 @@
 # make          proves, compiles and links the program: build/zcld
-# make example  links examples/exit3.o, which a C compiler made, shows the image, and runs it and the object
+# make example  links examples/exit3.o, which a C compiler made, shows the image, and runs it and the object; and links a monitor
+#               of several files, and gives it commands
 # make check    runs the gate: every proof, must-fail edit, test and program, and then the program that this built over real
 #               files, and looks up the documents' names
 # make install  installs the program below $(DESTDIR)$(PREFIX)/bin
@@ -9,6 +10,7 @@ RT ?= rt
 PREFIX ?= /usr/local
 OBJDUMP ?= riscv64-unknown-elf-objdump
 EXAMPLE := $(CURDIR)/examples/exit3.o
+MONITOR := $(sort $(wildcard examples/firmware/gcc/*.o examples/monitor/gcc/*.o))
 SOURCES := crates.txt $(shell find crates -path '*/out' -prune -o -type f \( -name '*.rt' -o -name '*.antt' \) -print)
 
 .PHONY: all example check install clean
@@ -29,6 +31,13 @@ example: build/zcld
 	@echo "the image runs, and the object; each must end with status 3:"
 	build/zcld run build/exit3.elf < /dev/null; status=$$?; echo "status $$status"; test $$status -eq 3
 	build/zcld trace $(EXAMPLE) < /dev/null; status=$$?; echo "status $$status"; test $$status -eq 3
+	@echo "a monitor of several C files, linked plainly; the image and the objects each do its commands, and end with status 2:"
+	build/zcld plain --out build/monitor.elf $(MONITOR)
+	cat examples/monitor/input
+	build/zcld run build/monitor.elf < examples/monitor/input > build/monitor.out; status=$$?; cat build/monitor.out; test $$status -eq 2
+	build/zcld trace $(MONITOR) < examples/monitor/input > build/monitor.traced; test $$? -eq 2
+	cmp build/monitor.out examples/monitor/output
+	cmp build/monitor.traced examples/monitor/output
 
 check:
 	$(RT) ci
