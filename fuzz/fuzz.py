@@ -16,6 +16,7 @@ was written to `run`. Checked are:
   for the image alone after a write fault or if memory ran out; so it is for the image of `plain`;
 - the image of `zc` is the one that `object_link.py` makes, and that of `plain` the one of `plain_link.py`, byte for byte;
 - `zc`, `plain` and `trace` refuse files exactly if they have a fault, and name the first (`object_items.py`);
+- `trace` writes what `symbolic_machine.py` does, and ends as it does;
 - if `trace` isn't stuck, `run` of each image writes what `trace` of the objects does, and ends as it does; if it is,
   `run` writes that and maybe more.
 
@@ -38,6 +39,7 @@ from object_faults import NAMES as FAULTS, object_fault, told
 from object_items import first_fault, zc_fault
 from object_link import image as image_of
 from plain_link import plain as plain_of
+from symbolic_machine import trace as trace_of
 
 TIME_OUT = 20
 STEPS = '2000'
@@ -548,6 +550,8 @@ class Case:
         program.call('run', '--steps', STEPS, names[0], memory=memory, given=self.given)
         check_refusal('zc', linked, zc_fault(self.files), ('done', 'write fault'))
         check_refusal('trace', traced, fault, ('exited', 'stuck', 'spent', 'write fault'))
+        if traced.name in ('exited', 'stuck', 'spent'):
+            check_trace(traced, *trace_of(self.files, self.given, int(STEPS)))
         if linked.name == 'done':
             self.check_image(program, traced, place['out'], memory, 'image')
         if plain.name == 'done':
@@ -596,6 +600,12 @@ def check_refusal(command, ended, fault, accepted):
     """The files are refused exactly where they have a fault, and the first is named."""
     if ended.name in accepted and fault or ended.name == 'refused' and ended.line != told(fault):
         raise Wrong(f'{command} says {ended}, but the first fault is {told(fault)!r}')
+
+
+def check_trace(traced, out, err, line):
+    """The trace wrote and ended as the model does."""
+    if (traced.out, traced.err, traced.line) != (out, err, line):
+        raise Wrong(f'trace says {traced}, but the model {line!r} after {out[:40]!r} and {err[:40]!r}')
 
 
 def check_begins(traced, ran):

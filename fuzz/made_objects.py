@@ -281,6 +281,45 @@ class Function:
         for _ in range(skipped):
             self.work()
 
+    def take_function(self, to, later=False):
+        """The address of a function in a register, or of a later one; false if there is none."""
+        names = self.program.functions[self.index + 1:] if later else self.program.functions
+        if names:
+            self.pair(to, self.program.named(self.read, self.rng.choice(names)), 0, addi(to, to))
+        return bool(names)
+
+    def compare(self):
+        """A branch by two addresses of code, one of which may be a label that is placed later."""
+        self.take_function(T1)
+        if self.rng.random() < 0.7:
+            self.take_function(T2)
+            self.section.words(branch(self.rng.choice((0, 1)), T1, T2, 8))
+        else:
+            end = self.label()
+            self.pair(T2, end, 0, addi(T2, T2))
+            self.section.words(branch(self.rng.choice((0, 1)), T2, T1, 8))
+            self.place(end)
+        self.work()
+
+    def test_address(self):
+        """Whether an address of code is 0, as numbers."""
+        self.take_function(T0)
+        self.section.words(self.rng.choice((addi(T1, T0), add(T1, T0, ZERO), add(T1, ZERO, T0))), of_format_i(0x13, 3, T2, T1, 1),
+                           add(SUM, SUM, T2), T1 << 20 | 3 << 12 | T2 << 7 | 0x33, add(SUM, SUM, T2))
+
+    def keep_address(self):
+        """An address of code that is stored, by words or bytes, and called."""
+        if not self.take_function(T0, later=True):
+            return
+        self.section.words(addi(SP, SP, -16), sw(T0, SP, 4))
+        if self.rng.random() < 0.5:
+            for k in range(4):
+                self.section.words(of_format_i(0x03, 4, T1, SP, 4 + k), T1 << 20 | SP << 15 | (8 + k) << 7 | 0x23)
+            self.section.words(lw(T1, SP, 8))
+        else:
+            self.section.words(lw(T1, SP, 4))
+        self.section.words(addi(SP, SP, 16), jalr(RA, T1))
+
     def jump_over(self):
         """A jump over words that are no instructions."""
         end = self.label()
@@ -334,7 +373,8 @@ class Function:
 
     def body(self, count):
         ways = (self.work, self.load_number, self.store_number, self.take_address, self.write_number, self.read_input,
-                self.skip, self.jump_over, self.align, self.loop, self.call, self.call, self.call_nothing)
+                self.skip, self.jump_over, self.align, self.loop, self.call, self.call, self.call_nothing,
+                self.compare, self.test_address, self.keep_address)
         for _ in range(count):
             self.rng.choice(ways)()
         if self.rng.random() < 0.03:

@@ -1,5 +1,5 @@
-# How each of these programs starts: the stack, the global pointer and zeroed data; then `main`, whose result is the status.
-# And the environment's calls.
+# How each of these programs starts: the global pointer, the stack and zeroed data; then `main`, whose result is the status.
+# And the environment's calls. sp is set by one instruction, so it is an address of the stack after each.
 
     .text
     .globl _start
@@ -8,7 +8,8 @@ _start:
     .option norelax
     la gp, __global_pointer$
     .option pop
-    la sp, __stack_top
+    la t0, __stack_top
+    mv sp, t0
     la t0, __bss_start
     la t1, _end
 1:  bgeu t0, t1, 2f
