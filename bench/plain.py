@@ -4,10 +4,10 @@
     bench/plain.py [--repeats R] [PROGRAM]        PROGRAM is build/zcld if none is given
 
 Objects are made by rule: code that calls functions and uses data of other objects in each way that compilers do, with a
-relocation for nearly every word, and tables of addresses in data. Each list is linked R times by `zcld plain`, and R times by each
-other linker for RISC-V that is installed, without relaxation. All calls are made in turn, in an order that changes. A time is the
-processor's for a whole process: the least of the R. A ratio above 1 says that the other linker took longer. Memory is the most
-that a process held, as GNU time tells it.
+relocation for nearly every word, and tables of addresses in data. Each list is linked R times by `zcld plain`, and R times by
+each other linker for RISC-V that is installed, without relaxation. All calls are made in turn, in an order that changes. A time
+is the processor's for a whole process: the least of the R. A ratio above 1 says that the other linker took longer. Memory is
+the most that a process held, as GNU time tells it.
 """
 import argparse
 import os
@@ -172,8 +172,8 @@ def main():
               f'Each call was made {given.repeats} times.')
         print('Times are the processor\'s milliseconds for a whole process, the least of all calls. Memory is the most that a '
               'process held.')
-        print('Beside `plain` stand ' + (', '.join(f'{name} ({os.path.basename(it[0])})' for name, it in others.items()) or 'none')
-              + '.')
+        beside = ', '.join(f'{name} ({os.path.basename(it[0])})' for name, it in others.items())
+        print(f'Beside `plain` stand {beside or "none"}.')
         report(lists, others)
 
 

@@ -5,8 +5,8 @@
 
 Both link the files with the same order of sections, in the memory of docs/FORMATS.md, and GNU ld without relaxation. Compared
 are the entry, the code and the data. Names of sections must tell them apart in a file. GNU ld gets copies of the files: without
-flags to merge strings, and without relocations of branches, jumps and calls to weak names without definition, whose words the plain
-link copies. The status is 1 if they differ.
+flags to merge strings, and without relocations of branches, jumps and calls to weak names without definition, whose words the
+plain link copies. The status is 1 if they differ.
 
     fuzz/against_ld.py --seed S --count N
 

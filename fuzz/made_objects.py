@@ -5,10 +5,10 @@ way. An odd list has something in it that is no fault of the objects' form, but 
 """
 import struct
 
-from object_items import (ALIGN, BRANCH, CALL, CALL_PLT, HI20, JAL, LO12_I, LO12_S, NONE, PCREL_HI20, PCREL_LO12_I, PCREL_LO12_S,
-                          R_32, RELAX)
+from object_items import (ALIGN, BRANCH, CALL, CALL_PLT, HI20, JAL, LO12_I, LO12_S, NONE, PCREL_HI20, PCREL_LO12_I,
+                          PCREL_LO12_S, R_32, RELAX)
 from written_object import (ABS, COMMON, CONSTANT_FLAGS, DATA_FLAGS, DATA_TYPE, FUNCTION_TYPE, GLOBAL, LOCAL, NOBITS,
-                            PROGBITS, SECTION_TYPE, WEAK, Written)
+                            PROGBITS, SECTION_TYPE, WEAK, Reloc, Written)
 
 ZERO, RA, SP, T0, T1, T2, S0, SUM, A0, A1, A2, A7, T3 = 0, 1, 2, 5, 6, 7, 8, 9, 10, 11, 12, 17, 28
 ECALL, NOP = 0x73, 0x13
@@ -304,8 +304,9 @@ class Function:
     def test_address(self):
         """Whether an address of code is 0, as numbers."""
         self.take_function(T0)
-        self.section.words(self.rng.choice((addi(T1, T0), add(T1, T0, ZERO), add(T1, ZERO, T0))), of_format_i(0x13, 3, T2, T1, 1),
-                           add(SUM, SUM, T2), T1 << 20 | 3 << 12 | T2 << 7 | 0x33, add(SUM, SUM, T2))
+        copy = self.rng.choice((addi(T1, T0), add(T1, T0, ZERO), add(T1, ZERO, T0)))
+        is_zero, is_not_zero = of_format_i(0x13, 3, T2, T1, 1), T1 << 20 | 3 << 12 | T2 << 7 | 0x33
+        self.section.words(copy, is_zero, add(SUM, SUM, T2), is_not_zero, add(SUM, SUM, T2))
 
     def keep_address(self):
         """An address of code that is stored, by words or bytes, and called."""
@@ -439,18 +440,20 @@ def odd_reloc(program, read, section, reloc):
     elif which == 3:
         reloc.symbol = rng.choice((None, *read.symbols))
     elif which == 4:
-        section.relocs.insert(rng.randrange(len(section.relocs) + 1), type(reloc)(reloc.offset, reloc.kind, reloc.symbol, reloc.addend))
+        again = Reloc(reloc.offset, reloc.kind, reloc.symbol, reloc.addend)
+        section.relocs.insert(rng.randrange(len(section.relocs) + 1), again)
     elif which == 5:
         rng.shuffle(section.relocs)
     elif which == 6 and section.kind == PROGBITS and 0 <= reloc.offset <= len(section.content) - 4:
         word, = struct.unpack_from('<I', section.content, reloc.offset)
-        struct.pack_into('<I', section.content, reloc.offset, rng.choice((word ^ 1 << rng.randrange(32), rng.getrandbits(32), NOP)))
+        word = rng.choice((word ^ 1 << rng.randrange(32), rng.getrandbits(32), NOP))
+        struct.pack_into('<I', section.content, reloc.offset, word)
     elif which == 7:
         other = rng.choice(section.relocs)
         reloc.offset, other.offset = other.offset, reloc.offset
     else:
-        section.relocs.append(type(reloc)(reloc.offset + rng.choice((-4, 0, 4)), rng.choice((R_32, ALIGN, CALL, RELAX, 44, 99)),
-                                          rng.choice((None, *read.symbols)), rng.choice((0, 4, 8, 12, 300))))
+        section.relocs.append(Reloc(reloc.offset + rng.choice((-4, 0, 4)), rng.choice((R_32, ALIGN, CALL, RELAX, 44, 99)),
+                                    rng.choice((None, *read.symbols)), rng.choice((0, 4, 8, 12, 300))))
 
 
 def odd_symbol(program):

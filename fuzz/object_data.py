@@ -1,4 +1,4 @@
-"""Where data lies, and what the symbols of a list of objects without a fault of symbols are (docs/FORMATS.md; RISC-V ELF psABI)."""
+"""Where data lies, and what symbols are, of objects without a fault of symbols (docs/FORMATS.md; RISC-V ELF psABI)."""
 from object_faults import ABS, COMMON, NOBITS, UNDEF, WRITE
 
 TEXT_AT, DATA_AT, STACK_TOP = 0x10000, 0x100000, 0x10000000

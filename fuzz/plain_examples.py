@@ -1,7 +1,7 @@
 """Small lists of objects with relocations, and what a plain link makes of them or refuses (RISC-V ELF psABI, "Relocations")."""
 from made_objects import (A0, A1, A2, A7, ECALL, NOP, RA, SP, T0, ZERO, addi, auipc, branch, jal, jalr, lui, lw, sw)
-from object_items import (ALIGN, BRANCH, CALL, CALL_PLT, HI20, JAL, LO12_I, LO12_S, PCREL_HI20, PCREL_LO12_I, PCREL_LO12_S, R_32,
-                          RELAX)
+from object_items import (ALIGN, BRANCH, CALL, CALL_PLT, HI20, JAL, LO12_I, LO12_S, PCREL_HI20, PCREL_LO12_I, PCREL_LO12_S,
+                          R_32, RELAX)
 from written_object import ABS, COMMON, CONSTANT_FLAGS, DATA_FLAGS, LOCAL, NOBITS, PROGBITS, WEAK, Written
 
 GOT_HI20, ADD32, SUB32, RVC_JUMP = 20, 35, 39, 45
@@ -31,7 +31,8 @@ def hello():
     symbol = main.symbol(b'msg', home=message, bind=LOCAL)
     text.reloc(HI20, symbol, 0, (lui(A1),))
     text.reloc(LO12_I, symbol, 0, (addi(A1, A1),))
-    text.words(addi(A2, ZERO, 3), addi(A7, ZERO, 64), ECALL, addi(A0, ZERO, 0), lw(RA, SP, 12), addi(SP, SP, 16), jalr(ZERO, RA))
+    text.words(addi(A2, ZERO, 3), addi(A7, ZERO, 64), ECALL, addi(A0, ZERO, 0), lw(RA, SP, 12), addi(SP, SP, 16),
+               jalr(ZERO, RA))
     return [start.bytes(), main.bytes()]
 
 
@@ -79,7 +80,7 @@ def refused_data(kind, offset=0, size=8):
 
 
 def with_relocs(words, *rows):
-    """An object of code with relocations: the offset, the type, the value of their local symbol (ALIGN has none) and the addend."""
+    """An object of code with relocations: the offset, the type, the value of a local symbol (ALIGN has none) and the addend."""
     made, text = object_with(*words)
     for offset, kind, value, addend in rows:
         symbol = None if kind == ALIGN else made.symbol(b'.L%d' % len(made.symbols), home=text, value=value, bind=LOCAL)
@@ -123,8 +124,9 @@ def start_at(made, value, home=None):
 
 def of_kind():
     """RelocKind."""
-    return [(f'type {kind}', refused_one(kind)) for kind in (2, 15, GOT_HI20, 21, 29, ADD32, SUB32, 42, 44, RVC_JUMP, 46, 57, 255)
-            ] + [(f'type {kind} in data', refused_data(kind)) for kind in (HI20, CALL, ALIGN, ADD32)]
+    unknown = (2, 15, GOT_HI20, 21, 29, ADD32, SUB32, 42, 44, RVC_JUMP, 46, 57, 255)
+    return ([(f'type {kind}', refused_one(kind)) for kind in unknown]
+            + [(f'type {kind} in data', refused_data(kind)) for kind in (HI20, CALL, ALIGN, ADD32)])
 
 
 def of_place():
@@ -163,12 +165,14 @@ def of_pair():
 def of_target():
     """BadTarget."""
     return [
-        ('before the code', refused_one(HI20, (lui(T0),), addend=-4)), ('behind the code', refused_one(HI20, (lui(T0),), addend=40)),
+        ('before the code', refused_one(HI20, (lui(T0),), addend=-4)),
+        ('after the code', refused_one(HI20, (lui(T0),), addend=40)),
         ('in a word', refused_one(HI20, (lui(T0),), value=2)), ('in a word, by the addend', refused_one(R_32, addend=2)),
         ('in a call', with_relocs((*CALL_WORDS, NOP), (0, CALL, 8, 0), (8, R_32, 4, 0))),
         ('in a padding', with_relocs((NOP,) * 4, (0, ALIGN, 0, 12), (12, R_32, 8, 0))),
         ('a section that is dropped', dropped()),
-        ('a branch to a number', refused_one(BRANCH, (BEQ,), home=ABS)), ('jal to a number', refused_one(JAL, (jal(RA),), home=ABS)),
+        ('a branch to a number', refused_one(BRANCH, (BEQ,), home=ABS)),
+        ('jal to a number', refused_one(JAL, (jal(RA),), home=ABS)),
         ('a call of a number', refused_one(CALL, CALL_WORDS, home=ABS)),
         ('a call of a common symbol', refused_one(CALL, CALL_WORDS, home=COMMON, value=4, bind=1)),
     ]
@@ -216,8 +220,8 @@ def in_order():
 
 def refusals():
     """Each list that is refused: what it is, its files, and the line."""
-    for fault, make in (('11 RelocKind', of_kind), ('12 RelocPlace', of_place), ('13 LoPair', of_pair), ('14 BadTarget', of_target),
-                        ('15 Range', of_range), ('16 NoEntry', of_entry)):
+    for fault, make in (('11 RelocKind', of_kind), ('12 RelocPlace', of_place), ('13 LoPair', of_pair),
+                        ('14 BadTarget', of_target), ('15 Range', of_range), ('16 NoEntry', of_entry)):
         for what, made in make():
             yield f'{fault}, {what}', [made.bytes()], f'refused 0 {fault}'
     for what, objects, line in in_order():
@@ -259,7 +263,8 @@ def hints():
 
 def accepted():
     """What is linked: what it is, its files, and the status of its run, or none if it doesn't end."""
-    return [('as far as a branch reaches', [far(1022).bytes()], None), ('as far back as it reaches', [far(1024, True).bytes()], None),
+    return [('as far as a branch reaches', [far(1022).bytes()], None),
+            ('as far back as it reaches', [far(1024, True).bytes()], None),
             ('a weak name without definition', [absent().bytes()], 5), ('a padding', [padded().bytes()], 9),
             ('hints', [hints().bytes()], 4)]
 

@@ -2,7 +2,8 @@
 
     fuzz/plain_link.py OUT FILE...
 
-writes the image of the files under OUT, or says their first fault. It knows nothing of the program, so that both can be compared.
+writes the image of the files under OUT, or says their first fault. It knows nothing of the program, so that both can be
+compared.
 """
 import struct
 import sys
