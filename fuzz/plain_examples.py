@@ -1,5 +1,5 @@
 """Small lists of objects with relocations, and what a plain link makes of them or refuses (RISC-V ELF psABI, "Relocations")."""
-from made_objects import (A0, A1, A2, A7, ECALL, NOP, RA, SP, T0, ZERO, addi, auipc, branch, jal, jalr, lui, lw, sw)
+from made_objects import (A0, A1, A2, A7, ECALL, NOP, RA, SP, T0, ZERO, add, addi, auipc, branch, jal, jalr, lui, lw, sw)
 from object_items import (ALIGN, BRANCH, CALL, CALL_PLT, HI20, JAL, LO12_I, LO12_S, PCREL_HI20, PCREL_LO12_I, PCREL_LO12_S,
                           R_32, RELAX)
 from written_object import ABS, COMMON, CONSTANT_FLAGS, DATA_FLAGS, LOCAL, NOBITS, PROGBITS, WEAK, Written
@@ -204,6 +204,10 @@ def in_order():
         ('entries in their order', [with_relocs((lui(T0), NOP), (0, HI20, 2, 0), (4, GOT_HI20, 0, 0))], '0 14 BadTarget'),
         ('entries in their order, not by offset', [with_relocs((lui(T0), NOP), (4, BRANCH, 0, 0), (0, GOT_HI20, 0, 0))],
          '0 12 RelocPlace'),
+        ('an overlap, at the first of both',
+         [with_relocs((lui(T0), NOP), (0, HI20, 0, 0), (4, GOT_HI20, 0, 0), (0, HI20, 0, 0))], '0 12 RelocPlace'),
+        ('an overlap, at the second of both',
+         [with_relocs((*CALL_WORDS, NOP), (4, LO12_I, 0, 0), (8, GOT_HI20, 0, 0), (0, CALL, 0, 0))], '0 12 RelocPlace'),
         ('a pair before its target', [refused_one(PCREL_LO12_I, (addi(T0, T0),), value=2)], '0 13 LoPair'),
         ('a place before a pair', [refused_one(PCREL_LO12_I, (lui(T0),), value=2, addend=4)], '0 12 RelocPlace'),
         ('objects in their order', [target, other(refused_one(GOT_HI20))], '0 14 BadTarget'),
@@ -243,6 +247,18 @@ def absent():
     return made
 
 
+def words():
+    """Words of code that have a number, the address of data and those of code."""
+    made, text = object_with(jal(ZERO, 20))
+    data = made.section(b'.data', PROGBITS, DATA_FLAGS)
+    data.content += bytes(8)
+    held = made.symbol(b'held', home=data, bind=LOCAL)
+    for symbol, addend in ((None, 7), (held, 4), (made.symbols[0], 0), (made.symbols[0], 32)):
+        text.reloc(R_32, symbol, addend, (0xFFFFFFFF,))
+    text.words(addi(A0, ZERO, 6), *EXIT)
+    return made
+
+
 def padded():
     """A loop with a padding in it, whose branch has no relocation."""
     made, text = object_with(NOP, addi(T0, ZERO, 3), addi(T0, T0, -1))
@@ -250,6 +266,30 @@ def padded():
     text.reloc(ALIGN, None, 60, [0xFFFFFFFF] * 15)
     text.words(branch(1, T0, ZERO, -64), addi(A0, ZERO, 9), *EXIT)
     return made
+
+
+def names():
+    """Names that several objects define: a global definition counts before common, that before weak ones, and the first of
+    these; a local one in its object alone; and that of an object before the linker's."""
+    first, text = object_with(addi(A0, ZERO, 0))
+    for name, value in ((b'strong', 1), (b'weak', 4)):
+        first.symbol(name, home=ABS, value=value, bind=WEAK)
+    first.symbol(b'common', home=COMMON, value=4, size=4)
+    first.symbol(b'_end')
+    for symbol in first.symbols[1:3] + first.symbols[4:]:
+        text.reloc(HI20, symbol, 0, (lui(T0),))
+        text.reloc(LO12_I, symbol, 0, (addi(T0, T0),))
+        text.words(add(A0, A0, T0))
+    text.reloc(HI20, first.symbols[3], 0, (lui(T0),))
+    text.reloc(LO12_I, first.symbols[3], 0, (lw(T0, T0),))
+    text.words(add(A0, A0, T0), *EXIT)
+    second, _ = object_with(*EXIT, name=b'other')
+    second.symbol(b'strong', home=ABS, value=9)
+    second.symbol(b'strong', home=ABS, value=30, bind=LOCAL)
+    second.symbol(b'weak', home=ABS, value=70, bind=WEAK)
+    second.symbol(b'common', home=ABS, value=2, bind=WEAK)
+    second.symbol(b'_end', home=ABS, value=20)
+    return [first, second]
 
 
 def hints():
@@ -266,7 +306,8 @@ def accepted():
     return [('as far as a branch reaches', [far(1022).bytes()], None),
             ('as far back as it reaches', [far(1024, True).bytes()], None),
             ('a weak name without definition', [absent().bytes()], 5), ('a padding', [padded().bytes()], 9),
-            ('hints', [hints().bytes()], 4)]
+            ('words of code', [words().bytes()], 6), ('hints', [hints().bytes()], 4),
+            ('names', [made.bytes() for made in names()], 33)]
 
 
 def main():
