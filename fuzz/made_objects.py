@@ -12,6 +12,7 @@ from written_object import (ABS, COMMON, CONSTANT_FLAGS, DATA_FLAGS, DATA_TYPE, 
 
 ZERO, RA, SP, T0, T1, T2, S0, SUM, A0, A1, A2, A7, T3 = 0, 1, 2, 5, 6, 7, 8, 9, 10, 11, 12, 17, 28
 ECALL, NOP = 0x73, 0x13
+ADD32, SUB32 = 35, 39
 
 
 def of_format_i(opcode, f3, to, source, value=0):
@@ -416,6 +417,19 @@ def add_functions(program):
         symbol.home, symbol.value, symbol.size, symbol.kind = section, start, len(section.content) - start, FUNCTION_TYPE
 
 
+def add_dropped(program):
+    """A section that isn't linked, with relocations that linked ones don't have."""
+    rng = program.rng
+    read = rng.choice(program.objects)
+    name, flags = rng.choice(((b'.debug_info', 0), (b'.eh_frame', CONSTANT_FLAGS)))
+    section = read.section(name, PROGBITS, flags)
+    section.content += bytes(32)
+    for offset in range(0, 32, 4):
+        symbol = rng.choice(read.symbols)
+        for kind in (ADD32, SUB32) if rng.random() < 0.5 else (rng.choice((R_32, HI20, 60)),):
+            section.relocs.append(Reloc(offset, kind, symbol, 0))
+
+
 # ---- what is odd
 
 
@@ -545,6 +559,10 @@ def made_list(rng, is_odd):
     else:
         add_functions(program)
         add_start(program)
+    if rng.random() < 0.2:
+        add_dropped(program)
+    for read in program.objects:
+        read.is_reversed = rng.random() < 0.3
     if is_odd:
         make_odd(program)
     return [read.bytes() for read in program.objects]

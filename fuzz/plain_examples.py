@@ -98,6 +98,14 @@ def dropped():
     return made
 
 
+def of_two_sections():
+    """An object with a bad target in its code and a bad type in its data, whose relocations come first."""
+    made = refused_data(ADD32)
+    made.sections[0].reloc(HI20, made.symbols[0], 2, (lui(T0),))
+    made.is_reversed = True
+    return made
+
+
 CALL_WORDS = (auipc(RA), jalr(RA, RA))
 OTHER_BASE = (auipc(RA), jalr(RA, T0))
 PAIR = (auipc(T0), addi(T0, T0))
@@ -210,6 +218,7 @@ def in_order():
          [with_relocs((*CALL_WORDS, NOP), (4, LO12_I, 0, 0), (8, GOT_HI20, 0, 0), (0, CALL, 0, 0))], '0 12 RelocPlace'),
         ('a pair before its target', [refused_one(PCREL_LO12_I, (addi(T0, T0),), value=2)], '0 13 LoPair'),
         ('a place before a pair', [refused_one(PCREL_LO12_I, (lui(T0),), value=2, addend=4)], '0 12 RelocPlace'),
+        ('sections in their order', [of_two_sections()], '0 14 BadTarget'),
         ('objects in their order', [target, other(refused_one(GOT_HI20))], '0 14 BadTarget'),
         ('the second object', [object_with(*EXIT)[0], other(refused_one(GOT_HI20))], '1 11 RelocKind'),
         ('a name without definition before a type', [kind, missing], '1 10 Undefined nothing'),

@@ -59,10 +59,11 @@ class Strings:
 
 
 class Written:
-    """An object: its sections from 1 on, and its symbols from 1 on, local ones first."""
+    """An object: its sections from 1 on, and its symbols from 1 on, local ones first. The sections of relocations come after
+    the sections, in their order or in the other."""
 
     def __init__(self):
-        self.sections, self.symbols, self.flags = [], [], 0
+        self.sections, self.symbols, self.flags, self.is_reversed = [], [], 0, False
 
     def section(self, *how, **more):
         self.sections.append(Section(*how, **more))
@@ -82,7 +83,7 @@ class Written:
             table += struct.pack('<IIIBBH', strings.add(it.name), it.value & 0xFFFFFFFF, it.size & 0xFFFFFFFF,
                                  it.bind << 4 | it.kind, 0, home)
         rows = [(it.name, it.kind, it.flags, it.content, it.length(), 0, 0, it.align, 0) for it in self.sections]
-        relas = [(k, it) for k, it in enumerate(self.sections, 1) if it.relocs]
+        relas = [(k, it) for k, it in enumerate(self.sections, 1) if it.relocs][::-1 if self.is_reversed else 1]
         at_symbols = 1 + len(self.sections) + len(relas)
         for k, it in relas:
             entries = b''.join(struct.pack('<3I', reloc.offset & 0xFFFFFFFF, numbers.get(id(reloc.symbol), 0) << 8 | reloc.kind,
