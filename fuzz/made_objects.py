@@ -91,13 +91,20 @@ class Program:
         self.names += 1
         return start + b'%d' % self.names
 
+    def add_shared(self):
+        """Numbers that each object can use."""
+        section = self.new_section(self.objects[0], b'.data', PROGBITS, DATA_FLAGS)
+        section.words(*range(WORDS))
+        self.named(self.objects[0], b'shared', home=section, kind=DATA_TYPE)
+        self.numbers.append((None, b'shared', True))
+
     def add_numbers(self, read):
         """A section of words that are numbers, with a name, or a common or absolute one."""
         rng = self.rng
         name = self.new_name(b'n')
         which = rng.randrange(8)
         if which == 0:
-            for it in {0: read, 1: rng.choice(self.objects)}.values():
+            for it in (read, rng.choice(self.objects)):
                 self.named(it, name, home=COMMON, value=rng.choice((4, 16, 64)), size=rng.choice((4 * WORDS, 200)),
                            kind=DATA_TYPE)
             self.numbers.append((None, name, True))
@@ -425,7 +432,7 @@ def add_dropped(program):
     section = read.section(name, PROGBITS, flags)
     section.content += bytes(32)
     for offset in range(0, 32, 4):
-        symbol = rng.choice(read.symbols)
+        symbol = rng.choice((None, *read.symbols))
         for kind in (ADD32, SUB32) if rng.random() < 0.5 else (rng.choice((R_32, HI20, 60)),):
             section.relocs.append(Reloc(offset, kind, symbol, 0))
 
@@ -539,16 +546,8 @@ def make_odd(program):
 def made_list(rng, is_odd):
     """The files of a list of objects."""
     program = Program(rng, is_odd)
-    program.objects[-1].symbol(b'absolute', home=ABS, value=rng.getrandbits(32))
-    program.known[id(program.objects[-1]), b'absolute'] = program.objects[-1].symbols[-1]
-    program.add_numbers(program.objects[0])
-    for read in program.objects:
-        program.named(read, b'shared0')
-    again = program.new_section(program.objects[0], b'.data', PROGBITS, DATA_FLAGS)
-    again.words(*range(WORDS))
-    shared = program.named(program.objects[0], b'shared0')
-    shared.home, shared.kind = again, DATA_TYPE
-    program.numbers.append((None, b'shared0', True))
+    program.named(program.objects[-1], b'absolute', home=ABS, value=rng.getrandbits(32))
+    program.add_shared()
     for _ in range(rng.choice((1, 3, 6))):
         program.add_numbers(rng.choice(program.objects))
     for _ in range(rng.choice((0, 1, 2))):
