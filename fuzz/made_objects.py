@@ -380,6 +380,40 @@ class Function:
         self.section.words(*[addi(SUM, SUM, 1)] * count)
         self.place(end)
 
+    # what a run may get stuck on
+
+    def strange(self):
+        """Code that no compiler makes: its parts don't belong together, or it takes an address of code for something else."""
+        section, rng = self.section, self.rng
+        function = self.program.named(self.read, rng.choice(self.program.functions))
+        other = rng.choice((function, self.program.named(self.read, rng.choice(self.program.functions)),
+                            self.program.number_symbol(self.read)[0]))
+        which = rng.randrange(5)
+        if which == 0:
+            last = rng.choice((addi(T1, T0), lw(T1, T0), jalr(RA, T0), sw(T1, T0)))
+            section.reloc(HI20, function, 0, (lui(rng.choice((T0, T0, T1, SP))),))
+            section.words(*rng.choice(((), (addi(T0, T0),), (addi(T0, T0, 4),), (add(T0, ZERO, T1),))))
+            section.reloc(LO12_S if last & 0x7F == 0x23 else LO12_I, other, 0, (last,))
+        elif which == 1:
+            label = self.label()
+            section.reloc(PCREL_HI20, other, 0, (auipc(T0),))
+            section.words(*rng.choice(((), (addi(T0, T0),), (addi(T0, T0, 4),), (auipc(T0),))))
+            section.reloc(PCREL_LO12_I, label, 0, (rng.choice((addi(T1, T0), lw(T1, T0), jalr(RA, T0))),))
+        elif which == 2:
+            temporary, to = rng.choice((ZERO, RA, T0, SP)), rng.choice((ZERO, RA, T2, SP))
+            section.reloc(CALL, function, 0, (auipc(temporary), jalr(to, temporary)))
+        elif which == 3:
+            self.take_function(T0)
+            by_halves = (addi(SP, SP, -16), sw(T0, SP), of_format_i(3, 1, T1, SP), addi(SP, SP, 16))
+            section.words(*rng.choice((by_halves, (sw(T0, SP, -4), lw(T1, SP, -4)), (auipc(T1),), (addi(SP, T0),),
+                                       (add(T1, T0, T0),))))
+        else:
+            section.reloc(LO12_I, None, 0x1000 * rng.randrange(3), (addi(T1, rng.choice((T0, T1, SUM))),))
+        section.words(*rng.choice((
+            (), (), (add(SUM, SUM, T1),), (jalr(RA, T1),), (jalr(RA, T1, 4),), (branch(0, T1, ZERO, 8), NOP),
+            (branch(1, T1, T0, 8), NOP), (branch(4, T1, T0, 8), NOP), (addi(A7, T1), ECALL),
+            (of_format_i(0x13, 3, T1, T1, 1), add(SUM, SUM, T1)))))
+
     def body(self, count):
         ways = (self.work, self.load_number, self.store_number, self.take_address, self.write_number, self.read_input,
                 self.skip, self.jump_over, self.align, self.loop, self.call, self.call, self.call_nothing,
@@ -388,6 +422,8 @@ class Function:
             self.rng.choice(ways)()
         if self.rng.random() < 0.03:
             self.far()
+        if self.program.is_odd and self.rng.random() < 0.15:
+            self.strange()
 
     def make(self):
         self.section.words(addi(SP, SP, -16), sw(RA, SP, 12), sw(S0, SP, 8))
