@@ -20,7 +20,7 @@ from run import Call, milliseconds, processor_name, table
 
 sys.path.insert(0, os.path.join(os.path.dirname(os.path.abspath(__file__)), os.pardir, 'fuzz'))
 
-from made_objects import A0, A1, A7, ECALL, NOP, RA, SP, T0, T1, ZERO, addi, auipc, branch, jal, jalr, lui, lw, sw
+from made_objects import A0, A1, A7, ECALL, NOP, RA, T0, T1, ZERO, addi, auipc, branch, jal, jalr, lui, lw, sw
 from object_items import (BRANCH, CALL, HI20, JAL, LO12_I, LO12_S, PCREL_HI20, PCREL_LO12_I, PCREL_LO12_S, R_32, RELAX)
 from written_object import DATA_FLAGS, FUNCTION_TYPE, LOCAL, PROGBITS, Written
 
