@@ -6,7 +6,7 @@ ghost use Rattle.elf32_read.specs.Lent.{IsSection, IsSymbol};
 ghost use Rattle.elf32_read.specs.Object.{has_other_flags, not_elf, object_fault, IsRead};
 ghost use Rattle.elf32_read.specs.Parts.{relocs_held, relocs_of, section_parts, symbol_parts};
 ghost use Rattle.elf32_read.specs.Relas.{IsRelaOf};
-ghost use Rattle.elf32_read.specs.Symbols.{symbol_count, symbol_entry_of, IsSymbolSection};
+ghost use Rattle.elf32_read.specs.Symbols.{symbol_count, symbol_entry_of, symbol_names, IsSymbolSection};
 
 use crate::alignments::{has_bad_alignment, has_cut_code};
 use crate::bounds::is_truncated;
@@ -21,6 +21,7 @@ use crate::section::Section;
 use crate::section_flags::SectionFlags;
 use crate::sections::Sections;
 use crate::symbol::Symbol;
+use crate::symbol_entry::SymbolEntry;
 use crate::symbols::{
     SYMBOL_SIZE, SymbolTable, has_bad_symbol, symbol_entry, symbol_section, symbol_table,
 };
@@ -198,6 +199,21 @@ impl<'a> Object<'a> {
             kind: entry.kind,
             home: entry.home,
         }
+    }
+
+    /// What the table of symbols says of a symbol, by its index. It looks at no byte of its name.
+    pub fn symbol_entry(&self, i: u32) -> SymbolEntry
+        requires { i < symbol_count self.now }
+        ensures { result ≡ symbol_entry_of self.now i }
+    {
+        symbol_entry(self.symbols.entries, i as usize)
+    }
+
+    /// The table of the symbols' names.
+    pub fn symbol_names(&self) -> &'a [u8]
+        ensures { result.now ≡ symbol_names self.now }
+    {
+        self.symbols.names
     }
 
     /// The section with the relocations of a section, by its index; none if the section is dropped

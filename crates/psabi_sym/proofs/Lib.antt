@@ -9,6 +9,7 @@ pub mod FlatLaws
 pub mod FoundLaws
 pub mod Gathered
 pub mod NumberLaws
+pub mod KeyLaws
 pub mod NumberedLaws
 pub mod PartLaws
 pub mod PlaceLaws
@@ -16,4 +17,5 @@ pub mod RowLaws
 pub mod StartLaws
 pub mod SumLaws
 pub mod Tables
+pub mod TailLaws
 pub mod UsedLaws

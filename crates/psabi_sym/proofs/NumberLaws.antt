@@ -25,23 +25,6 @@ same_swap first second = by (cases_Bool (same_name first second)) (cases_Bool (s
     by (inr e) (inl f) = absurd (cc (e, (bytes_eq-Decides first second).1 (sym (same_is second first f))))
     by (inr e) (inr f) = e ∙ sym f
 
--- ---- borrowed names
-
-pub borrowed_any : (k : Bor (List ℕ)) (ks : List (Bor (List ℕ))) → list_any (λ x. same_name k.now x.now) ks ≡ list_any (same_name k.now) (map (λ x. x.now) ks)
-borrowed_any k [] = refl
-borrowed_any k (x ∷ xs) = ap (λ b. same_name k.now x.now || b) (borrowed_any k xs)
-
-pub borrowed_insert : (k : Bor (List ℕ)) (ks : List (Bor (List ℕ))) → map (λ x. x.now) (cond (list_any (λ x. same_name k.now x.now) ks) ks (ks ++ k ∷ [])) ≡ with_name (map (λ x. x.now) ks) k.now
-borrowed_insert k ks = by (list_any (λ x. same_name k.now x.now) ks) (borrowed_any k ks)
-  where
-    by : (b : Bool) → b ≡ list_any (same_name k.now) (map (λ x. x.now) ks) → map (λ x. x.now) (cond b ks (ks ++ k ∷ [])) ≡ with_name (map (λ x. x.now) ks) k.now
-    by true e = ap (λ b. cond b (map (λ x. x.now) ks) (map (λ x. x.now) ks ++ k.now ∷ [])) e
-    by false e = map_push (λ (x : Bor (List ℕ)). x.now) ks k ∙ ap (λ b. cond b (map (λ x. x.now) ks) (map (λ x. x.now) ks ++ k.now ∷ [])) e
-
-pub borrowed_place : (k : Bor (List ℕ)) (ks : List (Bor (List ℕ))) → position_or_len (λ x. same_name k.now x.now) ks ≡ number_of (map (λ x. x.now) ks) k.now
-borrowed_place k [] = refl
-borrowed_place k (x ∷ xs) = ap (λ n. cond (not (same_name k.now x.now)) (1 + n) 0) (borrowed_place k xs)
-
 -- ---- numbers
 
 -- the number of a name that is added

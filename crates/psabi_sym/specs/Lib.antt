@@ -5,6 +5,7 @@ pub mod Data
 pub mod Faults
 pub mod Gathered
 pub mod Inputs
+pub mod Keys
 pub mod LinkFault
 pub mod Loaded
 pub mod Listed

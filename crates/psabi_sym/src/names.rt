@@ -1,51 +1,66 @@
 // Names, numbered in the order in which they are first seen.
 
-ghost use Rattle.std.specs.Prelude.{◌≡◌, ◌+◌, ◌^◌, ◌<◌, ◌≤◌, [], IfOk, length, map};
+ghost use Rattle.std.specs.Prelude.{◌≡◌, ◌+◌, ◌^◌, ◌<◌, [], IfOk, OnOk, length};
+ghost use Rattle.elf32_read.specs.Names.{name_at};
+ghost use Rattle.psabi_sym.specs.Keys.{AreEnds, AreNames, lent, names_of};
 ghost use Rattle.psabi_sym.specs.Rows.{number_of, with_name};
 
-use indexmap::IndexSet;
+use crate::name_ends::{NameEnd, name_ends, name_with_key};
+use crate::texts::Texts;
 use std::alloc::{AllocError, Global};
-use std::marker::Model;
 
-/// Names, each by its number: the place where it was first seen. Clauses see a list of names.
+/// Names, each by its number: the place where it was first seen. Names that end alike share the blocks
+/// that are numbered, so none is read whole.
 #[derive(Drop)]
 pub struct Names<'a> {
-    set: IndexSet<&'a [u8]>,
-}
-
-impl<'a> Model for Names<'a> {
-    ghost use Rattle.std.specs.Prelude.{List, ℕ, map};
-
-    ghost Value = { List (List ℕ) };
-
-    ghost view = { λ names. map (λ name. name.now) names.set.keys };
+    pub tails: Texts<'a>,
+    pub names: Texts<'a>,
 }
 
 impl<'a> Names<'a> {
     /// No names.
     pub fn new(alloc: Global) -> Names<'a>
-        ensures { result ≡ [] }
+        ensures are { AreNames result }
+        ensures none { names_of result ≡ [] }
     {
         Names {
-            set: IndexSet::new(alloc),
+            tails: Texts::new(alloc),
+            names: Texts::new(alloc),
         }
     }
 
-    /// The number of a name, which is new if it wasn't seen before.
-    pub fn number(&mut self, name: &'a [u8]) -> Result<u32, AllocError>
-        requires { length self.old + 1 < 2 ^ 32 }
-        ensures names { IfOk result (λ n. self.new ≡ with_name self.old name.now) }
-        ensures number { IfOk result (λ n. n ≡ number_of self.new name.now) }
-        ensures within { IfOk result (λ n. n < length self.new) }
+    /// Reads a table of names. It looks at each byte twice.
+    pub fn read(&mut self, alloc: Global, table: &'a [u8]) -> Result<Vec<NameEnd>, AllocError>
+        requires { AreNames self.old }
+        ensures are { OnOk result (AreNames self.new) }
+        ensures names { OnOk result (names_of self.new ≡ names_of self.old) }
+        ensures ends { IfOk result (λ ends. AreEnds self.new.tails.texts.items table.now ends.items) }
     {
-        let (number, _) = self.set.insert_full(name)?;
+        let ends = name_ends(alloc, table, &mut self.tails)?;
+        Ok(ends)
+    }
+
+    /// The number of the name that begins at an offset of a table that was read; it is new if it wasn't
+    /// seen before. It looks at less than a block of bytes.
+    pub fn number(&mut self, table: &'a [u8], ends: &[NameEnd], at: u32) -> Result<u32, AllocError>
+        requires few { length (names_of self.old) + 1 < 2 ^ 32 }
+        requires are { AreNames self.old }
+        requires ends { AreEnds self.old.tails.texts.items table.now ends.now }
+        ensures are { OnOk result (AreNames self.new) }
+        ensures tails { OnOk result (self.new.tails ≡ self.old.tails) }
+        ensures names { OnOk result (names_of self.new ≡ with_name (names_of self.old) (name_at table.now at)) }
+        ensures number { IfOk result (λ n. n ≡ number_of (names_of self.new) (name_at table.now at)) }
+        ensures within { IfOk result (λ n. n < length (names_of self.new)) }
+    {
+        let (name, key) = name_with_key(table, ends, at);
+        let number = self.names.number(key, name)?;
         Ok(number as u32)
     }
 
     /// The names, by their numbers.
     pub fn as_slice(&self) -> &[&'a [u8]]
-        ensures { map (λ name. name.now) result.now ≡ self.now }
+        ensures { lent result.now ≡ names_of self.now }
     {
-        self.set.as_slice()
+        self.names.texts.as_slice()
     }
 }

@@ -1,10 +1,9 @@
 // Sums over objects, of which each has a limit.
 
-ghost use Rattle.std.specs.Prelude.{◌≡◌, ◌≤◌, ◌<◌, ◌+◌, ◌*◌, ◌^◌, length, drop, map, take};
+ghost use Rattle.std.specs.Prelude.{◌≡◌, ◌≤◌, ◌<◌, ◌+◌, ◌*◌, ◌^◌, List, ℕ, length, drop, map, take};
 ghost use Rattle.std.specs.List.{find, range_with_len, sum_by};
 ghost use Rattle.elf32_read.specs.Header.{header_of, section_count};
-ghost use Rattle.elf32_read.specs.Lent.{IsSymbol};
-ghost use Rattle.elf32_read.specs.Parts.{object_parts, relocs_held, relocs_of, section_parts, SymbolParts};
+ghost use Rattle.elf32_read.specs.Parts.{object_parts, relocs_held, relocs_of, section_parts, symbol_parts};
 ghost use Rattle.psabi_sym.specs.Faults.{align_room, are_too_large, code_room, common_room, data_room, object_code, object_data, power_above, reloc_room, sums_of};
 
 use crate::loaded::Loaded;
@@ -12,7 +11,7 @@ use crate::read_sections::role_of;
 use crate::section_row::SectionRole;
 use elf32_read::object::Object;
 use elf32_read::reloc::Reloc;
-use elf32_read::symbol::Symbol;
+use elf32_read::symbol_entry::SymbolEntry;
 
 const MOST_BYTES: u64 = 0x200_0000;
 
@@ -138,8 +137,8 @@ fn sections_room(loaded: &Loaded) -> (u64, u64)
 }
 
 // The room that a symbol may take in data.
-fn common_room(symbol: &Symbol) -> u64
-    ensures value { (parts : SymbolParts) → IsSymbol symbol.now parts → result ≡ common_room parts }
+fn common_room(symbol: &SymbolEntry) -> u64
+    ensures value { (file : List ℕ) → result ≡ common_room (symbol_parts file symbol.now) }
     ensures most { result ≤ 2 ^ 33 }
 {
     if symbol.home != COMMON {
@@ -156,7 +155,7 @@ fn commons_room(loaded: &Loaded) -> u64
     let object = loaded.object();
     let mut room = 0;
     for i in 1..object.symbol_count() {
-        room += common_room(&object.symbol(i));
+        room += common_room(&object.symbol_entry(i));
     }
     room
 }

@@ -3,6 +3,7 @@
 ghost use Rattle.std.specs.Prelude.{◌≡◌, ◌+◌, ◌≤◌, [], IfOk, length, map};
 ghost use Rattle.std.specs.List.{range_with_len};
 ghost use Rattle.elf32_read.specs.Parts.{object_parts};
+ghost use Rattle.psabi_sym.specs.Keys.{AreNames, names_of};
 ghost use Rattle.psabi_sym.specs.Listed.{all_symbols};
 ghost use Rattle.psabi_sym.specs.Numbered.{IsNumbered};
 ghost use Rattle.psabi_sym.specs.Rows.{symbol_starts};
@@ -29,8 +30,9 @@ impl Symbols {
         names: &mut Names<'a>,
     ) -> Result<Symbols, AllocError>
         requires few { length objects.now ≤ 256 }
-        requires unnamed { names.old ≡ [] }
-        ensures rows { IfOk result (λ symbols. IsNumbered names.new (all_symbols (map object_parts objects.entry.now)) symbols.rows.items) }
+        requires are { AreNames names.old }
+        requires unnamed { names_of names.old ≡ [] }
+        ensures rows { IfOk result (λ symbols. IsNumbered (names_of names.new) (all_symbols (map object_parts objects.entry.now)) symbols.rows.items) }
         ensures starts { IfOk result (λ symbols. symbols.starts.items
             ≡ map (symbol_starts (map object_parts objects.entry.now)) (range_with_len 0 (length objects.entry.now + 1))) }
     {
@@ -38,7 +40,7 @@ impl Symbols {
         let mut starts = Vec::new(alloc);
         for (i, object) in objects.iter().enumerate() {
             starts.push(rows.len() as u32)?;
-            add_symbols(object, i as u16, names, &mut rows)?;
+            add_symbols(alloc, object, i as u16, names, &mut rows)?;
         }
         starts.push(rows.len() as u32)?;
         Ok(Symbols { rows, starts })

@@ -7,6 +7,7 @@ use Rattle.elf32_read.specs.declared.fault.Fault.TheVariants.{Duplicate, Undefin
 use Rattle.elf32_read.specs.Parts.{object_parts}
 use Rattle.psabi_sym.specs.Faults.{duplicate_fault, is_missing, is_second, undefined_fault}
 use Rattle.psabi_sym.specs.Inputs.{ParsedInputs}
+use Rattle.psabi_sym.specs.Keys.{names_of}
 use Rattle.psabi_sym.specs.Listed.{all_symbols}
 use Rattle.psabi_sym.specs.Meanings.{row_is_missing}
 use Rattle.psabi_sym.specs.Rows.{first_row, row_is_second, symbol_row}
@@ -22,7 +23,7 @@ first_definitions-requires c =
     let files = c.args.objects.now in
     let objects = map object_parts files in
     let listed = all_symbols objects in
-    let names = c.new.new.names in
+    let names = names_of c.new.new.names in
     let numbered = c.in_ok-symbols.ensures.rows in
     let named = named_rows names listed c.in_ok-symbols.symbols.rows.items numbered in
     let count : length c.as_slice-names.result.now ≡ length names =
@@ -34,7 +35,7 @@ first_duplicate-requires-clause-named c =
     let files = c.args.objects.now in
     let objects = map object_parts files in
     let listed = all_symbols objects in
-    let names = c.new.new.names in
+    let names = names_of c.new.new.names in
     let numbered = c.in_ok-symbols.ensures.rows in
     let named = named_rows names listed c.in_ok-symbols.symbols.rows.items numbered in
     let count : length c.as_slice-names.result.now ≡ length names =
@@ -48,7 +49,7 @@ first_duplicate-requires-clause-strong c =
     let files = c.args.objects.now in
     let objects = map object_parts files in
     let listed = all_symbols objects in
-    let names = c.new.new.names in
+    let names = names_of c.new.new.names in
     let numbered = c.in_ok-symbols.ensures.rows in
     let named = named_rows names listed c.in_ok-symbols.symbols.rows.items numbered in
     let count : length c.as_slice-names.result.now ≡ length names =
@@ -63,7 +64,7 @@ returns-in-Some-clause-err c =
     let files = c.args.objects.now in
     let objects = map object_parts files in
     let listed = all_symbols objects in
-    let names = c.new.new.names in
+    let names = names_of c.new.new.names in
     let numbered = c.in_ok-symbols.ensures.rows in
     let named = named_rows names listed c.in_ok-symbols.symbols.rows.items numbered in
     let count : length c.as_slice-names.result.now ≡ length names =
@@ -79,7 +80,7 @@ first_undefined-requires-clause-named c =
     let files = c.args.objects.now in
     let objects = map object_parts files in
     let listed = all_symbols objects in
-    let names = c.new.new.names in
+    let names = names_of c.new.new.names in
     let numbered = c.in_ok-symbols.ensures.rows in
     let named = named_rows names listed c.in_ok-symbols.symbols.rows.items numbered in
     let count : length c.as_slice-names.result.now ≡ length names =
@@ -97,7 +98,7 @@ returns-in-Some-first_undefined-clause-err c =
     let files = c.args.objects.now in
     let objects = map object_parts files in
     let listed = all_symbols objects in
-    let names = c.new.new.names in
+    let names = names_of c.new.new.names in
     let numbered = c.in_ok-symbols.ensures.rows in
     let named = named_rows names listed c.in_ok-symbols.symbols.rows.items numbered in
     let count : length c.as_slice-names.result.now ≡ length names =
@@ -122,7 +123,7 @@ returns-clause-none c =
     let files = c.args.objects.now in
     let objects = map object_parts files in
     let listed = all_symbols objects in
-    let names = c.new.new.names in
+    let names = names_of c.new.new.names in
     let numbered = c.in_ok-symbols.ensures.rows in
     let named = named_rows names listed c.in_ok-symbols.symbols.rows.items numbered in
     let count : length c.as_slice-names.result.now ≡ length names =

@@ -1,9 +1,11 @@
-use Rattle.std.proofs.Common.{◌≡◌, ◌++◌, ◌+◌, ◌-◌, ◌<◌, ◌≤◌, None, ℕ, [], ◌∷◌, List, length, get_or, take, ap, sym, subst, ◌∙◌, arith, append_assoc}
+use Rattle.std.proofs.Common.{◌≡◌, refl, ◌++◌, ◌+◌, ◌-◌, ◌<◌, ◌≤◌, None, ℕ, [], ◌∷◌, List, length, get_or, take, ap, sym, subst, ◌∙◌, arith, append_assoc}
 use Rattle.std.proofs.lemmas.List.{append-nil, take_more, take_all}
+use Rattle.elf32_read.specs.Names.{name_at}
 use Rattle.elf32_read.specs.Parts.{object_parts, symbol_parts}
 use Rattle.elf32_read.specs.Object.{object_fault}
 use Rattle.elf32_read.proofs.Faultless.{few_symbols}
 use Rattle.elf32_read.specs.Symbols.{symbol_count, symbol_entry_of}
+use Rattle.psabi_sym.specs.Keys.{AreEnds, names_of}
 use Rattle.psabi_sym.specs.Listed.{ListedSymbol, symbols_in}
 use Rattle.psabi_sym.specs.Numbered.{IsNumbered}
 use Rattle.psabi_sym.specs.Rows.{number_of, symbol_row, with_name}
@@ -14,9 +16,11 @@ use Rattle.psabi_sym.proofs.read_symbols.add_symbols.Goals as goal
 
 pub loop-i-init : goal.loop-i-init
 loop-i-init c = record {
-  numbered = λ listed before. subst (λ l. IsNumbered c.args.names.now l c.args.rows.now.items) (sym (append-nil listed)) before;
+  are = c.in_ok-ends.ensures.are;
+  ends = c.in_ok-ends.ensures.ends;
+  numbered = λ listed before. numbered_as (sym c.in_ok-ends.ensures.names) (sym (append-nil listed)) refl before;
   within = omega arith;
-  few = omega arith;
+  few = omega (arith, ap length c.in_ok-ends.ensures.names);
   rows = omega arith;
 }
 
@@ -24,8 +28,8 @@ loop-i-init c = record {
 few : (file : List ℕ) → object_fault file ≡ None → symbol_count file ≤ 0x4_0000
 few file none = omega (arith, few_symbols file none)
 
-pub number-requires : goal.number-requires
-number-requires c = omega (arith, few c.object-object.result (ap object_fault c.object-object.ensures.object ∙ c.object-object.ensures.faultless), c.symbol_count-i-end.ensures, c.loop-i.invariant.few, c.requires)
+pub number-requires-clause-few : goal.number-requires-clause-few
+number-requires-clause-few c = omega (arith, few c.object-object.result (ap object_fault c.object-object.ensures.object ∙ c.object-object.ensures.faultless), c.symbol_count-i-end.ensures, c.loop-i.invariant.few, c.requires.few)
 
 pub loop-i-preserved : goal.loop-i-preserved
 loop-i-preserved c =
@@ -34,8 +38,10 @@ loop-i-preserved c =
     let read = c.object-object.result in
     let same : read ≡ file = c.object-object.ensures.object in
     let parts = symbol_parts read (symbol_entry_of read i) in
-    let is = c.symbol-symbol.ensures in
-    let name = c.symbol-symbol.result.name.now in
+    let entry = c.symbol_entry-entry.result in
+    let is : entry ≡ symbol_entry_of read i = c.symbol_entry-entry.ensures in
+    let name = name_at c.symbol_names-table.result.now entry.name in
+    let name_is : name ≡ parts.name = λ j. name_at (c.symbol_names-table.ensures j) (is j).name in
     let within : i < symbol_count file = omega (arith, ap symbol_count same, c.symbol_count-i-end.ensures) in
     let first : 1 ≤ i = omega arith in
     let all = symbols_in (c.args.index, object_parts file) in
@@ -49,25 +55,27 @@ loop-i-preserved c =
     ap (λ x. take (i - 1) all ++ x ∷ []) (sym listed_is)
     ∙ sym (take_more all (i - 1) l (omega (arith, first, long, length-symbols_in c.args.index (object_parts file))))
     ∙ ap (λ n. take n all) (omega (arith, first)) in
-    let names = c.loop-i.names in
+    let names = names_of c.loop-i.names in
     let grown = with_name names name in
-    let grown_is : c.number.new.self ≡ grown = c.in_ok-name.ensures.names in
+    let grown_is : names_of c.number.new.self ≡ grown = c.in_ok-name.ensures.names in
     let number_is : c.in_ok-name.name ≡ number_of grown name = c.in_ok-name.ensures.number ∙ ap (λ n. number_of n name) grown_is in
-    let row_is : record { object = c.args.index; home = c.symbol-symbol.result.home; index = i; name = c.in_ok-name.name; value = c.symbol-symbol.result.value; size = c.symbol-symbol.result.size; bind = c.symbol-symbol.result.bind }
+    let row_is : record { object = c.args.index; home = entry.home; index = i; name = c.in_ok-name.name; value = entry.value; size = entry.size; bind = entry.bind }
     ≡ symbol_row (with_name names parts.name) l = λ j. record {
       object = c.args.index;
-      home = is.home j;
+      home = (is j).home;
       index = i;
-      name = (number_is ∙ ap (λ n. number_of (with_name names n) n) is.name) j;
-      value = is.value j;
-      size = is.size j;
-      bind = is.bind j;
+      name = (number_is ∙ ap (λ n. number_of (with_name names n) n) name_is) j;
+      value = (is j).value;
+      size = (is j).size;
+      bind = (is j).bind;
     } in
     let there : number_of (with_name names parts.name) parts.name < length (with_name names parts.name) =
-    omega (arith, c.in_ok-name.ensures.within, c.in_ok-name.ensures.number, ap length grown_is, ap (λ n. number_of n name) grown_is, ap (λ n. number_of (with_name names n) n) is.name, ap (λ n. length (with_name names n)) is.name) in
+    omega (arith, c.in_ok-name.ensures.within, c.in_ok-name.ensures.number, ap length grown_is, ap (λ n. number_of n name) grown_is, ap (λ n. number_of (with_name names n) n) name_is, ap (λ n. length (with_name names n)) name_is) in
     record {
+      are = c.in_ok-name.ensures.are;
+      ends = subst (λ b. AreEnds b.texts.items c.symbol_names-table.result.now c.in_ok-ends.ends.items) (sym c.in_ok-name.ensures.tails) c.loop-i.invariant.ends;
       numbered = λ listed before.
-          numbered_as (ap (with_name names) (sym is.name) ∙ sym grown_is)
+          numbered_as (ap (with_name names) (sym name_is) ∙ sym grown_is)
           (append_assoc listed (take (i - 1) all) (l ∷ []) ∙ ap (λ t. listed ++ t) more)
           (ap (λ r. c.loop-i.rows.items ++ r ∷ []) (sym row_is) ∙ sym c.in_ok-push.ensures.items)
           (numbered_more names (listed ++ take (i - 1) all) c.loop-i.rows.items l (c.loop-i.invariant.numbered listed before) there);
@@ -81,7 +89,7 @@ returns-clause-numbered c = λ listed before.
     let file = c.args.loaded.now in
     let all = symbols_in (c.args.index, object_parts file) in
     let end : length all ≤ c.loop-i.i - 1 = omega (arith, length-symbols_in c.args.index (object_parts file), symbol_count_is file, ap symbol_count c.object-object.ensures.object, c.symbol_count-i-end.ensures) in
-    subst (λ t. IsNumbered c.loop-i.names (listed ++ t) c.loop-i.rows.items) (take_all (c.loop-i.i - 1) all end) (c.loop-i.invariant.numbered listed before)
+    subst (λ t. IsNumbered (names_of c.loop-i.names) (listed ++ t) c.loop-i.rows.items) (take_all (c.loop-i.i - 1) all end) (c.loop-i.invariant.numbered listed before)
 
 pub returns-clause-few : goal.returns-clause-few
 returns-clause-few c =

@@ -30,7 +30,7 @@ loop-i-preserved c =
     let at : slice_get (drop 1 (object_parts file).symbols) (i - 1) ≡ Some parts =
     slice_get-drop_one (object_parts file).symbols (i - 1) ∙ ap (slice_get (object_parts file).symbols) back ∙ symbol_got file i within in
     let room : c.common_room-room.result ≡ common_room parts =
-    c.common_room-room.ensures.value (symbol_parts read (symbol_entry_of read i)) c.symbol.ensures ∙ ap (λ f. common_room (symbol_parts f (symbol_entry_of f i))) same in
+    c.common_room-room.ensures.value read ∙ ap (λ e. common_room (symbol_parts read e)) c.symbol_entry.ensures ∙ ap (λ f. common_room (symbol_parts f (symbol_entry_of f i))) same in
     let next : i - 1 + 1 ≡ i + 1 - 1 = omega arith in
     record {
       room = omega (arith, sum_next common_room (drop 1 (object_parts file).symbols) (i - 1) parts at, c.loop-i.invariant.room, room, ap (λ n. sum_by common_room (take n (drop 1 (object_parts file).symbols))) next);

@@ -1,17 +1,19 @@
-use Rattle.std.proofs.Common.{◌≡◌, ap, sym, ◌∙◌, map}
+use Rattle.std.proofs.Common.{ap, ◌∙◌}
+use Rattle.psabi_sym.specs.Keys.{IsAdded, lent, names_of, tails_of}
 use Rattle.psabi_sym.specs.Rows.{number_of, with_name}
-use Rattle.psabi_sym.proofs.NumberLaws.{borrowed_insert, borrowed_place, number_added}
 use Rattle.psabi_sym.proofs.names.Names.number.Goals as goal
 
--- the names with this one
-grown : (c : goal.In_ok-number) → map (λ x. x.now) c.insert_full.new.self.keys ≡ with_name c.args.self.now c.args.name.now
-grown c =
-    ap (map (λ x. x.now)) c.in_ok-number.ensures.keys ∙ borrowed_insert c.args.name c.self.inside.set.keys ∙ ap (λ names. with_name names c.args.name.now) c.self.view_is
+pub name_with_key-requires : goal.name_with_key-requires
+name_with_key-requires c = (c.args.self.now.tails.texts.items, c.requires.ends)
+
+-- the name is added
+added : (c : goal.In_ok-number) → IsAdded 0 (tails_of c.args.self.now.tails.texts.items) (names_of c.args.self.now) (lent c.number.new.self.texts.items) c.number.new.self.keys.keys c.name_with_key.result.0.now c.in_ok-number.number
+added c =
+    let tails = tails_of c.args.self.now.tails.texts.items in
+    c.in_ok-number.ensures 0 tails c.requires.are.tails.tails (c.name_with_key.ensures.key c.args.self.now.tails.texts.items c.requires.ends) c.requires.are.keys_are
 
 pub returns-clause-names : goal.returns-clause-names
-returns-clause-names c = grown c
+returns-clause-names c = (added c).texts_are ∙ ap (with_name (names_of c.args.self.now)) c.name_with_key.ensures.name
 
 pub returns-clause-number : goal.returns-clause-number
-returns-clause-number c =
-    c.in_ok-number.ensures.index ∙ borrowed_place c.args.name c.self.inside.set.keys ∙ ap (λ names. number_of names c.args.name.now) c.self.view_is
-    ∙ sym (number_added c.args.self.now c.args.name.now) ∙ ap (λ names. number_of names c.args.name.now) (sym (grown c))
+returns-clause-number c = (added c).number_is ∙ ap (number_of (lent c.number.new.self.texts.items)) c.name_with_key.ensures.name

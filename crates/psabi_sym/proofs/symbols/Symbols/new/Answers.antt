@@ -4,6 +4,7 @@ use Rattle.std.proofs.lemmas.List.{length-map}
 use Rattle.std.proofs.lemmas.List.Elements.{All-nil}
 use Rattle.std.proofs.lemmas.List.FromFn.{map-range_with_len_more}
 use Rattle.elf32_read.specs.Parts.{object_parts}
+use Rattle.psabi_sym.specs.Keys.{names_of}
 use Rattle.psabi_sym.specs.Listed.{ListedSymbol, all_symbols, symbols_in}
 use Rattle.psabi_sym.specs.Numbered.{IsNumbered}
 use Rattle.psabi_sym.specs.Rows.{number_of, symbol_row, symbol_starts}
@@ -13,9 +14,10 @@ use Rattle.psabi_sym.proofs.symbols.Symbols.new.Goals as goal
 pub loop-i-init : goal.loop-i-init
 unfolding all_symbols
 loop-i-init c = record {
+  are = c.requires.are;
   rows = record {
     rows_are = c.new-rows.ensures.items;
-    numbered = All-nil (λ (l : ListedSymbol). number_of c.args.names.now l.symbol.name < length c.args.names.now);
+    numbered = All-nil (λ (l : ListedSymbol). number_of (names_of c.args.names.now) l.symbol.name < length (names_of c.args.names.now));
     few = omega (arith, ap length c.requires.unnamed);
   };
   starts = c.new-starts.ensures.items;
@@ -33,10 +35,11 @@ loop-i-preserved c =
     let index : length (take i all) ≡ i = length-parsed object_parts files i (omega arith) in
     let rows = c.loop-i.rows in
     let before = c.loop-i.invariant.rows in
-    let count : length rows.items ≡ symbol_starts all i = ap length before.rows_are ∙ length-map (all_symbols (take i all)) (symbol_row c.loop-i.names) in
+    let count : length rows.items ≡ symbol_starts all i = ap length before.rows_are ∙ length-map (all_symbols (take i all)) (symbol_row (names_of c.loop-i.names)) in
     record {
+      are = c.in_ok-add_symbols.ensures.are;
       rows =
-          subst (λ l. IsNumbered c.add_symbols.new.names l c.add_symbols.new.rows.items)
+          subst (λ l. IsNumbered (names_of c.add_symbols.new.names) l c.add_symbols.new.rows.items)
           (ap (λ n. all_symbols (take i all) ++ symbols_in (n, object)) (sym index) ∙ sym (symbols_push (take i all) object) ∙ ap all_symbols (sym more))
           (c.in_ok-add_symbols.ensures.numbered (all_symbols (take i all)) before);
       starts =
@@ -53,7 +56,7 @@ returns-clause-starts c =
     let all = map object_parts files in
     let rows = c.loop-i.rows in
     let end : i ≡ length files = omega arith in
-    let count : length rows.items ≡ symbol_starts all i = ap length c.loop-i.invariant.rows.rows_are ∙ length-map (all_symbols (take i all)) (symbol_row c.loop-i.names) in
+    let count : length rows.items ≡ symbol_starts all i = ap length c.loop-i.invariant.rows.rows_are ∙ length-map (all_symbols (take i all)) (symbol_row (names_of c.loop-i.names)) in
     c.in_ok-push-2.ensures.items ∙ ap (λ l. l ++ c.len-2.result ∷ []) c.loop-i.invariant.starts
     ∙ ap (λ k. map (symbol_starts all) (range_with_len 0 i) ++ k ∷ []) (omega (arith, c.len-2.ensures, rows.ok.0, count))
     ∙ sym (map-range_with_len_more (symbol_starts all) 0 i i (omega arith))

@@ -1,6 +1,7 @@
 use Rattle.std.proofs.Common.{◌≡◌, ◌≤◌, ◌*◌, map, take, vec_len}
 use Rattle.std.specs.List.{range_with_len}
 use Rattle.elf32_read.specs.Parts.{object_parts}
+use Rattle.psabi_sym.specs.Keys.{AreNames, names_of}
 use Rattle.psabi_sym.specs.Listed.{all_symbols}
 use Rattle.psabi_sym.specs.Numbered.{IsNumbered}
 use Rattle.psabi_sym.specs.Rows.{symbol_starts}
@@ -8,7 +9,8 @@ use Rattle.psabi_sym.proofs.symbols.Symbols.new.Given as goal
 
 abbrev pub invariant-loop-i : goal.invariant-loop-i
 invariant-loop-i l = let all = map object_parts l.objects in record {
-  rows : IsNumbered l.names (all_symbols (take l.i all)) l.rows.items;
+  are : AreNames l.names;
+  rows : IsNumbered (names_of l.names) (all_symbols (take l.i all)) l.rows.items;
   starts : l.starts.items ≡ map (symbol_starts all) (range_with_len 0 l.i);
   few : vec_len l.rows ≤ 0x4_0000 * l.i;
 }

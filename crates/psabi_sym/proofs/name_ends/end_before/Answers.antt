@@ -1,0 +1,61 @@
+use Rattle.std.proofs.Common.{◌%◌, List, Bor, refl, subst, ◌≡◌, ◌+◌, ◌-◌, ℕ, length, get_or, take, drop, ap, arith}
+use Rattle.std.proofs.lemmas.List.{length-map, length-take}
+use Rattle.elf32_read.specs.Names.{name_at}
+use Rattle.psabi_sym.specs.Keys.{IsAdded, lent, tails_of}
+use Rattle.psabi_sym.proofs.TailLaws.{block_added, block_end, block_extends, block_key, end_more, name_slice, name_step}
+use Rattle.psabi_sym.proofs.name_ends.end_before.Goals as goal
+
+pub returns-then-length-ne0-clause-end : goal.returns-then-length-ne0-clause-end
+returns-then-length-ne0-clause-end c =
+    let table = c.args.table.now in
+    end_more (tails_of c.args.tails.now.texts.items) (get_or table c.args.at 0) (name_at table c.args.at) (name_at table (c.args.at + 1))
+    (name_step table c.args.at c.requires.at c.if-table-at-eq0.false) c.args.next c.requires.next c.if-length-ne0.true
+
+pub slice_bounds-key-end : goal.slice_bounds-key-end
+slice_bounds-key-end c =
+    let table = c.args.table.now in
+    let n = c.args.next.length + 1 in
+    let part = take (c.args.at + n - c.args.at) (drop c.args.at table) in
+    let longer : n ≡ length (name_at table c.args.at) = omega (arith, ap length (name_step table c.args.at c.requires.at c.if-table-at-eq0.false), c.requires.next.length_is) in
+    omega (arith, c.if-length-ne0.false, longer, ap length (name_slice table c.args.at n longer), length-take 64 part)
+
+-- the name has a number
+named : (c : goal.In_ok-tail) → IsAdded 1 (tails_of c.args.tails.now.texts.items) (lent c.args.tails.now.texts.items) (lent c.number.new.self.texts.items) c.number.new.self.keys.keys (name_at c.args.table.now c.args.at) c.in_ok-tail.field-0
+named c =
+    let table = c.args.table.now in
+    let at = c.args.at in
+    let name = name_at table at in
+    let old = c.args.tails.now in
+    let tails = tails_of old.texts.items in
+    let step = name_step table at c.requires.at c.if-table-at-eq0.false in
+    let slice = name_slice table at (c.args.next.length + 1) (omega (arith, ap length step, c.requires.next.length_is)) in
+    subst (λ t. IsAdded 1 tails (lent old.texts.items) (lent c.number.new.self.texts.items) c.number.new.self.keys.keys t c.in_ok-tail.field-0) slice
+    (c.in_ok-tail.ensures 1 tails c.requires.tails.tails
+    (block_key tails (get_or table at 0) name (name_at table (at + 1)) step c.args.next c.requires.next c.if-length-ne0.false _ _ slice refl refl)
+    c.requires.tails.keys_are)
+
+-- it has whole blocks
+whole : (c : goal.In_ok-tail) → length (name_at c.args.table.now c.args.at) % 64 ≡ 0
+whole c = omega (arith, ap length (name_step c.args.table.now c.args.at c.requires.at c.if-table-at-eq0.false), c.requires.next.length_is, c.if-length-ne0.false)
+
+pub overflow_add-tail : goal.overflow_add-tail
+overflow_add-tail c = omega (arith, (named c).within, length-map c.number.new.self.texts.items (λ (x : Bor (List ℕ)). x.now), c.number.new.self.texts.ok.0, c.number.new.self.texts.ok.1, c.number.new.self.texts.small)
+
+pub returns-clause-tails : goal.returns-clause-tails
+returns-clause-tails c =
+    let old = c.args.tails.now in
+    block_added old.keys.keys c.number.new.self.keys.keys old.texts.items c.number.new.self.texts.items c.requires.tails _ _ _
+    (name_step c.args.table.now c.args.at c.requires.at c.if-table-at-eq0.false) (whole c) c.in_ok-tail.field-0 (named c)
+
+pub returns-clause-more : goal.returns-clause-more
+returns-clause-more c =
+    let old = c.args.tails.now in
+    block_extends old.keys.keys c.number.new.self.keys.keys old.texts.items c.number.new.self.texts.items c.requires.tails _ _ _
+    (name_step c.args.table.now c.args.at c.requires.at c.if-table-at-eq0.false) (whole c) c.in_ok-tail.field-0 (named c)
+
+pub returns-clause-end : goal.returns-clause-end
+returns-clause-end c =
+    let old = c.args.tails.now in
+    let step = name_step c.args.table.now c.args.at c.requires.at c.if-table-at-eq0.false in
+    block_end old.keys.keys c.number.new.self.keys.keys old.texts.items c.number.new.self.texts.items c.requires.tails _ _ _
+    step (whole c) c.in_ok-tail.field-0 (named c) (c.args.next.length + 1) (omega (arith, ap length step, c.requires.next.length_is))

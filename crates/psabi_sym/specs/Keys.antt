@@ -1,0 +1,71 @@
+-- Names that are told apart by a part of a bounded length and the number of the rest, so that names that end alike aren't read
+-- whole.
+use Rattle.std.specs.Borrow.{Bor}
+use Rattle.std.specs.Prelude.{◌≡◌, ◌/◌, ◌%◌, ◌<◌, ◌≤◌, ℕ, List, [], ◌∷◌, ◌++◌, length, map, drop, All, slice_index_or}
+use Rattle.elf32_read.specs.Names.{name_at}
+use Rattle.psabi_sym.specs.Rows.{number_of, with_name}
+use Rattle.psabi_sym.specs.declared.key.Key.{Key}
+use Rattle.psabi_sym.specs.declared.name_ends.NameEnd.{NameEnd}
+use Rattle.psabi_sym.specs.declared.names.Names.{Names}
+
+-- what is lent
+abbrev pub lent : List (Bor (List ℕ)) → List (List ℕ)
+lent texts = map (λ text. text.now) texts
+
+-- tails have whole blocks of 64 bytes, and each one number; number 0 is that of the empty one
+pub record AreTails (tails : List (List ℕ)) : Type 0 where
+  pub whole : All (λ tail. length tail % 64 ≡ 0) tails
+  pub numbered : (k : ℕ) → k < length tails → number_of tails (slice_index_or tails k []) ≡ k
+
+-- the key is that of a text: a part that has so many whole blocks, and then a tail
+pub record IsKey (blocks : ℕ) (tails : List (List ℕ)) (key : Key) (text : List ℕ) : Type 0 where
+  pub part : length key.part.now / 64 ≡ blocks
+  pub rest : key.rest < length tails
+  pub text_is : text ≡ key.part.now ++ slice_index_or tails key.rest []
+
+-- the keys are those of the texts, in order
+abbrev pub AreKeys : ℕ → List (List ℕ) → List Key → List (List ℕ) → Type 0
+AreKeys blocks tails [] [] = Unit {0}
+AreKeys blocks tails (key ∷ keys) (text ∷ texts) = IsKey blocks tails key text × AreKeys blocks tails keys texts
+AreKeys blocks tails [] (text ∷ texts) = ⊥
+AreKeys blocks tails (key ∷ keys) [] = ⊥
+
+-- one of the texts has this number; it is the last one if it wasn't there before
+pub record IsAdded (blocks : ℕ) (tails before after : List (List ℕ)) (keys : List Key) (text : List ℕ) (n : ℕ) : Type 0 where
+  pub keys_are : AreKeys blocks tails keys after
+  pub texts_are : after ≡ with_name before text
+  pub number_is : n ≡ number_of after text
+  pub within : n < length after
+
+-- the blocks' texts are the tails but for the empty one, with keys of one block and a tail
+abbrev pub tails_of : List (Bor (List ℕ)) → List (List ℕ)
+tails_of texts = [] ∷ lent texts
+
+pub record AreBlocks (keys : List Key) (texts : List (Bor (List ℕ))) : Type 0 where
+  pub tails : AreTails (tails_of texts)
+  pub keys_are : AreKeys 1 (tails_of texts) keys (lent texts)
+
+-- tails that were there keep their numbers
+pub record Extends (before after : List (List ℕ)) : Type 0 where
+  pub longer : length before ≤ length after
+  pub kept : (k : ℕ) → k < length before → slice_index_or after k [] ≡ slice_index_or before k []
+
+-- how long a name is, and the number of its longest tail
+pub record IsEnd (tails : List (List ℕ)) (name : List ℕ) (end : NameEnd) : Type 0 where
+  pub length_is : end.length ≡ length name
+  pub tail : end.tail < length tails
+  pub tail_is : slice_index_or tails end.tail [] ≡ drop (end.length % 64) name
+
+-- the ends of the names that begin at each byte of a table
+pub record AreEnds (texts : List (Bor (List ℕ))) (table : List ℕ) (ends : List NameEnd) : Type 0 where
+  pub count : length ends ≡ length table
+  pub each : (k : ℕ) (d : NameEnd) → k < length table → IsEnd (tails_of texts) (name_at table k) (slice_index_or ends k d)
+
+-- names that were numbered, in the order of their numbers
+abbrev pub names_of : Names → List (List ℕ)
+names_of names = lent names.names.texts.items
+
+-- they have keys of less than a block and a tail
+pub record AreNames (names : Names) : Type 0 where
+  pub tails : AreBlocks names.tails.keys.keys names.tails.texts.items
+  pub keys_are : AreKeys 0 (tails_of names.tails.texts.items) names.names.keys.keys (names_of names)

@@ -1,0 +1,8 @@
+// Names by parts.
+
+/// A name by what it begins with and the number of the rest.
+#[derive(Clone, Copy, PartialEq, Eq, Hash, Debug)]
+pub struct Key<'a> {
+    pub part: &'a [u8],
+    pub rest: usize,
+}
