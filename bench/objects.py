@@ -1,5 +1,5 @@
 #!/usr/bin/env python3
-"""Measures `zc` on lists of objects, on many symbols and on many sections.
+"""Measures `zc` on lists of objects, on many symbols, on names that share bytes and on many sections.
 
     bench/objects.py [--repeats R] [PROGRAM]        PROGRAM is build/zcld if none is given
 
@@ -27,10 +27,13 @@ PER_OBJECT = (1000, 4096, 8192, 40)
 
 
 class Made:
-    """An object: its sections by name, type, flags, content and size, and its global names by section and value."""
+    """An object: its sections by name, type, flags, content and size, and its global symbols by name, section and value.
+
+    A name is its place in the table of names.
+    """
 
     def __init__(self):
-        self.sections, self.symbols = [], []
+        self.sections, self.symbols, self.names = [], [], bytearray(b'\0')
 
     def add(self, name, kind, flags, content, size=None):
         self.sections.append((name, kind, flags, content, len(content) if size is None else size))
@@ -41,14 +44,20 @@ class Made:
         return self.add(name, PROGBITS, CODE, struct.pack(f'<{size // 4}I', *body, *last))
 
     def name(self, text, section, value=0):
-        self.symbols.append((text.encode(), section, value))
+        self.symbols.append((len(self.names), section, value))
+        self.names += text.encode() + b'\0'
+
+    def endings(self, text, count, section):
+        """So many names: a text, and endings of it that share its bytes."""
+        for k in range(count):
+            self.symbols.append((len(self.names) + k * (len(text) // count), section, k % 4096))
+        self.names += text + b'\0'
 
     def bytes(self):
         """The object's file (System V gABI, "Object Files")."""
-        names, entries = bytearray(b'\0'), bytearray(16)
+        names, entries = self.names, bytearray(16)
         for name, section, value in self.symbols:
-            entries += struct.pack('<IIIBBH', len(names), value, 0, GLOBAL, 0, section)
-            names += name + b'\0'
+            entries += struct.pack('<IIIBBH', name, value, 0, GLOBAL, 0, section)
         count = len(self.sections) + 1
         sections = [*self.sections, (b'.symtab', SYMTAB, 0, entries, len(entries)), (b'.strtab', STRTAB, 0, names, len(names))]
         strings = bytearray(b'\0')
@@ -99,6 +108,16 @@ def made_symbols(count):
     return [made.bytes()]
 
 
+def made_endings(count):
+    """One object of so many global names, all but one of which are endings of one name of 2 MB."""
+    made = Made()
+    text = made.code(1000, last=EXIT)
+    held = made.add(b'.data', PROGBITS, DATA, bytes(4096))
+    made.name('_start', text)
+    made.endings(bytes(97 + k * k % 26 for k in range(2000000)), count - 1, held)
+    return [made.bytes()]
+
+
 def made_sections(count):
     """One object of so many sections, with those of symbols and names: code and data in turn, of 8 bytes each."""
     made = Made()
@@ -113,7 +132,9 @@ def made_sections(count):
 
 
 ROWS = ((made_objects, 'objects', (1, 16, 256)), (made_symbols, 'symbols', (10, 1000, 100000)),
-        (made_sections, 'sections', (10, 4096)))
+        (made_endings, 'endings', (60000,)), (made_sections, 'sections', (10, 4096)))
+# GNU ld reads each name whole, so it stands beside no row of names that share bytes.
+ZC_ALONE = ('endings',)
 
 
 def calls_of(program, linker, folder):
@@ -129,13 +150,13 @@ def calls_of(program, linker, folder):
             out, cert, merged = (os.path.join(folder, f'{what}{count}.{kind}') for kind in ('elf', 'cert', 'merged'))
             calls[what, count] = (
                 Call([program, 'zc', '--out', out, '--cert', cert, *paths], 0),
-                linker and Call([linker, '-m', 'elf32lriscv', '-r', '-o', merged, *paths], 0),
+                linker and what not in ZC_ALONE and Call([linker, '-m', 'elf32lriscv', '-r', '-o', merged, *paths], 0),
                 sum(map(os.path.getsize, paths)))
     return calls
 
 
 def main():
-    arguments = argparse.ArgumentParser(description='Measures `zc` on lists of objects, many symbols and many sections.')
+    arguments = argparse.ArgumentParser(description='Measures `zc` on lists of objects, many symbols, names that share bytes and many sections.')
     arguments.add_argument('program', nargs='?', default=os.path.join('build', 'zcld'))
     arguments.add_argument('--repeats', type=int, default=40)
     given = arguments.parse_args()

@@ -64,3 +64,6 @@ impl<'a> Names<'a> {
         self.names.texts.as_slice()
     }
 }
+
+#[cfg(test)]
+mod tests;
