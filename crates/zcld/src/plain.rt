@@ -11,7 +11,7 @@ ghost use Rattle.zc_outside.specs.World.{world};
 ghost use Rattle.zcld.specs.Call.{Does};
 ghost use Rattle.zcld.specs.Command.{Plain, texts};
 ghost use Rattle.zcld.specs.Objects.{RefusalCause, inputs_of};
-ghost use Rattle.zcld.specs.Plain.{PutsAndPrints, plain_line};
+ghost use Rattle.zcld.specs.Plain.{PutsAndPrints};
 
 use crate::err_line::numbered;
 use crate::objects::read_objects;
@@ -40,13 +40,10 @@ pub fn plain<S: Store, C: Console>(
         return outcome;
     }
     match link(alloc, files.as_slice()) {
-        Ok(linked) => put_and_print(
-            store,
-            out,
-            linked.elf.as_slice(),
-            linked.plain.text,
-            console,
-        ),
+        Ok(linked) => {
+            let line = numbered("plain text ", linked.plain.text);
+            put_and_print(store, out, linked.elf.as_slice(), line.as_str(), console)
+        }
         Err(outcome) => outcome,
     }
 }
@@ -62,15 +59,15 @@ fn link(alloc: Global, files: &[Vec<u8>]) -> Result<Linked, Outcome>
     Ok(link_plain(alloc, objects)?)
 }
 
-// Writes the image, then how many bytes its text has, and says how that ended.
+// Writes the image, then the line on its text, and says how that ended.
 fn put_and_print<S: Store, C: Console>(
     store: &mut S,
     out: &str,
     image: &[u8],
-    text: u32,
+    line: &str,
     console: &mut C,
 ) -> Outcome
-    ensures done { PutsAndPrints result out.now image.now (plain_line text)
+    ensures done { PutsAndPrints result out.now image.now line.now
         (world (S.shown store.old) (C.shown console.old)) (world (S.shown store.new) (C.shown console.new)) }
     ensures puts { OnlyPuts (S.shown store.old) (S.shown store.new) }
     ensures writes { OnlyWrites (C.shown console.old) (C.shown console.new) }
@@ -80,8 +77,7 @@ fn put_and_print<S: Store, C: Console>(
         Err(StoreFault::OutOfMemory) => return Outcome::OutOfMemory,
         Err(_) => return Outcome::WriteFault,
     }
-    let line = numbered("plain text ", text);
-    match console.out(line.as_str().as_bytes()) {
+    match console.out(line.as_bytes()) {
         Ok(()) => Outcome::Done,
         Err(ConsoleFault::Failed) => Outcome::WriteFault,
         Err(ConsoleFault::OutOfMemory) => Outcome::OutOfMemory,
