@@ -1,4 +1,5 @@
 pub mod Examples
+pub mod RelocatedExamples
 pub mod StepLaws
 pub mod MemoryLaws
 pub mod StateLaws

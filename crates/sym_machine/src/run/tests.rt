@@ -12,8 +12,10 @@ use std::test::Fail;
 use zc_base::mem_map::MemMap;
 use zc_outside::mem_console::MemConsole;
 
+mod relocated;
 mod rows;
 
+use relocated::{RELOCATED, relocated};
 use rows::{BRANCHES, CALLS, PROGRAMS, RESULTS};
 
 // Sections without names: 1 is code of 16 words, 2 data with the bytes 1, 2, 3, 0x84, 5, 6, 7, 8, and 3 eight zeros.
@@ -56,10 +58,15 @@ fn object_of(alloc: Global, words: &[u32]) -> Result<Vec<u8>, AllocError> {
     Ok(object)
 }
 
-fn cut_of(alloc: Global, words: &[u32]) -> Result<Cut, Fail> {
-    let files = vec![in alloc; object_of(alloc, words)?]?;
+// One object, cut into items.
+fn cut_file(alloc: Global, object: Vec<u8>) -> Result<Cut, Fail> {
+    let files = vec![in alloc; object]?;
     let objects = Objects::gather(alloc, &files, MemMap::standard())?;
     Ok(Cut::new(alloc, objects)?)
+}
+
+fn cut_of(alloc: Global, words: &[u32]) -> Result<Cut, Fail> {
+    cut_file(alloc, object_of(alloc, words)?)
 }
 
 // How a run ends, and what it wrote. An end is 0 and the exit's status, or the number of the cause and the offset for
@@ -87,7 +94,25 @@ fn end_of(end: TraceEnd) -> (u32, u32) {
     }
 }
 
-// Runs these words for so many steps, over this input and a console some of whose calls fail.
+// Runs a cut for so many steps, over this input and a console some of whose calls fail.
+fn run_cut(
+    alloc: Global,
+    cut: &Cut,
+    steps: u64,
+    input: &[u8],
+    fails: &[u32],
+) -> Result<Outcome, Fail> {
+    let mut sym = Sym::start(alloc, cut, input)?;
+    let mut console = MemConsole::new(alloc, b"", fails)?;
+    let end = run(&mut sym, cut, steps, &mut console);
+    Ok(Outcome {
+        end: end_of(end),
+        out: Vec::from_slice(alloc, console.out_bytes())?,
+        err: Vec::from_slice(alloc, console.err_bytes())?,
+    })
+}
+
+// The same of these words.
 fn run_words(
     alloc: Global,
     words: &[u32],
@@ -95,15 +120,7 @@ fn run_words(
     input: &[u8],
     fails: &[u32],
 ) -> Result<Outcome, Fail> {
-    let cut = cut_of(alloc, words)?;
-    let mut sym = Sym::start(alloc, &cut, input)?;
-    let mut console = MemConsole::new(alloc, b"", fails)?;
-    let end = run(&mut sym, &cut, steps, &mut console);
-    Ok(Outcome {
-        end: end_of(end),
-        out: Vec::from_slice(alloc, console.out_bytes())?,
-        err: Vec::from_slice(alloc, console.err_bytes())?,
-    })
+    run_cut(alloc, &cut_of(alloc, words)?, steps, input, fails)
 }
 
 // The numbers of a row, in hexadecimal digits.
@@ -244,6 +261,28 @@ fn calls_read_and_write(rt: HostRuntime) -> Result<(), Fail> {
     Ok(())
 }
 
+#[test]
+fn relocations_say_what_items_do(rt: HostRuntime) -> Result<(), Fail> {
+    for row in RELOCATED.trim().lines() {
+        if row.starts_with('#') {
+            continue;
+        }
+        let (end, rest) = cut_row(row)?;
+        let (steps, rest) = cut_row(rest)?;
+        let (words, rest) = cut_row(rest)?;
+        let (code, data) = cut_row(rest)?;
+        let words = numbers_of(rt.alloc(), words)?;
+        let code = numbers_of(rt.alloc(), code)?;
+        let data = numbers_of(rt.alloc(), data)?;
+        let cut = cut_file(rt.alloc(), relocated(rt.alloc(), &words, &code, &data)?)?;
+        let steps = u64::from_str_radix(steps.trim(), 16)?;
+        let (kind, value) = run_cut(rt.alloc(), &cut, steps, b"", &[])?.end;
+        let want = numbers_of(rt.alloc(), end)?;
+        assert_eq!(rt; [kind, value].as_slice(), want.as_slice(), "{row}");
+    }
+    Ok(())
+}
+
 // Exits with status 3.
 const THREE: [u32; 3] = [
     0x0030_0513, // addi a0,x0,3
@@ -303,6 +342,30 @@ fn each_step_answers_and_the_last_stays(rt: HostRuntime) -> Result<(), Fail> {
         SymStep::Wrote { fd: 1, bytes },
         SymStep::Stuck(place, Why::NoInstruction),
         SymStep::Stuck(place, Why::NoInstruction),
+    ];
+    expect_steps(&rt, &mut sym, &cut, &steps)
+}
+
+// Moves sp above the stack.
+const ABOVE: [u32; 2] = [
+    0x0010_0513, // addi a0,x0,1
+    0x0041_0113, // addi sp,sp,4
+];
+
+#[test]
+fn a_stuck_machine_stays_stuck(rt: HostRuntime) -> Result<(), Fail> {
+    let cut = cut_of(rt.alloc(), &ABOVE)?;
+    let mut sym = Sym::start(rt.alloc(), &cut, b"")?;
+    let place = Place {
+        object: 0,
+        section: 1,
+        offset: 4,
+    };
+    let steps = [
+        SymStep::Done,
+        SymStep::Stuck(place, Why::StackPointer),
+        SymStep::Stuck(place, Why::StackPointer),
+        SymStep::Stuck(place, Why::StackPointer),
     ];
     expect_steps(&rt, &mut sym, &cut, &steps)
 }

@@ -1,6 +1,5 @@
 -- A call sets one register or two, or leaves no number in sp.
 use Rattle.std.proofs.Common.{◌≡◌, ◌≤◌, ◌<◌, ℕ, None, ap, sym, ◌∙◌, drop, length, subst, refl, set, arith}
-use Rattle.sym_machine.specs.declared.held.Held.{Held}
 use Rattle.sym_machine.specs.declared.held.Held.TheVariants as held
 use Rattle.sym_machine.specs.declared.state.State.TheInside.{Inside}
 use Rattle.sym_machine.specs.declared.step.SymStep.TheVariants as answer
