@@ -1,5 +1,5 @@
 -- Words that relocations give: a target's word, its upper part, and the sum of an upper and a lower part
--- (RISC-V ELF psABI, "Absolute Addresses" and "PC-Relative Addresses").
+-- (RISC-V ELF psABI, "Absolute Addresses" and "PC-Relative Symbol Addresses").
 use Rattle.std.specs.Prelude.{◌*◌, ◌^◌, if◌then◌else◌, List, [], ◌∷◌, Option, Some, None}
 use Rattle.zc_base.specs.declared.place.Place.{Place}
 use Rattle.psabi_sym.specs.declared.target.Target.{Target}
