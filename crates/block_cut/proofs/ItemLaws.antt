@@ -1,79 +1,238 @@
--- The item at a place: it is that of a word of the section of code that the place lies in.
-use Rattle.std.proofs.Common.{◌≡◌, ℕ, ◌%◌, ◌<◌, List, length, Bool, true, false, cond, Option, Some, None, refl, sym, ap, ◌∙◌, eqb, ltb, leb, ℤ, pos, negsuc, ◌+ℤ◌}
+-- What the item at a place is: it is that of a start of the section, and takes the bytes that its step goes, or it is padding.
+use Rattle.std.proofs.Common.{◌≡◌, ◌≢◌, ℕ, zero, suc, ◌+◌, ◌%◌, ◌<◌, ◌≤◌, ℤ, pos, negsuc, List, length, Bool, true, false, cond, Option, Some, None, refl, sym, ap, subst, ◌∙◌, arith, eqb, ltb, eq-eqb}
 use Rattle.std.specs.Prelude.{◌&&◌}
-use Rattle.std.specs.Option.{option_and_then}
-use Rattle.std.proofs.lemmas.Bool.{and_parts, eqb-true, ltb-true}
+use Rattle.std.specs.Option.{option_and_then, option_map_or}
+use Rattle.std.proofs.lemmas.Bool.{and_parts, eqb-true, lt-ltb, ltb-true}
+use Rattle.zc_base.specs.Fields.{word_in}
 use Rattle.zc_base.specs.declared.place.Place.{Place}
-use Rattle.elf32_read.specs.Parts.{ObjectParts, SectionParts}
-use Rattle.psabi_sym.specs.Resolve.{offset_within}
+use Rattle.elf32_read.specs.Parts.{ObjectParts, SectionParts, is_code_section}
+use Rattle.elf32_read.specs.declared.reloc.Reloc.{Reloc}
+use Rattle.psabi_sym.specs.Blocks.{aligned_up}
+use Rattle.psabi_sym.specs.Faults.{align_room, power_above, reloc_room}
+use Rattle.psabi_sym.specs.Inputs.{ParsedInputs}
+use Rattle.psabi_sym.specs.declared.target.Target.{Target}
+use Rattle.psabi_sym.specs.declared.target.Target.TheVariants.{Code, Number, Absent, Nowhere}
+use Rattle.psabi_reloc.specs.Kinds.{field_length, kind_of, padding_length}
+use Rattle.psabi_reloc.specs.declared.kind.RelocKind.{RelocKind}
+use Rattle.psabi_reloc.specs.declared.kind.RelocKind.TheVariants as kind
+use Rattle.rv_decode.specs.Decode.{decoded}
+use Rattle.rv_decode.specs.declared.instr.Instr.{Instr}
+use Rattle.rv_decode.specs.declared.instr.Instr.TheVariants as instr
 use Rattle.block_cut.specs.declared.item.Item.{Item}
-use Rattle.block_cut.specs.Items.{code_at, item_at, item_from, item_in, place_on, starts_at, target_away, target_only}
-use Rattle.block_cut.proofs.StartLaws.{is_target_at-offset, starts_at-offset}
+use Rattle.block_cut.specs.declared.item.Item.TheVariants.{Op, Hi, Lo, PcHi, PcLo, Branch, Jump, Call, Align, Word, Raw, RawPair}
+use Rattle.block_cut.specs.Items.{call_item, code_at, instr_item, item_at, item_from, item_in, item_of, item_under, known_item, of_instr, reloc_item, size_on, starts_on, target_away, target_of, to_place}
+use Rattle.block_cut.specs.PlainLayout.{after_item}
+use Rattle.block_cut.specs.Relocs.{field_of, fits_at, is_bad_kind, is_ignored, is_padding, reloc_on}
+use Rattle.psabi_sym.proofs.BlockLaws.{aligned_up-lt}
+use Rattle.block_cut.proofs.SoundLaws.{sound_at}
 
--- the item at a place of a section of code
-pub item_at-code : (objects : List ObjectParts) (q : Place) (section : SectionParts) → code_at objects q ≡ Some section → item_at objects q ≡ cond (starts_at objects q section) (Some (item_in objects section q)) None
-unfolding item_at
-item_at-code objects q section at = ap (option_and_then (item_from objects q)) at
+-- ---- the item at a place
 
--- elsewhere is none
-pub item_at-none : (objects : List ObjectParts) (q : Place) → code_at objects q ≡ None → item_at objects q ≡ None
-unfolding item_at
-item_at-none objects q at = ap (option_and_then (item_from objects q)) at
-
--- where a branch leads from a place in a section of whole words, by the offset there
-pub target_away-offset : (objects : List ObjectParts) (q : Place) (section : SectionParts) (distance : ℤ) → code_at objects q ≡ Some section → length section.bytes % 4 ≡ 0
-    → target_away objects q distance ≡ option_and_then (λ n. cond (eqb (n % 4) 0) (Some (record q { offset = n })) None) (offset_within (length section.bytes) (pos q.offset +ℤ distance))
-target_away-offset objects q section distance at words = by (pos q.offset +ℤ distance)
-  where
-    end : ℕ
-    end = length section.bytes
-
-    by : (to : ℤ) → option_and_then (target_only objects) (place_on q to) ≡ option_and_then (λ n. cond (eqb (n % 4) 0) (Some (record q { offset = n })) None) (offset_within end to)
-    by (negsuc n) = refl
-    by (pos n) =
-        let p : Place = record q { offset = n } in
-        ap (λ b. cond b (Some p) None) (is_target_at-offset objects p section at words) ∙ tested (eqb (n % 4) 0) refl (leb n end)
-      where
-        tested : (a : Bool) → eqb (n % 4) 0 ≡ a → (b : Bool)
-            → cond (eqb (n % 4) 0 && b) (Some (record q { offset = n })) None ≡ option_and_then (λ k. cond (eqb (k % 4) 0) (Some (record q { offset = k })) None) (cond b (Some n) None)
-        tested true is true = ap (λ x. cond (x && true) (Some (record q { offset = n })) None) is ∙ sym (ap (λ x. cond x (Some (record q { offset = n })) None) is)
-        tested true is false = ap (λ x. cond (x && false) (Some (record q { offset = n })) None) is
-        tested false is true = ap (λ x. cond (x && true) (Some (record q { offset = n })) None) is ∙ sym (ap (λ x. cond x (Some (record q { offset = n })) None) is)
-        tested false is false = ap (λ x. cond (x && false) (Some (record q { offset = n })) None) is
-
--- the same with the offset that the code has
-pub target_away-by : (objects : List ObjectParts) (q : Place) (section : SectionParts) (distance to : ℤ) (size : ℕ) (offset : Option ℕ) → code_at objects q ≡ Some section → length section.bytes ≡ size → size % 4 ≡ 0
-    → offset ≡ offset_within size (pos q.offset +ℤ to) → to ≡ distance
-    → target_away objects q distance ≡ option_and_then (λ n. cond (eqb (n % 4) 0) (Some (record q { offset = n })) None) offset
-target_away-by objects q section distance to size offset at long words is same =
-    target_away-offset objects q section distance at (ap (λ n. n % 4) long ∙ words)
-    ∙ ap (option_and_then (λ n. cond (eqb (n % 4) 0) (Some (record q { offset = n })) None)) (sym (is ∙ (λ j. offset_within (sym long j) (pos q.offset +ℤ same j))))
-
--- the item at a place is that of a word
-pub record IsItemOf (objects : List ObjectParts) (q : Place) (i : Item) : Type 0 where
+-- it is that of a start of the section of code
+pub record IsItemAt (inputs : ParsedInputs) (q : Place) (i : Item) : Type 0 where
   pub section : SectionParts
-  pub code : code_at objects q ≡ Some section
-  pub words : q.offset % 4 ≡ 0
-  pub inside : q.offset < length section.bytes
-  pub item : i ≡ item_in objects section q
+  pub code : code_at inputs.objects q ≡ Some section
+  pub start : starts_on section q.offset ≡ true
+  pub item : item_in inputs section q ≡ i
 
--- what the item at a place is, if code has whole words
-pub item_is_word : (objects : List ObjectParts) (q : Place) (i : Item) → ((s : SectionParts) → code_at objects q ≡ Some s → length s.bytes % 4 ≡ 0) → item_at objects q ≡ Some i → IsItemOf objects q i
-item_is_word objects q i words is = by (code_at objects q) refl
+pub item_found : (inputs : ParsedInputs) (q : Place) (i : Item) → item_at inputs q ≡ Some i → IsItemAt inputs q i
+unfolding item_at
+item_found inputs q i is = by (code_at inputs.objects q) refl is
   where
-    by : (o : Option SectionParts) → code_at objects q ≡ o → IsItemOf objects q i
-    by None none = absurd (cc (is, item_at-none objects q none))
-    by (Some s) at = starts (starts_at objects q s) refl (sym (item_at-code objects q s at) ∙ is)
+    by : (o : Option SectionParts) → code_at inputs.objects q ≡ o → option_and_then (item_from inputs q) o ≡ Some i → IsItemAt inputs q i
+    by None at is = absurd cc
+    by (Some s) at is = starts (starts_on s q.offset) refl is
       where
-        starts : (t : Bool) → starts_at objects q s ≡ t → cond t (Some (item_in objects s q)) None ≡ Some i → IsItemOf objects q i
-        starts false t found = absurd cc
-        starts true t found =
-            let parts = and_parts (eqb (q.offset % 4) 0) (ltb q.offset (length s.bytes)) (sym (starts_at-offset objects s q (words s at)) ∙ t) in
-            let same : item_in objects s q ≡ i = cc in
-            record {
-              section = s;
-              code = at;
-              words = eqb-true (q.offset % 4) 0 parts.0;
-              inside = ltb-true q.offset (length s.bytes) parts.1;
-              item = sym same;
-            }
+        starts : (b : Bool) → starts_on s q.offset ≡ b → cond b (Some (item_in inputs s q)) None ≡ Some i → IsItemAt inputs q i
+        starts true start is = let same : item_in inputs s q ≡ i = cc in record { section = s; code = at; start = start; item = same }
+        starts false start is = absurd cc
+
+-- and the other way round
+pub item_there : (inputs : ParsedInputs) (q : Place) (s : SectionParts) → code_at inputs.objects q ≡ Some s → starts_on s q.offset ≡ true → item_at inputs q ≡ Some (item_in inputs s q)
+unfolding item_at
+item_there inputs q s at start = ap (option_and_then (item_from inputs q)) at ∙ ap (λ b. cond b (Some (item_in inputs s q)) None) start
+
+pub item_at-code : (inputs : ParsedInputs) (q : Place) (s : SectionParts) → code_at inputs.objects q ≡ Some s → item_at inputs q ≡ cond (starts_on s q.offset) (Some (item_in inputs s q)) None
+unfolding item_at
+item_at-code inputs q s at = ap (option_and_then (item_from inputs q)) at
+
+pub item_at-none : (inputs : ParsedInputs) (q : Place) → code_at inputs.objects q ≡ None → item_at inputs q ≡ None
+unfolding item_at
+item_at-none inputs q at = ap (option_and_then (item_from inputs q)) at
+
+-- ---- padding
+
+-- padding of whole words has a power of two above it, from 8 to 256, and so has its relocation room
+pub record IsPadded (n : ℕ) : Type 0 where
+  pub some : 4 ≤ n
+  pub words : n % 4 ≡ 0
+  pub short : n ≤ 252
+  pub power : power_above n % 4 ≡ 0
+  pub above : n < power_above n
+  pub most : power_above n ≤ 256
+
+pub padded : (n : ℕ) → is_padding (pos n) ≡ true → IsPadded n
+padded n is =
+    let two = and_parts (ltb 0 n) _ is in
+    let rest = and_parts (ltb n 256) (eqb (n % 4) 0) two.1 in
+    let some = ltb-true 0 n two.0 in
+    let short = ltb-true n 256 rest.0 in
+    let words : n % 4 ≡ 0 = eqb-true (n % 4) 0 rest.1 in
+    let power = powers n (ltb n 2) refl (ltb n 4) refl (ltb n 8) refl (ltb n 16) refl (ltb n 32) refl (ltb n 64) refl (ltb n 128) refl some short words in
+    record { some = omega arith; words = words; short = omega arith; power = power.0; above = power.1; most = power.2 }
+  where
+    powers : (n : ℕ) (b2 : Bool) → ltb n 2 ≡ b2 → (b4 : Bool) → ltb n 4 ≡ b4 → (b8 : Bool) → ltb n 8 ≡ b8 → (b16 : Bool) → ltb n 16 ≡ b16 → (b32 : Bool) → ltb n 32 ≡ b32 → (b64 : Bool) → ltb n 64 ≡ b64 → (b128 : Bool) → ltb n 128 ≡ b128
+        → 0 < n → n < 256 → n % 4 ≡ 0
+        → let p : ℕ = cond b2 2 (cond b4 4 (cond b8 8 (cond b16 16 (cond b32 32 (cond b64 64 (cond b128 128 256)))))) in (p % 4 ≡ 0) × (n < p) × (p ≤ 256)
+    powers n true e2 b4 e4 b8 e8 b16 e16 b32 e32 b64 e64 b128 e128 some short words = absurd (omega (arith, ltb-true n 2 e2))
+    powers n false e2 true e4 b8 e8 b16 e16 b32 e32 b64 e64 b128 e128 some short words = absurd (omega (arith, ltb-true n 4 e4))
+    powers n false e2 false e4 true e8 b16 e16 b32 e32 b64 e64 b128 e128 some short words = (refl, ltb-true n 8 e8, omega arith)
+    powers n false e2 false e4 false e8 true e16 b32 e32 b64 e64 b128 e128 some short words = (refl, ltb-true n 16 e16, omega arith)
+    powers n false e2 false e4 false e8 false e16 true e32 b64 e64 b128 e128 some short words = (refl, ltb-true n 32 e32, omega arith)
+    powers n false e2 false e4 false e8 false e16 false e32 true e64 b128 e128 some short words = (refl, ltb-true n 64 e64, omega arith)
+    powers n false e2 false e4 false e8 false e16 false e32 false e64 true e128 some short words = (refl, ltb-true n 128 e128, omega arith)
+    powers n false e2 false e4 false e8 false e16 false e32 false e64 false e128 some short words = (refl, short, omega arith)
+
+-- ALIGN is the one type of its kind
+pub align_kind : (n : ℕ) → kind_of n ≡ Some kind.Align → n ≡ 43
+align_kind n is =
+    last (eqb n 43) refl
+    (skip (eqb n 28) kind.Lo12S _ (λ e. cc) (skip (eqb n 27) kind.Lo12I _ (λ e. cc) (skip (eqb n 26) kind.Hi20 _ (λ e. cc)
+    (skip (eqb n 25) kind.PcrelLo12S _ (λ e. cc) (skip (eqb n 24) kind.PcrelLo12I _ (λ e. cc) (skip (eqb n 23) kind.PcrelHi20 _ (λ e. cc)
+    (skip (eqb n 19) kind.Call _ (λ e. cc) (skip (eqb n 18) kind.Call _ (λ e. cc) (skip (eqb n 17) kind.Jal _ (λ e. cc)
+    (skip (eqb n 16) kind.Branch _ (λ e. cc) (skip (eqb n 1) kind.Word _ (λ e. cc) (skip (eqb n 51) kind.Ignored _ (λ e. cc)
+    (skip (eqb n 0) kind.Ignored _ (λ e. cc) is)))))))))))))
+  where
+    skip : (b : Bool) (k : RelocKind) (rest : Option RelocKind) → (Some k ≡ Some kind.Align → ⊥) → cond b (Some k) rest ≡ Some kind.Align → rest ≡ Some kind.Align
+    skip true k rest other h = absurd (other h)
+    skip false k rest other h = h
+
+    last : (b : Bool) → eqb n 43 ≡ b → cond b (Some kind.Align) None ≡ Some kind.Align → n ≡ 43
+    last true e h = eqb-true n 43 e
+    last false e h = absurd cc
+
+-- so the room of a relocation that asks for padding is that power
+room_is : (r : Reloc) (m : ℕ) → kind_of r.kind ≡ Some kind.Align → r.addend ≡ pos m → is_padding (pos m) ≡ true → reloc_room r ≡ power_above m
+unfolding reloc_room
+room_is r m align number padding =
+    ap (λ b. cond b (align_room r.addend) 0) (eq-eqb r.kind 43 (align_kind r.kind align)) ∙ ap align_room number ∙ by m (padded m padding)
+  where
+    by : (m : ℕ) → IsPadded m → align_room (pos m) ≡ power_above m
+    by zero is = absurd (omega (arith, is.some))
+    by (suc n) is = ap (λ b. cond b (power_above (suc n)) 256) (lt-ltb n 255 (omega (arith, is.short)))
+
+-- ---- sizes
+
+-- an item takes so many bytes, or it is padding of so many
+pub data Takes (i : Item) (n : ℕ) : Type 0 where
+  Bytes : ((a : ℕ) → after_item a i ≡ a + n) → Takes i n
+  Padding : i ≡ Align n → is_padding (pos n) ≡ true → Takes i n
+
+word_takes : (objects : List ObjectParts) (q : Place) (word : ℕ) (a : ℕ) → after_item a (item_of objects q word) ≡ a + 4
+word_takes objects q word a = by (decoded word)
+  where
+    jump : (o : Option Place) (f : Place → Item) → ((p : Place) → after_item a (f p) ≡ a + 4) → after_item a (option_map_or f o (Raw word)) ≡ a + 4
+    jump None f is = refl
+    jump (Some p) f is = is p
+
+    of : (i : Instr) → after_item a (instr_item objects q i word) ≡ a + 4
+    of (instr.Upper op rd imm) = refl
+    of (instr.Jal rd distance) = jump (target_away objects q distance) (Jump (instr.Jal rd (pos 0))) (λ p. refl)
+    of (instr.Jalr rd base imm) = refl
+    of (instr.Branch op first second distance) = jump (target_away objects q distance) (Branch (instr.Branch op first second (pos 0))) (λ p. refl)
+    of (instr.Load op rd base imm) = refl
+    of (instr.Store op source base imm) = refl
+    of (instr.WithImm op rd first imm) = refl
+    of (instr.WithReg op rd first second) = refl
+    of (instr.Fence rest) = refl
+    of instr.Ecall = refl
+    of instr.Ebreak = refl
+    of (instr.Csrrw rd source) = refl
+
+    by : (o : Option Instr) → after_item a (Rattle.block_cut.specs.Items.spelled objects q o word) ≡ a + 4
+    by None = refl
+    by (Some i) = of i
+
+instr_takes : (o : Option Instr) (word : ℕ) (f : Instr → Item) → ((i : Instr) (a : ℕ) → after_item a (f i) ≡ a + 4) → (a : ℕ) → after_item a (of_instr o word f) ≡ a + 4
+instr_takes None word f is a = refl
+instr_takes (Some i) word f is a = is i a
+
+place_takes : (t : Target) (f : Place → Item) (other : Item) (n a : ℕ) → ((p : Place) → after_item a (f p) ≡ a + n) → after_item a other ≡ a + n → after_item a (to_place t f other) ≡ a + n
+place_takes (Code p) f other n a is stays = is p
+place_takes (Number k) f other n a is stays = stays
+place_takes (Absent k) f other n a is stays = stays
+place_takes Nowhere f other n a is stays = stays
+
+call_takes : (first second : Option Instr) (one two : ℕ) (p : Place) (a : ℕ) → after_item a (call_item first second (RawPair one two) p) ≡ a + 8
+call_takes (Some (instr.Upper op temp upper)) (Some (instr.Jalr rd base lower)) one two p a = refl
+call_takes first second one two p a = refl
+
+-- the same of a relocation of a kind with an addend
+data TakesBy (k : Option RelocKind) (addend : ℤ) (i : Item) : Type 0 where
+  Field : ((a : ℕ) → after_item a i ≡ a + field_length k addend) → TakesBy k addend i
+  Fill : (m : ℕ) → k ≡ Some kind.Align → addend ≡ pos m → i ≡ Align m → is_padding (pos m) ≡ true → TakesBy k addend i
+
+-- with a relocation an item takes the bytes that this changes
+reloc_takes : (s : SectionParts) (n : ℕ) (k : Option RelocKind) (addend : ℤ) (t : Target) (word second : ℕ) → is_ignored k ≡ false → is_bad_kind s k ≡ false → fits_at s n addend k ≡ true
+    → TakesBy k addend (known_item k addend t word second)
+reloc_takes s n None addend t word second asks known fits = absurd cc
+reloc_takes s n (Some kind.Ignored) addend t word second asks known fits = absurd cc
+reloc_takes s n (Some kind.Word) addend t word second asks known fits = Field (λ a. refl)
+reloc_takes s n (Some kind.Branch) addend t word second asks known fits =
+    Field (instr_takes (decoded word) word _ (λ i a. place_takes t _ (Raw word) 4 a (λ p. refl) refl))
+reloc_takes s n (Some kind.Jal) addend t word second asks known fits =
+    Field (instr_takes (decoded word) word _ (λ i a. place_takes t _ (Raw word) 4 a (λ p. refl) refl))
+reloc_takes s n (Some kind.Call) addend t word second asks known fits =
+    Field (λ a. place_takes t _ (RawPair word second) 8 a (λ p. call_takes (decoded word) (decoded second) word second p a) refl)
+reloc_takes s n (Some kind.PcrelHi20) addend t word second asks known fits = Field (instr_takes (decoded word) word _ (λ i a. refl))
+reloc_takes s n (Some kind.PcrelLo12I) addend t word second asks known fits =
+    Field (instr_takes (decoded word) word _ (λ i a. place_takes t _ (Raw word) 4 a (λ p. refl) refl))
+reloc_takes s n (Some kind.PcrelLo12S) addend t word second asks known fits =
+    Field (instr_takes (decoded word) word _ (λ i a. place_takes t _ (Raw word) 4 a (λ p. refl) refl))
+reloc_takes s n (Some kind.Hi20) addend t word second asks known fits = Field (instr_takes (decoded word) word _ (λ i a. refl))
+reloc_takes s n (Some kind.Lo12I) addend t word second asks known fits = Field (instr_takes (decoded word) word _ (λ i a. refl))
+reloc_takes s n (Some kind.Lo12S) addend t word second asks known fits = Field (instr_takes (decoded word) word _ (λ i a. refl))
+reloc_takes s n (Some kind.Align) addend t word second asks known fits = by addend fits
+  where
+    by : (z : ℤ) → is_padding z ≡ true → TakesBy (Some kind.Align) z (Align (padding_length z))
+    by (pos m) is = Fill m refl refl refl is
+    by (negsuc m) is = absurd cc
+
+-- the room that the relocation at an offset may take
+abbrev pub room_at : SectionParts → ℕ → ℕ
+room_at s n = option_map_or reloc_room (reloc_on s n) 0
+
+module _ (inputs : ParsedInputs) (s : SectionParts) (q : Place) (code : is_code_section s ≡ true) where
+  -- the item at an offset of a section of code takes the bytes of its step
+  pub item_takes : Takes (item_in inputs s q) (size_on s q.offset)
+  item_takes = by (reloc_on s q.offset) refl
+    where
+      of : (k : Option RelocKind) (addend : ℤ) (i : Item) → TakesBy k addend i → Takes i (field_length k addend)
+      of k addend i (Field is) = Bytes is
+      of k addend i (Fill m align number is padding) =
+          let n : field_length k addend ≡ m = (λ j. field_length (align j) (number j)) in
+          Padding (is ∙ ap Align (sym n)) (ap (λ x. is_padding (pos x)) n ∙ padding)
+
+      by : (o : Option Reloc) → reloc_on s q.offset ≡ o → Takes (item_under inputs q o (word_in s.bytes q.offset) (word_in s.bytes (q.offset + 4))) (option_map_or field_of o 4)
+      by None is = Bytes (word_takes inputs.objects q (word_in s.bytes q.offset))
+      by (Some r) is =
+          let sound = sound_at s q.offset r code is in
+          of (kind_of r.kind) r.addend _
+          (reloc_takes s q.offset (kind_of r.kind) r.addend (target_of inputs q.object r) (word_in s.bytes q.offset) (word_in s.bytes (q.offset + 4)) sound.asks sound.known sound.fits)
+
+  -- and in the plain layout no more than these and its relocation's room
+  pub item_fits : (a : ℕ) → after_item a (item_in inputs s q) ≤ a + size_on s q.offset + room_at s q.offset
+  item_fits a = by (reloc_on s q.offset) refl
+    where
+      of : (r : Reloc) (i : Item) → TakesBy (kind_of r.kind) r.addend i → after_item a i ≤ a + field_of r + reloc_room r
+      of r i (Field is) = omega (arith, is a)
+      of r i (Fill m align number is padding) =
+          let room : reloc_room r ≡ power_above m = room_is r m align number padding in
+          let up : after_item a i ≡ aligned_up (power_above m) a = ap (after_item a) is in
+          omega (arith, room, up, aligned_up-lt (power_above m) a, (padded m padding).above)
+
+      by : (o : Option Reloc) → reloc_on s q.offset ≡ o → after_item a (item_under inputs q o (word_in s.bytes q.offset) (word_in s.bytes (q.offset + 4))) ≤ a + option_map_or field_of o 4 + option_map_or reloc_room o 0
+      by None is = omega (arith, word_takes inputs.objects q (word_in s.bytes q.offset) a)
+      by (Some r) is =
+          let sound = sound_at s q.offset r code is in
+          of r _ (reloc_takes s q.offset (kind_of r.kind) r.addend (target_of inputs q.object r) (word_in s.bytes q.offset) (word_in s.bytes (q.offset + 4)) sound.asks sound.known sound.fits)

@@ -1,5 +1,5 @@
 -- The sections before one: with it they are those before the next, and they begin the list of all.
-use Rattle.std.proofs.Common.{◌≡◌, ℕ, ◌+◌, ◌<◌, ◌≤◌, List, [], ◌∷◌, ◌++◌, length, get_or, take, drop, Option, Some, None, slice_get, refl, sym, ap, ◌∙◌, arith, append_assoc}
+use Rattle.std.proofs.Common.{◌≡◌, ℕ, zero, suc, ◌+◌, ◌-◌, ◌<◌, ◌≤◌, ◌⊎◌, inl, inr, subst, List, [], ◌∷◌, ◌++◌, length, get_or, take, drop, Option, Some, None, slice_get, refl, sym, ap, ◌∙◌, arith, append_assoc}
 use Rattle.std.specs.List.{enumerate_from, flat_map}
 use Rattle.std.specs.Option.{option_and_then, option_map_or}
 use Rattle.std.proofs.lemmas.List.{append-nil, drop_more, length-take-le, take-append-drop, take_all, take_more}
@@ -9,6 +9,37 @@ use Rattle.psabi_sym.specs.Listed.{ListedSection, all_sections, section_at, sect
 use Rattle.psabi_sym.proofs.FlatLaws.{flat_at, flat_before, sections_push}
 use Rattle.psabi_sym.proofs.PartLaws.{length-sections_in, section_listed}
 use Rattle.psabi_sym.proofs.PlaceLaws.{begins_within}
+
+-- ---- lists cut short
+
+-- an element of the front
+slice_get-take : {X : Type 0} (xs : List X) (n k : ℕ) → k < n → n < length xs → slice_get (take n xs) k ≡ slice_get xs k
+slice_get-take [] n k lt within = absurd (omega arith)
+slice_get-take (x ∷ xs) zero k lt within = absurd (omega arith)
+slice_get-take (x ∷ xs) (suc n) zero lt within = refl
+slice_get-take (x ∷ xs) (suc n) (suc k) lt within = slice_get-take xs n k (omega arith) (omega arith)
+
+take_none : {X : Type 0} (n : ℕ) → take {A = X} n [] ≡ []
+take_none zero = refl
+take_none (suc n) = refl
+
+-- the front of a front
+take-take : {X : Type 0} (xs : List X) (m n : ℕ) → m ≤ n → take m (take n xs) ≡ take m xs
+take-take [] m n le = ap (take m) (take_none n)
+take-take (x ∷ xs) zero n le = refl
+take-take (x ∷ xs) (suc m) zero le = absurd (omega arith)
+take-take (x ∷ xs) (suc m) (suc n) le = ap (λ l. x ∷ l) (take-take xs m n (omega arith))
+
+-- a front is a shorter one and what follows
+take_split : {X : Type 0} (xs : List X) (m n : ℕ) → m ≤ n → take n xs ≡ take m xs ++ take (n - m) (drop m xs)
+take_split xs zero n le = let all : n ≡ n - 0 = omega arith in ap (λ k. take k xs) all
+take_split [] (suc m) n le = take_none n ∙ sym (take_none (n - suc m))
+take_split (x ∷ xs) (suc m) zero le = absurd (omega arith)
+take_split (x ∷ xs) (suc m) (suc n) le =
+    let less : n - m ≡ suc n - suc m = omega arith in
+    ap (λ l. x ∷ l) (take_split xs m n (omega arith)) ∙ ap (λ k. x ∷ take m xs ++ take k (drop m xs)) less
+
+-- ---- sections
 
 -- a section with its object's index and its own
 abbrev pub listed : ℕ → ℕ → SectionParts → ListedSection
@@ -93,3 +124,44 @@ cut_at objects o i s found =
           sym (take-append-drop k all)
           ∙ (λ j. before j ++ (drop_more all k (listed o i s) (begins_within sections_in objects o i own.object own.at inside) ∙ ap (λ l. l ∷ drop (k + 1) all) here) j);
     }
+
+-- the sections before a later one are those before a section, the section, and some more
+pub record IsBetween (objects : List ObjectParts) (o i : ℕ) (s : SectionParts) (p j : ℕ) : Type 0 where
+  pub rest : List ListedSection
+  pub are : sections_before objects p j ≡ sections_before objects o i ++ listed o i s ∷ rest
+
+pub between : (objects : List ObjectParts) (o i : ℕ) (s : SectionParts) (p j : ℕ) (t : SectionParts) → section_at objects o i ≡ Some s → section_at objects p j ≡ Some t
+    → (o < p) ⊎ ((o ≡ p) × (i < j)) → IsBetween objects o i s p j
+between objects o i s p j t found later (inl lt) =
+    let own = found_in objects o i s found in
+    let other = found_in objects p j t later in
+    let early = take p objects in
+    let at : slice_get early o ≡ Some own.object = slice_get-take objects p o lt (slice_get_within objects p other.object other.at) ∙ own.at in
+    let here : section_at early o i ≡ Some s = ap (option_and_then (λ (object : ObjectParts). slice_get object.sections i)) at ∙ own.is in
+    let cut = cut_at early o i s here in
+    let before : sections_before early o i ≡ sections_before objects o i =
+    of_object early o i own.object at ∙ ap (λ l. all_sections l ++ take i (sections_in (o, own.object))) (take-take objects o p (omega arith)) ∙ sym (of_object objects o i own.object own.at) in
+    record {
+      rest = cut.rest ++ take j (sections_in (p, other.object));
+      are = of_object objects p j other.object other.at ∙ ap (λ l. l ++ take j (sections_in (p, other.object))) (cut.all_are ∙ ap (λ l. l ++ listed o i s ∷ cut.rest) before)
+          ∙ append_assoc (sections_before objects o i) (listed o i s ∷ cut.rest) (take j (sections_in (p, other.object)));
+    }
+between objects o i s p j t found later (inr (same, lt)) = subst (λ n. IsBetween objects o i s n j) same here
+  where
+    here : IsBetween objects o i s o j
+    here =
+        let own = found_in objects o i s found in
+        let within = slice_get_within own.object.sections i s own.is in
+        let all = sections_in (o, own.object) in
+        let head : take (i + 1) all ≡ take i all ++ listed o i s ∷ [] =
+        take_more all i (listed o i s) (omega (arith, within, length-sections_in o own.object))
+        ∙ ap (λ l. take i all ++ l ∷ []) (section_listed o own.object i s (listed o i s) within ∙ ap (listed o i) (get_or_from_slice_get own.object.sections i s s own.is)) in
+        let rest = take (j - (i + 1)) (drop (i + 1) all) in
+        let whole : take j all ≡ take i all ++ listed o i s ∷ rest =
+        take_split all (i + 1) j (omega arith) ∙ ap (λ l. l ++ rest) head ∙ append_assoc (take i all) (listed o i s ∷ []) rest in
+        record {
+          rest = rest;
+          are = of_object objects o j own.object own.at ∙ ap (λ l. all_sections (take o objects) ++ l) whole
+              ∙ sym (append_assoc (all_sections (take o objects)) (take i all) (listed o i s ∷ rest))
+              ∙ ap (λ l. l ++ listed o i s ∷ rest) (sym (of_object objects o i own.object own.at));
+        }

@@ -1,32 +1,42 @@
--- The room of code is bounded, so each of its addresses fits in a word.
-use Rattle.std.proofs.Common.{◌≡◌, ℕ, ◌+◌, ◌<◌, ◌≤◌, List, [], ◌∷◌, ◌++◌, length, get_or, take, map, max, Bool, true, false, cond, Option, Some, None, refl, sym, ap, ◌∙◌, arith, filter, inl, inr, slice_get}
-use Rattle.std.specs.Prelude.{nat_lt, ◌||◌}
-use Rattle.std.specs.List.{enumerate_from, find, flat_map, position_or_len, range_with_len, sum_by}
-use Rattle.std.specs.Option.{option_map, option_map_or}
-use Rattle.std.proofs.lemmas.Bool.{cases_lt, ltb-false, or_parts}
-use Rattle.std.proofs.lemmas.List.{map-append, take_all}
-use Rattle.std.proofs.lemmas.List.Elements.{filter-append}
+-- The room of code is bounded, so each of its addresses fits in a word. An item takes no more than its step and the room of its
+-- relocation (`item_fits`); the starts of a section have relocations of their own, so their rooms are no more than those of all its
+-- relocations (`rooms_fit`); so a section takes no more than its room, and all code no more than the sum that inputs may have.
+use Rattle.std.proofs.Common.{◌≡◌, ℕ, zero, suc, ◌+◌, ◌%◌, ◌<◌, ◌≤◌, List, [], ◌∷◌, ◌++◌, length, get_or, take, map, max, Bool, true, false, cond, Option, Some, None, refl, sym, ap, ◌∙◌, arith, eqb, inl, inr, slice_get}
+use Rattle.std.specs.Prelude.{nat_lt, ◌||◌, ◌&&◌}
+use Rattle.std.specs.List.{enumerate_from, find, flat_map, fold, position_or_len, range_with_len, sum_by}
+use Rattle.std.specs.Option.{option_and_then, option_map, option_map_or}
+use Rattle.std.proofs.lemmas.Bool.{cases_lt, eqb-true, ltb-false, ne_eqb, or_parts}
+use Rattle.std.proofs.lemmas.List.{take_all}
 use Rattle.std.proofs.lemmas.List.Folds.{find_at, fold-map}
 use Rattle.std.proofs.lemmas.List.FromFn.{get_or-range_with_len, length-range_with_len}
-use Rattle.std.proofs.lemmas.List.Sums.{fails_before_first, sum_by-append, sum_by-cons}
+use Rattle.std.proofs.lemmas.List.Sums.{fails_before_first, fold-append, sum_by-append, sum_by-cons}
 use Rattle.std.proofs.lemmas.Option.{slice_get-get_or}
+use Rattle.zc_base.specs.declared.place.Place.{Place}
 use Rattle.elf32_read.specs.declared.fault.Fault.{Fault}
 use Rattle.elf32_read.specs.declared.fault.Fault.TheVariants.{TooLarge}
-use Rattle.elf32_read.specs.Parts.{ObjectParts, SectionParts, is_code_section, object_parts, section_parts}
-use Rattle.elf32_read.specs.Header.{section_count}
-use Rattle.psabi_sym.specs.Blocks.{aligned_up, end_from, room_of, room_of_all}
-use Rattle.psabi_sym.specs.Data.{is_code_at, is_code_role, role_of}
-use Rattle.psabi_sym.specs.Faults.{are_too_large, code_room, gather_fault, object_code, room_in_code, sum_fault, sums_of}
-use Rattle.psabi_sym.specs.Inputs.{Inputs, parsed}
-use Rattle.psabi_sym.specs.Listed.{ListedSection, all_sections, section_at, sections_before, sections_in}
+use Rattle.elf32_read.specs.declared.reloc.Reloc.{Reloc}
+use Rattle.elf32_read.specs.Parts.{ObjectParts, SectionParts, is_code_section, object_parts}
+use Rattle.psabi_sym.specs.Blocks.{aligned_up}
+use Rattle.psabi_sym.specs.Data.{is_code_role, role_of}
+use Rattle.psabi_sym.specs.Faults.{are_too_large, code_room, gather_fault, object_code, power_above, reloc_room, room_in_code, sum_fault, sums_of}
+use Rattle.psabi_sym.specs.Inputs.{Inputs, ParsedInputs, parsed}
+use Rattle.psabi_sym.specs.Listed.{ListedSection, all_sections, section_at, sections_in}
 use Rattle.psabi_sym.specs.declared.section_row.SectionRole.{SectionRole}
 use Rattle.psabi_sym.specs.declared.section_row.SectionRole.TheVariants.{Code, InClass, Dropped}
-use Rattle.psabi_sym.proofs.BlockLaws.{end_from_fits}
+use Rattle.psabi_sym.proofs.BlockLaws.{aligned_up-lt}
+use Rattle.psabi_sym.proofs.BridgeLaws.{map-map}
 use Rattle.psabi_sym.proofs.Gathered.{all_none}
 use Rattle.psabi_sym.proofs.PlaceLaws.{code_is}
-use Rattle.block_cut.specs.PlainLayout.{code_block, code_blocks, plain_end}
-use Rattle.block_cut.proofs.ListedLaws.{cut_at, listed}
-use Rattle.block_cut.proofs.WholeLaws.{IsWhole, inputs_whole, section_there}
+use Rattle.block_cut.specs.declared.item.Item.{Item}
+use Rattle.block_cut.specs.declared.item.Item.TheVariants.{Op, Hi, Lo, PcHi, PcLo, Branch, Jump, Call, Align, Word, Raw, RawPair}
+use Rattle.block_cut.specs.Items.{item_in, items_in, place_of, places_of, size_on, starts_in}
+use Rattle.block_cut.specs.PlainLayout.{after_item, after_items, plain_end, plain_end_of, section_begin, section_end}
+use Rattle.block_cut.specs.Relocs.{is_sound, reloc_on}
+use Rattle.block_cut.proofs.ItemLaws.{item_fits, room_at}
+use Rattle.block_cut.proofs.ListedLaws.{listed}
+use Rattle.block_cut.proofs.StartLaws.{Above, IsStep, along}
+use Rattle.block_cut.proofs.WholeLaws.{inputs_whole}
+use Rattle.block_cut.specs.Whole.{IsWhole}
 
 -- ---- the sums
 
@@ -71,12 +81,20 @@ sum_objects n (o ∷ os) =
     sum_by-append (λ l. code_room l.section) (sections_in (n, o)) (flat_map sections_in (enumerate_from (n + 1) os))
     ∙ (λ j. sum_sections n 0 o.sections j + sum_objects (n + 1) os j) ∙ sym (sum_by-cons object_code o os)
 
--- ---- what sections of code take
+-- the room of all sections
+abbrev pub rooms : List ListedSection → ℕ
+rooms sections = sum_by (λ l. code_room l.section) sections
 
-pub code_blocks-append : (before after : List ListedSection) → code_blocks (before ++ after) ≡ code_blocks before ++ code_blocks after
-code_blocks-append before after =
-    ap (map (λ (l : ListedSection). code_block l.section)) (filter-append (λ l. is_code_section l.section) before after)
-    ∙ map-append (λ (l : ListedSection). code_block l.section) (filter (λ l. is_code_section l.section) before) (filter (λ l. is_code_section l.section) after)
+-- is little
+pub rooms_few : (inputs : Inputs) → gather_fault inputs ≡ None → rooms (all_sections (parsed inputs).objects) ≤ 0x4_0000
+unfolding all_sections
+rooms_few inputs none =
+    omega (
+      arith,
+      sum_objects 0 (parsed inputs).objects,
+      fold-map (λ a o. a + object_code o) object_parts 0 inputs.files,
+      code_fits inputs.files (all_none inputs none).sums,
+    )
 
 -- code has room as code
 code_role : (role : SectionRole) → is_code_role role ≡ true → role ≡ Code
@@ -84,78 +102,196 @@ code_role Code is = refl
 code_role (InClass class) is = absurd cc
 code_role Dropped is = absurd cc
 
-code_room_is : (s : SectionParts) → is_code_section s ≡ true → s.size + max 4 s.align ≤ code_room s
-code_room_is s code =
-    let room = ap (room_in_code s) (code_role (role_of s) (code_is s ∙ code)) in
-    omega (arith, room)
+pub code_room_is : (s : SectionParts) → is_code_section s ≡ true → code_room s ≡ s.size + max 4 s.align + sum_by reloc_room s.relocs
+code_room_is s code = ap (room_in_code s) (code_role (role_of s) (code_is s ∙ code))
 
--- the room of blocks is no more than the sum
-blocks_fit : (sections : List ListedSection) → room_of_all (code_blocks sections) ≤ sum_by (λ l. code_room l.section) sections
-blocks_fit [] = omega arith
-blocks_fit (l ∷ ls) = by (is_code_section l.section) refl (blocks_fit ls)
+-- ---- the rooms of starts
+
+-- a sum that is less at each element
+sum_of_two : (f g h : ℕ → ℕ) (xs : List ℕ) → ((x : ℕ) → f x ≤ g x + h x) → sum_by f xs ≤ sum_by g xs + sum_by h xs
+sum_of_two f g h [] le = omega arith
+sum_of_two f g h (x ∷ xs) le = omega (arith, sum_by-cons f x xs, sum_by-cons g x xs, sum_by-cons h x xs, sum_of_two f g h xs le, le x)
+
+sum_of_none : (f : ℕ → ℕ) (xs : List ℕ) → ((x : ℕ) → f x ≡ 0) → sum_by f xs ≡ 0
+sum_of_none f [] none = refl
+sum_of_none f (x ∷ xs) none = omega (arith, sum_by-cons f x xs, none x, sum_of_none f xs none)
+
+-- a room that one offset has
+abbrev own_room : ℕ → ℕ → ℕ → ℕ
+own_room at room m = cond (eqb at m) room 0
+
+own_room_none : (at room low : ℕ) (xs : List ℕ) → Above low xs → at < low → sum_by (own_room at room) xs ≡ 0
+own_room_none at room low [] above lt = refl
+own_room_none at room low (x ∷ xs) above lt =
+    let other : own_room at room x ≡ 0 = ap (λ b. cond b room 0) (ne_eqb at x (λ e. omega (arith, e, above.0))) in
+    omega (arith, sum_by-cons (own_room at room) x xs, other, own_room_none at room low xs above.1 lt)
+
+-- what is found at an offset in a list of relocations has room
+abbrev found_room : SectionParts → List Reloc → ℕ → ℕ
+found_room s relocs m = option_map_or reloc_room (find (λ r. is_sound s r && eqb r.offset m) relocs) 0
+
+-- with one relocation more, that room is found there at most
+found_more : (s : SectionParts) (r : Reloc) (rs : List Reloc) (m : ℕ) → found_room s (r ∷ rs) m ≤ own_room r.offset (reloc_room r) m + found_room s rs m
+found_more s r rs m = by (is_sound s r) (eqb r.offset m)
   where
-    sum_is : sum_by (λ m. code_room m.section) (l ∷ ls) ≡ code_room l.section + sum_by (λ m. code_room m.section) ls
-    sum_is = sum_by-cons (λ m. code_room m.section) l ls
+    by : (b e : Bool) → option_map_or reloc_room (cond (b && e) (Some r) (find (λ t. is_sound s t && eqb t.offset m) rs)) 0 ≤ cond e (reloc_room r) 0 + found_room s rs m
+    by true true = omega arith
+    by true false = omega arith
+    by false e = omega arith
 
-    by : (b : Bool) → is_code_section l.section ≡ b → room_of_all (code_blocks ls) ≤ sum_by (λ m. code_room m.section) ls
-        → room_of_all (map (λ (m : ListedSection). code_block m.section) (cond b (l ∷ filter (λ m. is_code_section m.section) ls) (filter (λ m. is_code_section m.section) ls))) ≤ sum_by (λ m. code_room m.section) (l ∷ ls)
-    by true code rest = omega (arith, sum_is, rest, code_room_is l.section code, sum_by-cons room_of (code_block l.section) (code_blocks ls))
-    by false code rest = omega (arith, sum_is, rest)
+module _ (s : SectionParts) (code : is_code_section s ≡ true) (whole : IsWhole s) where
+  -- the room of one relocation stands at one start at most
+  own_room_once : (at room : ℕ) → sum_by (own_room at room) (starts_in s) ≤ room
+  own_room_once at room = along s code whole (λ n xs. sum_by (own_room at room) xs ≤ room) (omega arith) each
+    where
+      each : (n : ℕ) (xs : List ℕ) → n < length s.bytes → n % 4 ≡ 0 → IsStep s n → Above (n + size_on s n) xs → sum_by (own_room at room) xs ≤ room → sum_by (own_room at room) (n ∷ xs) ≤ room
+      each n xs lt words st above rest = by (eqb at n) refl
+        where
+          by : (b : Bool) → eqb at n ≡ b → sum_by (own_room at room) (n ∷ xs) ≤ room
+          by true e =
+              let here : own_room at room n ≡ room = ap (λ b. cond b room 0) e in
+              let same = eqb-true at n e in
+              omega (arith, sum_by-cons (own_room at room) n xs, here, own_room_none at room (n + size_on s n) xs above (omega (arith, same, st.some)))
+          by false e =
+              let other : own_room at room n ≡ 0 = ap (λ b. cond b room 0) e in
+              omega (arith, sum_by-cons (own_room at room) n xs, other, rest)
 
--- all of them take little
-pub all_fit : (inputs : Inputs) → gather_fault inputs ≡ None → room_of_all (code_blocks (all_sections (parsed inputs).objects)) ≤ 0x4_0000
-unfolding all_sections
-all_fit inputs none =
-    omega (
-      arith,
-      blocks_fit (all_sections (parsed inputs).objects),
-      sum_objects 0 (parsed inputs).objects,
-      fold-map (λ a o. a + object_code o) object_parts 0 inputs.files,
-      code_fits inputs.files (all_none inputs none).sums,
-    )
+  -- so the rooms that starts have are no more than those of all relocations
+  rooms_found : (rs : List Reloc) → sum_by (found_room s rs) (starts_in s) ≤ sum_by reloc_room rs
+  rooms_found [] = omega (arith, sum_of_none (found_room s []) (starts_in s) (λ m. refl))
+  rooms_found (r ∷ rs) =
+      omega (
+        arith,
+        sum_of_two (found_room s (r ∷ rs)) (own_room r.offset (reloc_room r)) (found_room s rs) (starts_in s) (found_more s r rs),
+        own_room_once r.offset (reloc_room r),
+        rooms_found rs,
+        sum_by-cons reloc_room r rs,
+      )
 
--- the end of all code is near the start of the text
-pub plain_end-fits : (inputs : Inputs) → gather_fault inputs ≡ None → plain_end (parsed inputs) ≤ inputs.map.text + 0x4_0000
-plain_end-fits inputs none =
-    omega (arith, end_from_fits inputs.map.text (code_blocks (all_sections (parsed inputs).objects)), all_fit inputs none)
+  rooms_fit : sum_by (room_at s) (starts_in s) ≤ sum_by reloc_room s.relocs
+  unfolding reloc_on
+  rooms_fit = rooms_found s.relocs
 
--- and so is each section of code
-pub section_fits : (inputs : Inputs) (o i : ℕ) (s : SectionParts) → gather_fault inputs ≡ None → section_at (parsed inputs).objects o i ≡ Some s → is_code_section s ≡ true
-    → end_from inputs.map.text (code_blocks (sections_before (parsed inputs).objects o i)) + max 4 s.align + s.size ≤ inputs.map.text + 0x4_0000
-section_fits inputs o i s none found code =
-    let objects = (parsed inputs).objects in
-    let cut = cut_at objects o i s found in
-    let before = code_blocks (sections_before objects o i) in
-    let after : code_blocks (listed o i s ∷ cut.rest) ≡ code_block s ∷ code_blocks cut.rest =
-    ap (λ b. map (λ (l : ListedSection). code_block l.section) (cond b (listed o i s ∷ filter (λ l. is_code_section l.section) cut.rest) (filter (λ l. is_code_section l.section) cut.rest))) code in
-    let blocks : code_blocks (all_sections objects) ≡ before ++ code_block s ∷ code_blocks cut.rest =
-    ap code_blocks cut.all_are ∙ code_blocks-append (sections_before objects o i) (listed o i s ∷ cut.rest) ∙ ap (λ l. before ++ l) after in
-    omega (
-      arith,
-      all_fit inputs none,
-      ap room_of_all blocks,
-      sum_by-append room_of before (code_block s ∷ code_blocks cut.rest),
-      sum_by-cons room_of (code_block s) (code_blocks cut.rest),
-      end_from_fits inputs.map.text before,
-    )
+  -- ---- sections
+
+  -- items from a start on take no more than the bytes that are left, and the rooms
+  pub items_fit : (inputs : ParsedInputs) (l : ListedSection) (a : ℕ) → after_items a (map (λ m. item_in inputs s (place_of l m)) (starts_in s)) ≤ a + length s.bytes + sum_by reloc_room s.relocs
+  items_fit inputs l a = omega (arith, all a, rooms_fit)
+    where
+      f : ℕ → Item
+      f m = item_in inputs s (place_of l m)
+
+      all : (a : ℕ) → after_items a (map (λ m. item_in inputs s (place_of l m)) (starts_in s)) + 0 ≤ a + length s.bytes + sum_by (room_at s) (starts_in s)
+      all = along s code whole (λ n xs. (a : ℕ) → after_items a (map (λ m. item_in inputs s (place_of l m)) xs) + n ≤ a + length s.bytes + sum_by (room_at s) xs)
+          (λ a. omega arith)
+          (λ n xs lt words st above rest a. omega (arith, rest (after_item a (item_in inputs s (place_of l n))), item_fits inputs s (place_of l n) code a, sum_by-cons (room_at s) n xs))
 
 -- rounding up doesn't go back
 pub aligned_up-ge : (align at : ℕ) → at ≤ aligned_up align at
 unfolding aligned_up
 aligned_up-ge align at = grind arith
 
--- ---- a section of code
+-- nor does an item
+pub after_item-ge : (a : ℕ) (i : Item) → a ≤ after_item a i
+after_item-ge a (Op i) = omega arith
+after_item-ge a (Hi i t) = omega arith
+after_item-ge a (Lo i t) = omega arith
+after_item-ge a (PcHi i t) = omega arith
+after_item-ge a (PcLo i from) = omega arith
+after_item-ge a (Branch i to) = omega arith
+after_item-ge a (Jump i to) = omega arith
+after_item-ge a (Call rd temp to) = omega arith
+after_item-ge a (Align bytes) = aligned_up-ge (power_above bytes) a
+after_item-ge a (Word t) = omega arith
+after_item-ge a (Raw word) = omega arith
+after_item-ge a (RawPair first second) = omega arith
 
--- the section that stands at an index is code: whole, and with room
-pub record IsCodeHere (inputs : Inputs) (o i : ℕ) (s : SectionParts) : Type 0 where
-  pub found : section_at (parsed inputs).objects o i ≡ Some s
-  pub code : is_code_section s ≡ true
-  pub whole : IsWhole s
-  pub fits : end_from inputs.map.text (code_blocks (sections_before (parsed inputs).objects o i)) + max 4 s.align + s.size ≤ inputs.map.text + 0x4_0000
+pub after_items-ge : (a : ℕ) (items : List Item) → a ≤ after_items a items
+after_items-ge a [] = omega arith
+after_items-ge a (i ∷ is) = omega (arith, after_item-ge a i, after_items-ge (after_item a i) is)
 
-pub code_here : (inputs : Inputs) (o i : ℕ) (file : List ℕ) → gather_fault inputs ≡ None → slice_get inputs.files o ≡ Some file → i < section_count file → is_code_at (parsed inputs).objects o i ≡ true
-    → IsCodeHere inputs o i (section_parts file i)
-code_here inputs o i file none at within is =
-    let found = section_there inputs o i file at within in
-    let code = sym (ap (λ x. option_map_or is_code_section x false) found) ∙ is in
-    record { found = found; code = code; whole = inputs_whole inputs o i (section_parts file i) none found code; fits = section_fits inputs o i (section_parts file i) none found code }
+-- the items of a section of code are those of its starts
+pub items_in-code : (inputs : ParsedInputs) (l : ListedSection) → is_code_section l.section ≡ true → items_in inputs l ≡ map (λ m. item_in inputs l.section (place_of l m)) (starts_in l.section)
+items_in-code inputs l code =
+    ap (λ b. map (item_in inputs l.section) (cond b (map (place_of l) (starts_in l.section)) [])) code ∙ map-map (item_in inputs l.section) (place_of l) (starts_in l.section)
+
+pub items_in-other : (inputs : ParsedInputs) (l : ListedSection) → is_code_section l.section ≡ false → items_in inputs l ≡ []
+items_in-other inputs l other = ap (λ b. map (item_in inputs l.section) (cond b (map (place_of l) (starts_in l.section)) [])) other
+
+pub section_end-code : (inputs : ParsedInputs) (a : ℕ) (l : ListedSection) → is_code_section l.section ≡ true → section_end inputs a l ≡ after_items (section_begin a l.section) (items_in inputs l)
+section_end-code inputs a l code = ap (λ b. cond b (after_items (section_begin a l.section) (items_in inputs l)) a) code
+
+pub section_end-other : (inputs : ParsedInputs) (a : ℕ) (l : ListedSection) → is_code_section l.section ≡ false → section_end inputs a l ≡ a
+section_end-other inputs a l other = ap (λ b. cond b (after_items (section_begin a l.section) (items_in inputs l)) a) other
+
+pub section_end-ge : (inputs : ParsedInputs) (a : ℕ) (l : ListedSection) → a ≤ section_end inputs a l
+section_end-ge inputs a l = by (is_code_section l.section) refl
+  where
+    by : (b : Bool) → is_code_section l.section ≡ b → a ≤ section_end inputs a l
+    by true code =
+        omega (arith, section_end-code inputs a l code, aligned_up-ge (max 4 l.section.align) a, after_items-ge (section_begin a l.section) (items_in inputs l))
+    by false other = omega (arith, section_end-other inputs a l other)
+
+pub ends-ge : (inputs : ParsedInputs) (a : ℕ) (ls : List ListedSection) → a ≤ fold (section_end inputs) a ls
+ends-ge inputs a [] = omega arith
+ends-ge inputs a (l ∷ ls) = omega (arith, section_end-ge inputs a l, ends-ge inputs (section_end inputs a l) ls)
+
+-- ---- all sections
+
+-- code among sections is whole
+abbrev pub AreWhole : List ListedSection → Type 0
+AreWhole [] = Unit {0}
+AreWhole (l ∷ ls) = (is_code_section l.section ≡ true → IsWhole l.section) × AreWhole ls
+
+are_whole-append : (first second : List ListedSection) → AreWhole first → AreWhole second → AreWhole (first ++ second)
+are_whole-append [] second one two = two
+are_whole-append (l ∷ ls) second one two = (one.0, are_whole-append ls second one.1 two)
+
+-- so is that of inputs without a fault
+module _ (inputs : Inputs) (none : gather_fault inputs ≡ None) where
+  whole_sections : (o n : ℕ) (ss : List SectionParts) → ((i : ℕ) (s : SectionParts) → slice_get ss i ≡ Some s → section_at (parsed inputs).objects o (n + i) ≡ Some s) → AreWhole (map (λ s. record { object = o; index = s.0; section = s.1 }) (enumerate_from n ss))
+  whole_sections o n [] at = tt
+  whole_sections o n (s ∷ ss) at =
+      (λ code. inputs_whole inputs o (n + 0) s none (at 0 s refl) code,
+       whole_sections o (n + 1) ss (λ i t is. ap (section_at (parsed inputs).objects o) (omega arith) ∙ at (suc i) t is))
+
+  whole_objects : (n : ℕ) (os : List ObjectParts) → ((i : ℕ) (o : ObjectParts) → slice_get os i ≡ Some o → slice_get (parsed inputs).objects (n + i) ≡ Some o) → AreWhole (flat_map sections_in (enumerate_from n os))
+  whole_objects n [] at = tt
+  whole_objects n (o ∷ os) at =
+      are_whole-append (sections_in (n, o)) (flat_map sections_in (enumerate_from (n + 1) os))
+      (whole_sections n 0 o.sections (λ i s is. ap (option_and_then (λ (object : ObjectParts). slice_get object.sections (0 + i))) (ap (slice_get (parsed inputs).objects) (omega arith) ∙ at 0 o refl) ∙ ap (slice_get o.sections) (omega arith) ∙ is))
+      (whole_objects (n + 1) os (λ i t is. ap (slice_get (parsed inputs).objects) (omega arith) ∙ at (suc i) t is))
+
+  pub all_whole : AreWhole (all_sections (parsed inputs).objects)
+  unfolding all_sections
+  all_whole = whole_objects 0 (parsed inputs).objects (λ i o is. ap (slice_get (parsed inputs).objects) (omega arith) ∙ is)
+
+-- a section ends within its room
+section_end_fits : (inputs : ParsedInputs) (a : ℕ) (l : ListedSection) → (is_code_section l.section ≡ true → IsWhole l.section) → section_end inputs a l ≤ a + code_room l.section
+section_end_fits inputs a l whole = by (is_code_section l.section) refl
+  where
+    by : (b : Bool) → is_code_section l.section ≡ b → section_end inputs a l ≤ a + code_room l.section
+    by true code =
+        let s = l.section in
+        let begin = section_begin a s in
+        omega (
+          arith,
+          section_end-code inputs a l code,
+          ap (after_items begin) (items_in-code inputs l code),
+          items_fit s code (whole code) inputs l begin,
+          aligned_up-lt (max 4 s.align) a,
+          code_room_is s code,
+          (whole code).bytes,
+        )
+    by false other = omega (arith, section_end-other inputs a l other)
+
+ends_fit : (inputs : ParsedInputs) (a : ℕ) (ls : List ListedSection) → AreWhole ls → fold (section_end inputs) a ls ≤ a + rooms ls
+ends_fit inputs a [] whole = omega arith
+ends_fit inputs a (l ∷ ls) whole =
+    omega (arith, section_end_fits inputs a l whole.0, ends_fit inputs (section_end inputs a l) ls whole.1, sum_by-cons (λ (m : ListedSection). code_room m.section) l ls)
+
+-- all code ends near the start of the text
+pub plain_end-fits : (inputs : Inputs) → gather_fault inputs ≡ None → plain_end (parsed inputs) ≤ inputs.map.text + 0x4_0000
+unfolding plain_end
+plain_end-fits inputs none =
+    omega (arith, ends_fit (parsed inputs) inputs.map.text (all_sections (parsed inputs).objects) (all_whole inputs none), rooms_few inputs none)

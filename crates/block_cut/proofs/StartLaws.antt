@@ -1,106 +1,294 @@
--- Where items start in a section of code: at each offset 4k of a whole word. So whether an item starts at a place, or a branch
--- may lead there, is a test of its offset.
-use Rattle.std.proofs.Common.{◌≡◌, ℕ, zero, suc, ◌+◌, ◌-◌, ◌*◌, ◌/◌, ◌%◌, ◌<◌, ◌≤◌, List, [], ◌∷◌, length, map, Bool, true, false, cond, Some, refl, sym, ap, ◌∙◌, arith, leb, ltb, eqb, eq-eqb}
-use Rattle.std.specs.Prelude.{◌&&◌, ◌||◌}
-use Rattle.std.specs.List.{list_any, range_with_len}
+-- Where items start in a section of code: a walk from 0 to the section's end, in steps of whole words. What holds of the walk is
+-- shown by induction along it (`along`): starts are words that lie inside, in ascending order, each is followed by the next or by
+-- the end, and none lies between.
+use Rattle.std.proofs.Common.{◌≡◌, ℕ, zero, suc, ◌+◌, ◌%◌, ◌<◌, ◌≤◌, ◌⊎◌, List, [], ◌∷◌, ◌++◌, length, filter, map, Bool, true, false, cond, Option, Some, None, refl, sym, ap, subst, ◌∙◌, arith, inl, inr, eqb, ltb, eq-eqb}
+use Rattle.std.specs.Prelude.{◌||◌}
+use Rattle.std.specs.List.{find, list_any}
 use Rattle.std.specs.Option.{option_map_or}
-use Rattle.std.proofs.lemmas.Bool.{and_from, and_parts, eqb-true, leb-false, leb-true, lt-ltb, ltb-true}
-use Rattle.std.proofs.lemmas.Bool.Decides.{nat_tests}
-use Rattle.zc_base.specs.Places.{same_place}
-use Rattle.zc_base.specs.declared.place.Place.{Place}
-use Rattle.elf32_read.specs.Parts.{ObjectParts, SectionParts}
-use Rattle.elf32_read.proofs.Listed.{list_any_listed}
-use Rattle.block_cut.specs.Items.{code_at, is_start_at, is_target_at, next_at, starts_at, starts_from, starts_in}
+use Rattle.std.proofs.lemmas.Bool.{cases_eq, cases_lt, eqb-true, lt-ltb, le-ltb, ltb-false, ltb-true, ne_eqb}
+use Rattle.elf32_read.specs.Parts.{SectionParts, is_code_section}
+use Rattle.elf32_read.specs.declared.reloc.Reloc.{Reloc}
+use Rattle.block_cut.specs.Items.{size_on, starts_from, starts_in, starts_on}
+use Rattle.block_cut.specs.Relocs.{field_of, reloc_on}
+use Rattle.block_cut.proofs.SoundLaws.{sound_at}
+use Rattle.block_cut.specs.Whole.{IsWhole}
 
--- the place of the k-th word of the section that a place lies in
-abbrev pub word_place : Place → ℕ → Place
-word_place q k = record q { offset = 4 * k }
+-- ---- lists of offsets
 
-starts_from-word_place : (fuel : ℕ) (objects : List ObjectParts) (q : Place) (end j : ℕ) → end ≤ 4 * j + fuel → starts_from fuel objects end (word_place q j) ≡ map (word_place q) (range_with_len j (end / 4 - j))
-starts_from-word_place zero objects q end j le =
-    let none : 0 ≡ end / 4 - j = omega arith in
-    ap (λ n. map (word_place q) (range_with_len j n)) none
-starts_from-word_place (suc fuel) objects q end j le = first (leb (4 * j + 4) end) refl (starts_from-word_place fuel objects q end (j + 1) (omega arith))
+-- a number is one of a list
+abbrev pub is_among : ℕ → List ℕ → Bool
+is_among k xs = list_any (λ m. eqb m k) xs
+
+-- all of them are at least this
+abbrev pub Above : ℕ → List ℕ → Type 0
+Above low [] = Unit {0}
+Above low (x ∷ xs) = (low ≤ x) × Above low xs
+
+pub above_less : (low high : ℕ) (xs : List ℕ) → low ≤ high → Above high xs → Above low xs
+above_less low high [] le all = tt
+above_less low high (x ∷ xs) le all = (omega (arith, all.0), above_less low high xs le all.1)
+
+-- those below aren't among them
+pub above_none : (low k : ℕ) (xs : List ℕ) → Above low xs → k < low → is_among k xs ≡ false
+above_none low k [] all lt = refl
+above_none low k (x ∷ xs) all lt =
+    let other : eqb x k ≡ false = ne_eqb x k (λ e. omega (arith, e, all.0)) in
+    ap (λ b. b || is_among k xs) other ∙ above_none low k xs all.1 lt
+
+pub above_filter : (low k : ℕ) (xs : List ℕ) → Above low xs → k ≤ low → filter (λ m. ltb m k) xs ≡ []
+above_filter low k [] all le = refl
+above_filter low k (x ∷ xs) all le =
+    let past : ltb x k ≡ false = le-ltb x k (omega (arith, all.0)) in
+    ap (λ b. cond b (x ∷ filter (λ m. ltb m k) xs) (filter (λ m. ltb m k) xs)) past ∙ above_filter low k xs all.1 le
+
+-- if none lies between, as many lie below both
+pub filter_between : (low high : ℕ) (xs : List ℕ) → low ≤ high → ((m : ℕ) → low ≤ m → m < high → is_among m xs ≡ false) → filter (λ m. ltb m high) xs ≡ filter (λ m. ltb m low) xs
+filter_between low high [] le none = refl
+filter_between low high (x ∷ xs) le none =
+    let rest = filter_between low high xs le (λ m above below. later x m xs (none m above below)) in
+    elim (cases_lt x low) [
+      | inl lt ↦
+          let one : ltb x high ≡ true = lt-ltb x high (omega (arith, lt)) in
+          let two : ltb x low ≡ true = lt-ltb x low lt in
+          ap (λ b. cond b (x ∷ filter (λ m. ltb m high) xs) (filter (λ m. ltb m high) xs)) one ∙ ap (λ l. x ∷ l) rest
+          ∙ sym (ap (λ b. cond b (x ∷ filter (λ m. ltb m low) xs) (filter (λ m. ltb m low) xs)) two)
+      | inr past ↦
+          let one : ltb x high ≡ false = elim (cases_lt x high) [
+            | inl lt ↦ absurd (cc (none x past lt, ap (λ b. b || is_among x xs) (eq-eqb x x refl)))
+            | inr over ↦ le-ltb x high over
+          ] in
+          let two : ltb x low ≡ false = le-ltb x low past in
+          ap (λ b. cond b (x ∷ filter (λ m. ltb m high) xs) (filter (λ m. ltb m high) xs)) one ∙ rest
+          ∙ sym (ap (λ b. cond b (x ∷ filter (λ m. ltb m low) xs) (filter (λ m. ltb m low) xs)) two)
+    ]
   where
-    first : (b : Bool) → leb (4 * j + 4) end ≡ b → starts_from fuel objects end (word_place q (j + 1)) ≡ map (word_place q) (range_with_len (j + 1) (end / 4 - (j + 1))) → cond b (word_place q j ∷ starts_from fuel objects end (next_at objects (word_place q j))) [] ≡ map (word_place q) (range_with_len j (end / 4 - j))
-    first true t rest =
-        let fits = leb-true (4 * j + 4) end t in
-        let next : 4 * j + 4 ≡ 4 * (j + 1) = omega arith in
-        let more : suc (end / 4 - (j + 1)) ≡ end / 4 - j = omega arith in
-        ap (λ o. word_place q j ∷ starts_from fuel objects end (record q { offset = o })) next
-        ∙ ap (λ l. word_place q j ∷ l) rest
-        ∙ ap (λ n. map (word_place q) (range_with_len j n)) more
-    first false t rest =
-        let past = leb-false (4 * j + 4) end t in
-        let none : 0 ≡ end / 4 - j = omega arith in
-        ap (λ n. map (word_place q) (range_with_len j n)) none
+    later : (x m : ℕ) (xs : List ℕ) → (eqb x m || is_among m xs) ≡ false → is_among m xs ≡ false
+    later x m xs h = by (eqb x m) h
+      where
+        by : (b : Bool) → (b || is_among m xs) ≡ false → is_among m xs ≡ false
+        by true h = absurd cc
+        by false h = h
 
--- items start at the offsets 4k, for each k below the number of whole words
-pub starts_in-words : (objects : List ObjectParts) (section : SectionParts) (q : Place) → starts_in objects section q ≡ map (word_place q) (range_with_len 0 (length section.bytes / 4))
-unfolding starts_in
-starts_in-words objects section q =
-    let end = length section.bytes in
-    let all : end / 4 - 0 ≡ end / 4 = omega arith in
-    starts_from-word_place end objects q end 0 (omega arith) ∙ ap (λ n. map (word_place q) (range_with_len 0 n)) all
+-- ---- the walk
 
--- an offset is that of a word
-record IsWordOffset (offset first count : ℕ) : Type 0 where
-  pub index : ℕ
-  pub high : index < first + count
-  pub at : offset ≡ 4 * index
+-- a step from an offset: whole words, inside
+pub record IsStep (s : SectionParts) (n : ℕ) : Type 0 where
+  pub some : 4 ≤ size_on s n
+  pub short : size_on s n ≤ 255
+  pub words : size_on s n % 4 ≡ 0
+  pub inside : n + size_on s n ≤ length s.bytes
 
--- what is found among the places of words is one of them
-word_found : (q : Place) (first count : ℕ) → list_any (same_place q) (map (word_place q) (range_with_len first count)) ≡ true → IsWordOffset q.offset first count
-word_found q first zero found = absurd cc
-word_found q first (suc count) found = tested (same_place q (word_place q first)) refl found (word_found q (first + 1) count)
+-- a start that is among those from somewhere on
+pub data Among (n k : ℕ) (xs : List ℕ) : Type 0 where
+  Here : n ≡ k → Among n k xs
+  There : is_among k xs ≡ true → Among n k xs
+
+pub among : (n k : ℕ) (xs : List ℕ) → is_among k (n ∷ xs) ≡ true → Among n k xs
+among n k xs is = by (eqb n k) refl is
   where
-    later : ℕ → Bool
-    later n = list_any (same_place q) (map (word_place q) (range_with_len n count))
+    by : (b : Bool) → eqb n k ≡ b → (b || is_among k xs) ≡ true → Among n k xs
+    by true e is = Here (eqb-true n k e)
+    by false e is = There is
 
-    tested : (b : Bool) → same_place q (word_place q first) ≡ b → (b || later (first + 1)) ≡ true → (later (first + 1) ≡ true → IsWordOffset q.offset (first + 1) count) → IsWordOffset q.offset first (suc count)
-    tested true t h rest =
-        let same = and_parts (eqb q.section q.section) (eqb q.offset (4 * first)) (and_parts (eqb q.object q.object) _ t).1 in
-        record { index = first; high = omega arith; at = eqb-true q.offset (4 * first) same.1 }
-    tested false t h rest = let found = rest h in record { index = found.index; high = omega (arith, found.high); at = found.at }
+pub among_first : (n k : ℕ) (xs : List ℕ) → n ≡ k → is_among k (n ∷ xs) ≡ true
+among_first n k xs e = ap (λ b. b || is_among k xs) (eq-eqb n k e)
 
--- an item starts at the offsets in a section of whole words that are multiples of 4
-pub starts_at-offset : (objects : List ObjectParts) (section : SectionParts) (q : Place) → length section.bytes % 4 ≡ 0 → starts_at objects q section ≡ (eqb (q.offset % 4) 0 && ltb q.offset (length section.bytes))
-starts_at-offset objects section q words =
-    ap (list_any (same_place q)) (starts_in-words objects section q) ∙ agree found (eqb (q.offset % 4) 0 && ltb q.offset end) refl refl
+pub among_later : (n k : ℕ) (xs : List ℕ) → is_among k xs ≡ true → is_among k (n ∷ xs) ≡ true
+among_later n k xs is = by (eqb n k)
   where
-    end : ℕ
-    end = length section.bytes
+    by : (b : Bool) → (b || is_among k xs) ≡ true
+    by true = refl
+    by false = is
 
-    found : Bool
-    found = list_any (same_place q) (map (word_place q) (range_with_len 0 (end / 4)))
+pub not_among : (n k : ℕ) (xs : List ℕ) → (n ≡ k → ⊥) → is_among k xs ≡ false → is_among k (n ∷ xs) ≡ false
+not_among n k xs ne none = ap (λ b. b || is_among k xs) (ne_eqb n k ne) ∙ none
 
-    agree : (b t : Bool) → found ≡ b → (eqb (q.offset % 4) 0 && ltb q.offset end) ≡ t → found ≡ (eqb (q.offset % 4) 0 && ltb q.offset end)
-    agree true t e f =
-        let word = word_found q 0 (end / 4) e in
-        let whole : q.offset % 4 ≡ 0 = omega (arith, word.at) in
-        let inside : q.offset < end = omega (arith, word.at, word.high, words) in
-        e ∙ sym (and_from (eqb (q.offset % 4) 0) (ltb q.offset end) (eq-eqb (q.offset % 4) 0 whole) (lt-ltb q.offset end inside))
-    agree false true e f =
-        let parts = and_parts (eqb (q.offset % 4) 0) (ltb q.offset end) f in
-        let whole = eqb-true (q.offset % 4) 0 parts.0 in
-        let inside = ltb-true q.offset end parts.1 in
-        let at : q.offset ≡ 4 * (q.offset / 4) = omega (arith, whole) in
-        let same : same_place q (word_place q (q.offset / 4)) ≡ true =
-        and_from (eqb q.object q.object) _ (eq-eqb q.object q.object refl)
-        (and_from (eqb q.section q.section) _ (eq-eqb q.section q.section refl) (eq-eqb q.offset (4 * (q.offset / 4)) at)) in
-        absurd (cc (e, list_any_listed (same_place q) (word_place q) (end / 4) (q.offset / 4) (omega (arith, inside, words)) same))
-    agree false false e f = e ∙ sym f
+-- what a start is: a word inside, and the next one is a start or the end
+pub record IsStart (s : SectionParts) (xs : List ℕ) (k : ℕ) : Type 0 where
+  pub words : k % 4 ≡ 0
+  pub inside : k < length s.bytes
+  pub next : (is_among (k + size_on s k) xs ≡ true) ⊎ (k + size_on s k ≡ length s.bytes)
 
-module _ (objects : List ObjectParts) (q : Place) (section : SectionParts) (at : code_at objects q ≡ Some section) (words : length section.bytes % 4 ≡ 0) where
-  -- an item starts at a place
-  pub is_start_at-offset : is_start_at objects q ≡ (eqb (q.offset % 4) 0 && ltb q.offset (length section.bytes))
-  is_start_at-offset = ap (λ o. option_map_or (starts_at objects q) o false) at ∙ starts_at-offset objects section q words
+-- what lies below a number are those below a lesser one, and some more
+pub record IsFront (xs : List ℕ) (m k : ℕ) : Type 0 where
+  pub rest : List ℕ
+  pub are : filter (λ j. ltb j k) xs ≡ filter (λ j. ltb j m) xs ++ rest
 
-  -- a branch may lead there, or to the section's end
-  pub is_target_at-offset : is_target_at objects q ≡ (eqb (q.offset % 4) 0 && leb q.offset (length section.bytes))
-  is_target_at-offset =
-      (λ j. is_start_at-offset j || option_map_or (λ s. eqb q.offset (length s.bytes)) (at j) false)
-      ∙ by q.offset (length section.bytes) words
+module _ (s : SectionParts) (code : is_code_section s ≡ true) (whole : IsWhole s) where
+  -- each step is one of whole words inside
+  pub step : (n : ℕ) → n % 4 ≡ 0 → n < length s.bytes → IsStep s n
+  step n words lt = by (reloc_on s n) refl
     where
-      by : (n end : ℕ) → end % 4 ≡ 0 → (eqb (n % 4) 0 && ltb n end || eqb n end) ≡ (eqb (n % 4) 0 && leb n end)
-      by n end whole = grind (arith, nat_tests)
+      by : (o : Option Reloc) → reloc_on s n ≡ o → IsStep s n
+      by None is =
+          let size : size_on s n ≡ 4 = ap (λ o. option_map_or field_of o 4) is in
+          record { some = omega (arith, size); short = omega (arith, size); words = ap (λ m. m % 4) size; inside = omega (arith, size, whole.words) }
+      by (Some r) is =
+          let size : size_on s n ≡ field_of r = ap (λ o. option_map_or field_of o 4) is in
+          let sound = sound_at s n r code is in
+          record {
+            some = omega (arith, size, sound.field.some);
+            short = omega (arith, size, sound.field.short);
+            words = ap (λ m. m % 4) size ∙ sound.field.words;
+            inside = omega (arith, size, sound.inside, whole.bytes);
+          }
+
+  above_from : (fuel n : ℕ) → n % 4 ≡ 0 → n ≤ length s.bytes → Above n (starts_from fuel s n)
+  above_from zero n words le = tt
+  above_from (suc fuel) n words le =
+      by (ltb n (length s.bytes)) refl
+      (λ lt. let st = step n words lt in above_less n (n + size_on s n) (starts_from fuel s (n + size_on s n)) (omega arith) (above_from fuel (n + size_on s n) (omega (arith, st.words, words)) st.inside))
+    where
+      by : (b : Bool) → ltb n (length s.bytes) ≡ b → (n < length s.bytes → Above n (starts_from fuel s (n + size_on s n))) → Above n (cond b (n ∷ starts_from fuel s (n + size_on s n)) [])
+      by true lt rest = (omega arith, rest (ltb-true n (length s.bytes) lt))
+      by false le rest = tt
+
+  -- what holds at the end, and of a start if it holds from the next one on, holds of the whole walk
+  pub along_from : (P : ℕ → List ℕ → Type 0) → P (length s.bytes) []
+      → ((n : ℕ) (xs : List ℕ) → n < length s.bytes → n % 4 ≡ 0 → IsStep s n → Above (n + size_on s n) xs → P (n + size_on s n) xs → P n (n ∷ xs))
+      → (fuel n : ℕ) → n % 4 ≡ 0 → n ≤ length s.bytes → length s.bytes ≤ n + fuel → P n (starts_from fuel s n)
+  along_from P last each zero n words le more = let same : length s.bytes ≡ n = omega arith in subst (λ m. P m []) same last
+  along_from P last each (suc fuel) n words le more =
+      by (ltb n (length s.bytes)) refl
+      (λ lt. let st = step n words lt in along_from P last each fuel (n + size_on s n) (omega (arith, st.words, words)) st.inside (omega (arith, st.some)))
+    where
+      by : (b : Bool) → ltb n (length s.bytes) ≡ b → (n < length s.bytes → P (n + size_on s n) (starts_from fuel s (n + size_on s n))) → P n (cond b (n ∷ starts_from fuel s (n + size_on s n)) [])
+      by true lt rest =
+          let inside = ltb-true n (length s.bytes) lt in
+          let st = step n words inside in
+          each n (starts_from fuel s (n + size_on s n)) inside words st (above_from fuel (n + size_on s n) (omega (arith, st.words, words)) st.inside) (rest inside)
+      by false past rest =
+          let same : length s.bytes ≡ n = omega (arith, ltb-false n (length s.bytes) past) in
+          subst (λ m. P m []) same last
+
+  pub along : (P : ℕ → List ℕ → Type 0) → P (length s.bytes) []
+      → ((n : ℕ) (xs : List ℕ) → n < length s.bytes → n % 4 ≡ 0 → IsStep s n → Above (n + size_on s n) xs → P (n + size_on s n) xs → P n (n ∷ xs))
+      → P 0 (starts_in s)
+  unfolding starts_in
+  along P last each = along_from P last each (length s.bytes) 0 refl (omega arith) (omega arith)
+
+  -- ---- starts
+
+  -- the first of them, or the end
+  pub record IsWalk (n : ℕ) (xs : List ℕ) : Type 0 where
+    pub first : (is_among n xs ≡ true) ⊎ (n ≡ length s.bytes)
+    pub each : (k : ℕ) → is_among k xs ≡ true → IsStart s xs k
+
+  walk : IsWalk 0 (starts_in s)
+  walk = along IsWalk (record { first = inr refl; each = λ k is. absurd cc }) (λ n xs lt words st above rest. record {
+    first = inl (among_first n n xs refl);
+    each = λ k is. one n xs lt words rest k (among n k xs is);
+  })
+    where
+      more : (n m : ℕ) (xs : List ℕ) → ((is_among m xs ≡ true) ⊎ (m ≡ length s.bytes)) → (is_among m (n ∷ xs) ≡ true) ⊎ (m ≡ length s.bytes)
+      more n m xs (inl is) = inl (among_later n m xs is)
+      more n m xs (inr end) = inr end
+
+      one : (n : ℕ) (xs : List ℕ) → n < length s.bytes → n % 4 ≡ 0 → IsWalk (n + size_on s n) xs → (k : ℕ) → Among n k xs → IsStart s (n ∷ xs) k
+      one n xs lt words rest k (Here e) = record {
+        words = ap (λ m. m % 4) (sym e) ∙ words;
+        inside = omega (arith, e, lt);
+        next = more n (k + size_on s k) xs (subst (λ m. (is_among (m + size_on s m) xs ≡ true) ⊎ (m + size_on s m ≡ length s.bytes)) e rest.first);
+      }
+      one n xs lt words rest k (There is) = let own = rest.each k is in record { words = own.words; inside = own.inside; next = more n (k + size_on s k) xs own.next }
+
+  -- the section's start is one, or its end
+  pub start_first : (starts_on s 0 ≡ true) ⊎ (0 ≡ length s.bytes)
+  start_first = walk.first
+
+  -- each lies inside, and the next is one, or the end
+  pub start_is : (k : ℕ) → starts_on s k ≡ true → IsStart s (starts_in s) k
+  start_is k is = walk.each k is
+
+  -- none lies within an item
+  pub none_within : (k m : ℕ) → starts_on s k ≡ true → k < m → m < k + size_on s k → starts_on s m ≡ false
+  none_within = along (λ n xs. (k m : ℕ) → is_among k xs ≡ true → k < m → m < k + size_on s k → is_among m xs ≡ false)
+      (λ k m is. absurd cc)
+      (λ n xs lt words st above rest k m is low high. one n xs above rest k m low high (among n k xs is))
+    where
+      one : (n : ℕ) (xs : List ℕ) → Above (n + size_on s n) xs → ((k m : ℕ) → is_among k xs ≡ true → k < m → m < k + size_on s k → is_among m xs ≡ false) → (k m : ℕ) → k < m → m < k + size_on s k → Among n k xs → is_among m (n ∷ xs) ≡ false
+      one n xs above rest k m low high (Here e) =
+          let inside : m < n + size_on s n = subst (λ j. m < j + size_on s j) (sym e) high in
+          not_among n m xs (λ same. omega (arith, same, e, low)) (above_none (n + size_on s n) m xs above inside)
+      one n xs above rest k m low high (There is) =
+          elim (cases_lt k (n + size_on s n)) [
+            | inl lt ↦ absurd (cc (is, above_none (n + size_on s n) k xs above lt))
+            | inr le ↦ not_among n m xs (λ same. omega (arith, same, le, low)) (rest k m is low high)
+          ]
+
+  -- with one, those before the next are those before it and itself
+  pub before_next_start : (k : ℕ) → starts_on s k ≡ true → filter (λ m. ltb m (k + size_on s k)) (starts_in s) ≡ filter (λ m. ltb m k) (starts_in s) ++ k ∷ []
+  before_next_start = along (λ n xs. (k : ℕ) → is_among k xs ≡ true → filter (λ m. ltb m (k + size_on s k)) xs ≡ filter (λ m. ltb m k) xs ++ k ∷ [])
+      (λ k is. absurd cc)
+      (λ n xs lt words st above rest k is. one n xs st above rest k (among n k xs is))
+    where
+      kept : (n j : ℕ) (xs : List ℕ) → n < j → filter (λ m. ltb m j) (n ∷ xs) ≡ n ∷ filter (λ m. ltb m j) xs
+      kept n j xs lt = ap (λ b. cond b (n ∷ filter (λ m. ltb m j) xs) (filter (λ m. ltb m j) xs)) (lt-ltb n j lt)
+
+      one : (n : ℕ) (xs : List ℕ) → IsStep s n → Above (n + size_on s n) xs → ((k : ℕ) → is_among k xs ≡ true → filter (λ m. ltb m (k + size_on s k)) xs ≡ filter (λ m. ltb m k) xs ++ k ∷ []) → (k : ℕ) → Among n k xs → filter (λ m. ltb m (k + size_on s k)) (n ∷ xs) ≡ filter (λ m. ltb m k) (n ∷ xs) ++ k ∷ []
+      one n xs st above rest k (Here e) =
+          let both : filter (λ m. ltb m (n + size_on s n)) (n ∷ xs) ≡ filter (λ m. ltb m n) (n ∷ xs) ++ n ∷ [] =
+          kept n (n + size_on s n) xs (omega (arith, st.some)) ∙ ap (λ l. n ∷ l) (above_filter (n + size_on s n) (n + size_on s n) xs above (omega arith))
+          ∙ sym (ap (λ l. l ++ n ∷ []) (ap (λ b. cond b (n ∷ filter (λ m. ltb m n) xs) (filter (λ m. ltb m n) xs)) (le-ltb n n (omega arith)) ∙ above_filter (n + size_on s n) n xs above (omega arith))) in
+          subst (λ j. filter (λ m. ltb m (j + size_on s j)) (n ∷ xs) ≡ filter (λ m. ltb m j) (n ∷ xs) ++ j ∷ []) e both
+      one n xs st above rest k (There is) =
+          elim (cases_lt k (n + size_on s n)) [
+            | inl lt ↦ absurd (cc (is, above_none (n + size_on s n) k xs above lt))
+            | inr le ↦
+                kept n (k + size_on s k) xs (omega (arith, le, st.some)) ∙ ap (λ l. n ∷ l) (rest k is)
+                ∙ sym (ap (λ l. l ++ k ∷ []) (kept n k xs (omega (arith, le, st.some))))
+          ]
+
+  -- all lie before the end
+  pub before_end_all : filter (λ m. ltb m (length s.bytes)) (starts_in s) ≡ starts_in s
+  before_end_all = along (λ n xs. filter (λ m. ltb m (length s.bytes)) xs ≡ xs) refl
+      (λ n xs lt words st above rest. ap (λ b. cond b (n ∷ filter (λ m. ltb m (length s.bytes)) xs) (filter (λ m. ltb m (length s.bytes)) xs)) (lt-ltb n (length s.bytes) lt) ∙ ap (λ l. n ∷ l) rest)
+
+  -- none before the first
+  pub before_first_none : filter (λ m. ltb m 0) (starts_in s) ≡ []
+  before_first_none = along (λ n xs. filter (λ m. ltb m 0) xs ≡ []) refl
+      (λ n xs lt words st above rest. ap (λ b. cond b (n ∷ filter (λ m. ltb m 0) xs) (filter (λ m. ltb m 0) xs)) (le-ltb n 0 (omega arith)) ∙ rest)
+
+  -- those before an offset begin those before a later one
+  pub front : (m k : ℕ) → m ≤ k → IsFront (starts_in s) m k
+  front = along (λ n xs. (m k : ℕ) → m ≤ k → IsFront xs m k) (λ m k le. record { rest = []; are = refl }) each
+    where
+      kept : (n j : ℕ) (xs : List ℕ) → n < j → filter (λ m. ltb m j) (n ∷ xs) ≡ n ∷ filter (λ m. ltb m j) xs
+      kept n j xs lt = ap (λ b. cond b (n ∷ filter (λ m. ltb m j) xs) (filter (λ m. ltb m j) xs)) (lt-ltb n j lt)
+
+      each : (n : ℕ) (xs : List ℕ) → n < length s.bytes → n % 4 ≡ 0 → IsStep s n → Above (n + size_on s n) xs → ((m k : ℕ) → m ≤ k → IsFront xs m k) → (m k : ℕ) → m ≤ k → IsFront (n ∷ xs) m k
+      each n xs lt words st above rest m k le = elim (cases_lt n m) [
+        | inl low ↦
+            let more = rest m k le in
+            record { rest = more.rest; are = kept n k xs (omega arith) ∙ ap (λ l. n ∷ l) more.are ∙ ap (λ l. l ++ more.rest) (sym (kept n m xs low)) }
+        | inr past ↦
+            let empty : filter (λ j. ltb j m) (n ∷ xs) ≡ [] =
+            ap (λ b. cond b (n ∷ filter (λ j. ltb j m) xs) (filter (λ j. ltb j m) xs)) (le-ltb n m past) ∙ above_filter (n + size_on s n) m xs above (omega (arith, past)) in
+            record { rest = filter (λ j. ltb j k) (n ∷ xs); are = ap (λ l. l ++ filter (λ j. ltb j k) (n ∷ xs)) (sym empty) }
+      ]
+
+  -- ---- searches
+
+  -- the first start that passes
+  pub find_start : {X : Type 0} (f : ℕ → X) (p : X → Bool) (k : ℕ) → starts_on s k ≡ true → p (f k) ≡ true → ((m : ℕ) → m < k → starts_on s m ≡ true → p (f m) ≡ false) → find p (map f (starts_in s)) ≡ Some (f k)
+  find_start f p = along (λ n xs. (k : ℕ) → is_among k xs ≡ true → p (f k) ≡ true → ((m : ℕ) → m < k → is_among m xs ≡ true → p (f m) ≡ false) → find p (map f xs) ≡ Some (f k))
+      (λ k is passes earlier. absurd cc)
+      (λ n xs lt words st above rest k is passes earlier. one n xs st above rest k passes earlier (among n k xs is))
+    where
+      one : (n : ℕ) (xs : List ℕ) → IsStep s n → Above (n + size_on s n) xs → ((k : ℕ) → is_among k xs ≡ true → p (f k) ≡ true → ((m : ℕ) → m < k → is_among m xs ≡ true → p (f m) ≡ false) → find p (map f xs) ≡ Some (f k))
+          → (k : ℕ) → p (f k) ≡ true → ((m : ℕ) → m < k → is_among m (n ∷ xs) ≡ true → p (f m) ≡ false) → Among n k xs → find p (map f (n ∷ xs)) ≡ Some (f k)
+      one n xs st above rest k passes earlier (Here e) =
+          ap (λ b. cond b (Some (f n)) (find p (map f xs))) (ap (λ m. p (f m)) e ∙ passes) ∙ ap (λ m. Some (f m)) e
+      one n xs st above rest k passes earlier (There is) =
+          elim (cases_lt k (n + size_on s n)) [
+            | inl lt ↦ absurd (cc (is, above_none (n + size_on s n) k xs above lt))
+            | inr le ↦
+                ap (λ b. cond b (Some (f n)) (find p (map f xs))) (earlier n (omega (arith, le, st.some)) (among_first n n xs refl))
+                ∙ rest k is passes (λ m lt there. earlier m lt (among_later n m xs there))
+          ]
+
+-- none of a list passes
+pub find_nothing : {X : Type 0} (f : ℕ → X) (p : X → Bool) (xs : List ℕ) → ((m : ℕ) → is_among m xs ≡ true → p (f m) ≡ false) → find p (map f xs) ≡ None
+find_nothing f p [] none = refl
+find_nothing f p (x ∷ xs) none =
+    ap (λ b. cond b (Some (f x)) (find p (map f xs))) (none x (among_first x x xs refl)) ∙ find_nothing f p xs (λ m there. none m (among_later x m xs there))

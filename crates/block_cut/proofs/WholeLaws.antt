@@ -1,27 +1,45 @@
 -- Code of objects without a fault is in the file whole, and has whole words.
-use Rattle.std.proofs.Common.{◌≡◌, ◌≢◌, ℕ, ◌%◌, ◌<◌, ◌≤◌, List, length, true, Option, Some, None, slice_get, refl, sym, ap, ◌∙◌, arith, cond, Bool, false, inl, inr}
-use Rattle.std.specs.Prelude.{◌&&◌}
+use Rattle.std.proofs.Common.{◌≡◌, ◌≢◌, ℕ, ◌%◌, ◌<◌, ◌≤◌, List, length, max, true, Option, Some, None, slice_get, refl, sym, ap, ◌∙◌, arith, cond, eqb, Bool, false, inl, inr}
+use Rattle.std.specs.Int.{is_power_of_two}
+use Rattle.std.specs.List.{list_any, range_with_len}
+use Rattle.std.specs.Prelude.{◌&&◌, not}
 use Rattle.std.specs.Option.{option_and_then, option_map}
-use Rattle.std.proofs.lemmas.Bool.{ltb-false, cases_lt}
+use Rattle.std.proofs.lemmas.Bool.{cases_eq, cases_lt, eqb-true, ltb-false, not-false}
 use Rattle.std.proofs.lemmas.Option.{slice_get-map, slice_get_past}
 use Rattle.zc_base.specs.declared.place.Place.{Place}
 use Rattle.elf32_read.specs.Header.{header_of, section_count}
 use Rattle.elf32_read.specs.Kept.{has_flags, is_kept_code}
 use Rattle.elf32_read.specs.Object.{object_fault}
 use Rattle.elf32_read.specs.Parts.{ObjectParts, SectionParts, is_code_section, object_parts, section_parts}
-use Rattle.elf32_read.proofs.Faultless.{content_short, content_whole, faultless_whole, is_kept_section-parts, kept_code, no_fault}
+use Rattle.elf32_read.proofs.Listed.{none_in_range}
+use Rattle.elf32_read.proofs.Faultless.{IsAlignment, content_short, content_whole, faultless_whole, is_kept_section-parts, kept_code, no_fault}
 use Rattle.psabi_sym.specs.Faults.{gather_fault}
 use Rattle.psabi_sym.specs.Inputs.{Inputs, parsed}
 use Rattle.psabi_sym.specs.Listed.{section_at}
 use Rattle.psabi_sym.proofs.Gathered.{readable}
 use Rattle.psabi_sym.proofs.PartLaws.{section_count_is, section_got}
 use Rattle.block_cut.specs.Items.{code_at, code_only}
+use Rattle.block_cut.specs.Whole.{IsWhole}
 
--- the content is as long as the section, has whole words, and is no longer than a file
-pub record IsWhole (s : SectionParts) : Type 0 where
-  pub bytes : length s.bytes ≡ s.size
-  pub words : length s.bytes % 4 ≡ 0
-  pub short : length s.bytes ≤ 0x40_0000
+-- an alignment that isn't one of words
+abbrev is_askew : ℕ → Bool
+is_askew n = is_power_of_two n && not (eqb (max 4 n % 4) 0)
+
+-- powers of two are, computed
+none_askew : list_any is_askew (range_with_len 0 257) ≡ false
+unfolding lib.Count.ones
+none_askew = refl
+
+-- so is each alignment
+word_aligned : (n : ℕ) → IsAlignment 256 n → max 4 n % 4 ≡ 0
+word_aligned n is = elim (cases_eq n 0) [
+  | inl e ↦ ap (λ m. max 4 m % 4) e
+  | inr ne ↦
+      let low : n < 257 = omega (arith, is.low) in
+      let straight : (is_power_of_two n && not (eqb (max 4 n % 4) 0)) ≡ false = none_in_range is_askew 257 n none_askew low in
+      let same : not (eqb (max 4 n % 4) 0) ≡ false = ap (λ b. b && not (eqb (max 4 n % 4) 0)) (sym (is.power ne)) ∙ straight in
+      eqb-true (max 4 n % 4) 0 (not-false (eqb (max 4 n % 4) 0) same)
+]
 
 -- of an object
 pub file_whole : (file : List ℕ) (i : ℕ) → object_fault file ≡ None → i < section_count file → is_code_section (section_parts file i) ≡ true → IsWhole (section_parts file i)
@@ -36,6 +54,8 @@ file_whole file i read lt code =
       bytes = bytes;
       words = ap (λ n. n % 4) bytes ∙ is.words;
       short = omega (arith, content_short file h, ltb-false 0x40_0000 (length file) (no_fault file read).short);
+      low = is.aligned.low;
+      aligned = word_aligned h.align is.aligned;
     }
 
 -- a section of a file is one of the inputs

@@ -1,60 +1,100 @@
--- The items of all code, and where those of each section are among them.
-use Rattle.std.specs.Prelude.{◌≡◌, ◌≤◌, ◌<◌, ◌+◌, ◌*◌, ℕ, Vec, if◌then◌else◌, List, length, slice_get, Option, Some, None}
-use Rattle.std.specs.List.{flat_map}
-use Rattle.std.specs.Option.{option_and_then}
+-- What stands at each word of code, as the code keeps it: tables by object, section and word.
+use Rattle.std.specs.Prelude.{◌≡◌, ℕ, ◌+◌, ◌*◌, ◌/◌, ◌||◌, ◌==◌, Vec, if◌then◌else◌, true, IfSome, List, [], length, map, slice_get, ◌≤◌, Option, Some, None}
+use Rattle.std.specs.List.{flat_map, range_with_len}
+use Rattle.std.specs.Option.{option_map_or, unwrap_or}
 use Rattle.std.specs.declared.alloc.Global.{Global}
 use Rattle.zc_base.specs.MemMap.{IsMap}
 use Rattle.zc_base.specs.declared.place.Place.{Place}
-use Rattle.elf32_read.specs.Parts.{SectionParts, is_code_section}
-use Rattle.psabi_sym.specs.Blocks.{end_from}
+use Rattle.elf32_read.specs.Parts.{ObjectParts, SectionParts, is_code_section}
+use Rattle.elf32_read.specs.declared.reloc.Reloc.{Reloc}
 use Rattle.psabi_sym.specs.Inputs.{Inputs, ParsedInputs, parsed}
 use Rattle.psabi_sym.specs.Listed.{ListedSection, all_sections, section_at, sections_before}
+use Rattle.psabi_reloc.specs.Kinds.{kind_of}
+use Rattle.psabi_reloc.specs.declared.kind.RelocKind.TheVariants.{Align}
+use Rattle.block_cut.specs.DataWords.{data_words}
 use Rattle.block_cut.specs.Faults.{first_fault}
-use Rattle.block_cut.specs.Items.{entry_of, items_in}
-use Rattle.block_cut.specs.PlainLayout.{code_blocks, plain_start}
+use Rattle.block_cut.specs.Items.{entry_of, item_at, items_in, places_of, starts_on}
+use Rattle.block_cut.specs.PlainLayout.{plain_address, plain_end_of}
+use Rattle.block_cut.specs.Relocs.{field_of, is_padding, reloc_on}
 use Rattle.block_cut.specs.declared.code.Code.{Code}
-use Rattle.block_cut.specs.declared.code_section.CodeSection.{CodeSection}
+use Rattle.block_cut.specs.declared.code_word.CodeWord.{CodeWord}
+use Rattle.block_cut.specs.declared.data_word.DataWord.{DataWord}
+use Rattle.block_cut.specs.declared.extent.Extent.{Extent}
 use Rattle.block_cut.specs.declared.text.Text.{Text}
+use Rattle.block_cut.specs.declared.text_word.TextWord.{TextWord}
 
--- what stands for a section, if it is code: the index of its first item among all, its bytes, and where it begins
-abbrev pub code_row : ParsedInputs → ℕ → ℕ → SectionParts → Option CodeSection
-code_row inputs o i s =
-    if is_code_section s
-    then Some (record {
-      first = length (flat_map (items_in inputs.objects) (sections_before inputs.objects o i));
-      size = length s.bytes;
-      address = plain_start inputs o i s;
-    })
-    else None
+-- ---- tables
 
--- the same of a section by its object's index and its own
-abbrev pub row_at : ParsedInputs → ℕ → ℕ → Option CodeSection
-row_at inputs o i = option_and_then (code_row inputs o i) (section_at inputs.objects o i)
+-- what a table has for a section, by its object's index and its own; nothing if there is no such section
+abbrev pub list_in : {W : Type 0} → List (Vec (List W) Global) → ℕ → ℕ → List W
+list_in table o i = option_map_or (λ rows. unwrap_or (slice_get rows.items i) []) (slice_get table o) []
 
--- what a table has for a section, by its object's index and its own
-abbrev pub row_in : List (Vec (Option CodeSection) Global) → ℕ → ℕ → Option CodeSection
-row_in table o i = option_and_then (λ rows. option_and_then (λ row. row) (slice_get rows.items i)) (slice_get table o)
+-- what stands at each word of a section, and at its end, by the offset
+abbrev pub by_word : {W : Type 0} → (ℕ → W) → SectionParts → List W
+by_word f s = map (λ k. f (4 * k)) (range_with_len 0 (length s.bytes / 4 + 1))
 
--- the items of sections, and where their code ends; each item takes four bytes
-pub record IsText (inputs : ParsedInputs) (sections : List ListedSection) (text : Text) : Type 0 where
-  pub items : text.items.items ≡ flat_map (items_in inputs.objects) sections
-  pub end_is : text.end ≡ end_from inputs.map.text (code_blocks sections)
-  pub few : inputs.map.text + 4 * length text.items.items ≤ text.end
+-- the same of a section that there may be; what isn't code has none
+abbrev pub words_of : {W : Type 0} → (SectionParts → ℕ → W) → Option SectionParts → List W
+words_of f None = []
+words_of f (Some s) = if is_code_section s then by_word (f s) s else []
 
--- the items of the first objects, and the table of their sections
-pub record IsCodeOf (inputs : ParsedInputs) (n : ℕ) (code : Code) : Type 0 where
-  pub text : IsText inputs (sections_before inputs.objects n 0) code.text
-  pub count : length code.sections.items ≡ n
-  pub rows : (o i : ℕ) → o < n → row_in code.sections.items o i ≡ row_at inputs o i
+-- ---- where items start
 
--- the items of all code, and the table of sections
+-- at an offset of a section: whether an item starts there or the section ends there, and the relocation that says which item
+abbrev pub code_word : SectionParts → ℕ → CodeWord
+code_word s n = record { is_target = starts_on s n || n == length s.bytes; reloc = reloc_on s n }
+
+-- those of a section, by its object's index and its own
+abbrev pub code_words_at : List ObjectParts → ℕ → ℕ → List CodeWord
+code_words_at objects o i = words_of code_word (section_at objects o i)
+
+-- those of all code
 pub record IsCode (inputs : ParsedInputs) (code : Code) : Type 0 where
-  pub text : IsText inputs (all_sections inputs.objects) code.text
-  pub rows : (o i : ℕ) → row_in code.sections.items o i ≡ row_at inputs o i
+  pub words : (o i : ℕ) → list_in code.words.items o i ≡ code_words_at inputs.objects o i
 
--- inputs without a fault, their code, and where the program starts
-pub record IsCut (inputs : Inputs) (code : Code) (entry : Place) : Type 0 where
+-- ---- items and addresses
+
+-- the place at an offset of a section
+abbrev pub place_at : ℕ → ℕ → ℕ → Place
+place_at o i n = record { object = o; section = i; offset = n }
+
+-- at a place: the item that starts there, and its address in the plain layout
+abbrev pub text_word : ParsedInputs → Place → TextWord
+text_word inputs q = record { item = item_at inputs q; address = plain_address inputs q }
+
+-- those of a section, by its object's index and its own
+abbrev pub text_words_at : ParsedInputs → ℕ → ℕ → List TextWord
+text_words_at inputs o i = words_of (λ s n. text_word inputs (place_at o i n)) (section_at inputs.objects o i)
+
+-- the code of sections ends here, and has so many items
+pub record IsExtent (inputs : ParsedInputs) (sections : List ListedSection) (extent : Extent) : Type 0 where
+  pub end_is : extent.end ≡ plain_end_of inputs sections
+  pub count_is : extent.count ≡ length (flat_map (items_in inputs) sections)
+
+-- all code
+pub record IsText (inputs : ParsedInputs) (text : Text) : Type 0 where
+  pub words : (o i : ℕ) → list_in text.words.items o i ≡ text_words_at inputs o i
+  pub extent : IsExtent inputs (all_sections inputs.objects) text.extent
+
+-- the places of a section where items start, by its object's index and its own, and those of the sections before it
+abbrev pub places_at : List ObjectParts → ℕ → ℕ → List Place
+places_at objects o i = option_map_or (λ s. places_of (record { object = o; index = i; section = s })) (section_at objects o i) []
+
+abbrev pub places_before : List ObjectParts → ℕ → ℕ → List Place
+places_before objects o i = flat_map places_of (sections_before objects o i)
+
+-- the bytes of a section have room for an item at an offset, by its relocation
+pub record HasRoom (bytes : List ℕ) (n : ℕ) (reloc : Option Reloc) : Type 0 where
+  pub word : n + 4 ≤ length bytes
+  pub field : IfSome reloc (λ r. n + field_of r ≤ length bytes)
+  pub padding : IfSome reloc (λ r. kind_of r.kind ≡ Some Align → is_padding r.addend ≡ true)
+
+-- ---- the whole
+
+-- inputs without a fault, their code, their words of data, and where the program starts
+pub record IsCut (inputs : Inputs) (text : Text) (words : List DataWord) (entry : Place) : Type 0 where
   pub faultless : first_fault inputs ≡ None
   pub is_map : IsMap inputs.map
-  pub code_is : IsCode (parsed inputs) code
+  pub text_is : IsText (parsed inputs) text
+  pub words_are : words ≡ data_words (parsed inputs)
   pub entry_is : entry ≡ entry_of (parsed inputs)

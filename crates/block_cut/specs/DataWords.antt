@@ -5,7 +5,7 @@ use Rattle.std.specs.Option.{option_map_or}
 use Rattle.elf32_read.specs.declared.reloc.Reloc.{Reloc}
 use Rattle.psabi_sym.specs.Data.{data_address}
 use Rattle.psabi_sym.specs.Inputs.{ParsedInputs}
-use Rattle.psabi_sym.specs.Listed.{ListedSection, all_sections}
+use Rattle.psabi_sym.specs.Listed.{ListedSection, all_sections, sections_before}
 use Rattle.psabi_reloc.specs.Kinds.{kind_of}
 use Rattle.block_cut.specs.Items.{target_of}
 use Rattle.block_cut.specs.Relocs.{is_word}
@@ -20,6 +20,10 @@ abbrev pub words_in : ParsedInputs → ListedSection → List DataWord
 words_in inputs l =
     if l.section.kind == 8 then []
     else option_map_or (λ at. map (data_word inputs l at) (filter (λ r. is_word (kind_of r.kind)) l.section.relocs)) (data_address inputs l.object l.index) []
+
+-- those of the sections before one
+abbrev pub words_before : ParsedInputs → ℕ → ℕ → List DataWord
+words_before inputs o i = flat_map (words_in inputs) (sections_before inputs.objects o i)
 
 -- those of all data, by object, section and relocation
 unfoldable pub data_words : ParsedInputs → List DataWord

@@ -5,13 +5,20 @@ ghost use Rattle.std.specs.Option.{option_map};
 ghost use Rattle.psabi_sym.specs.Faults.{gather_fault};
 ghost use Rattle.psabi_sym.specs.Inputs.{parsed, Inputs};
 ghost use Rattle.psabi_sym.specs.LinkFault.{IsRefusal};
-ghost use Rattle.block_cut.specs.Cut.{IsCode};
+ghost use Rattle.block_cut.specs.Cut.{IsText};
+ghost use Rattle.block_cut.specs.DataWords.{data_words};
 ghost use Rattle.block_cut.specs.Faults.{first_fault};
 ghost use Rattle.block_cut.specs.Items.{entry_of, item_at, next_at, start_only};
 ghost use Rattle.block_cut.specs.PlainLayout.{plain_address, plain_counts};
 
 use crate::code::Code;
+use crate::data_word::DataWord;
+use crate::data_words::data_words;
 use crate::item::Item;
+use crate::judge::judge_relocs;
+use crate::plain_layout::item_size;
+use crate::reach::first_out_of_reach;
+use crate::text::Text;
 use elf32_read::fault::Fault;
 use psabi_sym::link_fault::LinkFault;
 use psabi_sym::objects::Objects;
@@ -21,11 +28,13 @@ use std::marker::Model;
 use zc_base::counts::Counts;
 use zc_base::place::Place;
 
-/// The objects of a link without a fault, with their code cut into items. Each word was decoded once.
+/// The objects of a link without a fault, with their code cut into items. Each word was decoded once, and
+/// once more if it has a relocation.
 #[derive(Debug, Drop)]
 pub struct Cut {
     objects: Objects,
-    code: Code,
+    text: Text,
+    words: Vec<DataWord>,
     entry: Place,
 }
 
@@ -37,66 +46,73 @@ impl Model for Cut {
 
     ghost view = { λ cut. cut.objects };
 
-    ghost invariant = { λ cut. IsCut cut.objects cut.code cut.entry };
+    ghost invariant = { λ cut. IsCut cut.objects cut.text cut.words.items cut.entry };
 }
 
 impl Cut {
-    /// Cuts the code of the objects into items, or says why they aren't linked. It takes time linear in
-    /// the objects' bytes, sections and relocations.
+    /// Cuts the code of the objects into items, or says why they aren't linked. It takes time near-linear
+    /// in the objects' bytes, sections and relocations.
     pub fn new(alloc: Global, objects: Objects) -> Result<Cut, LinkFault>
         ensures same { IfOk result (λ cut. cut ≡ objects) }
         ensures faultless { IfOk result (λ _. first_fault objects ≡ None) }
         ensures err { IfErr result (λ fault. IsRefusal (first_fault objects) fault) }
     {
-        let code = match Code::new(alloc, &objects) {
-            Err(fault) => return Err(fault),
-            Ok(code) => code,
-        };
-        match start_only(&code, objects.start()) {
-            None => Err(LinkFault::Object {
+        let code = Code::new(alloc, &objects)?;
+        if let Err(fault) = judge_relocs(alloc, &objects, &code) {
+            return Err(fault);
+        }
+        let text = Text::new(alloc, &objects, &code)?;
+        let Some(entry) = start_only(&text, objects.start()) else {
+            return Err(LinkFault::Object {
                 index: 0,
                 fault: Fault::NoEntry,
-            }),
-            Some(entry) => Ok(Cut {
-                objects,
-                code,
-                entry,
-            }),
+            });
+        };
+        if let Some(place) = first_out_of_reach(&objects, &text) {
+            return Err(LinkFault::Object {
+                index: u32::from(place.object),
+                fault: Fault::Range {
+                    section: place.section,
+                    at: place.offset,
+                },
+            });
         }
+        let words = data_words(alloc, &objects)?;
+        Ok(Cut {
+            objects,
+            text,
+            words,
+            entry,
+        })
     }
 
     /// The item at a place, if one starts there. It takes constant time, as do all that follow.
     pub fn item(&self, p: Place) -> Option<Item>
-        ensures item { result ≡ item_at (parsed self.now).objects p }
-        ensures room { IfSome result (λ _. p.offset + 4 < 2 ^ 32) }
+        ensures item { result ≡ item_at (parsed self.now) p }
+        ensures room { IfSome result (λ _. p.offset + 256 < 2 ^ 32) }
     {
-        self.code.item(p)
+        self.text.item(p)
     }
 
     /// The place after the item at a place, if one starts there.
     pub fn next(&self, p: Place) -> Option<Place>
-        ensures { let objects = (parsed self.now).objects in
-            result ≡ option_map (λ _. next_at objects p) (item_at objects p) }
+        ensures { result ≡ option_map (λ _. next_at (parsed self.now).objects p) (item_at (parsed self.now) p) }
     {
-        if self.item(p).is_none() {
-            return None;
+        match self.text.item(p) {
+            None => None,
+            Some(item) => Some(Place {
+                object: p.object,
+                section: p.section,
+                offset: p.offset + item_size(&item),
+            }),
         }
-        Some(Place {
-            object: p.object,
-            section: p.section,
-            offset: p.offset + 4,
-        })
     }
 
     /// The address in the plain layout of a place where an item starts or a section of code ends.
     pub fn plain_address(&self, p: Place) -> Option<u32>
         ensures { result ≡ plain_address (parsed self.now) p }
     {
-        let section = self.code.section(p.object, p.section)?;
-        if !section.has_target(p.offset) {
-            return None;
-        }
-        Some(section.address + p.offset)
+        self.text.address(p)
     }
 
     /// The place where the program starts.
@@ -104,6 +120,13 @@ impl Cut {
         ensures { result ≡ entry_of (parsed self.now) }
     {
         self.entry
+    }
+
+    /// The words of data that hold addresses, by object, section and relocation.
+    pub fn data_words(&self) -> &[DataWord]
+        ensures { result.now ≡ data_words (parsed self.now) }
+    {
+        &self.words
     }
 
     /// The objects.
@@ -118,10 +141,10 @@ impl Cut {
     pub fn counts(&self) -> Counts
         ensures { result ≡ plain_counts (parsed self.now) }
     {
-        let text = &self.code.text;
+        let extent = self.text.extent;
         Counts {
-            text: text.end - self.objects.map().text,
-            items: text.items.len() as u32,
+            text: extent.end - self.objects.map().text,
+            items: extent.count,
             short: 0,
             long: 0,
             pushes: 0,
@@ -133,18 +156,15 @@ impl Cut {
 }
 
 // The place that a target is, if an item starts there.
-fn start_only(code: &Code, target: Target) -> Option<Place>
-    ensures { (inputs : Inputs) → gather_fault inputs ≡ None → IsCode (parsed inputs) code.now
+fn start_only(text: &Text, target: Target) -> Option<Place>
+    ensures { (inputs : Inputs) → gather_fault inputs ≡ None → IsText (parsed inputs) text.now
         → result ≡ start_only (parsed inputs).objects target }
 {
     let Target::Code(p) = target else {
         return None;
     };
-    if !code.has_start(p) {
-        return None;
+    match text.item(p) {
+        None => None,
+        Some(_) => Some(p),
     }
-    Some(p)
 }
-
-#[cfg(test)]
-mod tests;

@@ -2,10 +2,21 @@
 #![tactic(auto)]
 
 mod code;
-mod code_section;
+mod code_word;
 pub mod cut;
+pub mod data_word;
+mod data_words;
+mod extent;
+mod fields;
 pub mod item;
+mod judge;
+mod judged;
+mod kinds;
 mod plain_layout;
-pub mod relocs;
+mod reach;
+mod reloc_item;
+mod relocated;
 mod spelled;
 mod text;
+mod text_word;
+mod walk;

@@ -1,7 +1,12 @@
-// Where a section of code begins in the plain layout.
+// Addresses in the plain layout, one after another.
 
-ghost use Rattle.std.specs.Prelude.{◌≡◌, ◌+◌, ◌^◌, ◌<◌, max};
+ghost use Rattle.std.specs.Prelude.{◌≡◌, ◌+◌, ◌^◌, ◌<◌, ◌≤◌, max};
 ghost use Rattle.psabi_sym.specs.Blocks.{aligned_up};
+ghost use Rattle.psabi_sym.specs.Faults.{power_above};
+ghost use Rattle.block_cut.specs.Sizes.{item_size};
+ghost use Rattle.block_cut.specs.PlainLayout.{after_item};
+
+use crate::item::Item;
 
 const LEAST_ALIGN: u32 = 4;
 
@@ -13,4 +18,61 @@ pub fn begin_after(end: u32, align: u32) -> u32
     ensures { result ≡ aligned_up (max 4 align) end }
 {
     end.next_multiple_of(align.max(LEAST_ALIGN))
+}
+
+// The least power of two above a number of bytes of padding.
+fn power_above(bytes: u16) -> u32
+    ensures value { result ≡ power_above bytes }
+    ensures most { result ≤ 256 }
+{
+    match bytes {
+        0..=1 => 2,
+        2..=3 => 4,
+        4..=7 => 8,
+        8..=15 => 16,
+        16..=31 => 32,
+        32..=63 => 64,
+        64..=127 => 128,
+        _ => 256,
+    }
+}
+
+/// The address after an item at an address.
+#[tactic(auto, unfolding(psabi_sym::specs::Blocks::aligned_up))]
+pub fn after_item(at: u32, item: &Item) -> u32
+    requires { at + 256 < 2 ^ 32 }
+    ensures { result ≡ after_item at item.now }
+{
+    match item {
+        Item::Align(bytes) => at.next_multiple_of(power_above(*bytes)),
+        Item::Call { .. } | Item::RawPair(..) => at + 8,
+        Item::Op(_)
+        | Item::Hi(..)
+        | Item::Lo(..)
+        | Item::PcHi(..)
+        | Item::PcLo(..)
+        | Item::Branch(..)
+        | Item::Jump(..)
+        | Item::Word(_)
+        | Item::Raw(_) => at + 4,
+    }
+}
+
+/// How many bytes an item takes in its section.
+pub fn item_size(item: &Item) -> u32
+    ensures { result ≡ item_size item.now }
+{
+    match item {
+        Item::Align(bytes) => u32::from(*bytes),
+        Item::Call { .. } | Item::RawPair(..) => 8,
+        Item::Op(_)
+        | Item::Hi(..)
+        | Item::Lo(..)
+        | Item::PcHi(..)
+        | Item::PcLo(..)
+        | Item::Branch(..)
+        | Item::Jump(..)
+        | Item::Word(_)
+        | Item::Raw(_) => 4,
+    }
 }
