@@ -11,7 +11,7 @@ use Rattle.std.proofs.lemmas.List.Folds.{list_any-append}
 use Rattle.std.proofs.lemmas.Option.{get_or_from_slice_get, slice_get_within}
 use Rattle.elf32_read.specs.Header.{Header, begins_as, content_of, header_of, headers_of, is_empty_kind, section_count, section_table}
 use Rattle.elf32_read.specs.Kept.{has_flags, is_kept, is_kept_code}
-use Rattle.elf32_read.specs.Names.{has_end, is_name_at, is_unnamed_section, section_names}
+use Rattle.elf32_read.specs.Names.{has_end, is_name_at, is_unnamed_section, lacks_strings, section_names, strings_of}
 use Rattle.elf32_read.specs.Object.{IsWhole, counts_elsewhere, has_bad_alignment, has_bad_name, has_bad_symbol, has_cut_code, has_other_binding, has_other_flags, has_other_kind, has_other_symbols, has_second_symbol_table, has_too_many_sections, has_two_relas, has_unlinked_sections, is_bad_alignment, is_bad_common, is_bad_symbol, is_badly_aligned, is_compressed, is_cut_code, is_foreign_kind, is_homeless, is_kept_by_thread, is_kept_rela, is_kept_unknown, is_odd_code, is_odd_rela, is_odd_symbol_table, is_of_no_symbol, is_rela_of_none, is_too_long, is_undefined_local, is_unlinked, is_unnamed_symbol, lacks_headers, lacks_section_names, lacks_symbol_names, names_no_symbol, not_elf, object_fault, passes_end, passes_section, truncated}
 use Rattle.elf32_read.specs.Parts.{is_kept_section, relocs_held, relocs_of, section_parts}
 use Rattle.elf32_read.specs.Relocs.{changes, relas_for}
@@ -117,6 +117,20 @@ few_symbols bytes h =
     by : (table : Option Header) → length (option_map_or (content_of bytes) table []) ≤ length bytes
     by None = omega arith
     by (Some header) = content_short bytes header
+
+-- nor are their names
+pub few_names : (bytes : List ℕ) → object_fault bytes ≡ None → length (symbol_names bytes) ≤ 0x40_0000
+few_names bytes h =
+    let short = ltb-false 0x40_0000 (length bytes) (no_fault bytes h).short in
+    omega (arith, short, by (symbol_table bytes))
+  where
+    strings_short : (i : ℕ) (b : Bool) → length (cond b [] (content_of bytes (header_of bytes i))) ≤ length bytes
+    strings_short i true = omega arith
+    strings_short i false = content_short bytes (header_of bytes i)
+
+    by : (table : Option Header) → length (option_map_or (λ header. strings_of bytes header.link) table []) ≤ length bytes
+    by None = omega arith
+    by (Some header) = strings_short header.link (lacks_strings bytes header.link)
 
 -- a section with content has it in the file
 pub content_within : (bytes : List ℕ) (header : Header) → passes_end bytes header ≡ false → header.kind ≢ 0 → header.kind ≢ 8 → header.offset + header.size ≤ length bytes

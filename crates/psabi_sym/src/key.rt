@@ -4,5 +4,5 @@
 #[derive(Clone, Copy, PartialEq, Eq, Hash, Debug)]
 pub struct Key<'a> {
     pub part: &'a [u8],
-    pub rest: usize,
+    pub rest: u32,
 }

@@ -1,6 +1,6 @@
 // Where the names of a table end, and the numbers of their tails.
 
-ghost use Rattle.std.specs.Prelude.{◌≡◌, ◌+◌, ◌<◌, List, ℕ, IfOk, OnOk, length};
+ghost use Rattle.std.specs.Prelude.{◌≡◌, ◌+◌, ◌^◌, ◌<◌, ◌≤◌, List, ℕ, IfOk, OnOk, length};
 ghost use Rattle.std.specs.Borrow.{Bor};
 ghost use Rattle.elf32_read.specs.Names.{name_at};
 ghost use Rattle.psabi_sym.specs.Keys.{AreBlocks, AreEnds, Extends, IsEnd, IsKey, tails_of};
@@ -10,13 +10,13 @@ use crate::texts::Texts;
 use std::alloc::{AllocError, Global};
 
 // How many bytes are numbered at once.
-const BLOCK: usize = 64;
+const BLOCK: u32 = 64;
 
 /// How many bytes a name has, and the number of its longest tail of whole blocks.
 #[derive(Clone, Copy, PartialEq, Eq, Debug)]
 pub struct NameEnd {
-    pub length: usize,
-    pub tail: usize,
+    pub length: u32,
+    pub tail: u32,
 }
 
 // The end of the name that begins at a byte, by that of the name from the next byte on.
@@ -26,11 +26,14 @@ fn end_before<'a>(
     next: NameEnd,
     tails: &mut Texts<'a>,
 ) -> Result<NameEnd, AllocError>
+    requires few { length table.now ≤ 0x40_0000 }
+    requires room { length tails.old.texts.items + 1 < 2 ^ 32 }
     requires at { at < length table.now }
     requires tails { AreBlocks tails.old.keys.keys tails.old.texts.items }
     requires next { IsEnd (tails_of tails.old.texts.items) (name_at table.now (at + 1)) next }
     ensures tails { OnOk result (AreBlocks tails.new.keys.keys tails.new.texts.items) }
     ensures more { OnOk result (Extends (tails_of tails.old.texts.items) (tails_of tails.new.texts.items)) }
+    ensures room { OnOk result (length tails.new.texts.items ≤ length tails.old.texts.items + 1) }
     ensures end { IfOk result (IsEnd (tails_of tails.new.texts.items) (name_at table.now at)) }
 {
     if table[at] == 0 {
@@ -43,13 +46,16 @@ fn end_before<'a>(
             tail: next.tail,
         });
     }
-    let name = &table[at..at + length];
+    let name = &table[at..at + length as usize];
     let key = Key {
-        part: &name[..BLOCK],
+        part: &name[..BLOCK as usize],
         rest: next.tail,
     };
-    let tail = tails.number(key, name)? + 1;
-    Ok(NameEnd { length, tail })
+    let number = tails.number(key, name)? as u32;
+    Ok(NameEnd {
+        length,
+        tail: number + 1,
+    })
 }
 
 /// The ends of the names that begin at each byte of a table. It looks at each byte twice.
@@ -58,9 +64,12 @@ pub fn name_ends<'a>(
     table: &'a [u8],
     tails: &mut Texts<'a>,
 ) -> Result<Vec<NameEnd>, AllocError>
-    requires { AreBlocks tails.old.keys.keys tails.old.texts.items }
+    requires few { length table.now ≤ 0x40_0000 }
+    requires room { length tails.old.texts.items ≤ 2 ^ 31 }
+    requires tails { AreBlocks tails.old.keys.keys tails.old.texts.items }
     ensures tails { OnOk result (AreBlocks tails.new.keys.keys tails.new.texts.items) }
     ensures more { OnOk result (Extends (tails_of tails.old.texts.items) (tails_of tails.new.texts.items)) }
+    ensures room { OnOk result (length tails.new.texts.items ≤ length tails.old.texts.items + length table.now) }
     ensures ends { IfOk result (λ ends. AreEnds tails.new.texts.items table.now ends.items) }
 {
     let mut end = NameEnd { length: 0, tail: 0 };
@@ -84,9 +93,9 @@ pub fn name_with_key<'a>(table: &'a [u8], ends: &[NameEnd], at: u32) -> (&'a [u8
         return (&[], Key { part: &[], rest: 0 });
     }
     let end = ends[at];
-    let name = &table[at..at + end.length];
+    let name = &table[at..at + end.length as usize];
     let key = Key {
-        part: &name[..end.length % BLOCK],
+        part: &name[..(end.length % BLOCK) as usize],
         rest: end.tail,
     };
     (name, key)

@@ -1,6 +1,6 @@
 // Names, numbered in the order in which they are first seen.
 
-ghost use Rattle.std.specs.Prelude.{◌≡◌, ◌+◌, ◌^◌, ◌<◌, [], IfOk, OnOk, length};
+ghost use Rattle.std.specs.Prelude.{◌≡◌, ◌+◌, ◌^◌, ◌<◌, ◌≤◌, [], IfOk, OnOk, length};
 ghost use Rattle.elf32_read.specs.Names.{name_at};
 ghost use Rattle.psabi_sym.specs.Keys.{AreEnds, AreNames, lent, names_of};
 ghost use Rattle.psabi_sym.specs.Rows.{number_of, with_name};
@@ -22,6 +22,7 @@ impl<'a> Names<'a> {
     pub fn new(alloc: Global) -> Names<'a>
         ensures are { AreNames result }
         ensures none { names_of result ≡ [] }
+        ensures tails { result.tails.texts.items ≡ [] }
     {
         Names {
             tails: Texts::new(alloc),
@@ -31,8 +32,11 @@ impl<'a> Names<'a> {
 
     /// Reads a table of names. It looks at each byte twice.
     pub fn read(&mut self, alloc: Global, table: &'a [u8]) -> Result<Vec<NameEnd>, AllocError>
-        requires { AreNames self.old }
+        requires few { length table.now ≤ 0x40_0000 }
+        requires room { length self.old.tails.texts.items ≤ 2 ^ 31 }
+        requires are { AreNames self.old }
         ensures are { OnOk result (AreNames self.new) }
+        ensures room { OnOk result (length self.new.tails.texts.items ≤ length self.old.tails.texts.items + length table.now) }
         ensures names { OnOk result (names_of self.new ≡ names_of self.old) }
         ensures ends { IfOk result (λ ends. AreEnds self.new.tails.texts.items table.now ends.items) }
     {

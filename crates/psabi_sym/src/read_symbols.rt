@@ -20,8 +20,10 @@ pub fn add_symbols<'a>(
     rows: &mut Vec<SymbolRow>,
 ) -> Result<(), AllocError>
     requires few { length (names_of names.old) ≤ 2 ^ 31 }
+    requires room { length names.old.tails.texts.items ≤ 2 ^ 31 }
     requires are { AreNames names.old }
     ensures are { OnOk result (AreNames names.new) }
+    ensures room { OnOk result (length names.new.tails.texts.items ≤ length names.old.tails.texts.items + 0x40_0000) }
     ensures numbered { (listed : List ListedSymbol) → IsNumbered (names_of names.old) listed rows.old.items
         → OnOk result (IsNumbered (names_of names.new) (listed ++ symbols_in (index, object_parts loaded.entry.now)) rows.new.items) }
     ensures few { OnOk result (vec_len rows.new ≤ vec_len rows.old + 0x4_0000) }

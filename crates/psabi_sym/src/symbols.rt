@@ -32,6 +32,7 @@ impl Symbols {
         requires few { length objects.now ≤ 256 }
         requires are { AreNames names.old }
         requires unnamed { names_of names.old ≡ [] }
+        requires tails { names.old.tails.texts.items ≡ [] }
         ensures rows { IfOk result (λ symbols. IsNumbered (names_of names.new) (all_symbols (map object_parts objects.entry.now)) symbols.rows.items) }
         ensures starts { IfOk result (λ symbols. symbols.starts.items
             ≡ map (symbol_starts (map object_parts objects.entry.now)) (range_with_len 0 (length objects.entry.now + 1))) }

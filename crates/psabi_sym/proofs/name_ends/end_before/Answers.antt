@@ -1,7 +1,8 @@
-use Rattle.std.proofs.Common.{◌%◌, List, Bor, refl, subst, ◌≡◌, ◌+◌, ◌-◌, ℕ, length, get_or, take, drop, ap, arith}
+use Rattle.std.proofs.Common.{◌%◌, List, Bor, refl, subst, ◌≡◌, ◌≤◌, ◌+◌, ◌-◌, ℕ, length, get_or, take, drop, ap, arith}
 use Rattle.std.proofs.lemmas.List.{length-map, length-take}
 use Rattle.elf32_read.specs.Names.{name_at}
 use Rattle.psabi_sym.specs.Keys.{IsAdded, lent, tails_of}
+use Rattle.psabi_sym.proofs.NumberLaws.{length-with_name}
 use Rattle.psabi_sym.proofs.TailLaws.{block_added, block_end, block_extends, block_key, end_more, name_slice, name_step}
 use Rattle.psabi_sym.proofs.name_ends.end_before.Goals as goal
 
@@ -20,7 +21,7 @@ slice_bounds-key-end c =
     omega (arith, c.if-length-ne0.false, longer, ap length (name_slice table c.args.at n longer), length-take 64 part)
 
 -- the name has a number
-named : (c : goal.In_ok-tail) → IsAdded 1 (tails_of c.args.tails.now.texts.items) (lent c.args.tails.now.texts.items) (lent c.number.new.self.texts.items) c.number.new.self.keys.keys (name_at c.args.table.now c.args.at) c.in_ok-tail.field-0
+named : (c : goal.In_ok-number) → IsAdded 1 (tails_of c.args.tails.now.texts.items) (lent c.args.tails.now.texts.items) (lent c.number.new.self.texts.items) c.number.new.self.keys.keys (name_at c.args.table.now c.args.at) c.in_ok-number.field-0
 named c =
     let table = c.args.table.now in
     let at = c.args.at in
@@ -29,33 +30,45 @@ named c =
     let tails = tails_of old.texts.items in
     let step = name_step table at c.requires.at c.if-table-at-eq0.false in
     let slice = name_slice table at (c.args.next.length + 1) (omega (arith, ap length step, c.requires.next.length_is)) in
-    subst (λ t. IsAdded 1 tails (lent old.texts.items) (lent c.number.new.self.texts.items) c.number.new.self.keys.keys t c.in_ok-tail.field-0) slice
-    (c.in_ok-tail.ensures 1 tails c.requires.tails.tails
+    subst (λ t. IsAdded 1 tails (lent old.texts.items) (lent c.number.new.self.texts.items) c.number.new.self.keys.keys t c.in_ok-number.field-0) slice
+    (c.in_ok-number.ensures 1 tails c.requires.tails.tails
     (block_key tails (get_or table at 0) name (name_at table (at + 1)) step c.args.next c.requires.next c.if-length-ne0.false _ _ slice refl refl)
     c.requires.tails.keys_are)
 
 -- it has whole blocks
-whole : (c : goal.In_ok-tail) → length (name_at c.args.table.now c.args.at) % 64 ≡ 0
+whole : (c : goal.In_ok-number) → length (name_at c.args.table.now c.args.at) % 64 ≡ 0
 whole c = omega (arith, ap length (name_step c.args.table.now c.args.at c.requires.at c.if-table-at-eq0.false), c.requires.next.length_is, c.if-length-ne0.false)
 
-pub overflow_add-tail : goal.overflow_add-tail
-overflow_add-tail c = omega (arith, (named c).within, length-map c.number.new.self.texts.items (λ (x : Bor (List ℕ)). x.now), c.number.new.self.texts.ok.0, c.number.new.self.texts.ok.1, c.number.new.self.texts.small)
+-- there is one tail more at most
+more : (c : goal.In_ok-number) → length c.number.new.self.texts.items ≤ length c.args.tails.now.texts.items + 1
+more c =
+    let old = lent c.args.tails.now.texts.items in
+    omega (arith, ap length (named c).texts_are, (length-with_name old (name_at c.args.table.now c.args.at)).1, length-map c.number.new.self.texts.items (λ (x : Bor (List ℕ)). x.now), length-map c.args.tails.now.texts.items (λ (x : Bor (List ℕ)). x.now))
+
+pub overflow_cast-number : goal.overflow_cast-number
+overflow_cast-number c = omega (arith, (named c).within, length-map c.number.new.self.texts.items (λ (x : Bor (List ℕ)). x.now), more c, c.requires.room)
+
+pub overflow_add-result : goal.overflow_add-result
+overflow_add-result c = omega (arith, (named c).within, length-map c.number.new.self.texts.items (λ (x : Bor (List ℕ)). x.now), more c, c.requires.room)
+
+pub returns-clause-room : goal.returns-clause-room
+returns-clause-room c = more c
 
 pub returns-clause-tails : goal.returns-clause-tails
 returns-clause-tails c =
     let old = c.args.tails.now in
     block_added old.keys.keys c.number.new.self.keys.keys old.texts.items c.number.new.self.texts.items c.requires.tails _ _ _
-    (name_step c.args.table.now c.args.at c.requires.at c.if-table-at-eq0.false) (whole c) c.in_ok-tail.field-0 (named c)
+    (name_step c.args.table.now c.args.at c.requires.at c.if-table-at-eq0.false) (whole c) c.in_ok-number.field-0 (named c)
 
 pub returns-clause-more : goal.returns-clause-more
 returns-clause-more c =
     let old = c.args.tails.now in
     block_extends old.keys.keys c.number.new.self.keys.keys old.texts.items c.number.new.self.texts.items c.requires.tails _ _ _
-    (name_step c.args.table.now c.args.at c.requires.at c.if-table-at-eq0.false) (whole c) c.in_ok-tail.field-0 (named c)
+    (name_step c.args.table.now c.args.at c.requires.at c.if-table-at-eq0.false) (whole c) c.in_ok-number.field-0 (named c)
 
 pub returns-clause-end : goal.returns-clause-end
 returns-clause-end c =
     let old = c.args.tails.now in
     let step = name_step c.args.table.now c.args.at c.requires.at c.if-table-at-eq0.false in
     block_end old.keys.keys c.number.new.self.keys.keys old.texts.items c.number.new.self.texts.items c.requires.tails _ _ _
-    step (whole c) c.in_ok-tail.field-0 (named c) (c.args.next.length + 1) (omega (arith, ap length step, c.requires.next.length_is))
+    step (whole c) c.in_ok-number.field-0 (named c) (c.args.next.length + 1) (omega (arith, ap length step, c.requires.next.length_is))

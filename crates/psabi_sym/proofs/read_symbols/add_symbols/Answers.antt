@@ -3,7 +3,7 @@ use Rattle.std.proofs.lemmas.List.{append-nil, take_more, take_all}
 use Rattle.elf32_read.specs.Names.{name_at}
 use Rattle.elf32_read.specs.Parts.{object_parts, symbol_parts}
 use Rattle.elf32_read.specs.Object.{object_fault}
-use Rattle.elf32_read.proofs.Faultless.{few_symbols}
+use Rattle.elf32_read.proofs.Faultless.{few_names, few_symbols}
 use Rattle.elf32_read.specs.Symbols.{symbol_count, symbol_entry_of}
 use Rattle.psabi_sym.specs.Keys.{AreEnds, names_of}
 use Rattle.psabi_sym.specs.Listed.{ListedSymbol, symbols_in}
@@ -14,9 +14,18 @@ use Rattle.psabi_sym.proofs.NumberLaws.{length-with_name}
 use Rattle.psabi_sym.proofs.PartLaws.{length-symbols_in, symbol_count_is, symbol_is, symbol_listed}
 use Rattle.psabi_sym.proofs.read_symbols.add_symbols.Goals as goal
 
+-- nor are their names long
+pub read-requires-clause-few : goal.read-requires-clause-few
+read-requires-clause-few c =
+    let read = c.object-object.result in
+    omega (arith, few_names read (ap object_fault c.object-object.ensures.object ∙ c.object-object.ensures.faultless), ap length c.symbol_names-table.ensures)
+
 pub loop-i-init : goal.loop-i-init
 loop-i-init c = record {
   are = c.in_ok-ends.ensures.are;
+  room =
+      let read = c.object-object.result in
+      omega (arith, c.in_ok-ends.ensures.room, few_names read (ap object_fault c.object-object.ensures.object ∙ c.object-object.ensures.faultless), ap length c.symbol_names-table.ensures);
   ends = c.in_ok-ends.ensures.ends;
   numbered = λ listed before. numbered_as (sym c.in_ok-ends.ensures.names) (sym (append-nil listed)) refl before;
   within = omega arith;
@@ -73,6 +82,7 @@ loop-i-preserved c =
     omega (arith, c.in_ok-name.ensures.within, c.in_ok-name.ensures.number, ap length grown_is, ap (λ n. number_of n name) grown_is, ap (λ n. number_of (with_name names n) n) name_is, ap (λ n. length (with_name names n)) name_is) in
     record {
       are = c.in_ok-name.ensures.are;
+      room = omega (arith, ap (λ t. length t.texts.items) c.in_ok-name.ensures.tails, c.loop-i.invariant.room);
       ends = subst (λ b. AreEnds b.texts.items c.symbol_names-table.result.now c.in_ok-ends.ends.items) (sym c.in_ok-name.ensures.tails) c.loop-i.invariant.ends;
       numbered = λ listed before.
           numbered_as (ap (with_name names) (sym name_is) ∙ sym grown_is)

@@ -8,6 +8,7 @@ use Rattle.psabi_sym.proofs.read_symbols.add_symbols.Given as goal
 abbrev pub invariant-loop-i : goal.invariant-loop-i
 invariant-loop-i l = record {
   are : AreNames l.names;
+  room : length l.names.tails.texts.items ≤ length l.fn.names.tails.texts.items + 0x40_0000;
   ends : AreEnds l.names.tails.texts.items l.table l.ends.items;
   numbered : (listed : List ListedSymbol) → IsNumbered (names_of l.fn.names) listed l.fn.rows.items
       → IsNumbered (names_of l.names) (listed ++ take (l.i - 1) (symbols_in (l.index, object_parts l.loaded))) l.rows.items;

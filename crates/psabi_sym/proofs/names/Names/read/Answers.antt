@@ -7,5 +7,5 @@ returns-clause-are c =
     let old = c.args.self.now in
     record {
       tails = c.in_ok-ends.ensures.tails;
-      keys_are = keys_extend 0 (tails_of old.tails.texts.items) (tails_of c.name_ends.new.tails.texts.items) c.in_ok-ends.ensures.more old.names.keys.keys (names_of old) c.requires.keys_are;
+      keys_are = keys_extend 0 (tails_of old.tails.texts.items) (tails_of c.name_ends.new.tails.texts.items) c.in_ok-ends.ensures.more old.names.keys.keys (names_of old) c.requires.are.keys_are;
     }

@@ -15,6 +15,7 @@ pub loop-i-init : goal.loop-i-init
 unfolding all_symbols
 loop-i-init c = record {
   are = c.requires.are;
+  room = omega (arith, ap length c.requires.tails);
   rows = record {
     rows_are = c.new-rows.ensures.items;
     numbered = All-nil (λ (l : ListedSymbol). number_of (names_of c.args.names.now) l.symbol.name < length (names_of c.args.names.now));
@@ -38,6 +39,7 @@ loop-i-preserved c =
     let count : length rows.items ≡ symbol_starts all i = ap length before.rows_are ∙ length-map (all_symbols (take i all)) (symbol_row (names_of c.loop-i.names)) in
     record {
       are = c.in_ok-add_symbols.ensures.are;
+      room = omega (arith, c.in_ok-add_symbols.ensures.room, c.loop-i.invariant.room);
       rows =
           subst (λ l. IsNumbered (names_of c.add_symbols.new.names) l c.add_symbols.new.rows.items)
           (ap (λ n. all_symbols (take i all) ++ symbols_in (n, object)) (sym index) ∙ sym (symbols_push (take i all) object) ∙ ap all_symbols (sym more))

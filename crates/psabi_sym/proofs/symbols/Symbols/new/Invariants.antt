@@ -1,4 +1,4 @@
-use Rattle.std.proofs.Common.{◌≡◌, ◌≤◌, ◌*◌, map, take, vec_len}
+use Rattle.std.proofs.Common.{◌≡◌, ◌≤◌, ◌*◌, length, map, take, vec_len}
 use Rattle.std.specs.List.{range_with_len}
 use Rattle.elf32_read.specs.Parts.{object_parts}
 use Rattle.psabi_sym.specs.Keys.{AreNames, names_of}
@@ -10,6 +10,7 @@ use Rattle.psabi_sym.proofs.symbols.Symbols.new.Given as goal
 abbrev pub invariant-loop-i : goal.invariant-loop-i
 invariant-loop-i l = let all = map object_parts l.objects in record {
   are : AreNames l.names;
+  room : length l.names.tails.texts.items ≤ 0x40_0000 * l.i;
   rows : IsNumbered (names_of l.names) (all_symbols (take l.i all)) l.rows.items;
   starts : l.starts.items ≡ map (symbol_starts all) (range_with_len 0 l.i);
   few : vec_len l.rows ≤ 0x4_0000 * l.i;
