@@ -544,7 +544,13 @@ fn sections_symbols_and_relocations_are_read(rt: HostRuntime) -> Result<(), Fail
     for (i, symbol) in symbols.iter().enumerate() {
         assert!(rt; i < object.symbol_count() as usize);
         assert_eq!(rt; object.symbol(i as u32), *symbol);
+        let entry = object.symbol_entry(i as u32);
+        assert_eq!(rt;
+            (entry.value, entry.size, entry.home),
+            (symbol.value, symbol.size, symbol.home)
+        );
     }
+    assert_eq!(rt; object.symbol_names(), object.section(7).bytes);
     assert!(rt; 1 < object.section_count() && object.reloc_count(1) == 2);
     let first = Reloc {
         offset: 0,
