@@ -1,8 +1,8 @@
 // What the command `plain` writes, refuses and names.
 
 use crate::fixture::{
-    Call, DONE_PLAIN, EXITED_3, End, File, PLAIN, PLAIN_TWO, READ_FAULT, RELOC, RUN, THREE,
-    WRITE_FAULT, expect_changes, expect_words, make, unsaid,
+    Call, DONE_PLAIN, EXITED_3, End, File, PLAIN, PLAIN_TWO, READ_FAULT, RELOC, RUN, WRITE_FAULT,
+    expect_changes, expect_words, make, unsaid,
 };
 use crate::outcome::Outcome;
 use std::alloc::Global;
@@ -18,12 +18,23 @@ fn linked(alloc: Global, call: &Call) -> Result<(Outcome, Vec<u8>), Fail> {
 // The image's flags, of which none says that there are 16-bit instructions, its text, and how it ends.
 #[test]
 fn instructions_stay_as_they_are(rt: HostRuntime) -> Result<(), Fail> {
-    let (outcome, image) = linked(rt.alloc(), &PLAIN)?;
-    let said = (outcome, image.get(36..40), image.get(116..128));
-    let flags: [u8; 4] = [0; 4];
-    let want = (Outcome::Done, Some(flags.as_slice()), THREE.get(52..64));
-    assert_eq!(rt; said, want);
+    let object = File::Object;
+    let plain = Call {
+        words: "plain --out o x",
+        file: object,
+        changes: "",
+    };
+    let (outcome, image) = linked(rt.alloc(), &plain)?;
     let file = File::Bytes(image.as_slice());
+    let said = (outcome, image.get(36..40), image.get(116..128));
+    let flags: [u8; 4] = [0x00, 0x00, 0x00, 0x00];
+    let text: [u8; 12] = [
+        0x13, 0x05, 0x30, 0x00, 0x93, 0x08, 0xD0, 0x05, 0x73, 0x00, 0x00, 0x00,
+    ];
+    assert_eq!(rt;
+        said,
+        (Outcome::Done, Some(flags.as_slice()), Some(text.as_slice()))
+    );
     expect_words(&rt, &Call { file, ..RUN }, "run --steps 3 x", &EXITED_3)
 }
 
