@@ -42,6 +42,7 @@ pub mod StraightPlaces
 pub mod StraightFetched
 pub mod StraightParts
 pub mod StraightRoom
+pub mod StraightDistinct
 pub mod StraightLaid
 pub mod StraightObjects
 pub mod StraightItems

@@ -17,7 +17,8 @@ use Rattle.psabi_sym.specs.declared.target.Target.TheVariants.{Code, Number, Abs
 use Rattle.rv_decode.specs.declared.instr.Instr.{Instr}
 use Rattle.rv_decode.specs.declared.instr.Instr.TheVariants.{Upper, Jal, Jalr, Branch, Load, Store, WithImm, WithReg, Fence, Ecall, Ebreak, Csrrw}
 use Rattle.block_cut.specs.declared.item.Item.TheVariants.{Op}
-use Rattle.block_cut.specs.Items.{code_at, code_only, entry_in, entry_of, instr_item, is_start_at, item_at, item_from, item_of, item_under, next_at, size_on, spelled, start_only, starts_on}
+use Rattle.block_cut.specs.Items.{code_at, code_only, entry_in, entry_of, instr_item, is_start_at, item_at, item_of, item_under, next_at, size_on, spelled, start_only, starts_on}
+use Rattle.block_cut.proofs.ItemLaws.{item_at-code}
 use Rattle.block_cut.proofs.WholeLaws.{code_is_section, inputs_whole}
 use Rattle.sym_machine.specs.Objects.{program_of}
 use Rattle.zc_link.specs.Faults.{is_linked, is_relocated, is_unlinked_word, unlinked_fault}
@@ -72,9 +73,8 @@ module _ (inputs : Inputs) (none : gather_fault inputs ≡ None) (linked : unlin
 
     -- the item at an offset is that of the word there, if one starts there
     item_here : (offset : ℕ) → item_at (parsed inputs) (place offset) ≡ cond (starts_on s offset) (Some (item_of objects (place offset) (word_in s.bytes offset))) None
-    unfolding item_at
     item_here offset =
-        ap (option_and_then (item_from (parsed inputs) (place offset))) (here offset)
+        item_at-code (parsed inputs) (place offset) s (here offset)
         ∙ ap (λ r. cond (starts_on s offset) (Some (item_under (parsed inputs) (place offset) r (word_in s.bytes offset) (word_in s.bytes (offset + 4)))) None) (no_reloc s still offset)
 
     -- the k-th word is linked
@@ -95,7 +95,6 @@ module _ (inputs : Inputs) (none : gather_fault inputs ≡ None) (linked : unlin
           is = item_here (4 * k) ∙ ap (λ b. cond b (Some (item_of objects q (word_in s.bytes (4 * k)))) None) (word_starts s still whole k inside)
               ∙ ap (λ v. Some (item_of objects q v)) word ∙ ap (λ d. Some (spelled objects q d w)) known.spells ∙ ap Some (linked_item objects q known.instr w known.linked);
           spells = known.spells;
-          linked = known.linked;
         }
 
     -- at the end stands none

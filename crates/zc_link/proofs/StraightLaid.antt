@@ -15,11 +15,13 @@ use Rattle.sym_machine.specs.Program.{Program}
 use Rattle.sym_machine.specs.declared.word.SymByte.TheVariants.{Num}
 use Rattle.zc_decode.specs.declared.short.Short.TheVariants.{Base}
 use Rattle.zc_machine.specs.Fetch.{Found, fetched_at}
-use Rattle.zc_link.specs.Faults.{is_linked}
 use Rattle.zc_link.specs.Image.{Image, loaded, place_address}
 use Rattle.zc_link.specs.Laid.{AtEntry, Laid}
+use Rattle.zc_link.specs.Leads.{Leads}
 use Rattle.zc_link.specs.Pieces.{Alone, ItemLaid, OpLaid}
-use Rattle.zc_link.specs.Straight.{CodeSection, all_words, is_li, piece, place_in, text_of}
+use Rattle.zc_link.specs.Straight.{CodeSection, all_words, is_li, piece, place_in, places_after, text_of}
+use Rattle.zc_link.proofs.Distinct.{rising_distinct}
+use Rattle.zc_link.proofs.StraightDistinct.{sections_rise}
 use Rattle.zc_link.proofs.StraightFetched.{piece_fetched}
 use Rattle.zc_link.proofs.StraightParts.{AreSmall, length-text_of}
 use Rattle.zc_link.proofs.StraightPieces.{offset_more, offset_of, offset_within, piece_long}
@@ -31,12 +33,11 @@ use Rattle.zc_link.proofs.StraightSections.{Among, among_within, among_word}
 ecall_long : (w : ℕ) (i : Instr) → decoded w ≡ Some i → i ≡ Ecall → length (piece w) ≡ 4
 ecall_long w i d is = ap length (piece_long w (ap is_li d ∙ ap (λ j. is_li (Some j)) is))
 
--- the item of a word is its instruction, which is linked
+-- the item of a word is its instruction
 pub record IsWordItem (item : Option Item) (w : ℕ) : Type 0 where
   pub instr : Instr
   pub is : item ≡ Some (Op instr)
   pub spells : decoded w ≡ Some instr
-  pub linked : is_linked instr ≡ true
 
 -- a program whose items are the words of these sections, one after another, and no more
 pub record AreItems (p : Program) (sections : List CodeSection) : Type 0 where
@@ -58,7 +59,7 @@ pub record IsPlaced (sections : List CodeSection) (q : Place) : Type 0 where
 abbrev pub placed_address : ℕ → (sections : List CodeSection) (q : Place) → IsPlaced sections q → ℕ
 placed_address start sections q at = start + offset_of (all_words sections) (at.before + at.index)
 
-module _ (p : Program) (sections : List CodeSection) (contents : List ℕ) (zeros : ℕ) (is : IsMap p.map) (small : AreSmall sections contents zeros) (known : p.bytes ≡ map Num (contents ++ replicate zeros 0)) (are : (k : ℕ) → get_or contents k 0 < 256) (items : AreItems p sections) (entry : IsPlaced sections p.entry) where
+module _ (p : Program) (sections : List CodeSection) (contents : List ℕ) (zeros : ℕ) (is : IsMap p.map) (small : AreSmall sections contents zeros) (known : p.bytes ≡ map Num (contents ++ replicate zeros 0)) (are : (k : ℕ) → get_or contents k 0 < 256) (items : AreItems p sections) (entry : IsPlaced sections p.entry) (leads : Leads p) where
   abbrev start : ℕ
   start = p.map.text
 
@@ -84,9 +85,9 @@ module _ (p : Program) (sections : List CodeSection) (contents : List ℕ) (zero
       piece_fetched (all_words sections) text (data_part ∷ []) entry_address p.map refl refl n w i is_w within (subst (λ x. x < 2 ^ 32) is_w (items.small n)) spells (is_li (decoded w)) refl
 
   -- the instruction of the k-th word of a section
-  word_laid : (c : CodeSection) (before k : ℕ) (i : Instr) → Among sections c before → k < length c.words → decoded (get_or c.words k 0) ≡ Some i → is_linked i ≡ true → OpLaid p e (place_in c (4 * k)) (start + offset_of (all_words sections) (before + k)) i
+  word_laid : (c : CodeSection) (before k : ℕ) (i : Instr) → Among sections c before → k < length c.words → decoded (get_or c.words k 0) ≡ Some i → OpLaid p e (place_in c (4 * k)) (start + offset_of (all_words sections) (before + k)) i
   unfolding text_of
-  word_laid c before k i among lt spells linked =
+  word_laid c before k i among lt spells =
       let w = get_or c.words k 0 in
       let n = before + k in
       let is_w = among_word sections c before k among lt in
@@ -108,7 +109,6 @@ module _ (p : Program) (sections : List CodeSection) (contents : List ℕ) (zero
           next = ap (place_address e) next_place ∙ found_at c before (k + 1) among (omega (arith, lt)) ∙ ap Some address;
         };
         four = ecall_long w i spells;
-        linked = linked;
       }
 
   -- each listed place is a word's, or a section's end
@@ -125,7 +125,7 @@ module _ (p : Program) (sections : List CodeSection) (contents : List ℕ) (zero
       word : (c : CodeSection) (before k : ℕ) → Among sections c before → k < length c.words → ItemLaid p e (place_in c (4 * k)) (start + offset_of (all_words sections) (before + k)) (p.item (place_in c (4 * k)))
       word c before k among lt =
           let it = items.word c before k among lt in
-          subst (ItemLaid p e (place_in c (4 * k)) (start + offset_of (all_words sections) (before + k))) (sym it.is) (word_laid c before k it.instr among lt it.spells it.linked)
+          subst (ItemLaid p e (place_in c (4 * k)) (start + offset_of (all_words sections) (before + k))) (sym it.is) (word_laid c before k it.instr among lt it.spells)
 
       last : (c : CodeSection) (before k : ℕ) → Among sections c before → k ≡ length c.words → ItemLaid p e (place_in c (4 * k)) (start + offset_of (all_words sections) (before + k)) (p.item (place_in c (4 * k)))
       last c before k among at =
@@ -137,7 +137,8 @@ module _ (p : Program) (sections : List CodeSection) (contents : List ℕ) (zero
 
   pub laid : Laid p e (record { span = λ q. 1; weight = λ s. 1 })
   laid = record {
-    room = room p entry_address sections contents zeros is small known are;
+    room = room p entry_address sections contents zeros is small known are (rising_distinct p (places_after start sections) (sections_rise p start sections items.end));
+    leads = leads;
     begins = AtEntry begins;
     piece = λ q. Alone;
     spans = λ q. refl;

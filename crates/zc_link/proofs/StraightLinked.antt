@@ -23,6 +23,7 @@ use Rattle.sym_machine.specs.Program.{Program}
 use Rattle.sym_machine.specs.declared.word.SymByte.TheVariants.{Num}
 use Rattle.zc_link.specs.Faults.{unlinked_fault}
 use Rattle.zc_link.specs.Image.{Image, image_in, image_unless}
+use Rattle.zc_link.specs.Leads.{Leads}
 use Rattle.zc_link.specs.Linked.{IsZcLink, Link, TextEnds, code_of, listed_places, straight_parts, zc_counts, zc_elf}
 use Rattle.zc_link.specs.Places.{address_in}
 use Rattle.zc_link.specs.Preserves.{KeepsStep, Preserves, PreservesQuietly}
@@ -30,6 +31,7 @@ use Rattle.zc_link.specs.Simulates.{pace_of}
 use Rattle.zc_link.specs.Straight.{CodeSection, all_words, code_size, last_end, text_of}
 use Rattle.zc_link.proofs.FaultLaws.{IsFaultless, faultless}
 use Rattle.zc_link.proofs.Induction.{preserves, quietly}
+use Rattle.zc_link.proofs.ProgramLeads.{leads_faultless}
 use Rattle.zc_link.proofs.Simulation.{simulates}
 use Rattle.zc_link.proofs.StraightItems.{are_items, entry_placed}
 use Rattle.zc_link.proofs.StraightLaid.{AreItems, IsPlaced, laid, placed_address}
@@ -103,6 +105,10 @@ module _ (inputs : Inputs) (is : IsLinkable inputs) where
   unfolding program_of data_bytes
   bytes_are = ap (fold (with_word p) (unfilled_bytes p)) (no_data_words p (all_still inputs cut.gathered is.linked))
 
+  -- the places that it names begin basic blocks
+  leads : Leads program
+  leads = leads_faultless inputs is.faultless
+
   -- the address of the program's start is listed
   start : ℕ
   start = placed_address inputs.map.text sections (entry_of p) entry
@@ -139,7 +145,7 @@ module _ (inputs : Inputs) (is : IsLinkable inputs) where
   keeps_step = record {
     image = image;
     read = read;
-    simulates = simulates program image (pace_of p) (laid program sections (data_contents p) (zeros p) is.is_map small bytes_are is.bytes items entry);
+    simulates = simulates program image (pace_of p) (laid program sections (data_contents p) (zeros p) is.is_map small bytes_are is.bytes items entry leads);
   }
 
   -- the text ends at the address of the last section's end

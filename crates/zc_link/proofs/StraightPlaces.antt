@@ -3,7 +3,7 @@ use Rattle.std.proofs.Common.{◌≡◌, ℕ, zero, suc, ◌+◌, ◌*◌, ◌^�
 use Rattle.std.specs.Prelude.{All}
 use Rattle.std.specs.List.{flat_map, list_any}
 use Rattle.std.specs.Option.{option_and_then}
-use Rattle.std.proofs.lemmas.Bool.{and_from, and_parts, eq-eqb, eqb-true, le-ltb, lt-ltb, or_from, or_right}
+use Rattle.std.proofs.lemmas.Bool.{and_from, eq-eqb, le-ltb, lt-ltb, or_from, or_right}
 use Rattle.std.proofs.lemmas.List.Elements.{All-cons, All-head, All-nil, All-tail}
 use Rattle.zc_base.specs.declared.mem_map.MemMap.{MemMap}
 use Rattle.zc_base.specs.declared.place.Place.{Place}
@@ -12,24 +12,11 @@ use Rattle.elf32_read.specs.Places.{is_ascending, is_outside}
 use Rattle.elf32_write.specs.Loadable.{IsEntry}
 use Rattle.zc_link.specs.Places.{address_in}
 use Rattle.zc_link.specs.Straight.{CodeSection, all_words, last_end, piece, place_in, places_after, places_from, text_of}
+use Rattle.zc_link.proofs.PlaceLaws.{same_place-refl, same_place-true}
 use Rattle.zc_link.proofs.StraightPieces.{length-piece_most, offset_first, offset_later, offset_of, offset_whole, text_short}
 use Rattle.zc_link.proofs.StraightSections.{Among, IsBefore, IsRising, before_other, before_places}
 
--- ---- places that are the same, and others
-
-same_place-refl : (q : Place) → same_place q q ≡ true
-same_place-refl q =
-    and_from (eqb q.object q.object) _ (eq-eqb q.object q.object refl)
-    (and_from (eqb q.section q.section) _ (eq-eqb q.section q.section refl) (eq-eqb q.offset q.offset refl))
-
-same_place-true : (p q : Place) → same_place p q ≡ true → q ≡ p
-same_place-true p q h =
-    let object = and_parts (eqb p.object q.object) _ h in
-    let section = and_parts (eqb p.section q.section) (eqb p.offset q.offset) object.1 in
-    let objects = eqb-true p.object q.object object.0 in
-    let sections = eqb-true p.section q.section section.0 in
-    let offsets = eqb-true p.offset q.offset section.1 in
-    λ i. record { object = sym objects i; section = sym sections i; offset = sym offsets i }
+-- ---- other places
 
 other_place : (p q : Place) → (q ≡ p → ⊥) → same_place p q ≡ false
 other_place p q other = by (same_place p q) refl

@@ -2,6 +2,7 @@
 -- program's, with the bytes of data and the zeros after them.
 use Rattle.std.proofs.Common.{◌≡◌, ℕ, ◌+◌, ◌-◌, ◌%◌, ◌^◌, ◌<◌, ◌≤◌, List, ◌++◌, length, map, replicate, Bool, true, false, cond, refl, sym, ap, ◌∙◌, subst, inl, inr, ⊎_elim, arith, leb, get_or, length-append}
 use Rattle.std.specs.Prelude.{Some}
+use Rattle.sym_machine.specs.Conditions.{is_solid}
 use Rattle.std.proofs.lemmas.Bool.{and_from, and_parts, cond-false, cond-true, le-leb, leb-true, or_cases, or_from, or_left, or_right}
 use Rattle.std.proofs.lemmas.List.{get_or-map, length-map, length-replicate}
 use Rattle.zc_base.specs.MemMap.{IsMap}
@@ -113,8 +114,11 @@ module _ (p : Program) (entry : ℕ) (sections : List CodeSection) (contents : L
       let e = at.address in
       (omega arith, omega arith, omega arith)
 
-  pub room : Room p image
-  room =
+  -- with addresses of their own at places that have room, this is the room of a layout
+  pub room :
+      ((q r : Place) (a : ℕ) → is_solid (p.item q) ≡ true → is_solid (p.item r) ≡ true → place_address image q ≡ Some a → place_address image r ≡ Some a → q ≡ r)
+      → Room p image
+  room distinct =
       let size = length-bytes in
       let data_part = small.memory in
       record {
@@ -126,6 +130,7 @@ module _ (p : Program) (entry : ℕ) (sections : List CodeSection) (contents : L
         reaches = reaches;
         apart = text_apart;
         even = even;
+        distinct = distinct;
       }
 
   -- ---- how it begins

@@ -12,3 +12,6 @@ pub mod Laid
 pub mod Straight
 pub mod Faults
 pub mod Linked
+pub mod Copied
+pub mod PlainImage
+pub mod PlainLinked

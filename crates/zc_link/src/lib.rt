@@ -4,6 +4,7 @@
 pub mod link_zc;
 pub mod linked;
 mod listed;
+pub mod plain;
 mod relocs;
 mod short_form;
 mod straight;
