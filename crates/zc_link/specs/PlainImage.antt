@@ -2,11 +2,11 @@
 use Rattle.std.specs.Prelude.{ℕ, ◌-◌, if◌then◌else◌, List, [], ◌∷◌, ◌++◌, length, map}
 use Rattle.std.specs.List.{flat_map, fold}
 use Rattle.std.specs.Option.{unwrap_or}
-use Rattle.zc_base.specs.Fields.{with_word}
+use Rattle.zc_base.specs.Fields.{word_bytes}
 use Rattle.zc_base.specs.declared.place.Place.{Place}
 use Rattle.elf32_read.specs.Parts.{ObjectParts, is_code_section}
 use Rattle.elf32_write.specs.Parts.{Parts}
-use Rattle.psabi_sym.specs.Contents.{data_contents}
+use Rattle.psabi_sym.specs.Contents.{data_contents, overlaid}
 use Rattle.psabi_sym.specs.Data.{data_end, data_file_end}
 use Rattle.psabi_sym.specs.Inputs.{ParsedInputs}
 use Rattle.psabi_sym.specs.Listed.{ListedSection, all_sections}
@@ -43,7 +43,7 @@ plain_value inputs w = unwrap_or (target_value (plain_address inputs) w.target) 
 
 -- the bytes from the map's start of data on, with such a word over those at its address
 abbrev pub with_data_word : ParsedInputs → List ℕ → DataWord → List ℕ
-with_data_word inputs bytes w = with_word bytes (w.at - inputs.map.data_low) (plain_value inputs w)
+with_data_word inputs bytes w = overlaid (w.at - inputs.map.data_low) (word_bytes (plain_value inputs w)) bytes
 
 -- the bytes of data that the image holds: those of the objects, with each word that a relocation fills in
 unfoldable pub plain_data : ParsedInputs → List ℕ
