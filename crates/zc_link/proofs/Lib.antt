@@ -51,3 +51,11 @@ pub mod StraightLoop
 pub mod StraightStill
 pub mod StraightCounts
 pub mod StraightLinked
+pub mod WayLaws
+pub mod PlainAdds
+pub mod PlainGrows
+pub mod PlainFaults
+pub mod PlainPairs
+pub mod PlainStanding
+pub mod PlainWalk
+pub mod PlainSections

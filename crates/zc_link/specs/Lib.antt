@@ -14,4 +14,6 @@ pub mod Faults
 pub mod Linked
 pub mod Copied
 pub mod PlainImage
+pub mod PlainItems
+pub mod PlainStands
 pub mod PlainLinked

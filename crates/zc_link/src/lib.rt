@@ -5,6 +5,8 @@ pub mod link_zc;
 pub mod linked;
 mod listed;
 pub mod plain;
+mod plain_item;
+mod plain_text;
 mod relocs;
 mod short_form;
 mod straight;

@@ -1,0 +1,196 @@
+-- What it means that no fault stands in relocations and branches: what an item's relocation leads to is a place where an item starts
+-- or a section ends, or a number, and each branch reaches.
+use Rattle.std.proofs.Common.{◌≡◌, ℕ, ◌+◌, ℤ, pos, ◌-ℤ◌, List, [], ◌∷◌, ◌++◌, map, length, Option, Some, None, Bool, true, false, cond, eqb, refl, sym, ap, ◌∙◌, subst, inl, inr, ◌⊎◌}
+use Rattle.std.specs.Prelude.{◌&&◌, ◌||◌, not}
+use Rattle.std.specs.List.{find, flat_map, list_any}
+use Rattle.std.specs.Option.{option_and_then, option_map, option_map_or}
+use Rattle.std.proofs.lemmas.Bool.{eqb-true, or_parts}
+use Rattle.zc_base.specs.declared.place.Place.{Place}
+use Rattle.elf32_read.specs.Parts.{ObjectParts, SectionParts, is_code_section}
+use Rattle.elf32_read.specs.declared.fault.Fault.{Fault}
+use Rattle.elf32_read.specs.declared.fault.Fault.TheVariants.{BadTarget, LoPair, RelocKind, RelocPlace, Range}
+use Rattle.elf32_read.specs.declared.reloc.Reloc.{Reloc}
+use Rattle.psabi_reloc.specs.Kinds.{kind_of}
+use Rattle.psabi_reloc.specs.Reaches.{branch_reach}
+use Rattle.psabi_sym.specs.Faults.{first_some, gather_fault}
+use Rattle.psabi_sym.specs.Inputs.{Inputs, ParsedInputs, parsed}
+use Rattle.psabi_sym.specs.Listed.{ListedSection, all_sections, section_at, sections_before}
+use Rattle.psabi_sym.specs.declared.target.Target.{Target}
+use Rattle.psabi_sym.specs.declared.target.Target.TheVariants.{Code, Number, Absent, Nowhere}
+use Rattle.psabi_sym.proofs.FaultLaws.{neither}
+use Rattle.block_cut.specs.declared.item.Item.{Item}
+use Rattle.block_cut.specs.declared.item.Item.TheVariants.{Branch}
+use Rattle.block_cut.specs.Faults.{branch_target, distance_between, entry_fault, first_fault, if_so, is_astray, is_far, is_lonely, is_lost, is_out_of_reach, plain_distance, range_fault, reloc_fault, relocs_fault, section_fault}
+use Rattle.block_cut.specs.Items.{all_places, code_at, is_end_at, is_start_at, is_target_at, item_at, place_of, places_of, starts_in, starts_on, target_of}
+use Rattle.block_cut.specs.PlainLayout.{address_on, plain_address}
+use Rattle.block_cut.specs.Relocs.{is_bad_kind, is_bad_place, is_ignored, is_transfer, reloc_on}
+use Rattle.rv_decode.specs.declared.instr.Instr.{Instr}
+use Rattle.block_cut.proofs.ItemLaws.{item_found}
+use Rattle.block_cut.proofs.ListedLaws.{cut_at, listed}
+use Rattle.block_cut.proofs.SoundLaws.{sound_at}
+use Rattle.block_cut.proofs.StartLaws.{is_among}
+use Rattle.block_cut.proofs.WholeLaws.{code_is_section}
+use Rattle.zc_link.specs.PlainStands.{HasValue}
+
+-- ---- lists of which none is a fault
+
+none_there : {X A : Type 0} (f : X → Option A) (before rest : List X) (x : X) → first_some (map f (before ++ x ∷ rest)) ≡ None → f x ≡ None
+none_there f [] rest x h = (neither (f x) (first_some (map f rest)) h).0
+none_there f (y ∷ ys) rest x h = none_there f ys rest x (neither (f y) (first_some (map f (ys ++ x ∷ rest))) h).1
+
+none_found : {X A : Type 0} (p : X → Bool) (f : X → Option A) (xs : List X) (x : X) → find p xs ≡ Some x → first_some (map f xs) ≡ None → f x ≡ None
+none_found p f [] x h none = absurd cc
+none_found p f (y ∷ ys) x h none =
+    let parts = neither (f y) (first_some (map f ys)) none in
+    by (p y) h parts.0 (λ g. none_found p f ys x g parts.1)
+  where
+    by : (b : Bool) → cond b (Some y) (find p ys) ≡ Some x → f y ≡ None → (find p ys ≡ Some x → f x ≡ None) → f x ≡ None
+    by true g here rest = let same : y ≡ x = cc in ap f (sym same) ∙ here
+    by false g here rest = rest g
+
+mapped_none : {A B : Type 0} (f : A → B) (o : Option A) → option_map f o ≡ None → o ≡ None
+mapped_none f None h = refl
+mapped_none f (Some a) h = absurd cc
+
+not_so : (b : Bool) (fault : Fault) → if_so b fault ≡ None → b ≡ false
+not_so true fault h = absurd cc
+not_so false fault h = refl
+
+-- a search that finds nothing, over parts of a list
+module _ {X : Type 0} (p : X → Bool) where
+  step_none : (x : X) (rest : Option X) → cond (p x) (Some x) rest ≡ None → (p x ≡ false) × (rest ≡ None)
+  step_none x rest = by (p x)
+    where
+      by : (b : Bool) → cond b (Some x) rest ≡ None → (b ≡ false) × (rest ≡ None)
+      by true h = absurd cc
+      by false h = (refl, h)
+
+  find_append : (xs ys : List X) → find p (xs ++ ys) ≡ None → (find p xs ≡ None) × (find p ys ≡ None)
+  find_append [] ys h = (refl, h)
+  find_append (x ∷ xs) ys h =
+      let first = step_none x (find p (xs ++ ys)) h in
+      let rest = find_append xs ys first.1 in
+      (ap (λ b. cond b (Some x) (find p xs)) first.0 ∙ rest.0, rest.1)
+
+  find_flat : {Y : Type 0} (f : Y → List X) (before rest : List Y) (y : Y) → find p (flat_map f (before ++ y ∷ rest)) ≡ None → find p (f y) ≡ None
+  find_flat f [] rest y h = (find_append (f y) (flat_map f rest) h).0
+  find_flat f (z ∷ zs) rest y h = find_flat f zs rest y (find_append (f z) (flat_map f (zs ++ y ∷ rest)) h).1
+
+  find_among : (f : ℕ → X) (ns : List ℕ) (n : ℕ) → find p (map f ns) ≡ None → is_among n ns ≡ true → p (f n) ≡ false
+  find_among f [] n h is = absurd cc
+  find_among f (m ∷ ms) n h is =
+      let first = step_none (f m) (find p (map f ms)) h in
+      by (eqb m n) refl is first.0 (λ later. find_among f ms n first.1 later)
+    where
+      by : (b : Bool) → eqb m n ≡ b → (b || is_among n ms) ≡ true → p (f m) ≡ false → (is_among n ms ≡ true → p (f n) ≡ false) → p (f n) ≡ false
+      by true e is here rest = ap (λ k. p (f k)) (sym (eqb-true m n e)) ∙ here
+      by false e is here rest = rest is
+
+-- ---- faults
+
+pub record AreFaultless (inputs : Inputs) : Type 0 where
+  pub gathered : gather_fault inputs ≡ None
+  pub relocs : relocs_fault (parsed inputs) ≡ None
+  pub entry : entry_fault (parsed inputs) ≡ None
+  pub range : range_fault (parsed inputs) ≡ None
+
+pub all_none : (inputs : Inputs) → first_fault inputs ≡ None → AreFaultless inputs
+unfolding first_fault
+all_none inputs none =
+    let one = neither (gather_fault inputs) _ none in
+    let two = neither (relocs_fault (parsed inputs)) _ one.1 in
+    let three = neither (entry_fault (parsed inputs)) _ two.1 in
+    let four = neither (range_fault (parsed inputs)) _ three.1 in
+    record { gathered = one.0; relocs = two.0; entry = three.0; range = four.0 }
+
+-- a relocation without a fault isn't lonely or astray
+pub record IsGood (inputs : ParsedInputs) (l : ListedSection) (r : Reloc) : Type 0 where
+  pub known : is_bad_kind l.section (kind_of r.kind) ≡ false
+  pub placed : is_bad_place l.section r ≡ false
+  pub paired : is_lonely inputs l r ≡ false
+  pub leads : is_astray inputs l r ≡ false
+
+pub good : (inputs : ParsedInputs) (l : ListedSection) (r : Reloc) → reloc_fault inputs l r ≡ None → IsGood inputs l r
+good inputs l r none =
+    let n = r.offset in
+    let one = neither (if_so (is_bad_kind l.section (kind_of r.kind)) (RelocKind l.index n)) _ none in
+    let two = neither (if_so (is_bad_place l.section r) (RelocPlace l.index n)) _ one.1 in
+    let three = neither (if_so (is_lonely inputs l r) (LoPair l.index n)) _ two.1 in
+    let four = neither (if_so (is_astray inputs l r) (BadTarget l.index n)) _ three.1 in
+    record { known = not_so _ _ one.0; placed = not_so _ _ two.0; paired = not_so _ _ three.0; leads = not_so _ _ four.0 }
+
+module _ (inputs : Inputs) (none : first_fault inputs ≡ None) where
+  abbrev p : ParsedInputs
+  p = parsed inputs
+
+  fine : AreFaultless inputs
+  fine = all_none inputs none
+
+  -- a section has none
+  pub section_none : (o i : ℕ) (s : SectionParts) → section_at p.objects o i ≡ Some s → first_some (map (reloc_fault p (listed o i s)) s.relocs) ≡ None
+  unfolding relocs_fault
+  section_none o i s found =
+      let cut = cut_at p.objects o i s found in
+      let all : first_some (map (section_fault p) (sections_before p.objects o i ++ listed o i s ∷ cut.rest)) ≡ None =
+      ap (λ l. first_some (map (section_fault p) l)) (sym cut.all_are) ∙ fine.relocs in
+      mapped_none _ (first_some (map (reloc_fault p (listed o i s)) s.relocs)) (none_there (section_fault p) (sections_before p.objects o i) cut.rest (listed o i s) all)
+
+  -- nor has the relocation at an offset
+  pub reloc_good : (o i n : ℕ) (s : SectionParts) (r : Reloc) → section_at p.objects o i ≡ Some s → reloc_on s n ≡ Some r → IsGood p (listed o i s) r
+  unfolding reloc_on
+  reloc_good o i n s r found is = good p (listed o i s) r (none_found _ (reloc_fault p (listed o i s)) s.relocs r is (section_none o i s found))
+
+  -- ---- targets
+
+  -- a place where code may lead has an address
+  pub target_listed : (to : Place) → is_target_at p.objects to ≡ true → (b : ℕ) × (plain_address p to ≡ Some b)
+  unfolding plain_address
+  target_listed to target = by (code_at p.objects to) refl target
+    where
+      by : (o : Option SectionParts) → code_at p.objects to ≡ o → is_target_at p.objects to ≡ true → (b : ℕ) × (plain_address p to ≡ Some b)
+      by None at h =
+          let no : is_target_at p.objects to ≡ false = (λ j. option_map_or (λ s. starts_on s to.offset) (at j) false || option_map_or (λ s. eqb to.offset (length s.bytes)) (at j) false) in
+          absurd (cc (no, h))
+      by (Some s) at h = (address_on p to s, (λ j. cond (h j) (option_map (address_on p to) (at j)) None))
+
+  -- what a relocation that asks for something leads to has a value
+  pub has_value : (t : Target) (transfers : Bool) → is_lost p.objects transfers t ≡ false → HasValue (plain_address p) t
+  has_value (Code to) transfers h = target_listed to (is_true (is_target_at p.objects to) h)
+    where
+      is_true : (b : Bool) → not b ≡ false → b ≡ true
+      is_true true h = refl
+      is_true false h = absurd cc
+  has_value (Number n) transfers h = (n, refl)
+  has_value (Absent n) transfers h = (n, refl)
+  has_value Nowhere transfers h = absurd cc
+
+  pub reloc_value : (l : ListedSection) (r : Reloc) → is_ignored (kind_of r.kind) ≡ false → IsGood p l r → HasValue (plain_address p) (target_of p l.object r)
+  reloc_value l r asks is =
+      has_value (target_of p l.object r) (is_transfer (kind_of r.kind))
+      (ap (λ b. not b && is_lost p.objects (is_transfer (kind_of r.kind)) (target_of p l.object r)) (sym asks) ∙ is.leads)
+
+  -- ---- branches
+
+  -- the branch at a place reaches
+  pub branch_reaches : (q : Place) (i : Instr) (to : Place) (a b : ℕ) → item_at p q ≡ Some (Branch i to) → plain_address p q ≡ Some a → plain_address p to ≡ Some b → branch_reach (pos b -ℤ pos a) ≡ true
+  unfolding range_fault
+  branch_reaches q i to a b is from there =
+      let found = item_found p q (Branch i to) is in
+      let s = found.section in
+      let two = code_is_section p.objects q s found.code in
+      let l = listed q.object q.section s in
+      let cut = cut_at p.objects q.object q.section s two.0 in
+      let test = is_out_of_reach p in
+      let all : find test (flat_map places_of (sections_before p.objects q.object q.section ++ l ∷ cut.rest)) ≡ None =
+      ap (λ ls. find test (flat_map places_of ls)) (sym cut.all_are) ∙ mapped_none _ (find test (all_places p.objects)) fine.range in
+      let own : find test (places_of l) ≡ None = find_flat test places_of (sections_before p.objects q.object q.section) cut.rest l all in
+      let mine : find test (map (place_of l) (starts_in s)) ≡ None = ap (λ c. find test (cond c (map (place_of l) (starts_in s)) [])) (sym two.1) ∙ own in
+      let here : is_out_of_reach p q ≡ false = find_among test (place_of l) (starts_in s) q.offset mine found.start in
+      let far : not (branch_reach (pos b -ℤ pos a)) ≡ false =
+      (λ j. option_map_or (λ d. not (branch_reach d)) (distance_between (sym from j) (sym there j)) false)
+      ∙ (λ j. option_map_or (is_far p q) (option_and_then branch_target (sym is j)) false) ∙ here in
+      not_false (branch_reach (pos b -ℤ pos a)) far
+    where
+      not_false : (b : Bool) → not b ≡ false → b ≡ true
+      not_false true h = refl
+      not_false false h = absurd cc
