@@ -59,3 +59,4 @@ pub mod PlainPairs
 pub mod PlainStanding
 pub mod PlainWalk
 pub mod PlainSections
+pub mod ImageMemory

@@ -81,6 +81,13 @@ module _ (inputs : ParsedInputs) where
   listed_more targets q a places places' listed is more =
       more ∙ (λ j. listed j ++ is j ∷ []) ∙ sym (map-append (with_address inputs) targets (q ∷ []))
 
+  -- a place has its address
+  abbrev Placed : Place × ℕ → Type 0
+  Placed e = plain_address inputs e.0 ≡ Some e.1
+
+  placed_more : (q : Place) (a : ℕ) (places places' : List (Place × ℕ)) → places' ≡ places ++ (q, a) ∷ [] → plain_address inputs q ≡ Some a → All Placed places → All Placed places'
+  placed_more q a places places' more here before = subst (All Placed) (sym more) (All-append Placed places ((q, a) ∷ []) before (All-cons Placed (q, a) [] here (All-nil Placed)))
+
   -- an item
   pub so_far_item : (s : SectionParts) (q : Place) (item : Item) (targets : List Place) (end a : ℕ) (text text' : List ℕ) (places places' : List (Place × ℕ))
       → code_at inputs.objects q ≡ Some s → item_at inputs q ≡ Some item → plain_address inputs q ≡ Some end → a ≡ unwrap_or (plain_address inputs q) 0
@@ -91,6 +98,7 @@ module _ (inputs : ParsedInputs) where
       let same : a ≡ start + length text = got ∙ ap (λ o. unwrap_or o 0) address ∙ sym is_end in
       record {
         listed = listed_more targets q a places places' before.listed (ap (λ x. (q, x)) got) more;
+        placed = placed_more q a places places' more (address ∙ ap Some (sym (same ∙ is_end))) before.placed;
         ends = omega (arith, ap length adds.more, length-append text adds.bytes, adds.long, ap (λ x. after_item x item) is_end);
         words = omega (arith, before.words, adds.words, ap length adds.more, length-append text adds.bytes);
         holds = subst (All (Holds inputs text')) (sym more)
@@ -102,10 +110,11 @@ module _ (inputs : ParsedInputs) where
 
   -- a section's end
   pub so_far_end : (q : Place) (targets : List Place) (end a : ℕ) (text : List ℕ) (places places' : List (Place × ℕ))
-      → item_at inputs q ≡ None → a ≡ unwrap_or (plain_address inputs q) 0 → IsSoFar inputs targets end text places → places' ≡ places ++ (q, a) ∷ []
+      → item_at inputs q ≡ None → plain_address inputs q ≡ Some end → a ≡ unwrap_or (plain_address inputs q) 0 → IsSoFar inputs targets end text places → places' ≡ places ++ (q, a) ∷ []
       → IsSoFar inputs (targets ++ q ∷ []) end text places'
-  so_far_end q targets end a text places places' none got before more = record {
+  so_far_end q targets end a text places places' none address got before more = record {
     listed = listed_more targets q a places places' before.listed (ap (λ x. (q, x)) got) more;
+    placed = placed_more q a places places' more (address ∙ ap Some (sym (got ∙ ap (λ o. unwrap_or o 0) address))) before.placed;
     ends = before.ends;
     words = before.words;
     holds = subst (All (Holds inputs text)) (sym more)
@@ -119,6 +128,7 @@ module _ (inputs : ParsedInputs) where
       → IsSoFar inputs targets end text places → text' ≡ text ++ copies 0 n → IsSoFar inputs targets (end + 4 * n) text' places
   so_far_gap targets end n text text' places before more = record {
     listed = before.listed;
+    placed = before.placed;
     ends = omega (arith, before.ends, ap length more, length-append text (copies 0 n), length-copies 0 n);
     words = omega (arith, before.words, ap length more, length-append text (copies 0 n), length-copies 0 n);
     holds = subst (λ t. All (Holds inputs t) places) (sym more) (all_more text (copies 0 n) places before.holds);

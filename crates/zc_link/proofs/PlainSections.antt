@@ -115,4 +115,4 @@ nothing_yet p text places no_text no_places =
     subst (λ l. IsPlainText p l text places) (sym (before_first p.objects 0 ∙ no_sections))
     (subst (λ t. IsSoFar p [] p.map.text t places) (sym no_text)
     (subst (λ l. IsSoFar p [] p.map.text [] l) (sym no_places)
-    (record { listed = refl; ends = omega arith; words = refl; holds = All-nil (Holds p []); octets = λ k. omega arith })))
+    (record { listed = refl; placed = All-nil (λ (e : Place × ℕ). plain_address p e.0 ≡ Some e.1); ends = omega arith; words = refl; holds = All-nil (Holds p []); octets = λ k. omega arith })))

@@ -112,7 +112,7 @@ module _ (inputs : Inputs) (none : gather_fault inputs ≡ None) (s : SectionPar
           let all = flat_map targets_of before in
           let end_is : end ≡ q = is_end ∙ (λ j. record q { offset = sym over j }) in
           let none_there : item_at p end ≡ None = ap (item_at p) end_is ∙ last in
-          let grown = so_far_end p end (walked p s q) (walked_to p s q) a text places places' none_there got walks.so_far more in
+          let grown = so_far_end p end (walked p s q) (walked_to p s q) a text places places' none_there (ap (plain_address p) end_is ∙ place_address p q s at walks.target) got walks.so_far more in
           let those : starts_before s q.offset ≡ starts_in s = ap (starts_before s) over ∙ before_end_all s code whole in
           let found = (code_is_section p.objects q s at).0 in
           let later : sections_before p.objects q.object (q.section + 1) ≡ before ++ l ∷ [] = before_more p.objects q.object q.section s found in

@@ -106,6 +106,7 @@ Holds inputs text e = (item : Item) → item_at inputs e.0 ≡ Some item → Hol
 -- the text so far: it lists these places, it ends at this address, and it holds each item of them
 pub record IsSoFar (inputs : ParsedInputs) (targets : List Place) (end : ℕ) (text : List ℕ) (places : List (Place × ℕ)) : Type 0 where
   pub listed : places ≡ map (with_address inputs) targets
+  pub placed : All (λ e. plain_address inputs e.0 ≡ Some e.1) places
   pub ends : inputs.map.text + length text ≡ end
   pub words : length text % 4 ≡ 0
   pub holds : All (Holds inputs text) places
