@@ -60,3 +60,5 @@ pub mod PlainStanding
 pub mod PlainWalk
 pub mod PlainSections
 pub mod ImageMemory
+pub mod PlainLookup
+pub mod PlainLaid
