@@ -62,3 +62,4 @@ pub mod PlainSections
 pub mod ImageMemory
 pub mod PlainLookup
 pub mod PlainLaid
+pub mod PlainWithin
