@@ -63,3 +63,4 @@ pub mod ImageMemory
 pub mod PlainLookup
 pub mod PlainLaid
 pub mod PlainWithin
+pub mod PlainData

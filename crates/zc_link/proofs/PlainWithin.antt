@@ -1,9 +1,9 @@
 -- Words of data lie among the bytes that files hold: sections with content stand in the classes that come first.
 use Rattle.std.proofs.Common.{◌≡◌, ℕ, ◌+◌, ◌-◌, ◌<◌, ◌≤◌, List, [], ◌∷◌, ◌++◌, map, filter, length, max, Option, Some, None, Bool, true, false, cond, eqb, ltb, refl, sym, ap, ◌∙◌, subst, arith}
 use Rattle.std.specs.Prelude.{All, ◌&&◌, ◌||◌, not, slice_get}
-use Rattle.std.specs.List.{flat_map, fold}
+use Rattle.std.specs.List.{flat_map, list_any}
 use Rattle.std.specs.Option.{option_and_then, option_map_or}
-use Rattle.std.proofs.lemmas.Bool.{and_parts, ltb-false, or_parts}
+use Rattle.std.proofs.lemmas.Bool.{ltb-false, or_left, or_parts, or_right}
 use Rattle.std.proofs.lemmas.List.{map-append}
 use Rattle.std.proofs.lemmas.List.Elements.{All-append, All-cons, All-head, All-nil, All-tail, filter-append}
 use Rattle.elf32_read.specs.Kept.{has_flags}
@@ -138,14 +138,14 @@ module _ (inputs : Inputs) (none : first_fault inputs ≡ None) (P : DataWord �
 
   abbrev Each : Type 0
   Each = (o i at : ℕ) (s : SectionParts) (r : Reloc) → section_at p1.objects o i ≡ Some s → eqb s.kind 8 ≡ false → data_address p1 o i ≡ Some at → is_word (kind_of r.kind) ≡ true → IsGood p1 (listed o i s) r
-      → P (data_word p1 (listed o i s) at r)
+      → ((test : Reloc → Bool) → test r ≡ true → list_any test s.relocs ≡ true) → P (data_word p1 (listed o i s) at r)
 
   section_words : Each → (o i at : ℕ) (s : SectionParts) → section_at p1.objects o i ≡ Some s → eqb s.kind 8 ≡ false → data_address p1 o i ≡ Some at → (rs : List Reloc) → first_some (map (reloc_fault p1 (listed o i s)) rs) ≡ None
-      → All P (map (data_word p1 (listed o i s) at) (filter (λ r. is_word (kind_of r.kind)) rs))
-  section_words each o i at s found content address [] fine = All-nil P
-  section_words each o i at s found content address (r ∷ rs) fine =
+      → ((test : Reloc → Bool) → list_any test rs ≡ true → list_any test s.relocs ≡ true) → All P (map (data_word p1 (listed o i s) at) (filter (λ r. is_word (kind_of r.kind)) rs))
+  section_words each o i at s found content address [] fine more = All-nil P
+  section_words each o i at s found content address (r ∷ rs) fine more =
       let parts = neither (reloc_fault p1 (listed o i s) r) (first_some (map (reloc_fault p1 (listed o i s)) rs)) fine in
-      by (is_word (kind_of r.kind)) refl (section_words each o i at s found content address rs parts.1) parts.0
+      by (is_word (kind_of r.kind)) refl (section_words each o i at s found content address rs parts.1 (λ test h. more test (or_right (test r) (list_any test rs) h))) parts.0
     where
       word : Reloc → DataWord
       word = data_word p1 (listed o i s) at
@@ -154,7 +154,7 @@ module _ (inputs : Inputs) (none : first_fault inputs ≡ None) (P : DataWord �
       rest = filter (λ t. is_word (kind_of t.kind)) rs
 
       by : (b : Bool) → is_word (kind_of r.kind) ≡ b → All P (map word rest) → reloc_fault p1 (listed o i s) r ≡ None → All P (map word (cond b (r ∷ rest) rest))
-      by true is all fine = All-cons P (word r) (map word rest) (each o i at s r found content address is (good p1 (listed o i s) r fine)) all
+      by true is all fine = All-cons P (word r) (map word rest) (each o i at s r found content address is (good p1 (listed o i s) r fine) (λ test h. more test (or_left (test r) (list_any test rs) h))) all
       by false is all fine = all
 
   listed_words : Each → (o i : ℕ) (s : SectionParts) → section_at p1.objects o i ≡ Some s → All P (words_in p1 (listed o i s))
@@ -162,7 +162,7 @@ module _ (inputs : Inputs) (none : first_fault inputs ≡ None) (P : DataWord �
     where
       placed : eqb s.kind 8 ≡ false → (a : Option ℕ) → data_address p1 o i ≡ a → All P (option_map_or (λ at. map (data_word p1 (listed o i s) at) (filter (λ r. is_word (kind_of r.kind)) s.relocs)) a [])
       placed content None is = All-nil P
-      placed content (Some at) is = section_words each o i at s found content is s.relocs (section_none inputs none o i s found)
+      placed content (Some at) is = section_words each o i at s found content is s.relocs (section_none inputs none o i s found) (λ test h. h)
 
       by : (b : Bool) → eqb s.kind 8 ≡ b → All P (cond b [] (option_map_or (λ at. map (data_word p1 (listed o i s) at) (filter (λ r. is_word (kind_of r.kind)) s.relocs)) (data_address p1 o i) []))
       by true is = All-nil P
@@ -182,7 +182,7 @@ abbrev pub IsWithin : ParsedInputs → DataWord → Type 0
 IsWithin p w = (p.map.data_low ≤ w.at) × (w.at + 4 ≤ data_file_end p)
 
 -- a word's relocation changes four bytes of its section
-word_field : (p : ParsedInputs) (l : ListedSection) (r : Reloc) → is_word (kind_of r.kind) ≡ true → IsGood p l r → r.offset + 4 ≤ l.section.size
+pub word_field : (p : ParsedInputs) (l : ListedSection) (r : Reloc) → is_word (kind_of r.kind) ≡ true → IsGood p l r → r.offset + 4 ≤ l.section.size
 word_field p l r word fine =
     let s = l.section in
     let k = word_kind (kind_of r.kind) word in
@@ -208,7 +208,7 @@ word_field p l r word fine =
     word_kind (Some kind.Align) h = absurd cc
 
 pub words_within : (inputs : Inputs) → first_fault inputs ≡ None → All (IsWithin (parsed inputs)) (data_words (parsed inputs))
-words_within inputs none = all_words inputs none (IsWithin (parsed inputs)) (λ o i at s r found content address word fine.
+words_within inputs none = all_words inputs none (IsWithin (parsed inputs)) (λ o i at s r found content address word fine among.
     let within = content_within (parsed inputs) o i at s found content address in
     let field = word_field (parsed inputs) (listed o i s) r word fine in
     (omega (arith, within.0), omega (arith, within.1, field)))
