@@ -6,7 +6,8 @@ use Rattle.std.specs.List.{fold, list_any}
 use Rattle.std.specs.Option.{option_map_or, unwrap_or}
 use Rattle.std.proofs.lemmas.Bool.{cases_lt, or_cases, or_left, or_right}
 use Rattle.std.proofs.lemmas.List.{drop-append-le, get_or-append-add, get_or-drop, get_or-map, get_or-take, get_or_append_left, length-drop, length-map, length-take-le, take-append-le, take_all, with_items_is}
-use Rattle.std.proofs.lemmas.List.Elements.{All-head, All-tail}
+use Rattle.std.proofs.lemmas.List.Elements.{All-get_or, All-head, All-tail}
+use Rattle.std.proofs.lemmas.List.Sums.{fold_more}
 use Rattle.zc_base.specs.Fields.{with_word, word_bytes}
 use Rattle.zc_base.specs.declared.place.Place.{Place}
 use Rattle.elf32_read.specs.Parts.{SectionParts}
@@ -293,3 +294,19 @@ module _ (inputs : Inputs) (none : first_fault inputs ≡ None) where
         let whole : fold (with_data_word p0) cs (data_words p0) ++ zeros ≡ fold (with_data_word p0) (cs ++ zeros) (data_words p0) = filled_append p0 (data_words p0) cs zeros (words_within inputs none) size in
         subst (AreFine p0 (program_of p0) V place (fold (objects.with_word p0) (unfilled_bytes p0) (data_words p0))) (sym whole)
         (filled_fine p0 (program_of p0) V place (data_words p0) (map Num (cs ++ zeros)) (cs ++ zeros) words_fine (omega (arith, size, length-append cs zeros)) (numbers_fine p0 (program_of p0) V place (cs ++ zeros)))
+
+-- ---- in the code
+
+-- the word at hand lies among the bytes
+pub word_there : (inputs : Inputs) → first_fault inputs ≡ None → (ws : List DataWord) (k : ℕ) (d : DataWord) → ws ≡ data_words (parsed inputs) → k < length ws → IsWithin (parsed inputs) (get_or ws k d)
+word_there inputs none ws k d are lt = All-get_or (IsWithin (parsed inputs)) ws k d lt (subst (All (IsWithin (parsed inputs))) (sym are) (words_within inputs none))
+
+-- one word more is put over them
+pub word_put : (p : ParsedInputs) (ws : List DataWord) (k : ℕ) (d : DataWord) (start v : ℕ) (bytes bytes' contents : List ℕ) → k < length ws → start ≡ p.map.data_low → v ≡ plain_value p (get_or ws k d)
+    → (get_or ws k d).at - start + 4 ≤ length bytes → bytes' ≡ with_word bytes ((get_or ws k d).at - start) v → bytes ≡ fold (with_data_word p) contents (take k ws)
+    → bytes' ≡ fold (with_data_word p) contents (take (k + 1) ws)
+word_put p ws k d start v bytes bytes' contents lt low is within put before =
+    let w = get_or ws k d in
+    put ∙ word_overlaid bytes (w.at - start) v within
+    ∙ (λ j. overlaid (w.at - low j) (word_bytes (is j)) (before j))
+    ∙ sym (fold_more (with_data_word p) contents ws k d lt)
