@@ -64,3 +64,4 @@ pub mod PlainLookup
 pub mod PlainLaid
 pub mod PlainWithin
 pub mod PlainData
+pub mod PlainPlaces
