@@ -65,3 +65,4 @@ pub mod PlainLaid
 pub mod PlainWithin
 pub mod PlainData
 pub mod PlainPlaces
+pub mod PlainFile
