@@ -189,3 +189,145 @@ module _ (inputs : Inputs) (ready : IsReady inputs) (room : HasDataRoom (parsed 
   pub plain : IsPlain inputs program e
   unfolding program_of
   plain = record { item = refl; next = refl; map = refl; listed = listed_are }
+
+  -- ---- memory
+
+  -- a place's value is its address
+  V : Value → Option ℕ
+  V = value_in program (place_address e)
+
+  place_value : (q : Place) → V (value.Code q) ≡ plain_address p3 q
+  unfolding V
+  place_value q = λ j. listed_are j q
+
+  fine : AreFine p3 program V place_value (data_bytes p3) (memory.data_cells parts)
+  fine = data_fine inputs ready.faultless V place_value
+
+  cell_within : (a : ℕ) → program.map.data_low ≤ a → a < program.map.data_low + length program.bytes → a - program.map.data_low < length (memory.data_cells parts)
+  unfolding program_of
+  cell_within a low high = let same = fine.same in omega (arith, low, high, same)
+
+  first : (a : ℕ) → ByteStands (value_in program (place_address e)) (cell_at Undef (first_memory program) a) (byte_in (loaded e) a)
+  unfolding program_of V
+  first a = memory.first_cell program parts out (λ c. ByteStands (value_in program (place_address e)) c (byte_in (loaded e) a)) a
+      (λ low high. subst (ByteStands (value_in program (place_address e)) (get_or (data_bytes p3) (a - inputs.map.data_low) Undef)) (sym (memory.data_byte program parts out a low high))
+      (fine.each (a - inputs.map.data_low) (cell_within a low high)).0) tt
+
+  names : (a : ℕ) → NamesByte program (cell_at Undef (first_memory program) a)
+  unfolding program_of
+  names a = memory.first_cell program parts out (NamesByte program) a (λ low high. (fine.each (a - inputs.map.data_low) (cell_within a low high)).1) tt
+
+  rooms : Room program e
+  unfolding program_of
+  rooms =
+      let size = bytes_size in
+      let data_part = memory_size in
+      let map = ready.is_map in
+      record {
+        map = refl;
+        top = map.top;
+        some = omega (arith, map.stack);
+        deep = omega (arith, map.stack, map.data_room, map.code);
+        under = omega (arith, size, data_part, map.stack, map.data_room);
+        reaches = memory.reaches program parts out;
+        apart = memory.text_apart program parts out;
+        even = even inputs none map program parts out plain;
+        distinct = distinct inputs none map program parts out plain;
+      }
+
+  laid_out : Laid program e (laid_pace program (piece_at p3))
+  unfolding program_of
+  laid_out =
+      let start = start_listed inputs ready in
+      record {
+        room = rooms;
+        leads = leads_faultless inputs ready.faultless;
+        begins = AtEntry ((λ j. listed_are j (entry_of p3)) ∙ start.1 ∙ ap Some (sym (ap (λ o. unwrap_or o inputs.map.text) start.1)));
+        piece = piece_at p3;
+        spans = λ q. refl;
+        weights = λ s. refl;
+        few = λ s. few_commits program s (item_at p3 s.place) (unwrap_or (plain_address p3 s.place) 0);
+        each = each inputs none ready.is_map program parts out plain holds;
+        first = λ a m. first a;
+        names = λ a m. names a;
+        bytes = memory.bytes program parts out;
+      }
+
+  -- ---- the file
+
+  pub fits : Fits parts
+  fits =
+      let few = places_few inputs none in
+      let map = ready.is_map in
+      record {
+        file = omega (arith, short, few, memory_size);
+        data_memory = omega (arith, memory_size);
+        data_end = omega (arith, memory_size, map.data_room, map.top);
+      }
+
+  loadable : IsLoadable parts inputs.map
+  loadable =
+      let few = places_few inputs none in
+      let map = ready.is_map in
+      let start = start_listed inputs ready in
+      let entry : parts.entry ≡ start.0 = ap (λ o. unwrap_or o inputs.map.text) start.1 in
+      let bounds = address_bounds inputs none map (entry_of p3) start.0 start.1 in
+      record {
+        text_at = refl;
+        data_at = refl;
+        words = omega (arith, map.data_room, map.top);
+        file = omega (arith, short, few, memory_size);
+        flags = refl;
+        text = omega (arith, short, map.code);
+        data_memory = memory_size;
+        entry_even = omega (arith, entry, bounds.words);
+        entry_low = omega (arith, entry, bounds.low);
+        entry_high = omega (arith, entry, bounds.high, ends);
+        entries = entries inputs none map (plain_places p3) placed;
+        ascending = ascends inputs none;
+        inside = are_inside inputs none map (plain_places p3) placed;
+      }
+
+  back : ReadsBack parts inputs.map (image_bytes parts)
+  back = image_back parts inputs.map fits loadable
+
+  read : image_in (image_bytes parts) inputs.map ≡ Some e
+  unfolding image_in
+  read =
+      ap (λ fault. image_unless fault (image_bytes parts) inputs.map) back.faultless
+      ∙ (λ i. Some (record { entry = back.entry i; segments = back.segments_back i; places = back.places i; map = inputs.map }))
+
+  preserves : Preserves inputs (image_bytes parts)
+  preserves = laid_preserves inputs (image_bytes parts) e (laid_pace program (piece_at p3)) read laid_out
+
+  abbrev text_part : SegmentData
+  text_part = record { at = inputs.map.text; size = length text; code = true; bytes = text }
+
+  alone : filter (λ s. s.code) (segments_of (image_bytes parts)) ≡ text_part ∷ []
+  alone = ap (filter (λ s. s.code)) back.segments_back
+
+  copied : Copied p3 (image_bytes parts)
+  copied = record {
+    text = text_part;
+    alone = alone;
+    each = λ q a s item here at is.
+        let found : address_in (plain_places p3) q ≡ Some a = ap (λ l. address_in l q) (sym back.places) ∙ here in
+        let h = found_holds (Holds p3 text) (plain_places p3) q a holds found item is in
+        let same : h.section ≡ s = cc (sym h.here ∙ at) in
+        let addresses : plain_address p3 ≡ address_in (places_of (image_bytes parts)) = sym listed_are ∙ ap address_in (sym back.places) in
+        copied_item (plain_address p3) (address_in (places_of (image_bytes parts))) (item_at p3) (bytes_from s.bytes q.offset) (bytes_from text (a - inputs.map.text)) a item addresses
+        (subst (λ t. IsWritten (plain_address p3) (item_at p3) (bytes_from t.bytes q.offset) a item (bytes_from text (a - inputs.map.text) (after_item a item - a))) same h.written);
+  }
+
+  -- the link with this file
+  pub plain_linked : (link : Link) → link.elf ≡ image_bytes parts → link.plain ≡ plain_counts p3 → link.zc ≡ plain_counts p3 → IsPlainLink inputs link
+  plain_linked link written plain_is zc_is = record {
+    parts = record { text = text; bytes = written };
+    preserves = subst (Preserves inputs) (sym written) preserves;
+    quietly = quietly inputs link.elf (subst (Preserves inputs) (sym written) preserves);
+    copied = subst (Copied p3) (sym written) copied;
+    places = ap places_of written ∙ back.places;
+    text_end = subst (λ elf. TextEndsAt inputs.map elf (plain_end p3)) (sym written) (record { text = text_part; alone = alone; start = refl; end = ends });
+    plain = plain_is;
+    zc = zc_is;
+  }
