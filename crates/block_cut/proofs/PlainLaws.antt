@@ -342,8 +342,7 @@ module _ (inputs : Inputs) (none : gather_fault inputs ≡ None) where
       let begin = plain_start (parsed inputs) q.object q.section s in
       let rises = offset_rises (parsed inputs) q s at.code_is at.whole q.offset (length s.bytes) at.inside in
       let end = offset_end (parsed inputs) q s at.code_is at.whole in
-      let last = section_ends q.object q.section s at.found in
-      (
+      let last = section_ends q.object q.section s at.found in (
         omega (arith, at.address, ends-ge (parsed inputs) inputs.map.text (sections_before objects q.object q.section), aligned_up-ge (max 4 s.align) before, after_items-ge begin (items_before (parsed inputs) (spot q s) q.offset)),
         omega (arith, at.address, rises, end, last),
       )

@@ -102,9 +102,9 @@ module _ (inputs : Inputs) (none : gather_fault inputs ≡ None) (o i : ℕ) (wo
               let start : starts_on s (4 * k) ≡ true = ap (λ t. starts_on t (4 * k)) (sym same) ∙ item.start in
               sym (find_start s code whole (place_of (listed o i s)) out (4 * k) start is
               (λ m low there.
-                let own = start_is s code whole m there in
-                let whole_word : 4 * (m / 4) ≡ m = omega (arith, own.words) in
-                ap (λ n. out (place_at o i n)) (sym whole_word) ∙ earlier (m / 4) (omega (arith, low))))
+              let own = start_is s code whole m there in
+              let whole_word : 4 * (m / 4) ≡ m = omega (arith, own.words) in
+              ap (λ n. out (place_at o i n)) (sym whole_word) ∙ earlier (m / 4) (omega (arith, low))))
           tested false code empty = absurd (omega (arith, lt, ap length empty))
 
   -- or none
@@ -120,9 +120,9 @@ module _ (inputs : Inputs) (none : gather_fault inputs ≡ None) (o i : ℕ) (wo
               let whole = inputs_whole inputs o i s none found code in
               sym (find_nothing (place_of (listed o i s)) out (starts_in s)
               (λ m there.
-                let own = start_is s code whole m there in
-                let whole_word : 4 * (m / 4) ≡ m = omega (arith, own.words) in
-                ap (λ n. out (place_at o i n)) (sym whole_word) ∙ each (m / 4) (omega (arith, own.inside, own.words, ap length list, word_count (λ n. text_word (parsed inputs) (place_at o i n)) s))))
+              let own = start_is s code whole m there in
+              let whole_word : 4 * (m / 4) ≡ m = omega (arith, own.words) in
+              ap (λ n. out (place_at o i n)) (sym whole_word) ∙ each (m / 4) (omega (arith, own.inside, own.words, ap length list, word_count (λ n. text_word (parsed inputs) (place_at o i n)) s))))
           tested false code empty = refl
 
 -- ---- sections

@@ -251,9 +251,10 @@ are_whole-append (l ∷ ls) second one two = (one.0, are_whole-append ls second 
 module _ (inputs : Inputs) (none : gather_fault inputs ≡ None) where
   whole_sections : (o n : ℕ) (ss : List SectionParts) → ((i : ℕ) (s : SectionParts) → slice_get ss i ≡ Some s → section_at (parsed inputs).objects o (n + i) ≡ Some s) → AreWhole (map (λ s. record { object = o; index = s.0; section = s.1 }) (enumerate_from n ss))
   whole_sections o n [] at = tt
-  whole_sections o n (s ∷ ss) at =
-      (λ code. inputs_whole inputs o (n + 0) s none (at 0 s refl) code,
-       whole_sections o (n + 1) ss (λ i t is. ap (section_at (parsed inputs).objects o) (omega arith) ∙ at (suc i) t is))
+  whole_sections o n (s ∷ ss) at = (
+    λ code. inputs_whole inputs o (n + 0) s none (at 0 s refl) code,
+    whole_sections o (n + 1) ss (λ i t is. ap (section_at (parsed inputs).objects o) (omega arith) ∙ at (suc i) t is),
+  )
 
   whole_objects : (n : ℕ) (os : List ObjectParts) → ((i : ℕ) (o : ObjectParts) → slice_get os i ≡ Some o → slice_get (parsed inputs).objects (n + i) ≡ Some o) → AreWhole (flat_map sections_in (enumerate_from n os))
   whole_objects n [] at = tt

@@ -120,9 +120,9 @@ module _ (inputs : Inputs) (none : gather_fault inputs ≡ None) (o i : ℕ) (s 
   before_other n words other =
       filter_between n (n + 4) (starts_in s) (omega arith)
       (λ m low high. false_from_ne_true (starts_on s m) (λ start.
-        let own = start_is s here.code here.whole m start in
-        let same : m ≡ n = omega (arith, own.words, words, low, high) in
-        cc (start, other, same)))
+      let own = start_is s here.code here.whole m start in
+      let same : m ≡ n = omega (arith, own.words, words, low, high) in
+      cc (start, other, same)))
 
   -- the end isn't a start
   end_other : starts_on s (length s.bytes) ≡ false

@@ -19,7 +19,7 @@ use Rattle.psabi_sym.specs.Listed.{section_at}
 use Rattle.psabi_sym.proofs.Gathered.{readable}
 use Rattle.psabi_sym.proofs.PartLaws.{section_count_is, section_got}
 use Rattle.block_cut.specs.Items.{code_at, code_only}
-use Rattle.block_cut.specs.Whole.{IsWhole}
+pub use Rattle.block_cut.specs.Whole.{IsWhole}
 
 -- an alignment that isn't one of words
 abbrev is_askew : ℕ → Bool

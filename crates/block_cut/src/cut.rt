@@ -168,3 +168,6 @@ fn start_only(text: &Text, target: Target) -> Option<Place>
         Some(_) => Some(p),
     }
 }
+
+#[cfg(test)]
+mod tests;

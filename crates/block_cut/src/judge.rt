@@ -90,4 +90,4 @@ pub fn judge_relocs(alloc: Global, objects: &Objects, code: &Code) -> Result<(),
 }
 
 #[cfg(test)]
-mod tests;
+pub mod tests;

@@ -28,7 +28,10 @@ fn without_distance(instr: Instr) -> Instr
     match instr {
         Instr::Jal { rd, .. } => Instr::Jal { rd, distance: 0 },
         Instr::Branch {
-            op, first, second, ..
+            op,
+            first,
+            second,
+            ..
         } => Instr::Branch {
             op,
             first,

@@ -90,8 +90,8 @@ const START_NAME: usize = 368;
 
 const WEAK_NAME: usize = 384;
 
-// Numbers with a colon between.
-fn numbers_of(alloc: Global, text: &str) -> Result<Vec<i64>, Fail> {
+/// Numbers with a colon between.
+pub fn numbers_of(alloc: Global, text: &str) -> Result<Vec<i64>, Fail> {
     let mut numbers = Vec::new(alloc);
     for digits in text.trim().split(':') {
         numbers.push(digits.parse::<i64>()?)?;
@@ -99,8 +99,8 @@ fn numbers_of(alloc: Global, text: &str) -> Result<Vec<i64>, Fail> {
     Ok(numbers)
 }
 
-// Writes a word, if the file has it.
-fn write_word(file: &mut [u8], at: usize, word: u32) -> Result<(), Fail> {
+/// Writes a word, if the file has it.
+pub fn write_word(file: &mut [u8], at: usize, word: u32) -> Result<(), Fail> {
     let length = file.len();
     if at < length && length - at >= 4 {
         put_u32(file, at, word);
@@ -123,9 +123,9 @@ fn put_reloc(object: &mut [u8], numbers: &[i64]) -> Result<(), Fail> {
     write_word(object, at + 8, addend)
 }
 
-// Two such objects with these relocations, those of the second after a stroke. There symbol 8 has another
-// name, and 9 is the first's `_start`.
-fn objects_of(alloc: Global, relocs: &str) -> Result<Objects, Fail> {
+/// Two such objects with these relocations, those of the second after a stroke. There symbol 8 has another
+/// name, and 9 is the first's `_start`.
+pub fn files_of(alloc: Global, relocs: &str) -> Result<Vec<Vec<u8>>, Fail> {
     let mut first = Vec::from_slice(alloc, &OBJECT)?;
     let mut second = Vec::from_slice(alloc, &OBJECT)?;
     write_word(&mut second, START_NAME, 2)?;
@@ -137,7 +137,12 @@ fn objects_of(alloc: Global, relocs: &str) -> Result<Objects, Fail> {
             put_reloc(&mut first, &numbers_of(alloc, reloc)?)?;
         }
     }
-    let files = vec![in alloc; first, second]?;
+    Ok(vec![in alloc; first, second]?)
+}
+
+// The objects of a link.
+fn objects_of(alloc: Global, relocs: &str) -> Result<Objects, Fail> {
+    let files = files_of(alloc, relocs)?;
     Ok(Objects::gather(alloc, &files, MemMap::standard())?)
 }
 

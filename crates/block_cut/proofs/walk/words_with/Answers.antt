@@ -58,10 +58,11 @@ loop-reloc-preserved c = λ s code whole table.
       | inl e ↦ eq-eqb left 0 e ∙ sym (eq-eqb (4 * k + left) (4 * k) (omega (arith, e)))
       | inr ne ↦ ne_eqb left 0 ne ∙ sym (ne_eqb (4 * k + left) (4 * k) (λ e. ne (omega (arith, e))))
     ] in
-    let is : word ≡ code_word s (4 * k) = λ j. record { is_target = (test ∙ is_next s code whole (4 * k) (4 * k + left) next) j; reloc = here j } in
-    (c.in_ok-push.ensures.items ∙ ap (λ l. l ++ word ∷ []) before.0 ∙ ap (λ x. map (λ j. code_word s (4 * j)) (range_with_len 0 k) ++ x ∷ []) is
-    ∙ sym (map-range_with_len_more (λ j. code_word s (4 * j)) 0 k k (omega arith)),
-     λ le. further s code whole k left c.left_after-left.result (get_or relocs k None) here c.left_after-left.ensures le next)
+    let is : word ≡ code_word s (4 * k) = λ j. record { is_target = (test ∙ is_next s code whole (4 * k) (4 * k + left) next) j; reloc = here j } in (
+      c.in_ok-push.ensures.items ∙ ap (λ l. l ++ word ∷ []) before.0 ∙ ap (λ x. map (λ j. code_word s (4 * j)) (range_with_len 0 k) ++ x ∷ []) is
+          ∙ sym (map-range_with_len_more (λ j. code_word s (4 * j)) 0 k k (omega arith)),
+      λ le. further s code whole k left c.left_after-left.result (get_or relocs k None) here c.left_after-left.ensures le next,
+    )
 
 pub returns : goal.returns
 returns c = λ s code whole table.
