@@ -1,6 +1,5 @@
 -- What the item at a place is: it is that of a start of the section, and takes the bytes that its step goes, or it is padding.
-use Rattle.std.proofs.Common.{◌≡◌, ◌≢◌, ℕ, zero, suc, ◌+◌, ◌%◌, ◌<◌, ◌≤◌, ℤ, pos, negsuc, List, length, Bool, true, false, cond, Option, Some, None, refl, sym, ap, subst, ◌∙◌, arith, eqb, ltb, eq-eqb}
-use Rattle.std.specs.Prelude.{◌&&◌}
+use Rattle.std.proofs.Common.{◌≡◌, ℕ, zero, suc, ◌+◌, ◌%◌, ◌<◌, ◌≤◌, ℤ, pos, negsuc, List, Bool, true, false, cond, Option, Some, None, refl, sym, ap, ◌∙◌, arith, eqb, ltb, eq-eqb}
 use Rattle.std.specs.Option.{option_and_then, option_map_or}
 use Rattle.std.proofs.lemmas.Bool.{and_parts, eqb-true, lt-ltb, ltb-true}
 use Rattle.zc_base.specs.Fields.{word_in}
@@ -19,7 +18,7 @@ use Rattle.rv_decode.specs.Decode.{decoded}
 use Rattle.rv_decode.specs.declared.instr.Instr.{Instr}
 use Rattle.rv_decode.specs.declared.instr.Instr.TheVariants as instr
 use Rattle.block_cut.specs.declared.item.Item.{Item}
-use Rattle.block_cut.specs.declared.item.Item.TheVariants.{Op, Hi, Lo, PcHi, PcLo, Branch, Jump, Call, Align, Word, Raw, RawPair}
+use Rattle.block_cut.specs.declared.item.Item.TheVariants.{Branch, Jump, Align, Raw, RawPair}
 use Rattle.block_cut.specs.Items.{call_item, code_at, instr_item, item_at, item_from, item_in, item_of, item_under, known_item, of_instr, reloc_item, size_on, starts_on, target_away, target_of, to_place}
 use Rattle.block_cut.specs.PlainLayout.{after_item}
 use Rattle.block_cut.specs.Relocs.{field_of, fits_at, is_bad_kind, is_ignored, is_padding, reloc_on}

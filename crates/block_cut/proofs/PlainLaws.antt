@@ -4,12 +4,12 @@
 -- - `address_bounds`: addresses are multiples of 4, from the text's start to the plain end, which is 256 KiB away at most;
 -- - `rises`, `rises_past`: addresses rise with places, and what comes after an item lies behind it;
 -- - `apart`: two places with one address are the same, or the first of them is padding's or a section's end.
-use Rattle.std.proofs.Common.{◌≡◌, ℕ, ◌+◌, ◌-◌, ◌%◌, ◌<◌, ◌≤◌, ◌⊎◌, List, [], ◌∷◌, ◌++◌, length, filter, map, max, pos, Bool, true, false, cond, Option, Some, None, refl, sym, ap, subst, ◌∙◌, arith, eqb, ltb, eq-eqb, inl, inr}
+use Rattle.std.proofs.Common.{◌≡◌, ℕ, ◌+◌, ◌-◌, ◌%◌, ◌<◌, ◌≤◌, ◌⊎◌, List, [], ◌∷◌, ◌++◌, length, filter, map, max, Bool, true, false, cond, Option, Some, None, refl, sym, ap, subst, ◌∙◌, arith, eqb, ltb, eq-eqb, inl, inr}
 use Rattle.std.specs.Prelude.{◌&&◌, ◌||◌}
 use Rattle.std.specs.List.{fold}
-use Rattle.std.specs.Option.{option_and_then, option_map, option_map_or}
-use Rattle.std.proofs.lemmas.Bool.{and_parts, cases_eq, cases_lt, eqb-true, lt-ltb, ltb-true}
-use Rattle.std.proofs.lemmas.List.{append-nil, map-append}
+use Rattle.std.specs.Option.{option_map, option_map_or}
+use Rattle.std.proofs.lemmas.Bool.{cases_eq, cases_lt, eqb-true, lt-ltb, ltb-true}
+use Rattle.std.proofs.lemmas.List.{map-append}
 use Rattle.std.proofs.lemmas.List.Sums.{fold-append}
 use Rattle.std.proofs.lemmas.Nat.Gcd.{dvd_of_mod-eq-zero}
 use Rattle.std.proofs.Math.Nat.{mod-mod_of_dvd}
@@ -23,12 +23,12 @@ use Rattle.psabi_sym.specs.Inputs.{Inputs, ParsedInputs, parsed}
 use Rattle.psabi_sym.specs.Listed.{ListedSection, all_sections, section_at, sections_before}
 use Rattle.block_cut.specs.declared.item.Item.{Item}
 use Rattle.block_cut.specs.declared.item.Item.TheVariants.{Align}
-use Rattle.block_cut.specs.Items.{code_at, is_end_at, is_start_at, is_target_at, item_at, item_in, items_in, next_at, place_of, size_on, starts_in, starts_on}
+use Rattle.block_cut.specs.Items.{code_at, is_end_at, is_start_at, is_target_at, item_at, item_in, next_at, place_of, size_on, starts_in, starts_on}
 use Rattle.block_cut.specs.PlainLayout.{address_on, after_item, after_items, items_before, plain_address, plain_end, plain_end_of, plain_start, section_begin, section_end}
-use Rattle.block_cut.proofs.ItemLaws.{IsItemAt, Takes, Bytes, Padding, item_found, item_takes, item_there, padded}
+use Rattle.block_cut.proofs.ItemLaws.{IsItemAt, Takes, Bytes, Padding, item_found, item_takes, padded}
 use Rattle.block_cut.proofs.ListedLaws.{between, cut_at, listed}
-use Rattle.block_cut.proofs.RoomLaws.{AreWhole, after_item-ge, after_items-ge, aligned_up-ge, all_whole, ends-ge, items_in-code, plain_end-fits, section_end-code, section_end-other}
-use Rattle.block_cut.proofs.StartLaws.{IsStart, among_first, among_later, before_end_all, before_next_start, front, is_among, none_within, start_is, step}
+use Rattle.block_cut.proofs.RoomLaws.{AreWhole, after_items-ge, aligned_up-ge, all_whole, ends-ge, items_in-code, plain_end-fits, section_end-code, section_end-other}
+use Rattle.block_cut.proofs.StartLaws.{among_first, among_later, before_end_all, before_next_start, front, is_among, none_within, start_is, step}
 use Rattle.block_cut.proofs.WholeLaws.{code_is_section, code_whole}
 use Rattle.block_cut.specs.Whole.{IsWhole}
 

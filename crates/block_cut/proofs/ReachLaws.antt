@@ -1,5 +1,5 @@
 -- The first place of a branch that doesn't reach: a test of each word's place, section after section.
-use Rattle.std.proofs.Common.{◌≡◌, ℕ, ◌+◌, ◌*◌, ◌/◌, ◌%◌, ◌<◌, ◌≤◌, List, [], ◌∷◌, ◌++◌, length, get_or, map, not, Bool, true, false, cond, Option, IfSome, Some, None, refl, sym, ap, ◌∙◌, arith}
+use Rattle.std.proofs.Common.{◌≡◌, ℕ, ◌+◌, ◌*◌, ◌/◌, ◌<◌, ◌≤◌, List, [], ◌∷◌, ◌++◌, length, get_or, map, not, Bool, true, false, cond, Option, IfSome, Some, None, refl, sym, ap, ◌∙◌, arith}
 use Rattle.std.specs.List.{find, flat_map}
 use Rattle.std.specs.Option.{option_and_then, option_map_or, option_or}
 use Rattle.std.proofs.lemmas.List.{append-nil}
@@ -11,18 +11,17 @@ use Rattle.elf32_read.specs.Parts.{ObjectParts, SectionParts, is_code_section}
 use Rattle.psabi_reloc.specs.Reaches.{branch_reach}
 use Rattle.psabi_sym.specs.Faults.{gather_fault}
 use Rattle.psabi_sym.specs.Inputs.{Inputs, ParsedInputs, parsed}
-use Rattle.psabi_sym.specs.Listed.{all_sections, section_at, sections_before}
+use Rattle.psabi_sym.specs.Listed.{section_at, sections_before}
 use Rattle.rv_decode.specs.declared.instr.Instr.{Instr}
 use Rattle.block_cut.specs.Cut.{by_word, place_at, places_at, places_before, text_word, text_words_at, words_of}
 use Rattle.block_cut.specs.Faults.{branch_target, distance_between, is_far, is_out_of_reach}
 use Rattle.block_cut.specs.Items.{all_places, code_only, item_at, place_of, places_of, starts_in, starts_on}
 use Rattle.block_cut.specs.PlainLayout.{plain_address}
-use Rattle.block_cut.specs.Whole.{IsWhole}
 use Rattle.block_cut.specs.declared.item.Item.{Item}
 use Rattle.block_cut.specs.declared.item.Item.TheVariants.{Branch}
 use Rattle.block_cut.specs.declared.text_word.TextWord.{TextWord}
 use Rattle.block_cut.proofs.ItemLaws.{item_found}
-use Rattle.block_cut.proofs.ListedLaws.{before_end, before_first, before_more, before_next, cut_at, listed}
+use Rattle.block_cut.proofs.ListedLaws.{before_more, cut_at, listed}
 use Rattle.block_cut.proofs.PlainLaws.{address_range}
 use Rattle.block_cut.proofs.RoomLaws.{plain_end-fits}
 use Rattle.block_cut.proofs.StartLaws.{find_nothing, find_start, start_is}

@@ -1,7 +1,7 @@
 -- The room of code is bounded, so each of its addresses fits in a word. An item takes no more than its step and the room of its
 -- relocation (`item_fits`); the starts of a section have relocations of their own, so their rooms are no more than those of all its
 -- relocations (`rooms_fit`); so a section takes no more than its room, and all code no more than the sum that inputs may have.
-use Rattle.std.proofs.Common.{◌≡◌, ℕ, zero, suc, ◌+◌, ◌%◌, ◌<◌, ◌≤◌, List, [], ◌∷◌, ◌++◌, length, get_or, take, map, max, Bool, true, false, cond, Option, Some, None, refl, sym, ap, ◌∙◌, arith, eqb, inl, inr, slice_get}
+use Rattle.std.proofs.Common.{◌≡◌, ℕ, suc, ◌+◌, ◌%◌, ◌<◌, ◌≤◌, List, [], ◌∷◌, ◌++◌, length, get_or, take, map, max, Bool, true, false, cond, Option, Some, None, refl, sym, ap, ◌∙◌, arith, eqb, inl, inr, slice_get}
 use Rattle.std.specs.Prelude.{nat_lt, ◌||◌, ◌&&◌}
 use Rattle.std.specs.List.{enumerate_from, find, flat_map, fold, position_or_len, range_with_len, sum_by}
 use Rattle.std.specs.Option.{option_and_then, option_map, option_map_or}
@@ -9,9 +9,8 @@ use Rattle.std.proofs.lemmas.Bool.{cases_lt, eqb-true, ltb-false, ne_eqb, or_par
 use Rattle.std.proofs.lemmas.List.{take_all}
 use Rattle.std.proofs.lemmas.List.Folds.{find_at, fold-map}
 use Rattle.std.proofs.lemmas.List.FromFn.{get_or-range_with_len, length-range_with_len}
-use Rattle.std.proofs.lemmas.List.Sums.{fails_before_first, fold-append, sum_by-append, sum_by-cons}
+use Rattle.std.proofs.lemmas.List.Sums.{fails_before_first, sum_by-append, sum_by-cons}
 use Rattle.std.proofs.lemmas.Option.{slice_get-get_or}
-use Rattle.zc_base.specs.declared.place.Place.{Place}
 use Rattle.elf32_read.specs.declared.fault.Fault.{Fault}
 use Rattle.elf32_read.specs.declared.fault.Fault.TheVariants.{TooLarge}
 use Rattle.elf32_read.specs.declared.reloc.Reloc.{Reloc}
@@ -29,8 +28,8 @@ use Rattle.psabi_sym.proofs.Gathered.{all_none}
 use Rattle.psabi_sym.proofs.PlaceLaws.{code_is}
 use Rattle.block_cut.specs.declared.item.Item.{Item}
 use Rattle.block_cut.specs.declared.item.Item.TheVariants.{Op, Hi, Lo, PcHi, PcLo, Branch, Jump, Call, Align, Word, Raw, RawPair}
-use Rattle.block_cut.specs.Items.{item_in, items_in, place_of, places_of, size_on, starts_in}
-use Rattle.block_cut.specs.PlainLayout.{after_item, after_items, plain_end, plain_end_of, section_begin, section_end}
+use Rattle.block_cut.specs.Items.{item_in, items_in, place_of, size_on, starts_in}
+use Rattle.block_cut.specs.PlainLayout.{after_item, after_items, plain_end, section_begin, section_end}
 use Rattle.block_cut.specs.Relocs.{is_sound, reloc_on}
 use Rattle.block_cut.proofs.ItemLaws.{item_fits, room_at}
 use Rattle.block_cut.proofs.ListedLaws.{listed}

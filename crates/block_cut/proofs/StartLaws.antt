@@ -5,7 +5,7 @@ use Rattle.std.proofs.Common.{◌≡◌, ℕ, zero, suc, ◌+◌, ◌%◌, ◌<�
 use Rattle.std.specs.Prelude.{◌||◌}
 use Rattle.std.specs.List.{find, list_any}
 use Rattle.std.specs.Option.{option_map_or}
-use Rattle.std.proofs.lemmas.Bool.{cases_eq, cases_lt, eqb-true, lt-ltb, le-ltb, ltb-false, ltb-true, ne_eqb}
+use Rattle.std.proofs.lemmas.Bool.{cases_lt, eqb-true, lt-ltb, le-ltb, ltb-false, ltb-true, ne_eqb}
 use Rattle.elf32_read.specs.Parts.{SectionParts, is_code_section}
 use Rattle.elf32_read.specs.declared.reloc.Reloc.{Reloc}
 use Rattle.block_cut.specs.Items.{size_on, starts_from, starts_in, starts_on}

@@ -1,5 +1,5 @@
 -- Tables by object and section, object after object, from none to all.
-use Rattle.std.proofs.Common.{◌≡◌, ℕ, ◌+◌, ◌<◌, ◌≤◌, List, [], ◌∷◌, ◌++◌, length, map, Option, Some, None, slice_get, refl, sym, ap, ◌∙◌, arith, inl, inr, Vec}
+use Rattle.std.proofs.Common.{◌≡◌, ℕ, ◌+◌, ◌<◌, ◌≤◌, List, [], ◌∷◌, ◌++◌, length, map, Some, None, slice_get, sym, ap, ◌∙◌, arith, inl, inr, Vec}
 use Rattle.std.specs.List.{range_with_len}
 use Rattle.std.specs.Option.{option_and_then, option_map, option_map_or, unwrap_or}
 use Rattle.std.specs.declared.alloc.Global.{Global}
@@ -8,12 +8,12 @@ use Rattle.std.proofs.lemmas.List.{get_or_append_left, get_or_push, length_push}
 use Rattle.std.proofs.lemmas.List.FromFn.{length-map-range_with_len}
 use Rattle.std.proofs.lemmas.Option.{slice_get-get_or, slice_get-map, slice_get_past}
 use Rattle.elf32_read.specs.Header.{section_count}
-use Rattle.elf32_read.specs.Parts.{ObjectParts, SectionParts, object_parts}
+use Rattle.elf32_read.specs.Parts.{ObjectParts, object_parts}
 use Rattle.elf32_read.proofs.Listed.{slice_get-listed}
 use Rattle.psabi_sym.specs.Inputs.{Inputs, parsed}
 use Rattle.psabi_sym.specs.Listed.{section_at}
 use Rattle.psabi_sym.proofs.PartLaws.{section_count_is}
-use Rattle.block_cut.specs.Cut.{list_in, words_of}
+use Rattle.block_cut.specs.Cut.{list_in}
 
 -- ---- sections that there aren't
 

@@ -1,28 +1,25 @@
 -- Code word after word: what stands at each word is what the definitions say, and after a section its items and its room were added.
-use Rattle.std.proofs.Common.{◌≡◌, ◌≢◌, ℕ, zero, suc, ◌+◌, ◌*◌, ◌/◌, ◌%◌, ◌<◌, ◌≤◌, List, [], ◌∷◌, ◌++◌, length, filter, map, max, Bool, true, false, cond, Option, IfSome, Some, None, refl, sym, ap, subst, ◌∙◌, arith, eqb, ltb, eq-eqb, inl, inr}
+use Rattle.std.proofs.Common.{◌≡◌, ◌≢◌, ℕ, ◌+◌, ◌*◌, ◌/◌, ◌%◌, ◌≤◌, List, [], ◌∷◌, ◌++◌, length, filter, map, max, Bool, true, false, cond, Option, IfSome, Some, None, refl, sym, ap, subst, ◌∙◌, arith, eqb, ltb, inl, inr}
 use Rattle.std.specs.Prelude.{◌||◌}
-use Rattle.std.specs.List.{flat_map, fold, range_with_len, sum_by}
-use Rattle.std.specs.Option.{option_and_then}
-use Rattle.std.proofs.lemmas.Bool.{cases_eq, eqb-true, false_from_ne_true, ne_eqb}
+use Rattle.std.specs.List.{flat_map, range_with_len}
+use Rattle.std.proofs.lemmas.Bool.{eqb-true, false_from_ne_true}
 use Rattle.std.proofs.lemmas.List.{append-nil, length-append, length-map, map-append}
 use Rattle.std.proofs.lemmas.List.Concat.{flat_map-append}
 use Rattle.std.proofs.lemmas.List.FromFn.{map-range_with_len_more}
 use Rattle.std.proofs.lemmas.List.Sums.{fold-append, sum_by-append, sum_by-cons}
 use Rattle.zc_base.specs.Fields.{word_in}
-use Rattle.zc_base.specs.MemMap.{IsMap}
 use Rattle.zc_base.specs.declared.place.Place.{Place}
-use Rattle.elf32_read.specs.Parts.{ObjectParts, SectionParts, is_code_section}
+use Rattle.elf32_read.specs.Parts.{SectionParts, is_code_section}
 use Rattle.elf32_read.specs.declared.reloc.Reloc.{Reloc}
 use Rattle.psabi_reloc.specs.Kinds.{kind_of}
 use Rattle.psabi_reloc.specs.declared.kind.RelocKind.TheVariants.{Align}
 use Rattle.psabi_sym.specs.Blocks.{aligned_up}
-use Rattle.psabi_sym.specs.Faults.{code_room, gather_fault, reloc_room}
+use Rattle.psabi_sym.specs.Faults.{code_room, gather_fault}
 use Rattle.psabi_sym.specs.Inputs.{Inputs, ParsedInputs, parsed}
-use Rattle.psabi_sym.specs.Listed.{ListedSection, all_sections, section_at, sections_before}
-use Rattle.psabi_sym.proofs.BlockLaws.{aligned_up-lt}
-use Rattle.block_cut.specs.Cut.{HasRoom, IsExtent, by_word, code_word, place_at, text_word, text_words_at, words_of}
-use Rattle.block_cut.specs.Items.{code_at, item_at, item_in, item_under, items_in, place_of, size_on, starts_in, starts_on}
-use Rattle.block_cut.specs.PlainLayout.{after_item, after_items, items_before, plain_address, plain_end, plain_end_of, plain_start, section_begin, section_end}
+use Rattle.psabi_sym.specs.Listed.{ListedSection, section_at, sections_before}
+use Rattle.block_cut.specs.Cut.{HasRoom, IsExtent, by_word, place_at, text_word, text_words_at, words_of}
+use Rattle.block_cut.specs.Items.{item_at, item_in, item_under, items_in, place_of, size_on, starts_in, starts_on}
+use Rattle.block_cut.specs.PlainLayout.{after_item, after_items, items_before, plain_address, plain_end_of, plain_start, section_end}
 use Rattle.block_cut.specs.Relocs.{field_of, fits_at, is_padding, reloc_on}
 use Rattle.block_cut.specs.Whole.{IsWhole}
 use Rattle.block_cut.specs.declared.code_word.CodeWord.{CodeWord}
@@ -31,11 +28,11 @@ use Rattle.block_cut.specs.declared.item.Item.{Item}
 use Rattle.block_cut.specs.declared.text_word.TextWord.{TextWord}
 use Rattle.block_cut.proofs.ItemLaws.{item_at-code, item_there}
 use Rattle.block_cut.proofs.ListedLaws.{before_more, cut_at, listed}
-use Rattle.block_cut.proofs.PlainLaws.{at_offset, offset_end, offset_next, offset_rises, place_address, section_ends, target_on, whole_before}
+use Rattle.block_cut.proofs.PlainLaws.{at_offset, offset_end, offset_rises, place_address, section_ends, target_on, whole_before}
 use Rattle.block_cut.proofs.RoomLaws.{AreWhole, all_whole, code_room_is, items_in-code, items_in-other, plain_end-fits, rooms, rooms_few, section_end-code, section_end-ge, section_end-other}
 use Rattle.block_cut.proofs.SoundLaws.{sound_at}
-use Rattle.block_cut.proofs.StartLaws.{IsStep, Above, along, before_end_all, before_first_none, before_next_start, filter_between, none_within, start_is, step}
-use Rattle.block_cut.proofs.WordLaws.{IsCodeHere, no_address, target_past}
+use Rattle.block_cut.proofs.StartLaws.{along, before_end_all, before_first_none, before_next_start, filter_between, none_within, start_is, step}
+use Rattle.block_cut.proofs.WordLaws.{IsCodeHere, no_address}
 
 -- ---- how many items there are
 

@@ -1,5 +1,5 @@
 -- Code of objects without a fault is in the file whole, and has whole words.
-use Rattle.std.proofs.Common.{◌≡◌, ◌≢◌, ℕ, ◌%◌, ◌<◌, ◌≤◌, List, length, max, true, Option, Some, None, slice_get, refl, sym, ap, ◌∙◌, arith, cond, eqb, Bool, false, inl, inr}
+use Rattle.std.proofs.Common.{◌≡◌, ◌≢◌, ℕ, ◌%◌, ◌<◌, List, length, max, true, Option, Some, None, slice_get, refl, sym, ap, ◌∙◌, arith, cond, eqb, Bool, false, inl, inr}
 use Rattle.std.specs.Int.{is_power_of_two}
 use Rattle.std.specs.List.{list_any, range_with_len}
 use Rattle.std.specs.Prelude.{◌&&◌, not}

@@ -1,31 +1,28 @@
 -- Tables of words: what a table has at a place is what the definition says of it, and the walk over the words of a section.
-use Rattle.std.proofs.Common.{◌≡◌, ◌≢◌, ℕ, zero, suc, ◌+◌, ◌-◌, ◌*◌, ◌/◌, ◌%◌, ◌<◌, ◌≤◌, ◌⊎◌, List, [], ◌∷◌, ◌++◌, length, get_or, map, take, Bool, true, false, cond, Option, Some, None, slice_get, refl, sym, ap, subst, ◌∙◌, arith, eqb, ltb, eq-eqb, inl, inr}
-use Rattle.std.specs.Prelude.{◌&&◌, ◌||◌}
-use Rattle.std.specs.List.{find, range_with_len}
+use Rattle.std.proofs.Common.{◌≡◌, ◌≢◌, ℕ, ◌+◌, ◌*◌, ◌/◌, ◌%◌, ◌<◌, ◌≤◌, ◌⊎◌, List, [], ◌∷◌, ◌++◌, length, get_or, take, Bool, true, false, cond, Option, Some, None, slice_get, refl, sym, ap, subst, ◌∙◌, arith, eqb, eq-eqb, inl, inr}
+use Rattle.std.specs.Prelude.{◌||◌}
+use Rattle.std.specs.List.{find}
 use Rattle.std.specs.Option.{option_and_then, option_map, option_map_or, option_or}
-use Rattle.std.proofs.lemmas.Bool.{cases_eq, cases_lt, false_from_ne_true, eqb-true, ne_eqb}
-use Rattle.std.proofs.lemmas.List.{length-map, take_more}
+use Rattle.std.proofs.lemmas.Bool.{cases_eq, false_from_ne_true, ne_eqb}
+use Rattle.std.proofs.lemmas.List.{take_more}
 use Rattle.std.proofs.lemmas.List.Folds.{find-append}
 use Rattle.std.proofs.lemmas.List.FromFn.{get_or-map-range_with_len, length-map-range_with_len}
-use Rattle.std.proofs.lemmas.Option.{get_or_from_slice_get, slice_get_past, slice_get_within}
+use Rattle.std.proofs.lemmas.Option.{get_or_from_slice_get, slice_get_within}
 use Rattle.zc_base.specs.declared.place.Place.{Place}
 use Rattle.elf32_read.specs.Header.{section_count}
 use Rattle.elf32_read.specs.Parts.{ObjectParts, SectionParts, is_code_section, section_parts}
-use Rattle.elf32_read.specs.declared.reloc.Reloc.{Reloc}
 use Rattle.elf32_read.proofs.Listed.{slice_get-listed}
 use Rattle.psabi_sym.specs.Data.{is_code_at}
 use Rattle.psabi_sym.specs.Faults.{gather_fault}
 use Rattle.psabi_sym.specs.Inputs.{Inputs, ParsedInputs, parsed}
 use Rattle.psabi_sym.specs.Listed.{section_at}
-use Rattle.block_cut.specs.Cut.{by_word, code_word, place_at, words_of}
-use Rattle.block_cut.specs.Items.{code_at, code_only, is_end_at, is_start_at, is_target_at, item_at, item_in, size_on, starts_on}
+use Rattle.block_cut.specs.Cut.{by_word, place_at, words_of}
+use Rattle.block_cut.specs.Items.{code_at, code_only, is_target_at, item_at, item_in, size_on, starts_on}
 use Rattle.block_cut.specs.PlainLayout.{address_on, plain_address}
-use Rattle.block_cut.specs.Relocs.{is_sound, reloc_on}
 use Rattle.block_cut.specs.Whole.{IsWhole}
-use Rattle.block_cut.specs.declared.code_word.CodeWord.{CodeWord}
 use Rattle.block_cut.proofs.ItemLaws.{item_at-code, item_at-none}
 use Rattle.block_cut.proofs.PlainLaws.{target_on}
-use Rattle.block_cut.proofs.StartLaws.{IsStep, none_within, start_first, start_is, step}
+use Rattle.block_cut.proofs.StartLaws.{none_within, start_first, start_is, step}
 use Rattle.block_cut.proofs.WholeLaws.{code_is_section, code_whole, inputs_whole, section_there}
 
 -- ---- words of a section

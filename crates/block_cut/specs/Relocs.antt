@@ -8,7 +8,6 @@ use Rattle.psabi_reloc.specs.Kinds.{field_length, fits, is_auipc, kind_of}
 use Rattle.psabi_reloc.specs.declared.kind.RelocKind.{RelocKind}
 use Rattle.psabi_reloc.specs.declared.kind.RelocKind.TheVariants.{Ignored, Word, Branch, Jal, Call, PcrelHi20, PcrelLo12I, PcrelLo12S, Hi20, Lo12I, Lo12S, Align}
 use Rattle.rv_decode.specs.Decode.{decoded}
-use Rattle.rv_decode.specs.declared.instr.Instr.{Instr}
 
 -- ---- fields
 

@@ -1,4 +1,4 @@
-use Rattle.std.proofs.Common.{◌≡◌, [], cond, sym, ap, ◌∙◌}
+use Rattle.std.proofs.Common.{[], cond, sym, ap, ◌∙◌}
 use Rattle.elf32_read.specs.Parts.{section_parts}
 use Rattle.block_cut.specs.Cut.{by_word, code_word, words_of}
 use Rattle.block_cut.proofs.WordLaws.{code_here}

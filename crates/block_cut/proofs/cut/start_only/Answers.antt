@@ -3,7 +3,6 @@ use Rattle.std.specs.Option.{option_map_or}
 use Rattle.zc_base.specs.declared.place.Place.{Place}
 use Rattle.elf32_read.specs.Parts.{SectionParts}
 use Rattle.psabi_sym.specs.Inputs.{ParsedInputs, parsed}
-use Rattle.psabi_sym.specs.declared.target.Target.{Target}
 use Rattle.block_cut.specs.Items.{code_at, is_start_at, item_at, item_in, start_only, starts_on}
 use Rattle.block_cut.specs.declared.item.Item.{Item}
 use Rattle.block_cut.proofs.ItemLaws.{item_at-code, item_found}

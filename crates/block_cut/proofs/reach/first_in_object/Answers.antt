@@ -1,4 +1,4 @@
-use Rattle.std.proofs.Common.{◌≡◌, ◌+◌, ◌<◌, None, Some, length, slice_get, sym, ap, ◌∙◌, arith}
+use Rattle.std.proofs.Common.{◌≡◌, ◌+◌, ◌<◌, Some, length, slice_get, sym, ap, ◌∙◌, arith}
 use Rattle.std.specs.List.{find}
 use Rattle.std.specs.Option.{option_map}
 use Rattle.std.proofs.lemmas.Option.{slice_get-map}
@@ -6,7 +6,7 @@ use Rattle.elf32_read.specs.Header.{section_count}
 use Rattle.elf32_read.specs.Parts.{object_parts, section_parts}
 use Rattle.psabi_sym.specs.Inputs.{parsed}
 use Rattle.psabi_sym.proofs.PartLaws.{section_count_is}
-use Rattle.block_cut.specs.Cut.{place_at, places_at, places_before}
+use Rattle.block_cut.specs.Cut.{place_at, places_before}
 use Rattle.block_cut.specs.Faults.{is_out_of_reach}
 use Rattle.block_cut.specs.Items.{places_of}
 use Rattle.std.specs.List.{flat_map}

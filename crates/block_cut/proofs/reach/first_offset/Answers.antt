@@ -1,9 +1,8 @@
-use Rattle.std.proofs.Common.{◌≡◌, ◌+◌, ◌*◌, ◌<◌, ℕ, None, get_or, length, inl, inr, sym, ap, ◌∙◌, arith}
+use Rattle.std.proofs.Common.{◌*◌, ◌<◌, length, inl, inr, sym, ap, ◌∙◌, arith}
 use Rattle.std.proofs.lemmas.Bool.{cases_eq}
 use Rattle.psabi_sym.specs.Inputs.{parsed}
-use Rattle.block_cut.specs.Cut.{place_at, text_word}
+use Rattle.block_cut.specs.Cut.{place_at}
 use Rattle.block_cut.specs.Faults.{is_out_of_reach}
-use Rattle.block_cut.specs.declared.text_word.TextWord.{TextWord}
 use Rattle.block_cut.proofs.ReachLaws.{found_here, none_here, word_at}
 use Rattle.block_cut.proofs.reach.first_offset.Goals as goal
 

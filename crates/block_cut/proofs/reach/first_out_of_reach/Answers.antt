@@ -1,4 +1,4 @@
-use Rattle.std.proofs.Common.{◌≡◌, ℕ, List, [], Bool, None, length, refl, sym, ap, ◌∙◌, arith}
+use Rattle.std.proofs.Common.{◌≡◌, List, Bool, None, sym, ap, ◌∙◌, arith}
 use Rattle.std.specs.List.{find, flat_map}
 use Rattle.std.proofs.lemmas.List.{length-map}
 use Rattle.zc_base.specs.declared.place.Place.{Place}

@@ -1,5 +1,5 @@
 -- What lies too far away to be an offset isn't in code.
-use Rattle.std.proofs.Common.{◌≡◌, ℕ, ◌+◌, ◌-◌, ◌^◌, ◌<◌, ℤ, pos, negsuc, ◌+ℤ◌, Bool, true, false, cond, leb, Option, Some, None, refl, sym, ap, ◌∙◌, arith, w32}
+use Rattle.std.proofs.Common.{◌≡◌, ℤ, pos, negsuc, ◌+ℤ◌, Bool, true, false, cond, leb, Some, None, refl, sym, ap, ◌∙◌, arith, w32}
 use Rattle.std.specs.Option.{option_and_then}
 use Rattle.std.proofs.lemmas.Bool.{leb-false}
 use Rattle.std.proofs.lemmas.Int.{to_z-of_z}
@@ -7,7 +7,7 @@ use Rattle.zc_base.specs.declared.place.Place.{Place}
 use Rattle.psabi_sym.specs.Faults.{gather_fault}
 use Rattle.psabi_sym.specs.Inputs.{Inputs, parsed}
 use Rattle.psabi_sym.specs.Resolve.{offset_within}
-use Rattle.block_cut.specs.Items.{place_on, target_away, target_only}
+use Rattle.block_cut.specs.Items.{place_on, target_only}
 use Rattle.block_cut.proofs.WordLaws.{target_far}
 use Rattle.block_cut.proofs.spelled.target_away.Goals as goal
 

@@ -1,6 +1,6 @@
 -- A section that isn't code adds nothing; of code each word is what the definition says (`one_more`), and after the last its items and
 -- its room were added (`at_last`).
-use Rattle.std.proofs.Common.{◌≡◌, ◌≢◌, ℕ, ◌+◌, ◌*◌, ◌/◌, ◌%◌, ◌<◌, ◌≤◌, List, [], Option, Some, None, Bool, true, false, length, max, cond, get_or, leb, sym, ap, subst, ◌∙◌, arith, refl}
+use Rattle.std.proofs.Common.{◌≡◌, ℕ, ◌+◌, ◌*◌, ◌/◌, ◌<◌, ◌≤◌, List, [], Some, None, false, length, max, cond, get_or, sym, ap, subst, ◌∙◌, arith, refl}
 use Rattle.std.specs.Option.{option_map_or}
 use Rattle.std.proofs.lemmas.Bool.{le-leb}
 use Rattle.std.proofs.lemmas.List.FromFn.{get_or-map-range_with_len}
@@ -11,7 +11,6 @@ use Rattle.psabi_sym.specs.Blocks.{aligned_up}
 use Rattle.psabi_sym.specs.Inputs.{Inputs, parsed}
 use Rattle.rv_decode.specs.Decode.{decoded}
 use Rattle.block_cut.specs.Cut.{by_word, code_word, code_words_at, words_of}
-use Rattle.block_cut.specs.Items.{code_only}
 use Rattle.block_cut.specs.declared.code_word.CodeWord.{CodeWord}
 use Rattle.block_cut.specs.declared.extent.Extent.{Extent}
 use Rattle.block_cut.specs.declared.text_word.TextWord.{TextWord}

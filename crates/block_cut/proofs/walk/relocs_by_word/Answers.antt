@@ -1,5 +1,5 @@
 -- At each word is the first of the relocations so far that is sound and begins there.
-use Rattle.std.proofs.Common.{◌≡◌, ◌≢◌, [], ℕ, ◌+◌, ◌*◌, ◌/◌, ◌%◌, ◌<◌, ◌≤◌, List, Option, Some, None, Bool, true, false, length, take, drop, ◌++◌, cond, eqb, eq-eqb, sym, ap, ◌∙◌, arith, inl, inr, slice_get, get_or, replicate, refl, rules}
+use Rattle.std.proofs.Common.{◌≡◌, [], ℕ, ◌+◌, ◌*◌, ◌/◌, ◌%◌, ◌<◌, List, Option, Some, None, true, false, length, take, drop, ◌++◌, cond, eqb, eq-eqb, sym, ap, ◌∙◌, arith, inl, inr, slice_get, get_or, rules}
 use Rattle.std.specs.Prelude.{◌&&◌}
 use Rattle.std.specs.List.{find}
 use Rattle.std.specs.Option.{option_or}

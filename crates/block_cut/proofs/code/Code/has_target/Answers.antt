@@ -1,5 +1,5 @@
 -- The word at a place says what the definition does; elsewhere there is none, and nothing leads there.
-use Rattle.std.proofs.Common.{◌≡◌, ℕ, ◌*◌, ◌/◌, ◌%◌, ◌<◌, ◌≤◌, List, [], Option, Some, None, Bool, true, false, length, get_or, eqb, refl, sym, ap, ◌∙◌, arith}
+use Rattle.std.proofs.Common.{◌≡◌, ◌/◌, ◌%◌, ◌<◌, ◌≤◌, List, [], Option, Some, None, false, length, get_or, refl, sym, ap, ◌∙◌, arith}
 use Rattle.elf32_read.specs.Parts.{SectionParts}
 use Rattle.psabi_sym.specs.Faults.{gather_fault}
 use Rattle.psabi_sym.specs.Inputs.{Inputs, parsed}

@@ -1,6 +1,5 @@
 -- The first fault is that of a relocation, or else that of the start, or else that of a branch; without any the objects are cut.
 use Rattle.std.proofs.Common.{◌≡◌, ℕ, Some, None, sym, ap, ◌∙◌}
-use Rattle.zc_base.specs.declared.place.Place.{Place}
 use Rattle.elf32_read.specs.declared.fault.Fault.{Fault}
 use Rattle.elf32_read.specs.declared.fault.Fault.TheVariants.{Range}
 use Rattle.psabi_sym.specs.Inputs.{parsed}

@@ -1,6 +1,5 @@
-use Rattle.std.proofs.Common.{◌≡◌, ◌+◌, ◌<◌, ◌≤◌, Some, None, ap, sym, ◌∙◌, arith}
+use Rattle.std.proofs.Common.{◌≡◌, ◌+◌, Some, None, ap, sym, ◌∙◌, arith}
 use Rattle.std.specs.Option.{option_map}
-use Rattle.zc_base.specs.declared.place.Place.{Place}
 use Rattle.psabi_sym.specs.Inputs.{Inputs, parsed}
 use Rattle.block_cut.specs.Items.{item_at, next_at}
 use Rattle.block_cut.specs.declared.item.Item.{Item}

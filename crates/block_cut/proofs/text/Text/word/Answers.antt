@@ -1,5 +1,5 @@
 -- The word at a place says what the definitions do; elsewhere there is none, and nothing stands there.
-use Rattle.std.proofs.Common.{◌≡◌, ℕ, ◌*◌, ◌/◌, ◌%◌, ◌<◌, ◌≤◌, List, [], Option, Some, None, Bool, true, false, length, get_or, Bor, MatchOption, refl, sym, ap, ◌∙◌, arith}
+use Rattle.std.proofs.Common.{◌≡◌, ◌/◌, ◌%◌, ◌<◌, ◌≤◌, List, [], Option, Some, None, false, length, get_or, Bor, MatchOption, refl, ap, ◌∙◌, arith}
 use Rattle.std.specs.List.{HoldsAt}
 use Rattle.zc_base.specs.declared.place.Place.{Place}
 use Rattle.elf32_read.specs.Parts.{SectionParts}
