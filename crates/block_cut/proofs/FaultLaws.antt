@@ -1,6 +1,4 @@
 -- The first fault: those between objects come first, then those of relocations, then a missing start, then branches that don't reach.
--- And what holds of inputs without a fault: each relocation is fine, so the place that an item leads to is where an item starts or a
--- section ends (`leads_to`), a lower part goes with its upper part (`lower_pairs`), and each branch reaches (`branch_reaches`).
 use Rattle.std.proofs.Common.{◌≡◌, ℕ, cond, Option, Some, None, is_none, refl, sym, ap, ◌∙◌}
 use Rattle.std.specs.List.{find}
 use Rattle.std.specs.Option.{option_map, option_or, unwrap_or}
