@@ -31,22 +31,9 @@ use Rattle.block_cut.proofs.SoundLaws.{sound_at}
 use Rattle.block_cut.proofs.StartLaws.{is_among}
 use Rattle.block_cut.proofs.WholeLaws.{code_is_section}
 use Rattle.zc_link.specs.PlainStands.{HasValue}
+use Rattle.zc_link.proofs.Elements.{none_found, none_there}
 
--- ---- lists of which none is a fault
-
-none_there : {X A : Type 0} (f : X → Option A) (before rest : List X) (x : X) → first_some (map f (before ++ x ∷ rest)) ≡ None → f x ≡ None
-none_there f [] rest x h = (neither (f x) (first_some (map f rest)) h).0
-none_there f (y ∷ ys) rest x h = none_there f ys rest x (neither (f y) (first_some (map f (ys ++ x ∷ rest))) h).1
-
-none_found : {X A : Type 0} (p : X → Bool) (f : X → Option A) (xs : List X) (x : X) → find p xs ≡ Some x → first_some (map f xs) ≡ None → f x ≡ None
-none_found p f [] x h none = absurd cc
-none_found p f (y ∷ ys) x h none =
-    let parts = neither (f y) (first_some (map f ys)) none in
-    by (p y) h parts.0 (λ g. none_found p f ys x g parts.1)
-  where
-    by : (b : Bool) → cond b (Some y) (find p ys) ≡ Some x → f y ≡ None → (find p ys ≡ Some x → f x ≡ None) → f x ≡ None
-    by true g here rest = let same : y ≡ x = cc in ap f (sym same) ∙ here
-    by false g here rest = rest g
+-- ---- what gives nothing
 
 mapped_none : {A B : Type 0} (f : A → B) (o : Option A) → option_map f o ≡ None → o ≡ None
 mapped_none f None h = refl

@@ -4,7 +4,7 @@ use Rattle.std.specs.List.{flat_map}
 use Rattle.zc_base.specs.declared.mem_map.MemMap.{MemMap}
 use Rattle.elf32_read.specs.Parts.{SectionParts, is_code_section, section_parts}
 use Rattle.psabi_sym.specs.Data.{is_code_at}
-use Rattle.psabi_sym.specs.Inputs.{Inputs, parsed}
+use Rattle.psabi_sym.specs.Inputs.{Inputs, ParsedInputs, parsed}
 use Rattle.psabi_sym.specs.Listed.{sections_before}
 use Rattle.zc_base.specs.declared.place.Place.{Place}
 use Rattle.block_cut.specs.PlainLayout.{plain_address, plain_end_of}
@@ -50,6 +50,10 @@ add_code-requires-clause-here c =
     begins_here c.args.cut.now c.args.o c.args.i c.args.object.now _ c.requires.object c.requires.section (said (goal.at.add_code-requires-clause-here c).After-is_code ∙ c.if-not-is_code.false)
     (sym (c.section.ensures.bytes ∙ ap (λ k. (section_parts c.args.object.now k).bytes) c.from.ensures))
 
+-- a text up to an address is one up to its equal
+begun : {p : ParsedInputs} {end begin : ℕ} {text : List ℕ} {places : List (Place × ℕ)} (targets : List Place) → begin ≡ end → IsSoFar p targets end text places → IsSoFar p targets begin text places
+begun {p} {end} {begin} {text} {places} targets same so_far = subst (λ e. IsSoFar p targets e text places) (sym same) so_far
+
 pub add_code-requires-clause-begin : goal.add_code-requires-clause-begin
 add_code-requires-clause-begin c =
     let inputs = c.args.cut.now in
@@ -69,4 +73,4 @@ add_code-requires-clause-begin c =
     let count : c.words_between.result ≡ after.words = c.words_between.ensures after.words (after.address ∙ ap (λ e. Some (e + 4 * after.words)) (sym so_far)) in
     let grown = so_far_gap p (flat_map targets_of (sections_before p.objects c.args.o c.args.i)) end after.words c.args.self.now.text.items c.add_words.new.text.items c.args.self.now.places.items before
     (c.in_ok-add_words.ensures ∙ ap (λ n. c.args.self.now.text.items ++ copies 0 n) count) in
-    subst (λ e. IsSoFar p (flat_map targets_of (sections_before p.objects c.args.o c.args.i)) e c.add_words.new.text.items c.args.self.now.places.items) (sym after.begin) grown
+    begun (flat_map targets_of (sections_before p.objects c.args.o c.args.i)) after.begin grown
