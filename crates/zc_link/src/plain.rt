@@ -97,3 +97,6 @@ fn zeros_after(objects: &Objects, bytes: &[u8]) -> u32
 {
     objects.data_end() - (objects.map().data_low + bytes.len() as u32)
 }
+
+#[cfg(test)]
+mod tests;
