@@ -14,9 +14,9 @@ ghost use Rattle.zc_link.specs.PlainItems.{IsWritten};
 ghost use Rattle.zc_link.specs.PlainStands.{ItemStands, GoesWith, is_lower, is_one_word};
 ghost use Rattle.zc_link.specs.Values.{target_value, way};
 
-use psabi_reloc::put::{put_branch, put_hi20, put_jal, put_lo12_i, put_lo12_s};
 use block_cut::cut::Cut;
 use block_cut::item::Item;
+use psabi_reloc::put::{put_branch, put_hi20, put_jal, put_lo12_i, put_lo12_s};
 use psabi_sym::target::Target;
 use rv_decode::instr::Instr;
 use zc_base::place::Place;

@@ -66,13 +66,7 @@ impl PlainText {
 
     // Adds a section of an object, by their indexes, if it is code: zeros up to where it begins, and its
     // items.
-    fn add_section(
-        &mut self,
-        cut: &Cut,
-        object: &Object,
-        o: u16,
-        i: u16,
-    ) -> Result<(), AllocError>
+    fn add_section(&mut self, cut: &Cut, object: &Object, o: u16, i: u16) -> Result<(), AllocError>
         requires ready { IsReady cut.now }
         requires object { slice_get cut.now.files o ≡ Some object.now }
         requires section { i < section_count object.now }
@@ -92,9 +86,7 @@ impl PlainText {
         add_words(&mut self.text, 0, words_between(cut, end, first))?;
         self.add_code(cut, first, object.section(u32::from(i)).bytes)
     }
-}
 
-impl PlainText {
     // Adds the items of a section of code, by the place where it begins, and its end.
     fn add_code(&mut self, cut: &Cut, first: Place, code: &[u8]) -> Result<(), AllocError>
         requires ready { IsReady cut.now }
@@ -114,7 +106,8 @@ impl PlainText {
             add_item(&mut self.text, cut, at, item, code)?;
             at = cut.next(at).unwrap_or(end);
         }
-        self.places.push((end, cut.plain_address(end).unwrap_or(0)))?;
+        let address = cut.plain_address(end).unwrap_or(0);
+        self.places.push((end, address))?;
         Ok(())
     }
 }

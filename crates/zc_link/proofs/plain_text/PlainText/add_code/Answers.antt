@@ -80,8 +80,8 @@ returns c =
     let here = c.requires.here in
     let inv = c.loop-item.invariant in
     let at = in_section p c.args.first q c.args.code.now here inv.object inv.section in
-    let ends = walk_ends inputs none here.section q c.unwrap_or-2.result (record { object = c.args.first.object; section = c.args.first.section; offset = length c.args.code.now })
+    let ends = walk_ends inputs none here.section q c.unwrap_or-address.result (record { object = c.args.first.object; section = c.args.first.section; offset = length c.args.code.now })
     c.loop-item.self.text.items c.loop-item.self.places.items c.push-2.new.self.items at (sym c.in_default.ensures.item) (inv.walks here.section at)
-    (λ j. record { object = sym inv.object j; section = sym inv.section j; offset = length (sym here.are j) }) (c.unwrap_or-2.ensures ∙ ap (λ o. unwrap_or o 0) c.plain_address-2.ensures) c.in_ok-push-2.ensures.items in
+    (λ j. record { object = sym inv.object j; section = sym inv.section j; offset = length (sym here.are j) }) (c.unwrap_or-address.ensures ∙ ap (λ o. unwrap_or o 0) c.plain_address-2.ensures) c.in_ok-push-2.ensures.items in
     subst (λ (o : ℕ). IsPlainText p (sections_before p.objects o (c.args.first.section + 1)) c.loop-item.self.text.items c.push-2.new.self.items) inv.object
     (subst (λ (i : ℕ). IsPlainText p (sections_before p.objects q.object (i + 1)) c.loop-item.self.text.items c.push-2.new.self.items) inv.section ends)
