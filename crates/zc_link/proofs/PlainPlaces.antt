@@ -29,7 +29,8 @@ use Rattle.block_cut.specs.PlainLayout.{plain_address}
 use Rattle.block_cut.proofs.PlainLaws.{address_bounds, here}
 use Rattle.block_cut.proofs.RoomLaws.{AreWhole, all_whole, rooms, rooms_few}
 use Rattle.block_cut.proofs.StartLaws.{along}
-use Rattle.block_cut.proofs.WholeLaws.{IsWhole, section_of}
+use Rattle.block_cut.proofs.WholeLaws.{section_of}
+use Rattle.block_cut.specs.Whole.{IsWhole}
 use Rattle.zc_link.specs.PlainImage.{all_targets, plain_places, targets_of, with_address}
 use Rattle.zc_link.specs.Straight.{code_sections, is_listed_code, listed_code, place_in}
 use Rattle.zc_link.proofs.StraightObjects.{rising}

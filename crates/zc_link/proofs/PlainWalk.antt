@@ -18,7 +18,8 @@ use Rattle.block_cut.proofs.ItemLaws.{item_there}
 use Rattle.block_cut.proofs.ListedLaws.{before_more, listed}
 use Rattle.block_cut.proofs.PlainLaws.{IsItemHere, item_here, offset_end, offset_next, place_address, spot}
 use Rattle.block_cut.proofs.StartLaws.{before_end_all, before_first_none, before_next_start, start_first, start_is, step}
-use Rattle.block_cut.proofs.WholeLaws.{IsWhole, code_is_section, code_whole}
+use Rattle.block_cut.proofs.WholeLaws.{code_is_section, code_whole}
+use Rattle.block_cut.specs.Whole.{IsWhole}
 use Rattle.zc_link.specs.PlainImage.{targets_of, with_address}
 use Rattle.zc_link.specs.PlainItems.{IsPlainText, IsSoFar}
 use Rattle.zc_link.specs.PlainStands.{AddsItem, IsCodeAt, plain_begin}
