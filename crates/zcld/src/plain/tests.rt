@@ -70,7 +70,7 @@ fn calls_of_the_outside_that_fail_are_named(rt: HostRuntime) -> Result<(), Fail>
     expect_changes(&rt, &PLAIN, "s0", &READ_FAULT)?;
     expect_changes(&rt, &PLAIN, "s1", &WRITE_FAULT)?;
     expect_changes(&rt, &PLAIN, "c0", &image_alone)?;
-    expect_changes(&rt, &PLAIN, "s2 c1", &DONE_PLAIN)?;
+    expect_changes(&rt, &PLAIN, "s2 c2", &DONE_PLAIN)?;
     expect_changes(&rt, &PLAIN, "s0 c0", &unsaid(READ_FAULT))?;
     expect_changes(&rt, &PLAIN, "s1 c0", &unsaid(WRITE_FAULT))?;
     expect_changes(&rt, &PLAIN, "c0 c1", &unsaid(image_alone))?;
