@@ -1,6 +1,6 @@
 # make          proves, compiles and links the program: build/zcld
-# make example  links examples/exit3.o, which a C compiler made, shows the image, and runs it and the object; and links a monitor
-#               of several files, and gives it commands
+# make example  links a monitor of several C files as it is, shows the start of its code and its sizes, and gives its commands to
+#               the image and to the objects; and makes examples/exit3.o smaller, shows that, and runs it
 # make check    runs the gate: every proof, must-fail edit, test and program, and then the program that this built over real
 #               files, and looks up the documents' names
 # make install  installs the program below $(DESTDIR)$(PREFIX)/bin
@@ -24,20 +24,22 @@ build/zcld: $(SOURCES)
 	install -m 755 crates/zcld/out/zcld build/zcld
 
 example: build/zcld
-	build/zcld zc --out build/exit3.elf --cert build/exit3.cert $(EXAMPLE)
-	@echo "linked examples/exit3.o to build/exit3.elf, with the certificate:"
-	@cat build/exit3.cert
-	@if command -v $(OBJDUMP) > /dev/null; then $(OBJDUMP) -d $(EXAMPLE) build/exit3.elf; else od -A d -t x1 -j 116 -N 10 build/exit3.elf; fi
-	@echo "the image runs, and the object; each must end with status 3:"
-	build/zcld run build/exit3.elf < /dev/null; status=$$?; echo "status $$status"; test $$status -eq 3
-	build/zcld trace $(EXAMPLE) < /dev/null; status=$$?; echo "status $$status"; test $$status -eq 3
-	@echo "a monitor of several C files, linked plainly; the image and the objects each do its commands, and end with status 2:"
+	@echo "a monitor of several C files, linked as it is:"
 	build/zcld plain --out build/monitor.elf $(MONITOR)
+	@if command -v $(OBJDUMP) > /dev/null; then $(OBJDUMP) -h build/monitor.elf; $(OBJDUMP) -d build/monitor.elf | sed -n 1,24p; fi
+	@echo "the image does these commands, and so do the objects; both end with status 2:"
 	cat examples/monitor/input
 	build/zcld run build/monitor.elf < examples/monitor/input > build/monitor.out; status=$$?; cat build/monitor.out; test $$status -eq 2
 	build/zcld trace $(MONITOR) < examples/monitor/input > build/monitor.traced; test $$? -eq 2
 	cmp build/monitor.out examples/monitor/output
 	cmp build/monitor.traced examples/monitor/output
+	@echo "examples/exit3.o, made smaller, with the certificate of its jump table:"
+	build/zcld zc --out build/exit3.elf --cert build/exit3.cert $(EXAMPLE)
+	@cat build/exit3.cert
+	@if command -v $(OBJDUMP) > /dev/null; then $(OBJDUMP) -d $(EXAMPLE) build/exit3.elf; else od -A d -t x1 -j 116 -N 10 build/exit3.elf; fi
+	@echo "the image runs, and the object; each must end with status 3:"
+	build/zcld run build/exit3.elf < /dev/null; status=$$?; echo "status $$status"; test $$status -eq 3
+	build/zcld trace $(EXAMPLE) < /dev/null; status=$$?; echo "status $$status"; test $$status -eq 3
 
 check:
 	$(RT) ci

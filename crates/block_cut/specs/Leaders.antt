@@ -13,7 +13,7 @@ use Rattle.psabi_sym.specs.declared.target.Target.TheVariants.{Code, Number, Abs
 use Rattle.psabi_reloc.specs.Kinds.{kind_of}
 use Rattle.rv_decode.specs.declared.instr.Instr.{Instr}
 use Rattle.rv_decode.specs.declared.instr.Instr.TheVariants as instr
-use Rattle.block_cut.specs.Items.{all_places, item_at, next_at, target_of}
+use Rattle.block_cut.specs.Items.{all_places, is_target_at, item_at, next_at, target_of}
 use Rattle.block_cut.specs.Relocs.{is_ignored}
 use Rattle.block_cut.specs.declared.item.Item.{Item}
 use Rattle.block_cut.specs.declared.item.Item.TheVariants.{Op, Hi, Lo, PcHi, PcLo, Branch, Jump, Call, Align, Word, Raw, RawPair}
@@ -89,10 +89,10 @@ item_leads inputs q p =
 
 -- ---- symbols
 
--- global (1) or weak (2), or a function (STT_FUNC, 2), and defined at this place of a section of code
+-- global (1) or weak (2), or a function (STT_FUNC, 2), and defined (SHN_UNDEF is 0) at this place of a section of code
 abbrev pub symbol_leads : List ObjectParts → Place → ListedSymbol → Bool
 symbol_leads objects q l =
-    (l.symbol.bind == 1 || (l.symbol.bind == 2 || l.symbol.kind == 2))
+    not (l.symbol.home == 0) && (l.symbol.bind == 1 || (l.symbol.bind == 2 || l.symbol.kind == 2))
     && (same_place (record { object = l.object; section = l.symbol.home; offset = l.symbol.value }) q
     && option_map_or is_code_section (section_at objects l.object l.symbol.home) false)
 
@@ -102,7 +102,7 @@ symbol_leads objects q l =
 -- and where a symbol is defined that others may use or that is a function
 unfoldable pub is_leader_at : ParsedInputs → Place → Bool
 is_leader_at inputs q =
-    q.offset == 0
+    (q.offset == 0 && is_target_at inputs.objects q)
     || (list_any (section_leads inputs q) (all_sections inputs.objects)
     || (list_any (item_leads inputs q) (all_places inputs.objects)
     || list_any (symbol_leads inputs.objects q) (all_symbols inputs.objects)))

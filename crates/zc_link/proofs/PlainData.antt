@@ -245,7 +245,7 @@ module _ (inputs : Inputs) (none : first_fault inputs ≡ None) where
       let own : section_leads p0 to (listed o i s) ≡ true = among (reloc_leads p0 to o) mine in
       let some : list_any (section_leads p0 to) (all_sections p0.objects) ≡ true =
       ap (list_any (section_leads p0 to)) cut.all_are ∙ any_there (section_leads p0 to) (sections_before p0.objects o i) cut.rest (listed o i s) own in
-      named to (not_false (is_target_at p0.objects to) lost) (or_right (eqb to.offset 0) _ (or_left (list_any (section_leads p0 to) (all_sections p0.objects)) _ some))
+      named to (not_false (is_target_at p0.objects to) lost) (or_right (eqb to.offset 0 && is_target_at p0.objects to) _ (or_left (list_any (section_leads p0 to) (all_sections p0.objects)) _ some))
     where
       not_false : (b : Bool) → not b ≡ false → b ≡ true
       not_false true h = refl

@@ -322,7 +322,7 @@ module _ (inputs : Inputs) (ready : IsReady inputs) (room : HasDataRoom (parsed 
   -- the link with this file
   pub plain_linked : (link : Link) → link.elf ≡ image_bytes parts → link.plain ≡ plain_counts p3 → link.zc ≡ plain_counts p3 → IsPlainLink inputs link
   plain_linked link written plain_is zc_is = record {
-    parts = record { text = text; bytes = written };
+    parts = record { text = text; bytes = written; holds = holds };
     preserves = subst (Preserves inputs) (sym written) preserves;
     quietly = quietly inputs link.elf (subst (Preserves inputs) (sym written) preserves);
     copied = subst (Copied p3) (sym written) copied;

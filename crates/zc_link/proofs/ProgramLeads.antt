@@ -117,7 +117,7 @@ module _ (inputs : Inputs) (none : first_fault inputs ≡ None) where
       let here : section_leads (parsed inputs) to l ≡ true = any_found _ (reloc_leads (parsed inputs) to q.object) s.relocs r found one in
       let some : list_any (section_leads (parsed inputs) to) (all_sections objects) ≡ true =
       ap (list_any (section_leads (parsed inputs) to)) cut.all_are ∙ any_there (section_leads (parsed inputs) to) (sections_before objects q.object q.section) cut.rest l here in
-      or_right (eqb to.offset 0) _ (or_left (list_any (section_leads (parsed inputs) to) (all_sections objects)) _ some)
+      or_right (eqb to.offset 0 && is_target_at objects to) _ (or_left (list_any (section_leads (parsed inputs) to) (all_sections objects)) _ some)
 
   -- what stands at a place
   item_leader : (q to : Place) (i : Item) → item_at (parsed inputs) q ≡ Some i → (goes_to to i || (ends_block i && same_place (next_at objects q) to)) ≡ true → is_leader_at (parsed inputs) to ≡ true
@@ -133,7 +133,7 @@ module _ (inputs : Inputs) (none : first_fault inputs ≡ None) where
       let here : list_any (item_leads (parsed inputs) to) (places_of l) ≡ true = ap (λ b. list_any (item_leads (parsed inputs) to) (cond b (map (place_of l) (starts_in s)) [])) section.1 ∙ among in
       let some : list_any (item_leads (parsed inputs) to) (all_places objects) ≡ true =
       ap (λ ls. list_any (item_leads (parsed inputs) to) (flat_map places_of ls)) cut.all_are ∙ any_flat (item_leads (parsed inputs) to) places_of (sections_before objects q.object q.section) cut.rest l here in
-      or_right (eqb to.offset 0) _ (or_right (list_any (section_leads (parsed inputs) to) (all_sections objects)) _ (or_left (list_any (item_leads (parsed inputs) to) (all_places objects)) _ some))
+      or_right (eqb to.offset 0 && is_target_at objects to) _ (or_right (list_any (section_leads (parsed inputs) to) (all_sections objects)) _ (or_left (list_any (item_leads (parsed inputs) to) (all_places objects)) _ some))
 
   -- ---- items with a relocation
 
