@@ -1,12 +1,12 @@
 -- Bytes that are added to a text for an item: padding, the two words of a call, and what is copied.
-use Rattle.std.proofs.Common.{◌≡◌, ℕ, ℤ, zero, suc, ◌+◌, ◌*◌, ◌%◌, ◌^◌, ◌<◌, ◌≤◌, List, [], ◌∷◌, ◌++◌, length, Option, Some, refl, sym, ap, ◌∙◌, subst, arith, append_assoc, get_or, length-append, take, drop}
+use Rattle.std.proofs.Common.{◌≡◌, ℕ, ℤ, zero, suc, ◌+◌, ◌*◌, ◌^◌, ◌<◌, ◌≤◌, List, [], ◌∷◌, ◌++◌, length, Option, Some, refl, sym, ap, ◌∙◌, subst, arith, append_assoc, get_or, length-append, take, drop}
 use Rattle.std.specs.Option.{option_map, unwrap_or}
 use Rattle.std.proofs.lemmas.List.{length-drop, length-take-le}
-use Rattle.zc_base.specs.Fields.{word_bytes, word_in}
+use Rattle.zc_base.specs.Fields.{word_bytes}
 use Rattle.zc_base.specs.declared.place.Place.{Place}
 use Rattle.psabi_reloc.specs.Parts.{hi20_of, lo12_of}
 use Rattle.psabi_sym.specs.Inputs.{ParsedInputs}
-use Rattle.rv_decode.specs.Bits.{as_signed, as_word}
+use Rattle.rv_decode.specs.Bits.{as_word}
 use Rattle.rv_decode.specs.Decode.{decoded}
 use Rattle.rv_decode.specs.declared.instr.Instr.TheVariants as instr
 use Rattle.rv_decode.specs.declared.instr.UpperOp.TheVariants.{Auipc}
@@ -15,10 +15,9 @@ use Rattle.block_cut.specs.PlainLayout.{after_item, plain_address}
 use Rattle.block_cut.specs.declared.item.Item.{Item}
 use Rattle.block_cut.specs.declared.item.Item.TheVariants.{Align, Call, Raw, RawPair}
 use Rattle.zc_link.specs.Copied.{bytes_from}
-use Rattle.zc_link.specs.PlainItems.{IsWritten, WithCall, copies, nop}
-use Rattle.zc_link.specs.PlainStands.{AddsCall, AddsItem, ItemStands, SpellsCall, StandsHere}
+use Rattle.zc_link.specs.PlainItems.{IsWritten, copies, nop}
+use Rattle.zc_link.specs.PlainStands.{AddsCall, AddsItem, SpellsCall, StandsHere}
 use Rattle.zc_link.specs.Values.{way}
-use Rattle.zc_link.proofs.WayLaws.{way_word}
 
 -- ---- bytes are bytes
 

@@ -1,33 +1,31 @@
 -- What it means that no fault stands in relocations and branches: what an item's relocation leads to is a place where an item starts
 -- or a section ends, or a number, and each branch reaches.
-use Rattle.std.proofs.Common.{◌≡◌, ℕ, ◌+◌, ℤ, pos, ◌-ℤ◌, List, [], ◌∷◌, ◌++◌, map, length, Option, Some, None, Bool, true, false, cond, eqb, refl, sym, ap, ◌∙◌, subst, inl, inr, ◌⊎◌}
+use Rattle.std.proofs.Common.{◌≡◌, ℕ, pos, ◌-ℤ◌, List, [], ◌∷◌, ◌++◌, map, length, Option, Some, None, Bool, true, false, cond, eqb, refl, sym, ap, ◌∙◌}
 use Rattle.std.specs.Prelude.{◌&&◌, ◌||◌, not}
-use Rattle.std.specs.List.{find, flat_map, list_any}
+use Rattle.std.specs.List.{find, flat_map}
 use Rattle.std.specs.Option.{option_and_then, option_map, option_map_or}
-use Rattle.std.proofs.lemmas.Bool.{eqb-true, or_parts}
+use Rattle.std.proofs.lemmas.Bool.{eqb-true}
 use Rattle.zc_base.specs.declared.place.Place.{Place}
-use Rattle.elf32_read.specs.Parts.{ObjectParts, SectionParts, is_code_section}
+use Rattle.elf32_read.specs.Parts.{SectionParts}
 use Rattle.elf32_read.specs.declared.fault.Fault.{Fault}
-use Rattle.elf32_read.specs.declared.fault.Fault.TheVariants.{BadTarget, LoPair, RelocKind, RelocPlace, Range}
+use Rattle.elf32_read.specs.declared.fault.Fault.TheVariants.{BadTarget, LoPair, RelocKind, RelocPlace}
 use Rattle.elf32_read.specs.declared.reloc.Reloc.{Reloc}
 use Rattle.psabi_reloc.specs.Kinds.{kind_of}
 use Rattle.psabi_reloc.specs.Reaches.{branch_reach}
 use Rattle.psabi_sym.specs.Faults.{first_some, gather_fault}
 use Rattle.psabi_sym.specs.Inputs.{Inputs, ParsedInputs, parsed}
-use Rattle.psabi_sym.specs.Listed.{ListedSection, all_sections, section_at, sections_before}
+use Rattle.psabi_sym.specs.Listed.{ListedSection, section_at, sections_before}
 use Rattle.psabi_sym.specs.declared.target.Target.{Target}
 use Rattle.psabi_sym.specs.declared.target.Target.TheVariants.{Code, Number, Absent, Nowhere}
 use Rattle.psabi_sym.proofs.FaultLaws.{neither}
-use Rattle.block_cut.specs.declared.item.Item.{Item}
 use Rattle.block_cut.specs.declared.item.Item.TheVariants.{Branch}
-use Rattle.block_cut.specs.Faults.{branch_target, distance_between, entry_fault, first_fault, if_so, is_astray, is_far, is_lonely, is_lost, is_out_of_reach, plain_distance, range_fault, reloc_fault, relocs_fault, section_fault}
-use Rattle.block_cut.specs.Items.{all_places, code_at, is_end_at, is_start_at, is_target_at, item_at, place_of, places_of, starts_in, starts_on, target_of}
+use Rattle.block_cut.specs.Faults.{branch_target, distance_between, entry_fault, first_fault, if_so, is_astray, is_far, is_lonely, is_lost, is_out_of_reach, range_fault, reloc_fault, relocs_fault, section_fault}
+use Rattle.block_cut.specs.Items.{all_places, code_at, is_target_at, item_at, place_of, places_of, starts_in, starts_on, target_of}
 use Rattle.block_cut.specs.PlainLayout.{address_on, plain_address}
 use Rattle.block_cut.specs.Relocs.{is_bad_kind, is_bad_place, is_ignored, is_transfer, reloc_on}
 use Rattle.rv_decode.specs.declared.instr.Instr.{Instr}
 use Rattle.block_cut.proofs.ItemLaws.{item_found}
 use Rattle.block_cut.proofs.ListedLaws.{cut_at, listed}
-use Rattle.block_cut.proofs.SoundLaws.{sound_at}
 use Rattle.block_cut.proofs.StartLaws.{is_among}
 use Rattle.block_cut.proofs.WholeLaws.{code_is_section}
 use Rattle.zc_link.specs.PlainStands.{HasValue}

@@ -1,14 +1,12 @@
 -- The link that writes code as it is: its file reads back as the image of the text that was laid and the data, which is laid as a
 -- layout owes; so it does what the objects' program does. And what it copies is the objects'.
-use Rattle.std.proofs.Common.{◌≡◌, ℕ, ◌+◌, ◌-◌, ◌*◌, ◌%◌, ◌^◌, ◌<◌, ◌≤◌, List, [], ◌∷◌, ◌++◌, length, map, filter, replicate, Option, Some, None, Bool, true, false, cond, refl, sym, ap, ◌∙◌, subst, arith, get_or, length-append}
+use Rattle.std.proofs.Common.{◌≡◌, ℕ, ◌+◌, ◌-◌, ◌<◌, ◌≤◌, List, [], ◌∷◌, length, filter, replicate, Option, Some, None, Bool, true, false, cond, refl, sym, ap, ◌∙◌, subst, arith, get_or, length-append}
 use Rattle.std.specs.Prelude.{All, is_none}
 use Rattle.std.specs.Option.{unwrap_or}
 use Rattle.std.proofs.lemmas.Bool.{or_left}
 use Rattle.std.proofs.lemmas.List.{length-replicate}
-use Rattle.zc_base.specs.Fields.{word_bytes}
-use Rattle.zc_base.specs.MemMap.{IsMap}
 use Rattle.zc_base.specs.declared.place.Place.{Place}
-use Rattle.elf32_read.specs.Parts.{ObjectParts, SectionParts}
+use Rattle.elf32_read.specs.Parts.{ObjectParts}
 use Rattle.elf32_read.specs.declared.fault.Fault.{Fault}
 use Rattle.elf32_read.specs.declared.fault.Fault.TheVariants.{NoEntry}
 use Rattle.elf32_read.specs.Places.{places_of}
@@ -29,7 +27,7 @@ use Rattle.psabi_sym.proofs.ContentLaws.{data_file_end-le, data_low-le}
 use Rattle.rv_decode.specs.Memory.{cell_at}
 use Rattle.rv_decode.specs.State.{byte_in}
 use Rattle.block_cut.specs.Faults.{entry_fault}
-use Rattle.block_cut.specs.Items.{code_at, entry_in, entry_of, is_end_at, is_start_at, item_at, start_only}
+use Rattle.block_cut.specs.Items.{entry_in, entry_of, is_end_at, is_start_at, item_at, start_only}
 use Rattle.block_cut.specs.PlainLayout.{after_item, plain_address, plain_counts, plain_end}
 use Rattle.block_cut.specs.declared.item.Item.{Item}
 use Rattle.block_cut.specs.declared.item.Item.TheVariants.{Op, Hi, Lo, PcHi, PcLo, Branch, Jump, Call, Align, Word, Raw, RawPair}
@@ -46,7 +44,7 @@ use Rattle.zc_link.specs.Laid.{AtEntry, Laid, laid_pace}
 use Rattle.zc_link.specs.Linked.{Link}
 use Rattle.zc_link.specs.Places.{address_in}
 use Rattle.zc_link.specs.PlainImage.{plain_data, plain_parts, plain_places}
-use Rattle.zc_link.specs.PlainItems.{Holds, HoldsItem, IsPlainText, IsWritten}
+use Rattle.zc_link.specs.PlainItems.{Holds, IsPlainText, IsWritten}
 use Rattle.zc_link.specs.PlainLinked.{IsPlainLink, TextEndsAt}
 use Rattle.zc_link.specs.PlainStands.{IsReady}
 use Rattle.zc_link.specs.Preserves.{Preserves}

@@ -1,5 +1,5 @@
 -- The text that was written lies in its image as a layout owes: at each listed place stand the instructions of its item.
-use Rattle.std.proofs.Common.{◌≡◌, ℕ, zero, suc, pos, ◌+◌, ◌-◌, ◌*◌, ◌/◌, ◌%◌, ◌^◌, ◌<◌, ◌≤◌, List, [], ◌∷◌, ◌++◌, length, take, drop, Option, Some, None, Bool, true, false, cond, refl, sym, ap, ◌∙◌, subst, arith, get_or, length-append, ltb, max}
+use Rattle.std.proofs.Common.{◌≡◌, ℕ, zero, suc, pos, ◌+◌, ◌-◌, ◌*◌, ◌/◌, ◌%◌, ◌^◌, ◌<◌, ◌≤◌, List, ◌++◌, length, drop, Option, Some, None, Bool, true, false, cond, refl, sym, ap, ◌∙◌, subst, arith, get_or, length-append, ltb}
 use Rattle.std.specs.Prelude.{All}
 use Rattle.std.specs.Option.{unwrap_or}
 use Rattle.std.proofs.lemmas.List.{get_or-append-add, get_or_append_left, get_or-drop, get_or-take, length-drop, length-take-le}
@@ -9,7 +9,6 @@ use Rattle.zc_base.specs.declared.place.Place.{Place}
 use Rattle.elf32_write.specs.Parts.{Parts}
 use Rattle.psabi_reloc.specs.Parts.{hi20_of, lo12_of}
 use Rattle.psabi_reloc.specs.Patched.{with_distance, with_imm, with_upper}
-use Rattle.psabi_sym.specs.Blocks.{aligned_up}
 use Rattle.psabi_sym.specs.Faults.{gather_fault, power_above}
 use Rattle.psabi_sym.specs.Inputs.{Inputs, ParsedInputs, parsed}
 use Rattle.psabi_sym.specs.declared.target.Target.{Target}
@@ -29,17 +28,15 @@ use Rattle.block_cut.specs.declared.item.Item.TheVariants.{Op, Hi, Lo, PcHi, PcL
 use Rattle.block_cut.proofs.PlainLaws.{AtEnd, Coincide, FirstFlat, InPadding, IsFlat, Same, SecondFlat, address_bounds, apart, next_address}
 use Rattle.sym_machine.specs.AddressParts.{pc_target}
 use Rattle.sym_machine.specs.Conditions.{is_solid}
-use Rattle.sym_machine.specs.Objects.{program_of}
 use Rattle.sym_machine.specs.Program.{Program}
 use Rattle.sym_machine.specs.State.{PlainCore}
 use Rattle.zc_decode.specs.declared.short.Short.TheVariants.{Base}
-use Rattle.zc_machine.specs.Fetch.{Found, fetched_at}
 use Rattle.zc_machine.proofs.FetchLaws.{fetched_long}
 use Rattle.zc_link.specs.Copied.{bytes_from}
 use Rattle.zc_link.specs.Image.{Image, loaded, place_address}
 use Rattle.zc_link.specs.Pieces.{AlignLaid, AlignOf, Alone, AloneLaid, CallLaid, CallOf, ItemLaid, Nops, OneAt, Piece, PieceLaid, commits_of, span_of}
 use Rattle.zc_link.specs.PlainItems.{Holds, IsWritten, Spells, WithCall, copies, nop}
-use Rattle.zc_link.specs.Values.{pc_upper, target_value, way}
+use Rattle.zc_link.specs.Values.{target_value, way}
 use Rattle.zc_link.proofs.ImageMemory.{AreLaidOut, image_of, text_byte, text_lies}
 use Rattle.zc_link.proofs.PartLaws.{call_reaches}
 use Rattle.block_cut.proofs.RoomLaws.{after_item-ge}

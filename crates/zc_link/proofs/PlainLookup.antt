@@ -1,5 +1,5 @@
 -- The addresses that the image lists are those of the plain layout: a place has one if an item starts there or a section ends there.
-use Rattle.std.proofs.Common.{◌≡◌, ℕ, ◌+◌, ◌<◌, ◌≤◌, List, [], ◌∷◌, ◌++◌, map, length, Option, Some, None, Bool, true, false, cond, eqb, refl, sym, ap, ◌∙◌, subst, inl, inr, ◌⊎◌}
+use Rattle.std.proofs.Common.{◌≡◌, ℕ, List, [], ◌∷◌, ◌++◌, map, length, Option, Some, None, Bool, true, false, cond, eqb, refl, sym, ap, ◌∙◌, subst, inl, inr, ◌⊎◌}
 use Rattle.std.specs.Prelude.{All, ◌||◌}
 use Rattle.std.specs.List.{flat_map, list_any}
 use Rattle.std.specs.Option.{unwrap_or}
@@ -11,13 +11,13 @@ use Rattle.zc_base.specs.declared.place.Place.{Place}
 use Rattle.elf32_read.specs.Parts.{SectionParts}
 use Rattle.psabi_sym.specs.Faults.{gather_fault}
 use Rattle.psabi_sym.specs.Inputs.{Inputs, ParsedInputs, parsed}
-use Rattle.psabi_sym.specs.Listed.{ListedSection, all_sections, sections_before}
+use Rattle.psabi_sym.specs.Listed.{sections_before}
 use Rattle.block_cut.specs.Items.{place_of, starts_in, starts_on}
 use Rattle.block_cut.specs.PlainLayout.{plain_address}
 use Rattle.block_cut.proofs.ListedLaws.{cut_at, listed}
-use Rattle.block_cut.proofs.PlainLaws.{IsHere, here}
+use Rattle.block_cut.proofs.PlainLaws.{here}
 use Rattle.zc_link.specs.Places.{address_in}
-use Rattle.zc_link.specs.PlainImage.{all_targets, plain_places, targets_of, with_address}
+use Rattle.zc_link.specs.PlainImage.{all_targets, plain_places, targets_of}
 use Rattle.zc_link.proofs.Elements.{any_flat, any_offset}
 use Rattle.zc_link.proofs.PlaceLaws.{same_place-refl, same_place-true}
 

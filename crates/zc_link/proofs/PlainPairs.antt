@@ -1,10 +1,10 @@
 -- A lower part goes with an `auipc` that has its own relocation: no other stands there, since two relocations in one place crowd each
 -- other, which is a fault.
-use Rattle.std.proofs.Common.{◌≡◌, ℕ, suc, ◌+◌, ◌<◌, ◌≤◌, ℤ, pos, negsuc, List, [], ◌∷◌, map, filter, length, max, min, Option, Some, None, Bool, true, false, cond, eqb, ltb, leb, refl, sym, ap, ◌∙◌, subst, arith, inl, inr, ◌⊎◌}
+use Rattle.std.proofs.Common.{◌≡◌, ℕ, suc, ◌+◌, ◌<◌, ◌≤◌, ℤ, pos, negsuc, List, [], ◌∷◌, map, filter, length, max, min, Option, Some, None, Bool, true, false, cond, eqb, ltb, leb, refl, sym, ap, ◌∙◌, arith, inl, inr, ◌⊎◌}
 use Rattle.std.specs.Prelude.{◌&&◌, ◌||◌, not}
 use Rattle.std.specs.List.{find, list_any}
-use Rattle.std.specs.Option.{option_and_then, option_map_or}
-use Rattle.std.proofs.lemmas.Bool.{and_from, and_parts, eq-eqb, eqb-true, leb-true, lt-ltb, ltb-false, ltb-true, or_cases, or_parts}
+use Rattle.std.specs.Option.{option_and_then}
+use Rattle.std.proofs.lemmas.Bool.{and_from, and_parts, eq-eqb, eqb-true, leb-true, lt-ltb, ltb-false, or_cases, or_parts}
 use Rattle.zc_base.specs.Fields.{word_in}
 use Rattle.zc_base.specs.declared.place.Place.{Place}
 use Rattle.elf32_read.specs.Parts.{SectionParts, is_code_section}
@@ -16,24 +16,22 @@ use Rattle.psabi_sym.specs.Faults.{first_some}
 use Rattle.psabi_sym.specs.Inputs.{Inputs, ParsedInputs, parsed}
 use Rattle.psabi_sym.specs.Listed.{ListedSection, section_at}
 use Rattle.psabi_sym.specs.Resolve.{resolved}
-use Rattle.psabi_sym.specs.declared.target.Target.{Target}
-use Rattle.psabi_sym.specs.declared.target.Target.TheVariants.{Code, Number, Absent, Nowhere}
+use Rattle.psabi_sym.specs.declared.target.Target.TheVariants.{Code}
 use Rattle.psabi_sym.proofs.FaultLaws.{neither}
 use Rattle.rv_decode.specs.Decode.{decoded}
 use Rattle.rv_decode.specs.declared.instr.Instr.{Instr}
-use Rattle.block_cut.specs.declared.item.Item.{Item}
 use Rattle.block_cut.specs.declared.item.Item.TheVariants.{PcHi}
-use Rattle.block_cut.specs.Faults.{first_fault, is_lonely, is_nothing, is_pair_at, reloc_fault}
-use Rattle.block_cut.specs.Items.{code_at, code_only, is_target_at, item_at, item_in, item_under, known_item, of_instr, starts_on, target_of}
+use Rattle.block_cut.specs.Faults.{first_fault, is_nothing, is_pair_at, reloc_fault}
+use Rattle.block_cut.specs.Items.{code_at, code_only, is_target_at, item_at, item_under, known_item, of_instr, starts_on, target_of}
 use Rattle.block_cut.specs.PlainLayout.{plain_address}
-use Rattle.block_cut.specs.Relocs.{field_end, field_of, is_bad_kind, is_bad_place, is_crowded, is_ignored, is_pcrel_hi, is_pcrel_lo, is_placed, is_sound, is_upper_on, overlap, reloc_on}
+use Rattle.block_cut.specs.Relocs.{field_end, field_of, is_crowded, is_ignored, is_pcrel_hi, is_pcrel_lo, is_placed, is_sound, is_upper_on, overlap, reloc_on}
 use Rattle.block_cut.proofs.ItemLaws.{item_there}
 use Rattle.block_cut.proofs.ListedLaws.{listed}
 use Rattle.block_cut.proofs.PlainLaws.{target_on}
 use Rattle.block_cut.proofs.SoundLaws.{sound_at}
 use Rattle.block_cut.proofs.WholeLaws.{code_is_section}
 use Rattle.zc_link.specs.PlainStands.{GoesWith, HasValue}
-use Rattle.zc_link.proofs.PlainFaults.{IsGood, good, reloc_good, reloc_value, section_none, target_listed}
+use Rattle.zc_link.proofs.PlainFaults.{good, reloc_good, reloc_value, section_none, target_listed}
 
 -- ---- one relocation in a place
 

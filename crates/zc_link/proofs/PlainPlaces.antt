@@ -1,5 +1,5 @@
 -- The list of places as a file holds it: it is short, it ascends, and its numbers have room.
-use Rattle.std.proofs.Common.{◌≡◌, ℕ, suc, ◌+◌, ◌*◌, ◌^◌, ◌<◌, ◌≤◌, List, [], ◌∷◌, ◌++◌, map, filter, length, max, Bool, true, false, cond, nat_lt, refl, sym, ap, ◌∙◌, subst, arith, length-append, eqb}
+use Rattle.std.proofs.Common.{◌≡◌, ℕ, ◌+◌, ◌*◌, ◌<◌, ◌≤◌, List, [], ◌∷◌, ◌++◌, map, filter, length, max, Bool, true, false, cond, nat_lt, refl, sym, ap, ◌∙◌, subst, arith, length-append, eqb}
 use Rattle.std.specs.Prelude.{All, Some, None}
 use Rattle.std.specs.List.{flat_map, list_any, sum_by}
 use Rattle.std.specs.Option.{unwrap_or}
@@ -32,7 +32,7 @@ use Rattle.block_cut.proofs.StartLaws.{along}
 use Rattle.block_cut.proofs.WholeLaws.{section_of}
 use Rattle.block_cut.specs.Whole.{IsWhole}
 use Rattle.zc_link.specs.PlainImage.{all_targets, plain_places, targets_of, with_address}
-use Rattle.zc_link.specs.Straight.{code_sections, is_listed_code, listed_code, place_in}
+use Rattle.zc_link.specs.Straight.{code_sections, is_listed_code, listed_code}
 use Rattle.zc_link.proofs.StraightObjects.{rising}
 use Rattle.zc_link.proofs.StraightSections.{IsBefore, IsRising, before_places}
 

@@ -1,5 +1,5 @@
 -- From section to section: one that isn't code changes nothing, and one that is begins after a gap of whole words.
-use Rattle.std.proofs.Common.{◌≡◌, ℕ, ◌+◌, ◌-◌, ◌*◌, ◌/◌, ◌%◌, ◌^◌, ◌<◌, ◌≤◌, ◌⊎◌, List, [], ◌∷◌, ◌++◌, length, map, max, Bool, Some, None, true, false, cond, refl, sym, ap, ◌∙◌, subst, arith}
+use Rattle.std.proofs.Common.{◌≡◌, ℕ, ◌+◌, ◌-◌, ◌*◌, ◌/◌, ◌%◌, ◌<◌, ◌≤◌, ◌⊎◌, List, [], ◌∷◌, ◌++◌, length, map, max, Some, None, true, false, cond, refl, sym, ap, ◌∙◌, subst, arith}
 use Rattle.std.specs.Prelude.{slice_get}
 use Rattle.std.specs.List.{flat_map}
 use Rattle.std.specs.Option.{option_and_then, option_map, option_map_or}
@@ -11,23 +11,22 @@ use Rattle.std.proofs.lemmas.Option.{slice_get-map}
 use Rattle.zc_base.specs.MemMap.{IsMap}
 use Rattle.zc_base.specs.declared.place.Place.{Place}
 use Rattle.elf32_read.specs.Header.{section_count}
-use Rattle.elf32_read.specs.Parts.{ObjectParts, SectionParts, is_code_section, object_parts, section_parts}
+use Rattle.elf32_read.specs.Parts.{SectionParts, is_code_section, object_parts, section_parts}
 use Rattle.psabi_sym.specs.Data.{is_code_at}
 use Rattle.psabi_sym.specs.Faults.{gather_fault}
 use Rattle.psabi_sym.specs.Inputs.{Inputs, ParsedInputs, parsed}
 use Rattle.psabi_sym.specs.Listed.{all_sections, section_at, sections_before}
 use Rattle.psabi_sym.proofs.PartLaws.{section_count_is}
 use Rattle.block_cut.specs.Items.{code_at, code_only, item_in, place_of, starts_in, starts_on}
-use Rattle.block_cut.specs.PlainLayout.{after_items, items_before, plain_address, plain_end, plain_end_of, plain_start, section_end}
+use Rattle.block_cut.specs.PlainLayout.{after_items, items_before, plain_address, plain_end_of, plain_start, section_end}
 use Rattle.block_cut.proofs.ListedLaws.{before_first, before_more, before_next, listed}
 use Rattle.block_cut.proofs.PlainLaws.{address_bounds, place_address, section_ends, spot}
 use Rattle.block_cut.proofs.RoomLaws.{aligned_up-ge, plain_end-fits, section_end-ge, section_end-other}
 use Rattle.block_cut.proofs.StartLaws.{before_first_none, start_first}
 use Rattle.block_cut.proofs.WholeLaws.{code_whole, section_there}
 use Rattle.zc_link.specs.PlainImage.{targets_of}
-use Rattle.zc_link.specs.PlainItems.{Holds, IsPlainText, IsSoFar, copies}
+use Rattle.zc_link.specs.PlainItems.{Holds, IsPlainText, IsSoFar}
 use Rattle.zc_link.specs.PlainStands.{IsCodeAt, plain_begin}
-use Rattle.zc_link.proofs.PlainGrows.{so_far_gap}
 
 -- ---- one that isn't code
 

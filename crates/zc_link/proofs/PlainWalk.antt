@@ -1,7 +1,7 @@
 -- The walk over a section: so far the text has the items before the place where it stands, and that is where an item starts or
 -- the section ends.
-use Rattle.std.proofs.Common.{◌≡◌, ℕ, ◌+◌, ◌*◌, ◌<◌, ◌≤◌, ◌⊎◌, inl, inr, List, [], ◌∷◌, ◌++◌, length, map, filter, Option, Some, None, true, refl, sym, ap, ◌∙◌, subst, arith, ltb, append_assoc, cond}
-use Rattle.std.specs.List.{flat_map, fold}
+use Rattle.std.proofs.Common.{◌≡◌, ℕ, ◌+◌, ◌<◌, ◌≤◌, ◌⊎◌, inl, inr, List, [], ◌∷◌, ◌++◌, length, map, filter, Option, Some, None, true, sym, ap, ◌∙◌, subst, arith, ltb, append_assoc, cond}
+use Rattle.std.specs.List.{flat_map}
 use Rattle.std.specs.Option.{option_and_then, option_map, option_map_or, unwrap_or}
 use Rattle.std.proofs.lemmas.List.{append-nil, map-append}
 use Rattle.std.proofs.lemmas.List.Concat.{flat_map-append}
@@ -10,17 +10,17 @@ use Rattle.zc_base.specs.declared.place.Place.{Place}
 use Rattle.elf32_read.specs.Parts.{SectionParts, is_code_section}
 use Rattle.psabi_sym.specs.Faults.{gather_fault}
 use Rattle.psabi_sym.specs.Inputs.{Inputs, ParsedInputs, parsed}
-use Rattle.psabi_sym.specs.Listed.{ListedSection, section_at, sections_before}
+use Rattle.psabi_sym.specs.Listed.{section_at, sections_before}
 use Rattle.block_cut.specs.Items.{code_at, code_only, item_at, item_in, next_at, place_of, size_on, starts_in, starts_on}
 use Rattle.block_cut.specs.PlainLayout.{after_item, after_items, items_before, plain_address, plain_end_of, plain_start, section_end}
 use Rattle.block_cut.specs.declared.item.Item.{Item}
 use Rattle.block_cut.proofs.ItemLaws.{item_there}
-use Rattle.block_cut.proofs.ListedLaws.{before_more, listed}
-use Rattle.block_cut.proofs.PlainLaws.{IsItemHere, item_here, offset_end, offset_next, place_address, spot}
+use Rattle.block_cut.proofs.ListedLaws.{before_more}
+use Rattle.block_cut.proofs.PlainLaws.{item_here, offset_end, offset_next, place_address, spot}
 use Rattle.block_cut.proofs.StartLaws.{before_end_all, before_first_none, before_next_start, start_first, start_is, step}
 use Rattle.block_cut.proofs.WholeLaws.{code_is_section, code_whole}
 use Rattle.block_cut.specs.Whole.{IsWhole}
-use Rattle.zc_link.specs.PlainImage.{targets_of, with_address}
+use Rattle.zc_link.specs.PlainImage.{targets_of}
 use Rattle.zc_link.specs.PlainItems.{IsPlainText, IsSoFar}
 use Rattle.zc_link.specs.PlainStands.{AddsItem, IsCodeAt, plain_begin}
 use Rattle.zc_link.proofs.PlainGrows.{so_far_end, so_far_item}

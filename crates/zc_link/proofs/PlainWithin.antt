@@ -1,5 +1,5 @@
 -- Words of data lie among the bytes that files hold: sections with content stand in the classes that come first.
-use Rattle.std.proofs.Common.{◌≡◌, ℕ, ◌+◌, ◌-◌, ◌<◌, ◌≤◌, List, [], ◌∷◌, ◌++◌, map, filter, length, max, Option, Some, None, Bool, true, false, cond, eqb, ltb, refl, sym, ap, ◌∙◌, subst, arith}
+use Rattle.std.proofs.Common.{◌≡◌, ℕ, ◌+◌, ◌≤◌, List, [], ◌∷◌, ◌++◌, map, filter, Option, Some, None, Bool, true, false, cond, eqb, ltb, refl, sym, ap, ◌∙◌, subst, arith}
 use Rattle.std.specs.Prelude.{All, ◌&&◌, ◌||◌, not, slice_get}
 use Rattle.std.specs.List.{flat_map, list_any}
 use Rattle.std.specs.Option.{option_and_then, option_map_or}
@@ -13,20 +13,20 @@ use Rattle.psabi_reloc.specs.Kinds.{field_length, kind_of}
 use Rattle.psabi_reloc.specs.declared.kind.RelocKind.{RelocKind}
 use Rattle.psabi_reloc.specs.declared.kind.RelocKind.TheVariants as kind
 use Rattle.psabi_sym.specs.Blocks.{aligned_up, end_from}
-use Rattle.psabi_sym.specs.Data.{address_in, blocks_in, blocks_of, class_end, class_of, class_start, data_address, data_file_end, end_after, has_class, is_of_class, role_address, role_of, section_block}
+use Rattle.psabi_sym.specs.Data.{address_in, blocks_in, blocks_of, class_end, class_start, data_address, data_file_end, end_after, has_class, is_of_class, role_address, role_of, section_block}
 use Rattle.psabi_sym.specs.Faults.{first_some}
 use Rattle.psabi_sym.specs.Inputs.{Inputs, ParsedInputs, parsed}
 use Rattle.psabi_sym.specs.Listed.{ListedSection, all_sections, section_at, sections_before}
 use Rattle.psabi_sym.specs.declared.block.Block.{Block}
 use Rattle.psabi_sym.specs.declared.data_class.DataClass.{DataClass}
-use Rattle.psabi_sym.specs.declared.data_class.DataClass.TheVariants.{ReadOnly, Data, SmallData, SmallZero, Zero, Common}
+use Rattle.psabi_sym.specs.declared.data_class.DataClass.TheVariants.{ReadOnly, Data, SmallData, SmallZero, Zero}
 use Rattle.psabi_sym.specs.declared.section_row.SectionRole.{SectionRole}
 use Rattle.psabi_sym.specs.declared.section_row.SectionRole.TheVariants.{Code, InClass, Dropped}
 use Rattle.psabi_sym.proofs.ContentLaws.{address_in-ge}
 use Rattle.psabi_sym.proofs.FaultLaws.{neither}
 use Rattle.block_cut.specs.DataWords.{data_word, data_words, words_in}
 use Rattle.block_cut.specs.Faults.{first_fault, reloc_fault}
-use Rattle.block_cut.specs.Relocs.{field_end, field_of, is_bad_place, is_crowded, is_ignored, is_placed, is_word}
+use Rattle.block_cut.specs.Relocs.{field_end, field_of, is_crowded, is_ignored, is_placed, is_word}
 use Rattle.block_cut.specs.declared.data_word.DataWord.{DataWord}
 use Rattle.block_cut.proofs.ListedLaws.{cut_at, listed}
 use Rattle.zc_link.proofs.ListedLaws.{all_listed}

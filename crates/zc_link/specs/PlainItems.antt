@@ -13,7 +13,7 @@ use Rattle.psabi_sym.specs.declared.target.Target.{Target}
 use Rattle.rv_decode.specs.declared.instr.Instr.{Instr}
 use Rattle.rv_decode.specs.declared.instr.Instr.TheVariants as instr
 use Rattle.rv_decode.specs.declared.instr.UpperOp.TheVariants.{Auipc}
-use Rattle.rv_decode.specs.Bits.{add32, as_word}
+use Rattle.rv_decode.specs.Bits.{add32}
 use Rattle.rv_decode.specs.Decode.{decoded}
 use Rattle.block_cut.specs.Items.{code_at, item_at}
 use Rattle.block_cut.specs.PlainLayout.{after_item, plain_address, plain_end_of}

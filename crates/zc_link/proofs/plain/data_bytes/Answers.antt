@@ -1,13 +1,12 @@
 -- Each word lies among the bytes, and is put over them.
-use Rattle.std.proofs.Common.{◌≡◌, ℕ, ◌+◌, ◌-◌, ◌<◌, ◌≤◌, ◌++◌, List, length, take, drop, get_or, refl, sym, ap, ◌∙◌, subst, arith}
+use Rattle.std.proofs.Common.{◌≡◌, ◌+◌, ◌-◌, ◌≤◌, ◌++◌, length, take, drop, get_or, sym, ap, ◌∙◌, arith}
 use Rattle.std.specs.List.{fold}
 use Rattle.std.proofs.lemmas.Grind.{common_steps}
 use Rattle.std.proofs.lemmas.List.{take_all}
 use Rattle.zc_base.specs.declared.mem_map.MemMap.{MemMap}
-use Rattle.zc_base.specs.declared.place.Place.{Place}
 use Rattle.psabi_sym.specs.Contents.{data_contents}
 use Rattle.psabi_sym.specs.Data.{data_file_end}
-use Rattle.psabi_sym.specs.Inputs.{Inputs, ParsedInputs, parsed}
+use Rattle.psabi_sym.specs.Inputs.{Inputs, parsed}
 use Rattle.psabi_sym.specs.declared.target.Target.TheVariants.{Code}
 use Rattle.psabi_sym.proofs.ContentLaws.{length-data_contents}
 use Rattle.block_cut.specs.DataWords.{data_words}

@@ -1,18 +1,15 @@
 -- The parts that are written are those of the objects, so the file is the link.
-use Rattle.std.proofs.Common.{◌≡◌, ◌∙◌, ◌-◌, ◌<◌, ℕ, List, ap, sym, subst, get_or, length}
+use Rattle.std.proofs.Common.{◌≡◌, ◌∙◌, ◌-◌, ℕ, List, ap, sym, subst, length}
 use Rattle.std.specs.Option.{unwrap_or}
 use Rattle.block_cut.specs.Items.{entry_of}
-use Rattle.block_cut.specs.PlainLayout.{plain_address, plain_counts}
+use Rattle.block_cut.specs.PlainLayout.{plain_address}
 use Rattle.elf32_write.specs.Image.{Fits, image_bytes}
-use Rattle.elf32_write.specs.Parts.{Parts}
 use Rattle.psabi_sym.specs.Data.{data_end, data_file_end}
 use Rattle.psabi_sym.specs.Inputs.{Inputs, parsed}
-use Rattle.psabi_sym.specs.Listed.{all_sections}
 use Rattle.zc_base.specs.MemMap.{IsMap}
 use Rattle.zc_base.specs.declared.mem_map.MemMap.{MemMap}
 use Rattle.zc_base.specs.declared.place.Place.{Place}
 use Rattle.zc_link.specs.PlainImage.{plain_data, plain_parts, plain_places}
-use Rattle.zc_link.specs.PlainItems.{IsPlainText}
 use Rattle.zc_link.specs.PlainStands.{IsReady}
 use Rattle.zc_link.proofs.PlainAdds.{AreBytes}
 use Rattle.zc_link.proofs.PlainData.{length-plain_data}

@@ -1,5 +1,5 @@
 -- The bytes of data begin where the map has them, and the zeros begin where they end.
-use Rattle.std.proofs.Common.{◌≡◌, ◌≤◌, ◌+◌, ◌∙◌, length, ap, arith}
+use Rattle.std.proofs.Common.{◌≡◌, ◌≤◌, ◌+◌, length, ap, arith}
 use Rattle.psabi_sym.specs.Data.{data_file_end}
 use Rattle.psabi_sym.specs.Inputs.{parsed}
 use Rattle.psabi_sym.proofs.ContentLaws.{data_file_end-le, data_low-le}

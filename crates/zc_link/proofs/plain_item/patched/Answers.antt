@@ -1,5 +1,5 @@
 -- A branch or a jump has the way to its place as its distance.
-use Rattle.std.proofs.Common.{◌≡◌, sym, subst}
+use Rattle.std.proofs.Common.{sym, subst}
 use Rattle.block_cut.specs.Items.{item_at}
 use Rattle.block_cut.specs.PlainLayout.{plain_address}
 use Rattle.psabi_reloc.specs.Kinds.{is_branch, is_jal}

@@ -1,5 +1,5 @@
 -- Each kind of item adds its bytes.
-use Rattle.std.proofs.Common.{◌≡◌, ap, ◌∙◌, ◌++◌, ◌+◌, ◌≤◌, length, subst, sym, refl, arith}
+use Rattle.std.proofs.Common.{ap, ◌∙◌, ◌++◌, ◌+◌, length, subst, sym, arith}
 use Rattle.std.proofs.lemmas.Result.{on_ok_weaker}
 use Rattle.block_cut.specs.Items.{item_at}
 use Rattle.block_cut.specs.PlainLayout.{plain_address}

@@ -1,12 +1,11 @@
 -- The walk begins at the section's start, each turn takes an item, and it ends at the section's end.
-use Rattle.std.proofs.Common.{◌≡◌, ℕ, ◌+◌, ◌<◌, ◌≤◌, ◌^◌, List, length, Some, None, refl, sym, ap, ◌∙◌, subst, arith}
+use Rattle.std.proofs.Common.{◌≡◌, ℕ, ◌+◌, length, Some, refl, sym, ap, ◌∙◌, subst, arith}
 use Rattle.std.specs.Option.{unwrap_or}
 use Rattle.elf32_read.specs.Parts.{SectionParts}
-use Rattle.psabi_sym.specs.Faults.{gather_fault}
 use Rattle.psabi_sym.specs.Inputs.{parsed}
 use Rattle.psabi_sym.specs.Listed.{sections_before}
 use Rattle.zc_base.specs.declared.place.Place.{Place}
-use Rattle.block_cut.specs.Items.{code_at, item_at, next_at}
+use Rattle.block_cut.specs.Items.{code_at}
 use Rattle.block_cut.proofs.WholeLaws.{code_whole}
 use Rattle.zc_link.specs.PlainItems.{IsPlainText}
 use Rattle.zc_link.specs.PlainStands.{AddsItem, StandsHere}

@@ -1,7 +1,6 @@
 -- After the last section come those of the next object.
 use Rattle.std.proofs.Common.{◌≡◌, ap, sym, ◌∙◌, subst, arith}
 use Rattle.std.specs.Prelude.{Some, slice_get}
-use Rattle.elf32_read.specs.Header.{section_count}
 use Rattle.psabi_sym.specs.Inputs.{Inputs, parsed}
 use Rattle.zc_link.specs.PlainItems.{IsPlainText}
 use Rattle.zc_link.proofs.PlainSections.{object_done}

@@ -1,16 +1,16 @@
 -- What isn't code adds nothing; code begins after a gap.
-use Rattle.std.proofs.Common.{◌≡◌, ℕ, ◌+◌, ◌*◌, ◌%◌, ◌<◌, ◌≤◌, ◌^◌, ◌++◌, List, length, Some, None, Bool, true, false, refl, sym, ap, ◌∙◌, subst, arith}
+use Rattle.std.proofs.Common.{◌≡◌, ℕ, ◌+◌, ◌*◌, ◌%◌, ◌++◌, List, Some, true, refl, sym, ap, ◌∙◌, subst, arith}
 use Rattle.std.specs.List.{flat_map}
 use Rattle.zc_base.specs.declared.mem_map.MemMap.{MemMap}
-use Rattle.elf32_read.specs.Parts.{SectionParts, is_code_section, section_parts}
+use Rattle.elf32_read.specs.Parts.{is_code_section, section_parts}
 use Rattle.psabi_sym.specs.Data.{is_code_at}
 use Rattle.psabi_sym.specs.Inputs.{Inputs, ParsedInputs, parsed}
 use Rattle.psabi_sym.specs.Listed.{sections_before}
 use Rattle.zc_base.specs.declared.place.Place.{Place}
-use Rattle.block_cut.specs.PlainLayout.{plain_address, plain_end_of}
+use Rattle.block_cut.specs.PlainLayout.{plain_end_of}
 use Rattle.block_cut.proofs.WholeLaws.{section_there}
 use Rattle.zc_link.specs.PlainImage.{targets_of}
-use Rattle.zc_link.specs.PlainItems.{IsPlainText, IsSoFar, copies}
+use Rattle.zc_link.specs.PlainItems.{IsSoFar, copies}
 use Rattle.zc_link.proofs.PlainGrows.{so_far_gap}
 use Rattle.zc_link.proofs.PlainStanding.{gathered}
 use Rattle.zc_link.proofs.PlainSections.{begins_after, begins_here, code_said, code_there, ends_short, other_section}

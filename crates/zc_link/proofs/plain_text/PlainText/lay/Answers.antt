@@ -1,5 +1,5 @@
 -- Before the first object there is nothing, and after the last there is all.
-use Rattle.std.proofs.Common.{◌≡◌, ◌≤◌, length, ap, sym, ◌∙◌, subst, arith}
+use Rattle.std.proofs.Common.{◌≤◌, length, ap, subst, arith}
 use Rattle.std.proofs.lemmas.List.{length-map}
 use Rattle.elf32_read.specs.Parts.{object_parts}
 use Rattle.psabi_sym.specs.Inputs.{Inputs, parsed}

@@ -1,5 +1,4 @@
 -- So far the text has the objects before the one at hand.
-use Rattle.std.proofs.Common.{◌≡◌}
 use Rattle.psabi_sym.specs.Inputs.{parsed}
 use Rattle.psabi_sym.specs.Listed.{sections_before}
 use Rattle.zc_link.specs.PlainItems.{IsPlainText}
