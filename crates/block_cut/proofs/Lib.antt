@@ -13,7 +13,6 @@ pub mod SoundLaws
 pub mod StartLaws
 pub mod TableLaws
 pub mod TakeLaws
-pub mod TargetLaws
 pub mod TextLaws
 pub mod WholeLaws
 pub mod WordLaws
