@@ -7,7 +7,6 @@ ghost use Rattle.block_cut.specs.PlainLayout.{plain_address};
 ghost use Rattle.psabi_reloc.specs.Parts.{lo12_of};
 ghost use Rattle.psabi_reloc.specs.Patched.{with_imm};
 ghost use Rattle.psabi_sym.specs.Inputs.{parsed};
-ghost use Rattle.rv_decode.specs.Bits.{as_signed};
 ghost use Rattle.rv_decode.specs.Decode.{decoded};
 ghost use Rattle.zc_base.specs.Fields.{word_bytes};
 ghost use Rattle.zc_link.specs.PlainItems.{IsWritten};
