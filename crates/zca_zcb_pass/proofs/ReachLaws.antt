@@ -13,7 +13,8 @@ use Rattle.psabi_reloc.specs.Reaches.{is_even_of, short_branch_reach, short_jump
 use Rattle.zc_decode.specs.declared.short.Short.TheVariants.{Base}
 use Rattle.zc_encode.specs.Halves.{encoded16, half_for, has_bits, is_popular, is_signed, jump_half, low_bits, zero_half}
 use Rattle.zc_encode.proofs.NumberLaws.{SignedOf, and_three, signed_nine, signed_twelve, when_some}
-use Rattle.zca_zcb_pass.specs.Forms.{IsBranch, IsJump, with_distance}
+use Rattle.psabi_reloc.specs.Patched.{with_distance}
+use Rattle.zca_zcb_pass.specs.Forms.{IsBranch, IsJump}
 
 -- an even number of so many bits
 even_of : (bits : ℕ) (z : ℤ) → has_bits bits z ≡ true → IsEven z → is_even_of bits z ≡ true

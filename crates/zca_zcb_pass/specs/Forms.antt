@@ -10,21 +10,6 @@ use Rattle.zc_decode.specs.Halfwords.{decoded16}
 use Rattle.zc_decode.specs.declared.short.Short.TheVariants.{Base}
 use Rattle.zc_encode.specs.Encoding.{IsEncoding}
 
--- a branch or a jump with another distance; every other instruction stays
-abbrev pub with_distance : Instr → ℤ → Instr
-with_distance (Upper op rd imm) distance = Upper op rd imm
-with_distance (Jal rd old) distance = Jal rd distance
-with_distance (Jalr rd base imm) distance = Jalr rd base imm
-with_distance (Branch op first second old) distance = Branch op first second distance
-with_distance (Load op rd base imm) distance = Load op rd base imm
-with_distance (Store op source base imm) distance = Store op source base imm
-with_distance (WithImm op rd first imm) distance = WithImm op rd first imm
-with_distance (WithReg op rd first second) distance = WithReg op rd first second
-with_distance (Fence rest) distance = Fence rest
-with_distance Ecall distance = Ecall
-with_distance Ebreak distance = Ebreak
-with_distance (Csrrw rd source) distance = Csrrw rd source
-
 -- a halfword that spells an instruction with the same effect
 abbrev pub HasEffectOf : Instr → ℕ → Type 0
 HasEffectOf i half = (j : Instr) × (decoded16 half ≡ Some (Base j)) × SameEffect j i

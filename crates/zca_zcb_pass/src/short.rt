@@ -1,8 +1,9 @@
 // Short forms: halfwords with the effect of an instruction.
 
 ghost use Rattle.std.specs.Prelude.{◌≡◌, IfSome, true};
+ghost use Rattle.psabi_reloc.specs.Patched.{with_distance};
 ghost use Rattle.psabi_reloc.specs.Reaches.{short_branch_reach, short_jump_reach};
-ghost use Rattle.zca_zcb_pass.specs.Forms.{IsBranch, IsJump, ShortForm, with_distance};
+ghost use Rattle.zca_zcb_pass.specs.Forms.{IsBranch, IsJump, ShortForm};
 ghost use Rattle.zc_encode.specs.Halves.{encoded16};
 
 use rv_decode::instr::Instr;

@@ -3,7 +3,7 @@ use Rattle.std.specs.Int.{w32}
 use Rattle.std.proofs.lemmas.Int.{to_z-of_z}
 use Rattle.zc_decode.specs.declared.short.Short.TheVariants.{Base}
 use Rattle.zc_encode.specs.Halves.{encoded16}
-use Rattle.zca_zcb_pass.specs.Forms.{with_distance}
+use Rattle.psabi_reloc.specs.Patched.{with_distance}
 use Rattle.zca_zcb_pass.proofs.ReachLaws.{jump_reaches}
 use Rattle.zca_zcb_pass.proofs.short.short_jump.Goals as goal
 
