@@ -1,18 +1,18 @@
 -- The table of the sections with relocations, by the sections that were looked at.
-use Rattle.std.proofs.Common.{◌≡◌, ◌≢◌, ℕ, ◌+◌, ◌<◌, ◌≤◌, List, [], length, get_or, set, map, Bool, true, false, cond, Option, Some, None, refl, sym, ap, subst, ◌∙◌, arith, eqb, inl, inr, MatchOption}
-use Rattle.std.specs.Prelude.{◌&&◌, filter, nat_lt, replicate}
-use Rattle.std.specs.List.{flat_map, list_any, range_with_len}
+use Rattle.std.proofs.Common.{◌≡◌, ◌≢◌, ℕ, ◌+◌, ◌<◌, ◌≤◌, List, [], length, get_or, set, true, false, cond, Option, Some, None, refl, sym, ap, subst, ◌∙◌, arith, eqb, inl, inr}
+use Rattle.std.specs.Prelude.{◌&&◌, nat_lt, replicate}
+use Rattle.std.specs.List.{flat_map}
 use Rattle.std.proofs.lemmas.Bool.{and_parts, cases_Bool, cases_eq, eqb-true, false_from_ne_true, ltb-false}
 use Rattle.std.proofs.lemmas.List.{append-nil, get_or-replicate, get_or-set_other, get_or-set_same, length-replicate, length-set}
 use Rattle.elf32_read.specs.Header.{Header, IsOnly, header_of, section_count}
 use Rattle.elf32_read.specs.Kept.{is_kept}
 use Rattle.elf32_read.specs.Object.{has_two_relas, is_changed_twice, is_kept_rela}
-use Rattle.elf32_read.specs.Parts.{relocs_held, relocs_of}
+use Rattle.elf32_read.specs.Parts.{relocs_held}
 use Rattle.elf32_read.specs.Relas.{IsRelaOf}
 use Rattle.elf32_read.specs.Relocs.{changes, relas_for}
 use Rattle.elf32_read.proofs.Alone.{Found, found_more, found_only, found_same}
 use Rattle.elf32_read.proofs.Listed.{none_in_range}
-use Rattle.elf32_read.proofs.Marks.{IsFor, for_is_rela, rela_is_for}
+use Rattle.elf32_read.proofs.Marks.{for_is_rela, rela_is_for}
 
 -- of the first n sections, the table has the one that is a RELA for each kept section, and nothing for a dropped one
 pub record AreFound (bytes : List ℕ) (table : List (Option ℕ)) (n : ℕ) : Type 0 where

@@ -6,7 +6,7 @@ use Rattle.std.specs.List.{list_any, prefix_len, starts_with, take_while}
 use Rattle.std.proofs.lemmas.Bool.{cases_eq, cases_lt, eqb-true, ne_eqb, or_parts}
 use Rattle.std.proofs.lemmas.List.{drop_all, length-drop, take_all}
 use Rattle.std.proofs.lemmas.List.Sums.{prefix_len_is, take_while-cons}
-use Rattle.elf32_read.specs.Names.{has_end, is_name_at, name_at}
+use Rattle.elf32_read.specs.Names.{has_end, has_zero, is_name_at, name_at}
 
 -- a test of two numbers doesn't ask for their order
 eqb_flip : (a b : ℕ) → eqb a b ≡ eqb b a
@@ -33,7 +33,7 @@ before_zero table rest at i is within before zero =
     ap (λ n. take n rest) (sym long) ∙ ap (λ l. take (prefix_len more l) l) is
 
 -- in a table where a name ends, it is the one that begins there exactly if all its bytes and the zero stand there
-named : (rest name : List ℕ) → list_any (λ byte. byte == 0) rest ≡ true → list_any (λ byte. byte == 0) name ≡ false → pointwise nat_eq (take_while (λ byte. not (byte == 0)) rest) name ≡ starts_with nat_eq rest (name ++ 0 ∷ [])
+pub named : (rest name : List ℕ) → list_any (λ byte. byte == 0) rest ≡ true → list_any (λ byte. byte == 0) name ≡ false → pointwise nat_eq (take_while (λ byte. not (byte == 0)) rest) name ≡ starts_with nat_eq rest (name ++ 0 ∷ [])
 named [] name ends whole = absurd cc
 named (x ∷ xs) name ends whole = by (eqb x 0) refl name whole (named xs)
   where
@@ -60,6 +60,27 @@ named (x ∷ xs) name ends whole = by (eqb x 0) refl name whole (named xs)
         let rest = shorter cs (sym (ap (λ b. b || list_any (λ byte. byte == 0) xs) e) ∙ ends) first.1 in
         ap (λ l. pointwise nat_eq l (c ∷ cs)) (take_while-cons more x xs ∙ ap (λ b. cond (not b) (x ∷ take_while more xs) []) e)
         ∙ (λ j. eqb_flip x c j && rest j)
+
+-- the bytes before the first zero begin with these, of which none is zero, exactly if the table does
+pub begun : (rest start : List ℕ) → has_zero start ≡ false → starts_with nat_eq (take_while (λ byte. not (byte == 0)) rest) start ≡ starts_with nat_eq rest start
+begun [] start whole = refl
+begun (x ∷ xs) [] whole = refl
+begun (x ∷ xs) (c ∷ cs) whole = by (eqb x 0) refl (begun xs cs first.1)
+  where
+    first : (eqb c 0 ≡ false) × (has_zero cs ≡ false)
+    first = or_parts (eqb c 0) (has_zero cs) whole
+
+    more : ℕ → Bool
+    more byte = not (byte == 0)
+
+    by : (b : Bool) → eqb x 0 ≡ b → starts_with nat_eq (take_while more xs) cs ≡ starts_with nat_eq xs cs → starts_with nat_eq (take_while more (x ∷ xs)) (c ∷ cs) ≡ starts_with nat_eq (x ∷ xs) (c ∷ cs)
+    by true e shorter =
+        let other : eqb c x ≡ false = ap (eqb c) (eqb-true x 0 e) ∙ first.0 in
+        ap (λ l. starts_with nat_eq l (c ∷ cs)) (take_while-cons more x xs ∙ ap (λ b. cond (not b) (x ∷ take_while more xs) []) e)
+        ∙ sym (ap (λ b. b && starts_with nat_eq xs cs) other)
+    by false e shorter =
+        ap (λ l. starts_with nat_eq l (c ∷ cs)) (take_while-cons more x xs ∙ ap (λ b. cond (not b) (x ∷ take_while more xs) []) e)
+        ∙ ap (λ b. eqb c x && b) shorter
 
 pub is_named : (table name : List ℕ) (at : ℕ) → has_end table at ≡ true → list_any (λ byte. byte == 0) name ≡ false → pointwise nat_eq (name_at table at) name ≡ is_name_at name table at
 is_named table name at ends whole = named (drop at table) name ends whole

@@ -1,7 +1,10 @@
 -- Sections and symbols, as the code lends them.
-use Rattle.std.specs.Prelude.{◌≡◌}
+use Rattle.std.specs.Prelude.{◌≡◌, not, true, ◌==◌}
+use Rattle.std.specs.List.{take_while}
+use Rattle.elf32_read.specs.Names.{has_zero}
 use Rattle.elf32_read.specs.Parts.{SectionParts, SymbolParts}
 use Rattle.elf32_read.specs.declared.section.Section.{Section}
+use Rattle.elf32_read.specs.declared.section_entry.SectionEntry.{SectionEntry}
 use Rattle.elf32_read.specs.declared.symbol.Symbol.{Symbol}
 
 -- the section is this one; its relocations are lent one by one
@@ -12,6 +15,16 @@ pub record IsSection (section : Section) (parts : SectionParts) : Type 0 where
   pub size : section.size ≡ parts.size
   pub align : section.align ≡ parts.align
   pub bytes : section.bytes.now ≡ parts.bytes
+
+-- the section is this one; the table of names from where its own begins is lent in place of the name
+pub record IsSectionEntry (entry : SectionEntry) (parts : SectionParts) : Type 0 where
+  pub ends : has_zero entry.names.now ≡ true
+  pub name : take_while (λ byte. not (byte == 0)) entry.names.now ≡ parts.name
+  pub kind : entry.kind ≡ parts.kind
+  pub flags : entry.flags.bits ≡ parts.flags
+  pub size : entry.size ≡ parts.size
+  pub align : entry.align ≡ parts.align
+  pub bytes : entry.bytes.now ≡ parts.bytes
 
 -- the symbol is this one
 pub record IsSymbol (symbol : Symbol) (parts : SymbolParts) : Type 0 where

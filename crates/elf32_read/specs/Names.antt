@@ -3,9 +3,13 @@ use Rattle.std.specs.Prelude.{ℕ, Bool, not, ◌||◌, ◌==◌, nat_eq, nat_le
 use Rattle.std.specs.List.{list_any, starts_with, take_while}
 use Rattle.elf32_read.specs.Header.{Header, content_of, header_of, name_section, section_count}
 
+-- one of the bytes is zero
+abbrev pub has_zero : List ℕ → Bool
+has_zero bytes = list_any (λ byte. byte == 0) bytes
+
 -- from this offset on, the table has a zero
 abbrev pub has_end : List ℕ → ℕ → Bool
-has_end table at = list_any (λ byte. byte == 0) (drop at table)
+has_end table at = has_zero (drop at table)
 
 -- the name that begins at this offset
 abbrev pub name_at : List ℕ → ℕ → List ℕ

@@ -20,6 +20,7 @@ mod rela_table;
 mod relas;
 pub mod reloc;
 pub mod section;
+pub mod section_entry;
 pub mod section_flags;
 mod sections;
 pub mod segment;

@@ -4,11 +4,19 @@ ghost use Rattle.std.specs.Prelude.{◌≡◌, ℕ, ◌==◌, nat_eq, nat_lt, dr
 ghost use Rattle.std.specs.List.{starts_with};
 ghost use Rattle.elf32_read.specs.Names.{has_end, name_at};
 
-/// Whether a name, which is given with the zero that ends it, begins at an offset of a table.
+/// A table from an offset on.
+pub fn names_from(table: &[u8], at: u32) -> &[u8]
+    ensures { result.now ≡ drop at table.entry.now }
+{
+    &table[table.len().min(at as usize)..]
+}
+
+/// Whether a name, which is given with the zero that ends it, begins at an offset of a table. It looks
+/// at no more bytes than are given.
 pub fn is_name_at(ended: &[u8], table: &[u8], at: u32) -> bool
     ensures { result ≡ starts_with nat_eq (drop at table.now) ended.now }
 {
-    table[table.len().min(at as usize)..].starts_with(ended)
+    names_from(table, at).starts_with(ended)
 }
 
 /// Where the last name ends: an offset has a zero at it or after it exactly if it is below.
@@ -28,7 +36,7 @@ pub fn names_end(names: &[u8]) -> usize
 pub fn name_at(table: &[u8], at: u32) -> &[u8]
     ensures { result.now ≡ name_at table.entry.now at }
 {
-    let rest = &table[table.len().min(at as usize)..];
+    let rest = names_from(table, at);
     for (i, byte) in rest.iter().enumerate() {
         if *byte == 0 {
             return &rest[..i];

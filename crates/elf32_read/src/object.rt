@@ -2,7 +2,7 @@
 
 ghost use Rattle.std.specs.Prelude.{◌≡◌, ◌≤◌, ◌<◌, List, ℕ, [], length, replicate, slice_get, slice_index_or, None, Some, MatchOption, MatchResult};
 ghost use Rattle.elf32_read.specs.Header.{file_flags, header_of, section_count};
-ghost use Rattle.elf32_read.specs.Lent.{IsSection, IsSymbol};
+ghost use Rattle.elf32_read.specs.Lent.{IsSection, IsSectionEntry, IsSymbol};
 ghost use Rattle.elf32_read.specs.Object.{has_other_flags, not_elf, object_fault, IsRead};
 ghost use Rattle.elf32_read.specs.Parts.{relocs_held, relocs_of, section_parts, symbol_parts};
 ghost use Rattle.elf32_read.specs.Relas.{IsRelaOf};
@@ -13,11 +13,12 @@ use crate::bounds::is_truncated;
 use crate::fault::Fault;
 use crate::header::{begins_as, file_flags, has_other_section_headers, section_count};
 use crate::kinds::has_unlinked_sections;
-use crate::names::name_at;
+use crate::names::{name_at, names_from};
 use crate::rela_table::fill_relas;
 use crate::relas::{MOST_SECTIONS, RELA_SIZE, rela_for, reloc};
 use crate::reloc::Reloc;
 use crate::section::Section;
+use crate::section_entry::SectionEntry;
 use crate::section_flags::SectionFlags;
 use crate::sections::Sections;
 use crate::symbol::Symbol;
@@ -163,6 +164,22 @@ impl<'a> Object<'a> {
         let header = self.sections.header(i);
         Section {
             name: name_at(self.sections.names(), header.name),
+            kind: header.kind,
+            flags: SectionFlags { bits: header.flags },
+            size: header.size,
+            align: header.align,
+            bytes: self.sections.content(&header),
+        }
+    }
+
+    /// A section, by its index, without its name. It looks at no byte of its name.
+    pub fn section_entry(&self, i: u32) -> SectionEntry<'a>
+        requires { i < section_count self.now }
+        ensures { IsSectionEntry result (section_parts self.now i) }
+    {
+        let header = self.sections.header(i);
+        SectionEntry {
+            names: names_from(self.sections.names(), header.name),
             kind: header.kind,
             flags: SectionFlags { bits: header.flags },
             size: header.size,

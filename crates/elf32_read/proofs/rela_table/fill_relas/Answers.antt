@@ -1,4 +1,4 @@
-use Rattle.std.proofs.Common.{◌≡◌, ◌+◌, sym, ap, subst, ◌∙◌, arith}
+use Rattle.std.proofs.Common.{◌≡◌, ◌+◌, sym, subst, ◌∙◌, arith}
 use Rattle.elf32_read.specs.Header.{section_count}
 use Rattle.elf32_read.proofs.RelaTable.{AreFound, found_all, found_next, found_next_same, found_none}
 use Rattle.elf32_read.proofs.rela_table.fill_relas.Goals as goal
