@@ -50,7 +50,7 @@ impl Objects {
         ensures { bytes.new ≡ with_content (parsed self.now) bytes.old
             (record { object = o; index = i; section = section_parts object.now i }) }
     {
-        let section = object.section(u32::from(i));
+        let section = object.section_entry(u32::from(i));
         if section.kind == NOBITS {
             return;
         }

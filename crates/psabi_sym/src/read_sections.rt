@@ -3,7 +3,7 @@
 ghost use Rattle.std.specs.Prelude.{◌≡◌, ◌++◌, ◌^◌, ◌<◌, map, codes, vec_len, ◌+◌, ◌≤◌, OnOk};
 ghost use Rattle.elf32_read.specs.Header.{section_count};
 ghost use Rattle.elf32_read.specs.Parts.{object_parts, section_parts, SectionParts, is_kept_section};
-ghost use Rattle.elf32_read.specs.Lent.{IsSection};
+ghost use Rattle.elf32_read.specs.Lent.{IsSectionEntry};
 ghost use Rattle.psabi_sym.specs.Data.{class_of, is_of_kin, role_of};
 ghost use Rattle.psabi_sym.specs.Rows.{part_row};
 
@@ -11,33 +11,41 @@ use crate::data_class::DataClass;
 use crate::loaded::Loaded;
 use crate::section_row::{SectionRole, SectionRow};
 use bitflags::Flags;
-use elf32_read::section::Section;
+use elf32_read::section_entry::SectionEntry;
 use elf32_read::section_flags::SectionFlags;
 use std::alloc::{AllocError, Global};
 
 const NOBITS: u32 = 8;
 
 // The section is kept: it has ALLOC, and isn't the table for unwinding the stack.
-fn is_kept(section: &Section) -> bool
-    ensures { (parts : SectionParts) → IsSection section.now parts → result ≡ is_kept_section parts }
+fn is_kept(section: &SectionEntry) -> bool
+    ensures { (parts : SectionParts) → IsSectionEntry section.now parts → result ≡ is_kept_section parts }
 {
-    section.flags.contains(SectionFlags::ALLOC) && section.name != b".eh_frame".as_slice()
+    section.flags.contains(SectionFlags::ALLOC) && !section.is_named(b".eh_frame\0")
 }
 
-// The name is this one, or begins with it and a dot.
-fn is_of_kin(name: &[u8], base: &[u8], base_and_dot: &[u8]) -> bool
-    requires { base_and_dot.now ≡ base.now ++ codes "." }
-    ensures { result ≡ is_of_kin base.now name.now }
+// The name is .sbss, or begins with it and a dot.
+fn is_small_zero(section: &SectionEntry) -> bool
+    ensures { (parts : SectionParts) → IsSectionEntry section.now parts
+        → result ≡ is_of_kin (codes ".sbss") parts.name }
 {
-    name == base || name.starts_with(base_and_dot)
+    section.is_named(b".sbss\0") || section.name_starts_with(b".sbss.")
+}
+
+// The name is .sdata, or begins with it and a dot.
+fn is_small_data(section: &SectionEntry) -> bool
+    ensures { (parts : SectionParts) → IsSectionEntry section.now parts
+        → result ≡ is_of_kin (codes ".sdata") parts.name }
+{
+    section.is_named(b".sdata\0") || section.name_starts_with(b".sdata.")
 }
 
 // The class of a section that is kept and isn't code.
-fn class_of(section: &Section) -> DataClass
-    ensures { (parts : SectionParts) → IsSection section.now parts → result ≡ class_of parts }
+fn class_of(section: &SectionEntry) -> DataClass
+    ensures { (parts : SectionParts) → IsSectionEntry section.now parts → result ≡ class_of parts }
 {
     if section.kind == NOBITS {
-        if is_of_kin(section.name, b".sbss", b".sbss.") {
+        if is_small_zero(section) {
             return DataClass::SmallZero;
         }
         return DataClass::Zero;
@@ -45,7 +53,7 @@ fn class_of(section: &Section) -> DataClass
     if !section.flags.contains(SectionFlags::WRITE) {
         return DataClass::ReadOnly;
     }
-    if is_of_kin(section.name, b".sdata", b".sdata.") {
+    if is_small_data(section) {
         return DataClass::SmallData;
     }
     DataClass::Data
@@ -53,8 +61,8 @@ fn class_of(section: &Section) -> DataClass
 
 /// What a section is to a link.
 #[tactic(auto, unfolding(crate::specs::Data::role_of))]
-pub fn role_of(section: &Section) -> SectionRole
-    ensures { (parts : SectionParts) → IsSection section.now parts → result ≡ role_of parts }
+pub fn role_of(section: &SectionEntry) -> SectionRole
+    ensures { (parts : SectionParts) → IsSectionEntry section.now parts → result ≡ role_of parts }
 {
     if !is_kept(section) {
         return SectionRole::Dropped;
@@ -65,14 +73,14 @@ pub fn role_of(section: &Section) -> SectionRole
     SectionRole::InClass(class_of(section))
 }
 
-/// Adds the sections of an object to rows.
+/// Adds the sections of an object to rows. It looks at few bytes of their names.
 pub fn add_sections(loaded: &Loaded, rows: &mut Vec<SectionRow>) -> Result<(), AllocError>
     ensures added { OnOk result (rows.new.items ≡ rows.old.items ++ map part_row (object_parts loaded.now).sections) }
     ensures few { OnOk result (vec_len rows.new ≤ vec_len rows.old + 4096) }
 {
     let object = loaded.object();
     for i in 0..object.section_count() {
-        let section = object.section(i);
+        let section = object.section_entry(i);
         let role = role_of(&section);
         rows.push(SectionRow {
             role,

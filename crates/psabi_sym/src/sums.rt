@@ -107,7 +107,7 @@ fn section_room(loaded: &Loaded, i: u32) -> (u64, u64)
     ensures code_most { result.0 < 2 ^ 41 }
     ensures data_most { result.1 < 2 ^ 34 }
 {
-    let section = loaded.object().section(i);
+    let section = loaded.object().section_entry(i);
     let size = u64::from(section.size);
     match role_of(&section) {
         SectionRole::Code => {

@@ -14,10 +14,10 @@ loop-i-preserved c =
     let read = c.object-object.result in
     let same : read ≡ file = c.object-object.ensures.object in
     let parts = section_parts read i in
-    let is = c.section-section.ensures in
+    let is = c.section_entry-section.ensures in
     let within : i < section_count file = omega (arith, ap section_count same, c.section_count-i-end.ensures.count) in
     let all = (object_parts file).sections in
-    let row : SectionRow = record { role = c.role_of-role.result; align = c.section-section.result.align; size = c.section-section.result.size } in
+    let row : SectionRow = record { role = c.role_of-role.result; align = c.section_entry-section.result.align; size = c.section_entry-section.result.size } in
     let row_is : row ≡ part_row parts = λ j. record { role = c.role_of-role.ensures parts is j; align = is.align j; size = is.size j } in
     let more : map part_row (take (i + 1) all) ≡ map part_row (take i all) ++ row ∷ [] =
     map_more part_row all i parts (omega (arith, within, section_count_is file))

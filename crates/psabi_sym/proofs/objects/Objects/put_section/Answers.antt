@@ -11,7 +11,7 @@ data_address-requires c =
     let i = c.args.i in
     let inputs = parsed c.args.self.now in
     let at = section_there c.args.self.now c.args.o i object c.requires.object c.requires.section in
-    let role = ap (λ k. role_of (section_parts object k)) (sym c.from.ensures) ∙ sym (c.role_of.ensures (section_parts object c.from.result) c.section-section.ensures) in
+    let role = ap (λ k. role_of (section_parts object k)) (sym c.from.ensures) ∙ sym (c.role_of.ensures (section_parts object c.from.result) c.section_entry-section.ensures) in
     let is = address_of_data inputs c.args.o i (section_parts object i) at c.in-InClass.field-0 (role ∙ c.in-InClass.is) in
     subst IsSome (sym is) (search rules)
 
@@ -21,7 +21,7 @@ overflow_sub-at c =
     let i = c.args.i in
     let inputs = parsed c.args.self.now in
     let at = section_there c.args.self.now c.args.o i object c.requires.object c.requires.section in
-    let role = ap (λ k. role_of (section_parts object k)) (sym c.from.ensures) ∙ sym (c.role_of.ensures (section_parts object c.from.result) c.section-section.ensures) in
+    let role = ap (λ k. role_of (section_parts object k)) (sym c.from.ensures) ∙ sym (c.role_of.ensures (section_parts object c.from.result) c.section_entry-section.ensures) in
     let class = c.in-InClass.field-0 in
     let is = address_of_data inputs c.args.o i (section_parts object i) at class (role ∙ c.in-InClass.is) in
     let same : c.data_address.result ≡ address_in inputs c.args.o i (section_parts object i) class = cc (is, c.data_address.ensures) in
@@ -35,6 +35,6 @@ returns-in-Code c =
     let inputs = parsed c.args.self.now in
     let s = section_parts object i in
     let at = section_there c.args.self.now c.args.o i object c.requires.object c.requires.section in
-    let role = ap (λ k. role_of (section_parts object k)) (sym c.from.ensures) ∙ sym (c.role_of.ensures (section_parts object c.from.result) c.section-section.ensures) in
+    let role = ap (λ k. role_of (section_parts object k)) (sym c.from.ensures) ∙ sym (c.role_of.ensures (section_parts object c.from.result) c.section_entry-section.ensures) in
     sym (content_none inputs c.args.o i s at c.args.bytes.now
     (⊎_elim (λ code. none_of_code inputs c.args.o i s at (role ∙ code)) (λ dropped. none_of_dropped inputs c.args.o i s at (role ∙ dropped)) c.in-Code.is))
