@@ -1,5 +1,5 @@
 #!/usr/bin/env python3
-"""Measures `zc` on lists of objects, on many symbols, on names that share bytes and on many sections.
+"""Measures `zc` on lists of objects, on many symbols and sections, and on names of both that share bytes.
 
     bench/objects.py [--repeats R] [PROGRAM]        PROGRAM is build/zcld if none is given
 
@@ -29,11 +29,13 @@ PER_OBJECT = (1000, 4096, 8192, 40)
 class Made:
     """An object: its sections by name, type, flags, content and size, and its global symbols by name, section and value.
 
-    A name is its place in the table of names.
+    The name of a symbol is its place in the table of names. The name of a section is its bytes, or its place in the table of
+    section names, in which one long name may stand before the others.
     """
 
-    def __init__(self):
+    def __init__(self, long_name=b''):
         self.sections, self.symbols, self.names = [], [], bytearray(b'\0')
+        self.long_name = long_name
 
     def add(self, name, kind, flags, content, size=None):
         self.sections.append((name, kind, flags, content, len(content) if size is None else size))
@@ -60,8 +62,8 @@ class Made:
             entries += struct.pack('<IIIBBH', name, value, 0, GLOBAL, 0, section)
         count = len(self.sections) + 1
         sections = [*self.sections, (b'.symtab', SYMTAB, 0, entries, len(entries)), (b'.strtab', STRTAB, 0, names, len(names))]
-        strings = bytearray(b'\0')
-        at = {}
+        strings = bytearray(b'\0' + self.long_name)
+        at = {name: name for name, *_ in self.sections if isinstance(name, int)}
         for name in [name for name, *_ in sections] + [b'.shstrtab']:
             if name not in at:
                 at[name] = len(strings)
@@ -108,13 +110,17 @@ def made_symbols(count):
     return [made.bytes()]
 
 
+def letters(count):
+    return bytes(97 + k * k % 26 for k in range(count))
+
+
 def made_endings(count):
     """One object of so many global names, all but one of which are endings of one name of 2 MB."""
     made = Made()
     text = made.code(1000, last=EXIT)
     held = made.add(b'.data', PROGBITS, DATA, bytes(4096))
     made.name('_start', text)
-    made.endings(bytes(97 + k * k % 26 for k in range(2000000)), count - 1, held)
+    made.endings(letters(2000000), count - 1, held)
     return [made.bytes()]
 
 
@@ -131,10 +137,21 @@ def made_sections(count):
     return [made.bytes()]
 
 
+def made_section_endings(count):
+    """One object of code and so many sections of data, whose names are endings of one name of 3.8 MB."""
+    length = 3800000
+    made = Made(letters(length) + b'\0')
+    made.name('_start', made.code(12, last=EXIT))
+    for k in range(count):
+        made.add(1 + k * (length // count), PROGBITS, DATA, struct.pack('<2I', k, k))
+    return [made.bytes()]
+
+
 ROWS = ((made_objects, 'objects', (1, 16, 256)), (made_symbols, 'symbols', (10, 1000, 100000)),
-        (made_endings, 'endings', (60000,)), (made_sections, 'sections', (10, 4096)))
+        (made_endings, 'endings', (60000,)), (made_sections, 'sections', (10, 4096)),
+        (made_section_endings, 'section endings', (400, 4090)))
 # GNU ld reads each name whole, so it stands beside no row of names that share bytes.
-ZC_ALONE = ('endings',)
+ZC_ALONE = ('endings', 'section endings')
 
 
 def calls_of(program, linker, folder):
@@ -156,7 +173,7 @@ def calls_of(program, linker, folder):
 
 
 def main():
-    arguments = argparse.ArgumentParser(description='Measures `zc` on lists of objects, many symbols, names that share bytes and many sections.')
+    arguments = argparse.ArgumentParser(description='Measures `zc` on lists of objects, many symbols and sections, and names of both that share bytes.')
     arguments.add_argument('program', nargs='?', default=os.path.join('build', 'zcld'))
     arguments.add_argument('--repeats', type=int, default=40)
     given = arguments.parse_args()

@@ -79,7 +79,7 @@ fn add_section(
     ensures { IfOk result (λ _. words.new.items ≡ words.old.items
         ++ words_in (parsed objects.now) (record { object = o; index = i; section = section_parts object.now i })) }
 {
-    if objects.is_code(o, i) || object.section(u32::from(i)).kind == NOBITS {
+    if objects.is_code(o, i) || object.section_entry(u32::from(i)).kind == NOBITS {
         return Ok(());
     }
     match objects.rela_of(o, i) {

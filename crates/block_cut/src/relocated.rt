@@ -40,7 +40,7 @@ impl<'a> Relocated<'a> {
         requires section { section < section_count object.now }
         ensures { IfOk result (IsRelocated (section_parts object.now section)) }
     {
-        let parts = object.section(u32::from(section));
+        let parts = object.section_entry(u32::from(section));
         Ok(Relocated {
             is_code: objects.is_code(o, section),
             size: parts.size,

@@ -51,7 +51,7 @@ fn add_section(
     if !objects.is_code(o, i) {
         return Ok(TextWords::new(Vec::new(alloc)));
     }
-    let section = object.section(u32::from(i));
+    let section = object.section_entry(u32::from(i));
     let before = code.words(o, i);
     let mut words = Vec::with_capacity(alloc, before.len())?;
     extent.end = begin_after(extent.end, section.align);

@@ -90,3 +90,6 @@ pub fn add_sections(loaded: &Loaded, rows: &mut Vec<SectionRow>) -> Result<(), A
     }
     Ok(())
 }
+
+#[cfg(test)]
+mod tests;

@@ -567,3 +567,32 @@ fn sections_symbols_and_relocations_are_read(rt: HostRuntime) -> Result<(), Fail
     assert_eq!(rt; (object.reloc(1, 0), object.reloc(1, 1)), (first, second));
     Ok(())
 }
+
+#[test]
+fn a_section_is_lent_without_its_name(rt: HostRuntime) -> Result<(), Fail> {
+    let object = Object::read(&OBJECT)?;
+    for i in 0..object.section_count() {
+        let section = object.section(i);
+        let entry = object.section_entry(i);
+        assert!(rt; entry.name_starts_with(section.name), "{i}");
+        assert_eq!(rt; entry.is_named(b".text\0"), i == 1, "{i}");
+        assert_eq!(rt; entry.name_starts_with(b".rela."), i == 2 || i == 5, "{i}");
+        assert_eq!(rt;
+            (
+                entry.kind,
+                entry.flags,
+                entry.size,
+                entry.align,
+                entry.bytes
+            ),
+            (
+                section.kind,
+                section.flags,
+                section.size,
+                section.align,
+                section.bytes
+            )
+        );
+    }
+    Ok(())
+}

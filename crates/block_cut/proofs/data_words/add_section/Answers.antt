@@ -3,7 +3,7 @@ use Rattle.std.specs.Option.{option_map_or}
 use Rattle.std.proofs.lemmas.List.{append-nil}
 use Rattle.std.proofs.lemmas.Option.{get_or_from_slice_get, slice_get_within}
 use Rattle.elf32_read.specs.Header.{header_of, section_count}
-use Rattle.elf32_read.specs.Lent.{IsSection}
+use Rattle.elf32_read.specs.Lent.{IsSectionEntry}
 use Rattle.elf32_read.specs.Parts.{is_code_section, relocs_held, relocs_of, section_parts}
 use Rattle.psabi_sym.specs.Inputs.{parsed}
 use Rattle.block_cut.specs.DataWords.{words_in}
@@ -11,7 +11,7 @@ use Rattle.block_cut.proofs.ListedLaws.{listed}
 use Rattle.block_cut.proofs.WholeLaws.{section_there}
 use Rattle.block_cut.proofs.WordsLaws.{words_of_code, words_of_none, words_of_zeros}
 use Rattle.block_cut.proofs.data_words.add_section.Goals as goal
-use Rattle.block_cut.proofs.data_words.add_section.Goals.{then-is_code-via-then-is_code, then-is_code-via-else-is_code+then-section-eq-NOBITS}
+use Rattle.block_cut.proofs.data_words.add_section.Goals.{then-is_code-via-then-is_code, then-is_code-via-else-is_code+then-section_entry-eq-NOBITS}
 
 pub returns-then-is_code : goal.returns-then-is_code
 returns-then-is_code c =
@@ -24,9 +24,9 @@ returns-then-is_code c =
     let none : words_in (parsed inputs) (listed o i s) ≡ [] = elim c.then-is_code.branch [
       | then-is_code-via-then-is_code w ↦
           words_of_code (parsed inputs) (listed o i s) found (sym (ap (λ x. option_map_or is_code_section x false) found) ∙ sym c.is_code.ensures ∙ w.if-is_code.true)
-      | then-is_code-via-else-is_code+then-section-eq-NOBITS w ↦
-          let is = subst (λ n. IsSection w.section.result (section_parts file n)) w.from.ensures w.section.ensures in
-          words_of_zeros (parsed inputs) (listed o i s) (sym is.kind ∙ w.if-section-eq-NOBITS.true)
+      | then-is_code-via-else-is_code+then-section_entry-eq-NOBITS w ↦
+          let is = subst (λ n. IsSectionEntry w.section_entry.result (section_parts file n)) w.from.ensures w.section_entry.ensures in
+          words_of_zeros (parsed inputs) (listed o i s) (sym is.kind ∙ w.if-section_entry-eq-NOBITS.true)
     ] in
     sym (ap (λ l. c.args.words.now.items ++ l) none ∙ append-nil c.args.words.now.items)
 

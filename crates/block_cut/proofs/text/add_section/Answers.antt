@@ -5,7 +5,7 @@ use Rattle.std.specs.Option.{option_map_or}
 use Rattle.std.proofs.lemmas.Bool.{le-leb}
 use Rattle.std.proofs.lemmas.List.FromFn.{get_or-map-range_with_len}
 use Rattle.zc_base.specs.Fields.{word_in}
-use Rattle.elf32_read.specs.Lent.{IsSection}
+use Rattle.elf32_read.specs.Lent.{IsSectionEntry}
 use Rattle.elf32_read.specs.Parts.{SectionParts, is_code_section, section_parts}
 use Rattle.psabi_sym.specs.Blocks.{aligned_up}
 use Rattle.psabi_sym.specs.Inputs.{Inputs, parsed}
@@ -47,7 +47,7 @@ begin_after-extent-requires c =
     let none = c.requires.faultless in
     let map = c.requires.is_map in
     let here = code_here inputs o i file none c.requires.object c.requires.section (sym c.is_code.ensures ∙ c.if-not-is_code.false) in
-    let is = subst (λ n. IsSection c.section-section.result (section_parts file n)) c.from.ensures c.section-section.ensures in
+    let is = subst (λ n. IsSectionEntry c.section_entry-section.result (section_parts file n)) c.from.ensures c.section_entry-section.ensures in
     omega (arith, before_fits inputs none o i s here, here.whole.low, is.align, c.requires.so_far.end_is, map.code, map.data_room, map.top)
 
 pub loop-k-init : goal.loop-k-init
@@ -59,7 +59,7 @@ loop-k-init c =
     let s = section_parts file i in
     let none = c.requires.faultless in
     let here = code_here inputs o i file none c.requires.object c.requires.section (sym c.is_code.ensures ∙ c.if-not-is_code.false) in
-    let is = subst (λ n. IsSection c.section-section.result (section_parts file n)) c.from.ensures c.section-section.ensures in
+    let is = subst (λ n. IsSectionEntry c.section_entry-section.result (section_parts file n)) c.from.ensures c.section_entry-section.ensures in
     let new : Extent = record { end = c.begin_after-extent.result; count = c.args.extent.now.count } in
     let first = at_first inputs none o i s here c.args.extent.now new c.requires.so_far (c.begin_after-extent.ensures ∙ ap (λ a. aligned_up (max 4 a) c.args.extent.now.end) is.align) refl in
     subst (λ l. IsSoFar (parsed inputs) o i s 0 l new) (sym c.in_ok-words.ensures.items) first
@@ -95,11 +95,11 @@ add_word-item-requires-clause-room c = λ target not_end.
     let s = section_parts file i in
     let k = c.loop-k.k in
     let here = code_here inputs o i file c.requires.faultless c.requires.object c.requires.section (sym c.is_code.ensures ∙ c.if-not-is_code.false) in
-    let is = subst (λ n. IsSection c.section-section.result (section_parts file n)) c.from.ensures c.section-section.ensures in
+    let is = subst (λ n. IsSectionEntry c.section_entry-section.result (section_parts file n)) c.from.ensures c.section_entry-section.ensures in
     let words = words_are inputs o i s here c.words-before.result.now (c.words-before.ensures ∙ c.requires.code.words o i) in
     let word = get_or c.words-before.result.now k (record { is_target = false; reloc = None }) in
     let same : word ≡ code_word s (4 * k) = word_is s c.words-before.result.now k (record { is_target = false; reloc = None }) words (omega arith) in
-    room_there inputs c.requires.faultless o i s here (4 * k) word c.section-section.result.bytes.now target not_end (ap (λ w. w.is_target) same) (ap (λ w. w.reloc) same) is.bytes
+    room_there inputs c.requires.faultless o i s here (4 * k) word c.section_entry-section.result.bytes.now target not_end (ap (λ w. w.is_target) same) (ap (λ w. w.reloc) same) is.bytes
 
 pub add_word-item-requires-clause-spelled : goal.add_word-item-requires-clause-spelled
 add_word-item-requires-clause-spelled c = λ not_end.
@@ -110,9 +110,9 @@ add_word-item-requires-clause-spelled c = λ not_end.
     let s = section_parts file i in
     let k = c.loop-k.k in
     let here = code_here inputs o i file c.requires.faultless c.requires.object c.requires.section (sym c.is_code.ensures ∙ c.if-not-is_code.false) in
-    let is = subst (λ n. IsSection c.section-section.result (section_parts file n)) c.from.ensures c.section-section.ensures in
+    let is = subst (λ n. IsSectionEntry c.section_entry-section.result (section_parts file n)) c.from.ensures c.section_entry-section.ensures in
     let words = words_are inputs o i s here c.words-before.result.now (c.words-before.ensures ∙ c.requires.code.words o i) in
-    let bytes = c.section-section.result.bytes.now in
+    let bytes = c.section_entry-section.result.bytes.now in
     let inside : 4 * k + 4 ≤ length bytes = omega (arith, not_end, ap length words, word_count (code_word s) s, here.whole.words, ap length is.bytes) in
     c.instr_at-spelled.ensures ∙ ap (λ b. cond b (decoded (word_in bytes (4 * k))) None) (le-leb (4 * k + 4) (length bytes) inside)
 
@@ -151,7 +151,7 @@ loop-k-preserved c =
     let old = c.loop-k.extent in
     let new = c.add_word-item.new.self in
     let here = code_here inputs o i file c.requires.faultless c.requires.object c.requires.section (sym c.is_code.ensures ∙ c.if-not-is_code.false) in
-    let is = subst (λ n. IsSection c.section-section.result (section_parts file n)) c.from.ensures c.section-section.ensures in
+    let is = subst (λ n. IsSectionEntry c.section_entry-section.result (section_parts file n)) c.from.ensures c.section_entry-section.ensures in
     let words = words_are inputs o i s here c.words-before.result.now (c.words-before.ensures ∙ c.requires.code.words o i) in
     let word = get_or c.words-before.result.now k (record { is_target = false; reloc = None }) in
     let same : word ≡ code_word s (4 * k) = word_is s c.words-before.result.now k (record { is_target = false; reloc = None }) words (omega arith) in
@@ -159,7 +159,7 @@ loop-k-preserved c =
     let result : TextWord = record { item = c.add_word-item.result; address = c.address-address.result } in
     let address = c.address-address.ensures in
     let says = c.add_word-item.ensures in
-    let more = one_more inputs c.requires.faultless o i s here k c.loop-k.words.items old new word c.section-section.result.bytes.now result le c.loop-k.invariant
+    let more = one_more inputs c.requires.faultless o i s here k c.loop-k.words.items old new word c.section_entry-section.result.bytes.now result le c.loop-k.invariant
     (ap (λ w. w.is_target) same) (ap (λ w. w.reloc) same) is.bytes
     (λ f. let r = says.inner f in ((λ j. record { item = r.0 j; address = (address ∙ ap (λ b. cond b (Some old.end) None) f) j }), r.1))
     (λ t e. let r = says.end t e in ((λ j. record { item = r.0 j; address = (address ∙ ap (λ b. cond b (Some old.end) None) t) j }), r.1))
