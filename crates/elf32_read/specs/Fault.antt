@@ -1,11 +1,10 @@
 -- The faults of an object, by number and by name.
 use Rattle.std.specs.Prelude.{ℕ, List, codes, Option, Some, None}
 use Rattle.elf32_read.specs.declared.fault.Fault.{Fault}
-use Rattle.elf32_read.specs.declared.fault.Fault.TheVariants.{NotBuilt, NotElf, Truncated, Flags, SectionKind, Alignment, CodeSize, BadName, BadSymbol, Duplicate, Undefined, RelocKind, RelocPlace, LoPair, BadTarget, Range, NoEntry, TooLarge}
+use Rattle.elf32_read.specs.declared.fault.Fault.TheVariants.{NotElf, Truncated, Flags, SectionKind, Alignment, CodeSize, BadName, BadSymbol, Duplicate, Undefined, RelocKind, RelocPlace, LoPair, BadTarget, Range, NoEntry, TooLarge}
 
 -- the number that a report gives for a fault
 abbrev pub fault_number : Fault → ℕ
-fault_number NotBuilt = 0
 fault_number NotElf = 1
 fault_number Truncated = 2
 fault_number Flags = 3
@@ -26,7 +25,6 @@ fault_number TooLarge = 17
 
 -- the name that a report gives for a fault
 abbrev pub fault_name : Fault → List ℕ
-fault_name NotBuilt = codes "NotBuilt"
 fault_name NotElf = codes "NotElf"
 fault_name Truncated = codes "Truncated"
 fault_name Flags = codes "Flags"
@@ -47,7 +45,6 @@ fault_name TooLarge = codes "TooLarge"
 
 -- the symbol that a fault names, by its index in the object
 abbrev pub fault_symbol : Fault → Option ℕ
-fault_symbol NotBuilt = None
 fault_symbol NotElf = None
 fault_symbol Truncated = None
 fault_symbol Flags = None

@@ -6,15 +6,12 @@ ghost use Rattle.elf32_read.specs.Fault.{fault_name, fault_number, fault_symbol}
 use thiserror::Error;
 
 /// Why the linker refuses an object. A fault is shown as its name. `Object::read` gives those from
-/// `NotElf` to `BadSymbol`, and `TooLarge`. Of the others only `NotBuilt` is given today.
+/// `NotElf` to `BadSymbol`, and `TooLarge`; the crates above find the others.
 ///
 /// `symbol` is the index of a symbol in its object, `section` that of a section, and `at` the
 /// offset of a relocation or of a branch in that section.
 #[derive(Clone, Copy, PartialEq, Eq, Debug, Error)]
 pub enum Fault {
-    /// The linker doesn't link such an object yet: today, any that isn't straight code alone.
-    #[error("NotBuilt")]
-    NotBuilt,
     /// The file is shorter than its header, isn't a relocatable RISC-V file of class 32, or has
     /// sections whose headers don't have 40 bytes.
     #[error("NotElf")]
@@ -75,12 +72,11 @@ pub enum Fault {
 }
 
 impl Fault {
-    /// The fault's number, from 1 on in the order above; 0 for `NotBuilt`.
+    /// The fault's number, from 1 on in the order above.
     pub fn number(&self) -> u32
         ensures { result ≡ fault_number self.now }
     {
         match self {
-            Fault::NotBuilt => 0,
             Fault::NotElf => 1,
             Fault::Truncated => 2,
             Fault::Flags => 3,
@@ -106,7 +102,6 @@ impl Fault {
         ensures { result.now ≡ fault_name self.now }
     {
         match self {
-            Fault::NotBuilt => "NotBuilt",
             Fault::NotElf => "NotElf",
             Fault::Truncated => "Truncated",
             Fault::Flags => "Flags",
@@ -147,7 +142,6 @@ mod tests {
     fn faults_are_numbered_named_and_shown(rt: HostRuntime) -> Result<(), Fail> {
         let (section, at) = (3, 8);
         let rows = [
-            (Fault::NotBuilt, 0, "NotBuilt"),
             (Fault::NotElf, 1, "NotElf"),
             (Fault::Truncated, 2, "Truncated"),
             (Fault::Flags, 3, "Flags"),
