@@ -4,7 +4,9 @@ pub mod FieldLaws
 pub mod FirstLaws
 pub mod ItemLaws
 pub mod JudgeLaws
+pub mod LedLaws
 pub mod ListedLaws
+pub mod PlaceLaws
 pub mod PlainLaws
 pub mod ReachLaws
 pub mod RoomLaws

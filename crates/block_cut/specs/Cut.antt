@@ -14,6 +14,7 @@ use Rattle.psabi_reloc.specs.declared.kind.RelocKind.TheVariants.{Align}
 use Rattle.block_cut.specs.DataWords.{data_words}
 use Rattle.block_cut.specs.Faults.{first_fault}
 use Rattle.block_cut.specs.Items.{entry_of, item_at, items_in, places_of, starts_on}
+use Rattle.block_cut.specs.Led.{has_place, is_led_to}
 use Rattle.block_cut.specs.PlainLayout.{plain_address, plain_end_of}
 use Rattle.block_cut.specs.Relocs.{field_of, is_padding, reloc_on}
 use Rattle.block_cut.specs.declared.code.Code.{Code}
@@ -91,10 +92,11 @@ pub record HasRoom (bytes : List ℕ) (n : ℕ) (reloc : Option Reloc) : Type 0 
 
 -- ---- the whole
 
--- inputs without a fault, their code, their words of data, and where the program starts
-pub record IsCut (inputs : Inputs) (text : Text) (words : List DataWord) (entry : Place) : Type 0 where
+-- inputs without a fault, their code, their words of data, where the program starts, and where relocations, items and symbols lead
+pub record IsCut (inputs : Inputs) (text : Text) (words : List DataWord) (entry : Place) (leaders : List Place) : Type 0 where
   pub faultless : first_fault inputs ≡ None
   pub is_map : IsMap inputs.map
   pub text_is : IsText (parsed inputs) text
   pub words_are : words ≡ data_words (parsed inputs)
   pub entry_is : entry ≡ entry_of (parsed inputs)
+  pub leaders_are : (q : Place) → has_place leaders q ≡ is_led_to (parsed inputs) q

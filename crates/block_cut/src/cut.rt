@@ -9,6 +9,7 @@ ghost use Rattle.block_cut.specs.Cut.{IsText};
 ghost use Rattle.block_cut.specs.DataWords.{data_words};
 ghost use Rattle.block_cut.specs.Faults.{first_fault};
 ghost use Rattle.block_cut.specs.Items.{entry_of, item_at, next_at, start_only};
+ghost use Rattle.block_cut.specs.Leaders.{is_leader_at};
 ghost use Rattle.block_cut.specs.PlainLayout.{plain_address, plain_counts};
 
 use crate::code::Code;
@@ -16,6 +17,8 @@ use crate::data_word::DataWord;
 use crate::data_words::data_words;
 use crate::item::Item;
 use crate::judge::judge_relocs;
+use crate::leaders::Leaders;
+use crate::leads::all_leads;
 use crate::plain_layout::item_size;
 use crate::reach::first_out_of_reach;
 use crate::text::Text;
@@ -36,6 +39,7 @@ pub struct Cut {
     text: Text,
     words: Vec<DataWord>,
     entry: Place,
+    leaders: Leaders,
 }
 
 impl Model for Cut {
@@ -46,12 +50,12 @@ impl Model for Cut {
 
     ghost view = { λ cut. cut.objects };
 
-    ghost invariant = { λ cut. IsCut cut.objects cut.text cut.words.items cut.entry };
+    ghost invariant = { λ cut. IsCut cut.objects cut.text cut.words.items cut.entry cut.leaders };
 }
 
 impl Cut {
     /// Cuts the code of the objects into items, or says why they aren't linked. It takes time near-linear
-    /// in the objects' bytes, sections and relocations.
+    /// in the objects' bytes, sections, relocations and symbols.
     pub fn new(alloc: Global, objects: Objects) -> Result<Cut, LinkFault>
         ensures same { IfOk result (λ cut. cut ≡ objects) }
         ensures faultless { IfOk result (λ _. first_fault objects ≡ None) }
@@ -78,11 +82,13 @@ impl Cut {
             });
         }
         let words = data_words(alloc, &objects)?;
+        let leaders = all_leads(alloc, &objects, &text)?;
         Ok(Cut {
             objects,
             text,
             words,
             entry,
+            leaders,
         })
     }
 
@@ -135,6 +141,13 @@ impl Cut {
         ensures faultless { first_fault self.now ≡ None }
     {
         &self.objects
+    }
+
+    /// Whether a basic block begins at a place. It takes logarithmic time.
+    pub fn leader(&self, p: Place) -> bool
+        ensures { result ≡ is_leader_at (parsed self.now) p }
+    {
+        self.text.has_start(p) || self.leaders.has(p)
     }
 
     /// What the plain layout counts.

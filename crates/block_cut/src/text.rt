@@ -1,6 +1,6 @@
 // All code, by its words: its items, and where they lie in the plain layout.
 
-ghost use Rattle.std.specs.Prelude.{◌≡◌, ◌<◌, ◌+◌, None, Some, IfOk, MatchOption, map, slice_get};
+ghost use Rattle.std.specs.Prelude.{◌≡◌, ◌<◌, ◌+◌, ◌&&◌, ◌==◌, None, Some, IfOk, MatchOption, map, slice_get};
 ghost use Rattle.std.specs.List.{range_with_len};
 ghost use Rattle.elf32_read.specs.Header.{section_count};
 ghost use Rattle.psabi_sym.specs.Faults.{gather_fault};
@@ -8,7 +8,7 @@ ghost use Rattle.psabi_sym.specs.Inputs.{parsed, Inputs};
 ghost use Rattle.psabi_sym.specs.Listed.{sections_before};
 ghost use Rattle.zc_base.specs.MemMap.{IsMap};
 ghost use Rattle.block_cut.specs.Cut.{list_in, text_word, text_words_at, IsCode, IsExtent, IsText};
-ghost use Rattle.block_cut.specs.Items.{item_at};
+ghost use Rattle.block_cut.specs.Items.{is_target_at, item_at};
 ghost use Rattle.block_cut.specs.PlainLayout.{plain_address};
 
 use crate::code::Code;
@@ -152,5 +152,16 @@ impl Text {
             → result ≡ plain_address (parsed inputs) p }
     {
         self.word(p)?.address
+    }
+
+    /// Whether a section of code starts at a place.
+    pub fn has_start(&self, p: Place) -> bool
+        ensures { (inputs : Inputs) → gather_fault inputs ≡ None → IsText (parsed inputs) self.now
+            → result ≡ (p.offset == 0 && is_target_at (parsed inputs).objects p) }
+    {
+        if p.offset != 0 {
+            return false;
+        }
+        self.address(p).is_some()
     }
 }

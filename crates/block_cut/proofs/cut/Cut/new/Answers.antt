@@ -40,6 +40,7 @@ invariant_of-result c =
       text_is = c.in_ok-text.ensures;
       words_are = c.in_ok-words.ensures;
       entry_is = entry_is (parsed inputs) c.in-Some.entry found;
+      leaders_are = c.in_ok-leaders.ensures;
     }
 
 pub returns-clause-faultless : goal.returns-clause-faultless
