@@ -20,6 +20,7 @@ use Rattle.block_cut.specs.Led.{Adds, has_place, is_led_to, leads_from}
 use Rattle.block_cut.specs.PlainLayout.{address_on, plain_address}
 use Rattle.block_cut.specs.Sizes.{item_size}
 use Rattle.block_cut.specs.declared.item.Item.{Item}
+use Rattle.block_cut.specs.declared.leaders.Leaders.{Leaders}
 use Rattle.block_cut.specs.declared.text_word.TextWord.{TextWord}
 use Rattle.block_cut.proofs.ItemLaws.{item_found}
 use Rattle.block_cut.proofs.ListedLaws.{before_first, before_more, listed}
@@ -31,7 +32,7 @@ use Rattle.block_cut.proofs.WordLaws.{no_address, target_nowhere, word_count}
 
 -- ---- tests
 
-or_false : (b : Bool) → (b || false) ≡ b
+pub or_false : (b : Bool) → (b || false) ≡ b
 or_false true = refl
 or_false false = refl
 
@@ -120,19 +121,19 @@ which_below f (suc n) any = elim (or_cases (any_below f n) (f n) any) [
 -- ---- places that are added
 
 -- none
-pub adds_none : (places : List Place) → Adds (λ q. false) places places
-adds_none places q = sym (or_false (has_place places q))
+pub adds_none : (leaders : Leaders) → Adds (λ q. false) leaders leaders
+adds_none leaders q = sym (or_false (has_place leaders q))
 
 -- by a test that says the same
-pub adds_same : (f g : Place → Bool) (old new : List Place) → ((q : Place) → f q ≡ g q) → Adds f old new → Adds g old new
+pub adds_same : (f g : Place → Bool) (old new : Leaders) → ((q : Place) → f q ≡ g q) → Adds f old new → Adds g old new
 adds_same f g old new same adds q = adds q ∙ ap (λ b. has_place old q || b) (same q)
 
 -- and then others
-pub adds_more : (f g : Place → Bool) (old mid new : List Place) → Adds f old mid → Adds g mid new → Adds (λ q. f q || g q) old new
+pub adds_more : (f g : Place → Bool) (old mid new : Leaders) → Adds f old mid → Adds g mid new → Adds (λ q. f q || g q) old new
 adds_more f g old mid new first then q = then q ∙ ap (λ b. b || g q) (first q) ∙ or_assoc (has_place old q) (f q) (g q)
 
 -- those of one element more
-pub adds_next : {X : Type 0} (leads : Place → X → Bool) (xs : List X) (k : ℕ) (x : X) (old mid new : List Place) → slice_get xs k ≡ Some x
+pub adds_next : {X : Type 0} (leads : Place → X → Bool) (xs : List X) (k : ℕ) (x : X) (old mid new : Leaders) → slice_get xs k ≡ Some x
     → Adds (λ q. list_any (leads q) (take k xs)) old mid → Adds (λ q. leads q x) mid new → Adds (λ q. list_any (leads q) (take (k + 1) xs)) old new
 adds_next leads xs k x old mid new at first then =
     adds_same (λ q. list_any (leads q) (take k xs) || leads q x) (λ q. list_any (leads q) (take (k + 1) xs)) old new (λ q. sym (any_next (leads q) xs k x at))
@@ -198,7 +199,7 @@ items_all inputs none o i words are q = by (section_at (parsed inputs).objects o
 -- ---- sections
 
 -- those of one section more, whatever else there is
-pub leads_more : (inputs : ParsedInputs) (o i : ℕ) (s : SectionParts) → section_at inputs.objects o i ≡ Some s → (old mid new : List Place)
+pub leads_more : (inputs : ParsedInputs) (o i : ℕ) (s : SectionParts) → section_at inputs.objects o i ≡ Some s → (old mid new : Leaders)
     → Adds (λ q. section_leads inputs q (listed o i s)) old mid → Adds (λ q. list_any (item_leads inputs q) (places_at inputs.objects o i)) mid new → (q : Place) (other : Bool)
     → has_place old q ≡ (list_any (leads_from inputs q) (sections_before inputs.objects o i) || other)
     → has_place new q ≡ (list_any (leads_from inputs q) (sections_before inputs.objects o (i + 1)) || other)

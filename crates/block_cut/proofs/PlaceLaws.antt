@@ -8,7 +8,7 @@ use Rattle.std.specs.declared.cmp.Ordering.TheVariants.{Less, Equal, Greater}
 use Rattle.std.proofs.lemmas.Bool.{eq-eqb, eqb-false, eqb-true, ltb-true, ne_eqb}
 use Rattle.zc_base.specs.Places.{same_place}
 use Rattle.zc_base.specs.declared.place.Place.{Place}
-use Rattle.block_cut.specs.Led.{has_place}
+use Rattle.block_cut.specs.Led.{is_listed}
 
 -- the order of places
 abbrev pub place_cmp : Place → Place → Ordering
@@ -37,14 +37,14 @@ same_by_order p q =
     ∙ (λ j. same_number q.object p.object j && (same_number q.section p.section j && same_number q.offset p.offset j))
 
 -- a place is among others by that order
-pub among_by_order : (places : List Place) (q : Place) → list_any (λ p. is_eq (place_cmp q p)) places ≡ has_place places q
+pub among_by_order : (places : List Place) (q : Place) → list_any (λ p. is_eq (place_cmp q p)) places ≡ is_listed places q
 among_by_order places q = λ j. list_any (λ p. same_by_order p q j) places
 
 -- one that is put in is there, and the others stay
 pub put_in : (old new : List Place) (p q : Place) → list_any (λ r. is_eq (place_cmp q r)) new ≡ cond (is_eq (place_cmp p q)) true (list_any (λ r. is_eq (place_cmp q r)) old)
-    → has_place new q ≡ (has_place old q || same_place p q)
+    → is_listed new q ≡ (is_listed old q || same_place p q)
 put_in old new p q is =
-    sym (among_by_order new q) ∙ is ∙ (λ j. cond (turned j) true (among_by_order old q j)) ∙ by (same_place p q) (has_place old q)
+    sym (among_by_order new q) ∙ is ∙ (λ j. cond (turned j) true (among_by_order old q j)) ∙ by (same_place p q) (is_listed old q)
   where
     turned : is_eq (place_cmp p q) ≡ same_place p q
     turned = same_by_order q p ∙ (λ j. turn q.object p.object j && (turn q.section p.section j && turn q.offset p.offset j))

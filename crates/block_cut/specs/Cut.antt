@@ -21,6 +21,7 @@ use Rattle.block_cut.specs.declared.code.Code.{Code}
 use Rattle.block_cut.specs.declared.code_word.CodeWord.{CodeWord}
 use Rattle.block_cut.specs.declared.data_word.DataWord.{DataWord}
 use Rattle.block_cut.specs.declared.extent.Extent.{Extent}
+use Rattle.block_cut.specs.declared.leaders.Leaders.{Leaders}
 use Rattle.block_cut.specs.declared.text.Text.{Text}
 use Rattle.block_cut.specs.declared.text_word.TextWord.{TextWord}
 
@@ -93,7 +94,7 @@ pub record HasRoom (bytes : List ℕ) (n : ℕ) (reloc : Option Reloc) : Type 0 
 -- ---- the whole
 
 -- inputs without a fault, their code, their words of data, where the program starts, and where relocations, items and symbols lead
-pub record IsCut (inputs : Inputs) (text : Text) (words : List DataWord) (entry : Place) (leaders : List Place) : Type 0 where
+pub record IsCut (inputs : Inputs) (text : Text) (words : List DataWord) (entry : Place) (leaders : Leaders) : Type 0 where
   pub faultless : first_fault inputs ≡ None
   pub is_map : IsMap inputs.map
   pub text_is : IsText (parsed inputs) text

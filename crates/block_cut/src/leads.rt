@@ -156,7 +156,7 @@ pub fn all_leads(alloc: Global, objects: &Objects, text: &Text) -> Result<Leader
     requires { IsText (parsed objects.now) text.now }
     ensures { IfOk result (λ leaders. (q : Place) → has_place leaders q ≡ is_led_to (parsed objects.now) q) }
 {
-    let mut leaders = Leaders::new(alloc);
+    let mut leaders = Leaders::new(alloc, text)?;
     for i in 0..objects.object_count() {
         let o = i as u16;
         let object = objects.object(o);

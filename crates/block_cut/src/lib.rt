@@ -15,6 +15,7 @@ mod judged;
 mod kinds;
 mod leaders;
 mod leads;
+mod marks;
 mod plain_layout;
 mod reach;
 mod reloc_item;

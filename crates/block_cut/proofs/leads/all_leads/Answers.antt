@@ -11,7 +11,7 @@ use Rattle.block_cut.proofs.ListedLaws.{before_end}
 use Rattle.block_cut.proofs.leads.all_leads.Goals as goal
 
 pub loop-i-init : goal.loop-i-init
-loop-i-init c = λ q. ap (λ l. has_place l q) c.new-leaders.ensures ∙ sym (leads_first (parsed c.args.objects.now) q)
+loop-i-init c = λ q. c.in_ok-leaders.ensures q ∙ sym (leads_first (parsed c.args.objects.now) q)
 
 pub loop-i-preserved : goal.loop-i-preserved
 loop-i-preserved c = λ q.

@@ -1,10 +1,17 @@
-use Rattle.std.proofs.Common.{◌||◌, ◌∙◌, ap}
+use Rattle.std.proofs.Common.{◌≡◌, ◌&&◌, ◌||◌, sym, ap, ◌∙◌}
 use Rattle.zc_base.specs.Places.{same_place}
-use Rattle.block_cut.specs.Led.{has_place}
+use Rattle.block_cut.specs.Led.{is_listed, is_marked}
+use Rattle.block_cut.proofs.LedLaws.{or_assoc, or_false}
 use Rattle.block_cut.proofs.PlaceLaws.{put_in}
 use Rattle.block_cut.proofs.leaders.Leaders.add.Goals as goal
 
-pub returns : goal.returns
-returns c = λ q.
-    put_in c.self.inside.places.keys c.insert.new.self.keys c.args.p q (c.in_ok-insert.ensures.updates.0 q)
-    ∙ ap (λ l. has_place l q || same_place c.args.p q) c.self.view_is
+pub returns-in_ok-insert : goal.returns-in_ok-insert
+returns-in_ok-insert c = λ q.
+    let old = c.args.self.now in
+    let p = c.args.p in
+    let mid = c.mark.new.self in
+    let marked = is_marked old.objects.items q in
+    let same : is_marked mid.objects.items q ≡ marked = c.mark.ensures.marks q ∙ ap (λ b. marked || (b && same_place p q)) c.if-not-mark.true ∙ or_false marked in
+    let listed : is_listed c.insert.new.self.keys q ≡ (is_listed old.others.keys q || same_place p q) =
+    put_in mid.others.keys c.insert.new.self.keys p q (c.in_ok-insert.ensures.updates.0 q) ∙ ap (λ o. is_listed o.keys q || same_place p q) c.mark.ensures.others in
+    (λ j. same j || listed j) ∙ sym (or_assoc marked (is_listed old.others.keys q) (same_place p q))
