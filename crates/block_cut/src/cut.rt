@@ -92,7 +92,8 @@ impl Cut {
         })
     }
 
-    /// The item at a place, if one starts there. It takes constant time, as do all that follow.
+    /// The item at a place, if one starts there. It takes constant time, as do all that follow where nothing
+    /// else is said.
     pub fn item(&self, p: Place) -> Option<Item>
         ensures item { result ≡ item_at (parsed self.now) p }
         ensures room { IfSome result (λ _. p.offset + 256 < 2 ^ 32) }
@@ -143,7 +144,8 @@ impl Cut {
         &self.objects
     }
 
-    /// Whether a basic block begins at a place. It takes logarithmic time.
+    /// Whether a basic block begins at a place. It takes constant time if no function or global symbol
+    /// stands within a word, and logarithmic time at most.
     pub fn leader(&self, p: Place) -> bool
         ensures { result ≡ is_leader_at (parsed self.now) p }
     {

@@ -13,7 +13,7 @@ use zc_base::place::Place;
 
 mod rows;
 
-use rows::{FAULTS, ITEMS, LAYOUTS};
+use rows::{FAULTS, ITEMS, LAYOUTS, LEADERS};
 
 // In the first object: the alignment of section 2, the size of section 5, and the value and the home of
 // `_start`.
@@ -24,6 +24,11 @@ const LAST_SIZE: usize = 636;
 const START_VALUE: usize = 372;
 
 const START_HOME: usize = 380;
+
+// Where its symbols begin, and how many bytes each has.
+const SYMBOLS: usize = 240;
+
+const SYMBOL_SIZE: usize = 16;
 
 // The cut of the objects with these relocations, of which the first has these words at an offset each.
 fn cut_of(
@@ -156,6 +161,46 @@ fn a_program_starts_at_an_item_and_its_branches_reach(rt: HostRuntime) -> Result
             numbers_of(rt.alloc(), want)?.as_slice(),
             "{row}"
         );
+    }
+    Ok(())
+}
+
+// A change of a symbol's value, and of its type, binding and home, by its number.
+fn symbol_change(numbers: &[i64]) -> Result<[(usize, i64); 2], Fail> {
+    let [number, value, home] = numbers else {
+        return Err("no symbol".into());
+    };
+    let at = SYMBOLS + SYMBOL_SIZE * usize::from(u8::try_from(*number)?);
+    Ok([(at + 4, *value), (at + 12, *home)])
+}
+
+// The offsets of a section of the first object, up to 60, at which basic blocks begin.
+fn leaders_text(alloc: Global, cut: &Cut, section: u16) -> Result<String, Fail> {
+    let mut text = String::new(alloc);
+    for offset in 0..60 {
+        let p = Place {
+            object: 0,
+            section,
+            offset,
+        };
+        if cut.leader(p) {
+            text.push_str(format!(in alloc; " {offset}")?.as_str())?;
+        }
+    }
+    Ok(text)
+}
+
+#[test]
+fn a_basic_block_begins_where_something_leads(rt: HostRuntime) -> Result<(), Fail> {
+    for row in LEADERS.trim().lines() {
+        let (cells, _what) = row.split_once('|').ok_or("no name")?;
+        let (given, want) = cells.split_once('=').ok_or("no leaders")?;
+        let (relocs, rest) = given.split_once('@').ok_or("no symbol")?;
+        let (symbol, section) = rest.split_once('@').ok_or("no section")?;
+        let changes = symbol_change(&numbers_of(rt.alloc(), symbol)?)?;
+        let cut = cut_of(rt.alloc(), relocs, &changes)??;
+        let found = leaders_text(rt.alloc(), &cut, section.trim().parse::<u16>()?)?;
+        assert_eq!(rt; found.as_str().trim(), want.trim(), "{row}");
     }
     Ok(())
 }

@@ -67,3 +67,30 @@ pub const FAULTS: &str = "
 /0:20:9:16:0 8:0:0:43:4 @ 4028:0:65552 = 1:15:1:20 | the same, too far
 /0:24:9:17:0 @ 4024:0:65552 = 0:0:0:0 | a jal reaches farther
 ";
+
+/// A symbol of the first object, by its number, its value, and its type with binding and home; and the
+/// offsets of one of the object's sections at which basic blocks begin.
+pub const LEADERS: &str = "
+@ 7:8:65536 @ 1 = 0 20 24 28 36 | at the start, at 20 and 24, which lead to themselves, and after these and a jalr
+@ 7:8:65536 @ 2 = 0 | at another start
+@ 7:8:65536 @ 3 = | not in data
+@ 7:8:65536 @ 6 = | nor in what is dropped
+@ 7:8:65537 @ 1 = 0 20 24 28 36 | a local symbol that is no function
+@ 7:8:65538 @ 1 = 0 8 20 24 28 36 | a local function
+@ 7:9:65538 @ 1 = 0 9 20 24 28 36 | one in a word
+@ 7:48:65538 @ 1 = 0 20 24 28 36 48 | one at the end
+@ 7:8:196610 @ 3 = | one in data
+@ 7:8:4293984258 @ 1 = 0 20 24 28 36 | one that is a number
+@ 8:40:65552 @ 1 = 0 20 24 28 36 40 | a global symbol
+@ 8:40:65568 @ 1 = 0 20 24 28 36 40 | a weak one
+0:20:1:16:40 @ 7:8:65536 @ 1 = 0 24 28 36 40 | a branch
+0:24:3:17:4 @ 7:8:65536 @ 2 = 0 4 | a jump to another section
+0:28:1:18:4 @ 7:8:65536 @ 1 = 0 4 20 24 28 36 | a call
+0:28:9:19:0 @ 7:8:65536 @ 1 = 0 20 24 28 | one that goes nowhere
+0:8:1:26:32 @ 7:8:65536 @ 1 = 0 20 24 28 32 36 | an upper part
+0:40:2:1:0 @ 7:8:65536 @ 1 = 0 20 24 28 36 48 | a word that leads to the end
+5:1:1:1:12 @ 7:8:65536 @ 1 = 0 12 20 24 28 36 | a word of data
+7:0:1:1:16 @ 7:8:65536 @ 1 = 0 16 20 24 28 36 | one of zeros
+/5:0:9:1:44 @ 7:8:65536 @ 1 = 0 20 24 28 36 44 | one of another object
+0:40:1:0:4 1:44:1:51:8 @ 7:8:65536 @ 1 = 0 20 24 28 36 | NONE and RELAX ask for nothing
+";
