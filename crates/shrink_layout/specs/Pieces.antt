@@ -1,0 +1,119 @@
+-- The pieces of code: the padding before each section of it, and its items, each with the forms that it has (RISC-V unprivileged
+-- manual, "C Extension for Compressed Instructions"; RISC-V Zc specification 1.0, "Zcb").
+use Rattle.std.specs.Prelude.{ℕ, pos, ◌+◌, Bool, true, false, nat_lt, nat_le, if◌then◌else◌, List, [], ◌∷◌, length, filter, map, not, ◌&&◌}
+use Rattle.std.specs.List.{flat_map, list_any, sum_by}
+use Rattle.std.specs.Option.{is_some, option_map_or}
+use Rattle.zc_base.specs.declared.place.Place.{Place}
+use Rattle.elf32_read.specs.Parts.{ObjectParts, SectionParts, is_code_section}
+use Rattle.psabi_reloc.specs.Parts.{hi20_of, lo12_of}
+use Rattle.psabi_reloc.specs.Patched.{with_imm, with_upper}
+use Rattle.psabi_sym.specs.Faults.{power_above}
+use Rattle.psabi_sym.specs.Inputs.{ParsedInputs}
+use Rattle.psabi_sym.specs.Listed.{ListedSection, all_sections, sections_before}
+use Rattle.psabi_sym.specs.declared.target.Target.{Target}
+use Rattle.psabi_sym.specs.declared.target.Target.TheVariants.{Code, Number, Absent, Nowhere}
+use Rattle.rv_decode.specs.declared.instr.Instr.{Instr}
+use Rattle.rv_decode.specs.declared.instr.Instr.TheVariants.{Jal}
+use Rattle.zc_decode.specs.declared.short.Short.TheVariants.{Base}
+use Rattle.zc_encode.specs.Halves.{encoded16}
+use Rattle.block_cut.specs.Items.{all_items, code_at, items_in, starts_in}
+use Rattle.block_cut.specs.declared.item.Item.{Item}
+use Rattle.block_cut.specs.declared.item.Item.TheVariants as item
+use Rattle.shrink_layout.specs.declared.piece.Piece.{Piece}
+use Rattle.shrink_layout.specs.declared.piece.Piece.TheVariants.{Fixed, Align, Branch, Jump}
+
+-- ---- where places stand in the list
+
+-- a section's pieces: its padding and its items; what isn't code has none
+abbrev pub piece_count : ListedSection → ℕ
+piece_count l = if is_code_section l.section then 1 + length (starts_in l.section) else 0
+
+-- how many pieces stand before an offset of a section, by its object's index and its own
+abbrev pub pieces_before : List ObjectParts → ℕ → ℕ → SectionParts → ℕ → ℕ
+pieces_before objects o i s n =
+    sum_by piece_count (sections_before objects o i) + 1 + length (filter (λ m. nat_lt m n) (starts_in s))
+
+-- how many stand before a place of code
+abbrev pub number_of : List ObjectParts → Place → ℕ
+number_of objects q = option_map_or (λ s. pieces_before objects q.object q.section s q.offset) (code_at objects q) 0
+
+-- ---- forms
+
+-- a halfword does what an instruction does
+abbrev pub is_short : Instr → Bool
+is_short i = is_some (encoded16 (Base i))
+
+-- the size of an instruction whose immediate doesn't depend on the layout
+abbrev pub instr_size : Instr → ℕ
+instr_size i = if is_short i then 2 else 4
+
+-- that of one with a part of an address: the addresses of code aren't known before it
+abbrev pub part_size : Target → (ℕ → Instr) → ℕ
+part_size (Code q) patched = 4
+part_size (Number n) patched = instr_size (patched n)
+part_size (Absent n) patched = instr_size (patched n)
+part_size Nowhere patched = 4
+
+-- the piece of a jump to a place, by whether it has a short form
+abbrev pub jump_piece : List ObjectParts → Place → Bool → Piece
+jump_piece objects to true = Jump (number_of objects to)
+jump_piece objects to false = Fixed 4
+
+-- the piece of an item; a call is one jump
+abbrev pub piece_of : List ObjectParts → Item → Piece
+piece_of objects (item.Op i) = Fixed (instr_size i)
+piece_of objects (item.Hi i t) = Fixed (part_size t (λ x. with_upper i (hi20_of x)))
+piece_of objects (item.Lo i t) = Fixed (part_size t (λ x. with_imm i (lo12_of x)))
+piece_of objects (item.PcHi i t) = Fixed 4
+piece_of objects (item.PcLo i q) = Fixed 4
+piece_of objects (item.Branch i to) = Branch (number_of objects to) (is_short i)
+piece_of objects (item.Jump i to) = jump_piece objects to (is_short i)
+piece_of objects (item.Call rd temp to) = jump_piece objects to (is_short (Jal rd (pos 0)))
+piece_of objects (item.Align bytes) = Align (power_above bytes)
+piece_of objects (item.Word t) = Fixed 4
+piece_of objects (item.Raw word) = Fixed 4
+piece_of objects (item.RawPair first second) = Fixed 8
+
+-- ---- all pieces
+
+-- the padding before a section: up to 4 its alignment is that of the instructions that it has, which may take 2 bytes now
+abbrev pub section_alignment : SectionParts → ℕ
+section_alignment s = if nat_le s.align 4 then 2 else s.align
+
+-- a section's pieces
+abbrev pub section_pieces : ParsedInputs → ListedSection → List Piece
+section_pieces inputs l =
+    if is_code_section l.section then Align (section_alignment l.section) ∷ map (piece_of inputs.objects) (items_in inputs l) else []
+
+-- those of sections one after another
+abbrev pub pieces_in : ParsedInputs → List ListedSection → List Piece
+pieces_in inputs sections = flat_map (section_pieces inputs) sections
+
+-- those of all code, by object, section and offset
+unfoldable pub pieces_of : ParsedInputs → List Piece
+pieces_of inputs = pieces_in inputs (all_sections inputs.objects)
+
+-- ---- alignments
+
+-- padding that an item asks for
+abbrev pub is_align : Item → Bool
+is_align (item.Op i) = false
+is_align (item.Hi i t) = false
+is_align (item.Lo i t) = false
+is_align (item.PcHi i t) = false
+is_align (item.PcLo i q) = false
+is_align (item.Branch i to) = false
+is_align (item.Jump i to) = false
+is_align (item.Call rd temp to) = false
+is_align (item.Align bytes) = true
+is_align (item.Word t) = false
+is_align (item.Raw word) = false
+is_align (item.RawPair first second) = false
+
+-- code that is aligned above 4 bytes
+abbrev pub is_aligned_code : ListedSection → Bool
+is_aligned_code l = is_code_section l.section && nat_lt 4 l.section.align
+
+-- nothing is aligned above 4 bytes: no item asks for padding, and no section of code for more
+abbrev pub is_unaligned : ParsedInputs → Bool
+is_unaligned inputs = not (list_any is_align (all_items inputs)) && not (list_any is_aligned_code (all_sections inputs.objects))

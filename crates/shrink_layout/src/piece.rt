@@ -1,0 +1,92 @@
+// What the layout knows of an item.
+
+ghost use Rattle.std.specs.Prelude.{◌≡◌, ◌<◌, ◌≤◌};
+ghost use Rattle.shrink_layout.specs.Forms.{HasAlignment, IsForm, holds, longer, longest, shortest, target, width};
+
+use psabi_reloc::reaches::{branch_reaches, short_branch_reaches, short_jump_reaches};
+
+/// What the layout knows of an item, or of the padding before a section.
+///
+/// | Piece | Stands for |
+/// |---|---|
+/// | `Fixed` | an item that has one size wherever it lies: most have |
+/// | `Align` | padding up to a multiple of the alignment |
+/// | `Branch` | a branch; `short` says whether it has a form of two bytes |
+/// | `Jump` | a jump or a call that has a form of two bytes |
+///
+/// `to` counts the pieces before the target.
+#[derive(Clone, Copy, PartialEq, Eq, Debug)]
+pub enum Piece {
+    Fixed { size: u32 },
+    Align { alignment: u32 },
+    Branch { to: u32, short: bool },
+    Jump { to: u32 },
+}
+
+impl Piece {
+    /// The shortest form.
+    pub fn shortest(self) -> u32
+        ensures { result ≡ shortest self }
+    {
+        match self {
+            Piece::Fixed { size } => size,
+            Piece::Align { .. } => 0,
+            Piece::Branch { short: true, .. } | Piece::Jump { .. } => 2,
+            Piece::Branch { short: false, .. } => 4,
+        }
+    }
+
+    /// The next longer form, if there is one, or else the same.
+    pub fn longer(self, size: u32) -> u32
+        ensures { result ≡ longer self size }
+    {
+        match self {
+            Piece::Fixed { .. } | Piece::Align { .. } => size,
+            Piece::Branch { .. } => {
+                if size == 2 {
+                    4
+                } else {
+                    8
+                }
+            }
+            Piece::Jump { .. } => 4,
+        }
+    }
+
+    /// How many pieces stand before the target; 0 if there is none.
+    pub fn target(self) -> u32
+        ensures { result ≡ target self }
+    {
+        match self {
+            Piece::Fixed { .. } | Piece::Align { .. } => 0,
+            Piece::Branch { to, .. } | Piece::Jump { to } => to,
+        }
+    }
+
+    /// Whether this form reaches from one address to another.
+    pub fn holds(self, size: u32, from: u32, to: u32) -> bool
+        ensures { from < 0x8000_0000 → to < 0x8000_0000 → result ≡ holds self size from to }
+    {
+        let distance = to.wrapping_sub(from).cast_signed();
+        match self {
+            Piece::Fixed { .. } | Piece::Align { .. } => true,
+            Piece::Branch { .. } if size == 2 => short_branch_reaches(distance),
+            Piece::Branch { .. } if size == 4 => branch_reaches(distance),
+            Piece::Branch { .. } => true,
+            Piece::Jump { .. } => size != 2 || short_jump_reaches(distance),
+        }
+    }
+
+    /// The bytes that a piece takes at an address: its size, or what its alignment needs.
+    pub fn width(self, size: u32, at: u32) -> u32
+        requires alignment { HasAlignment self }
+        requires form { IsForm self size }
+        ensures value { result ≡ width self size at }
+        ensures most { result ≤ longest self }
+    {
+        match self {
+            Piece::Align { alignment } => (alignment - at % alignment) % alignment,
+            Piece::Fixed { .. } | Piece::Branch { .. } | Piece::Jump { .. } => size,
+        }
+    }
+}
