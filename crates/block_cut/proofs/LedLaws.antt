@@ -1,5 +1,5 @@
 -- Places that are added: in turn, one relocation, word or symbol after another, and those of all sections and symbols.
-use Rattle.std.proofs.Common.{◌≡◌, ℕ, zero, suc, ◌+◌, ◌-◌, ◌*◌, ◌/◌, ◌<◌, List, [], ◌∷◌, ◌++◌, length, map, take, Bool, true, false, cond, Option, Some, None, is_some, slice_get, refl, sym, ap, ◌∙◌, arith, eqb, inl, inr}
+use Rattle.std.proofs.Common.{◌≡◌, ℕ, zero, suc, ◌+◌, ◌*◌, ◌/◌, ◌<◌, List, [], ◌∷◌, length, map, take, Bool, true, false, cond, Option, Some, None, is_some, slice_get, refl, sym, ap, ◌∙◌, arith, eqb, inl, inr}
 use Rattle.std.specs.Prelude.{◌&&◌, ◌||◌}
 use Rattle.std.specs.List.{flat_map, list_any}
 use Rattle.std.specs.Option.{option_and_then, option_map, option_map_or}
@@ -8,10 +8,10 @@ use Rattle.std.proofs.lemmas.List.Folds.{list_any-append}
 use Rattle.std.proofs.lemmas.Option.{get_or_from_slice_get, slice_get_within}
 use Rattle.zc_base.specs.Places.{same_place}
 use Rattle.zc_base.specs.declared.place.Place.{Place}
-use Rattle.elf32_read.specs.Parts.{ObjectParts, SectionParts, is_code_section, object_parts}
+use Rattle.elf32_read.specs.Parts.{SectionParts, is_code_section, object_parts}
 use Rattle.psabi_sym.specs.Faults.{gather_fault}
 use Rattle.psabi_sym.specs.Inputs.{Inputs, ParsedInputs, parsed}
-use Rattle.psabi_sym.specs.Listed.{ListedSection, ListedSymbol, all_sections, all_symbols, section_at, sections_before, symbols_in}
+use Rattle.psabi_sym.specs.Listed.{ListedSymbol, all_sections, all_symbols, section_at, sections_before, symbols_in}
 use Rattle.psabi_sym.proofs.FlatLaws.{length-parsed, parsed_more, symbols_push}
 use Rattle.block_cut.specs.Cut.{by_word, place_at, places_at, text_word, text_words_at, words_of}
 use Rattle.block_cut.specs.Items.{all_places, code_at, code_only, is_target_at, item_at, next_at, place_of, places_of, starts_in, starts_on}
@@ -28,7 +28,7 @@ use Rattle.block_cut.proofs.SizeLaws.{item_sized}
 use Rattle.block_cut.proofs.StartLaws.{start_is}
 use Rattle.block_cut.proofs.TakeLaws.{take_next}
 use Rattle.block_cut.proofs.WholeLaws.{inputs_whole}
-use Rattle.block_cut.proofs.WordLaws.{no_address, target_nowhere, word_count}
+use Rattle.block_cut.proofs.WordLaws.{target_nowhere, word_count}
 
 -- ---- tests
 

@@ -151,7 +151,7 @@ fn add_symbols(
 }
 
 /// The places that relocations, items and symbols lead to. It looks at each relocation, word and symbol
-/// once, in logarithmic time.
+/// once.
 pub fn all_leads(alloc: Global, objects: &Objects, text: &Text) -> Result<Leaders, AllocError>
     requires { IsText (parsed objects.now) text.now }
     ensures { IfOk result (λ leaders. (q : Place) → has_place leaders q ≡ is_led_to (parsed objects.now) q) }

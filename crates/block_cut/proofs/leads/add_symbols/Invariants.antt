@@ -1,4 +1,4 @@
-use Rattle.std.proofs.Common.{◌-◌, ◌≤◌, take, max}
+use Rattle.std.proofs.Common.{◌-◌, take}
 use Rattle.std.specs.List.{list_any}
 use Rattle.elf32_read.specs.Parts.{object_parts}
 use Rattle.psabi_sym.specs.Inputs.{parsed}

@@ -1,11 +1,11 @@
-use Rattle.std.proofs.Common.{◌≡◌, ◌||◌, ◌+◌, ◌≤◌, length, take, sym, ap, ◌∙◌, arith}
+use Rattle.std.proofs.Common.{◌||◌, ◌+◌, ◌≤◌, length, take, sym, ap, ◌∙◌, arith}
 use Rattle.std.specs.List.{list_any}
 use Rattle.std.proofs.lemmas.List.{length-map, take_all}
 use Rattle.elf32_read.specs.Parts.{object_parts}
 use Rattle.psabi_sym.specs.Inputs.{parsed}
 use Rattle.psabi_sym.specs.Listed.{all_sections, all_symbols, sections_before, symbols_in}
 use Rattle.block_cut.specs.Leaders.{symbol_leads}
-use Rattle.block_cut.specs.Led.{has_place, leads_from}
+use Rattle.block_cut.specs.Led.{leads_from}
 use Rattle.block_cut.proofs.LedLaws.{leads_all, leads_first, or_assoc, symbols_more}
 use Rattle.block_cut.proofs.ListedLaws.{before_end}
 use Rattle.block_cut.proofs.leads.all_leads.Goals as goal

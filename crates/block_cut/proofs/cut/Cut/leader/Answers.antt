@@ -1,6 +1,5 @@
-use Rattle.std.proofs.Common.{◌≡◌, ◌&&◌, ◌||◌, ◌==◌, sym, ap, ◌∙◌}
+use Rattle.std.proofs.Common.{◌||◌, sym, ap, ◌∙◌}
 use Rattle.psabi_sym.specs.Inputs.{parsed}
-use Rattle.block_cut.specs.Items.{is_target_at}
 use Rattle.block_cut.specs.Leaders.{is_leader_at}
 use Rattle.block_cut.specs.Led.{is_led_to}
 use Rattle.block_cut.proofs.FaultLaws.{faultless}
