@@ -3,6 +3,7 @@ use Rattle.std.proofs.Common.{◌≡◌, ℕ, zero, suc, ◌+◌, ◌%◌, ◌<�
 use Rattle.std.specs.Prelude.{slice_index}
 use Rattle.std.specs.List.{sum_by}
 use Rattle.std.proofs.lemmas.Bool.{and_parts}
+use Rattle.std.proofs.lemmas.List.{get_or_default}
 use Rattle.std.proofs.lemmas.List.Elements.{All-nil, All-cons, All-tail}
 use Rattle.std.proofs.lemmas.List.Sums.{sum_by-cons}
 use Rattle.shrink_layout.specs.declared.piece.Piece.{Piece}
@@ -90,6 +91,21 @@ last_address at pieces sizes some h = address_most at pieces sizes some h (lengt
 -- so they are small if there is room
 pub small_addresses : (at limit : ℕ) (pieces : List Piece) (sizes : List ℕ) → All HasAlignment pieces → AreForms pieces sizes → at + sum_by longest pieces < limit → All (λ a. a < limit) (addresses_of at pieces sizes)
 small_addresses at limit pieces sizes some h room = λ k d lt. omega (arith, address_most at pieces sizes some h k d lt)
+
+-- nor is one before the first
+pub address_least : (at : ℕ) (pieces : List Piece) (sizes : List ℕ) → AreForms pieces sizes → All (λ a. at ≤ a) (addresses_of at pieces sizes)
+address_least at pieces sizes h = λ k d lt.
+    omega (
+      arith,
+      get_or_default (addresses_of at pieces sizes) k d 0 lt,
+      first_address at pieces sizes,
+      ascending at pieces sizes h 0 k (omega arith) (omega (arith, lt, length_addresses at pieces sizes h)),
+    )
+
+-- so any two are near
+pub near_addresses : (at : ℕ) (pieces : List Piece) (sizes : List ℕ) → All HasAlignment pieces → AreForms pieces sizes → sum_by longest pieces < 0x8000_0000
+    → All (λ a. All (λ b. a < b + 0x8000_0000) (addresses_of at pieces sizes)) (addresses_of at pieces sizes)
+near_addresses at pieces sizes some h near = λ k d lt j e within. omega (arith, near, address_most at pieces sizes some h k d lt, address_least at pieces sizes h j e within)
 
 -- ---- what fits
 

@@ -2,5 +2,13 @@ pub mod AddressLaws
 pub mod AddressSteps
 pub mod Distances
 pub mod FormLaws
+pub mod KeptLaws
 pub mod LeastLaws
+pub mod NumberEnds
+pub mod NumberLaws
+pub mod OrderLaws
+pub mod PlaceAddressLaws
+pub mod PremiseLaws
 pub mod RoundLaws
+pub mod TableNumberLaws
+pub mod WalkLaws

@@ -1,5 +1,6 @@
 pub mod Forms
 pub mod Layout
 pub mod Least
+pub mod Numbers
 pub mod Pieces
 pub mod Settled

@@ -1,9 +1,9 @@
 -- A layout of the objects' code, and what it gives: addresses, sizes, the text's end, and counts.
-use Rattle.std.specs.Prelude.{◌≡◌, ℕ, ◌+◌, ◌-◌, Bool, true, false, ◌==◌, if◌then◌else◌, List, [], ◌∷◌, length, filter, slice_index, Option, Some, None}
+use Rattle.std.specs.Prelude.{ℕ, ◌+◌, ◌-◌, Bool, true, false, ◌==◌, if◌then◌else◌, List, [], ◌∷◌, length, filter, slice_index, Option, Some, None}
 use Rattle.std.specs.Option.{option_map}
 use Rattle.zc_base.specs.declared.counts.Counts.{Counts}
 use Rattle.zc_base.specs.declared.place.Place.{Place}
-use Rattle.psabi_sym.specs.Inputs.{Inputs, ParsedInputs, parsed}
+use Rattle.psabi_sym.specs.Inputs.{Inputs, ParsedInputs}
 use Rattle.block_cut.specs.Items.{all_items, is_target_at, item_at}
 use Rattle.shrink_layout.specs.declared.piece.Piece.{Piece}
 use Rattle.shrink_layout.specs.declared.piece.Piece.TheVariants.{Fixed, Align, Branch, Jump}

@@ -1,6 +1,6 @@
 // Addresses at given sizes.
 
-ghost use Rattle.std.specs.Prelude.{◌≡◌, ◌+◌, ◌<◌, ◌≤◌, All, OnOk};
+ghost use Rattle.std.specs.Prelude.{◌≡◌, ◌+◌, ◌^◌, ◌<◌, ◌≤◌, All, OnOk};
 ghost use Rattle.std.specs.List.{sum_by};
 ghost use Rattle.shrink_layout.specs.Forms.{HasAlignment, longest};
 ghost use Rattle.shrink_layout.specs.Layout.{addresses_of};
@@ -18,7 +18,7 @@ pub fn fill(
 ) -> Result<(), AllocError>
     requires alignments { All HasAlignment pieces.now }
     requires forms { AreForms pieces.now sizes.now }
-    requires room { text + sum_by longest pieces.now < 0x8000_0000 }
+    requires room { text + sum_by longest pieces.now < 2 ^ 32 }
     ensures { OnOk result (addresses.new.items ≡ addresses_of text pieces.now sizes.now) }
 {
     addresses.clear();

@@ -3,6 +3,13 @@
 #![tactic(auto)]
 
 mod addresses;
+mod numbers;
+mod part_size;
 pub mod piece;
+mod pieces;
 mod round;
 pub mod rounds;
+pub mod settled;
+mod text_part;
+mod walk;
+mod word_numbers;

@@ -8,7 +8,7 @@ use crate::piece::Piece;
 
 // Whether the form of the piece with number k reaches.
 fn fits(addresses: &[u32], k: usize, piece: Piece, size: u32) -> bool
-    requires small { All (λ a. a < 0x8000_0000) addresses.now }
+    requires near { All (λ a. All (λ b. a < b + 0x8000_0000) addresses.now) addresses.now }
     requires piece_addressed { k < length addresses.now }
     requires target_addressed { target piece < length addresses.now }
     ensures { result ≡ holds_at addresses.now k piece size }
@@ -21,7 +21,7 @@ fn fits(addresses: &[u32], k: usize, piece: Piece, size: u32) -> bool
 pub fn grow(pieces: &[Piece], addresses: &[u32], sizes: &mut [u32]) -> bool
     requires same { length sizes.old ≡ length pieces.now }
     requires addressed { length addresses.now ≡ length pieces.now + 1 }
-    requires small { All (λ a. a < 0x8000_0000) addresses.now }
+    requires near { All (λ a. All (λ b. a < b + 0x8000_0000) addresses.now) addresses.now }
     requires targets { All (λ p. target p ≤ length pieces.now) pieces.now }
     ensures grown { sizes.new ≡ grown_from addresses.now 0 pieces.now sizes.old }
     ensures fitted { result ≡ fit_from addresses.now 0 pieces.now sizes.old }

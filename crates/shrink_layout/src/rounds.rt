@@ -1,6 +1,6 @@
 // The layout of pieces: rounds, of which the first that fits is taken.
 
-ghost use Rattle.std.specs.Prelude.{◌≡◌, ◌≤◌, ◌<◌, ◌+◌, ◌%◌, All, IfOk, OnOk, length, map};
+ghost use Rattle.std.specs.Prelude.{◌≡◌, ◌≤◌, ◌<◌, ◌+◌, ◌^◌, ◌%◌, All, IfOk, OnOk, length, map};
 ghost use Rattle.std.specs.List.{sum_by};
 ghost use Rattle.shrink_layout.specs.Forms.{HasAlignment, IsEven, longest, shortest, target};
 ghost use Rattle.shrink_layout.specs.Layout.{IsLayout, addresses_of, all_fit, next_sizes};
@@ -30,7 +30,8 @@ impl Rounds {
     fn next(&mut self, text: u32, pieces: &[Piece]) -> Result<bool, AllocError>
         requires alignments { All HasAlignment pieces.now }
         requires targets { All (λ p. target p ≤ length pieces.now) pieces.now }
-        requires room { text + sum_by longest pieces.now < 0x8000_0000 }
+        requires room { text + sum_by longest pieces.now < 2 ^ 32 }
+        requires near { sum_by longest pieces.now < 0x8000_0000 }
         requires forms { AreForms pieces.now self.old.sizes.items }
         ensures fitted { IfOk result (λ fitted. fitted ≡ all_fit text pieces.now self.old.sizes.items) }
         ensures sizes { OnOk result (self.new.sizes.items ≡ next_sizes text pieces.now self.old.sizes.items) }
@@ -46,7 +47,8 @@ impl Rounds {
 pub fn settle_pieces(alloc: Global, text: u32, pieces: &[Piece]) -> Result<Rounds, AllocError>
     requires alignments { All HasAlignment pieces.now }
     requires targets { All (λ p. target p ≤ length pieces.now) pieces.now }
-    requires room { text + sum_by longest pieces.now < 0x8000_0000 }
+    requires room { text + sum_by longest pieces.now < 2 ^ 32 }
+    requires near { sum_by longest pieces.now < 0x8000_0000 }
     ensures layout { IfOk result (λ r. IsLayout text pieces.now r.sizes.items) }
     ensures addresses { IfOk result (λ r. r.addresses.items ≡ addresses_of text pieces.now r.sizes.items) }
     ensures least { text % 2 ≡ 0 → All IsEven pieces.now → All IsTight pieces.now → IfOk result (λ r. IsLeast text pieces.now r.sizes.items) }

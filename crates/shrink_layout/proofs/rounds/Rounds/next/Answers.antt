@@ -1,6 +1,6 @@
-use Rattle.std.proofs.Common.{length, ap, ◌∙◌, ◌<◌, All, sym, subst}
+use Rattle.std.proofs.Common.{length, ap, ◌+◌, ◌∙◌, ◌<◌, All, sym, subst}
 use Rattle.shrink_layout.specs.Layout.{addresses_of}
-use Rattle.shrink_layout.proofs.AddressLaws.{length_addresses, small_addresses}
+use Rattle.shrink_layout.proofs.AddressLaws.{length_addresses, near_addresses}
 use Rattle.shrink_layout.proofs.RoundLaws.{length_forms}
 use Rattle.shrink_layout.proofs.rounds.Rounds.next.Goals as goal
 
@@ -13,8 +13,8 @@ grow-requires-clause-addressed c =
     let filled = c.deref-2.ensures.value ∙ c.in_ok-fill.ensures ∙ ap (addresses_of c.args.text pieces) c.deref.ensures.value in
     ap length filled ∙ length_addresses c.args.text pieces c.args.self.now.sizes.items c.requires.forms
 
-pub grow-requires-clause-small : goal.grow-requires-clause-small
-grow-requires-clause-small c =
+pub grow-requires-clause-near : goal.grow-requires-clause-near
+grow-requires-clause-near c =
     let pieces = c.args.pieces.now in
     let filled = c.deref-2.ensures.value ∙ c.in_ok-fill.ensures ∙ ap (addresses_of c.args.text pieces) c.deref.ensures.value in
-    subst (All (λ a. a < 0x8000_0000)) (sym filled) (small_addresses c.args.text 0x8000_0000 pieces c.args.self.now.sizes.items c.requires.alignments c.requires.forms c.requires.room)
+    subst (λ all. All (λ a. All (λ b. a < b + 0x8000_0000) all) all) (sym filled) (near_addresses c.args.text pieces c.args.self.now.sizes.items c.requires.alignments c.requires.forms c.requires.near)

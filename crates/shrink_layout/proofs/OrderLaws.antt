@@ -1,0 +1,102 @@
+-- Numbers rise with places: a place that comes later has no lesser number, and one that comes after an item, or lies in a later
+-- section, a greater one.
+use Rattle.std.proofs.Common.{◌≡◌, ◌+◌, ◌<◌, ◌≤◌, ◌⊎◌, List, ◌∷◌, length, Bool, true, cond, false, Some, refl, sym, ap, ◌∙◌, arith, eqb, ltb, inl, inr}
+use Rattle.std.specs.Prelude.{◌&&◌, ◌||◌}
+use Rattle.std.specs.List.{sum_by}
+use Rattle.std.proofs.lemmas.Bool.{eqb-true, ltb-true}
+use Rattle.std.proofs.lemmas.List.Sums.{sum_by-append, sum_by-cons}
+use Rattle.zc_base.specs.Places.{is_before}
+use Rattle.zc_base.specs.declared.place.Place.{Place}
+use Rattle.elf32_read.specs.Parts.{ObjectParts, SectionParts}
+use Rattle.psabi_sym.specs.Inputs.{ParsedInputs}
+use Rattle.psabi_sym.specs.Listed.{sections_before}
+use Rattle.block_cut.specs.Items.{code_at, item_at, starts_in}
+use Rattle.block_cut.specs.declared.item.Item.{Item}
+use Rattle.block_cut.proofs.ItemLaws.{item_found}
+use Rattle.block_cut.proofs.ListedLaws.{between, listed}
+use Rattle.block_cut.proofs.WholeLaws.{code_is_section}
+use Rattle.shrink_layout.specs.Pieces.{number_of, piece_count, pieces_before}
+use Rattle.shrink_layout.proofs.NumberLaws.{below_more, below_rises, filter_few, number-code}
+
+-- ---- an order of two places
+
+-- in an earlier section, or before it in the same one
+pub data IsOrdered (q r : Place) : Type 0 where
+  Earlier : (q.object < r.object) ⊎ ((q.object ≡ r.object) × (q.section < r.section)) → IsOrdered q r
+  Within : q.object ≡ r.object → q.section ≡ r.section → q.offset < r.offset → IsOrdered q r
+
+-- two places are ordered if one comes before the other
+pub ordered : (q r : Place) → is_before q r ≡ true → IsOrdered q r
+ordered q r is = objects (ltb q.object r.object) refl is
+  where
+    offsets : q.object ≡ r.object → (e : Bool) → eqb q.section r.section ≡ e → (e && ltb q.offset r.offset) ≡ true → IsOrdered q r
+    offsets same true e is = Within same (eqb-true q.section r.section e) (ltb-true q.offset r.offset is)
+    offsets same false e is = absurd cc
+
+    sections : q.object ≡ r.object → (b : Bool) → ltb q.section r.section ≡ b → (b || (eqb q.section r.section && ltb q.offset r.offset)) ≡ true → IsOrdered q r
+    sections same true lt is = Earlier (inr (same, ltb-true q.section r.section lt))
+    sections same false lt is = offsets same (eqb q.section r.section) refl is
+
+    equal : (e : Bool) → eqb q.object r.object ≡ e → (e && (ltb q.section r.section || (eqb q.section r.section && ltb q.offset r.offset))) ≡ true → IsOrdered q r
+    equal true e is = sections (eqb-true q.object r.object e) (ltb q.section r.section) refl is
+    equal false e is = absurd cc
+
+    objects : (b : Bool) → ltb q.object r.object ≡ b → (b || (eqb q.object r.object && (ltb q.section r.section || (eqb q.section r.section && ltb q.offset r.offset)))) ≡ true → IsOrdered q r
+    objects true lt is = Earlier (inl (ltb-true q.object r.object lt))
+    objects false lt is = equal (eqb q.object r.object) refl is
+
+-- ---- numbers
+
+module _ (inputs : ParsedInputs) (q r : Place) (s t : SectionParts) (from_code : code_at inputs.objects q ≡ Some s) (to_code : code_at inputs.objects r ≡ Some t) where
+  abbrev objects : List ObjectParts
+  objects = inputs.objects
+
+  -- a place in a later section has a greater number, since the padding before that section comes between
+  later_section : (q.object < r.object) ⊎ ((q.object ≡ r.object) × (q.section < r.section)) → number_of objects q < number_of objects r
+  later_section order =
+      let two = code_is_section objects q s from_code in
+      let other = code_is_section objects r t to_code in
+      let more = between objects q.object q.section s r.object r.section t two.0 other.0 order in
+      let before = sections_before objects q.object q.section in
+      let l = listed q.object q.section s in
+      let own : piece_count l ≡ 1 + length (starts_in s) = ap (λ b. cond b (1 + length (starts_in s)) 0) two.1 in
+      omega (
+        arith,
+        number-code objects q s from_code,
+        number-code objects r t to_code,
+        ap (sum_by piece_count) more.are,
+        sum_by-append piece_count before (l ∷ more.rest),
+        sum_by-cons piece_count l more.rest,
+        own,
+        filter_few (λ m. ltb m q.offset) (starts_in s),
+      )
+
+  -- in the same section the starts before it count
+  same_section : q.object ≡ r.object → q.section ≡ r.section → number_of objects r ≡ pieces_before objects q.object q.section s r.offset
+  same_section object section =
+      let same : s ≡ t = cc (sym from_code ∙ (λ j. code_at objects (record { object = object j; section = section j; offset = 0 })) ∙ to_code) in
+      number-code objects r t to_code ∙ (λ j. pieces_before objects (sym object j) (sym section j) (sym same j) r.offset)
+
+  -- a place that comes later has no lesser number
+  pub number_rises : is_before q r ≡ true → number_of objects q ≤ number_of objects r
+  number_rises before = by (ordered q r before)
+    where
+      by : IsOrdered q r → number_of objects q ≤ number_of objects r
+      by (Earlier order) = omega (arith, later_section order)
+      by (Within object section lt) =
+          omega (arith, number-code objects q s from_code, same_section object section, below_rises q.offset r.offset (starts_in s) (omega (arith, lt)))
+
+-- and what comes after an item has a greater one
+pub number_rises_past : (inputs : ParsedInputs) (q r : Place) (i : Item) (t : SectionParts) → item_at inputs q ≡ Some i → code_at inputs.objects r ≡ Some t → is_before q r ≡ true → number_of inputs.objects q < number_of inputs.objects r
+number_rises_past inputs q r i t is to_code before = by (ordered q r before)
+  where
+    by : IsOrdered q r → number_of inputs.objects q < number_of inputs.objects r
+    by (Earlier order) = let found = item_found inputs q i is in later_section inputs q r found.section t found.code to_code order
+    by (Within object section lt) =
+        let found = item_found inputs q i is in
+        omega (
+          arith,
+          number-code inputs.objects q found.section found.code,
+          same_section inputs q r found.section t found.code to_code object section,
+          below_more q.offset r.offset (starts_in found.section) lt found.start,
+        )
