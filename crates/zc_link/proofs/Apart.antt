@@ -3,8 +3,7 @@
 use Rattle.std.proofs.Common.{◌≡◌, ◌≢◌, ℕ, suc, ◌+◌, ◌<◌, List, [], ◌∷◌, Bool, true, false, cond, refl, sym, ap, ap₂, ◌∙◌, subst, inl, inr, ⊎_elim, arith, ltb, leb}
 use Rattle.std.specs.Prelude.{◌&&◌, ◌⊎◌}
 use Rattle.std.proofs.lemmas.Bool.{and_parts, leb-true, ltb-true}
-use Rattle.zc_base.specs.declared.place.Place.{Place}
-use Rattle.rv_decode.specs.declared.instr.Instr.TheVariants.{Jalr, Upper}
+use Rattle.rv_decode.specs.declared.instr.Instr.TheVariants.{Branch, Jal, Jalr, Upper}
 use Rattle.rv_decode.specs.declared.instr.UpperOp.TheVariants.{Auipc}
 use Rattle.rv_decode.specs.Memory.{Extent, Region, cells_changed, changed, extents_of, is_stack, lies_in, written}
 use Rattle.rv_decode.specs.State.{ZcCore, ZcState, reg_in}
@@ -14,11 +13,14 @@ use Rattle.sym_machine.specs.State.{PlainCore, PlainState}
 use Rattle.zc_machine.specs.Interrupt.{all_dirtied, dirtied, is_free}
 use Rattle.zc_link.specs.Image.{Image, loaded}
 use Rattle.zc_link.specs.Laid.{Laid}
-use Rattle.zc_link.specs.Pieces.{AlignOf, Alone, CallOf, Piece, PieceLaid, commits_of, span_of}
-use Rattle.zc_link.specs.Simulates.{CommitsApart, Commits, Cuts, CutsApart, FromLoad, FromPair, OnWay, Pace, Pokes, Starts}
+use Rattle.zc_link.specs.Pace.{Pace}
+use Rattle.zc_link.specs.Pieces.{AlignOf, Alone, CallOf, LongLaid, LongOf, Piece, PieceLaid, commits_of, span_of}
+use Rattle.zc_link.specs.Simulates.{CommitsApart, Commits, Cuts, CutsApart, FromLoad, FromPair, OnWay, Pokes, Starts}
+use Rattle.zc_link.specs.Sound.{Alike}
 use Rattle.zc_link.proofs.Bare.{Bares, bare_apart, nops_bare, two_bare}
 use Rattle.zc_link.proofs.Cuts.{stack_within}
 use Rattle.zc_link.proofs.Extents.{SameExtents, dirtied_extents, on_way_extents}
+use Rattle.zc_link.proofs.Longs.{goes_over, known_taken}
 use Rattle.zc_link.proofs.Start.{no_lead}
 
 -- ---- changes of different cells
@@ -92,25 +94,33 @@ module _ {p : Program} {e : Image} {pace : Pace} (laid : Laid p e pace) where
   pub lead_cuts_apart : CutsApart p (FromLoad p e)
   lead_cuts_apart = cuts_apart_from (λ k z from. rw from.loads refl)
 
+  -- a long branch of two commits is taken, so its first instruction goes on to the jump
+  long_bare :
+      (s : PlainCore) (y : ZcCore) → Alike p e s y → LongLaid p e s.place y.pc → 1 < commits_of p s LongOf → Bares e (commits_of p s LongOf) y.regs y.pc
+  long_bare s y al long more =
+      let taken = known_taken s long more in
+      subst (λ n. Bares e n y.regs y.pc) (sym taken.commits)
+      (two_bare e y.regs y.pc (Branch long.other long.first long.second long.over) (Jal 0 long.distance) tt (goes_over s y laid.room al long taken.is) tt long.at)
+
   -- a piece of several instructions has none that looks at memory
   piece_bare :
-      (q : Place) (s : PlainCore) (a : ℕ) (x : Piece) → PieceLaid p e q a x → (1 < span_of x) ⊎ (1 < commits_of p s x) → Bares e (commits_of p s x) a
-  piece_bare q s a Alone laid more = ⊎_elim (λ steps. absurd (omega (arith, steps))) (λ commits. absurd (omega (arith, commits))) more
-  piece_bare q s a (AlignOf count) laid more = nops_bare e count a laid.end laid.nops
-  piece_bare q s a CallOf laid more = two_bare e a (Upper Auipc laid.temp laid.upper) (Jalr laid.rd laid.temp laid.lower) tt tt tt laid.at
+      (s : PlainCore) (y : ZcCore) (x : Piece) → Alike p e s y → PieceLaid p e s.place y.pc x → (1 < span_of x) ⊎ (1 < commits_of p s x)
+      → Bares e (commits_of p s x) y.regs y.pc
+  piece_bare s y Alone al item more = ⊎_elim (λ steps. absurd (omega (arith, steps))) (λ commits. absurd (omega (arith, commits))) more
+  piece_bare s y (AlignOf count) al align more = nops_bare e count y.regs y.pc align.end align.nops
+  piece_bare s y CallOf al call more = two_bare e y.regs y.pc (Upper Auipc call.temp call.upper) (Jalr call.rd call.temp call.lower) tt tt tt call.at
+  piece_bare s y LongOf al long more = ⊎_elim (λ steps. absurd (omega (arith, steps))) (λ commits. long_bare s y al long commits) more
 
   pub commits_apart : (r : PlainState) → (1 < pace.span r.core.place) ⊎ (1 < pace.weight r.core) → CommitsApart p (FromPair p e pace r)
   commits_apart r more = bare_apart laid.room (λ k z from. record {
     going = from.sound.alike.going;
     same = record { extents = from.sound.alike.extents; text = from.sound.alike.text };
-    bares = subst (λ n. Bares e n z.core.pc) (sym (from.commits ∙ laid.weights r.core)) (bares z.core.pc (laid.each r.core.place z.core.pc from.sound.place));
+    bares = subst (λ n. Bares e n z.core.regs z.core.pc) (sym (from.commits ∙ laid.weights r.core))
+        (piece_bare r.core z.core (laid.piece r.core.place) from.sound.alike (laid.each r.core.place z.core.pc from.sound.place) several);
   })
     where
       several : (1 < span_of (laid.piece r.core.place)) ⊎ (1 < commits_of p r.core (laid.piece r.core.place))
       several = ⊎_elim (λ steps. inl (rw (laid.spans r.core.place) at steps)) (λ commits. inr (rw (laid.weights r.core) at commits)) more
-
-      bares : (a : ℕ) → PieceLaid p e r.core.place a (laid.piece r.core.place) → Bares e (commits_of p r.core (laid.piece r.core.place)) a
-      bares a is = piece_bare r.core.place r.core a (laid.piece r.core.place) is several
 
   -- no commit comes before the start
   none_left : {k : ℕ} {z : ZcState} → OnWay p (FromLoad p e) k z → k ≡ 0

@@ -1,13 +1,15 @@
 -- Commits that don't look at memory: they do the same whatever data hold, and leave memory as it is. So do those of a piece of several
 -- instructions, from the first to the last, whatever interrupts come and whatever cells of data are written between them.
-use Rattle.std.proofs.Common.{◌≡◌, ℕ, zero, suc, ◌+◌, ◌<◌, List, [], ◌∷◌, None, Ok, true, refl, sym, ap, ◌∙◌, subst, inl, arith, ltb, pos}
+use Rattle.std.proofs.Common.{◌≡◌, ℕ, zero, suc, ◌+◌, ◌<◌, List, [], ◌∷◌, None, Ok, true, false, refl, sym, ap, ◌∙◌, subst, inl, arith, ltb, pos}
 use Rattle.std.proofs.lemmas.Bool.{and_parts, cond_both}
 use Rattle.rv_decode.specs.declared.instr.Instr.{Instr}
 use Rattle.rv_decode.specs.declared.instr.Instr.TheVariants.{Upper, Jal, Jalr, Branch, Load, Store, WithImm, WithReg, Fence, Ecall, Ebreak, Csrrw}
 use Rattle.rv_decode.specs.declared.instr.ImmOp.TheVariants.{Addi}
-use Rattle.rv_decode.specs.Effect.{Commits, after, effect}
+use Rattle.rv_decode.specs.Effect.{Commits, after, branch_target, effect}
 use Rattle.rv_decode.specs.Memory.{cell_at, changed, extents_of, is_data, is_stack, is_text, lies_in, written}
+use Rattle.rv_decode.specs.Results.{is_taken}
 use Rattle.rv_decode.specs.State.{ZcCore, ZcState, byte_in, reg_in}
+use Rattle.rv_decode.proofs.RegisterLaws.{reads}
 use Rattle.rv_decode.proofs.MemoryLaws.{cell-changed, extents-changed, is_covered, lies_covered, stack_is_data, untouched}
 use Rattle.sym_machine.specs.Program.{Program}
 use Rattle.zc_decode.specs.declared.short.Short.TheVariants.{Base}
@@ -40,20 +42,20 @@ IsBare Ecall = ⊥
 IsBare Ebreak = ⊥
 IsBare (Csrrw rd source) = ⊥
 
--- and goes on to the next one
-abbrev pub IsOn : Instr → Type 0
-IsOn (Upper op rd imm) = Unit {0}
-IsOn (Jal rd distance) = ⊥
-IsOn (Jalr rd base imm) = ⊥
-IsOn (Branch op first second distance) = ⊥
-IsOn (Load op rd base imm) = ⊥
-IsOn (Store op source base imm) = ⊥
-IsOn (WithImm op rd first imm) = Unit {0}
-IsOn (WithReg op rd first second) = Unit {0}
-IsOn (Fence rest) = Unit {0}
-IsOn Ecall = ⊥
-IsOn Ebreak = ⊥
-IsOn (Csrrw rd source) = ⊥
+-- and goes on to the next one, with these registers: a branch does if it isn't taken
+abbrev pub IsOn : Instr → List ℕ → Type 0
+IsOn (Upper op rd imm) regs = Unit {0}
+IsOn (Jal rd distance) regs = ⊥
+IsOn (Jalr rd base imm) regs = ⊥
+IsOn (Branch op first second distance) regs = is_taken op (reads 0 0 regs first) (reads 0 0 regs second) ≡ false
+IsOn (Load op rd base imm) regs = ⊥
+IsOn (Store op source base imm) regs = ⊥
+IsOn (WithImm op rd first imm) regs = Unit {0}
+IsOn (WithReg op rd first second) regs = Unit {0}
+IsOn (Fence rest) regs = Unit {0}
+IsOn Ecall regs = ⊥
+IsOn Ebreak regs = ⊥
+IsOn (Csrrw rd source) regs = ⊥
 
 -- a byte of memory is another
 abbrev with_byte : ℕ → ℕ → ZcCore → ZcCore
@@ -65,14 +67,14 @@ record BareEffect (i : Instr) (size : ℕ) (y : ZcCore) : Type 0 where
   commits : effect i size y ≡ Commits left
   memory : left.memory ≡ y.memory
   exit : left.exit ≡ y.exit
-  pc : IsOn i → left.pc ≡ after y size
+  pc : IsOn i y.regs → left.pc ≡ after y size
   apart : (a b : ℕ) → effect i size (with_byte a b y) ≡ Commits (with_byte a b left)
 
 bare_effect : (i : Instr) (size : ℕ) (y : ZcCore) → IsBare i → BareEffect i size y
 bare_effect (Upper op rd imm) size y bare = record { left = _; commits = refl; memory = refl; exit = refl; pc = λ _. refl; apart = λ a b. refl }
 bare_effect (Jal rd distance) size y bare = record { left = _; commits = refl; memory = refl; exit = refl; pc = λ on. absurd on; apart = λ a b. refl }
 bare_effect (Jalr rd base imm) size y bare = record { left = _; commits = refl; memory = refl; exit = refl; pc = λ on. absurd on; apart = λ a b. refl }
-bare_effect (Branch op first second distance) size y bare = record { left = _; commits = refl; memory = refl; exit = refl; pc = λ on. absurd on; apart = λ a b. refl }
+bare_effect (Branch op first second distance) size y bare = record { left = _; commits = refl; memory = refl; exit = refl; pc = λ on. ap (λ b. branch_target b distance size y) on; apart = λ a b. refl }
 bare_effect (Load op rd base imm) size y bare = absurd bare
 bare_effect (Store op source base imm) size y bare = absurd bare
 bare_effect (WithImm op rd first imm) size y bare = record { left = _; commits = refl; memory = refl; exit = refl; pc = λ _. refl; apart = λ a b. refl }
@@ -84,23 +86,27 @@ bare_effect (Csrrw rd source) size y bare = absurd bare
 
 -- ---- several of them
 
--- so many such instructions stand from an address on, one after another; each but the last goes on
-abbrev pub Bares : Image → ℕ → ℕ → Type 0
-Bares e zero a = Unit {0}
-Bares e (suc k) a = (i : Instr) × (at : OneAt e a (Base i)) × IsBare i × (0 < k → IsOn i × Bares e k (a + at.size))
+-- so many such instructions stand from an address on, one after another; each but the last goes on, the first with these registers
+-- and those after it with any
+abbrev pub Bares : Image → ℕ → List ℕ → ℕ → Type 0
+Bares e zero regs a = Unit {0}
+Bares e (suc k) regs a = (i : Instr) × (at : OneAt e a (Base i)) × IsBare i × (0 < k → IsOn i regs × ((later : List ℕ) → Bares e k later (a + at.size)))
 
-pub nops_bare : (e : Image) (count a b : ℕ) → Nops e a count b → Bares e count a
-nops_bare e zero a b nops = tt
-nops_bare e (suc count) a b nops = (WithImm Addi 0 0 (pos 0), nops.0, tt, λ _. (tt, nops_bare e count (a + nops.0.size) b nops.1))
+pub nops_bare : (e : Image) (count : ℕ) (regs : List ℕ) (a b : ℕ) → Nops e a count b → Bares e count regs a
+nops_bare e zero regs a b nops = tt
+nops_bare e (suc count) regs a b nops = (WithImm Addi 0 0 (pos 0), nops.0, tt, λ _. (tt, λ later. nops_bare e count later (a + nops.0.size) b nops.1))
 
-pub two_bare : (e : Image) (a : ℕ) (i j : Instr) → IsBare i → IsOn i → IsBare j → TwoAt e a (Base i) (Base j) → Bares e 2 a
-two_bare e a i j bare on last at = (i, at.one, bare, λ _. (on, (j, at.two, last, λ more. absurd (omega (arith, more)))))
+pub one_bare : (e : Image) (regs : List ℕ) (a : ℕ) (i : Instr) → IsBare i → OneAt e a (Base i) → Bares e 1 regs a
+one_bare e regs a i bare at = (i, at, bare, λ more. absurd (omega (arith, more)))
+
+pub two_bare : (e : Image) (regs : List ℕ) (a : ℕ) (i j : Instr) → IsBare i → IsOn i regs → IsBare j → TwoAt e a (Base i) (Base j) → Bares e 2 regs a
+two_bare e regs a i j bare on last at = (i, at.one, bare, λ _. (on, λ later. one_bare e later (a + at.one.size) j last at.two))
 
 -- a state from which so many are still to be committed
 pub record OnBare (e : Image) (k : ℕ) (z : ZcState) : Type 0 where
   pub going : z.core.exit ≡ None
   pub same : SameText (loaded e) z.core
-  pub bares : Bares e k z.core.pc
+  pub bares : Bares e k z.core.regs z.core.pc
 
 -- ---- bytes of data and stack that are written
 
@@ -174,16 +180,18 @@ module _ {p : Program} {e : Image} (room : Room p e) where
             extents = ap extents_of does.memory ∙ on.same.extents;
             text = λ a text. ap (λ memory. cell_at 0 memory a) does.memory ∙ on.same.text a text;
           };
-          bares = rest i k (on.bares.3) (λ more. does.pc more ∙ sym (below_top z.core.pc z.core.pc at.size refl at.small));
+          bares = rest i z.core.regs k does.left.regs (on.bares.3) (λ more. does.pc more ∙ sym (below_top z.core.pc z.core.pc at.size refl at.small));
         };
         apart = λ a b cell.
             let other = poked_bare (suc k) a b z cell on in
             bare_turn i at.size (poked a b z) (with_byte a b does.left) other.going (fetched_same (loaded e) (poked a b z).core other.same z.core.pc ∙ at.here) (does.apart a b);
       })
     where
-      rest : (i : Instr) {b pc : ℕ} (n : ℕ) → (0 < n → IsOn i × Bares e n b) → (IsOn i → pc ≡ b) → Bares e n pc
-      rest i zero more lands = tt
-      rest i (suc n) more lands = let m = more (omega arith) in subst (Bares e (suc n)) (sym (lands m.0)) m.1
+      rest :
+          (i : Instr) (regs : List ℕ) {b pc : ℕ} (n : ℕ) (left : List ℕ) → (0 < n → IsOn i regs × ((later : List ℕ) → Bares e n later b)) → (IsOn i regs → pc ≡ b)
+          → Bares e n left pc
+      rest i regs zero left more lands = tt
+      rest i regs (suc n) left more lands = let m = more (omega arith) in subst (Bares e (suc n) left) (sym (lands m.0)) (m.1 left)
 
   -- ---- on the way
 

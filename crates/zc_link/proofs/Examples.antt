@@ -1,6 +1,7 @@
 -- The definitions on small cases, computed.
-use Rattle.std.specs.Prelude.{◌≡◌, ℕ, List, [], ◌∷◌, Some, None, refl}
+use Rattle.std.specs.Prelude.{◌≡◌, ℕ, List, [], ◌∷◌, true, false, Some, None, refl}
 use Rattle.zc_base.specs.declared.place.Place.{Place}
+use Rattle.zc_link.specs.Pace.{bytes_between, long_commits, padding_commits}
 use Rattle.zc_link.specs.Places.{address_in}
 use Rattle.zc_link.specs.Simulates.{lead_from}
 use Rattle.zc_link.specs.Values.{pc_upper}
@@ -29,6 +30,20 @@ starts_at_the_entry = refl
 
 starts_after_the_stub : lead_from (Some 0x10010) 0x10004 ≡ 3
 starts_after_the_stub = refl
+
+-- a long branch that isn't taken goes over its jump
+over_the_jump : long_commits (Some false) ≡ 1
+over_the_jump = refl
+
+by_the_jump : long_commits (Some true) ≡ 2
+by_the_jump = refl
+
+-- padding of a word and a halfword, and of none
+padding_of_six : padding_commits 6 ≡ 2
+padding_of_six = refl
+
+no_padding : padding_commits (bytes_between (Some 0x10010) (Some 0x10010)) ≡ 0
+no_padding = refl
 
 -- what an `auipc` gives: within 2048 bytes of the target, on either side
 forwards : pc_upper 0x10000 0x100FFC ≡ 0x101000

@@ -18,7 +18,7 @@ use Rattle.zc_machine.specs.Load.{first_core}
 use Rattle.zc_machine.proofs.LoadLaws.{code_byte, code_lies}
 use Rattle.zc_link.specs.Image.{Image, loaded}
 use Rattle.zc_link.specs.Room.{SpansMemory}
-use Rattle.zc_link.proofs.PlainAdds.{AreBytes, bytes_append}
+use Rattle.zc_link.proofs.Adds.{AreBytes, bytes_append}
 
 either_below : {x y : ℕ} (b : Bool) → x < 256 → y < 256 → cond b x y < 256
 either_below true h k = h
@@ -32,7 +32,7 @@ pub record AreLaidOut (p : Program) (parts : Parts) : Type 0 where
   pub is_map : IsMap p.map
   pub text_at : parts.text_at ≡ p.map.text
   pub data_at : parts.data_at ≡ p.map.data_low
-  pub short : length parts.text ≤ 0x4_0000
+  pub short : length parts.text ≤ 0x8_0000
   pub size : length p.bytes ≡ length parts.data_bytes + parts.zero
   pub room : length parts.data_bytes + parts.zero ≤ 0x40_0000
   pub text_are : AreBytes parts.text

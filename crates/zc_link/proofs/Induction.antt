@@ -20,7 +20,8 @@ use Rattle.zc_machine.specs.Run.{first_state, zc_after, zc_turns}
 use Rattle.zc_machine.proofs.TurnLaws.{zc_turns-add}
 use Rattle.zc_link.specs.Image.{Image, loaded, place_address}
 use Rattle.zc_link.specs.Preserves.{Follows, FollowsUnder, KeepsStep, Preserves, PreservesQuietly}
-use Rattle.zc_link.specs.Simulates.{Pace, Simulates, lead_from, lead_of, pace_of}
+use Rattle.zc_link.specs.Pace.{Pace, pace_in}
+use Rattle.zc_link.specs.Simulates.{Simulates, lead_from, lead_of}
 use Rattle.zc_link.specs.Sound.{Sound, Together}
 use Rattle.zc_link.specs.Stands.{Stands}
 
@@ -159,7 +160,7 @@ pub preserves : (inputs : Inputs) (elf : List ℕ) → KeepsStep inputs elf → 
 preserves inputs elf keeps = record {
   image = keeps.image;
   read = keeps.read;
-  follows = follows (program_of (parsed inputs)) keeps.image (pace_of (parsed inputs)) keeps.simulates;
+  follows = follows (program_of (parsed inputs)) keeps.image (pace_in (program_of (parsed inputs)) keeps.image) keeps.simulates;
 }
 
 -- what holds under every plan holds without interrupts

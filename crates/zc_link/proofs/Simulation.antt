@@ -9,8 +9,9 @@ use Rattle.sym_machine.specs.Program.{Program}
 use Rattle.sym_machine.specs.Run.{plain_turn}
 use Rattle.zc_link.specs.Image.{Image, image_in}
 use Rattle.zc_link.specs.Laid.{Laid}
+use Rattle.zc_link.specs.Pace.{Pace}
 use Rattle.zc_link.specs.Preserves.{FollowsUnder, Preserves}
-use Rattle.zc_link.specs.Simulates.{Comes, Pace, Simulates}
+use Rattle.zc_link.specs.Simulates.{Comes, Simulates}
 use Rattle.zc_link.proofs.Apart.{commits_apart, cuts_apart, lead_commits_apart, lead_cuts_apart}
 use Rattle.zc_link.proofs.Induction as induction
 use Rattle.zc_link.proofs.Pieces.{piece_comes, piece_inside, span_some}

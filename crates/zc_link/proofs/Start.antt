@@ -18,7 +18,8 @@ use Rattle.zc_machine.specs.Load.{first_core}
 use Rattle.zc_machine.specs.Run.{first_state}
 use Rattle.zc_link.specs.Image.{Image, loaded, place_address}
 use Rattle.zc_link.specs.Laid.{AtEntry, Begins, Laid}
-use Rattle.zc_link.specs.Simulates.{Comes, Pace, lead_from, lead_of}
+use Rattle.zc_link.specs.Pace.{Pace}
+use Rattle.zc_link.specs.Simulates.{Comes, lead_from, lead_of}
 use Rattle.zc_link.specs.Sound.{NamesWord, Sound}
 use Rattle.zc_link.specs.Stands.{WordStands}
 use Rattle.zc_link.specs.Values.{value_in}

@@ -10,7 +10,7 @@ use Rattle.zc_link.specs.Image.{Image, loaded, place_address}
 use Rattle.zc_link.specs.Leads.{Leads}
 use Rattle.zc_link.specs.Pieces.{Piece, PieceLaid, commits_of, span_of}
 use Rattle.zc_link.specs.Room.{Room}
-use Rattle.zc_link.specs.Simulates.{Pace}
+use Rattle.zc_link.specs.Pace.{Pace}
 use Rattle.zc_link.specs.Sound.{NamesByte}
 use Rattle.zc_link.specs.Stands.{ByteStands, IsMemory}
 use Rattle.zc_link.specs.Values.{value_in}
@@ -18,10 +18,6 @@ use Rattle.zc_link.specs.Values.{value_in}
 -- where the image starts: at the program's start, so far
 pub data Begins (p : Program) (e : Image) : Type 0 where
   AtEntry : place_address e p.entry ≡ Some e.entry → Begins p e
-
--- the pace of pieces that start at places: their items, and their commits
-abbrev pub laid_pace : Program → (Place → Piece) → Pace
-laid_pace p piece = record { span = λ q. span_of (piece q); weight = λ s. commits_of p s (piece s.place) }
 
 -- if this holds of a program and an image, the image keeps step with the program at this pace
 pub record Laid (p : Program) (e : Image) (pace : Pace) : Type 0 where

@@ -1,8 +1,10 @@
 -- What starts at a listed place, and what is laid for it: its instructions stand at the place's address.
-use Rattle.std.specs.Prelude.{◌≡◌, ℕ, zero, suc, ℤ, pos, ◌+◌, ◌*◌, ◌/◌, ◌%◌, ◌^◌, ◌<◌, Option, Some, None}
+use Rattle.std.specs.Prelude.{◌≡◌, ℕ, zero, suc, ℤ, pos, ◌+◌, ◌*◌, ◌/◌, ◌%◌, ◌^◌, ◌<◌, Bool, Option, Some, None}
 use Rattle.zc_base.specs.declared.place.Place.{Place}
 use Rattle.rv_decode.specs.declared.instr.Instr.{Instr}
+use Rattle.rv_decode.specs.declared.instr.Instr.TheVariants as instr
 use Rattle.rv_decode.specs.declared.instr.Instr.TheVariants.{Ecall, Jal, Jalr, Upper, WithImm}
+use Rattle.rv_decode.specs.declared.instr.BranchOp.{BranchOp}
 use Rattle.rv_decode.specs.declared.instr.ImmOp.TheVariants.{Addi}
 use Rattle.rv_decode.specs.declared.instr.UpperOp.TheVariants.{Auipc}
 use Rattle.rv_decode.specs.Bits.{add32}
@@ -17,29 +19,50 @@ use Rattle.block_cut.specs.declared.item.Item.TheVariants.{Op, Hi, Lo, PcHi, PcL
 use Rattle.sym_machine.specs.AddressParts.{pc_target}
 use Rattle.sym_machine.specs.Program.{Program}
 use Rattle.sym_machine.specs.State.{PlainCore}
+use Rattle.zca_zcb_pass.specs.Forms.{IsOpposite}
 use Rattle.zc_decode.specs.declared.short.Short.{Short}
 use Rattle.zc_decode.specs.declared.short.Short.TheVariants.{Base}
 use Rattle.zc_machine.specs.Fetch.{Found, fetched_at}
 use Rattle.zc_link.specs.Image.{Image, loaded, place_address}
+use Rattle.zc_link.specs.Pace.{branch_condition, long_commits}
 use Rattle.zc_link.specs.Values.{target_value, way}
 
--- what starts at a place: an item that is one instruction, or an ALIGN of so many, or a call of two
+-- what starts at a place: an item that is one instruction, or an ALIGN of so many, or a call or a branch of two
 pub data Piece : Type 0 where
   Alone : Piece
   AlignOf : (count : ℕ) → Piece
   CallOf : Piece
+  LongOf : Piece
 
 -- its number of items
 abbrev pub span_of : Piece → ℕ
 span_of Alone = 1
 span_of (AlignOf count) = 1
 span_of CallOf = 1
+span_of LongOf = 1
+
+-- a branch at a place is taken, if that is known
+abbrev pub taken_at : Program → PlainCore → Option Item → Option Bool
+taken_at p s None = None
+taken_at p s (Some (Op i)) = None
+taken_at p s (Some (Hi i t)) = None
+taken_at p s (Some (Lo i t)) = None
+taken_at p s (Some (PcHi i t)) = None
+taken_at p s (Some (PcLo i from)) = None
+taken_at p s (Some (Branch i to)) = branch_condition p s i
+taken_at p s (Some (Jump i to)) = None
+taken_at p s (Some (Call rd temp to)) = None
+taken_at p s (Some (Align bytes)) = None
+taken_at p s (Some (Word t)) = None
+taken_at p s (Some (Raw word)) = None
+taken_at p s (Some (RawPair first second)) = None
 
 -- its number of commits, by the program's state
 abbrev pub commits_of : Program → PlainCore → Piece → ℕ
 commits_of p s Alone = 1
 commits_of p s (AlignOf count) = count
 commits_of p s CallOf = 2
+commits_of p s LongOf = long_commits (taken_at p s (p.item s.place))
 
 -- ---- instructions
 
@@ -158,9 +181,29 @@ pub record CallLaid (p : Program) (e : Image) (q : Place) (a : ℕ) : Type 0 whe
   pub reaches : place_address e to ≡ Some (add32 ((a + upper * 2 ^ 12) % 2 ^ 32) lower / 2 * 2)
   pub next : place_address e (p.next q) ≡ Some (a + at.one.size + at.two.size)
 
+-- a branch of two instructions: one of the opposite condition over both, and a jump to the place
+pub record LongLaid (p : Program) (e : Image) (q : Place) (a : ℕ) : Type 0 where
+  pub op : BranchOp
+  pub first : ℕ
+  pub second : ℕ
+  pub far : ℤ
+  pub to : Place
+  pub item : p.item q ≡ Some (Branch (instr.Branch op first second far) to)
+  pub first_low : first < 32
+  pub second_low : second < 32
+  pub other : BranchOp
+  pub opposite : IsOpposite op other
+  pub over : ℤ
+  pub distance : ℤ
+  pub at : TwoAt e a (Base (instr.Branch other first second over)) (Base (Jal 0 distance))
+  pub lands : add32 a over ≡ a + at.one.size + at.two.size
+  pub reaches : place_address e to ≡ Some (add32 (a + at.one.size) distance)
+  pub next : place_address e (p.next q) ≡ Some (a + at.one.size + at.two.size)
+
 -- ---- pieces
 
 abbrev pub PieceLaid : Program → Image → Place → ℕ → Piece → Type 0
 PieceLaid p e q a Alone = ItemLaid p e q a (p.item q)
 PieceLaid p e q a (AlignOf count) = AlignLaid p e q a count
 PieceLaid p e q a CallOf = CallLaid p e q a
+PieceLaid p e q a LongOf = LongLaid p e q a

@@ -7,25 +7,16 @@ use Rattle.rv_decode.specs.Memory.{changed, written}
 use Rattle.rv_decode.specs.Run.{iterate}
 use Rattle.rv_decode.specs.State.{ZcState}
 use Rattle.sym_machine.specs.declared.word.SymByte.TheVariants.{Num}
-use Rattle.psabi_sym.specs.Inputs.{ParsedInputs}
 use Rattle.sym_machine.specs.Program.{Program, data_end}
 use Rattle.sym_machine.specs.Run.{plain_turn}
 use Rattle.sym_machine.specs.State.{PlainCore, PlainState, first_plain}
 use Rattle.zc_machine.specs.Interrupt.{cut}
 use Rattle.zc_machine.specs.Run.{first_state, zc_turn, zc_turns}
 use Rattle.zc_link.specs.Image.{Image, loaded, place_address}
+use Rattle.zc_link.specs.Pace.{Pace}
 use Rattle.zc_link.specs.Sound.{Sound, Together}
 
--- ---- how many steps, and how many commits
-
--- a number of steps by the place, and a number of commits by the program's state
-pub record Pace : Type 0 where
-  pub span : Place → ℕ
-  pub weight : PlainCore → ℕ
-
--- of the objects' items: each is one step and one commit, while none is fused and none is several instructions
-abbrev pub pace_of : ParsedInputs → Pace
-pace_of inputs = record { span = λ q. 1; weight = λ s. 1 }
+-- ---- the start
 
 -- the commits before the program's start: none if the image starts there, or else three, of the stub that sets jvt
 abbrev pub lead_from : Option ℕ → ℕ → ℕ

@@ -1,13 +1,12 @@
-//! The link of objects to an image, which does what the objects' program does.
+//! The links of objects to images, which do what the objects' program does.
 #![tactic(auto)]
 
-pub mod link_zc;
+#[cfg(test)]
+mod fixture;
+mod image;
+mod item;
+pub mod layout;
 pub mod linked;
-mod listed;
 pub mod plain;
-mod plain_item;
-mod plain_text;
-mod relocs;
-mod short_form;
-mod straight;
-mod unlinked;
+mod text;
+pub mod zc;

@@ -12,7 +12,7 @@ pub struct Linked {
 }
 
 impl Model for Linked {
-    ghost use Rattle.zc_link.specs.Linked.{Link};
+    ghost use Rattle.zc_link.specs.Links.{Link};
 
     ghost Value = { Link };
 

@@ -1,0 +1,240 @@
+-- The list of places as a file holds it: it is short, it ascends, and its numbers have room.
+use Rattle.std.proofs.Common.{◌≡◌, ℕ, ◌+◌, ◌*◌, ◌<◌, ◌≤◌, List, [], ◌∷◌, ◌++◌, map, length, max, ◌⊎◌, inl, inr, Option, Bool, true, false, cond, nat_lt, refl, ap, ◌∙◌, arith, length-append, eqb}
+use Rattle.std.specs.Prelude.{All, Some, None}
+use Rattle.std.specs.List.{flat_map, list_any, sum_by}
+use Rattle.std.specs.Option.{unwrap_or}
+use Rattle.std.proofs.lemmas.Bool.{and_from, eq-eqb, le-ltb, lt-ltb, ltb-false, or_from, or_right}
+use Rattle.std.proofs.lemmas.List.{length-map}
+use Rattle.std.proofs.lemmas.List.Elements.{All-append, All-cons, All-head, All-nil, All-tail, All-weaker}
+use Rattle.std.proofs.lemmas.List.Sums.{sum_by-cons}
+use Rattle.std.proofs.lemmas.Option.{slice_get_within}
+use Rattle.zc_base.specs.MemMap.{IsMap}
+use Rattle.zc_base.specs.Places.{is_before}
+use Rattle.zc_base.specs.declared.place.Place.{Place}
+use Rattle.elf32_read.specs.Header.{section_count}
+use Rattle.elf32_read.specs.Parts.{SectionParts, is_code_section}
+use Rattle.elf32_read.specs.Places.{is_ascending, is_outside}
+use Rattle.elf32_read.proofs.Faultless.{no_fault}
+use Rattle.elf32_write.specs.Loadable.{IsEntry}
+use Rattle.psabi_sym.specs.Data.{is_code_role, role_of}
+use Rattle.psabi_sym.specs.Faults.{code_room, gather_fault, reloc_room, room_in_code}
+use Rattle.psabi_sym.specs.Inputs.{Inputs, ParsedInputs, parsed}
+use Rattle.psabi_sym.specs.Listed.{ListedSection, all_sections}
+use Rattle.psabi_sym.specs.declared.section_row.SectionRole.{SectionRole}
+use Rattle.psabi_sym.specs.declared.section_row.SectionRole.TheVariants.{Code, InClass, Dropped}
+use Rattle.psabi_sym.proofs.Gathered.{few_gathered, readable}
+use Rattle.psabi_sym.proofs.PlaceLaws.{code_is}
+use Rattle.block_cut.specs.Items.{place_of, size_on, starts_in, starts_on}
+use Rattle.block_cut.proofs.RoomLaws.{AreWhole, all_whole, rooms, rooms_few}
+use Rattle.block_cut.proofs.StartLaws.{along, start_is}
+use Rattle.block_cut.proofs.WholeLaws.{code_is_section, code_whole, section_of}
+use Rattle.block_cut.specs.Whole.{IsWhole}
+use Rattle.zc_link.specs.ImageParts.{all_targets, listed_places, targets_of, with_address}
+use Rattle.zc_link.specs.LaidOut.{IsLaidOut}
+use Rattle.zc_link.proofs.Lookup.{address_target, target_there}
+use Rattle.zc_link.proofs.SectionOrder.{IsBefore, IsRising, before_places, sections_rising}
+
+-- ---- how many
+
+-- starts are words apart
+starts_few : (s : SectionParts) → is_code_section s ≡ true → IsWhole s → 4 * length (starts_in s) ≤ length s.bytes
+starts_few s code whole = omega (arith, along s code whole (λ n xs. n + 4 * length xs ≤ length s.bytes) (omega arith) (λ n xs lt words st above rest. omega (arith, rest, st.some)))
+
+-- what has the role of code is code
+code_role : (role : SectionRole) → is_code_role role ≡ true → role ≡ Code
+code_role Code is = refl
+code_role (InClass class) is = absurd cc
+code_role Dropped is = absurd cc
+
+-- a section of code has room for its bytes, its alignment and its relocations
+code_room_is : (s : SectionParts) → is_code_section s ≡ true → code_room s ≡ s.size + max 4 s.align + sum_by reloc_room s.relocs
+code_room_is s code = ap (room_in_code s) (code_role (role_of s) (code_is s ∙ code))
+
+-- so places are words apart
+targets_few : (ls : List ListedSection) → AreWhole ls → 4 * length (flat_map targets_of ls) ≤ rooms ls
+targets_few [] whole = omega arith
+targets_few (l ∷ ls) whole = by (is_code_section l.section) refl (targets_few ls whole.1)
+  where
+    s : SectionParts
+    s = l.section
+
+    sum_is : rooms (l ∷ ls) ≡ code_room l.section + rooms ls
+    sum_is = sum_by-cons (λ (m : ListedSection). code_room m.section) l ls
+
+    by : (b : Bool) → is_code_section l.section ≡ b → 4 * length (flat_map targets_of ls) ≤ rooms ls
+        → 4 * length (cond b (map (place_of l) (starts_in l.section ++ length l.section.bytes ∷ [])) [] ++ flat_map targets_of ls) ≤ rooms (l ∷ ls)
+    by true code rest =
+        let own = map (place_of l) (starts_in l.section ++ length l.section.bytes ∷ []) in
+        let is = whole.0 code in
+        omega (
+          arith,
+          rest,
+          sum_is,
+          code_room_is l.section code,
+          starts_few l.section code is,
+          is.bytes,
+          length-append own (flat_map targets_of ls),
+          length-map (starts_in l.section ++ length l.section.bytes ∷ []) (place_of l),
+          length-append (starts_in l.section) (length l.section.bytes ∷ []),
+        )
+    by false other rest = omega (arith, rest, sum_is)
+
+-- and those of all code are few
+pub places_few : (inputs : Inputs) (A : Place → Option ℕ) → gather_fault inputs ≡ None → 4 * length (listed_places (parsed inputs) A) ≤ 0x4_0000
+unfolding listed_places
+places_few inputs A none =
+    omega (
+      arith,
+      length-map (all_targets (parsed inputs).objects) (with_address A),
+      targets_few (all_sections (parsed inputs).objects) (all_whole inputs none),
+      rooms_few inputs none,
+    )
+
+-- ---- in order
+
+-- each comes before all after it
+IsSorted : List Place → Type 0
+IsSorted [] = Unit {0}
+IsSorted (q ∷ qs) = All (λ r. is_before q r ≡ true) qs × IsSorted qs
+
+-- two lists in order, of which the second comes after the first, are one
+sorted_append : (xs ys : List Place) → IsSorted xs → IsSorted ys → All (λ x. All (λ y. is_before x y ≡ true) ys) xs → IsSorted (xs ++ ys)
+unfolding IsSorted
+sorted_append [] ys one two apart = two
+sorted_append (x ∷ xs) ys one two apart =
+    let P = λ (z : Place). All (λ y. is_before z y ≡ true) ys in
+    (All-append (λ r. is_before x r ≡ true) xs ys one.0 (All-head P x xs apart), sorted_append xs ys one.1 two (All-tail P x xs apart))
+
+-- a list in order ascends with any addresses
+sorted_ascends : (f : Place → ℕ) (qs : List Place) → IsSorted qs → is_ascending (map (λ q. (q, f q)) qs) ≡ true
+unfolding IsSorted
+sorted_ascends f [] sorted = refl
+sorted_ascends f (q ∷ []) sorted = refl
+sorted_ascends f (q ∷ r ∷ rs) sorted = and_from _ _ (All-head (λ x. is_before q x ≡ true) r rs sorted.0) (sorted_ascends f (r ∷ rs) sorted.1)
+
+-- offsets that go up from a number on
+IsUp : ℕ → List ℕ → Type 0
+IsUp low [] = Unit {0}
+IsUp low (x ∷ xs) = (low ≤ x) × IsUp (x + 1) xs
+
+-- they go up from a lower number too
+up_less : (low high : ℕ) (xs : List ℕ) → low ≤ high → IsUp high xs → IsUp low xs
+unfolding IsUp
+up_less low high [] le up = tt
+up_less low high (x ∷ xs) le up = (omega (arith, up.0), up.1)
+
+-- a section's offsets go up
+section_up : (s : SectionParts) → is_code_section s ≡ true → IsWhole s → IsUp 0 (starts_in s ++ length s.bytes ∷ [])
+unfolding IsUp
+section_up s code whole =
+    along s code whole (λ n xs. IsUp n (xs ++ length s.bytes ∷ [])) (omega arith, tt)
+    (λ n xs lt words st above rest. (omega arith, up_less (n + 1) (n + size_on s n) (xs ++ length s.bytes ∷ []) (omega (arith, st.some)) rest))
+
+-- so its places come in order
+offset_before : (l : ListedSection) (m n : ℕ) → m < n → is_before (place_of l m) (place_of l n) ≡ true
+offset_before l m n lt =
+    or_right (nat_lt l.object l.object) _
+    (and_from (eqb l.object l.object) _ (eq-eqb l.object l.object refl)
+    (or_right (nat_lt l.index l.index) _
+    (and_from (eqb l.index l.index) _ (eq-eqb l.index l.index refl) (lt-ltb m n lt))))
+
+-- a place comes before those of offsets above
+up_after : (l : ListedSection) (n low : ℕ) (xs : List ℕ) → n < low → IsUp low xs → All (λ r. is_before (place_of l n) r ≡ true) (map (place_of l) xs)
+unfolding IsUp
+up_after l n low [] lt up = All-nil (λ r. is_before (place_of l n) r ≡ true)
+up_after l n low (x ∷ xs) lt up =
+    All-cons (λ r. is_before (place_of l n) r ≡ true) (place_of l x) (map (place_of l) xs) (offset_before l n x (omega (arith, up.0))) (up_after l n (x + 1) xs (omega (arith, up.0)) up.1)
+
+-- places of offsets that go up come in order
+up_sorted : (l : ListedSection) (low : ℕ) (xs : List ℕ) → IsUp low xs → IsSorted (map (place_of l) xs)
+unfolding IsUp IsSorted
+up_sorted l low [] up = tt
+up_sorted l low (x ∷ xs) up = (up_after l x (x + 1) xs (omega arith) up.1, up_sorted l (x + 1) xs up.1)
+
+-- what holds of each offset holds of all targets of a section
+each_target : (P : Place → Type 0) (l : ListedSection) → ((n : ℕ) → P (place_of l n)) → All P (targets_of l)
+each_target P l each = by (is_code_section l.section)
+  where
+    mapped : (ns : List ℕ) → All P (map (place_of l) ns)
+    mapped [] = All-nil P
+    mapped (n ∷ ns) = All-cons P (place_of l n) (map (place_of l) ns) (each n) (mapped ns)
+
+    by : (b : Bool) → All P (cond b (map (place_of l) (starts_in l.section ++ length l.section.bytes ∷ [])) [])
+    by true = mapped (starts_in l.section ++ length l.section.bytes ∷ [])
+    by false = All-nil P
+
+-- those of a section do
+section_sorted : (l : ListedSection) → (is_code_section l.section ≡ true → IsWhole l.section) → IsSorted (targets_of l)
+unfolding IsSorted
+section_sorted l whole = by (is_code_section l.section) refl
+  where
+    by : (b : Bool) → is_code_section l.section ≡ b → IsSorted (cond b (map (place_of l) (starts_in l.section ++ length l.section.bytes ∷ [])) [])
+    by true code = up_sorted l 0 (starts_in l.section ++ length l.section.bytes ∷ []) (section_up l.section code (whole code))
+    by false other = tt
+
+-- places of sections, of which each comes before all after it
+sections_sorted : (ls : List ListedSection) → AreWhole ls → IsRising ls → IsSorted (flat_map targets_of ls)
+unfolding IsSorted
+sections_sorted [] whole up = tt
+sections_sorted (l ∷ ls) whole up =
+    sorted_append (targets_of l) (flat_map targets_of ls) (section_sorted l whole.0) (sections_sorted ls whole.1 up.1)
+    (each_target (λ x. All (λ y. is_before x y ≡ true) (flat_map targets_of ls)) l (λ n. later ls n up.0))
+  where
+    later : (ms : List ListedSection) (n : ℕ) → All (IsBefore l) ms → All (λ y. is_before (place_of l n) y ≡ true) (flat_map targets_of ms)
+    later [] n all = All-nil (λ y. is_before (place_of l n) y ≡ true)
+    later (m ∷ ms) n all =
+        All-append (λ y. is_before (place_of l n) y ≡ true) (targets_of m) (flat_map targets_of ms)
+        (each_target (λ y. is_before (place_of l n) y ≡ true) m (λ k. before_places l m n k (All-head (IsBefore l) m ms all)))
+        (later ms n (All-tail (IsBefore l) m ms all))
+
+module _ (inputs : Inputs) (none : gather_fault inputs ≡ None) (map : IsMap inputs.map) (A : Place → Option ℕ) (laid : IsLaidOut (parsed inputs) A) where
+  abbrev p : ParsedInputs
+  p = parsed inputs
+
+  -- and those of all code
+  pub ascends : is_ascending (listed_places p A) ≡ true
+  unfolding listed_places
+  ascends =
+      sorted_ascends (λ q. unwrap_or (A q) 0) (all_targets p.objects)
+      (sections_sorted (all_sections p.objects) (all_whole inputs none) (sections_rising p.objects))
+
+  -- ---- numbers
+
+  -- a place in the list has numbers that fit in its fields
+  place_entry : (q : Place) (a : ℕ) → A q ≡ Some a → IsEntry (q, a)
+  place_entry q a at =
+      let is = target_there p.objects q (address_target p A laid.listed q a at) in
+      let two = code_is_section p.objects q is.section is.code in
+      let whole = code_whole inputs q is.section none is.code in
+      let of = section_of inputs q.object q.section is.section two.0 in
+      let few = few_gathered inputs none in
+      let inside = slice_get_within inputs.files q.object of.file of.at in
+      let sections = ltb-false 4096 (section_count of.file) (no_fault of.file (readable inputs q.object of.file none of.at)).few in
+      let within = of.within in
+      let high = laid.high q a at in
+      let short = laid.short in
+      record {
+        object = omega (arith, few, inside);
+        section = omega (arith, sections, within);
+        offset = omega (arith, offset_inside is.section two.1 whole is.target, whole.short);
+        address = omega (arith, high, short, map.code, map.data_room, map.top);
+      }
+    where
+      offset_inside : (s : SectionParts) → is_code_section s ≡ true → IsWhole s → (starts_on s q.offset ≡ true) ⊎ (q.offset ≡ length s.bytes) → q.offset ≤ length s.bytes
+      offset_inside s code whole (inl start) = omega (arith, (start_is s code whole q.offset start).inside)
+      offset_inside s code whole (inr end) = omega (arith, end)
+
+  -- so has each place of a list
+  pub entries : (places : List (Place × ℕ)) → All (λ e. A e.0 ≡ Some e.1) places → All IsEntry places
+  entries places placed = All-weaker (λ (e : Place × ℕ). A e.0 ≡ Some e.1) IsEntry (λ e at. place_entry e.0 e.1 at) places placed
+
+  -- and none lies outside the text
+  pub are_inside : (places : List (Place × ℕ)) → All (λ e. A e.0 ≡ Some e.1) places → list_any (is_outside inputs.map) places ≡ false
+  are_inside [] placed = refl
+  are_inside (e ∷ es) placed =
+      let P = λ (d : Place × ℕ). A d.0 ≡ Some d.1 in
+      let at = All-head P e es placed in
+      let low = laid.low e.0 e.1 at in
+      let high = laid.high e.0 e.1 at in
+      let short = laid.short in
+      or_from _ _ (or_from _ _ (le-ltb e.1 inputs.map.text low) (le-ltb inputs.map.data_low e.1 (omega (arith, high, short, map.code)))) (are_inside es (All-tail P e es placed))

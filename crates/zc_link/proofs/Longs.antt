@@ -1,0 +1,155 @@
+-- Long branches: one of the opposite condition goes over a jump. If the program's branch isn't taken, that is one commit, and goes to
+-- what follows the jump; if it is, both are commits, and between them the states are alike.
+use Rattle.std.proofs.Common.{◌≡◌, ℕ, ◌+◌, ◌<◌, List, Option, Some, None, Ok, Bool, true, false, refl, sym, ap, ◌∙◌, subst, arith}
+use Rattle.std.specs.Prelude.{not}
+use Rattle.zc_base.specs.declared.place.Place.{Place}
+use Rattle.interrupt_plan.specs.Plan.{Cut}
+use Rattle.rv_decode.specs.declared.instr.Instr.{Instr}
+use Rattle.rv_decode.specs.declared.instr.Instr.TheVariants as instr
+use Rattle.rv_decode.specs.declared.instr.Instr.TheVariants.{Jal}
+use Rattle.rv_decode.specs.Bits.{add32}
+use Rattle.rv_decode.specs.Effect.{Commits, branch_target, onward as core_onward}
+use Rattle.rv_decode.specs.Results.{is_taken}
+use Rattle.rv_decode.specs.State.{ZcCore, ZcState, reg_in}
+use Rattle.sym_machine.specs.Change.{Change, Goes, branch_does, onward, place_does}
+use Rattle.sym_machine.specs.Conditions.{condition}
+use Rattle.sym_machine.specs.Program.{Program}
+use Rattle.sym_machine.specs.State.{PlainCore, PlainState, reg_of}
+use Rattle.sym_machine.specs.Step.{after_change}
+use Rattle.zc_decode.specs.declared.short.Short.TheVariants.{Base}
+use Rattle.zc_machine.specs.Fetch.{fetched_at}
+use Rattle.zc_machine.specs.Run.{committed, zc_turn, zc_turns}
+use Rattle.zc_machine.specs.Step.{effect_step}
+use Rattle.zc_machine.proofs.TurnLaws.{zc_turns-more}
+use Rattle.zc_link.specs.Image.{Image, loaded, place_address}
+use Rattle.zc_link.specs.Pace.{long_commits}
+use Rattle.zc_link.specs.Pieces.{LongLaid, LongOf, OneAt, commits_of, taken_at}
+use Rattle.zc_link.specs.Room.{Room}
+use Rattle.zc_link.specs.Simulates.{Comes}
+use Rattle.zc_link.specs.Sound.{Alike, Ready}
+use Rattle.zc_link.proofs.Branches.{condition_is}
+use Rattle.zc_link.proofs.Commits.{AfterCuts, after_cuts, zc_turns-one}
+use Rattle.zc_link.proofs.Instrs.{IsQuiet}
+use Rattle.zc_link.proofs.Ready.{alike_moved, ready_moved}
+use Rattle.zc_link.proofs.Singles.{FromSound, below_top, comes_after}
+
+-- ---- whether it is taken
+
+-- whether the program's branch is taken, if that is known
+abbrev branch_taken : {p : Program} {e : Image} {q : Place} {a : ℕ} → PlainCore → LongLaid p e q a → Option Bool
+branch_taken {p} s laid = condition p laid.op (reg_of s laid.first) (reg_of s laid.second)
+
+-- the instruction over the jump
+abbrev over_jump : {p : Program} {e : Image} {q : Place} {a : ℕ} → LongLaid p e q a → Instr
+over_jump laid = instr.Branch laid.other laid.first laid.second laid.over
+
+-- the image's branch is taken just if the program's isn't
+other_taken :
+    {p : Program} {e : Image} {q : Place} {a : ℕ} {s : PlainCore} {y : ZcCore} (t : Bool) → Room p e → Ready p e s y → (laid : LongLaid p e q a)
+    → branch_taken s laid ≡ Some t → is_taken laid.other (reg_in y laid.first) (reg_in y laid.second) ≡ not t
+other_taken {s = s} {y = y} t room ready laid is =
+    laid.opposite (reg_in y laid.first) (reg_in y laid.second)
+    ∙ ap not (condition_is room laid.op (reg_of s laid.first) (reg_of s laid.second) (reg_in y laid.first) (reg_in y laid.second) t
+    (ready.core.words laid.first) (ready.core.words laid.second) (ready.registers laid.first laid.first_low) (ready.registers laid.second laid.second_low) is)
+
+-- its commits, by that
+long_commits_are :
+    {p : Program} {e : Image} {a : ℕ} (s : PlainCore) (laid : LongLaid p e s.place a) → commits_of p s LongOf ≡ long_commits (branch_taken s laid)
+long_commits_are {p} s laid = ap (λ o. long_commits (taken_at p s o)) laid.item
+
+-- two commits, and so the program's branch is taken
+pub record IsTaken {p : Program} {e : Image} {a : ℕ} (s : PlainCore) (laid : LongLaid p e s.place a) : Type 0 where
+  pub is : branch_taken s laid ≡ Some true
+  pub commits : commits_of p s LongOf ≡ 2
+
+pub known_taken : {p : Program} {e : Image} {a : ℕ} (s : PlainCore) (laid : LongLaid p e s.place a) → 1 < commits_of p s LongOf → IsTaken s laid
+known_taken {p} s laid more = by (branch_taken s laid) refl
+  where
+    by : (o : Option Bool) → branch_taken s laid ≡ o → IsTaken s laid
+    by None is = absurd (omega (arith, more, long_commits_are s laid, ap long_commits is))
+    by (Some false) is = absurd (omega (arith, more, long_commits_are s laid, ap long_commits is))
+    by (Some true) is = record { is = is; commits = long_commits_are s laid ∙ ap long_commits is }
+
+-- then the image's isn't, and goes on to the jump
+pub goes_over :
+    {p : Program} {e : Image} {a : ℕ} (s : PlainCore) (y : ZcCore) → Room p e → Alike p e s y → (laid : LongLaid p e s.place a)
+    → branch_taken s laid ≡ Some true → is_taken laid.other (reg_in y laid.first) (reg_in y laid.second) ≡ false
+goes_over s y room al laid is = other_taken true room al.ready laid is
+
+-- ---- its commits
+
+module _
+    {p : Program} {e : Image} {r r' : PlainState} {cuts : ℕ → List Cut} {z : ZcState}
+    (room : Room p e) (from : FromSound p e r r' cuts z) (laid : LongLaid p e r.core.place z.core.pc) where
+  abbrev next : Place
+  next = p.next r.core.place
+
+  -- the state before the first instruction
+  abbrev first : AfterCuts p e (over_jump laid) laid.at.one.size r.core (cuts 0) z
+  first = after_cuts room (cuts 0) (from.are 0) laid.at.one from.sound.alike
+
+  -- the state after it, by whether it is taken
+  abbrev after_first : Bool → ZcCore
+  after_first taken = record (core_onward first.now laid.at.one.size first.now.regs) { pc = branch_target taken laid.over laid.at.one.size first.now }
+
+  first_turn : (t : Bool) → branch_taken r.core laid ≡ Some t → zc_turn (cuts 0) z ≡ Ok (record z { core = after_first (not t) })
+  first_turn t is =
+      first.turn
+      ∙ ap (λ b. committed (effect_step (Commits (after_first b)) first.now) (record z { core = first.now })) (other_taken t room first.alike.ready laid is)
+
+  -- a change of the program's that only goes to a place
+  comes_to :
+      (k : ℕ) (y : ZcCore) (to : Place) → zc_turns cuts k z ≡ Ok (record z { core = y }) → Ready p e (after_change (onward to) r.core) y
+      → place_address e to ≡ Some y.pc → onward to ≡ from.step.change → Comes p e cuts k z r'
+  comes_to k y to runs ready at is =
+      comes_after from k y runs (subst (λ c. Ready p e (after_change c r.core) y) is ready) (subst IsQuiet is (record { events = refl; taken = refl }))
+      (ap (λ (c : Change). place_address e c.place) (sym is) ∙ at)
+
+  -- one, over the jump
+  over_comes : branch_taken r.core laid ≡ Some false → onward next ≡ from.step.change → Comes p e cuts 1 z r'
+  over_comes is same =
+      let y = after_first true in
+      comes_to 1 y next (zc_turns-one cuts z (record z { core = y }) (first_turn false is)) (ready_moved first.alike.ready next y.pc y.commits)
+      (laid.next ∙ ap Some (sym laid.lands ∙ ap (λ a. add32 a laid.over) (sym first.pc))) same
+
+  -- ---- two
+
+  abbrev between : ZcCore
+  between = after_first false
+
+  between_pc : between.pc ≡ z.core.pc + laid.at.one.size
+  between_pc = sym (below_top z.core.pc first.now.pc laid.at.one.size first.pc laid.at.one.small)
+
+  abbrev second_at : OneAt e between.pc (Base (Jal 0 laid.distance))
+  second_at = record {
+    size = laid.at.two.size;
+    here = ap (fetched_at (loaded e)) between_pc ∙ laid.at.two.here;
+    small = omega (arith, laid.at.two.small, between_pc);
+  }
+
+  -- the state before the jump, and after it
+  abbrev second : AfterCuts p e (Jal 0 laid.distance) laid.at.two.size r.core (cuts 1) (record z { core = between })
+  second = after_cuts room (cuts 1) (from.are 1) second_at (alike_moved between.pc between.commits first.alike)
+
+  abbrev there : ZcCore
+  there = record (core_onward second.now laid.at.two.size second.now.regs) { pc = add32 second.now.pc laid.distance }
+
+  two_come : branch_taken r.core laid ≡ Some true → onward laid.to ≡ from.step.change → Comes p e cuts 2 z r'
+  two_come is same =
+      let z1 : ZcState = record z { core = between } in
+      let runs = zc_turns-more cuts 1 z z1 (record z { core = there }) (zc_turns-one cuts z z1 (first_turn true is)) second.turn in
+      comes_to 2 there laid.to runs (ready_moved second.alike.ready laid.to there.pc there.commits)
+      (laid.reaches ∙ ap (λ a. Some (add32 a laid.distance)) (sym (second.pc ∙ between_pc))) same
+
+  -- ---- both
+
+  pub long_comes : Comes p e cuts (commits_of p r.core LongOf) z r'
+  long_comes = subst (λ k. Comes p e cuts k z r') (sym (long_commits_are r.core laid)) (by (branch_taken r.core laid) refl does)
+    where
+      does : branch_does (branch_taken r.core laid) laid.to next ≡ Goes from.step.change
+      does = ap (λ o. place_does p o r.core next) (sym laid.item) ∙ from.step.does
+
+      by : (o : Option Bool) → branch_taken r.core laid ≡ o → branch_does o laid.to next ≡ Goes from.step.change → Comes p e cuts (long_commits o) z r'
+      by None is h = absurd cc
+      by (Some false) is h = over_comes is (let same : onward next ≡ from.step.change = cc in same)
+      by (Some true) is h = two_come is (let same : onward laid.to ≡ from.step.change = cc in same)

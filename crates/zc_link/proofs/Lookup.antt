@@ -1,0 +1,102 @@
+-- The addresses that an image lists are those of the layout: a place has one if an item starts there or a section ends there.
+use Rattle.std.proofs.Common.{◌≡◌, ℕ, List, [], ◌∷◌, ◌++◌, map, length, Option, Some, None, Bool, true, false, cond, eqb, refl, sym, ap, ◌∙◌, subst, inl, inr, ◌⊎◌}
+use Rattle.std.specs.Prelude.{All, ◌||◌}
+use Rattle.std.specs.List.{flat_map, list_any}
+use Rattle.std.specs.Option.{is_some, option_map_or, unwrap_or}
+use Rattle.std.proofs.lemmas.Bool.{eq-eqb, eqb-true, or_cases, or_left, or_right}
+use Rattle.std.proofs.lemmas.List.Elements.{All-head, All-tail}
+use Rattle.std.proofs.lemmas.List.Folds.{list_any-append}
+use Rattle.zc_base.specs.Places.{same_place}
+use Rattle.zc_base.specs.declared.place.Place.{Place}
+use Rattle.elf32_read.specs.Parts.{ObjectParts, SectionParts}
+use Rattle.psabi_sym.specs.Inputs.{ParsedInputs}
+use Rattle.psabi_sym.specs.Listed.{sections_before}
+use Rattle.block_cut.specs.Items.{code_at, is_target_at, place_of, starts_in, starts_on}
+use Rattle.block_cut.proofs.ListedLaws.{cut_at, listed}
+use Rattle.block_cut.proofs.PlainLaws.{target_on}
+use Rattle.block_cut.proofs.WholeLaws.{code_is_section}
+use Rattle.zc_link.specs.Places.{address_in}
+use Rattle.zc_link.specs.ImageParts.{all_targets, listed_places, targets_of}
+use Rattle.zc_link.proofs.Elements.{any_flat, any_offset}
+use Rattle.zc_link.proofs.PlaceLaws.{same_place-refl, same_place-true}
+
+-- what holds of all entries of a list holds of the one that is found
+pub found_holds : (P : Place × ℕ → Type 0) (es : List (Place × ℕ)) (q : Place) (a : ℕ) → All P es → address_in es q ≡ Some a → P (q, a)
+found_holds P [] q a all found = absurd cc
+found_holds P (e ∷ es) q a all found = by (same_place e.0 q) refl found (λ later. found_holds P es q a (All-tail P e es all) later)
+  where
+    by : (b : Bool) → same_place e.0 q ≡ b → cond b (Some e.1) (address_in es q) ≡ Some a → (address_in es q ≡ Some a → P (q, a)) → P (q, a)
+    by true is got rest =
+        let place : q ≡ e.0 = same_place-true e.0 q is in
+        let address : e.1 ≡ a = cc in
+        subst P (λ j. (sym place j, address j)) (All-head P e es all)
+    by false is got rest = rest got
+
+-- a place among those of a list is found in it
+pub among_found : (f : Place → ℕ) (qs : List Place) (q : Place) → list_any (λ r. same_place r q) qs ≡ true → (a : ℕ) × (address_in (map (λ r. (r, f r)) qs) q ≡ Some a)
+among_found f [] q among = absurd cc
+among_found f (r ∷ rs) q among = by (same_place r q) among (λ later. among_found f rs q later)
+  where
+    by : (b : Bool) → (b || list_any (λ s. same_place s q) rs) ≡ true → (list_any (λ s. same_place s q) rs ≡ true → (a : ℕ) × (address_in (map (λ s. (s, f s)) rs) q ≡ Some a)) → (a : ℕ) × (cond b (Some (f r)) (address_in (map (λ s. (s, f s)) rs) q) ≡ Some a)
+    by true is rest = (f r, refl)
+    by false is rest = rest is
+
+-- a place where an item starts or a section of code ends
+pub record IsTarget (objects : List ObjectParts) (q : Place) : Type 0 where
+  pub section : SectionParts
+  pub code : code_at objects q ≡ Some section
+  pub target : (starts_on section q.offset ≡ true) ⊎ (q.offset ≡ length section.bytes)
+
+-- a place where code may lead is one
+pub target_there : (objects : List ObjectParts) (q : Place) → is_target_at objects q ≡ true → IsTarget objects q
+target_there objects q is = by (code_at objects q) refl
+  where
+    by : (o : Option SectionParts) → code_at objects q ≡ o → IsTarget objects q
+    by None at =
+        let no : is_target_at objects q ≡ false =
+        (λ j. option_map_or (λ s. starts_on s q.offset) (at j) false || option_map_or (λ s. eqb q.offset (length s.bytes)) (at j) false) in
+        absurd (cc (no, is))
+    by (Some s) at = record { section = s; code = at; target = either (or_cases (starts_on s q.offset) (eqb q.offset (length s.bytes)) (sym (target_on objects q s at) ∙ is)) }
+      where
+        either : (starts_on s q.offset ≡ true) ⊎ (eqb q.offset (length s.bytes) ≡ true) → (starts_on s q.offset ≡ true) ⊎ (q.offset ≡ length s.bytes)
+        either (inl start) = inl start
+        either (inr end) = inr (eqb-true q.offset (length s.bytes) end)
+
+-- it is among those that are listed
+target_among : (objects : List ObjectParts) (q : Place) → is_target_at objects q ≡ true → list_any (λ r. same_place r q) (all_targets objects) ≡ true
+target_among objects q is =
+    let at = target_there objects q is in
+    let s = at.section in
+    let two = code_is_section objects q s at.code in
+    let l = listed q.object q.section s in
+    let cut = cut_at objects q.object q.section s two.0 in
+    let test = λ (r : Place). same_place r q in
+    let own : targets_of l ≡ map (place_of l) (starts_in s ++ length s.bytes ∷ []) = ap (λ b. cond b (map (place_of l) (starts_in s ++ length s.bytes ∷ [])) []) two.1 in
+    let offset : list_any (λ m. eqb m q.offset) (starts_in s ++ length s.bytes ∷ []) ≡ true = list_any-append (λ m. eqb m q.offset) (starts_in s) (length s.bytes ∷ []) ∙ either s at.target in
+    let mine : list_any test (targets_of l) ≡ true = ap (list_any test) own ∙ any_offset test (place_of l) (starts_in s ++ length s.bytes ∷ []) q.offset offset (same_place-refl q) in
+    ap (λ ls. list_any test (flat_map targets_of ls)) cut.all_are ∙ any_flat test targets_of (sections_before objects q.object q.section) cut.rest l mine
+  where
+    either : (s : SectionParts) → (starts_on s q.offset ≡ true) ⊎ (q.offset ≡ length s.bytes) → (list_any (λ m. eqb m q.offset) (starts_in s) || (eqb (length s.bytes) q.offset || false)) ≡ true
+    either s (inl start) = or_left (list_any (λ m. eqb m q.offset) (starts_in s)) _ start
+    either s (inr end) = or_right (list_any (λ m. eqb m q.offset) (starts_in s)) _ (or_left (eqb (length s.bytes) q.offset) false (eq-eqb (length s.bytes) q.offset (sym end)))
+
+-- if these places and no others have addresses
+module _ (p : ParsedInputs) (A : Place → Option ℕ) (lists : (q : Place) → is_some (A q) ≡ is_target_at p.objects q) where
+  -- a place with an address is such a place
+  pub address_target : (q : Place) (a : ℕ) → A q ≡ Some a → is_target_at p.objects q ≡ true
+  address_target q a is = sym (lists q) ∙ ap is_some is
+
+  -- then the list has these addresses
+  pub lookup : (places : List (Place × ℕ)) → places ≡ listed_places p A → All (λ e. A e.0 ≡ Some e.1) places → (q : Place) → address_in places q ≡ A q
+  unfolding listed_places
+  lookup places are placed q = by (A q) refl (address_in places q) refl
+    where
+      there : (a : ℕ) → A q ≡ Some a → (b : ℕ) × (address_in places q ≡ Some b)
+      there a is =
+          let found = among_found (λ r. unwrap_or (A r) 0) (all_targets p.objects) q (target_among p.objects q (address_target q a is)) in
+          (found.0, ap (λ es. address_in es q) are ∙ found.1)
+
+      by : (o : Option ℕ) → A q ≡ o → (u : Option ℕ) → address_in places q ≡ u → address_in places q ≡ A q
+      by o is (Some b) found = found ∙ sym (found_holds (λ e. A e.0 ≡ Some e.1) places q b placed found)
+      by None is None found = found ∙ sym is
+      by (Some a) is None found = let other = there a is in absurd (cc (found, other.1))

@@ -1,0 +1,336 @@
+-- The text that was written lies in its image as a layout owes: at each listed place stand the instructions of its item.
+use Rattle.std.proofs.Common.{◌≡◌, ℕ, ℤ, pos, negsuc, ◌+◌, ◌-◌, ◌-ℤ◌, ◌*◌, ◌%◌, ◌^◌, ◌<◌, ◌≤◌, ◌⊎◌, inl, inr, zero, suc, List, length, Option, Some, None, true, false, cond, eqb, refl, sym, ap, ◌∙◌, subst, arith}
+use Rattle.std.specs.Prelude.{All}
+use Rattle.std.proofs.Math.IntN.{+ℤ-neg_ℤ_cancel}
+use Rattle.std.proofs.lemmas.Bool.{cases_lt}
+use Rattle.zc_base.specs.MemMap.{IsMap}
+use Rattle.zc_base.specs.declared.place.Place.{Place}
+use Rattle.elf32_write.specs.Parts.{Parts}
+use Rattle.psabi_reloc.specs.Parts.{hi20_of, lo12_of}
+use Rattle.psabi_reloc.specs.Patched.{with_distance, with_imm, with_upper}
+use Rattle.psabi_sym.specs.Faults.{power_above}
+use Rattle.psabi_sym.specs.Inputs.{Inputs, ParsedInputs, parsed}
+use Rattle.psabi_sym.specs.declared.target.Target.{Target}
+use Rattle.psabi_sym.proofs.BlockLaws.{aligned_up-lt}
+use Rattle.rv_decode.specs.Bits.{FitsIn, add32}
+use Rattle.rv_decode.specs.Registers.{HasRegisters}
+use Rattle.rv_decode.specs.declared.instr.Instr.{Instr}
+use Rattle.rv_decode.specs.declared.instr.Instr.TheVariants as instr
+use Rattle.rv_decode.specs.declared.instr.UpperOp.TheVariants.{Auipc}
+use Rattle.rv_decode.proofs.DecodeLaws.{decoded-in_range, decoded-registers}
+use Rattle.block_cut.specs.Items.{item_at, next_at}
+use Rattle.block_cut.specs.declared.item.Item.{Item}
+use Rattle.block_cut.specs.declared.item.Item.TheVariants.{Op, Hi, Lo, PcHi, PcLo, Branch, Jump, Call, Align, Word, Raw, RawPair}
+use Rattle.sym_machine.specs.AddressParts.{pc_target}
+use Rattle.sym_machine.specs.Conditions.{is_solid}
+use Rattle.sym_machine.specs.Program.{Program}
+use Rattle.sym_machine.specs.State.{PlainCore}
+use Rattle.zc_decode.specs.declared.short.Short.TheVariants.{Base}
+use Rattle.zc_encode.specs.Halves.{encoded16}
+use Rattle.zc_link.specs.Copied.{bytes_from}
+use Rattle.zc_link.specs.Image.{Image, place_address}
+use Rattle.zc_link.specs.LaidOut.{IsLaidOut}
+use Rattle.zc_link.specs.Pace.{bytes_between, listed_size, pace_in}
+use Rattle.zc_link.specs.Pieces.{Alone, AloneLaid, CallLaid, CallOf, ItemLaid, LongLaid, LongOf, PieceLaid}
+use Rattle.zc_link.specs.Written.{Holds, IsLong, IsSpelled, IsWritten, WithCall, WithWay}
+use Rattle.zc_link.specs.Values.{target_value, way}
+use Rattle.zc_link.proofs.Fetched.{StandAt, nops_at, one_at, spelled_at, stand_at, stand_first, stand_next}
+use Rattle.zc_link.proofs.ImageMemory.{AreLaidOut, image_of}
+use Rattle.zc_link.proofs.ItemRegisters.{distance_registers, imm_registers, item_registers, upper_registers}
+use Rattle.zc_link.proofs.Lookup.{found_holds}
+use Rattle.zc_link.proofs.PartLaws.{call_reaches}
+use Rattle.zc_link.proofs.SizedPieces.{few_commits, piece_in, power_most, sized_piece}
+
+-- ---- by how it is spelled
+
+-- one instruction hasn't eight bytes
+spelled_short : (n : ℕ) (bytes : List ℕ) (i : Instr) → IsSpelled n bytes i → eqb n 8 ≡ false
+spelled_short n bytes i (inl w) = ap (λ k. eqb k 8) w.0
+spelled_short n bytes i (inr h) = ap (λ k. eqb k 8) h.0
+
+-- `ecall` has no short form
+ecall_long : (n : ℕ) (bytes : List ℕ) (i : Instr) → IsSpelled n bytes i → i ≡ instr.Ecall → n ≡ 4
+ecall_long n bytes i (inl w) is = w.0
+ecall_long n bytes i (inr h) is = let none : encoded16 (Base i) ≡ None = ap (λ j. encoded16 (Base j)) is in absurd (let one = h.1.first in cc (one, none))
+
+-- a jump after a word goes as far as the branch that it stands for, less the word
+after_word : (a : ℕ) (d : ℤ) → FitsIn 21 (d -ℤ pos 4) → add32 (a + 4) (d -ℤ pos 4) ≡ add32 a d
+after_word a (negsuc n) fits = omega (arith, fits)
+after_word a (pos n) fits = near n (cases_lt n 4)
+  where
+    near : (n : ℕ) → (n < 4) ⊎ (4 ≤ n) → add32 (a + 4) (pos n -ℤ pos 4) ≡ add32 a (pos n)
+    near zero (inl lt) = omega arith
+    near (suc zero) (inl lt) = omega arith
+    near (suc (suc zero)) (inl lt) = omega arith
+    near (suc (suc (suc zero))) (inl lt) = omega arith
+    near (suc (suc (suc (suc n)))) (inl lt) = absurd (omega (arith, lt))
+    near n (inr le) =
+        let more : n - 4 + 4 ≡ n = omega (arith, le) in
+        ap (λ m. add32 (a + 4) (pos m -ℤ pos 4)) (sym more) ∙ ap (add32 (a + 4)) (+ℤ-neg_ℤ_cancel (pos (n - 4)) (pos 4)) ∙ omega (arith, le)
+
+-- ---- what is laid
+
+-- a program of the objects' items in an image that lists these addresses
+pub record ShowsLayout (inputs : Inputs) (A : Place → Option ℕ) (program : Program) (e : Image) : Type 0 where
+  pub item : program.item ≡ item_at (parsed inputs)
+  pub next : program.next ≡ next_at (parsed inputs).objects
+  pub map : program.map ≡ inputs.map
+  pub listed : place_address e ≡ A
+
+module _ (inputs : Inputs) (is_map : IsMap inputs.map) (A : Place → Option ℕ) (laid : IsLaidOut (parsed inputs) A) (program : Program) (parts : Parts) (out : AreLaidOut program parts)
+    (shows : ShowsLayout inputs A program (image_of program.map parts)) where
+  abbrev p : ParsedInputs
+  p = parsed inputs
+
+  abbrev here : Image
+  here = image_of program.map parts
+
+  -- each place's address is the layout's
+  listed_at : (q : Place) → place_address here q ≡ A q
+  listed_at q = λ j. shows.listed j q
+
+  -- the next place
+  next_listed : (q : Place) (b : ℕ) → A (next_at p.objects q) ≡ Some b → place_address here (program.next q) ≡ Some b
+  next_listed q b next = (λ j. shows.listed j (shows.next j q)) ∙ next
+
+  -- with a value
+  value_is : (t : Target) (x : ℕ) → target_value A t ≡ Some x → target_value (place_address here) t ≡ Some x
+  value_is t x is = ap (λ B. target_value B t) shows.listed ∙ is
+
+  -- an address is even, and a word
+  even_word : (q : Place) (a : ℕ) → A q ≡ Some a → (a % 2 ≡ 0) × (0 < a) × (a < 2 ^ 32)
+  even_word q a at =
+      let low = laid.low q a at in
+      let high = laid.high q a at in
+      let short = laid.short in
+      (laid.even q a at, omega (arith, low, is_map.above), omega (arith, high, short, is_map.code, is_map.data_room, is_map.top))
+
+  -- one instruction
+  alone : (q : Place) (a n : ℕ) (bytes : List ℕ) (i : Instr) → HasRegisters i → A (next_at p.objects q) ≡ Some (a + n) → StandAt program parts out a bytes → IsSpelled n bytes i → AloneLaid program here q a i
+  alone q a n bytes i registers next st sp =
+      let is = spelled_at program parts out a n bytes i st sp in
+      record {
+        registers = registers;
+        here = is.here;
+        same = is.same;
+        at = is.at;
+        next = next_listed q (a + n) next ∙ ap (λ k. Some (a + k)) (sym is.long);
+      }
+
+  -- a branch of two
+  long_laid : (q : Place) (a n : ℕ) (i : Instr) (to : Place) (d : ℤ) (bytes : List ℕ) → n ≡ 8 → A (next_at p.objects q) ≡ Some (a + n) → StandAt program parts out a bytes → A to ≡ Some (add32 a d)
+      → IsLong i d bytes → program.item q ≡ Some (Branch i to) → LongLaid program here q a
+  unfolding one_at
+  long_laid q a n i to d bytes eight next st leads l same =
+      let both = subst (StandAt program parts out a) l.both st in
+      let four : a + length l.first ≡ a + 4 = ap (λ x. a + length x) l.over.are in
+      let registers = decoded-registers l.over.word (instr.Branch l.other l.one l.two (pos 8)) l.over.spells in
+      let small = even_word (next_at p.objects q) (a + n) next in
+      let end : a + n ≡ a + 4 + 4 = omega (arith, eight) in
+      record {
+        op = l.op;
+        first = l.one;
+        second = l.two;
+        far = l.far;
+        to = to;
+        item = same ∙ (λ j. Some (Branch (l.is j) to));
+        first_low = registers.0;
+        second_low = registers.1;
+        other = l.other;
+        opposite = l.opposite;
+        over = pos 8;
+        distance = d -ℤ pos 4;
+        at = record {
+          one = one_at program parts out a l.first (instr.Branch l.other l.one l.two (pos 8)) (stand_first program parts out a l.first l.second both) l.over;
+          two = one_at program parts out (a + 4) l.second (instr.Jal 0 (d -ℤ pos 4))
+              (subst (λ x. StandAt program parts out x l.second) four (stand_next program parts out a l.first l.second both)) l.jump;
+        };
+        lands = omega (arith, small.2, eight);
+        reaches = (λ j. shows.listed j to) ∙ leads ∙ ap Some (sym (after_word a d (decoded-in_range l.jump.word (instr.Jal 0 (d -ℤ pos 4)) l.jump.spells).0));
+        next = next_listed q (a + n) next ∙ ap Some end;
+      }
+
+  -- a call of two
+  call_laid : (q : Place) (a n rd temp : ℕ) (to : Place) (bytes : List ℕ) → n ≡ 8 → A q ≡ Some a → A (next_at p.objects q) ≡ Some (a + n) → StandAt program parts out a bytes
+      → WithCall A a rd temp to bytes → program.item q ≡ Some (Call rd temp to) → CallLaid program here q a
+  unfolding one_at
+  call_laid q a n rd temp to bytes eight at next st w same =
+      let both = subst (StandAt program parts out a) w.both st in
+      let four : a + length w.first ≡ a + 4 = ap (λ l. a + length l) w.upper.are in
+      let first = decoded-registers w.upper.word (instr.Upper Auipc temp (hi20_of (way a w.address))) w.upper.spells in
+      let one = even_word q a at in
+      let two = even_word to w.address w.is in
+      let end : a + n ≡ a + 4 + 4 = omega (arith, eight) in
+      record {
+        rd = rd;
+        temp = temp;
+        to = to;
+        item = same;
+        temp_low = first;
+        upper = hi20_of (way a w.address);
+        lower = lo12_of (way a w.address);
+        at = record {
+          one = one_at program parts out a w.first (instr.Upper Auipc temp (hi20_of (way a w.address))) (stand_first program parts out a w.first w.second both) w.upper;
+          two = one_at program parts out (a + 4) w.second (instr.Jalr rd temp (lo12_of (way a w.address)))
+              (subst (λ x. StandAt program parts out x w.second) four (stand_next program parts out a w.first w.second both)) w.lower;
+        };
+        reaches = (λ j. shows.listed j to) ∙ w.is ∙ ap Some (sym (call_reaches a w.address one.2 two.2 two.0));
+        next = next_listed q (a + n) next ∙ ap Some end;
+      }
+
+  -- ---- each piece
+
+  -- what is written for an item of n bytes at a place
+  pub record WrittenAt (q : Place) (a n : ℕ) (item : Item) (bytes : List ℕ) : Type 0 where
+    pub own : ℕ → List ℕ
+    pub is : item_at p q ≡ Some item
+    pub at : A q ≡ Some a
+    pub next : A (next_at p.objects q) ≡ Some (a + n)
+    pub stands : StandAt program parts out a bytes
+    pub written : IsWritten A (item_at p) own a n item bytes
+
+  -- the program has the objects' items
+  same_item : (q : Place) (item : Item) → item_at p q ≡ Some item → program.item q ≡ Some item
+  same_item q item is = (λ j. shows.item j q) ∙ is
+
+  -- an item that is one instruction
+  item_laid : (q : Place) (a : ℕ) (item : Item) → item_at p q ≡ Some item → ItemLaid program here q a (Some item) → ItemLaid program here q a (program.item q)
+  item_laid q a item is = subst (ItemLaid program here q a) (sym (same_item q item is))
+
+  -- a branch: in eight bytes it is two instructions, and else one
+  branch_laid : (q : Place) (a n : ℕ) (i : Instr) (to : Place) (bytes : List ℕ) → WrittenAt q a n (Branch i to) bytes → PieceLaid program here q a (sized_piece (Some (Branch i to)) n)
+  branch_laid q a n i to bytes w = by w.written.holds
+    where
+      by : IsSpelled n bytes (with_distance i w.written.distance) ⊎ ((n ≡ 8) × IsLong i w.written.distance bytes) → PieceLaid program here q a (sized_piece (Some (Branch i to)) n)
+      by (inl sp) =
+          let d = w.written.distance in
+          subst (λ b. PieceLaid program here q a (cond b LongOf Alone)) (sym (spelled_short n bytes (with_distance i d) sp))
+          (item_laid q a (Branch i to) w.is
+          (record { distance = d; reaches = (λ j. shows.listed j to) ∙ w.written.leads; laid = alone q a n bytes (with_distance i d) (distance_registers i d (item_registers p q (Branch i to) w.is)) w.next w.stands sp }))
+      by (inr l) =
+          let eight : eqb n 8 ≡ true = ap (λ k. eqb k 8) l.0 in
+          subst (λ b. PieceLaid program here q a (cond b LongOf Alone)) (sym eight)
+          (long_laid q a n i to w.written.distance bytes l.0 w.next w.stands w.written.leads l.1 (same_item q (Branch i to) w.is))
+
+  -- so is a call
+  calling_laid : (q : Place) (a n rd temp : ℕ) (to : Place) (bytes : List ℕ) → WrittenAt q a n (Call rd temp to) bytes → PieceLaid program here q a (sized_piece (Some (Call rd temp to)) n)
+  calling_laid q a n rd temp to bytes w = by w.written
+    where
+      by : WithWay A a to (λ d. IsSpelled n bytes (instr.Jal rd d)) ⊎ ((n ≡ 8) × WithCall A a rd temp to bytes) → PieceLaid program here q a (sized_piece (Some (Call rd temp to)) n)
+      by (inl one) =
+          let d = one.distance in
+          subst (λ b. PieceLaid program here q a (cond b CallOf Alone)) (sym (spelled_short n bytes (instr.Jal rd d) one.holds))
+          (item_laid q a (Call rd temp to) w.is
+          (record { distance = d; reaches = (λ j. shows.listed j to) ∙ one.leads; laid = alone q a n bytes (instr.Jal rd d) (item_registers p q (Call rd temp to) w.is) w.next w.stands one.holds }))
+      by (inr two) =
+          let eight : eqb n 8 ≡ true = ap (λ k. eqb k 8) two.0 in
+          subst (λ b. PieceLaid program here q a (cond b CallOf Alone)) (sym eight)
+          (call_laid q a n rd temp to bytes two.0 w.at w.next w.stands two.1 (same_item q (Call rd temp to) w.is))
+
+  -- any item
+  piece_laid : (q : Place) (a n : ℕ) (item : Item) (bytes : List ℕ) → WrittenAt q a n item bytes → PieceLaid program here q a (sized_piece (Some item) n)
+  unfolding alone
+  piece_laid q a n (Op i) bytes w =
+      item_laid q a (Op i) w.is
+      (record {
+        laid = alone q a n bytes i (item_registers p q (Op i) w.is) w.next w.stands w.written;
+        four = λ ecall. (spelled_at program parts out a n bytes i w.stands w.written).long ∙ ecall_long n bytes i w.written ecall;
+      })
+  piece_laid q a n (Hi i t) bytes w =
+      let x = w.written.value in
+      item_laid q a (Hi i t) w.is
+      (record { value = x; is = value_is t x w.written.is; laid = alone q a n bytes (with_upper i (hi20_of x)) (upper_registers i (hi20_of x) (item_registers p q (Hi i t) w.is)) w.next w.stands w.written.holds })
+  piece_laid q a n (Lo i t) bytes w =
+      let x = w.written.value in
+      item_laid q a (Lo i t) w.is
+      (record { value = x; is = value_is t x w.written.is; laid = alone q a n bytes (with_imm i (lo12_of x)) (imm_registers i (lo12_of x) (item_registers p q (Lo i t) w.is)) w.next w.stands w.written.holds })
+  piece_laid q a n (PcHi i t) bytes w =
+      let x = w.written.value in
+      let upper = hi20_of (way a x) in
+      item_laid q a (PcHi i t) w.is
+      (record { value = x; is = value_is t x w.written.is; laid = alone q a n bytes (with_upper i upper) (upper_registers i upper (item_registers p q (PcHi i t) w.is)) w.next w.stands w.written.holds })
+  piece_laid q a n (PcLo i from) bytes w =
+      let l = w.written in
+      let lower = lo12_of (way l.address l.value) in
+      item_laid q a (PcLo i from) w.is
+      (record {
+        to = l.to;
+        leads = ap pc_target ((λ j. shows.item j from) ∙ l.names);
+        address = l.address;
+        listed = (λ j. shows.listed j from) ∙ l.listed;
+        value = l.value;
+        is = value_is l.to l.value l.is;
+        laid = alone q a n bytes (with_imm i lower) (imm_registers i lower (item_registers p q (PcLo i from) w.is)) w.next w.stands l.holds;
+      })
+  piece_laid q a n (Branch i to) bytes w = branch_laid q a n i to bytes w
+  piece_laid q a n (Jump i to) bytes w =
+      let d = w.written.distance in
+      item_laid q a (Jump i to) w.is
+      (record { distance = d; reaches = (λ j. shows.listed j to) ∙ w.written.leads; laid = alone q a n bytes (with_distance i d) (distance_registers i d (item_registers p q (Jump i to) w.is)) w.next w.stands w.written.holds })
+  piece_laid q a n (Call rd temp to) bytes w = calling_laid q a n rd temp to bytes w
+  piece_laid q a n (Align k) bytes w =
+      let one = laid.even q a w.at in
+      let two = laid.even (next_at p.objects q) (a + n) w.next in
+      record {
+        bytes = k;
+        item = same_item q (Align k) w.is;
+        end = a + n;
+        nops = nops_at program parts out a n bytes (omega (arith, one, two)) w.stands w.written;
+        next = next_listed q (a + n) w.next;
+      }
+  piece_laid q a n (Word t) bytes w = item_laid q a (Word t) w.is tt
+  piece_laid q a n (Raw word) bytes w = item_laid q a (Raw word) w.is tt
+  piece_laid q a n (RawPair first second) bytes w = item_laid q a (RawPair first second) w.is tt
+
+  -- ---- all
+
+  -- the size of an item is the way to the next place
+  size_is : (q : Place) (a n : ℕ) → A q ≡ Some a → A (next_at p.objects q) ≡ Some (a + n) → listed_size program here q ≡ n
+  size_is q a n at next =
+      let less : a + n - a ≡ n = omega arith in
+      (λ j. bytes_between ((listed_at q ∙ at) j) (next_listed q (a + n) next j)) ∙ less
+
+  -- each listed place's piece
+  pub each : All (Holds p A parts.text) parts.places → (q : Place) (a : ℕ) → place_address here q ≡ Some a → PieceLaid program here q a (piece_in program here q)
+  each holds q a listed = by (sym (listed_at q) ∙ listed) (item_at p q) refl
+    where
+      by : A q ≡ Some a → (o : Option Item) → item_at p q ≡ o → PieceLaid program here q a (piece_in program here q)
+      by at None is =
+          let none : program.item q ≡ None = (λ j. shows.item j q) ∙ is in
+          subst (λ o. PieceLaid program here q a (sized_piece o (listed_size program here q))) (sym none) (subst (ItemLaid program here q a) (sym none) tt)
+      by at (Some item) is =
+          let h = found_holds (Holds p A parts.text) parts.places q a holds listed item is in
+          let start : program.map.text ≡ inputs.map.text = ap (λ m. m.text) shows.map in
+          let st = stand_at program parts out a h.size (omega (arith, h.low, start)) (omega (arith, h.within, start)) in
+          let there = subst (λ x. StandAt program parts out a (bytes_from parts.text (a - x) h.size)) start st in
+          let piece = piece_laid q a h.size item (bytes_from parts.text (a - inputs.map.text) h.size)
+          (record { own = bytes_from h.section.bytes q.offset; is = is; at = at; next = h.next; stands = there; written = h.written }) in
+          subst (λ o. PieceLaid program here q a (sized_piece o (listed_size program here q))) (sym (same_item q item is))
+          (subst (λ n. PieceLaid program here q a (sized_piece (Some item) n)) (sym (size_is q a h.size at h.next)) piece)
+
+  -- padding has fewer than 256 bytes
+  padding_short : (q : Place) (k : ℕ) → program.item q ≡ Some (Align k) → listed_size program here q < 256
+  padding_short q k item = by (A q) refl
+    where
+      is : item_at p q ≡ Some (Align k)
+      is = (λ j. sym shows.item j q) ∙ item
+
+      by : (o : Option ℕ) → A q ≡ o → listed_size program here q < 256
+      by None at = let none : listed_size program here q ≡ 0 = ap (λ o. bytes_between o (place_address here (program.next q))) (listed_at q ∙ at) in omega (arith, none)
+      by (Some a) at =
+          let lies = laid.each q a (Align k) is at in
+          let size = size_is q a lies.size at lies.next in
+          omega (arith, size, lies.form, aligned_up-lt (power_above k) a, power_most k)
+
+  -- so no item has many commits
+  pub few : (s : PlainCore) → (pace_in program here).weight s ≤ 64 * (pace_in program here).span s.place
+  few s = few_commits program s (listed_size program here s.place) (program.item s.place) (λ k is. padding_short s.place k is)
+
+  -- places with room of their own have addresses of their own
+  pub distinct : (q r : Place) (a : ℕ) → is_solid (program.item q) ≡ true → is_solid (program.item r) ≡ true → place_address here q ≡ Some a → place_address here r ≡ Some a → q ≡ r
+  distinct q r a solid_q solid_r at_q at_r =
+      laid.distinct q r a (ap is_solid (λ j. sym shows.item j q) ∙ solid_q) (ap is_solid (λ j. sym shows.item j r) ∙ solid_r) (sym (listed_at q) ∙ at_q) (sym (listed_at r) ∙ at_r)
+
+  -- and all are even
+  pub even : (q : Place) (a : ℕ) → place_address here q ≡ Some a → (a % 2 ≡ 0) × (0 < a) × (a < 2 ^ 32)
+  even q a at = even_word q a (sym (listed_at q) ∙ at)

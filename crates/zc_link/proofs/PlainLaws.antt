@@ -1,0 +1,152 @@
+-- The plain layout is one that a link may have, if no fault stands: its addresses are those of its places, each item has its longest
+-- form, and branches reach.
+use Rattle.std.proofs.Common.{◌≡◌, ℕ, ◌+◌, ◌-◌, ◌≤◌, length, max, Bool, true, false, cond, Option, Some, None, refl, sym, ap, ◌∙◌, inl, arith, eqb}
+use Rattle.std.specs.Prelude.{◌||◌}
+use Rattle.std.specs.Option.{is_some, option_map, option_map_or, unwrap_or}
+use Rattle.zc_base.specs.declared.place.Place.{Place}
+use Rattle.elf32_read.specs.Parts.{SectionParts, is_code_section}
+use Rattle.psabi_reloc.specs.Reaches.{branch_reach, jal_reach}
+use Rattle.psabi_sym.specs.Blocks.{aligned_up}
+use Rattle.psabi_sym.specs.Faults.{gather_fault, power_above}
+use Rattle.psabi_sym.specs.Inputs.{Inputs, ParsedInputs, parsed}
+use Rattle.psabi_sym.specs.Listed.{section_at, sections_before}
+use Rattle.rv_decode.specs.declared.instr.Instr.{Instr}
+use Rattle.rv_decode.specs.Bits.{as_signed}
+use Rattle.block_cut.specs.Cut.{place_at}
+use Rattle.block_cut.specs.Items.{code_at, is_target_at, item_at, next_at, starts_on}
+use Rattle.block_cut.specs.PlainLayout.{address_on, after_item, items_before, plain_address, plain_end, plain_end_of, plain_start}
+use Rattle.block_cut.specs.declared.item.Item.{Item}
+use Rattle.block_cut.specs.declared.item.Item.TheVariants.{Op, Hi, Lo, PcHi, PcLo, Branch, Jump, Call, Align, Word, Raw, RawPair}
+use Rattle.block_cut.proofs.PlainLaws.{AreBounds, AtEnd, Coincide, FirstFlat, InPadding, IsFlat, Same, SecondFlat, address_bounds, apart, next_address, place_address, spot}
+use Rattle.block_cut.proofs.RoomLaws.{after_items-ge, aligned_up-ge, plain_end-fits}
+use Rattle.block_cut.proofs.StartLaws.{start_first}
+use Rattle.block_cut.proofs.WholeLaws.{code_whole}
+use Rattle.sym_machine.specs.Conditions.{is_solid}
+use Rattle.zc_link.specs.LaidOut.{IsLaidOut, LiesAt, end_after, text_end}
+use Rattle.zc_link.specs.Standing.{IsReady}
+use Rattle.zc_link.specs.Values.{way}
+use Rattle.zc_link.proofs.Faultless.{all_none}
+use Rattle.zc_link.proofs.PlainEnds as ends
+use Rattle.zc_link.proofs.PlainEnds.{code_found}
+use Rattle.zc_link.proofs.PlainReach.{branch_reaches}
+use Rattle.zc_link.proofs.ShortWays.{way_distance, way_jumps}
+
+-- a place has an address just if code may lead there
+pub plain_listed : (p : ParsedInputs) (q : Place) → is_some (plain_address p q) ≡ is_target_at p.objects q
+unfolding plain_address
+plain_listed p q = by (code_at p.objects q) refl
+  where
+    tested : (s : SectionParts) (b : Bool) → is_some (cond b (Some (address_on p q s)) None) ≡ b
+    tested s true = refl
+    tested s false = refl
+
+    by : (o : Option SectionParts) → code_at p.objects q ≡ o → is_some (plain_address p q) ≡ is_target_at p.objects q
+    by None at =
+        let no : is_target_at p.objects q ≡ false = (λ j. option_map_or (λ s. starts_on s q.offset) (at j) false || option_map_or (λ s. eqb q.offset (length s.bytes)) (at j) false) in
+        (λ j. is_some (cond (no j) (option_map (address_on p q) (code_at p.objects q)) None)) ∙ sym no
+    by (Some s) at = (λ j. is_some (cond (is_target_at p.objects q) (option_map (address_on p q) (at j)) None)) ∙ tested s (is_target_at p.objects q)
+
+module _ (inputs : Inputs) (ready : IsReady inputs) where
+  abbrev p : ParsedInputs
+  p = parsed inputs
+
+  abbrev A : Place → Option ℕ
+  A = plain_address p
+
+  none : gather_fault inputs ≡ None
+  none = (all_none inputs ready.faultless).gathered
+
+  bounds : (q : Place) (a : ℕ) → A q ≡ Some a → AreBounds inputs none a
+  bounds q a at = address_bounds inputs none ready.is_map q a at
+
+  -- where all code ends
+  pub plain_end_is : text_end p A ≡ plain_end p
+  plain_end_is = ends.text_end_is inputs none
+
+  -- ---- items
+
+  -- a jump reaches, since all code is near
+  jumps : (q to : Place) (a b : ℕ) → A q ≡ Some a → A to ≡ Some b → jal_reach (as_signed (way a b)) ≡ true
+  jumps q to a b from there =
+      let one = bounds q a from in
+      let two = bounds to b there in
+      let map = ready.is_map in
+      way_jumps a b (omega (arith, one.few, map.code, map.data_room, map.top)) (omega (arith, two.few, map.code, map.data_room, map.top))
+      (omega (arith, two.few, one.low)) (omega (arith, one.few, two.low)) (omega (arith, one.words)) (omega (arith, two.words))
+
+  -- and a branch, since no fault stands there
+  branches : (q to : Place) (i : Instr) (a b : ℕ) → item_at p q ≡ Some (Branch i to) → A q ≡ Some a → A to ≡ Some b → branch_reach (as_signed (way a b)) ≡ true
+  branches q to i a b is from there =
+      let one = bounds q a from in
+      let two = bounds to b there in
+      let map = ready.is_map in
+      ap branch_reach (way_distance a b (omega (arith, one.few, map.code, map.data_room, map.top)) (omega (arith, two.few, map.code, map.data_room, map.top))
+      (omega (arith, two.few, one.low)) (omega (arith, one.few, two.low)))
+      ∙ branch_reaches inputs ready.faultless q i to a b is from there
+
+  -- each has its longest form
+  lies : (q : Place) (a : ℕ) (item : Item) → item_at p q ≡ Some item → A q ≡ Some a → LiesAt p A q a item
+  lies q a item is at = by item is (next_address inputs none q item a is at)
+    where
+      by : (i : Item) → item_at p q ≡ Some i → A (next_at p.objects q) ≡ Some (after_item a i) → LiesAt p A q a i
+      by (Op i) h next = record { size = 4; next = next; form = inl refl }
+      by (Hi i t) h next = record { size = 4; next = next; form = λ x value. inl refl }
+      by (Lo i t) h next = record { size = 4; next = next; form = λ x value. inl refl }
+      by (PcHi i t) h next = record { size = 4; next = next; form = refl }
+      by (PcLo i from) h next = record { size = 4; next = next; form = refl }
+      by (Branch i to) h next = record { size = 4; next = next; form = λ b there. inl (refl, branches q to i a b h at there) }
+      by (Jump i to) h next = record { size = 4; next = next; form = λ b there. inl (refl, jumps q to a b at there) }
+      by (Call rd temp to) h next = record { size = 8; next = next; form = λ b there. inl refl }
+      by (Align n) h next =
+          let up : a + (aligned_up (power_above n) a - a) ≡ aligned_up (power_above n) a = omega (arith, aligned_up-ge (power_above n) a) in
+          record { size = aligned_up (power_above n) a - a; next = next ∙ ap Some (sym up); form = up }
+      by (Word t) h next = record { size = 4; next = next; form = refl }
+      by (Raw word) h next = record { size = 4; next = next; form = refl }
+      by (RawPair first second) h next = record { size = 8; next = next; form = refl }
+
+  -- ---- sections
+
+  -- one begins after those before it
+  begins :
+      (o i : ℕ) (s : SectionParts) → section_at p.objects o i ≡ Some s → is_code_section s ≡ true
+      → end_after p A (sections_before p.objects o i) ≤ unwrap_or (A (place_at o i 0)) 0
+  begins o i s found code =
+      let q = place_at o i 0 in
+      let at = code_found p o i 0 s found code in
+      let here = place_address p q s at (start_first s code (code_whole inputs q s none at)) in
+      let end = plain_end_of p (sections_before p.objects o i) in
+      omega (
+        arith,
+        ends.ends_before inputs none o i s found,
+        ap (λ x. unwrap_or x 0) here,
+        aligned_up-ge (max 4 s.align) end,
+        after_items-ge (plain_start p o i s) (items_before p (spot q s) 0),
+      )
+
+  -- ---- places of their own
+
+  solid_room : (q : Place) → is_solid (item_at p q) ≡ true → IsFlat p q → ⊥
+  solid_room q solid (AtEnd nothing) = let no : is_solid (item_at p q) ≡ false = ap is_solid nothing in absurd (cc (solid, no))
+  solid_room q solid (InPadding n padding) = let no : is_solid (item_at p q) ≡ false = ap is_solid padding in absurd (cc (solid, no))
+
+  distinct : (q r : Place) (a : ℕ) → is_solid (item_at p q) ≡ true → is_solid (item_at p r) ≡ true → A q ≡ Some a → A r ≡ Some a → q ≡ r
+  distinct q r a solid_q solid_r at_q at_r = by (apart inputs none q r a at_q at_r)
+    where
+      by : Coincide p q r → q ≡ r
+      by (Same is) = is
+      by (FirstFlat flat) = absurd (solid_room q solid_q flat)
+      by (SecondFlat flat) = absurd (solid_room r solid_r flat)
+
+  -- ---- all
+
+  pub plain_is_laid_out : IsLaidOut p A
+  plain_is_laid_out = record {
+    listed = plain_listed p;
+    even = λ q a at. let b = bounds q a at in omega (arith, b.words);
+    low = λ q a at. (bounds q a at).low;
+    high = λ q a at. let b = bounds q a at in omega (arith, b.high, plain_end_is);
+    short = omega (arith, plain_end_is, plain_end-fits inputs none);
+    each = lies;
+    begins = begins;
+    distinct = distinct;
+  }

@@ -1,0 +1,49 @@
+-- The branches of inputs without a fault reach in the plain layout.
+use Rattle.std.proofs.Common.{◌≡◌, ℕ, pos, ◌-ℤ◌, List, [], ◌∷◌, ◌++◌, map, Option, Some, None, Bool, true, false, cond, refl, sym, ap, ◌∙◌}
+use Rattle.std.specs.Prelude.{not}
+use Rattle.std.specs.List.{find, flat_map}
+use Rattle.std.specs.Option.{option_and_then, option_map_or}
+use Rattle.zc_base.specs.declared.place.Place.{Place}
+use Rattle.psabi_reloc.specs.Reaches.{branch_reach}
+use Rattle.psabi_sym.specs.Inputs.{Inputs, ParsedInputs, parsed}
+use Rattle.psabi_sym.specs.Listed.{sections_before}
+use Rattle.block_cut.specs.declared.item.Item.TheVariants.{Branch}
+use Rattle.block_cut.specs.Faults.{branch_target, distance_between, first_fault, is_far, is_out_of_reach, range_fault}
+use Rattle.block_cut.specs.Items.{all_places, item_at, place_of, places_of, starts_in}
+use Rattle.block_cut.specs.PlainLayout.{plain_address}
+use Rattle.rv_decode.specs.declared.instr.Instr.{Instr}
+use Rattle.block_cut.proofs.ItemLaws.{item_found}
+use Rattle.block_cut.proofs.ListedLaws.{cut_at, listed}
+use Rattle.block_cut.proofs.WholeLaws.{code_is_section}
+use Rattle.zc_link.proofs.Faultless.{AreFaultless, all_none, find_among, find_flat, mapped_none}
+
+module _ (inputs : Inputs) (none : first_fault inputs ≡ None) where
+  abbrev p : ParsedInputs
+  p = parsed inputs
+
+  fine : AreFaultless inputs
+  fine = all_none inputs none
+
+  -- the branch at a place reaches
+  pub branch_reaches : (q : Place) (i : Instr) (to : Place) (a b : ℕ) → item_at p q ≡ Some (Branch i to) → plain_address p q ≡ Some a → plain_address p to ≡ Some b → branch_reach (pos b -ℤ pos a) ≡ true
+  unfolding range_fault
+  branch_reaches q i to a b is from there =
+      let found = item_found p q (Branch i to) is in
+      let s = found.section in
+      let two = code_is_section p.objects q s found.code in
+      let l = listed q.object q.section s in
+      let cut = cut_at p.objects q.object q.section s two.0 in
+      let test = is_out_of_reach p in
+      let all : find test (flat_map places_of (sections_before p.objects q.object q.section ++ l ∷ cut.rest)) ≡ None =
+      ap (λ ls. find test (flat_map places_of ls)) (sym cut.all_are) ∙ mapped_none _ (find test (all_places p.objects)) fine.range in
+      let own : find test (places_of l) ≡ None = find_flat test places_of (sections_before p.objects q.object q.section) cut.rest l all in
+      let mine : find test (map (place_of l) (starts_in s)) ≡ None = ap (λ c. find test (cond c (map (place_of l) (starts_in s)) [])) (sym two.1) ∙ own in
+      let here : is_out_of_reach p q ≡ false = find_among test (place_of l) (starts_in s) q.offset mine found.start in
+      let far : not (branch_reach (pos b -ℤ pos a)) ≡ false =
+      (λ j. option_map_or (λ d. not (branch_reach d)) (distance_between (sym from j) (sym there j)) false)
+      ∙ (λ j. option_map_or (is_far p q) (option_and_then branch_target (sym is j)) false) ∙ here in
+      not_false (branch_reach (pos b -ℤ pos a)) far
+    where
+      not_false : (b : Bool) → not b ≡ false → b ≡ true
+      not_false true h = refl
+      not_false false h = absurd cc

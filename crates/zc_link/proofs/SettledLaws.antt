@@ -1,0 +1,214 @@
+-- The settled layout is a layout of the code (`settled_is_laid_out`): an item lies between its place and the next in a form that it may
+-- have there (`settled_lies`), and items with room of their own have addresses of their own, since numbers rise with places
+-- (`settled_distinct`).
+use Rattle.std.proofs.Common.{◌≡◌, ℕ, ◌+◌, ◌<◌, ◌≤◌, ◌⊎◌, List, length, get_or, Bool, true, Option, Some, None, refl, sym, ap, ◌∙◌, subst, arith, eqb, ltb, eq-eqb, inl, inr}
+use Rattle.std.specs.Prelude.{slice_index, ◌&&◌, ◌||◌}
+use Rattle.std.proofs.lemmas.Bool.{cases_lt, le-ltb, lt-ltb}
+use Rattle.std.proofs.lemmas.Option.{get_or_from_slice_get}
+use Rattle.zc_base.specs.MemMap.{IsMap}
+use Rattle.zc_base.specs.Places.{is_before}
+use Rattle.zc_base.specs.declared.place.Place.{Place}
+use Rattle.elf32_read.specs.Parts.{ObjectParts}
+use Rattle.psabi_sym.specs.Faults.{gather_fault}
+use Rattle.psabi_sym.specs.Inputs.{Inputs, parsed}
+use Rattle.psabi_sym.proofs.FaultLaws.{neither}
+use Rattle.block_cut.specs.Faults.{first_fault}
+use Rattle.block_cut.specs.Items.{item_at}
+use Rattle.block_cut.specs.declared.item.Item.{Item}
+use Rattle.block_cut.proofs.ItemLaws.{item_found}
+use Rattle.sym_machine.specs.Conditions.{is_solid}
+use Rattle.shrink_layout.specs.declared.piece.Piece.{Piece}
+use Rattle.shrink_layout.specs.declared.piece.Piece.TheVariants.{Fixed}
+use Rattle.shrink_layout.specs.Forms.{HasAlignment, IsForm, holds, target, width}
+use Rattle.shrink_layout.specs.Pieces.{number_of, piece_of, pieces_of}
+use Rattle.shrink_layout.specs.Settled.{AreSettled, settled_address, settled_addresses, settled_end}
+use Rattle.shrink_layout.proofs.AddressLaws.{fits_at, form_at, next_address}
+use Rattle.shrink_layout.proofs.NumberLaws.{number_below, number_most, piece_there}
+use Rattle.shrink_layout.proofs.OrderLaws.{number_rises_past}
+use Rattle.shrink_layout.proofs.PlaceAddressLaws.{next_address_there}
+use Rattle.shrink_layout.proofs.PremiseLaws.{all_aligned}
+use Rattle.zc_link.specs.LaidOut.{IsLaidOut, LiesAt, text_end}
+use Rattle.zc_link.proofs.SettledLawsForms.{IsNear, has_form, width_some}
+use Rattle.zc_link.proofs.SettledLawsPlaces.{address, address_rises, end_settled, forms, settled_begins, settled_even, settled_few, settled_here, settled_high, settled_listed, settled_low, settled_short}
+use Rattle.zc_link.proofs.SettledLawsShort.{kind_at}
+
+-- ---- two places
+
+-- one comes before the other, by their first parts or, if these are equal, by the rest
+by_parts : (a b : ℕ) (less more : Bool) (S : Type 0) → (a ≡ b → (less ≡ true) ⊎ ((more ≡ true) ⊎ S))
+    → ((ltb a b || (eqb a b && less)) ≡ true) ⊎ (((ltb b a || (eqb b a && more)) ≡ true) ⊎ S)
+by_parts a b less more S rest = first (cases_lt a b) (cases_lt b a)
+  where
+    equal : (m n : ℕ) (x : Bool) → m ≡ n → x ≡ true → (ltb m n || (eqb m n && x)) ≡ true
+    equal m n x same is = (λ j. le-ltb m n (omega (arith, same)) j || (eq-eqb m n same j && is j))
+
+    last :
+        a ≡ b → (less ≡ true) ⊎ ((more ≡ true) ⊎ S)
+        → ((ltb a b || (eqb a b && less)) ≡ true) ⊎ (((ltb b a || (eqb b a && more)) ≡ true) ⊎ S)
+    last same (inl is) = inl (equal a b less same is)
+    last same (inr (inl is)) = inr (inl (equal b a more (sym same) is))
+    last same (inr (inr s)) = inr (inr s)
+
+    first : (a < b) ⊎ (b ≤ a) → (b < a) ⊎ (a ≤ b) → ((ltb a b || (eqb a b && less)) ≡ true) ⊎ (((ltb b a || (eqb b a && more)) ≡ true) ⊎ S)
+    first (inl lt) other = inl (ap (λ t. t || (eqb a b && less)) (lt-ltb a b lt))
+    first (inr le) (inl lt) = inr (inl (ap (λ t. t || (eqb b a && more)) (lt-ltb b a lt)))
+    first (inr le) (inr ge) = let same : a ≡ b = omega (arith, le, ge) in last same (rest same)
+
+-- two places are one, or one of them comes before the other
+same_or_before : (q r : Place) → (is_before q r ≡ true) ⊎ ((is_before r q ≡ true) ⊎ (q ≡ r))
+same_or_before q r =
+    by_parts q.object r.object _ _ (q ≡ r) (λ object.
+    by_parts q.section r.section (ltb q.offset r.offset) (ltb r.offset q.offset) (q ≡ r) (λ section.
+    offsets object section (cases_lt q.offset r.offset) (cases_lt r.offset q.offset)))
+  where
+    offsets :
+        q.object ≡ r.object → q.section ≡ r.section → (q.offset < r.offset) ⊎ (r.offset ≤ q.offset)
+        → (r.offset < q.offset) ⊎ (q.offset ≤ r.offset)
+        → (ltb q.offset r.offset ≡ true) ⊎ ((ltb r.offset q.offset ≡ true) ⊎ (q ≡ r))
+    offsets object section (inl lt) other = inl (lt-ltb q.offset r.offset lt)
+    offsets object section (inr le) (inl lt) = inr (inl (lt-ltb r.offset q.offset lt))
+    offsets object section (inr le) (inr ge) =
+        let offset : q.offset ≡ r.offset = omega (arith, le, ge) in
+        inr (inr (λ j. record { object = object j; section = section j; offset = offset j }))
+
+module _
+    (inputs : Inputs) (none : gather_fault inputs ≡ None) (is_map : IsMap inputs.map)
+    (sizes : List ℕ) (settled : AreSettled (parsed inputs) sizes) where
+  abbrev objects : List ObjectParts
+  objects = (parsed inputs).objects
+
+  abbrev A : Place → Option ℕ
+  A = settled_address (parsed inputs) sizes
+
+  abbrev pieces : List Piece
+  pieces = pieces_of (parsed inputs)
+
+  abbrev at_number : ℕ → ℕ
+  at_number = address inputs none is_map sizes settled
+
+  -- ---- an item
+
+  -- the piece of an item: that it is the item's, its form, and where it ends
+  record IsPiece (q : Place) (item : Item) : Type 0 where
+    pub within : number_of objects q < length pieces
+    pub there : (d : Piece) → get_or pieces (number_of objects q) d ≡ piece_of objects item
+    pub form : IsForm (piece_of objects item) (slice_index sizes (number_of objects q))
+    pub ends :
+        at_number (number_of objects q + 1)
+        ≡ at_number (number_of objects q) + width (piece_of objects item) (slice_index sizes (number_of objects q)) (at_number (number_of objects q))
+
+  piece_is : (q : Place) (item : Item) → item_at (parsed inputs) q ≡ Some item → IsPiece q item
+  piece_is q item is =
+      let n = number_of objects q in
+      let within = number_below inputs none q item is in
+      let there : (d : Piece) → get_or pieces n d ≡ piece_of objects item =
+      λ d. get_or_from_slice_get pieces n (piece_of objects item) d (piece_there inputs none q item is) in
+      record {
+        within = within;
+        there = there;
+        form = subst (λ p. IsForm p (slice_index sizes n)) (there (Fixed 0)) (form_at pieces sizes n (Fixed 0) within (forms inputs none is_map sizes settled));
+        ends = next_address inputs.map.text pieces sizes n (Fixed 0) within (forms inputs none is_map sizes settled)
+            ∙ ap (λ p. at_number n + width p (slice_index sizes n) (at_number n)) (there (Fixed 0));
+      }
+
+  -- a place's address is near the text's start
+  near : (q : Place) (b : ℕ) → A q ≡ Some b → IsNear objects at_number inputs.map.text q b
+  near q b is = record {
+    number = settled_here inputs none is_map sizes settled q b is;
+    even = settled_even inputs none is_map sizes settled q b is;
+    low = settled_low inputs none is_map sizes settled q b is;
+    few = settled_few inputs none is_map sizes settled q b is;
+  }
+
+  -- an item lies between its place and the next
+  settled_lies : (q : Place) (a : ℕ) (item : Item) → item_at (parsed inputs) q ≡ Some item → A q ≡ Some a → LiesAt (parsed inputs) A q a item
+  unfolding settled_addresses
+  settled_lies q a item is got =
+      let own = piece_is q item is in
+      let here = near q a got in
+      let n = number_of objects q in
+      let size = slice_index sizes n in
+      let p = piece_of objects item in
+      let there = own.there (Fixed 0) in
+      let fits : holds p size (at_number n) (at_number (target p)) ≡ true =
+      ap (λ r. holds r size (at_number n) (at_number (target r))) (sym there)
+      ∙ fits_at inputs.map.text pieces sizes n (Fixed 0) own.within (forms inputs none is_map sizes settled) settled.fits in
+      let reach : holds p size a (at_number (target p)) ≡ true = ap (λ x. holds p size x (at_number (target p))) (sym here.number) ∙ fits in
+      let aligned : HasAlignment p = subst HasAlignment there (all_aligned inputs none n (Fixed 0) own.within) in
+      record {
+        size = width p size a;
+        next = next_address_there inputs none q item is sizes ∙ ap Some own.ends ∙ ap (λ x. Some (x + width p size x)) here.number;
+        form = has_form objects A at_number inputs.map.text (omega (arith, is_map.code, is_map.data_room, is_map.top)) near a here.even here.low here.few item size
+            (kind_at (parsed inputs) q item is) aligned own.form reach;
+      }
+
+  -- ---- addresses of their own
+
+  -- an item with room of its own, at a place
+  record IsSolid (q : Place) : Type 0 where
+    pub item : Item
+    pub is : item_at (parsed inputs) q ≡ Some item
+    pub solid : is_solid (Some item) ≡ true
+
+  solid_found : (q : Place) → is_solid (item_at (parsed inputs) q) ≡ true → IsSolid q
+  solid_found q solid = by (item_at (parsed inputs) q) refl solid
+    where
+      by : (o : Option Item) → item_at (parsed inputs) q ≡ o → is_solid o ≡ true → IsSolid q
+      by None is solid = absurd cc
+      by (Some item) is solid = record { item = item; is = is; solid = solid }
+
+  -- what comes after it has a greater address
+  beyond : (q r : Place) → IsSolid q → IsSolid r → is_before q r ≡ true → at_number (number_of objects q) < at_number (number_of objects r)
+  beyond q r x y before =
+      let own = piece_is q x.item x.is in
+      let k = number_of objects q in
+      let found = item_found (parsed inputs) r y.item y.is in
+      omega (
+        arith,
+        own.ends,
+        width_some objects x.item (slice_index sizes k) (at_number k) x.solid own.form,
+        address_rises inputs none is_map sizes settled (k + 1) (number_of objects r)
+            (omega (arith, number_rises_past (parsed inputs) q r x.item found.section x.is found.code before)) (number_most (parsed inputs) r),
+      )
+
+  -- so two such with one address are one
+  settled_distinct :
+      (q r : Place) (a : ℕ) → is_solid (item_at (parsed inputs) q) ≡ true → is_solid (item_at (parsed inputs) r) ≡ true
+      → A q ≡ Some a → A r ≡ Some a → q ≡ r
+  settled_distinct q r a one two at at' =
+      let x = solid_found q one in
+      let y = solid_found r two in
+      let same : at_number (number_of objects q) ≡ at_number (number_of objects r) = (near q a at).number ∙ sym (near r a at').number in
+      elim (same_or_before q r) [
+        | inl before ↦ absurd (omega (arith, same, beyond q r x y before))
+        | inr (inl after) ↦ absurd (omega (arith, same, beyond r q y x after))
+        | inr (inr it) ↦ it
+      ]
+
+-- ---- the layout
+
+-- inputs without a fault have none between objects
+gathered : (inputs : Inputs) → first_fault inputs ≡ None → gather_fault inputs ≡ None
+unfolding first_fault
+gathered inputs none = (neither (gather_fault inputs) _ none).0
+
+pub settled_is_laid_out :
+    (inputs : Inputs) → first_fault inputs ≡ None → IsMap inputs.map → (sizes : List ℕ) → AreSettled (parsed inputs) sizes
+    → IsLaidOut (parsed inputs) (settled_address (parsed inputs) sizes)
+settled_is_laid_out inputs none is_map sizes settled =
+    let fine = gathered inputs none in
+    record {
+      listed = settled_listed inputs fine is_map sizes settled;
+      even = settled_even inputs fine is_map sizes settled;
+      low = settled_low inputs fine is_map sizes settled;
+      high = settled_high inputs fine is_map sizes settled;
+      short = settled_short inputs fine is_map sizes settled;
+      each = settled_lies inputs fine is_map sizes settled;
+      begins = settled_begins inputs fine is_map sizes settled;
+      distinct = settled_distinct inputs fine is_map sizes settled;
+    }
+
+-- and its text ends where the last piece does
+pub settled_end_is : (inputs : Inputs) → first_fault inputs ≡ None → IsMap inputs.map → (sizes : List ℕ) → AreSettled (parsed inputs) sizes
+    → text_end (parsed inputs) (settled_address (parsed inputs) sizes) ≡ settled_end (parsed inputs) sizes
+settled_end_is inputs none is_map sizes settled = end_settled inputs (gathered inputs none) is_map sizes settled

@@ -1,0 +1,221 @@
+-- The forms of items: the size that a layout gives an item's piece is one that the item may have at its address (`has_form`), since the
+-- form of the piece reaches its target. All addresses are near each other, so a jump always reaches.
+use Rattle.std.proofs.Common.{◌≡◌, ℕ, suc, ◌+◌, ◌-◌, ◌%◌, ◌^◌, ◌<◌, ◌≤◌, ◌⊎◌, pos, negsuc, ◌-ℤ◌, Bool, true, false, cond, List, Option, Some, refl, sym, ap, ◌∙◌, subst, arith, eqb, ltb, inl, inr, max}
+use Rattle.std.specs.Prelude.{IsTrue}
+use Rattle.std.proofs.lemmas.Bool.{and_from, cases_lt, eq-eqb, lt-ltb}
+use Rattle.zc_base.specs.declared.place.Place.{Place}
+use Rattle.elf32_read.specs.Parts.{ObjectParts}
+use Rattle.psabi_reloc.specs.Kinds.{is_jal}
+use Rattle.psabi_reloc.specs.Parts.{hi20_of, lo12_of}
+use Rattle.psabi_reloc.specs.Patched.{with_imm, with_upper}
+use Rattle.psabi_reloc.specs.Reaches.{branch_reach, jal_reach, short_branch_reach, short_jump_reach}
+use Rattle.psabi_sym.specs.Blocks.{aligned_up}
+use Rattle.psabi_sym.specs.Faults.{power_above}
+use Rattle.psabi_sym.specs.declared.target.Target.{Target}
+use Rattle.psabi_sym.specs.declared.target.Target.TheVariants.{Code, Number, Absent, Nowhere}
+use Rattle.rv_decode.specs.Bits.{as_signed}
+use Rattle.rv_decode.specs.declared.instr.Instr.{Instr}
+use Rattle.rv_decode.specs.declared.instr.Instr.TheVariants as instr
+use Rattle.block_cut.specs.declared.item.Item.{Item}
+use Rattle.block_cut.specs.declared.item.Item.TheVariants.{Op, Hi, Lo, PcHi, PcLo, Branch, Jump, Call, Align, Word, Raw, RawPair}
+use Rattle.sym_machine.specs.Conditions.{is_solid}
+use Rattle.shrink_layout.specs.declared.piece.Piece.TheVariants as piece
+use Rattle.shrink_layout.specs.Forms.{HasAlignment, IsForm, distance, holds, target, width}
+use Rattle.shrink_layout.specs.Pieces.{instr_size, is_short, jump_piece, number_of, part_size, piece_of}
+use Rattle.shrink_layout.proofs.Distances.{distance_back, distance_on}
+use Rattle.zc_link.specs.LaidOut.{HasBranchSize, HasForm, HasJumpSize, HasSize, OfWay}
+use Rattle.zc_link.specs.Values.{target_value, way}
+use Rattle.zc_link.proofs.ShortWays.{way_distance}
+use Rattle.zc_link.proofs.SettledLawsShort.{HasKind, branch_short, jump_short}
+
+-- ---- ways
+
+-- a `jal` goes so far
+pub jal_settled : (a b : ℕ) → a % 2 ≡ 0 → b % 2 ≡ 0 → b ≤ a + 0x8_0004 → a ≤ b + 0x8_0004 → jal_reach (distance a b) ≡ true
+jal_settled a b ea eb near back = elim (cases_lt b a) [
+  | inr le ↦
+      let n = b - a in
+      ap jal_reach (distance_on a b le) ∙ and_from (ltb n (2 ^ 20)) (eqb (n % 2) 0) (lt-ltb n (2 ^ 20) (omega arith)) (eq-eqb (n % 2) 0 (omega arith))
+  | inl lt ↦
+      let k = a - b - 1 in
+      ap jal_reach (distance_back a b lt) ∙ and_from (ltb k (2 ^ 20)) (eqb (k % 2) 1) (lt-ltb k (2 ^ 20) (omega arith)) (eq-eqb (k % 2) 1 (omega arith))
+]
+
+-- from four bytes on it is so much less
+less_four : (a b : ℕ) → distance a b -ℤ pos 4 ≡ distance (a + 4) b
+less_four a b = elim (cases_lt b a) [
+  | inr le ↦
+      ap (λ z. z -ℤ pos 4) (distance_on a b le) ∙ elim (cases_lt (b - a) 4) [
+        | inr far ↦
+            distance_on 4 (b - a) far
+            ∙ (let same : b - a - 4 ≡ b - (a + 4) = omega arith in ap pos same)
+            ∙ sym (distance_on (a + 4) b (omega arith))
+        | inl short ↦
+            distance_back 4 (b - a) short
+            ∙ (let same : 4 - (b - a) - 1 ≡ a + 4 - b - 1 = omega arith in ap negsuc same)
+            ∙ sym (distance_back (a + 4) b (omega arith))
+      ]
+  | inl lt ↦
+      let more : negsuc (a - b - 1) -ℤ pos 4 ≡ negsuc (suc (a - b - 1 + 3)) = refl in
+      ap (λ z. z -ℤ pos 4) (distance_back a b lt) ∙ more
+      ∙ (let same : suc (a - b - 1 + 3) ≡ a + 4 - b - 1 = omega arith in ap negsuc same)
+      ∙ sym (distance_back (a + 4) b (omega arith))
+]
+
+-- ---- what a layout gives
+
+-- the address of a place is that of its number, it is even, and lies near the text's start
+pub record IsNear (objects : List ObjectParts) (address : ℕ → ℕ) (text : ℕ) (q : Place) (b : ℕ) : Type 0 where
+  pub number : address (number_of objects q) ≡ b
+  pub even : b % 2 ≡ 0
+  pub low : text ≤ b
+  pub few : b ≤ text + 0x8_0000
+
+module _
+    (objects : List ObjectParts) (A : Place → Option ℕ) (address : ℕ → ℕ) (text : ℕ) (small : text + 0x8_0000 < 2 ^ 32)
+    (near : (q : Place) (b : ℕ) → A q ≡ Some b → IsNear objects address text q b) where
+  -- ---- instructions
+
+  instr_form : (i : Instr) → HasSize i (instr_size i)
+  instr_form i = by (is_short i) refl
+    where
+      by : (b : Bool) → is_short i ≡ b → (◌≡◌ {A = ℕ} (cond b 2 4) 4) ⊎ ((◌≡◌ {A = ℕ} (cond b 2 4) 2) × IsTrue (is_short i))
+      by true e = inr (refl, e)
+      by false e = inl refl
+
+  part_form : (t : Target) (f : ℕ → Instr) (x : ℕ) → target_value A t ≡ Some x → HasSize (f x) (part_size t f)
+  part_form (Code q) f x is = inl refl
+  part_form (Number n) f x is = let same : n ≡ x = cc in subst (λ k. HasSize (f k) (instr_size (f n))) same (instr_form (f n))
+  part_form (Absent n) f x is = let same : n ≡ x = cc in subst (λ k. HasSize (f k) (instr_size (f n))) same (instr_form (f n))
+  part_form Nowhere f x is = absurd cc
+
+  module _ (a : ℕ) (even : a % 2 ≡ 0) (low : text ≤ a) (few : a ≤ text + 0x8_0000) where
+    -- ---- branches and jumps
+
+    -- the way to a place with an address is the distance to its number's
+    way_near : (to : Place) (b : ℕ) → A to ≡ Some b → as_signed (way a b) ≡ distance a (address (number_of objects to))
+    way_near to b is =
+        let there = near to b is in
+        way_distance a b (omega (arith, few, small)) (omega (arith, there.few, small)) (omega (arith, there.few, low)) (omega (arith, few, there.low))
+        ∙ ap (distance a) (sym there.number)
+
+    jal_near : (to : Place) (b : ℕ) → A to ≡ Some b → jal_reach (as_signed (way a b)) ≡ true
+    jal_near to b is =
+        let there = near to b is in
+        ap jal_reach (way_near to b is ∙ ap (distance a) there.number)
+        ∙ jal_settled a b even there.even (omega (arith, there.few, low)) (omega (arith, few, there.low))
+
+    long_near : (to : Place) (b : ℕ) → A to ≡ Some b → jal_reach (as_signed (way a b) -ℤ pos 4) ≡ true
+    long_near to b is =
+        let there = near to b is in
+        ap (λ z. jal_reach (z -ℤ pos 4)) (way_near to b is ∙ ap (distance a) there.number)
+        ∙ ap jal_reach (less_four a b)
+        ∙ jal_settled (a + 4) b (omega (arith, even)) there.even (omega (arith, there.few, low)) (omega (arith, few, there.low))
+
+    branch_form :
+        (i : Instr) (to : Place) (size : ℕ) → HasKind (Branch i to)
+        → IsForm (piece.Branch (number_of objects to) (is_short i)) size
+        → holds (piece.Branch (number_of objects to) (is_short i)) size a (address (number_of objects to)) ≡ true
+        → OfWay A a to (HasBranchSize i size)
+    branch_form i to size kind form reach b is = by (is_short i) refl form
+      where
+        at : (n : ℕ) → size ≡ n → holds (piece.Branch (number_of objects to) (is_short i)) n a (address (number_of objects to)) ≡ true
+        at n same = ap (λ m. holds (piece.Branch (number_of objects to) (is_short i)) m a (address (number_of objects to))) (sym same) ∙ reach
+
+        four : size ≡ 4 → HasBranchSize i size (as_signed (way a b))
+        four same = inl (same, ap branch_reach (way_near to b is) ∙ at 4 same)
+
+        eight : size ≡ 8 → HasBranchSize i size (as_signed (way a b))
+        eight same = inr (inr (same, long_near to b is))
+
+        by : (s : Bool) → is_short i ≡ s → IsForm (piece.Branch (number_of objects to) s) size → HasBranchSize i size (as_signed (way a b))
+        by true e (inl same) = inr (inl (same, branch_short i (as_signed (way a b)) kind e (ap short_branch_reach (way_near to b is) ∙ at 2 same)))
+        by true e (inr (inl same)) = four same
+        by true e (inr (inr same)) = eight same
+        by false e (inl same) = four same
+        by false e (inr same) = eight same
+
+    jump_form : (i : Instr) (to : Place) (size : ℕ) → is_jal (Some i) ≡ true → IsForm (jump_piece objects to (is_short i)) size
+        → holds (jump_piece objects to (is_short i)) size a (address (target (jump_piece objects to (is_short i)))) ≡ true
+        → OfWay A a to (HasJumpSize i (width (jump_piece objects to (is_short i)) size a))
+    jump_form i to size kind form reach b is = by (is_short i) refl form reach
+      where
+        by :
+            (s : Bool) → is_short i ≡ s → IsForm (jump_piece objects to s) size
+            → holds (jump_piece objects to s) size a (address (target (jump_piece objects to s))) ≡ true
+            → HasJumpSize i (width (jump_piece objects to s) size a) (as_signed (way a b))
+        by true e (inl same) reach =
+            let at : short_jump_reach (distance a (address (number_of objects to))) ≡ true =
+            ap (λ m. holds (piece.Jump (number_of objects to)) m a (address (number_of objects to))) (sym same) ∙ reach in
+            inr (same, jump_short i (as_signed (way a b)) kind e (ap short_jump_reach (way_near to b is) ∙ at))
+        by true e (inr same) reach = inl (same, jal_near to b is)
+        by false e same reach = inl (same, jal_near to b is)
+
+    -- ---- all items
+
+    align_form : (n : ℕ) → 0 < n → a + (n - a % n) % n ≡ aligned_up n a
+    unfolding aligned_up
+    align_form n some =
+        let same : max 1 n ≡ n = omega (arith, some) in
+        ap (λ m. a + (m - a % m) % m) (sym same)
+
+    -- an item may have the size that its piece has
+    pub has_form :
+        (item : Item) (size : ℕ) → HasKind item → HasAlignment (piece_of objects item) → IsForm (piece_of objects item) size
+        → holds (piece_of objects item) size a (address (target (piece_of objects item))) ≡ true
+        → HasForm A a (width (piece_of objects item) size a) item
+    has_form (Op i) size kind aligned form reach = subst (HasSize i) (sym form) (instr_form i)
+    has_form (Hi i t) size kind aligned form reach = λ x is. subst (HasSize (with_upper i (hi20_of x))) (sym form) (part_form t (λ x. with_upper i (hi20_of x)) x is)
+    has_form (Lo i t) size kind aligned form reach = λ x is. subst (HasSize (with_imm i (lo12_of x))) (sym form) (part_form t (λ x. with_imm i (lo12_of x)) x is)
+    has_form (PcHi i t) size kind aligned form reach = form
+    has_form (PcLo i from) size kind aligned form reach = form
+    has_form (Branch i to) size kind aligned form reach = branch_form i to size kind form reach
+    has_form (Jump i to) size kind aligned form reach = jump_form i to size kind form reach
+    has_form (Call rd temp to) size kind aligned form reach = λ b is. inr (jump_form (instr.Jal rd (pos 0)) to size refl form reach b is)
+    has_form (Align bytes) size kind aligned form reach = align_form (power_above bytes) aligned
+    has_form (Word t) size kind aligned form reach = form
+    has_form (Raw word) size kind aligned form reach = form
+    has_form (RawPair first second) size kind aligned form reach = form
+
+-- ---- room of their own
+
+two_at_least : (b : Bool) → 0 < cond {A = ℕ} b 2 4
+two_at_least true = omega arith
+two_at_least false = omega arith
+
+part_some : (t : Target) (f : ℕ → Instr) → 0 < part_size t f
+part_some (Code q) f = omega arith
+part_some (Number n) f = two_at_least (is_short (f n))
+part_some (Absent n) f = two_at_least (is_short (f n))
+part_some Nowhere f = omega arith
+
+branch_some : (t : ℕ) (b : Bool) (size : ℕ) → IsForm (piece.Branch t b) size → 0 < size
+branch_some t true size (inl same) = omega (arith, same)
+branch_some t true size (inr (inl same)) = omega (arith, same)
+branch_some t true size (inr (inr same)) = omega (arith, same)
+branch_some t false size (inl same) = omega (arith, same)
+branch_some t false size (inr same) = omega (arith, same)
+
+jump_some :
+    (objects : List ObjectParts) (to : Place) (b : Bool) (size a : ℕ) → IsForm (jump_piece objects to b) size
+    → 0 < width (jump_piece objects to b) size a
+jump_some objects to true size a (inl same) = omega (arith, same)
+jump_some objects to true size a (inr same) = omega (arith, same)
+jump_some objects to false size a same = omega (arith, same)
+
+-- what isn't padding takes some bytes
+pub width_some :
+    (objects : List ObjectParts) (item : Item) (size a : ℕ) → is_solid (Some item) ≡ true → IsForm (piece_of objects item) size
+    → 0 < width (piece_of objects item) size a
+width_some objects (Op i) size a solid form = omega (arith, form, two_at_least (is_short i))
+width_some objects (Hi i t) size a solid form = omega (arith, form, part_some t (λ x. with_upper i (hi20_of x)))
+width_some objects (Lo i t) size a solid form = omega (arith, form, part_some t (λ x. with_imm i (lo12_of x)))
+width_some objects (PcHi i t) size a solid form = omega (arith, form)
+width_some objects (PcLo i from) size a solid form = omega (arith, form)
+width_some objects (Branch i to) size a solid form = branch_some (number_of objects to) (is_short i) size form
+width_some objects (Jump i to) size a solid form = jump_some objects to (is_short i) size a form
+width_some objects (Call rd temp to) size a solid form = jump_some objects to (is_short (instr.Jal rd (pos 0))) size a form
+width_some objects (Align bytes) size a solid form = absurd cc
+width_some objects (Word t) size a solid form = omega (arith, form)
+width_some objects (Raw word) size a solid form = omega (arith, form)
+width_some objects (RawPair first second) size a solid form = omega (arith, form)

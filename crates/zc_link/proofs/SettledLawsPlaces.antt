@@ -1,0 +1,195 @@
+-- Addresses of places in the settled layout: the places where an item starts or a section of code ends have one (`settled_there`,
+-- `settled_here`), it is even (`settled_even`), and the code before a section ends where that section's padding begins (`ends_before`).
+use Rattle.std.proofs.Common.{◌≡◌, ℕ, ◌+◌, ◌%◌, ◌≤◌, ◌⊎◌, List, [], ◌∷◌, length, Bool, true, false, cond, Option, Some, None, refl, sym, ap, ◌∙◌, arith, eqb, inl, inr, eq-eqb}
+use Rattle.std.specs.Prelude.{◌||◌, slice_index, is_some}
+use Rattle.std.specs.List.{sum_by}
+use Rattle.std.specs.Option.{unwrap_or}
+use Rattle.std.proofs.lemmas.List.Sums.{fold-append}
+use Rattle.zc_base.specs.MemMap.{IsMap}
+use Rattle.zc_base.specs.declared.place.Place.{Place}
+use Rattle.elf32_read.specs.Parts.{ObjectParts, SectionParts, is_code_section}
+use Rattle.psabi_sym.specs.Faults.{gather_fault}
+use Rattle.psabi_sym.specs.Inputs.{Inputs, ParsedInputs, parsed}
+use Rattle.psabi_sym.specs.Listed.{ListedSection, section_at, sections_before}
+use Rattle.block_cut.specs.Cut.{place_at}
+use Rattle.block_cut.specs.Items.{code_at, is_target_at, starts_in, starts_on}
+use Rattle.block_cut.proofs.ListedLaws.{before_more, listed}
+use Rattle.block_cut.proofs.PlainLaws.{target_on}
+use Rattle.block_cut.proofs.StartLaws.{start_first}
+use Rattle.block_cut.proofs.WholeLaws.{inputs_whole}
+use Rattle.shrink_layout.specs.declared.piece.Piece.{Piece}
+use Rattle.shrink_layout.specs.Layout.{addresses_of}
+use Rattle.shrink_layout.specs.Least.{AreForms}
+use Rattle.shrink_layout.specs.Pieces.{number_of, piece_count, pieces_before, pieces_of}
+use Rattle.shrink_layout.specs.Settled.{AreSettled, settled_address, settled_addresses, settled_end}
+use Rattle.shrink_layout.proofs.AddressLaws.{ascending, even_address, first_address, last_address, layout_forms}
+use Rattle.shrink_layout.proofs.NumberEnds.{first_number, first_number-next, length-pieces_of, number-end, number-start, start_within}
+use Rattle.shrink_layout.proofs.NumberLaws.{number-code, number_most}
+use Rattle.shrink_layout.proofs.PlaceAddressLaws.{address_there}
+use Rattle.shrink_layout.proofs.PremiseLaws.{all_aligned, all_even, room_few}
+use Rattle.zc_link.specs.LaidOut.{end_after, section_end, text_end}
+use Rattle.zc_link.proofs.EachSection.{before_each, of_all}
+use Rattle.zc_link.proofs.PlainEnds.{code_found}
+
+-- ---- targets
+
+-- where an item starts or the section ends code may lead
+target_there :
+    (objects : List ObjectParts) (q : Place) (s : SectionParts) → code_at objects q ≡ Some s
+    → (starts_on s q.offset ≡ true) ⊎ (q.offset ≡ length s.bytes) → is_target_at objects q ≡ true
+target_there objects q s at target = target_on objects q s at ∙ by target
+  where
+    or_true : (b : Bool) → (b || true) ≡ true
+    or_true true = refl
+    or_true false = refl
+
+    by : (starts_on s q.offset ≡ true) ⊎ (q.offset ≡ length s.bytes) → (starts_on s q.offset || eqb q.offset (length s.bytes)) ≡ true
+    by (inl start) = ap (λ b. b || eqb q.offset (length s.bytes)) start
+    by (inr end) = ap (λ b. starts_on s q.offset || b) (eq-eqb q.offset (length s.bytes) end) ∙ or_true (starts_on s q.offset)
+
+-- ---- addresses
+
+-- what is known of a choice that gave something
+chosen : (b : Bool) (x a : ℕ) → cond b (Some x) None ≡ Some a → x ≡ a
+chosen true x a is = cc
+chosen false x a is = absurd cc
+
+chosen_some : (b : Bool) (x : ℕ) → is_some (cond b (Some x) None) ≡ b
+chosen_some true x = refl
+chosen_some false x = refl
+
+module _
+    (inputs : Inputs) (none : gather_fault inputs ≡ None) (is_map : IsMap inputs.map)
+    (sizes : List ℕ) (settled : AreSettled (parsed inputs) sizes) where
+  abbrev p : ParsedInputs
+  p = parsed inputs
+
+  abbrev objects : List ObjectParts
+  objects = p.objects
+
+  abbrev A : Place → Option ℕ
+  A = settled_address p sizes
+
+  abbrev pieces : List Piece
+  pieces = pieces_of p
+
+  -- the address of the piece with a number
+  abbrev pub address : ℕ → ℕ
+  address k = slice_index (addresses_of inputs.map.text pieces sizes) k
+
+  pub forms : AreForms pieces sizes
+  forms = layout_forms inputs.map.text pieces sizes settled
+
+  -- so addresses are given to targets, and to no others
+  pub settled_listed : (q : Place) → is_some (A q) ≡ is_target_at objects q
+  unfolding settled_address
+  settled_listed q = chosen_some (is_target_at objects q) (slice_index (settled_addresses p sizes) (number_of objects q))
+
+  -- a target has the address of its number
+  settled_there :
+      (q : Place) (s : SectionParts) → code_at objects q ≡ Some s → (starts_on s q.offset ≡ true) ⊎ (q.offset ≡ length s.bytes)
+      → A q ≡ Some (address (pieces_before objects q.object q.section s q.offset))
+  unfolding settled_addresses
+  settled_there q s at target =
+      address_there p sizes q (target_there objects q s at target)
+      ∙ ap (λ n. Some (address n)) (number-code objects q s at)
+
+  -- and a place with an address has that of its number
+  pub settled_here : (q : Place) (a : ℕ) → A q ≡ Some a → address (number_of objects q) ≡ a
+  unfolding settled_address settled_addresses
+  settled_here q a is = chosen (is_target_at objects q) (address (number_of objects q)) a is
+
+  -- ---- bounds
+
+  address_even : (k : ℕ) → address k % 2 ≡ 0
+  address_even k = even_address inputs.map.text pieces sizes (all_even inputs none) forms (omega (arith, is_map.text_page)) k
+
+  pub address_rises : (j k : ℕ) → j ≤ k → k ≤ length pieces → address j ≤ address k
+  address_rises j k le within = ascending inputs.map.text pieces sizes forms j k le within
+
+  address_low : (k : ℕ) → k ≤ length pieces → inputs.map.text ≤ address k
+  address_low k within = omega (arith, address_rises 0 k (omega arith) within, first_address inputs.map.text pieces sizes)
+
+  address_few : (k : ℕ) → k ≤ length pieces → address k ≤ inputs.map.text + 0x8_0000
+  address_few k within =
+      omega (
+        arith,
+        address_rises k (length pieces) within (omega arith),
+        last_address inputs.map.text pieces sizes (all_aligned inputs none) forms,
+        room_few inputs none,
+      )
+
+  pub settled_even : (q : Place) (a : ℕ) → A q ≡ Some a → a % 2 ≡ 0
+  settled_even q a is = ap (λ n. n % 2) (sym (settled_here q a is)) ∙ address_even (number_of objects q)
+
+  pub settled_low : (q : Place) (a : ℕ) → A q ≡ Some a → inputs.map.text ≤ a
+  settled_low q a is = omega (arith, settled_here q a is, address_low (number_of objects q) (number_most p q))
+
+  pub settled_few : (q : Place) (a : ℕ) → A q ≡ Some a → a ≤ inputs.map.text + 0x8_0000
+  settled_few q a is = omega (arith, settled_here q a is, address_few (number_of objects q) (number_most p q))
+
+  -- ---- ends
+
+  -- the code of these sections ends where the piece after theirs begins
+  abbrev EndsThere : List ListedSection → Type 0
+  EndsThere ls = end_after p A ls ≡ address (sum_by piece_count ls)
+
+  -- with one section more
+  ends_more :
+      (o i : ℕ) (s : SectionParts) → section_at objects o i ≡ Some s → EndsThere (sections_before objects o i)
+      → EndsThere (sections_before objects o (i + 1))
+  ends_more o i s found before =
+      ap (end_after p A) (before_more objects o i s found)
+      ∙ fold-append (section_end A) inputs.map.text (sections_before objects o i) (listed o i s ∷ [])
+      ∙ by (is_code_section s) refl
+    where
+      end : ℕ
+      end = end_after p A (sections_before objects o i)
+
+      by : (b : Bool) → is_code_section s ≡ b → section_end A end (listed o i s) ≡ address (first_number objects o (i + 1))
+      by true code =
+          let last = place_at o i (length s.bytes) in
+          ap (λ b. cond b (unwrap_or (A last) end) end) code
+          ∙ ap (λ x. unwrap_or x end) (settled_there last s (code_found p o i (length s.bytes) s found code) (inr refl))
+          ∙ ap address (number-end objects o i s found code (inputs_whole inputs o i s none found code))
+      by false other =
+          let nothing : piece_count (listed o i s) ≡ 0 = ap (λ b. cond {A = ℕ} b (1 + length (starts_in s)) 0) other in
+          let same : first_number objects o i ≡ first_number objects o (i + 1) = omega (arith, first_number-next objects o i s found, nothing) in
+          ap (λ b. cond b (unwrap_or (A (place_at o i (length s.bytes))) end) end) other ∙ before ∙ ap address same
+
+  -- of the sections before one
+  ends_before :
+      (o i : ℕ) (s : SectionParts) → section_at objects o i ≡ Some s
+      → end_after p A (sections_before objects o i) ≡ address (first_number objects o i)
+  ends_before = before_each objects EndsThere (sym (first_address inputs.map.text pieces sizes)) ends_more
+
+  -- all code ends where the last piece does
+  text_ends : text_end p A ≡ address (length pieces)
+  text_ends = of_all objects EndsThere (sym (first_address inputs.map.text pieces sizes)) ends_more ∙ ap address (sym (length-pieces_of p))
+
+  pub end_settled : text_end p A ≡ settled_end p sizes
+  unfolding settled_end settled_addresses
+  end_settled = text_ends
+
+  pub settled_high : (q : Place) (a : ℕ) → A q ≡ Some a → a ≤ text_end p A
+  settled_high q a is =
+      omega (arith, settled_here q a is, text_ends, address_rises (number_of objects q) (length pieces) (number_most p q) (omega arith))
+
+  pub settled_short : text_end p A ≤ inputs.map.text + 0x8_0000
+  settled_short = omega (arith, text_ends, address_few (length pieces) (omega arith))
+
+  -- a section begins no earlier than those before it end
+  pub settled_begins :
+      (o i : ℕ) (s : SectionParts) → section_at objects o i ≡ Some s → is_code_section s ≡ true
+      → end_after p A (sections_before objects o i) ≤ unwrap_or (A (place_at o i 0)) 0
+  settled_begins o i s found code =
+      let whole = inputs_whole inputs o i s none found code in
+      let first : unwrap_or (A (place_at o i 0)) 0 ≡ address (first_number objects o i + 1) =
+      ap (λ x. unwrap_or x 0) (settled_there (place_at o i 0) s (code_found p o i 0 s found code) (start_first s code whole))
+      ∙ ap address (number-start objects o i s found code whole) in
+      omega (
+        arith,
+        first,
+        ends_before o i s found,
+        address_rises (first_number objects o i) (first_number objects o i + 1) (omega arith) (start_within p o i s found code whole),
+      )

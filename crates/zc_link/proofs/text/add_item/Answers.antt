@@ -1,0 +1,86 @@
+-- Each kind of item adds its bytes.
+use Rattle.std.proofs.Common.{ℕ, ◌+◌, List, length, sym, ap, subst, arith}
+use Rattle.std.proofs.lemmas.Result.{on_ok_weaker}
+use Rattle.zc_base.specs.Fields.{word_bytes, word_in}
+use Rattle.psabi_sym.specs.Inputs.{parsed}
+use Rattle.block_cut.specs.Items.{item_at}
+use Rattle.zc_link.specs.Copied.{bytes_from}
+use Rattle.zc_link.specs.Standing.{ItemStands, bytes_read}
+use Rattle.zc_link.proofs.Adds.{align_added, pair_added, raw_added}
+use Rattle.zc_link.proofs.OneWord.{FourOrTwo, form_added, jump_reaches, one_free, one_left, one_read, one_size, one_stands}
+use Rattle.zc_link.proofs.text.add_item.Goals as goal
+
+pub patched-word-requires : goal.patched-word-requires
+patched-word-requires g c =
+    let A = g.L.Layout.addresses c.args.layout.now in
+    let p = parsed (g.L.Layout.inputs c.args.layout.now) in
+    let h = c.requires in
+    let text = c.args.text.now.items in
+    let a = p.map.text + length text in
+    let other = c.in_default in
+    let one = one_left c.args.item other.not-Branch other.not-Call other.not-Align other.not-Raw other.not-RawPair in
+    let extent = c.extent-address.ensures a h.lies.size c.args.item h.is h.address h.lies.next in
+    let word = word_in c.args.code.now c.args.at.offset in
+    let second = word_in c.args.code.now (c.args.at.offset + 4) in
+    let it = item_at p in
+    record {
+      stands = subst (λ w. ItemStands A it w 0 c.args.item) (sym c.u32_at.ensures) (one_stands A it word second c.args.item one h.stands);
+      branch = λ i to is. absurd (other.not-Branch i to is);
+      jump = jump_reaches p A c.args.code.now c.args.at c.args.item text text h c.extent-address.result.0 extent.0;
+    }
+
+pub returns-in-Align : goal.returns-in-Align
+returns-in-Align g c =
+    let A = g.L.Layout.addresses c.args.layout.now in
+    let p = parsed (g.L.Layout.inputs c.args.layout.now) in
+    let h = c.requires in
+    let text = c.args.text.now.items in
+    let a = p.map.text + length text in
+    on_ok_weaker c.add_padding.result
+    (λ more n next.
+    let extent = c.extent-address.ensures a n c.args.item h.is h.address next in
+    align_added p A c.args.code.now c.args.at c.args.item text c.add_padding.new.text.items h n next c.in-Align.field-0 c.extent-address.result.1 c.in-Align.is extent.2 extent.1 more)
+    c.add_padding.ensures
+
+pub returns-in-Raw : goal.returns-in-Raw
+returns-in-Raw g c =
+    let A = g.L.Layout.addresses c.args.layout.now in
+    let p = parsed (g.L.Layout.inputs c.args.layout.now) in
+    let h = c.requires in
+    let text = c.args.text.now.items in
+    let a = p.map.text + length text in
+    on_ok_weaker c.add_own.result
+    (λ more n next. raw_added p A c.args.code.now c.args.at c.args.item text c.add_own.new.text.items h n next c.in-Raw.field-0 c.in-Raw.is c.add_own.ensures.octets (omega (arith, h.within, ap bytes_read c.in-Raw.is)) more)
+    c.add_own.ensures.own
+
+pub returns-in-RawPair : goal.returns-in-RawPair
+returns-in-RawPair g c =
+    let A = g.L.Layout.addresses c.args.layout.now in
+    let p = parsed (g.L.Layout.inputs c.args.layout.now) in
+    let h = c.requires in
+    let text = c.args.text.now.items in
+    let a = p.map.text + length text in
+    on_ok_weaker c.add_own-in-RawPair.result
+    (λ more n next. pair_added p A c.args.code.now c.args.at c.args.item text c.add_own-in-RawPair.new.text.items h n next c.in-RawPair.field-0 c.in-RawPair.field-1 c.in-RawPair.is c.add_own-in-RawPair.ensures.octets
+    (omega (arith, h.within, ap bytes_read c.in-RawPair.is)) more)
+    c.add_own-in-RawPair.ensures.own
+
+pub returns-in_default : goal.returns-in_default
+returns-in_default g c =
+    let A = g.L.Layout.addresses c.args.layout.now in
+    let p = parsed (g.L.Layout.inputs c.args.layout.now) in
+    let h = c.requires in
+    let text = c.args.text.now.items in
+    let a = p.map.text + length text in
+    let other = c.in_default in
+    let one = one_left c.args.item other.not-Branch other.not-Call other.not-Align other.not-Raw other.not-RawPair in
+    let extent = c.extent-address.ensures a h.lies.size c.args.item h.is h.address h.lies.next in
+    let word = word_in c.args.code.now c.args.at.offset in
+    let second = word_in c.args.code.now (c.args.at.offset + 4) in
+    let it = item_at p in
+    let read = one_read c.args.item one in
+    let few = one_size A it word second a h.lies.size c.args.item one h.stands h.lies.form in
+    let own : ℕ → List ℕ = λ n. word_bytes c.u32_at.result in
+    form_added p A c.args.code.now c.args.at c.args.item text c.add_form.new.text.items h c.add_form.result own c.patched-word.result c.extent-address.result.1 c.extent-address.result.0 extent.1 extent.0
+    (subst FourOrTwo (sym extent.1) few) (λ n bytes written. one_free A it own (bytes_from c.args.code.now c.args.at.offset) a n bytes c.args.item one written)
+    (c.patched-word.ensures.four read) (c.patched-word.ensures.two read) c.add_form.ensures.four c.add_form.ensures.two

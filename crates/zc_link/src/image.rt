@@ -1,0 +1,86 @@
+// The image of a layout: its text, its data, and the file of both.
+
+ghost use Rattle.std.specs.Prelude.{◌≡◌, ◌+◌, ◌-◌, ◌<◌, ◌≤◌, ◌^◌, IfOk, length, slice_index, ℕ};
+ghost use Rattle.psabi_sym.specs.Data.{data_end, data_file_end};
+ghost use Rattle.psabi_sym.specs.Inputs.{parsed};
+ghost use Rattle.psabi_sym.specs.Listed.{all_sections};
+ghost use Rattle.zc_link.specs.ImageParts.{image_data};
+ghost use Rattle.zc_link.specs.LaidOut.{text_end};
+ghost use Rattle.zc_link.specs.Links.{IsImageOf};
+ghost use Rattle.zc_link.specs.Standing.{IsReady};
+ghost use Rattle.zc_link.specs.Written.{IsTextOf};
+
+use crate::item::target_value;
+use crate::layout::Layout;
+use crate::text::Text;
+use elf32_write::image_parts::ImageParts;
+use elf32_write::write_image::write_image;
+use psabi_sym::objects::Objects;
+use std::alloc::{AllocError, Global};
+use zc_base::fields::put_u32;
+
+/// The file of the image of a layout, with these e_flags (RISC-V ELF psABI, "File Header"). It takes time
+/// linear in the code, the data and the places.
+pub fn image_of<L: Layout>(alloc: Global, layout: &L, flags: u32) -> Result<Vec<u8>, AllocError>
+    requires { flags ≤ 1 }
+    ensures ready { IfOk result (λ _. IsReady (L.inputs layout.now)) }
+    ensures image { IfOk result (λ elf. IsImageOf (L.inputs layout.now) (L.addresses layout.now) flags (text_end (parsed (L.inputs layout.now)) (L.addresses layout.now)) elf.items) }
+{
+    let laid = Text::lay(alloc, layout)?;
+    let bytes = data_bytes(alloc, layout)?;
+    write(alloc, layout, flags, laid, bytes)
+}
+
+// The bytes of data that files hold, with each word that holds an address.
+fn data_bytes<L: Layout>(alloc: Global, layout: &L) -> Result<Vec<u8>, AllocError>
+    ensures { IfOk result (λ bytes. bytes.items ≡ image_data (parsed (L.inputs layout.now)) (L.addresses layout.now)) }
+{
+    let objects = layout.cut().objects();
+    let start = objects.map().data_low;
+    let mut bytes = objects.data_contents(alloc)?;
+    for word in layout.cut().data_words() {
+        let at = (word.at - start) as usize;
+        put_u32(bytes.as_mut_slice(), at, target_value(layout, word.target));
+    }
+    Ok(bytes)
+}
+
+// The file with this text and these bytes of data of a layout.
+fn write<L: Layout>(
+    alloc: Global,
+    layout: &L,
+    flags: u32,
+    laid: Text,
+    bytes: Vec<u8>,
+) -> Result<Vec<u8>, AllocError>
+    requires flags { flags ≤ 1 }
+    requires laid { IsTextOf (parsed (L.inputs layout.now)) (L.addresses layout.now) (all_sections (parsed (L.inputs layout.now)).objects) laid.text.items laid.places.items }
+    requires bytes { bytes.items ≡ image_data (parsed (L.inputs layout.now)) (L.addresses layout.now) }
+    ensures ready { IsReady (L.inputs layout.now) }
+    ensures image { IfOk result (λ elf. IsImageOf (L.inputs layout.now) (L.addresses layout.now) flags (text_end (parsed (L.inputs layout.now)) (L.addresses layout.now)) elf.items) }
+{
+    let objects = layout.cut().objects();
+    let map = objects.map();
+    let zero = zeros_after(objects, &bytes);
+    let parts = ImageParts {
+        entry: layout.address(layout.cut().entry()).unwrap_or(map.text),
+        flags,
+        text_at: map.text,
+        text: laid.text,
+        data_at: map.data_low,
+        data_bytes: bytes,
+        zero,
+        places: laid.places,
+    };
+    write_image(alloc, &parts)
+}
+
+// How many zeros follow the bytes of data that the image holds.
+fn zeros_after(objects: &Objects, bytes: &[u8]) -> u32
+    requires { length bytes.now ≡ data_file_end (parsed objects.now) - objects.now.map.data_low }
+    ensures value { result ≡ data_end (parsed objects.now) - data_file_end (parsed objects.now) }
+    ensures most { data_end (parsed objects.now) ≤ objects.now.map.data_low + 0x40_0000 }
+    ensures range { (k : ℕ) → slice_index bytes.now k < 2 ^ 8 }
+{
+    objects.data_end() - (objects.map().data_low + bytes.len() as u32)
+}
