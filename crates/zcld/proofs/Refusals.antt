@@ -1,4 +1,4 @@
--- A fault that stands between objects is their first, and the first of their link.
+-- A fault that stands between objects is their first.
 use Rattle.std.proofs.Common.{[], ◌∷◌, ap}
 use Rattle.std.specs.Option.{option_or}
 use Rattle.psabi_sym.specs.Faults.{first_some, gather_fault}
@@ -7,16 +7,9 @@ use Rattle.psabi_sym.specs.LinkFault.{IsRefusal}
 use Rattle.psabi_sym.specs.declared.link_fault.LinkFault.{LinkFault}
 use Rattle.psabi_sym.specs.declared.link_fault.LinkFault.TheVariants.{Object, OutOfMemory}
 use Rattle.block_cut.specs.Faults.{entry_fault, first_fault, range_fault, relocs_fault}
-use Rattle.zc_link.specs.Faults.{unlinked_fault, zc_fault}
 
 pub gather_refuses : (inputs : Inputs) (fault : LinkFault) → IsRefusal (gather_fault inputs) fault → IsRefusal (first_fault inputs) fault
 unfolding first_fault
 gather_refuses inputs (Object index fault) is =
     ap (λ f. option_or f (first_some (relocs_fault (parsed inputs) ∷ entry_fault (parsed inputs) ∷ range_fault (parsed inputs) ∷ []))) is
 gather_refuses inputs OutOfMemory is = tt
-
-pub gather_refuses_link : (inputs : Inputs) (fault : LinkFault) → IsRefusal (gather_fault inputs) fault → IsRefusal (zc_fault inputs) fault
-unfolding zc_fault
-gather_refuses_link inputs (Object index fault) is =
-    ap (λ f. option_or f (first_some (unlinked_fault (parsed inputs).objects ∷ []))) (gather_refuses inputs (Object index fault) is)
-gather_refuses_link inputs OutOfMemory is = tt

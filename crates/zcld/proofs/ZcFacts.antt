@@ -2,7 +2,7 @@
 use Rattle.std.proofs.Common.{◌≡◌, ℕ, List, Option, Some, None, refl, sym, ap, subst, ◌⊎◌, inl, inr, arith}
 use Rattle.std.proofs.lemmas.Option.{same_Some, none-some}
 use Rattle.elf32_read.specs.declared.fault.Fault.{Fault}
-use Rattle.zc_link.specs.Faults.{zc_fault}
+use Rattle.block_cut.specs.Faults.{first_fault}
 use Rattle.zc_outside.specs.Shelf.{OnlyPuts, Shelf}
 use Rattle.zc_outside.specs.World.{World}
 use Rattle.zcld.specs.declared.outcome.Outcome.{Outcome}
@@ -56,4 +56,4 @@ module _ (out cert : List ℕ) (objects : List (List ℕ)) where
       }
 
   pub zc_facts : Facts (task_of (Zc out cert objects)) (ZcWork out cert)
-  zc_facts = record { refuses = λ files. fault_refuses (zc_fault (inputs_of files)); ends = zc_ends; moves = zc_moves }
+  zc_facts = record { refuses = λ files. fault_refuses (first_fault (inputs_of files)); ends = zc_ends; moves = zc_moves }

@@ -11,7 +11,7 @@ use Rattle.zcld.specs.declared.outcome.Outcome.TheVariants.{Usage, ReadFault, Wr
 use Rattle.zcld.specs.Command.{Command, Plain, Run, Trace, Zc}
 use Rattle.zcld.specs.ErrLine.{err_line}
 use Rattle.zcld.specs.Input.{IsShortInput, RoseAbove}
-use Rattle.zcld.specs.Objects.{link_refusal, objects_refusal, objects_wanted}
+use Rattle.zcld.specs.Objects.{objects_refusal, objects_wanted}
 use Rattle.zcld.specs.Plain.{PlainWork}
 use Rattle.zcld.specs.Run.{RunWork, image_refusal, image_wanted}
 use Rattle.zcld.specs.Task.{Performs, Task}
@@ -25,7 +25,7 @@ abbrev pub task_of : Command → Task
 task_of (Plain out objects) =
     record { wanted = objects_wanted objects; refusal = objects_refusal; puts = true; takes = false; writes = true }
 task_of (Zc out cert objects) =
-    record { wanted = objects_wanted objects; refusal = link_refusal; puts = true; takes = false; writes = false }
+    record { wanted = objects_wanted objects; refusal = objects_refusal; puts = true; takes = false; writes = false }
 task_of (Run steps image) =
     record { wanted = image_wanted image; refusal = image_refusal; puts = false; takes = true; writes = true }
 task_of (Trace steps objects) =

@@ -5,7 +5,6 @@ use Rattle.zc_base.specs.MemMap.{standard_map}
 use Rattle.zc_outside.specs.Wanted.{Wanted, each_within}
 use Rattle.psabi_sym.specs.Inputs.{Inputs}
 use Rattle.block_cut.specs.Faults.{first_fault}
-use Rattle.zc_link.specs.Faults.{zc_fault}
 use Rattle.elf32_read.specs.declared.fault.Fault.{Fault}
 use Rattle.zcld.specs.declared.outcome.Outcome.{Outcome}
 use Rattle.zcld.specs.declared.outcome.Outcome.TheVariants.{Refused, OutOfMemory}
@@ -22,10 +21,6 @@ refused_for fault = option_map (λ found. Refused found.0 found.1) fault
 -- the refusal of objects
 abbrev pub objects_refusal : List (List ℕ) → Option Outcome
 objects_refusal files = refused_for (first_fault (inputs_of files))
-
--- the refusal of a link with short forms, of which code that isn't linked yet is a fault
-abbrev pub link_refusal : List (List ℕ) → Option Outcome
-link_refusal files = refused_for (zc_fault (inputs_of files))
 
 -- objects are read up to their limit
 abbrev pub objects_wanted : List (List ℕ) → List Wanted

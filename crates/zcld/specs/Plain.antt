@@ -5,8 +5,7 @@ use Rattle.zc_outside.specs.Files.{KeepsFiles, PutsFile, Rose}
 use Rattle.zc_outside.specs.Shelf.{OnlyPuts}
 use Rattle.zc_outside.specs.Streams.{Adds, AddsPart, KeepsBytes}
 use Rattle.zc_outside.specs.World.{World}
-use Rattle.zc_link.specs.Linked.{Link}
-use Rattle.zc_link.specs.PlainLinked.{IsPlainLink}
+use Rattle.zc_link.specs.Links.{IsPlainLink, Link}
 use Rattle.zcld.specs.declared.outcome.Outcome.{Outcome}
 use Rattle.zcld.specs.declared.outcome.Outcome.TheVariants.{Done, Exited, Usage, Refused, ReadFault, WriteFault, OutOfMemory, BadFile, Stopped, Stuck, Spent}
 use Rattle.zcld.specs.ErrLine.{line}

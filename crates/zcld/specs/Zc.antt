@@ -3,7 +3,7 @@ use Rattle.std.specs.Prelude.{◌≡◌, ◌≢◌, ℕ, ◌⊎◌, IsTrue, List
 use Rattle.zc_outside.specs.Files.{Files, KeepsFiles, PutsFile, Rose}
 use Rattle.zc_outside.specs.Shelf.{OnlyPuts, Shelf}
 use Rattle.zc_outside.specs.World.{World}
-use Rattle.zc_link.specs.Linked.{IsZcLink, Link}
+use Rattle.zc_link.specs.Links.{IsZcLink, Link}
 use Rattle.zcld.specs.declared.outcome.Outcome.{Outcome}
 use Rattle.zcld.specs.declared.outcome.Outcome.TheVariants.{Done, Exited, Usage, Refused, ReadFault, WriteFault, OutOfMemory, BadFile, Stopped, Stuck, Spent}
 use Rattle.zcld.specs.ErrLine.{line}

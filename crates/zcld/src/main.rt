@@ -1,4 +1,5 @@
-//! Links RV32IM objects into an executable that is written with 16-bit instructions, and runs both.
+//! Links RV32IM objects into an executable, as they are or made smaller with 16-bit instructions, and runs
+//! objects and executables.
 #![tactic(auto)]
 
 pub mod call;

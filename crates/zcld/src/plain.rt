@@ -4,7 +4,7 @@
 ghost use Rattle.std.specs.Prelude.{◌≡◌, IfOk, IfErr, None};
 ghost use Rattle.psabi_sym.specs.Objects.{contents_of};
 ghost use Rattle.block_cut.specs.Faults.{first_fault};
-ghost use Rattle.zc_link.specs.PlainLinked.{IsPlainLink};
+ghost use Rattle.zc_link.specs.Links.{IsPlainLink};
 ghost use Rattle.zc_outside.specs.Desk.{OnlyWrites};
 ghost use Rattle.zc_outside.specs.Shelf.{OnlyPuts};
 ghost use Rattle.zc_outside.specs.World.{world};

@@ -1,9 +1,9 @@
 // The command `zc`: objects are linked, and the image and its certificate are written.
 
 ghost use Rattle.std.specs.Prelude.{◌≡◌, ◌≢◌, IfOk, IfErr, None};
+ghost use Rattle.block_cut.specs.Faults.{first_fault};
 ghost use Rattle.psabi_sym.specs.Objects.{contents_of};
-ghost use Rattle.zc_link.specs.Faults.{zc_fault};
-ghost use Rattle.zc_link.specs.Linked.{IsZcLink};
+ghost use Rattle.zc_link.specs.Links.{IsZcLink};
 ghost use Rattle.zc_outside.specs.Desk.{Desk};
 ghost use Rattle.zc_outside.specs.Shelf.{OnlyPuts};
 ghost use Rattle.zc_outside.specs.World.{world};
@@ -17,8 +17,8 @@ use crate::outcome::Outcome;
 use psabi_sym::objects::Objects;
 use std::alloc::Global;
 use zc_base::mem_map::MemMap;
-use zc_link::link_zc::link_zc;
 use zc_link::linked::Linked;
+use zc_link::zc::link_zc;
 use zc_outside::store::{Store, StoreFault};
 
 const CERTIFICATE: &str = "zcld certificate 1\nprice 0 0 0\nnet 0\nend\n";
@@ -46,11 +46,11 @@ pub fn zc<S: Store>(
 }
 
 // What the objects in these files are linked to, or how the call ends without that.
-#[tactic(auto, using(crate::proofs::Refusals::gather_refuses_link))]
+#[tactic(auto, using(crate::proofs::Refusals::gather_refuses))]
 fn link(alloc: Global, files: &[Vec<u8>]) -> Result<Linked, Outcome>
-    ensures faultless { IfOk result (λ linked. zc_fault (inputs_of (contents_of files.now)) ≡ None) }
+    ensures faultless { IfOk result (λ linked. first_fault (inputs_of (contents_of files.now)) ≡ None) }
     ensures ok { IfOk result (λ linked. IsZcLink (inputs_of (contents_of files.now)) linked) }
-    ensures err { IfErr result (RefusalCause (zc_fault (inputs_of (contents_of files.now)))) }
+    ensures err { IfErr result (RefusalCause (first_fault (inputs_of (contents_of files.now)))) }
 {
     let objects = Objects::gather(alloc, files, MemMap::standard())?;
     Ok(link_zc(alloc, objects)?)

@@ -2,7 +2,7 @@
 
 use crate::fixture::{
     Call, DONE, EXITED_3, End, File, READ_FAULT, RELOC, RUN, SPENT, THREE_IMAGE, WRITE_FAULT, ZC,
-    ZC_TWO, expect, expect_changes, expect_words, make, refused, unsaid,
+    expect, expect_changes, expect_words, make, refused, unsaid,
 };
 use crate::outcome::Outcome;
 use elf32_read::fault::Fault;
@@ -37,17 +37,13 @@ fn an_image_and_a_certificate_are_put_under_their_names(rt: HostRuntime) -> Resu
     expect_words(&rt, &ZC, "zc --out  --cert c x", &End { files: 1, ..DONE })
 }
 
-// Changes of the alignment of the code, and of a word, and a word that holds an address; the second object is
-// named where the first has its `_start` renamed. The program starts nowhere if the name isn't there, is at
-// the code's end, or of data; that is named first.
+// Changes of the alignment of the code, and of a word, and a word that holds an address. The program starts
+// nowhere if its name isn't there, is at the code's end, or of data.
 #[test]
-fn objects_that_are_not_straight_code_are_named(rt: HostRuntime) -> Result<(), Fail> {
-    let not_built = refused(0, Fault::NotBuilt, "refused 0 0 NotBuilt\n");
-    expect_changes(&rt, &ZC, "212:08\n53:15", &not_built)?;
+fn all_code_with_a_start_is_linked(rt: HostRuntime) -> Result<(), Fail> {
+    expect_changes(&rt, &ZC, "212:08\n53:15", &DONE)?;
     let word = format!(in rt.alloc(); "{RELOC} 384:00000101")?;
-    expect_changes(&rt, &ZC, word.as_str(), &not_built)?;
-    let second = refused(1, Fault::NotBuilt, "refused 1 0 NotBuilt\n");
-    expect_changes(&rt, &ZC_TWO, "97:66 / 212:08\n97:66 / 53:15", &second)?;
+    expect_changes(&rt, &ZC, word.as_str(), &DONE)?;
     let no_entry = refused(0, Fault::NoEntry, "refused 0 16 NoEntry\n");
     expect_changes(&rt, &ZC, "97:66\n200:00\n188:02\n53:15 97:66", &no_entry)
 }
@@ -99,8 +95,8 @@ fn objects_that_can_not_be_read_are_named(rt: HostRuntime) -> Result<(), Fail> {
 }
 
 // A change of the first word of the text, and the bytes that the image then has for it: `c.li` takes six
-// bits, and neither x0 nor another source.
-const FIRST_WORDS: [(&str, &[u8]); 7] = [
+// bits, and neither x0 nor another source; a sum in either order, and a load from the stack.
+const FIRST_WORDS: [(&str, &[u8]); 9] = [
     ("52:01f00513", &[0x7D, 0x45]),
     ("52:fe000513", &[0x01, 0x55]),
     ("52:00100f93", &[0x85, 0x4F]),
@@ -108,6 +104,8 @@ const FIRST_WORDS: [(&str, &[u8]); 7] = [
     ("52:fdf00513", &[0x13, 0x05, 0xF0, 0xFD]),
     ("52:00300013", &[0x13, 0x00, 0x30, 0x00]),
     ("52:00308513", &[0x13, 0x85, 0x30, 0x00]),
+    ("52:00a58533", &[0x2E, 0x95]),
+    ("52:00412503", &[0x12, 0x45]),
 ];
 
 // How long the text is that an object with this change is linked to, and whether it begins so.
@@ -119,7 +117,7 @@ fn text_of(alloc: Global, changes: &str, want: &[u8]) -> Result<(usize, bool), F
 }
 
 #[test]
-fn small_constants_take_two_bytes(rt: HostRuntime) -> Result<(), Fail> {
+fn instructions_take_their_short_forms(rt: HostRuntime) -> Result<(), Fail> {
     for (changes, want) in FIRST_WORDS {
         let text = text_of(rt.alloc(), changes, want)?;
         assert_eq!(rt; text, (want.len() + 8, true), "{changes}");

@@ -1,6 +1,6 @@
 -- The image that is put is the link's, and the line is that of its text.
 use Rattle.std.proofs.Common.{◌≡◌, ◌∙◌, ap, rules, refl, inr, subst}
-use Rattle.zc_link.specs.Linked.{Link}
+use Rattle.zc_link.specs.Links.{Link}
 use Rattle.zc_outside.specs.World.{world}
 use Rattle.zcld.specs.Plain.{PutsAndPrints, plain_line}
 use Rattle.zcld.proofs.plain.plain.Goals as goal
