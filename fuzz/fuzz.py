@@ -14,7 +14,7 @@ was written to `run`. Checked are:
 - it is an outcome that this command has;
 - after `zc` ended with 0 the image and the certificate are there, and else no file is there or has changed, but
   for the image alone after a write fault or if memory ran out; so it is for the image of `plain`;
-- the image of `zc` is the one that `object_link.py` makes, and that of `plain` the one of `plain_link.py`, byte for byte;
+- the image of `zc` is the one that `zc_link.py` makes, and that of `plain` the one of `plain_link.py`, byte for byte;
 - `zc`, `plain` and `trace` refuse files exactly if they have a fault, and name the first (`object_items.py`);
 - `trace` writes what `symbolic_machine.py` does, and ends as it does;
 - if `trace` isn't stuck, `run` of each image writes what `trace` of the objects does, and ends as it does; if it is,
@@ -36,15 +36,15 @@ import time
 
 from made_objects import made_list
 from object_faults import NAMES as FAULTS, object_fault, told
-from object_items import first_fault, zc_fault
-from object_link import image as image_of
+from object_items import first_fault
 from plain_link import plain as plain_of
 from symbolic_machine import trace as trace_of
+from zc_link import zc as zc_of
 
 TIME_OUT = 20
 STEPS = '2000'
-# As many commits as a plain image may need for these steps.
-PLAIN_STEPS = str(64 * int(STEPS) + 3)
+# As many commits as an image may need for these steps.
+COMMITS = str(64 * int(STEPS) + 3)
 MIB = 1 << 20
 MOST_MEMORY = 2048 * MIB
 OBJECT_LIMIT = 4 * MIB
@@ -548,7 +548,7 @@ class Case:
         self.check_plain(plain, after, files_in(folder))
         traced = program.call('trace', '--steps', STEPS, *names, memory=memory, given=self.given)
         program.call('run', '--steps', STEPS, names[0], memory=memory, given=self.given)
-        check_refusal('zc', linked, zc_fault(self.files), ('done', 'write fault'))
+        check_refusal('zc', linked, fault, ('done', 'write fault'))
         check_refusal('trace', traced, fault, ('exited', 'stuck', 'spent', 'write fault'))
         if traced.name in ('exited', 'stuck', 'spent'):
             check_trace(traced, *trace_of(self.files, self.given, int(STEPS)))
@@ -559,11 +559,10 @@ class Case:
 
     def check_image(self, program, traced, image, memory, kind):
         """The image does what the objects do."""
-        steps = STEPS if kind == 'image' else PLAIN_STEPS
-        ran = program.call('run', '--steps', steps, image, memory=memory, given=self.given)
+        ran = program.call('run', '--steps', COMMITS, image, memory=memory, given=self.given)
         if 'out of memory' in (traced.name, ran.name):
             return
-        if kind == 'plain' and traced.name == 'spent':
+        if traced.name == 'spent':
             check_begins(traced, ran)
         else:
             check_runs(traced, ran)
@@ -581,7 +580,7 @@ class Case:
 
     def check_files(self, linked, before, after):
         if linked.name == 'done':
-            if after.get('out') != image_of(self.files):
+            if after.get('out') != zc_of(self.files)[0]:
                 raise Wrong('zc: done, but the image is another')
             if after.get('cert') != CERTIFICATE:
                 raise Wrong('zc: done, but the certificate is another')

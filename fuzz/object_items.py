@@ -274,21 +274,6 @@ def first_fault(files):
     return gather_fault(files) or Code([Object(data) for data in files]).fault()
 
 
-def is_unlinked(read):
-    """Whether the object has something that `zc` doesn't link yet: a relocation, a word that is neither `addi` nor `ecall`, or
-    code aligned above 4."""
-    return (any(kind not in WITHOUT_FIELD for _, kind, _ in read.relocations()) or any(
-        s.align > 4 or not all(word & 0x707F == 0x13 or word == 0x73 for word, in struct.iter_unpack('<I', s.content))
-        for i, s in enumerate(read.sections) if read.is_code(i)))
-
-
-def zc_fault(files):
-    """The first fault for which `zc` refuses the files."""
-    found = first_fault(files)
-    unlinked = None if found else next((i for i, data in enumerate(files) if is_unlinked(Object(data))), None)
-    return found if unlinked is None else (unlinked, 0, None)
-
-
 def main():
     files = []
     for path in sys.argv[1:]:

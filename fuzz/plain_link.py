@@ -11,7 +11,7 @@ import sys
 from object_data import CODE, DATA_AT, TEXT_AT
 from object_faults import NOBITS, Object, told
 from object_items import R_32, Code, first_fault, is_store
-from object_link import image_bytes
+from written_image import image_bytes
 
 NOP = 0x00000013
 
@@ -47,9 +47,15 @@ def with_jump(word, distance):
 class Plain:
     """The plain link of code without a fault."""
 
+    flags = 0
+
     def __init__(self, objects):
         self.code = Code(objects)
-        self.addresses, self.end = self.code.plain_layout()
+        self.addresses, self.end = self.layout()
+
+    def layout(self):
+        """The address of each place, and where the text ends."""
+        return self.code.plain_layout()
 
     def value(self, target):
         """The number that a target is."""
@@ -63,32 +69,38 @@ class Plain:
         high = item.target[1:]
         return self.distance(high, self.code.item(high).target)
 
-    def words(self, place, item):
-        """What is written of an item."""
-        if item.kind == 'Align':
-            at = self.addresses[place]
-            return [NOP] * ((-at % item.target) // 4)
-        if item.kind in ('Op', 'Raw', 'RawPair'):
-            return item.words
-        if item.kind == 'Call':
-            distance = self.distance(place, item.target)
-            return [with_high(item.words[0], distance), with_low(item.words[1], distance)]
+    def word(self, place, item):
+        """What is written of an item of one word."""
         word, = item.words
-        return [{'Word': lambda: self.value(item.target) & 0xFFFFFFFF,
-                 'Hi': lambda: with_high(word, self.value(item.target)),
-                 'Lo': lambda: with_low(word, self.value(item.target)),
-                 'PcHi': lambda: with_high(word, self.distance(place, item.target)),
-                 'PcLo': lambda: with_low(word, self.low_of_pair(place, item)),
-                 'Branch': lambda: with_branch(word, self.distance(place, item.target)),
-                 'Jump': lambda: with_jump(word, self.distance(place, item.target))}[item.kind]()]
+        return {'Op': lambda: word,
+                'Raw': lambda: word,
+                'Word': lambda: self.value(item.target) & 0xFFFFFFFF,
+                'Hi': lambda: with_high(word, self.value(item.target)),
+                'Lo': lambda: with_low(word, self.value(item.target)),
+                'PcHi': lambda: with_high(word, self.distance(place, item.target)),
+                'PcLo': lambda: with_low(word, self.low_of_pair(place, item)),
+                'Branch': lambda: with_branch(word, self.distance(place, item.target)),
+                'Jump': lambda: with_jump(word, self.distance(place, item.target))}[item.kind]()
+
+    def item_bytes(self, place, item):
+        """The bytes that are written of an item."""
+        if item.kind == 'Align':
+            words = [NOP] * ((-self.addresses[place] % item.target) // 4)
+        elif item.kind == 'RawPair':
+            words = item.words
+        elif item.kind == 'Call':
+            distance = self.distance(place, item.target)
+            words = [with_high(item.words[0], distance), with_low(item.words[1], distance)]
+        else:
+            words = [self.word(place, item)]
+        return struct.pack(f'<{len(words)}I', *words)
 
     def text(self):
         """The bytes of the text, with zeros between sections."""
         text = bytearray()
         for place in self.code.places():
             text += bytes(self.addresses[place] - TEXT_AT - len(text))
-            for word in self.words(place, self.code.item(place)):
-                text += word.to_bytes(4, 'little')
+            text += self.item_bytes(place, self.code.item(place))
         return bytes(text) + bytes(self.end - TEXT_AT - len(text))
 
     def data(self):
@@ -107,7 +119,7 @@ class Plain:
     def image(self):
         data = self.code.symbols.data
         return image_bytes(self.text(), self.addresses, self.data(), data.end - data.file_end,
-                           self.addresses[self.code.entry()], 0)
+                           self.addresses[self.code.entry()], self.flags)
 
 
 def plain(files):

@@ -1,0 +1,127 @@
+"""The image that `zc` makes of a list of objects without a fault, as docs/FORMATS.md and the RISC-V ELF psABI have it.
+
+    fuzz/zc_link.py OUT FILE...
+
+writes the image of the files under OUT, or says their first fault. It knows nothing of the program, so that both can be
+compared.
+"""
+import struct
+import sys
+
+from halfwords import short_form
+from object_data import CODE, TEXT_AT, aligned
+from object_faults import Object, told
+from object_items import first_fault
+from plain_link import NOP, Plain, with_branch, with_high, with_jump, with_low
+
+SHORT_NOP = 0x0001
+# How far the forms of two and four bytes reach, back and forth; the longest form always does.
+REACHES = {'Branch': {2: (-256, 254), 4: (-4096, 4094)}, 'Jump': {2: (-2048, 2046)}, 'Call': {2: (-2048, 2046)}}
+
+
+class Zc(Plain):
+    """The link of code without a fault that makes it smaller."""
+
+    flags = 1
+
+    def __init__(self, objects):
+        self.sizes, self.rounds = {}, 0
+        super().__init__(objects)
+
+    # forms
+
+    def forms(self, item):
+        """The sizes that an item may take, the shortest first; of padding none."""
+        word = item.words[0]
+        if item.kind == 'Align':
+            return []
+        if item.kind == 'RawPair':
+            return [8]
+        if item.kind == 'Branch':
+            return [2, 4, 8] if short_form(with_branch(word, 0)) is not None else [4, 8]
+        if item.kind == 'Jump':
+            return [2, 4] if short_form(with_jump(word, 0)) is not None else [4]
+        if item.kind == 'Call':
+            return [2, 4] if short_form(self.call_word(item, 0)) is not None else [4]
+        if item.kind == 'Op':
+            return [4] if short_form(word) is None else [2]
+        if item.kind in ('Hi', 'Lo') and item.target[0] != CODE:
+            whole = (with_high if item.kind == 'Hi' else with_low)(word, item.target[1])
+            return [4] if short_form(whole) is None else [2]
+        return [4]
+
+    def call_word(self, item, distance):
+        """A call as one `jal`."""
+        return with_jump(0x6F | item.words[1] & 0xF80, distance)
+
+    # layout
+
+    def addresses_now(self):
+        """The address of each place at the sizes so far, and where the text ends."""
+        addresses, at = {}, TEXT_AT
+        for (i, k), part in self.code.code_parts():
+            at = aligned(at, part.section.align if part.section.align > 4 else 2)
+            for offset in part.starts:
+                place = i, k, offset
+                addresses[place] = at
+                item = self.items[place]
+                at = aligned(at, item.target) if item.kind == 'Align' else at + self.sizes[place]
+            addresses[i, k, part.section.size] = at
+        return addresses, at
+
+    def fits(self, place, item, addresses):
+        reach = REACHES.get(item.kind, {}).get(self.sizes[place])
+        return reach is None or reach[0] <= addresses[item.target[1:]] - addresses[place] <= reach[1]
+
+    def layout(self):
+        self.items = {place: self.code.item(place) for place in self.code.places()}
+        forms = {place: self.forms(item) for place, item in self.items.items() if item.kind != 'Align'}
+        self.sizes = {place: sizes[0] for place, sizes in forms.items()}
+        grow = [place for place in forms if self.items[place].kind in REACHES]
+        while True:
+            self.rounds += 1
+            addresses, end = self.addresses_now()
+            longer = [place for place in grow if not self.fits(place, self.items[place], addresses)]
+            if not longer:
+                return addresses, end
+            for place in longer:
+                self.sizes[place] = forms[place][forms[place].index(self.sizes[place]) + 1]
+
+    # text
+
+    def item_bytes(self, place, item):
+        if item.kind == 'Align':
+            size = -self.addresses[place] % item.target
+            return struct.pack('<H', SHORT_NOP) * (size % 4 // 2) + struct.pack('<I', NOP) * (size // 4)
+        size = self.sizes[place]
+        if item.kind == 'RawPair':
+            return struct.pack('<2I', *item.words)
+        if item.kind == 'Branch' and size == 8:
+            over = with_branch(item.words[0] ^ 1 << 12, 8)
+            return struct.pack('<2I', over, with_jump(0x6F, self.distance(place, item.target) - 4))
+        word = self.call_word(item, self.distance(place, item.target)) if item.kind == 'Call' else self.word(place, item)
+        return struct.pack('<H', short_form(word)) if size == 2 else struct.pack('<I', word)
+
+
+def zc(files):
+    """The image of files without a fault, and how many bytes of text it has."""
+    made = Zc([Object(data) for data in files])
+    return made.image(), made.end - TEXT_AT
+
+
+def main():
+    files = []
+    for path in sys.argv[2:]:
+        with open(path, 'rb') as file:
+            files.append(file.read())
+    found = first_fault(files)
+    if found:
+        sys.exit(told(found).decode('latin-1'))
+    image, length = zc(files)
+    with open(sys.argv[1], 'wb') as out:
+        out.write(image)
+    print('zc text', length)
+
+
+if __name__ == '__main__':
+    main()
