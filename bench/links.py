@@ -1,0 +1,225 @@
+#!/usr/bin/env python3
+"""Measures `plain` and `zc` on lists of objects with many relocations, beside GNU ld and LLD.
+
+    bench/links.py [--repeats R] [PROGRAM]        PROGRAM is build/zcld if none is given
+
+Objects are made by rule: code that calls functions and uses data of other objects in each way that compilers do, with a
+relocation for nearly every word, and tables of addresses in data. Each list is linked R times by `zcld plain` and `zcld zc`, and
+R times by each other linker for RISC-V that is installed, without relaxation beside `plain` and with it beside `zc`. The last
+list is one for `zc` alone: a chain of branches, each of which reaches just so over the next ones, so that each round of the
+layout makes but a few longer. All calls are made in turn, in an order that changes. A time is the processor's for a whole
+process: the least of the R. A ratio above 1 says that the other linker took longer. Memory is the most that a process held, as
+GNU time tells it.
+"""
+import argparse
+import os
+import random
+import shutil
+import struct
+import sys
+import tempfile
+
+from run import Call, milliseconds, processor_name, table
+
+sys.path.insert(0, os.path.join(os.path.dirname(os.path.abspath(__file__)), os.pardir, 'fuzz'))
+
+from made_objects import A0, A1, A7, ECALL, NOP, RA, T0, T1, ZERO, addi, auipc, branch, jal, jalr, lui, lw, sw
+from object_items import (BRANCH, CALL, HI20, JAL, LO12_I, LO12_S, PCREL_HI20, PCREL_LO12_I, PCREL_LO12_S, R_32, RELAX)
+from written_object import DATA_FLAGS, FUNCTION_TYPE, LOCAL, PROGBITS, Written
+
+LINKERS = {'GNU ld': ('riscv64-unknown-elf-ld', 'riscv32-unknown-elf-ld', 'riscv64-linux-gnu-ld'), 'LLD': ('ld.lld',)}
+# Of each list: how many objects, the words of code and of tables of each, and whether there are hints for relaxation.
+LISTS = ((16, 256, 3072, False), (16, 4080, 64, False), (128, 504, 64, False), (256, 252, 64, False), (256, 252, 64, True))
+# A piece of a function: this many words, and one relocation for nearly each of them.
+PIECE = 16
+NUMBERS = 64
+
+
+class Object:
+    """An object of a list: its functions, and a table of addresses."""
+
+    def __init__(self, number, count, words, hints):
+        self.number, self.count, self.hints = number, count, hints
+        self.made, self.known = Written(), {}
+        self.text = self.made.section(b'.text')
+        if number == 0:
+            self.made.symbol(b'_start', home=self.text)
+        for k in range((words - 3) // PIECE):
+            self.add_piece(k)
+        self.text.words(addi(A0, ZERO, 0), addi(A7, ZERO, 93), ECALL)
+        self.text.words(*[NOP] * (words - len(self.text.content) // 4))
+        held = self.made.section(b'.data', PROGBITS, DATA_FLAGS)
+        held.words(*range(NUMBERS))
+        self.define(b'numbers_%d' % number, held, 0)
+
+    def define(self, name, section, value, **how):
+        symbol = self.named(name)
+        symbol.home, symbol.value = section, value
+        for key, it in how.items():
+            setattr(symbol, key, it)
+
+    def named(self, name):
+        if name not in self.known:
+            self.known[name] = self.made.symbol(name)
+        return self.known[name]
+
+    def function(self, k):
+        """The function k of another object, as each object has as many."""
+        return self.named(b'function_%d_%d' % ((self.number * 7 + k * 13 + 1) % self.count, k))
+
+    def numbers(self, k):
+        return self.named(b'numbers_%d' % ((self.number * 5 + k * 11 + 3) % self.count))
+
+    def reloc(self, kind, symbol, addend, *words):
+        at = self.text.reloc(kind, symbol, addend, words)
+        if self.hints and kind not in (BRANCH, JAL):
+            self.text.reloc(RELAX, None)
+            self.text.relocs[-1].offset = at
+
+    def add_piece(self, k):
+        """A function of 16 words with 14 relocations."""
+        start = len(self.text.content)
+        self.define(b'function_%d_%d' % (self.number, k), self.text, start, kind=FUNCTION_TYPE, size=4 * PIECE)
+        numbers, at = self.numbers(k), 4 * (k % NUMBERS)
+        self.reloc(HI20, numbers, at, lui(T0))
+        self.reloc(LO12_I, numbers, at, addi(T1, T0))
+        for kind, last in ((PCREL_LO12_I, lw(A0, T0)), (PCREL_LO12_S, sw(A0, T0))):
+            label = self.made.symbol(b'.L%d_%d' % (k, kind), home=self.text, value=len(self.text.content), bind=LOCAL)
+            self.reloc(PCREL_HI20, numbers, at, auipc(T0))
+            self.reloc(kind, label, 0, last)
+        self.reloc(HI20, numbers, at, lui(T0))
+        self.reloc(LO12_S, numbers, at, sw(T1, T0))
+        self.reloc(CALL, self.function(k), 0, auipc(RA), jalr(RA, RA))
+        self.reloc(BRANCH, self.named(b'function_%d_%d' % (self.number, k)), 0, branch(1, A0, A1))
+        self.reloc(JAL, self.function(k), 0, jal(RA))
+        self.reloc(HI20, self.function(k), 0, lui(T0))
+        self.reloc(LO12_I, self.function(k), 0, jalr(RA, T0))
+        self.reloc(CALL, self.function(k), 0, auipc(RA), jalr(RA, RA))
+
+    def add_table(self, words, functions):
+        held = self.made.section(b'.data.rel', PROGBITS, DATA_FLAGS)
+        for k in range(words):
+            held.reloc(R_32, self.function(k % functions) if k % 2 else self.numbers(k), 4 * (k % 8) * (1 - k % 2), (0,))
+
+    def relocs(self):
+        return sum(len(section.relocs) for section in self.made.sections)
+
+
+def made_list(count, words, table_words, hints):
+    """The files of a list, and how many bytes of code and relocations they have."""
+    objects = [Object(i, count, words, hints) for i in range(count)]
+    for it in objects:
+        it.add_table(table_words, (words - 3) // PIECE)
+    return [it.made.bytes() for it in objects], 4 * words * count, sum(it.relocs() for it in objects)
+
+
+def chain():
+    """The most code that there may be: branches of which each leads over the next 126, and the last one farther."""
+    made = Written()
+    text = made.section(b'.text')
+    made.symbol(b'_start', home=text)
+    count = 0x10000 - 1 - 400
+    text.words(*[branch(0, A0, ZERO, 4 * 127)] * (count - 1), branch(0, A0, ZERO, 4 * 200), *[NOP] * 400)
+    return made.bytes(), len(text.content)
+
+
+def linkers():
+    """The linkers that are installed, with the words before those of a call."""
+    found = {name: next(filter(None, map(shutil.which, paths)), None) for name, paths in LINKERS.items()}
+    return {name: [path, '-m', 'elf32lriscv', '-Ttext=0x10000', '-Tdata=0x100000'] for name, path in found.items() if path}
+
+
+class Listed:
+    """A list that is linked: what it has, and the calls, by the command and who is asked."""
+
+    def __init__(self, what, paths, folder, number, program, others):
+        self.what = what
+        base = os.path.join(folder, str(number))
+        self.plain = {'zcld': Call([program, 'plain', '--out', base + '.plain', *paths], 0)}
+        self.small = {'zcld': Call([program, 'zc', '--out', base + '.zc', '--cert', base + '.cert', *paths], 0)}
+        for name, words in others.items():
+            self.plain[name] = Call([*words, '--no-relax', '-o', f'{base}.{name[-2:]}', *paths], 0)
+            self.small[name] = Call([*words, '-o', f'{base}.{name[-2:]}.relaxed', *paths], 0)
+        self.images = {'zcld': base + '.zc', **{name: f'{base}.{name[-2:]}.relaxed' for name in others}}
+
+    def calls(self):
+        return [*self.plain.values(), *self.small.values()]
+
+
+def lists_of(program, others, folder):
+    """The lists, and the chain, which no other linker makes smaller."""
+    made = [(made_list(*row), f'{row[0]} objects' + (', with hints' if row[3] else ''), others) for row in LISTS]
+    data, code = chain()
+    made.append((([data], code, 0), 'a chain of branches', {}))
+    lists = []
+    for number, ((files, code, relocs), what, beside) in enumerate(made):
+        paths = [os.path.join(folder, f'{number}_{i}.o') for i in range(len(files))]
+        for path, data in zip(paths, files):
+            with open(path, 'wb') as file:
+                file.write(data)
+        lists.append(Listed((what, code, relocs, sum(map(len, files))), paths, folder, number, program, beside))
+    return lists
+
+
+def text_size(path):
+    """The bytes of code of an image: those of its segments that may be executed."""
+    with open(path, 'rb') as file:
+        data = file.read()
+    start, size, count = struct.unpack_from('<I', data, 28)[0], *struct.unpack_from('<2H', data, 42)
+    headers = [struct.unpack_from('<8I', data, start + size * k) for k in range(count)]
+    return sum(header[4] for header in headers if header[0] == 1 and header[6] & 1)
+
+
+def report(lists, others, kind):
+    timer = shutil.which('time')
+    rows = []
+    for it in lists:
+        calls = getattr(it, kind)
+        mine = calls['zcld']
+        cells = [*it.what, milliseconds(mine.processor), mine.peak(timer)]
+        cells += [text_size(it.images['zcld'])] if kind == 'small' else []
+        for name in others:
+            call = calls.get(name)
+            if call is None:
+                cells += ['', '', ''] + ([''] if kind == 'small' else [])
+                continue
+            cells += [milliseconds(call.processor), call.peak(timer), f'{min(call.processor) / min(mine.processor):.1f}']
+            cells += [text_size(it.images[name])] if kind == 'small' else []
+        rows.append(cells)
+    text = ['text'] if kind == 'small' else []
+    heads = ['list', 'code, bytes', 'relocations', 'files, bytes', f'{"zc" if text else "plain"}, ms', 'KiB', *text]
+    for name in others:
+        heads += [f'{name}, ms', 'KiB', 'ratio', *text]
+    table(heads, rows)
+
+
+def main():
+    arguments = argparse.ArgumentParser(description='Measures `plain` and `zc` on lists of objects with many relocations.')
+    arguments.add_argument('program', nargs='?', default=os.path.join('build', 'zcld'))
+    arguments.add_argument('--repeats', type=int, default=40)
+    given = arguments.parse_args()
+    program = os.path.abspath(given.program)
+    if not os.access(program, os.X_OK):
+        sys.exit(f'{given.program} is no program: `make` builds it')
+    before, others = os.getloadavg()[0], linkers()
+    with tempfile.TemporaryDirectory() as folder:
+        lists = lists_of(program, others, folder)
+        in_turn = [call for it in lists for call in it.calls()]
+        order = random.Random(1)
+        for _ in range(max(1, given.repeats)):
+            order.shuffle(in_turn)
+            for call in in_turn:
+                call.make()
+        print(f'Processor: {processor_name()}, {os.cpu_count()} of them.')
+        print(f'Load over one minute: {before:.1f} before, {os.getloadavg()[0]:.1f} after. '
+              f'Each call was made {given.repeats} times.')
+        print('Times are the processor\'s milliseconds for a whole process, the least of all calls. Memory is the most that a '
+              'process held. Text is in bytes.')
+        beside = ', '.join(f'{name} ({os.path.basename(it[0])})' for name, it in others.items())
+        print(f'Beside `plain` and `zc` stand {beside or "none"}.')
+        report(lists, others, 'plain')
+        report(lists, others, 'small')
+
+
+if __name__ == '__main__':
+    main()
