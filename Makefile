@@ -1,6 +1,6 @@
 # make          proves, compiles and links the program: build/zcld
-# make example  links a monitor of several C files as it is, shows the start of its code and its sizes, and gives its commands to
-#               the image and to the objects; and makes examples/exit3.o smaller, shows that, and runs it
+# make example  links a monitor of several C files as it is and makes it smaller, shows the start of its code and its sizes, and
+#               gives its commands to both images and to the objects; and makes examples/exit3.o smaller, shows that, and runs it
 # make check    runs the gate: every proof, must-fail edit, test and program, and then the program that this built over real
 #               files, and looks up the documents' names
 # make install  installs the program below $(DESTDIR)$(PREFIX)/bin
@@ -24,14 +24,17 @@ build/zcld: $(SOURCES)
 	install -m 755 crates/zcld/out/zcld build/zcld
 
 example: build/zcld
-	@echo "a monitor of several C files, linked as it is:"
-	build/zcld plain --out build/monitor.elf $(MONITOR)
+	@echo "a monitor of several C files, linked as it is, and made smaller:"
+	build/zcld plain --out build/monitor.plain $(MONITOR)
+	build/zcld zc --out build/monitor.elf --cert build/monitor.cert $(MONITOR)
 	@if command -v $(OBJDUMP) > /dev/null; then $(OBJDUMP) -h build/monitor.elf; $(OBJDUMP) -d build/monitor.elf | sed -n 1,24p; fi
-	@echo "the image does these commands, and so do the objects; both end with status 2:"
+	@echo "both images do these commands, and so do the objects; each ends with status 2:"
 	cat examples/monitor/input
 	build/zcld run build/monitor.elf < examples/monitor/input > build/monitor.out; status=$$?; cat build/monitor.out; test $$status -eq 2
+	build/zcld run build/monitor.plain < examples/monitor/input > build/monitor.plain.out; test $$? -eq 2
 	build/zcld trace $(MONITOR) < examples/monitor/input > build/monitor.traced; test $$? -eq 2
 	cmp build/monitor.out examples/monitor/output
+	cmp build/monitor.plain.out examples/monitor/output
 	cmp build/monitor.traced examples/monitor/output
 	@echo "examples/exit3.o, made smaller, with the certificate of its jump table:"
 	build/zcld zc --out build/exit3.elf --cert build/exit3.cert $(EXAMPLE)
