@@ -1,6 +1,6 @@
 // The objects with their code cut into items.
 
-ghost use Rattle.std.specs.Prelude.{◌≡◌, ◌<◌, ◌+◌, ◌^◌, None, IfOk, IfErr, IfSome};
+ghost use Rattle.std.specs.Prelude.{◌≡◌, ◌<◌, ◌+◌, ◌^◌, None, Some, IfOk, IfErr, IfSome};
 ghost use Rattle.std.specs.Option.{option_map};
 ghost use Rattle.psabi_sym.specs.Faults.{gather_fault};
 ghost use Rattle.psabi_sym.specs.Inputs.{parsed, Inputs};
@@ -112,6 +112,19 @@ impl Cut {
                 section: p.section,
                 offset: p.offset + item_size(&item),
             }),
+        }
+    }
+
+    /// The place after an item that was found at a place, without another look.
+    pub fn next_after(&self, p: Place, item: &Item) -> Place
+        requires { item_at (parsed self.now) p ≡ Some item.now }
+        ensures { result ≡ next_at (parsed self.now).objects p }
+    {
+        let _ = &self.text;
+        Place {
+            object: p.object,
+            section: p.section,
+            offset: p.offset + item_size(item),
         }
     }
 
