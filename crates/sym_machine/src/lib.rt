@@ -10,6 +10,7 @@ pub mod held;
 mod items;
 pub mod known;
 pub mod memory;
+mod quick;
 mod results;
 pub mod run;
 pub mod state;

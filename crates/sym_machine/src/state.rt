@@ -1,14 +1,14 @@
 // The state of the symbolic machine, and how each step ends.
 
-ghost use Rattle.std.specs.Prelude.{◌≡◌, ◌<◌, ◌≤◌, ◌%◌, IfOk, MatchOption, None, Some, true};
+ghost use Rattle.std.specs.Prelude.{◌≡◌, ◌<◌, ◌≤◌, ◌%◌, [], IfOk, MatchOption, None, OnFalse, OnTrue, Some, true};
 ghost use Rattle.psabi_sym.specs.Inputs.{parsed};
-ghost use Rattle.sym_machine.specs.Answer.{Makes, StepAnswers};
+ghost use Rattle.sym_machine.specs.Answer.{Makes, RunsOn, StepAnswers};
 ghost use Rattle.sym_machine.specs.Change.{Goes, Stops, call_to, exit_does, gives, in_memory, is_output, load_word, numbers_at, onward, output_does, puts, read_does};
 ghost use Rattle.sym_machine.specs.Kept.{IsOf, word_of};
 ghost use Rattle.sym_machine.specs.Objects.{program_of};
 ghost use Rattle.sym_machine.specs.State.{first_plain, reg_of};
 ghost use Rattle.sym_machine.specs.Step.{made, plain_step};
-ghost use Rattle.sym_machine.specs.Words.{number_of};
+ghost use Rattle.sym_machine.specs.Words.{code_word, number_of, number_word};
 
 use crate::arguments::Arguments;
 use crate::first_data::first_data;
@@ -155,9 +155,10 @@ impl State {
         let Some(item) = cut.item(place) else {
             return Ok(self.stuck(Why::NoInstruction));
         };
-        let Some(next) = cut.next(place) else {
-            return Ok(self.stuck(Why::NoInstruction));
-        };
+        let next = cut.next_after(place, &item);
+        if self.quick_item(&item, next) {
+            return Ok(SymStep::Done);
+        }
         self.step_item(cut, &item, next)
     }
 
@@ -174,8 +175,73 @@ impl State {
         requires { self.old.core.exit ≡ None }
         ensures { StepAnswers (made self.old.map self.old.core (Goes (onward to))) result self.old.core self.new.core }
     {
-        self.place = to;
+        self.pass(to);
         SymStep::Done
+    }
+
+    /// The same, with nothing to answer.
+    pub fn pass(&mut self, to: Place)
+        requires { self.old.core.exit ≡ None }
+        ensures { RunsOn (made self.old.map self.old.core (Goes (onward to))) [] self.old.core self.new.core }
+    {
+        self.place = to;
+    }
+
+    /// Gives a number to a register, and goes on to a place; not if the register is register 0, or sp
+    /// can't have the number.
+    pub fn give_number(&mut self, rd: Reg, n: u32, to: Place) -> bool
+        requires { self.old.core.exit ≡ None }
+        ensures made { OnTrue result (RunsOn (made self.old.map self.old.core (Goes (gives rd (number_word n) to))) [] self.old.core self.new.core) }
+        ensures same { OnFalse result (self.new ≡ self.old) }
+    {
+        match rd.number() {
+            0 => false,
+            2 => self.move_sp(n, to),
+            r => {
+                self.registers[r as usize] = Held::Number(n);
+                self.place = to;
+                true
+            }
+        }
+    }
+
+    // Moves sp to an address, and goes on to a place; not if the address isn't in the stack, or there is
+    // no room for the bytes from it up.
+    fn move_sp(&mut self, sp: u32, to: Place) -> bool
+        requires { self.old.core.exit ≡ None }
+        ensures made { OnTrue result (RunsOn (made self.old.map self.old.core (Goes (gives 2 (number_word sp) to))) [] self.old.core self.new.core) }
+        ensures same { OnFalse result (self.new ≡ self.old) }
+    {
+        let _ = &self.registers;
+        if !self.memory.has_sp(sp) {
+            return false;
+        }
+        if self.memory.settle(sp).is_err() {
+            return false;
+        }
+        self.registers[2] = Held::Number(sp);
+        self.place = to;
+        true
+    }
+
+    /// Jumps to a place, with the next place's address in a register; not if that is sp.
+    pub fn link(&mut self, rd: Reg, to: Place, next: Place) -> bool
+        requires { self.old.core.exit ≡ None }
+        ensures made { OnTrue result (RunsOn (made self.old.map self.old.core (Goes (gives rd (code_word next) to))) [] self.old.core self.new.core) }
+        ensures same { OnFalse result (self.new ≡ self.old) }
+    {
+        match rd.number() {
+            0 => {
+                self.pass(to);
+                true
+            }
+            2 => false,
+            r => {
+                self.registers[r as usize] = Held::Code(next);
+                self.place = to;
+                true
+            }
+        }
     }
 
     /// Gives a word to a register, and goes on to a place.

@@ -1,0 +1,181 @@
+// Steps by numbers alone, as most steps are. They change registers and memory in place, and copy no
+// word of bytes. What isn't made here is left to the steps by items, which say the same of it.
+
+ghost use Rattle.std.specs.Prelude.{◌≡◌, ℤ, [], None, IfSome, OnTrue, OnFalse};
+ghost use Rattle.rv_decode.specs.declared.instr.Instr.TheVariants.{Branch, Jalr, WithImm, WithReg};
+ghost use Rattle.sym_machine.specs.Answer.{RunsOn};
+ghost use Rattle.sym_machine.specs.Change.{branch_to, item_does, jump_to, op_does};
+ghost use Rattle.sym_machine.specs.Program.{Program};
+ghost use Rattle.sym_machine.specs.State.{reg_of};
+ghost use Rattle.sym_machine.specs.Step.{made};
+ghost use Rattle.sym_machine.specs.Words.{code_word, number_word};
+
+use crate::held::Held;
+use crate::state::State;
+use block_cut::item::Item;
+use rv_decode::instr::{BranchOp, ImmOp, Instr, RegOp};
+use rv_decode::results::{imm_result, is_taken, reg_result};
+use zc_base::place::Place;
+use zc_base::reg::Reg;
+
+impl State {
+    /// Makes the step of an item, with the place after it, if it is one by numbers alone, and else
+    /// changes nothing.
+    pub fn quick_item(&mut self, item: &Item, next: Place) -> bool
+        requires { self.old.core.exit ≡ None }
+        ensures made { OnTrue result ((p : Program) → RunsOn (made self.old.map self.old.core (item_does p item.now self.old.core next)) [] self.old.core self.new.core) }
+        ensures same { OnFalse result (self.new ≡ self.old) }
+    {
+        match item {
+            Item::Op(instr) => self.quick_op(instr, next),
+            Item::Branch(instr, to) => self.quick_branch(instr, *to, next),
+            Item::Jump(instr, to) => self.quick_jump(instr, *to, next),
+            Item::Hi(..)
+            | Item::Lo(..)
+            | Item::PcHi(..)
+            | Item::PcLo(..)
+            | Item::Call { .. }
+            | Item::Align(_)
+            | Item::Word(_)
+            | Item::Raw(_)
+            | Item::RawPair(..) => false,
+        }
+    }
+
+    // The same of an instruction without relocation.
+    fn quick_op(&mut self, instr: &Instr, next: Place) -> bool
+        requires { self.old.core.exit ≡ None }
+        ensures made { OnTrue result (RunsOn (made self.old.map self.old.core (op_does instr.now self.old.core next)) [] self.old.core self.new.core) }
+        ensures same { OnFalse result (self.new ≡ self.old) }
+    {
+        match instr {
+            Instr::WithImm { op, rd, first, imm } => self.quick_imm(*op, *rd, *first, *imm, next),
+            Instr::WithReg {
+                op,
+                rd,
+                first,
+                second,
+            } => self.quick_reg(*op, *rd, *first, *second, next),
+            Instr::Jalr { rd, base, imm } => self.quick_return(*rd, *base, *imm, next),
+            Instr::Load { .. }
+            | Instr::Store { .. }
+            | Instr::Upper { .. }
+            | Instr::Jal { .. }
+            | Instr::Branch { .. }
+            | Instr::Fence { .. }
+            | Instr::Ecall
+            | Instr::Ebreak
+            | Instr::Csrrw { .. } => false,
+        }
+    }
+
+    // The number that a register holds, if the register tells it without a look at bytes.
+    fn plain(&self, r: Reg) -> Option<u32>
+        ensures { IfSome result (λ n. reg_of self.now.core r ≡ number_word n) }
+    {
+        match self.register(r) {
+            Held::Number(n) => Some(*n),
+            Held::Code(_) | Held::Bytes(_) => None,
+        }
+    }
+
+    // The place whose address a register holds, told in the same way.
+    fn plain_code(&self, r: Reg) -> Option<Place>
+        ensures { IfSome result (λ q. reg_of self.now.core r ≡ code_word q) }
+    {
+        match self.register(r) {
+            Held::Code(q) => Some(*q),
+            Held::Number(_) | Held::Bytes(_) => None,
+        }
+    }
+
+    // An operation on a register and an immediate.
+    fn quick_imm(&mut self, op: ImmOp, rd: Reg, first: Reg, imm: i32, next: Place) -> bool
+        requires { self.old.core.exit ≡ None }
+        ensures made { OnTrue result (RunsOn (made self.old.map self.old.core (op_does (WithImm op rd first imm) self.old.core next)) [] self.old.core self.new.core) }
+        ensures same { OnFalse result (self.new ≡ self.old) }
+    {
+        match self.plain(first) {
+            Some(n) => self.give_number(rd, imm_result(op, n, imm), next),
+            None => false,
+        }
+    }
+
+    // An operation on two registers.
+    fn quick_reg(&mut self, op: RegOp, rd: Reg, first: Reg, second: Reg, next: Place) -> bool
+        requires { self.old.core.exit ≡ None }
+        ensures made { OnTrue result (RunsOn (made self.old.map self.old.core (op_does (WithReg op rd first second) self.old.core next)) [] self.old.core self.new.core) }
+        ensures same { OnFalse result (self.new ≡ self.old) }
+    {
+        match (self.plain(first), self.plain(second)) {
+            (Some(a), Some(b)) => self.give_number(rd, reg_result(op, a, b), next),
+            _ => false,
+        }
+    }
+
+    // A `jalr` to the place whose address a register holds.
+    fn quick_return(&mut self, rd: Reg, base: Reg, imm: i32, next: Place) -> bool
+        requires { self.old.core.exit ≡ None }
+        ensures made { OnTrue result (RunsOn (made self.old.map self.old.core (op_does (Jalr rd base imm) self.old.core next)) [] self.old.core self.new.core) }
+        ensures same { OnFalse result (self.new ≡ self.old) }
+    {
+        if imm != 0 {
+            return false;
+        }
+        match self.plain_code(base) {
+            Some(to) => self.link(rd, to, next),
+            None => false,
+        }
+    }
+
+    // A `jal` to a place.
+    fn quick_jump(&mut self, instr: &Instr, to: Place, next: Place) -> bool
+        requires { self.old.core.exit ≡ None }
+        ensures made { OnTrue result (RunsOn (made self.old.map self.old.core (jump_to instr.now to next)) [] self.old.core self.new.core) }
+        ensures same { OnFalse result (self.new ≡ self.old) }
+    {
+        match instr {
+            Instr::Jal { rd, .. } => self.link(*rd, to, next),
+            _ => false,
+        }
+    }
+
+    // A branch to a place.
+    fn quick_branch(&mut self, instr: &Instr, to: Place, next: Place) -> bool
+        requires { self.old.core.exit ≡ None }
+        ensures made { OnTrue result ((p : Program) → RunsOn (made self.old.map self.old.core (branch_to p instr.now to self.old.core next)) [] self.old.core self.new.core) }
+        ensures same { OnFalse result (self.new ≡ self.old) }
+    {
+        match instr {
+            Instr::Branch {
+                op,
+                first,
+                second,
+                ..
+            } => self.quick_compare(*op, *first, *second, to, next),
+            _ => false,
+        }
+    }
+
+    // Goes on to a place if a condition on two registers holds, and else to the next one.
+    fn quick_compare(
+        &mut self,
+        op: BranchOp,
+        first: Reg,
+        second: Reg,
+        to: Place,
+        next: Place,
+    ) -> bool
+        requires { self.old.core.exit ≡ None }
+        ensures made { OnTrue result ((p : Program) → (distance : ℤ) → RunsOn (made self.old.map self.old.core (branch_to p (Branch op first second distance) to self.old.core next)) [] self.old.core self.new.core) }
+        ensures same { OnFalse result (self.new ≡ self.old) }
+    {
+        match (self.plain(first), self.plain(second)) {
+            (Some(a), Some(b)) => {
+                self.pass(if is_taken(op, a, b) { to } else { next });
+                true
+            }
+            _ => false,
+        }
+    }
+}
