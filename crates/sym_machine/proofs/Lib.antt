@@ -4,3 +4,4 @@ pub mod StepLaws
 pub mod MemoryLaws
 pub mod StateLaws
 pub mod RunLaws
+pub mod WordLaws

@@ -1,10 +1,12 @@
 // Steps by numbers alone, as most steps are. They change registers and memory in place, and copy no
 // word of bytes. What isn't made here is left to the steps by items, which say the same of it.
 
-ghost use Rattle.std.specs.Prelude.{◌≡◌, ℤ, [], None, IfSome, OnTrue, OnFalse};
-ghost use Rattle.rv_decode.specs.declared.instr.Instr.TheVariants.{Branch, Jalr, WithImm, WithReg};
+ghost use Rattle.std.specs.Prelude.{◌≡◌, ◌<◌, ◌^◌, [], None, IfSome};
+ghost use Rattle.std.specs.Bool.{OnFalse, OnTrue};
+ghost use Rattle.rv_decode.specs.declared.instr.Instr.TheVariants.{Jalr, WithImm, WithReg};
 ghost use Rattle.sym_machine.specs.Answer.{RunsOn};
-ghost use Rattle.sym_machine.specs.Change.{branch_to, item_does, jump_to, op_does};
+ghost use Rattle.sym_machine.specs.Change.{branch_does, branch_to, item_does, jump_to, op_does};
+ghost use Rattle.sym_machine.specs.Conditions.{condition};
 ghost use Rattle.sym_machine.specs.Program.{Program};
 ghost use Rattle.sym_machine.specs.State.{reg_of};
 ghost use Rattle.sym_machine.specs.Step.{made};
@@ -71,7 +73,8 @@ impl State {
 
     // The number that a register holds, if the register tells it without a look at bytes.
     fn plain(&self, r: Reg) -> Option<u32>
-        ensures { IfSome result (λ n. reg_of self.now.core r ≡ number_word n) }
+        ensures is { IfSome result (λ n. reg_of self.now.core r ≡ number_word n) }
+        ensures below { IfSome result (λ n. n < 2 ^ 32) }
     {
         match self.register(r) {
             Held::Number(n) => Some(*n),
@@ -167,7 +170,7 @@ impl State {
         next: Place,
     ) -> bool
         requires { self.old.core.exit ≡ None }
-        ensures made { OnTrue result ((p : Program) → (distance : ℤ) → RunsOn (made self.old.map self.old.core (branch_to p (Branch op first second distance) to self.old.core next)) [] self.old.core self.new.core) }
+        ensures made { OnTrue result ((p : Program) → RunsOn (made self.old.map self.old.core (branch_does (condition p op (reg_of self.old.core first) (reg_of self.old.core second)) to next)) [] self.old.core self.new.core) }
         ensures same { OnFalse result (self.new ≡ self.old) }
     {
         match (self.plain(first), self.plain(second)) {

@@ -1,6 +1,7 @@
 // The state of the symbolic machine, and how each step ends.
 
-ghost use Rattle.std.specs.Prelude.{◌≡◌, ◌<◌, ◌≤◌, ◌%◌, [], IfOk, MatchOption, None, OnFalse, OnTrue, Some, true};
+ghost use Rattle.std.specs.Prelude.{◌≡◌, ◌<◌, ◌≤◌, ◌%◌, [], IfOk, MatchOption, None, Some, true};
+ghost use Rattle.std.specs.Bool.{OnFalse, OnTrue};
 ghost use Rattle.psabi_sym.specs.Inputs.{parsed};
 ghost use Rattle.sym_machine.specs.Answer.{Makes, RunsOn, StepAnswers};
 ghost use Rattle.sym_machine.specs.Change.{Goes, Stops, call_to, exit_does, gives, in_memory, is_output, load_word, numbers_at, onward, output_does, puts, read_does};
@@ -216,12 +217,14 @@ impl State {
         if !self.memory.has_sp(sp) {
             return false;
         }
-        if self.memory.settle(sp).is_err() {
-            return false;
+        match self.memory.settle(sp) {
+            Ok(()) => {
+                self.registers[2] = Held::Number(sp);
+                self.place = to;
+                true
+            }
+            Err(_) => false,
         }
-        self.registers[2] = Held::Number(sp);
-        self.place = to;
-        true
     }
 
     /// Jumps to a place, with the next place's address in a register; not if that is sp.

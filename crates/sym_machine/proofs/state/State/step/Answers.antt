@@ -1,10 +1,9 @@
 -- A step goes by the exit's status, and then by what stands at the place.
 use Rattle.std.proofs.Common.{◌≡◌, None, Some, ap, sym, ◌∙◌, refl, inr, subst}
-use Rattle.std.specs.Option.{option_map}
 use Rattle.psabi_sym.specs.Inputs.{parsed}
 use Rattle.rv_decode.specs.Memory.{extents_of}
 use Rattle.sym_machine.specs.Answer.{Makes, StepAnswers}
-use Rattle.sym_machine.specs.Change.{place_does}
+use Rattle.sym_machine.specs.Change.{item_does, place_does}
 use Rattle.sym_machine.specs.Kept.{Working}
 use Rattle.sym_machine.specs.Objects.{program_of}
 use Rattle.sym_machine.specs.Program.{Program}
@@ -43,6 +42,17 @@ returns-in_default-item c =
     let is = step_here (goal.at.returns-in_default-item c).After-item ∙ ap (λ o. made c.args.self.now.map s (place_does p o s (p.next c.self.inside.place))) none in
     subst (λ (st : PlainStep). StepAnswers st c.stuck.result s s) (sym is) c.stuck.ensures
 
+pub returns-then-quick_item : goal.returns-then-quick_item
+unfolding program_of
+returns-then-quick_item c =
+    let p : Program = program_of (parsed c.args.cut.now) in
+    let s : PlainCore = c.args.self.now.core in
+    let here : p.item c.self.inside.place ≡ Some c.in-Some-item.item = sym c.item.ensures.item ∙ c.in-Some-item.is in
+    let next : p.next c.self.inside.place ≡ c.next_after-next.result = sym c.next_after-next.ensures in
+    let is = step_here (goal.at.returns-then-quick_item c).After-item ∙ (λ j. made c.args.self.now.map s (place_does p (here j) s (next j))) in
+    let does = c.if-quick_item.ensures.made p in
+    (does.0, does.1, is ∙ does.2)
+
 pub returns : goal.returns
 unfolding program_of
 returns c =
@@ -50,7 +60,7 @@ returns c =
     let s : PlainCore = c.args.self.now.core in
     let item = c.in-Some-item.item in
     let here : p.item c.self.inside.place ≡ Some item = sym c.item.ensures.item ∙ c.in-Some-item.is in
-    let found : Some (p.next c.self.inside.place) ≡ Some c.in-Some-next.next = ap (option_map (λ _. p.next c.self.inside.place)) (sym here) ∙ sym c.next.ensures ∙ c.in-Some-next.is in
-    let next : p.next c.self.inside.place ≡ c.in-Some-next.next = cc in
+    let next : p.next c.self.inside.place ≡ c.next_after-next.result = sym c.next_after-next.ensures in
     let is = step_here (goal.at.returns c).After-item ∙ (λ j. made c.args.self.now.map s (place_does p (here j) s (next j))) in
-    subst (λ (st : PlainStep). Makes c.step_item.result st s c.step_item.new.self.core) (sym is) c.step_item.ensures
+    subst (λ (st : PlainStep). Makes c.step_item.result st s c.step_item.new.self.core) (sym is)
+    (subst (λ (w : Working). Makes c.step_item.result (made w.map w.core (item_does p item w.core c.next_after-next.result)) w.core c.step_item.new.self.core) c.if-quick_item.ensures.same c.step_item.ensures)

@@ -1,16 +1,15 @@
-use Rattle.std.proofs.Common.{◌≡◌, None, ap, ◌∙◌, drop, subst}
-use Rattle.sym_machine.specs.declared.step.SymStep.TheVariants as answer
-use Rattle.sym_machine.specs.Answer.{StepAnswers}
+use Rattle.std.proofs.Common.{◌≡◌, [], None, ap, ◌∙◌, drop, subst}
+use Rattle.sym_machine.specs.Answer.{RunsOn}
 use Rattle.sym_machine.specs.Change.{Goes, onward}
 use Rattle.sym_machine.specs.Kept.{Working}
 use Rattle.sym_machine.specs.Step.{made}
 use Rattle.sym_machine.proofs.StateLaws.{core_of, goes_on}
-use Rattle.sym_machine.proofs.state.State.go.Goals as goal
+use Rattle.sym_machine.proofs.state.State.pass.Goals as goal
 
 pub returns : goal.returns
 returns c =
     let i = c.self.inside in
     let running : i.exit ≡ None = ap (λ (w : Working). w.core.exit) c.self.view_is ∙ c.requires in
     let input = drop i.taken i.input.items in
-    subst (λ (w : Working). StepAnswers (made w.map w.core (Goes (onward c.args.to))) answer.Done w.core (core_of c.args.to i.registers i.memory input i.exit)) c.self.view_is
+    subst (λ (w : Working). RunsOn (made w.map w.core (Goes (onward c.args.to))) [] w.core (core_of c.args.to i.registers i.memory input i.exit)) c.self.view_is
     (goes_on i.memory i.registers c.self.invariant.0 i.place c.args.to input i.exit running)

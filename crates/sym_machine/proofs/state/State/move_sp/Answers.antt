@@ -1,0 +1,29 @@
+-- sp is set to a number within the stack.
+use Rattle.std.proofs.Common.{◌≡◌, [], None, ap, sym, ◌∙◌, drop, subst, set, leb, arith}
+use Rattle.std.proofs.lemmas.Bool.{and_parts, leb-true}
+use Rattle.sym_machine.specs.declared.held.Held.TheVariants as held
+use Rattle.sym_machine.specs.Answer.{RunsOn}
+use Rattle.sym_machine.specs.Change.{Goes, gives}
+use Rattle.sym_machine.specs.Kept.{Working}
+use Rattle.sym_machine.specs.Step.{made}
+use Rattle.sym_machine.specs.Words.{number_word}
+use Rattle.sym_machine.proofs.StateLaws.{core_of, gives_sp, working_sp}
+use Rattle.sym_machine.proofs.WordLaws.{number_back}
+use Rattle.sym_machine.proofs.state.State.move_sp.Goals as goal
+
+pub invariant_of-self : goal.invariant_of-self
+invariant_of-self c =
+    let i = c.self.inside in
+    (working_sp i.registers i.memory c.settle.new.self (held.Number c.args.sp) c.args.sp c.self.invariant.0 c.in-Ok.ensures.kept c.in-Ok.ensures.from (number_back c.args.sp (omega arith)), c.self.invariant.1)
+
+pub returns-in-Ok-clause-made : goal.returns-in-Ok-clause-made
+returns-in-Ok-clause-made c =
+    let i = c.self.inside in
+    let running : i.exit ≡ None = ap (λ (w : Working). w.core.exit) c.self.view_is ∙ c.requires in
+    let input = drop i.taken i.input.items in
+    let sp = c.args.sp in
+    let has = and_parts (leb i.memory.map.stack_low sp) (leb sp i.memory.map.stack_high) (sym c.has_sp.ensures ∙ c.if-not-has_sp.false) in
+    let low = leb-true i.memory.map.stack_low sp has.0 in
+    let high = leb-true sp i.memory.map.stack_high has.1 in
+    subst (λ (w : Working). RunsOn (made w.map w.core (Goes (gives 2 (number_word sp) c.args.to))) [] w.core (core_of c.args.to (set i.registers 2 (held.Number sp)) c.settle.new.self input i.exit)) c.self.view_is
+    (gives_sp i.memory i.registers c.self.invariant.0 i.place c.args.to input i.exit running (held.Number sp) sp c.settle.new.self (number_back sp (omega arith)) low high c.in-Ok.ensures.regions)
