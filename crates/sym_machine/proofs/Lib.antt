@@ -5,3 +5,4 @@ pub mod MemoryLaws
 pub mod StateLaws
 pub mod RunLaws
 pub mod WordLaws
+pub mod SpanLaws

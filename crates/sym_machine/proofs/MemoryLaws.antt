@@ -64,7 +64,7 @@ module _ {X : Type 0} (f g h : ℕ → X → X) (both : (x : ℕ) (c : X) → f 
   changed-after (r ∷ rs) = ap₂ (λ cs xs. record r { cells = cs } ∷ xs) (cells_changed-after r.at r.cells) (changed-after rs)
 
 -- an address in the range gets its cell
-written_in : {X : Type 0} (a n : ℕ) (given : ℕ → X) (x : ℕ) (old : X) → a ≤ x → x < a + n → written a n given x old ≡ given (x - a)
+pub written_in : {X : Type 0} (a n : ℕ) (given : ℕ → X) (x : ℕ) (old : X) → a ≤ x → x < a + n → written a n given x old ≡ given (x - a)
 written_in a n given x old low high =
     cond-true (leb a x && ltb x (a + n)) (given (x - a)) old (and_from (leb a x) (ltb x (a + n)) (le-leb a x low) (lt-ltb x (a + n) high))
 
@@ -73,7 +73,7 @@ written_none : {X : Type 0} (a : ℕ) (given : ℕ → X) (x : ℕ) (c : X) → 
 written_none a given x c = untouched a 0 given x c (λ low high. omega (arith, low, high))
 
 -- one cell more
-written_more : {X : Type 0} (a n : ℕ) (given : ℕ → X) (x : ℕ) (c : X) → written (a + n) 1 (λ _. given n) x (written a n given x c) ≡ written a (n + 1) given x c
+pub written_more : {X : Type 0} (a n : ℕ) (given : ℕ → X) (x : ℕ) (c : X) → written (a + n) 1 (λ _. given n) x (written a n given x c) ≡ written a (n + 1) given x c
 written_more a n given x c = ⊎_elim
     (λ before. untouched (a + n) 1 (λ _. given n) x (written a n given x c) (λ low high. omega (arith, before, low)) ∙ ⊎_elim
     (λ below. untouched a n given x c (λ low high. omega (arith, below, low)) ∙ sym (untouched a (n + 1) given x c (λ low high. omega (arith, below, low))))
@@ -137,7 +137,7 @@ settled_stays k is =
 -- ---- changes of what is kept
 
 -- bytes of data and of the stack are changed, as many as there are
-changed_kept : (k : Kept) (f : ℕ → SymByte → SymByte) (bytes' above' : List SymByte) → IsKept k → length bytes' ≡ length k.bytes → length above' ≡ length k.above
+pub changed_kept : (k : Kept) (f : ℕ → SymByte → SymByte) (bytes' above' : List SymByte) → IsKept k → length bytes' ≡ length k.bytes → length above' ≡ length k.above
     → ((i : ℕ) (d : SymByte) → i < length k.bytes → get_or bytes' i d ≡ f (k.map.data_low + i) (get_or k.bytes i d))
     → ((j : ℕ) (d : SymByte) → j < length k.above → get_or above' j d ≡ f (k.map.stack_high - 1 - j) (get_or k.above j d))
     → IsChanged f k (record { map = k.map; bytes = bytes'; above = above' })

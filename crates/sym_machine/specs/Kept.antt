@@ -2,9 +2,11 @@
 use Rattle.std.specs.Prelude.{◌≡◌, ℕ, ◌+◌, ◌-◌, ◌<◌, ◌≤◌, List, [], ◌∷◌, length, map, Some, slice_index_or}
 use Rattle.std.specs.List.{range_with_len}
 use Rattle.zc_base.specs.declared.mem_map.MemMap.{MemMap}
-use Rattle.rv_decode.specs.Memory.{Region, Data, Stack, changed, extents_of}
+use Rattle.rv_decode.specs.Memory.{Region, Data, Stack, cell_at, changed, extents_of, written}
 use Rattle.sym_machine.specs.declared.held.Held.{Held}
 use Rattle.sym_machine.specs.declared.held.Held.TheVariants as held
+use Rattle.sym_machine.specs.declared.span.Span.{Span}
+use Rattle.sym_machine.specs.declared.span.Span.TheVariants as span
 use Rattle.sym_machine.specs.declared.word.SymByte.{SymByte}
 use Rattle.sym_machine.specs.declared.word.SymByte.TheVariants.{Undef}
 use Rattle.sym_machine.specs.declared.word.SymWord.{SymWord}
@@ -65,6 +67,22 @@ pub record IsChanged (f : ℕ → SymByte → SymByte) (old new : Kept) : Type 0
   pub map : new.map ≡ old.map
   pub from : kept_from new ≡ kept_from old
   pub regions : regions_of new ≡ changed (above_only old f) (regions_of old)
+
+-- where n bytes from an address on are kept
+abbrev pub IsSpan : Kept → ℕ → ℕ → Span → Type 0
+IsSpan k a n (span.Data i) = (a ≡ k.map.data_low + i) × (i + n ≤ length k.bytes)
+IsSpan k a n (span.Stack i) = (a + i ≡ k.map.stack_high) × (n ≤ i) × (i ≤ length k.above)
+IsSpan k a n span.Elsewhere = k ≡ k
+
+-- the word of the four bytes from an address on
+abbrev pub word_at : List (Region SymByte) → ℕ → SymWord
+word_at memory a =
+    record { b0 = cell_at Undef memory a; b1 = cell_at Undef memory (a + 1); b2 = cell_at Undef memory (a + 2); b3 = cell_at Undef memory (a + 3) }
+
+-- cells after these bytes were written from an address on, by the address of each cell
+abbrev pub IsWritten : (ℕ → ℕ) → ℕ → List SymByte → List SymByte → List SymByte → Type 0
+IsWritten at a bytes old new =
+    (j : ℕ) (d : SymByte) → j < length old → slice_index_or new j d ≡ written a (length bytes) (λ i. slice_index_or bytes i Undef) (at j) (slice_index_or old j d)
 
 -- ---- states
 

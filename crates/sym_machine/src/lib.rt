@@ -13,6 +13,7 @@ pub mod memory;
 mod quick;
 mod results;
 pub mod run;
+pub mod span;
 pub mod state;
 pub mod step;
 pub mod sym;

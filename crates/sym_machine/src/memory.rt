@@ -1,12 +1,15 @@
 // The memory of the symbolic machine.
 
-ghost use Rattle.std.specs.Prelude.{◌≡◌, ◌≤◌, ◌+◌, ◌<◌, ◌^◌, ◌&&◌, nat_le, [], IfOk, OnOk, OnErr, MatchOption, None, Some, length, map, slice_index_or, slice_set};
+ghost use Rattle.std.specs.Bool.{OnFalse, OnTrue};
+ghost use Rattle.std.specs.Prelude.{◌≡◌, ◌≤◌, ◌+◌, ◌-◌, ◌<◌, ◌^◌, ◌&&◌, ℕ, nat_le, [], IfOk, IfSome, OnOk, OnErr, MatchOption, None, Some, true, length, map, slice_index_or, slice_set};
 ghost use Rattle.rv_decode.specs.Memory.{Kind, cell_at, changed, extents_of, is_data, lies_in, spans, written};
 ghost use Rattle.sym_machine.specs.Change.{numbers_at};
-ghost use Rattle.sym_machine.specs.Kept.{IsChanged, IsKept, kept_from, regions_of};
+ghost use Rattle.sym_machine.specs.Kept.{IsChanged, IsKept, IsSpan, IsWritten, kept_from, regions_of, word_at};
 ghost use Rattle.sym_machine.specs.Step.{undefined_below};
+ghost use Rattle.sym_machine.specs.Words.{number_word};
 ghost use Rattle.sym_machine.specs.declared.word.SymByte.TheVariants.{Num, Undef};
 
+use crate::span::Span;
 use crate::word::SymByte;
 use std::alloc::{AllocError, Global};
 use std::marker::Model;
@@ -77,6 +80,101 @@ impl Memory {
             return byte_in(&self.bytes, a - u64::from(map.data_low));
         }
         SymByte::Undef
+    }
+
+    // Where so many bytes from an address on are kept.
+    #[inline(always)]
+    fn span(&self, a: u32, n: usize) -> Span
+        ensures { IsSpan self.now a n result }
+    {
+        let map = &self.map;
+        if map.stack_low <= a {
+            if a <= map.stack_high {
+                let i = (map.stack_high - a) as usize;
+                if n <= i && i <= self.above.len() {
+                    return Span::Stack(i);
+                }
+            }
+            return Span::Elsewhere;
+        }
+        if map.data_low <= a {
+            let i = (a - map.data_low) as usize;
+            let size = self.bytes.len();
+            if n <= size && i <= size - n {
+                return Span::Data(i);
+            }
+        }
+        Span::Elsewhere
+    }
+
+    /// The number at an address, if it is kept and is one.
+    #[inline(always)]
+    pub fn number_at(&self, a: u32) -> Option<u8>
+        ensures there { IfSome result (λ _. lies_in is_data (extents_of (regions_of self.now)) a 1 ≡ true) }
+        ensures value { IfSome result (λ b. cell_at Undef (regions_of self.now) a ≡ Num b) }
+    {
+        match self.span(a, 1) {
+            Span::Data(i) => number_of(&self.bytes[i]),
+            Span::Stack(i) => number_of(&self.above[i - 1]),
+            Span::Elsewhere => None,
+        }
+    }
+
+    /// The two numbers from an address on, if both are kept and are numbers.
+    #[inline(always)]
+    pub fn pair_at(&self, a: u32) -> Option<(u8, u8)>
+        ensures there { IfSome result (λ _. lies_in is_data (extents_of (regions_of self.now)) a 2 ≡ true) }
+        ensures low { IfSome result (λ b. cell_at Undef (regions_of self.now) a ≡ Num b.0) }
+        ensures high { IfSome result (λ b. cell_at Undef (regions_of self.now) (a + 1) ≡ Num b.1) }
+    {
+        match self.span(a, 2) {
+            Span::Data(i) => pair_of(&self.bytes[i], &self.bytes[i + 1]),
+            Span::Stack(i) => pair_of(&self.above[i - 1], &self.above[i - 2]),
+            Span::Elsewhere => None,
+        }
+    }
+
+    /// The number that the four bytes from an address on are, if all are kept and are numbers.
+    #[inline(always)]
+    pub fn word_at(&self, a: u32) -> Option<u32>
+        ensures there { IfSome result (λ _. lies_in is_data (extents_of (regions_of self.now)) a 4 ≡ true) }
+        ensures value { IfSome result (λ n. number_word n ≡ word_at (regions_of self.now) a) }
+    {
+        match self.span(a, 4) {
+            Span::Data(i) => word_of(
+                &self.bytes[i],
+                &self.bytes[i + 1],
+                &self.bytes[i + 2],
+                &self.bytes[i + 3],
+            ),
+            Span::Stack(i) => word_of(
+                &self.above[i - 1],
+                &self.above[i - 2],
+                &self.above[i - 3],
+                &self.above[i - 4],
+            ),
+            Span::Elsewhere => None,
+        }
+    }
+
+    /// Writes numbers from an address on if all of their places are kept, and else changes nothing.
+    #[inline(always)]
+    pub fn store(&mut self, a: u32, numbers: &[u8]) -> bool
+        ensures there { OnTrue result (lies_in is_data (extents_of (regions_of self.old)) a (length numbers.now) ≡ true) }
+        ensures done { OnTrue result (IsChanged (written a (length (map Num numbers.now)) (λ i. slice_index_or (map Num numbers.now) i Undef)) self.old self.new) }
+        ensures same { OnFalse result (self.new ≡ self.old) }
+    {
+        match self.span(a, numbers.len()) {
+            Span::Data(i) => {
+                write_up(self.bytes.as_mut_slice(), i, numbers);
+                true
+            }
+            Span::Stack(i) => {
+                write_down(self.above.as_mut_slice(), i, numbers);
+                true
+            }
+            Span::Elsewhere => false,
+        }
     }
 
     // Writes the byte at an address, if it is kept.
@@ -153,6 +251,67 @@ fn spans(at: u32, size: u64, a: u32, n: u32) -> bool
 {
     let (at, first, end) = (u64::from(at), u64::from(a), u64::from(a) + u64::from(n));
     at <= first && end <= at + size
+}
+
+// The number that a byte is, if it is one.
+#[inline(always)]
+fn number_of(byte: &SymByte) -> Option<u8>
+    ensures { IfSome result (λ b. byte.now ≡ Num b) }
+{
+    match byte {
+        SymByte::Num(b) => Some(*b),
+        SymByte::Part(_, _) | SymByte::Undef => None,
+    }
+}
+
+// The numbers that two bytes are, if both are numbers.
+#[inline(always)]
+fn pair_of(low: &SymByte, high: &SymByte) -> Option<(u8, u8)>
+    ensures low { IfSome result (λ b. low.now ≡ Num b.0) }
+    ensures high { IfSome result (λ b. high.now ≡ Num b.1) }
+{
+    match (low, high) {
+        (SymByte::Num(a), SymByte::Num(b)) => Some((*a, *b)),
+        _ => None,
+    }
+}
+
+// The number that four bytes are, the lowest first, if all are numbers.
+#[inline(always)]
+fn word_of(b0: &SymByte, b1: &SymByte, b2: &SymByte, b3: &SymByte) -> Option<u32>
+    ensures { IfSome result (λ n. number_word n ≡ record { b0 = b0.now; b1 = b1.now; b2 = b2.now; b3 = b3.now }) }
+{
+    match (b0, b1, b2, b3) {
+        (SymByte::Num(a), SymByte::Num(b), SymByte::Num(c), SymByte::Num(d)) => {
+            Some(u32::from_le_bytes([*a, *b, *c, *d]))
+        }
+        _ => None,
+    }
+}
+
+// Writes numbers to cells from an index up.
+#[inline(always)]
+fn write_up(cells: &mut [SymByte], start: usize, numbers: &[u8])
+    requires { start + length numbers.now ≤ length cells.old }
+    ensures len { length cells.new ≡ length cells.old }
+    ensures each { (a low : ℕ) → a ≡ low + start → IsWritten (λ j. low + j) a (map Num numbers.now) cells.old cells.new }
+{
+    for k in 0..numbers.len() {
+        cells[start + k] = SymByte::Num(numbers[k]);
+    }
+}
+
+// Writes numbers to cells below an index, downwards.
+#[inline(always)]
+fn write_down(cells: &mut [SymByte], end: usize, numbers: &[u8])
+    requires low { length numbers.now ≤ end }
+    requires high { end ≤ length cells.old }
+    ensures len { length cells.new ≡ length cells.old }
+    ensures each { (a top : ℕ) → a + end ≡ top → length cells.old ≤ top → IsWritten (λ j. top - 1 - j) a (map Num numbers.now) cells.old cells.new }
+{
+    for k in 0..numbers.len() {
+        cells[end - 1 - k] = SymByte::Num(numbers[k]);
+    }
 }
 
 // The byte with an index, and an undefined one past the end.

@@ -1,0 +1,42 @@
+use Rattle.std.proofs.Common.{◌≡◌, ℕ, ◌+◌, ◌-◌, List, length, map, get_or, ap, sym, ◌∙◌, subst, arith}
+use Rattle.std.proofs.lemmas.List.{length-map}
+use Rattle.rv_decode.specs.Memory.{written}
+use Rattle.sym_machine.specs.declared.word.SymByte.{SymByte}
+use Rattle.sym_machine.specs.declared.word.SymByte.TheVariants.{Num, Undef}
+use Rattle.sym_machine.specs.Kept.{IsChanged, IsKept, IsWritten, Kept}
+use Rattle.sym_machine.proofs.SpanLaws.{stack_there, stored_data, stored_stack}
+use Rattle.sym_machine.proofs.memory.Memory.store.Goals as goal
+
+pub returns-in-Data-clause-done : goal.returns-in-Data-clause-done
+returns-in-Data-clause-done c =
+    let k : Kept = record { map = c.self.inside.map; bytes = c.self.inside.bytes.items; above = c.self.inside.above.items } in
+    let bytes : List SymByte = map Num c.args.numbers.now in
+    let a = c.args.a in
+    let i = c.in-Data.i in
+    let cells = c.write_up.new.cells in
+    let same : c.as_mut_slice.result.now ≡ k.bytes = c.as_mut_slice.ensures.value in
+    let count : length bytes ≡ length c.args.numbers.now = length-map c.args.numbers.now Num in
+    let at : a ≡ k.map.data_low + i = omega (arith, c.in-Data.ensures.0, ap (λ (m : Kept). m.map.data_low) c.self.view_is) in
+    let fits = omega (arith, c.in-Data.ensures.1, count, ap (λ (m : Kept). length m.bytes) c.self.view_is) in
+    let each = subst (λ (l : List SymByte). IsWritten (λ j. k.map.data_low + j) a bytes l cells) same (c.write_up.ensures.each a k.map.data_low at) in
+    subst (λ (m : Kept). IsChanged (written a (length bytes) (λ j. get_or bytes j Undef)) m (record { map = k.map; bytes = cells; above = k.above })) c.self.view_is
+    (stored_data k c.self.invariant a i bytes cells at fits (c.write_up.ensures.len ∙ ap length same) each)
+
+pub returns-in-Stack-clause-there : goal.returns-in-Stack-clause-there
+returns-in-Stack-clause-there c =
+    stack_there c.args.self.now (subst IsKept c.self.view_is c.self.invariant) c.args.a (length c.args.numbers.now) c.in-Stack.i c.in-Stack.ensures.0 c.in-Stack.ensures.1 c.in-Stack.ensures.2
+
+pub returns-in-Stack-clause-done : goal.returns-in-Stack-clause-done
+returns-in-Stack-clause-done c =
+    let k : Kept = record { map = c.self.inside.map; bytes = c.self.inside.bytes.items; above = c.self.inside.above.items } in
+    let bytes : List SymByte = map Num c.args.numbers.now in
+    let a = c.args.a in
+    let i = c.in-Stack.i in
+    let cells = c.write_down.new.cells in
+    let same : c.as_mut_slice-in-Stack.result.now ≡ k.above = c.as_mut_slice-in-Stack.ensures.value in
+    let at : a + i ≡ k.map.stack_high = omega (arith, c.in-Stack.ensures.0, ap (λ (m : Kept). m.map.stack_high) c.self.view_is) in
+    let fits = omega (arith, c.in-Stack.ensures.2, ap (λ (m : Kept). length m.above) c.self.view_is) in
+    let long = omega (arith, c.self.invariant.within, ap length same) in
+    let each = subst (λ (l : List SymByte). IsWritten (λ j. k.map.stack_high - 1 - j) a bytes l cells) same (c.write_down.ensures.each a k.map.stack_high at long) in
+    subst (λ (m : Kept). IsChanged (written a (length bytes) (λ j. get_or bytes j Undef)) m (record { map = k.map; bytes = k.bytes; above = cells })) c.self.view_is
+    (stored_stack k c.self.invariant a i bytes cells at fits (c.write_down.ensures.len ∙ ap length same) each)
