@@ -2,7 +2,9 @@
 
 ghost use Rattle.std.specs.Prelude.{◌≡◌};
 ghost use Rattle.sym_machine.specs.Kept.{word_of};
-ghost use Rattle.sym_machine.specs.Words.{code_of, is_value, number_of, signed_byte, signed_half, value_word, zero_byte, zero_half};
+ghost use Rattle.sym_machine.specs.Words as words;
+ghost use Rattle.sym_machine.specs.Words.{code_of, is_value, number_of, number_word, sign_of, value_word};
+ghost use Rattle.sym_machine.specs.declared.word.SymByte.TheVariants.{Num};
 
 use crate::word::{SymByte, SymWord, Value};
 use zc_base::place::Place;
@@ -46,7 +48,7 @@ impl Held {
 
     /// The word of a byte with its sign above.
     pub fn of_signed_byte(byte: SymByte) -> Held
-        ensures { word_of result ≡ signed_byte byte }
+        ensures { word_of result ≡ words.signed_byte byte }
     {
         let sign = byte.sign();
         Held::of_bytes(SymWord {
@@ -59,7 +61,7 @@ impl Held {
 
     /// The word of two bytes with their sign above.
     pub fn of_signed_half(low: SymByte, high: SymByte) -> Held
-        ensures { word_of result ≡ signed_half low high }
+        ensures { word_of result ≡ words.signed_half low high }
     {
         let sign = high.sign();
         Held::of_bytes(SymWord {
@@ -72,7 +74,7 @@ impl Held {
 
     /// The word of a byte with zeros above.
     pub fn of_byte(byte: SymByte) -> Held
-        ensures { word_of result ≡ zero_byte byte }
+        ensures { word_of result ≡ words.zero_byte byte }
     {
         Held::of_bytes(SymWord {
             b0: byte,
@@ -84,7 +86,7 @@ impl Held {
 
     /// The word of two bytes with zeros above.
     pub fn of_half(low: SymByte, high: SymByte) -> Held
-        ensures { word_of result ≡ zero_half low high }
+        ensures { word_of result ≡ words.zero_half low high }
     {
         Held::of_bytes(SymWord {
             b0: low,
@@ -149,4 +151,41 @@ impl Held {
             Held::Bytes(bytes) => *bytes,
         }
     }
+}
+
+// The byte above a number with a sign.
+fn sign(byte: u8) -> u8
+    ensures { Num result ≡ sign_of (Num byte) }
+{
+    if byte < 128 { 0 } else { 255 }
+}
+
+/// The number of a byte with its sign above.
+pub fn signed_byte(byte: u8) -> u32
+    ensures { number_word result ≡ words.signed_byte (Num byte) }
+{
+    let above = sign(byte);
+    u32::from_le_bytes([byte, above, above, above])
+}
+
+/// The number of two bytes with their sign above.
+pub fn signed_half(low: u8, high: u8) -> u32
+    ensures { number_word result ≡ words.signed_half (Num low) (Num high) }
+{
+    let above = sign(high);
+    u32::from_le_bytes([low, high, above, above])
+}
+
+/// The number of a byte with zeros above.
+pub fn zero_byte(byte: u8) -> u32
+    ensures { number_word result ≡ words.zero_byte (Num byte) }
+{
+    u32::from_le_bytes([byte, 0, 0, 0])
+}
+
+/// The number of two bytes with zeros above.
+pub fn zero_half(low: u8, high: u8) -> u32
+    ensures { number_word result ≡ words.zero_half (Num low) (Num high) }
+{
+    u32::from_le_bytes([low, high, 0, 0])
 }

@@ -312,8 +312,8 @@ impl State {
     }
 }
 
-// Whether a number is a multiple of another. The widths of accesses need no division.
-fn is_multiple(a: u32, n: u32) -> bool
+/// Whether a number is a multiple of another. The widths of accesses need no division.
+pub fn is_multiple(a: u32, n: u32) -> bool
     requires { 0 < n }
     ensures { result ≡ (a % n == 0) }
 {
@@ -325,8 +325,8 @@ fn is_multiple(a: u32, n: u32) -> bool
     }
 }
 
-// How many bytes a load takes.
-fn load_width(op: LoadOp) -> u32
+/// How many bytes a load takes.
+pub fn load_width(op: LoadOp) -> u32
     ensures width { result ≡ effects.load_width op }
     ensures some { 0 < result }
 {
@@ -337,8 +337,8 @@ fn load_width(op: LoadOp) -> u32
     }
 }
 
-// How many bytes a store writes.
-fn store_width(op: StoreOp) -> u32
+/// How many bytes a store writes.
+pub fn store_width(op: StoreOp) -> u32
     ensures width { result ≡ effects.store_width op }
     ensures some { 0 < result }
     ensures few { result ≤ 4 }

@@ -1,21 +1,22 @@
 // Steps by numbers alone, as most steps are. They change registers and memory in place, and copy no
 // word of bytes. What isn't made here is left to the steps by items, which say the same of it.
 
-ghost use Rattle.std.specs.Prelude.{◌≡◌, ◌<◌, ◌^◌, [], None, IfSome};
+ghost use Rattle.std.specs.Prelude.{◌≡◌, ◌<◌, ◌^◌, ◌%◌, [], None, Some, IfSome};
 ghost use Rattle.std.specs.Bool.{OnFalse, OnTrue};
-ghost use Rattle.rv_decode.specs.declared.instr.Instr.TheVariants.{Jalr, WithImm, WithReg};
+ghost use Rattle.rv_decode.specs.declared.instr.Instr.TheVariants.{Jalr, Load, Store, WithImm, WithReg};
 ghost use Rattle.sym_machine.specs.Answer.{RunsOn};
 ghost use Rattle.sym_machine.specs.Change.{branch_does, branch_to, item_does, jump_to, op_does};
 ghost use Rattle.sym_machine.specs.Conditions.{condition};
 ghost use Rattle.sym_machine.specs.Program.{Program};
 ghost use Rattle.sym_machine.specs.State.{reg_of};
 ghost use Rattle.sym_machine.specs.Step.{made};
-ghost use Rattle.sym_machine.specs.Words.{code_word, number_word};
+ghost use Rattle.sym_machine.specs.Words.{code_word, number_of, number_word, sum_word};
 
 use crate::held::Held;
+use crate::items::{is_multiple, load_width, store_width};
 use crate::state::State;
 use block_cut::item::Item;
-use rv_decode::instr::{BranchOp, ImmOp, Instr, RegOp};
+use rv_decode::instr::{BranchOp, ImmOp, Instr, LoadOp, RegOp, StoreOp};
 use rv_decode::results::{imm_result, is_taken, reg_result};
 use zc_base::place::Place;
 use zc_base::reg::Reg;
@@ -59,9 +60,14 @@ impl State {
                 second,
             } => self.quick_reg(*op, *rd, *first, *second, next),
             Instr::Jalr { rd, base, imm } => self.quick_return(*rd, *base, *imm, next),
-            Instr::Load { .. }
-            | Instr::Store { .. }
-            | Instr::Upper { .. }
+            Instr::Load { op, rd, base, imm } => self.quick_load(*op, *rd, *base, *imm, next),
+            Instr::Store {
+                op,
+                source,
+                base,
+                imm,
+            } => self.quick_store(*op, *source, *base, *imm, next),
+            Instr::Upper { .. }
             | Instr::Jal { .. }
             | Instr::Branch { .. }
             | Instr::Fence { .. }
@@ -179,6 +185,52 @@ impl State {
                 true
             }
             _ => false,
+        }
+    }
+
+    // The address of an access by a register and an immediate, if it is known and is a multiple of the
+    // access's width.
+    fn quick_address(&self, base: Reg, imm: i32, width: u32) -> Option<u32>
+        requires { 0 < width }
+        ensures known { IfSome result (λ a. number_of (sum_word (reg_of self.now.core base) imm) ≡ Some a) }
+        ensures aligned { IfSome result (λ a. a % width ≡ 0) }
+    {
+        let a = self.plain(base)?.wrapping_add(imm.cast_unsigned());
+        if is_multiple(a, width) { Some(a) } else { None }
+    }
+
+    // A load.
+    fn quick_load(&mut self, op: LoadOp, rd: Reg, base: Reg, imm: i32, next: Place) -> bool
+        requires { self.old.core.exit ≡ None }
+        ensures made { OnTrue result (RunsOn (made self.old.map self.old.core (op_does (Load op rd base imm) self.old.core next)) [] self.old.core self.new.core) }
+        ensures same { OnFalse result (self.new ≡ self.old) }
+    {
+        let Some(a) = self.quick_address(base, imm, load_width(op)) else {
+            return false;
+        };
+        match self.loaded_number(op, a) {
+            Some(n) => self.give_number(rd, n, next),
+            None => false,
+        }
+    }
+
+    // A store.
+    fn quick_store(&mut self, op: StoreOp, source: Reg, base: Reg, imm: i32, next: Place) -> bool
+        requires { self.old.core.exit ≡ None }
+        ensures made { OnTrue result (RunsOn (made self.old.map self.old.core (op_does (Store op source base imm) self.old.core next)) [] self.old.core self.new.core) }
+        ensures same { OnFalse result (self.new ≡ self.old) }
+    {
+        let (Some(a), Some(n)) = (
+            self.quick_address(base, imm, store_width(op)),
+            self.plain(source),
+        ) else {
+            return false;
+        };
+        let bytes = n.to_le_bytes();
+        match op {
+            StoreOp::Sb => self.put_numbers(a, &bytes[..1], next),
+            StoreOp::Sh => self.put_numbers(a, &bytes[..2], next),
+            StoreOp::Sw => self.put_numbers(a, &bytes, next),
         }
     }
 }

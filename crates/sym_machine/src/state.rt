@@ -1,8 +1,10 @@
 // The state of the symbolic machine, and how each step ends.
 
-ghost use Rattle.std.specs.Prelude.{◌≡◌, ◌<◌, ◌≤◌, ◌%◌, [], IfOk, MatchOption, None, Some, true};
+ghost use Rattle.std.specs.Prelude.{◌≡◌, ◌<◌, ◌≤◌, ◌%◌, [], IfOk, IfSome, length, map, MatchOption, None, Some, true};
 ghost use Rattle.std.specs.Bool.{OnFalse, OnTrue};
 ghost use Rattle.psabi_sym.specs.Inputs.{parsed};
+ghost use Rattle.rv_decode.specs.Effect.{load_width};
+ghost use Rattle.sym_machine.specs.declared.word.SymByte.TheVariants.{Num};
 ghost use Rattle.sym_machine.specs.Answer.{Makes, RunsOn, StepAnswers};
 ghost use Rattle.sym_machine.specs.Change.{Goes, Stops, call_to, exit_does, gives, in_memory, is_output, load_word, numbers_at, onward, output_does, puts, read_does};
 ghost use Rattle.sym_machine.specs.Kept.{IsOf, word_of};
@@ -13,7 +15,7 @@ ghost use Rattle.sym_machine.specs.Words.{code_word, number_of, number_word};
 
 use crate::arguments::Arguments;
 use crate::first_data::first_data;
-use crate::held::Held;
+use crate::held::{Held, signed_byte, signed_half, zero_byte, zero_half};
 use crate::memory::Memory;
 use crate::step::SymStep;
 use crate::why::Why;
@@ -129,6 +131,27 @@ impl State {
             }),
             LoadOp::Lbu => Held::of_byte(memory.byte(at)),
             LoadOp::Lhu => Held::of_half(memory.byte(at), memory.byte(at + 1)),
+        }
+    }
+
+    /// The same if it is a number and the bytes are kept.
+    pub fn loaded_number(&self, op: LoadOp, a: u32) -> Option<u32>
+        ensures there { IfSome result (λ _. in_memory self.now.core a (load_width op) ≡ true) }
+        ensures value { IfSome result (λ n. number_word n ≡ load_word op self.now.core a) }
+    {
+        let memory = &self.memory;
+        match op {
+            LoadOp::Lb => Some(signed_byte(memory.number_at(a)?)),
+            LoadOp::Lh => {
+                let (low, high) = memory.pair_at(a)?;
+                Some(signed_half(low, high))
+            }
+            LoadOp::Lw => memory.word_at(a),
+            LoadOp::Lbu => Some(zero_byte(memory.number_at(a)?)),
+            LoadOp::Lhu => {
+                let (low, high) = memory.pair_at(a)?;
+                Some(zero_half(low, high))
+            }
         }
     }
 
@@ -311,6 +334,20 @@ impl State {
         self.memory.write(a, bytes);
         self.place = to;
         SymStep::Done
+    }
+
+    /// The same of numbers, if their places are kept.
+    pub fn put_numbers(&mut self, a: u32, numbers: &[u8], to: Place) -> bool
+        requires { self.old.core.exit ≡ None }
+        ensures there { OnTrue result (in_memory self.old.core a (length numbers.now) ≡ true) }
+        ensures made { OnTrue result (RunsOn (made self.old.map self.old.core (Goes (puts a (map Num numbers.now) to))) [] self.old.core self.new.core) }
+        ensures same { OnFalse result (self.new ≡ self.old) }
+    {
+        if !self.memory.store(a, numbers) {
+            return false;
+        }
+        self.place = to;
+        true
     }
 
     /// Reads as much of the input as there is and as goes into a buffer, and goes on to a place.
