@@ -1,5 +1,5 @@
 -- Where the bytes of an access are kept: what they are, and what a store makes of them.
-use Rattle.std.proofs.Common.{◌≡◌, ◌≢◌, ℕ, ◌+◌, ◌-◌, ◌<◌, ◌≤◌, ⊎_elim, List, Option, Some, None, length, get_or, set, Bool, true, false, refl, sym, ap, ◌∙◌, arith, leb, get_or-set_same, get_or-set_other}
+use Rattle.std.proofs.Common.{◌≡◌, ℕ, ◌+◌, ◌-◌, ◌<◌, ◌≤◌, ⊎_elim, List, Option, Some, None, length, get_or, set, Bool, true, false, refl, sym, ap, ◌∙◌, arith, leb, get_or-set_same, get_or-set_other}
 use Rattle.std.specs.Prelude.{◌||◌, IfSome}
 use Rattle.std.proofs.lemmas.Bool.{and_from, cases_eq, le-leb}
 use Rattle.std.proofs.lemmas.List.{get_or_default}

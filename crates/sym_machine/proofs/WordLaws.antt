@@ -10,7 +10,7 @@ use Rattle.rv_decode.specs.declared.instr.ImmOp.TheVariants.{Addi, Slti, Sltiu, 
 use Rattle.rv_decode.specs.declared.instr.RegOp.{RegOp}
 use Rattle.rv_decode.specs.declared.instr.RegOp.TheVariants.{Add, Sub, Sll, Slt, Sltu, Xor, Srl, Sra, Or, And, Mul, Mulh, Mulhsu, Mulhu, Div, Divu, Rem, Remu}
 use Rattle.sym_machine.specs.State.{PlainCore, reg_of}
-use Rattle.sym_machine.specs.Words.{code_or, imm_numeric, imm_word, is_one, is_zero, number_of, number_word, numeric, numeric2, reg_numeric, reg_word, sum_word}
+use Rattle.sym_machine.specs.Words.{code_or, imm_numeric, imm_word, is_one, number_of, number_word, numeric, numeric2, reg_numeric, reg_word, sum_word}
 
 -- four bytes of a number make it up
 pub bytes_make : (n : ℕ) → n < 2 ^ 32 → byte_of n 0 + 256 * byte_of n 1 + 65536 * byte_of n 2 + 16777216 * byte_of n 3 ≡ n

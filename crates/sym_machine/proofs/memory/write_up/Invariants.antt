@@ -1,4 +1,4 @@
-use Rattle.std.proofs.Common.{◌≡◌, ℕ, ◌+◌, ◌-◌, ◌<◌, ◌≤◌, length, map}
+use Rattle.std.proofs.Common.{◌≡◌, ℕ, ◌+◌, ◌<◌, length, map}
 use Rattle.std.specs.Prelude.{slice_index_or}
 use Rattle.rv_decode.specs.Memory.{written}
 use Rattle.sym_machine.specs.declared.word.SymByte.{SymByte}

@@ -1,11 +1,9 @@
-use Rattle.std.proofs.Common.{◌≡◌, ◌+◌, ◌-◌, ap, sym, ◌∙◌, subst, get_or, arith}
+use Rattle.std.proofs.Common.{◌≡◌, ◌-◌, ap, sym, ◌∙◌, subst, get_or, arith}
 use Rattle.std.specs.Prelude.{IfSome}
 use Rattle.rv_decode.specs.Memory.{cell_at}
 use Rattle.sym_machine.specs.declared.word.SymByte.{SymByte}
 use Rattle.sym_machine.specs.declared.word.SymByte.TheVariants.{Num, Undef}
-use Rattle.sym_machine.specs.declared.word.SymWord.{SymWord}
 use Rattle.sym_machine.specs.Kept.{IsKept, Kept, regions_of}
-use Rattle.sym_machine.specs.Words.{number_word}
 use Rattle.sym_machine.proofs.SpanLaws.{anyway, stack_byte, stack_there}
 use Rattle.sym_machine.proofs.memory.Memory.number_at.Goals as goal
 

@@ -1,8 +1,7 @@
 use Rattle.std.proofs.Common.{◌≡◌, ◌+◌, ◌-◌, ap, sym, ◌∙◌, subst, get_or, arith}
 use Rattle.std.specs.Prelude.{IfSome}
 use Rattle.rv_decode.specs.Memory.{cell_at}
-use Rattle.sym_machine.specs.declared.word.SymByte.{SymByte}
-use Rattle.sym_machine.specs.declared.word.SymByte.TheVariants.{Num, Undef}
+use Rattle.sym_machine.specs.declared.word.SymByte.TheVariants.{Undef}
 use Rattle.sym_machine.specs.declared.word.SymWord.{SymWord}
 use Rattle.sym_machine.specs.Kept.{IsKept, Kept, regions_of}
 use Rattle.sym_machine.specs.Words.{number_word}
