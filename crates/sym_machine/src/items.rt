@@ -4,7 +4,12 @@ ghost use Rattle.std.specs.Prelude.{◌≡◌, ◌==◌, ◌<◌, ◌≤◌, ◌
 ghost use Rattle.psabi_sym.specs.Inputs.{parsed};
 ghost use Rattle.rv_decode.specs.Effect as effects;
 ghost use Rattle.sym_machine.specs.Answer.{Makes, StepAnswers, reached};
-ghost use Rattle.sym_machine.specs.Change.{Does, base_of, branch_does, branch_to, by_sum, item_does, jump_does, jump_to, load_does, op_does, reaching, store_does, upper_does};
+ghost use Rattle.rv_decode.specs.declared.instr.UpperOp.TheVariants.{Auipc, Lui};
+ghost use Rattle.sym_machine.specs.AddressParts as parts;
+ghost use Rattle.sym_machine.specs.Words as words;
+ghost use Rattle.sym_machine.specs.Words.{value_word};
+ghost use Rattle.sym_machine.specs.declared.word.Value.TheVariants.{PcHi};
+ghost use Rattle.sym_machine.specs.Change.{Does, Goes, base_of, branch_does, branch_to, by_sum, gives, item_does, jump_does, jump_to, load_does, op_does, reaching, store_does, upper_does};
 ghost use Rattle.sym_machine.specs.Kept.{word_of};
 ghost use Rattle.sym_machine.specs.Objects.{program_of};
 ghost use Rattle.sym_machine.specs.State.{reg_of};
@@ -20,7 +25,8 @@ use crate::why::Why;
 use crate::word::Value;
 use block_cut::cut::Cut;
 use block_cut::item::Item;
-use rv_decode::instr::{ImmOp, Instr, LoadOp, StoreOp, UpperOp};
+use psabi_sym::target::Target;
+use rv_decode::instr::{ImmOp, Instr, LoadOp, RegOp, StoreOp, UpperOp};
 use std::alloc::AllocError;
 use zc_base::place::Place;
 use zc_base::reg::Reg;
@@ -33,21 +39,10 @@ impl State {
     {
         match item {
             Item::Op(instr) => self.step_op(instr, next),
-            Item::Hi(instr, target) => {
-                self.step_upper(UpperOp::Lui, instr, &high_word(*target), next)
-            }
-            Item::Lo(instr, target) => {
-                let word = low_sum(*target, &self.base(instr));
-                self.step_sum(instr, &word, next)
-            }
-            Item::PcHi(instr, _) => {
-                let word = Held::of_value(Value::PcHi(self.place()));
-                self.step_upper(UpperOp::Auipc, instr, &word, next)
-            }
-            Item::PcLo(instr, q) => {
-                let word = pc_low_sum(cut, *q, &self.base(instr));
-                self.step_sum(instr, &word, next)
-            }
+            Item::Hi(instr, target) => self.step_hi(instr, *target, next),
+            Item::Lo(instr, target) => self.step_lo(instr, *target, next),
+            Item::PcHi(instr, _) => self.step_pc_hi(instr, next),
+            Item::PcLo(instr, q) => self.step_pc_lo(cut, instr, *q, next),
             Item::Branch(instr, to) => self.step_branch(cut, instr, *to, next),
             Item::Jump(instr, to) => self.step_jump(instr, *to, next),
             Item::Call { rd, temp, to } => Ok(self.call(*rd, *temp, *to, next)),
@@ -57,39 +52,137 @@ impl State {
         }
     }
 
+    // An instruction whose immediate is the upper part of a target.
+    fn step_hi(&mut self, instr: &Instr, target: Target, next: Place) -> Result<SymStep, AllocError>
+        requires { self.old.core.exit ≡ None }
+        ensures { Makes result (made self.old.map self.old.core (upper_does Lui instr.now (parts.high_word target) next)) self.old.core self.new.core }
+    {
+        self.step_upper(UpperOp::Lui, instr, &high_word(target), next)
+    }
+
+    // One whose immediate is the lower part of a target.
+    fn step_lo(&mut self, instr: &Instr, target: Target, next: Place) -> Result<SymStep, AllocError>
+        requires { self.old.core.exit ≡ None }
+        ensures { Makes result (made self.old.map self.old.core (by_sum instr.now (parts.low_sum target (reg_of self.old.core (base_of instr.now))) self.old.core next)) self.old.core self.new.core }
+    {
+        let word = low_sum(target, &self.base(instr));
+        self.step_sum(instr, &word, next)
+    }
+
+    // An `auipc` whose immediate is the upper part of the way to a target.
+    fn step_pc_hi(&mut self, instr: &Instr, next: Place) -> Result<SymStep, AllocError>
+        requires { self.old.core.exit ≡ None }
+        ensures { Makes result (made self.old.map self.old.core (upper_does Auipc instr.now (value_word (PcHi self.old.core.place)) next)) self.old.core self.new.core }
+    {
+        let word = Held::of_value(Value::PcHi(self.place()));
+        self.step_upper(UpperOp::Auipc, instr, &word, next)
+    }
+
+    // An instruction with the lower part that goes with the `auipc` at a place.
+    fn step_pc_lo(
+        &mut self,
+        cut: &Cut,
+        instr: &Instr,
+        q: Place,
+        next: Place,
+    ) -> Result<SymStep, AllocError>
+        requires { self.old.core.exit ≡ None }
+        ensures { Makes result (made self.old.map self.old.core (by_sum instr.now (parts.pc_low_sum q (parts.pc_target ((program_of (parsed cut.now)).item q)) (reg_of self.old.core (base_of instr.now))) self.old.core next)) self.old.core self.new.core }
+    {
+        let word = pc_low_sum(cut, q, &self.base(instr));
+        self.step_sum(instr, &word, next)
+    }
+
     // An instruction without relocation.
     fn step_op(&mut self, instr: &Instr, next: Place) -> Result<SymStep, AllocError>
         requires { self.old.core.exit ≡ None }
         ensures { Makes result (made self.old.map self.old.core (op_does instr.now self.old.core next)) self.old.core self.new.core }
     {
         match instr {
-            Instr::Upper { op, rd, imm } => self.give(*rd, &upper_word(*op, *imm), next),
+            Instr::Upper { op, rd, imm } => self.step_upper_imm(*op, *rd, *imm, next),
             Instr::Jalr { base, imm, .. }
             | Instr::Load { base, imm, .. }
-            | Instr::Store { base, imm, .. } => {
-                let word = sum(self.register(*base), *imm);
-                self.step_sum(instr, &word, next)
-            }
-            Instr::WithImm { op, rd, first, imm } => {
-                let word = imm_word(*op, self.register(*first), *imm);
-                self.give(*rd, &word, next)
-            }
+            | Instr::Store { base, imm, .. } => self.step_from(instr, *base, *imm, next),
+            Instr::WithImm { op, rd, first, imm } => self.step_imm(*op, *rd, *first, *imm, next),
             Instr::WithReg {
                 op,
                 rd,
                 first,
                 second,
-            } => {
-                let (a, b) = (self.register(*first), self.register(*second));
-                let word = reg_word(*op, *first, *second, a, b);
-                self.give(*rd, &word, next)
-            }
+            } => self.step_reg(*op, *rd, *first, *second, next),
             Instr::Fence { .. } => Ok(self.go(next)),
             Instr::Ecall => self.step_call(next),
             Instr::Jal { .. } | Instr::Branch { .. } | Instr::Ebreak | Instr::Csrrw { .. } => {
                 Ok(self.stuck(Why::NoInstruction))
             }
         }
+    }
+
+    // An instruction with an upper immediate.
+    fn step_upper_imm(
+        &mut self,
+        op: UpperOp,
+        rd: Reg,
+        imm: u32,
+        next: Place,
+    ) -> Result<SymStep, AllocError>
+        requires { self.old.core.exit ≡ None }
+        ensures { Makes result (made self.old.map self.old.core (Goes (gives rd (words.upper_word op imm) next))) self.old.core self.new.core }
+    {
+        self.give(rd, &upper_word(op, imm), next)
+    }
+
+    // One that goes by the sum of a register and an immediate.
+    fn step_from(
+        &mut self,
+        instr: &Instr,
+        base: Reg,
+        imm: i32,
+        next: Place,
+    ) -> Result<SymStep, AllocError>
+        requires { self.old.core.exit ≡ None }
+        ensures { Makes result (made self.old.map self.old.core (by_sum instr.now (words.sum_word (reg_of self.old.core base) imm) self.old.core next)) self.old.core self.new.core }
+    {
+        let word = sum(self.register(base), imm);
+        self.step_sum(instr, &word, next)
+    }
+
+    // An operation on a register and an immediate.
+    fn step_imm(
+        &mut self,
+        op: ImmOp,
+        rd: Reg,
+        first: Reg,
+        imm: i32,
+        next: Place,
+    ) -> Result<SymStep, AllocError>
+        requires { self.old.core.exit ≡ None }
+        ensures { Makes result (made self.old.map self.old.core (Goes (gives rd (words.imm_word op (reg_of self.old.core first) imm) next))) self.old.core self.new.core }
+    {
+        let word = imm_word(op, self.register(first), imm);
+        self.give(rd, &word, next)
+    }
+
+    // An operation on two registers.
+    fn step_reg(
+        &mut self,
+        op: RegOp,
+        rd: Reg,
+        first: Reg,
+        second: Reg,
+        next: Place,
+    ) -> Result<SymStep, AllocError>
+        requires { self.old.core.exit ≡ None }
+        ensures { Makes result (made self.old.map self.old.core (Goes (gives rd (words.reg_word op first second (reg_of self.old.core first) (reg_of self.old.core second)) next))) self.old.core self.new.core }
+    {
+        let word = reg_word(
+            op,
+            first,
+            second,
+            self.register(first),
+            self.register(second),
+        );
+        self.give(rd, &word, next)
     }
 
     // The word in the register that the sum of an instruction begins with.
