@@ -4,7 +4,7 @@
 """
 import struct
 
-NAMES = ('NotBuilt', 'NotElf', 'Truncated', 'Flags', 'SectionKind', 'Alignment', 'CodeSize', 'BadName', 'BadSymbol',
+NAMES = (None, 'NotElf', 'Truncated', 'Flags', 'SectionKind', 'Alignment', 'CodeSize', 'BadName', 'BadSymbol',
          'Duplicate', 'Undefined', 'RelocKind', 'RelocPlace', 'LoPair', 'BadTarget', 'Range', 'NoEntry', 'TooLarge')
 
 LINKER_NAMES = (b'__global_pointer$', b'__bss_start', b'_end', b'__stack_top')
