@@ -1,9 +1,12 @@
 pub mod AddressLaws
 pub mod AddressSteps
+pub mod BlockLaws
 pub mod Distances
 pub mod FormLaws
+pub mod GrownLaws
 pub mod KeptLaws
 pub mod LeastLaws
+pub mod MoveLaws
 pub mod NumberEnds
 pub mod NumberLaws
 pub mod OrderLaws
@@ -11,4 +14,5 @@ pub mod PlaceAddressLaws
 pub mod PremiseLaws
 pub mod RoundLaws
 pub mod TableNumberLaws
+pub mod TestLaws
 pub mod WalkLaws

@@ -3,6 +3,8 @@
 #![tactic(auto)]
 
 mod addresses;
+mod moves;
+mod multiples;
 mod numbers;
 mod part_size;
 pub mod piece;

@@ -1,10 +1,6 @@
-use Rattle.std.proofs.Common.{◌≡◌, ◌++◌, ◌&&◌, take, drop, length}
-use Rattle.shrink_layout.specs.Layout.{fit_from, grown_from}
+use Rattle.std.proofs.Common.{◌*◌, length, min}
+use Rattle.shrink_layout.proofs.TestLaws.{AreGrown}
 use Rattle.shrink_layout.proofs.round.grow.Given as goal
 
-abbrev pub invariant-loop-k : goal.invariant-loop-k
-invariant-loop-k l = record {
-  same : length l.sizes ≡ length l.pieces;
-  grown : take l.k l.sizes ++ grown_from l.addresses l.k (drop l.k l.pieces) (drop l.k l.sizes) ≡ grown_from l.addresses 0 l.pieces l.initial.sizes;
-  fitted : (l.fitted && fit_from l.addresses l.k (drop l.k l.pieces) (drop l.k l.sizes)) ≡ fit_from l.addresses 0 l.pieces l.initial.sizes;
-}
+abbrev pub invariant-loop-block : goal.invariant-loop-block
+invariant-loop-block l = AreGrown l.addresses l.pieces l.initial.sizes l.sizes l.initial.lows l.lows l.initial.highs l.highs l.grown l.block (min (length l.pieces) (64 * l.block)) l.fitted
