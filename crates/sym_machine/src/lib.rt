@@ -5,6 +5,7 @@
 mod address_parts;
 pub mod arguments;
 mod calls;
+mod cells;
 mod first_data;
 pub mod held;
 mod items;

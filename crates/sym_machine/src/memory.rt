@@ -4,13 +4,14 @@ ghost use Rattle.std.specs.Bool.{OnFalse, OnTrue};
 ghost use Rattle.std.specs.Prelude.{◌≡◌, ◌≤◌, ◌+◌, ◌-◌, ◌<◌, ◌^◌, ◌&&◌, ℕ, nat_le, [], IfOk, IfSome, OnOk, OnErr, MatchOption, None, Some, true, length, map, slice_index_or, slice_set};
 ghost use Rattle.rv_decode.specs.Memory.{Kind, cell_at, changed, extents_of, is_data, lies_in, spans, written};
 ghost use Rattle.sym_machine.specs.Change.{numbers_at};
-ghost use Rattle.sym_machine.specs.Kept.{IsChanged, IsKept, IsSpan, IsWritten, kept_from, regions_of, word_at};
+ghost use Rattle.sym_machine.specs.Kept.{IsChanged, IsKept, IsSpan, kept_from, regions_of, word_at};
 ghost use Rattle.sym_machine.specs.Step.{undefined_below};
 ghost use Rattle.sym_machine.specs.Words.{number_word};
 ghost use Rattle.sym_machine.specs.declared.word.SymByte.TheVariants.{Num, Undef};
 
+use crate::cells::{copy_down, copy_up, write_down, write_up};
 use crate::span::Span;
-use crate::word::SymByte;
+use crate::word::{SymByte, SymWord};
 use std::alloc::{AllocError, Global};
 use std::marker::Model;
 use zc_base::mem_map::MemMap;
@@ -157,6 +158,54 @@ impl Memory {
         }
     }
 
+    /// The two bytes from an address on.
+    #[inline(always)]
+    pub fn half(&self, a: u32) -> (SymByte, SymByte)
+        ensures low { result.0 ≡ cell_at Undef (regions_of self.now) a }
+        ensures high { result.1 ≡ cell_at Undef (regions_of self.now) (a + 1) }
+    {
+        match self.span(a, 2) {
+            Span::Data(i) => (self.bytes[i], self.bytes[i + 1]),
+            Span::Stack(i) => (self.above[i - 1], self.above[i - 2]),
+            Span::Elsewhere => (self.byte(u64::from(a)), self.byte(u64::from(a) + 1)),
+        }
+    }
+
+    /// The word of the four bytes from an address on.
+    #[inline(always)]
+    pub fn word(&self, a: u32) -> SymWord
+        ensures { result ≡ word_at (regions_of self.now) a }
+    {
+        match self.span(a, 4) {
+            Span::Data(i) => SymWord {
+                b0: self.bytes[i],
+                b1: self.bytes[i + 1],
+                b2: self.bytes[i + 2],
+                b3: self.bytes[i + 3],
+            },
+            Span::Stack(i) => SymWord {
+                b0: self.above[i - 1],
+                b1: self.above[i - 2],
+                b2: self.above[i - 3],
+                b3: self.above[i - 4],
+            },
+            Span::Elsewhere => self.gathered(u64::from(a)),
+        }
+    }
+
+    // The same byte by byte, as at a region's edge, or where not all bytes are kept.
+    fn gathered(&self, a: u64) -> SymWord
+        requires { a < 2 ^ 32 }
+        ensures { result ≡ word_at (regions_of self.now) a }
+    {
+        SymWord {
+            b0: self.byte(a),
+            b1: self.byte(a + 1),
+            b2: self.byte(a + 2),
+            b3: self.byte(a + 3),
+        }
+    }
+
     /// Writes numbers from an address on if all of their places are kept, and else changes nothing.
     #[inline(always)]
     pub fn store(&mut self, a: u32, numbers: &[u8]) -> bool
@@ -193,7 +242,19 @@ impl Memory {
     }
 
     /// Writes bytes from an address on, each if it is kept.
+    #[inline(always)]
     pub fn write(&mut self, a: u32, bytes: &[SymByte])
+        ensures { IsChanged (written a (length bytes.now) (λ i. slice_index_or bytes.now i Undef)) self.old self.new }
+    {
+        match self.span(a, bytes.len()) {
+            Span::Data(i) => copy_up(self.bytes.as_mut_slice(), i, bytes),
+            Span::Stack(i) => copy_down(self.above.as_mut_slice(), i, bytes),
+            Span::Elsewhere => self.put_each(a, bytes),
+        }
+    }
+
+    // The same byte by byte, as at a region's edge, or where not all places are kept.
+    fn put_each(&mut self, a: u32, bytes: &[SymByte])
         ensures { IsChanged (written a (length bytes.now) (λ i. slice_index_or bytes.now i Undef)) self.old self.new }
     {
         let _ = &self.map;
@@ -286,31 +347,6 @@ fn word_of(b0: &SymByte, b1: &SymByte, b2: &SymByte, b3: &SymByte) -> Option<u32
             Some(u32::from_le_bytes([*a, *b, *c, *d]))
         }
         _ => None,
-    }
-}
-
-// Writes numbers to cells from an index up.
-#[inline(always)]
-fn write_up(cells: &mut [SymByte], start: usize, numbers: &[u8])
-    requires { start + length numbers.now ≤ length cells.old }
-    ensures len { length cells.new ≡ length cells.old }
-    ensures each { (a low : ℕ) → a ≡ low + start → IsWritten (λ j. low + j) a (map Num numbers.now) cells.old cells.new }
-{
-    for k in 0..numbers.len() {
-        cells[start + k] = SymByte::Num(numbers[k]);
-    }
-}
-
-// Writes numbers to cells below an index, downwards.
-#[inline(always)]
-fn write_down(cells: &mut [SymByte], end: usize, numbers: &[u8])
-    requires low { length numbers.now ≤ end }
-    requires high { end ≤ length cells.old }
-    ensures len { length cells.new ≡ length cells.old }
-    ensures each { (a top : ℕ) → a + end ≡ top → length cells.old ≤ top → IsWritten (λ j. top - 1 - j) a (map Num numbers.now) cells.old cells.new }
-{
-    for k in 0..numbers.len() {
-        cells[end - 1 - k] = SymByte::Num(numbers[k]);
     }
 }
 

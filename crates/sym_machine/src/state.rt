@@ -19,7 +19,7 @@ use crate::held::{Held, signed_byte, signed_half, zero_byte, zero_half};
 use crate::memory::Memory;
 use crate::step::SymStep;
 use crate::why::Why;
-use crate::word::{SymByte, SymWord};
+use crate::word::SymByte;
 use block_cut::cut::Cut;
 use rv_decode::instr::LoadOp;
 use std::alloc::{AllocError, Global};
@@ -118,19 +118,19 @@ impl State {
     pub fn loaded(&self, op: LoadOp, a: u32) -> Held
         ensures { word_of result ≡ load_word op self.now.core a }
     {
-        let at = u64::from(a);
         let memory = &self.memory;
         match op {
-            LoadOp::Lb => Held::of_signed_byte(memory.byte(at)),
-            LoadOp::Lh => Held::of_signed_half(memory.byte(at), memory.byte(at + 1)),
-            LoadOp::Lw => Held::of_bytes(SymWord {
-                b0: memory.byte(at),
-                b1: memory.byte(at + 1),
-                b2: memory.byte(at + 2),
-                b3: memory.byte(at + 3),
-            }),
-            LoadOp::Lbu => Held::of_byte(memory.byte(at)),
-            LoadOp::Lhu => Held::of_half(memory.byte(at), memory.byte(at + 1)),
+            LoadOp::Lb => Held::of_signed_byte(memory.byte(u64::from(a))),
+            LoadOp::Lh => {
+                let (low, high) = memory.half(a);
+                Held::of_signed_half(low, high)
+            }
+            LoadOp::Lw => Held::of_bytes(memory.word(a)),
+            LoadOp::Lbu => Held::of_byte(memory.byte(u64::from(a))),
+            LoadOp::Lhu => {
+                let (low, high) = memory.half(a);
+                Held::of_half(low, high)
+            }
         }
     }
 
