@@ -4,7 +4,7 @@ use Rattle.std.proofs.lemmas.List.{with_items_is}
 use Rattle.rv_decode.specs.Memory.{written}
 use Rattle.sym_machine.specs.declared.word.SymByte.{SymByte}
 use Rattle.sym_machine.specs.declared.word.SymByte.TheVariants.{Undef}
-use Rattle.sym_machine.specs.Kept.{IsChanged, IsKept, IsWritten, Kept}
+use Rattle.sym_machine.specs.Kept.{IsChanged, IsWritten, Kept}
 use Rattle.sym_machine.proofs.SpanLaws.{stored_data, stored_stack}
 use Rattle.sym_machine.proofs.memory.Memory.write.Goals as goal
 
