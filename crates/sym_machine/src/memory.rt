@@ -267,6 +267,15 @@ impl Memory {
     pub fn write_numbers(&mut self, a: u32, numbers: &[u8])
         ensures { IsChanged (written a (length (map Num numbers.now)) (λ i. slice_index_or (map Num numbers.now) i Undef)) self.old self.new }
     {
+        if !self.store(a, numbers) {
+            self.put_each_number(a, numbers);
+        }
+    }
+
+    // The same byte by byte.
+    fn put_each_number(&mut self, a: u32, numbers: &[u8])
+        ensures { IsChanged (written a (length (map Num numbers.now)) (λ i. slice_index_or (map Num numbers.now) i Undef)) self.old self.new }
+    {
         let _ = &self.map;
         for i in 0..numbers.len() {
             self.put(u64::from(a) + i as u64, SymByte::Num(numbers[i]));

@@ -6,7 +6,7 @@ use Rattle.sym_machine.specs.declared.word.SymByte.{SymByte}
 use Rattle.sym_machine.specs.declared.word.SymByte.TheVariants.{Num, Undef}
 use Rattle.sym_machine.specs.Kept.{IsChanged, IsKept}
 use Rattle.sym_machine.proofs.MemoryLaws.{write_more, write_none}
-use Rattle.sym_machine.proofs.memory.Memory.write_numbers.Goals as goal
+use Rattle.sym_machine.proofs.memory.Memory.put_each_number.Goals as goal
 
 pub loop-i-init : goal.loop-i-init
 loop-i-init c = write_none c.args.a (λ i. slice_index_or (map Num c.args.numbers.now) i Undef) c.args.self.now (subst IsKept c.self.view_is c.self.invariant)
