@@ -1,10 +1,14 @@
-// Cells that numbers or bytes are written to, up or downwards.
+// Cells of a region, read or written from an index up, or below an index downwards.
 
-ghost use Rattle.std.specs.Prelude.{◌≡◌, ◌≤◌, ◌+◌, ◌-◌, ℕ, length, map};
+ghost use Rattle.std.specs.Prelude.{◌≡◌, ◌≤◌, ◌<◌, ◌+◌, ◌-◌, ℕ, List, IfOk, MatchOption, None, Some, length, map, slice_index_or};
+ghost use Rattle.rv_decode.specs.Memory.{Region, cell_at};
+ghost use Rattle.sym_machine.specs.Change.{numbers_at};
 ghost use Rattle.sym_machine.specs.Kept.{IsWritten};
-ghost use Rattle.sym_machine.specs.declared.word.SymByte.TheVariants.{Num};
+ghost use Rattle.sym_machine.specs.declared.word.SymByte.{SymByte};
+ghost use Rattle.sym_machine.specs.declared.word.SymByte.TheVariants.{Num, Undef};
 
 use crate::word::SymByte;
+use std::alloc::{AllocError, Global};
 
 /// Writes numbers to cells from an index up.
 #[inline(always)]
@@ -54,4 +58,49 @@ pub fn copy_down(cells: &mut [SymByte], end: usize, bytes: &[SymByte])
     for k in 0..bytes.len() {
         cells[end - 1 - k] = bytes[k];
     }
+}
+
+/// The so many cells from an index up, if all are numbers.
+pub fn numbers_up(
+    alloc: Global,
+    cells: &[SymByte],
+    start: usize,
+    n: usize,
+) -> Result<Option<Vec<u8>>, AllocError>
+    requires { start + n ≤ length cells.now }
+    ensures { IfOk result (λ found. (memory : List (Region SymByte)) (a : ℕ) → ((k : ℕ) → k < n → cell_at Undef memory (a + k) ≡ slice_index_or cells.now (start + k) Undef) → MatchOption found
+        (numbers_at memory a n ≡ None)
+        (λ bytes. numbers_at memory a n ≡ Some bytes.items)) }
+{
+    let mut bytes = Vec::with_capacity(alloc, n)?;
+    for k in 0..n {
+        match cells[start + k] {
+            SymByte::Num(byte) => bytes.push(byte)?,
+            SymByte::Part(_, _) | SymByte::Undef => return Ok(None),
+        }
+    }
+    Ok(Some(bytes))
+}
+
+/// The so many cells below an index, downwards, if all are numbers.
+pub fn numbers_down(
+    alloc: Global,
+    cells: &[SymByte],
+    end: usize,
+    n: usize,
+) -> Result<Option<Vec<u8>>, AllocError>
+    requires low { n ≤ end }
+    requires high { end ≤ length cells.now }
+    ensures { IfOk result (λ found. (memory : List (Region SymByte)) (a : ℕ) → ((k : ℕ) → k < n → cell_at Undef memory (a + k) ≡ slice_index_or cells.now (end - 1 - k) Undef) → MatchOption found
+        (numbers_at memory a n ≡ None)
+        (λ bytes. numbers_at memory a n ≡ Some bytes.items)) }
+{
+    let mut bytes = Vec::with_capacity(alloc, n)?;
+    for k in 0..n {
+        match cells[end - 1 - k] {
+            SymByte::Num(byte) => bytes.push(byte)?,
+            SymByte::Part(_, _) | SymByte::Undef => return Ok(None),
+        }
+    }
+    Ok(Some(bytes))
 }

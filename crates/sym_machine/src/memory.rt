@@ -9,7 +9,7 @@ ghost use Rattle.sym_machine.specs.Step.{undefined_below};
 ghost use Rattle.sym_machine.specs.Words.{number_word};
 ghost use Rattle.sym_machine.specs.declared.word.SymByte.TheVariants.{Num, Undef};
 
-use crate::cells::{copy_down, copy_up, write_down, write_up};
+use crate::cells::{copy_down, copy_up, numbers_down, numbers_up, write_down, write_up};
 use crate::span::Span;
 use crate::word::{SymByte, SymWord};
 use std::alloc::{AllocError, Global};
@@ -284,6 +284,19 @@ impl Memory {
 
     /// The so many bytes from an address on, if all are numbers.
     pub fn numbers(&self, alloc: Global, a: u32, n: u32) -> Result<Option<Vec<u8>>, AllocError>
+        ensures { IfOk result (λ found. MatchOption found
+            (numbers_at (regions_of self.now) a n ≡ None)
+            (λ bytes. numbers_at (regions_of self.now) a n ≡ Some bytes.items)) }
+    {
+        match self.span(a, n as usize) {
+            Span::Data(i) => numbers_up(alloc, &self.bytes, i, n as usize),
+            Span::Stack(i) => numbers_down(alloc, &self.above, i, n as usize),
+            Span::Elsewhere => self.each_number(alloc, a, n),
+        }
+    }
+
+    // The same byte by byte.
+    fn each_number(&self, alloc: Global, a: u32, n: u32) -> Result<Option<Vec<u8>>, AllocError>
         ensures { IfOk result (λ found. MatchOption found
             (numbers_at (regions_of self.now) a n ≡ None)
             (λ bytes. numbers_at (regions_of self.now) a n ≡ Some bytes.items)) }

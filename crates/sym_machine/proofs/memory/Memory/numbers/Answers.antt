@@ -1,26 +1,18 @@
-use Rattle.std.proofs.Common.{◌≡◌, ◌+◌, ap₂, ap, sym, ◌∙◌, ⊎_elim, arith, Some}
+use Rattle.std.proofs.Common.{◌≡◌, ℕ, ◌+◌, ◌-◌, ◌<◌, get_or, ap, sym, ◌∙◌, subst, arith}
+use Rattle.std.proofs.lemmas.Result.{IfOk-weaker}
 use Rattle.rv_decode.specs.Memory.{cell_at}
 use Rattle.sym_machine.specs.declared.word.SymByte.TheVariants.{Undef}
-use Rattle.sym_machine.specs.Change.{then_number}
-use Rattle.sym_machine.specs.Kept.{regions_of}
-use Rattle.sym_machine.proofs.MemoryLaws.{numbers_more, numbers_none}
+use Rattle.sym_machine.specs.Kept.{IsKept, Kept, regions_of}
+use Rattle.sym_machine.proofs.SpanLaws.{stack_byte}
 use Rattle.sym_machine.proofs.memory.Memory.numbers.Goals as goal
 
-pub returns-in-Part : goal.returns-in-Part
-returns-in-Part c =
-    let memory = regions_of c.args.self.now in
-    let at : c.args.a + c.loop-i.i ≡ c.from.result + c.from-in-loop-i.result = ap₂ (λ m n. m + n) (sym c.from.ensures) (sym c.from-in-loop-i.ensures) in
-    let byte = ap (cell_at Undef memory) at ∙ sym c.byte.ensures in
-    numbers_none memory c.args.a c.loop-i.i c.args.n
-    (λ o. ⊎_elim
-    (λ part. ap (λ b. then_number b o) (byte ∙ part.2))
-    (λ undefined. ap (λ b. then_number b o) (byte ∙ undefined))
-    c.in-Part.is)
-    (omega arith)
-
-pub loop-i-preserved : goal.loop-i-preserved
-loop-i-preserved c =
-    let memory = regions_of c.args.self.now in
-    let at : c.args.a + c.loop-i.i ≡ c.from.result + c.from-in-loop-i.result = ap₂ (λ m n. m + n) (sym c.from.ensures) (sym c.from-in-loop-i.ensures) in
-    numbers_more memory c.args.a c.loop-i.i c.loop-i.bytes.items c.in-Num.byte c.loop-i.invariant (ap (cell_at Undef memory) at ∙ sym c.byte.ensures ∙ c.in-Num.is)
-    ∙ ap Some (sym c.in_ok-push-in-Num.ensures.items)
+pub returns-in-Stack : goal.returns-in-Stack
+returns-in-Stack c =
+    let k = c.args.self.now in
+    let a = c.args.a in
+    let i = c.in-Stack.i in
+    let is = subst IsKept c.self.view_is c.self.invariant in
+    let each : (m : ℕ) → m < c.args.n → cell_at Undef (regions_of k) (a + m) ≡ get_or c.deref-in-Stack.result.now (i - 1 - m) Undef = λ m few.
+    stack_byte k is a c.args.n i c.in-Stack.ensures.0 c.in-Stack.ensures.1 c.in-Stack.ensures.2 (a + m) (i - 1 - m) Undef (omega arith) (omega (arith, few)) (omega (arith, c.in-Stack.ensures, few))
+    ∙ ap (λ (s : Kept). get_or s.above (i - 1 - m) Undef) (sym c.self.view_is) ∙ ap (λ l. get_or l (i - 1 - m) Undef) (sym c.deref-in-Stack.ensures.value) in
+    IfOk-weaker c.numbers_down.result _ _ (λ found all. all (regions_of k) a each) c.numbers_down.ensures
