@@ -1,6 +1,6 @@
 // The objects with their groups.
 
-ghost use Rattle.std.specs.Prelude.{◌≡◌, ◌<◌, Some, IfOk, [], length, slice_get};
+ghost use Rattle.std.specs.Prelude.{◌≡◌, IfOk, [], length};
 ghost use Rattle.psabi_sym.specs.Inputs.{parsed};
 ghost use Rattle.frame_match.specs.Groups.{groups_of};
 
@@ -44,14 +44,6 @@ impl Planned {
         ensures { result ≡ length (groups_of (parsed self.now)) }
     {
         self.groups.len() as u32
-    }
-
-    /// A group, by its number in the order of their places.
-    pub fn group(&self, i: u32) -> Group
-        requires { i < length (groups_of (parsed self.now)) }
-        ensures { slice_get (groups_of (parsed self.now)) i ≡ Some result }
-    {
-        self.groups[i as usize]
     }
 
     /// The items.
