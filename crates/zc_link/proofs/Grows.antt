@@ -86,8 +86,8 @@ module _ (inputs : ParsedInputs) (A : Place → Option ℕ) where
   zero_gaps text n before k lt gap = ⊎_elim
       (λ (front : k < length text). get_or_append_left text (replicate n 0) 0 k front ∙ before k front gap)
       (λ (behind : length text ≤ k).
-          get_or-append_right text (replicate n 0) (length text) k 0 refl behind
-          ∙ get_or-replicate n (k - length text) 0 0 (omega (arith, behind, lt, length-append text (replicate n 0), length-replicate {A = ℕ} n 0)))
+      get_or-append_right text (replicate n 0) (length text) k 0 refl behind
+      ∙ get_or-replicate n (k - length text) 0 0 (omega (arith, behind, lt, length-append text (replicate n 0), length-replicate {A = ℕ} n 0)))
       (cases_lt k (length text))
 
   -- ---- the text so far
