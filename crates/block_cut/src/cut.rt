@@ -31,8 +31,7 @@ use std::marker::Model;
 use zc_base::counts::Counts;
 use zc_base::place::Place;
 
-/// The objects of a link without a fault, with their code cut into items. Each word was decoded once, and
-/// once more if it has a relocation.
+/// The objects of a link without a fault, with their code cut into items. No look-up decodes a word.
 #[derive(Debug, Drop)]
 pub struct Cut {
     objects: Objects,

@@ -95,7 +95,7 @@ fn add_object(
 }
 
 impl Text {
-    /// The items of all code, with their addresses. It decodes each word once.
+    /// The items of all code, with their addresses. It decodes a word without a relocation once.
     pub fn new(alloc: Global, objects: &Objects, code: &Code) -> Result<Text, AllocError>
         requires { IsCode (parsed objects.now) code.now }
         ensures { IfOk result (IsText (parsed objects.now)) }
