@@ -24,7 +24,7 @@ class Section:
          self.entry_size) = struct.unpack_from('<10I', data, at)
         self.has_content = self.kind not in (NULL, NOBITS)
         self.content = data[self.at:self.at + self.size] if self.has_content else b''
-        self.is_cut = self.has_content and self.at + self.size > len(data)
+        self.is_truncated = self.has_content and self.at + self.size > len(data)
 
 
 def string_at(table, at):
@@ -144,7 +144,7 @@ def object_fault(data):
     table, count = struct.unpack_from('<I', data, 32)[0], struct.unpack_from('<H', data, 48)[0]
     if count > 4096:
         return 17
-    if table + 40 * count > len(data) or any(Section(data, table + 40 * i).is_cut for i in range(count)):
+    if table + 40 * count > len(data) or any(Section(data, table + 40 * i).is_truncated for i in range(count)):
         return 2
     if struct.unpack_from('<I', data, 36)[0] & ~0x10:
         return 3

@@ -1,4 +1,4 @@
-//! The machine that runs linked images: RV32IM with the halfwords of Zca, Zcb, Zcmp and Zcmt.
+//! The machine that runs linked images: RV32IM with the halfwords of Zca and Zcb.
 #![tactic(auto)]
 
 pub mod answer;

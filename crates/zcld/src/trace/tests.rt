@@ -158,7 +158,7 @@ fn other_instructions_are_traced(rt: HostRuntime) -> Result<(), Fail> {
     Ok(())
 }
 
-// Changes of the name of `_start`, of the alignment of the code, of a word that no link has, and of the
+// Changes of the name of `_start`, of the alignment of the code, of a word of it, and of the
 // last word of a second object, in which the program starts.
 #[test]
 fn a_program_starts_where_its_name_leads(rt: HostRuntime) -> Result<(), Fail> {
