@@ -7,7 +7,7 @@ ghost use Rattle.zcld.specs.Call.{Calls, Does};
 ghost use Rattle.zcld.specs.Command.{command_of, texts};
 
 use crate::command_line::{CommandLine, read};
-use crate::err_line::report;
+use crate::err_line::write_line;
 use crate::outcome::Outcome;
 use crate::plain::plain;
 use crate::run::run;
@@ -31,7 +31,7 @@ pub fn zcld<S: Store, C: Console>(
 {
     let mut files = Vec::new(alloc);
     let outcome = perform(alloc, words, &mut files, store, console);
-    report(files.as_slice(), &outcome, console);
+    write_line(files.as_slice(), &outcome, console);
     outcome
 }
 

@@ -24,14 +24,14 @@ use zc_outside::console::Console;
 /// Writes the line of an outcome to standard error. A line that can't be written changes no outcome.
 /// The files are those that were read: a line may end with a name in one of them, which is written
 /// from there.
-pub fn report<C: Console>(files: &[Vec<u8>], outcome: &Outcome, console: &mut C)
+pub fn write_line<C: Console>(files: &[Vec<u8>], outcome: &Outcome, console: &mut C)
     ensures line { WritesLine (err_line (contents_of files.now) outcome.now)
         (C.shown console.old) (C.shown console.new) }
     ensures out { KeepsBytes (C.shown console.old).out (C.shown console.new).out }
     ensures only { OnlyWrites (C.shown console.old) (C.shown console.new) }
 {
     match outcome {
-        Outcome::Refused(object, fault) => report_refusal(files, *object, *fault, console),
+        Outcome::Refused(object, fault) => write_refusal(files, *object, *fault, console),
         _ => {
             let line = line_of(outcome);
             write_pieces(&[line.as_str().as_bytes()], console);
@@ -40,7 +40,7 @@ pub fn report<C: Console>(files: &[Vec<u8>], outcome: &Outcome, console: &mut C)
 }
 
 // Writes the line of a refusal.
-fn report_refusal<C: Console>(files: &[Vec<u8>], object: u32, fault: Fault, console: &mut C)
+fn write_refusal<C: Console>(files: &[Vec<u8>], object: u32, fault: Fault, console: &mut C)
     ensures line { WritesLine (err_line (contents_of files.now) (Refused object fault))
         (C.shown console.old) (C.shown console.new) }
     ensures out { KeepsBytes (C.shown console.old).out (C.shown console.new).out }

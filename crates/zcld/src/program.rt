@@ -6,7 +6,7 @@ ghost use Rattle.zc_outside.specs.World.{world};
 ghost use Rattle.zcld.specs.Program.{Ends};
 
 use crate::call::zcld;
-use crate::err_line::report;
+use crate::err_line::write_line;
 use crate::outcome::{Outcome, status};
 use std::alloc::{AllocError, Global};
 use std::io::ErrorKind;
@@ -83,7 +83,7 @@ fn end_without<C: Console>(fault: WordsFault, console: &mut C) -> u8
         WordsFault::NotText => Outcome::Usage,
         WordsFault::OutOfMemory => Outcome::OutOfMemory,
     };
-    report(&[], &outcome, console);
+    write_line(&[], &outcome, console);
     status(&outcome)
 }
 

@@ -12,7 +12,7 @@ fn written(alloc: Global, object: u32, fault: Fault, fails: &[u32]) -> Result<Ve
     let readable = Vec::from_slice(alloc, &THREE)?;
     let files = [readable, Vec::new(alloc)];
     let mut console = MemConsole::new(alloc, b"", fails)?;
-    report(&files, &Outcome::Refused(object, fault), &mut console);
+    write_line(&files, &Outcome::Refused(object, fault), &mut console);
     Ok(Vec::from_slice(alloc, console.err_bytes())?)
 }
 

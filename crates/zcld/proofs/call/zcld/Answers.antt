@@ -7,4 +7,4 @@ returns-clause-usage g c = usage_alone _ _ _ _ _ c.perform-outcome.ensures
 
 pub returns-clause-calls : goal.returns-clause-calls
 returns-clause-calls g c =
-    calls _ _ _ _ _ (record { shelf = refl; out = c.report.ensures.out; line = search rules; only = c.report.ensures.only }) _ c.perform-outcome.ensures
+    calls _ _ _ _ _ (record { shelf = refl; out = c.write_line.ensures.out; line = search rules; only = c.write_line.ensures.only }) _ c.perform-outcome.ensures

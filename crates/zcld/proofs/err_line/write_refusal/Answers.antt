@@ -2,7 +2,7 @@ use Rattle.std.proofs.Common.{◌∙◌, subst}
 use Rattle.psabi_sym.specs.Objects.{contents_of}
 use Rattle.zcld.specs.Call.{WritesLine}
 use Rattle.zcld.proofs.Names.{named_line}
-use Rattle.zcld.proofs.err_line.report_refusal.Goals as goal
+use Rattle.zcld.proofs.err_line.write_refusal.Goals as goal
 
 pub returns-in-Some-clause-line : goal.returns-in-Some-clause-line
 returns-in-Some-clause-line g c =
