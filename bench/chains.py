@@ -1,0 +1,128 @@
+#!/usr/bin/env python3
+"""Measures `zc` on chains of branches, which take as many rounds as there are branches.
+
+    bench/chains.py [--repeats R] [PROGRAM]        PROGRAM is build/zcld if none is given
+
+The layout starts with the shortest forms, and each round gives the next longer one to what doesn't reach. In each chain but
+the first, a branch reaches just so unless the one next to it in the chain has grown, so each round makes one branch longer (two,
+if the chain grows from both ends), and a layout that looked at all code in each round would take seconds. Each object is linked
+R times, all in turn, in an order that changes. A time is the processor's for a whole process: the least of the R. Memory is the
+most that a process held, as GNU time tells it.
+
+    bench/chains.py --model COUNT
+
+counts the rounds of chains of COUNT words by the model in fuzz/zc_link.py, and doesn't run the program.
+"""
+import argparse
+import os
+import random
+import shutil
+import sys
+import tempfile
+
+from links import text_size
+from run import Call, milliseconds, processor_name, table
+
+sys.path.insert(0, os.path.join(os.path.dirname(os.path.abspath(__file__)), os.pardir, 'fuzz'))
+
+import zc_link
+from made_objects import A0, NOP, T0, ZERO, branch, lui
+from object_data import TEXT_AT
+from object_faults import Object
+from written_object import Written
+
+COUNTS = (16384, 32768, 65535)
+# A word that has no short form: lui with an upper part that the short form can't hold.
+LONG = lui(T0) | 0x40000 << 12
+BEQ = 0
+
+
+def short_to(words):
+    """A branch that has a short form, over so many words."""
+    return branch(BEQ, A0, ZERO, 4 * words)
+
+
+def just_so(count):
+    """Each branch leads over the next 126, and the last one farther: each round makes 126 longer."""
+    return [short_to(127)] * (count - 401) + [short_to(200)] + [NOP] * 400
+
+
+def forward(count):
+    """Branches to the 65th word after them; each 64th word is short and stays so. At the end all others are long."""
+    ends = count - 65
+    return [NOP if k % 64 == 0 else short_to(65) if k < ends else LONG for k in range(count)]
+
+
+def backward(count):
+    """Branches to the 65th word before them; each 65th word is short and stays so. At the start all others are long."""
+    return [NOP if k % 65 == 0 else LONG if k < 65 else short_to(-65) for k in range(count)]
+
+
+def from_both_ends(count):
+    """One half backward, the other forward."""
+    return backward(count // 2) + forward(count - count // 2)
+
+
+CHAINS = {'just so': just_so, 'forward': forward, 'backward': backward, 'from both ends': from_both_ends}
+
+
+def made_object(words):
+    made = Written()
+    text = made.section(b'.text')
+    made.symbol(b'_start', home=text)
+    text.words(*words)
+    return made.bytes()
+
+
+def counted(count):
+    """The rounds of each chain of so many words, by the model."""
+    rows = []
+    for name, chain in CHAINS.items():
+        link = zc_link.Zc([Object(made_object(chain(count)))])
+        link.image()
+        rows.append([name, f'{count:,}', f'{link.rounds:,}', f'{link.end - TEXT_AT:,}'])
+    table(['chain', 'words', 'rounds', 'text, bytes'], rows)
+
+
+def measured(program, repeats):
+    before, timer = os.getloadavg()[0], shutil.which('time')
+    with tempfile.TemporaryDirectory() as folder:
+        rows, order = [], random.Random(1)
+        for name, chain in CHAINS.items():
+            for count in COUNTS:
+                base = os.path.join(folder, str(len(rows)))
+                with open(base + '.o', 'wb') as file:
+                    file.write(made_object(chain(count)))
+                words = [program, 'zc', '--out', base + '.elf', '--cert', base + '.cert', base + '.o']
+                rows.append((name, f'{4 * count:,}', base + '.elf', Call(words, 0)))
+        in_turn = [row[-1] for row in rows]
+        for _ in range(repeats):
+            order.shuffle(in_turn)
+            for call in in_turn:
+                call.make()
+        print(f'Processor: {processor_name()}, {os.cpu_count()} of them.')
+        print(f'Load over one minute: {before:.1f} before, {os.getloadavg()[0]:.1f} after. Each call was made {repeats} times.')
+        print('Times are the processor\'s milliseconds for a whole process, the least of all calls. Memory is the most that a '
+              'process held.')
+        table(['chain', 'code, bytes', 'text, bytes', 'zc, ms', 'KiB'],
+              [[name, code, f'{text_size(image):,}', milliseconds(call.processor), call.peak(timer)]
+               for name, code, image, call in rows])
+
+
+def main():
+    arguments = argparse.ArgumentParser(description='Measures `zc` on chains of branches.')
+    arguments.add_argument('program', nargs='?', default=os.path.join('build', 'zcld'))
+    arguments.add_argument('--repeats', type=int, default=5)
+    arguments.add_argument('--model', type=int, metavar='COUNT', help='count the rounds of chains of COUNT words, by the model')
+    given = arguments.parse_args()
+    if given.model:
+        counted(given.model)
+        return
+    program = os.path.abspath(given.program)
+    if not os.access(program, os.X_OK):
+        sys.exit(f'{given.program} is no program: `make` builds it')
+    measured(program, max(1, given.repeats))
+
+
+if __name__ == '__main__':
+    main()
