@@ -1,7 +1,7 @@
 #!/usr/bin/env python3
 """Measures the program on straight code of growing size.
 
-    bench/run.py [--repeats R] [PROGRAM]        PROGRAM is build/zcld where none is given
+    bench/run.py [--repeats R] [PROGRAM]        PROGRAM is build/zcld if none is given
 
 Objects are made by rule, linked with `zc`, and run with `run` (the image) and `trace` (the object). Each
 call is made R times, all calls in turn and in an order that changes, so that the machine's load and caches meet

@@ -91,8 +91,8 @@ impl Cut {
         })
     }
 
-    /// The item at a place, if one starts there. It takes constant time, as do all that follow where nothing
-    /// else is said.
+    /// The item at a place, if one starts there. It takes constant time, as do all that follow unless they say
+    /// otherwise.
     pub fn item(&self, p: Place) -> Option<Item>
         ensures item { result ≡ item_at (parsed self.now) p }
         ensures room { IfSome result (λ _. p.offset + 256 < 2 ^ 32) }
