@@ -9,9 +9,10 @@ ghost use Rattle.psabi_sym.specs.Inputs.{parsed, Inputs};
 ghost use Rattle.block_cut.specs.Cut.{code_words_at, list_in, IsCode};
 ghost use Rattle.block_cut.specs.Items.{is_target_at};
 
-use crate::code_word::{CodeWord, CodeWords};
+use crate::code_word::CodeWord;
 use crate::relocated::Relocated;
 use crate::walk::{relocs_by_word, words_with};
+use crate::words::Words;
 use elf32_read::object::Object;
 use psabi_sym::objects::Objects;
 use std::alloc::{AllocError, Global};
@@ -20,7 +21,7 @@ use zc_base::place::Place;
 /// The words of all code, by object and section.
 #[derive(Debug, Drop)]
 pub struct Code {
-    pub words: Vec<Vec<CodeWords>>,
+    pub words: Vec<Vec<Words<CodeWord>>>,
 }
 
 // The words of a section, by its object's index and its own.
@@ -30,18 +31,18 @@ fn section_words(
     o: u16,
     object: &Object,
     i: u16,
-) -> Result<CodeWords, AllocError>
+) -> Result<Words<CodeWord>, AllocError>
     requires faultless { gather_fault objects.now ≡ None }
     requires object { slice_get objects.now.files o ≡ Some object.now }
     requires section { i < section_count object.now }
     ensures { IfOk result (λ words. words ≡ code_words_at (parsed objects.now).objects o i) }
 {
     if !objects.is_code(o, i) {
-        return Ok(CodeWords::new(Vec::new(alloc)));
+        return Ok(Words::new(Vec::new(alloc)));
     }
     let section = Relocated::new(alloc, objects, o, object, i)?;
     let relocs = relocs_by_word(alloc, objects, o, object, i, &section)?;
-    Ok(CodeWords::new(words_with(alloc, &relocs)?))
+    Ok(Words::new(words_with(alloc, &relocs)?))
 }
 
 // Those of an object's sections, by its index.
@@ -50,7 +51,7 @@ fn object_words(
     objects: &Objects,
     o: u16,
     object: &Object,
-) -> Result<Vec<CodeWords>, AllocError>
+) -> Result<Vec<Words<CodeWord>>, AllocError>
     requires faultless { gather_fault objects.now ≡ None }
     requires object { slice_get objects.now.files o ≡ Some object.now }
     ensures { IfOk result (λ rows. rows.items ≡ map (code_words_at (parsed objects.now).objects o) (range_with_len 0 (section_count object.now))) }

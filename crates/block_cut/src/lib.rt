@@ -24,3 +24,4 @@ mod spelled;
 mod text;
 mod text_word;
 mod walk;
+mod words;

@@ -3,7 +3,8 @@
 ghost use Rattle.std.specs.Prelude.{◌≡◌, ◌&&◌, ◌||◌, ◌==◌, ℕ, false, IfOk};
 ghost use Rattle.block_cut.specs.Led.{mark_at, mark_in};
 
-use crate::text_word::TextWords;
+use crate::text_word::TextWord;
+use crate::words::Words;
 use std::alloc::{AllocError, Global};
 use std::marker::Model;
 
@@ -69,7 +70,7 @@ impl Model for ObjectMarks {
 
 impl ObjectMarks {
     /// The words of these sections, without a mark.
-    pub fn new(alloc: Global, sections: &[TextWords]) -> Result<ObjectMarks, AllocError>
+    pub fn new(alloc: Global, sections: &[Words<TextWord>]) -> Result<ObjectMarks, AllocError>
         ensures { IfOk result (λ marks. (i k : ℕ) → mark_in marks i k ≡ false) }
     {
         let mut rows = Vec::with_capacity(alloc, sections.len())?;

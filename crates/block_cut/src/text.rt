@@ -16,7 +16,8 @@ use crate::extent::Extent;
 use crate::item::Item;
 use crate::kinds::instr_at;
 use crate::plain_layout::begin_after;
-use crate::text_word::{TextWord, TextWords};
+use crate::text_word::TextWord;
+use crate::words::Words;
 use elf32_read::object::Object;
 use psabi_sym::objects::Objects;
 use std::alloc::{AllocError, Global};
@@ -25,7 +26,7 @@ use zc_base::place::Place;
 /// The words of all code, by object and section, and how far it comes.
 #[derive(Debug, Drop)]
 pub struct Text {
-    pub words: Vec<Vec<TextWords>>,
+    pub words: Vec<Vec<Words<TextWord>>>,
     pub extent: Extent,
 }
 
@@ -38,7 +39,7 @@ fn add_section(
     object: &Object,
     i: u16,
     extent: &mut Extent,
-) -> Result<TextWords, AllocError>
+) -> Result<Words<TextWord>, AllocError>
     requires faultless { gather_fault objects.now ≡ None }
     requires is_map { IsMap objects.now.map }
     requires code { IsCode (parsed objects.now) code.now }
@@ -49,7 +50,7 @@ fn add_section(
     ensures words { IfOk result (λ words. words ≡ text_words_at (parsed objects.now) o i) }
 {
     if !objects.is_code(o, i) {
-        return Ok(TextWords::new(Vec::new(alloc)));
+        return Ok(Words::new(Vec::new(alloc)));
     }
     let section = object.section_entry(u32::from(i));
     let before = code.words(o, i);
@@ -66,7 +67,7 @@ fn add_section(
         let item = extent.add_word(objects, code, section.bytes, q, *word, spelled);
         words.push(TextWord { item, address })?;
     }
-    Ok(TextWords::new(words))
+    Ok(Words::new(words))
 }
 
 // The words of the sections of the next object, by its index.
@@ -77,7 +78,7 @@ fn add_object(
     o: u16,
     object: &Object,
     extent: &mut Extent,
-) -> Result<Vec<TextWords>, AllocError>
+) -> Result<Vec<Words<TextWord>>, AllocError>
     requires faultless { gather_fault objects.now ≡ None }
     requires is_map { IsMap objects.now.map }
     requires code { IsCode (parsed objects.now) code.now }
