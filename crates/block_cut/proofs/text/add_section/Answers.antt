@@ -62,87 +62,69 @@ loop-k-init c =
     let is = subst (λ n. IsSectionEntry c.section_entry-section.result (section_parts file n)) c.from.ensures c.section_entry-section.ensures in
     let new : Extent = record { end = c.begin_after-extent.result; count = c.args.extent.now.count } in
     let first = at_first inputs none o i s here c.args.extent.now new c.requires.so_far (c.begin_after-extent.ensures ∙ ap (λ a. aligned_up (max 4 a) c.args.extent.now.end) is.align) refl in
-    subst (λ l. IsSoFar (parsed inputs) o i s 0 l new) (sym c.in_ok-words.ensures.items) first
+    let words = words_are inputs o i s here c.words-before.result.now (c.words-before.ensures ∙ c.requires.code.words o i) in
+    record {
+      here = here;
+      count = ap length words ∙ word_count (code_word s) s;
+      word = λ k d lt. word_is s c.words-before.result.now k d words lt;
+      so_far = subst (λ l. IsSoFar (parsed inputs) o i s 0 l new) (sym c.in_ok-words.ensures.items) first;
+    }
 
 pub overflow_cast-q : goal.overflow_cast-q
-overflow_cast-q c =
-    let inputs = c.args.objects.now in
-    let file = c.args.object.now in
-    let o = c.args.o in
-    let i = c.args.i in
-    let s = section_parts file i in
-    let here = code_here inputs o i file c.requires.faultless c.requires.object c.requires.section (sym c.is_code.ensures ∙ c.if-not-is_code.false) in
-    let words = words_are inputs o i s here c.words-before.result.now (c.words-before.ensures ∙ c.requires.code.words o i) in
-    omega (arith, ap length words, word_count (code_word s) s, here.whole.short)
+overflow_cast-q c = omega (arith, c.loop-k.invariant.count, c.loop-k.invariant.here.whole.short)
 
 pub overflow_mul-q : goal.overflow_mul-q
-overflow_mul-q c =
-    let inputs = c.args.objects.now in
-    let file = c.args.object.now in
-    let o = c.args.o in
-    let i = c.args.i in
-    let s = section_parts file i in
-    let here = code_here inputs o i file c.requires.faultless c.requires.object c.requires.section (sym c.is_code.ensures ∙ c.if-not-is_code.false) in
-    let words = words_are inputs o i s here c.words-before.result.now (c.words-before.ensures ∙ c.requires.code.words o i) in
-    omega (arith, ap length words, word_count (code_word s) s, here.whole.short)
+overflow_mul-q c = omega (arith, c.loop-k.invariant.count, c.loop-k.invariant.here.whole.short)
 
 pub add_word-item-requires-clause-room : goal.add_word-item-requires-clause-room
 add_word-item-requires-clause-room c = λ target not_end.
     let inputs = c.args.objects.now in
+    let was = c.loop-k.invariant in
     let file = c.args.object.now in
     let o = c.args.o in
     let i = c.args.i in
     let s = section_parts file i in
     let k = c.loop-k.k in
-    let here = code_here inputs o i file c.requires.faultless c.requires.object c.requires.section (sym c.is_code.ensures ∙ c.if-not-is_code.false) in
     let is = subst (λ n. IsSectionEntry c.section_entry-section.result (section_parts file n)) c.from.ensures c.section_entry-section.ensures in
-    let words = words_are inputs o i s here c.words-before.result.now (c.words-before.ensures ∙ c.requires.code.words o i) in
     let word = get_or c.words-before.result.now k (record { is_target = false; reloc = None }) in
-    let same : word ≡ code_word s (4 * k) = word_is s c.words-before.result.now k (record { is_target = false; reloc = None }) words (omega arith) in
-    room_there inputs c.requires.faultless o i s here (4 * k) word c.section_entry-section.result.bytes.now target not_end (ap (λ w. w.is_target) same) (ap (λ w. w.reloc) same) is.bytes
+    let same : word ≡ code_word s (4 * k) = was.word k (record { is_target = false; reloc = None }) (omega arith) in
+    room_there inputs c.requires.faultless o i s was.here (4 * k) word c.section_entry-section.result.bytes.now target not_end (ap (λ w. w.is_target) same) (ap (λ w. w.reloc) same) is.bytes
 
 pub add_word-item-requires-clause-spelled : goal.add_word-item-requires-clause-spelled
 add_word-item-requires-clause-spelled c = λ not_end.
-    let inputs = c.args.objects.now in
+    let was = c.loop-k.invariant in
     let file = c.args.object.now in
-    let o = c.args.o in
-    let i = c.args.i in
-    let s = section_parts file i in
     let k = c.loop-k.k in
-    let here = code_here inputs o i file c.requires.faultless c.requires.object c.requires.section (sym c.is_code.ensures ∙ c.if-not-is_code.false) in
     let is = subst (λ n. IsSectionEntry c.section_entry-section.result (section_parts file n)) c.from.ensures c.section_entry-section.ensures in
-    let words = words_are inputs o i s here c.words-before.result.now (c.words-before.ensures ∙ c.requires.code.words o i) in
     let bytes = c.section_entry-section.result.bytes.now in
-    let inside : 4 * k + 4 ≤ length bytes = omega (arith, not_end, ap length words, word_count (code_word s) s, here.whole.words, ap length is.bytes) in
+    let inside : 4 * k + 4 ≤ length bytes = omega (arith, not_end, was.count, was.here.whole.words, ap length is.bytes) in
     c.instr_at-spelled.ensures ∙ ap (λ b. cond b (decoded (word_in bytes (4 * k))) None) (le-leb (4 * k + 4) (length bytes) inside)
 
 pub add_word-item-requires-clause-end : goal.add_word-item-requires-clause-end
 add_word-item-requires-clause-end c =
     let inputs = c.args.objects.now in
-    let file = c.args.object.now in
+    let was = c.loop-k.invariant in
     let o = c.args.o in
     let i = c.args.i in
-    let s = section_parts file i in
+    let s = section_parts c.args.object.now i in
     let k = c.loop-k.k in
     let map = c.requires.is_map in
-    let here = code_here inputs o i file c.requires.faultless c.requires.object c.requires.section (sym c.is_code.ensures ∙ c.if-not-is_code.false) in
-    let words = words_are inputs o i s here c.words-before.result.now (c.words-before.ensures ∙ c.requires.code.words o i) in
-    let le : 4 * k ≤ length s.bytes = omega (arith, ap length words, word_count (code_word s) s) in
-    omega (arith, end_fits inputs c.requires.faultless o i s here k c.loop-k.words.items c.loop-k.extent le c.loop-k.invariant, map.code, map.data_room, map.top)
+    let le : 4 * k ≤ length s.bytes = omega (arith, was.count) in
+    omega (arith, end_fits inputs c.requires.faultless o i s was.here k c.loop-k.words.items c.loop-k.extent le was.so_far, map.code, map.data_room, map.top)
 
 pub add_word-item-requires-clause-count : goal.add_word-item-requires-clause-count
 add_word-item-requires-clause-count c =
     let inputs = c.args.objects.now in
-    let file = c.args.object.now in
+    let was = c.loop-k.invariant in
     let o = c.args.o in
     let i = c.args.i in
-    let s = section_parts file i in
-    let here = code_here inputs o i file c.requires.faultless c.requires.object c.requires.section (sym c.is_code.ensures ∙ c.if-not-is_code.false) in
-    omega (arith, count_fits inputs c.requires.faultless o i s here c.loop-k.k c.loop-k.words.items c.loop-k.extent c.loop-k.invariant)
+    let s = section_parts c.args.object.now i in
+    omega (arith, count_fits inputs c.requires.faultless o i s was.here c.loop-k.k c.loop-k.words.items c.loop-k.extent was.so_far)
 
 pub loop-k-preserved : goal.loop-k-preserved
 loop-k-preserved c =
     let inputs = c.args.objects.now in
+    let was = c.loop-k.invariant in
     let file = c.args.object.now in
     let o = c.args.o in
     let i = c.args.i in
@@ -150,40 +132,34 @@ loop-k-preserved c =
     let k = c.loop-k.k in
     let old = c.loop-k.extent in
     let new = c.add_word-item.new.self in
-    let here = code_here inputs o i file c.requires.faultless c.requires.object c.requires.section (sym c.is_code.ensures ∙ c.if-not-is_code.false) in
     let is = subst (λ n. IsSectionEntry c.section_entry-section.result (section_parts file n)) c.from.ensures c.section_entry-section.ensures in
-    let words = words_are inputs o i s here c.words-before.result.now (c.words-before.ensures ∙ c.requires.code.words o i) in
     let word = get_or c.words-before.result.now k (record { is_target = false; reloc = None }) in
-    let same : word ≡ code_word s (4 * k) = word_is s c.words-before.result.now k (record { is_target = false; reloc = None }) words (omega arith) in
-    let le : 4 * k ≤ length s.bytes = omega (arith, ap length words, word_count (code_word s) s) in
+    let same : word ≡ code_word s (4 * k) = was.word k (record { is_target = false; reloc = None }) (omega arith) in
+    let le : 4 * k ≤ length s.bytes = omega (arith, was.count) in
     let result : TextWord = record { item = c.add_word-item.result; address = c.address-address.result } in
     let address = c.address-address.ensures in
     let says = c.add_word-item.ensures in
-    let more = one_more inputs c.requires.faultless o i s here k c.loop-k.words.items old new word c.section_entry-section.result.bytes.now result le c.loop-k.invariant
+    let more = one_more inputs c.requires.faultless o i s was.here k c.loop-k.words.items old new word c.section_entry-section.result.bytes.now result le was.so_far
     (ap (λ w. w.is_target) same) (ap (λ w. w.reloc) same) is.bytes
     (λ f. let r = says.inner f in ((λ j. record { item = r.0 j; address = (address ∙ ap (λ b. cond b (Some old.end) None) f) j }), r.1))
     (λ t e. let r = says.end t e in ((λ j. record { item = r.0 j; address = (address ∙ ap (λ b. cond b (Some old.end) None) t) j }), r.1))
     (λ t e. let r = says.start t e in ((λ j. record { item = r.0 j; address = (address ∙ ap (λ b. cond b (Some old.end) None) t) j }), r.1)) in
-    subst (λ l. IsSoFar (parsed inputs) o i s (k + 1) l new) (sym c.in_ok-push.ensures.items) more
+    record { here = was.here; count = was.count; word = was.word; so_far = subst (λ l. IsSoFar (parsed inputs) o i s (k + 1) l new) (sym c.in_ok-push.ensures.items) more }
 
 pub returns-clause-so_far : goal.returns-clause-so_far
 returns-clause-so_far c =
     let inputs = c.args.objects.now in
-    let file = c.args.object.now in
+    let was = c.loop-k.invariant in
     let o = c.args.o in
     let i = c.args.i in
-    let s = section_parts file i in
-    let here = code_here inputs o i file c.requires.faultless c.requires.object c.requires.section (sym c.is_code.ensures ∙ c.if-not-is_code.false) in
-    let words = words_are inputs o i s here c.words-before.result.now (c.words-before.ensures ∙ c.requires.code.words o i) in
-    at_last inputs c.requires.faultless o i s here c.loop-k.k c.loop-k.words.items c.loop-k.extent (omega (arith, ap length words, word_count (code_word s) s)) c.loop-k.invariant
+    let s = section_parts c.args.object.now i in
+    at_last inputs c.requires.faultless o i s was.here c.loop-k.k c.loop-k.words.items c.loop-k.extent (omega (arith, was.count)) was.so_far
 
 pub returns-clause-words : goal.returns-clause-words
 returns-clause-words c =
     let inputs = c.args.objects.now in
-    let file = c.args.object.now in
+    let was = c.loop-k.invariant in
     let o = c.args.o in
     let i = c.args.i in
-    let s = section_parts file i in
-    let here = code_here inputs o i file c.requires.faultless c.requires.object c.requires.section (sym c.is_code.ensures ∙ c.if-not-is_code.false) in
-    let words = words_are inputs o i s here c.words-before.result.now (c.words-before.ensures ∙ c.requires.code.words o i) in
-    c.new-2.ensures ∙ words_all inputs c.requires.faultless o i s here c.loop-k.k c.loop-k.words.items c.loop-k.extent (omega (arith, ap length words, word_count (code_word s) s)) c.loop-k.invariant
+    let s = section_parts c.args.object.now i in
+    c.new-2.ensures ∙ words_all inputs c.requires.faultless o i s was.here c.loop-k.k c.loop-k.words.items c.loop-k.extent (omega (arith, was.count)) was.so_far
