@@ -2,6 +2,7 @@ pub mod DataLaws
 pub mod FaultLaws
 pub mod FieldLaws
 pub mod FirstLaws
+mod HeldLaws
 pub mod ItemLaws
 pub mod JudgeLaws
 pub mod LedLaws

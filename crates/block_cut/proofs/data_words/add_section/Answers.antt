@@ -1,12 +1,12 @@
-use Rattle.std.proofs.Common.{◌≡◌, ◌<◌, ◌++◌, [], false, sym, ap, subst, ◌∙◌}
+use Rattle.std.proofs.Common.{◌≡◌, ◌++◌, [], None, Some, false, sym, ap, subst, ◌∙◌}
 use Rattle.std.specs.Option.{option_map_or}
 use Rattle.std.proofs.lemmas.List.{append-nil}
 use Rattle.std.proofs.lemmas.Option.{get_or_from_slice_get, slice_get_within}
-use Rattle.elf32_read.specs.Header.{header_of, section_count}
 use Rattle.elf32_read.specs.Lent.{IsSectionEntry}
-use Rattle.elf32_read.specs.Parts.{is_code_section, relocs_held, relocs_of, section_parts}
+use Rattle.elf32_read.specs.Parts.{is_code_section, section_parts}
 use Rattle.psabi_sym.specs.Inputs.{parsed}
 use Rattle.block_cut.specs.DataWords.{words_in}
+use Rattle.block_cut.proofs.HeldLaws.{rela_is}
 use Rattle.block_cut.proofs.ListedLaws.{listed}
 use Rattle.block_cut.proofs.WholeLaws.{section_there}
 use Rattle.block_cut.proofs.WordsLaws.{words_of_code, words_of_none, words_of_zeros}
@@ -37,22 +37,15 @@ pub rela_of-requires-clause-section : goal.rela_of-requires-clause-section
 rela_of-requires-clause-section c = rw (get_or_from_slice_get c.args.objects.now.files c.args.o c.args.object.now [] c.requires.object) c.requires.section
 
 pub add_held-requires-clause-rela : goal.add_held-requires-clause-rela
-add_held-requires-clause-rela c =
-    subst (λ f. c.in-Some.rela < section_count f) (get_or_from_slice_get c.args.objects.now.files c.args.o c.args.object.now [] c.requires.object) c.in-Some.ensures.0
+add_held-requires-clause-rela c = (rela_is c.args.objects.now.files c.args.o c.args.i c.args.object.now (Some c.in-Some.rela) c.requires.object c.in-Some.ensures).0
 
 pub add_held-requires-clause-held : goal.add_held-requires-clause-held
-add_held-requires-clause-held c =
-    let inputs = c.args.objects.now in
-    let i = c.args.i in
-    let same = get_or_from_slice_get inputs.files c.args.o c.args.object.now [] c.requires.object in
-    subst (λ f. relocs_of f i ≡ relocs_held f (header_of f c.in-Some.rela)) same c.in-Some.ensures.1
+add_held-requires-clause-held c = (rela_is c.args.objects.now.files c.args.o c.args.i c.args.object.now (Some c.in-Some.rela) c.requires.object c.in-Some.ensures).1
 
 pub returns-in-None : goal.returns-in-None
 returns-in-None c =
     let inputs = c.args.objects.now in
     let file = c.args.object.now in
-    let o = c.args.o in
     let i = c.args.i in
-    let same = ap (λ f. relocs_of f i) (get_or_from_slice_get inputs.files o file [] c.requires.object) in
-    let none = words_of_none (parsed inputs) (listed o i (section_parts file i)) (sym same ∙ c.in-None.ensures) in
+    let none = words_of_none (parsed inputs) (listed c.args.o i (section_parts file i)) (rela_is inputs.files c.args.o i file None c.requires.object c.in-None.ensures) in
     sym (ap (λ l. c.args.words.now.items ++ l) none ∙ append-nil c.args.words.now.items)
