@@ -1,3 +1,4 @@
+mod ApartLaws
 pub mod DataLaws
 pub mod FaultLaws
 pub mod FieldLaws

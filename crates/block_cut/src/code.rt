@@ -66,7 +66,7 @@ fn object_words(
 
 impl Code {
     /// The code of all objects. It makes each object once, and looks at each word and relocation a fixed
-    /// number of times, but for the search for fields that overlap.
+    /// number of times, but for the search for fields that overlap where they aren't in order.
     pub fn new(alloc: Global, objects: &Objects) -> Result<Code, AllocError>
         ensures gathered { gather_fault objects.now ≡ None }
         ensures is_map { IsMap objects.now.map }

@@ -1,13 +1,13 @@
 // The bytes that the relocations of a section change.
 
-ghost use Rattle.std.specs.Prelude.{◌≡◌, ◌<◌, ◌≤◌, ◌++◌, ◌∷◌, ◌==◌, ◌&&◌, [], length, nat_lt, List, Some, IfOk, slice_get};
+ghost use Rattle.std.specs.Prelude.{◌≡◌, ◌<◌, ◌≤◌, ◌++◌, ◌∷◌, ◌==◌, ◌&&◌, [], length, nat_lt, Contains, List, Some, IfOk, IfSome, slice_get};
 ghost use Rattle.std.specs.List.{count_by, list_any};
 ghost use Rattle.std.specs.List.Sorted.{IsNonDecreasing};
 ghost use Rattle.elf32_read.specs.Header.{header_of, section_count};
 ghost use Rattle.elf32_read.specs.Parts.{relocs_held, relocs_of};
 ghost use Rattle.elf32_read.specs.declared.reloc.Reloc.{Reloc};
 ghost use Rattle.psabi_reloc.specs.Kinds.{kind_of};
-ghost use Rattle.block_cut.specs.Fields.{AreFields, HoldsFields, IsSortedOf};
+ghost use Rattle.block_cut.specs.Fields.{AreApart, AreFields, HoldsFields, IsSortedOf};
 ghost use Rattle.block_cut.specs.Relocs.{field_end, field_of, is_crowded, is_pcrel_hi};
 
 use crate::kinds::is_pcrel_hi;
@@ -19,12 +19,14 @@ use std::alloc::{AllocError, Global};
 
 /// Where the fields of a section's relocations begin, where they end, and where the upper parts of
 /// PC-relative pairs stand, each in ascending order. A field has bytes: NONE, RELAX and types that aren't
-/// known have none.
+/// known have none. If each relocation's field begins where those before it have ended, as compilers write
+/// them, `end` is where the last one ends.
 #[derive(Debug, Drop)]
 pub struct Fields {
     pub starts: Vec<u64>,
     pub ends: Vec<u64>,
     pub uppers: Vec<u64>,
+    pub end: Option<u64>,
 }
 
 /// How many bytes a relocation changes.
@@ -52,6 +54,22 @@ fn count_below(numbers: &[u64], most: u64) -> usize
     numbers.partition_point(|n| *n < most)
 }
 
+// Where the fields of relocations end with one more, if it begins where those before it have ended.
+fn end_with(before: Option<u64>, reloc: Reloc) -> Option<u64>
+    ensures { (relocs : List Reloc) → IfSome before (λ n. AreApart n relocs)
+        → IfSome result (λ n. AreApart n (relocs ++ reloc ∷ [])) }
+{
+    let start = u64::from(reloc.offset);
+    let end = field_end(reloc);
+    if start == end {
+        return before;
+    }
+    if start < before? {
+        return None;
+    }
+    Some(end)
+}
+
 impl Fields {
     // Those of no relocations.
     fn none(alloc: Global) -> Fields
@@ -61,6 +79,7 @@ impl Fields {
             starts: Vec::new(alloc),
             ends: Vec::new(alloc),
             uppers: Vec::new(alloc),
+            end: Some(0),
         }
     }
 
@@ -78,6 +97,7 @@ impl Fields {
         if is_pcrel_hi(RelocKind::of(reloc.kind)) {
             self.uppers.push(start)?;
         }
+        self.end = end_with(self.end, reloc);
         Ok(())
     }
 
@@ -123,10 +143,13 @@ impl Fields {
         Ok(fields)
     }
 
-    /// Whether a byte that a relocation changes is changed by another as well.
+    /// Whether a byte that one of the relocations changes is changed by another as well.
     pub fn is_crowded(&self, reloc: Reloc) -> bool
-        ensures { (relocs : List Reloc) → AreFields relocs self.now → result ≡ is_crowded relocs reloc }
+        ensures { (relocs : List Reloc) → AreFields relocs self.now → Contains relocs reloc → result ≡ is_crowded relocs reloc }
     {
+        if self.end.is_some() {
+            return false;
+        }
         let start = u64::from(reloc.offset);
         let end = field_end(reloc);
         if start == end {

@@ -1,6 +1,6 @@
 // Sections whose relocations are judged.
 
-ghost use Rattle.std.specs.Prelude.{◌≡◌, ◌<◌, None, map};
+ghost use Rattle.std.specs.Prelude.{◌≡◌, ◌<◌, Contains, None, map};
 ghost use Rattle.elf32_read.specs.Header.{header_of, section_count};
 ghost use Rattle.elf32_read.specs.Parts.{relocs_held};
 ghost use Rattle.psabi_sym.specs.Faults.{first_some, gather_fault};
@@ -71,11 +71,11 @@ impl Judged<'_> {
         !is_ignored(kind) && is_lost(code, is_transfer(kind), target)
     }
 
-    // The first fault of a relocation.
+    // The first fault of one of the relocations.
     fn reloc_fault(&self, objects: &Objects, code: &Code, reloc: Reloc) -> Option<Fault>
         requires faultless { gather_fault objects.now ≡ None }
         requires code { IsCode (parsed objects.now) code.now }
-        ensures { (l : ListedSection) → IsJudged l self.now → result ≡ reloc_fault (parsed objects.now) l reloc }
+        ensures { (l : ListedSection) → IsJudged l self.now → Contains l.section.relocs reloc → result ≡ reloc_fault (parsed objects.now) l reloc }
     {
         let section = self.index;
         let at = reloc.offset;
@@ -94,7 +94,7 @@ impl Judged<'_> {
         None
     }
 
-    /// The first fault of the relocations that a section holds. Each takes logarithmic time.
+    /// The first fault of the relocations, by the section that holds them. Each takes logarithmic time.
     pub fn held_fault(
         &self,
         objects: &Objects,
@@ -105,8 +105,8 @@ impl Judged<'_> {
         requires faultless { gather_fault objects.now ≡ None }
         requires code { IsCode (parsed objects.now) code.now }
         requires rela { rela < section_count object.now }
-        ensures { (l : ListedSection) → IsJudged l self.now → result
-            ≡ first_some (map (reloc_fault (parsed objects.now) l) (relocs_held object.now (header_of object.now rela))) }
+        ensures { (l : ListedSection) → IsJudged l self.now → l.section.relocs ≡ relocs_held object.now (header_of object.now rela)
+            → result ≡ first_some (map (reloc_fault (parsed objects.now) l) l.section.relocs) }
     {
         for k in 0..object.rela_count(rela) {
             if let Some(fault) = self.reloc_fault(objects, code, object.rela(rela, k)) {

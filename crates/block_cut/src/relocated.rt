@@ -1,6 +1,6 @@
 // Sections with what their relocations change.
 
-ghost use Rattle.std.specs.Prelude.{◌≡◌, ◌<◌, ◌≤◌, Some, None, IfOk, slice_get};
+ghost use Rattle.std.specs.Prelude.{◌≡◌, ◌<◌, ◌≤◌, Contains, Some, None, IfOk, slice_get};
 ghost use Rattle.elf32_read.specs.Header.{section_count};
 ghost use Rattle.elf32_read.specs.Parts.{SectionParts, section_parts};
 ghost use Rattle.psabi_reloc.specs.Kinds.{kind_of};
@@ -72,10 +72,10 @@ impl<'a> Relocated<'a> {
         }
     }
 
-    /// Whether a relocation's field passes the section's end, isn't whole words of its kind, or is
-    /// changed by another as well.
+    /// Whether the field of one of its relocations passes the section's end, isn't whole words of its kind,
+    /// or is changed by another as well.
     pub fn is_bad_place(&self, reloc: Reloc) -> bool
-        ensures { (s : SectionParts) → IsRelocated s self.now → result ≡ is_bad_place s reloc }
+        ensures { (s : SectionParts) → IsRelocated s self.now → Contains s.relocs reloc → result ≡ is_bad_place s reloc }
     {
         if is_ignored(RelocKind::of(reloc.kind)) {
             return false;
@@ -85,9 +85,9 @@ impl<'a> Relocated<'a> {
             || self.fields.is_crowded(reloc)
     }
 
-    /// Whether a relocation changes something, and can stand.
+    /// Whether one of its relocations changes something, and can stand.
     pub fn is_sound(&self, reloc: Reloc) -> bool
-        ensures { (s : SectionParts) → IsRelocated s self.now → result ≡ is_sound s reloc }
+        ensures { (s : SectionParts) → IsRelocated s self.now → Contains s.relocs reloc → result ≡ is_sound s reloc }
     {
         let kind = RelocKind::of(reloc.kind);
         !is_ignored(kind) && !self.is_bad_kind(kind) && !self.is_bad_place(reloc)

@@ -6,10 +6,10 @@ use Rattle.block_cut.proofs.FieldLaws.{crowded_is, crowded_none}
 use Rattle.block_cut.proofs.fields.Fields.is_crowded.Goals as goal
 
 pub returns-then-start-end : goal.returns-then-start-end
-returns-then-start-end c = λ relocs are. crowded_none c.args.reloc relocs (omega (arith, c.from-start.ensures, c.field_end-end.ensures, c.if-start-end.true))
+returns-then-start-end c = λ relocs are held. crowded_none c.args.reloc relocs (omega (arith, c.from-start.ensures, c.field_end-end.ensures, c.if-start-end.true))
 
 pub returns : goal.returns
-returns c = λ relocs are.
+returns c = λ relocs are held.
     let r = c.args.reloc in
     let has : 0 < field_of r = omega (arith, c.from-start.ensures, c.field_end-end.ensures, c.if-start-end.false) in
     let begun = c.count_below-begun.ensures.value (rw c.deref.ensures.value are.starts.rise) ∙ (λ j. count_by (λ n. nat_lt n (c.field_end-end.ensures j)) (c.deref.ensures.value j)) in

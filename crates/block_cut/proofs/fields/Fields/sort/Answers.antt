@@ -8,4 +8,5 @@ returns c = λ relocs holds. record {
   starts = record { same = subst (λ l. IsPermutation l c.sort_unstable.new.self.items) holds.starts c.sort_unstable.ensures.permutation; rise = IsNonDecreasingBy-from_sort (λ n. n) _ c.sort_unstable.ensures.sorted };
   ends = record { same = subst (λ l. IsPermutation l c.sort_unstable-2.new.self.items) holds.ends c.sort_unstable-2.ensures.permutation; rise = IsNonDecreasingBy-from_sort (λ n. n) _ c.sort_unstable-2.ensures.sorted };
   uppers = record { same = subst (λ l. IsPermutation l c.sort_unstable-3.new.self.items) holds.uppers c.sort_unstable-3.ensures.permutation; rise = IsNonDecreasingBy-from_sort (λ n. n) _ c.sort_unstable-3.ensures.sorted };
+  apart = holds.apart;
 }

@@ -10,5 +10,5 @@ use Rattle.block_cut.proofs.judged.Judged.held_fault.Given as goal
 
 abbrev pub invariant-loop-k : goal.invariant-loop-k
 invariant-loop-k l =
-    (s : ListedSection) → IsJudged s l.self
-    → first_some (map (reloc_fault (parsed l.objects) s) (take l.k (relocs_held l.object (header_of l.object l.rela)))) ≡ None
+    (s : ListedSection) → IsJudged s l.self → s.section.relocs ≡ relocs_held l.object (header_of l.object l.rela)
+    → first_some (map (reloc_fault (parsed l.objects) s) (take l.k s.section.relocs)) ≡ None
