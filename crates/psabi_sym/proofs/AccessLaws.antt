@@ -1,9 +1,9 @@
 -- What look-ups find in the tables of gathered objects.
-use Rattle.std.proofs.Common.{◌≡◌, ℕ, suc, ◌+◌, ◌<◌, List, length, get_or, map, refl, sym, ap, ◌∙◌, arith, Option, Some, None, subst, IsSome, cond, eqb, ℤ, ◌%◌, ◌/◌, ◌*◌, ◌^◌}
+use Rattle.std.proofs.Common.{◌≡◌, ℕ, zero, suc, ◌+◌, ◌<◌, ◌≢◌, List, length, get_or, map, refl, sym, ap, ◌∙◌, arith, Option, Some, None, subst, IsSome, cond, eqb, ℤ, ◌%◌, ◌/◌, ◌*◌, ◌^◌}
 use Rattle.std.proofs.Math.Nat.{add-mul-mod_self_left, mod-add-div}
-use Rattle.std.proofs.lemmas.Bool.{false≢true}
+use Rattle.std.proofs.lemmas.Bool.{false≢true, ne_eqb}
 use Rattle.std.proofs.lemmas.List.{get_or-map, length-map}
-use Rattle.elf32_read.specs.Parts.{ObjectParts}
+use Rattle.elf32_read.specs.Parts.{SectionParts, SymbolParts}
 use Rattle.psabi_sym.specs.declared.data_class.DataClass.{DataClass}
 use Rattle.psabi_sym.specs.declared.definitions.Definitions.{Definitions}
 use Rattle.psabi_sym.specs.declared.meaning.Meaning.TheVariants.{Symbol, Number, Nothing}
@@ -20,7 +20,7 @@ use Rattle.psabi_sym.specs.Inputs.{Inputs, ParsedInputs, parsed}
 use Rattle.psabi_sym.specs.Listed.{ListedSymbol, all_sections, all_symbols, section_at, symbol_at}
 use Rattle.psabi_sym.specs.Meanings.{meaning_row}
 use Rattle.psabi_sym.specs.Places.{place_in}
-use Rattle.psabi_sym.specs.Resolve.{Definition, name_definition, number, resolved, section_target, symbol_target, word_of}
+use Rattle.psabi_sym.specs.Resolve.{Definition, home_target, name_definition, number, resolved, section_target, symbol_target, word_of}
 use Rattle.psabi_sym.specs.Resolve.Definition.{InObject, AtNumber}
 use Rattle.psabi_sym.specs.declared.target.Target.{Target}
 use Rattle.psabi_sym.specs.declared.target.Target.TheVariants.{Nowhere, Number as TargetNumber}
@@ -31,10 +31,7 @@ use Rattle.psabi_sym.proofs.PlaceLaws.{address_there, place_within, row_there, s
 pub some_none : IsSome {T = ℕ} None → ⊥
 some_none h = false≢true h
 
-module _ (inputs : Inputs) (sections : Sections) (symbols : Symbols) (definitions : Definitions) (gathered : IsGathered inputs sections symbols definitions) where
-  objects : List ObjectParts
-  objects = (parsed inputs).objects
-
+module _ {inputs : Inputs} {sections : Sections} {symbols : Symbols} {definitions : Definitions} (gathered : IsGathered inputs sections symbols definitions) where
   -- ---- sections
 
   pub no_section_there : (starts : List ℕ) (o i n : ℕ) (r : Option ℕ) → starts ≡ sections.starts.items → n ≡ i → r ≡ place_in starts o n → r ≡ None → section_at (parsed inputs).objects o i ≡ None
@@ -45,7 +42,7 @@ module _ (inputs : Inputs) (sections : Sections) (symbols : Symbols) (definition
   section_there starts o i n k r is same place some =
       section_found (parsed inputs).objects starts o i k (is ∙ gathered.indexed.sections_begin) (ap (place_in starts o) (sym same) ∙ sym place ∙ some)
 
-  module _ (o i k : ℕ) (found : IsFoundSection (parsed inputs).objects o i k) where
+  module _ {o i k : ℕ} (found : IsFoundSection (parsed inputs).objects o i k) where
     pub row_inside : k < length sections.rows.items
     row_inside =
         omega (arith, found.place, place_within (parsed inputs) o i found.object found.section found.at found.is, ap length gathered.indexed.sections_are)
@@ -80,53 +77,60 @@ module _ (inputs : Inputs) (sections : Sections) (symbols : Symbols) (definition
   pub symbol_found_there : (starts : List ℕ) (o n k : ℕ) (r : Option ℕ) → starts ≡ symbols.starts.items → r ≡ place_in starts o n → r ≡ Some k → IsFoundSymbol (parsed inputs).objects o n k
   symbol_found_there starts o n k r is place some = symbol_found (parsed inputs).objects starts o n k (is ∙ gathered.indexed.symbols_begin) (sym place ∙ some)
 
-  module _ (o n k : ℕ) (found : IsFoundSymbol (parsed inputs).objects o n k) where
-    names : List (List ℕ)
-    names = gathered.defined.named.names
+  module _ {o n k : ℕ} (found : IsFoundSymbol (parsed inputs).objects o n k) where
+    abbrev listed : ListedSymbol
+    listed = record { object = o; index = n + 1; symbol = found.symbol }
 
-    here : ListedSymbol
-    here = record { object = o; index = n + 1; symbol = found.symbol }
-
-    all_is : (d : ListedSymbol) → (k < length (all_symbols (parsed inputs).objects)) × (get_or (all_symbols (parsed inputs).objects) k d ≡ record { object = o; index = n + 1; symbol = found.symbol })
+    -- it stands among all symbols
+    all_is : (d : ListedSymbol) → (k < length (all_symbols (parsed inputs).objects)) × (get_or (all_symbols (parsed inputs).objects) k d ≡ listed)
     all_is d =
         let there = symbol_there (parsed inputs).objects o n found.object found.symbol d found.at found.is in
         (omega (arith, found.place, there.0), ap (λ j. get_or (all_symbols (parsed inputs).objects) j d) found.place ∙ there.1)
 
     pub symbol_inside : k < length symbols.rows.items
     symbol_inside =
-        omega (arith, (all_is (record { object = o; index = n + 1; symbol = found.symbol })).0, ap length gathered.defined.named.numbered.rows_are, length-map (all_symbols (parsed inputs).objects) (symbol_row gathered.defined.named.names))
+        omega (arith, (all_is listed).0, ap length gathered.defined.named.numbered.rows_are, length-map (all_symbols (parsed inputs).objects) (symbol_row gathered.defined.named.names))
 
     pub symbol_is : (d : SymbolRow) → get_or symbols.rows.items k d ≡ symbol_row gathered.defined.named.names (record { object = o; index = n + 1; symbol = found.symbol })
     symbol_is d =
-        let l : ListedSymbol = record { object = o; index = n + 1; symbol = found.symbol } in
         ap (λ rows. get_or rows k d) gathered.defined.named.numbered.rows_are
-        ∙ get_or-map (symbol_row gathered.defined.named.names) (all_symbols (parsed inputs).objects) k l d (all_is l).0
-        ∙ ap (symbol_row gathered.defined.named.names) (all_is l).1
+        ∙ get_or-map (symbol_row gathered.defined.named.names) (all_symbols (parsed inputs).objects) k listed d (all_is listed).0
+        ∙ ap (symbol_row gathered.defined.named.names) (all_is listed).1
 
     -- its name has a number, and a meaning
     pub number_inside : number_of gathered.defined.named.names found.symbol.name < length definitions.meanings.items
     number_inside =
-        let l : ListedSymbol = record { object = o; index = n + 1; symbol = found.symbol } in
-        omega (arith, gathered.defined.named.numbered.numbered k l (all_is l).0, gathered.defined.named.count, ap (λ m. number_of gathered.defined.named.names m.symbol.name) (all_is l).1)
+        omega (arith, gathered.defined.named.numbered.numbered k listed (all_is listed).0, gathered.defined.named.count, ap (λ m. number_of gathered.defined.named.names m.symbol.name) (all_is listed).1)
 
     pub meaning_is : get_or definitions.meanings.items (number_of gathered.defined.named.names found.symbol.name) Nothing ≡ meaning_row gathered.defined.named.names (name_definition (parsed inputs) found.symbol.name)
     meaning_is =
-        let l : ListedSymbol = record { object = o; index = n + 1; symbol = found.symbol } in
-        ap (λ m. get_or definitions.meanings.items (number_of gathered.defined.named.names m.symbol.name) Nothing) (sym (all_is l).1)
-        ∙ gathered.defined.named.meant k l (all_is l).0
-        ∙ ap (λ m. meaning_row gathered.defined.named.names (name_definition (parsed inputs) m.symbol.name)) (all_is l).1
+        ap (λ m. get_or definitions.meanings.items (number_of gathered.defined.named.names m.symbol.name) Nothing) (sym (all_is listed).1)
+        ∙ gathered.defined.named.meant k listed (all_is listed).0
+        ∙ ap (λ m. meaning_row gathered.defined.named.names (name_definition (parsed inputs) m.symbol.name)) (all_is listed).1
 
--- a symbol after symbol 0
-pub resolved_next : (inputs : ParsedInputs) (o n : ℕ) (addend : ℤ) → resolved inputs o (n + 1) addend ≡ option_map_or (λ symbol. symbol_target inputs o symbol addend) (symbol_at inputs.objects o (n + 1)) Nowhere
+-- a symbol after symbol 0, by what stands there
+pub resolved_at : {here there : Inputs} (o s : ℕ) (addend : ℤ) (symbol : Option SymbolParts) → here ≡ there → 0 < s → symbol_at (parsed here).objects o s ≡ symbol
+    → resolved (parsed there) o s addend ≡ option_map_or (λ x. symbol_target (parsed here) o x addend) symbol Nowhere
 unfolding resolved
-resolved_next inputs o n addend =
-    let next : n + 1 ≡ suc n = omega arith in
-    ap (λ s. resolved inputs o s addend) next ∙ ap (λ s. option_map_or (λ symbol. symbol_target inputs o symbol addend) (symbol_at inputs.objects o s) Nowhere) (sym next)
+resolved_at o zero addend symbol same past is = absurd (omega arith)
+resolved_at {here} o (suc s) addend symbol same past is =
+    ap (λ v. resolved (parsed v) o (suc s) addend) (sym same) ∙ ap (λ x. option_map_or (λ y. symbol_target (parsed here) o y addend) x Nowhere) is
 
 -- a symbol with a home by its home and value alone
 abbrev pub home_value_target : ParsedInputs → ℕ → ℕ → ℕ → ℤ → Target
 home_value_target inputs o home value addend =
     cond (eqb home 0xFFF1) (number value addend) (option_map_or (section_target inputs o home value addend) (section_at inputs.objects o home) Nowhere)
+
+-- so any symbol with these leads there
+pub home_target_of : {here there : Inputs} {target : Target} (o home value : ℕ) (addend : ℤ) → here ≡ there → target ≡ home_value_target (parsed here) o home value addend
+    → (s : SymbolParts) → s.home ≡ home → s.value ≡ value → target ≡ home_target (parsed there) o s addend
+home_target_of o home value addend same is s home_is value_is = is ∙ (λ j. home_value_target (parsed (same j)) o (sym home_is j) (sym value_is j) addend)
+
+-- a home that isn't absolute is a section
+pub home_section : (inputs : ParsedInputs) (o home value : ℕ) (addend : ℤ) (section : Option SectionParts) → home ≢ 0xFFF1 → section_at inputs.objects o home ≡ section
+    → home_value_target inputs o home value addend ≡ option_map_or (section_target inputs o home value addend) section Nowhere
+home_section inputs o home value addend section ne is =
+    (λ j. cond (ne_eqb home 0xFFF1 ne j) (number value addend) (option_map_or (section_target inputs o home value addend) (is j) Nowhere))
 
 -- what a name stands for, by its meaning
 pub symbol_meaning : (names : List (List ℕ)) (o : Option Definition) (row : SymbolRow) → Symbol row ≡ meaning_row names o → (l : ListedSymbol) × (o ≡ Some (InObject l)) × (row ≡ symbol_row names l)
