@@ -42,7 +42,8 @@ pub numbered_as : {names names' : List (List ℕ)} {listed listed' : List Listed
 numbered_as {names} {names'} {listed} {listed'} {rows} {rows'} n l r h =
     subst (λ x. IsNumbered names' listed' x) r (subst (λ x. IsNumbered names' x rows) l (subst (λ x. IsNumbered x listed rows) n h))
 
--- each row has a number among the names
-pub named_rows : (names : List (List ℕ)) (listed : List ListedSymbol) (rows : List SymbolRow) → IsNumbered names listed rows → All (λ r. r.name < length names) rows
-named_rows names listed rows numbered =
-    All-same (λ r. r.name < length names) rows (map (symbol_row names) listed) numbered.rows_are (All-map (λ r. r.name < length names) (symbol_row names) listed numbered.numbered)
+-- each row has a number among the names, however many these are
+pub named_rows : {names : List (List ℕ)} {listed : List ListedSymbol} {rows rows' : List SymbolRow} {n : ℕ} → IsNumbered names listed rows → rows' ≡ rows → length names ≡ n → All (λ r. r.name < n) rows'
+named_rows {names} {listed} {rows' = rows'} numbered same count =
+    subst (λ m. All (λ r. r.name < m) rows') count
+    (All-same (λ r. r.name < length names) rows' (map (symbol_row names) listed) (same ∙ numbered.rows_are) (All-map (λ r. r.name < length names) (symbol_row names) listed numbered.numbered))

@@ -17,6 +17,10 @@ use Rattle.psabi_sym.specs.Rows.{common_rows, first_of_both, first_row, grown_bl
 pub table_start : {X : Type 0} (f : ℕ → X) (n : ℕ) (x : X) → ((k : ℕ) → f k ≡ x) → replicate n x ≡ map f (range_with_len 0 n)
 table_start f n x same = fill_by_all f (replicate n x) n x (length-replicate n x) (λ k within. get_or-replicate n k x x within ∙ sym (same k))
 
+-- how many entries a table has
+pub table_count : {X : Type 0} (f : ℕ → X) {table : List X} {n : ℕ} → table ≡ map f (range_with_len 0 n) → length table ≡ n
+table_count f {n = n} is = ap length is ∙ length-map-range_with_len f 0 n
+
 -- what a table has at a number
 pub table_at : {X : Type 0} (f : ℕ → X) (table : List X) (n k : ℕ) (d : X) → table ≡ map f (range_with_len 0 n) → k < n → get_or table k d ≡ f k
 table_at f table n k d is below = ap (λ l. get_or l k d) is ∙ get_or-map-range_with_len f 0 n k k d below (omega arith)
