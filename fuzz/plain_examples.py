@@ -6,6 +6,7 @@ from written_object import ABS, COMMON, CONSTANT_FLAGS, DATA_FLAGS, LOCAL, NOBIT
 
 GOT_HI20, ADD32, SUB32, RVC_JUMP = 20, 35, 39, 45
 EXIT = (addi(A7, ZERO, 93), ECALL)
+CALL_WORDS = (auipc(RA), jalr(RA, RA))
 
 
 def object_with(*words, name=b'_start'):
@@ -23,7 +24,7 @@ def object_with(*words, name=b'_start'):
 def hello():
     """A function in another object writes `hi`, and the exit has the status 0."""
     start, text = object_with()
-    text.reloc(CALL, start.symbol(b'main'), 0, (auipc(RA), jalr(RA, RA)))
+    text.reloc(CALL, start.symbol(b'main'), 0, CALL_WORDS)
     text.words(*EXIT)
     main, text = object_with(addi(SP, SP, -16), sw(RA, SP, 12), addi(A0, ZERO, 1), name=b'main')
     message = main.section(b'.rodata', PROGBITS, CONSTANT_FLAGS, align=1)
@@ -55,6 +56,47 @@ def jump_table():
     for _ in range(20):
         text.words(jal(ZERO, -len(text.content)))
     return [made.bytes()]
+
+
+def linker_names():
+    """Words of data that the linker's names stand for are written; and those words, worked out by hand.
+
+    The data of both objects: 3 and 14 bytes that are read only, from 0x100000 on; the five words, from 0x100020 on; 5 bytes of
+    small data and 1 more, from 0x100040 on; 6 bytes of small zeroed data, from 0x100050 on, and 20 more, from 0x100060 on; 7
+    of zeroed data, from 0x100080 on; and 9 that are common, from 0x100090 on. The stack ends at 0x10000000.
+    """
+    made, text = object_with()
+    data = made.section(b'.data', PROGBITS, DATA_FLAGS)
+    text.reloc(HI20, made.symbol(b'words', home=data, bind=LOCAL), 0, (lui(A1),))
+    text.reloc(LO12_I, made.symbols[-1], 0, (addi(A1, A1),))
+    text.words(addi(A2, ZERO, 20), addi(A0, ZERO, 1), addi(A7, ZERO, 64), ECALL, addi(A0, ZERO, 0), *EXIT)
+    rows = ((b'__global_pointer$', 0, 0x100840), (b'__bss_start', 0, 0x100050), (b'_end', 0, 0x100099),
+            (b'__stack_top', 0, 0x10000000), (b'_end', 7, 0x1000A0))
+    for name, addend, _ in rows:
+        data.reloc(R_32, made.symbol(name), addend, (0,))
+    made.symbol(b'common', home=COMMON, value=4, size=9)
+    second = Written()
+    for it, name, kind, flags, align, size in (
+            (made, b'.rodata', PROGBITS, CONSTANT_FLAGS, 1, 3), (made, b'.sdata', PROGBITS, DATA_FLAGS, 4, 5),
+            (made, b'.sbss', NOBITS, DATA_FLAGS, 4, 6), (made, b'.bss', NOBITS, DATA_FLAGS, 8, 7),
+            (second, b'.rodata', PROGBITS, CONSTANT_FLAGS, 1, 14), (second, b'.sdata.more', PROGBITS, DATA_FLAGS, 1, 1),
+            (second, b'.sbss.more', NOBITS, DATA_FLAGS, 16, 20)):
+        section = it.section(name, kind, flags, align, size)
+        section.content += bytes(size if kind == PROGBITS else 0)
+    return [made.bytes(), second.bytes()], [word for _, _, word in rows]
+
+
+def calls_of_sum():
+    """Two calls of `sum(0)`, which `examples/sections.c` has, and the function that this calls, which adds 30 to its 7. The
+    second call adds the 2 that is constant and the 1 that the first left in a common symbol: the status is 40."""
+    made, text = object_with()
+    called = made.symbol(b'sum')
+    for _ in range(2):
+        text.words(addi(A0, ZERO, 0))
+        text.reloc(CALL, called, 0, CALL_WORDS)
+    text.words(*EXIT)
+    made.symbol(b'elsewhere', home=text, value=text.words(addi(A0, A0, 30), jalr(ZERO, RA)))
+    return made.bytes()
 
 
 # ---- what is refused, with the line
@@ -106,7 +148,6 @@ def of_two_sections():
     return made
 
 
-CALL_WORDS = (auipc(RA), jalr(RA, RA))
 OTHER_BASE = (auipc(RA), jalr(RA, T0))
 PAIR = (auipc(T0), addi(T0, T0))
 BEQ = branch(0, A0, A1)
@@ -142,6 +183,7 @@ def of_place():
     return [
         ('a word over the end', refused_one(R_32, offset=36)),
         ('a word in part over the end', refused_data(R_32, offset=5)),
+        ('a word far out', refused_one(R_32, offset=0xFFFFFFFC)),
         ('a call over the end', refused_one(CALL, offset=32)),
         ('an odd offset', refused_one(R_32, offset=2)),
         ('lui for a branch', refused_one(BRANCH, (lui(T0),))), ('a branch for jal', refused_one(JAL, (BEQ,))),
@@ -177,6 +219,7 @@ def of_target():
         ('after the code', refused_one(HI20, (lui(T0),), addend=40)),
         ('in a word', refused_one(HI20, (lui(T0),), value=2)), ('in a word, by the addend', refused_one(R_32, addend=2)),
         ('in a call', with_relocs((*CALL_WORDS, NOP), (0, CALL, 8, 0), (8, R_32, 4, 0))),
+        ('jal into a call', with_relocs((*CALL_WORDS, jal(ZERO)), (0, CALL, 8, 0), (8, JAL, 4, 0))),
         ('in a padding', with_relocs((NOP,) * 4, (0, ALIGN, 0, 12), (12, R_32, 8, 0))),
         ('a section that is dropped', dropped()),
         ('a branch to a number', refused_one(BRANCH, (BEQ,), home=ABS)),
