@@ -1,7 +1,4 @@
 // Sections of the usual kinds, a common symbol, and relocations of code and of data.
-//
-// riscv64-unknown-elf-gcc -Os -march=rv32im -mabi=ilp32 -fcommon -c sections.c -o sections-gcc.o
-// clang --target=riscv32-unknown-elf -Os -march=rv32im -mabi=ilp32 -fcommon -c sections.c -o sections-clang.o
 int common;
 static int zeroed[4];
 int set = 7;
