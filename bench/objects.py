@@ -147,10 +147,24 @@ def made_section_endings(count):
     return [made.bytes()]
 
 
+def made_sections_in_each(count):
+    """256 objects of so many sections each, with those of symbols and names: of a zeroed byte each, and of code in the first."""
+    first, other = Made(b'.bss\0'), Made(b'.bss\0')
+    first.name('_start', first.code(12, last=EXIT))
+    for made in (first, other):
+        while len(made.sections) < count - 4:
+            made.add(1, NOBITS, DATA, b'', 1)
+    return [first.bytes(), *[other.bytes()] * 255]
+
+
+# All objects together may have 32 MiB. So many have 256 objects of 3,274 sections each, and those of more are refused.
 ROWS = ((made_objects, 'objects', (1, 16, 256)), (made_symbols, 'symbols', (10, 1000, 100000)),
         (made_endings, 'endings', (60000,)), (made_sections, 'sections', (10, 4096)),
-        (made_section_endings, 'section endings', (400, 4090)))
-# GNU ld reads each name whole, so it stands beside no row of names that share bytes.
+        (made_section_endings, 'section endings', (400, 4090)),
+        (made_sections_in_each, 'sections in each of 256 objects', (3274, 4096)))
+# The list that is refused, with the status.
+REFUSED = {('sections in each of 256 objects', 4096): 121}
+# GNU ld reads each name whole, so it stands beside no row of names that share bytes, and it doesn't refuse what `zc` does.
 ZC_ALONE = ('endings', 'section endings')
 
 
@@ -165,9 +179,11 @@ def calls_of(program, linker, folder):
                 with open(paths[-1], 'wb') as file:
                     file.write(data)
             out, cert, merged = (os.path.join(folder, f'{what}{count}.{kind}') for kind in ('elf', 'cert', 'merged'))
+            status = REFUSED.get((what, count), 0)
+            is_alone = not linker or what in ZC_ALONE or status
             calls[what, count] = (
-                Call([program, 'zc', '--out', out, '--cert', cert, *paths], 0),
-                linker and what not in ZC_ALONE and Call([linker, '-m', 'elf32lriscv', '-r', '-o', merged, *paths], 0),
+                Call([program, 'zc', '--out', out, '--cert', cert, *paths], status),
+                None if is_alone else Call([linker, '-m', 'elf32lriscv', '-r', '-o', merged, *paths], 0),
                 sum(map(os.path.getsize, paths)))
     return calls
 
