@@ -8,7 +8,8 @@ of calls and returns. Each makes about N commits, and is run R times as an image
 as often by each with `--steps 0`. A rate comes from the difference of the least processor times, so start-up isn't in it.
 Instructions of the processor for a commit or step come from `perf stat` if the system allows it, and else from `valgrind
 --tool=callgrind` of a short run; callgrind also says which functions they go into. The images run on `qemu-riscv32` and `spike`
-too, if these are installed; their start-up is in their figures.
+too, if these are installed; their start-up is in their figures. Beside each rate stands which part it is of that of
+`qemu-riscv32` on the image of the same loop.
 """
 import argparse
 import os
@@ -27,6 +28,8 @@ DATA = 0x100000
 PAGE = 4096
 
 ZERO, RA, SP, COUNT, BASE, A0, A7 = 0, 1, 2, 5, 8, 10, 17
+
+QEMU = 'qemu-riscv32'
 
 # The commits of a run that callgrind follows.
 FOLLOWED = 100_000
@@ -175,8 +178,13 @@ def per_commit(program, command, file, commits, folder):
 
 def others(file):
     """The least processor time of the image on other machines that are installed, by their names."""
-    calls = {'qemu-riscv32': ['qemu-riscv32', file], 'spike': ['spike', '--isa=rv32im', 'pk', file]}
+    calls = {QEMU: [QEMU, file], 'spike': ['spike', '--isa=rv32im', 'pk', file]}
     return {name: least([shutil.which(name), *words[1:]], 0, 3) for name, words in calls.items() if shutil.which(name)}
+
+
+def part_of(took, other):
+    """Which part of the rate of qemu-riscv32 a rate is, by the times that both took for as many commits."""
+    return f'{other[QEMU] / took:.3f}' if QEMU in other else '-'
 
 
 def least(words, status, repeats):
@@ -204,15 +212,16 @@ def main():
                 with open(file, 'wb') as made:
                     made.write(data)
                 os.chmod(file, 0o755)
+                if command == 'run':
+                    other = others(file)
                 start_up = least([program, command, '--steps', '0', file], SPENT, given.repeats)
                 took = least([program, command, '--steps', str(given.commits * 2), file], 0, given.repeats) - start_up
                 what = f'{name}, {command}'
                 each, way, parts[what] = per_commit(program, command, file, given.commits, folder)
-                other = others(file) if command == 'run' else {}
-                rows.append((what, f'{given.commits / took / 1e6:.1f}', each, way,
+                rows.append((what, f'{given.commits / took / 1e6:.1f}', part_of(took, other), each, way,
                              ', '.join(f'{it} {given.commits / time / 1e6:.0f}' for it, time in other.items()) or '-'))
-    table(('loop', 'millions of commits or steps a second', 'instructions each', 'counted by', 'others, millions a second'),
-          rows)
+    table(('loop', 'millions of commits or steps a second', f'of {QEMU}', 'instructions each', 'counted by',
+           'others, millions a second'), rows)
     if all(row[-1] == '-' for row in rows):
         print('\nNeither qemu-riscv32 nor spike is installed.')
     print('\nFunctions that take an instruction a commit or more, by callgrind:\n')
