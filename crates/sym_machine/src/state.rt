@@ -1,6 +1,6 @@
 // The state of the symbolic machine, and how each step ends.
 
-ghost use Rattle.std.specs.Prelude.{◌≡◌, ◌<◌, ◌≤◌, ◌%◌, [], IfOk, IfSome, length, map, MatchOption, None, Some, true};
+ghost use Rattle.std.specs.Prelude.{◌≡◌, ◌≢◌, ◌<◌, ◌≤◌, ◌%◌, [], IfOk, IfSome, length, map, MatchOption, None, Some, true};
 ghost use Rattle.std.specs.Bool.{OnFalse, OnTrue};
 ghost use Rattle.psabi_sym.specs.Inputs.{parsed};
 ghost use Rattle.rv_decode.specs.Effect.{load_width};
@@ -211,6 +211,18 @@ impl State {
         self.place = to;
     }
 
+    // Sets a register that is neither register 0 nor sp, and goes on to a place.
+    #[inline(always)]
+    fn set_register(&mut self, rd: Reg, word: Held, to: Place)
+        requires running { self.old.core.exit ≡ None }
+        requires some { rd ≢ 0 }
+        requires other { rd ≢ 2 }
+        ensures { RunsOn (made self.old.map self.old.core (Goes (gives rd (word_of word) to))) [] self.old.core self.new.core }
+    {
+        self.registers[rd.number() as usize] = word;
+        self.place = to;
+    }
+
     /// Gives a number to a register, and goes on to a place; not if the register is register 0, or sp
     /// can't have the number.
     pub fn give_number(&mut self, rd: Reg, n: u32, to: Place) -> bool
@@ -221,9 +233,8 @@ impl State {
         match rd.number() {
             0 => false,
             2 => self.move_sp(n, to),
-            r => {
-                self.registers[r as usize] = Held::Number(n);
-                self.place = to;
+            _ => {
+                self.set_register(rd, Held::Number(n), to);
                 true
             }
         }
@@ -262,9 +273,8 @@ impl State {
                 true
             }
             2 => false,
-            r => {
-                self.registers[r as usize] = Held::Code(next);
-                self.place = to;
+            _ => {
+                self.set_register(rd, Held::Code(next), to);
                 true
             }
         }
@@ -278,9 +288,8 @@ impl State {
         match rd.number() {
             0 => Ok(self.go(to)),
             2 => self.give_sp(word, to),
-            r => {
-                self.registers[r as usize] = *word;
-                self.place = to;
+            _ => {
+                self.set_register(rd, *word, to);
                 Ok(SymStep::Done)
             }
         }
