@@ -194,14 +194,7 @@ impl State {
             | Instr::Load { base, .. }
             | Instr::Store { base, .. }
             | Instr::WithImm { first: base, .. } => *self.register(*base),
-            Instr::Upper { .. }
-            | Instr::Jal { .. }
-            | Instr::Branch { .. }
-            | Instr::WithReg { .. }
-            | Instr::Fence { .. }
-            | Instr::Ecall
-            | Instr::Ebreak
-            | Instr::Csrrw { .. } => Held::Number(0),
+            _ => Held::Number(0),
         }
     }
 
@@ -221,15 +214,7 @@ impl State {
                 rd,
                 ..
             } => self.give(*rd, word, next),
-            Instr::Upper { .. }
-            | Instr::Jal { .. }
-            | Instr::Branch { .. }
-            | Instr::WithImm { .. }
-            | Instr::WithReg { .. }
-            | Instr::Fence { .. }
-            | Instr::Ecall
-            | Instr::Ebreak
-            | Instr::Csrrw { .. } => Ok(self.stuck(Why::NoInstruction)),
+            _ => Ok(self.stuck(Why::NoInstruction)),
         }
     }
 
@@ -244,26 +229,16 @@ impl State {
         requires { self.old.core.exit ≡ None }
         ensures { Makes result (made self.old.map self.old.core (upper_does op instr.now (word_of word.now) next)) self.old.core self.new.core }
     {
-        match instr {
-            Instr::Upper { op: own, rd, .. } => match (op, *own) {
-                (UpperOp::Lui, UpperOp::Lui) | (UpperOp::Auipc, UpperOp::Auipc) => {
-                    self.give(*rd, word, next)
-                }
-                (UpperOp::Lui, UpperOp::Auipc) | (UpperOp::Auipc, UpperOp::Lui) => {
-                    Ok(self.stuck(Why::NoInstruction))
-                }
-            },
-            Instr::Jal { .. }
-            | Instr::Jalr { .. }
-            | Instr::Branch { .. }
-            | Instr::Load { .. }
-            | Instr::Store { .. }
-            | Instr::WithImm { .. }
-            | Instr::WithReg { .. }
-            | Instr::Fence { .. }
-            | Instr::Ecall
-            | Instr::Ebreak
-            | Instr::Csrrw { .. } => Ok(self.stuck(Why::NoInstruction)),
+        let Instr::Upper { op: own, rd, .. } = instr else {
+            return Ok(self.stuck(Why::NoInstruction));
+        };
+        match (op, *own) {
+            (UpperOp::Lui, UpperOp::Lui) | (UpperOp::Auipc, UpperOp::Auipc) => {
+                self.give(*rd, word, next)
+            }
+            (UpperOp::Lui, UpperOp::Auipc) | (UpperOp::Auipc, UpperOp::Lui) => {
+                Ok(self.stuck(Why::NoInstruction))
+            }
         }
     }
 
@@ -341,20 +316,10 @@ impl State {
         requires { self.old.core.exit ≡ None }
         ensures { Makes result (made self.old.map self.old.core (jump_to instr.now to next)) self.old.core self.new.core }
     {
-        match instr {
-            Instr::Jal { rd, .. } => self.jump(Some(to), *rd, next),
-            Instr::Upper { .. }
-            | Instr::Jalr { .. }
-            | Instr::Branch { .. }
-            | Instr::Load { .. }
-            | Instr::Store { .. }
-            | Instr::WithImm { .. }
-            | Instr::WithReg { .. }
-            | Instr::Fence { .. }
-            | Instr::Ecall
-            | Instr::Ebreak
-            | Instr::Csrrw { .. } => Ok(self.stuck(Why::NoInstruction)),
-        }
+        let Instr::Jal { rd, .. } = instr else {
+            return Ok(self.stuck(Why::NoInstruction));
+        };
+        self.jump(Some(to), *rd, next)
     }
 
     // A branch to a place.
@@ -368,28 +333,17 @@ impl State {
         requires { self.old.core.exit ≡ None }
         ensures { Makes result (made self.old.map self.old.core (branch_to (program_of (parsed cut.now)) instr.now to self.old.core next)) self.old.core self.new.core }
     {
-        match instr {
-            Instr::Branch {
-                op,
-                first,
-                second,
-                ..
-            } => {
-                let taken = condition(cut, *op, self.register(*first), self.register(*second));
-                Ok(self.branch(taken, to, next))
-            }
-            Instr::Upper { .. }
-            | Instr::Jal { .. }
-            | Instr::Jalr { .. }
-            | Instr::Load { .. }
-            | Instr::Store { .. }
-            | Instr::WithImm { .. }
-            | Instr::WithReg { .. }
-            | Instr::Fence { .. }
-            | Instr::Ecall
-            | Instr::Ebreak
-            | Instr::Csrrw { .. } => Ok(self.stuck(Why::NoInstruction)),
-        }
+        let Instr::Branch {
+            op,
+            first,
+            second,
+            ..
+        } = instr
+        else {
+            return Ok(self.stuck(Why::NoInstruction));
+        };
+        let taken = condition(cut, *op, self.register(*first), self.register(*second));
+        Ok(self.branch(taken, to, next))
     }
 
     // A branch, by its condition.
