@@ -4,14 +4,11 @@
 
 mod address_parts;
 pub mod arguments;
-mod calls;
 mod cells;
 mod first_data;
 pub mod held;
-mod items;
 pub mod known;
 pub mod memory;
-mod quick;
 mod results;
 pub mod run;
 pub mod span;

@@ -1,7 +1,7 @@
 // The memory of the symbolic machine.
 
 ghost use Rattle.std.specs.Bool.{OnFalse, OnTrue};
-ghost use Rattle.std.specs.Prelude.{◌≡◌, ◌≤◌, ◌+◌, ◌-◌, ◌<◌, ◌^◌, ◌&&◌, ℕ, nat_le, [], IfOk, IfSome, OnOk, OnErr, MatchOption, None, Some, true, length, map, slice_index_or, slice_set};
+ghost use Rattle.std.specs.Prelude.{◌≡◌, ◌≤◌, ◌+◌, ◌-◌, ◌<◌, ◌^◌, ◌&&◌, nat_le, [], IfOk, IfSome, OnOk, OnErr, MatchOption, None, Some, true, length, map, slice_index_or, slice_set};
 ghost use Rattle.rv_decode.specs.Memory.{Kind, cell_at, changed, extents_of, is_data, lies_in, spans, written};
 ghost use Rattle.sym_machine.specs.Change.{numbers_at};
 ghost use Rattle.sym_machine.specs.Kept.{IsChanged, IsKept, IsSpan, kept_from, regions_of, word_at};

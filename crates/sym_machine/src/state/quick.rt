@@ -1,5 +1,5 @@
-// Steps by numbers alone, as most steps are. They change registers and memory in place, and copy no
-// word of bytes. What isn't made here is left to the steps by items, which say the same of it.
+// The quick way beside `step_item`: steps by numbers alone, and jumps to places that are known. They are
+// made in place, and copy no word of bytes. All else changes nothing here, and `step_item` makes it.
 
 ghost use Rattle.std.specs.Prelude.{◌≡◌, ◌<◌, ◌^◌, ◌%◌, [], None, Some, IfSome};
 ghost use Rattle.std.specs.Bool.{OnFalse, OnTrue};
@@ -12,9 +12,9 @@ ghost use Rattle.sym_machine.specs.State.{reg_of};
 ghost use Rattle.sym_machine.specs.Step.{made};
 ghost use Rattle.sym_machine.specs.Words.{code_word, number_of, number_word, sum_word};
 
+use super::State;
+use super::accesses::{is_multiple, load_width, store_width};
 use crate::held::Held;
-use crate::items::{is_multiple, load_width, store_width};
-use crate::state::State;
 use block_cut::item::Item;
 use rv_decode::instr::{BranchOp, ImmOp, Instr, LoadOp, RegOp, StoreOp};
 use rv_decode::results::{imm_result, is_taken, reg_result};
@@ -22,9 +22,9 @@ use zc_base::place::Place;
 use zc_base::reg::Reg;
 
 impl State {
-    /// Makes the step of an item, with the place after it, if it is one by numbers alone, and else
-    /// changes nothing.
-    pub fn quick_item(&mut self, item: &Item, next: Place) -> bool
+    // Makes the step of an item, with the place after it, if it is one by numbers alone, and else
+    // changes nothing.
+    pub(super) fn quick_item(&mut self, item: &Item, next: Place) -> bool
         requires { self.old.core.exit ≡ None }
         ensures made { OnTrue result ((p : Program) → RunsOn (made self.old.map self.old.core (item_does p item.now self.old.core next)) [] self.old.core self.new.core) }
         ensures same { OnFalse result (self.new ≡ self.old) }

@@ -7,8 +7,8 @@ ghost use Rattle.sym_machine.specs.State.{reg_of};
 ghost use Rattle.sym_machine.specs.Step.{made};
 ghost use Rattle.sym_machine.specs.Words.{number_of};
 
+use super::State;
 use crate::arguments::Arguments;
-use crate::state::State;
 use crate::step::SymStep;
 use crate::why::Why;
 use std::alloc::AllocError;
@@ -24,8 +24,8 @@ const A2: u8 = 12;
 const A7: u8 = 17;
 
 impl State {
-    /// The call that a7 says, with the place after it.
-    pub fn step_call(&mut self, next: Place) -> Result<SymStep, AllocError>
+    // The call that a7 says, with the place after it.
+    pub(super) fn step_call(&mut self, next: Place) -> Result<SymStep, AllocError>
         requires { self.old.core.exit ≡ None }
         ensures { Makes result (made self.old.map self.old.core (call_does (number_of (reg_of self.old.core 17)) self.old.core next)) self.old.core self.new.core }
     {

@@ -1,0 +1,237 @@
+// How a step ends. Each end is a change of a state that hasn't exited.
+
+ghost use Rattle.std.specs.Prelude.{◌≡◌, ◌≢◌, [], length, map, None, Some, true};
+ghost use Rattle.std.specs.Bool.{OnFalse, OnTrue};
+ghost use Rattle.sym_machine.specs.declared.word.SymByte.TheVariants.{Num};
+ghost use Rattle.sym_machine.specs.Answer.{Makes, RunsOn, StepAnswers};
+ghost use Rattle.sym_machine.specs.Change.{Goes, Stops, call_to, exit_does, gives, in_memory, is_output, onward, output_does, puts, read_does};
+ghost use Rattle.sym_machine.specs.Kept.{word_of};
+ghost use Rattle.sym_machine.specs.Step.{made};
+ghost use Rattle.sym_machine.specs.Words.{code_word, number_word};
+
+use super::State;
+use crate::arguments::Arguments;
+use crate::held::Held;
+use crate::step::SymStep;
+use crate::why::Why;
+use crate::word::SymByte;
+use std::alloc::AllocError;
+use zc_base::place::Place;
+use zc_base::reg::Reg;
+
+const A0: usize = 10;
+
+impl State {
+    // A step that is stuck.
+    pub(super) fn stuck(&self, why: Why) -> SymStep
+        requires { self.now.core.exit ≡ None }
+        ensures { StepAnswers (made self.now.map self.now.core (Stops why)) result self.now.core self.now.core }
+    {
+        SymStep::Stuck(self.place, why)
+    }
+
+    // Goes on to a place.
+    pub(super) fn go(&mut self, to: Place) -> SymStep
+        requires { self.old.core.exit ≡ None }
+        ensures { StepAnswers (made self.old.map self.old.core (Goes (onward to))) result self.old.core self.new.core }
+    {
+        self.pass(to);
+        SymStep::Done
+    }
+
+    // The same, with nothing to answer.
+    pub(super) fn pass(&mut self, to: Place)
+        requires { self.old.core.exit ≡ None }
+        ensures { RunsOn (made self.old.map self.old.core (Goes (onward to))) [] self.old.core self.new.core }
+    {
+        self.place = to;
+    }
+
+    // Sets a register that is neither register 0 nor sp, and goes on to a place.
+    #[inline(always)]
+    fn set_register(&mut self, rd: Reg, word: Held, to: Place)
+        requires running { self.old.core.exit ≡ None }
+        requires some { rd ≢ 0 }
+        requires other { rd ≢ 2 }
+        ensures { RunsOn (made self.old.map self.old.core (Goes (gives rd (word_of word) to))) [] self.old.core self.new.core }
+    {
+        self.registers[rd.number() as usize] = word;
+        self.place = to;
+    }
+
+    // Gives a number to a register, and goes on to a place; not if the register is register 0, or sp
+    // can't have the number.
+    pub(super) fn give_number(&mut self, rd: Reg, n: u32, to: Place) -> bool
+        requires { self.old.core.exit ≡ None }
+        ensures made { OnTrue result (RunsOn (made self.old.map self.old.core (Goes (gives rd (number_word n) to))) [] self.old.core self.new.core) }
+        ensures same { OnFalse result (self.new ≡ self.old) }
+    {
+        match rd.number() {
+            0 => false,
+            2 => self.move_sp(n, to),
+            _ => {
+                self.set_register(rd, Held::Number(n), to);
+                true
+            }
+        }
+    }
+
+    // Moves sp to an address, and goes on to a place; not if the address isn't in the stack, or there is
+    // no room for the bytes from it up.
+    fn move_sp(&mut self, sp: u32, to: Place) -> bool
+        requires { self.old.core.exit ≡ None }
+        ensures made { OnTrue result (RunsOn (made self.old.map self.old.core (Goes (gives 2 (number_word sp) to))) [] self.old.core self.new.core) }
+        ensures same { OnFalse result (self.new ≡ self.old) }
+    {
+        let _ = &self.registers;
+        if !self.memory.has_sp(sp) {
+            return false;
+        }
+        match self.memory.settle(sp) {
+            Ok(()) => {
+                self.registers[2] = Held::Number(sp);
+                self.place = to;
+                true
+            }
+            Err(_) => false,
+        }
+    }
+
+    // Jumps to a place, with the next place's address in a register; not if that is sp.
+    pub(super) fn link(&mut self, rd: Reg, to: Place, next: Place) -> bool
+        requires { self.old.core.exit ≡ None }
+        ensures made { OnTrue result (RunsOn (made self.old.map self.old.core (Goes (gives rd (code_word next) to))) [] self.old.core self.new.core) }
+        ensures same { OnFalse result (self.new ≡ self.old) }
+    {
+        match rd.number() {
+            0 => {
+                self.pass(to);
+                true
+            }
+            2 => false,
+            _ => {
+                self.set_register(rd, Held::Code(next), to);
+                true
+            }
+        }
+    }
+
+    // Gives a word to a register, and goes on to a place.
+    pub(super) fn give(&mut self, rd: Reg, word: &Held, to: Place) -> Result<SymStep, AllocError>
+        requires { self.old.core.exit ≡ None }
+        ensures { Makes result (made self.old.map self.old.core (Goes (gives rd (word_of word.now) to))) self.old.core self.new.core }
+    {
+        match rd.number() {
+            0 => Ok(self.go(to)),
+            2 => self.give_sp(word, to),
+            _ => {
+                self.set_register(rd, *word, to);
+                Ok(SymStep::Done)
+            }
+        }
+    }
+
+    // Gives a word to sp, if it is a number within the stack, and goes on to a place.
+    fn give_sp(&mut self, word: &Held, to: Place) -> Result<SymStep, AllocError>
+        requires { self.old.core.exit ≡ None }
+        ensures { Makes result (made self.old.map self.old.core (Goes (gives 2 (word_of word.now) to))) self.old.core self.new.core }
+    {
+        let _ = &self.registers;
+        let Some(sp) = word.number() else {
+            return Ok(self.stuck(Why::StackPointer));
+        };
+        if !self.memory.has_sp(sp) {
+            return Ok(self.stuck(Why::StackPointer));
+        }
+        self.memory.settle(sp)?;
+        self.registers[2] = *word;
+        self.place = to;
+        Ok(SymStep::Done)
+    }
+
+    // Calls a place: the first register isn't known afterwards, and the link register gets the next
+    // place's address. Register 0 takes no part of an address, and sp stays a number.
+    pub(super) fn call(&mut self, rd: Reg, temp: Reg, to: Place, next: Place) -> SymStep
+        requires { self.old.core.exit ≡ None }
+        ensures { StepAnswers (made self.old.map self.old.core (call_to rd temp to next)) result self.old.core self.new.core }
+    {
+        let _ = &self.registers;
+        let (link, part) = (rd.number() as usize, temp.number() as usize);
+        if part == 0 {
+            return self.stuck(Why::TargetUnknown);
+        }
+        if link == 2 || part == 2 {
+            return self.stuck(Why::StackPointer);
+        }
+        self.registers[part] = Held::UNDEFINED;
+        if link != 0 {
+            self.registers[link] = Held::Code(next);
+        }
+        self.place = to;
+        SymStep::Done
+    }
+
+    // Writes bytes to memory from an address on, and goes on to a place.
+    pub(super) fn put(&mut self, a: u32, bytes: &[SymByte], to: Place) -> SymStep
+        requires { self.old.core.exit ≡ None }
+        ensures { StepAnswers (made self.old.map self.old.core (Goes (puts a bytes.now to))) result self.old.core self.new.core }
+    {
+        self.memory.write(a, bytes);
+        self.place = to;
+        SymStep::Done
+    }
+
+    // The same of numbers, if their places are kept.
+    pub(super) fn put_numbers(&mut self, a: u32, numbers: &[u8], to: Place) -> bool
+        requires { self.old.core.exit ≡ None }
+        ensures there { OnTrue result (in_memory self.old.core a (length numbers.now) ≡ true) }
+        ensures made { OnTrue result (RunsOn (made self.old.map self.old.core (Goes (puts a (map Num numbers.now) to))) [] self.old.core self.new.core) }
+        ensures same { OnFalse result (self.new ≡ self.old) }
+    {
+        if !self.memory.store(a, numbers) {
+            return false;
+        }
+        self.place = to;
+        true
+    }
+
+    // Reads as much of the input as there is and as goes into a buffer, and goes on to a place.
+    pub(super) fn read(&mut self, arguments: Arguments, to: Place) -> SymStep
+        requires { self.old.core.exit ≡ None }
+        ensures { StepAnswers (made self.old.map self.old.core (read_does self.old.core to arguments)) result self.old.core self.new.core }
+    {
+        let left = &self.input[self.taken..];
+        let count = left.len().min(arguments.len as usize);
+        self.memory.write_numbers(arguments.at, &left[..count]);
+        self.registers[A0] = Held::Number(count as u32);
+        self.taken += count;
+        self.place = to;
+        SymStep::Read {
+            count: count as u32,
+        }
+    }
+
+    // Writes these bytes out, and goes on to a place.
+    pub(super) fn write(&mut self, arguments: Arguments, bytes: Vec<u8>, to: Place) -> SymStep
+        requires running { self.old.core.exit ≡ None }
+        requires stream { is_output arguments.a0 ≡ true }
+        ensures { StepAnswers (made self.old.map self.old.core (output_does (Some bytes.items) to arguments)) result self.old.core self.new.core }
+    {
+        self.registers[A0] = Held::Number(arguments.len);
+        self.place = to;
+        SymStep::Wrote {
+            fd: arguments.a0 as u8,
+            bytes,
+        }
+    }
+
+    // Exits with the low byte of a number.
+    pub(super) fn end(&mut self, a0: u32) -> SymStep
+        requires { self.old.core.exit ≡ None }
+        ensures { StepAnswers (made self.old.map self.old.core (exit_does (Some a0) self.old.core.place)) result self.old.core self.new.core }
+    {
+        let status = (a0 % 256) as u8;
+        self.exit = Some(status);
+        SymStep::Exited(status)
+    }
+}

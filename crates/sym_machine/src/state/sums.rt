@@ -1,0 +1,105 @@
+// Instructions that go by a sum: `addi`, `jalr`, loads and stores. The sum is that of a register and an
+// immediate, or the lower part of an address.
+
+ghost use Rattle.std.specs.Prelude.{◌≡◌, None};
+ghost use Rattle.psabi_sym.specs.Inputs.{parsed};
+ghost use Rattle.sym_machine.specs.Answer.{Makes};
+ghost use Rattle.sym_machine.specs.AddressParts as parts;
+ghost use Rattle.sym_machine.specs.Words as words;
+ghost use Rattle.sym_machine.specs.Change.{base_of, by_sum};
+ghost use Rattle.sym_machine.specs.Kept.{word_of};
+ghost use Rattle.sym_machine.specs.Objects.{program_of};
+ghost use Rattle.sym_machine.specs.State.{reg_of};
+ghost use Rattle.sym_machine.specs.Step.{made};
+
+use super::State;
+use crate::address_parts::{low_sum, pc_low_sum};
+use crate::held::Held;
+use crate::results::sum;
+use crate::step::SymStep;
+use crate::why::Why;
+use block_cut::cut::Cut;
+use psabi_sym::target::Target;
+use rv_decode::instr::{ImmOp, Instr};
+use std::alloc::AllocError;
+use zc_base::place::Place;
+use zc_base::reg::Reg;
+
+impl State {
+    // An instruction by the sum of a register and an immediate.
+    pub(super) fn step_from(
+        &mut self,
+        instr: &Instr,
+        base: Reg,
+        imm: i32,
+        next: Place,
+    ) -> Result<SymStep, AllocError>
+        requires { self.old.core.exit ≡ None }
+        ensures { Makes result (made self.old.map self.old.core (by_sum instr.now (words.sum_word (reg_of self.old.core base) imm) self.old.core next)) self.old.core self.new.core }
+    {
+        let word = sum(self.register(base), imm);
+        self.step_sum(instr, &word, next)
+    }
+
+    // One whose immediate is the lower part of a target.
+    pub(super) fn step_lo(
+        &mut self,
+        instr: &Instr,
+        target: Target,
+        next: Place,
+    ) -> Result<SymStep, AllocError>
+        requires { self.old.core.exit ≡ None }
+        ensures { Makes result (made self.old.map self.old.core (by_sum instr.now (parts.low_sum target (reg_of self.old.core (base_of instr.now))) self.old.core next)) self.old.core self.new.core }
+    {
+        let word = low_sum(target, &self.base(instr));
+        self.step_sum(instr, &word, next)
+    }
+
+    // One with the lower part that goes with the `auipc` at a place.
+    pub(super) fn step_pc_lo(
+        &mut self,
+        cut: &Cut,
+        instr: &Instr,
+        q: Place,
+        next: Place,
+    ) -> Result<SymStep, AllocError>
+        requires { self.old.core.exit ≡ None }
+        ensures { Makes result (made self.old.map self.old.core (by_sum instr.now (parts.pc_low_sum q (parts.pc_target ((program_of (parsed cut.now)).item q)) (reg_of self.old.core (base_of instr.now))) self.old.core next)) self.old.core self.new.core }
+    {
+        let word = pc_low_sum(cut, q, &self.base(instr));
+        self.step_sum(instr, &word, next)
+    }
+
+    // The word in the register that the sum of an instruction begins with.
+    fn base(&self, instr: &Instr) -> Held
+        ensures { word_of result ≡ reg_of self.now.core (base_of instr.now) }
+    {
+        match instr {
+            Instr::Jalr { base, .. }
+            | Instr::Load { base, .. }
+            | Instr::Store { base, .. }
+            | Instr::WithImm { first: base, .. } => *self.register(*base),
+            _ => Held::Number(0),
+        }
+    }
+
+    // Such an instruction by the word of its sum.
+    fn step_sum(&mut self, instr: &Instr, word: &Held, next: Place) -> Result<SymStep, AllocError>
+        requires { self.old.core.exit ≡ None }
+        ensures { Makes result (made self.old.map self.old.core (by_sum instr.now (word_of word.now) self.old.core next)) self.old.core self.new.core }
+    {
+        match instr {
+            Instr::Jalr { rd, .. } => self.jump(word.code(), *rd, next),
+            Instr::Load { op, rd, .. } => self.step_load(*op, *rd, word.number(), next),
+            Instr::Store { op, source, .. } => {
+                self.step_store(*op, *source, word.number(), next)
+            }
+            Instr::WithImm {
+                op: ImmOp::Addi,
+                rd,
+                ..
+            } => self.give(*rd, word, next),
+            _ => Ok(self.stuck(Why::NoInstruction)),
+        }
+    }
+}
