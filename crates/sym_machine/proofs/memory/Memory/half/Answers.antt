@@ -1,26 +1,13 @@
-use Rattle.std.proofs.Common.{◌≡◌, ◌+◌, ◌-◌, ap, sym, ◌∙◌, subst, get_or, arith}
-use Rattle.rv_decode.specs.Memory.{cell_at}
-use Rattle.sym_machine.specs.declared.word.SymByte.TheVariants.{Undef}
-use Rattle.sym_machine.specs.Kept.{IsKept, Kept, regions_of}
+use Rattle.std.proofs.Common.{◌+◌, ◌-◌, arith}
 use Rattle.sym_machine.proofs.SpanLaws.{stack_byte}
 use Rattle.sym_machine.proofs.memory.Memory.half.Goals as goal
 
 pub returns-in-Stack-clause-low : goal.returns-in-Stack-clause-low
 returns-in-Stack-clause-low c =
-    let k = c.args.self.now in
     let i = c.in-Stack.i in
-    let is = subst IsKept c.self.view_is c.self.invariant in
-    let b0 : cell_at Undef (regions_of k) c.args.a ≡ c.index-in-Stack.result.now =
-    stack_byte k is c.args.a 2 i c.in-Stack.ensures.0 c.in-Stack.ensures.1 c.in-Stack.ensures.2 c.args.a (i - 1) c.index-in-Stack.result.now (omega arith) (omega arith) (omega (arith, c.in-Stack.ensures))
-    ∙ ap (λ (m : Kept). get_or m.above (i - 1) c.index-in-Stack.result.now) (sym c.self.view_is) ∙ sym c.index-in-Stack.ensures in
-    sym b0
+    stack_byte c.self.view_is c.self.invariant c.args.a 2 i c.in-Stack.ensures c.args.a (i - 1) c.index-in-Stack.ensures (omega arith) (omega (arith, c.in-Stack.ensures))
 
 pub returns-in-Stack-clause-high : goal.returns-in-Stack-clause-high
 returns-in-Stack-clause-high c =
-    let k = c.args.self.now in
     let i = c.in-Stack.i in
-    let is = subst IsKept c.self.view_is c.self.invariant in
-    let b1 : cell_at Undef (regions_of k) (c.args.a + 1) ≡ c.index-in-Stack-2.result.now =
-    stack_byte k is c.args.a 2 i c.in-Stack.ensures.0 c.in-Stack.ensures.1 c.in-Stack.ensures.2 (c.args.a + 1) (i - 2) c.index-in-Stack-2.result.now (omega arith) (omega arith) (omega (arith, c.in-Stack.ensures))
-    ∙ ap (λ (m : Kept). get_or m.above (i - 2) c.index-in-Stack-2.result.now) (sym c.self.view_is) ∙ sym c.index-in-Stack-2.ensures in
-    sym b1
+    stack_byte c.self.view_is c.self.invariant c.args.a 2 i c.in-Stack.ensures (c.args.a + 1) (i - 2) c.index-in-Stack-2.ensures (omega arith) (omega (arith, c.in-Stack.ensures))
