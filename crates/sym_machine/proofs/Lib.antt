@@ -2,6 +2,7 @@ pub mod Examples
 pub mod RelocatedExamples
 pub mod StepLaws
 pub mod MemoryLaws
+mod NumberLaws
 pub mod StateLaws
 pub mod RunLaws
 pub mod WordLaws

@@ -1,5 +1,5 @@
 -- Memory as it is kept: what a byte is, and which changes of what is kept are changes of memory.
-use Rattle.std.proofs.Common.{◌≡◌, ◌≢◌, ℕ, zero, suc, ◌+◌, ◌-◌, ◌<◌, ◌≤◌, ⊎_elim, List, [], ◌∷◌, ◌++◌, Option, Some, None, length, get_or, set, Bool, true, false, cond, refl, sym, ap, ap₂, ◌∙◌, arith, leb, ltb, get_or-set_same, get_or-set_other, length-set}
+use Rattle.std.proofs.Common.{◌≡◌, ◌≢◌, ℕ, suc, ◌+◌, ◌-◌, ◌<◌, ◌≤◌, ⊎_elim, List, [], ◌∷◌, length, get_or, set, Bool, true, false, cond, refl, sym, ap, ap₂, ◌∙◌, arith, leb, ltb, get_or-set_same, get_or-set_other, length-set}
 use Rattle.std.specs.Prelude.{◌&&◌, ◌||◌}
 use Rattle.std.proofs.lemmas.Bool.{and_from, and_parts, cases_eq, cases_lt, cond-false, cond-true, le-leb, leb-true, lt-ltb, ltb-true}
 use Rattle.std.proofs.lemmas.List.{get_or_past, same_lists}
@@ -8,8 +8,7 @@ use Rattle.zc_base.specs.declared.mem_map.MemMap.{MemMap}
 use Rattle.rv_decode.specs.Memory.{Extent, Region, Data, Stack, cell_at, cells_changed, changed, extents_of, is_data, lies_in, spans, written}
 use Rattle.rv_decode.proofs.MemoryLaws.{cell-uncovered, get_or-cells_changed, is_covered, length-cells_changed, untouched}
 use Rattle.sym_machine.specs.declared.word.SymByte.{SymByte}
-use Rattle.sym_machine.specs.declared.word.SymByte.TheVariants.{Num, Part, Undef}
-use Rattle.sym_machine.specs.Change.{numbers_at, then_number}
+use Rattle.sym_machine.specs.declared.word.SymByte.TheVariants.{Undef}
 use Rattle.sym_machine.specs.Kept.{IsChanged, IsKept, Kept, above_only, kept_from, regions_of, stack_cells}
 use Rattle.sym_machine.specs.Step.{undefined_below}
 
@@ -285,48 +284,3 @@ byte_past k is a past = sym (cell-uncovered (regions_of k) a Undef (out refl ref
         let first = nowhere (leb k.map.data_low a) (leb (a + 1) (k.map.data_low + length k.bytes)) (k.map.data_low + length k.bytes) refl (omega (arith, is.apart, is.stack, past)) in
         let second = nowhere (leb k.map.stack_low a) (leb (a + 1) (k.map.stack_low + length (stack_cells k.map k.above))) (k.map.stack_low + length (stack_cells k.map k.above)) refl (omega (arith, size, is.stack, past)) in
         λ j. first j || (second j || false)
-
--- ---- numbers
-
--- nothing comes before what isn't all numbers
-none_then : (c : SymByte) → then_number c None ≡ None
-none_then (Num b) = refl
-none_then (Part v i) = refl
-none_then Undef = refl
-
--- one number more
-pub numbers_more : (memory : List (Region SymByte)) (a i : ℕ) (bytes : List ℕ) (b : ℕ) → numbers_at memory a i ≡ Some bytes → cell_at Undef memory (a + i) ≡ Num b
-    → numbers_at memory a (i + 1) ≡ Some (bytes ++ b ∷ [])
-numbers_more memory a zero bytes b so_far is =
-    let none : [] ≡ bytes = cc in
-    let at : a + 0 ≡ a = omega arith in
-    ap (λ c. then_number c (Some [])) (ap (cell_at Undef memory) (sym at) ∙ is) ∙ ap (λ l. Some (l ++ b ∷ [])) none
-numbers_more memory a (suc i) bytes b so_far is =
-    by (λ ds rest. numbers_more memory (suc a) i ds b rest (ap (cell_at Undef memory) (sym there) ∙ is)) (cell_at Undef memory a) (numbers_at memory (suc a) i) refl refl so_far
-  where
-    next : suc i + 1 ≡ suc (i + 1)
-    next = omega arith
-
-    there : a + suc i ≡ suc a + i
-    there = omega arith
-
-    by : ((ds : List ℕ) → numbers_at memory (suc a) i ≡ Some ds → numbers_at memory (suc a) (i + 1) ≡ Some (ds ++ b ∷ []))
-        → (c : SymByte) (o : Option (List ℕ)) → cell_at Undef memory a ≡ c → numbers_at memory (suc a) i ≡ o → then_number c o ≡ Some bytes
-        → numbers_at memory a (suc i + 1) ≡ Some (bytes ++ b ∷ [])
-    by more (Num d) (Some ds) first rest both =
-        let all : d ∷ ds ≡ bytes = cc in
-        ap (numbers_at memory a) next ∙ (λ j. then_number (first j) (more ds rest j)) ∙ ap (λ l. Some (l ++ b ∷ [])) all
-    by more (Num d) None first rest both = absurd cc
-    by more (Part v k) o first rest both = absurd cc
-    by more Undef o first rest both = absurd cc
-
--- a byte that is no number
-pub numbers_none : (memory : List (Region SymByte)) (a i n : ℕ) → ((o : Option (List ℕ)) → then_number (cell_at Undef memory (a + i)) o ≡ None) → i < n → numbers_at memory a n ≡ None
-numbers_none memory a i zero none lt = absurd (omega arith)
-numbers_none memory a zero (suc n) none lt =
-    let at : a + 0 ≡ a = omega arith in
-    ap (λ x. then_number (cell_at Undef memory x) (numbers_at memory (suc a) n)) (sym at) ∙ none (numbers_at memory (suc a) n)
-numbers_none memory a (suc i) (suc n) none lt =
-    let there : suc a + i ≡ a + suc i = omega arith in
-    ap (then_number (cell_at Undef memory a)) (numbers_none memory (suc a) i n (λ o. ap (λ x. then_number (cell_at Undef memory x) o) there ∙ none o) (omega arith))
-    ∙ none_then (cell_at Undef memory a)

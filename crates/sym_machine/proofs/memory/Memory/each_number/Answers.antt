@@ -1,9 +1,9 @@
-use Rattle.std.proofs.Common.{◌≡◌, ◌+◌, ap₂, ap, sym, ◌∙◌, ⊎_elim, arith, Some}
+use Rattle.std.proofs.Common.{◌≡◌, ◌+◌, ap₂, ap, sym, ◌∙◌, arith, Some}
 use Rattle.rv_decode.specs.Memory.{cell_at}
 use Rattle.sym_machine.specs.declared.word.SymByte.TheVariants.{Undef}
 use Rattle.sym_machine.specs.Change.{then_number}
 use Rattle.sym_machine.specs.Kept.{regions_of}
-use Rattle.sym_machine.proofs.MemoryLaws.{numbers_more, numbers_none}
+use Rattle.sym_machine.proofs.NumberLaws.{no_number, numbers_more, numbers_none}
 use Rattle.sym_machine.proofs.memory.Memory.each_number.Goals as goal
 
 pub returns-in-Part : goal.returns-in-Part
@@ -12,10 +12,7 @@ returns-in-Part c =
     let at : c.args.a + c.loop-i.i ≡ c.from.result + c.from-in-loop-i.result = ap₂ (λ m n. m + n) (sym c.from.ensures) (sym c.from-in-loop-i.ensures) in
     let byte = ap (cell_at Undef memory) at ∙ sym c.byte.ensures in
     numbers_none memory c.args.a c.loop-i.i c.args.n
-    (λ o. ⊎_elim
-    (λ part. ap (λ b. then_number b o) (byte ∙ part.2))
-    (λ undefined. ap (λ b. then_number b o) (byte ∙ undefined))
-    c.in-Part.is)
+    (λ o. ap (λ b. then_number b o) byte ∙ no_number c.byte.result o c.in-Part.is)
     (omega arith)
 
 pub loop-i-preserved : goal.loop-i-preserved
