@@ -9,6 +9,7 @@ pub mod JudgeLaws
 pub mod LedLaws
 pub mod ListedLaws
 pub mod PlaceLaws
+pub mod PlaceOrder
 pub mod PlainLaws
 pub mod ReachLaws
 pub mod RoomLaws

@@ -5,10 +5,10 @@
 -- - `rises`, `rises_past`: addresses rise with places, and what comes after an item lies behind it;
 -- - `apart`: two places with one address are the same, or the first of them is padding's or a section's end.
 use Rattle.std.proofs.Common.{◌≡◌, ℕ, ◌+◌, ◌-◌, ◌%◌, ◌<◌, ◌≤◌, ◌⊎◌, List, [], ◌∷◌, ◌++◌, length, filter, map, max, Bool, true, false, cond, Option, Some, None, refl, sym, ap, subst, ◌∙◌, arith, eqb, ltb, eq-eqb, inl, inr}
-use Rattle.std.specs.Prelude.{◌&&◌, ◌||◌}
+use Rattle.std.specs.Prelude.{◌||◌}
 use Rattle.std.specs.List.{fold}
 use Rattle.std.specs.Option.{option_map, option_map_or}
-use Rattle.std.proofs.lemmas.Bool.{cases_eq, cases_lt, eqb-true, lt-ltb, ltb-true}
+use Rattle.std.proofs.lemmas.Bool.{cases_eq, cases_lt, eqb-true}
 use Rattle.std.proofs.lemmas.List.{map-append}
 use Rattle.std.proofs.lemmas.List.Sums.{fold-append}
 use Rattle.std.proofs.lemmas.Nat.Gcd.{dvd_of_mod-eq-zero}
@@ -27,6 +27,7 @@ use Rattle.block_cut.specs.Items.{code_at, is_end_at, is_start_at, is_target_at,
 use Rattle.block_cut.specs.PlainLayout.{address_on, after_item, after_items, items_before, plain_address, plain_end, plain_end_of, plain_start, section_begin, section_end}
 use Rattle.block_cut.proofs.ItemLaws.{IsItemAt, Takes, Bytes, Padding, item_found, item_takes, padded}
 use Rattle.block_cut.proofs.ListedLaws.{between, cut_at, listed}
+use Rattle.block_cut.proofs.PlaceOrder.{IsOrdered, Earlier, Within, ordered, same_or_before}
 use Rattle.block_cut.proofs.RoomLaws.{AreWhole, after_items-ge, aligned_up-ge, all_whole, ends-ge, items_in-code, plain_end-fits, section_end-code, section_end-other}
 use Rattle.block_cut.proofs.StartLaws.{among_first, among_later, before_end_all, before_next_start, front, is_among, none_within, start_is, step}
 use Rattle.block_cut.proofs.WholeLaws.{code_is_section, code_whole}
@@ -215,30 +216,6 @@ pub data Coincide (inputs : ParsedInputs) (q r : Place) : Type 0 where
   FirstFlat : IsFlat inputs q → Coincide inputs q r
   SecondFlat : IsFlat inputs r → Coincide inputs q r
 
--- an order of two places
-data Ordered (q r : Place) : Type 0 where
-  Earlier : (q.object < r.object) ⊎ ((q.object ≡ r.object) × (q.section < r.section)) → Ordered q r
-  Within : q.object ≡ r.object → q.section ≡ r.section → q.offset < r.offset → Ordered q r
-
-ordered : (q r : Place) → is_before q r ≡ true → Ordered q r
-ordered q r is = objects (ltb q.object r.object) refl is
-  where
-    offsets : q.object ≡ r.object → (e : Bool) → eqb q.section r.section ≡ e → (e && ltb q.offset r.offset) ≡ true → Ordered q r
-    offsets same true e is = Within same (eqb-true q.section r.section e) (ltb-true q.offset r.offset is)
-    offsets same false e is = absurd cc
-
-    sections : q.object ≡ r.object → (b : Bool) → ltb q.section r.section ≡ b → (b || (eqb q.section r.section && ltb q.offset r.offset)) ≡ true → Ordered q r
-    sections same true lt is = Earlier (inr (same, ltb-true q.section r.section lt))
-    sections same false lt is = offsets same (eqb q.section r.section) refl is
-
-    equal : (e : Bool) → eqb q.object r.object ≡ e → (e && (ltb q.section r.section || (eqb q.section r.section && ltb q.offset r.offset))) ≡ true → Ordered q r
-    equal true e is = sections (eqb-true q.object r.object e) (ltb q.section r.section) refl is
-    equal false e is = absurd cc
-
-    objects : (b : Bool) → ltb q.object r.object ≡ b → (b || (eqb q.object r.object && (ltb q.section r.section || (eqb q.section r.section && ltb q.offset r.offset)))) ≡ true → Ordered q r
-    objects true lt is = Earlier (inl (ltb-true q.object r.object lt))
-    objects false lt is = equal (eqb q.object r.object) refl is
-
 module _ (inputs : Inputs) (none : gather_fault inputs ≡ None) where
   abbrev objects : List ObjectParts
   objects = (parsed inputs).objects
@@ -397,7 +374,7 @@ module _ (inputs : Inputs) (none : gather_fault inputs ≡ None) where
   pub rises : (q r : Place) (a b : ℕ) → is_before q r ≡ true → plain_address (parsed inputs) q ≡ Some a → plain_address (parsed inputs) r ≡ Some b → a ≤ b
   rises q r a b before one two = by (here q a one) (here r b two) (ordered q r before)
     where
-      by : IsHere (parsed inputs) q a → IsHere (parsed inputs) r b → Ordered q r → a ≤ b
+      by : IsHere (parsed inputs) q a → IsHere (parsed inputs) r b → IsOrdered q r → a ≤ b
       by at to (Earlier order) =
           let s = at.section in
           omega (
@@ -427,7 +404,7 @@ module _ (inputs : Inputs) (none : gather_fault inputs ≡ None) where
           let own = start_is s code whole q.offset start in
           omega (arith, end, (step s code whole q.offset own.words own.inside).inside)
 
-      by : IsHere (parsed inputs) q a → IsItemHere q i → IsHere (parsed inputs) r b → Ordered q r → after_item a i ≤ b
+      by : IsHere (parsed inputs) q a → IsItemHere q i → IsHere (parsed inputs) r b → IsOrdered q r → after_item a i ≤ b
       by at own to (Earlier order) =
           let s = own.section in
           let same : at.section ≡ s = cc (sym at.code ∙ own.code) in
@@ -476,36 +453,8 @@ module _ (inputs : Inputs) (none : gather_fault inputs ≡ None) where
 
   -- two places with one address
   pub apart : (q r : Place) (a : ℕ) → plain_address (parsed inputs) q ≡ Some a → plain_address (parsed inputs) r ≡ Some a → Coincide (parsed inputs) q r
-  apart q r a one two = objects_of (cases_lt q.object r.object) (cases_lt r.object q.object)
-    where
-      earlier_object : (p s : Place) → p.object < s.object → is_before p s ≡ true
-      earlier_object p s lt = ap (λ b. b || (eqb p.object s.object && (ltb p.section s.section || (eqb p.section s.section && ltb p.offset s.offset)))) (lt-ltb p.object s.object lt)
-
-      or_true : (b : Bool) → (b || true) ≡ true
-      or_true true = refl
-      or_true false = refl
-
-      earlier_section : (p s : Place) → p.object ≡ s.object → p.section < s.section → is_before p s ≡ true
-      earlier_section p s same lt =
-          (λ j. ltb p.object s.object || (eq-eqb p.object s.object same j && (lt-ltb p.section s.section lt j || (eqb p.section s.section && ltb p.offset s.offset))))
-          ∙ or_true (ltb p.object s.object)
-
-      earlier_offset : (p s : Place) → p.object ≡ s.object → p.section ≡ s.section → p.offset < s.offset → is_before p s ≡ true
-      earlier_offset p s same section lt =
-          (λ j. ltb p.object s.object || (eq-eqb p.object s.object same j && (ltb p.section s.section || (eq-eqb p.section s.section section j && lt-ltb p.offset s.offset lt j))))
-          ∙ ap (λ b. ltb p.object s.object || b) (or_true (ltb p.section s.section)) ∙ or_true (ltb p.object s.object)
-
-      offsets_of : q.object ≡ r.object → q.section ≡ r.section → (q.offset < r.offset) ⊎ (r.offset ≤ q.offset) → (r.offset < q.offset) ⊎ (q.offset ≤ r.offset) → Coincide (parsed inputs) q r
-      offsets_of o s (inl lt) other = FirstFlat (flat q r a (earlier_offset q r o s lt) one two)
-      offsets_of o s (inr le) (inl lt) = SecondFlat (flat r q a (earlier_offset r q (sym o) (sym s) lt) two one)
-      offsets_of o s (inr le) (inr ge) = let e : q.offset ≡ r.offset = omega arith in Same (λ j. record { object = o j; section = s j; offset = e j })
-
-      sections_of : q.object ≡ r.object → (q.section < r.section) ⊎ (r.section ≤ q.section) → (r.section < q.section) ⊎ (q.section ≤ r.section) → Coincide (parsed inputs) q r
-      sections_of o (inl lt) other = FirstFlat (flat q r a (earlier_section q r o lt) one two)
-      sections_of o (inr le) (inl lt) = SecondFlat (flat r q a (earlier_section r q (sym o) lt) two one)
-      sections_of o (inr le) (inr ge) = offsets_of o (omega arith) (cases_lt q.offset r.offset) (cases_lt r.offset q.offset)
-
-      objects_of : (q.object < r.object) ⊎ (r.object ≤ q.object) → (r.object < q.object) ⊎ (q.object ≤ r.object) → Coincide (parsed inputs) q r
-      objects_of (inl lt) other = FirstFlat (flat q r a (earlier_object q r lt) one two)
-      objects_of (inr le) (inl lt) = SecondFlat (flat r q a (earlier_object r q lt) two one)
-      objects_of (inr le) (inr ge) = sections_of (omega arith) (cases_lt q.section r.section) (cases_lt r.section q.section)
+  apart q r a one two = elim (same_or_before q r) [
+    | inl before ↦ FirstFlat (flat q r a before one two)
+    | inr (inl after) ↦ SecondFlat (flat r q a after two one)
+    | inr (inr same) ↦ Same same
+  ]
