@@ -5,7 +5,7 @@
 mod fixture;
 mod image;
 mod item;
-pub mod layout;
+mod layout;
 pub mod linked;
 pub mod plain;
 mod text;
