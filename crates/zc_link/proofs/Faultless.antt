@@ -1,6 +1,6 @@
 -- What it means that no fault stands in relocations: what an item's relocation leads to is a place where an item starts or a section
 -- ends, or a number.
-use Rattle.std.proofs.Common.{◌≡◌, ℕ, pos, ◌-ℤ◌, List, [], ◌∷◌, ◌++◌, map, length, Option, Some, None, Bool, true, false, cond, eqb, refl, sym, ap, ◌∙◌}
+use Rattle.std.proofs.Common.{◌≡◌, ℕ, List, [], ◌∷◌, ◌++◌, map, Option, Some, None, Bool, true, false, cond, eqb, refl, sym, ap, ◌∙◌}
 use Rattle.std.specs.Prelude.{◌&&◌, ◌||◌, not}
 use Rattle.std.specs.List.{find, flat_map}
 use Rattle.std.specs.Option.{is_some, option_map}
@@ -17,13 +17,11 @@ use Rattle.psabi_sym.specs.Listed.{ListedSection, section_at, sections_before}
 use Rattle.psabi_sym.specs.declared.target.Target.{Target}
 use Rattle.psabi_sym.specs.declared.target.Target.TheVariants.{Code, Number, Absent, Nowhere}
 use Rattle.psabi_sym.proofs.FaultLaws.{neither}
-use Rattle.block_cut.specs.Faults.{branch_target, distance_between, entry_fault, first_fault, if_so, is_astray, is_far, is_lonely, is_lost, is_out_of_reach, range_fault, reloc_fault, relocs_fault, section_fault}
-use Rattle.block_cut.specs.Items.{all_places, code_at, is_target_at, item_at, place_of, places_of, starts_in, starts_on, target_of}
+use Rattle.block_cut.specs.Faults.{entry_fault, first_fault, if_so, is_astray, is_lonely, is_lost, range_fault, reloc_fault, relocs_fault, section_fault}
+use Rattle.block_cut.specs.Items.{is_target_at, target_of}
 use Rattle.block_cut.specs.Relocs.{is_bad_kind, is_bad_place, is_ignored, is_transfer, reloc_on}
-use Rattle.block_cut.proofs.ItemLaws.{item_found}
 use Rattle.block_cut.proofs.ListedLaws.{cut_at, listed}
 use Rattle.block_cut.proofs.StartLaws.{is_among}
-use Rattle.block_cut.proofs.WholeLaws.{code_is_section}
 use Rattle.zc_link.specs.Standing.{HasValue}
 use Rattle.zc_link.proofs.Elements.{none_found, none_there}
 

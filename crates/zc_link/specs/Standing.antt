@@ -1,6 +1,5 @@
 -- What is known of an item where it stands in its object, before it is written at its address in a layout.
-use Rattle.std.specs.Prelude.{◌≡◌, ℕ, ℤ, pos, ◌+◌, ◌*◌, ◌%◌, ◌<◌, ◌≤◌, ◌||◌, List, ◌++◌, length, slice_index, Bool, true, false, Option, Some, None}
-use Rattle.std.specs.Option.{option_map_or}
+use Rattle.std.specs.Prelude.{◌≡◌, ℕ, ℤ, pos, ◌+◌, ◌%◌, ◌<◌, ◌≤◌, ◌||◌, List, ◌++◌, length, slice_index, Bool, true, Option, Some, None}
 use Rattle.zc_base.specs.Fields.{word_in}
 use Rattle.zc_base.specs.MemMap.{IsMap}
 use Rattle.zc_base.specs.declared.place.Place.{Place}
@@ -19,7 +18,7 @@ use Rattle.block_cut.specs.declared.item.Item.{Item}
 use Rattle.block_cut.specs.declared.item.Item.TheVariants.{Op, Hi, Lo, PcHi, PcLo, Branch, Jump, Call, Align, Word, Raw, RawPair}
 use Rattle.zc_link.specs.Copied.{bytes_from}
 use Rattle.zc_link.specs.LaidOut.{LiesAt}
-use Rattle.zc_link.specs.Written.{IsWritten, WithCall}
+use Rattle.zc_link.specs.Written.{IsWritten}
 use Rattle.zc_link.specs.Values.{target_value}
 
 -- inputs that are linked: no fault stands in them, and the map is one that a link may be made for
