@@ -123,7 +123,7 @@ module _ (inputs : ParsedInputs) (o i : ℕ) (s : SectionParts) (found : section
         end_from-ge (aligned_up s.align (end_from start before) + s.size) rest,
       )
 
-  -- so no data lie behind the end of all
+  -- so no data lie after the end of all
   pub data_fits : (class : DataClass) → role_of s ≡ InClass class → address_in inputs o i s class + s.size ≤ data_end inputs
   data_fits class role = omega (arith, in_class class role, class_end-le inputs class)
 

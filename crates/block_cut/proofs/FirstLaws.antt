@@ -6,9 +6,9 @@ use Rattle.block_cut.proofs.TakeLaws.{cut_at_next, take_next}
 
 module _ {X Y : Type 0} (f : X → Option Y) where
   -- a part without any changes nothing
-  pub first_behind : (xs ys : List X) → first_some (map f xs) ≡ None → first_some (map f (xs ++ ys)) ≡ first_some (map f ys)
-  first_behind [] ys none = refl
-  first_behind (x ∷ xs) ys none = by (f x) none (first_behind xs ys)
+  pub first_after : (xs ys : List X) → first_some (map f xs) ≡ None → first_some (map f (xs ++ ys)) ≡ first_some (map f ys)
+  first_after [] ys none = refl
+  first_after (x ∷ xs) ys none = by (f x) none (first_after xs ys)
     where
       by : (o : Option Y) → option_or o (first_some (map f xs)) ≡ None → (first_some (map f xs) ≡ None → first_some (map f (xs ++ ys)) ≡ first_some (map f ys))
           → option_or o (first_some (map f (xs ++ ys))) ≡ first_some (map f ys)
@@ -16,21 +16,21 @@ module _ {X Y : Type 0} (f : X → Option Y) where
       by (Some y) none rest = absurd cc
 
   -- one more without any
-  pub none_behind : (xs : List X) (x : X) → first_some (map f xs) ≡ None → f x ≡ None → first_some (map f (xs ++ x ∷ [])) ≡ None
-  none_behind xs x none here = first_behind xs (x ∷ []) none ∙ ap (λ o. option_or o None) here
+  pub none_after : (xs : List X) (x : X) → first_some (map f xs) ≡ None → f x ≡ None → first_some (map f (xs ++ x ∷ [])) ≡ None
+  none_after xs x none here = first_after xs (x ∷ []) none ∙ ap (λ o. option_or o None) here
 
   -- the first that has one
-  pub some_behind : (xs : List X) (x : X) (rest : List X) (y : Y) → first_some (map f xs) ≡ None → f x ≡ Some y → first_some (map f (xs ++ x ∷ rest)) ≡ Some y
-  some_behind xs x rest y none here = first_behind xs (x ∷ rest) none ∙ ap (λ o. option_or o (first_some (map f rest))) here
+  pub some_after : (xs : List X) (x : X) (rest : List X) (y : Y) → first_some (map f xs) ≡ None → f x ≡ Some y → first_some (map f (xs ++ x ∷ rest)) ≡ Some y
+  some_after xs x rest y none here = first_after xs (x ∷ rest) none ∙ ap (λ o. option_or o (first_some (map f rest))) here
 
   module _ (xs : List X) (k : ℕ) (x : X) (at : slice_get xs k ≡ Some x) (none : first_some (map f (take k xs)) ≡ None) where
     -- the same of a list that is taken element by element
     pub none_next : f x ≡ None → first_some (map f (take (k + 1) xs)) ≡ None
-    none_next here = ap (λ l. first_some (map f l)) (take_next xs k x at) ∙ none_behind (take k xs) x none here
+    none_next here = ap (λ l. first_some (map f l)) (take_next xs k x at) ∙ none_after (take k xs) x none here
 
     pub some_next : (y : Y) → f x ≡ Some y → first_some (map f xs) ≡ Some y
     some_next y here =
-        ap (λ l. first_some (map f l)) (cut_at_next xs k x at) ∙ some_behind (take k xs) x (drop (k + 1) xs) y none here
+        ap (λ l. first_some (map f l)) (cut_at_next xs k x at) ∙ some_after (take k xs) x (drop (k + 1) xs) y none here
 
   -- none at all is none of each
   pub none_within : (xs : List X) (x : X) (rest : List X) → first_some (map f (xs ++ x ∷ rest)) ≡ None → f x ≡ None

@@ -97,7 +97,7 @@ before_next objects o object at =
     ∙ ap all_sections (sym (take_more objects o object within ∙ ap (λ x. take o objects ++ x ∷ []) (get_or_from_slice_get objects o object object at)))
     ∙ sym (before_first objects (o + 1))
 
--- behind the last object are all
+-- after the last object are all
 pub before_end : (objects : List ObjectParts) (o : ℕ) → length objects ≤ o → sections_before objects o 0 ≡ all_sections objects
 before_end objects o past = before_first objects o ∙ ap all_sections (take_all o objects past)
 

@@ -2,7 +2,7 @@
 -- - `next_start`: the place after an item is where an item starts, or its section's end;
 -- - `next_address`: its address is the one after the item;
 -- - `address_bounds`: addresses are multiples of 4, from the text's start to the plain end, which is 256 KiB away at most;
--- - `rises`, `rises_past`: addresses rise with places, and what comes after an item lies behind it;
+-- - `rises`, `rises_past`: addresses rise with places, and what comes after an item lies past its bytes;
 -- - `apart`: two places with one address are the same, or the first of them is padding's or a section's end.
 use Rattle.std.proofs.Common.{◌≡◌, ℕ, ◌+◌, ◌-◌, ◌%◌, ◌<◌, ◌≤◌, ◌⊎◌, List, [], ◌∷◌, ◌++◌, length, filter, map, max, Bool, true, false, cond, Option, Some, None, refl, sym, ap, subst, ◌∙◌, arith, eqb, ltb, eq-eqb, inl, inr}
 use Rattle.std.specs.Prelude.{◌||◌}
@@ -352,7 +352,7 @@ module _ (inputs : Inputs) (none : gather_fault inputs ≡ None) where
 
   -- ---- order
 
-  -- addresses in a section lie before its end, and those of a later section behind it
+  -- addresses in a section lie before its end, and those of a later section after it
   later_section : (q r : Place) (s t : SectionParts) → section_at objects q.object q.section ≡ Some s → section_at objects r.object r.section ≡ Some t
       → (q.object < r.object) ⊎ ((q.object ≡ r.object) × (q.section < r.section)) → section_end (parsed inputs) (plain_end_of (parsed inputs) (sections_before objects q.object q.section)) (spot q s) ≤ address_on (parsed inputs) r t
   later_section q r s t found later order =
@@ -391,7 +391,7 @@ module _ (inputs : Inputs) (none : gather_fault inputs ≡ None) where
           λ j. address_on (parsed inputs) (record { object = sym object j; section = sym section j; offset = r.offset }) (sym same j) in
           omega (arith, at.address, to.address, moved, offset_rises (parsed inputs) q at.section at.code_is at.whole q.offset r.offset (omega (arith, lt)))
 
-  -- and what comes after an item lies behind it
+  -- and what comes after an item lies past its bytes
   pub rises_past : (q r : Place) (i : Item) (a b : ℕ) → is_before q r ≡ true → item_at (parsed inputs) q ≡ Some i → plain_address (parsed inputs) q ≡ Some a → plain_address (parsed inputs) r ≡ Some b → after_item a i ≤ b
   rises_past q r i a b before is one two = by (here q a one) (item_here q i is) (here r b two) (ordered q r before)
     where

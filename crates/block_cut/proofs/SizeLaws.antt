@@ -1,4 +1,4 @@
--- The size of an item is the step from its start, so the next place lies behind it (`item_sized`).
+-- The size of an item is the step from its start, so the next place lies after it (`item_sized`).
 use Rattle.std.proofs.Common.{◌≡◌, ℕ, ◌+◌, ◌≤◌, Some, None, sym, ap, subst, ◌∙◌, arith}
 use Rattle.zc_base.specs.declared.place.Place.{Place}
 use Rattle.psabi_sym.specs.Blocks.{aligned_up}
@@ -37,7 +37,7 @@ takes_size i n some (Bytes is) = by i is
     by (Raw word) is = omega (arith, is 0)
     by (RawPair first second) is = omega (arith, is 0)
 
--- so the next place lies behind the item's bytes, which lie in its section
+-- so the next place lies after the item's bytes, which lie in its section
 pub record IsSized (inputs : Inputs) (q : Place) (i : Item) : Type 0 where
   pub next : next_at (parsed inputs).objects q ≡ record q { offset = q.offset + item_size i }
   pub inside : q.offset + item_size i ≤ 0x40_0000

@@ -21,7 +21,7 @@ use Rattle.block_cut.specs.Cut.{list_in}
 pub section_nowhere : (objects : List ObjectParts) (o i : ℕ) → length objects ≤ o → section_at objects o i ≡ None
 section_nowhere objects o i past = ap (option_and_then (λ (object : ObjectParts). slice_get object.sections i)) (slice_get_past objects o past)
 
--- it lies behind the last of its object
+-- it lies after the last of its object
 pub section_past : (inputs : Inputs) (o i : ℕ) (file : List ℕ) → slice_get inputs.files o ≡ Some file → section_count file ≤ i → section_at (parsed inputs).objects o i ≡ None
 section_past inputs o i file at past =
     ap (option_and_then (λ (object : ObjectParts). slice_get object.sections i)) (slice_get-map object_parts inputs.files o ∙ ap (option_map object_parts) at)

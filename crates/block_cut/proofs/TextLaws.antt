@@ -125,7 +125,7 @@ module _ (inputs : Inputs) (none : gather_fault inputs ≡ None) (o i : ℕ) (s 
   end_other : starts_on s (length s.bytes) ≡ false
   end_other = false_from_ne_true (starts_on s (length s.bytes)) (λ start. omega (arith, (start_is s here.code here.whole (length s.bytes) start).inside))
 
-  -- all lie before what is behind the end
+  -- all lie before what is after the end
   before_all : before (length s.bytes + 4) ≡ starts_in s
   before_all = before_other (length s.bytes) here.whole.words end_other ∙ before_end_all s here.code here.whole
 

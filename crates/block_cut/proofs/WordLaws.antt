@@ -82,7 +82,7 @@ module _ (inputs : Inputs) (none : gather_fault inputs ≡ None) (q : Place) whe
           ∙ neither _ _ (false_from_ne_true (starts_on s q.offset) (λ is. askew (start_is s two.1 whole q.offset is).words))
           (ne_eqb q.offset (length s.bytes) (λ e. askew (ap (λ n. n % 4) e ∙ whole.words)))
 
-  -- or it lies behind the section
+  -- or it lies after the section
   pub target_past : (s : SectionParts) → code_at (parsed inputs).objects q ≡ Some s → length s.bytes < q.offset → is_target_at (parsed inputs).objects q ≡ false
   target_past s at past =
       let two = code_is_section (parsed inputs).objects q s at in

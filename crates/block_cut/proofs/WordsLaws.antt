@@ -28,7 +28,7 @@ module _ (inputs : ParsedInputs) where
   unfolding all_sections
   words_first = ap (flat_map (words_in inputs)) (before_first inputs.objects 0)
 
-  -- behind the last there are all
+  -- after the last there are all
   pub words_at_all : (o : ℕ) → length inputs.objects ≤ o → words_before inputs o 0 ≡ data_words inputs
   unfolding data_words
   words_at_all o past = ap (flat_map (words_in inputs)) (before_end inputs.objects o past)

@@ -23,7 +23,7 @@ abbrev pub first_number : List ObjectParts → ℕ → ℕ → ℕ
 first_number objects o i = sum_by piece_count (sections_before objects o i)
 
 module _ (objects : List ObjectParts) (o i : ℕ) (s : SectionParts) (found : section_at objects o i ≡ Some s) where
-  -- that of the next section is behind its pieces
+  -- that of the next section is after its pieces
   pub first_number-next : first_number objects o (i + 1) ≡ first_number objects o i + piece_count (listed o i s)
   first_number-next =
       ap (sum_by piece_count) (before_more objects o i s found)

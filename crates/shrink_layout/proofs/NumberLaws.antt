@@ -185,7 +185,7 @@ number_most inputs q = by (code_at inputs.objects q) refl
         let two = code_is_section inputs.objects q s at in
         omega (arith, number-code inputs.objects q s at, before_most inputs q.object q.section s q.offset two.0 two.1)
 
--- the element behind a list
+-- the element after a list
 pub behind : {X : Type 0} (xs : List X) (y : X) (ys : List X) → slice_get (xs ++ y ∷ ys) (length xs) ≡ Some y
 behind [] y ys = refl
 behind (x ∷ xs) y ys = behind xs y ys

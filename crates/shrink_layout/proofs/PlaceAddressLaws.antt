@@ -40,7 +40,7 @@ size_nowhere inputs sizes q is =
     ap (option_map (λ _. slice_index (settled_addresses inputs sizes) (number_of inputs.objects q + 1) - slice_index (settled_addresses inputs sizes) (number_of inputs.objects q))) is
 
 module _ (inputs : Inputs) (none : gather_fault inputs ≡ None) (q : Place) (i : Item) (is : item_at (parsed inputs) q ≡ Some i) where
-  -- code may lead behind an item
+  -- code may lead to what follows an item
   pub next_target : is_target_at (parsed inputs).objects (next_at (parsed inputs).objects q) ≡ true
   next_target = by (next_start inputs none q i is)
     where
@@ -53,7 +53,7 @@ module _ (inputs : Inputs) (none : gather_fault inputs ≡ None) (q : Place) (i 
       by (inl start) = ap (λ b. b || is_end_at (parsed inputs).objects (next_at (parsed inputs).objects q)) start
       by (inr end) = ap (λ b. is_start_at (parsed inputs).objects (next_at (parsed inputs).objects q) || b) end ∙ or_true (is_start_at (parsed inputs).objects (next_at (parsed inputs).objects q))
 
-  -- the place behind it has the next address
+  -- the place after it has the next address
   pub next_address_there : (sizes : List ℕ) → settled_address (parsed inputs) sizes (next_at (parsed inputs).objects q) ≡ Some (slice_index (settled_addresses (parsed inputs) sizes) (number_of (parsed inputs).objects q + 1))
   next_address_there sizes =
       address_there (parsed inputs) sizes (next_at (parsed inputs).objects q) next_target

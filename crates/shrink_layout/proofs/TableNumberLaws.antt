@@ -1,5 +1,5 @@
 -- What the table of numbers has at a place is its number: since starts are words, an offset within a word counts as the next one,
--- and what lies behind a section as its end.
+-- and what lies past a section as its end.
 use Rattle.std.proofs.Common.{◌≡◌, ℕ, ◌+◌, ◌-◌, ◌*◌, ◌/◌, ◌%◌, ◌<◌, ◌≤◌, true, List, [], length, get_or, Option, Some, None, slice_get, refl, sym, ap, ◌∙◌, arith}
 use Rattle.std.specs.List.{sum_by}
 use Rattle.std.proofs.lemmas.Bool.{false_from_ne_true}
@@ -29,7 +29,7 @@ module _ (objects : List ObjectParts) (o i : ℕ) (s : SectionParts) (code : is_
   pub before_word : (n : ℕ) → pieces_before objects o i s (4 * ((n + 3) / 4)) ≡ pieces_before objects o i s n
   before_word n = none_between n (4 * ((n + 3) / 4)) (omega arith) (λ m low high words inside. omega (arith, words))
 
-  -- and behind the end
+  -- and after the end
   pub before_past : (n : ℕ) → length s.bytes ≤ n → pieces_before objects o i s n ≡ pieces_before objects o i s (length s.bytes)
   before_past n past = none_between (length s.bytes) n past (λ m low high words inside. omega arith)
 
@@ -60,7 +60,7 @@ module _ (inputs : Inputs) (none : gather_fault inputs ≡ None) (q : Place) (wo
           (λ j. get_or (list j) (sym same j) d) ∙ word_got f s (4 * k) d (omega arith) (omega (arith, lt, ap length list))
           ∙ before_word objects q.object q.section s two.1 (code_whole inputs q s none at) q.offset ∙ sym (number-code objects q s at)
 
-  -- behind it
+  -- after it
   pub number_past : (n : ℕ) → length words ≤ (q.offset + 3) / 4 → slice_get words (length words - 1) ≡ Some n → n ≡ number_of objects q
   number_past n past last = by (code_at objects q) refl
     where

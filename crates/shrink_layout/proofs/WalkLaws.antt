@@ -115,7 +115,7 @@ module _ (inputs : Inputs) (none : gather_fault inputs ≡ None) (o i : ℕ) (s 
       let same : m ≡ n = omega (arith, own.words, words, low, high) in
       cc (start, other, same)))
 
-  -- all lie before what is behind the end
+  -- all lie before what is after the end
   before_all : before (length s.bytes + 4) ≡ starts_in s
   before_all =
       before_other (length s.bytes) here.whole.words

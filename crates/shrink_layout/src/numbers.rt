@@ -36,7 +36,7 @@ impl Numbers {
     }
 
     /// How many pieces stand before a place. Items start at words, so an offset within a word counts as
-    /// the next one, and what lies behind a section as its end.
+    /// the next one, and what lies past a section as its end.
     pub fn number(&self, p: Place) -> u32
         ensures { (inputs : Inputs) → gather_fault inputs ≡ None → AreNumbers (parsed inputs).objects self.now
             → result ≡ number_of (parsed inputs).objects p }

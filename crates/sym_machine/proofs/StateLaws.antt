@@ -11,7 +11,7 @@ use Rattle.rv_decode.specs.State.{Event, Exit, Read, Write, set_reg}
 use Rattle.sym_machine.specs.declared.arguments.Arguments.{Arguments}
 use Rattle.sym_machine.specs.declared.held.Held.{Held}
 use Rattle.sym_machine.specs.declared.held.Held.TheVariants as held
-use Rattle.sym_machine.specs.declared.step.SymStep.TheVariants as answer
+use Rattle.sym_machine.specs.declared.answer.SymStep.TheVariants as answer
 use Rattle.sym_machine.specs.declared.why.Why.TheVariants.{StackPointer, TargetUnknown}
 use Rattle.sym_machine.specs.declared.word.SymByte.{SymByte}
 use Rattle.sym_machine.specs.declared.word.SymByte.TheVariants.{Num, Undef}

@@ -8,8 +8,8 @@ use Rattle.zc_base.specs.declared.mem_map.MemMap.{MemMap}
 use Rattle.rv_decode.specs.Memory.{Region, changed, extents_of, written}
 use Rattle.rv_decode.specs.State.{Event}
 use Rattle.rv_decode.proofs.MemoryLaws.{extents-changed}
-use Rattle.sym_machine.specs.declared.step.SymStep.{SymStep}
-use Rattle.sym_machine.specs.declared.step.SymStep.TheVariants as answer
+use Rattle.sym_machine.specs.declared.answer.SymStep.{SymStep}
+use Rattle.sym_machine.specs.declared.answer.SymStep.TheVariants as answer
 use Rattle.sym_machine.specs.declared.why.Why.TheVariants.{StackPointer}
 use Rattle.sym_machine.specs.declared.word.SymByte.{SymByte}
 use Rattle.sym_machine.specs.declared.word.SymByte.TheVariants.{Undef}

@@ -3,6 +3,7 @@
 #![tactic(auto)]
 
 mod address_parts;
+pub mod answer;
 pub mod arguments;
 mod cells;
 mod first_data;
@@ -13,7 +14,6 @@ mod results;
 pub mod run;
 pub mod span;
 pub mod state;
-pub mod step;
 pub mod sym;
 pub mod why;
 pub mod word;

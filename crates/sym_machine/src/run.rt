@@ -3,14 +3,14 @@
 ghost use Rattle.std.specs.Prelude.{◌≡◌, ◌∷◌, [], true, OnOk, OnErr, IfErr};
 ghost use Rattle.psabi_sym.specs.Inputs.{parsed};
 ghost use Rattle.rv_decode.specs.State.{Write};
-ghost use Rattle.rv_decode.specs.Written.{err_of, out_of};
+ghost use Rattle.rv_decode.specs.Output.{err_of, out_of};
 ghost use Rattle.sym_machine.specs.Change.{is_output};
 ghost use Rattle.sym_machine.specs.Objects.{program_of};
 ghost use Rattle.sym_machine.specs.RunEnd.{Course, IfConsole, Traced, WrotePart};
 ghost use Rattle.sym_machine.specs.State.{first_plain};
 ghost use Rattle.zc_outside.specs.Desk.{OnlyWrites, WriteCause, Wrote};
 
-use crate::step::SymStep;
+use crate::answer::SymStep;
 use crate::sym::Sym;
 use crate::why::Why;
 use block_cut::cut::Cut;

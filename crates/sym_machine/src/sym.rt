@@ -9,7 +9,7 @@ ghost use Rattle.sym_machine.specs.State.{first_plain};
 ghost use Rattle.sym_machine.specs.Step.{plain_step};
 
 use crate::state::State;
-use crate::step::SymStep;
+use crate::answer::SymStep;
 use block_cut::cut::Cut;
 use std::alloc::{AllocError, Global};
 use std::marker::Model;

@@ -83,7 +83,7 @@ module _ {X : Type 0} (at : ℕ) (new old : List X) (within : at + length new �
       ∙ get_or-append-add (take at old) (new ++ drop (at + length new) old) (length new + j) d ∙ get_or-append-add new (drop (at + length new) old) j d
       ∙ get_or-drop (at + length new) old j d
 
-  -- more behind the old list stays behind
+  -- more after the old list stays after it
   pub over_append : (more : List X) → overlaid at new (old ++ more) ≡ overlaid at new old ++ more
   over_append more =
       let longer : at + length new ≤ length (old ++ more) = omega (arith, within, length-append old more) in
@@ -106,7 +106,7 @@ module _ (p : ParsedInputs) (A : Place → Option ℕ) where
   unfolding image_data
   length-image_data = length-filled (data_words p) (data_contents p) ∙ length-data_contents p
 
-  -- with zeros behind
+  -- with zeros after it
   filled_append : (ws : List DataWord) (bytes more : List ℕ) → All (IsWithin p) ws → length bytes ≡ data_file_end p - p.map.data_low → fold (with_data_word p A) bytes ws ++ more ≡ fold (with_data_word p A) (bytes ++ more) ws
   filled_append [] bytes more within size = refl
   filled_append (w ∷ ws) bytes more within size =

@@ -8,7 +8,7 @@ ghost use Rattle.sym_machine.specs.State.{reg_of};
 ghost use Rattle.sym_machine.specs.Step.{made};
 
 use super::State;
-use crate::step::SymStep;
+use crate::answer::SymStep;
 use crate::why::Why;
 use rv_decode::instr::{LoadOp, StoreOp};
 use std::alloc::AllocError;

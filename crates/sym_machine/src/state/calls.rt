@@ -9,7 +9,7 @@ ghost use Rattle.sym_machine.specs.Words.{number_of};
 
 use super::State;
 use crate::arguments::Arguments;
-use crate::step::SymStep;
+use crate::answer::SymStep;
 use crate::why::Why;
 use std::alloc::AllocError;
 use zc_base::place::Place;

@@ -12,7 +12,7 @@ ghost use Rattle.sym_machine.specs.Words.{code_word, number_word};
 use super::State;
 use crate::arguments::Arguments;
 use crate::held::Held;
-use crate::step::SymStep;
+use crate::answer::SymStep;
 use crate::why::Why;
 use crate::word::SymByte;
 use std::alloc::AllocError;

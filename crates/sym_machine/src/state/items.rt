@@ -11,7 +11,7 @@ ghost use Rattle.sym_machine.specs.Step.{made};
 
 use super::State;
 use crate::results::{imm_word, reg_word};
-use crate::step::SymStep;
+use crate::answer::SymStep;
 use crate::why::Why;
 use block_cut::cut::Cut;
 use block_cut::item::Item;

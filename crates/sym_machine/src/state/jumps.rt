@@ -10,7 +10,7 @@ ghost use Rattle.sym_machine.specs.Step.{made};
 use super::State;
 use crate::held::Held;
 use crate::known::condition;
-use crate::step::SymStep;
+use crate::answer::SymStep;
 use crate::why::Why;
 use block_cut::cut::Cut;
 use rv_decode::instr::Instr;

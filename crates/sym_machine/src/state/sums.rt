@@ -16,7 +16,7 @@ use super::State;
 use crate::address_parts::{low_sum, pc_low_sum};
 use crate::held::Held;
 use crate::results::sum;
-use crate::step::SymStep;
+use crate::answer::SymStep;
 use crate::why::Why;
 use block_cut::cut::Cut;
 use psabi_sym::target::Target;

@@ -15,7 +15,7 @@ use super::State;
 use crate::address_parts::high_word;
 use crate::held::Held;
 use crate::results::upper_word;
-use crate::step::SymStep;
+use crate::answer::SymStep;
 use crate::why::Why;
 use crate::word::Value;
 use psabi_sym::target::Target;

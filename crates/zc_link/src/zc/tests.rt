@@ -7,7 +7,7 @@ use std::test::Fail;
 // By GNU as 2.40 (`-march=rv32imc_zicsr`), of `lui a0,0x100; c.lw a1,0(a0); c.beqz a1,.+2; auipc a2,0xf0;
 // sw a1,-8(a2); c.jal .+16; c.nop`, three `addi x0,x0,0` in four bytes each, `c.jr ra; c.j .-2; .word 0x10020;
 // csrrw x0,0x17,t0` and two words of 0: where the linker's own map has `value` at 0x100000, `f` is at 0x10020
-// again, behind 14 bytes of padding.
+// again, after 14 bytes of padding.
 const TEXT: [u8; 52] = [
     0x37, 0x05, 0x10, 0x00, 0x0C, 0x41, 0x89, 0xC1, 0x17, 0x06, 0x0F, 0x00, //
     0x23, 0x2C, 0xB6, 0xFE, 0x01, 0x28, 0x01, 0x00, 0x13, 0x00, 0x00, 0x00, //

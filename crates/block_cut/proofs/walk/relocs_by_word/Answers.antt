@@ -56,7 +56,7 @@ one_of : (files : List (List ℕ)) (o i rela k : ℕ) (file : List ℕ) (r : Rel
     → slice_get (relocs_held file (header_of file rela)) k ≡ Some r → Contains (relocs_of file i) r
 one_of files o i rela k file r found is at = contains_at (relocs_of file i) k r (ap (λ rs. slice_get rs k) (rela_is files o i file (Some rela) found is).1 ∙ at)
 
--- a list is the front of itself with more behind it
+-- a list is the front of itself with more after it
 whole_front : {X : Type 0} (xs ys : List X) (n : ℕ) → length xs ≡ n → take n (xs ++ ys) ≡ xs
 whole_front xs ys n long = take-append-le n xs ys (omega arith) ∙ take_all n xs (omega arith)
 

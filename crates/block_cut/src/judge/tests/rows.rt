@@ -61,11 +61,11 @@ pub const PLACES: &str = "
 8:2:0:43:4 = 0:12:5:2 | ALIGN at no multiple of 4
 8:300:0:43:4 = 0:0:0:0 | ALIGN to the end
 8:300:0:43:8 = 0:12:5:300 | ALIGN past the end
-8:0:0:43:8 9:8:1:1:0 = 0:0:0:0 | behind an ALIGN
+8:0:0:43:8 9:8:1:1:0 = 0:0:0:0 | after an ALIGN
 8:8:1:1:0 9:4:0:43:8 = 0:12:5:8 | in an ALIGN
 8:8:1:1:0 9:4:0:43:2147483644 = 0:12:5:8 | in an ALIGN that is too long
 8:8:1:1:0 9:8:0:43:0 = 0:12:5:8 | at an ALIGN without bytes
-8:8:1:1:0 9:4:0:43:0 = 0:12:5:4 | behind an ALIGN without bytes
+8:8:1:1:0 9:4:0:43:0 = 0:12:5:4 | after an ALIGN without bytes
 ";
 
 /// PC-relative pairs.

@@ -2,11 +2,11 @@
 use Rattle.std.proofs.Common.{◌≡◌, ◌+◌, ◌∷◌, [], ℕ, sym, arith, subst, ⊎_elim, take, List}
 use Rattle.psabi_sym.specs.Inputs.{parsed}
 use Rattle.rv_decode.specs.State.{Write}
-use Rattle.rv_decode.specs.Written.{err_of, out_of}
+use Rattle.rv_decode.specs.Output.{err_of, out_of}
 use Rattle.zc_outside.specs.Desk.{OnlyWrites, Wrote}
 use Rattle.zc_outside.proofs.Desk.{OnlyWrites-refl, OnlyWrites-trans}
-use Rattle.sym_machine.specs.declared.step.SymStep.{SymStep}
-use Rattle.sym_machine.specs.declared.step.SymStep.TheVariants as answer
+use Rattle.sym_machine.specs.declared.answer.SymStep.{SymStep}
+use Rattle.sym_machine.specs.declared.answer.SymStep.TheVariants as answer
 use Rattle.sym_machine.specs.Answer.{StepAnswers}
 use Rattle.sym_machine.specs.Objects.{program_of}
 use Rattle.sym_machine.specs.Program.{Program}

@@ -11,7 +11,7 @@ use Rattle.block_cut.proofs.PlainLaws.{target_on}
 use Rattle.block_cut.proofs.WordLaws.{target_askew, target_nowhere, target_past, word_count, word_got, words_code, words_other}
 use Rattle.block_cut.proofs.code.Code.has_target.Goals as goal
 
--- behind the last word
+-- after the last word
 past : (inputs : Inputs) → gather_fault inputs ≡ None → (q : Place) (words : List CodeWord) → q.offset % 4 ≡ 0 → words ≡ code_words_at (parsed inputs).objects q.object q.section → length words ≤ q.offset / 4 → false ≡ is_target_at (parsed inputs).objects q
 past inputs none q words whole are le = by (code_at (parsed inputs).objects q) refl
   where

@@ -15,7 +15,7 @@ use Rattle.block_cut.proofs.text.Text.word.Goals as goal
 nothing : (inputs : Inputs) (q : Place) → is_target_at (parsed inputs).objects q ≡ false → (item_at (parsed inputs) q ≡ None) × (plain_address (parsed inputs) q ≡ None)
 nothing inputs q is = (no_item (parsed inputs) q is, no_address (parsed inputs) q is)
 
--- behind the last word
+-- after the last word
 past : (inputs : Inputs) → gather_fault inputs ≡ None → (q : Place) (words : List TextWord) → q.offset % 4 ≡ 0 → words ≡ text_words_at (parsed inputs) q.object q.section → length words ≤ q.offset / 4 → (item_at (parsed inputs) q ≡ None) × (plain_address (parsed inputs) q ≡ None)
 past inputs none q words whole are le = nothing inputs q (by (code_at (parsed inputs).objects q) refl)
   where

@@ -2,7 +2,7 @@
 use Rattle.std.proofs.Common.{◌≡◌, ◌≤◌, ◌<◌, ℕ, None, ap, sym, ◌∙◌, drop, length, subst, refl, set, arith}
 use Rattle.sym_machine.specs.declared.held.Held.TheVariants as held
 use Rattle.sym_machine.specs.declared.state.State.TheInside.{Inside}
-use Rattle.sym_machine.specs.declared.step.SymStep.TheVariants as answer
+use Rattle.sym_machine.specs.declared.answer.SymStep.TheVariants as answer
 use Rattle.sym_machine.specs.declared.why.Why.TheVariants.{StackPointer}
 use Rattle.sym_machine.specs.Answer.{StepAnswers}
 use Rattle.sym_machine.specs.Change.{Does, Goes, call_to}

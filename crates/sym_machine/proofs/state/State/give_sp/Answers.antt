@@ -3,7 +3,7 @@ use Rattle.std.proofs.Common.{◌≡◌, ◌<◌, length, None, ap, sym, ◌∙�
 use Rattle.std.specs.Prelude.{◌&&◌}
 use Rattle.std.proofs.lemmas.Bool.{and_parts, leb-true}
 use Rattle.zc_base.specs.declared.mem_map.MemMap.{MemMap}
-use Rattle.sym_machine.specs.declared.step.SymStep.TheVariants as answer
+use Rattle.sym_machine.specs.declared.answer.SymStep.TheVariants as answer
 use Rattle.sym_machine.specs.Answer.{StepAnswers}
 use Rattle.sym_machine.specs.Change.{Goes, gives}
 use Rattle.sym_machine.specs.Kept.{Working, word_of}

@@ -3,7 +3,7 @@ use Rattle.std.specs.Prelude.{slice_index_or}
 use Rattle.std.proofs.lemmas.List.{drop-drop, length-drop, take_all}
 use Rattle.rv_decode.specs.Memory.{written}
 use Rattle.sym_machine.specs.declared.held.Held.TheVariants as held
-use Rattle.sym_machine.specs.declared.step.SymStep.TheVariants as answer
+use Rattle.sym_machine.specs.declared.answer.SymStep.TheVariants as answer
 use Rattle.sym_machine.specs.declared.word.SymByte.TheVariants.{Num, Undef}
 use Rattle.sym_machine.specs.Answer.{StepAnswers}
 use Rattle.sym_machine.specs.Change.{read_does}
