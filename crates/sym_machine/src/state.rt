@@ -20,10 +20,10 @@ mod quick;
 mod sums;
 mod uppers;
 
+use crate::answer::SymStep;
 use crate::first_data::first_data;
 use crate::held::{Held, signed_byte, signed_half, zero_byte, zero_half};
 use crate::memory::Memory;
-use crate::answer::SymStep;
 use crate::why::Why;
 use block_cut::cut::Cut;
 use rv_decode::instr::LoadOp;

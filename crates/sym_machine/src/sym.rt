@@ -8,8 +8,8 @@ ghost use Rattle.sym_machine.specs.Objects.{program_of};
 ghost use Rattle.sym_machine.specs.State.{first_plain};
 ghost use Rattle.sym_machine.specs.Step.{plain_step};
 
-use crate::state::State;
 use crate::answer::SymStep;
+use crate::state::State;
 use block_cut::cut::Cut;
 use std::alloc::{AllocError, Global};
 use std::marker::Model;

@@ -8,8 +8,8 @@ ghost use Rattle.sym_machine.specs.Step.{made};
 ghost use Rattle.sym_machine.specs.Words.{number_of};
 
 use super::State;
-use crate::arguments::Arguments;
 use crate::answer::SymStep;
+use crate::arguments::Arguments;
 use crate::why::Why;
 use std::alloc::AllocError;
 use zc_base::place::Place;

@@ -10,9 +10,9 @@ ghost use Rattle.sym_machine.specs.Step.{made};
 ghost use Rattle.sym_machine.specs.Words.{code_word, number_word};
 
 use super::State;
+use crate::answer::SymStep;
 use crate::arguments::Arguments;
 use crate::held::Held;
-use crate::answer::SymStep;
 use crate::why::Why;
 use crate::word::SymByte;
 use std::alloc::AllocError;

@@ -10,8 +10,8 @@ ghost use Rattle.sym_machine.specs.State.{reg_of};
 ghost use Rattle.sym_machine.specs.Step.{made};
 
 use super::State;
-use crate::results::{imm_word, reg_word};
 use crate::answer::SymStep;
+use crate::results::{imm_word, reg_word};
 use crate::why::Why;
 use block_cut::cut::Cut;
 use block_cut::item::Item;

@@ -8,9 +8,9 @@ ghost use Rattle.sym_machine.specs.Objects.{program_of};
 ghost use Rattle.sym_machine.specs.Step.{made};
 
 use super::State;
+use crate::answer::SymStep;
 use crate::held::Held;
 use crate::known::condition;
-use crate::answer::SymStep;
 use crate::why::Why;
 use block_cut::cut::Cut;
 use rv_decode::instr::Instr;

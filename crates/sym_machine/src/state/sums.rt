@@ -14,9 +14,9 @@ ghost use Rattle.sym_machine.specs.Step.{made};
 
 use super::State;
 use crate::address_parts::{low_sum, pc_low_sum};
+use crate::answer::SymStep;
 use crate::held::Held;
 use crate::results::sum;
-use crate::answer::SymStep;
 use crate::why::Why;
 use block_cut::cut::Cut;
 use psabi_sym::target::Target;

@@ -13,9 +13,9 @@ ghost use Rattle.sym_machine.specs.Step.{made};
 
 use super::State;
 use crate::address_parts::high_word;
+use crate::answer::SymStep;
 use crate::held::Held;
 use crate::results::upper_word;
-use crate::answer::SymStep;
 use crate::why::Why;
 use crate::word::Value;
 use psabi_sym::target::Target;
