@@ -9,4 +9,4 @@ pub mod Results
 pub mod Effect
 pub mod Normal
 pub mod Run
-pub mod Output
+pub mod EventBytes

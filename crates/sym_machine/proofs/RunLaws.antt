@@ -6,7 +6,7 @@ use Rattle.zc_base.specs.declared.place.Place.{Place}
 use Rattle.rv_decode.specs.Memory.{extents_of}
 use Rattle.rv_decode.specs.Run.{iterate, ◌>>=◌}
 use Rattle.rv_decode.specs.State.{Event, Exit, Read, Write}
-use Rattle.rv_decode.specs.Output.{err_of, out_of, piece_of}
+use Rattle.rv_decode.specs.EventBytes.{err_of, out_of, piece_of}
 use Rattle.rv_decode.proofs.RunLaws.{bind_ok, iterate-add, iterate-one}
 use Rattle.zc_outside.specs.Desk.{Desk, Wrote}
 use Rattle.zc_outside.proofs.Desk.{Wrote-append, Wrote-none}

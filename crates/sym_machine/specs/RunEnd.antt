@@ -2,7 +2,7 @@
 use Rattle.std.specs.Prelude.{◌≡◌, ℕ, ◌<◌, ◌≤◌, List, [], ◌∷◌, ◌++◌, length, take, Some, None, Ok, Err}
 use Rattle.zc_base.specs.declared.place.Place.{Place}
 use Rattle.rv_decode.specs.State.{Event, Write}
-use Rattle.rv_decode.specs.Output.{err_of, out_of}
+use Rattle.rv_decode.specs.EventBytes.{err_of, out_of}
 use Rattle.zc_outside.specs.Desk.{Desk, Wrote}
 use Rattle.zc_outside.specs.declared.console.ConsoleFault.{ConsoleFault}
 use Rattle.sym_machine.specs.declared.run.TraceEnd.{TraceEnd}

@@ -3,7 +3,7 @@
 ghost use Rattle.std.specs.Prelude.{◌≡◌, ◌∷◌, [], true, OnOk, OnErr, IfErr};
 ghost use Rattle.psabi_sym.specs.Inputs.{parsed};
 ghost use Rattle.rv_decode.specs.State.{Write};
-ghost use Rattle.rv_decode.specs.Output.{err_of, out_of};
+ghost use Rattle.rv_decode.specs.EventBytes.{err_of, out_of};
 ghost use Rattle.sym_machine.specs.Change.{is_output};
 ghost use Rattle.sym_machine.specs.Objects.{program_of};
 ghost use Rattle.sym_machine.specs.RunEnd.{Course, IfConsole, Traced, WrotePart};

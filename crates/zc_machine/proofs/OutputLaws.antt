@@ -4,7 +4,7 @@ use Rattle.std.proofs.lemmas.Grind.{flat_map-append}
 use Rattle.std.proofs.lemmas.List.{append-nil, take-append-le}
 use Rattle.std.proofs.Math.Seq.{take-append-add}
 use Rattle.rv_decode.specs.State.{Event, Write}
-use Rattle.rv_decode.specs.Output.{err_of, out_of, piece_of, written_to}
+use Rattle.rv_decode.specs.EventBytes.{err_of, out_of, piece_of, written_to}
 use Rattle.zc_machine.specs.Output.{WrotePart, WroteTo}
 use Rattle.zc_outside.specs.Desk.{Desk, Wrote}
 use Rattle.zc_outside.proofs.Desk.{Wrote-append}

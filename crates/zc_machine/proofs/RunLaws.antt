@@ -3,7 +3,7 @@ use Rattle.std.proofs.Common.{◌≡◌, ℕ, ◌+◌, ◌<◌, List, [], ◌∷
 use Rattle.interrupt_plan.specs.Plan.{Entry, cuts_at}
 use Rattle.rv_decode.specs.State as event
 use Rattle.rv_decode.specs.State.{Event, ZcCore, ZcState}
-use Rattle.rv_decode.specs.Output.{err_of, out_of}
+use Rattle.rv_decode.specs.EventBytes.{err_of, out_of}
 use Rattle.zc_outside.specs.Desk.{Desk, OnlyWrites, Wrote}
 use Rattle.zc_outside.specs.declared.console.ConsoleFault.{ConsoleFault}
 use Rattle.zc_outside.proofs.Desk.{OnlyWrites-refl, OnlyWrites-trans, Wrote-none}

@@ -1,7 +1,7 @@
 -- What one write of a program leaves on the console's streams.
 use Rattle.std.specs.Prelude.{ℕ, ◌<◌, List, length, take}
 use Rattle.rv_decode.specs.State.{Write}
-use Rattle.rv_decode.specs.Output.{piece_of}
+use Rattle.rv_decode.specs.EventBytes.{piece_of}
 use Rattle.zc_outside.specs.Desk.{Desk, Wrote}
 
 -- these bytes stand on the stream with this number, and nothing on the other

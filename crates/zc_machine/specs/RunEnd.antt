@@ -2,7 +2,7 @@
 use Rattle.std.specs.Prelude.{◌≡◌, ℕ, ◌<◌, ◌≤◌, List, [], ◌∷◌, ◌++◌, length, take, Some, None, Ok, Err}
 use Rattle.interrupt_plan.specs.Plan.{Entry, cuts_at}
 use Rattle.rv_decode.specs.State.{Event, Write, ZcCore, ZcState}
-use Rattle.rv_decode.specs.Output.{err_of, out_of}
+use Rattle.rv_decode.specs.EventBytes.{err_of, out_of}
 use Rattle.zc_outside.specs.Desk.{Desk, Wrote}
 use Rattle.zc_outside.specs.declared.console.ConsoleFault.{ConsoleFault}
 use Rattle.zc_machine.specs.declared.reason.Reason.{Reason}

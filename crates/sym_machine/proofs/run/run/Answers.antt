@@ -2,7 +2,7 @@
 use Rattle.std.proofs.Common.{◌≡◌, ◌+◌, ◌∷◌, [], ℕ, sym, arith, subst, ⊎_elim, take, List}
 use Rattle.psabi_sym.specs.Inputs.{parsed}
 use Rattle.rv_decode.specs.State.{Write}
-use Rattle.rv_decode.specs.Output.{err_of, out_of}
+use Rattle.rv_decode.specs.EventBytes.{err_of, out_of}
 use Rattle.zc_outside.specs.Desk.{OnlyWrites, Wrote}
 use Rattle.zc_outside.proofs.Desk.{OnlyWrites-refl, OnlyWrites-trans}
 use Rattle.sym_machine.specs.declared.answer.SymStep.{SymStep}
