@@ -15,6 +15,11 @@ ECALL, NOP = 0x73, 0x13
 ADD32, SUB32 = 35, 39
 
 
+def of_format_r(f7, f3, to, first, second):
+    """An operation on registers."""
+    return f7 << 25 | second << 20 | first << 15 | f3 << 12 | to << 7 | 0x33
+
+
 def of_format_i(opcode, f3, to, source, value=0):
     return (value & 0xFFF) << 20 | source << 15 | f3 << 12 | to << 7 | opcode
 
@@ -27,8 +32,12 @@ def lw(to, base, offset=0):
     return of_format_i(0x03, 2, to, base, offset)
 
 
+def store(f3, source, base, offset=0):
+    return (offset >> 5 & 127) << 25 | source << 20 | base << 15 | f3 << 12 | (offset & 31) << 7 | 0x23
+
+
 def sw(source, base, offset=0):
-    return (offset >> 5 & 127) << 25 | source << 20 | base << 15 | 2 << 12 | (offset & 31) << 7 | 0x23
+    return store(2, source, base, offset)
 
 
 def jalr(to, base, offset=0):
@@ -36,7 +45,7 @@ def jalr(to, base, offset=0):
 
 
 def add(to, first, second):
-    return second << 20 | first << 15 | to << 7 | 0x33
+    return of_format_r(0, 0, to, first, second)
 
 
 def lui(to):
