@@ -1,0 +1,10 @@
+"""The checks of scripts/check_program, by their kind, and what they stand on.
+
+`harness` runs the program in folders and counts checks, `made_files` has small objects and images, and `strace` gives faults to
+system calls. The models that the program is compared with are those of fuzz/.
+"""
+import os
+import sys
+
+TOP = os.path.dirname(os.path.dirname(os.path.dirname(os.path.abspath(__file__))))
+sys.path.insert(0, os.path.join(TOP, 'fuzz'))

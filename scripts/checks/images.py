@@ -1,0 +1,89 @@
+"""Images, byte for byte, and that they do what their objects do."""
+import os
+import shutil
+import struct
+
+import plain_examples
+import zc_examples
+from plain_link import plain as plain_of
+from zc_link import zc as zc_of
+
+from checks import TOP
+from checks.harness import runs_of
+from checks.made_files import CERTIFICATE, LARGE, LARGE_IMAGE, THREE, THREE_IMAGE, image_of, long_code, object_of
+
+
+def stored_run(group):
+    """the stored run's files, byte for byte"""
+    with open(os.path.join(TOP, 'crates/zcld/args'), encoding='utf-8') as file:
+        words = file.read().splitlines()
+    folder = group.folder()
+    data = os.path.join(TOP, 'crates/zcld/data')
+    for name in os.listdir(data):
+        shutil.copy(os.path.join(data, name), folder.place)
+    group.ends('the stored run', folder.run(words), 0, '')
+    group.same('OUT', folder.read(words[words.index('--out') + 1]), THREE_IMAGE)
+    group.same('CERT', folder.read(words[words.index('--cert') + 1]), CERTIFICATE)
+    # code may take 256 KiB, with its alignment of 4
+    folder = group.folder(large=LARGE, most=object_of(long_code(65535)), more=object_of(long_code(65536)))
+    group.done('large code', folder.link('large'), folder, image=LARGE_IMAGE)
+    group.done('the most code', folder.link('most'), folder, image=image_of(long_code(65535)))
+    group.ends('more code', folder.link('more'), 121, 'refused 0 17 TooLarge')
+
+
+def programs():
+    """What each program is, its files, its input, its status, what it writes, and the length of its text that `zc` makes."""
+    return (('three', [THREE], b'', 3, b'', 10), ('hello', plain_examples.hello(), b'', 0, b'hi\n', 40),
+            ('jump table', plain_examples.jump_table(), b'', 7, b'', 4490),
+            *(('echo', plain_examples.echo(), given, 0, given[:4], 38) for given in (b'', b'ab', b'abcdef')))
+
+
+def plain_images(group):
+    """plain images, byte for byte, and that they do what their objects do"""
+    for what, files, given, status, out, _ in programs():
+        folder, names = group.linked_plainly(what, files)
+        group.both_exit(what, folder, names, status, out, given)
+    rows = (('hello', plain_examples.hello(), 15, 0, 64), ('jump table', plain_examples.jump_table(), 4, 7, 4492),
+            ('echo', plain_examples.echo(), 12, 0, 48))
+    for what, files, steps, status, length in rows:
+        folder, names = group.linked_plainly(what, files)
+        group.same(f'{what}: the text', plain_of(files)[1], length)
+        for most, end in ((steps, status), (steps - 1, 127)):
+            group.same(f'{what}: {most} steps', folder.run(('trace', '--steps', str(most), *names)).status, end)
+    for what, files, status in plain_examples.accepted():
+        folder, names = group.linked_plainly(what, files)
+        if status is not None:
+            group.both_exit(what, folder, names, status)
+
+
+def linker_names(group):
+    """what the linker's names stand for"""
+    files, words = plain_examples.linker_names()
+    out = struct.pack(f'<{len(words)}I', *words)
+    plainly, names = group.linked_plainly('plain', files)
+    for what, ended in runs_of(plainly, group.linked_small('zc', files), names):
+        group.exits(f'{what}: the words', ended, 0, out)
+
+
+def zc_images(group):
+    """images of `zc`, byte for byte, and that they do what their objects do"""
+    for what, files, given, status, out, length in programs():
+        folder = group.linked_small(what, files)
+        group.same(f'{what}: the text', zc_of(files)[1], length)
+        group.exits(f'{what}, run', folder.run(('run', 'out'), given), status, out)
+    for what, made, written in zc_examples.forms():
+        text = text_of(group.linked_small(what, [made.bytes()]).read('out'))
+        for at, wanted in written.items():
+            group.same(f'{what}, at {at}', text[at:at + len(wanted) // 2].hex(), wanted)
+        group.same(f'{what}: the text', len(text), zc_examples.LENGTHS.get(what, len(text)))
+    runs = [(what, [made.bytes()], status) for what, made, status in zc_examples.runs()]
+    for what, files, status in [*runs, *plain_examples.accepted()]:
+        folder = group.linked_small(what, files)
+        if status is not None:
+            group.exits(f'{what}, run', folder.run(('run', 'out')), status)
+
+
+def text_of(image):
+    """The bytes of an image's text: those of its first segment."""
+    at, size = struct.unpack_from('<I8xI', image, 56)
+    return image[at:at + size]

@@ -1,0 +1,85 @@
+"""Small objects and images, as docs/FORMATS.md has them, and what a link of them leaves."""
+import struct
+
+import plain_examples
+from made_objects import A0, A1, A2, A7, ECALL, SP, T0, ZERO, addi, branch, jal
+from object_data import TEXT_AT
+from written_image import image_bytes
+
+MIB = 1 << 20
+CERTIFICATE = b'zcld certificate 1\nprice 0 0 0\nnet 0\nend\n'
+OLD = b'what was there'
+# The flag of an image that may have short forms, and the numbers of calls.
+COMPRESSED = 1
+READ, WRITE = 63, 64
+
+
+def words_of(*words):
+    return struct.pack(f'<{len(words)}I', *words)
+
+
+def object_of(code, name=b'_start'):
+    """An object whose code is in section 1, with a global symbol where it begins."""
+    made, text = plain_examples.object_with(name=name)
+    text.content += code
+    return made.bytes()
+
+
+def image_of(text, sizes=None):
+    """The image whose text has instructions of these sizes, from words of 4 bytes each. Without sizes each word is kept."""
+    return image_of_several([text], [sizes or (4,) * (len(text) // 4)], 0)
+
+
+def image_of_several(texts, sizes, entry):
+    """The same of section 1 of each of several objects; the entry is so many bytes into the text."""
+    at, places = TEXT_AT, {}
+    for i, sizes_of_one in enumerate(sizes):
+        for k, size in enumerate((*sizes_of_one, 0)):
+            places[i, 1, 4 * k] = at
+            at += size
+    return image_bytes(b''.join(texts), places, b'', 0, TEXT_AT + entry, COMPRESSED)
+
+
+# ---- programs that exit
+
+EXIT = words_of(*plain_examples.EXIT)
+
+
+def exit_code(status):
+    return words_of(addi(A0, ZERO, status)) + EXIT
+
+
+def long_code(words):
+    """So many words, none of which has a short form, with an exit at the end."""
+    return words_of(*[addi(T0, T0, 100)] * (words - 3)) + exit_code(503)
+
+
+THREE, OTHER = object_of(exit_code(3)), object_of(exit_code(4), b'other')
+# "c.li a0,3" and "c.li a0,4" (Zca), and the rest as it is
+THREE_TEXT, OTHER_TEXT = bytes.fromhex('0d45') + EXIT, bytes.fromhex('1145') + EXIT
+SHORT_SIZES = 2, 4, 4
+THREE_IMAGE = image_of(THREE_TEXT, SHORT_SIZES)
+LARGE, LARGE_IMAGE = object_of(long_code(16384)), image_of(long_code(16384))
+
+
+# ---- programs that read and write
+
+
+def call_of_stack(number, descriptor, size, offset=0):
+    """A call for so many bytes of the stack, from an offset of sp on."""
+    return addi(A0, ZERO, descriptor), addi(A1, SP, offset), addi(A2, ZERO, size), addi(A7, ZERO, number), ECALL
+
+
+READ_WORDS = call_of_stack(READ, 0, 1024)
+
+
+def write_words(stream):
+    """A write of as many bytes as were read."""
+    return addi(A2, A0), addi(A0, ZERO, stream), addi(A7, ZERO, WRITE), ECALL
+
+
+# In a loop: the whole input is copied to standard output, and then the exit has the status 0.
+COPY_CODE = words_of(addi(SP, SP, -1024), *READ_WORDS, branch(0, A0, ZERO, 24), *write_words(1), jal(ZERO, -40)) + EXIT
+COPY, COPY_IMAGE = object_of(COPY_CODE), image_of(COPY_CODE)
+# Straight code: what is read first goes to standard output, what is read then to standard error.
+TWICE = object_of(words_of(addi(SP, SP, -1024), *READ_WORDS, *write_words(1), *READ_WORDS, *write_words(2)) + exit_code(0))
