@@ -19,7 +19,7 @@ use std::alloc::{AllocError, Global};
 use zc_base::place::Place;
 
 /// The words of all code, by object and section.
-#[derive(Debug, Drop)]
+#[derive(Drop)]
 pub struct Code {
     pub words: Vec<Vec<Words<CodeWord>>>,
 }

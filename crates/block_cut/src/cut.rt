@@ -32,7 +32,7 @@ use zc_base::counts::Counts;
 use zc_base::place::Place;
 
 /// The objects of a link without a fault, with their code cut into items. No look-up decodes a word.
-#[derive(Debug, Drop)]
+#[derive(Drop)]
 pub struct Cut {
     objects: Objects,
     text: Text,
@@ -195,6 +195,3 @@ fn start_only(text: &Text, target: Target) -> Option<Place>
         Some(_) => Some(p),
     }
 }
-
-#[cfg(test)]
-mod tests;

@@ -22,7 +22,7 @@ use zc_base::fields::u32_at;
 use zc_base::place::Place;
 
 /// Where code ends in the plain layout, and how many items it has.
-#[derive(Clone, Copy, PartialEq, Eq, Debug)]
+#[derive(Clone, Copy)]
 pub struct Extent {
     pub end: u32,
     pub count: u32,

@@ -21,7 +21,7 @@ use std::alloc::{AllocError, Global};
 /// PC-relative pairs stand, each in ascending order. A field has bytes: NONE, RELAX and types that aren't
 /// known have none. If each relocation's field begins where those before it have ended, as compilers write
 /// them, `end` is where the last one ends.
-#[derive(Debug, Drop)]
+#[derive(Drop)]
 pub struct Fields {
     pub starts: Vec<u64>,
     pub ends: Vec<u64>,

@@ -22,7 +22,7 @@ use zc_base::reg::Reg;
 ///
 /// The instruction of a `Branch` or `Jump` has its operation and its registers. Its distance is 0, since
 /// the place says where it goes.
-#[derive(Clone, Copy, PartialEq, Eq, Debug)]
+#[derive(Clone, Copy)]
 pub enum Item {
     Op(Instr),
     Hi(Instr, Target),

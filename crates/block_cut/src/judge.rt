@@ -88,6 +88,3 @@ pub fn judge_relocs(alloc: Global, objects: &Objects, code: &Code) -> Result<(),
     }
     Ok(())
 }
-
-#[cfg(test)]
-pub mod tests;

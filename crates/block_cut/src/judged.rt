@@ -21,7 +21,7 @@ use psabi_sym::objects::Objects;
 use psabi_sym::target::Target;
 
 /// A section of one of the objects, by its object's index and its own, with what its relocations change.
-#[derive(Debug, Drop)]
+#[derive(Drop)]
 pub struct Judged<'a> {
     pub object: u16,
     pub index: u16,

@@ -12,7 +12,7 @@ use std::collections::BTreeSet;
 use zc_base::place::Place;
 
 /// Some places in code. Those at words are marked, and all others are in a set: only symbols lead there.
-#[derive(Debug, Drop)]
+#[derive(Drop)]
 pub struct Leaders {
     pub objects: Vec<ObjectMarks>,
     pub others: BTreeSet<Place>,

@@ -9,7 +9,7 @@ use std::alloc::{AllocError, Global};
 use std::marker::Model;
 
 /// Which words of a section of code are marked, with its end at last; none of another section.
-#[derive(Debug, Drop)]
+#[derive(Drop)]
 pub struct Marks {
     marks: Vec<bool>,
 }
@@ -55,7 +55,7 @@ impl Marks {
 }
 
 /// Which words of the sections of an object are marked.
-#[derive(Debug, Drop)]
+#[derive(Drop)]
 pub struct ObjectMarks {
     sections: Vec<Marks>,
 }

@@ -17,7 +17,7 @@ use psabi_sym::objects::Objects;
 use std::alloc::{AllocError, Global};
 
 /// A section with what its relocations change: whether it is code, its size in memory, and its content.
-#[derive(Debug, Drop)]
+#[derive(Drop)]
 pub struct Relocated<'a> {
     pub is_code: bool,
     pub size: u32,

@@ -24,7 +24,7 @@ use std::alloc::{AllocError, Global};
 use zc_base::place::Place;
 
 /// The words of all code, by object and section, and how far it comes.
-#[derive(Debug, Drop)]
+#[derive(Drop)]
 pub struct Text {
     pub words: Vec<Vec<Words<TextWord>>>,
     pub extent: Extent,

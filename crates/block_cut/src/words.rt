@@ -5,7 +5,7 @@ ghost use Rattle.std.specs.Prelude.{◌≡◌};
 use std::marker::Model;
 
 /// What stands at each word of a section of code, with its end at last; none of another section.
-#[derive(Debug, Drop)]
+#[derive(Drop)]
 pub struct Words<W> {
     words: Vec<W>,
 }

@@ -11,7 +11,7 @@ use std::marker::Model;
 
 /// The objects of a link with their code cut into items, and the groups of items that are written
 /// together.
-#[derive(Debug, Drop)]
+#[derive(Drop)]
 pub struct Planned {
     cut: Cut,
     groups: Vec<Group>,

@@ -1,9 +1,7 @@
 -- Numbers rise with places: a place that comes later has no lesser number, and one that comes after an item, or lies in a later
 -- section, a greater one.
-use Rattle.std.proofs.Common.{◌≡◌, ◌+◌, ◌<◌, ◌≤◌, ◌⊎◌, List, ◌∷◌, length, Bool, true, cond, false, Some, refl, sym, ap, ◌∙◌, arith, eqb, ltb, inl, inr}
-use Rattle.std.specs.Prelude.{◌&&◌, ◌||◌}
+use Rattle.std.proofs.Common.{◌≡◌, ◌+◌, ◌<◌, ◌≤◌, ◌⊎◌, List, ◌∷◌, length, true, cond, Some, sym, ap, ◌∙◌, arith, ltb}
 use Rattle.std.specs.List.{sum_by}
-use Rattle.std.proofs.lemmas.Bool.{eqb-true, ltb-true}
 use Rattle.std.proofs.lemmas.List.Sums.{sum_by-append, sum_by-cons}
 use Rattle.zc_base.specs.Places.{is_before}
 use Rattle.zc_base.specs.declared.place.Place.{Place}
@@ -14,36 +12,10 @@ use Rattle.block_cut.specs.Items.{code_at, item_at, starts_in}
 use Rattle.block_cut.specs.declared.item.Item.{Item}
 use Rattle.block_cut.proofs.ItemLaws.{item_found}
 use Rattle.block_cut.proofs.ListedLaws.{between, listed}
+use Rattle.block_cut.proofs.PlaceOrder.{IsOrdered, Earlier, Within, ordered}
 use Rattle.block_cut.proofs.WholeLaws.{code_is_section}
 use Rattle.shrink_layout.specs.Pieces.{number_of, piece_count, pieces_before}
 use Rattle.shrink_layout.proofs.NumberLaws.{below_more, below_rises, filter_few, number-code}
-
--- ---- an order of two places
-
--- in an earlier section, or before it in the same one
-pub data IsOrdered (q r : Place) : Type 0 where
-  Earlier : (q.object < r.object) ⊎ ((q.object ≡ r.object) × (q.section < r.section)) → IsOrdered q r
-  Within : q.object ≡ r.object → q.section ≡ r.section → q.offset < r.offset → IsOrdered q r
-
--- two places are ordered if one comes before the other
-pub ordered : (q r : Place) → is_before q r ≡ true → IsOrdered q r
-ordered q r is = objects (ltb q.object r.object) refl is
-  where
-    offsets : q.object ≡ r.object → (e : Bool) → eqb q.section r.section ≡ e → (e && ltb q.offset r.offset) ≡ true → IsOrdered q r
-    offsets same true e is = Within same (eqb-true q.section r.section e) (ltb-true q.offset r.offset is)
-    offsets same false e is = absurd cc
-
-    sections : q.object ≡ r.object → (b : Bool) → ltb q.section r.section ≡ b → (b || (eqb q.section r.section && ltb q.offset r.offset)) ≡ true → IsOrdered q r
-    sections same true lt is = Earlier (inr (same, ltb-true q.section r.section lt))
-    sections same false lt is = offsets same (eqb q.section r.section) refl is
-
-    equal : (e : Bool) → eqb q.object r.object ≡ e → (e && (ltb q.section r.section || (eqb q.section r.section && ltb q.offset r.offset))) ≡ true → IsOrdered q r
-    equal true e is = sections (eqb-true q.object r.object e) (ltb q.section r.section) refl is
-    equal false e is = absurd cc
-
-    objects : (b : Bool) → ltb q.object r.object ≡ b → (b || (eqb q.object r.object && (ltb q.section r.section || (eqb q.section r.section && ltb q.offset r.offset)))) ≡ true → IsOrdered q r
-    objects true lt is = Earlier (inl (ltb-true q.object r.object lt))
-    objects false lt is = equal (eqb q.object r.object) refl is
 
 -- ---- numbers
 

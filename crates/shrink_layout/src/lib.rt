@@ -10,7 +10,7 @@ mod part_size;
 pub mod piece;
 mod pieces;
 mod round;
-pub mod rounds;
+mod rounds;
 pub mod settled;
 mod text_part;
 mod walk;

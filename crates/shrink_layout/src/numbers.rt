@@ -16,7 +16,7 @@ use rv_decode::instr::Instr;
 use zc_base::place::Place;
 
 /// How many pieces stand before each word of code, by object and section.
-#[derive(Debug, Drop)]
+#[derive(Drop)]
 pub struct Numbers {
     pub words: Vec<Vec<WordNumbers>>,
 }

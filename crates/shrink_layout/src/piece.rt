@@ -15,7 +15,7 @@ use psabi_reloc::reaches::{branch_reaches, short_branch_reaches, short_jump_reac
 /// | `Jump` | a jump or a call that has a form of two bytes |
 ///
 /// `to` counts the pieces before the target.
-#[derive(Clone, Copy, PartialEq, Eq, Debug)]
+#[derive(Clone, Copy)]
 pub enum Piece {
     Fixed { size: u32 },
     Align { alignment: u32 },

@@ -14,7 +14,7 @@ use block_cut::cut::Cut;
 use std::alloc::{AllocError, Global};
 
 /// The pieces of all code, and how many of them stand before each place.
-#[derive(Debug, Drop)]
+#[derive(Drop)]
 pub struct Numbered {
     pub pieces: Vec<Piece>,
     pub numbers: Numbers,

@@ -15,7 +15,7 @@ use crate::round::grow;
 use std::alloc::{AllocError, Global};
 
 /// The size of each piece, and the address of each piece and of the end.
-#[derive(Debug, Drop)]
+#[derive(Drop)]
 pub struct Rounds {
     pub sizes: Vec<u32>,
     pub addresses: Vec<u32>,
@@ -101,6 +101,3 @@ pub fn settle_pieces(alloc: Global, text: u32, pieces: &[Piece]) -> Result<Round
     );
     Ok(Rounds { sizes, addresses })
 }
-
-#[cfg(test)]
-mod tests;

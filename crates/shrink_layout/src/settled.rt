@@ -19,7 +19,7 @@ use zc_base::counts::Counts;
 use zc_base::place::Place;
 
 /// The layout of objects' code that is made smaller.
-#[derive(Debug, Drop)]
+#[derive(Drop)]
 pub struct Settled {
     planned: Planned,
     numbers: Numbers,
@@ -29,7 +29,7 @@ pub struct Settled {
 }
 
 // What is kept of a layout beside the objects.
-#[derive(Debug, Drop)]
+#[derive(Drop)]
 struct Kept {
     numbers: Numbers,
     sizes: Vec<u32>,
@@ -189,6 +189,3 @@ impl Settled {
         &self.planned
     }
 }
-
-#[cfg(test)]
-mod tests;

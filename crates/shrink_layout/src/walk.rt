@@ -17,7 +17,7 @@ use std::alloc::{AllocError, Global};
 use zc_base::place::Place;
 
 /// What stands in the text in its order, and the number of each place.
-#[derive(Debug, Drop)]
+#[derive(Drop)]
 pub struct Walked {
     pub parts: Vec<TextPart>,
     pub numbers: Numbers,

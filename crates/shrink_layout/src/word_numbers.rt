@@ -6,7 +6,7 @@ use std::marker::Model;
 
 /// How many pieces stand before each word of a section of code, and before its end; none of another
 /// section.
-#[derive(Debug, Drop)]
+#[derive(Drop)]
 pub struct WordNumbers {
     words: Vec<u32>,
 }

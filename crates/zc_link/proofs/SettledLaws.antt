@@ -1,9 +1,8 @@
 -- The settled layout is a layout of the code (`settled_is_laid_out`): an item lies between its place and the next in a form that it may
 -- have there (`settled_lies`), and items with room of their own have addresses of their own, since numbers rise with places
 -- (`settled_distinct`).
-use Rattle.std.proofs.Common.{◌≡◌, ℕ, ◌+◌, ◌<◌, ◌≤◌, ◌⊎◌, List, length, get_or, Bool, true, Option, Some, None, refl, sym, ap, ◌∙◌, subst, arith, eqb, ltb, eq-eqb, inl, inr}
-use Rattle.std.specs.Prelude.{slice_index, ◌&&◌, ◌||◌}
-use Rattle.std.proofs.lemmas.Bool.{cases_lt, le-ltb, lt-ltb}
+use Rattle.std.proofs.Common.{◌≡◌, ℕ, ◌+◌, ◌<◌, List, length, get_or, true, Option, Some, None, refl, sym, ap, ◌∙◌, subst, arith, inl, inr}
+use Rattle.std.specs.Prelude.{slice_index}
 use Rattle.std.proofs.lemmas.Option.{get_or_from_slice_get}
 use Rattle.zc_base.specs.MemMap.{IsMap}
 use Rattle.zc_base.specs.Places.{is_before}
@@ -16,6 +15,7 @@ use Rattle.block_cut.specs.Faults.{first_fault}
 use Rattle.block_cut.specs.Items.{item_at}
 use Rattle.block_cut.specs.declared.item.Item.{Item}
 use Rattle.block_cut.proofs.ItemLaws.{item_found}
+use Rattle.block_cut.proofs.PlaceOrder.{same_or_before}
 use Rattle.sym_machine.specs.Conditions.{is_solid}
 use Rattle.shrink_layout.specs.declared.piece.Piece.{Piece}
 use Rattle.shrink_layout.specs.declared.piece.Piece.TheVariants.{Fixed}
@@ -31,45 +31,6 @@ use Rattle.zc_link.specs.LaidOut.{IsLaidOut, LiesAt, text_end}
 use Rattle.zc_link.proofs.SettledLawsForms.{IsNear, has_form, width_some}
 use Rattle.zc_link.proofs.SettledLawsPlaces.{address, address_rises, end_settled, forms, settled_begins, settled_even, settled_few, settled_here, settled_high, settled_listed, settled_low, settled_short}
 use Rattle.zc_link.proofs.SettledLawsShort.{kind_at}
-
--- ---- two places
-
--- one comes before the other, by their first parts or, if these are equal, by the rest
-by_parts : (a b : ℕ) (less more : Bool) (S : Type 0) → (a ≡ b → (less ≡ true) ⊎ ((more ≡ true) ⊎ S))
-    → ((ltb a b || (eqb a b && less)) ≡ true) ⊎ (((ltb b a || (eqb b a && more)) ≡ true) ⊎ S)
-by_parts a b less more S rest = first (cases_lt a b) (cases_lt b a)
-  where
-    equal : (m n : ℕ) (x : Bool) → m ≡ n → x ≡ true → (ltb m n || (eqb m n && x)) ≡ true
-    equal m n x same is = (λ j. le-ltb m n (omega (arith, same)) j || (eq-eqb m n same j && is j))
-
-    last :
-        a ≡ b → (less ≡ true) ⊎ ((more ≡ true) ⊎ S)
-        → ((ltb a b || (eqb a b && less)) ≡ true) ⊎ (((ltb b a || (eqb b a && more)) ≡ true) ⊎ S)
-    last same (inl is) = inl (equal a b less same is)
-    last same (inr (inl is)) = inr (inl (equal b a more (sym same) is))
-    last same (inr (inr s)) = inr (inr s)
-
-    first : (a < b) ⊎ (b ≤ a) → (b < a) ⊎ (a ≤ b) → ((ltb a b || (eqb a b && less)) ≡ true) ⊎ (((ltb b a || (eqb b a && more)) ≡ true) ⊎ S)
-    first (inl lt) other = inl (ap (λ t. t || (eqb a b && less)) (lt-ltb a b lt))
-    first (inr le) (inl lt) = inr (inl (ap (λ t. t || (eqb b a && more)) (lt-ltb b a lt)))
-    first (inr le) (inr ge) = let same : a ≡ b = omega (arith, le, ge) in last same (rest same)
-
--- two places are one, or one of them comes before the other
-same_or_before : (q r : Place) → (is_before q r ≡ true) ⊎ ((is_before r q ≡ true) ⊎ (q ≡ r))
-same_or_before q r =
-    by_parts q.object r.object _ _ (q ≡ r) (λ object.
-    by_parts q.section r.section (ltb q.offset r.offset) (ltb r.offset q.offset) (q ≡ r) (λ section.
-    offsets object section (cases_lt q.offset r.offset) (cases_lt r.offset q.offset)))
-  where
-    offsets :
-        q.object ≡ r.object → q.section ≡ r.section → (q.offset < r.offset) ⊎ (r.offset ≤ q.offset)
-        → (r.offset < q.offset) ⊎ (q.offset ≤ r.offset)
-        → (ltb q.offset r.offset ≡ true) ⊎ ((ltb r.offset q.offset ≡ true) ⊎ (q ≡ r))
-    offsets object section (inl lt) other = inl (lt-ltb q.offset r.offset lt)
-    offsets object section (inr le) (inl lt) = inr (inl (lt-ltb r.offset q.offset lt))
-    offsets object section (inr le) (inr ge) =
-        let offset : q.offset ≡ r.offset = omega (arith, le, ge) in
-        inr (inr (λ j. record { object = object j; section = section j; offset = offset j }))
 
 module _
     (inputs : Inputs) (none : gather_fault inputs ≡ None) (is_map : IsMap inputs.map)

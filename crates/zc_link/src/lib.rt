@@ -1,8 +1,6 @@
 //! The links of objects to images, which do what the objects' program does.
 #![tactic(auto)]
 
-#[cfg(test)]
-mod fixture;
 mod image;
 mod item;
 mod layout;

@@ -4,7 +4,7 @@ use std::marker::Model;
 use zc_base::counts::Counts;
 
 /// What a link gives: the file of the image, and what the plain layout and the image count.
-#[derive(Debug, Drop)]
+#[derive(Drop)]
 pub struct Linked {
     pub elf: Vec<u8>,
     pub plain: Counts,

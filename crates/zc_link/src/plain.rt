@@ -28,6 +28,3 @@ pub fn link_plain(alloc: Global, objects: Objects) -> Result<Linked, LinkFault>
         zc: counts,
     })
 }
-
-#[cfg(test)]
-mod tests;

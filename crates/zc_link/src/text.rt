@@ -38,7 +38,7 @@ const NOP: u32 = 0x13;
 const SHORT_NOP: u16 = 0x1;
 
 /// A text, and the address of each place in it.
-#[derive(Debug, Drop)]
+#[derive(Drop)]
 pub struct Text {
     pub text: Vec<u8>,
     pub places: Vec<(Place, u32)>,

@@ -34,6 +34,3 @@ pub fn link_zc(alloc: Global, objects: Objects) -> Result<Linked, LinkFault>
         zc: settled.counts(),
     })
 }
-
-#[cfg(test)]
-mod tests;

@@ -1,0 +1,190 @@
+// What objects are cut into, told by lines of text.
+
+use crate::objects::{files_of, numbers_of};
+use block_cut::cut::Cut;
+use block_cut::item::Item;
+use elf32_read::fault::Fault;
+use frame_match::planned::plan;
+use psabi_sym::link_fault::LinkFault;
+use psabi_sym::objects::Objects;
+use psabi_sym::target::Target;
+use rv_decode::instr::Instr;
+use shrink_layout::settled::settle;
+use std::alloc::{AllocError, Global};
+use std::process::Abort;
+use std::test::Fail;
+use zc_base::mem_map::MemMap;
+use zc_base::place::Place;
+
+// A place by its object, section and offset.
+fn place_of(alloc: Global, text: &str) -> Result<Place, Fail> {
+    let numbers = numbers_of(alloc, text)?;
+    let [object, section, offset] = numbers.as_slice() else {
+        return Err("no place".into());
+    };
+    Ok(Place {
+        object: u16::try_from(*object)?,
+        section: u16::try_from(*section)?,
+        offset: u32::try_from(*offset)?,
+    })
+}
+
+fn place_text(alloc: Global, p: Place) -> Result<String, AllocError> {
+    format!(in alloc; "{}:{}:{}", p.object, p.section, p.offset)
+}
+
+fn target_text(alloc: Global, target: Target) -> Result<String, AllocError> {
+    match target {
+        Target::Code(p) => format!(in alloc; "code {}", place_text(alloc, p)?),
+        Target::Number(number) => format!(in alloc; "number {number}"),
+        Target::Absent(number) => format!(in alloc; "absent {number}"),
+        Target::Nowhere => format!(in alloc; "nowhere"),
+    }
+}
+
+// An item of one instruction with what it leads to.
+fn instr_text(alloc: Global, name: &str, instr: Instr, to: String) -> Result<String, AllocError> {
+    format!(in alloc; "{name} {instr:?} {to}")
+}
+
+fn item_text(alloc: Global, item: Item) -> Result<String, AllocError> {
+    match item {
+        Item::Op(instr) => format!(in alloc; "Op {instr:?}"),
+        Item::Hi(instr, to) => instr_text(alloc, "Hi", instr, target_text(alloc, to)?),
+        Item::Lo(instr, to) => instr_text(alloc, "Lo", instr, target_text(alloc, to)?),
+        Item::PcHi(instr, to) => instr_text(alloc, "PcHi", instr, target_text(alloc, to)?),
+        Item::PcLo(instr, to) => instr_text(alloc, "PcLo", instr, place_text(alloc, to)?),
+        Item::Branch(instr, to) => instr_text(alloc, "Branch", instr, place_text(alloc, to)?),
+        Item::Jump(instr, to) => instr_text(alloc, "Jump", instr, place_text(alloc, to)?),
+        Item::Call { rd, temp, to } => {
+            let to = place_text(alloc, to)?;
+            format!(in alloc; "Call x{} x{} {to}", rd.number(), temp.number())
+        }
+        Item::Align(bytes) => format!(in alloc; "Align {bytes}"),
+        Item::Word(to) => format!(in alloc; "Word {}", target_text(alloc, to)?),
+        Item::Raw(word) => format!(in alloc; "Raw {word}"),
+        Item::RawPair(first, second) => format!(in alloc; "RawPair {first} {second}"),
+    }
+}
+
+// The next place's offset and the item, if one starts there.
+fn next_text(alloc: Global, cut: &Cut, p: Place) -> Result<String, Fail> {
+    match (cut.item(p), cut.next(p)) {
+        (Some(item), Some(next)) => {
+            Ok(format!(in alloc; "{} {}", next.offset, item_text(alloc, item)?)?)
+        }
+        _ => Ok(format!(in alloc; "none")?),
+    }
+}
+
+// What the plain layout counts, and how far places lie from the text's start.
+fn layout_text(alloc: Global, cut: &Cut, places: &str) -> Result<String, Fail> {
+    let counts = cut.counts();
+    let mut text = format!(in alloc; "{} {}", counts.text, counts.items)?;
+    for place in places.split_whitespace() {
+        let distance = match cut.plain_address(place_of(alloc, place)?) {
+            None => format!(in alloc; " none")?,
+            Some(address) => {
+                format!(in alloc; " {}", address.wrapping_sub(MemMap::standard().text))?
+            }
+        };
+        text.push_str(distance.as_str())?;
+    }
+    Ok(text)
+}
+
+// The offsets of a section of the first object, up to 60, at which basic blocks begin.
+fn blocks_text(alloc: Global, cut: &Cut, section: u16) -> Result<String, Fail> {
+    let mut text = String::new(alloc);
+    for offset in 0..60 {
+        let p = Place {
+            object: 0,
+            section,
+            offset,
+        };
+        if cut.leader(p) {
+            text.push_str(format!(in alloc; " {offset}")?.as_str())?;
+        }
+    }
+    Ok(text)
+}
+
+// The words of data that hold addresses.
+fn data_text(alloc: Global, cut: &Cut) -> Result<String, Fail> {
+    let mut text = String::new(alloc);
+    for word in cut.data_words() {
+        let target = target_text(alloc, word.target)?;
+        text.push_str(format!(in alloc; "{:x} {target} ", word.at)?.as_str())?;
+    }
+    Ok(text)
+}
+
+// The bytes of the item at an offset of section 1, how far another lies from the text's start, and the counts.
+fn settled_text(alloc: Global, cut: Cut, offsets: &str) -> Result<String, Fail> {
+    let settled = settle(alloc, plan(alloc, cut)?)?;
+    let (at, to) = offsets.split_once(':').ok_or("no offsets")?;
+    let text = MemMap::standard().text;
+    let size = settled.size(place_of(alloc, format!(in alloc; "0:1:{at}")?.as_str())?);
+    let address = settled.address(place_of(alloc, format!(in alloc; "0:1:{to}")?.as_str())?);
+    let counts = settled.counts();
+    Ok(format!(in alloc;
+        "{} {} {} {} {} {}",
+        size.unwrap_or(99),
+        address.unwrap_or(0).wrapping_sub(text),
+        settled.text_end().wrapping_sub(text),
+        counts.items,
+        counts.short,
+        counts.long
+    )?)
+}
+
+fn fault_text(alloc: Global, fault: LinkFault) -> Result<String, Fail> {
+    let LinkFault::Object { index, fault } = fault else {
+        return Err("no memory".into());
+    };
+    let name = fault.name();
+    match fault {
+        Fault::RelocKind { section, at }
+        | Fault::RelocPlace { section, at }
+        | Fault::LoPair { section, at }
+        | Fault::BadTarget { section, at }
+        | Fault::Range { section, at } => Ok(format!(in alloc; "{index} {name} {section}:{at}")?),
+        _ => Ok(format!(in alloc; "{index} {name}")?),
+    }
+}
+
+// What is asked of objects that are linked.
+fn told(alloc: Global, cut: Cut, question: &str) -> Result<String, Fail> {
+    let (word, rest) = question.split_once(' ').unwrap_or((question, ""));
+    match word {
+        "item" => next_text(alloc, &cut, place_of(alloc, rest)?),
+        "lies" => layout_text(alloc, &cut, rest),
+        "blocks" => blocks_text(alloc, &cut, rest.parse::<u16>()?),
+        "data" => data_text(alloc, &cut),
+        "settled" => settled_text(alloc, cut, rest),
+        _ => Ok(format!(in alloc; "linked")?),
+    }
+}
+
+// The fault of the objects with these changes, or what is asked of them.
+fn answer(alloc: Global, changes: &str, question: &str) -> Result<String, Fail> {
+    let files = files_of(alloc, changes)?;
+    let objects = Objects::gather(alloc, &files, MemMap::standard())?;
+    match Cut::new(alloc, objects) {
+        Err(fault) => fault_text(alloc, fault),
+        Ok(cut) => told(alloc, cut, question),
+    }
+}
+
+/// Each row should have its answer. It has the changes of the objects, a question after `@`, the answer after
+/// `=`, and what it shows after a stroke. Without a question it is whether the objects are linked.
+pub fn expect<R: Abort + AllocGlobal>(rt: &R, rows: &str) -> Result<(), Fail> {
+    for row in rows.trim().lines() {
+        let (cells, _what) = row.split_once('|').unwrap_or((row, ""));
+        let (given, want) = cells.split_once('=').ok_or("no answer")?;
+        let (changes, question) = given.split_once('@').unwrap_or((given, ""));
+        let found = answer(rt.alloc(), changes, question.trim())?;
+        assert_eq!(rt; found.as_str().trim(), want.trim(), "{row}");
+    }
+    Ok(())
+}

@@ -1,0 +1,18 @@
+//! Tests of the cut of code, its layout and the links. They stand apart, since a crate with tests is proved
+//! twice.
+#![tactic(auto)]
+
+#[cfg(test)]
+mod answers;
+#[cfg(test)]
+mod cut_rows;
+#[cfg(test)]
+mod cuts;
+#[cfg(test)]
+mod fault_rows;
+#[cfg(test)]
+mod faults;
+#[cfg(test)]
+mod links;
+#[cfg(test)]
+mod objects;

@@ -1,0 +1,150 @@
+// Objects that the tests change.
+//
+// The check proves each test, and pays there for each assertion and each row of a table. So files are
+// hexadecimal digits, and rows are lines of a text.
+
+use std::alloc::Global;
+use std::test::Fail;
+use zc_base::fields::put_u32;
+
+// Sections without names: 1 is code of twelve words, 2 code of two, 3 twelve bytes of data, 4 eight zeros,
+// 5 code of 304 bytes, those that the file begins with, and 6 is dropped. Section 1 is
+//
+//    0  auipc a0,0      12  lw a1,0(a1)       24  jal ra,0        36  nop
+//    4  addi a0,a0,0    16  sw a1,0(a0)       28  auipc ra,0      40  ecall
+//    8  lui a1,0        20  beq a0,a1,0       32  jalr ra,0(ra)   44  nop
+//
+// and section 2 is `auipc a0,0` and `nop`. Ten relocations follow each other, all of them NONE: 0 to 3
+// are of section 1, 4 of 2, 5 and 6 of 3, 7 of 4, and 8 and 9 of 5. Symbols: 1 is the start of section 1,
+// 2 its end, 3 the start of 2, 4 of 3, 5 the number 16, 6 in the dropped section, 7 at 8 in section 1, 8 is
+// `_start`, the start of section 1 as well, and 9 weak and undefined.
+const OBJECT: &str = "
+7f454c46 01010100 00000000 00000000 0100f300 01000000 00000000 00000000 a0010000 00000000 34000000
+00002800 0e000d00 17050000 13050500 b7050000 83a50500 2320b500 6300b500 ef000000 97000000 e7800000
+13000000 73000000 13000000 17050000 13000000 00000000 00000000 00000000 00000000 00000000 00000000
+00000000 00000000 00000000 00000000 00000000 00000000 00000000 00000000 00000000 00000000 00000000
+00000000 00000000 00000000 00000000 00000000 00000000 00000000 00000000 00000000 00000000 00000000
+00000000 00000000 00000000 00000000 00000000 00000000 00000000 00000000 00000000 00000000 00000000
+00000000 00000100 00000000 30000000 00000000 00000100 00000000 00000000 00000000 00000200 00000000
+00000000 00000000 00000300 00000000 10000000 00000000 0000f1ff 00000000 00000000 00000000 00000600
+00000000 08000000 00000000 00000100 01000000 00000000 00000000 10000100 08000000 00000000 00000000
+20000000 005f7374 61727400 7765616b 00000000 00000000 00000000 00000000 00000000 00000000 00000000
+00000000 00000000 00000000 00000000 00000000 01000000 06000000 00000000 34000000 30000000 00000000
+00000000 04000000 00000000 00000000 01000000 06000000 00000000 64000000 08000000 00000000 00000000
+04000000 00000000 00000000 01000000 03000000 00000000 6c000000 0c000000 00000000 00000000 04000000
+00000000 00000000 08000000 03000000 00000000 6c000000 08000000 00000000 00000000 04000000 00000000
+00000000 01000000 06000000 00000000 00000000 30010000 00000000 00000000 04000000 00000000 00000000
+01000000 00000000 00000000 00000000 04000000 00000000 00000000 04000000 00000000 00000000 04000000
+00000000 00000000 78000000 30000000 0c000000 01000000 04000000 0c000000 00000000 04000000 00000000
+00000000 a8000000 0c000000 0c000000 02000000 04000000 0c000000 00000000 04000000 00000000 00000000
+b4000000 18000000 0c000000 03000000 04000000 0c000000 00000000 04000000 00000000 00000000 cc000000
+0c000000 0c000000 04000000 04000000 0c000000 00000000 04000000 00000000 00000000 d8000000 18000000
+0c000000 05000000 04000000 0c000000 00000000 02000000 00000000 00000000 f0000000 a0000000 0d000000
+08000000 04000000 10000000 00000000 03000000 00000000 00000000 90010000 0d000000 00000000 00000000
+01000000 00000000
+";
+
+// How many bytes the object has, and where in it the relocations begin, and where the names of symbols 8 and 9
+// are told.
+const OBJECT_SIZE: usize = 976;
+
+const RELOCS: usize = 120;
+
+const START_NAME: usize = 368;
+
+const WEAK_NAME: usize = 384;
+
+/// The bytes of words of hexadecimal digits.
+pub fn bytes_of(alloc: Global, words: &str) -> Result<Vec<u8>, Fail> {
+    let mut bytes = Vec::new(alloc);
+    for word in words.split_whitespace() {
+        bytes.extend_from_slice(&u32::from_str_radix(word, 16)?.to_be_bytes())?;
+    }
+    Ok(bytes)
+}
+
+/// Numbers with a colon between.
+pub fn numbers_of(alloc: Global, text: &str) -> Result<Vec<i64>, Fail> {
+    let mut numbers = Vec::new(alloc);
+    for digits in text.trim().split(':') {
+        numbers.push(digits.parse::<i64>()?)?;
+    }
+    Ok(numbers)
+}
+
+// Writes a word, if the file has it.
+fn write_word(file: &mut [u8], at: usize, word: u32) -> Result<(), Fail> {
+    let length = file.len();
+    if at < length && length - at >= 4 {
+        put_u32(file, at, word);
+        Ok(())
+    } else {
+        Err(Fail::new("no word"))
+    }
+}
+
+// Puts a relocation into the place of one that is there: its number, offset, symbol, type and addend.
+fn put_reloc(file: &mut [u8], numbers: &[i64]) -> Result<(), Fail> {
+    let [number, offset, symbol, kind, addend] = numbers else {
+        return Err("no relocation".into());
+    };
+    let at = RELOCS + 12 * usize::from(u8::try_from(*number)?);
+    let info = u32::from(u8::try_from(*symbol)?) << 8 | u32::from(u8::try_from(*kind)?);
+    let addend = u32::from_le_bytes(i32::try_from(*addend)?.to_le_bytes());
+    write_word(file, at, u32::try_from(*offset)?)?;
+    write_word(file, at + 4, info)?;
+    write_word(file, at + 8, addend)
+}
+
+// Makes a change: `19*3` adds three words 19 at the file's end, `528:64` writes the word 64 at 528, and five
+// numbers are a relocation.
+fn change(alloc: Global, file: &mut Vec<u8>, text: &str) -> Result<(), Fail> {
+    if let Some((word, times)) = text.split_once('*') {
+        for _ in 0..times.parse::<u32>()? {
+            file.extend_from_slice(&word.parse::<u32>()?.to_le_bytes())?;
+        }
+        return Ok(());
+    }
+    let numbers = numbers_of(alloc, text)?;
+    match numbers.as_slice() {
+        [at, word] => write_word(
+            file,
+            usize::from(u16::try_from(*at)?),
+            u32::try_from(*word)?,
+        ),
+        _ => put_reloc(file, &numbers),
+    }
+}
+
+// Makes the words that were added section 1, and takes all other code away.
+fn leave_added(file: &mut [u8]) -> Result<(), Fail> {
+    let size = u32::try_from(file.len().saturating_sub(OBJECT_SIZE))?;
+    write_word(file, 472, OBJECT_SIZE as u32)?;
+    write_word(file, 476, size)?;
+    write_word(file, 516, 0)?;
+    write_word(file, 636, 0)
+}
+
+/// Two such objects with these changes, those of the second after a stroke each. There symbol 8 has another
+/// name, and 9 is the first's `_start`. With `alone` it is the first by itself, and its code is what was added.
+pub fn files_of(alloc: Global, changes: &str) -> Result<Vec<Vec<u8>>, Fail> {
+    let mut first = bytes_of(alloc, OBJECT)?;
+    let mut second = bytes_of(alloc, OBJECT)?;
+    write_word(&mut second, START_NAME, 2)?;
+    write_word(&mut second, WEAK_NAME, 1)?;
+    let mut alone = false;
+    for text in changes.split_whitespace() {
+        if text == "alone" {
+            alone = true;
+        } else if let Some(text) = text.strip_prefix("/") {
+            change(alloc, &mut second, text)?;
+        } else {
+            change(alloc, &mut first, text)?;
+        }
+    }
+    if alone {
+        leave_added(&mut first)?;
+        return Ok(vec![in alloc; first]?);
+    }
+    Ok(vec![in alloc; first, second]?)
+}
