@@ -7,6 +7,7 @@ use Rattle.std.specs.Option.{option_map, option_map_or, option_or}
 use Rattle.std.proofs.lemmas.Bool.{eq-eqb, ltb-false, or_parts}
 use Rattle.std.proofs.lemmas.List.{map-append}
 use Rattle.std.proofs.lemmas.List.Elements.{filter-append}
+use Rattle.std.proofs.lemmas.List.Sums.{fold-append}
 use Rattle.std.proofs.lemmas.Option.{slice_get_within}
 use Rattle.elf32_read.specs.Header.{header_of, section_count}
 use Rattle.elf32_read.specs.Kept.{has_flags, is_kept}
@@ -22,7 +23,7 @@ use Rattle.psabi_reloc.specs.declared.kind.RelocKind.{RelocKind}
 use Rattle.psabi_reloc.specs.declared.kind.RelocKind.TheVariants as kind
 use Rattle.psabi_sym.specs.Blocks.{aligned_up, end_from}
 use Rattle.psabi_sym.specs.Data.{address_in, blocks_in, blocks_of, class_end, class_of, class_start, data_address, data_end, end_after, is_code_at, is_of_class, has_class, role_of, section_block}
-use Rattle.psabi_sym.specs.Classes.{same_class}
+use Rattle.psabi_sym.specs.Classes.{classes_before, same_class}
 use Rattle.psabi_sym.specs.Faults.{first_some, gather_fault}
 use Rattle.psabi_sym.specs.Inputs.{Inputs, ParsedInputs, parsed}
 use Rattle.psabi_sym.specs.Listed.{all_sections, section_at, sections_before}
@@ -77,20 +78,40 @@ ends-ge : (objects : List ObjectParts) (at : ℕ) (cs : List DataClass) → at �
 ends-ge objects at [] = omega arith
 ends-ge objects at (c ∷ cs) = omega (arith, aligned_up-ge 16 at, end_from-ge (aligned_up 16 at) (blocks_of objects c), ends-ge objects (end_after objects at c) cs)
 
--- after classes, from the end of one on, all data end
-last : (inputs : ParsedInputs) (at : ℕ) (cs : List DataClass) → at ≤ end_from (aligned_up 16 (fold (end_after inputs.objects) at cs)) (blocks_of inputs.objects Common)
-last inputs at cs =
-    let end = fold (end_after inputs.objects) at cs in
-    omega (arith, ends-ge inputs.objects at cs, aligned_up-ge 16 end, end_from-ge (aligned_up 16 end) (blocks_of inputs.objects Common))
+-- the classes after one, before the common symbols
+abbrev later : DataClass → List DataClass
+later ReadOnly = Data ∷ SmallData ∷ SmallZero ∷ Zero ∷ []
+later Data = SmallData ∷ SmallZero ∷ Zero ∷ []
+later SmallData = SmallZero ∷ Zero ∷ []
+later SmallZero = Zero ∷ []
+later Zero = []
+later Common = []
 
-class_end-le : (inputs : ParsedInputs) (class : DataClass) → class_end inputs class ≤ data_end inputs
+all_classes : (class : DataClass) → same_class class Common ≡ false → classes_before class ++ class ∷ later class ≡ classes_before Common
+all_classes ReadOnly other = refl
+all_classes Data other = refl
+all_classes SmallData other = refl
+all_classes SmallZero other = refl
+all_classes Zero other = refl
+all_classes Common other = absurd cc
+
+-- the common symbols come last, so all data end no earlier than a class. What is said of any class says so at once: by each class,
+-- the check would compare chains of ends
+class_end-le : (inputs : ParsedInputs) (class : DataClass) → same_class class Common ≡ false → class_end inputs class ≤ data_end inputs
 unfolding class_end class_start
-class_end-le inputs ReadOnly = last inputs (class_end inputs ReadOnly) (Data ∷ SmallData ∷ SmallZero ∷ Zero ∷ [])
-class_end-le inputs Data = last inputs (class_end inputs Data) (SmallData ∷ SmallZero ∷ Zero ∷ [])
-class_end-le inputs SmallData = last inputs (class_end inputs SmallData) (SmallZero ∷ Zero ∷ [])
-class_end-le inputs SmallZero = last inputs (class_end inputs SmallZero) (Zero ∷ [])
-class_end-le inputs Zero = last inputs (class_end inputs Zero) []
-class_end-le inputs Common = omega arith
+class_end-le inputs class other =
+    let after = end_after inputs.objects in
+    let end = fold after inputs.map.data_low (classes_before Common) in
+    let same : fold after (class_end inputs class) (later class) ≡ end =
+    sym (fold-append after inputs.map.data_low (classes_before class) (class ∷ later class))
+    ∙ ap (fold after inputs.map.data_low) (all_classes class other) in
+    omega (
+      arith,
+      same,
+      ends-ge inputs.objects (class_end inputs class) (later class),
+      aligned_up-ge 16 end,
+      end_from-ge (aligned_up 16 end) (blocks_of inputs.objects Common),
+    )
 
 -- a class of sections has their room
 class_blocks : (objects : List ObjectParts) (class : DataClass) → same_class class Common ≡ false → blocks_of objects class ≡ blocks_in class (all_sections objects)
@@ -125,7 +146,7 @@ module _ (inputs : ParsedInputs) (o i : ℕ) (s : SectionParts) (found : section
 
   -- so no data lie after the end of all
   pub data_fits : (class : DataClass) → role_of s ≡ InClass class → address_in inputs o i s class + s.size ≤ data_end inputs
-  data_fits class role = omega (arith, in_class class role, class_end-le inputs class)
+  data_fits class role = omega (arith, in_class class role, class_end-le inputs class (not_common s class role))
 
   -- ---- relocations without a fault
 
