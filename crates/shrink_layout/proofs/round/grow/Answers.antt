@@ -14,6 +14,12 @@ one_false : (b c : Bool) → (b && c) ≡ false → (b ≡ false) ⊎ (c ≡ fal
 one_false true c e = inr e
 one_false false c e = inl refl
 
+pub grow_block-tested-requires-clause-near : goal.grow_block-tested-requires-clause-near
+grow_block-tested-requires-clause-near c = c.requires.near
+
+pub grow_block-tested-requires-clause-targets : goal.grow_block-tested-requires-clause-targets
+grow_block-tested-requires-clause-targets c = c.requires.targets
+
 pub loop-block-preserved : goal.loop-block-preserved
 loop-block-preserved c =
     let a = c.args.addresses.now in

@@ -24,6 +24,9 @@ returns-then-not-is_code-clause-so_far c =
     let other = ap (λ x. option_map_or is_code_section x false) (sym found) ∙ sym (ap (λ x. is_code_at (parsed x).objects o i) c.objects.ensures.same) ∙ sym c.is_code.ensures ∙ c.if-not-is_code.true in
     c.requires.so_far ∙ other_adds (parsed inputs) o i (section_parts file i) found other
 
+pub section_entry-section-requires : goal.section_entry-section-requires
+section_entry-section-requires c = omega (arith, c.from.ensures, c.requires.section)
+
 pub loop-k-init : goal.loop-k-init
 loop-k-init c =
     let inputs = c.args.cut.now in
