@@ -99,6 +99,9 @@ loop-k-init c =
 pub rela-reloc-requires-clause-rela : goal.rela-reloc-requires-clause-rela
 rela-reloc-requires-clause-rela c = (rela_is c.args.objects.now.files c.args.o c.args.i c.args.object.now (Some c.in-Some.rela) c.requires.object c.in-Some.ensures).0
 
+pub rela-reloc-requires-clause-k : goal.rela-reloc-requires-clause-k
+rela-reloc-requires-clause-k c = omega (arith, c.rela_count-k-end.ensures)
+
 pub keep-requires : goal.keep-requires
 keep-requires c =
     let s = section_parts c.args.object.now c.args.i in
