@@ -1,12 +1,12 @@
 -- Addresses of any layout of code: they are below 2^32, and even, and so is the way from one to a later one.
 use Rattle.std.proofs.Common.{◌≡◌, ℕ, ◌+◌, ◌%◌, ◌^◌, ◌<◌, Option, Some, ap, ◌∙◌, arith}
-use Rattle.std.specs.Option.{option_map, unwrap_or}
+use Rattle.std.specs.Option.{unwrap_or}
 use Rattle.zc_base.specs.MemMap.{IsMap}
 use Rattle.zc_base.specs.declared.place.Place.{Place}
-use Rattle.psabi_sym.specs.Inputs.{Inputs, ParsedInputs, parsed}
-use Rattle.block_cut.specs.Items.{item_at, next_at}
-use Rattle.block_cut.specs.declared.item.Item.{Item}
+use Rattle.psabi_sym.specs.Inputs.{Inputs, parsed}
+use Rattle.block_cut.specs.Items.{next_at}
 use Rattle.zc_link.specs.LaidOut.{IsLaidOut}
+use Rattle.zc_link.specs.Standing.{IsExtent}
 use Rattle.zc_link.specs.Values.{way}
 
 -- on the way to a later address lie the bytes between them
@@ -26,6 +26,11 @@ module _ (inputs : Inputs) (is_map : IsMap inputs.map) (A : Place → Option ℕ
   pub between_way : (r : Place) (a n : ℕ) → A r ≡ Some (a + n) → way a (a + n) ≡ n
   between_way r a n two = way_later a n (address_small r (a + n) two)
 
--- the place after an item, as the code finds it
-pub next_is : (p : ParsedInputs) (q d r : Place) (item : Item) (o : Option Place) → o ≡ option_map (λ _. next_at p.objects q) (item_at p q) → r ≡ unwrap_or o d → item_at p q ≡ Some item → r ≡ next_at p.objects q
-next_is p q d r item o is got here = got ∙ ap (λ x. unwrap_or x d) (is ∙ ap (option_map (λ _. next_at p.objects q)) here)
+  -- an item lies between its address and that of the next place
+  pub extent_is :
+      (q : Place) (address end : ℕ) → address ≡ unwrap_or (A q) 0 → end ≡ unwrap_or (A (next_at (parsed inputs).objects q)) 0
+      → IsExtent (parsed inputs) A q address (way address end)
+  extent_is q address end here there a n at next =
+      let same : address ≡ a = here ∙ ap (λ o. unwrap_or o 0) at in
+      let after : end ≡ a + n = there ∙ ap (λ o. unwrap_or o 0) next in
+      (same, (λ j. way (same j) (after j)) ∙ between_way (next_at (parsed inputs).objects q) a n next, between_even q (next_at (parsed inputs).objects q) a n at next, address_small q a at)

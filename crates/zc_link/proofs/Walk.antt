@@ -107,10 +107,9 @@ module _ (inputs : Inputs) (none : gather_fault inputs ≡ None) (A : Place → 
       })
 
   -- at its end
-  pub walk_ends : (q : Place) (a : ℕ) (end : Place) (text : List ℕ) (places places' : List (Place × ℕ)) → code_at p.objects q ≡ Some s → item_at p q ≡ None
-      → Walks p A s q text places → end ≡ record q { offset = length s.bytes } → a ≡ unwrap_or (A end) 0 → places' ≡ places ++ (end, a) ∷ []
-      → IsTextOf p A (sections_before p.objects q.object (q.section + 1)) text places'
-  walk_ends q a end text places places' at last walks is_end got more =
+  pub walk_ends : (q : Place) (a : ℕ) (text : List ℕ) (places places' : List (Place × ℕ)) → code_at p.objects q ≡ Some s → item_at p q ≡ None
+      → Walks p A s q text places → a ≡ unwrap_or (A q) 0 → places' ≡ places ++ (q, a) ∷ [] → IsTextOf p A (sections_before p.objects q.object (q.section + 1)) text places'
+  walk_ends q a text places places' at last walks got more =
       by walks.target
     where
       by : (starts_on s q.offset ≡ true) ⊎ (q.offset ≡ length s.bytes) → IsTextOf p A (sections_before p.objects q.object (q.section + 1)) text places'
@@ -121,28 +120,26 @@ module _ (inputs : Inputs) (none : gather_fault inputs ≡ None) (A : Place → 
           let l = spot q s in
           let before = sections_before p.objects q.object q.section in
           let all = flat_map targets_of before in
-          let end_is : end ≡ q = is_end ∙ (λ j. record q { offset = sym over j }) in
-          let none_there : item_at p end ≡ None = ap (item_at p) end_is ∙ last in
-          let address : A end ≡ Some (inputs.map.text + length text) = ap A end_is ∙ walks.address in
-          let grown = so_far_end p A end (walked p s q) (inputs.map.text + length text) a text places places' none_there address got walks.so_far more in
+          let end_is : q ≡ place_of l (length s.bytes) = λ j. record q { offset = over j } in
+          let grown = so_far_end p A q (walked p s q) (inputs.map.text + length text) a text places places' last walks.address got walks.so_far more in
           let those : starts_before s q.offset ≡ starts_in s = ap (starts_before s) over ∙ before_end_all s code whole in
           let found = (code_is_section p.objects q s at).0 in
           let later : sections_before p.objects q.object (q.section + 1) ≡ before ++ l ∷ [] = before_more p.objects q.object q.section s found in
           let own : targets_of l ≡ map (place_of l) (starts_in s ++ length s.bytes ∷ []) = ap (λ b. cond b (map (place_of l) (starts_in s ++ length s.bytes ∷ [])) []) code in
-          let targets : walked p s q ++ end ∷ [] ≡ flat_map targets_of (sections_before p.objects q.object (q.section + 1)) =
-          append_assoc all (map (place_of l) (starts_before s q.offset)) (end ∷ [])
-          ∙ (λ j. all ++ (map (place_of l) (those j) ++ is_end j ∷ []))
+          let targets : walked p s q ++ q ∷ [] ≡ flat_map targets_of (sections_before p.objects q.object (q.section + 1)) =
+          append_assoc all (map (place_of l) (starts_before s q.offset)) (q ∷ [])
+          ∙ (λ j. all ++ (map (place_of l) (those j) ++ end_is j ∷ []))
           ∙ ap (λ t. all ++ t) (sym (map-append (place_of l) (starts_in s) (length s.bytes ∷ [])) ∙ sym own ∙ sym (append-nil (targets_of l)))
           ∙ sym (flat_map-append targets_of before (l ∷ []))
           ∙ ap (flat_map targets_of) (sym later) in
           let before_end = end_after p A before in
           let ends : inputs.map.text + length text ≡ end_after p A (sections_before p.objects q.object (q.section + 1)) =
-          sym (ap (λ o. unwrap_or o before_end) (ap A (sym is_end) ∙ address))
+          sym (ap (λ o. unwrap_or o before_end) (ap A (sym end_is) ∙ walks.address))
           ∙ sym (ap (λ b. cond b (unwrap_or (A (place_of l (length s.bytes))) before_end) before_end) code)
           ∙ sym (fold-append (section_end A) inputs.map.text before (l ∷ []))
           ∙ ap (end_after p A) (sym later) in
           subst (λ ts. IsSoFar p A ts (end_after p A (sections_before p.objects q.object (q.section + 1))) text places') targets
-          (subst (λ e. IsSoFar p A (walked p s q ++ end ∷ []) e text places') ends grown)
+          (subst (λ e. IsSoFar p A (walked p s q ++ q ∷ []) e text places') ends grown)
 
 -- ---- in the code
 

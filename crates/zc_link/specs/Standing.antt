@@ -1,5 +1,5 @@
 -- What is known of an item where it stands in its object, before it is written at its address in a layout.
-use Rattle.std.specs.Prelude.{◌≡◌, ℕ, ℤ, pos, ◌+◌, ◌%◌, ◌<◌, ◌≤◌, ◌||◌, List, ◌++◌, length, slice_index, Bool, true, Option, Some, None}
+use Rattle.std.specs.Prelude.{◌≡◌, ℕ, ℤ, pos, ◌+◌, ◌%◌, ◌^◌, ◌<◌, ◌≤◌, ◌||◌, List, ◌++◌, length, slice_index, Bool, true, Option, Some, None}
 use Rattle.zc_base.specs.Fields.{word_in}
 use Rattle.zc_base.specs.MemMap.{IsMap}
 use Rattle.zc_base.specs.declared.place.Place.{Place}
@@ -108,6 +108,11 @@ pub record StandsHere (inputs : ParsedInputs) (A : Place → Option ℕ) (code :
   pub address : A q ≡ Some (inputs.map.text + length text)
   pub lies : LiesAt inputs A q (inputs.map.text + length text) item
   pub stands : ItemStands A (item_at inputs) (word_in code q.offset) (word_in code (q.offset + 4)) item
+
+-- the item at a place lies at this address, and takes so many bytes
+abbrev pub IsExtent : ParsedInputs → (Place → Option ℕ) → Place → (address size : ℕ) → Type 0
+IsExtent inputs A q address size =
+    (a n : ℕ) → A q ≡ Some a → A (next_at inputs.objects q) ≡ Some (a + n) → (address ≡ a) × (size ≡ n) × (n % 2 ≡ 0) × (a < 2 ^ 32)
 
 -- n bytes were added to a text: what is written for an item at the text's end
 pub record AddsItem (inputs : ParsedInputs) (A : Place → Option ℕ) (code : List ℕ) (q : Place) (item : Item) (n : ℕ) (text text' : List ℕ) : Type 0 where

@@ -1,20 +1,18 @@
 // The text of a link: section after section, item after item.
 
-ghost use Rattle.std.specs.Prelude.{◌≡◌, ◌+◌, ◌%◌, ◌++◌, ◌<◌, ◌≤◌, ◌^◌, ℕ, List, Some, IsTrue, length, replicate, slice_get, slice_index, IfOk, OnOk};
+ghost use Rattle.std.specs.Prelude.{◌≡◌, ◌+◌, ◌++◌, ◌<◌, ◌≤◌, ◌^◌, ℕ, List, Some, IsTrue, length, replicate, slice_get, slice_index, IfOk, OnOk};
 ghost use Rattle.std.specs.List.{flat_map};
 ghost use Rattle.std.specs.Option.{unwrap_or};
 ghost use Rattle.elf32_read.specs.Header.{section_count};
 ghost use Rattle.psabi_sym.specs.Inputs.{parsed};
 ghost use Rattle.psabi_sym.specs.Listed.{all_sections, sections_before};
-ghost use Rattle.block_cut.specs.Items.{item_at, next_at};
-ghost use Rattle.block_cut.specs.declared.item.Item.{Item};
 ghost use Rattle.block_cut.specs.declared.item.Item.TheVariants.{Branch, Call};
 ghost use Rattle.rv_decode.specs.Decode.{decoded};
 ghost use Rattle.rv_decode.specs.declared.instr.Instr.{Instr};
 ghost use Rattle.shrink_layout.specs.Pieces.{is_short};
 ghost use Rattle.zc_link.specs.Copied.{bytes_from};
 ghost use Rattle.zc_link.specs.ImageParts.{targets_of};
-ghost use Rattle.zc_link.specs.Standing.{AddsHere, IsCodeAt, StandsHere};
+ghost use Rattle.zc_link.specs.Standing.{AddsHere, IsCodeAt, IsExtent, StandsHere};
 ghost use Rattle.zc_link.specs.Written.{IsSoFar, IsTextOf, SpellsShort, padding};
 ghost use Rattle.zc_base.specs.Fields.{half_bytes, word_bytes};
 
@@ -42,6 +40,14 @@ const SHORT_NOP: u16 = 0x1;
 pub struct Text {
     pub text: Vec<u8>,
     pub places: Vec<(Place, u32)>,
+}
+
+// Where an item lies: its place, its address, and the bytes from there to the next place.
+#[derive(Clone, Copy)]
+struct Extent {
+    at: Place,
+    address: u32,
+    size: u32,
 }
 
 impl Text {
@@ -114,19 +120,25 @@ impl Text {
         ensures { OnOk result (IsTextOf (parsed (L.inputs layout.now)) (L.addresses layout.now) (sections_before (parsed (L.inputs layout.now)).objects first.object (first.section + 1)) self.new.text.items self.new.places.items) }
     {
         let cut = layout.cut();
-        let end = Place {
-            object: first.object,
-            section: first.section,
-            offset: code.len() as u32,
-        };
         let mut at = first;
+        let mut address = layout.address(first).unwrap_or(0);
         while let Some(item) = cut.item(at) {
-            self.places.push((at, layout.address(at).unwrap_or(0)))?;
-            add_item(&mut self.text, layout, at, item, code)?;
-            at = cut.next(at).unwrap_or(end);
+            self.places.push((at, address))?;
+            let next = cut.next_after(at, &item);
+            let end = layout.address(next).unwrap_or(0);
+            let size = end.wrapping_sub(address);
+            add_item(
+                &mut self.text,
+                layout,
+                Extent { at, address, size },
+                item,
+                code,
+            )?;
+            at = next;
+            address = end;
         }
-        let address = layout.address(end).unwrap_or(0);
-        self.places.push((end, address))?;
+        let end = (at, address);
+        self.places.push(end)?;
         Ok(())
     }
 }
@@ -135,19 +147,20 @@ impl Text {
 fn add_item<L: Layout>(
     text: &mut Vec<u8>,
     layout: &L,
-    at: Place,
+    extent: Extent,
     item: Item,
     code: &[u8],
 ) -> Result<(), AllocError>
-    requires { StandsHere (parsed (L.inputs layout.now)) (L.addresses layout.now) code.now at item text.old.items }
-    ensures { OnOk result (AddsHere (parsed (L.inputs layout.now)) (L.addresses layout.now) code.now at item text.old.items text.new.items) }
+    requires stands { StandsHere (parsed (L.inputs layout.now)) (L.addresses layout.now) code.now extent.at item text.old.items }
+    requires extent { IsExtent (parsed (L.inputs layout.now)) (L.addresses layout.now) extent.at extent.address extent.size }
+    ensures { OnOk result (AddsHere (parsed (L.inputs layout.now)) (L.addresses layout.now) code.now extent.at item text.old.items text.new.items) }
 {
+    let Extent { at, address, size } = extent;
     let offset = at.offset as usize;
-    let (address, size) = extent(layout, at);
     match item {
         Item::Align(_) => add_padding(text, size),
-        Item::Branch(i, to) => add_branch(text, layout, at, i, to, code),
-        Item::Call { rd, to, .. } => add_call(text, layout, at, rd, to, code),
+        Item::Branch(i, to) => add_branch(text, layout, extent, i, to, code),
+        Item::Call { rd, to, .. } => add_call(text, layout, extent, rd, to, code),
         Item::Raw(_) => add_own(text, code, offset, 4),
         Item::RawPair(_, _) => add_own(text, code, offset, 8),
         _ => {
@@ -157,29 +170,20 @@ fn add_item<L: Layout>(
     }
 }
 
-// The address of the item at a place, and the bytes from there to the next.
-fn extent<L: Layout>(layout: &L, at: Place) -> (u32, u32)
-    ensures { (a n : ℕ) (item : Item) → item_at (parsed (L.inputs layout.now)) at ≡ Some item → L.addresses layout.now at ≡ Some a
-        → L.addresses layout.now (next_at (parsed (L.inputs layout.now)).objects at) ≡ Some (a + n) → (result.0 ≡ a) × (result.1 ≡ n) × (n % 2 ≡ 0) × (a < 2 ^ 32) }
-{
-    let address = layout.address(at).unwrap_or(0);
-    let next = layout.cut().next(at).unwrap_or(at);
-    (address, way_to(layout, address, next))
-}
-
 // Adds a branch: one instruction, or the two of its long form.
 fn add_branch<L: Layout>(
     text: &mut Vec<u8>,
     layout: &L,
-    at: Place,
+    extent: Extent,
     i: Instr,
     to: Place,
     code: &[u8],
 ) -> Result<(), AllocError>
-    requires { StandsHere (parsed (L.inputs layout.now)) (L.addresses layout.now) code.now at (Branch i to) text.old.items }
-    ensures { OnOk result (AddsHere (parsed (L.inputs layout.now)) (L.addresses layout.now) code.now at (Branch i to) text.old.items text.new.items) }
+    requires stands { StandsHere (parsed (L.inputs layout.now)) (L.addresses layout.now) code.now extent.at (Branch i to) text.old.items }
+    requires extent { IsExtent (parsed (L.inputs layout.now)) (L.addresses layout.now) extent.at extent.address extent.size }
+    ensures { OnOk result (AddsHere (parsed (L.inputs layout.now)) (L.addresses layout.now) code.now extent.at (Branch i to) text.old.items text.new.items) }
 {
-    let (address, size) = extent(layout, at);
+    let Extent { at, address, size } = extent;
     if size == 8 {
         let [over, jump] = long_branch(i, way_to(layout, address, to).cast_signed());
         add_words(text, over, jump)
@@ -194,17 +198,18 @@ fn add_branch<L: Layout>(
 fn add_call<L: Layout>(
     text: &mut Vec<u8>,
     layout: &L,
-    at: Place,
+    extent: Extent,
     rd: Reg,
     to: Place,
     code: &[u8],
 ) -> Result<(), AllocError>
-    requires { (temp : ℕ) × StandsHere (parsed (L.inputs layout.now)) (L.addresses layout.now) code.now at (Call rd temp to) text.old.items }
-    ensures { (temp : ℕ) → StandsHere (parsed (L.inputs layout.now)) (L.addresses layout.now) code.now at (Call rd temp to) text.old.items
-        → OnOk result (AddsHere (parsed (L.inputs layout.now)) (L.addresses layout.now) code.now at (Call rd temp to) text.old.items text.new.items) }
+    requires stands { (temp : ℕ) × StandsHere (parsed (L.inputs layout.now)) (L.addresses layout.now) code.now extent.at (Call rd temp to) text.old.items }
+    requires extent { IsExtent (parsed (L.inputs layout.now)) (L.addresses layout.now) extent.at extent.address extent.size }
+    ensures { (temp : ℕ) → StandsHere (parsed (L.inputs layout.now)) (L.addresses layout.now) code.now extent.at (Call rd temp to) text.old.items
+        → OnOk result (AddsHere (parsed (L.inputs layout.now)) (L.addresses layout.now) code.now extent.at (Call rd temp to) text.old.items text.new.items) }
 {
+    let Extent { at, address, size } = extent;
     let offset = at.offset as usize;
-    let (address, size) = extent(layout, at);
     let distance = way_to(layout, address, to).cast_signed();
     if size == 8 {
         let words = [u32_at(code, offset), u32_at(code, offset + 4)];

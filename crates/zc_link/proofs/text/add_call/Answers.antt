@@ -18,15 +18,15 @@ encode-requires g c =
     let p = parsed (g.L.Layout.inputs c.args.layout.now) in
     let text = c.args.text.now.items in
     let a = p.map.text + length text in
-    let temp = c.requires.0 in
-    let h = c.requires.1 in
+    let temp = c.requires.stands.0 in
+    let h = c.requires.stands.1 in
     let b = h.stands.address in
-    let extent = c.extent-address.ensures a h.lies.size (Call c.args.rd temp c.args.to) h.is h.address h.lies.next in
+    let extent = c.requires.extent a h.lies.size h.address h.lies.next in
     let same : c.way_to.result ≡ way a b = c.way_to.ensures.way b h.stands.listed ∙ ap (λ x. way x b) extent.0 in
     let small : way a b < 2 ^ 32 = omega arith in
     let distance = way_signed (way a b) c.cast_signed-distance.result small (c.cast_signed-distance.ensures ∙ ap as_signed same) in
     let other : h.lies.size ≢ 8 = λ is. c.if-size-eq8.false (extent.1 ∙ is) in
-    jal_fits _ (ap jal_reach distance ∙ call_far c.args.rd h.lies.size (as_signed (way a b)) other (call_size p A c.args.code.now c.args.at c.args.rd temp c.args.to text text h))
+    jal_fits _ (ap jal_reach distance ∙ call_far c.args.rd h.lies.size (as_signed (way a b)) other (call_size p A c.args.code.now c.args.extent.at c.args.rd temp c.args.to text text h))
 
 pub returns-then-size-eq8 : goal.returns-then-size-eq8
 returns-then-size-eq8 g c temp h =
@@ -35,14 +35,14 @@ returns-then-size-eq8 g c temp h =
     let text = c.args.text.now.items in
     let a = p.map.text + length text in
     let b = h.stands.address in
-    let extent = c.extent-address.ensures a h.lies.size (Call c.args.rd temp c.args.to) h.is h.address h.lies.next in
+    let extent = c.requires.extent a h.lies.size h.address h.lies.next in
     let same : c.way_to.result ≡ way a b = c.way_to.ensures.way b h.stands.listed ∙ ap (λ x. way x b) extent.0 in
     let small : way a b < 2 ^ 32 = omega arith in
     let distance = way_signed (way a b) c.cast_signed-distance.result small (c.cast_signed-distance.ensures ∙ ap as_signed same) in
     on_ok_weaker c.add_words.result
     (λ more n next.
-    let size = (c.extent-address.ensures a n (Call c.args.rd temp c.args.to) h.is h.address next).1 in
-    pair_added p A c.args.code.now c.args.at c.args.rd temp c.args.to text c.add_words.new.text.items h n next (sym size ∙ c.if-size-eq8.true) _ distance _ _ c.add_words.ensures.small
+    let size = (c.requires.extent a n h.address next).1 in
+    pair_added p A c.args.code.now c.args.extent.at c.args.rd temp c.args.to text c.add_words.new.text.items h n next (sym size ∙ c.if-size-eq8.true) _ distance _ _ c.add_words.ensures.small
     (λ t imm is. c.put_call.ensures.upper t imm (ap decoded c.u32_at.ensures ∙ is)) (λ r t imm is. c.put_call.ensures.lower r t imm (ap decoded c.u32_at-then-size-eq8.ensures ∙ is)) more)
     c.add_words.ensures.added
 
@@ -53,9 +53,9 @@ returns-else-size-eq8 g c temp h =
     let text = c.args.text.now.items in
     let a = p.map.text + length text in
     let b = h.stands.address in
-    let extent = c.extent-address.ensures a h.lies.size (Call c.args.rd temp c.args.to) h.is h.address h.lies.next in
+    let extent = c.requires.extent a h.lies.size h.address h.lies.next in
     let same : c.way_to.result ≡ way a b = c.way_to.ensures.way b h.stands.listed ∙ ap (λ x. way x b) extent.0 in
     let small : way a b < 2 ^ 32 = omega arith in
     let distance = way_signed (way a b) c.cast_signed-distance.result small (c.cast_signed-distance.ensures ∙ ap as_signed same) in
-    call_jump_added p A c.args.code.now c.args.at c.args.rd temp c.args.to text c.add_form.new.text.items h c.add_form.result c.encode.result c.extent-address.result.1 extent.1 c.if-size-eq8.false extent.3
+    call_jump_added p A c.args.code.now c.args.extent.at c.args.rd temp c.args.to text c.add_form.new.text.items h c.add_form.result c.encode.result c.args.extent.size extent.1 c.if-size-eq8.false extent.3
     (c.way_to.ensures.small b h.stands.listed) c.add_form.ensures.small _ distance c.encode.ensures c.add_form.ensures.four c.add_form.ensures.two

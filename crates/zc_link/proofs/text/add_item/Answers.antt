@@ -14,54 +14,54 @@ pub patched-word-requires : goal.patched-word-requires
 patched-word-requires g c =
     let A = g.L.Layout.addresses c.args.layout.now in
     let p = parsed (g.L.Layout.inputs c.args.layout.now) in
-    let h = c.requires in
+    let h = c.requires.stands in
     let text = c.args.text.now.items in
     let a = p.map.text + length text in
     let other = c.in_default in
     let one = one_left c.args.item other.not-Branch other.not-Call other.not-Align other.not-Raw other.not-RawPair in
-    let extent = c.extent-address.ensures a h.lies.size c.args.item h.is h.address h.lies.next in
-    let word = word_in c.args.code.now c.args.at.offset in
-    let second = word_in c.args.code.now (c.args.at.offset + 4) in
+    let extent = c.requires.extent a h.lies.size h.address h.lies.next in
+    let word = word_in c.args.code.now c.args.extent.at.offset in
+    let second = word_in c.args.code.now (c.args.extent.at.offset + 4) in
     let it = item_at p in
     record {
       stands = subst (λ w. ItemStands A it w 0 c.args.item) (sym c.u32_at.ensures) (one_stands A it word second c.args.item one h.stands);
       branch = λ i to is. absurd (other.not-Branch i to is);
-      jump = jump_reaches p A c.args.code.now c.args.at c.args.item text text h c.extent-address.result.0 extent.0;
+      jump = jump_reaches p A c.args.code.now c.args.extent.at c.args.item text text h c.args.extent.address extent.0;
     }
 
 pub returns-in-Align : goal.returns-in-Align
 returns-in-Align g c =
     let A = g.L.Layout.addresses c.args.layout.now in
     let p = parsed (g.L.Layout.inputs c.args.layout.now) in
-    let h = c.requires in
+    let h = c.requires.stands in
     let text = c.args.text.now.items in
     let a = p.map.text + length text in
     on_ok_weaker c.add_padding.result
     (λ more n next.
-    let extent = c.extent-address.ensures a n c.args.item h.is h.address next in
-    align_added p A c.args.code.now c.args.at c.args.item text c.add_padding.new.text.items h n next c.in-Align.field-0 c.extent-address.result.1 c.in-Align.is extent.2 extent.1 more)
+    let extent = c.requires.extent a n h.address next in
+    align_added p A c.args.code.now c.args.extent.at c.args.item text c.add_padding.new.text.items h n next c.in-Align.field-0 c.args.extent.size c.in-Align.is extent.2 extent.1 more)
     c.add_padding.ensures
 
 pub returns-in-Raw : goal.returns-in-Raw
 returns-in-Raw g c =
     let A = g.L.Layout.addresses c.args.layout.now in
     let p = parsed (g.L.Layout.inputs c.args.layout.now) in
-    let h = c.requires in
+    let h = c.requires.stands in
     let text = c.args.text.now.items in
     let a = p.map.text + length text in
     on_ok_weaker c.add_own.result
-    (λ more n next. raw_added p A c.args.code.now c.args.at c.args.item text c.add_own.new.text.items h n next c.in-Raw.field-0 c.in-Raw.is c.add_own.ensures.octets (omega (arith, h.within, ap bytes_read c.in-Raw.is)) more)
+    (λ more n next. raw_added p A c.args.code.now c.args.extent.at c.args.item text c.add_own.new.text.items h n next c.in-Raw.field-0 c.in-Raw.is c.add_own.ensures.octets (omega (arith, h.within, ap bytes_read c.in-Raw.is)) more)
     c.add_own.ensures.own
 
 pub returns-in-RawPair : goal.returns-in-RawPair
 returns-in-RawPair g c =
     let A = g.L.Layout.addresses c.args.layout.now in
     let p = parsed (g.L.Layout.inputs c.args.layout.now) in
-    let h = c.requires in
+    let h = c.requires.stands in
     let text = c.args.text.now.items in
     let a = p.map.text + length text in
     on_ok_weaker c.add_own-in-RawPair.result
-    (λ more n next. pair_added p A c.args.code.now c.args.at c.args.item text c.add_own-in-RawPair.new.text.items h n next c.in-RawPair.field-0 c.in-RawPair.field-1 c.in-RawPair.is c.add_own-in-RawPair.ensures.octets
+    (λ more n next. pair_added p A c.args.code.now c.args.extent.at c.args.item text c.add_own-in-RawPair.new.text.items h n next c.in-RawPair.field-0 c.in-RawPair.field-1 c.in-RawPair.is c.add_own-in-RawPair.ensures.octets
     (omega (arith, h.within, ap bytes_read c.in-RawPair.is)) more)
     c.add_own-in-RawPair.ensures.own
 
@@ -69,18 +69,18 @@ pub returns-in_default : goal.returns-in_default
 returns-in_default g c =
     let A = g.L.Layout.addresses c.args.layout.now in
     let p = parsed (g.L.Layout.inputs c.args.layout.now) in
-    let h = c.requires in
+    let h = c.requires.stands in
     let text = c.args.text.now.items in
     let a = p.map.text + length text in
     let other = c.in_default in
     let one = one_left c.args.item other.not-Branch other.not-Call other.not-Align other.not-Raw other.not-RawPair in
-    let extent = c.extent-address.ensures a h.lies.size c.args.item h.is h.address h.lies.next in
-    let word = word_in c.args.code.now c.args.at.offset in
-    let second = word_in c.args.code.now (c.args.at.offset + 4) in
+    let extent = c.requires.extent a h.lies.size h.address h.lies.next in
+    let word = word_in c.args.code.now c.args.extent.at.offset in
+    let second = word_in c.args.code.now (c.args.extent.at.offset + 4) in
     let it = item_at p in
     let read = one_read c.args.item one in
     let few = one_size A it word second a h.lies.size c.args.item one h.stands h.lies.form in
     let own : ℕ → List ℕ = λ n. word_bytes c.u32_at.result in
-    form_added p A c.args.code.now c.args.at c.args.item text c.add_form.new.text.items h c.add_form.result own c.patched-word.result c.extent-address.result.1 c.extent-address.result.0 extent.1 extent.0
-    (subst FourOrTwo (sym extent.1) few) (λ n bytes written. one_free A it own (bytes_from c.args.code.now c.args.at.offset) a n bytes c.args.item one written)
+    form_added p A c.args.code.now c.args.extent.at c.args.item text c.add_form.new.text.items h c.add_form.result own c.patched-word.result c.args.extent.size c.args.extent.address extent.1 extent.0
+    (subst FourOrTwo (sym extent.1) few) (λ n bytes written. one_free A it own (bytes_from c.args.code.now c.args.extent.at.offset) a n bytes c.args.item one written)
     (c.patched-word.ensures.four read) (c.patched-word.ensures.two read) c.add_form.ensures.four c.add_form.ensures.two
