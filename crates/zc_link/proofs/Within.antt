@@ -13,7 +13,7 @@ use Rattle.psabi_reloc.specs.Kinds.{field_length, kind_of}
 use Rattle.psabi_reloc.specs.declared.kind.RelocKind.{RelocKind}
 use Rattle.psabi_reloc.specs.declared.kind.RelocKind.TheVariants as kind
 use Rattle.psabi_sym.specs.Blocks.{aligned_up, end_from}
-use Rattle.psabi_sym.specs.Data.{address_in, blocks_in, blocks_of, class_end, class_start, data_address, data_file_end, end_after, has_class, is_of_class, role_address, role_of, section_block}
+use Rattle.psabi_sym.specs.Data.{address_in, blocks_in, blocks_of, class_end, class_start, data_address, data_file_end, has_class, is_of_class, role_address, role_of, section_block}
 use Rattle.psabi_sym.specs.Faults.{first_some}
 use Rattle.psabi_sym.specs.Inputs.{Inputs, ParsedInputs, parsed}
 use Rattle.psabi_sym.specs.Listed.{ListedSection, all_sections, section_at, sections_before}
@@ -50,19 +50,21 @@ block_ends at (x ∷ xs) ys b = block_ends (aligned_up x.align at + x.size) xs y
 -- ---- classes with content
 
 module _ (p : ParsedInputs) where
-  read_only_first : class_end p ReadOnly ≤ class_end p SmallData
+  -- each begins where the one before it ends
+  data_after : class_end p Data ≡ end_from (aligned_up 16 (class_end p ReadOnly)) (blocks_of p.objects Data)
   unfolding class_end class_start
-  read_only_first =
-      let one = end_after p.objects p.map.data_low ReadOnly in
-      let two = end_after p.objects one Data in
-      omega (arith, up 16 one, ends_up (aligned_up 16 one) (blocks_of p.objects Data), up 16 two, ends_up (aligned_up 16 two) (blocks_of p.objects SmallData))
+  data_after = refl
+
+  small_after : class_end p SmallData ≡ end_from (aligned_up 16 (class_end p Data)) (blocks_of p.objects SmallData)
+  unfolding class_end class_start
+  small_after = refl
 
   data_first : class_end p Data ≤ class_end p SmallData
-  unfolding class_end class_start
-  data_first =
-      let one = end_after p.objects p.map.data_low ReadOnly in
-      let two = end_after p.objects one Data in
-      omega (arith, up 16 two, ends_up (aligned_up 16 two) (blocks_of p.objects SmallData))
+  data_first = omega (arith, small_after, up 16 (class_end p Data), ends_up (aligned_up 16 (class_end p Data)) (blocks_of p.objects SmallData))
+
+  read_only_first : class_end p ReadOnly ≤ class_end p SmallData
+  read_only_first =
+      omega (arith, data_after, data_first, up 16 (class_end p ReadOnly), ends_up (aligned_up 16 (class_end p ReadOnly)) (blocks_of p.objects Data))
 
   -- a section's content ends within its class
   in_class : (o i : ℕ) (s : SectionParts) (class : DataClass) → blocks_of p.objects class ≡ blocks_in class (all_sections p.objects) → section_at p.objects o i ≡ Some s → is_of_class class (listed o i s) ≡ true
