@@ -9,7 +9,7 @@ use psabi_sym::link_fault::LinkFault;
 use psabi_sym::objects::Objects;
 use psabi_sym::target::Target;
 use rv_decode::instr::Instr;
-use shrink_layout::settled::settle;
+use shrink_layout::settled::{Settled, settle};
 use std::alloc::{AllocError, Global};
 use std::process::Abort;
 use std::test::Fail;
@@ -119,23 +119,39 @@ fn data_text(alloc: Global, cut: &Cut) -> Result<String, Fail> {
     Ok(text)
 }
 
+fn place(offset: u32) -> Place {
+    Place {
+        object: 0,
+        section: 1,
+        offset,
+    }
+}
+
 // The bytes of the item at an offset of section 1, how far another lies from the text's start, and the counts.
-fn settled_text(alloc: Global, cut: Cut, offsets: &str) -> Result<String, Fail> {
-    let settled = settle(alloc, plan(alloc, cut)?)?;
-    let (at, to) = offsets.split_once(':').ok_or("no offsets")?;
+fn settled_numbers(settled: &Settled, at: u32, to: u32) -> [u32; 6] {
     let text = MemMap::standard().text;
-    let size = settled.size(place_of(alloc, format!(in alloc; "0:1:{at}")?.as_str())?);
-    let address = settled.address(place_of(alloc, format!(in alloc; "0:1:{to}")?.as_str())?);
     let counts = settled.counts();
-    Ok(format!(in alloc;
-        "{} {} {} {} {} {}",
-        size.unwrap_or(99),
-        address.unwrap_or(0).wrapping_sub(text),
+    [
+        settled.size(place(at)).unwrap_or(99),
+        settled.address(place(to)).unwrap_or(0).wrapping_sub(text),
         settled.text_end().wrapping_sub(text),
         counts.items,
         counts.short,
-        counts.long
-    )?)
+        counts.long,
+    ]
+}
+
+fn settled_text(alloc: Global, settled: &Settled, offsets: &str) -> Result<String, Fail> {
+    let (at, to) = offsets.split_once(':').ok_or("no offsets")?;
+    let mut text = String::new(alloc);
+    for number in settled_numbers(settled, at.parse::<u32>()?, to.parse::<u32>()?) {
+        text.push_str(format!(in alloc; " {number}")?.as_str())?;
+    }
+    Ok(text)
+}
+
+fn settled_of(alloc: Global, cut: Cut) -> Result<Settled, AllocError> {
+    settle(alloc, plan(alloc, cut)?)
 }
 
 fn fault_text(alloc: Global, fault: LinkFault) -> Result<String, Fail> {
@@ -153,15 +169,14 @@ fn fault_text(alloc: Global, fault: LinkFault) -> Result<String, Fail> {
     }
 }
 
-// What is asked of objects that are linked.
-fn told(alloc: Global, cut: Cut, question: &str) -> Result<String, Fail> {
+// What is asked of objects that are cut.
+fn told(alloc: Global, cut: &Cut, question: &str) -> Result<String, Fail> {
     let (word, rest) = question.split_once(' ').unwrap_or((question, ""));
     match word {
-        "item" => next_text(alloc, &cut, place_of(alloc, rest)?),
-        "lies" => layout_text(alloc, &cut, rest),
-        "blocks" => blocks_text(alloc, &cut, rest.parse::<u16>()?),
-        "data" => data_text(alloc, &cut),
-        "settled" => settled_text(alloc, cut, rest),
+        "item" => next_text(alloc, cut, place_of(alloc, rest)?),
+        "lies" => layout_text(alloc, cut, rest),
+        "blocks" => blocks_text(alloc, cut, rest.parse::<u16>()?),
+        "data" => data_text(alloc, cut),
         _ => Ok(format!(in alloc; "linked")?),
     }
 }
@@ -170,9 +185,10 @@ fn told(alloc: Global, cut: Cut, question: &str) -> Result<String, Fail> {
 fn answer(alloc: Global, changes: &str, question: &str) -> Result<String, Fail> {
     let files = files_of(alloc, changes)?;
     let objects = Objects::gather(alloc, &files, MemMap::standard())?;
-    match Cut::new(alloc, objects) {
-        Err(fault) => fault_text(alloc, fault),
-        Ok(cut) => told(alloc, cut, question),
+    match (Cut::new(alloc, objects), question.strip_prefix("settled ")) {
+        (Err(fault), _) => fault_text(alloc, fault),
+        (Ok(cut), None) => told(alloc, &cut, question),
+        (Ok(cut), Some(offsets)) => settled_text(alloc, &settled_of(alloc, cut)?, offsets),
     }
 }
 
