@@ -19,7 +19,7 @@ use rv_decode::instr::Instr;
 /// | `PcrelHi20`, `PcrelLo12I`, `PcrelLo12S` | PCREL_HI20, PCREL_LO12_I, PCREL_LO12_S |
 /// | `Hi20`, `Lo12I`, `Lo12S` | HI20, LO12_I, LO12_S |
 /// | `Align` | ALIGN |
-#[derive(Clone, Copy, PartialEq, Eq, Debug)]
+#[derive(Clone, Copy, PartialEq, Eq)]
 pub enum RelocKind {
     Ignored,
     Word,
@@ -96,6 +96,3 @@ impl RelocKind {
         }
     }
 }
-
-#[cfg(test)]
-mod tests;

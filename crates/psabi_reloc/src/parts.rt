@@ -19,24 +19,3 @@ pub fn lo12(x: u32) -> i32
 {
     signed_of(12, field_at(x, 0, 12))
 }
-
-#[cfg(test)]
-mod tests {
-    use super::*;
-
-    // Addresses below and above the rounding of the upper part.
-    #[test]
-    fn the_upper_part_rounds_up_where_the_lower_is_negative(rt: HostRuntime) {
-        let table = [
-            (0x0010_0000, 0x0_0100, 0),
-            (0x0010_07FF, 0x0_0100, 2047),
-            (0x0010_0800, 0x0_0101, -2048),
-            (0x0010_0FFC, 0x0_0101, -4),
-            (0xFFFF_F800, 0x0_0000, -2048),
-        ];
-        for (x, high, low) in table {
-            assert_eq!(rt; hi20(x), high, "{x:08x}");
-            assert_eq!(rt; lo12(x), low, "{x:08x}");
-        }
-    }
-}

@@ -120,6 +120,3 @@ fn with_seven_and_five(word: u32, seven: u32, five: u32) -> u32
 {
     seven << 25 | (field_at(word, 12, 13) << 12 | (five << 7 | field_at(word, 0, 7)))
 }
-
-#[cfg(test)]
-mod tests;

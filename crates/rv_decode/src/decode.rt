@@ -148,6 +148,3 @@ fn system(word: u32) -> Option<Instr>
         _ => None,
     }
 }
-
-#[cfg(test)]
-mod tests;

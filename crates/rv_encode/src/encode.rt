@@ -159,6 +159,3 @@ fn fence(rest: u32) -> u32
 {
     rest >> 5 << 15 | (field_at(rest, 0, 5) << 7 | 0b000_1111)
 }
-
-#[cfg(test)]
-mod tests;

@@ -6,7 +6,7 @@
 /// of which paddings and jumps through the table are left out. `long` counts the branches that were
 /// written in eight bytes, `pushes`, `pops` and `moves` the fused groups of each kind, and `table`
 /// the sites that jump through the table.
-#[derive(Clone, Copy, PartialEq, Eq, Debug)]
+#[derive(Clone, Copy, Debug)]
 pub struct Counts {
     pub text: u32,
     pub items: u32,

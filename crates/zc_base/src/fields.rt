@@ -36,19 +36,3 @@ pub fn put_u32(bytes: &mut [u8], at: usize, v: u32)
 {
     LittleEndian::write_u32(&mut bytes[at..], v);
 }
-
-#[cfg(test)]
-mod tests {
-    use super::*;
-
-    #[test]
-    fn fields_have_their_low_byte_first(rt: HostRuntime) {
-        let mut bytes = [0x7F, 0x45, 0x4C, 0x46, 1, 2, 3];
-        assert_eq!(rt; u32_at(&bytes, 0), 0x464C_457F);
-        assert_eq!(rt; u32_at(&bytes, 3), 0x0302_0146);
-        assert_eq!(rt; u16_at(&bytes, 5), 0x0302);
-        put_u16(&mut bytes, 1, 0xABCD);
-        put_u32(&mut bytes, 3, 0x1122_3344);
-        assert_eq!(rt; bytes, [0x7F, 0xCD, 0xAB, 0x44, 0x33, 0x22, 0x11]);
-    }
-}

@@ -26,15 +26,3 @@ impl MemMap {
         }
     }
 }
-
-#[cfg(test)]
-mod tests {
-    use super::*;
-
-    #[test]
-    fn the_standard_map_has_room_for_text_and_a_stack_of_a_megabyte(rt: HostRuntime) {
-        let map = MemMap::standard();
-        assert_eq!(rt; map.data_low - map.text, 0xF_0000);
-        assert_eq!(rt; map.stack_high - map.stack_low, 0x10_0000);
-    }
-}

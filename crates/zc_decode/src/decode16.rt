@@ -16,6 +16,3 @@ pub fn decode16(half: u16) -> Option<Short>
     let form = form_at(half)?;
     Some(Short::Base(expand(form, half)))
 }
-
-#[cfg(test)]
-mod tests;

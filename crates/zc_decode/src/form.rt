@@ -6,7 +6,7 @@
 ///
 /// The order is this project's own. Of two rows that have a halfword for an instruction, the first is
 /// the one to take.
-#[derive(Clone, Copy, PartialEq, Eq, Debug)]
+#[derive(Clone, Copy)]
 pub enum Form {
     CAddi4spn,
     CLw,

@@ -1,12 +1,15 @@
 -- Each halfword of the tables that is no hint is found again by its expansion, or one of an earlier row is. This is computed, 256
--- halfwords at a time.
-use Rattle.std.proofs.Common.{◌≡◌, ℕ, ◌+◌, ◌*◌, ◌/◌, ◌%◌, ◌^◌, ◌<◌, Option, Some, None, Bool, true, false, refl, sym, ap, ◌∙◌, arith, eqb, ltb}
+-- halfwords at a time, for each group that has a row.
+use Rattle.std.proofs.Common.{◌≡◌, ℕ, zero, suc, ◌+◌, ◌*◌, ◌/◌, ◌%◌, ◌^◌, ◌<◌, Option, Some, None, Bool, true, false, refl, sym, ap, ◌∙◌, arith, eqb, ltb}
 use Rattle.std.specs.Prelude.{◌||◌}
+use Rattle.std.specs.Option.{option_and_then}
 use Rattle.std.proofs.lemmas.Bool.{agree_below, agree_below_at}
+use Rattle.rv_decode.specs.Decode.{row_of}
 use Rattle.rv_decode.specs.Normal.{normal_of}
+use Rattle.zc_decode.specs.Fields.{group_of}
 use Rattle.zc_decode.specs.Halfwords.{expansion}
 use Rattle.zc_decode.specs.Hints.{is_hint, row_number}
-use Rattle.zc_decode.specs.Rows.{form_of}
+use Rattle.zc_decode.specs.Rows.{form_of, groups}
 use Rattle.zc_decode.specs.declared.form.Form.{Form}
 use Rattle.zc_encode.specs.Halves.{half_for}
 
@@ -25,23 +28,45 @@ abbrev pub comes_back : ℕ → Option Form → Bool
 comes_back half None = true
 comes_back half (Some form) = is_hint form half || is_found form half (half_for (normal_of (expansion form half)))
 
+-- the same for a number, which the match computes once
+tried : (ℕ → Option Form) → ℕ → Bool
+tried row zero = comes_back 0 (row 0)
+tried row (suc n) = comes_back (suc n) (row (suc n))
+
 yes : ℕ → Bool
 yes n = true
 
--- 256 halfwords with the same high byte
-page : ℕ → Bool
-page high = agree_below (λ low. comes_back (high * 256 + low) (form_of (high * 256 + low))) yes 256
+-- the halfword of a group with these bits 12 to 2
+half_at : ℕ → ℕ → ℕ → ℕ
+half_at group high low = group / 4 * 8192 + (high * 256 + low) * 4 + group % 4
 
-pages : agree_below page yes 256 ≡ true
-unfolding form_of page yes
-pages = refl
+-- whether 256 halfwords of a group with the same high bits come back
+page : ℕ → (ℕ → Option Form) → ℕ → Bool
+page group row high = agree_below (λ low. tried row (half_at group high low)) yes 256
+
+-- whether those of a group come back; if no row is of the group, there are none
+all_come_back : ℕ → Option (ℕ → Option Form) → Bool
+all_come_back group None = true
+all_come_back group (Some row) = agree_below (page group row) yes 8
+
+in_groups : agree_below (λ group. all_come_back group (row_of groups group)) yes 32 ≡ true
+unfolding form_of tried half_at page all_come_back yes
+in_groups = refl
 
 pub each_comes_back : (half : ℕ) → half < 2 ^ 16 → comes_back half (form_of half) ≡ true
-unfolding page yes
-each_comes_back half small =
-    let high : half / 256 < 256 = omega arith in
-    let low : half % 256 < 256 = omega arith in
-    let whole : half / 256 * 256 + half % 256 ≡ half = omega arith in
-    let on_page = agree_below_at page yes 256 (half / 256) pages high in
-    let here = agree_below_at (λ n. comes_back (half / 256 * 256 + n) (form_of (half / 256 * 256 + n))) yes 256 (half % 256) on_page low in
-    sym (ap (λ n. comes_back n (form_of n)) whole) ∙ here
+unfolding form_of tried half_at page all_come_back yes
+each_comes_back half small = in_row (row_of groups (group_of half)) (agree_below_at (λ group. all_come_back group (row_of groups group)) yes 32 (group_of half) in_groups (omega arith))
+  where
+    whole : half_at (group_of half) (half / 1024 % 8) (half / 4 % 256) ≡ half
+    whole = omega arith
+
+    same : (row : ℕ → Option Form) (n : ℕ) → comes_back n (row n) ≡ tried row n
+    same row zero = refl
+    same row (suc n) = refl
+
+    in_row : (o : Option (ℕ → Option Form)) → all_come_back (group_of half) o ≡ true → comes_back half (option_and_then (λ row. row half) o) ≡ true
+    in_row None h = refl
+    in_row (Some row) h =
+        let on_page = agree_below_at (page (group_of half) row) yes 8 (half / 1024 % 8) h (omega arith) in
+        let here = agree_below_at (λ low. tried row (half_at (group_of half) (half / 1024 % 8) low)) yes 256 (half / 4 % 256) on_page (omega arith) in
+        same row half ∙ sym (ap (tried row) whole) ∙ here

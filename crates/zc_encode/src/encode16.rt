@@ -66,6 +66,3 @@ fn encode(i: Instr) -> Option<u16>
         Instr::Csrrw { .. } => None,
     }
 }
-
-#[cfg(test)]
-mod tests;

@@ -65,31 +65,3 @@ fn jump(distance: i32) -> u32
         distance: distance - 4,
     })
 }
-
-#[cfg(test)]
-mod tests {
-    use super::*;
-
-    // The long form of `beq a0, a1`.
-    fn long(distance: i32) -> Option<[u32; 2]>
-        requires { jal_reach (distance -ℤ pos 4) ≡ true }
-    {
-        let first = Reg::new(10)?;
-        let second = Reg::new(11)?;
-        let i = Instr::Branch {
-            op: BranchOp::Beq,
-            first,
-            second,
-            distance: 0,
-        };
-        Some(long_branch(i, distance))
-    }
-
-    // `bne a0, a1` over a jump: the first that a branch doesn't reach, and the farthest that a jump does.
-    #[test]
-    fn a_branch_is_long_over_a_jump(rt: HostRuntime) {
-        assert_eq!(rt; long(4096), Some([0x00B5_1463, 0x7FD0_006F]));
-        assert_eq!(rt; long(0x10_0002), Some([0x00B5_1463, 0x7FFF_F06F]));
-        assert_eq!(rt; long(-0xF_FFFC), Some([0x00B5_1463, 0x8000_006F]));
-    }
-}

@@ -1,0 +1,9 @@
+-- What decodes has an immediate with room in a word.
+use Rattle.std.specs.Prelude.{◌≡◌, ℕ, Some}
+use Rattle.rv_decode.specs.declared.instr.Instr.{Instr}
+use Rattle.rv_decode.specs.Decode.{decoded}
+use Rattle.rv_decode.specs.Immediates.{InRange}
+use Rattle.rv_decode.proofs.DecodeLaws.{decoded-in_range}
+
+pub in_range : (word : ℕ) (i : Instr) → decoded word ≡ Some i → InRange i
+in_range word i is = decoded-in_range word i is

@@ -1,0 +1,253 @@
+// Halfwords as the assemblers of GNU and LLVM write them, and as LLVM's disassembler reads them.
+
+use crate::instrs::{fields, text};
+use crate::rows::{expect, word};
+use rv_decode::decode::decode;
+use rv_decode::instr::Instr;
+use rv_decode::normal::normal;
+use std::alloc::Global;
+use std::test::Fail;
+use zc_decode::decode16::decode16;
+use zc_decode::short::Short;
+use zc_encode::encode16::encode16;
+
+// The instruction that a halfword stands for.
+fn instr_of(half: u16) -> Option<Instr> {
+    match decode16(half) {
+        Some(Short::Base(i)) => Some(i),
+        _ => None,
+    }
+}
+
+/// The instruction that a halfword stands for.
+pub fn spelled(alloc: Global, digits: &str) -> Result<String, Fail> {
+    text(alloc, instr_of(u16::from_str_radix(digits, 16)?))
+}
+
+/// A halfword by its four hexadecimal digits, or `none`.
+pub fn digits_of(alloc: Global, half: Option<u16>) -> Result<String, Fail> {
+    match half {
+        Some(half) => Ok(format!(in alloc; "{half:04x}")?),
+        None => Ok(String::from_str(alloc, "none")?),
+    }
+}
+
+/// The halfword of what a word spells.
+pub fn halfword(alloc: Global, digits: &str) -> Result<String, Fail> {
+    let i = decode(word(digits)?).ok_or("no instruction")?;
+    digits_of(alloc, encode16(Short::Base(i)))
+}
+
+// Each form at its least and its greatest immediate, and at the next ones beyond.
+const WITH_IMMEDIATE: &str = "00010513 = 850a | addi a0,sp,0
+00410513 = 0048 | addi a0,sp,4
+3FC10513 = 1fe8 | addi a0,sp,1020
+40010513 = none | addi a0,sp,1024
+00610513 = none | addi a0,sp,6
+00410293 = none | addi t0,sp,4
+00000013 = 0001 | addi x0,x0,0
+00100013 = none | addi x0,x0,1
+01F50513 = 057d | addi a0,a0,31
+02050513 = none | addi a0,a0,32
+FE050513 = 1501 | addi a0,a0,-32
+FDF50513 = none | addi a0,a0,-33
+01F00513 = 457d | addi a0,x0,31
+02000513 = none | addi a0,x0,32
+FE000513 = 5501 | addi a0,x0,-32
+FDF00513 = none | addi a0,x0,-33
+FFF00013 = none | addi x0,x0,-1
+1F010113 = 617d | addi sp,sp,496
+20010113 = none | addi sp,sp,512
+E0010113 = 7101 | addi sp,sp,-512
+DF010113 = none | addi sp,sp,-528
+01010113 = 0141 | addi sp,sp,16
+02810113 = none | addi sp,sp,40
+0001F537 = 657d | lui a0,31
+00020537 = none | lui a0,32
+FFFE0537 = 7501 | lui a0,0xfffe0
+FFFDF537 = none | lui a0,0xfffdf
+00000537 = none | lui a0,0
+00001137 = none | lui sp,1
+00001037 = none | lui x0,1
+00001517 = none | auipc a0,1
+00055513 = none | srli a0,a0,0
+00155513 = 8105 | srli a0,a0,1
+01F55513 = 817d | srli a0,a0,31
+01F2D293 = none | srli t0,t0,31
+40055513 = none | srai a0,a0,0
+40155513 = 8505 | srai a0,a0,1
+41F55513 = 857d | srai a0,a0,31
+0015D513 = none | srli a0,a1,1
+01F57513 = 897d | andi a0,a0,31
+02057513 = none | andi a0,a0,32
+FE057513 = 9901 | andi a0,a0,-32
+FDF57513 = none | andi a0,a0,-33
+0FF57513 = 9d61 | andi a0,a0,255
+10057513 = none | andi a0,a0,256
+FFF54513 = 9d75 | xori a0,a0,-1
+FFE54513 = none | xori a0,a0,-2
+00156513 = none | ori a0,a0,1
+00051513 = none | slli a0,a0,0
+01F51513 = 057e | slli a0,a0,31
+00151513 = 0506 | slli a0,a0,1
+00159513 = none | slli a0,a1,1
+00058513 = 852e | addi a0,a1,0";
+
+const ON_REGISTERS: &str = "40B50533 = 8d0d | sub a0,a0,a1
+40A58533 = none | sub a0,a1,a0
+00A5C533 = 8d2d | xor a0,a1,a0
+00F56533 = 8d5d | or a0,a0,a5
+0087F433 = 8c7d | and s0,a5,s0
+02A58533 = 9d4d | mul a0,a1,a0
+02C58533 = none | mul a0,a1,a2
+02B53533 = none | mulhu a0,a0,a1
+00B51533 = none | sll a0,a0,a1
+00B00533 = 852e | add a0,x0,a1
+00058533 = 852e | add a0,a1,x0
+00000533 = 4501 | add a0,x0,x0
+00A58533 = 952e | add a0,a1,a0
+00B50533 = 952e | add a0,a0,a1
+00C58533 = none | add a0,a1,a2";
+
+const MEMORY: &str = "0005A503 = 4188 | lw a0,0(a1)
+FFC5A503 = none | lw a0,-4(a1)
+07C5A503 = 5de8 | lw a0,124(a1)
+0805A503 = none | lw a0,128(a1)
+0025A503 = none | lw a0,2(a1)
+0005A283 = none | lw t0,0(a1)
+00F42023 = c01c | sw a5,0(s0)
+FEF42E23 = none | sw a5,-4(s0)
+06F42E23 = dc7c | sw a5,124(s0)
+08F42023 = none | sw a5,128(s0)
+0005C503 = 8188 | lbu a0,0(a1)
+FFF5C503 = none | lbu a0,-1(a1)
+0035C503 = 81e8 | lbu a0,3(a1)
+0045C503 = none | lbu a0,4(a1)
+0005D503 = 8588 | lhu a0,0(a1)
+FFE5D503 = none | lhu a0,-2(a1)
+0025D503 = 85a8 | lhu a0,2(a1)
+0045D503 = none | lhu a0,4(a1)
+00059503 = 85c8 | lh a0,0(a1)
+FFE59503 = none | lh a0,-2(a1)
+00259503 = 85e8 | lh a0,2(a1)
+00459503 = none | lh a0,4(a1)
+00159503 = none | lh a0,1(a1)
+00A58023 = 8988 | sb a0,0(a1)
+FEA58FA3 = none | sb a0,-1(a1)
+00A581A3 = 89e8 | sb a0,3(a1)
+00A58223 = none | sb a0,4(a1)
+00A59023 = 8d88 | sh a0,0(a1)
+FEA59F23 = none | sh a0,-2(a1)
+00A59123 = 8da8 | sh a0,2(a1)
+00A59223 = none | sh a0,4(a1)
+00058503 = none | lb a0,0(a1)
+00012283 = 4282 | lw t0,0(sp)
+FFC12283 = none | lw t0,-4(sp)
+0FC12283 = 52fe | lw t0,252(sp)
+10012283 = none | lw t0,256(sp)
+00012003 = none | lw x0,0(sp)
+07C12503 = 5576 | lw a0,124(sp)
+00012023 = c002 | sw x0,0(sp)
+FE012E23 = none | sw x0,-4(sp)
+0E012E23 = df82 | sw x0,252(sp)
+10012023 = none | sw x0,256(sp)";
+
+const JUMPS: &str = "7FE000EF = 2ffd | jal ra,.+2046
+001000EF = none | jal ra,.+2048
+801FF0EF = 3001 | jal ra,.-2048
+FFEFF0EF = none | jal ra,.-2050
+7FE0006F = affd | jal x0,.+2046
+0010006F = none | jal x0,.+2048
+801FF06F = b001 | jal x0,.-2048
+FFEFF06F = none | jal x0,.-2050
+008002EF = none | jal t0,.+8
+0E040F63 = cc7d | beq s0,x0,.+254
+10040063 = none | beq s0,x0,.+256
+F0F000E3 = d381 | beq x0,a5,.-256
+EE040FE3 = none | beq s0,x0,.-258
+0E041F63 = ec7d | bne s0,x0,.+254
+10041063 = none | bne s0,x0,.+256
+F00410E3 = f001 | bne s0,x0,.-256
+EE041FE3 = none | bne s0,x0,.-258
+00A41463 = none | bne s0,a0,.+8
+00029463 = none | bne t0,x0,.+8
+00044463 = none | blt s0,x0,.+8
+00028067 = 8282 | jalr x0,0(t0)
+000280E7 = 9282 | jalr ra,0(t0)
+004280E7 = none | jalr ra,4(t0)
+000282E7 = none | jalr t0,0(t0)
+00100073 = 9002 | ebreak
+00000073 = none | ecall
+0FF0000F = none | fence";
+
+#[test]
+fn instructions_have_their_halfwords(rt: HostRuntime) -> Result<(), Fail> {
+    for rows in [WITH_IMMEDIATE, ON_REGISTERS, MEMORY, JUMPS] {
+        expect(&rt, "encode16", rows)?;
+    }
+    Ok(())
+}
+
+// Rows of Zcb. The others are zero, a shift by 32, Zcb's operations and stores that aren't defined, a word's
+// low half, and Zcmp.
+const HALFWORDS: &str = "81C8 = lbu 10 11 1
+9D4D = mul 10 10 11
+9D75 = xori 10 10 -1
+9D61 = andi 10 10 255
+0000 = none
+9D65 = none
+8D48 = none
+1502 = none
+6101 = none
+6501 = none
+4002 = none
+8002 = none
+0513 = none
+B842 = none";
+
+#[test]
+fn halfwords_of_zcb_decode_and_others_do_not(rt: HostRuntime) -> Result<(), Fail> {
+    expect(&rt, "decode16", HALFWORDS)
+}
+
+// The halfword and its instruction are mixed into a sum; a halfword that decodes to nothing leaves it.
+fn mixed(sum: u32, half: u16) -> u32 {
+    let Some(i) = instr_of(half) else {
+        return sum;
+    };
+    let (code, first, second, number) = fields(i);
+    [u32::from(half), code, first, second, number]
+        .iter()
+        .fold(sum, |sum, value| (sum ^ value).wrapping_mul(0x0100_0193))
+}
+
+// The fields of the normal form of what a halfword stands for.
+fn normal_fields(half: u16) -> Option<(u32, u32, u32, u32)> {
+    let i = instr_of(half)?;
+    Some(fields(normal(i)))
+}
+
+// The halfword of what a halfword stands for.
+fn found_for(half: u16) -> Option<u16> {
+    encode16(decode16(half)?)
+}
+
+// `scripts/halfwords_of_llvm` prints the number of halfwords that LLVM reads, and the sum. Of these 330 are
+// hints whose normal form no other halfword has; each other one comes back with one normal form.
+#[test]
+fn all_halfwords_are_read_as_llvm_reads_them_and_come_back(rt: HostRuntime) {
+    let (mut count, mut found, mut same, mut sum) = (0_u32, 0_u32, 0_u32, 0);
+    for half in 0..=u16::MAX {
+        count = count.wrapping_add(u32::from(decode16(half).is_some()));
+        sum = mixed(sum, half);
+        if let Some(back) = found_for(half) {
+            let is_same = normal_fields(back) == normal_fields(half);
+            found = found.wrapping_add(1);
+            same = same.wrapping_add(u32::from(is_same));
+        }
+    }
+    assert_eq!(rt;
+        (count, sum, found, same),
+        (29799, 0xF4FA_3007, 29469, 29469)
+    );
+}

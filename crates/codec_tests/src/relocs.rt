@@ -1,0 +1,242 @@
+// Relocations by the psABI's table, and words as binutils' assembler writes them, before and after an immediate
+// is put into them.
+
+use crate::rows::{cut, expect, word};
+use psabi_reloc::kind::RelocKind;
+use psabi_reloc::parts::{hi20, lo12};
+use psabi_reloc::put::{put_branch, put_call, put_hi20, put_jal, put_lo12_i, put_lo12_s};
+use psabi_reloc::reaches::{branch_reaches, jal_reaches, short_branch_reaches, short_jump_reaches};
+use rv_decode::decode::decode;
+use std::alloc::Global;
+use std::test::Fail;
+
+// The kinds, in the order of the crate's type.
+const KINDS: &str =
+    "Ignored Word Branch Jal Call PcrelHi20 PcrelLo12I PcrelLo12S Hi20 Lo12I Lo12S Align";
+
+// All 256 types, by the psABI's table.
+const TYPES: &str =
+    " 0 Ignored 1 Word 16 Branch 17 Jal 18 Call 19 Call 23 PcrelHi20 24 PcrelLo12I 25 PcrelLo12S 26 Hi20 27 Lo12I 28 Lo12S 43 Align 51 Ignored";
+
+#[test]
+fn fourteen_types_are_known(rt: HostRuntime) -> Result<(), Fail> {
+    let mut known = String::new(rt.alloc());
+    for number in 0..=255 {
+        if let Some(kind) = RelocKind::of(number) {
+            let name = KINDS.split(' ').nth(kind as usize).ok_or("no kind")?;
+            known.push_str(format!(in rt.alloc(); " {number} {name}")?.as_str())?;
+        }
+    }
+    assert_eq!(rt; known.as_str(), TYPES);
+    Ok(())
+}
+
+/// How many bytes a type changes, with an addend.
+pub fn field_length(alloc: Global, given: &str) -> Result<String, Fail> {
+    let (number, addend) = cut(given);
+    let kind = RelocKind::of(number.parse::<u8>()?).ok_or("no kind")?;
+    Ok(format!(in alloc; "{}", kind.field_length(addend.parse::<i32>()?))?)
+}
+
+const LENGTHS: &str = "51 6 = 0
+1 6 = 4
+18 -4 = 8
+28 6 = 4
+43 0 = 0
+43 6 = 6
+43 -4 = 0";
+
+#[test]
+fn only_an_alignment_changes_what_its_addend_says(rt: HostRuntime) -> Result<(), Fail> {
+    expect(&rt, "field_length", LENGTHS)
+}
+
+/// The types that may stand at two words, of those that ask for an instruction.
+pub fn fitting(alloc: Global, given: &str) -> Result<String, Fail> {
+    let (first, second) = cut(given);
+    let (first, second) = (decode(word(first)?), decode(word(second)?));
+    let mut fitting = String::new(alloc);
+    for number in 16..29 {
+        if RelocKind::of(number).is_some_and(|kind| kind.fits(first, second)) {
+            fitting.push_str(format!(in alloc; " {number}")?.as_str())?;
+        }
+    }
+    Ok(String::from_str(alloc, fitting.as_str().trim())?)
+}
+
+const FITTING: &str = "12345537 00000000 = 26 | lui a0, 0x12345
+00000317 00000000 = 23 | auipc t1, 0
+00B50063 00000000 = 16 | beq a0, a1, .
+000000EF 00000000 = 17 | jal ra, .
+00558513 00000000 = 24 27 | addi a0, a1, 5
+0055F513 00000000 =  | andi a0, a1, 5
+00559513 00000000 =  | slli a0, a1, 5
+00C58533 00000000 =  | add a0, a1, a2
+000FA403 00000000 = 24 27 | lw s0, 0(t6)
+000300E7 00000000 = 24 27 | jalr ra, 0(t1)
+00F42023 00000000 = 25 28 | sw a5, 0(s0)
+00000000 00000000 =  | no instruction
+00000317 000300E7 = 18 19 23 | auipc t1 and jalr ra, (t1)
+12345297 06728067 = 18 19 23 | auipc t0 and jalr zero, (t0)
+00000317 06728067 = 23 | auipc t1 and jalr zero, (t0)
+00000317 00558513 = 23 | auipc t1 and addi
+12345537 000300E7 = 26 | lui and jalr
+000300E7 00000317 = 24 27 | jalr and auipc";
+
+#[test]
+fn words_fit_by_their_instructions(rt: HostRuntime) -> Result<(), Fail> {
+    expect(&rt, "fits", FITTING)
+}
+
+/// The upper and the lower part of an address.
+pub fn parts(alloc: Global, digits: &str) -> Result<String, Fail> {
+    let x = word(digits)?;
+    Ok(format!(in alloc; "{:05x} {}", hi20(x), lo12(x))?)
+}
+
+// Addresses below and above the rounding of the upper part.
+const PARTS: &str = "00100000 = 00100 0
+001007FF = 00100 2047
+00100800 = 00101 -2048
+00100FFC = 00101 -4
+FFFFF800 = 00000 -2048";
+
+#[test]
+fn the_upper_part_rounds_up_where_the_lower_is_negative(rt: HostRuntime) -> Result<(), Fail> {
+    expect(&rt, "parts", PARTS)
+}
+
+/// Whether `jal`, a branch, `c.j` and `c.beqz` reach so far, as four digits.
+pub fn reaching(alloc: Global, distance: &str) -> Result<String, Fail> {
+    let d = distance.parse::<i32>()?;
+    let long = (u8::from(jal_reaches(d)), u8::from(branch_reaches(d)));
+    let short = (
+        u8::from(short_jump_reaches(d)),
+        u8::from(short_branch_reaches(d)),
+    );
+    Ok(format!(in alloc; "{}{}{}{}", long.0, long.1, short.0, short.1)?)
+}
+
+// The farthest that each reaches, and the next number on each side.
+const REACHES: &str = "-1048578 = 0000
+-1048576 = 1000
+-4098 = 1000
+-4096 = 1100
+-2050 = 1100
+-2048 = 1110
+-258 = 1110
+-256 = 1111
+-1 = 0000
+254 = 1111
+255 = 0000
+256 = 1110
+2046 = 1110
+2048 = 1100
+4094 = 1100
+4096 = 1000
+1048574 = 1000
+1048576 = 0000";
+
+#[test]
+fn each_reaches_as_far_as_its_bits(rt: HostRuntime) -> Result<(), Fail> {
+    expect(&rt, "reaches", REACHES)
+}
+
+// A branch or a jump with a distance that it reaches.
+fn with_distance(call: &str, word: u32, distance: i32) -> Option<u32> {
+    match call {
+        "put_branch" if branch_reaches(distance) => Some(put_branch(word, distance)),
+        "put_jal" if jal_reaches(distance) => Some(put_jal(word, distance)),
+        _ => None,
+    }
+}
+
+/// A word with an immediate in it.
+pub fn put(alloc: Global, call: &str, given: &str) -> Result<String, Fail> {
+    let (digits, x) = cut(given);
+    let old = word(digits)?;
+    let new = match call {
+        "put_hi20" => put_hi20(old, word(x)?),
+        "put_lo12_i" => put_lo12_i(old, word(x)?),
+        "put_lo12_s" => put_lo12_s(old, word(x)?),
+        _ => with_distance(call, old, x.parse::<i32>()?).ok_or("out of reach")?,
+    };
+    Ok(format!(in alloc; "{new:08X}")?)
+}
+
+/// The two words of a call with a distance in them.
+pub fn call_with(alloc: Global, given: &str) -> Result<String, Fail> {
+    let (upper, rest) = cut(given);
+    let (lower, distance) = cut(rest);
+    let words = [word(upper)?, word(lower)?];
+    let [upper, lower] = put_call(words, distance.parse::<i32>()?);
+    Ok(format!(in alloc; "{upper:08X} {lower:08X}")?)
+}
+
+// `lui a0` and `auipc t6`, at addresses below and above the rounding.
+const UPPER: &str = "12345537 001007FF = 00100537
+12345537 00100800 = 00101537
+12345537 FFFFF800 = 00000537
+FFFFFF97 00100FFC = 00101F97
+00101F97 FFFFF7FF = FFFFFF97
+00101F97 7FFFF800 = 80000F97";
+
+// `addi a0, a1`, `lbu s11, (sp)`, `lw s0, (t6)` and `jalr ra, (t1)`.
+const SUMS: &str = "00558513 001007FF = 7FF58513
+00558513 00100800 = 80058513
+FFF14D83 00100FFC = FFC14D83
+FFC14D83 FFFFFFFF = FFF14D83
+000FA403 00100800 = 800FA403
+800FA403 00101000 = 000FA403
+004300E7 000107FF = 7FF300E7";
+
+// `sw a5, (s0)`, `sb t6, (a0)` and `sh zero, (sp)`.
+const STORES: &str = "00F42023 001007FF = 7EF42FA3
+7EF42FA3 00100800 = 80F42023
+80F42023 00100000 = 00F42023
+FFF50FA3 0010001F = 01F50FA3
+01F50FA3 FFFFFFFF = FFF50FA3
+02011023 00100FFC = FE011E23";
+
+#[test]
+fn words_get_the_parts_of_an_address(rt: HostRuntime) -> Result<(), Fail> {
+    expect(&rt, "put_hi20", UPPER)?;
+    expect(&rt, "put_lo12_i", SUMS)?;
+    expect(&rt, "put_lo12_s", STORES)
+}
+
+// `beq a0, a1`, `bgeu t6, zero` and `bne s0, s1`, at the farthest distances and where the parts meet.
+const BRANCHES: &str = "00B50063 4094 = 7EB50FE3
+7EB50FE3 -4096 = 80B50063
+80B50063 0 = 00B50063
+FE0FFFE3 2048 = 000FF0E3
+000FF0E3 -2 = FE0FFFE3
+04941063 -2048 = 809410E3
+809410E3 30 = 00941F63
+00941F63 32 = 02941063
+02941063 64 = 04941063";
+
+// `jal ra` and `jal zero`.
+const JUMPS: &str = "000000EF 1048574 = 7FFFF0EF
+7FFFF0EF -1048576 = 800000EF
+800000EF 0 = 000000EF
+FFFFF06F 2048 = 0010006F
+0010006F -2048 = 801FF06F
+801FF06F 4096 = 0000106F
+0000106F 2046 = 7FE0006F
+7FE0006F -2 = FFFFF06F";
+
+// `auipc t1` with `jalr ra, (t1)`, and `auipc t0` with `jalr zero, (t0)`.
+const CALLS: &str = "00000317 000300E7 2048 = 00001317 800300E7
+00001317 800300E7 -2 = 00000317 FFE300E7
+00000317 FFE300E7 -2050 = FFFFF317 7FE300E7
+FFFFF317 7FE300E7 -2147483648 = 80000317 000300E7
+12345297 06728067 2147481599 = 7FFFF297 7FF28067
+12345297 06728067 2147481600 = 80000297 80028067";
+
+#[test]
+fn branches_jumps_and_calls_get_their_distance(rt: HostRuntime) -> Result<(), Fail> {
+    expect(&rt, "put_branch", BRANCHES)?;
+    expect(&rt, "put_jal", JUMPS)?;
+    expect(&rt, "put_call", CALLS)
+}

@@ -1,0 +1,53 @@
+// Rows of a table, and numbers in them.
+//
+// The check proves each test, and pays there for each assertion and each row of a table. So rows are lines of
+// a text, and what is asserted of them stands here.
+
+use crate::forms::{branch_form, jump_form, long_form, short_form};
+use crate::halfwords::{halfword, spelled};
+use crate::relocs::{call_with, field_length, fitting, parts, put, reaching};
+use crate::words::{instr, normal_form};
+use std::alloc::Global;
+use std::process::Abort;
+use std::test::Fail;
+
+/// A word by its eight hexadecimal digits.
+pub fn word(digits: &str) -> Result<u32, Fail> {
+    Ok(u32::from_str_radix(digits, 16)?)
+}
+
+/// What stands before the first space of a text, and what after it.
+pub fn cut(text: &str) -> (&str, &str) {
+    text.split_once(' ').unwrap_or((text, ""))
+}
+
+// What a call gives for a row.
+fn answer(alloc: Global, call: &str, given: &str) -> Result<String, Fail> {
+    match call {
+        "decode" => instr(alloc, given),
+        "normal" => normal_form(alloc, given),
+        "decode16" => spelled(alloc, given),
+        "encode16" => halfword(alloc, given),
+        "short_of" => short_form(alloc, given),
+        "short_branch" => branch_form(alloc, given),
+        "short_jump" => jump_form(alloc, given),
+        "long_branch" => long_form(alloc, given),
+        "parts" => parts(alloc, given),
+        "reaches" => reaching(alloc, given),
+        "fits" => fitting(alloc, given),
+        "field_length" => field_length(alloc, given),
+        "put_call" => call_with(alloc, given),
+        _ => put(alloc, call, given),
+    }
+}
+
+/// The call should give for each row what stands after `=`. After a stroke stands what the row is.
+pub fn expect<R: Abort + AllocGlobal>(rt: &R, call: &str, rows: &str) -> Result<(), Fail> {
+    for row in rows.lines() {
+        let (cells, _what) = row.split_once(" | ").unwrap_or((row, ""));
+        let (given, want) = cells.split_once(" = ").ok_or("no answer")?;
+        let found = answer(rt.alloc(), call, given)?;
+        assert_eq!(rt; found.as_str(), want, "{call} {row}");
+    }
+    Ok(())
+}
