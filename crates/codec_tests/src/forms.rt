@@ -1,42 +1,19 @@
 // Short and long forms, at the distances where they begin and end.
 
-use crate::halfwords::digits_of;
-use crate::rows::{cut, expect, word};
+use crate::rows::expect;
 use psabi_reloc::reaches::jal_reaches;
-use rv_decode::decode::decode;
 use rv_decode::instr::{BranchOp, Instr};
 use std::alloc::Global;
 use std::test::Fail;
 use zc_base::reg::Reg;
 use zca_zcb_pass::long::long_branch;
-use zca_zcb_pass::short::{short_branch, short_jump, short_of};
-
-/// The short form of a word's instruction.
-pub fn short_form(alloc: Global, digits: &str) -> Result<String, Fail> {
-    let i = decode(word(digits)?).ok_or("no instruction")?;
-    digits_of(alloc, short_of(i))
-}
-
-/// The short form of a word's branch at a distance.
-pub fn branch_form(alloc: Global, given: &str) -> Result<String, Fail> {
-    let (digits, distance) = cut(given);
-    let i = decode(word(digits)?).ok_or("no instruction")?;
-    digits_of(alloc, short_branch(i, distance.parse::<i32>()?))
-}
-
-/// The short form of a word's jump at a distance.
-pub fn jump_form(alloc: Global, given: &str) -> Result<String, Fail> {
-    let (digits, distance) = cut(given);
-    let i = decode(word(digits)?).ok_or("no instruction")?;
-    digits_of(alloc, short_jump(i, distance.parse::<i32>()?))
-}
 
 // The long form of `beq a0, a1`, if a jump reaches so far.
 fn long(distance: i32) -> Option<[u32; 2]> {
     let i = Instr::Branch {
         op: BranchOp::Beq,
-        first: Reg::new(10)?,
-        second: Reg::new(11)?,
+        first: Reg::new(10).unwrap(),
+        second: Reg::new(11).unwrap(),
         distance: 0,
     };
     if jal_reaches(distance.checked_sub(4)?) {

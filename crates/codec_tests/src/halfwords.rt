@@ -1,7 +1,7 @@
 // Halfwords as the assemblers of GNU and LLVM write them, and as LLVM's disassembler reads them.
 
 use crate::instrs::{fields, text};
-use crate::rows::{expect, word};
+use crate::rows::{cut, expect, word};
 use rv_decode::decode::decode;
 use rv_decode::instr::Instr;
 use rv_decode::normal::normal;
@@ -10,6 +10,7 @@ use std::test::Fail;
 use zc_decode::decode16::decode16;
 use zc_decode::short::Short;
 use zc_encode::encode16::encode16;
+use zca_zcb_pass::short::{short_branch, short_jump, short_of};
 
 // The instruction that a halfword stands for.
 fn instr_of(half: u16) -> Option<Instr> {
@@ -24,18 +25,24 @@ pub fn spelled(alloc: Global, digits: &str) -> Result<String, Fail> {
     text(alloc, instr_of(u16::from_str_radix(digits, 16)?))
 }
 
-/// A halfword by its four hexadecimal digits, or `none`.
-pub fn digits_of(alloc: Global, half: Option<u16>) -> Result<String, Fail> {
-    match half {
+/// The halfword of what a word spells, by its four digits or `none`: as it is, or a branch or a jump at another
+/// distance.
+pub fn halfword(alloc: Global, call: &str, given: &str) -> Result<String, Fail> {
+    let (digits, distance) = cut(given);
+    let d = distance.parse::<i32>().unwrap_or(0);
+    let Some(i) = decode(word(digits)?) else {
+        return Err("no instruction".into());
+    };
+    let found = match call {
+        "short_of" => short_of(i),
+        "short_branch" => short_branch(i, d),
+        "short_jump" => short_jump(i, d),
+        _ => encode16(Short::Base(i)),
+    };
+    match found {
         Some(half) => Ok(format!(in alloc; "{half:04x}")?),
         None => Ok(String::from_str(alloc, "none")?),
     }
-}
-
-/// The halfword of what a word spells.
-pub fn halfword(alloc: Global, digits: &str) -> Result<String, Fail> {
-    let i = decode(word(digits)?).ok_or("no instruction")?;
-    digits_of(alloc, encode16(Short::Base(i)))
 }
 
 // Each form at its least and its greatest immediate, and at the next ones beyond.
@@ -210,15 +217,18 @@ fn halfwords_of_zcb_decode_and_others_do_not(rt: HostRuntime) -> Result<(), Fail
     expect(&rt, "decode16", HALFWORDS)
 }
 
+fn mix(sum: u32, value: u32) -> u32 {
+    (sum ^ value).wrapping_mul(0x0100_0193)
+}
+
 // The halfword and its instruction are mixed into a sum; a halfword that decodes to nothing leaves it.
 fn mixed(sum: u32, half: u16) -> u32 {
     let Some(i) = instr_of(half) else {
         return sum;
     };
     let (code, first, second, number) = fields(i);
-    [u32::from(half), code, first, second, number]
-        .iter()
-        .fold(sum, |sum, value| (sum ^ value).wrapping_mul(0x0100_0193))
+    let registers = mix(mix(mix(mix(sum, u32::from(half)), code), first), second);
+    mix(registers, number)
 }
 
 // The fields of the normal form of what a halfword stands for.
@@ -229,7 +239,10 @@ fn normal_fields(half: u16) -> Option<(u32, u32, u32, u32)> {
 
 // The halfword of what a halfword stands for.
 fn found_for(half: u16) -> Option<u16> {
-    encode16(decode16(half)?)
+    match instr_of(half) {
+        Some(i) => encode16(Short::Base(i)),
+        None => None,
+    }
 }
 
 // `scripts/halfwords_of_llvm` prints the number of halfwords that LLVM reads, and the sum. Of these 330 are

@@ -14,41 +14,42 @@ use std::test::Fail;
 const KINDS: &str =
     "Ignored Word Branch Jal Call PcrelHi20 PcrelLo12I PcrelLo12S Hi20 Lo12I Lo12S Align";
 
-// All 256 types, by the psABI's table.
-const TYPES: &str =
-    " 0 Ignored 1 Word 16 Branch 17 Jal 18 Call 19 Call 23 PcrelHi20 24 PcrelLo12I 25 PcrelLo12S 26 Hi20 27 Lo12I 28 Lo12S 43 Align 51 Ignored";
-
-#[test]
-fn fourteen_types_are_known(rt: HostRuntime) -> Result<(), Fail> {
-    let mut known = String::new(rt.alloc());
-    for number in 0..=255 {
-        if let Some(kind) = RelocKind::of(number) {
-            let name = KINDS.split(' ').nth(kind as usize).ok_or("no kind")?;
-            known.push_str(format!(in rt.alloc(); " {number} {name}")?.as_str())?;
-        }
-    }
-    assert_eq!(rt; known.as_str(), TYPES);
-    Ok(())
-}
-
-/// How many bytes a type changes, with an addend.
-pub fn field_length(alloc: Global, given: &str) -> Result<String, Fail> {
+/// The kind of a type, and how many bytes it changes with an addend.
+pub fn kind(alloc: Global, given: &str) -> Result<String, Fail> {
     let (number, addend) = cut(given);
     let kind = RelocKind::of(number.parse::<u8>()?).ok_or("no kind")?;
-    Ok(format!(in alloc; "{}", kind.field_length(addend.parse::<i32>()?))?)
+    let name = KINDS.split(' ').nth(kind as usize).ok_or("no name")?;
+    let length = kind.field_length(addend.parse::<i32>()?);
+    Ok(format!(in alloc; "{name} {length}")?)
 }
 
-const LENGTHS: &str = "51 6 = 0
-1 6 = 4
-18 -4 = 8
-28 6 = 4
-43 0 = 0
-43 6 = 6
-43 -4 = 0";
+// The types of the psABI's table, each with an addend.
+const TYPES: &str = "0 6 = Ignored 0
+1 6 = Word 4
+16 6 = Branch 4
+17 6 = Jal 4
+18 -4 = Call 8
+19 6 = Call 8
+23 6 = PcrelHi20 4
+24 6 = PcrelLo12I 4
+25 6 = PcrelLo12S 4
+26 6 = Hi20 4
+27 6 = Lo12I 4
+28 6 = Lo12S 4
+43 6 = Align 6
+51 6 = Ignored 0
+43 0 = Align 0
+43 -4 = Align 0";
 
+// Only an alignment changes what its addend says.
 #[test]
-fn only_an_alignment_changes_what_its_addend_says(rt: HostRuntime) -> Result<(), Fail> {
-    expect(&rt, "field_length", LENGTHS)
+fn fourteen_of_all_types_are_known(rt: HostRuntime) -> Result<(), Fail> {
+    let mut count = 0_u32;
+    for number in 0..=255 {
+        count = count.wrapping_add(u32::from(RelocKind::of(number).is_some()));
+    }
+    assert_eq!(rt; count, 14);
+    expect(&rt, "kind", TYPES)
 }
 
 /// The types that may stand at two words, of those that ask for an instruction.
@@ -57,11 +58,13 @@ pub fn fitting(alloc: Global, given: &str) -> Result<String, Fail> {
     let (first, second) = (decode(word(first)?), decode(word(second)?));
     let mut fitting = String::new(alloc);
     for number in 16..29 {
-        if RelocKind::of(number).is_some_and(|kind| kind.fits(first, second)) {
-            fitting.push_str(format!(in alloc; " {number}")?.as_str())?;
+        if let Some(kind) = RelocKind::of(number) {
+            if kind.fits(first, second) {
+                fitting.push_str(format!(in alloc; " {number}")?.as_str())?;
+            }
         }
     }
-    Ok(String::from_str(alloc, fitting.as_str().trim())?)
+    Ok(fitting)
 }
 
 const FITTING: &str = "12345537 00000000 = 26 | lui a0, 0x12345
@@ -69,13 +72,13 @@ const FITTING: &str = "12345537 00000000 = 26 | lui a0, 0x12345
 00B50063 00000000 = 16 | beq a0, a1, .
 000000EF 00000000 = 17 | jal ra, .
 00558513 00000000 = 24 27 | addi a0, a1, 5
-0055F513 00000000 =  | andi a0, a1, 5
-00559513 00000000 =  | slli a0, a1, 5
-00C58533 00000000 =  | add a0, a1, a2
+0055F513 00000000 = | andi a0, a1, 5
+00559513 00000000 = | slli a0, a1, 5
+00C58533 00000000 = | add a0, a1, a2
 000FA403 00000000 = 24 27 | lw s0, 0(t6)
 000300E7 00000000 = 24 27 | jalr ra, 0(t1)
 00F42023 00000000 = 25 28 | sw a5, 0(s0)
-00000000 00000000 =  | no instruction
+00000000 00000000 = | no instruction
 00000317 000300E7 = 18 19 23 | auipc t1 and jalr ra, (t1)
 12345297 06728067 = 18 19 23 | auipc t0 and jalr zero, (t0)
 00000317 06728067 = 23 | auipc t1 and jalr zero, (t0)
@@ -143,15 +146,17 @@ fn each_reaches_as_far_as_its_bits(rt: HostRuntime) -> Result<(), Fail> {
 }
 
 // A branch or a jump with a distance that it reaches.
-fn with_distance(call: &str, word: u32, distance: i32) -> Option<u32> {
-    match call {
-        "put_branch" if branch_reaches(distance) => Some(put_branch(word, distance)),
-        "put_jal" if jal_reaches(distance) => Some(put_jal(word, distance)),
-        _ => None,
+fn with_distance(is_branch: bool, word: u32, distance: i32) -> Option<u32> {
+    if is_branch && branch_reaches(distance) {
+        Some(put_branch(word, distance))
+    } else if !is_branch && jal_reaches(distance) {
+        Some(put_jal(word, distance))
+    } else {
+        None
     }
 }
 
-/// A word with an immediate in it.
+/// A word with an immediate in it: a part of an address in hexadecimal digits, or a distance.
 pub fn put(alloc: Global, call: &str, given: &str) -> Result<String, Fail> {
     let (digits, x) = cut(given);
     let old = word(digits)?;
@@ -159,7 +164,10 @@ pub fn put(alloc: Global, call: &str, given: &str) -> Result<String, Fail> {
         "put_hi20" => put_hi20(old, word(x)?),
         "put_lo12_i" => put_lo12_i(old, word(x)?),
         "put_lo12_s" => put_lo12_s(old, word(x)?),
-        _ => with_distance(call, old, x.parse::<i32>()?).ok_or("out of reach")?,
+        _ => {
+            let is_branch = call == "put_branch";
+            with_distance(is_branch, old, x.parse::<i32>()?).ok_or("out of reach")?
+        }
     };
     Ok(format!(in alloc; "{new:08X}")?)
 }

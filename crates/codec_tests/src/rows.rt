@@ -3,9 +3,9 @@
 // The check proves each test, and pays there for each assertion and each row of a table. So rows are lines of
 // a text, and what is asserted of them stands here.
 
-use crate::forms::{branch_form, jump_form, long_form, short_form};
+use crate::forms::long_form;
 use crate::halfwords::{halfword, spelled};
-use crate::relocs::{call_with, field_length, fitting, parts, put, reaching};
+use crate::relocs::{call_with, fitting, kind, parts, put, reaching};
 use crate::words::{instr, normal_form};
 use std::alloc::Global;
 use std::process::Abort;
@@ -27,15 +27,12 @@ fn answer(alloc: Global, call: &str, given: &str) -> Result<String, Fail> {
         "decode" => instr(alloc, given),
         "normal" => normal_form(alloc, given),
         "decode16" => spelled(alloc, given),
-        "encode16" => halfword(alloc, given),
-        "short_of" => short_form(alloc, given),
-        "short_branch" => branch_form(alloc, given),
-        "short_jump" => jump_form(alloc, given),
+        "encode16" | "short_of" | "short_branch" | "short_jump" => halfword(alloc, call, given),
         "long_branch" => long_form(alloc, given),
+        "kind" => kind(alloc, given),
+        "fits" => fitting(alloc, given),
         "parts" => parts(alloc, given),
         "reaches" => reaching(alloc, given),
-        "fits" => fitting(alloc, given),
-        "field_length" => field_length(alloc, given),
         "put_call" => call_with(alloc, given),
         _ => put(alloc, call, given),
     }
@@ -45,9 +42,9 @@ fn answer(alloc: Global, call: &str, given: &str) -> Result<String, Fail> {
 pub fn expect<R: Abort + AllocGlobal>(rt: &R, call: &str, rows: &str) -> Result<(), Fail> {
     for row in rows.lines() {
         let (cells, _what) = row.split_once(" | ").unwrap_or((row, ""));
-        let (given, want) = cells.split_once(" = ").ok_or("no answer")?;
+        let (given, want) = cells.split_once(" =").ok_or("no answer")?;
         let found = answer(rt.alloc(), call, given)?;
-        assert_eq!(rt; found.as_str(), want, "{call} {row}");
+        assert_eq!(rt; found.as_str().trim(), want.trim(), "{call} {row}");
     }
     Ok(())
 }
