@@ -154,6 +154,3 @@ impl<'a> Image<'a> {
         entry(self.entries, i as usize)
     }
 }
-
-#[cfg(test)]
-mod tests;

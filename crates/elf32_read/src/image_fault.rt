@@ -43,25 +43,3 @@ impl ImageFault {
         }
     }
 }
-
-#[cfg(test)]
-mod tests {
-    use super::*;
-    use std::test::Fail;
-
-    #[test]
-    fn faults_are_numbered_and_shown(rt: HostRuntime) -> Result<(), Fail> {
-        for (fault, number, name) in [
-            (ImageFault::NotElf, 1, "NotElf"),
-            (ImageFault::Truncated, 2, "Truncated"),
-            (ImageFault::BadSegment, 3, "BadSegment"),
-            (ImageFault::BadPlaces, 4, "BadPlaces"),
-            (ImageFault::TooLarge, 5, "TooLarge"),
-        ] {
-            assert_eq!(rt; fault.number(), number, "{name}");
-            let shown = fault.to_string(rt.alloc())?;
-            assert_eq!(rt; shown.as_str(), name);
-        }
-        Ok(())
-    }
-}

@@ -6,8 +6,6 @@
 mod alignments;
 mod bounds;
 pub mod fault;
-#[cfg(test)]
-mod fixture;
 pub mod header;
 pub mod image;
 pub mod image_fault;

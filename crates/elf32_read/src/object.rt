@@ -296,6 +296,3 @@ impl<'a> Object<'a> {
         }
     }
 }
-
-#[cfg(test)]
-mod tests;

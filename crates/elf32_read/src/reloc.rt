@@ -4,7 +4,7 @@
 ///
 /// It changes bytes of its section from `offset` on, in the way of `kind` (ELF32_R_TYPE; RISC-V ELF psABI, "Relocations"),
 /// to hold the address of the symbol with the index `symbol`, plus `addend`.
-#[derive(Clone, Copy, PartialEq, Eq, Debug)]
+#[derive(Clone, Copy)]
 pub struct Reloc {
     pub offset: u32,
     pub symbol: u32,

@@ -7,7 +7,7 @@ use crate::section_flags::SectionFlags;
 /// `name` is without the zero that ends it, `kind` is sh_type, `size` is sh_size in bytes, and
 /// `align` is sh_addralign as it stands. `bytes` is the section's content; it is empty if the file
 /// holds none, for the kinds NULL and NOBITS.
-#[derive(Clone, Copy, PartialEq, Eq, Debug)]
+#[derive(Clone, Copy)]
 pub struct Section<'a> {
     pub name: &'a [u8],
     pub kind: u32,

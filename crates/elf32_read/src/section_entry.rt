@@ -14,7 +14,7 @@ use crate::section_flags::SectionFlags;
 ///
 /// `names` is the table of names from the section's name on: it has the zero that ends the name, and
 /// what stands after that.
-#[derive(Clone, Copy, PartialEq, Eq, Debug)]
+#[derive(Clone, Copy)]
 pub struct SectionEntry<'a> {
     pub names: &'a [u8],
     pub kind: u32,

@@ -5,7 +5,7 @@ ghost use Rattle.std.specs.Prelude.{⊤, [], ◌∷◌, codes};
 use bitflags::{Flag, Flags};
 
 /// A section's flags, sh_flags (System V gABI, "Sections"). Bits without a name are kept.
-#[derive(Clone, Copy, PartialEq, Eq, Debug)]
+#[derive(Clone, Copy)]
 pub struct SectionFlags {
     pub bits: u32,
 }
@@ -70,28 +70,5 @@ impl Flags for SectionFlags {
 
     fn from_bits_retain(bits: u32) -> SectionFlags {
         SectionFlags { bits }
-    }
-}
-
-#[cfg(test)]
-mod tests {
-    use super::*;
-
-    #[test]
-    fn flags_have_the_standard_names_and_bits(rt: HostRuntime) {
-        for (name, bits) in [
-            ("WRITE", 1),
-            ("ALLOC", 2),
-            ("EXECINSTR", 4),
-            ("TLS", 0x400),
-            ("COMPRESSED", 0x800),
-        ] {
-            let flag = SectionFlags { bits };
-            assert_eq!(rt; SectionFlags::from_name(name), Some(flag), "{name}");
-            assert!(rt; SectionFlags { bits: 0x8000_0C07 }.contains(flag), "{name}");
-            assert!(rt; !SectionFlags { bits: !bits }.contains(flag), "{name}");
-        }
-        assert_eq!(rt; SectionFlags::from_bits_retain(0x10).bits, 0x10);
-        assert_eq!(rt; SectionFlags::from_bits(0x10), None);
     }
 }

@@ -4,7 +4,7 @@
 ///
 /// It lies in memory from the address `at` on, and has `size` bytes: `bytes`, which come from the
 /// file, and zeros after them. `code` says whether it is executable.
-#[derive(Clone, Copy, PartialEq, Eq, Debug)]
+#[derive(Clone, Copy)]
 pub struct Segment<'a> {
     pub at: u32,
     pub size: u32,

@@ -8,7 +8,7 @@ use zc_base::place::Place;
 /// `entry`, `text_at` and `data_at` are addresses: where the program starts, and where its text and
 /// its data lie. `zero` is how many zero bytes follow `data_bytes` in memory, and `flags` goes into
 /// e_flags. `places` lists places in the objects' code, in ascending order, each with its address.
-#[derive(Debug, Drop)]
+#[derive(Drop)]
 pub struct ImageParts {
     pub entry: u32,
     pub flags: u32,

@@ -7,7 +7,7 @@ use std::marker::Model;
 ///
 /// `flags` goes into e_flags. The given sections have the indices from 1 on in the file, in order, and so do the given symbols:
 /// section 0 and symbol 0 are not among them.
-#[derive(Debug, Drop)]
+#[derive(Drop)]
 pub struct ObjectParts {
     pub flags: u32,
     pub sections: Vec<PartSection>,
@@ -16,7 +16,7 @@ pub struct ObjectParts {
 
 /// A section of an object: sh_type, sh_flags, sh_addralign and sh_size (System V gABI, "Sections"), its content, and the
 /// relocations that change it. `bytes` is empty for the kinds NULL and NOBITS.
-#[derive(Debug, Drop)]
+#[derive(Drop)]
 pub struct PartSection {
     pub name: Vec<u8>,
     pub kind: u32,
@@ -28,7 +28,7 @@ pub struct PartSection {
 }
 
 /// A symbol of an object: st_value and st_size, the halves of st_info, and st_shndx (System V gABI, "Symbol Table").
-#[derive(Debug, Drop)]
+#[derive(Drop)]
 pub struct PartSymbol {
     pub name: Vec<u8>,
     pub value: u32,

@@ -56,6 +56,3 @@ pub fn write_image(alloc: Global, parts: &ImageParts) -> Result<Vec<u8>, AllocEr
     push_section_headers(&mut file, parts, &offsets)?;
     Ok(file)
 }
-
-#[cfg(test)]
-mod tests;

@@ -109,6 +109,3 @@ pub fn write_object(alloc: Global, parts: &ObjectParts) -> Result<Vec<u8>, Alloc
     push_headers(&mut file, &table.headers)?;
     Ok(file)
 }
-
-#[cfg(test)]
-mod tests;

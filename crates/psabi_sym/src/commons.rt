@@ -15,7 +15,7 @@ const CLASS_ALIGN: u32 = 16;
 
 /// Where common symbols lie: the address of each name that is common, by the name's number, and where
 /// the last of them ends.
-#[derive(Debug, Drop)]
+#[derive(Drop)]
 pub struct Commons {
     pub addresses: Vec<Option<u32>>,
     pub end: u32,

@@ -4,7 +4,7 @@ ghost use Rattle.std.specs.Prelude.{◌≡◌};
 ghost use Rattle.psabi_sym.specs.Classes.{class_number, same_class};
 
 /// Where in memory a section of data stands, or a common symbol: the classes stand in this order.
-#[derive(Clone, Copy, PartialEq, Eq, Debug)]
+#[derive(Clone, Copy)]
 pub enum DataClass {
     /// The program doesn't write to it. It isn't protected, either.
     ReadOnly,

@@ -29,7 +29,7 @@ const GLOBAL_POINTER: u32 = 0x800;
 
 /// The address of each section, what each name and `_start` stand for, and where data ends, in the
 /// file and in memory.
-#[derive(Debug, Drop)]
+#[derive(Drop)]
 pub struct Definitions {
     pub addresses: Vec<u32>,
     pub meanings: Vec<Meaning>,

@@ -47,7 +47,7 @@ pub fn place_class(rows: &[SectionRow], class: DataClass, from: u32, addresses: 
 
 /// Where classes of data begin and end: where small data begins and ends, where small zeroed data
 /// begins, and where all sections end.
-#[derive(Clone, Copy, PartialEq, Eq, Debug)]
+#[derive(Clone, Copy)]
 pub struct ClassEnds {
     pub small_data: u32,
     pub file_end: u32,
@@ -56,7 +56,7 @@ pub struct ClassEnds {
 }
 
 /// Where the sections of data lie: the address of each, and where classes begin and end.
-#[derive(Debug, Drop)]
+#[derive(Drop)]
 pub struct Layout {
     pub addresses: Vec<u32>,
     pub ends: ClassEnds,

@@ -11,7 +11,7 @@ use std::marker::Model;
 
 /// An object that was read without a fault: its bytes, with what it takes long to look for. Clauses
 /// see it as its bytes.
-#[derive(Debug, Drop)]
+#[derive(Drop)]
 pub struct Loaded {
     bytes: Vec<u8>,
     symbol_section: Option<u32>,

@@ -19,7 +19,7 @@ const UNDEFINED: u16 = 0;
 
 /// What a name stands for: a symbol that defines it, a number, which is an address of data or a value
 /// of the linker's, or nothing.
-#[derive(Clone, Copy, PartialEq, Eq, Debug)]
+#[derive(Clone, Copy)]
 pub enum Meaning {
     Symbol(SymbolRow),
     Number(u32),
@@ -27,7 +27,7 @@ pub enum Meaning {
 }
 
 /// The numbers that the linker's own names stand for.
-#[derive(Clone, Copy, PartialEq, Eq, Debug)]
+#[derive(Clone, Copy)]
 pub struct LinkerNumbers {
     pub global_pointer: u32,
     pub bss_start: u32,

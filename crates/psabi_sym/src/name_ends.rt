@@ -13,7 +13,7 @@ use std::alloc::{AllocError, Global};
 const BLOCK: u32 = 64;
 
 /// How many bytes a name has, and the number of its longest tail of whole blocks.
-#[derive(Clone, Copy, PartialEq, Eq, Debug)]
+#[derive(Clone, Copy)]
 pub struct NameEnd {
     pub length: u32,
     pub tail: u32,

@@ -27,7 +27,7 @@ use zc_base::mem_map::MemMap;
 const GLOBAL: u8 = 1;
 
 /// The symbols of objects, and what sections and names are.
-#[derive(Debug, Drop)]
+#[derive(Drop)]
 pub struct Named {
     pub symbols: Symbols,
     pub definitions: Definitions,

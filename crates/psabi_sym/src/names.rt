@@ -68,6 +68,3 @@ impl<'a> Names<'a> {
         self.names.texts.as_slice()
     }
 }
-
-#[cfg(test)]
-mod tests;

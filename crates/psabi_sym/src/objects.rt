@@ -41,7 +41,7 @@ const ABS: u16 = 0xFFF1;
 
 /// The objects of a link, in their order, and the memory map. They have no fault of their own, and
 /// none between them.
-#[derive(Debug, Drop)]
+#[derive(Drop)]
 pub struct Objects {
     objects: Vec<Loaded>,
     map: MemMap,
@@ -271,6 +271,3 @@ fn load(alloc: Global, files: &[Vec<u8>]) -> Result<Vec<Loaded>, AllocError>
     }
     Ok(objects)
 }
-
-#[cfg(test)]
-mod tests;

@@ -90,6 +90,3 @@ pub fn add_sections(loaded: &Loaded, rows: &mut Vec<SectionRow>) -> Result<(), A
     }
     Ok(())
 }
-
-#[cfg(test)]
-mod tests;

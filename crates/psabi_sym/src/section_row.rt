@@ -6,7 +6,7 @@ ghost use Rattle.psabi_sym.specs.Data.{has_class, is_code_role};
 use crate::data_class::DataClass;
 
 /// What a section is to a link: it is code, or data of a class, or it is dropped.
-#[derive(Clone, Copy, PartialEq, Eq, Debug)]
+#[derive(Clone, Copy)]
 pub enum SectionRole {
     Code,
     InClass(DataClass),
@@ -14,7 +14,7 @@ pub enum SectionRole {
 }
 
 /// What a link keeps of a section.
-#[derive(Clone, Copy, PartialEq, Eq, Debug)]
+#[derive(Clone, Copy)]
 pub struct SectionRow {
     pub role: SectionRole,
     pub align: u32,

@@ -13,7 +13,7 @@ use std::alloc::{AllocError, Global};
 
 /// The sections of all objects, one object after another, and where those of each object begin, with
 /// the end of all at last.
-#[derive(Debug, Drop)]
+#[derive(Drop)]
 pub struct Sections {
     pub rows: Vec<SectionRow>,
     pub starts: Vec<u32>,

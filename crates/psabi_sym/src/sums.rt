@@ -27,7 +27,7 @@ const ALIGN: u8 = 43;
 const COMMON: u16 = 0xFFF2;
 
 /// How many bytes the files of objects have, and the room that they may take in code and in data.
-#[derive(Clone, Copy, PartialEq, Eq, Debug)]
+#[derive(Clone, Copy)]
 pub struct Sums {
     pub file_bytes: u64,
     pub code_room: u64,

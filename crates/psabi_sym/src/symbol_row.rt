@@ -9,7 +9,7 @@ const COMMON: u16 = 0xFFF2;
 
 /// What a link keeps of a symbol: its object's index and its own, the number of its name, and the
 /// fields of its entry but for the type (System V gABI, "Symbol Table").
-#[derive(Clone, Copy, PartialEq, Eq, Debug)]
+#[derive(Clone, Copy)]
 pub struct SymbolRow {
     pub object: u16,
     pub home: u16,

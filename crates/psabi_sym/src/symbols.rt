@@ -16,7 +16,7 @@ use std::alloc::{AllocError, Global};
 
 /// The symbols of all objects, one object after another and without symbol 0, and where those of each
 /// object begin, with the end of all at last.
-#[derive(Debug, Drop)]
+#[derive(Drop)]
 pub struct Symbols {
     pub rows: Vec<SymbolRow>,
     pub starts: Vec<u32>,

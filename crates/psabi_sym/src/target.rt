@@ -8,7 +8,7 @@ use zc_base::place::Place;
 /// or a number. `Absent` is a weak symbol that no object defines, with the addend alone. `Nowhere`
 /// means no address: the symbol's section isn't kept, the place lies outside its
 /// section, or the symbol is global and nothing defines it.
-#[derive(Clone, Copy, PartialEq, Eq, Debug)]
+#[derive(Clone, Copy)]
 pub enum Target {
     Code(Place),
     Number(u32),

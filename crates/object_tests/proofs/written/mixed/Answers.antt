@@ -1,4 +1,4 @@
--- The parts of the second object can be written.
+-- The parts of the object can be written.
 use Rattle.std.proofs.Common.{◌≡◌, ℕ, ◌<◌, List, [], ◌∷◌, codes, refl, sym, ◌∙◌, lit<, lit≤, arith, subst, pos, negsuc}
 use Rattle.std.specs.Int.Count.{ones}
 use Rattle.std.proofs.lemmas.List.Elements.{All-from_recursion}
@@ -7,7 +7,7 @@ use Rattle.elf32_read.specs.Parts.{ObjectParts, SectionParts, SymbolParts}
 use Rattle.elf32_read.specs.declared.reloc.Reloc.{Reloc}
 use Rattle.elf32_write.specs.FileSections.{added_sections, file_sections}
 use Rattle.elf32_write.specs.Writable.{IsWritable, IsWritableSection, IsWritableSymbol}
-use Rattle.elf32_write.proofs.write_object.tests.mixed.Goals as goal
+use Rattle.object_tests.proofs.written.mixed.Goals as goal
 
 given : List ℕ → List ℕ → List Reloc → Header → SectionParts
 given name bytes relocs h = record { name = name; kind = h.kind; flags = h.flags; align = h.align; size = h.size; bytes = bytes; relocs = relocs }

@@ -1,0 +1,16 @@
+//! Tests of `elf32_read`, `elf32_write` and `psabi_sym`, by their public calls. They stand apart, since a
+//! crate with tests is proved twice.
+#![tactic(auto)]
+
+#[cfg(test)]
+mod fixture;
+#[cfg(test)]
+mod images;
+#[cfg(test)]
+mod links;
+#[cfg(test)]
+mod names;
+#[cfg(test)]
+mod objects;
+#[cfg(test)]
+mod written;
