@@ -283,8 +283,8 @@ fn refusal(alloc: Global, files: &[Vec<u8>]) -> Result<String, AllocError> {
     }
 }
 
-// Each row: the objects, and which of them is refused. The data of the third and fourth are as large as they may be, and
-// a byte larger.
+// Each row: the objects, and which of them is refused. In the last two the data are as large as they may be, and a
+// byte larger.
 #[test]
 fn the_first_fault_and_its_object_are_named(rt: HostRuntime) -> Result<(), Fail> {
     for (lines, want) in [
