@@ -5,7 +5,7 @@ use zc_base::place::Place;
 
 /// What a step comes to: the machine went on, and has read so many bytes or written these to the
 /// output (1) or to the output for errors (2); or it exited, or is stuck.
-#[derive(PartialEq, Eq, Debug, Drop)]
+#[derive(Drop)]
 pub enum SymStep {
     Done,
     Read { count: u32 },

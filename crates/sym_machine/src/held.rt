@@ -11,7 +11,7 @@ use zc_base::place::Place;
 
 /// A word as a register holds it. Most words are numbers, which this form tells without a look at
 /// four bytes. A word of bytes may be a number or a code address too.
-#[derive(Clone, Copy, PartialEq, Eq, Debug)]
+#[derive(Clone, Copy)]
 pub enum Held {
     Number(u32),
     Code(Place),

@@ -16,7 +16,7 @@ use rv_decode::results::is_taken;
 use zc_base::place::Place;
 
 /// What a word is known to be: a number, the address of a place in code, or neither.
-#[derive(Clone, Copy, PartialEq, Eq, Debug)]
+#[derive(Clone, Copy)]
 pub enum Known {
     Number(u32),
     Code(Place),

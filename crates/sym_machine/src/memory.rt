@@ -17,7 +17,7 @@ use zc_base::mem_map::MemMap;
 
 /// The bytes of data, and those of the stack from an address up: all below it are undefined, and take
 /// no room. The stack's bytes stand from its end downwards.
-#[derive(Debug, Drop)]
+#[derive(Drop)]
 pub struct Memory {
     map: MemMap,
     bytes: Vec<SymByte>,

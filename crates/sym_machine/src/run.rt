@@ -69,6 +69,3 @@ fn write_to<C: Console>(console: &mut C, fd: u8, bytes: &[u8]) -> Result<(), Con
         console.err(bytes)
     }
 }
-
-#[cfg(test)]
-mod tests;

@@ -64,27 +64,3 @@ impl Why {
         }
     }
 }
-
-#[cfg(test)]
-mod tests {
-    use super::*;
-
-    #[test]
-    fn causes_have_their_printed_numbers_and_names(rt: HostRuntime) {
-        let rows = [
-            (Why::AddressUnknown, 1, "AddressUnknown"),
-            (Why::ConditionUnknown, 2, "ConditionUnknown"),
-            (Why::TargetUnknown, 3, "TargetUnknown"),
-            (Why::ArgumentUnknown, 4, "ArgumentUnknown"),
-            (Why::BadAddress, 5, "BadAddress"),
-            (Why::Misaligned, 6, "Misaligned"),
-            (Why::StackPointer, 7, "StackPointer"),
-            (Why::NoInstruction, 8, "NoInstruction"),
-            (Why::UnknownCall, 9, "UnknownCall"),
-        ];
-        for (why, number, name) in rows {
-            assert_eq!(rt; why.number(), number);
-            assert_eq!(rt; why.name(), name);
-        }
-    }
-}

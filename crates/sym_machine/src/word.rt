@@ -8,7 +8,7 @@ use zc_base::place::Place;
 
 /// A number that depends on where code will lie: the address of a place, the upper part of that
 /// address as `lui` gives it, or what the `auipc` at a place gives.
-#[derive(Clone, Copy, PartialEq, Eq, Debug)]
+#[derive(Clone, Copy)]
 pub enum Value {
     Code(Place),
     AbsHi(Place),
@@ -16,7 +16,7 @@ pub enum Value {
 }
 
 /// An abstract byte: a number, one of the four bytes of a value, the lowest first, or undefined.
-#[derive(Clone, Copy, PartialEq, Eq, Debug)]
+#[derive(Clone, Copy)]
 pub enum SymByte {
     Num(u8),
     Part(Value, u8),
@@ -47,7 +47,7 @@ impl SymByte {
 }
 
 /// A word of four abstract bytes, the lowest first.
-#[derive(Clone, Copy, PartialEq, Eq, Debug)]
+#[derive(Clone, Copy)]
 pub struct SymWord {
     pub b0: SymByte,
     pub b1: SymByte,

@@ -33,13 +33,7 @@ wants_step (Wants c') c e = cc
 wants_step (Ended status) c e = absurd cc
 wants_step (Stopped reason) c e = absurd cc
 
--- a step that wants a call wants it again
-pub wants_again : (z now : ZcCore) (c : EnvCall) (a : Step) → a ≡ answer_of (zc_step z) → now ≡ core_after (zc_step z) z → a ≡ answer.Wants c → zc_step now ≡ Wants c
-wants_again z now c a answers left is =
-    let wants = wants_step (zc_step z) c (sym is ∙ answers) in
-    ap zc_step (left ∙ ap (λ s. core_after s z) wants) ∙ wants
-
--- and changes nothing
+-- a step that wants a call wants it again, and changes nothing
 pub record Wanted (z z2 : ZcCore) (c : EnvCall) : Type 0 where
   pub wants : zc_step z ≡ Wants c
   pub stays : z2 ≡ z

@@ -4,7 +4,7 @@ use crate::reason::Reason;
 
 /// An environment call that the machine knows, whose buffer lies in its memory. `at` is the buffer's
 /// address and `len` its length in bytes; an exit has the status.
-#[derive(Clone, Copy, PartialEq, Eq, Debug)]
+#[derive(Clone, Copy)]
 pub enum EnvCall {
     Read { at: u32, len: u32 },
     Write { fd: u8, at: u32, len: u32 },
@@ -13,7 +13,7 @@ pub enum EnvCall {
 
 /// What one step comes to: an instruction was committed, or nothing changed, since the program wants
 /// an environment call, has ended, or is stopped.
-#[derive(Clone, Copy, PartialEq, Eq, Debug)]
+#[derive(Clone, Copy)]
 pub enum Step {
     Committed,
     Wants(EnvCall),

@@ -17,8 +17,6 @@ mod accesses;
 mod calls;
 mod interrupts;
 mod jumps;
-#[cfg(test)]
-pub(crate) mod tests;
 
 use crate::answer::Step;
 use crate::cells::instruction;

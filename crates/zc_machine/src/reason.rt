@@ -48,22 +48,3 @@ impl Reason {
         }
     }
 }
-
-#[cfg(test)]
-mod tests {
-    use super::*;
-
-    #[test]
-    fn reasons_have_their_printed_numbers_and_names(rt: HostRuntime) {
-        let rows = [
-            (Reason::Illegal, 1, "Illegal"),
-            (Reason::BadAccess, 2, "BadAccess"),
-            (Reason::Misaligned, 3, "Misaligned"),
-            (Reason::Break, 4, "Break"),
-            (Reason::UnknownCall, 5, "UnknownCall"),
-        ];
-        for (reason, number, name) in rows {
-            assert_eq!(rt; (reason.number(), reason.name()), (number, name));
-        }
-    }
-}

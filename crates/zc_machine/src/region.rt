@@ -7,7 +7,7 @@ ghost use Rattle.zc_machine.specs.Region.{allowed, kind_of};
 use std::marker::Model;
 
 /// What a region is for.
-#[derive(Clone, Copy, PartialEq, Eq, Debug)]
+#[derive(Clone, Copy)]
 pub enum RegionKind {
     Text,
     Data,
@@ -16,7 +16,7 @@ pub enum RegionKind {
 
 /// What reaches memory: the fetch of an instruction, a load, a store or a call's buffer, or an
 /// interrupt that writes.
-#[derive(Clone, Copy, PartialEq, Eq, Debug)]
+#[derive(Clone, Copy)]
 pub enum Access {
     Fetch,
     Data,

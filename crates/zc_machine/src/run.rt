@@ -87,6 +87,3 @@ fn interrupt(machine: &mut Machine, plan: &Plan, mut next: u32) -> u32
     }
     next
 }
-
-#[cfg(test)]
-mod tests;

@@ -1,0 +1,103 @@
+// Tables of programs. Words, bytes, addresses, pc and a0 are hexadecimal.
+
+/// Each row: three instructions, as LLVM's assembler writes them, and how a run of them ends, as in `PROGRAMS`. Text begins
+/// at 0x10000, and sp is 0x10000000 at first.
+pub const HALFWORDS: &str = "
+0001 0001 0808 | ends spent 10006 10000010 | c.nop; c.nop; c.addi4spn a0,sp,16
+FF010593 C1CC 41C8 | ends spent 10008 ffffff0 | addi a1,sp,-16; c.sw a1,4(a1); c.lw a0,4(a1)
+FF010593 C18C 81C8 | ends spent 10008 ff | addi a1,sp,-16; c.sw a1,0(a1); c.lbu a0,1(a1)
+FF010593 C18C 85A8 | ends spent 10008 fff | addi a1,sp,-16; c.sw a1,0(a1); c.lhu a0,2(a1)
+FF010593 C18C 85C8 | ends spent 10008 fffffff0 | addi a1,sp,-16; c.sw a1,0(a1); c.lh a0,0(a1)
+FF010593 89EC 4188 | ends spent 10008 f0000000 | addi a1,sp,-16; c.sb a1,3(a1); c.lw a0,0(a1)
+FF010593 8DAC 4188 | ends spent 10008 fff00000 | addi a1,sp,-16; c.sh a1,2(a1); c.lw a0,0(a1)
+4515 1565 0001 | ends spent 10006 fffffffe | c.li a0,5; c.addi a0,-7; c.nop
+2011 8506 9082 | ends spent 10004 10006 | c.jal .+4; c.mv a0,ra; c.jalr ra
+2011 0001 8506 0001 | ends spent 10008 10002 | c.jal .+4; c.nop; c.mv a0,ra; c.nop
+7139 850A 0001 | ends spent 10006 fffffc0 | c.addi16sp sp,-64; c.mv a0,sp; c.nop
+7501 0001 0001 | ends spent 10006 fffe0000 | c.lui a0,0xfffe0; c.nop; c.nop
+557D 8171 0001 | ends spent 10006 f | c.li a0,-1; c.srli a0,28; c.nop
+5541 8509 0001 | ends spent 10006 fffffffc | c.li a0,-16; c.srai a0,2; c.nop
+557D 9941 0001 | ends spent 10006 fffffff0 | c.li a0,-1; c.andi a0,-16; c.nop
+4515 459D 8D0D | ends spent 10006 fffffffe | c.li a0,5; c.li a1,7; c.sub a0,a1
+4515 4599 8D2D | ends spent 10006 3 | c.li a0,5; c.li a1,6; c.xor a0,a1
+4515 4599 8D4D | ends spent 10006 7 | c.li a0,5; c.li a1,6; c.or a0,a1
+4515 4599 8D6D | ends spent 10006 4 | c.li a0,5; c.li a1,6; c.and a0,a1
+4515 4599 9D4D | ends spent 10006 1e | c.li a0,5; c.li a1,6; c.mul a0,a1
+557D 9D61 0001 | ends spent 10006 ff | c.li a0,-1; c.zext.b a0; c.nop
+4515 9D75 0001 | ends spent 10006 fffffffa | c.li a0,5; c.not a0; c.nop
+A011 0001 4505 0001 | ends spent 10008 1 | c.j .+4; c.nop; c.li a0,1; c.nop
+C111 0001 4505 0001 | ends spent 10008 1 | c.beqz a0,.+4; c.nop; c.li a0,1; c.nop
+E111 4509 E111 | ends spent 10008 2 | c.bnez a0,.+4; c.li a0,2; c.bnez a0,.+4
+450D 057A 0001 | ends spent 10006 c0000000 | c.li a0,3; c.slli a0,30; c.nop
+1141 C60A 4532 | ends spent 10006 ffffff0 | c.addi sp,-16; c.swsp sp,12(sp); c.lwsp a0,12(sp)
+2011 4525 8082 | ends spent 10004 9 | c.jal .+4; c.li a0,9; c.jr ra
+4515 459D 952E | ends spent 10006 c | c.li a0,5; c.li a1,7; c.add a0,a1";
+
+/// Each program, its input, the most commits that it may make, and which call of the console fails; the bytes of the
+/// output and of the output for errors; and how its run ends, with pc and a0.
+pub const PROGRAMS: &str = "
+# sp starts at 0x10000000: addi sp,sp,-16; sw sp,12(sp); lbu a0,13(sp), lb a0,13(sp) or lhu a0,14(sp)
+FF010113 00212623 00D14503 | steps 3 | ends spent 1000c ff
+FF010113 00212623 00D10503 | steps 3 | ends spent 1000c ffffffff
+FF010113 00212623 00E15503 | steps 3 | ends spent 1000c fff
+# auipc a0,0; jalr a0,9(a0), to the zeros at 0x10008
+00000517 00950567 00000000 | ends stopped 1 Illegal 10008 10008
+# lui a0,0xFFFFF; beq x0,x0,4; ebreak
+FFFFF537 00000263 00100073 | ends stopped 4 Break 10008 fffff000
+# addi a0,x0,5; div a0,a0,x0; lh a1,-1(sp)
+00500513 02054533 FFF11583 | ends stopped 3 Misaligned 10008 ffffffff
+# jal a0,4; lw a1,0(sp), past the stack; fence
+0040056F 00012583 0FF0000F | ends stopped 2 BadAccess 10004 10004
+# addi a0,x0,1; csrrw on jvt
+00100513 01729073 00000000 | ends stopped 1 Illegal 10004 1
+# c.li a0,4; c.nop; c.ebreak
+4511 0001 9002 | ends stopped 4 Break 10004 4
+# c.li a0,3; addi a7,x0,93; ecall, for so many commits
+450D 05D00893 00000073 | steps 1000 | ends exited 3 10006 3
+450D 05D00893 00000073 | steps 3 | ends exited 3 10006 3
+450D 05D00893 00000073 | steps 2 | ends spent 10006 3
+450D 05D00893 00000073 | steps 0 | ends spent 10000 0
+# addi x0,x0,5; addi a7,x0,93; ecall
+00500013 05D00893 00000073 | ends exited 0 10008 0
+# ecall, with no call's number
+00000073 | ends stopped 5 UnknownCall 10000 0
+# or a0,a0,x1, and the same of x3 to x31: all are 0 at the start
+00156533 00356533 00456533 00556533 00656533 00756533 00856533 00956533 00A56533 00B56533 00C56533 00D56533 00E56533 00F56533 01056533 01156533 01256533 01356533 01456533 01556533 01656533 01756533 01856533 01956533 01A56533 01B56533 01C56533 01D56533 01E56533 01F56533 | steps 30 | ends spent 10078 0
+# c.li a0,3; a halfword that spells nothing
+450D 0000 | ends stopped 1 Illegal 10002 3
+# c.li a0,3, and the end of the text
+450D | ends stopped 2 BadAccess 10002 3
+# the same with half a word after it
+450D 0893 | ends stopped 2 BadAccess 10002 3
+# addi a7,x0,63; addi a2,x0,4; ecall: no memory is at 0
+03F00893 00400613 00000073 | ends stopped 2 BadAccess 10008 0
+# addi a7,x0,64; addi a0,x0,3; ecall: no stream has the number 3
+04000893 00300513 00000073 | ends stopped 5 UnknownCall 10008 3
+# addi a7,x0,63; ecall; ebreak: a read of no bytes
+03F00893 00000073 00100073 | ends stopped 4 Break 10008 0
+# c.li a0,1; addi a7,x0,64; ecall; c.ebreak: a write of no bytes
+4505 04000893 00000073 9002 | ends stopped 4 Break 1000a 0
+# addi a7,x0,63; addi a1,sp,-16; addi a2,x0,8; ecall; addi a2,a0,0; addi a0,x0,1 (or 2, or 3); addi a7,x0,64; ecall; addi a7,x0,93; ecall
+03F00893 FF010593 00800613 00000073 00050613 00100513 04000893 00000073 05D00893 00000073 | in 68 69 | out 68 69 | ends exited 2 10024 2
+03F00893 FF010593 00800613 00000073 00050613 00200513 04000893 00000073 05D00893 00000073 | in 68 69 | err 68 69 | ends exited 2 10024 2
+03F00893 FF010593 00800613 00000073 00050613 00100513 04000893 00000073 05D00893 00000073 | in 31 32 33 34 35 36 37 38 39 | out 31 32 33 34 35 36 37 38 | ends exited 8 10024 8
+03F00893 FF010593 00800613 00000073 00050613 00100513 04000893 00000073 05D00893 00000073 | ends exited 0 10024 0
+03F00893 FF010593 00800613 00000073 00050613 00300513 04000893 00000073 05D00893 00000073 | in 68 69 | ends stopped 5 UnknownCall 1001c 3
+# two bytes are read, two more after them, and all four are written: addi a7,x0,63; addi a1,sp,-16; addi a2,x0,2; ecall; addi a1,a1,2; addi a0,x0,0; ecall; addi a1,a1,-2; addi a2,x0,4; addi a0,x0,1; addi a7,x0,64; ecall; addi a7,x0,93; ecall
+03F00893 FF010593 00200613 00000073 00258593 00000513 00000073 FFE58593 00400613 00100513 04000893 00000073 05D00893 00000073 | in 61 62 63 64 65 66 | out 61 62 63 64 | ends exited 4 10034 4
+# five bytes are read to 0x0FFFEFFE, and written in two pieces, the first up to the page's end: lui a1,0xFFFF; addi a1,a1,-2; addi a2,x0,5; addi a7,x0,63; ecall; addi a0,x0,1; addi a7,x0,64; ecall; addi a7,x0,93; ecall
+0FFFF5B7 FFE58593 00500613 03F00893 00000073 00100513 04000893 00000073 05D00893 00000073 | in 61 62 63 64 65 | out 61 62 63 64 65 | ends exited 5 10024 5
+# the same over a console whose second call fails, or whose first
+0FFFF5B7 FFE58593 00500613 03F00893 00000073 00100513 04000893 00000073 05D00893 00000073 | in 61 62 63 64 65 | fails 1 | out 61 62 | ends fault 1001c 1
+0FFFF5B7 FFE58593 00500613 03F00893 00000073 00100513 04000893 00000073 05D00893 00000073 | in 61 62 63 64 65 | fails 0 | ends fault 1001c 1";
+
+/// Each program, and what its steps answer, one after another.
+pub const STEPS: &str = "
+# c.li a0,3; addi a7,x0,93; ecall
+text 450D 05D00893 00000073 | answers committed; committed; wants exit 3; wants exit 3
+# c.li a0,3, and the end of the text
+text 450D | answers committed; stopped 2 BadAccess; stopped 2 BadAccess
+# addi a7,x0,63; addi a1,sp,-16; ecall: a read of no bytes, as a2 is 0
+text 03F00893 FF010593 00000073 | answers committed; committed; wants read ffffff0 0; wants read ffffff0 0
+# c.li a0,2; addi a7,x0,64; addi a1,sp,-16; addi a2,x0,4; ecall
+text 4509 04000893 FF010593 00400613 00000073 | answers committed; committed; committed; committed; wants write 2 ffffff0 4";

@@ -1,0 +1,159 @@
+// The symbolic machine: small objects, from their bytes to the ends of their runs. What is expected is worked out by the
+// manual.
+
+ghost use Rattle.psabi_sym.specs.Inputs.{parsed};
+ghost use Rattle.sym_machine.specs.Kept.{IsOf};
+ghost use Rattle.sym_machine.specs.Objects.{program_of};
+
+mod object;
+mod relocated;
+mod rows;
+
+use crate::row::{bytes_of, column, end_of, number_of, shown};
+use block_cut::cut::Cut;
+use object::object_of;
+use psabi_sym::objects::Objects;
+use relocated::RELOCATED;
+use rows::{BRANCHES, CALLS, PROGRAMS, RESULTS, STEPS};
+use std::alloc::{AllocError, Global};
+use std::process::Abort;
+use std::test::Fail;
+use sym_machine::answer::SymStep;
+use sym_machine::run::{TraceEnd, run};
+use sym_machine::sym::Sym;
+use sym_machine::why::Why;
+use zc_base::mem_map::MemMap;
+use zc_base::place::Place;
+use zc_outside::mem_console::MemConsole;
+
+// The object of a row, cut into items.
+fn cut_of(alloc: Global, row: &str) -> Result<Cut, Fail> {
+    let words = format!(in alloc; "{} {}", column(row, "words"), column(row, "then"))?;
+    let object = object_of(
+        alloc,
+        words.as_str(),
+        column(row, "relocs"),
+        column(row, "data"),
+    )?;
+    let files = vec![in alloc; object]?;
+    let objects = Objects::gather(alloc, &files, MemMap::standard())?;
+    Ok(Cut::new(alloc, objects)?)
+}
+
+// Runs the program of a row, and says how the run ended and what it wrote.
+fn ran(alloc: Global, row: &str) -> Result<String, Fail> {
+    let steps = u64::from(number_of(row, "steps")?);
+    let fails = [number_of(row, "fails")?];
+    let input = bytes_of(alloc, column(row, "in"))?;
+    let mut console = MemConsole::new(alloc, b"", &fails)?;
+    let cut = cut_of(alloc, row)?;
+    let mut sym = Sym::start(alloc, &cut, input.as_slice())?;
+    let end = run(&mut sym, &cut, steps, &mut console);
+    let ended = end_text(alloc, end)?;
+    shown(alloc, ended.as_str(), &console)
+}
+
+fn end_text(alloc: Global, end: TraceEnd) -> Result<String, AllocError> {
+    match end {
+        TraceEnd::Exited(status) => format!(in alloc; "exited {status:x}"),
+        TraceEnd::Stuck(place, why) => stuck_text(alloc, place, why),
+        TraceEnd::Spent => String::from_str(alloc, "spent"),
+        TraceEnd::Console(_) => String::from_str(alloc, "fault"),
+        TraceEnd::OutOfMemory => String::from_str(alloc, "out of memory"),
+    }
+}
+
+// The object, section and offset of a place, and why the machine is stuck there.
+fn stuck_text(alloc: Global, place: Place, why: Why) -> Result<String, AllocError> {
+    let (object, section, offset) = (place.object, place.section, place.offset);
+    let (number, name) = (why.number(), why.name());
+    format!(in alloc; "stuck {object}:{section}:{offset:x} {number} {name}")
+}
+
+// Runs each row, between texts before and after it: it should end and write as it says.
+fn expect_runs<R: Abort + AllocGlobal>(
+    rt: &R,
+    before: &str,
+    rows: &str,
+    after: &str,
+) -> Result<(), Fail> {
+    for row in rows.trim().lines() {
+        if !row.starts_with('#') {
+            let row = format!(in rt.alloc(); "words {before} {row} {after}")?;
+            let want = end_of(rt.alloc(), row.as_str())?;
+            assert_eq!(rt; ran(rt.alloc(), row.as_str())?, want, "{row}");
+        }
+    }
+    Ok(())
+}
+
+// lui t0,0x100; addi a1,t0,16; addi a0,x0,0; addi a2,x0,8; addi a7,x0,63; ecall; lw a1,16(t0); lw a2,20(t0)
+const READ_TWO: &str = "001002B7 01028593 00000513 00800613 03F00893 00000073 0102A583 0142A603";
+
+// sw a0,16(t0); addi a0,x0,1; addi a1,t0,16; addi a2,x0,4; addi a7,x0,64; ecall, and no instruction after it
+const SHOW_A0: &str = "| then 00A2A823 00100513 01028593 00400613 04000893 00000073
+| ends stuck 0:1:3c 8 NoInstruction";
+
+#[test]
+fn instructions_give_their_results(rt: HostRuntime) -> Result<(), Fail> {
+    expect_runs(&rt, READ_TWO, RESULTS, SHOW_A0)
+}
+
+// addi a0,x0,0; addi a7,x0,93; ecall: if the branch before them is taken, a0 is still 8, what was read
+const EXIT_0: &str = "| then 00000513 05D00893 00000073";
+
+#[test]
+fn branches_are_taken_by_their_conditions(rt: HostRuntime) -> Result<(), Fail> {
+    expect_runs(&rt, READ_TWO, BRANCHES, EXIT_0)
+}
+
+#[test]
+fn programs_end_with_their_status_or_cause(rt: HostRuntime) -> Result<(), Fail> {
+    expect_runs(&rt, "", PROGRAMS, "")
+}
+
+#[test]
+fn calls_read_and_write(rt: HostRuntime) -> Result<(), Fail> {
+    expect_runs(&rt, "", CALLS, "")
+}
+
+#[test]
+fn relocations_say_what_items_do(rt: HostRuntime) -> Result<(), Fail> {
+    expect_runs(&rt, "", RELOCATED, "")
+}
+
+// Makes a step, and says what it answers.
+fn step_text(alloc: Global, sym: &mut Sym, cut: &Cut) -> Result<String, AllocError>
+    requires { IsOf (program_of (parsed cut.now)) sym.old }
+    ensures { IsOf (program_of (parsed cut.now)) sym.new }
+{
+    match sym.step(cut)? {
+        SymStep::Done => String::from_str(alloc, "done"),
+        SymStep::Read { count } => format!(in alloc; "read {count}"),
+        SymStep::Wrote { fd, bytes } => format!(in alloc; "wrote {fd} {bytes:?}"),
+        SymStep::Exited(status) => format!(in alloc; "exited {status:x}"),
+        SymStep::Stuck(place, why) => stuck_text(alloc, place, why),
+    }
+}
+
+// Makes the steps of a row, which should answer as the row says.
+fn expect_steps<R: Abort + AllocGlobal>(rt: &R, row: &str) -> Result<(), Fail> {
+    let input = bytes_of(rt.alloc(), column(row, "in"))?;
+    let cut = cut_of(rt.alloc(), row)?;
+    let mut sym = Sym::start(rt.alloc(), &cut, input.as_slice())?;
+    for want in column(row, "answers").split(';') {
+        let answer = step_text(rt.alloc(), &mut sym, &cut)?;
+        assert_eq!(rt; answer.as_str(), want.trim(), "{row}");
+    }
+    Ok(())
+}
+
+#[test]
+fn each_step_answers_and_the_last_stays(rt: HostRuntime) -> Result<(), Fail> {
+    for row in STEPS.trim().lines() {
+        if !row.starts_with('#') {
+            expect_steps(&rt, row)?;
+        }
+    }
+    Ok(())
+}

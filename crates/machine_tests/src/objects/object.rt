@@ -1,0 +1,59 @@
+// An object with code, data and relocations.
+
+use crate::row::bytes_of;
+use std::alloc::Global;
+use std::test::Fail;
+
+// The object's header. The words below are hexadecimal, too.
+const HEADER: &str = "
+464C457F 00010101 00000000 00000000
+00F30001 00000001 00000000 00000000
+00000130 00000000 00000034 00280000
+00050008";
+
+// Eight bytes of data. Symbols: 1 is the code's first byte, 2 the data's, 3 the code's second word, 4 `_start`, which is the
+// code's first byte, and 5 is weak, and not defined. The strings of these names.
+const DATA: &str = "
+84030201 08070605
+00000000 00000000 00000000 00000000
+00000000 00000000 00000000 00010000
+00000000 00000000 00000000 00020000
+00000000 00000004 00000000 00010000
+00000001 00000000 00000000 00010010
+00000008 00000000 00000000 00000020
+74735F00 00747261 00000077";
+
+// Sections without names: 1 is code of 16 words, 2 the data, and 3 eight zeros; 4 the symbols, 5 their names, and 6 and 7 the
+// relocations of code and of data.
+const SECTIONS: &str = "
+00000000 00000000 00000000 00000000 00000000 00000000 00000000 00000000 00000000 00000000
+00000000 00000001 00000006 00000000 00000034 00000040 00000000 00000000 00000004 00000000
+00000000 00000001 00000003 00000000 00000074 00000008 00000000 00000000 00000004 00000000
+00000000 00000008 00000003 00000000 0000007C 00000008 00000000 00000000 00000004 00000000
+00000000 00000002 00000000 00000000 0000007C 00000060 00000005 00000004 00000004 00000010
+00000000 00000003 00000000 00000000 000000DC 0000000A 00000000 00000000 00000001 00000000
+00000000 00000004 00000000 00000000 000000E8 00000030 00000004 00000001 00000004 0000000C
+00000000 00000004 00000000 00000000 00000118 00000018 00000004 00000002 00000004 0000000C";
+
+/// The object with this code, these relocations of code, of which four have room, and these of data, of which two have. A
+/// relocation of zeros does nothing.
+pub fn object_of(
+    alloc: Global,
+    code: &str,
+    relocs: &str,
+    data_relocs: &str,
+) -> Result<Vec<u8>, Fail> {
+    let mut object = Vec::new(alloc);
+    for (text, end) in [
+        (HEADER, 52),
+        (code, 116),
+        (DATA, 232),
+        (relocs, 280),
+        (data_relocs, 304),
+        (SECTIONS, 624),
+    ] {
+        object.extend_from_slice(bytes_of(alloc, text)?.as_slice())?;
+        object.resize(end, 0)?;
+    }
+    Ok(object)
+}

@@ -1,0 +1,257 @@
+// Tables of instructions and programs. Words are hexadecimal.
+
+/// Each row: an instruction, what a1 and a2 hold before it, and what a0 holds after it. Data begins with the bytes
+/// 1, 2, 3, 0x84, 5, 6, 7, 8 at 0x00100000, and ends before 0x00100020.
+pub const RESULTS: &str = "
+00C58533 | in FFFFFFFF 00000001 | out 00000000 | add a0,a1,a2
+00C58533 | in 7FFFFFFF 00000001 | out 80000000 | add a0,a1,a2
+40C58533 | in 00000000 00000001 | out FFFFFFFF | sub a0,a1,a2
+40C58533 | in 80000000 00000001 | out 7FFFFFFF | sub a0,a1,a2
+00C59533 | in 00000001 0000001F | out 80000000 | sll a0,a1,a2
+00C59533 | in 00000003 00000021 | out 00000006 | sll a0,a1,a2
+00C5A533 | in 80000000 7FFFFFFF | out 00000001 | slt a0,a1,a2
+00C5A533 | in 00000001 FFFFFFFF | out 00000000 | slt a0,a1,a2
+00C5B533 | in 7FFFFFFF 80000000 | out 00000001 | sltu a0,a1,a2
+00C5B533 | in FFFFFFFF 00000001 | out 00000000 | sltu a0,a1,a2
+00C5C533 | in FFFF0000 FF00FF00 | out 00FFFF00 | xor a0,a1,a2
+00C5D533 | in 80000000 0000001F | out 00000001 | srl a0,a1,a2
+00C5D533 | in 12345678 00000020 | out 12345678 | srl a0,a1,a2
+40C5D533 | in 80000000 0000001F | out FFFFFFFF | sra a0,a1,a2
+40C5D533 | in 7FFFFFFF 00000021 | out 3FFFFFFF | sra a0,a1,a2
+00C5E533 | in F0F0F0F0 0FF00FF0 | out FFF0FFF0 | or a0,a1,a2
+00C5F533 | in F0F0F0F0 0FF00FF0 | out 00F000F0 | and a0,a1,a2
+02C58533 | in FFFFFFFF FFFFFFFF | out 00000001 | mul a0,a1,a2
+02C58533 | in 00010000 00010000 | out 00000000 | mul a0,a1,a2
+02C59533 | in 80000000 80000000 | out 40000000 | mulh a0,a1,a2
+02C59533 | in FFFFFFFF 00000001 | out FFFFFFFF | mulh a0,a1,a2
+02C5A533 | in FFFFFFFF FFFFFFFF | out FFFFFFFF | mulhsu a0,a1,a2
+02C5A533 | in 80000000 FFFFFFFF | out 80000000 | mulhsu a0,a1,a2
+02C5B533 | in FFFFFFFF FFFFFFFF | out FFFFFFFE | mulhu a0,a1,a2
+02C5C533 | in 00000007 FFFFFFFE | out FFFFFFFD | div a0,a1,a2
+02C5C533 | in 00000005 00000000 | out FFFFFFFF | div a0,a1,a2
+02C5C533 | in 80000000 FFFFFFFF | out 80000000 | div a0,a1,a2
+02C5D533 | in FFFFFFFF 00000002 | out 7FFFFFFF | divu a0,a1,a2
+02C5D533 | in 00000005 00000000 | out FFFFFFFF | divu a0,a1,a2
+02C5E533 | in FFFFFFF9 00000002 | out FFFFFFFF | rem a0,a1,a2
+02C5E533 | in 00000005 00000000 | out 00000005 | rem a0,a1,a2
+02C5E533 | in 80000000 FFFFFFFF | out 00000000 | rem a0,a1,a2
+02C5F533 | in FFFFFFFF 0000000A | out 00000005 | remu a0,a1,a2
+02C5F533 | in 00000005 00000000 | out 00000005 | remu a0,a1,a2
+7FF58513 | in FFFFFFFF 00000000 | out 000007FE | addi a0,a1,2047
+80058513 | in 00000000 00000000 | out FFFFF800 | addi a0,a1,-2048
+FFF5A513 | in 80000000 00000000 | out 00000001 | slti a0,a1,-1
+0005A513 | in 00000000 00000000 | out 00000000 | slti a0,a1,0
+FFF5B513 | in FFFFFFFE 00000000 | out 00000001 | sltiu a0,a1,-1
+0015B513 | in 00000000 00000000 | out 00000001 | sltiu a0,a1,1
+FFF5C513 | in 0F0F0F0F 00000000 | out F0F0F0F0 | xori a0,a1,-1
+5555E513 | in AAAAAAAA 00000000 | out AAAAAFFF | ori a0,a1,1365
+F005F513 | in 12345678 00000000 | out 12345600 | andi a0,a1,-256
+01F59513 | in 00000003 00000000 | out 80000000 | slli a0,a1,31
+01F5D513 | in 80000000 00000000 | out 00000001 | srli a0,a1,31
+41F5D513 | in 80000000 00000000 | out FFFFFFFF | srai a0,a1,31
+FFFFF537 | in 00000000 00000000 | out FFFFF000 | lui a0,0xFFFFF
+00058503 | in 00100000 00000000 | out 00000001 | lb a0,0(a1)
+00358503 | in 00100000 00000000 | out FFFFFF84 | lb a0,3(a1)
+0035C503 | in 00100000 00000000 | out 00000084 | lbu a0,3(a1)
+00059503 | in 00100000 00000000 | out 00000201 | lh a0,0(a1)
+00259503 | in 00100000 00000000 | out FFFF8403 | lh a0,2(a1)
+0025D503 | in 00100000 00000000 | out 00008403 | lhu a0,2(a1)
+0005A503 | in 00100000 00000000 | out 84030201 | lw a0,0(a1)
+FFC5A503 | in 00100008 00000000 | out 08070605 | lw a0,-4(a1)
+01C5A503 | in 00100000 00000000 | out 00000000 | lw a0,28(a1)
+01F5C503 | in 00100000 00000000 | out 00000000 | lbu a0,31(a1)
+01E59503 | in 00100000 00000000 | out 00000000 | lh a0,30(a1)";
+
+/// Each row: a branch, what a1 and a2 hold, and the status of an exit: 8 if the branch was taken, and 0 if not.
+pub const BRANCHES: &str = "
+00C58463 | in 00000005 00000005 | ends exited 8 | beq a1,a2,8
+00C58463 | in 00000005 00000006 | ends exited 0 | beq a1,a2,8
+00C59463 | in 00000005 00000006 | ends exited 8 | bne a1,a2,8
+00C59463 | in FFFFFFFF FFFFFFFF | ends exited 0 | bne a1,a2,8
+00C5C463 | in 80000000 7FFFFFFF | ends exited 8 | blt a1,a2,8
+00C5C463 | in 00000001 00000001 | ends exited 0 | blt a1,a2,8
+00C5D463 | in 00000000 FFFFFFFF | ends exited 8 | bge a1,a2,8
+00C5D463 | in 80000000 00000000 | ends exited 0 | bge a1,a2,8
+00C5E463 | in 7FFFFFFF 80000000 | ends exited 8 | bltu a1,a2,8
+00C5E463 | in FFFFFFFF 00000000 | ends exited 0 | bltu a1,a2,8
+00C5F463 | in FFFFFFFF FFFFFFFF | ends exited 8 | bgeu a1,a2,8
+00C5F463 | in 00000000 00000001 | ends exited 0 | bgeu a1,a2,8";
+
+/// Each program, and how its run ends.
+pub const PROGRAMS: &str = "
+# addi sp,sp,-16; addi a0,x0,258; sw a0,12(sp); lbu a1,13(sp); addi a0,a1,0; addi a7,x0,93; ecall
+FF010113 10200513 00A12623 00D14583 00058513 05D00893 00000073 | ends exited 1
+# addi sp,sp,-4; addi a0,x0,-1; sw a0,0(sp); sh x0,2(sp); sb x0,1(sp); lw a0,0(sp); addi a7,x0,93; ecall
+FFC10113 FFF00513 00A12023 00011123 000100A3 00012503 05D00893 00000073 | ends exited ff
+# addi sp,sp,-4; lui a0,0x12345; addi a0,a0,0x678; sw a0,0(sp); lbu a0,2(sp); addi a7,x0,93; ecall
+FFC10113 12345537 67850513 00A12023 00214503 05D00893 00000073 | ends exited 34
+# lui t0,0x100; addi a0,x0,-2; sh a0,30(t0); lhu a0,30(t0); addi a7,x0,93; ecall
+001002B7 FFE00513 00A29F23 01E2D503 05D00893 00000073 | ends exited fe
+# lui t0,0xFF00; addi sp,t0,0; sb x0,0(t0); lbu a0,0(sp); addi a7,x0,93; ecall
+0FF002B7 00028113 00028023 00014503 05D00893 00000073 | ends exited 0
+# addi sp,sp,-8; addi a0,x0,-1; sb a0,4(sp); lb a1,4(sp); sltu a0,x0,a1; addi a7,x0,93; ecall
+FF810113 FFF00513 00A10223 00410583 00B03533 05D00893 00000073 | ends exited 1
+# addi sp,sp,-6; addi t0,sp,-2; addi a0,x0,-1; sw a0,0(t0); lhu a1,2(t0); sltu a0,x0,a1; addi a7,x0,93; ecall
+FFA10113 FFE10293 FFF00513 00A2A023 0022D583 00B03533 05D00893 00000073 | ends exited 1
+# addi a0,x0,5; div a0,a0,x0; addi a7,x0,93; ecall
+00500513 02054533 05D00893 00000073 | ends exited ff
+# addi x0,x0,5; lui x0,1; add a0,x0,x0; addi a7,x0,93; ecall
+00500013 00001037 00000533 05D00893 00000073 | ends exited 0
+# fence; addi a0,x0,7; addi a7,x0,93; ecall
+0FF0000F 00700513 05D00893 00000073 | ends exited 7
+# jal ra,4; addi t0,ra,0; sltiu a0,t0,1; addi a7,x0,93; ecall
+004000EF 00008293 0012B513 05D00893 00000073 | ends exited 0
+# jal ra,4; add t0,x0,ra; sltu a0,x0,t0; addi a7,x0,93; ecall
+004000EF 001002B3 00503533 05D00893 00000073 | ends exited 1
+# jal ra,4; addi a0,x0,3; beq ra,x0,8; bne x0,ra,8; addi a0,x0,4; addi a7,x0,93; ecall
+004000EF 00300513 00008463 00101463 00400513 05D00893 00000073 | ends exited 3
+# jal ra,4; jal t0,4; addi a0,x0,3; bne ra,ra,8; bne ra,t0,8; addi a0,x0,4; addi a7,x0,93; ecall
+004000EF 004002EF 00300513 00109463 00509463 00400513 05D00893 00000073 | ends exited 3
+# jal ra,16; addi a0,x0,6; addi a7,x0,93; ecall; addi sp,sp,-4; sw ra,0(sp); lw t0,0(sp); jalr x0,0(t0)
+010000EF 00600513 05D00893 00000073 FFC10113 00112023 00012283 00028067 | ends exited 6
+# jal ra,16; addi a0,x0,8; addi a7,x0,93; ecall; jalr ra,0(ra)
+010000EF 00800513 05D00893 00000073 000080E7 | ends exited 8
+# auipc a0,0; addi a7,x0,93; ecall
+00000517 05D00893 00000073 | ends stuck 0:1:8 4 ArgumentUnknown
+# addi sp,sp,-4; sw x0,0(sp); addi sp,sp,4; addi sp,sp,-4; lw a0,0(sp); addi a7,x0,93; ecall
+FFC10113 00012023 00410113 FFC10113 00012503 05D00893 00000073 | ends stuck 0:1:18 4 ArgumentUnknown
+# sw x0,-4(sp); addi sp,sp,-4; lw a0,0(sp); addi a7,x0,93; ecall
+FE012E23 FFC10113 00012503 05D00893 00000073 | ends stuck 0:1:10 4 ArgumentUnknown
+# add a0,a1,x0; addi a0,a0,1; addi a7,x0,93; ecall
+00058533 00150513 05D00893 00000073 | ends stuck 0:1:c 4 ArgumentUnknown
+# jal ra,4; addi sp,sp,-4; sw ra,0(sp); lb a0,3(sp); addi a7,x0,93; ecall
+004000EF FFC10113 00112023 00310503 05D00893 00000073 | ends stuck 0:1:14 4 ArgumentUnknown
+# lw a0,0(a1)
+0005A503 | ends stuck 0:1:0 1 AddressUnknown
+# sb x0,1(a1)
+000580A3 | ends stuck 0:1:0 1 AddressUnknown
+# jal ra,4; lw a0,0(ra)
+004000EF 0000A503 | ends stuck 0:1:4 1 AddressUnknown
+# lw a0,2(sp)
+00212503 | ends stuck 0:1:0 6 Misaligned
+# lh a0,-1(sp)
+FFF11503 | ends stuck 0:1:0 6 Misaligned
+# lui t0,0x100; sw x0,33(t0)
+001002B7 0202A0A3 | ends stuck 0:1:4 6 Misaligned
+# lw a0,0(sp)
+00012503 | ends stuck 0:1:0 5 BadAddress
+# lb a0,0(sp)
+00010503 | ends stuck 0:1:0 5 BadAddress
+# sh x0,0(x0)
+00001023 | ends stuck 0:1:0 5 BadAddress
+# lui t0,0x100; lw a0,32(t0)
+001002B7 0202A503 | ends stuck 0:1:4 5 BadAddress
+# lui t0,0x100; lbu a0,-1(t0)
+001002B7 FFF2C503 | ends stuck 0:1:4 5 BadAddress
+# lui t0,0xFF00; lb a0,-1(t0)
+0FF002B7 FFF28503 | ends stuck 0:1:4 5 BadAddress
+# lui t0,0x10; lw a0,0(t0)
+000102B7 0002A503 | ends stuck 0:1:4 5 BadAddress
+# beq a0,x0,8
+00050463 | ends stuck 0:1:0 2 ConditionUnknown
+# blt a0,x0,8
+00054463 | ends stuck 0:1:0 2 ConditionUnknown
+# jal ra,4; addi t0,x0,1; beq ra,t0,8
+004000EF 00100293 00508463 | ends stuck 0:1:8 2 ConditionUnknown
+# jal ra,4; bltu x0,ra,8
+004000EF 00106463 | ends stuck 0:1:4 2 ConditionUnknown
+# jal ra,64
+040000EF | ends stuck 0:1:40 8 NoInstruction
+# jalr x0,0(a1)
+00058067 | ends stuck 0:1:0 3 TargetUnknown
+# jalr x0,0(x0)
+00000067 | ends stuck 0:1:0 3 TargetUnknown
+# jal ra,4; jalr x0,4(ra)
+004000EF 00408067 | ends stuck 0:1:4 3 TargetUnknown
+# jal ra,4; addi sp,sp,-4; sw ra,0(sp); sb x0,1(sp); lw ra,0(sp); jalr x0,0(ra)
+004000EF FFC10113 00112023 000100A3 00012083 00008067 | ends stuck 0:1:14 3 TargetUnknown
+# addi sp,sp,4
+00410113 | ends stuck 0:1:0 7 StackPointer
+# addi sp,x0,0
+00000113 | ends stuck 0:1:0 7 StackPointer
+# add sp,a1,x0
+00058133 | ends stuck 0:1:0 7 StackPointer
+# jal sp,4
+0040016F | ends stuck 0:1:0 7 StackPointer
+# lui t0,0xFF00; addi sp,t0,0; addi sp,sp,-1
+0FF002B7 00028113 FFF10113 | ends stuck 0:1:8 7 StackPointer
+# lui t0,0x10000; add sp,t0,x0; addi a0,x0,1; addi a7,x0,93; ecall
+100002B7 00028133 00100513 05D00893 00000073 | ends exited 1
+# ebreak
+00100073 | ends stuck 0:1:0 8 NoInstruction
+# .word 0
+00000000 | ends stuck 0:1:0 8 NoInstruction
+# csrrw x0,a0
+01751073 | ends stuck 0:1:0 8 NoInstruction
+# beq x0,x0,64
+04000063 | ends stuck 0:1:40 8 NoInstruction
+# jal x0,2
+0020006F | ends stuck 0:1:0 8 NoInstruction
+# ecall
+00000073 | ends stuck 0:1:0 4 ArgumentUnknown
+# addi a7,x0,93; ecall
+05D00893 00000073 | ends stuck 0:1:4 4 ArgumentUnknown
+# addi a7,x0,94; ecall
+05E00893 00000073 | ends stuck 0:1:4 9 UnknownCall
+# jal a7,4; ecall
+004008EF 00000073 | ends stuck 0:1:4 4 ArgumentUnknown
+# addi a0,x0,3; addi a7,x0,93; ecall, for so many steps
+00300513 05D00893 00000073 | steps 0 | ends spent
+00300513 05D00893 00000073 | steps 2 | ends spent
+00300513 05D00893 00000073 | steps 3 | ends exited 3
+00300513 05D00893 00000073 | steps 4 | ends exited 3";
+
+/// The same with the input, and with what comes to the output and to the output for errors.
+pub const CALLS: &str = "
+# addi a0,x0,1; lui a1,0x100; addi a2,x0,3; addi a7,x0,64; ecall; addi a7,x0,93; ecall
+00100513 001005B7 00300613 04000893 00000073 05D00893 00000073 | out 01 02 03 | ends exited 3
+# addi a0,x0,2; lui a1,0x100; addi a2,x0,2; addi a7,x0,64; ecall; addi a7,x0,93; ecall
+00200513 001005B7 00200613 04000893 00000073 05D00893 00000073 | err 01 02 | ends exited 2
+# addi a0,x0,1; addi a2,x0,0; addi a7,x0,64; ecall; addi a7,x0,93; ecall
+00100513 00000613 04000893 00000073 05D00893 00000073 | ends exited 0
+# addi a0,x0,0; addi a1,x0,0; addi a2,x0,1; addi a7,x0,64; ecall
+00000513 00000593 00100613 04000893 00000073 | ends stuck 0:1:10 9 UnknownCall
+# addi a0,x0,3; addi a2,x0,0; addi a7,x0,64; ecall
+00300513 00000613 04000893 00000073 | ends stuck 0:1:c 9 UnknownCall
+# addi a0,x0,1; addi a1,x0,0; addi a2,x0,1; addi a7,x0,64; ecall
+00100513 00000593 00100613 04000893 00000073 | ends stuck 0:1:10 5 BadAddress
+# addi a0,x0,1; lui a1,0x100; addi a2,x0,33; addi a7,x0,64; ecall
+00100513 001005B7 02100613 04000893 00000073 | ends stuck 0:1:10 5 BadAddress
+# addi a0,x0,5; addi a7,x0,63; ecall
+00500513 03F00893 00000073 | ends stuck 0:1:8 4 ArgumentUnknown
+# addi a0,x0,5; addi a2,x0,1; addi a7,x0,63; ecall
+00500513 00100613 03F00893 00000073 | ends stuck 0:1:c 4 ArgumentUnknown
+# addi a0,x0,1; addi a1,sp,-4; addi a2,x0,4; addi a7,x0,64; ecall
+00100513 FFC10593 00400613 04000893 00000073 | ends stuck 0:1:10 4 ArgumentUnknown
+# addi a0,x0,1; addi a1,x0,0; addi a2,x0,1; addi a7,x0,63; ecall
+00100513 00000593 00100613 03F00893 00000073 | ends stuck 0:1:10 9 UnknownCall
+# addi a0,x0,0; addi a1,x0,0; addi a2,x0,1; addi a7,x0,63; ecall
+00000513 00000593 00100613 03F00893 00000073 | ends stuck 0:1:10 5 BadAddress
+# addi a0,x0,0; addi a2,x0,0; addi a7,x0,63; ecall; addi a7,x0,93; ecall
+00000513 00000613 03F00893 00000073 05D00893 00000073 | in 61 62 | ends exited 0
+# addi a0,x0,0; lui a1,0x100; addi a2,x0,4; addi a7,x0,63; ecall; lbu a0,2(a1); addi a7,x0,93; ecall
+00000513 001005B7 00400613 03F00893 00000073 0025C503 05D00893 00000073 | in 61 62 | ends exited 3
+# addi a0,x0,0; addi a1,sp,-4; addi a2,x0,4; addi a7,x0,63; ecall; addi sp,sp,-4; lbu a0,0(sp); addi a7,x0,93; ecall
+00000513 FFC10593 00400613 03F00893 00000073 FFC10113 00014503 05D00893 00000073 | in 61 62 63 64 | ends stuck 0:1:20 4 ArgumentUnknown
+# addi a2,x0,1; lui a1,0x100; addi a7,x0,63; addi a0,x0,0; ecall; addi a0,x0,0; ecall; lbu a0,0(a1); addi a7,x0,93; ecall
+00100613 001005B7 03F00893 00000513 00000073 00000513 00000073 0005C503 05D00893 00000073 | in 78 79 | ends exited 79
+# addi a0,x0,0; lui a1,0x100; addi a2,x0,4; addi a7,x0,63; ecall; addi a2,a0,0; addi a0,x0,1; addi a7,x0,64; ecall; addi a7,x0,93; ecall
+00000513 001005B7 00400613 03F00893 00000073 00050613 00100513 04000893 00000073 05D00893 00000073 | in 61 62 | out 61 62 | ends exited 2
+# addi a0,x0,0; lui a1,0x100; addi a2,x0,4; addi a7,x0,63; ecall; addi a2,a0,0; addi a0,x0,1; addi a7,x0,64; ecall; addi a7,x0,93; ecall
+00000513 001005B7 00400613 03F00893 00000073 00050613 00100513 04000893 00000073 05D00893 00000073 | in 61 62 63 64 65 66 | out 61 62 63 64 | ends exited 4
+# addi a0,x0,0; lui a1,0x100; addi a2,x0,4; addi a7,x0,63; ecall; addi a2,a0,0; addi a0,x0,1; addi a7,x0,64; ecall; addi a7,x0,93; ecall
+00000513 001005B7 00400613 03F00893 00000073 00050613 00100513 04000893 00000073 05D00893 00000073 | ends exited 0
+# the byte 1 to the output, and then to the output for errors: addi a0,x0,1; lui a1,0x100; addi a2,x0,1; addi a7,x0,64; ecall; addi a0,x0,2; ecall; addi a7,x0,93; ecall
+00100513 001005B7 00100613 04000893 00000073 00200513 00000073 05D00893 00000073 | out 01 | err 01 | ends exited 1
+# the same over a console whose first call fails, or whose second
+00100513 001005B7 00100613 04000893 00000073 00200513 00000073 05D00893 00000073 | fails 0 | ends fault
+00100513 001005B7 00100613 04000893 00000073 00200513 00000073 05D00893 00000073 | fails 1 | out 01 | ends fault";
+
+/// Each program, and what its steps answer, one after another.
+pub const STEPS: &str = "
+# a read of two bytes to data, a write of them, and ebreak: addi a0,x0,0; lui a1,0x100; addi a2,x0,2; addi a7,x0,63; ecall; addi a0,x0,1; addi a7,x0,64; ecall; ebreak
+words 00000513 001005B7 00200613 03F00893 00000073 00100513 04000893 00000073 00100073 | in 78 79 7A | answers done; done; done; done; read 2; done; done; wrote 1 [120, 121]; stuck 0:1:20 8 NoInstruction; stuck 0:1:20 8 NoInstruction
+# addi a0,x0,1; addi sp,sp,4, above the stack
+words 00100513 00410113 | answers done; stuck 0:1:4 7 StackPointer; stuck 0:1:4 7 StackPointer; stuck 0:1:4 7 StackPointer
+# addi a0,x0,3; addi a7,x0,93; ecall
+words 00300513 05D00893 00000073 | answers done; done; exited 3; exited 3";

@@ -1,0 +1,49 @@
+// Rows of tables. The check proves each test, and pays there for each statement and each element of an array; so a table is
+// a text, and a row one of its lines, with columns between `|`. A column begins with its key, and may be missing.
+
+use std::alloc::Global;
+use std::test::Fail;
+use zc_outside::mem_console::MemConsole;
+
+/// The column with a key, or an empty text.
+pub fn column<'a>(row: &'a str, key: &str) -> &'a str {
+    for text in row.split('|') {
+        if let Some(rest) = text.trim().strip_prefix(key) {
+            return rest.trim();
+        }
+    }
+    ""
+}
+
+/// The decimal number in a column, or 99.
+pub fn number_of(row: &str, key: &str) -> Result<u32, Fail> {
+    let text = column(row, key);
+    if text.is_empty() {
+        return Ok(99);
+    }
+    Ok(u32::from_str_radix(text, 10)?)
+}
+
+/// The bytes of hexadecimal numbers of two digits, four or eight, the low byte of each first.
+pub fn bytes_of(alloc: Global, text: &str) -> Result<Vec<u8>, Fail> {
+    let mut bytes = Vec::new(alloc);
+    for digits in text.split_whitespace() {
+        let number = u32::from_str_radix(digits, 16)?.to_le_bytes();
+        let size = digits.len() / 2;
+        bytes.extend_from_slice(number.get(..size).ok_or("more than eight digits")?)?;
+    }
+    Ok(bytes)
+}
+
+/// The end of a run, with the bytes of the output and of the output for errors.
+pub fn shown(alloc: Global, end: &str, console: &MemConsole) -> Result<String, Fail> {
+    let (out, err) = (console.out_bytes(), console.err_bytes());
+    Ok(format!(in alloc; "{end} {out:?} {err:?}")?)
+}
+
+/// The same as a row wants it.
+pub fn end_of(alloc: Global, row: &str) -> Result<String, Fail> {
+    let out = bytes_of(alloc, column(row, "out"))?;
+    let err = bytes_of(alloc, column(row, "err"))?;
+    Ok(format!(in alloc; "{} {out:?} {err:?}", column(row, "ends"))?)
+}
