@@ -1,9 +1,11 @@
 // The symbolic machine: small objects, from their bytes to the ends of their runs. What is expected is worked out by the
 // manual.
 
+ghost use Rattle.std.specs.Prelude.{◌≡◌, IfOk};
 ghost use Rattle.psabi_sym.specs.Inputs.{parsed};
 ghost use Rattle.sym_machine.specs.Kept.{IsOf};
 ghost use Rattle.sym_machine.specs.Objects.{program_of};
+ghost use Rattle.sym_machine.specs.State.{first_plain};
 
 mod object;
 mod relocated;
@@ -40,17 +42,28 @@ fn cut_of(alloc: Global, row: &str) -> Result<Cut, Fail> {
     Ok(Cut::new(alloc, objects)?)
 }
 
-// Runs the program of a row, and says how the run ended and what it wrote.
-fn ran(alloc: Global, row: &str) -> Result<String, Fail> {
+// The machine at the start of a cut, with the input of a row.
+fn start(alloc: Global, cut: &Cut, row: &str) -> Result<Sym, Fail>
+    ensures first { IfOk result (λ sym. sym ≡ first_plain (program_of (parsed cut.now)) sym.input) }
+    ensures of { IfOk result (λ sym. IsOf (program_of (parsed cut.now)) sym) }
+{
+    let input = bytes_of(alloc, column(row, "in"))?;
+    Ok(Sym::start(alloc, cut, input.as_slice())?)
+}
+
+// Runs a cut as a row says, and says how the run ended and what it wrote.
+fn ran(alloc: Global, cut: &Cut, row: &str) -> Result<String, Fail> {
     let steps = u64::from(number_of(row, "steps")?);
     let fails = [number_of(row, "fails")?];
-    let input = bytes_of(alloc, column(row, "in"))?;
     let mut console = MemConsole::new(alloc, b"", &fails)?;
-    let cut = cut_of(alloc, row)?;
-    let mut sym = Sym::start(alloc, &cut, input.as_slice())?;
-    let end = run(&mut sym, &cut, steps, &mut console);
-    let ended = end_text(alloc, end)?;
-    shown(alloc, ended.as_str(), &console)
+    let mut sym = start(alloc, cut, row)?;
+    let end = run(&mut sym, cut, steps, &mut console);
+    ended(alloc, end, &console)
+}
+
+fn ended(alloc: Global, end: TraceEnd, console: &MemConsole) -> Result<String, Fail> {
+    let end = end_text(alloc, end)?;
+    shown(alloc, end.as_str(), console)
 }
 
 fn end_text(alloc: Global, end: TraceEnd) -> Result<String, AllocError> {
@@ -70,7 +83,15 @@ fn stuck_text(alloc: Global, place: Place, why: Why) -> Result<String, AllocErro
     format!(in alloc; "stuck {object}:{section}:{offset:x} {number} {name}")
 }
 
-// Runs each row, between texts before and after it: it should end and write as it says.
+// Runs the program of a row, which should end and write as the row says.
+fn expect_run<R: Abort + AllocGlobal>(rt: &R, row: &str) -> Result<(), Fail> {
+    let cut = cut_of(rt.alloc(), row)?;
+    let ended = ran(rt.alloc(), &cut, row)?;
+    assert_eq!(rt; ended, end_of(rt.alloc(), row)?, "{row}");
+    Ok(())
+}
+
+// The same of each row, between texts before and after it.
 fn expect_runs<R: Abort + AllocGlobal>(
     rt: &R,
     before: &str,
@@ -80,8 +101,7 @@ fn expect_runs<R: Abort + AllocGlobal>(
     for row in rows.trim().lines() {
         if !row.starts_with('#') {
             let row = format!(in rt.alloc(); "words {before} {row} {after}")?;
-            let want = end_of(rt.alloc(), row.as_str())?;
-            assert_eq!(rt; ran(rt.alloc(), row.as_str())?, want, "{row}");
+            expect_run(rt, row.as_str())?;
         }
     }
     Ok(())
@@ -137,12 +157,10 @@ fn step_text(alloc: Global, sym: &mut Sym, cut: &Cut) -> Result<String, AllocErr
 }
 
 // Makes the steps of a row, which should answer as the row says.
-fn expect_steps<R: Abort + AllocGlobal>(rt: &R, row: &str) -> Result<(), Fail> {
-    let input = bytes_of(rt.alloc(), column(row, "in"))?;
-    let cut = cut_of(rt.alloc(), row)?;
-    let mut sym = Sym::start(rt.alloc(), &cut, input.as_slice())?;
+fn expect_steps<R: Abort + AllocGlobal>(rt: &R, cut: &Cut, row: &str) -> Result<(), Fail> {
+    let mut sym = start(rt.alloc(), cut, row)?;
     for want in column(row, "answers").split(';') {
-        let answer = step_text(rt.alloc(), &mut sym, &cut)?;
+        let answer = step_text(rt.alloc(), &mut sym, cut)?;
         assert_eq!(rt; answer.as_str(), want.trim(), "{row}");
     }
     Ok(())
@@ -152,7 +170,7 @@ fn expect_steps<R: Abort + AllocGlobal>(rt: &R, row: &str) -> Result<(), Fail> {
 fn each_step_answers_and_the_last_stays(rt: HostRuntime) -> Result<(), Fail> {
     for row in STEPS.trim().lines() {
         if !row.starts_with('#') {
-            expect_steps(&rt, row)?;
+            expect_steps(&rt, &cut_of(rt.alloc(), row)?, row)?;
         }
     }
     Ok(())

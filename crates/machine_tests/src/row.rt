@@ -45,5 +45,6 @@ pub fn shown(alloc: Global, end: &str, console: &MemConsole) -> Result<String, F
 pub fn end_of(alloc: Global, row: &str) -> Result<String, Fail> {
     let out = bytes_of(alloc, column(row, "out"))?;
     let err = bytes_of(alloc, column(row, "err"))?;
+    let (out, err) = (out.as_slice(), err.as_slice());
     Ok(format!(in alloc; "{} {out:?} {err:?}", column(row, "ends"))?)
 }

@@ -1,5 +1,3 @@
-pub mod Examples
-pub mod RelocatedExamples
 pub mod StepLaws
 pub mod MemoryLaws
 mod NumberLaws

@@ -43,17 +43,18 @@ pub fn object_of(
     relocs: &str,
     data_relocs: &str,
 ) -> Result<Vec<u8>, Fail> {
-    let mut object = Vec::new(alloc);
-    for (text, end) in [
-        (HEADER, 52),
-        (code, 116),
-        (DATA, 232),
-        (relocs, 280),
-        (data_relocs, 304),
-        (SECTIONS, 624),
-    ] {
-        object.extend_from_slice(bytes_of(alloc, text)?.as_slice())?;
-        object.resize(end, 0)?;
-    }
+    let mut object = bytes_of(alloc, HEADER)?;
+    add(alloc, &mut object, code, 116)?;
+    add(alloc, &mut object, DATA, 232)?;
+    add(alloc, &mut object, relocs, 280)?;
+    add(alloc, &mut object, data_relocs, 304)?;
+    add(alloc, &mut object, SECTIONS, 624)?;
     Ok(object)
+}
+
+// Adds the bytes of a text, and zeros up to an offset.
+fn add(alloc: Global, object: &mut Vec<u8>, text: &str, end: usize) -> Result<(), Fail> {
+    object.extend_from_slice(bytes_of(alloc, text)?.as_slice())?;
+    object.resize(end, 0)?;
+    Ok(())
 }
