@@ -154,6 +154,3 @@ fn make_room(bytes: &mut Vec<u8>, count: usize, most: usize) -> Result<(), Alloc
     }
     Ok(())
 }
-
-#[cfg(test)]
-mod tests;

@@ -97,6 +97,3 @@ impl<I: Read, O: Write, E: Write> Console for StdConsole<I, O, E> {
         }
     }
 }
-
-#[cfg(test)]
-mod tests;

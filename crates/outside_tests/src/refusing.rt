@@ -1,39 +1,49 @@
 // The system's files, one call of which is refused.
 
 use std::alloc::{Alloc, Allocator, Global};
-use std::fs::{File, FileTimes, Files, Metadata, OpenFile, OpenOptions, Permissions};
+use std::fs::{File, Files, Metadata, OpenFile, OpenOptions, Permissions};
 use std::io;
 use std::io::{ErrorKind, Read, Seek, SeekFrom, Write};
 use std::path::PathBuf;
 use std::rt::LibcRuntime;
 
-/// A call that may be refused.
-#[derive(Clone, Copy, PartialEq)]
-pub enum Step {
-    Create,
-    Rights,
-    Write,
-    Sync,
-    Rename,
-}
+// The numbers of the calls that may be refused.
+const CREATE: u32 = 0;
 
-/// The system's files, or one of them, but that this call is refused for this reason.
-#[derive(Clone, Copy, Drop)]
+const RIGHTS: u32 = 1;
+
+const WRITE: u32 = 2;
+
+const SYNC: u32 = 3;
+
+const RENAME: u32 = 4;
+
+/// How many calls may be refused.
+pub const CALLS: u32 = 5;
+
+/// The system's files, or one of them, but that the call of this number is refused for this reason. What a
+/// store doesn't need isn't there.
+#[derive(Drop)]
 pub struct Refusing<F> {
     pub over: F,
-    pub step: Step,
+    pub call: u32,
     pub kind: ErrorKind,
 }
 
 impl<F> Refusing<F> {
     // Passes, or refuses the call.
-    fn pass(&self, step: Step) -> io::Result<()> {
-        if self.step == step {
+    fn pass(&self, call: u32) -> io::Result<()> {
+        if self.call == call {
             Err(io::Error::from(self.kind))
         } else {
             Ok(())
         }
     }
+}
+
+// What isn't there.
+fn unneeded<T>() -> io::Result<T> {
+    Err(io::Error::from(ErrorKind::Unsupported))
 }
 
 impl<'a> Alloc for Refusing<&'a LibcRuntime> {
@@ -51,18 +61,14 @@ impl<'a> Files for Refusing<&'a LibcRuntime> {
 
     fn open_file(&self, how: &OpenOptions, path: &str) -> io::Result<Refusing<File>> {
         if how.asks_create_new() {
-            self.pass(Step::Create)?;
+            self.pass(CREATE)?;
         }
         let over = self.over.open_file(how, path)?;
         Ok(Refusing {
             over,
-            step: self.step,
+            call: self.call,
             kind: self.kind,
         })
-    }
-
-    fn open_dir(&self, path: &str) -> io::Result<Self::Dir> {
-        self.over.open_dir(path)
     }
 
     fn metadata(&self, path: &str) -> io::Result<Metadata> {
@@ -73,16 +79,12 @@ impl<'a> Files for Refusing<&'a LibcRuntime> {
         self.over.symlink_metadata(path)
     }
 
-    fn copy(&self, from: &str, to: &str) -> io::Result<u64> {
-        self.over.copy(from, to)
-    }
-
     fn read_link<B: Allocator>(&self, alloc: B, path: &str) -> io::Result<PathBuf<B>> {
         self.over.read_link(alloc, path)
     }
 
     fn rename(&self, from: &str, to: &str) -> io::Result<()> {
-        self.pass(Step::Rename)?;
+        self.pass(RENAME)?;
         self.over.rename(from, to)
     }
 
@@ -90,16 +92,24 @@ impl<'a> Files for Refusing<&'a LibcRuntime> {
         self.over.remove_file(path)
     }
 
-    fn create_dir(&self, path: &str) -> io::Result<()> {
-        self.over.create_dir(path)
+    fn open_dir(&self, _path: &str) -> io::Result<Self::Dir> {
+        unneeded()
     }
 
-    fn remove_dir(&self, path: &str) -> io::Result<()> {
-        self.over.remove_dir(path)
+    fn copy(&self, _from: &str, _to: &str) -> io::Result<u64> {
+        unneeded()
     }
 
-    fn remove_dir_all<B: Allocator>(&self, alloc: B, path: &str) -> io::Result<()> {
-        self.over.remove_dir_all(alloc, path)
+    fn create_dir(&self, _path: &str) -> io::Result<()> {
+        unneeded()
+    }
+
+    fn remove_dir(&self, _path: &str) -> io::Result<()> {
+        unneeded()
+    }
+
+    fn remove_dir_all<B: Allocator>(&self, _alloc: B, _path: &str) -> io::Result<()> {
+        unneeded()
     }
 }
 
@@ -111,18 +121,18 @@ impl Read for Refusing<File> {
 
 impl Write for Refusing<File> {
     fn write(&mut self, buf: &[u8]) -> io::Result<usize> {
-        self.pass(Step::Write)?;
+        self.pass(WRITE)?;
         self.over.write(buf)
     }
 
     fn flush(&mut self) -> io::Result<()> {
-        self.over.flush()
+        unneeded()
     }
 }
 
 impl Seek for Refusing<File> {
-    fn seek(&mut self, to: SeekFrom) -> io::Result<u64> {
-        self.over.seek(to)
+    fn seek(&mut self, _to: SeekFrom) -> io::Result<u64> {
+        unneeded()
     }
 }
 
@@ -131,25 +141,21 @@ impl OpenFile for Refusing<File> {
         self.over.metadata()
     }
 
-    fn set_len(&self, size: u64) -> io::Result<()> {
-        self.over.set_len(size)
-    }
-
     fn sync_all(&self) -> io::Result<()> {
-        self.pass(Step::Sync)?;
+        self.pass(SYNC)?;
         self.over.sync_all()
     }
 
-    fn sync_data(&self) -> io::Result<()> {
-        self.over.sync_data()
-    }
-
     fn set_permissions(&self, perm: Permissions) -> io::Result<()> {
-        self.pass(Step::Rights)?;
+        self.pass(RIGHTS)?;
         self.over.set_permissions(perm)
     }
 
-    fn set_times(&self, times: FileTimes) -> io::Result<()> {
-        self.over.set_times(times)
+    fn set_len(&self, _size: u64) -> io::Result<()> {
+        unneeded()
+    }
+
+    fn sync_data(&self) -> io::Result<()> {
+        unneeded()
     }
 }

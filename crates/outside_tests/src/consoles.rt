@@ -1,0 +1,115 @@
+// What consoles take and write.
+//
+// These bodies fail here: `take` that answers 0, that reads into the buffer's end, or
+// that gives up at an interruption; `out` that stops at a short write, that takes a refusal for the
+// end, or that writes to the other stream; and any of them that tells want of memory as a fault, or a
+// fault as want of memory.
+
+use crate::drip::Drip;
+use std::alloc::Global;
+use std::io;
+use std::io::ErrorKind;
+use std::process::Abort;
+use std::test::Fail;
+use zc_outside::console::Console;
+use zc_outside::mem_console::MemConsole;
+use zc_outside::std_console::StdConsole;
+
+// What a console answers to `take ROOM`, `out BYTES` or `err BYTES`: how many bytes it took, and then a
+// buffer of four.
+fn answer<C: Console>(alloc: Global, console: &mut C, call: &str) -> Result<String, Fail> {
+    let (kind, value) = call.split_once(" ").ok_or("no call")?;
+    let (mut buf, mut count) = (*b"....", 0);
+    let answer = match kind {
+        "take" => match console.take(&mut buf[..value.parse::<usize>()?.min(4)]) {
+            Ok(taken) => {
+                count = taken;
+                Ok(())
+            }
+            Err(fault) => Err(fault),
+        },
+        "out" => console.out(value.as_bytes()),
+        _ => console.err(value.as_bytes()),
+    };
+    match answer {
+        Ok(()) => {
+            let bytes = str::from_utf8(&buf)?;
+            Ok(format!(in alloc; "{count} {bytes}")?)
+        }
+        Err(fault) => Ok(format!(in alloc; "{fault}")?),
+    }
+}
+
+// Makes the calls of the lines, each of which should have the answer after its arrow.
+fn expect_calls<R: Abort + AllocGlobal, C: Console>(
+    rt: &R,
+    console: &mut C,
+    lines: &str,
+) -> Result<(), Fail> {
+    for line in lines.lines() {
+        let (call, want) = line.split_once(" => ").ok_or("no arrow")?;
+        let found = answer(rt.alloc(), console, call)?;
+        assert_eq!(rt; found.as_str(), want, "{call}");
+    }
+    Ok(())
+}
+
+// The calls are numbered from 0, but for those with an empty piece. The fourth is listed.
+#[test]
+fn a_console_in_memory_moves_bytes_but_for_the_listed_calls(rt: HostRuntime) -> Result<(), Fail> {
+    let mut console = MemConsole::new(rt.alloc(), b"hello", &[3])?;
+    let lines = "take 2 => 2 he..
+take 0 => 0 ....
+out to out => 0 ....
+out  => 0 ....
+err  => 0 ....
+err lost => the console can't be read or written
+take 4 => 3 llo.
+take 4 => 0 ....
+err to err => 0 ....";
+    expect_calls(&rt, &mut console, lines)?;
+    let written = (console.out_bytes(), console.err_bytes());
+    assert!(rt; written == (b"to out".as_slice(), b"to err".as_slice()));
+    Ok(())
+}
+
+// Both ways that a stream may be refused.
+const ENDS: [(ErrorKind, &str); 2] = [
+    (ErrorKind::Other, "the console can't be read or written"),
+    (ErrorKind::OutOfMemory, "out of memory"),
+];
+
+#[test]
+fn short_reads_and_writes_are_whole_or_refused(rt: HostRuntime) -> Result<(), Fail> {
+    let alloc = rt.alloc();
+    for (end, fault) in ENDS {
+        let end = Some(end);
+        let (mut out, mut err) = (Drip::new(alloc, 5, end), Drip::new(alloc, 0, end));
+        let mut console = StdConsole::new(Drip::new(alloc, 2, end), &mut out, &mut err);
+        let lines = format!(in alloc;
+            "take 4 => 1 a...
+take 4 => 1 a...
+take 4 => {fault}
+out abc => 0 ....
+out def => {fault}
+err  => 0 ....
+err to err => {fault}"
+        )?;
+        expect_calls(&rt, &mut console, lines.as_str())?;
+        drop(console);
+        let moved = (out.moved.as_slice(), err.moved.as_slice());
+        assert!(rt; moved == (b"abcde".as_slice(), b"".as_slice()));
+    }
+    Ok(())
+}
+
+// A test has no input.
+#[test]
+fn a_write_that_takes_nothing_is_a_fault(rt: HostRuntime) -> Result<(), Fail> {
+    let full = Drip::new(rt.alloc(), 0, None);
+    let mut console = StdConsole::new(rt.stdin(), rt.stdout(), full);
+    let lines = "err err => the console can't be read or written
+out out => 0 ....
+take 4 => 0 ....";
+    expect_calls(&rt, &mut console, lines)
+}

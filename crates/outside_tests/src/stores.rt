@@ -1,0 +1,201 @@
+// What stores hold.
+//
+// These bodies of `DiskStore` fail here: `get` that drops a byte, or answers a long file; `put` that
+// writes nothing, that leaves its new file, that ignores a refused creation, change of permissions, write,
+// sync or renaming, that answers Done or changes the old file at one, that writes over a link or over the file
+// that it put under another name, that remembers names of files that are gone, and that tells want of memory
+// as a fault. That a body ignores a short or refused write, or stops a read before the end, is refused by the
+// proof; `scripts/check_program` has permissions.
+
+use crate::refusing::{CALLS, Refusing};
+use std::alloc::Global;
+use std::io::ErrorKind;
+use std::os::unix::fs::symlink;
+use std::process::Abort;
+use std::test::Fail;
+use std::{fs, process};
+use zc_outside::disk_store::DiskStore;
+use zc_outside::mem_store::MemStore;
+use zc_outside::store::Store;
+
+// What a store answers to `get LIMIT NAME`, or to `put BYTES NAME` of one word: the bytes between bars, or
+// none. A name is one of the folder, unless it begins with a slash.
+fn answer<S: Store>(
+    alloc: Global,
+    store: &mut S,
+    folder: &str,
+    call: &str,
+) -> Result<String, Fail> {
+    let (kind, rest) = call.split_once(" ").ok_or("no call")?;
+    let (value, name) = rest.split_once(" ").ok_or("no name")?;
+    let inside = format!(in alloc; "{folder}/{name}")?;
+    let name = if name.starts_with('/') {
+        name
+    } else {
+        inside.as_str()
+    };
+    let mut bytes = Vec::new(alloc);
+    let answer = if kind == "put" {
+        store.put(name, value.as_bytes())
+    } else {
+        match store.get(alloc, name, u32::from(value.parse::<u16>()?)) {
+            Ok(found) => {
+                bytes = found;
+                Ok(())
+            }
+            Err(fault) => Err(fault),
+        }
+    };
+    match answer {
+        Ok(()) => {
+            let text = str::from_utf8(bytes.as_slice())?;
+            Ok(format!(in alloc; "|{text}|")?)
+        }
+        Err(fault) => Ok(format!(in alloc; "{fault}")?),
+    }
+}
+
+// Makes the calls of the lines, each of which should have the answer after its arrow.
+fn expect_calls<R: Abort + AllocGlobal, S: Store>(
+    rt: &R,
+    store: &mut S,
+    folder: &str,
+    lines: &str,
+) -> Result<(), Fail> {
+    for line in lines.lines() {
+        let (call, want) = line.split_once(" => ").ok_or("no arrow")?;
+        let found = answer(rt.alloc(), store, folder, call)?;
+        assert_eq!(rt; found.as_str(), want, "{call}");
+    }
+    Ok(())
+}
+
+// The second put and the third get are listed.
+#[test]
+fn a_store_in_memory_keeps_files_but_for_the_listed_calls(rt: HostRuntime) -> Result<(), Fail> {
+    let mut store = MemStore::new(rt.alloc(), &[1, 5])?;
+    store.add("m/old", b"was")?;
+    let lines = "put abc new => ||
+put lost old => the file can't be read or written
+get 3 new => |abc|
+get 2 new => the file has 3 bytes or more, over its limit
+get 9 none => the file can't be read or written
+get 3 new => the file can't be read or written
+put  new => ||
+get 0 new => ||
+get 3 old => |was|";
+    expect_calls(&rt, &mut store, "m", lines)?;
+    assert!(rt; store.file("m/old") == Some(b"was".as_slice()));
+    assert!(rt; store.file("m/none").is_none());
+    Ok(())
+}
+
+// Makes a folder of its own for a test.
+fn make_folder(rt: &HostRuntime, test: &str) -> Result<String, Fail> {
+    let id = process::id(rt.process());
+    let folder = format!(in rt.alloc(); "zc_outside-{test}-{id}")?;
+    fs::create_dir(rt, folder.as_str())?;
+    Ok(folder)
+}
+
+// Changes a folder: `link TEXT NAME` makes a link, `rename NAME NAME` renames, and `remove NAME` removes.
+fn change(rt: &HostRuntime, folder: &str, lines: &str) -> Result<(), Fail> {
+    for line in lines.lines() {
+        let (kind, rest) = line.split_once(" ").ok_or("no change")?;
+        let (from, name) = rest.split_once(" ").unwrap_or(("", rest));
+        let to = format!(in rt.alloc(); "{folder}/{name}")?;
+        match kind {
+            "link" => symlink(rt, from, to.as_str())?,
+            "rename" => {
+                let from = format!(in rt.alloc(); "{folder}/{from}")?;
+                fs::rename(rt, from.as_str(), to.as_str())?;
+            }
+            _ => fs::remove_file(rt, to.as_str())?,
+        }
+    }
+    Ok(())
+}
+
+// Puts, and gets at the limit and one byte over it, of a file, of devices, and of names that are no file's. A
+// folder can be removed if no other file is left.
+#[test]
+fn a_disk_gives_what_was_put_where_a_file_may_be(rt: HostRuntime) -> Result<(), Fail> {
+    let folder = make_folder(&rt, "files")?;
+    let mut store = DiskStore::new(&rt, rt.process());
+    let lines = "put the_first_bytes file => ||
+get 15 file => |the_first_bytes|
+put  file => ||
+get 15 file => ||
+put then_others file => ||
+get 11 file => |then_others|
+get 10 file => the file has 11 bytes or more, over its limit
+get 10 /dev/zero => the file has 11 bytes or more, over its limit
+get 10 none => the file can't be read or written
+get 10 . => the file can't be read or written
+put bytes /dev/null => ||
+put bytes /dev/full => the file can't be read or written
+put bytes . => the file can't be read or written
+put bytes none/file => the file can't be read or written";
+    expect_calls(&rt, &mut store, folder.as_str(), lines)?;
+    change(&rt, folder.as_str(), "remove file")?;
+    Ok(fs::remove_dir(&rt, folder.as_str())?)
+}
+
+// Both ways that a call may be refused; the answer is then a refusal of that kind.
+const KINDS: [(ErrorKind, &str); 2] = [
+    (ErrorKind::Other, "the file can't be read or written"),
+    (ErrorKind::OutOfMemory, "out of memory"),
+];
+
+#[test]
+fn a_refused_call_leaves_the_old_file(rt: HostRuntime) -> Result<(), Fail> {
+    let folder = make_folder(&rt, "refused")?;
+    let mut store = DiskStore::new(&rt, rt.process());
+    expect_calls(&rt, &mut store, folder.as_str(), "put old file => ||")?;
+    for (kind, fault) in KINDS {
+        let lines = format!(in rt.alloc(); "put new file => {fault}\nget 3 file => |old|")?;
+        for call in 0..CALLS {
+            let over = &rt;
+            let mut store = DiskStore::new(Refusing { over, call, kind }, rt.process());
+            expect_calls(&rt, &mut store, folder.as_str(), lines.as_str())?;
+        }
+    }
+    change(&rt, folder.as_str(), "remove file")?;
+    Ok(fs::remove_dir(&rt, folder.as_str())?)
+}
+
+// A link that leads over a link, at first to nothing, stays. Then the file `b` is renamed to `a`, and is known
+// by the name that it was put under until that is put again. At last `a` is removed, and its number may be
+// given again.
+#[test]
+fn links_stay_and_files_are_known_by_their_last_names(rt: HostRuntime) -> Result<(), Fail> {
+    let folder = make_folder(&rt, "names")?;
+    let name = folder.as_str();
+    let mut store = DiskStore::new(&rt, rt.process());
+    change(&rt, name, "link file link\nlink link far")?;
+    let lines = "put new far => ||
+put newer far => ||
+get 5 file => |newer|
+put other link => the file can't be read or written
+get 5 file => |newer|
+put one a => ||
+put two b => ||";
+    expect_calls(&rt, &mut store, name, lines)?;
+    change(&rt, name, "rename b a")?;
+    let lines = "put three a => the file can't be read or written
+put four b => ||
+put five a => ||
+get 4 a => |five|";
+    expect_calls(&rt, &mut store, name, lines)?;
+    change(&rt, name, "remove a")?;
+    let lines = "put six c => ||
+put seven c => ||
+get 4 b => |four|";
+    expect_calls(&rt, &mut store, name, lines)?;
+    change(
+        &rt,
+        name,
+        "remove far\nremove link\nremove file\nremove b\nremove c",
+    )?;
+    Ok(fs::remove_dir(&rt, name)?)
+}
