@@ -59,6 +59,3 @@ fn perform<S: Store, C: Console>(
         None => Outcome::Usage,
     }
 }
-
-#[cfg(test)]
-mod tests;

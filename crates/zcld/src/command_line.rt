@@ -319,6 +319,3 @@ fn is_option(word: &str) -> bool
         [] => false,
     }
 }
-
-#[cfg(test)]
-mod tests;

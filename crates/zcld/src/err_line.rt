@@ -228,6 +228,3 @@ fn hex_digit(number: u32, shift: u32) -> char
         char::from(b'a' - 10 + digit)
     }
 }
-
-#[cfg(test)]
-mod tests;

@@ -1,426 +1,166 @@
-// The object of three instructions, its image, and calls over two files in memory. The object and the
-// image were worked out by hand from the ELF format.
+// Calls over files and a console in memory, and what they should leave. The object and its images were worked out
+// by hand from the ELF format.
 //
-// The check proves each test, and pays there for each assertion and each row of a table. So rows are lines
-// of a text, and what is asserted of them stands here.
+// The check proves each test, and pays there for each assertion and each row of a table. So rows are lines of a
+// text, files are hexadecimal digits, and what is asserted of a row stands here.
 
 use crate::call::zcld;
-use crate::outcome::{Outcome, status};
-use elf32_read::fault::Fault;
+use crate::outcome::status;
 use std::alloc::{AllocError, Global};
 use std::process::Abort;
 use std::test::Fail;
-use zc_base::fields::put_u32;
 use zc_outside::console::Console;
 use zc_outside::mem_console::MemConsole;
 use zc_outside::mem_store::MemStore;
 
-/// `li a0,3`, `li a7,93` and `ecall` in `.text` at 52, symbols at 64, their names at 96, the names of
-/// the sections at 104, and five section headers at 140.
-pub const THREE: [u8; 340] = [
-    0x7F, 0x45, 0x4C, 0x46, 0x01, 0x01, 0x01, 0x00, 0x00, 0x00, 0x00, 0x00, 0x00, 0x00, 0x00, 0x00,
-    0x01, 0x00, 0xF3, 0x00, 0x01, 0x00, 0x00, 0x00, 0x00, 0x00, 0x00, 0x00, 0x00, 0x00, 0x00, 0x00,
-    0x8C, 0x00, 0x00, 0x00, 0x00, 0x00, 0x00, 0x00, 0x34, 0x00, 0x00, 0x00, 0x00, 0x00, 0x28, 0x00,
-    0x05, 0x00, 0x04, 0x00, 0x13, 0x05, 0x30, 0x00, 0x93, 0x08, 0xD0, 0x05, 0x73, 0x00, 0x00, 0x00,
-    0x00, 0x00, 0x00, 0x00, 0x00, 0x00, 0x00, 0x00, 0x00, 0x00, 0x00, 0x00, 0x00, 0x00, 0x00, 0x00,
-    0x01, 0x00, 0x00, 0x00, 0x00, 0x00, 0x00, 0x00, 0x00, 0x00, 0x00, 0x00, 0x10, 0x00, 0x01, 0x00,
-    0x00, 0x5F, 0x73, 0x74, 0x61, 0x72, 0x74, 0x00, 0x00, 0x2E, 0x74, 0x65, 0x78, 0x74, 0x00, 0x2E,
-    0x73, 0x79, 0x6D, 0x74, 0x61, 0x62, 0x00, 0x2E, 0x73, 0x74, 0x72, 0x74, 0x61, 0x62, 0x00, 0x2E,
-    0x73, 0x68, 0x73, 0x74, 0x72, 0x74, 0x61, 0x62, 0x00, 0x00, 0x00, 0x00, 0x00, 0x00, 0x00, 0x00,
-    0x00, 0x00, 0x00, 0x00, 0x00, 0x00, 0x00, 0x00, 0x00, 0x00, 0x00, 0x00, 0x00, 0x00, 0x00, 0x00,
-    0x00, 0x00, 0x00, 0x00, 0x00, 0x00, 0x00, 0x00, 0x00, 0x00, 0x00, 0x00, 0x00, 0x00, 0x00, 0x00,
-    0x00, 0x00, 0x00, 0x00, 0x01, 0x00, 0x00, 0x00, 0x01, 0x00, 0x00, 0x00, 0x06, 0x00, 0x00, 0x00,
-    0x00, 0x00, 0x00, 0x00, 0x34, 0x00, 0x00, 0x00, 0x0C, 0x00, 0x00, 0x00, 0x00, 0x00, 0x00, 0x00,
-    0x00, 0x00, 0x00, 0x00, 0x04, 0x00, 0x00, 0x00, 0x00, 0x00, 0x00, 0x00, 0x07, 0x00, 0x00, 0x00,
-    0x02, 0x00, 0x00, 0x00, 0x00, 0x00, 0x00, 0x00, 0x00, 0x00, 0x00, 0x00, 0x40, 0x00, 0x00, 0x00,
-    0x20, 0x00, 0x00, 0x00, 0x03, 0x00, 0x00, 0x00, 0x01, 0x00, 0x00, 0x00, 0x04, 0x00, 0x00, 0x00,
-    0x10, 0x00, 0x00, 0x00, 0x0F, 0x00, 0x00, 0x00, 0x03, 0x00, 0x00, 0x00, 0x00, 0x00, 0x00, 0x00,
-    0x00, 0x00, 0x00, 0x00, 0x60, 0x00, 0x00, 0x00, 0x08, 0x00, 0x00, 0x00, 0x00, 0x00, 0x00, 0x00,
-    0x00, 0x00, 0x00, 0x00, 0x01, 0x00, 0x00, 0x00, 0x00, 0x00, 0x00, 0x00, 0x17, 0x00, 0x00, 0x00,
-    0x03, 0x00, 0x00, 0x00, 0x00, 0x00, 0x00, 0x00, 0x00, 0x00, 0x00, 0x00, 0x68, 0x00, 0x00, 0x00,
-    0x21, 0x00, 0x00, 0x00, 0x00, 0x00, 0x00, 0x00, 0x00, 0x00, 0x00, 0x00, 0x01, 0x00, 0x00, 0x00,
-    0x00, 0x00, 0x00, 0x00,
-];
+// `li a0,3`, `li a7,93` and `ecall` in `.text` at 52, symbols at 64, their names at 96, the names of the
+// sections at 104, and five section headers at 140.
+const OBJECT: &str = "\
+7f454c460101010000000000000000000100f3000100000000000000000000008c000000000000003400000000002800
+05000400130530009308d005730000000000000000000000000000000000000001000000000000000000000010000100
+005f737461727400002e74657874002e73796d746162002e737472746162002e73687374727461620000000000000000
+000000000000000000000000000000000000000000000000000000000000000000000000010000000100000006000000
+00000000340000000c000000000000000000000004000000000000000700000002000000000000000000000040000000
+20000000030000000100000004000000100000000f000000030000000000000000000000600000000800000000000000
+000000000100000000000000170000000300000000000000000000006800000021000000000000000000000001000000
+00000000";
 
-/// What the object is linked to: the program headers at 52 and 84, the text at 116, four places at
-/// 128, the names of the sections at 176, and six section headers at 220.
-pub const THREE_IMAGE: [u8; 460] = [
-    0x7F, 0x45, 0x4C, 0x46, 0x01, 0x01, 0x01, 0x00, 0x00, 0x00, 0x00, 0x00, 0x00, 0x00, 0x00, 0x00,
-    0x02, 0x00, 0xF3, 0x00, 0x01, 0x00, 0x00, 0x00, 0x00, 0x00, 0x01, 0x00, 0x34, 0x00, 0x00, 0x00,
-    0xDC, 0x00, 0x00, 0x00, 0x01, 0x00, 0x00, 0x00, 0x34, 0x00, 0x20, 0x00, 0x02, 0x00, 0x28, 0x00,
-    0x06, 0x00, 0x05, 0x00, 0x01, 0x00, 0x00, 0x00, 0x74, 0x00, 0x00, 0x00, 0x00, 0x00, 0x01, 0x00,
-    0x00, 0x00, 0x01, 0x00, 0x0A, 0x00, 0x00, 0x00, 0x0A, 0x00, 0x00, 0x00, 0x05, 0x00, 0x00, 0x00,
-    0x04, 0x00, 0x00, 0x00, 0x01, 0x00, 0x00, 0x00, 0x80, 0x00, 0x00, 0x00, 0x00, 0x00, 0x10, 0x00,
-    0x00, 0x00, 0x10, 0x00, 0x00, 0x00, 0x00, 0x00, 0x00, 0x00, 0x00, 0x00, 0x06, 0x00, 0x00, 0x00,
-    0x04, 0x00, 0x00, 0x00, 0x0D, 0x45, 0x93, 0x08, 0xD0, 0x05, 0x73, 0x00, 0x00, 0x00, 0x00, 0x00,
-    0x00, 0x00, 0x01, 0x00, 0x00, 0x00, 0x00, 0x00, 0x00, 0x00, 0x01, 0x00, 0x00, 0x00, 0x01, 0x00,
-    0x04, 0x00, 0x00, 0x00, 0x02, 0x00, 0x01, 0x00, 0x00, 0x00, 0x01, 0x00, 0x08, 0x00, 0x00, 0x00,
-    0x06, 0x00, 0x01, 0x00, 0x00, 0x00, 0x01, 0x00, 0x0C, 0x00, 0x00, 0x00, 0x0A, 0x00, 0x01, 0x00,
-    0x00, 0x2E, 0x74, 0x65, 0x78, 0x74, 0x00, 0x2E, 0x64, 0x61, 0x74, 0x61, 0x00, 0x2E, 0x62, 0x73,
-    0x73, 0x00, 0x2E, 0x7A, 0x63, 0x6C, 0x64, 0x2E, 0x70, 0x6C, 0x61, 0x63, 0x65, 0x73, 0x00, 0x2E,
-    0x73, 0x68, 0x73, 0x74, 0x72, 0x74, 0x61, 0x62, 0x00, 0x00, 0x00, 0x00, 0x00, 0x00, 0x00, 0x00,
-    0x00, 0x00, 0x00, 0x00, 0x00, 0x00, 0x00, 0x00, 0x00, 0x00, 0x00, 0x00, 0x00, 0x00, 0x00, 0x00,
-    0x00, 0x00, 0x00, 0x00, 0x00, 0x00, 0x00, 0x00, 0x00, 0x00, 0x00, 0x00, 0x00, 0x00, 0x00, 0x00,
-    0x00, 0x00, 0x00, 0x00, 0x01, 0x00, 0x00, 0x00, 0x01, 0x00, 0x00, 0x00, 0x06, 0x00, 0x00, 0x00,
-    0x00, 0x00, 0x01, 0x00, 0x74, 0x00, 0x00, 0x00, 0x0A, 0x00, 0x00, 0x00, 0x00, 0x00, 0x00, 0x00,
-    0x00, 0x00, 0x00, 0x00, 0x04, 0x00, 0x00, 0x00, 0x00, 0x00, 0x00, 0x00, 0x07, 0x00, 0x00, 0x00,
-    0x01, 0x00, 0x00, 0x00, 0x03, 0x00, 0x00, 0x00, 0x00, 0x00, 0x10, 0x00, 0x80, 0x00, 0x00, 0x00,
-    0x00, 0x00, 0x00, 0x00, 0x00, 0x00, 0x00, 0x00, 0x00, 0x00, 0x00, 0x00, 0x04, 0x00, 0x00, 0x00,
-    0x00, 0x00, 0x00, 0x00, 0x0D, 0x00, 0x00, 0x00, 0x08, 0x00, 0x00, 0x00, 0x03, 0x00, 0x00, 0x00,
-    0x00, 0x00, 0x10, 0x00, 0x80, 0x00, 0x00, 0x00, 0x00, 0x00, 0x00, 0x00, 0x00, 0x00, 0x00, 0x00,
-    0x00, 0x00, 0x00, 0x00, 0x04, 0x00, 0x00, 0x00, 0x00, 0x00, 0x00, 0x00, 0x12, 0x00, 0x00, 0x00,
-    0x01, 0x00, 0x00, 0x00, 0x00, 0x00, 0x00, 0x00, 0x00, 0x00, 0x00, 0x00, 0x80, 0x00, 0x00, 0x00,
-    0x30, 0x00, 0x00, 0x00, 0x00, 0x00, 0x00, 0x00, 0x00, 0x00, 0x00, 0x00, 0x04, 0x00, 0x00, 0x00,
-    0x00, 0x00, 0x00, 0x00, 0x1F, 0x00, 0x00, 0x00, 0x03, 0x00, 0x00, 0x00, 0x00, 0x00, 0x00, 0x00,
-    0x00, 0x00, 0x00, 0x00, 0xB0, 0x00, 0x00, 0x00, 0x29, 0x00, 0x00, 0x00, 0x00, 0x00, 0x00, 0x00,
-    0x00, 0x00, 0x00, 0x00, 0x01, 0x00, 0x00, 0x00, 0x00, 0x00, 0x00, 0x00,
-];
+// What `zc` makes of it: the program headers at 52 and 84, the text at 116, four places at 128, the names of
+// the sections at 176, and six section headers at 220.
+const IMAGE: &str = "\
+7f454c460101010000000000000000000200f300010000000000010034000000dc000000010000003400200002002800
+06000500010000007400000000000100000001000a0000000a0000000500000004000000010000008000000000001000
+00001000000000000000000006000000040000000d459308d00573000000000000000100000000000000010000000100
+0400000002000100000001000800000006000100000001000c0000000a000100002e74657874002e64617461002e6273
+73002e7a636c642e706c61636573002e7368737472746162000000000000000000000000000000000000000000000000
+000000000000000000000000000000000000000001000000010000000600000000000100740000000a00000000000000
+000000000400000000000000070000000100000003000000000010008000000000000000000000000000000004000000
+000000000d00000008000000030000000000100080000000000000000000000000000000040000000000000012000000
+0100000000000000000000008000000030000000000000000000000004000000000000001f0000000300000000000000
+00000000b00000002900000000000000000000000100000000000000";
 
-/// The file `x` of a call. `Code` is the object with other words in the place of the three instructions,
-/// each as eight hexadecimal digits.
-#[derive(Clone, Copy)]
-pub enum File<'a> {
-    Object,
-    Image,
-    Bytes(&'a [u8]),
-    Code(&'a str),
-}
+// What `plain` makes of it. No flag says that there are 16-bit instructions.
+const PLAIN_IMAGE: &str = "\
+7f454c460101010000000000000000000200f300010000000000010034000000dc000000000000003400200002002800
+06000500010000007400000000000100000001000c0000000c0000000500000004000000010000008000000000001000
+0000100000000000000000000600000004000000130530009308d0057300000000000100000000000000010000000100
+0400000004000100000001000800000008000100000001000c0000000c000100002e74657874002e64617461002e6273
+73002e7a636c642e706c61636573002e7368737472746162000000000000000000000000000000000000000000000000
+000000000000000000000000000000000000000001000000010000000600000000000100740000000c00000000000000
+000000000400000000000000070000000100000003000000000010008000000000000000000000000000000004000000
+000000000d00000008000000030000000000100080000000000000000000000000000000040000000000000012000000
+0100000000000000000000008000000030000000000000000000000004000000000000001f0000000300000000000000
+00000000b00000002900000000000000000000000100000000000000";
 
-/// A call: its words, with a space between, the file `x` of its store, and what is changed, as `Setup`
-/// reads it. The store's other file `z` is the object. The console has an input of five bytes.
-#[derive(Clone, Copy)]
-pub struct Call<'a> {
-    pub words: &'a str,
-    pub file: File<'a>,
-    pub changes: &'a str,
-}
+// An object that reads four bytes to the stack, and writes as many as were read to standard output; then the
+// same again, to standard error; and then the exit.
+const ECHO: &str = "\
+7f454c460101010000000000000000000100f300010000000000000000000000d4000000000000003400000000002800
+05000400130101ff1305000093050100130640009308f003730000001306050013051000930800047300000013050000
+130640009308f0037300000013060500130520009308000473000000130500009308d005730000000000000000000000
+000000000000000001000000000000000000000010000100005f737461727400002e74657874002e73796d746162002e
+737472746162002e73687374727461620000000000000000000000000000000000000000000000000000000000000000
+000000000000000000000000010000000100000006000000000000003400000054000000000000000000000004000000
+00000000070000000200000000000000000000008800000020000000030000000100000004000000100000000f000000
+030000000000000000000000a80000000800000000000000000000000100000000000000170000000300000000000000
+00000000b00000002100000000000000000000000100000000000000";
 
-/// The object is linked to the image `o` and the certificate `c`.
-pub const ZC: Call = Call {
-    words: "zc --out o --cert c x",
-    file: File::Object,
-    changes: "",
-};
+// The same as an image of another linker: the headers and the text alone, without sections.
+const ECHO_IMAGE: &str = "\
+7f454c460101010000000000000000000200f30001000000000001003400000000000000010000003400200001002800
+000000000100000054000000000001000000010054000000540000000500000004000000130101ff1305000093050100
+130640009308f003730000001306050013051000930800047300000013050000130640009308f0037300000013060500
+130520009308000473000000130500009308d00573000000";
 
-/// The object is linked to the image `o`, in which each instruction is as it was.
-pub const PLAIN: Call = Call {
-    words: "plain --out o x",
-    ..ZC
-};
+const CERTIFICATE: &str = "zcld certificate 1\nprice 0 0 0\nnet 0\nend\n";
 
-/// The image is run.
-pub const RUN: Call = Call {
-    words: "run x",
-    file: File::Image,
-    ..ZC
-};
-
-/// The object is traced.
-pub const TRACE: Call = Call {
-    words: "trace x",
-    ..ZC
-};
-
-/// Two objects are linked.
-pub const ZC_TWO: Call = Call {
-    words: "zc --out o --cert c x z",
-    ..ZC
-};
-
-/// The same of two objects.
-pub const PLAIN_TWO: Call = Call {
-    words: "plain --out o x z",
-    ..ZC
-};
-
-/// Two objects are traced.
-pub const TRACE_TWO: Call = Call {
-    words: "trace x z",
-    ..ZC
-};
-
-/// Changes that give the code of the object one relocation: its offset, 0, stands at 380, its symbol and type,
-/// NONE, at 384, and its addend, 0, at 388.
-pub const RELOC: &str =
-    "..392 48:06 344:00000004 356:0000017c 360:0000000c 364:00000002 368:00000001 376:0000000c";
-
-/// How a call should end: the outcome, what is written to standard output and to standard error, where
-/// the outcome's line is the last, the program's status, how many bytes of the input are left, and how
-/// many of the files `o` and `c` stand. `x` and `z` stay as they were.
-#[derive(Clone, Copy)]
-pub struct End<'a> {
-    pub outcome: Outcome,
-    pub out: &'a str,
-    pub line: &'a str,
-    pub status: u8,
-    pub input: usize,
-    pub files: usize,
-}
-
-pub const DONE: End = End {
-    outcome: Outcome::Done,
-    out: "",
-    line: "",
-    status: 0,
-    input: 5,
-    files: 2,
-};
-
-/// The end of `plain` of the three instructions.
-pub const DONE_PLAIN: End = End {
-    out: "plain text 12\n",
-    files: 1,
-    ..DONE
-};
-
-/// The end of the three instructions.
-pub const EXITED_3: End = End {
-    outcome: Outcome::Exited(3),
-    line: "exited 3\n",
-    status: 3,
-    input: 0,
-    files: 0,
-    ..DONE
-};
-
-pub const SPENT: End = End {
-    outcome: Outcome::Spent,
-    line: "spent\n",
-    status: 127,
-    ..EXITED_3
-};
-
-pub const USAGE: End = End {
-    outcome: Outcome::Usage,
-    line: "usage\n",
-    status: 120,
-    files: 0,
-    ..DONE
-};
-
-pub const READ_FAULT: End = End {
-    outcome: Outcome::ReadFault,
-    line: "read fault\n",
-    status: 122,
-    ..USAGE
-};
-
-pub const WRITE_FAULT: End = End {
-    outcome: Outcome::WriteFault,
-    line: "write fault\n",
-    status: 123,
-    ..USAGE
-};
-
-/// A refusal of an object, with its line.
-pub fn refused(object: u32, fault: Fault, line: &str) -> End<'_> {
-    End {
-        outcome: Outcome::Refused(object, fault),
-        line,
-        status: 121,
-        ..USAGE
+// The bytes that lines of hexadecimal digits stand for.
+fn bytes_of(alloc: Global, digits: &str) -> Result<Vec<u8>, Fail> {
+    let mut bytes = Vec::new(alloc);
+    for line in digits.lines() {
+        for pair in line.as_bytes().chunks(2) {
+            bytes.push(u8::from_str_radix(str::from_utf8(pair)?, 16)?)?;
+        }
     }
+    Ok(bytes)
 }
 
-/// The same, with a line that couldn't be written.
-pub fn unsaid(end: End) -> End {
-    End { line: "", ..end }
+// The files of a call: `x` and `z` are the object, `image` is its image, `echo` and `echo.elf` are the other
+// program, and `bad` is no ELF file. The store's calls with these numbers fail.
+fn store_of(alloc: Global, fails: &[u32]) -> Result<MemStore, Fail> {
+    let mut store = MemStore::new(alloc, fails)?;
+    let files = [
+        ("x", OBJECT),
+        ("z", OBJECT),
+        ("image", IMAGE),
+        ("echo", ECHO),
+        ("echo.elf", ECHO_IMAGE),
+        ("bad", "00"),
+    ];
+    for (name, digits) in files {
+        store.add(name, bytes_of(alloc, digits)?.as_slice())?;
+    }
+    Ok(store)
 }
 
-/// What a call left: how many bytes of the input, and whether `x` and `z` are as they were.
-#[derive(Drop)]
-pub struct Left {
-    pub outcome: Outcome,
-    pub store: MemStore,
-    pub console: MemConsole,
-    pub input: usize,
-    pub is_kept: bool,
-}
-
-// The words of a text, of which an empty one has none.
-fn words_in(alloc: Global, text: &str) -> Result<Vec<String>, AllocError> {
+fn words_of(alloc: Global, text: &str) -> Result<Vec<String>, AllocError> {
     let mut words = Vec::new(alloc);
-    if text.is_empty() {
-        return Ok(words);
-    }
     for word in text.split(' ') {
         words.push(String::from_str(alloc, word)?)?;
     }
     Ok(words)
 }
 
-fn file_of(alloc: Global, file: File) -> Result<Vec<u8>, Fail> {
-    match file {
-        File::Object => Ok(Vec::from_slice(alloc, &THREE)?),
-        File::Image => Ok(Vec::from_slice(alloc, &THREE_IMAGE)?),
-        File::Bytes(bytes) => Ok(Vec::from_slice(alloc, bytes)?),
-        File::Code(words) => object_of(alloc, words),
-    }
-}
-
-// The object with this code, and with all that comes after it moved.
-fn object_of(alloc: Global, words: &str) -> Result<Vec<u8>, Fail> {
-    let mut object = Vec::from_slice(alloc, &THREE[..52])?;
-    let mut size = 0u32;
-    for word in words.split_whitespace() {
-        object.extend_from_slice(&u32::from_str_radix(word, 16)?.to_le_bytes())?;
-        size = size.wrapping_add(4);
-    }
-    object.extend_from_slice(&THREE[64..])?;
-    let headers = size.wrapping_add(128);
-    write_word(&mut object, 32, headers)?;
-    write_word(&mut object, headers.wrapping_add(60), size)?;
-    for (field, at) in [(96, 52), (136, 84), (176, 92)] {
-        write_word(
-            &mut object,
-            headers.wrapping_add(field),
-            size.wrapping_add(at),
-        )?;
-    }
-    Ok(object)
-}
-
-// Writes a word, if the file has it.
-fn write_word(file: &mut [u8], at: u32, word: u32) -> Result<(), Fail> {
-    let at = at as usize;
-    let length = file.len();
-    if at < length && length - at >= 4 {
-        put_u32(file, at, word);
-        Ok(())
-    } else {
-        Err(Fail::new("no word"))
-    }
-}
-
-// The files `x` and `z` of a call, which of them is changed next, and the numbers of the store's and the
-// console's calls that fail.
-#[derive(Drop)]
-struct Setup {
-    first: Vec<u8>,
-    second: Vec<u8>,
-    at_second: bool,
-    store_fails: Vec<u32>,
-    console_fails: Vec<u32>,
-}
-
-impl Setup {
-    fn new(alloc: Global, call: &Call) -> Result<Setup, Fail> {
-        let mut setup = Setup {
-            first: file_of(alloc, call.file)?,
-            second: Vec::from_slice(alloc, &THREE)?,
-            at_second: false,
-            store_fails: Vec::new(alloc),
-            console_fails: Vec::new(alloc),
-        };
-        for change in call.changes.split_whitespace() {
-            setup.change(change)?;
-        }
-        Ok(setup)
-    }
-
-    // Makes a change: `s1` and `c1` let call 1 of the store or the console fail, `..51` makes the file 51
-    // bytes long, with zeros after those that it has, and `16:f3` or `16:000000f3` writes the byte or the word with these hexadecimal digits.
-    // Those after `/` change the file `z`.
-    fn change(&mut self, change: &str) -> Result<(), Fail> {
-        if change == "/" {
-            self.at_second = true;
-        } else if let Some(number) = change.strip_prefix("s") {
-            self.store_fails.push(number.parse::<u32>()?)?;
-        } else if let Some(number) = change.strip_prefix("c") {
-            self.console_fails.push(number.parse::<u32>()?)?;
-        } else if let Some(length) = change.strip_prefix("..") {
-            self.file().resize(length.parse::<usize>()?, 0)?;
-        } else {
-            let (at, digits) = change.split_once(":").ok_or("no change")?;
-            self.write(at.parse::<u32>()?, digits)?;
-        }
-        Ok(())
-    }
-
-    // The file that is changed.
-    fn file(&mut self) -> &mut Vec<u8> {
-        if self.at_second {
-            &mut self.second
-        } else {
-            &mut self.first
+// The numbers after this letter: those of calls that fail, of the store after `s`, of the console after `c`.
+fn numbers(alloc: Global, fails: &str, letter: &str) -> Result<Vec<u32>, Fail> {
+    let mut numbers = Vec::new(alloc);
+    for word in fails.split(' ') {
+        if let Some(number) = word.strip_prefix(letter) {
+            numbers.push(number.parse::<u32>()?)?;
         }
     }
+    Ok(numbers)
+}
 
-    fn write(&mut self, at: u32, digits: &str) -> Result<(), Fail> {
-        if digits.len() == 8 {
-            return write_word(self.file(), at, u32::from_str_radix(digits, 16)?);
-        }
-        *self.file().get_mut(at as usize).ok_or("no byte")? = u8::from_str_radix(digits, 16)?;
-        Ok(())
+// What stands under a name: nothing, what should stand there, or anything else.
+fn mark(store: &MemStore, name: &str, wanted: &[u8]) -> char {
+    match store.file(name) {
+        None => '-',
+        Some(bytes) if bytes == wanted => '+',
+        Some(_) => '?',
     }
 }
 
-/// Makes a call.
-pub fn make(alloc: Global, call: &Call) -> Result<Left, Fail> {
-    let words = words_in(alloc, call.words)?;
-    let setup = Setup::new(alloc, call)?;
-    let mut store = MemStore::new(alloc, setup.store_fails.as_slice())?;
-    store.add("x", setup.first.as_slice())?;
-    store.add("z", setup.second.as_slice())?;
-    let mut console = MemConsole::new(alloc, b"input", setup.console_fails.as_slice())?;
+// What a call leaves: whether the image `o` and the certificate `c` stand, its status, how many bytes of the
+// input, and what it wrote to standard output and to standard error.
+fn left_by(alloc: Global, call: &str) -> Result<String, Fail> {
+    let (words, fails) = call.split_once(" with ").unwrap_or((call, ""));
+    let mut store = store_of(alloc, numbers(alloc, fails, "s")?.as_slice())?;
+    let console_fails = numbers(alloc, fails, "c")?;
+    let mut console = MemConsole::new(alloc, b"input", console_fails.as_slice())?;
+    let words = words_of(alloc, words)?;
     let outcome = zcld(alloc, words.as_slice(), &mut store, &mut console);
     let input = console.take(&mut [0; 8])?;
-    let is_kept = store.file("x") == Some(setup.first.as_slice())
-        && store.file("z") == Some(setup.second.as_slice());
-    Ok(Left {
-        outcome,
-        store,
-        console,
-        input,
-        is_kept,
-    })
+    let image = if call.starts_with("plain") {
+        PLAIN_IMAGE
+    } else {
+        IMAGE
+    };
+    let image = mark(&store, "o", bytes_of(alloc, image)?.as_slice());
+    let certificate = mark(&store, "c", CERTIFICATE.as_bytes());
+    let status = status(&outcome);
+    let out = str::from_utf8(console.out_bytes())?;
+    let err = str::from_utf8(console.err_bytes())?;
+    Ok(format!(in alloc; "{image}{certificate} {status} {input} {out:?} {err:?}")?)
 }
 
-/// Makes a call that should end so.
-pub fn expect<R: Abort + AllocGlobal>(rt: &R, call: &Call, end: &End) -> Result<(), Fail> {
-    let left = make(rt.alloc(), call)?;
-    let files = usize::from(left.store.file("o").is_some())
-        + usize::from(left.store.file("c").is_some());
-    let said = (
-        left.outcome,
-        left.console.err_bytes(),
-        left.console.out_bytes(),
-        status(&left.outcome),
-        (left.input, files, left.is_kept),
-    );
-    let want = (
-        end.outcome,
-        end.line.as_bytes(),
-        end.out.as_bytes(),
-        end.status,
-        (end.input, end.files, true),
-    );
-    assert_eq!(rt; said, want, "{} {}", call.words, call.changes);
-    Ok(())
-}
-
-/// Makes a call with the words of each line, all of which should end so.
-pub fn expect_words<R: Abort + AllocGlobal>(
-    rt: &R,
-    call: &Call,
-    lines: &str,
-    end: &End,
-) -> Result<(), Fail> {
-    for words in lines.lines() {
-        expect(rt, &Call { words, ..*call }, end)?;
-    }
-    Ok(())
-}
-
-/// Makes a call with the changes of each line, all of which should end so.
-pub fn expect_changes<R: Abort + AllocGlobal>(
-    rt: &R,
-    call: &Call,
-    lines: &str,
-    end: &End,
-) -> Result<(), Fail> {
-    for changes in lines.lines() {
-        expect(rt, &Call { changes, ..*call }, end)?;
+/// Makes the call of each line, which should leave what stands after its arrow, as `left_by` says it. The calls of
+/// the store and of the console that fail stand after `with`. The console has an input of five bytes.
+pub fn expect<R: Abort + AllocGlobal>(rt: &R, lines: &str) -> Result<(), Fail> {
+    for line in lines.lines() {
+        let (call, wanted) = line.split_once(" => ").ok_or("no arrow")?;
+        let left = left_by(rt.alloc(), call)?;
+        assert_eq!(rt; left.as_str(), wanted, "{call}");
     }
     Ok(())
 }

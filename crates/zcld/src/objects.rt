@@ -29,6 +29,3 @@ pub fn read_objects<S: Store>(
     read_files(alloc, names, OBJECT_LIMIT, files, store)?;
     Ok(())
 }
-
-#[cfg(test)]
-mod tests;

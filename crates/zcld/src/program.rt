@@ -86,6 +86,3 @@ fn end_without<C: Console>(fault: WordsFault, console: &mut C) -> u8
     write_line(&[], &outcome, console);
     status(&outcome)
 }
-
-#[cfg(test)]
-mod tests;

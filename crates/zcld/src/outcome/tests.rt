@@ -1,3 +1,5 @@
+// Lines and statuses that the tests of commands don't have.
+
 use super::*;
 use crate::err_line::line_of;
 
@@ -8,20 +10,10 @@ const PLACE: Place = Place {
 };
 
 // Statuses from 118 on are kept for `zcld` itself.
-const ROWS: [(Outcome, &str, u8); 15] = [
-    (Outcome::Done, "", 0),
-    (Outcome::Exited(0), "exited 0\n", 0),
+const ROWS: [(Outcome, &str, u8); 8] = [
     (Outcome::Exited(117), "exited 117\n", 117),
     (Outcome::Exited(118), "exited 118\n", 118),
     (Outcome::Exited(119), "exited 119\n", 118),
-    (Outcome::Usage, "usage\n", 120),
-    (
-        Outcome::Refused(3, Fault::NoEntry),
-        "refused 3 16 NoEntry\n",
-        121,
-    ),
-    (Outcome::ReadFault, "read fault\n", 122),
-    (Outcome::WriteFault, "write fault\n", 123),
     (Outcome::OutOfMemory, "out of memory\n", 124),
     (
         Outcome::BadFile(FileFault::Image(ImageFault::TooLarge)),
@@ -43,13 +35,12 @@ const ROWS: [(Outcome, &str, u8); 15] = [
         "stuck 1 2 4294967292 2 ConditionUnknown\n",
         126,
     ),
-    (Outcome::Spent, "spent\n", 127),
 ];
 
 #[test]
-fn each_outcome_has_its_line_and_status(rt: HostRuntime) {
+fn other_outcomes_have_their_lines_and_statuses(rt: HostRuntime) {
     for (outcome, line, want) in &ROWS {
         let text = line_of(outcome);
-        assert_eq!(rt; (text.as_str(), status(outcome)), (*line, *want));
+        assert!(rt; (text.as_str(), status(outcome)) == (*line, *want));
     }
 }
