@@ -9,9 +9,11 @@ import struct
 BYTE, HALF, WORD = '<B', '<H', '<I'
 
 OBJECTS = (
+    ('another magic number', 0, BYTE, 0, '1 NotElf'),
     ('section headers of 39 bytes', 46, HALF, 39, '1 NotElf'),
     ('section headers far out', 32, WORD, 0xFFFFFFF0, '2 Truncated'),
     ('code far out', 196, WORD, 0xFFFFFFFC, '2 Truncated'),
+    ('an unknown flag', 36, BYTE, 1, '3 Flags'),
     ('section headers, but no sections', 48, HALF, 0, '4 SectionKind'),
     ('code of zeros', 184, WORD, 8, '4 SectionKind'),
     ('code that can be written', 188, WORD, 7, '4 SectionKind'),
@@ -27,6 +29,8 @@ OBJECTS = (
     ('a symbol past the code', 84, WORD, 13, '8 BadSymbol'),
     ('a symbol far out', 84, WORD, 0xFFFFFFFF, '8 BadSymbol'),
     ('a symbol of an unknown binding', 92, BYTE, 0x30, '8 BadSymbol'),
+    ('more than 4,096 sections', 48, HALF, 0x1105, '17 TooLarge'),
+    ('a start that is data', 188, WORD, 2, '16 NoEntry'),
     ('a start at the end of the code', 84, WORD, 12, '16 NoEntry'),
     ('a start within a word', 84, WORD, 2, '16 NoEntry'),
     # both tables of names are one, where the name of the start is `.text`: tables may overlap
@@ -34,16 +38,23 @@ OBJECTS = (
 )
 
 IMAGES = (
+    ('another magic number', 3, BYTE, 0x47, 1),
+    ('an object', 16, HALF, 1, 1),
+    ('another machine', 18, HALF, 0xF2, 1),
     ('an unknown flag', 36, WORD, 2, 1),
     ('program headers far out', 28, WORD, 0xFFFFFFFF, 2),
+    ('text past the end of the file', 68, WORD, 0x20A, 2),
     ('text with less memory than bytes', 72, WORD, 9, 3),
     ('text into the data', 72, WORD, 0xFFFFFFFF, 3),
     ('text that can be written', 76, WORD, 7, 3),
+    ('text below its place', 60, WORD, 0, 3),
     ('an odd entry', 24, WORD, 0x00010001, 3),
     ('an entry past the text', 24, WORD, 0x0001000C, 3),
     ('data over all memory', 104, WORD, 0xFFFFFFFF, 3),
     ('a part of a place', 400, WORD, 47, 4),
     ('the same place twice', 144, WORD, 0, 4),
+    ('a place below the text', 172, WORD, 0x0000000A, 4),
+    ('a place in the data', 172, WORD, 0x0010000A, 4),
     ('a place above the start of data', 136, WORD, 0x00200000, 4),
 )
 
@@ -66,6 +77,7 @@ def changed_objects(data):
 def changed_images(data):
     """Each change of the image: what it is, the file, and the number of its fault."""
     yield 'the first 51 bytes', data[:51], 1
+    yield 'the first 100 bytes', data[:100], 2
     yield 'without the last byte', data[:-1], 2
     for what, at, form, value, fault in IMAGES:
         yield what, changed(data, at, form, value), fault

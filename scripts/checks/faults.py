@@ -2,19 +2,92 @@
 import os
 
 import plain_examples
-from changed_files import changed_images, changed_objects
-from made_objects import ECALL
+from changed_files import WORD, changed, changed_images, changed_objects
+from made_objects import A0, ECALL, NOP, SP, ZERO, addi, branch, jalr, lw
 
 from checks.made_files import (LARGE, LARGE_IMAGE, MIB, OLD, OTHER, OTHER_TEXT, SHORT_SIZES, THREE, THREE_IMAGE, THREE_TEXT,
                                exit_code, image_of, image_of_several, long_code, object_of, words_of)
 
 LATER = object_of(words_of(ECALL), b'later')
 
+# Words that spell a command, and how its call ends. A line has a space between words, so two spaces are an empty word.
+COMMANDS = (
+    ('zc --cert cert --out out object', 0, ''), ('zc --out  --cert cert object', 123, 'write fault'),
+    ('zc --out out --cert  object', 123, 'write fault'), ('zc --out out --cert cert object  object', 122, 'read fault'),
+    ('plain --out  object', 123, 'write fault'), ('plain --out out object  object', 122, 'read fault'),
+    ('run ', 122, 'read fault'), ('run --steps 3 image', 3, 'exited 3'), ('run --steps 0 image', 127, 'spent'),
+    ('run --steps 1000000000 image', 3, 'exited 3'), ('run --steps 00000000000000000003 image', 3, 'exited 3'),
+    ('run --steps 00000000000000000002 image', 127, 'spent'), ('trace --steps 3 object', 3, 'exited 3'),
+    ('trace --steps 0 object', 127, 'spent'), ('trace --steps 00000000001000000000 object', 3, 'exited 3'),
+    ('trace trace', 122, 'read fault'), ('trace --steps 7 object  object', 122, 'read fault'),
+)
+
+# Words that spell none. In this order: no command, or none of this name; a required option is missing; an option that isn't the
+# command's; one twice; a value that begins with `-`, or none; the two files that are written are one; a positional word that
+# begins with `-`, also as the last of several, or none, or two images; an option after a file; and no number, or one that is too
+# long or too large.
+NO_COMMANDS = '''
+frob object
+ZC --out out --cert cert object
+Run image
+object run
+plain object
+plain --cert out object
+zc object
+zc --out out object
+zc --cert cert object
+plain --out out --cert cert object
+run --step 3 image
+run --out out image
+trace -steps 3 object
+run steps 3 image
+zc --out out --cert cert --steps 3 object
+plain --out out --out out object
+zc --out out --out cert object
+zc --out out --cert cert --out out object
+run --steps 3 --steps 3 image
+plain --out -o object
+zc --out -o --cert cert object
+zc --out out --cert - object
+zc --out --cert cert object
+run --steps -1 image
+run --steps
+zc --out out --cert out object
+run -image
+zc --out out --cert cert -object
+zc --out out --cert cert object -object
+trace object object -object
+plain --out out
+trace
+trace --steps 3
+zc --out out --cert cert
+run
+run image image
+plain object --out out
+zc object --out out --cert cert
+run image --steps 3
+trace object --steps 3
+zc --out out object --cert cert
+zc --out out --cert cert object --out out object
+run --steps  image
+trace --steps  object
+run --steps +3 image
+run --steps 3x image
+run --steps 000000000000000000003 image
+run --steps 1000000001 image
+trace --steps 1000000001 object'''
+
+EBREAK = 0x00100073
+# Code that comes to its end, and code that is stuck at once: at a load, a branch and a jump by what isn't known, and at a stack
+# pointer that moves up, or isn't known.
+STUCK = ((NOP,), (lw(A0, A0),), (branch(0, A0, ZERO, 8), NOP, NOP), (jalr(ZERO, A0),), (addi(SP, SP, 16),), (addi(SP, A0),))
+
 
 def statuses(group):
     """each outcome's status and line"""
     folder = group.folder(image=THREE_IMAGE, bad=b'bad', unread=object_of(words_of(0)), stuck=object_of(words_of(ECALL)),
-                          other=OTHER, illegal=image_of(words_of(0)),
+                          other=OTHER, illegal=image_of(words_of(0)), broken=image_of(words_of(EBREAK)),
+                          past=image_of(words_of(NOP)), **{f'code{k}': object_of(words_of(*it)) for k, it in enumerate(STUCK)},
                           **{f'exit{k}': image_of(exit_code(k)) for k in (0, 117, 118, 255)})
     rows = (
         ('zc --out out --cert cert object', 0, ''), ('run image', 3, 'exited 3'), ('trace object', 3, 'exited 3'),
@@ -31,6 +104,11 @@ def statuses(group):
         ('zc --out o --cert c none', 122, 'read fault'), ('zc --out none/o --cert c object', 123, 'write fault'),
         ('run object', 125, 'bad image 1'), ('run illegal', 126, 'stopped 1 Illegal 00010000'),
         ('trace stuck', 126, 'stuck 0 1 0 4 ArgumentUnknown'), ('trace unread', 126, 'stuck 0 1 0 8 NoInstruction'),
+        ('run broken', 126, 'stopped 4 Break 00010000'), ('run past', 126, 'stopped 2 BadAccess 00010004'),
+        ('trace code0', 126, 'stuck 0 1 4 8 NoInstruction'), ('trace other code0', 126, 'stuck 1 1 4 8 NoInstruction'),
+        ('trace code1', 126, 'stuck 0 1 0 1 AddressUnknown'), ('trace code2', 126, 'stuck 0 1 0 2 ConditionUnknown'),
+        ('trace code3', 126, 'stuck 0 1 0 3 TargetUnknown'), ('trace code4', 126, 'stuck 0 1 0 7 StackPointer'),
+        ('trace code5', 126, 'stuck 0 1 0 7 StackPointer'),
         ('trace other object', 3, 'exited 3'), ('run --steps 2 image', 127, 'spent'),
         ('trace --steps 2 object', 127, 'spent'),
     )
@@ -40,7 +118,15 @@ def statuses(group):
 
 
 def words(group):
-    """words that aren't UTF-8, and none"""
+    """words that spell a command or none, and words that aren't UTF-8"""
+    for call, status, line in COMMANDS:
+        folder = group.folder(image=THREE_IMAGE)
+        group.ends(call, folder.run(call.split(' ')), status, line)
+        folder.remove()
+    folder = group.folder(image=THREE_IMAGE, out=OLD, cert=OLD)
+    for call in NO_COMMANDS.splitlines():
+        group.refused(call, folder.run(call.split(' ')), folder, 120, 'usage')
+    group.done('the object by its own name', folder.link(out='object'), folder, out='object')
     folder = group.folder(out=OLD, cert=OLD)
     os.rename(folder.path('object'), os.path.join(os.fsencode(folder.place), b'\xff'))
     for it in ((), (b'\xff',), (b'zc', b'--out', b'out', b'--cert', b'cert', b'\xff'), (b'run', b'x', b'\xc3'),
@@ -136,6 +222,18 @@ def changed_fields(group):
     for what, data, number in changed_images(THREE_IMAGE):
         folder.write('changed', data)
         group.ends(what, folder.run(('run', 'changed')), 125, f'bad image {number}')
+    other_images(group, folder)
+
+
+def other_images(group, folder):
+    """An image whose entry is where its text ends, and one of another linker, without sections, also where no text may lie."""
+    bare = changed(changed(THREE_IMAGE[:128], 32, WORD, 0), 48, WORD, 0)
+    far = changed(changed(changed(bare, 24, WORD, 0x80000000), 60, WORD, 0x80000000), 92, WORD, 0x80001000)
+    for what, data, status, line in (
+            ('an entry at the end', changed(THREE_IMAGE, 24, WORD, 0x0001000A), 126, 'stopped 2 BadAccess 0001000a'),
+            ('no sections', bare, 3, 'exited 3'), ('text elsewhere', far, 125, 'bad image 3')):
+        folder.write('changed', data)
+        group.ends(what, folder.run(('run', 'changed')), status, line)
 
 
 def relocation_faults(group):
