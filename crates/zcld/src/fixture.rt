@@ -74,12 +74,22 @@ const ECHO_IMAGE: &str = "\
 
 const CERTIFICATE: &str = "zcld certificate 1\nprice 0 0 0\nnet 0\nend\n";
 
+// The number that a hexadecimal digit stands for.
+fn digit(digit: u8) -> u8 {
+    match digit {
+        b'0'..=b'9' => digit - b'0',
+        _ => digit.wrapping_sub(b'a' - 10),
+    }
+}
+
 // The bytes that lines of hexadecimal digits stand for.
 fn bytes_of(alloc: Global, digits: &str) -> Result<Vec<u8>, Fail> {
     let mut bytes = Vec::new(alloc);
     for line in digits.lines() {
         for pair in line.as_bytes().chunks(2) {
-            bytes.push(u8::from_str_radix(str::from_utf8(pair)?, 16)?)?;
+            if let [high, low] = pair {
+                bytes.push(digit(*high) << 4 | digit(*low))?;
+            }
         }
     }
     Ok(bytes)
@@ -111,12 +121,15 @@ fn words_of(alloc: Global, text: &str) -> Result<Vec<String>, AllocError> {
     Ok(words)
 }
 
-// The numbers after this letter: those of calls that fail, of the store after `s`, of the console after `c`.
+// The numbers after this letter, of one digit each: those of calls that fail, of the store after `s`, of the
+// console after `c`.
 fn numbers(alloc: Global, fails: &str, letter: &str) -> Result<Vec<u32>, Fail> {
     let mut numbers = Vec::new(alloc);
-    for word in fails.split(' ') {
-        if let Some(number) = word.strip_prefix(letter) {
-            numbers.push(number.parse::<u32>()?)?;
+    for word in fails.as_bytes().chunks(3) {
+        if let [first, number, ..] = word {
+            if letter.as_bytes().first() == Some(first) {
+                numbers.push(u32::from(digit(*number)))?;
+            }
         }
     }
     Ok(numbers)
