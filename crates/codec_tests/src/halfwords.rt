@@ -29,14 +29,13 @@ pub fn spelled(alloc: Global, digits: &str) -> Result<String, Fail> {
 /// distance.
 pub fn halfword(alloc: Global, call: &str, given: &str) -> Result<String, Fail> {
     let (digits, distance) = cut(given);
-    let d = distance.parse::<i32>().unwrap_or(0);
     let Some(i) = decode(word(digits)?) else {
         return Err("no instruction".into());
     };
     let found = match call {
         "short_of" => short_of(i),
-        "short_branch" => short_branch(i, d),
-        "short_jump" => short_jump(i, d),
+        "short_branch" => short_branch(i, distance.parse::<i32>()?),
+        "short_jump" => short_jump(i, distance.parse::<i32>()?),
         _ => encode16(Short::Base(i)),
     };
     match found {

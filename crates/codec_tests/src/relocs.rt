@@ -146,10 +146,10 @@ fn each_reaches_as_far_as_its_bits(rt: HostRuntime) -> Result<(), Fail> {
 }
 
 // A branch or a jump with a distance that it reaches.
-fn with_distance(is_branch: bool, word: u32, distance: i32) -> Option<u32> {
-    if is_branch && branch_reaches(distance) {
+fn with_distance(call: &str, word: u32, distance: i32) -> Option<u32> {
+    if call == "put_branch" && branch_reaches(distance) {
         Some(put_branch(word, distance))
-    } else if !is_branch && jal_reaches(distance) {
+    } else if call == "put_jal" && jal_reaches(distance) {
         Some(put_jal(word, distance))
     } else {
         None
@@ -164,10 +164,7 @@ pub fn put(alloc: Global, call: &str, given: &str) -> Result<String, Fail> {
         "put_hi20" => put_hi20(old, word(x)?),
         "put_lo12_i" => put_lo12_i(old, word(x)?),
         "put_lo12_s" => put_lo12_s(old, word(x)?),
-        _ => {
-            let is_branch = call == "put_branch";
-            with_distance(is_branch, old, x.parse::<i32>()?).ok_or("out of reach")?
-        }
+        _ => with_distance(call, old, x.parse::<i32>()?).ok_or("no call, or out of reach")?,
     };
     Ok(format!(in alloc; "{new:08X}")?)
 }

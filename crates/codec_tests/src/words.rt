@@ -32,7 +32,7 @@ pub fn normal_form(alloc: Global, digits: &str) -> Result<String, Fail> {
     text(alloc, decode(word(digits)?).map(normal))
 }
 
-// What each word is decoded to, of which it is the word.
+// Each word, and the instruction that it decodes to. Encoding that gives the word back.
 const WORDS: &str = "00C58533 = add 10 11 12
 40C58533 = sub 10 11 12
 00C59533 = sll 10 11 12

@@ -177,7 +177,8 @@ fn told(alloc: Global, cut: &Cut, question: &str) -> Result<String, Fail> {
         "lies" => layout_text(alloc, cut, rest),
         "blocks" => blocks_text(alloc, cut, rest.parse::<u16>()?),
         "data" => data_text(alloc, cut),
-        _ => Ok(format!(in alloc; "linked")?),
+        "" => Ok(format!(in alloc; "linked")?),
+        _ => Err("no question".into()),
     }
 }
 

@@ -122,7 +122,7 @@ fn expect_steps<R: Abort + AllocGlobal>(rt: &R, row: &str, dirt: &[(u32, u8)]) -
 const DIRT: [(u32, u8); 3] = [(0x0FFF_FFFF, 0xEE), (0x1000_0000, 0xEE), (0x10000, 0xEE)];
 
 #[test]
-fn each_step_commits_or_changes_nothing(rt: HostRuntime) -> Result<(), Fail> {
+fn each_step_answers_as_its_instruction_asks(rt: HostRuntime) -> Result<(), Fail> {
     for row in STEPS.trim().lines() {
         if !row.starts_with('#') {
             expect_steps(&rt, row, &[])?;

@@ -146,7 +146,8 @@ fn files_of(alloc: Global, lines: &str) -> Result<Vec<Vec<u8>>, Fail> {
             "header" => HEADER,
             "ends" => ENDS,
             "later" => LATER_ENDS,
-            _ => "",
+            "empty" => "",
+            _ => return Err("no object".into()),
         };
         files.push(changed(alloc, object, changes)?)?;
     }

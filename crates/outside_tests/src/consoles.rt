@@ -29,7 +29,8 @@ fn answer<C: Console>(alloc: Global, console: &mut C, call: &str) -> Result<Stri
             Err(fault) => Err(fault),
         },
         "out" => console.out(value.as_bytes()),
-        _ => console.err(value.as_bytes()),
+        "err" => console.err(value.as_bytes()),
+        _ => return Err("no call".into()),
     };
     match answer {
         Ok(()) => {

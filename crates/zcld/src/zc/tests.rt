@@ -7,7 +7,8 @@ use std::test::Fail;
 // writes the line.
 #[test]
 fn the_image_and_then_the_certificate_are_put(rt: HostRuntime) -> Result<(), Fail> {
-    let lines = r#"zc --out o --cert c x => ++ 0 5 "" ""
+    let lines = r#"zc --out o --cert o x => -- 120 5 "" "usage\n"
+zc --out o --cert c x => ++ 0 5 "" ""
 zc --cert c --out o x with s3 c1 => ++ 0 5 "" ""
 zc --out o --cert c y => -- 122 5 "" "read fault\n"
 zc --out o --cert c x with s0 => -- 122 5 "" "read fault\n"
