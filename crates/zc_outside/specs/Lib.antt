@@ -2,6 +2,7 @@ pub mod Calls
 pub mod Files
 pub mod Streams
 pub mod Trouble
+pub mod StoreTrouble
 pub mod Shelf
 pub mod Desk
 pub mod World

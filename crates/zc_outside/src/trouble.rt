@@ -1,9 +1,11 @@
 // Why a call of the system was refused: want of memory, or anything else.
 
 ghost use Rattle.std.specs.Prelude.{◌≡◌, ◌≤◌};
+ghost use Rattle.zc_outside.specs.StoreTrouble.{RefusesFile};
 ghost use Rattle.zc_outside.specs.Trouble.{Refuses};
 
 use crate::console::ConsoleFault;
+use crate::store::StoreFault;
 use std::alloc::AllocError;
 use std::io;
 use std::io::ErrorKind;
@@ -59,6 +61,19 @@ impl Trouble {
                 *memory_faults = memory_faults.saturating_add(1);
                 ConsoleFault::OutOfMemory
             }
+        }
+    }
+
+    /// How a store answers it. Want of memory isn't counted.
+    pub fn refuse_file(self, faults: &mut u64) -> StoreFault
+        ensures counts { RefusesFile self faults.old result faults.new }
+    {
+        match self {
+            Trouble::System => {
+                *faults = faults.saturating_add(1);
+                StoreFault::Failed
+            }
+            Trouble::Memory => StoreFault::OutOfMemory,
         }
     }
 }
