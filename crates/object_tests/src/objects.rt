@@ -160,9 +160,6 @@ BadSymbol 368:17 .eh_frame by another name";
 fn sections_are_read_with_names_contents_and_relocations(rt: HostRuntime) -> Result<(), Fail> {
     let bytes = bytes_of(rt.alloc(), OBJECT)?;
     let object = Object::read(&bytes)?;
-    assert_eq!(rt; object.section_count(), 8);
-    let code = b"\x13\x05\x30\0\x73\0\0\0".as_slice();
-    assert!(rt; object.section(1).bytes == code);
     for (i, line) in SECTIONS.lines().enumerate() {
         assert!(rt; i < object.section_count() as usize);
         let section = object.section(i as u32);
@@ -178,8 +175,22 @@ fn sections_are_read_with_names_contents_and_relocations(rt: HostRuntime) -> Res
         let (name, numbers) = line.split_once(" ").ok_or("no name")?;
         assert_eq!(rt; (section.name, shown.as_str()), (name.as_bytes(), numbers));
         let entry = object.section_entry(i as u32);
-        assert!(rt; entry.name_starts_with(section.name), "{line}");
+        assert!(rt;
+            entry.name_starts_with(section.name) && entry.bytes == section.bytes,
+            "{line}"
+        );
     }
+    Ok(())
+}
+
+// Section 1 holds two instructions, `addi a0,x0,3` and `ecall`.
+#[test]
+fn sections_and_symbols_are_counted_and_contents_lent(rt: HostRuntime) -> Result<(), Fail> {
+    let bytes = bytes_of(rt.alloc(), OBJECT)?;
+    let object = Object::read(&bytes)?;
+    assert_eq!(rt; (object.section_count(), object.symbol_count()), (8, 4));
+    let code = object.section_entry(1).bytes;
+    assert_eq!(rt; code, [0x13, 5, 0x30, 0, 0x73, 0, 0, 0].as_slice());
     Ok(())
 }
 
@@ -187,7 +198,6 @@ fn sections_are_read_with_names_contents_and_relocations(rt: HostRuntime) -> Res
 fn symbols_and_relocations_are_read(rt: HostRuntime) -> Result<(), Fail> {
     let bytes = bytes_of(rt.alloc(), OBJECT)?;
     let object = Object::read(&bytes)?;
-    assert_eq!(rt; object.symbol_count(), 4);
     for (i, line) in SYMBOLS.lines().enumerate() {
         assert!(rt; i < object.symbol_count() as usize);
         let symbol = object.symbol(i as u32);
