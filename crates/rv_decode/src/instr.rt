@@ -10,7 +10,7 @@ pub enum UpperOp {
 }
 
 /// The conditional branches.
-#[derive(Clone, Copy, Debug)]
+#[derive(Clone, Copy, PartialEq, Eq, Debug)]
 pub enum BranchOp {
     Beq,
     Bne,
@@ -21,7 +21,7 @@ pub enum BranchOp {
 }
 
 /// The loads.
-#[derive(Clone, Copy, Debug)]
+#[derive(Clone, Copy, PartialEq, Eq, Debug)]
 pub enum LoadOp {
     Lb,
     Lh,
@@ -31,7 +31,7 @@ pub enum LoadOp {
 }
 
 /// The stores.
-#[derive(Clone, Copy, Debug)]
+#[derive(Clone, Copy, PartialEq, Eq, Debug)]
 pub enum StoreOp {
     Sb,
     Sh,
@@ -53,7 +53,7 @@ pub enum ImmOp {
 }
 
 /// The operations on two registers.
-#[derive(Clone, Copy, Debug)]
+#[derive(Clone, Copy, PartialEq, Eq, Debug)]
 pub enum RegOp {
     Add,
     Sub,
@@ -81,7 +81,7 @@ pub enum RegOp {
 /// `distance` is in bytes from the instruction itself. `rest` is what a fence has beside its opcode
 /// and `funct3`: these 22 bits in the order of the word, from the highest to the lowest. `Csrrw` is
 /// the one on the table base register jvt.
-#[derive(Clone, Copy, Debug)]
+#[derive(Clone, Copy, PartialEq, Eq, Debug)]
 pub enum Instr {
     Upper {
         op: UpperOp,
