@@ -25,6 +25,7 @@ pub struct DiskStore<R> {
     read_faults: u64,
     long_files: u64,
     write_faults: u64,
+    buf: [u8; PIECE],
 }
 
 impl<R: Files + AllocGlobal> DiskStore<R> {
@@ -41,6 +42,7 @@ impl<R: Files + AllocGlobal> DiskStore<R> {
             read_faults: 0,
             long_files: 0,
             write_faults: 0,
+            buf: [0; PIECE],
         }
     }
 }
@@ -57,7 +59,12 @@ impl<R: Files + AllocGlobal> Store for DiskStore<R> {
     /// Takes at most `limit + 1` bytes of the file, in small pieces, and asks for no length, so that
     /// a pipe or a device is read as a file is.
     fn get(&mut self, alloc: Global, name: &str, limit: u32) -> Result<Vec<u8>, StoreFault> {
-        match read_file(&self.rt, alloc, name, limit as usize + 1) {
+        let most = limit as usize + 1;
+        let read = match fs::open(&self.rt, name) {
+            Ok(mut file) => read_below(alloc, &mut file, &mut self.buf, most),
+            Err(fault) => Err(Trouble::from(fault)),
+        };
+        match read {
             Ok(Some(bytes)) => Ok(bytes),
             Ok(None) => {
                 self.long_files = self.long_files.saturating_add(1);
@@ -80,23 +87,13 @@ impl<R: Files + AllocGlobal> Store for DiskStore<R> {
     }
 }
 
-// A file's bytes, or none if it has `most` or more.
-fn read_file<R: Files>(
-    rt: &R,
+// All bytes that a reader has left, or none if these are `most` or more. They come through a buffer.
+fn read_below<F: Read>(
     alloc: Global,
-    name: &str,
+    file: &mut F,
+    buf: &mut [u8; PIECE],
     most: usize,
 ) -> Result<Option<Vec<u8>>, Trouble>
-    requires some { 0 < most }
-    requires fits { most < 2 ^ 33 }
-    ensures { IfOk result (λ read. IfSome read (λ v. vec_len v < most)) }
-{
-    let mut file = fs::open(rt, name)?;
-    read_below(alloc, &mut file, most)
-}
-
-// All bytes that a reader has left, or none if these are `most` or more.
-fn read_below<F: Read>(alloc: Global, file: &mut F, most: usize) -> Result<Option<Vec<u8>>, Trouble>
     requires some { 0 < most }
     requires fits { most < 2 ^ 33 }
     ensures within { IfOk result (λ read. IfSome read (λ v. vec_len v < most)) }
@@ -105,7 +102,7 @@ fn read_below<F: Read>(alloc: Global, file: &mut F, most: usize) -> Result<Optio
 {
     let mut bytes = Vec::new(alloc);
     while bytes.len() < most {
-        if read_piece(file, &mut bytes, most)? == 0 {
+        if read_piece(file, buf, &mut bytes, most)? == 0 {
             return Ok(Some(bytes));
         }
     }
@@ -113,7 +110,12 @@ fn read_below<F: Read>(alloc: Global, file: &mut F, most: usize) -> Result<Optio
 }
 
 // Reads a piece and adds it to the bytes so far, which become at most `most`, and says how long it is.
-fn read_piece<F: Read>(file: &mut F, bytes: &mut Vec<u8>, most: usize) -> Result<usize, Trouble>
+fn read_piece<F: Read>(
+    file: &mut F,
+    buf: &mut [u8; PIECE],
+    bytes: &mut Vec<u8>,
+    most: usize,
+) -> Result<usize, Trouble>
     requires room { vec_len bytes.old < most }
     requires fits { most < 2 ^ 33 }
     ensures within { IfOk result (λ _. vec_len bytes.new ≤ most) }
@@ -122,11 +124,10 @@ fn read_piece<F: Read>(file: &mut F, bytes: &mut Vec<u8>, most: usize) -> Result
         × Consumes (F.remaining file.old) (F.remaining file.new) piece) }
     ensures end { IfOk result (λ n. n ≡ 0 → IsAtEnd (F.remaining file.new)) }
 {
-    let mut piece = [0u8; PIECE];
     let room = PIECE.min(most - bytes.len());
-    let count = read_some(file, &mut piece[..room])?;
+    let count = read_some(file, &mut buf[..room])?;
     make_room(bytes, count, most)?;
-    bytes.extend_from_slice(&piece[..count])?;
+    bytes.extend_from_slice(&buf[..count])?;
     Ok(count)
 }
 
