@@ -12,7 +12,7 @@ use std::test::Fail;
 
 // The kinds, in the order of the crate's type.
 const KINDS: &str =
-    "Ignored Word Branch Jal Call PcrelHi20 PcrelLo12I PcrelLo12S Hi20 Lo12I Lo12S Align";
+    "Ignored Word Branch Jal Call PcrelHi20 PcrelLo12I PcrelLo12S Hi20 Lo12I Lo12S RvcBranch RvcJump Align";
 
 /// The kind of a type, and how many bytes it changes with an addend.
 pub fn kind(alloc: Global, given: &str) -> Result<String, Fail> {
@@ -37,18 +37,20 @@ const TYPES: &str = "0 6 = Ignored 0
 27 6 = Lo12I 4
 28 6 = Lo12S 4
 43 6 = Align 6
+44 6 = RvcBranch 2
+45 -4 = RvcJump 2
 51 6 = Ignored 0
 43 0 = Align 0
 43 -4 = Align 0";
 
 // Only an alignment changes what its addend says.
 #[test]
-fn fourteen_of_all_types_are_known(rt: HostRuntime) -> Result<(), Fail> {
+fn sixteen_of_all_types_are_known(rt: HostRuntime) -> Result<(), Fail> {
     let mut count = 0_u32;
     for number in 0..=255 {
         count = count.wrapping_add(u32::from(RelocKind::of(number).is_some()));
     }
-    assert_eq!(rt; count, 14);
+    assert_eq!(rt; count, 16);
     expect(&rt, "kind", TYPES)
 }
 

@@ -8,7 +8,7 @@ use Rattle.rv_decode.specs.declared.instr.ImmOp.TheVariants.{Addi, Slti, Sltiu, 
 use Rattle.rv_decode.specs.declared.instr.UpperOp.{UpperOp}
 use Rattle.rv_decode.specs.declared.instr.UpperOp.TheVariants.{Lui, Auipc}
 use Rattle.psabi_reloc.specs.declared.kind.RelocKind.{RelocKind}
-use Rattle.psabi_reloc.specs.declared.kind.RelocKind.TheVariants.{Ignored, Word, Branch, Jal as JalKind, Call, PcrelHi20, PcrelLo12I, PcrelLo12S, Hi20, Lo12I, Lo12S, Align}
+use Rattle.psabi_reloc.specs.declared.kind.RelocKind.TheVariants.{Ignored, Word, Branch, Jal as JalKind, Call, PcrelHi20, PcrelLo12I, PcrelLo12S, Hi20, Lo12I, Lo12S, RvcBranch, RvcJump, Align}
 
 -- ---- types
 
@@ -26,7 +26,9 @@ kind_of n =
     (if n == 26 then Some Hi20 else
     (if n == 27 then Some Lo12I else
     (if n == 28 then Some Lo12S else
-    (if n == 43 then Some Align else None)))))))))))))
+    (if n == 43 then Some Align else
+    (if n == 44 then Some RvcBranch else
+    (if n == 45 then Some RvcJump else None)))))))))))))))
 
 -- ---- fields
 
@@ -49,6 +51,8 @@ field_length (Some PcrelLo12S) addend = 4
 field_length (Some Hi20) addend = 4
 field_length (Some Lo12I) addend = 4
 field_length (Some Lo12S) addend = 4
+field_length (Some RvcBranch) addend = 2
+field_length (Some RvcJump) addend = 2
 field_length (Some Align) addend = padding_length addend
 
 -- ---- instructions
@@ -111,7 +115,7 @@ abbrev pub is_call : Option Instr → Option Instr → Bool
 is_call (Some (Upper op temp imm)) second = is_auipc_op op && is_jalr_by temp second
 is_call other second = false
 
--- the words at a relocation, by the instructions that they spell, are of its kind; the second counts for a call alone
+-- the instructions at a relocation are of its kind; the second counts for a call alone
 abbrev pub fits : RelocKind → Option Instr → Option Instr → Bool
 fits Ignored first second = true
 fits Word first second = true
@@ -124,4 +128,6 @@ fits PcrelLo12S first second = is_store first
 fits Hi20 first second = is_lui first
 fits Lo12I first second = is_sum first
 fits Lo12S first second = is_store first
+fits RvcBranch first second = is_branch first
+fits RvcJump first second = is_jal first
 fits Align first second = true

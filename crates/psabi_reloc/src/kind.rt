@@ -18,6 +18,7 @@ use rv_decode::instr::Instr;
 /// | `Call` | CALL, CALL_PLT |
 /// | `PcrelHi20`, `PcrelLo12I`, `PcrelLo12S` | PCREL_HI20, PCREL_LO12_I, PCREL_LO12_S |
 /// | `Hi20`, `Lo12I`, `Lo12S` | HI20, LO12_I, LO12_S |
+/// | `RvcBranch`, `RvcJump` | RVC_BRANCH, RVC_JUMP |
 /// | `Align` | ALIGN |
 #[derive(Clone, Copy, PartialEq, Eq)]
 pub enum RelocKind {
@@ -32,6 +33,8 @@ pub enum RelocKind {
     Hi20,
     Lo12I,
     Lo12S,
+    RvcBranch,
+    RvcJump,
     Align,
 }
 
@@ -53,6 +56,8 @@ impl RelocKind {
             27 => Some(RelocKind::Lo12I),
             28 => Some(RelocKind::Lo12S),
             43 => Some(RelocKind::Align),
+            44 => Some(RelocKind::RvcBranch),
+            45 => Some(RelocKind::RvcJump),
             _ => None,
         }
     }
@@ -66,6 +71,7 @@ impl RelocKind {
         match self {
             RelocKind::Ignored => 0,
             RelocKind::Call => 8,
+            RelocKind::RvcBranch | RelocKind::RvcJump => 2,
             RelocKind::Align => { if addend < 0 { 0 } else { addend as u32 } }
             RelocKind::Word
             | RelocKind::Branch
@@ -79,15 +85,15 @@ impl RelocKind {
         }
     }
 
-    /// Whether the words at a relocation of this kind are such as it may change, by what they spell.
-    /// The second counts for a call alone.
+    /// Whether the instructions at a relocation of this kind are such as it may change. The second counts for a
+    /// call alone.
     pub fn fits(self, first: Option<Instr>, second: Option<Instr>) -> bool
         ensures { result ≡ fits self first second }
     {
         match self {
             RelocKind::Ignored | RelocKind::Word | RelocKind::Align => true,
-            RelocKind::Branch => spells_branch(first),
-            RelocKind::Jal => spells_jal(first),
+            RelocKind::Branch | RelocKind::RvcBranch => spells_branch(first),
+            RelocKind::Jal | RelocKind::RvcJump => spells_jal(first),
             RelocKind::Call => spells_call(first, second),
             RelocKind::PcrelHi20 => spells_auipc(first),
             RelocKind::Hi20 => spells_lui(first),
