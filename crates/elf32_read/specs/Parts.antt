@@ -11,7 +11,8 @@ use Rattle.elf32_read.specs.Symbols.{symbol_entries, symbol_names}
 use Rattle.elf32_read.specs.declared.reloc.Reloc.{Reloc}
 use Rattle.elf32_read.specs.declared.symbol_entry.SymbolEntry.{SymbolEntry}
 
--- a section: its name, type, flags and alignment, its size in memory, its content, and what changes it
+-- a section: its name, type, flags and alignment, its size in memory, its content, what changes it, and whether its object is
+-- compressed
 pub record SectionParts : Type 0 where
   pub name : List ℕ
   pub kind : ℕ
@@ -20,6 +21,7 @@ pub record SectionParts : Type 0 where
   pub size : ℕ
   pub bytes : List ℕ
   pub relocs : List Reloc
+  pub compressed : Bool
 
 -- a symbol: its name, value and size, its binding and type, and its home: a section's index, or no section
 pub record SymbolParts : Type 0 where
@@ -46,6 +48,11 @@ is_kept_section s = has_flags 2 s.flags && not (pointwise nat_eq s.name (codes "
 abbrev pub is_code_section : SectionParts → Bool
 is_code_section s = is_kept_section s && has_flags 4 s.flags
 
+-- an object with these flags is compressed, so its code may have instructions of 2 bytes: RVC (1) is among them (RISC-V ELF
+-- psABI, "File Header")
+abbrev pub is_compressed : ℕ → Bool
+is_compressed flags = has_flags 1 flags
+
 -- ---- what a file reads as
 
 -- the relocations that a section holds
@@ -66,6 +73,7 @@ section_parts file i = let h = header_of file i in record {
   size = h.size;
   bytes = content_of file h;
   relocs = relocs_of file i;
+  compressed = is_compressed (file_flags file);
 }
 
 -- the symbol of an entry

@@ -17,6 +17,7 @@ mod places;
 mod rela_table;
 mod relas;
 pub mod reloc;
+pub mod relocs;
 pub mod section;
 pub mod section_entry;
 pub mod section_flags;

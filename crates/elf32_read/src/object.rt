@@ -4,7 +4,7 @@ ghost use Rattle.std.specs.Prelude.{◌≡◌, ◌≤◌, ◌<◌, List, ℕ, []
 ghost use Rattle.elf32_read.specs.Header.{file_flags, header_of, section_count};
 ghost use Rattle.elf32_read.specs.Lent.{IsSection, IsSectionEntry, IsSymbol};
 ghost use Rattle.elf32_read.specs.Object.{has_other_flags, not_elf, object_fault, IsRead};
-ghost use Rattle.elf32_read.specs.Parts.{relocs_held, relocs_of, section_parts, symbol_parts};
+ghost use Rattle.elf32_read.specs.Parts.{is_compressed, relocs_held, relocs_of, section_parts, symbol_parts};
 ghost use Rattle.elf32_read.specs.Relas.{IsRelaOf};
 ghost use Rattle.elf32_read.specs.Symbols.{symbol_count, symbol_entry_of, symbol_names, IsSymbolSection};
 
@@ -15,8 +15,9 @@ use crate::header::{begins_as, file_flags, has_other_section_headers, section_co
 use crate::kinds::has_unlinked_sections;
 use crate::names::{name_at, names_from};
 use crate::rela_table::fill_relas;
-use crate::relas::{MOST_SECTIONS, RELA_SIZE, rela_for, reloc};
+use crate::relas::{MOST_SECTIONS, rela_for};
 use crate::reloc::Reloc;
+use crate::relocs::Relocs;
 use crate::section::Section;
 use crate::section_entry::SectionEntry;
 use crate::section_flags::SectionFlags;
@@ -32,6 +33,8 @@ use std::marker::Model;
 const RELOCATABLE: u16 = 1;
 
 const MOST_BYTES: usize = 0x40_0000;
+
+const RVC: u32 = 0x1;
 
 const TSO: u32 = 0x10;
 
@@ -147,6 +150,13 @@ impl<'a> Object<'a> {
         file_flags(self.sections.bytes())
     }
 
+    /// Whether its code may have instructions of 2 bytes: RVC is among its flags.
+    pub fn is_compressed(&self) -> bool
+        ensures { result ≡ is_compressed (file_flags self.now) }
+    {
+        self.flags() & RVC == RVC
+    }
+
     /// How many sections there are, with the first, which is NULL in most files.
     pub fn section_count(&self) -> u32
         ensures count { result ≡ section_count self.now }
@@ -254,13 +264,21 @@ impl<'a> Object<'a> {
         fill_relas(&self.sections, table);
     }
 
+    /// The relocations that a section holds, by its own index.
+    pub fn relocs_held(&self, rela: u32) -> Relocs<'a>
+        requires { rela < section_count self.now }
+        ensures { result ≡ relocs_held self.now (header_of self.now rela) }
+    {
+        let header = self.sections.header(rela);
+        Relocs::new(self.sections.content(&header))
+    }
+
     /// How many relocations a section holds, by its own index.
     pub fn rela_count(&self, rela: u32) -> u32
         requires { rela < section_count self.now }
         ensures { result ≡ length (relocs_held self.now (header_of self.now rela)) }
     {
-        let header = self.sections.header(rela);
-        self.sections.content(&header).len() as u32 / RELA_SIZE
+        self.relocs_held(rela).len()
     }
 
     /// A relocation, by the index of the section that holds it and its own index there.
@@ -269,8 +287,7 @@ impl<'a> Object<'a> {
         requires k { k < length (relocs_held self.now (header_of self.now rela)) }
         ensures { slice_get (relocs_held self.now (header_of self.now rela)) k ≡ Some result }
     {
-        let header = self.sections.header(rela);
-        reloc(self.sections.content(&header), k as usize)
+        self.relocs_held(rela).get(k)
     }
 
     /// How many relocations a section has; none if it is dropped. It looks through all headers.

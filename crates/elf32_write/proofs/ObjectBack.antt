@@ -9,11 +9,11 @@ use Rattle.std.proofs.lemmas.List.Elements.{All-cons, All-map, All-weaker}
 use Rattle.std.proofs.lemmas.List.Folds.{list_any_none}
 use Rattle.std.proofs.lemmas.Option.{slice_get-get_or}
 use Rattle.std.proofs.lemmas.List.FromFn.{fill_by_all, length-map-range_with_len}
-use Rattle.elf32_read.specs.Header.{have_other_size, header_of, headers_of, section_count, section_header_size, section_table}
+use Rattle.elf32_read.specs.Header.{have_other_size, header_of, headers_of, section_count, section_header_size, section_table, file_flags}
 use Rattle.elf32_read.specs.Kept.{is_kept}
 use Rattle.elf32_read.specs.Names.{has_end, is_unnamed_section, name_at}
 use Rattle.elf32_read.specs.Object.{counts_elsewhere, has_bad_alignment, has_bad_name, has_bad_symbol, has_cut_code, has_other_flags, has_second_symbol_table, has_too_many_sections, has_two_relas, has_unlinked_sections, is_bad_alignment, is_bad_common, is_bad_symbol, is_badly_aligned, is_changed_twice, is_cut_code, is_of_no_symbol, is_too_long, is_unlinked, is_unnamed_symbol, lacks_section_names, lacks_symbol_names, lacks_symbols, not_elf, object_fault, passes_end, passes_section, truncated}
-use Rattle.elf32_read.specs.Parts.{ObjectParts, SectionParts, SymbolParts, is_kept_section, object_parts, relocs_held, relocs_of, section_parts, symbol_parts}
+use Rattle.elf32_read.specs.Parts.{ObjectParts, SectionParts, SymbolParts, is_kept_section, object_parts, relocs_held, relocs_of, section_parts, symbol_parts, is_compressed}
 use Rattle.elf32_read.specs.Relocs.{relas_for}
 use Rattle.elf32_read.specs.Rows.{first_of}
 use Rattle.elf32_read.specs.Symbols.{entries_in, symbol_count, symbol_entries as entries_of, symbol_names as symbol_names_in, symbol_tables}
@@ -174,6 +174,16 @@ has_known_flags parts b =
       | inr e ↦ and_right (not (flags == 0)) (not (flags == 0x10)) (ap not e)
     ] in
     ap (λ flags. not (flags == 0) && not (flags == 0x10)) (flags_back parts b.small) ∙ both parts.flags b.writable.flags
+
+-- no object that is written is compressed
+is_plain : (parts : ObjectParts) → IsBack parts → is_compressed (file_flags (object_bytes parts)) ≡ false
+is_plain parts b =
+    let both : (flags : ℕ) → (flags == 0 || flags == 0x10) ≡ true → is_compressed flags ≡ false =
+    λ flags known. elim (or_cases (flags == 0) (flags == 0x10) known) [
+      | inl e ↦ ap is_compressed (eqb-true flags 0 e)
+      | inr e ↦ ap is_compressed (eqb-true flags 0x10 e)
+    ] in
+    ap is_compressed (flags_back parts b.small) ∙ both parts.flags b.writable.flags
 
 -- ---- no fault: the sections
 
@@ -370,18 +380,23 @@ given_relocs parts b j lt =
 
 -- the section that a header shows, with what is read of its relocations
 part_of : FileSection → List Reloc → SectionParts
-part_of s relocs = record { name = s.name; kind = s.kind; flags = s.flags; align = s.align; size = s.size; bytes = s.content; relocs = relocs }
+part_of s relocs = record { name = s.name; kind = s.kind; flags = s.flags; align = s.align; size = s.size; bytes = s.content; relocs = relocs; compressed = false }
 
-part_read : (file : List ℕ) (k : ℕ) (s : FileSection) (relocs : List Reloc) → Shows file (header_of file k) s → relocs_of file k ≡ relocs → section_parts file k ≡ part_of s relocs
+part_read : (file : List ℕ) → is_compressed (file_flags file) ≡ false → (k : ℕ) (s : FileSection) (relocs : List Reloc) → Shows file (header_of file k) s → relocs_of file k ≡ relocs → section_parts file k ≡ part_of s relocs
 unfolding part_of
-part_read file k s relocs r changed =
-    λ i. record { name = r.named.read i; kind = r.kind i; flags = r.flags i; align = r.align i; size = r.size i; bytes = r.content i; relocs = changed i }
+part_read file plain k s relocs r changed =
+    λ i. record { name = r.named.read i; kind = r.kind i; flags = r.flags i; align = r.align i; size = r.size i; bytes = r.content i; relocs = changed i; compressed = plain i }
+
+-- a given section is what its header and its relocations are
+same_part : (s : SectionParts) → s.compressed ≡ false → s ≡ part_of (given_section s) s.relocs
+unfolding part_of
+same_part s long = λ i. record { name = s.name; kind = s.kind; flags = s.flags; align = s.align; size = s.size; bytes = s.bytes; relocs = s.relocs; compressed = long i }
 
 section_at : (parts : ObjectParts) → IsBack parts → (k : ℕ) → k < section_count (object_bytes parts) → get_or (null_part ∷ parts.sections ++ added_parts parts) k null_part ≡ section_parts (object_bytes parts) k
 unfolding part_of
 section_at parts b zero lt =
     let bytes = object_bytes parts in
-    sym (part_read bytes 0 null_shown [] (shows_at parts 0 lt b.shown b.many) (no_relocs bytes 0 (null_dropped parts b)))
+    sym (part_read bytes (is_plain parts b) 0 null_shown [] (shows_at parts 0 lt b.shown b.many) (no_relocs bytes 0 (null_dropped parts b)))
 section_at parts b (suc j) lt =
     let bytes = object_bytes parts in
     let xs = parts.sections in
@@ -389,12 +404,13 @@ section_at parts b (suc j) lt =
     elim (cases_lt j (length xs)) [
       | inl given ↦
           get_or_append_left xs (added_parts parts) null_part j given
-          ∙ sym (part_read bytes (suc j) (given_section (get_or xs j null_part)) (get_or xs j null_part).relocs (given_shown parts b j null_part given) (given_relocs parts b j given))
+          ∙ same_part (get_or xs j null_part) (b.writable.sections j null_part given).long
+          ∙ sym (part_read bytes (is_plain parts b) (suc j) (given_section (get_or xs j null_part)) (get_or xs j null_part).relocs (given_shown parts b j null_part given) (given_relocs parts b j given))
       | inr past ↦
           let index = added_index parts b j past lt in
           get_or-append_right xs (added_parts parts) (length xs) j null_part refl past
           ∙ get_or-map added_part added (j - length xs) null_shown null_part index
-          ∙ sym (part_read bytes (suc j) (get_or added (j - length xs) null_shown) [] (added_shown parts b j past lt) (no_relocs bytes (suc j) (dropped_at parts b j past lt)))
+          ∙ sym (part_read bytes (is_plain parts b) (suc j) (get_or added (j - length xs) null_shown) [] (added_shown parts b j past lt) (no_relocs bytes (suc j) (dropped_at parts b j past lt)))
     ]
 
 sections_read : (parts : ObjectParts) → IsBack parts → (object_parts (object_bytes parts)).sections ≡ null_part ∷ parts.sections ++ added_parts parts

@@ -45,6 +45,7 @@ pub record IsWritableSection (symbols : ℕ) (s : SectionParts) : Type 0 where
   pub name : is_name s.name ≡ true
   pub kind : can_be_given s.kind ≡ true
   pub plain : has_flags 0x800 s.flags ≡ false
+  pub long : s.compressed ≡ false
   pub bytes : length s.bytes ≡ (if is_empty_kind s.kind then 0 else s.size)
   pub kept : is_kept_section s ≡ true → IsWritableKept s
   pub dropped : is_kept_section s ≡ false → s.relocs ≡ []
@@ -54,7 +55,7 @@ pub record IsWritableSection (symbols : ℕ) (s : SectionParts) : Type 0 where
 
 -- section 0
 abbrev pub null_part : SectionParts
-null_part = record { name = []; kind = 0; flags = 0; align = 0; size = 0; bytes = []; relocs = [] }
+null_part = record { name = []; kind = 0; flags = 0; align = 0; size = 0; bytes = []; relocs = []; compressed = false }
 
 -- in a section of the file, which UNDEF (0) counts as here, or ABS (0xFFF1) or COMMON (0xFFF2)
 abbrev pub has_home : ObjectParts → SymbolParts → Bool
@@ -90,7 +91,7 @@ pub record IsWritable (parts : ObjectParts) : Type 0 where
 
 -- a section that is added, as it is read
 abbrev pub added_part : FileSection → SectionParts
-added_part s = record { name = s.name; kind = s.kind; flags = s.flags; align = s.align; size = s.size; bytes = s.content; relocs = [] }
+added_part s = record { name = s.name; kind = s.kind; flags = s.flags; align = s.align; size = s.size; bytes = s.content; relocs = []; compressed = false }
 
 -- all sections that are added
 abbrev pub added_parts : ObjectParts → List SectionParts

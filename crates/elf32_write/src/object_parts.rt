@@ -39,6 +39,7 @@ pub struct PartSymbol {
 }
 
 impl Model for PartSection {
+    ghost use Rattle.std.specs.Prelude.{false};
     ghost use Rattle.elf32_read.specs.Parts.{SectionParts};
 
     ghost Value = { SectionParts };
@@ -51,6 +52,7 @@ impl Model for PartSection {
       size = s.size;
       bytes = s.bytes.items;
       relocs = s.relocs.items;
+      compressed = false;
     } };
 }
 

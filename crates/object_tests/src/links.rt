@@ -315,9 +315,40 @@ fn relocations_stand_in_the_section_that_names_theirs(rt: HostRuntime) -> Result
         assert_eq!(rt; objects.rela_of(0, section), want);
         assert_eq!(rt; objects.is_code(0, section), section == 1);
     }
+    assert_eq!(rt; objects.section_number(2, 0), None);
     assert_eq!(rt;
         (objects.object(0).flags(), objects.object(1).flags()),
         (0, 0x10)
     );
+    Ok(())
+}
+
+// Each section of the second object by its number among all, beside what the object says of it.
+#[test]
+fn sections_are_numbered_through_all_objects(rt: HostRuntime) -> Result<(), Fail> {
+    let objects = link(rt.alloc(), "header\ncaller 96:20")?;
+    assert_eq!(rt; objects.object_count(), 2);
+    let before = objects.object(0).section_count();
+    let object = objects.object(1);
+    for i in 0..object.section_count() {
+        let number = before + i;
+        assert_eq!(rt; objects.section_number(1, i as u16), Some(number));
+        assert!(rt; number < objects.section_count());
+        let section = objects.section(number);
+        let entry = object.section_entry(i);
+        assert_eq!(rt; (section.object(), u32::from(section.index())), (1, i));
+        assert_eq!(rt;
+            (section.kind(), section.align(), section.size()),
+            (entry.kind, entry.align, entry.size)
+        );
+        assert_eq!(rt; section.bytes().len(), entry.bytes.len());
+        assert_eq!(rt;
+            (section.is_code(), section.reloc_count()),
+            (i == 1, object.reloc_count(i))
+        );
+        for k in 0..section.reloc_count() {
+            assert!(rt; section.reloc(k).offset < section.size());
+        }
+    }
     Ok(())
 }

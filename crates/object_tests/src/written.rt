@@ -1,6 +1,6 @@
 // An object worked out by hand from the ELF format; readelf shows it as its parts.
 
-ghost use Rattle.std.specs.Prelude.{◌≡◌, IfOk};
+ghost use Rattle.std.specs.Prelude.{◌≡◌, IfOk, false};
 ghost use Rattle.elf32_write.specs.Writable.{IsWritable};
 
 use crate::fixture::bytes_of;
@@ -68,6 +68,7 @@ fn section(
       size = header.size;
       bytes = bytes.now;
       relocs = relocs.now;
+      compressed = false;
     }) }
 {
     Ok(PartSection {

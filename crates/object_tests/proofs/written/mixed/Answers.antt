@@ -1,5 +1,5 @@
 -- The parts of the object can be written.
-use Rattle.std.proofs.Common.{◌≡◌, ℕ, ◌<◌, List, [], ◌∷◌, codes, refl, sym, ◌∙◌, lit<, lit≤, arith, subst, pos, negsuc}
+use Rattle.std.proofs.Common.{◌≡◌, ℕ, ◌<◌, List, [], ◌∷◌, false, codes, refl, sym, ◌∙◌, lit<, lit≤, arith, subst, pos, negsuc}
 use Rattle.std.specs.Int.Count.{ones}
 use Rattle.std.proofs.lemmas.List.Elements.{All-from_recursion}
 use Rattle.elf32_read.specs.Header.{Header}
@@ -10,7 +10,7 @@ use Rattle.elf32_write.specs.Writable.{IsWritable, IsWritableSection, IsWritable
 use Rattle.object_tests.proofs.written.mixed.Goals as goal
 
 given : List ℕ → List ℕ → List Reloc → Header → SectionParts
-given name bytes relocs h = record { name = name; kind = h.kind; flags = h.flags; align = h.align; size = h.size; bytes = bytes; relocs = relocs }
+given name bytes relocs h = record { name = name; kind = h.kind; flags = h.flags; align = h.align; size = h.size; bytes = bytes; relocs = relocs; compressed = false }
 
 header : ℕ → ℕ → ℕ → ℕ → Header
 header kind flags align size = record { name = 0; kind = kind; flags = flags; address = 0; offset = 0; size = size; link = 0; info = 0; align = align; entry_size = 0 }
@@ -48,6 +48,7 @@ writable = record {
       name = refl;
       kind = refl;
       plain = refl;
+      long = refl;
       bytes = refl;
       kept = λ _. record { kind = refl; shared = refl; align = refl; code = λ _. record { kind = refl; read_only = refl; size = refl } };
       dropped = λ h. absurd cc;
@@ -58,6 +59,7 @@ writable = record {
         name = refl;
         kind = refl;
         plain = refl;
+        long = refl;
         bytes = refl;
         kept = λ _. record { kind = refl; shared = refl; align = refl; code = λ h. absurd cc };
         dropped = λ _. refl;
@@ -68,6 +70,7 @@ writable = record {
           name = refl;
           kind = refl;
           plain = refl;
+          long = refl;
           bytes = refl;
           kept = λ _. record { kind = refl; shared = refl; align = refl; code = λ h. absurd cc };
           dropped = λ h. absurd cc;
