@@ -1,9 +1,10 @@
 -- What look-ups find in the tables of gathered objects.
-use Rattle.std.proofs.Common.{◌≡◌, ℕ, zero, suc, ◌+◌, ◌<◌, ◌≢◌, List, length, get_or, map, refl, sym, ap, ◌∙◌, arith, Option, Some, None, subst, IsSome, cond, eqb, ℤ, ◌%◌, ◌/◌, ◌*◌, ◌^◌}
+use Rattle.std.proofs.Common.{◌≡◌, ℕ, zero, suc, ◌+◌, ◌<◌, ◌≢◌, true, false, List, [], length, slice_get, get_or, map, refl, sym, ap, ◌∙◌, arith, Option, Some, None, subst, IsSome, cond, eqb, ℤ, ◌%◌, ◌/◌, ◌*◌, ◌^◌}
 use Rattle.std.proofs.Math.Nat.{add-mul-mod_self_left, mod-add-div}
 use Rattle.std.proofs.lemmas.Bool.{false≢true, ne_eqb}
 use Rattle.std.proofs.lemmas.List.{get_or-map, length-map}
-use Rattle.elf32_read.specs.Parts.{SectionParts, SymbolParts}
+use Rattle.std.proofs.lemmas.Option.{slice_get-get_or}
+use Rattle.elf32_read.specs.Parts.{SectionParts, SymbolParts, object_parts}
 use Rattle.psabi_sym.specs.declared.data_class.DataClass.{DataClass}
 use Rattle.psabi_sym.specs.declared.definitions.Definitions.{Definitions}
 use Rattle.psabi_sym.specs.declared.meaning.Meaning.TheVariants.{Symbol, Number, Nothing}
@@ -17,19 +18,37 @@ use Rattle.psabi_sym.specs.Data.{address_in, role_address, role_of}
 use Rattle.psabi_sym.specs.Gathered.{IsGathered}
 use Rattle.std.specs.Option.{option_map_or}
 use Rattle.psabi_sym.specs.Inputs.{Inputs, ParsedInputs, parsed}
-use Rattle.psabi_sym.specs.Listed.{ListedSymbol, all_sections, all_symbols, section_at, symbol_at}
+use Rattle.psabi_sym.specs.Listed.{ListedSection, ListedSymbol, all_sections, all_symbols, section_at, symbol_at}
 use Rattle.psabi_sym.specs.Meanings.{meaning_row}
+use Rattle.psabi_sym.specs.Names.{goes_by_name}
 use Rattle.psabi_sym.specs.Places.{place_in}
-use Rattle.psabi_sym.specs.Resolve.{Definition, home_target, name_definition, number, resolved, section_target, symbol_target, word_of}
+use Rattle.psabi_sym.specs.Resolve.{Definition, home_target, name_definition, number_target, resolved, section_target, symbol_target, word_of}
 use Rattle.psabi_sym.specs.Resolve.Definition.{InObject, AtNumber}
 use Rattle.psabi_sym.specs.declared.target.Target.{Target}
 use Rattle.psabi_sym.specs.declared.target.Target.TheVariants.{Nowhere, Number as TargetNumber}
-use Rattle.psabi_sym.specs.Rows.{ArePlaced, number_of, part_row, section_row, symbol_row}
+use Rattle.psabi_sym.specs.Rows.{ArePlaced, name_number, section_row, symbol_number, symbol_row}
+use Rattle.psabi_sym.proofs.NumberLaws.{symbol_number_is}
 use Rattle.psabi_sym.proofs.FoundLaws.{IsFoundSection, IsFoundSymbol, section_found, section_none, symbol_found, symbol_none}
+use Rattle.psabi_sym.proofs.SectionNumbers.{IsOfFile, of_file}
 use Rattle.psabi_sym.proofs.PlaceLaws.{address_there, place_within, row_there, symbol_there}
 
 pub some_none : IsSome {T = ℕ} None → ⊥
 some_none h = false≢true h
+
+-- the row of the section with a number, and the section's file
+pub record IsNumberedRow (files : List (List ℕ)) (k : ℕ) (row : SectionRow) : Type 0 where
+  pub listed : ListedSection
+  pub at : slice_get (all_sections (map object_parts files)) k ≡ Some listed
+  pub row_is : row ≡ section_row listed
+  pub of : IsOfFile files listed
+
+-- what a look-up past the end would give
+no_listed : ListedSection
+no_listed = record {
+  object = 0;
+  index = 0;
+  section = record { name = []; kind = 0; flags = 0; align = 0; size = 0; bytes = []; relocs = []; compressed = false };
+}
 
 module _ {inputs : Inputs} {sections : Sections} {symbols : Symbols} {definitions : Definitions} (gathered : IsGathered inputs sections symbols definitions) where
   -- ---- sections
@@ -47,7 +66,7 @@ module _ {inputs : Inputs} {sections : Sections} {symbols : Symbols} {definition
     row_inside =
         omega (arith, found.place, place_within (parsed inputs) o i found.object found.section found.at found.is, ap length gathered.indexed.sections_are)
 
-    pub row_is : (d : SectionRow) → get_or sections.rows.items k d ≡ part_row found.section
+    pub row_is : (d : SectionRow) → get_or sections.rows.items k d ≡ section_row (record { object = o; index = i; section = found.section })
     row_is d =
         ap (λ l. get_or l k d) gathered.indexed.sections_are ∙ ap (λ n. get_or (map section_row (all_sections (parsed inputs).objects)) n d) found.place
         ∙ row_there (parsed inputs) o i found.object found.section found.at found.is d
@@ -67,6 +86,22 @@ module _ {inputs : Inputs} {sections : Sections} {symbols : Symbols} {definition
     data_address_is Code is some = absurd (some_none some)
     data_address_is (InClass class) is some = ap Some (sym (address_is class is))
     data_address_is Dropped is some = absurd (some_none some)
+
+  -- ---- sections by number
+
+  -- the row with a number is that of the section with it, which is one of a file
+  pub numbered_row : (there : Inputs) (k : ℕ) (row : SectionRow) → inputs ≡ there → k < length (all_sections (parsed there).objects) → row ≡ get_or sections.rows.items k row
+      → IsNumberedRow inputs.files k row
+  numbered_row there k row same inside is =
+      let all = all_sections (parsed inputs).objects in
+      let within : k < length all = omega (arith, inside, ap (λ v. length (all_sections (parsed v).objects)) same) in
+      let at = slice_get-get_or all k no_listed within in
+      record {
+        listed = get_or all k no_listed;
+        at = at;
+        row_is = is ∙ ap (λ rows. get_or rows k row) gathered.indexed.sections_are ∙ get_or-map section_row all k no_listed row within;
+        of = of_file inputs.files k (get_or all k no_listed) at;
+      }
 
   -- ---- symbols
 
@@ -97,15 +132,19 @@ module _ {inputs : Inputs} {sections : Sections} {symbols : Symbols} {definition
         ∙ get_or-map (symbol_row gathered.defined.named.names) (all_symbols (parsed inputs).objects) k listed d (all_is listed).0
         ∙ ap (symbol_row gathered.defined.named.names) (all_is listed).1
 
-    -- its name has a number, and a meaning
-    pub number_inside : number_of gathered.defined.named.names found.symbol.name < length definitions.meanings.items
-    number_inside =
-        omega (arith, gathered.defined.named.numbered.numbered k listed (all_is listed).0, gathered.defined.named.count, ap (λ m. number_of gathered.defined.named.names m.symbol.name) (all_is listed).1)
+    -- its name has a number, and a meaning, if it goes by it
+    pub number_inside : goes_by_name found.symbol ≡ true → symbol_number gathered.defined.named.names found.symbol < length definitions.meanings.items
+    number_inside goes =
+        let names = gathered.defined.named.names in
+        let there = gathered.defined.named.numbered.numbered k listed (all_is listed).0 (ap (λ m. goes_by_name m.symbol) (all_is listed).1 ∙ goes) in
+        omega (arith, there, gathered.defined.named.count, ap (λ m. name_number names m.symbol.name) (all_is listed).1, symbol_number_is names found.symbol goes)
 
-    pub meaning_is : get_or definitions.meanings.items (number_of gathered.defined.named.names found.symbol.name) Nothing ≡ meaning_row gathered.defined.named.names (name_definition (parsed inputs) found.symbol.name)
-    meaning_is =
-        ap (λ m. get_or definitions.meanings.items (number_of gathered.defined.named.names m.symbol.name) Nothing) (sym (all_is listed).1)
-        ∙ gathered.defined.named.meant k listed (all_is listed).0
+    pub meaning_is : goes_by_name found.symbol ≡ true
+        → get_or definitions.meanings.items (symbol_number gathered.defined.named.names found.symbol) Nothing ≡ meaning_row gathered.defined.named.names (name_definition (parsed inputs) found.symbol.name)
+    meaning_is goes =
+        ap (λ n. get_or definitions.meanings.items n Nothing) (symbol_number_is gathered.defined.named.names found.symbol goes)
+        ∙ ap (λ m. get_or definitions.meanings.items (name_number gathered.defined.named.names m.symbol.name) Nothing) (sym (all_is listed).1)
+        ∙ gathered.defined.named.meant k listed (all_is listed).0 (ap (λ m. goes_by_name m.symbol) (all_is listed).1 ∙ goes)
         ∙ ap (λ m. meaning_row gathered.defined.named.names (name_definition (parsed inputs) m.symbol.name)) (all_is listed).1
 
 -- a symbol after symbol 0, by what stands there
@@ -119,7 +158,7 @@ resolved_at {here} o (suc s) addend symbol same past is =
 -- a symbol with a home by its home and value alone
 abbrev pub home_value_target : ParsedInputs → ℕ → ℕ → ℕ → ℤ → Target
 home_value_target inputs o home value addend =
-    cond (eqb home 0xFFF1) (number value addend) (option_map_or (section_target inputs o home value addend) (section_at inputs.objects o home) Nowhere)
+    cond (eqb home 0xFFF1) (number_target value addend) (option_map_or (section_target inputs o home value addend) (section_at inputs.objects o home) Nowhere)
 
 -- so any symbol with these leads there
 pub home_target_of : {here there : Inputs} {target : Target} (o home value : ℕ) (addend : ℤ) → here ≡ there → target ≡ home_value_target (parsed here) o home value addend
@@ -130,7 +169,7 @@ home_target_of o home value addend same is s home_is value_is = is ∙ (λ j. ho
 pub home_section : (inputs : ParsedInputs) (o home value : ℕ) (addend : ℤ) (section : Option SectionParts) → home ≢ 0xFFF1 → section_at inputs.objects o home ≡ section
     → home_value_target inputs o home value addend ≡ option_map_or (section_target inputs o home value addend) section Nowhere
 home_section inputs o home value addend section ne is =
-    (λ j. cond (ne_eqb home 0xFFF1 ne j) (number value addend) (option_map_or (section_target inputs o home value addend) (is j) Nowhere))
+    (λ j. cond (ne_eqb home 0xFFF1 ne j) (number_target value addend) (option_map_or (section_target inputs o home value addend) (is j) Nowhere))
 
 -- what a name stands for, by its meaning
 pub symbol_meaning : (names : List (List ℕ)) (o : Option Definition) (row : SymbolRow) → Symbol row ≡ meaning_row names o → (l : ListedSymbol) × (o ≡ Some (InObject l)) × (row ≡ symbol_row names l)
@@ -149,7 +188,7 @@ nothing_meaning names (Some (InObject l)) is = absurd cc
 nothing_meaning names (Some (AtNumber n)) is = absurd cc
 
 -- a number modulo 2^32 before an addend
-pub number_wrapped : (n : ℕ) (addend : ℤ) → number (n % 2 ^ 32) addend ≡ number n addend
+pub number_wrapped : (n : ℕ) (addend : ℤ) → number_target (n % 2 ^ 32) addend ≡ number_target n addend
 number_wrapped n addend =
     let w = word_of addend in
     let parts : n + w ≡ n % 4294967296 + w + 4294967296 * (n / 4294967296) = omega (arith, mod-add-div n 4294967296) in

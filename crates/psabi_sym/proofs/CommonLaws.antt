@@ -351,12 +351,26 @@ table_next rows start i d within n v named is here =
     none_is (Some x) h = absurd cc
 
 -- the test as the tables give it
-pub next_by_tables : (rows : List SymbolRow) (start i n : ℕ) (d : SymbolRow) (strong : List (Option SymbolRow)) (addresses : List (Option ℕ)) (o : Option ℕ) (b : Bool)
-    → b ≡ (row_is_common (get_or rows i d) && is_none (get_or strong (get_or rows i d).name None) && is_none o)
+pub next_by_tables : (rows : List SymbolRow) (start i n : ℕ) (d : SymbolRow) (strong : List (Option SymbolRow)) (addresses : List (Option ℕ)) (b : Bool)
+    → b ≡ (row_is_common (get_or rows i d) && is_none (get_or strong (get_or rows i d).name None) && is_none (get_or addresses (get_or rows i d).name None))
     → strong ≡ map (first_row 1 rows) (range_with_len 0 n)
     → addresses ≡ map (row_address_of (placed_from (row_room rows) start (placed_rows rows (take i rows)))) (range_with_len 0 n)
-    → o ≡ get_or addresses (get_or rows i d).name o → (get_or rows i d).name < n → is_next rows (take i rows) start (get_or rows i d) ≡ b
-next_by_tables rows start i n d strong addresses o b is strongs table read named =
-    let r = get_or rows i d in
-    sym (is ∙ (λ j. row_is_common r && is_none (table_at (first_row 1 rows) strong n r.name None strongs named j)
-    && is_none ((read ∙ table_at (row_address_of (placed_from (row_room rows) start (placed_rows rows (take i rows)))) addresses n r.name o table named) j)))
+    → (row_is_common (get_or rows i d) ≡ true → (get_or rows i d).name < n) → is_next rows (take i rows) start (get_or rows i d) ≡ b
+next_by_tables rows start i n d strong addresses b is strongs table named = by (row_is_common (get_or rows i d)) refl
+  where
+    by : (t : Bool) → row_is_common (get_or rows i d) ≡ t → is_next rows (take i rows) start (get_or rows i d) ≡ b
+    by true common =
+        let own = get_or rows i d in
+        let address : ℕ → Option ℕ = row_address_of (placed_from (row_room rows) start (placed_rows rows (take i rows))) in
+        sym (is ∙ (λ j. row_is_common own && is_none (table_at (first_row 1 rows) strong n own.name None strongs (named common) j) && is_none (table_at address addresses n own.name None table (named common) j)))
+    by false other =
+        let own = get_or rows i d in
+        let address : ℕ → Option ℕ = row_address_of (placed_from (row_room rows) start (placed_rows rows (take i rows))) in
+        sym (is ∙ (λ j. other j && is_none (get_or strong own.name None) && is_none (get_or addresses own.name None))
+        ∙ (λ j. sym other j && is_none (first_row 1 rows own.name) && is_none (address own.name)))
+
+-- what is placed next is common
+pub next_common : (rows : List SymbolRow) (start i : ℕ) (r : SymbolRow) → is_next rows (take i rows) start r ≡ true → row_is_common r ≡ true
+next_common rows start i r is =
+    (and_parts (row_is_common r) (is_none (first_row 1 rows r.name))
+    (and_parts (row_is_common r && is_none (first_row 1 rows r.name)) (is_none (row_address_of (placed_from (row_room rows) start (placed_rows rows (take i rows))) r.name)) is).0).0

@@ -1,11 +1,9 @@
 -- Where data lies is bounded by the map, and the contents of data have room from its start to the end of small data.
-use Rattle.std.proofs.Common.{◌≡◌, ℕ, ◌+◌, ◌-◌, ◌<◌, ◌≤◌, List, [], ◌∷◌, ◌++◌, Bool, true, false, cond, eqb, length, take, drop, map, max, replicate, refl, ap, ◌∙◌, arith, Option, Some, None, slice_get}
+use Rattle.std.proofs.Common.{◌≡◌, ℕ, ◌+◌, ◌-◌, ◌≤◌, List, [], ◌∷◌, ◌++◌, Bool, true, false, cond, eqb, length, take, drop, map, max, replicate, refl, ap, ◌∙◌, arith, Option, Some, None}
 use Rattle.std.specs.List.{fold, sum_by}
-use Rattle.std.specs.Option.{option_and_then, option_map, option_map_or}
+use Rattle.std.specs.Option.{option_and_then, option_map_or}
 use Rattle.std.proofs.lemmas.List.{length-append, length-drop, length-replicate, length-take, take_all}
-use Rattle.std.proofs.lemmas.Option.{slice_get-map}
-use Rattle.elf32_read.specs.Header.{section_count}
-use Rattle.elf32_read.specs.Parts.{ObjectParts, SectionParts, object_parts, section_parts}
+use Rattle.elf32_read.specs.Parts.{ObjectParts, SectionParts}
 use Rattle.psabi_sym.specs.declared.block.Block.{Block}
 use Rattle.psabi_sym.specs.declared.data_class.DataClass.{DataClass}
 use Rattle.psabi_sym.specs.declared.data_class.DataClass.TheVariants.{ReadOnly, Data, SmallData, SmallZero, Zero, Common}
@@ -25,7 +23,6 @@ use Rattle.psabi_sym.proofs.BlockLaws.{aligned_up-lt, end_from_fits}
 use Rattle.psabi_sym.proofs.CommonLaws.{placed_room}
 use Rattle.psabi_sym.proofs.DefinedLaws.{class_end_common, common_start_is, rooms_fit}
 use Rattle.psabi_sym.proofs.Gathered.{all_none}
-use Rattle.psabi_sym.proofs.PartLaws.{section_got}
 use Rattle.psabi_sym.proofs.RowLaws.{class_rooms, row_end-le}
 
 -- ---- nothing lies below the map's start of data
@@ -135,13 +132,6 @@ length-data_contents inputs =
     all bytes (l ∷ ls) = all (with_content inputs bytes l) ls ∙ length-with_content inputs bytes l
 
 -- ---- a section of an object
-
--- a section by its file
-pub section_there : (inputs : Inputs) (o i : ℕ) (file : List ℕ) → slice_get inputs.files o ≡ Some file → i < section_count file
-    → section_at (parsed inputs).objects o i ≡ Some (section_parts file i)
-section_there inputs o i file at within =
-    ap (option_and_then (λ (object : ObjectParts). slice_get object.sections i)) (slice_get-map object_parts inputs.files o ∙ ap (option_map object_parts) at)
-    ∙ section_got file i within
 
 module _ (inputs : ParsedInputs) (o i : ℕ) (s : SectionParts) (at : section_at inputs.objects o i ≡ Some s) where
   found : data_address inputs o i ≡ role_address inputs o i s (role_of s)

@@ -2,7 +2,7 @@
 use Rattle.std.proofs.Common.{◌≡◌, ℕ, zero, suc, ◌+◌, ◌<◌, ◌≤◌, Bool, true, false, cond, ◌&&◌, List, [], ◌∷◌, length, get_or, take, drop, map, max, refl, sym, ap, ◌∙◌, arith, Option, Some, None, is_none, All, eqb, nat_lt}
 use Rattle.std.specs.List.{find, flat_map, enumerate_from, range_with_len, sum_by, zip}
 use Rattle.std.specs.Option.{option_map, option_or}
-use Rattle.std.proofs.lemmas.Bool.{ltb-false, or_parts}
+use Rattle.std.proofs.lemmas.Bool.{eqb-true, ltb-false, or_parts}
 use Rattle.std.proofs.lemmas.List.{take_all}
 use Rattle.std.proofs.lemmas.List.Folds.{fold-map}
 use Rattle.std.proofs.lemmas.List.Sums.{sum_by-append, sum_by-cons}
@@ -22,11 +22,13 @@ use Rattle.psabi_sym.specs.Faults.{are_too_large, common_room, data_room, is_mis
 use Rattle.psabi_sym.specs.Inputs.{ParsedInputs}
 use Rattle.psabi_sym.specs.Listed.{ListedSection, ListedSymbol, all_sections, all_symbols, sections_in, symbols_in}
 use Rattle.psabi_sym.specs.Meanings.{is_nothing, meaning_at, meaning_of, meaning_row, row_is_missing}
-use Rattle.psabi_sym.specs.Names.{strong_definition, weak_definition}
+use Rattle.psabi_sym.specs.Names.{goes_by_name, strong_definition, weak_definition}
+use Rattle.psabi_sym.specs.Numbered.{HaveNumbers}
 use Rattle.psabi_sym.specs.Resolve.{Definition, linker_number, linker_numbers, linker_value, name_definition}
 use Rattle.psabi_sym.specs.Resolve.Definition.{InObject, AtNumber}
-use Rattle.psabi_sym.specs.Rows.{first_row, number_of, placed_rows, role_room, row_address_of, row_blocks, row_common_room, row_data_room, row_room, row_start, section_row, symbol_row}
+use Rattle.psabi_sym.specs.Rows.{first_row, name_number, placed_rows, role_room, row_address_of, row_blocks, row_common_room, row_data_room, row_room, row_start, section_row, symbol_number, symbol_row}
 use Rattle.psabi_sym.proofs.BridgeLaws.{common_is, commons_end, find-map, first_row_is, number_at, row_blocks_are}
+use Rattle.psabi_sym.proofs.NumberLaws.{bound_goes, symbol_number_is}
 use Rattle.psabi_sym.proofs.Tables.{table_at}
 
 -- ---- classes
@@ -70,22 +72,21 @@ nothing_is names None = refl
 nothing_is names (Some (InObject l)) = refl
 nothing_is names (Some (AtNumber n)) = refl
 
-module _ (names : List (List ℕ)) (inputs : ParsedInputs)
-    (numbered : All (λ l. number_of names l.symbol.name < length names) (all_symbols inputs.objects)) where
+module _ (names : List (List ℕ)) (inputs : ParsedInputs) (numbered : HaveNumbers names (all_symbols inputs.objects)) where
   -- a name by the tables
-  pub meaning_at_is : (strong weak : List (Option SymbolRow)) (commons : List (Option ℕ)) (numbers : LinkerNumbers) (name : List ℕ) → number_of names name < length names
+  pub meaning_at_is : (strong weak : List (Option SymbolRow)) (commons : List (Option ℕ)) (numbers : LinkerNumbers) (name : List ℕ) → name_number names name < length names
       → strong ≡ map (first_row 1 (map (symbol_row names) (all_symbols inputs.objects))) (range_with_len 0 (length names))
       → weak ≡ map (first_row 2 (map (symbol_row names) (all_symbols inputs.objects))) (range_with_len 0 (length names))
       → commons ≡ map (row_address_of (placed_from (row_room (map (symbol_row names) (all_symbols inputs.objects))) (class_start inputs Common)
       (placed_rows (map (symbol_row names) (all_symbols inputs.objects)) (map (symbol_row names) (all_symbols inputs.objects))))) (range_with_len 0 (length names))
       → numbers ≡ linker_numbers inputs
-      → meaning_at names strong commons weak numbers (number_of names name) ≡ meaning_row names (name_definition inputs name)
+      → meaning_at names strong commons weak numbers (name_number names name) ≡ meaning_row names (name_definition inputs name)
   unfolding name_definition common_address
   meaning_at_is strong weak commons numbers name there strongs weaks placed number =
-      let k = number_of names name in
+      let k = name_number names name in
       let rows = map (symbol_row names) (all_symbols inputs.objects) in
-      let s = table_at (first_row 1 rows) strong (length names) k None strongs there ∙ first_row_is names inputs.objects numbered 1 name there in
-      let w = table_at (first_row 2 rows) weak (length names) k None weaks there ∙ first_row_is names inputs.objects numbered 2 name there in
+      let s = table_at (first_row 1 rows) strong (length names) k None strongs there ∙ first_row_is names inputs.objects numbered 1 name refl there in
+      let w = table_at (first_row 2 rows) weak (length names) k None weaks there ∙ first_row_is names inputs.objects numbered 2 name refl there in
       let c = table_at (row_address_of (placed_from (row_room rows) (class_start inputs Common) (placed_rows rows rows))) commons (length names) k None placed there ∙ common_is names inputs.objects numbered (class_start inputs Common) name there in
       let l : linker_number numbers (get_or names k []) ≡ linker_value inputs name = λ j. linker_number (number j) (number_at names name [] there j) in
       (λ j. meaning_of (s j) (c j) (w j) (l j))
@@ -93,7 +94,7 @@ module _ (names : List (List ℕ)) (inputs : ParsedInputs)
 
   -- what is missing
   pub undefined_is : (meanings : List Meaning)
-      → All (λ l. get_or meanings (number_of names l.symbol.name) Nothing ≡ meaning_row names (name_definition inputs l.symbol.name)) (all_symbols inputs.objects)
+      → All (λ l. goes_by_name l.symbol ≡ true → get_or meanings (name_number names l.symbol.name) Nothing ≡ meaning_row names (name_definition inputs l.symbol.name)) (all_symbols inputs.objects)
       → option_map {U = ℕ × ℕ} (λ e. (e.0.object, e.0.index)) (find (row_is_missing meanings) (zip (map (symbol_row names) (all_symbols inputs.objects)) (map (is_used inputs.objects) (all_symbols inputs.objects))))
       ≡ option_map (λ l. (l.object, l.index)) (find (is_missing inputs) (all_symbols inputs.objects))
   undefined_is meanings each =
@@ -101,12 +102,21 @@ module _ (names : List (List ℕ)) (inputs : ParsedInputs)
       ap (λ zs. option_map {T = SymbolRow × Bool} {U = ℕ × ℕ} (λ e. (e.0.object, e.0.index)) (find (row_is_missing meanings) zs)) (zip-map (all_symbols inputs.objects))
       ∙ ap (option_map {T = SymbolRow × Bool} {U = ℕ × ℕ} (λ e. (e.0.object, e.0.index)))
       (find-map both (row_is_missing meanings) (is_missing inputs) (all_symbols inputs.objects)
-      (λ k d within.
-      let l = get_or (all_symbols inputs.objects) k d in
-      ap (λ m. eqb l.symbol.bind 1 && eqb l.symbol.home 0 && is_used inputs.objects l && is_nothing m) (each k d within)
-      ∙ ap (λ b. eqb l.symbol.bind 1 && eqb l.symbol.home 0 && is_used inputs.objects l && b) (nothing_is names (name_definition inputs l.symbol.name))))
+      (λ k d within. missing (get_or (all_symbols inputs.objects) k d) (eqb (get_or (all_symbols inputs.objects) k d).symbol.bind 1) refl (each k d within)))
       ∙ by (find (is_missing inputs) (all_symbols inputs.objects))
     where
+      missing : (l : ListedSymbol) (b : Bool) → eqb l.symbol.bind 1 ≡ b
+          → (goes_by_name l.symbol ≡ true → get_or meanings (name_number names l.symbol.name) Nothing ≡ meaning_row names (name_definition inputs l.symbol.name))
+          → row_is_missing meanings (symbol_row names l, is_used inputs.objects l) ≡ is_missing inputs l
+      missing l true global meant =
+          let goes = bound_goes l.symbol (ap (λ n. eqb n 0) (eqb-true l.symbol.bind 1 global)) in
+          ap (λ n. eqb l.symbol.bind 1 && eqb l.symbol.home 0 && is_used inputs.objects l && is_nothing (get_or meanings n Nothing)) (symbol_number_is names l.symbol goes)
+          ∙ ap (λ m. eqb l.symbol.bind 1 && eqb l.symbol.home 0 && is_used inputs.objects l && is_nothing m) (meant goes)
+          ∙ ap (λ b. eqb l.symbol.bind 1 && eqb l.symbol.home 0 && is_used inputs.objects l && b) (nothing_is names (name_definition inputs l.symbol.name))
+      missing l false other meant =
+          (λ j. other j && eqb l.symbol.home 0 && is_used inputs.objects l && is_nothing (get_or meanings (symbol_number names l.symbol) Nothing))
+          ∙ (λ j. sym other j && eqb l.symbol.home 0 && is_used inputs.objects l && is_none (name_definition inputs l.symbol.name))
+
       zip-map : (ls : List ListedSymbol) → zip (map (symbol_row names) ls) (map (is_used inputs.objects) ls) ≡ map (λ l. (symbol_row names l, is_used inputs.objects l)) ls
       zip-map [] = refl
       zip-map (l ∷ ls) = ap (λ t. (symbol_row names l, is_used inputs.objects l) ∷ t) (zip-map ls)
@@ -214,7 +224,7 @@ rooms_fit files names none =
     omega (arith, data_fits files none, row_sums (map object_parts files) names, fold-map (λ a o. a + object_data o) object_parts 0 files)
 
 -- where all data ends
-pub class_end_common : (names : List (List ℕ)) (inputs : ParsedInputs) (numbered : All (λ l. number_of names l.symbol.name < length names) (all_symbols inputs.objects))
+pub class_end_common : (names : List (List ℕ)) (inputs : ParsedInputs) (numbered : HaveNumbers names (all_symbols inputs.objects))
     → end_from (class_start inputs Common) (map (row_room (map (symbol_row names) (all_symbols inputs.objects)))
     (placed_rows (map (symbol_row names) (all_symbols inputs.objects)) (map (symbol_row names) (all_symbols inputs.objects)))) ≡ class_end inputs Common
 unfolding class_end

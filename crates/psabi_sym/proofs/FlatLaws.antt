@@ -5,9 +5,8 @@ use Rattle.std.proofs.lemmas.List.{append-nil, get_or-map, length-map, take_more
 use Rattle.std.proofs.lemmas.List.Concat.{flat_map-append, get_or-flat_map}
 use Rattle.std.proofs.lemmas.List.FromFn.{get_or-enumerate_from, length-enumerate_from}
 use Rattle.std.proofs.lemmas.Option.{get_or_from_slice_get, slice_get_within}
-use Rattle.elf32_read.specs.Parts.{ObjectParts, SectionParts}
+use Rattle.elf32_read.specs.Parts.{ObjectParts}
 use Rattle.psabi_sym.specs.Listed.{all_sections, all_symbols, sections_in, symbols_in}
-use Rattle.psabi_sym.specs.Rows.{part_row, section_row}
 
 -- numbering goes on
 enumerate_push : {X : Type 0} (n : ℕ) (xs : List X) (x : X) → enumerate_from n (xs ++ x ∷ []) ≡ enumerate_from n xs ++ (n + length xs, x) ∷ []
@@ -89,15 +88,6 @@ sections_push objects object = flat_push sections_in objects object
 pub symbols_push : (objects : List ObjectParts) (object : ObjectParts) → all_symbols (objects ++ object ∷ []) ≡ all_symbols objects ++ symbols_in (length objects, object)
 unfolding all_symbols
 symbols_push objects object = flat_push symbols_in objects object
-
--- an object's rows
-pub rows_in : (o : ℕ) (object : ObjectParts) → map section_row (sections_in (o, object)) ≡ map part_row object.sections
-rows_in o object = from 0 object.sections
-  where
-    from : (n : ℕ) (sections : List SectionParts)
-        → map section_row (map (λ s. record { object = o; index = s.0; section = s.1 }) (enumerate_from n sections)) ≡ map part_row sections
-    from n [] = refl
-    from n (s ∷ ss) = ap (λ l. part_row s ∷ l) (from (n + 1) ss)
 
 -- one more object of those that were read
 pub parsed_more : {F : Type 0} (read : F → ObjectParts) (files : List F) (i : ℕ) (file : F) → i < length files → file ≡ get_or files i file

@@ -1,5 +1,5 @@
 -- Sections and symbols that were found by their places.
-use Rattle.std.proofs.Common.{◌≡◌, ℕ, ◌+◌, ◌≤◌, List, [], length, get_or, map, refl, sym, ap, ◌∙◌, arith, Option, Some, None, slice_get, inl, inr}
+use Rattle.std.proofs.Common.{◌≡◌, ℕ, ◌+◌, ◌≤◌, List, [], length, get_or, map, refl, sym, ap, ◌∙◌, arith, false, Option, Some, None, slice_get, inl, inr}
 use Rattle.std.specs.List.{range_with_len}
 use Rattle.std.specs.Option.{option_and_then}
 use Rattle.std.proofs.lemmas.Option.{slice_get-get_or, slice_get_past}
@@ -29,7 +29,7 @@ pub record IsFoundSymbol (objects : List ObjectParts) (o s k : ℕ) : Type 0 whe
   pub found : symbol_at objects o (s + 1) ≡ Some symbol
 
 no_section : SectionParts
-no_section = record { name = []; kind = 0; flags = 0; align = 0; size = 0; bytes = []; relocs = [] }
+no_section = record { name = []; kind = 0; flags = 0; align = 0; size = 0; bytes = []; relocs = []; compressed = false }
 
 no_symbol : SymbolParts
 no_symbol = record { name = []; value = 0; size = 0; bind = 0; kind = 0; home = 0 }

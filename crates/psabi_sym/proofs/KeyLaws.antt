@@ -9,7 +9,7 @@ use Rattle.std.proofs.lemmas.List.{append_cancel_left}
 use Rattle.std.proofs.lemmas.Slice.Eq.{bytes_eq-Decides}
 use Rattle.psabi_sym.specs.Keys.{AreKeys, AreTails, IsAdded, IsKey}
 use Rattle.psabi_sym.specs.Names.{same_name}
-use Rattle.psabi_sym.specs.Rows.{number_of, with_name}
+use Rattle.psabi_sym.specs.Rows.{name_number, with_name}
 use Rattle.psabi_sym.specs.declared.key.Key.{Key}
 use Rattle.psabi_sym.proofs.NumberLaws.{number_added, same_is}
 
@@ -37,7 +37,7 @@ module _ (blocks : ℕ) (tails : List (List ℕ)) (are : AreTails tails) where
       let long : length k.part.now ≡ length l.part.now =
       omega (arith, is.part, js.part, tail_whole k s is, tail_whole l t js, ap length whole, length-append k.part.now a, length-append l.part.now b) in
       let parts = append_split k.part.now l.part.now a b long whole in
-      let rest : k.rest ≡ l.rest = sym (are.numbered k.rest is.rest) ∙ ap (number_of tails) parts.1 ∙ are.numbered l.rest js.rest in
+      let rest : k.rest ≡ l.rest = sym (are.numbered k.rest is.rest) ∙ ap (name_number tails) parts.1 ∙ are.numbered l.rest js.rest in
       and_from _ _ ((bytes_eq-Decides k.part.now l.part.now).1 parts.0) (eq-eqb k.rest l.rest rest)
 
   -- and keys that are one have one text
@@ -72,7 +72,7 @@ module _ (blocks : ℕ) (tails : List (List ℕ)) (are : AreTails tails) where
     any_text k t is (l ∷ keys) (s ∷ texts) all = λ i. (tests k l ∙ key_test k l t s is all.0) i || any_text k t is keys texts all.1 i
 
     place_of_text : (k : Key) (t : List ℕ) → IsKey blocks tails k t → (keys : List Key) (texts : List (List ℕ)) → AreKeys blocks tails keys texts
-        → position_or_len (eq k) keys ≡ number_of texts t
+        → position_or_len (eq k) keys ≡ name_number texts t
     place_of_text k t is [] [] all = refl
     place_of_text k t is [] (s ∷ texts) all = absurd all
     place_of_text k t is (l ∷ keys) [] all = absurd all
@@ -91,7 +91,7 @@ module _ (blocks : ℕ) (tails : List (List ℕ)) (are : AreTails tails) where
         record {
           keys_are = all';
           texts_are = texts_all;
-          number_is = number ∙ place_of_text k t is keys texts all ∙ sym (number_added texts t) ∙ ap (λ l. number_of l t) (sym texts_all);
+          number_is = number ∙ place_of_text k t is keys texts all ∙ sym (number_added texts t) ∙ ap (λ l. name_number l t) (sym texts_all);
           within = omega (arith, within, keys-length keys' texts' all');
         }
       where

@@ -14,6 +14,7 @@ pub mod NumberedLaws
 pub mod PartLaws
 pub mod PlaceLaws
 pub mod RowLaws
+pub mod SectionNumbers
 pub mod StartLaws
 pub mod SumLaws
 pub mod Tables

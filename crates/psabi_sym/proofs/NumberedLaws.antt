@@ -1,40 +1,64 @@
 -- Laws of numbered symbols: more names leave the rows as they are, and one more symbol adds its row.
-use Rattle.std.proofs.Common.{◌≡◌, ℕ, ◌<◌, List, [], ◌∷◌, ◌++◌, length, refl, sym, ap, ◌∙◌, arith, map, All, length-append, subst}
+use Rattle.std.proofs.Common.{◌≡◌, ℕ, ◌+◌, ◌<◌, ◌≤◌, Bool, true, false, cond, List, [], ◌∷◌, ◌++◌, length, refl, sym, ap, ◌∙◌, arith, map, All, length-append, subst}
 use Rattle.std.proofs.lemmas.List.{map_push}
 use Rattle.std.proofs.lemmas.List.Elements.{All-head, All-map, All-same, All-push, All-tail, All-weaker}
+use Rattle.elf32_read.specs.Parts.{SymbolParts}
 use Rattle.psabi_sym.specs.Listed.{ListedSymbol}
-use Rattle.psabi_sym.specs.Numbered.{IsNumbered}
-use Rattle.psabi_sym.specs.Rows.{number_of, symbol_row, with_name}
+use Rattle.psabi_sym.specs.Names.{goes_by_name}
+use Rattle.psabi_sym.specs.Numbered.{HaveNumbers, IsNumbered}
+use Rattle.psabi_sym.specs.Rows.{name_number, row_goes_by_name, symbol_number, symbol_row, with_name, with_symbol}
 use Rattle.psabi_sym.specs.declared.symbol_row.SymbolRow.{SymbolRow}
-use Rattle.psabi_sym.proofs.NumberLaws.{length-with_name, number_kept}
+use Rattle.psabi_sym.proofs.NumberLaws.{length-with_name, number_kept, symbol_number_is}
 
--- rows stay as names are added
-rows_kept : (names : List (List ℕ)) (name : List ℕ) (listed : List ListedSymbol) → All (λ l. number_of names l.symbol.name < length names) listed
-    → map (symbol_row names) listed ≡ map (symbol_row (with_name names name)) listed
-rows_kept names name [] all = refl
-rows_kept names name (l ∷ ls) all =
-    let same = number_kept names name l.symbol.name (All-head (λ m. number_of names m.symbol.name < length names) l ls all) in
-    let rest = rows_kept names name ls (All-tail (λ m. number_of names m.symbol.name < length names) l ls all) in
-    λ j. record (symbol_row names l) { name = sym same j } ∷ rest j
+-- names grow by one at most, and those that were there keep their numbers
+pub record Grow (names grown : List (List ℕ)) : Type 0 where
+  pub kept : (name : List ℕ) → name_number names name < length names → name_number grown name ≡ name_number names name
+  pub longer : length names ≤ length grown
+  pub few : length grown ≤ length names + 1
 
--- one more symbol, with its name
-pub numbered_more : (names : List (List ℕ)) (listed : List ListedSymbol) (rows : List SymbolRow) (l : ListedSymbol) → IsNumbered names listed rows
-    → number_of (with_name names l.symbol.name) l.symbol.name < length (with_name names l.symbol.name)
-    → IsNumbered (with_name names l.symbol.name) (listed ++ l ∷ []) (rows ++ symbol_row (with_name names l.symbol.name) l ∷ [])
-numbered_more names listed rows l before named =
-    let name = l.symbol.name in
-    let grown = with_name names name in
-    let bounds = length-with_name names name in
-    let kept : All (λ m. number_of grown m.symbol.name < length grown) listed =
-    All-weaker (λ m. number_of names m.symbol.name < length names) (λ m. number_of grown m.symbol.name < length grown)
-    (λ m there. omega (arith, number_kept names name m.symbol.name there, there, bounds.0)) listed before.numbered in
-    record {
-      rows_are =
-          ap (λ t. t ++ symbol_row grown l ∷ []) (before.rows_are ∙ rows_kept names name listed before.numbered)
-          ∙ sym (map_push (symbol_row grown) listed l);
-      numbered = All-push (λ m. number_of grown m.symbol.name < length grown) listed l kept named;
-      few = omega (arith, bounds.1, before.few, length-append listed (l ∷ []));
+-- they do with the name of one more symbol
+pub grow_by : (names : List (List ℕ)) (s : SymbolParts) → Grow names (with_symbol names s)
+grow_by names s = by (goes_by_name s)
+  where
+    by : (b : Bool) → Grow names (cond b (with_name names s.name) names)
+    by true = record {
+      kept = λ name there. number_kept names s.name name there;
+      longer = (length-with_name names s.name).0;
+      few = (length-with_name names s.name).1;
     }
+    by false = record { kept = λ name there. refl; longer = omega arith; few = omega arith }
+
+module _ (names grown : List (List ℕ)) (grow : Grow names grown) where
+  -- rows stay as names are added
+  row_kept : (l : ListedSymbol) → (goes_by_name l.symbol ≡ true → name_number names l.symbol.name < length names) → symbol_row names l ≡ symbol_row grown l
+  row_kept l there = λ j. record (symbol_row names l) { name = by (goes_by_name l.symbol) refl j }
+    where
+      by : (b : Bool) → goes_by_name l.symbol ≡ b → symbol_number names l.symbol ≡ symbol_number grown l.symbol
+      by true goes = symbol_number_is names l.symbol goes ∙ sym (grow.kept l.symbol.name (there goes)) ∙ sym (symbol_number_is grown l.symbol goes)
+      by false stays = (λ j. cond (stays j) (name_number names l.symbol.name) 0) ∙ (λ j. cond (sym stays j) (name_number grown l.symbol.name) 0)
+
+  rows_kept : (listed : List ListedSymbol) → HaveNumbers names listed → map (symbol_row names) listed ≡ map (symbol_row grown) listed
+  rows_kept [] all = refl
+  rows_kept (l ∷ ls) all =
+      let P = λ (m : ListedSymbol). goes_by_name m.symbol ≡ true → name_number names m.symbol.name < length names in
+      let rest = rows_kept ls (All-tail P l ls all) in
+      λ j. row_kept l (All-head P l ls all) j ∷ rest j
+
+  -- one more symbol, with its name if it goes by it
+  pub numbered_more : (listed : List ListedSymbol) (rows : List SymbolRow) (l : ListedSymbol) → IsNumbered names listed rows
+      → (goes_by_name l.symbol ≡ true → name_number grown l.symbol.name < length grown) → IsNumbered grown (listed ++ l ∷ []) (rows ++ symbol_row grown l ∷ [])
+  numbered_more listed rows l before named =
+      let P = λ (m : ListedSymbol). goes_by_name m.symbol ≡ true → name_number grown m.symbol.name < length grown in
+      let kept : All P listed =
+      All-weaker (λ m. goes_by_name m.symbol ≡ true → name_number names m.symbol.name < length names) P
+      (λ m there goes. omega (arith, grow.kept m.symbol.name (there goes), there goes, grow.longer)) listed before.numbered in
+      record {
+        rows_are =
+            ap (λ t. t ++ symbol_row grown l ∷ []) (before.rows_are ∙ rows_kept listed before.numbered)
+            ∙ sym (map_push (symbol_row grown) listed l);
+        numbered = All-push P listed l kept named;
+        few = omega (arith, grow.few, before.few, length-append listed (l ∷ []));
+      }
 
 -- the same of what is equal
 pub numbered_as : {names names' : List (List ℕ)} {listed listed' : List ListedSymbol} {rows rows' : List SymbolRow}
@@ -42,8 +66,14 @@ pub numbered_as : {names names' : List (List ℕ)} {listed listed' : List Listed
 numbered_as {names} {names'} {listed} {listed'} {rows} {rows'} n l r h =
     subst (λ x. IsNumbered names' listed' x) r (subst (λ x. IsNumbered names' x rows) l (subst (λ x. IsNumbered x listed rows) n h))
 
--- each row has a number among the names, however many these are
-pub named_rows : {names : List (List ℕ)} {listed : List ListedSymbol} {rows rows' : List SymbolRow} {n : ℕ} → IsNumbered names listed rows → rows' ≡ rows → length names ≡ n → All (λ r. r.name < n) rows'
-named_rows {names} {listed} {rows' = rows'} numbered same count =
-    subst (λ m. All (λ r. r.name < m) rows') count
-    (All-same (λ r. r.name < length names) rows' (map (symbol_row names) listed) (same ∙ numbered.rows_are) (All-map (λ r. r.name < length names) (symbol_row names) listed numbered.numbered))
+-- each row that goes by its name has a number among the names, however many these are; so has each that passes a test which only such rows pass
+pub named_rows : (passes : SymbolRow → Bool) {names : List (List ℕ)} {listed : List ListedSymbol} {rows rows' : List SymbolRow} {n : ℕ}
+    → ((r : SymbolRow) → passes r ≡ true → row_goes_by_name r ≡ true) → IsNumbered names listed rows → rows' ≡ rows → length names ≡ n
+    → All (λ r. passes r ≡ true → r.name < n) rows'
+named_rows passes {names} {listed} {rows' = rows'} goes numbered same count =
+    let P = λ (r : SymbolRow). passes r ≡ true → r.name < length names in
+    subst (λ m. All (λ r. passes r ≡ true → r.name < m) rows') count
+    (All-same P rows' (map (symbol_row names) listed) (same ∙ numbered.rows_are)
+    (All-map P (symbol_row names) listed
+    (All-weaker (λ l. goes_by_name l.symbol ≡ true → name_number names l.symbol.name < length names) (λ l. P (symbol_row names l))
+    (λ l there passed. omega (arith, there (goes (symbol_row names l) passed), symbol_number_is names l.symbol (goes (symbol_row names l) passed))) listed numbered.numbered)))

@@ -18,7 +18,7 @@ use Rattle.psabi_sym.specs.Data.{address_in, blocks_in, class_of, class_start, i
 use Rattle.psabi_sym.specs.Inputs.{ParsedInputs}
 use Rattle.psabi_sym.specs.Listed.{ListedSection, ListedSymbol, all_sections, all_symbols, sections_before, sections_in, symbols_in}
 use Rattle.psabi_sym.specs.Places.{place_in}
-use Rattle.psabi_sym.specs.Rows.{ArePlaced, part_row, row_blocks, row_start, section_row, section_starts, symbol_starts}
+use Rattle.psabi_sym.specs.Rows.{ArePlaced, row_blocks, row_start, section_row, section_starts, symbol_starts}
 use Rattle.psabi_sym.proofs.BridgeLaws.{row_blocks_are}
 use Rattle.psabi_sym.proofs.FlatLaws.{flat_at, flat_before, flat_push}
 use Rattle.psabi_sym.proofs.PartLaws.{length-sections_in, length-symbols_in, section_listed, symbol_listed}
@@ -124,6 +124,36 @@ code_is s = by (is_kept_section s) (has_flags 4 s.flags)
 
 -- ---- sections
 
+module _ (objects : List ObjectParts) (o i : ℕ) (object : ObjectParts) (s : SectionParts) (at : slice_get objects o ≡ Some object) (is : slice_get object.sections i ≡ Some s) where
+  inside : i < length object.sections
+  inside = slice_get_within object.sections i s is
+
+  listed : i < length (sections_in (o, object))
+  listed = omega (arith, inside, length-sections_in o object)
+
+  -- its place is among all sections
+  pub place_listed : section_starts objects o + i < length (all_sections objects)
+  unfolding all_sections
+  place_listed = begins_within sections_in objects o i object at listed
+
+  -- the section at its place
+  pub listed_there : slice_get (all_sections objects) (section_starts objects o + i) ≡ Some (record { object = o; index = i; section = s })
+  unfolding all_sections
+  listed_there =
+      let e : ListedSection = record { object = o; index = i; section = s } in
+      slice_get-get_or (all_sections objects) (section_starts objects o + i) e place_listed
+      ∙ ap Some (flat_at sections_in objects o i object e at listed ∙ section_listed o object i s e inside
+      ∙ ap (λ x. record { object = o; index = i; section = x }) (get_or_from_slice_get object.sections i s s is))
+
+  -- what stands before it
+  pub before_there : take (section_starts objects o + i) (all_sections objects) ≡ sections_before objects o i
+  unfolding all_sections sections_before
+  before_there =
+      flat_before sections_in objects o i object at (omega (arith, listed))
+      ∙ ap (λ found. flat_map sections_in (enumerate_from 0 (take o objects)) ++ option_map_or (λ x. take i (sections_in (o, x))) found []) (sym at)
+
+-- ---- rows
+
 module _ (inputs : ParsedInputs) where
   -- where a class begins, by rows
   pub row_start_is : (class : DataClass) → same_class class Common ≡ false
@@ -140,33 +170,17 @@ module _ (inputs : ParsedInputs) where
   row_start_is Common other = absurd cc
 
   module _ (o i : ℕ) (object : ObjectParts) (s : SectionParts) (at : slice_get inputs.objects o ≡ Some object) (is : slice_get object.sections i ≡ Some s) where
-    inside : i < length object.sections
-    inside = slice_get_within object.sections i s is
+    -- its place is among the rows
+    pub place_within : section_starts inputs.objects o + i < length (map section_row (all_sections inputs.objects))
+    place_within = omega (arith, length-map (all_sections inputs.objects) section_row, place_listed inputs.objects o i object s at is)
 
-    listed : i < length (sections_in (o, object))
-    listed = omega (arith, inside, length-sections_in o object)
-
-    -- the row at the place of a section
-    pub row_there : (d : SectionRow) → get_or (map section_row (all_sections inputs.objects)) (section_starts inputs.objects o + i) d ≡ part_row s
-    unfolding all_sections
+    -- the row at its place
+    pub row_there : (d : SectionRow) → get_or (map section_row (all_sections inputs.objects)) (section_starts inputs.objects o + i) d ≡ section_row (record { object = o; index = i; section = s })
     row_there d =
         let e : ListedSection = record { object = o; index = i; section = s } in
         let k = section_starts inputs.objects o + i in
-        get_or-map section_row (all_sections inputs.objects) k e d (begins_within sections_in inputs.objects o i object at listed)
-        ∙ ap section_row (flat_at sections_in inputs.objects o i object e at listed ∙ section_listed o object i s e inside)
-        ∙ ap part_row (get_or_from_slice_get object.sections i s s is)
-
-    -- what stands before it
-    before_there : take (section_starts inputs.objects o + i) (all_sections inputs.objects) ≡ sections_before inputs.objects o i
-    unfolding all_sections sections_before
-    before_there =
-        flat_before sections_in inputs.objects o i object at (omega (arith, listed))
-        ∙ ap (λ found. flat_map sections_in (enumerate_from 0 (take o inputs.objects)) ++ option_map_or (λ x. take i (sections_in (o, x))) found []) (sym at)
-
-    -- its place is among the rows
-    pub place_within : section_starts inputs.objects o + i < length (map section_row (all_sections inputs.objects))
-    unfolding all_sections
-    place_within = omega (arith, length-map (all_sections inputs.objects) section_row, begins_within sections_in inputs.objects o i object at listed)
+        get_or-map section_row (all_sections inputs.objects) k e d (place_listed inputs.objects o i object s at is)
+        ∙ ap section_row (get_or_from_slice_get (all_sections inputs.objects) k e e (listed_there inputs.objects o i object s at is))
 
     -- the address at its place, if it is data
     pub address_there : (addresses : List ℕ) (class : DataClass) → ArePlaced (map section_row (all_sections inputs.objects)) inputs.map.data_low addresses → role_of s ≡ InClass class
@@ -174,10 +188,11 @@ module _ (inputs : ParsedInputs) where
     address_there addresses class placed role =
         let rows = map section_row (all_sections inputs.objects) in
         let k = section_starts inputs.objects o + i in
+        let row = section_row (record { object = o; index = i; section = s }) in
         let other = not_common s class role in
         let before : row_blocks class (take k rows) ≡ blocks_in class (sections_before inputs.objects o i) =
-        ap (row_blocks class) (take-map section_row k (all_sections inputs.objects)) ∙ row_blocks_are class (take k (all_sections inputs.objects)) ∙ ap (blocks_in class) before_there in
-        placed k (part_row s) class (slice_get-get_or rows k (part_row s) place_within ∙ ap Some (row_there (part_row s))) role other
+        ap (row_blocks class) (take-map section_row k (all_sections inputs.objects)) ∙ row_blocks_are class (take k (all_sections inputs.objects)) ∙ ap (blocks_in class) (before_there inputs.objects o i object s at is) in
+        placed k row class (slice_get-get_or rows k row place_within ∙ ap Some (row_there row)) role other
         ∙ (λ j. aligned_up s.align (end_from (row_start_is class other j) (before j)))
 
 -- ---- symbols

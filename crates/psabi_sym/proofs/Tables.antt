@@ -68,6 +68,16 @@ first_row_step bind rows i d n e within named =
     let other : (row_defines bind r && eqb r.name k) ≡ false = and_right (row_defines bind r) (eqb r.name k) (ne_eqb r.name k (λ q. ne (sym q))) in
     sym (first_row_more bind rows i d k within ∙ ap (λ b. option_or (f k) (cond b (Some r) None)) other ∙ or_none (f k)))
 
+-- one that isn't a definition with the binding changes nothing
+pub first_row_same : (bind : ℕ) (rows : List SymbolRow) (i : ℕ) (d : SymbolRow) (n : ℕ) → i < length rows → row_defines bind (get_or rows i d) ≡ false
+    → map (first_row bind (take i rows)) (range_with_len 0 n) ≡ map (first_row bind (take (i + 1) rows)) (range_with_len 0 n)
+first_row_same bind rows i d n within other =
+    let r = get_or rows i d in
+    let same : (k : ℕ) → first_row bind (take i rows) k ≡ first_row bind (take (i + 1) rows) k = λ k.
+    sym (first_row_more bind rows i d k within ∙ ap (λ b. option_or (first_row bind (take i rows) k) (cond (b && eqb r.name k) (Some r) None)) other
+    ∙ or_none (first_row bind (take i rows) k)) in
+    λ j. map (λ k. same k j) (range_with_len 0 n)
+
 -- the room of common symbols
 abbrev block_of : List SymbolRow → Block
 block_of rows = record { align = greatest (map (λ r. max 1 r.value) rows); size = greatest (map (λ r. r.size) rows) }
@@ -115,3 +125,13 @@ common_block_step rows i d n e within named =
         ap (λ t. cond t (record { align = max b.align (max 1 r.value); size = max b.size r.size }) b) is
         ∙ sym (ap block_of (append-nil (common_rows (take i rows) r.name)))
         ∙ ap (λ t. block_of (common_rows (take i rows) r.name ++ cond t (r ∷ []) [])) (sym is)
+
+-- one that isn't common changes nothing
+pub common_block_same : (rows : List SymbolRow) (i : ℕ) (d : SymbolRow) (n : ℕ) → i < length rows → row_is_common (get_or rows i d) ≡ false
+    → map (row_common_block (take i rows)) (range_with_len 0 n) ≡ map (row_common_block (take (i + 1) rows)) (range_with_len 0 n)
+common_block_same rows i d n within other =
+    let r = get_or rows i d in
+    let same : (k : ℕ) → row_common_block (take i rows) k ≡ row_common_block (take (i + 1) rows) k = λ k.
+    sym (common_block_more rows i d k within ∙ ap (λ b. block_of (common_rows (take i rows) k ++ cond (b && eqb r.name k) (r ∷ []) [])) other
+    ∙ ap block_of (append-nil (common_rows (take i rows) k))) in
+    λ j. map (λ k. same k j) (range_with_len 0 n)

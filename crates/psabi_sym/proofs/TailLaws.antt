@@ -13,7 +13,7 @@ use Rattle.std.proofs.lemmas.List.Sums.{prefix_len-le-length, take_while-cons}
 use Rattle.elf32_read.specs.Names.{name_at}
 use Rattle.psabi_sym.specs.Keys.{AreBlocks, AreEnds, AreKeys, AreTails, Extends, IsAdded, IsEnd, IsKey, lent, tails_of}
 use Rattle.psabi_sym.specs.Names.{same_name}
-use Rattle.psabi_sym.specs.Rows.{number_of, with_name}
+use Rattle.psabi_sym.specs.Rows.{name_number, with_name}
 use Rattle.psabi_sym.specs.declared.key.Key.{Key}
 use Rattle.psabi_sym.specs.declared.name_ends.NameEnd.{NameEnd}
 use Rattle.psabi_sym.proofs.NumberLaws.{number_added, number_kept, same_is}
@@ -21,23 +21,23 @@ use Rattle.psabi_sym.proofs.NumberLaws.{number_added, number_kept, same_is}
 -- ---- numbers
 
 -- what has a number stands there
-pub number_get : (names : List (List ℕ)) (t d : List ℕ) → number_of names t < length names → get_or names (number_of names t) d ≡ t
+pub number_get : (names : List (List ℕ)) (t d : List ℕ) → name_number names t < length names → get_or names (name_number names t) d ≡ t
 number_get [] t d within = absurd (omega arith)
 number_get (x ∷ xs) t d within = by (same_name t x) refl (number_get xs t d)
   where
-    by : (b : Bool) → same_name t x ≡ b → (number_of xs t < length xs → get_or xs (number_of xs t) d ≡ t) → get_or (x ∷ xs) (number_of (x ∷ xs) t) d ≡ t
-    by true e rest = ap (λ b. get_or (x ∷ xs) (cond (not b) (1 + number_of xs t) 0) d) e ∙ sym (same_is t x e)
+    by : (b : Bool) → same_name t x ≡ b → (name_number xs t < length xs → get_or xs (name_number xs t) d ≡ t) → get_or (x ∷ xs) (name_number (x ∷ xs) t) d ≡ t
+    by true e rest = ap (λ b. get_or (x ∷ xs) (cond (not b) (1 + name_number xs t) 0) d) e ∙ sym (same_is t x e)
     by false e rest =
-        ap (λ b. get_or (x ∷ xs) (cond (not b) (1 + number_of xs t) 0) d) e
-        ∙ get_or-append-add (x ∷ []) xs (number_of xs t) d
-        ∙ rest (omega (arith, within, ap (λ b. cond (not b) (1 + number_of xs t) 0) e))
+        ap (λ b. get_or (x ∷ xs) (cond (not b) (1 + name_number xs t) 0) d) e
+        ∙ get_or-append-add (x ∷ []) xs (name_number xs t) d
+        ∙ rest (omega (arith, within, ap (λ b. cond (not b) (1 + name_number xs t) 0) e))
 
 -- what isn't there has the number after the last
-number_last : (names : List (List ℕ)) (t : List ℕ) → list_any (same_name t) names ≡ false → number_of names t ≡ length names
+number_last : (names : List (List ℕ)) (t : List ℕ) → list_any (same_name t) names ≡ false → name_number names t ≡ length names
 number_last [] t none = refl
 number_last (x ∷ xs) t none =
     let parts = or_parts (same_name t x) (list_any (same_name t) xs) none in
-    omega (arith, ap (λ b. cond (not b) (1 + number_of xs t) 0) parts.0, number_last xs t parts.1)
+    omega (arith, ap (λ b. cond (not b) (1 + name_number xs t) 0) parts.0, number_last xs t parts.1)
 
 -- ---- more tails
 
@@ -64,16 +64,16 @@ tails_more tails t are whole = by (list_any (same_name t) tails) refl
         grown : with_name tails t ≡ more
         grown = ap (λ b. cond b tails more) e
 
-        at : (k : ℕ) → k < length more → ((k < length tails) ⊎ (length tails ≤ k)) → number_of more (get_or more k []) ≡ k
+        at : (k : ℕ) → k < length more → ((k < length tails) ⊎ (length tails ≤ k)) → name_number more (get_or more k []) ≡ k
         at k within (inl old) =
             let here = get_or_append_left tails (t ∷ []) [] k old in
             let number = are.numbered k old in
-            ap (number_of more) here ∙ ap (λ l. number_of l (get_or tails k [])) (sym grown)
+            ap (name_number more) here ∙ ap (λ l. name_number l (get_or tails k [])) (sym grown)
             ∙ number_kept tails t (get_or tails k []) (omega (arith, number, old)) ∙ number
         at k within (inr new) =
             let last : k ≡ length tails = omega (arith, new, within, length-append tails (t ∷ [])) in
-            ap (λ n. number_of more (get_or more n [])) last ∙ ap (number_of more) (get_or-append_seam tails t [] [])
-            ∙ ap (λ l. number_of l t) (sym grown) ∙ number_added tails t ∙ number_last tails t e ∙ sym last
+            ap (λ n. name_number more (get_or more n [])) last ∙ ap (name_number more) (get_or-append_seam tails t [] [])
+            ∙ ap (λ l. name_number l t) (sym grown) ∙ number_added tails t ∙ number_last tails t e ∙ sym last
 
 pub extends_trans : {a b c : List (List ℕ)} → Extends a b → Extends b c → Extends a c
 extends_trans {a} {b} {c} first second = record {

@@ -3,7 +3,7 @@
 use Rattle.std.specs.Borrow.{Bor}
 use Rattle.std.specs.Prelude.{◌≡◌, ◌/◌, ◌%◌, ◌<◌, ◌≤◌, ℕ, List, [], ◌∷◌, ◌++◌, length, map, drop, All, slice_index_or}
 use Rattle.elf32_read.specs.Names.{name_at}
-use Rattle.psabi_sym.specs.Rows.{number_of, with_name}
+use Rattle.psabi_sym.specs.Rows.{name_number, with_name}
 use Rattle.psabi_sym.specs.declared.key.Key.{Key}
 use Rattle.psabi_sym.specs.declared.name_ends.NameEnd.{NameEnd}
 use Rattle.psabi_sym.specs.declared.names.Names.{Names}
@@ -15,7 +15,7 @@ lent texts = map (λ text. text.now) texts
 -- tails have whole blocks of 64 bytes, and each one number; number 0 is that of the empty one
 pub record AreTails (tails : List (List ℕ)) : Type 0 where
   pub whole : All (λ tail. length tail % 64 ≡ 0) tails
-  pub numbered : (k : ℕ) → k < length tails → number_of tails (slice_index_or tails k []) ≡ k
+  pub numbered : (k : ℕ) → k < length tails → name_number tails (slice_index_or tails k []) ≡ k
 
 -- the key is that of a text: a part that has so many whole blocks, and then a tail
 pub record IsKey (blocks : ℕ) (tails : List (List ℕ)) (key : Key) (text : List ℕ) : Type 0 where
@@ -34,7 +34,7 @@ AreKeys blocks tails (key ∷ keys) [] = ⊥
 pub record IsAdded (blocks : ℕ) (tails before after : List (List ℕ)) (keys : List Key) (text : List ℕ) (n : ℕ) : Type 0 where
   pub keys_are : AreKeys blocks tails keys after
   pub texts_are : after ≡ with_name before text
-  pub number_is : n ≡ number_of after text
+  pub number_is : n ≡ name_number after text
   pub within : n < length after
 
 -- the blocks' texts are the tails but for the empty one, with keys of one block and a tail

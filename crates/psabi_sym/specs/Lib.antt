@@ -16,5 +16,6 @@ pub mod Numbered
 pub mod Places
 pub mod Resolve
 pub mod Rows
+pub mod SectionRef
 pub mod Start
 pub mod Tables

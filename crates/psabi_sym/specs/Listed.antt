@@ -1,5 +1,5 @@
 -- The sections and symbols of all objects, each with its object's index and its own.
-use Rattle.std.specs.Prelude.{ℕ, List, [], ◌++◌, drop, map, slice_get, take, Option}
+use Rattle.std.specs.Prelude.{◌≡◌, ℕ, List, [], ◌++◌, drop, map, slice_get, take, Option, Some, None, MatchOption}
 use Rattle.std.specs.List.{enumerate_from, flat_map}
 use Rattle.std.specs.Option.{option_and_then, option_map_or}
 use Rattle.elf32_read.specs.Parts.{ObjectParts, SectionParts, SymbolParts}
@@ -39,6 +39,12 @@ section_at objects o i = option_and_then (λ object. slice_get object.sections i
 -- a symbol, by its object's index and its own
 abbrev pub symbol_at : List ObjectParts → ℕ → ℕ → Option SymbolParts
 symbol_at objects o s = option_and_then (λ object. slice_get object.symbols s) (slice_get objects o)
+
+-- the number of a section among all, by its object's index and its own; none if there is no such section
+abbrev pub IsSectionNumber : List ObjectParts → ℕ → ℕ → Option ℕ → Type 0
+IsSectionNumber objects o i number =
+    MatchOption number (section_at objects o i ≡ None)
+    (λ k. (s : SectionParts) × (section_at objects o i ≡ Some s) × (slice_get (all_sections objects) k ≡ Some (record { object = o; index = i; section = s })))
 
 -- the sections before one: all of the objects before its own, and then those before it in its own
 unfoldable pub sections_before : List ObjectParts → ℕ → ℕ → List ListedSection

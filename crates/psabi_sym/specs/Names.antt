@@ -1,5 +1,5 @@
 -- Which symbols define a name (System V gABI, "Symbol Table": symbol bindings and special section indexes).
-use Rattle.std.specs.Prelude.{ℕ, Bool, not, ◌&&◌, ◌==◌, nat_eq, List, [], ◌∷◌, filter, Option}
+use Rattle.std.specs.Prelude.{ℕ, Bool, not, ◌&&◌, ◌||◌, ◌==◌, nat_eq, List, [], ◌∷◌, filter, Option}
 use Rattle.std.specs.Cmp.Lexicographic.{pointwise}
 use Rattle.std.specs.List.{find}
 use Rattle.elf32_read.specs.Parts.{ObjectParts, SymbolParts}
@@ -12,6 +12,10 @@ same_name first second = pointwise nat_eq first second
 -- a common symbol (SHN_COMMON, 0xFFF2), whatever its binding
 abbrev pub is_common : SymbolParts → Bool
 is_common s = s.home == 0xFFF2
+
+-- a symbol goes by its name if it is common or not local (0); any other is its own definition
+abbrev pub goes_by_name : SymbolParts → Bool
+goes_by_name s = is_common s || not (s.bind == 0)
 
 -- a symbol with a home of its own, neither undefined (SHN_UNDEF, 0) nor common, and this binding
 abbrev pub is_definition : ℕ → SymbolParts → Bool

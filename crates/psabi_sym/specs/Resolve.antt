@@ -62,8 +62,8 @@ abbrev pub word_of : ℤ → ℕ
 word_of addend = cast_unsigned w32 addend
 
 -- a number and an addend, modulo 2^32
-abbrev pub number : ℕ → ℤ → Target
-number n addend = Number ((n + word_of addend) % 2 ^ 32)
+abbrev pub number_target : ℕ → ℤ → Target
+number_target n addend = Number ((n + word_of addend) % 2 ^ 32)
 
 -- an offset in a section of this size, or its end; none outside
 abbrev pub offset_within : ℕ → ℤ → Option ℕ
@@ -78,7 +78,7 @@ code_target o i section offset =
 -- in a section by its object's index and its own, by what it is: a place in code, an address in data, nowhere if it is dropped
 abbrev pub role_target : ParsedInputs → ℕ → ℕ → ℕ → ℤ → SectionParts → SectionRole → Target
 role_target inputs o i value addend section role.Code = code_target o i section (pos value +ℤ addend)
-role_target inputs o i value addend section (role.InClass class) = number (address_in inputs o i section class + value) addend
+role_target inputs o i value addend section (role.InClass class) = number_target (address_in inputs o i section class + value) addend
 role_target inputs o i value addend section role.Dropped = Nowhere
 
 abbrev pub section_target : ParsedInputs → ℕ → ℕ → ℕ → ℤ → SectionParts → Target
@@ -87,13 +87,13 @@ section_target inputs o i value addend section = role_target inputs o i value ad
 -- where a symbol with a home leads: a number by itself if it is ABS (0xFFF1)
 abbrev pub home_target : ParsedInputs → ℕ → SymbolParts → ℤ → Target
 home_target inputs o s addend =
-    if s.home == 0xFFF1 then number s.value addend
+    if s.home == 0xFFF1 then number_target s.value addend
     else option_map_or (section_target inputs o s.home s.value addend) (section_at inputs.objects o s.home) Nowhere
 
 -- where a definition leads
 abbrev pub definition_target : ParsedInputs → ℤ → Definition → Target
 definition_target inputs addend (InObject l) = home_target inputs l.object l.symbol addend
-definition_target inputs addend (AtNumber n) = number n addend
+definition_target inputs addend (AtNumber n) = number_target n addend
 
 -- ---- names
 
@@ -120,6 +120,6 @@ symbol_target inputs o s addend =
 
 -- a symbol by its object's index and its own: symbol 0 is the number 0
 unfoldable pub resolved : ParsedInputs → ℕ → ℕ → ℤ → Target
-resolved inputs o zero addend = number 0 addend
+resolved inputs o zero addend = number_target 0 addend
 resolved inputs o (suc s) addend =
     option_map_or (λ symbol. symbol_target inputs o symbol addend) (symbol_at inputs.objects o (suc s)) Nowhere

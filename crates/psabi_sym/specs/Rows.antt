@@ -1,13 +1,13 @@
 -- Sections and symbols as a link keeps them: what it asks of them later, with a number for each name.
-use Rattle.std.specs.Prelude.{◌≡◌, false, slice_get, slice_index, ℕ, Bool, not, ◌&&◌, ◌==◌, max, List, [], ◌∷◌, ◌++◌, filter, length, map, take, if◌then◌else◌, is_none, ◌+◌, Option, Some, None}
+use Rattle.std.specs.Prelude.{◌≡◌, false, slice_get, slice_index, ℕ, Bool, not, ◌&&◌, ◌||◌, ◌==◌, max, List, [], ◌∷◌, ◌++◌, filter, length, map, take, if◌then◌else◌, is_none, ◌+◌, Option, Some, None}
 use Rattle.std.specs.List.{find, fold, list_any, position_or_len}
 use Rattle.std.specs.Option.{option_map, option_map_or, option_or}
-use Rattle.elf32_read.specs.Parts.{ObjectParts, SectionParts}
+use Rattle.elf32_read.specs.Parts.{ObjectParts, SymbolParts}
 use Rattle.psabi_sym.specs.Blocks.{aligned_up, end_from, room_of}
 use Rattle.psabi_sym.specs.Classes.{classes_before, same_class}
 use Rattle.psabi_sym.specs.Data.{greatest, has_class, role_of}
 use Rattle.psabi_sym.specs.Listed.{ListedSection, ListedSymbol, all_sections, all_symbols}
-use Rattle.psabi_sym.specs.Names.{same_name}
+use Rattle.psabi_sym.specs.Names.{goes_by_name, same_name}
 use Rattle.psabi_sym.specs.declared.block.Block.{Block}
 use Rattle.psabi_sym.specs.declared.data_class.DataClass.{DataClass}
 use Rattle.psabi_sym.specs.declared.data_class.DataClass.TheVariants.{Common}
@@ -19,11 +19,14 @@ use Rattle.psabi_sym.specs.declared.symbol_row.SymbolRow.{SymbolRow}
 -- ---- sections
 
 -- the row of a section
-abbrev pub part_row : SectionParts → SectionRow
-part_row s = record { role = role_of s; align = s.align; size = s.size }
-
 abbrev pub section_row : ListedSection → SectionRow
-section_row l = part_row l.section
+section_row l = record {
+  object = l.object;
+  index = l.index;
+  role = role_of l.section;
+  align = l.section.align;
+  size = l.section.size;
+}
 
 -- where the sections of an object begin among all
 abbrev pub section_starts : List ObjectParts → ℕ → ℕ
@@ -71,12 +74,20 @@ row_data_room r = role_room r.role (room_of (row_block r))
 -- ---- symbols
 
 -- the number of a name among names: the place where it was first seen, or how many there are
-abbrev pub number_of : List (List ℕ) → List ℕ → ℕ
-number_of names name = position_or_len (same_name name) names
+abbrev pub name_number : List (List ℕ) → List ℕ → ℕ
+name_number names name = position_or_len (same_name name) names
 
 -- names with one more, which goes last if it is new
 abbrev pub with_name : List (List ℕ) → List ℕ → List (List ℕ)
 with_name names name = if list_any (same_name name) names then names else names ++ name ∷ []
+
+-- names with that of one more symbol, if it goes by it
+abbrev pub with_symbol : List (List ℕ) → SymbolParts → List (List ℕ)
+with_symbol names s = if goes_by_name s then with_name names s.name else names
+
+-- the number of a symbol's name; 0, which says nothing, if it doesn't go by it
+abbrev pub symbol_number : List (List ℕ) → SymbolParts → ℕ
+symbol_number names s = if goes_by_name s then name_number names s.name else 0
 
 -- the row of a symbol
 abbrev pub symbol_row : List (List ℕ) → ListedSymbol → SymbolRow
@@ -84,7 +95,7 @@ symbol_row names l = record {
   object = l.object;
   home = l.symbol.home;
   index = l.index;
-  name = number_of names l.symbol.name;
+  name = symbol_number names l.symbol;
   value = l.symbol.value;
   size = l.symbol.size;
   bind = l.symbol.bind;
@@ -93,6 +104,10 @@ symbol_row names l = record {
 -- a common symbol, by its row
 abbrev pub row_is_common : SymbolRow → Bool
 row_is_common r = r.home == 0xFFF2
+
+-- a symbol that goes by its name, by its row
+abbrev pub row_goes_by_name : SymbolRow → Bool
+row_goes_by_name r = row_is_common r || not (r.bind == 0)
 
 -- a definition with this binding, by its row
 abbrev pub row_defines : ℕ → SymbolRow → Bool

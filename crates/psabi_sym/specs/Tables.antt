@@ -1,13 +1,14 @@
 -- The tables of a link: what stands beside the files for look-ups in constant time.
-use Rattle.std.specs.Prelude.{◌≡◌, ◌+◌, ℕ, List, length, map, slice_index_or, All}
+use Rattle.std.specs.Prelude.{◌≡◌, ◌+◌, ℕ, true, List, length, map, slice_index_or, All}
 use Rattle.std.specs.List.{range_with_len}
 use Rattle.psabi_sym.specs.Data.{class_end}
 use Rattle.psabi_sym.specs.Inputs.{ParsedInputs}
 use Rattle.psabi_sym.specs.Listed.{all_sections, all_symbols}
 use Rattle.psabi_sym.specs.Meanings.{meaning_row}
+use Rattle.psabi_sym.specs.Names.{goes_by_name}
 use Rattle.psabi_sym.specs.Numbered.{IsNumbered}
 use Rattle.psabi_sym.specs.Resolve.{name_definition}
-use Rattle.psabi_sym.specs.Rows.{ArePlaced, number_of, section_row, section_starts, symbol_starts}
+use Rattle.psabi_sym.specs.Rows.{ArePlaced, name_number, section_row, section_starts, symbol_starts}
 use Rattle.psabi_sym.specs.declared.data_class.DataClass.TheVariants.{SmallData, Common}
 use Rattle.psabi_sym.specs.declared.meaning.Meaning.{Meaning}
 use Rattle.psabi_sym.specs.declared.meaning.Meaning.TheVariants.{Nothing}
@@ -19,7 +20,8 @@ pub record AreNamed (inputs : ParsedInputs) (symbols : List SymbolRow) (meanings
   pub names : List (List ℕ)
   pub numbered : IsNumbered names (all_symbols inputs.objects) symbols
   pub count : length meanings ≡ length names
-  pub meant : All (λ l. slice_index_or meanings (number_of names l.symbol.name) Nothing ≡ meaning_row names (name_definition inputs l.symbol.name)) (all_symbols inputs.objects)
+  pub meant : All (λ l. goes_by_name l.symbol ≡ true
+      → slice_index_or meanings (name_number names l.symbol.name) Nothing ≡ meaning_row names (name_definition inputs l.symbol.name)) (all_symbols inputs.objects)
 
 -- the addresses of sections, what names stand for, and where data ends
 pub record AreDefined (inputs : ParsedInputs) (sections : List SectionRow) (addresses : List ℕ) (symbols : List SymbolRow) (meanings : List Meaning) (file_end end : ℕ) : Type 0 where

@@ -1,6 +1,6 @@
 // Where common symbols lie.
 
-ghost use Rattle.std.specs.Prelude.{◌≡◌, ◌&&◌, ◌+◌, ◌^◌, ◌<◌, ℕ, All, IfOk, is_none, length, map};
+ghost use Rattle.std.specs.Prelude.{◌≡◌, ◌&&◌, ◌+◌, ◌^◌, ◌<◌, ℕ, All, IfOk, None, is_none, length, map, slice_index_or, true};
 ghost use Rattle.std.specs.List.{range_with_len, sum_by};
 ghost use Rattle.psabi_sym.specs.Blocks.{aligned_up, end_from, placed_from};
 ghost use Rattle.psabi_sym.specs.Rows.{first_row, placed_rows, row_address_of, row_common_block, row_common_room, row_is_common, row_room};
@@ -22,10 +22,14 @@ pub struct Commons {
 }
 
 // The symbol is common, no strong definition has its name, and its name has no place yet.
-fn takes_room(row: &SymbolRow, strong: Option<SymbolRow>, address: Option<u32>) -> bool
-    ensures { result ≡ (row_is_common row.now && is_none strong && is_none address) }
+fn takes_room(row: &SymbolRow, strong: &[Option<SymbolRow>], addresses: &[Option<u32>]) -> bool
+    requires strong { row_is_common row.now ≡ true → row.now.name < length strong.now }
+    requires addresses { row_is_common row.now ≡ true → row.now.name < length addresses.now }
+    ensures { result ≡ (row_is_common row.now && is_none (slice_index_or strong.now row.now.name None)
+        && is_none (slice_index_or addresses.now row.now.name None)) }
 {
-    row.is_common() && strong.is_none() && address.is_none()
+    let name = row.name as usize;
+    row.is_common() && strong[name].is_none() && addresses[name].is_none()
 }
 
 /// Places the common symbols one after another, from an address on, by the tables of the strong
@@ -37,7 +41,7 @@ pub fn place_commons(
     blocks: &[Block],
     from: u32,
 ) -> Result<Commons, AllocError>
-    requires named { All (λ r. r.name < length blocks.now) rows.now }
+    requires named { All (λ r. row_is_common r ≡ true → r.name < length blocks.now) rows.now }
     requires strong { strong.now ≡ map (first_row 1 rows.now) (range_with_len 0 (length blocks.now)) }
     requires blocks { blocks.now ≡ map (row_common_block rows.now) (range_with_len 0 (length blocks.now)) }
     requires room { from + 16 + sum_by row_common_room rows.now < 2 ^ 32 }
@@ -50,8 +54,8 @@ pub fn place_commons(
     let mut addresses = vec![in alloc; None; blocks.len()]?;
     let mut at = aligned_up(CLASS_ALIGN, from);
     for row in rows {
-        let name = row.name as usize;
-        if takes_room(row, strong[name], addresses[name]) {
+        if takes_room(row, strong, &addresses) {
+            let name = row.name as usize;
             let block = blocks[name];
             at = aligned_up(block.align, at);
             addresses[name] = Some(at);

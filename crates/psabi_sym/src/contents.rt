@@ -1,17 +1,13 @@
 // The bytes of data that files hold.
 
-ghost use Rattle.std.specs.Prelude.{◌≡◌, ◌<◌, List, ℕ, IfOk, Some, length, slice_get};
-ghost use Rattle.std.specs.List.{fold};
-ghost use Rattle.elf32_read.specs.Header.{section_count};
-ghost use Rattle.elf32_read.specs.Parts.{object_parts, section_parts};
+ghost use Rattle.std.specs.Prelude.{◌≡◌, IfOk, Some};
 ghost use Rattle.psabi_sym.specs.Contents.{data_contents, overlaid, with_content};
 ghost use Rattle.psabi_sym.specs.Inputs.{parsed};
-ghost use Rattle.psabi_sym.specs.Listed.{sections_in};
+ghost use Rattle.psabi_sym.specs.Listed.{section_at};
 
 use crate::objects::Objects;
-use crate::read_sections::role_of;
+use crate::section_ref::SectionRef;
 use crate::section_row::SectionRole;
-use elf32_read::object::Object;
 use std::alloc::{AllocError, Global};
 
 const NOBITS: u32 = 8;
@@ -25,39 +21,25 @@ impl Objects {
     {
         let size = self.data_file_end() - self.map().data_low;
         let mut bytes = vec![in alloc; 0u8; size as usize]?;
-        for o in 0..self.object_count() {
-            self.put_object(o as u16, bytes.as_mut_slice());
+        for k in 0..self.section_count() {
+            self.put_section(&self.section(k), bytes.as_mut_slice());
         }
         Ok(bytes)
     }
 
-    // Puts the content of an object's sections over bytes.
-    fn put_object(&self, o: u16, bytes: &mut [u8])
-        requires { o < length self.now.files }
-        ensures { (file : List ℕ) → slice_get self.now.files o ≡ Some file
-            → bytes.new ≡ fold (with_content (parsed self.now)) bytes.old (sections_in (o, object_parts file)) }
-    {
-        let object = self.object(o);
-        for i in 0..object.section_count() {
-            self.put_section(&object, o, i as u16, bytes);
-        }
-    }
-
     // Puts the content of a section over bytes.
-    fn put_section(&self, object: &Object, o: u16, i: u16, bytes: &mut [u8])
-        requires object { slice_get self.now.files o ≡ Some object.now }
-        requires section { i < section_count object.now }
-        ensures { bytes.new ≡ with_content (parsed self.now) bytes.old
-            (record { object = o; index = i; section = section_parts object.now i }) }
+    fn put_section(&self, section: &SectionRef, bytes: &mut [u8])
+        requires { section_at (parsed self.now).objects section.now.object section.now.index
+            ≡ Some section.now.section }
+        ensures { bytes.new ≡ with_content (parsed self.now) bytes.old section.now }
     {
-        let section = object.section_entry(u32::from(i));
-        if section.kind == NOBITS {
+        if section.kind() == NOBITS {
             return;
         }
-        match role_of(&section) {
+        match section.role() {
             SectionRole::InClass(_) => {
-                let at = self.data_address(o, i) - self.map().data_low;
-                overlay(section.bytes, at as usize, bytes);
+                let at = self.data_address(section.object(), section.index()) - self.map().data_low;
+                overlay(section.bytes(), at as usize, bytes);
             }
             SectionRole::Code | SectionRole::Dropped => {}
         }

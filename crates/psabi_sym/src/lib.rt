@@ -20,6 +20,7 @@ mod names;
 pub mod objects;
 mod read_sections;
 mod read_symbols;
+pub mod section_ref;
 pub mod section_row;
 mod sections;
 mod start;

@@ -3,9 +3,11 @@
 ghost use Rattle.std.specs.Prelude.{◌≡◌, ◌<◌, ◌≤◌, IfOk, List, ℕ, None, length};
 ghost use Rattle.elf32_read.specs.Header.{section_count};
 ghost use Rattle.elf32_read.specs.Object.{object_fault};
+ghost use Rattle.elf32_read.specs.Parts.{relocs_of};
 ghost use Rattle.elf32_read.specs.Relas.{IsRelaOf};
 
 use elf32_read::object::Object;
+use elf32_read::relocs::Relocs;
 use std::alloc::{AllocError, Global};
 use std::marker::Model;
 
@@ -69,5 +71,17 @@ impl Loaded {
         ensures { IsRelaOf self.now section result }
     {
         self.relas[section as usize]
+    }
+
+    /// The relocations of a section of this object, by its index. It takes constant time.
+    pub fn relocs_of<'a>(&self, object: &Object<'a>, section: u32) -> Relocs<'a>
+        requires object { object.now ≡ self.now }
+        requires section { section < section_count self.now }
+        ensures { result ≡ relocs_of self.now section }
+    {
+        match self.rela_of(section) {
+            None => Relocs::none(),
+            Some(rela) => object.relocs_held(rela),
+        }
     }
 }

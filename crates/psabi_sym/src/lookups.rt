@@ -2,7 +2,7 @@
 
 ghost use Rattle.std.specs.Prelude.{◌≡◌, pos, ◌+ℤ◌};
 ghost use Rattle.psabi_sym.specs.Places.{place_in};
-ghost use Rattle.psabi_sym.specs.Resolve.{code_target, number, offset_within, undefined_target};
+ghost use Rattle.psabi_sym.specs.Resolve.{code_target, number_target, offset_within, undefined_target};
 ghost use Rattle.elf32_read.specs.Parts.{SectionParts, SymbolParts};
 
 use crate::symbol_row::SymbolRow;
@@ -28,8 +28,8 @@ pub fn place(starts: &[u32], object: u16, index: u32) -> Option<usize>
 }
 
 /// A number and an addend, modulo 2^32.
-pub fn number(n: u32, addend: i32) -> Target
-    ensures { result ≡ number n addend }
+pub fn number_target(n: u32, addend: i32) -> Target
+    ensures { result ≡ number_target n addend }
 {
     Target::Number(n.wrapping_add(addend.cast_unsigned()))
 }

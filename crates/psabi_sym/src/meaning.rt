@@ -1,13 +1,13 @@
 // What names stand for.
 
-ghost use Rattle.std.specs.Prelude.{◌≡◌, ◌&&◌, ◌==◌, ◌<◌, ℕ, All, IfOk, None, false, length, map, slice_index_or, [], List};
+ghost use Rattle.std.specs.Prelude.{◌≡◌, ◌&&◌, ◌==◌, ◌<◌, ℕ, All, IfOk, None, false, not, true, length, map, slice_index_or, [], List};
 ghost use Rattle.std.specs.List.{find, range_with_len, zip};
-ghost use Rattle.std.specs.Option.{option_map};
+ghost use Rattle.std.specs.Option.{option_map, option_map_or};
 ghost use Rattle.psabi_sym.specs.declared.meaning.Meaning.{Meaning};
 ghost use Rattle.psabi_sym.specs.declared.meaning.Meaning.TheVariants.{Nothing};
 ghost use Rattle.psabi_sym.specs.Meanings.{meaning_at, meaning_of, row_is_missing};
 ghost use Rattle.psabi_sym.specs.Resolve.{linker_number};
-ghost use Rattle.psabi_sym.specs.Rows.{first_row, row_is_second};
+ghost use Rattle.psabi_sym.specs.Rows.{first_row, row_defines, row_is_second};
 ghost use Rattle.psabi_sym.specs.declared.symbol_row.SymbolRow.{SymbolRow};
 
 use crate::symbol_row::SymbolRow;
@@ -103,27 +103,38 @@ pub fn meanings(
     Ok(meanings)
 }
 
-// The symbol is a strong definition of a name whose first strong definition is another symbol.
-fn is_second(row: &SymbolRow, first: Option<SymbolRow>) -> bool
-    ensures { (rows : List SymbolRow) → first ≡ first_row 1 rows row.now.name → result ≡ row_is_second rows row.now }
+// A definition was found, and it is another symbol.
+fn is_other(row: &SymbolRow, found: Option<SymbolRow>) -> bool
+    ensures { result
+        ≡ option_map_or (λ first. not (first.object == row.now.object && first.index == row.now.index)) found false }
 {
-    match first {
+    match found {
         None => false,
-        Some(first) => {
-            row.defines(GLOBAL) && !(first.object == row.object && first.index == row.index)
-        }
+        Some(first) => !(first.object == row.object && first.index == row.index),
     }
+}
+
+// The symbol is a strong definition of a name whose first strong definition is another symbol.
+fn is_second(row: &SymbolRow, strong: &[Option<SymbolRow>]) -> bool
+    requires { row_defines 1 row.now ≡ true → row.now.name < length strong.now }
+    ensures { (rows : List SymbolRow) → strong.now ≡ map (first_row 1 rows) (range_with_len 0 (length strong.now))
+        → result ≡ row_is_second rows row.now }
+{
+    if !row.defines(GLOBAL) {
+        return false;
+    }
+    is_other(row, strong[row.name as usize])
 }
 
 /// The first strong definition of a name that an earlier symbol defines strongly: its object's index
 /// and its own.
 pub fn first_duplicate(rows: &[SymbolRow], strong: &[Option<SymbolRow>]) -> Option<(u32, u32)>
-    requires named { All (λ r. r.name < length strong.now) rows.now }
+    requires named { All (λ r. row_defines 1 r ≡ true → r.name < length strong.now) rows.now }
     requires strong { strong.now ≡ map (first_row 1 rows.now) (range_with_len 0 (length strong.now)) }
     ensures { result ≡ option_map (λ r. (r.object, r.index)) (find (row_is_second rows.now) rows.now) }
 {
     for row in rows {
-        if is_second(row, strong[row.name as usize]) {
+        if is_second(row, strong) {
             return Some((u32::from(row.object), row.index));
         }
     }
@@ -131,11 +142,14 @@ pub fn first_duplicate(rows: &[SymbolRow], strong: &[Option<SymbolRow>]) -> Opti
 }
 
 // The symbol is global and undefined, a relocation names it, and its name stands for nothing.
-fn is_missing(row: &SymbolRow, used: bool, meaning: Meaning) -> bool
-    ensures { (meanings : List Meaning) → meaning ≡ slice_index_or meanings row.now.name Nothing
-        → result ≡ row_is_missing meanings (row.now, used) }
+fn is_missing(row: &SymbolRow, used: bool, meanings: &[Meaning]) -> bool
+    requires { (row.now.bind == 1) ≡ true → row.now.name < length meanings.now }
+    ensures { result ≡ row_is_missing meanings.now (row.now, used) }
 {
-    row.bind == GLOBAL && row.home == UNDEFINED && used && matches!(meaning, Meaning::Nothing)
+    row.bind == GLOBAL
+        && row.home == UNDEFINED
+        && used
+        && matches!(meanings[row.name as usize], Meaning::Nothing)
 }
 
 /// The first symbol that is global and undefined, that a relocation names, and whose name stands for
@@ -146,11 +160,11 @@ pub fn first_undefined(
     meanings: &[Meaning],
 ) -> Option<(u32, u32)>
     requires same_length { length used.now ≡ length rows.now }
-    requires named { All (λ r. r.name < length meanings.now) rows.now }
+    requires named { All (λ r. (r.bind == 1) ≡ true → r.name < length meanings.now) rows.now }
     ensures { result ≡ option_map (λ e. (e.0.object, e.0.index)) (find (row_is_missing meanings.now) (zip rows.now used.now)) }
 {
     for (i, row) in rows.iter().enumerate() {
-        if is_missing(row, used[i], meanings[row.name as usize]) {
+        if is_missing(row, used[i], meanings) {
             return Some((u32::from(row.object), row.index));
         }
     }

@@ -1,8 +1,8 @@
 // What each name has among the symbols, by the number of the name.
 
-ghost use Rattle.std.specs.Prelude.{◌≡◌, ◌<◌, ℕ, IfOk, map, All};
+ghost use Rattle.std.specs.Prelude.{◌≡◌, ◌<◌, ℕ, true, IfOk, map, All};
 ghost use Rattle.std.specs.List.{range_with_len};
-ghost use Rattle.psabi_sym.specs.Rows.{first_of_both, first_row, grown_block, no_block, row_common_block};
+ghost use Rattle.psabi_sym.specs.Rows.{first_of_both, first_row, grown_block, no_block, row_common_block, row_defines, row_is_common};
 ghost use Rattle.psabi_sym.specs.declared.symbol_row.SymbolRow.{SymbolRow};
 
 use crate::block::Block;
@@ -33,38 +33,42 @@ fn grown(block: Block, row: &SymbolRow) -> Block
 }
 
 /// Of each name below `count`, the first definition with this binding.
-#[tactic(auto, using(crate::proofs::Tables::first_row_step))]
+#[tactic(auto, using(crate::proofs::Tables::first_row_step, crate::proofs::Tables::first_row_same))]
 pub fn first_definitions(
     alloc: Global,
     rows: &[SymbolRow],
     count: usize,
     bind: u8,
 ) -> Result<Vec<Option<SymbolRow>>, AllocError>
-    requires { All (λ r. r.name < count) rows.now }
+    requires { All (λ r. row_defines bind r ≡ true → r.name < count) rows.now }
     ensures { IfOk result (λ table. table.items ≡ map (first_row bind rows.now) (range_with_len 0 count)) }
 {
     let mut table = vec![in alloc; None; count]?;
     for row in rows {
-        let name = row.name as usize;
-        table[name] = first_of(table[name], row, bind);
+        if row.defines(bind) {
+            let name = row.name as usize;
+            table[name] = first_of(table[name], row, bind);
+        }
     }
     Ok(table)
 }
 
 /// Of each name below `count`, the room of its common symbols: none without any.
-#[tactic(auto, using(crate::proofs::Tables::common_block_step))]
+#[tactic(auto, using(crate::proofs::Tables::common_block_step, crate::proofs::Tables::common_block_same))]
 pub fn common_blocks(
     alloc: Global,
     rows: &[SymbolRow],
     count: usize,
 ) -> Result<Vec<Block>, AllocError>
-    requires { All (λ r. r.name < count) rows.now }
+    requires { All (λ r. row_is_common r ≡ true → r.name < count) rows.now }
     ensures { IfOk result (λ table. table.items ≡ map (row_common_block rows.now) (range_with_len 0 count)) }
 {
     let mut table = vec![in alloc; Block { align: 0, size: 0 }; count]?;
     for row in rows {
-        let name = row.name as usize;
-        table[name] = grown(table[name], row);
+        if row.is_common() {
+            let name = row.name as usize;
+            table[name] = grown(table[name], row);
+        }
     }
     Ok(table)
 }

@@ -3,7 +3,7 @@
 ghost use Rattle.std.specs.Prelude.{◌≡◌, ◌+◌, ◌^◌, ◌<◌, ◌≤◌, [], IfOk, OnOk, length};
 ghost use Rattle.elf32_read.specs.Names.{name_at};
 ghost use Rattle.psabi_sym.specs.Keys.{AreEnds, AreNames, lent, names_of};
-ghost use Rattle.psabi_sym.specs.Rows.{number_of, with_name};
+ghost use Rattle.psabi_sym.specs.Rows.{name_number, with_name};
 
 use crate::name_ends::{NameEnd, name_ends, name_with_key};
 use crate::texts::Texts;
@@ -53,7 +53,7 @@ impl<'a> Names<'a> {
         ensures are { OnOk result (AreNames self.new) }
         ensures tails { OnOk result (self.new.tails ≡ self.old.tails) }
         ensures names { OnOk result (names_of self.new ≡ with_name (names_of self.old) (name_at table.now at)) }
-        ensures number { IfOk result (λ n. n ≡ number_of (names_of self.new) (name_at table.now at)) }
+        ensures number { IfOk result (λ n. n ≡ name_number (names_of self.new) (name_at table.now at)) }
         ensures within { IfOk result (λ n. n < length (names_of self.new)) }
     {
         let (name, key) = name_with_key(table, ends, at);

@@ -12,16 +12,19 @@ ghost use Rattle.elf32_read.specs.Relas.{IsRelaOf};
 ghost use Rattle.psabi_sym.specs.Faults.{fault_from, gather_fault};
 ghost use Rattle.psabi_sym.specs.Inputs.{Inputs, parsed};
 ghost use Rattle.psabi_sym.specs.LinkFault.{IsRefusal};
+ghost use Rattle.psabi_sym.specs.Listed.{IsSectionNumber, ListedSection, all_sections};
+ghost use Rattle.psabi_sym.specs.Rows.{section_row};
 ghost use Rattle.psabi_sym.specs.Objects.{contents_of};
 ghost use Rattle.psabi_sym.specs.Start.{start_name};
 
 use crate::definitions::Definitions;
 use crate::link_fault::LinkFault;
 use crate::loaded::Loaded;
-use crate::lookups::{code_target, number, place, undefined};
+use crate::lookups::{code_target, number_target, place, undefined};
 use crate::meaning::Meaning;
 use crate::named::name_objects;
-use crate::section_row::SectionRole;
+use crate::section_ref::SectionRef;
+use crate::section_row::{SectionRole, SectionRow};
 use crate::sections::Sections;
 use crate::sums::first_too_large;
 use crate::symbol_row::SymbolRow;
@@ -129,6 +132,46 @@ impl Objects {
         self.objects[i as usize].object()
     }
 
+    /// How many sections all objects have, with those that are dropped.
+    pub fn section_count(&self) -> u32
+        ensures count { result ≡ length (all_sections (parsed self.now).objects) }
+        ensures most { result ≤ 0x10_0000 }
+        ensures faultless { gather_fault self.now ≡ None }
+        ensures is_map { IsMap self.now.map }
+    {
+        self.sections.rows.len() as u32
+    }
+
+    /// A section, by its number among all: one object after another, each by index. It takes constant
+    /// time.
+    pub fn section(&self, k: u32) -> SectionRef<'_>
+        requires { k < length (all_sections (parsed self.now).objects) }
+        ensures { slice_get (all_sections (parsed self.now).objects) k ≡ Some result }
+    {
+        let row = self.sections.rows[k as usize];
+        SectionRef::new(&self.objects[row.object as usize], row)
+    }
+
+    /// What a link keeps of a section, by its number among all: it looks at no header of the file.
+    pub fn section_row(&self, k: u32) -> SectionRow
+        requires { k < length (all_sections (parsed self.now).objects) }
+        ensures { (l : ListedSection) × (slice_get (all_sections (parsed self.now).objects) k ≡ Some l)
+            × (result ≡ section_row l) }
+    {
+        self.sections.rows[k as usize]
+    }
+
+    /// The number of a section among all, by its object's index and its own; none if there is no such
+    /// section. It takes constant time.
+    pub fn section_number(&self, object: u16, section: u16) -> Option<u32>
+        ensures { IsSectionNumber (parsed self.now).objects object section result }
+    {
+        match place(&self.sections.starts, object, u32::from(section)) {
+            None => None,
+            Some(k) => Some(k as u32),
+        }
+    }
+
     /// The memory map.
     pub fn map(&self) -> MemMap
         ensures value { result ≡ self.now.map }
@@ -192,7 +235,7 @@ impl Objects {
             → result ≡ home_target (parsed self.now) row.now.object s addend }
     {
         if row.home == ABS {
-            return number(row.value, addend);
+            return number_target(row.value, addend);
         }
         let Some(k) = place(&self.sections.starts, row.object, u32::from(row.home)) else {
             return Target::Nowhere;
@@ -200,7 +243,7 @@ impl Objects {
         match self.sections.rows[k].role {
             SectionRole::Code => code_target(row, self.sections.rows[k].size, addend),
             SectionRole::InClass(_) => {
-                number(
+                number_target(
                     self.definitions.addresses[k].wrapping_add(row.value),
                     addend,
                 )
@@ -216,7 +259,7 @@ impl Objects {
     {
         match meaning {
             Meaning::Symbol(row) => self.home_target(&row, addend),
-            Meaning::Number(n) => number(n, addend),
+            Meaning::Number(n) => number_target(n, addend),
             Meaning::Nothing => undefined(bind, addend),
         }
     }
@@ -226,7 +269,7 @@ impl Objects {
         ensures { result ≡ resolved (parsed self.now) object symbol addend }
     {
         if symbol == 0 {
-            return number(0, addend);
+            return number_target(0, addend);
         }
         let Some(k) = place(&self.symbols.starts, object, symbol - 1) else {
             return Target::Nowhere;

@@ -5,7 +5,8 @@ ghost use Rattle.elf32_read.specs.Header.{section_count};
 ghost use Rattle.elf32_read.specs.Parts.{object_parts, section_parts, SectionParts, is_kept_section};
 ghost use Rattle.elf32_read.specs.Lent.{IsSectionEntry};
 ghost use Rattle.psabi_sym.specs.Data.{class_of, is_of_kin, role_of};
-ghost use Rattle.psabi_sym.specs.Rows.{part_row};
+ghost use Rattle.psabi_sym.specs.Listed.{sections_in};
+ghost use Rattle.psabi_sym.specs.Rows.{section_row};
 
 use crate::data_class::DataClass;
 use crate::loaded::Loaded;
@@ -74,8 +75,13 @@ pub fn role_of(section: &SectionEntry) -> SectionRole
 }
 
 /// Adds the sections of an object to rows. It looks at few bytes of their names.
-pub fn add_sections(loaded: &Loaded, rows: &mut Vec<SectionRow>) -> Result<(), AllocError>
-    ensures added { OnOk result (rows.new.items ≡ rows.old.items ++ map part_row (object_parts loaded.now).sections) }
+pub fn add_sections(
+    loaded: &Loaded,
+    object_index: u16,
+    rows: &mut Vec<SectionRow>,
+) -> Result<(), AllocError>
+    ensures added { OnOk result (rows.new.items
+        ≡ rows.old.items ++ map section_row (sections_in (object_index, object_parts loaded.now))) }
     ensures few { OnOk result (vec_len rows.new ≤ vec_len rows.old + 4096) }
 {
     let object = loaded.object();
@@ -83,6 +89,8 @@ pub fn add_sections(loaded: &Loaded, rows: &mut Vec<SectionRow>) -> Result<(), A
         let section = object.section_entry(i);
         let role = role_of(&section);
         rows.push(SectionRow {
+            object: object_index,
+            index: i as u16,
             role,
             align: section.align,
             size: section.size,

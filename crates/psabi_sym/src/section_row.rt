@@ -13,9 +13,20 @@ pub enum SectionRole {
     Dropped,
 }
 
-/// What a link keeps of a section.
+impl SectionRole {
+    /// Whether it is code.
+    pub fn is_code(self) -> bool
+        ensures { result ≡ is_code_role self }
+    {
+        matches!(self, SectionRole::Code)
+    }
+}
+
+/// What a link keeps of a section: its object's index and its own, and what it is.
 #[derive(Clone, Copy)]
 pub struct SectionRow {
+    pub object: u16,
+    pub index: u16,
     pub role: SectionRole,
     pub align: u32,
     pub size: u32,
@@ -26,7 +37,7 @@ impl SectionRow {
     pub fn is_code(&self) -> bool
         ensures { result ≡ is_code_role self.now.role }
     {
-        matches!(self.role, SectionRole::Code)
+        self.role.is_code()
     }
 
     /// Whether the section is data of this class.

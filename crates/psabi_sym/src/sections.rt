@@ -29,9 +29,9 @@ impl Sections {
     {
         let mut rows = Vec::new(alloc);
         let mut starts = Vec::new(alloc);
-        for object in objects {
+        for (i, object) in objects.iter().enumerate() {
             starts.push(rows.len() as u32)?;
-            add_sections(object, &mut rows)?;
+            add_sections(object, i as u16, &mut rows)?;
         }
         starts.push(rows.len() as u32)?;
         Ok(Sections { rows, starts })

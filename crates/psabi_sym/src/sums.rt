@@ -9,8 +9,8 @@ ghost use Rattle.psabi_sym.specs.Faults.{align_room, are_too_large, code_room, c
 use crate::loaded::Loaded;
 use crate::read_sections::role_of;
 use crate::section_row::SectionRole;
-use elf32_read::object::Object;
 use elf32_read::reloc::Reloc;
+use elf32_read::relocs::Relocs;
 use elf32_read::symbol_entry::SymbolEntry;
 
 const MOST_BYTES: u64 = 0x200_0000;
@@ -74,29 +74,16 @@ fn reloc_room(reloc: Reloc) -> u32
     align_room(reloc.addend)
 }
 
-// The room of the relocations that a section holds.
-fn held_room(object: &Object, rela: u32) -> u64
-    requires { rela < section_count object.now }
-    ensures value { result ≡ sum_by reloc_room (relocs_held object.now (header_of object.now rela)) }
+// The room of the relocations of a section.
+fn relocs_room(relocs: &Relocs) -> u64
+    ensures value { result ≡ sum_by reloc_room relocs.now }
     ensures most { result < 2 ^ 40 }
 {
     let mut room = 0;
-    for k in 0..object.rela_count(rela) {
-        room += u64::from(reloc_room(object.rela(rela, k)));
+    for k in 0..relocs.len() {
+        room += u64::from(reloc_room(relocs.get(k)));
     }
     room
-}
-
-// The room of the relocations of a section.
-fn relocs_room(loaded: &Loaded, section: u32) -> u64
-    requires { section < section_count loaded.now }
-    ensures value { result ≡ sum_by reloc_room (relocs_of loaded.now section) }
-    ensures most { result < 2 ^ 40 }
-{
-    match loaded.rela_of(section) {
-        None => 0,
-        Some(rela) => held_room(&loaded.object(), rela),
-    }
 }
 
 // The room that a section may take in code, and in data.
@@ -107,11 +94,13 @@ fn section_room(loaded: &Loaded, i: u32) -> (u64, u64)
     ensures code_most { result.0 < 2 ^ 41 }
     ensures data_most { result.1 < 2 ^ 34 }
 {
-    let section = loaded.object().section_entry(i);
+    let object = loaded.object();
+    let section = object.section_entry(i);
     let size = u64::from(section.size);
     match role_of(&section) {
         SectionRole::Code => {
-            let room = size + u64::from(section.align.max(4)) + relocs_room(loaded, i);
+            let relocs = loaded.relocs_of(&object, i);
+            let room = size + u64::from(section.align.max(4)) + relocs_room(&relocs);
             (room, 0)
         }
         SectionRole::InClass(_) => (0, size + u64::from(section.align.max(1))),

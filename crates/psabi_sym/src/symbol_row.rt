@@ -8,7 +8,8 @@ const UNDEFINED: u16 = 0;
 const COMMON: u16 = 0xFFF2;
 
 /// What a link keeps of a symbol: its object's index and its own, the number of its name, and the
-/// fields of its entry but for the type (System V gABI, "Symbol Table").
+/// fields of its entry but for the type (System V gABI, "Symbol Table"). The number is 0, and says
+/// nothing, for a local symbol that isn't common: it is its own definition.
 #[derive(Clone, Copy)]
 pub struct SymbolRow {
     pub object: u16,

@@ -8,31 +8,19 @@ ghost use Rattle.psabi_sym.specs.Faults.{is_used, is_used_in, names};
 ghost use Rattle.psabi_sym.specs.Listed.{all_symbols};
 
 use crate::loaded::Loaded;
-use elf32_read::object::Object;
+use elf32_read::relocs::Relocs;
 use std::alloc::{AllocError, Global};
 
-// Marks the symbols that the relocations in a section name.
-fn mark_held(object: &Object, rela: u32, marks: &mut [bool])
-    requires { rela < section_count object.now }
+// Marks the symbols that the relocations of a section name.
+fn mark_section(relocs: &Relocs, marks: &mut [bool])
     ensures { (s : ℕ) → s < length marks.old → slice_index_or marks.new s false
-        ≡ (slice_index_or marks.old s false || names s (relocs_held object.now (header_of object.now rela))) }
+        ≡ (slice_index_or marks.old s false || names s relocs.now) }
 {
-    for k in 0..object.rela_count(rela) {
-        let symbol = object.rela(rela, k).symbol as usize;
+    for k in 0..relocs.len() {
+        let symbol = relocs.get(k).symbol as usize;
         if symbol < marks.len() {
             marks[symbol] = true;
         }
-    }
-}
-
-// Marks the symbols that the relocations of a section name.
-fn mark_section(loaded: &Loaded, section: u32, marks: &mut [bool])
-    requires { section < section_count loaded.now }
-    ensures { (s : ℕ) → s < length marks.old → slice_index_or marks.new s false
-        ≡ (slice_index_or marks.old s false || names s (relocs_of loaded.now section)) }
-{
-    if let Some(rela) = loaded.rela_of(section) {
-        mark_held(&loaded.object(), rela, marks);
     }
 }
 
@@ -41,8 +29,9 @@ fn mark_object(loaded: &Loaded, marks: &mut [bool])
     ensures { (s : ℕ) → s < length marks.old → slice_index_or marks.new s false
         ≡ (slice_index_or marks.old s false || is_used_in (object_parts loaded.now) s) }
 {
-    for i in 0..loaded.object().section_count() {
-        mark_section(loaded, i, marks);
+    let object = loaded.object();
+    for i in 0..object.section_count() {
+        mark_section(&loaded.relocs_of(&object, i), marks);
     }
 }
 

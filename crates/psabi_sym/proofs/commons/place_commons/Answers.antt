@@ -4,7 +4,7 @@ use Rattle.psabi_sym.specs.declared.block.Block.{Block}
 use Rattle.psabi_sym.specs.declared.symbol_row.SymbolRow.{SymbolRow}
 use Rattle.psabi_sym.specs.Blocks.{aligned_up, end_from, placed_from}
 use Rattle.psabi_sym.specs.Rows.{placed_rows, row_address_of, row_common_block, row_room}
-use Rattle.psabi_sym.proofs.CommonLaws.{end_next, next_by_tables, next_fits, stays, table_next}
+use Rattle.psabi_sym.proofs.CommonLaws.{end_next, next_by_tables, next_common, next_fits, stays, table_next}
 use Rattle.psabi_sym.proofs.Tables.{table_at, table_start}
 use Rattle.psabi_sym.proofs.commons.place_commons.Goals as goal
 use Rattle.psabi_sym.proofs.commons.place_commons.Goals.{then-takes_room, else-takes_room}
@@ -31,8 +31,8 @@ aligned_up-at-requires-then-takes_room c =
     let start = aligned_up 16 c.args.from in
     let n = length c.args.blocks.now in
     let r = get_or rows i row0 in
-    let named : r.name < n = c.requires.named i row0 (omega arith) in
-    let is = next_by_tables rows start i n row0 c.args.strong.now c.loop-row.addresses.items c.index.result.now c.takes_room.result c.takes_room.ensures c.requires.strong c.loop-row.invariant.addresses c.index.ensures named ∙ c.if-takes_room.true in
+    let is = next_by_tables rows start i n row0 c.args.strong.now c.deref.result.now c.takes_room.result c.takes_room.ensures c.requires.strong (c.deref.ensures.value ∙ c.loop-row.invariant.addresses) (c.requires.named i row0 (omega arith)) ∙ c.if-takes_room.true in
+    let named : r.name < n = c.requires.named i row0 (omega arith) (next_common rows start i r is) in
     let block : get_or c.args.blocks.now r.name block0 ≡ row_room rows r = table_at (row_common_block rows) c.args.blocks.now n r.name block0 c.requires.blocks named in
     let fits = next_fits rows start i row0 (omega arith) is in
     omega (arith, fits, ap (λ b. b.align) block)
@@ -44,8 +44,8 @@ overflow_add-at c =
     let start = aligned_up 16 c.args.from in
     let n = length c.args.blocks.now in
     let r = get_or rows i row0 in
-    let named : r.name < n = c.requires.named i row0 (omega arith) in
-    let is = next_by_tables rows start i n row0 c.args.strong.now c.loop-row.addresses.items c.index.result.now c.takes_room.result c.takes_room.ensures c.requires.strong c.loop-row.invariant.addresses c.index.ensures named ∙ c.if-takes_room.true in
+    let is = next_by_tables rows start i n row0 c.args.strong.now c.deref.result.now c.takes_room.result c.takes_room.ensures c.requires.strong (c.deref.ensures.value ∙ c.loop-row.invariant.addresses) (c.requires.named i row0 (omega arith)) ∙ c.if-takes_room.true in
+    let named : r.name < n = c.requires.named i row0 (omega arith) (next_common rows start i r is) in
     let block : get_or c.args.blocks.now r.name block0 ≡ row_room rows r = table_at (row_common_block rows) c.args.blocks.now n r.name block0 c.requires.blocks named in
     let fits = next_fits rows start i row0 (omega arith) is in
     omega (arith, fits, ap (λ b. b.align) block, ap (λ b. b.size) block)
@@ -58,12 +58,12 @@ loop-row-preserved c =
     let n = length c.args.blocks.now in
     let r = get_or rows i row0 in
     let within : i < length rows = omega arith in
-    let named : r.name < n = c.requires.named i row0 within in
-    let tests = next_by_tables rows start i n row0 c.args.strong.now c.loop-row.addresses.items c.index.result.now c.takes_room.result c.takes_room.ensures c.requires.strong c.loop-row.invariant.addresses c.index.ensures named in
-    let block : get_or c.args.blocks.now r.name block0 ≡ row_room rows r = table_at (row_common_block rows) c.args.blocks.now n r.name block0 c.requires.blocks named in
+    let tests = next_by_tables rows start i n row0 c.args.strong.now c.deref.result.now c.takes_room.result c.takes_room.ensures c.requires.strong (c.deref.ensures.value ∙ c.loop-row.invariant.addresses) (c.requires.named i row0 within) in
     elim c.if-takes_room.branch [
       | then-takes_room w ↦
           let is = tests ∙ w.if-takes_room.true in
+          let named : r.name < n = c.requires.named i row0 within (next_common rows start i r is) in
+          let block : get_or c.args.blocks.now r.name block0 ≡ row_room rows r = table_at (row_common_block rows) c.args.blocks.now n r.name block0 c.requires.blocks named in
           let value = w.aligned_up-at-then-takes_room.ensures.value ∙ (λ j. aligned_up (block j).align (c.loop-row.invariant.end j)) in
           record {
             end = w.at-is ∙ (λ j. value j + (block j).size) ∙ sym (end_next rows start i row0 within is);

@@ -13,9 +13,10 @@ use Rattle.psabi_sym.specs.Inputs.{ParsedInputs}
 use Rattle.psabi_sym.specs.Listed.{all_symbols}
 use Rattle.psabi_sym.specs.Meanings.{meaning_at, meaning_row}
 use Rattle.psabi_sym.specs.Resolve.{linker_numbers, name_definition}
-use Rattle.psabi_sym.specs.Rows.{first_row, number_of, placed_rows, row_address_of, row_blocks, row_common_block, row_common_room, row_data_room, row_room, row_start, symbol_row}
+use Rattle.psabi_sym.specs.Rows.{first_row, name_number, placed_rows, row_address_of, row_blocks, row_common_block, row_common_room, row_data_room, row_defines, row_is_common, row_room, row_start, symbol_row}
 use Rattle.psabi_sym.specs.Start.{start_name}
 use Rattle.psabi_sym.proofs.DefinedLaws.{class_end_common, common_start_is, file_end_is, meaning_at_is, rooms_fit, small_data_is, small_zero_is}
+use Rattle.psabi_sym.proofs.NumberLaws.{common_row_goes, definition_row_goes}
 use Rattle.psabi_sym.proofs.NumberedLaws.{named_rows}
 use Rattle.psabi_sym.proofs.StartLaws.{no_start}
 use Rattle.psabi_sym.proofs.Tables.{table_at, table_count}
@@ -101,33 +102,33 @@ module _ (c : After-start_meaning-start) where
   meanings_count = table_count _ c.in_ok-meanings.ensures ∙ sym (names_count c.args.names.now)
 
   -- what a name with a number stands for
-  meant : (name : List ℕ) → number_of names name < length names → get_or c.in_ok-meanings.meanings.items (number_of names name) Nothing ≡ meaning_row names (name_definition inputs name)
+  meant : (name : List ℕ) → name_number names name < length names → get_or c.in_ok-meanings.meanings.items (name_number names name) Nothing ≡ meaning_row names (name_definition inputs name)
   meant name there =
-      table_at (meaning_at names c.args.strong.now c.deref-2.result.now c.deref-3.result.now numbers) c.in_ok-meanings.meanings.items (length c.args.names.now) (number_of names name) Nothing c.in_ok-meanings.ensures
+      table_at (meaning_at names c.args.strong.now c.deref-2.result.now c.deref-3.result.now numbers) c.in_ok-meanings.meanings.items (length c.args.names.now) (name_number names name) Nothing c.in_ok-meanings.ensures
       (omega (arith, there, names_count c.args.names.now))
       ∙ meaning_at_is names inputs c.requires.symbols.numbered c.args.strong.now c.deref-3.result.now c.deref-2.result.now numbers name there strong_are weak_are commons_are numbers_are
 
   -- and `_start`, which may have none
-  start_meant : get_or c.in_ok-meanings.meanings.items (number_of names start_name) Nothing ≡ meaning_row names (name_definition inputs start_name)
-  start_meant = elim (cases_lt (number_of names start_name) (length names)) [
+  start_meant : get_or c.in_ok-meanings.meanings.items (name_number names start_name) Nothing ≡ meaning_row names (name_definition inputs start_name)
+  start_meant = elim (cases_lt (name_number names start_name) (length names)) [
     | inl there ↦ meant start_name there
     | inr past ↦
-        get_or_past c.in_ok-meanings.meanings.items (number_of names start_name) Nothing (omega (arith, past, meanings_count))
+        get_or_past c.in_ok-meanings.meanings.items (name_number names start_name) Nothing (omega (arith, past, meanings_count))
         ∙ sym (ap (meaning_row names) (no_start names inputs c.requires.symbols.numbered past))
   ]
 
 pub first_definitions-requires : goal.first_definitions-requires
-first_definitions-requires c = named_rows c.requires.symbols refl (names_count c.args.names.now)
+first_definitions-requires c = named_rows (row_defines 2) (definition_row_goes 2 refl) c.requires.symbols refl (names_count c.args.names.now)
 
 pub common_blocks-requires : goal.common_blocks-requires
-common_blocks-requires c = named_rows c.requires.symbols refl (names_count c.args.names.now)
+common_blocks-requires c = named_rows row_is_common common_row_goes c.requires.symbols refl (names_count c.args.names.now)
 
 pub lay_out-requires : goal.lay_out-requires
 lay_out-requires c = omega (arith, room (goal.at.lay_out-requires c).In_ok-blocks)
 
 pub place_commons-requires-clause-named : goal.place_commons-requires-clause-named
 place_commons-requires-clause-named c =
-    named_rows c.requires.symbols refl (names_count c.args.names.now ∙ sym (table_count _ (c.deref.ensures.value ∙ c.in_ok-blocks.ensures)))
+    named_rows row_is_common common_row_goes c.requires.symbols refl (names_count c.args.names.now ∙ sym (table_count _ (c.deref.ensures.value ∙ c.in_ok-blocks.ensures)))
 
 pub place_commons-requires-clause-strong : goal.place_commons-requires-clause-strong
 place_commons-requires-clause-strong c =
@@ -164,7 +165,7 @@ returns-clause-tables c =
         names = names a;
         numbered = c.requires.symbols;
         count = meanings_count a;
-        meant = λ k d within. meant a (get_or (all_symbols (inputs a).objects) k d).symbol.name (c.requires.symbols.numbered k d within);
+        meant = λ k d within goes. meant a (get_or (all_symbols (inputs a).objects) k d).symbol.name (c.requires.symbols.numbered k d within goes);
       };
       file_end_is = file_end a;
       end_is = end a;
@@ -178,5 +179,5 @@ returns-clause-start c =
     let a = (goal.at.returns-clause-start c).After-start_meaning-start in
     record {
       names = names a;
-      start_is = c.start_meaning-start.ensures ∙ ap (λ l. get_or l (number_of (names a) start_name) Nothing) c.deref-4.ensures.value ∙ start_meant a;
+      start_is = c.start_meaning-start.ensures ∙ ap (λ l. get_or l (name_number (names a) start_name) Nothing) c.deref-4.ensures.value ∙ start_meant a;
     }

@@ -12,7 +12,7 @@ use Rattle.psabi_sym.proofs.layout.place_class.Goals.{then-is_of, else-is_of}
 
 -- what a read past the end would give
 abbrev row0 : SectionRow
-row0 = record { role = Code; align = 0; size = 0 }
+row0 = record { object = 0; index = 0; role = Code; align = 0; size = 0 }
 
 pub aligned_up-at-requires-then-is_of : goal.aligned_up-at-requires-then-is_of
 aligned_up-at-requires-then-is_of c =

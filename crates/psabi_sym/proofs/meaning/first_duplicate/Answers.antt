@@ -1,10 +1,9 @@
-use Rattle.std.proofs.Common.{◌≡◌, ◌+◌, ◌<◌, true, false, cond, None, Some, length, get_or, drop, ap, sym, ◌∙◌, arith}
+use Rattle.std.proofs.Common.{◌≡◌, ◌+◌, ◌<◌, true, false, cond, Some, length, get_or, drop, ap, sym, ◌∙◌, arith}
 use Rattle.std.specs.List.{find}
 use Rattle.std.specs.Option.{option_map}
 use Rattle.std.proofs.lemmas.List.{drop_more}
-use Rattle.psabi_sym.specs.Rows.{first_row, row_is_second}
+use Rattle.psabi_sym.specs.Rows.{row_is_second}
 use Rattle.psabi_sym.specs.declared.symbol_row.SymbolRow.{SymbolRow}
-use Rattle.psabi_sym.proofs.Tables.{table_at}
 use Rattle.psabi_sym.proofs.meaning.first_duplicate.Goals as goal
 
 -- what a read past the end would give
@@ -17,8 +16,7 @@ returns-then-is_second c =
     let i = c.loop-row.row-index in
     let r = get_or rows i row0 in
     let within : i < length rows = omega arith in
-    let first = table_at (first_row 1 rows) c.args.strong.now (length c.args.strong.now) r.name None c.requires.strong (c.requires.named i row0 within) in
-    let is : row_is_second rows r ≡ true = sym (c.is_second.ensures rows first) ∙ c.if-is_second.true in
+    let is : row_is_second rows r ≡ true = sym (c.is_second.ensures rows c.requires.strong) ∙ c.if-is_second.true in
     let found : find (row_is_second rows) rows ≡ Some r =
     c.loop-row.invariant ∙ ap (find (row_is_second rows)) (drop_more rows i row0 within) ∙ ap (λ b. cond b (Some r) (find (row_is_second rows) (drop (i + 1) rows))) is in
     ap (λ n. Some (n, r.index)) c.from.ensures ∙ ap (option_map {T = SymbolRow} (λ s. (s.object, s.index))) (sym found)
@@ -29,6 +27,5 @@ loop-row-preserved c =
     let i = c.loop-row.row-index in
     let r = get_or rows i row0 in
     let within : i < length rows = omega arith in
-    let first = table_at (first_row 1 rows) c.args.strong.now (length c.args.strong.now) r.name None c.requires.strong (c.requires.named i row0 within) in
-    let is : row_is_second rows r ≡ false = sym (c.is_second.ensures rows first) ∙ c.if-is_second.false in
+    let is : row_is_second rows r ≡ false = sym (c.is_second.ensures rows c.requires.strong) ∙ c.if-is_second.false in
     c.loop-row.invariant ∙ ap (find (row_is_second rows)) (drop_more rows i row0 within) ∙ ap (λ b. cond b (Some r) (find (row_is_second rows) (drop (i + 1) rows))) is

@@ -1,9 +1,8 @@
 use Rattle.std.proofs.Common.{◌≡◌, ◌+◌, ◌<◌, ℕ, Bool, true, false, cond, Some, List, length, get_or, drop, ap, sym, ◌∙◌, arith}
 use Rattle.std.specs.List.{find, zip}
 use Rattle.std.specs.Option.{option_map}
-use Rattle.std.proofs.lemmas.List.{drop_more, get_or_default}
+use Rattle.std.proofs.lemmas.List.{drop_more}
 use Rattle.psabi_sym.specs.Meanings.{row_is_missing}
-use Rattle.psabi_sym.specs.declared.meaning.Meaning.TheVariants.{Nothing, Symbol}
 use Rattle.psabi_sym.specs.declared.symbol_row.SymbolRow.{SymbolRow}
 use Rattle.psabi_sym.proofs.meaning.first_undefined.Goals as goal
 
@@ -23,7 +22,7 @@ returns-then-is_missing c =
     let i = c.loop-i.i in
     let r = get_or rows i row0 in
     let p = row_is_missing c.args.meanings.now in
-    let is : p (r, get_or used i false) ≡ true = sym (c.is_missing.ensures c.args.meanings.now (get_or_default c.args.meanings.now r.name (Symbol row0) Nothing (c.requires.named i row0 (omega arith)))) ∙ c.if-is_missing.true in
+    let is : p (r, get_or used i false) ≡ true = sym c.is_missing.ensures ∙ c.if-is_missing.true in
     let found : find p (zip rows used) ≡ Some (r, get_or used i false) =
     c.loop-i.invariant ∙ step p rows used i (omega arith) (omega arith) ∙ ap (λ b. cond b (Some (r, get_or used i false)) (find p (zip (drop (i + 1) rows) (drop (i + 1) used)))) is in
     ap (λ n. Some (n, r.index)) c.from.ensures ∙ ap (option_map {T = SymbolRow × Bool} (λ e. (e.0.object, e.0.index))) (sym found)
@@ -35,5 +34,5 @@ loop-i-preserved c =
     let i = c.loop-i.i in
     let r = get_or rows i row0 in
     let p = row_is_missing c.args.meanings.now in
-    let is : p (r, get_or used i false) ≡ false = sym (c.is_missing.ensures c.args.meanings.now (get_or_default c.args.meanings.now r.name (Symbol row0) Nothing (c.requires.named i row0 (omega arith)))) ∙ c.if-is_missing.false in
+    let is : p (r, get_or used i false) ≡ false = sym c.is_missing.ensures ∙ c.if-is_missing.false in
     c.loop-i.invariant ∙ step p rows used i (omega arith) (omega arith) ∙ ap (λ b. cond b (Some (r, get_or used i false)) (find p (zip (drop (i + 1) rows) (drop (i + 1) used)))) is

@@ -1,4 +1,4 @@
-use Rattle.std.proofs.Common.{◌≡◌, ℕ, List, Bool, Bor, None, Option, length, map, ap, sym, ◌∙◌}
+use Rattle.std.proofs.Common.{◌≡◌, ℕ, List, Bool, Bor, None, Option, eqb, length, map, refl, ap, sym, ◌∙◌}
 use Rattle.std.specs.List.{find, range_with_len, zip}
 use Rattle.std.specs.Option.{option_map, option_or}
 use Rattle.std.proofs.lemmas.List.{length-map}
@@ -11,13 +11,14 @@ use Rattle.psabi_sym.specs.Keys.{names_of}
 use Rattle.psabi_sym.specs.Listed.{all_symbols}
 use Rattle.psabi_sym.specs.Meanings.{row_is_missing}
 use Rattle.psabi_sym.specs.Numbered.{IsNumbered}
-use Rattle.psabi_sym.specs.Rows.{first_row, row_is_second}
+use Rattle.psabi_sym.specs.Rows.{first_row, row_defines, row_is_second}
 use Rattle.psabi_sym.specs.Tables.{AreNamed}
 use Rattle.psabi_sym.specs.declared.meaning.Meaning.{Meaning}
 use Rattle.psabi_sym.specs.declared.symbol_row.SymbolRow.{SymbolRow}
 use Rattle.psabi_sym.proofs.BridgeLaws.{duplicate_is}
 use Rattle.psabi_sym.proofs.DefinedLaws.{undefined_is}
 use Rattle.psabi_sym.proofs.FaultLaws.{fault_of}
+use Rattle.psabi_sym.proofs.NumberLaws.{definition_row_goes, global_row_goes}
 use Rattle.psabi_sym.proofs.NumberedLaws.{named_rows}
 use Rattle.psabi_sym.proofs.Tables.{table_count}
 use Rattle.psabi_sym.proofs.named.name_objects.Goals as goal
@@ -50,11 +51,11 @@ names_count : (c : After-deref) → length (names_of c.new.new.names) ≡ length
 names_count c = sym (ap length c.as_slice-names.ensures) ∙ length-map c.as_slice-names.result.now (λ (name : Bor (List ℕ)). name.now)
 
 pub first_definitions-requires : goal.first_definitions-requires
-first_definitions-requires c = named_rows c.in_ok-symbols.ensures.rows c.deref.ensures.value (names_count (goal.at.first_definitions-requires c).After-deref)
+first_definitions-requires c = named_rows (row_defines 1) (definition_row_goes 1 refl) c.in_ok-symbols.ensures.rows c.deref.ensures.value (names_count (goal.at.first_definitions-requires c).After-deref)
 
 pub first_duplicate-requires-clause-named : goal.first_duplicate-requires-clause-named
 first_duplicate-requires-clause-named c =
-    named_rows c.in_ok-symbols.ensures.rows c.deref-2.ensures.value
+    named_rows (row_defines 1) (definition_row_goes 1 refl) c.in_ok-symbols.ensures.rows c.deref-2.ensures.value
     (names_count (goal.at.first_duplicate-requires-clause-named c).After-deref ∙ sym (table_count _ (c.deref-3.ensures.value ∙ c.in_ok-strong.ensures)))
 
 pub first_duplicate-requires-clause-strong : goal.first_duplicate-requires-clause-strong
@@ -70,7 +71,7 @@ returns-in-Some-clause-err c =
 pub first_undefined-requires-clause-named : goal.first_undefined-requires-clause-named
 first_undefined-requires-clause-named c =
     let own = c.in_ok-definitions.ensures.tables.named in
-    named_rows own.numbered (c.deref-6.ensures.value ∙ sym c.deref-4.ensures.value) (sym (ap length c.deref-8.ensures.value ∙ own.count))
+    named_rows (λ r. eqb r.bind 1) global_row_goes own.numbered (c.deref-6.ensures.value ∙ sym c.deref-4.ensures.value) (sym (ap length c.deref-8.ensures.value ∙ own.count))
 
 pub returns-in-Some-first_undefined-clause-err : goal.returns-in-Some-first_undefined-clause-err
 returns-in-Some-first_undefined-clause-err c =

@@ -1,16 +1,16 @@
-use Rattle.std.proofs.Common.{◌≡◌, refl, ◌++◌, ◌+◌, ◌-◌, ◌<◌, ◌≤◌, None, ℕ, [], ◌∷◌, List, length, get_or, take, ap, sym, subst, ◌∙◌, arith, append_assoc}
+use Rattle.std.proofs.Common.{◌≡◌, true, refl, ◌++◌, ◌+◌, ◌-◌, ◌<◌, ◌≤◌, None, ℕ, [], ◌∷◌, List, length, get_or, take, ap, sym, subst, ◌∙◌, arith, append_assoc}
 use Rattle.std.proofs.lemmas.List.{append-nil, take_more, take_all}
-use Rattle.elf32_read.specs.Names.{name_at}
 use Rattle.elf32_read.specs.Parts.{object_parts, symbol_parts}
 use Rattle.elf32_read.specs.Object.{object_fault}
 use Rattle.elf32_read.proofs.Faultless.{few_names, few_symbols}
 use Rattle.elf32_read.specs.Symbols.{symbol_count, symbol_entry_of}
 use Rattle.psabi_sym.specs.Keys.{AreEnds, names_of}
 use Rattle.psabi_sym.specs.Listed.{ListedSymbol, symbols_in}
+use Rattle.psabi_sym.specs.Names.{goes_by_name}
 use Rattle.psabi_sym.specs.Numbered.{IsNumbered}
-use Rattle.psabi_sym.specs.Rows.{number_of, symbol_row, with_name}
-use Rattle.psabi_sym.proofs.NumberedLaws.{numbered_as, numbered_more}
-use Rattle.psabi_sym.proofs.NumberLaws.{length-with_name}
+use Rattle.psabi_sym.specs.Rows.{name_number, symbol_number, symbol_row, with_symbol}
+use Rattle.psabi_sym.proofs.NumberedLaws.{grow_by, numbered_as, numbered_more}
+use Rattle.psabi_sym.proofs.NumberLaws.{symbol_number_is}
 use Rattle.psabi_sym.proofs.PartLaws.{length-symbols_in, symbol_count_is, symbol_is, symbol_listed}
 use Rattle.psabi_sym.proofs.read_symbols.add_symbols.Goals as goal
 
@@ -37,8 +37,8 @@ loop-i-init c = record {
 few : (file : List ℕ) → object_fault file ≡ None → symbol_count file ≤ 0x4_0000
 few file none = omega (arith, few_symbols file none)
 
-pub number-requires-clause-few : goal.number-requires-clause-few
-number-requires-clause-few c = omega (arith, few c.object-object.result (ap object_fault c.object-object.ensures.object ∙ c.object-object.ensures.faultless), c.symbol_count-i-end.ensures, c.loop-i.invariant.few, c.requires.few)
+pub number_name-requires-clause-few : goal.number_name-requires-clause-few
+number_name-requires-clause-few c = omega (arith, few c.object-object.result (ap object_fault c.object-object.ensures.object ∙ c.object-object.ensures.faultless), c.symbol_count-i-end.ensures, c.loop-i.invariant.few, c.requires.few)
 
 pub loop-i-preserved : goal.loop-i-preserved
 loop-i-preserved c =
@@ -49,8 +49,8 @@ loop-i-preserved c =
     let parts = symbol_parts read (symbol_entry_of read i) in
     let entry = c.symbol_entry-entry.result in
     let is : entry ≡ symbol_entry_of read i = c.symbol_entry-entry.ensures in
-    let name = name_at c.symbol_names-table.result.now entry.name in
-    let name_is : name ≡ parts.name = λ j. name_at (c.symbol_names-table.ensures j) (is j).name in
+    let table = c.symbol_names-table.ensures in
+    let entry_is : symbol_parts read entry ≡ parts = ap (symbol_parts read) is in
     let within : i < symbol_count file = omega (arith, ap symbol_count same, c.symbol_count-i-end.ensures) in
     let first : 1 ≤ i = omega arith in
     let all = symbols_in (c.args.index, object_parts file) in
@@ -65,32 +65,33 @@ loop-i-preserved c =
     ∙ sym (take_more all (i - 1) l (omega (arith, first, long, length-symbols_in c.args.index (object_parts file))))
     ∙ ap (λ n. take n all) (omega (arith, first)) in
     let names = names_of c.loop-i.names in
-    let grown = with_name names name in
-    let grown_is : names_of c.number.new.self ≡ grown = c.in_ok-name.ensures.names in
-    let number_is : c.in_ok-name.name ≡ number_of grown name = c.in_ok-name.ensures.number ∙ ap (λ n. number_of n name) grown_is in
+    let grown = with_symbol names parts in
+    let grown_is : names_of c.number_name.new.names ≡ grown = c.in_ok-name.ensures.names read table ∙ ap (with_symbol names) entry_is in
+    let number_is : c.in_ok-name.name ≡ symbol_number grown parts = c.in_ok-name.ensures.number read table ∙ (λ j. symbol_number (grown_is j) (entry_is j)) in
     let row_is : record { object = c.args.index; home = entry.home; index = i; name = c.in_ok-name.name; value = entry.value; size = entry.size; bind = entry.bind }
-    ≡ symbol_row (with_name names parts.name) l = λ j. record {
+    ≡ symbol_row grown l = λ j. record {
       object = c.args.index;
       home = (is j).home;
       index = i;
-      name = (number_is ∙ ap (λ n. number_of (with_name names n) n) name_is) j;
+      name = number_is j;
       value = (is j).value;
       size = (is j).size;
       bind = (is j).bind;
     } in
-    let there : number_of (with_name names parts.name) parts.name < length (with_name names parts.name) =
-    omega (arith, c.in_ok-name.ensures.within, c.in_ok-name.ensures.number, ap length grown_is, ap (λ n. number_of n name) grown_is, ap (λ n. number_of (with_name names n) n) name_is, ap (λ n. length (with_name names n)) name_is) in
+    let there : goes_by_name parts ≡ true → name_number grown parts.name < length grown = λ goes.
+    omega (arith, c.in_ok-name.ensures.within read (ap goes_by_name entry_is ∙ goes), number_is, symbol_number_is grown parts goes, ap length grown_is) in
+    let grow = grow_by names parts in
     record {
-      are = c.in_ok-name.ensures.are;
-      room = omega (arith, ap (λ t. length t.texts.items) c.in_ok-name.ensures.tails, c.loop-i.invariant.room);
-      ends = subst (λ b. AreEnds b.texts.items c.symbol_names-table.result.now c.in_ok-ends.ends.items) (sym c.in_ok-name.ensures.tails) c.loop-i.invariant.ends;
+      are = c.in_ok-name.ensures.are.0;
+      room = omega (arith, ap (λ t. length t.texts.items) c.in_ok-name.ensures.are.1, c.loop-i.invariant.room);
+      ends = subst (λ b. AreEnds b.texts.items c.symbol_names-table.result.now c.in_ok-ends.ends.items) (sym c.in_ok-name.ensures.are.1) c.loop-i.invariant.ends;
       numbered = λ listed before.
-          numbered_as (ap (with_name names) (sym name_is) ∙ sym grown_is)
+          numbered_as (sym grown_is)
           (append_assoc listed (take (i - 1) all) (l ∷ []) ∙ ap (λ t. listed ++ t) more)
           (ap (λ r. c.loop-i.rows.items ++ r ∷ []) (sym row_is) ∙ sym c.in_ok-push.ensures.items)
-          (numbered_more names (listed ++ take (i - 1) all) c.loop-i.rows.items l (c.loop-i.invariant.numbered listed before) there);
+          (numbered_more names grown grow (listed ++ take (i - 1) all) c.loop-i.rows.items l (c.loop-i.invariant.numbered listed before) there);
       within = omega arith;
-      few = omega (arith, ap length grown_is, (length-with_name names name).1, c.loop-i.invariant.few, first);
+      few = omega (arith, ap length grown_is, grow.few, c.loop-i.invariant.few, first);
       rows = omega (arith, c.in_ok-push.ensures.len, c.loop-i.invariant.rows, first);
     }
 

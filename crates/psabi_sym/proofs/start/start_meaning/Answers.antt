@@ -1,7 +1,7 @@
 use Rattle.std.proofs.Common.{[], get_or, map, below_more, sym, ap, ◌∙◌, arith}
 use Rattle.std.proofs.lemmas.List.{get_or_default, get_or_past}
 use Rattle.psabi_sym.specs.Names.{same_name}
-use Rattle.psabi_sym.specs.Rows.{number_of}
+use Rattle.psabi_sym.specs.Rows.{name_number}
 use Rattle.psabi_sym.specs.Start.{start_name}
 use Rattle.psabi_sym.specs.declared.meaning.Meaning.TheVariants.{Nothing, Symbol}
 use Rattle.psabi_sym.proofs.StartLaws.{borrowed_test, first_seen}
@@ -24,4 +24,4 @@ pub returns : goal.returns
 returns c =
     let names = c.args.names.now in
     let at = first_seen names start_name c.loop-k.k (omega arith) c.loop-k.invariant (λ lt. absurd (omega arith)) in
-    sym (get_or_past c.args.meanings.now (number_of (map (λ name. name.now) names) start_name) Nothing (omega (arith, at)))
+    sym (get_or_past c.args.meanings.now (name_number (map (λ name. name.now) names) start_name) Nothing (omega (arith, at)))

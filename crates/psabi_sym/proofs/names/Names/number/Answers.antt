@@ -1,6 +1,6 @@
 use Rattle.std.proofs.Common.{ap, ◌∙◌}
 use Rattle.psabi_sym.specs.Keys.{IsAdded, lent, names_of, tails_of}
-use Rattle.psabi_sym.specs.Rows.{number_of, with_name}
+use Rattle.psabi_sym.specs.Rows.{name_number, with_name}
 use Rattle.psabi_sym.proofs.names.Names.number.Goals as goal
 
 pub name_with_key-requires : goal.name_with_key-requires
@@ -16,4 +16,4 @@ pub returns-clause-names : goal.returns-clause-names
 returns-clause-names c = (added c).texts_are ∙ ap (with_name (names_of c.args.self.now)) c.name_with_key.ensures.name
 
 pub returns-clause-number : goal.returns-clause-number
-returns-clause-number c = (added c).number_is ∙ ap (number_of (lent c.number.new.self.texts.items)) c.name_with_key.ensures.name
+returns-clause-number c = (added c).number_is ∙ ap (name_number (lent c.number.new.self.texts.items)) c.name_with_key.ensures.name

@@ -6,6 +6,6 @@ use Rattle.psabi_sym.specs.Inputs.{parsed}
 use Rattle.psabi_sym.specs.Listed.{all_sections}
 use Rattle.psabi_sym.proofs.objects.Objects.data_contents.Given as goal
 
-abbrev pub invariant-loop-o : goal.invariant-loop-o
-invariant-loop-o l = let inputs = parsed l.self in
-    l.bytes.items ≡ fold (with_content inputs) (replicate (data_file_end inputs - inputs.map.data_low) 0) (all_sections (take l.o inputs.objects))
+abbrev pub invariant-loop-k : goal.invariant-loop-k
+invariant-loop-k l = let inputs = parsed l.self in
+    l.bytes.items ≡ fold (with_content inputs) (replicate (data_file_end inputs - inputs.map.data_low) 0) (take l.k (all_sections inputs.objects))

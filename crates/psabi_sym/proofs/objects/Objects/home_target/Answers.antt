@@ -4,7 +4,7 @@ use Rattle.std.proofs.lemmas.List.{get_or_read}
 use Rattle.psabi_sym.specs.declared.section_row.SectionRole.{SectionRole}
 use Rattle.psabi_sym.specs.Data.{address_in, role_of}
 use Rattle.psabi_sym.specs.Inputs.{Inputs, parsed}
-use Rattle.psabi_sym.specs.Resolve.{code_target, number, role_target}
+use Rattle.psabi_sym.specs.Resolve.{code_target, number_target, role_target}
 use Rattle.psabi_sym.proofs.AccessLaws.{address_inside, address_is, home_section, home_target_of, home_value_target, no_section_there, number_wrapped, row_inside, row_is, section_there}
 use Rattle.psabi_sym.proofs.FoundLaws.{IsFoundSection}
 use Rattle.psabi_sym.proofs.objects.Objects.home_target.Goals as goal
@@ -65,7 +65,7 @@ returns-in-InClass c =
     let address = get_or_read c.self.inside.definitions.addresses.items c.in-Some.k c.index-in-InClass.result.now (address_inside c.self.invariant (found a)) c.index-in-InClass.ensures 0
     ∙ address_is c.self.invariant (found a) class role in
     home_target_of r.object r.home r.value c.args.addend c.self.view_is
-    (c.number-in-InClass.ensures ∙ (λ j. number ((address j + r.value) % 4294967296) (to_z-of_z w32 c.args.addend c.ranges.addend j))
+    (c.number_target-in-InClass.ensures ∙ (λ j. number_target ((address j + r.value) % 4294967296) (to_z-of_z w32 c.args.addend c.ranges.addend j))
     ∙ number_wrapped (address_in (parsed (here a)) r.object r.home (found a).section class + r.value) c.args.addend
     ∙ sym (by_role a _ role))
 

@@ -1,4 +1,4 @@
-use Rattle.std.proofs.Common.{◌≡◌, ◌+◌, ◌<◌, [], ◌∷◌, ◌++◌, length, map, take, ap, sym, subst, ◌∙◌, arith}
+use Rattle.std.proofs.Common.{◌≡◌, ◌+◌, ◌<◌, true, [], ◌∷◌, ◌++◌, length, map, take, ap, sym, subst, ◌∙◌, arith}
 use Rattle.std.specs.List.{range_with_len}
 use Rattle.std.proofs.lemmas.List.{length-map}
 use Rattle.std.proofs.lemmas.List.Elements.{All-nil}
@@ -6,8 +6,9 @@ use Rattle.std.proofs.lemmas.List.FromFn.{map-range_with_len_more}
 use Rattle.elf32_read.specs.Parts.{object_parts}
 use Rattle.psabi_sym.specs.Keys.{names_of}
 use Rattle.psabi_sym.specs.Listed.{ListedSymbol, all_symbols, symbols_in}
+use Rattle.psabi_sym.specs.Names.{goes_by_name}
 use Rattle.psabi_sym.specs.Numbered.{IsNumbered}
-use Rattle.psabi_sym.specs.Rows.{number_of, symbol_row, symbol_starts}
+use Rattle.psabi_sym.specs.Rows.{name_number, symbol_row, symbol_starts}
 use Rattle.psabi_sym.proofs.FlatLaws.{length-parsed, parsed_more, symbols_push}
 use Rattle.psabi_sym.proofs.symbols.Symbols.new.Goals as goal
 
@@ -18,7 +19,7 @@ loop-i-init c = record {
   room = omega (arith, ap length c.requires.tails);
   rows = record {
     rows_are = c.new-rows.ensures.items;
-    numbered = All-nil (λ (l : ListedSymbol). number_of (names_of c.args.names.now) l.symbol.name < length (names_of c.args.names.now));
+    numbered = All-nil (λ (l : ListedSymbol). goes_by_name l.symbol ≡ true → name_number (names_of c.args.names.now) l.symbol.name < length (names_of c.args.names.now));
     few = omega (arith, ap length c.requires.unnamed);
   };
   starts = c.new-starts.ensures.items;

@@ -1,0 +1,137 @@
+// Sections as values.
+
+ghost use Rattle.std.specs.Prelude.{◌≡◌, ◌<◌, Some, length, slice_get};
+ghost use Rattle.elf32_read.specs.Header.{section_count};
+ghost use Rattle.elf32_read.specs.Parts.{is_code_section, section_parts};
+ghost use Rattle.psabi_sym.specs.Data.{role_of};
+
+use crate::loaded::Loaded;
+use crate::section_row::{SectionRole, SectionRow};
+use elf32_read::reloc::Reloc;
+use elf32_read::relocs::Relocs;
+use elf32_read::section_entry::SectionEntry;
+use std::marker::Model;
+
+/// A section of one of the objects of a link, with its relocations. Each call takes constant time.
+#[derive(Drop)]
+pub struct SectionRef<'a> {
+    object: u16,
+    index: u16,
+    role: SectionRole,
+    entry: SectionEntry<'a>,
+    relocs: Relocs<'a>,
+    compressed: bool,
+}
+
+impl<'a> Model for SectionRef<'a> {
+    ghost use Rattle.std.specs.Prelude.{◌≡◌};
+    ghost use Rattle.psabi_sym.specs.Data.{role_of};
+    ghost use Rattle.psabi_sym.specs.Listed.{ListedSection};
+    ghost use Rattle.psabi_sym.specs.SectionRef.{lent_section};
+
+    ghost Value = { ListedSection };
+
+    ghost view = { λ s.
+        record { object = s.object; index = s.index; section = lent_section s.entry s.relocs s.compressed } };
+
+    ghost invariant = { λ s. s.role ≡ role_of (lent_section s.entry s.relocs s.compressed) };
+}
+
+impl<'a> SectionRef<'a> {
+    /// The section of an object that a row is of.
+    pub fn new(loaded: &'a Loaded, row: SectionRow) -> SectionRef<'a>
+        requires within { row.index < section_count loaded.now }
+        requires role { row.role ≡ role_of (section_parts loaded.now row.index) }
+        ensures { result
+            ≡ record { object = row.object; index = row.index; section = section_parts loaded.entry.now row.index } }
+    {
+        let object = loaded.object();
+        let index = u32::from(row.index);
+        SectionRef {
+            object: row.object,
+            index: row.index,
+            role: row.role,
+            entry: object.section_entry(index),
+            relocs: loaded.relocs_of(&object, index),
+            compressed: object.is_compressed(),
+        }
+    }
+
+    /// The index of its object.
+    pub fn object(&self) -> u16
+        ensures { result ≡ self.now.object }
+    {
+        self.object
+    }
+
+    /// Its index in its object.
+    pub fn index(&self) -> u16
+        ensures { result ≡ self.now.index }
+    {
+        self.index
+    }
+
+    /// What it is: code, data of a class, or dropped.
+    pub fn role(&self) -> SectionRole
+        ensures { result ≡ role_of self.now.section }
+    {
+        self.role
+    }
+
+    /// Whether it is code.
+    pub fn is_code(&self) -> bool
+        ensures { result ≡ is_code_section self.now.section }
+    {
+        self.role.is_code()
+    }
+
+    /// Whether its object is compressed.
+    pub fn is_compressed(&self) -> bool
+        ensures { result ≡ self.now.section.compressed }
+    {
+        self.compressed
+    }
+
+    /// Its type, sh_type.
+    pub fn kind(&self) -> u32
+        ensures { result ≡ self.now.section.kind }
+    {
+        self.entry.kind
+    }
+
+    /// Its size in memory, sh_size.
+    pub fn size(&self) -> u32
+        ensures { result ≡ self.now.section.size }
+    {
+        self.entry.size
+    }
+
+    /// Its alignment as it stands, sh_addralign.
+    pub fn align(&self) -> u32
+        ensures { result ≡ self.now.section.align }
+    {
+        self.entry.align
+    }
+
+    /// Its content; empty for the kinds NULL and NOBITS.
+    pub fn bytes(&self) -> &'a [u8]
+        ensures { result.now ≡ self.now.section.bytes }
+    {
+        self.entry.bytes
+    }
+
+    /// How many relocations it has; none if it is dropped.
+    pub fn reloc_count(&self) -> u32
+        ensures { result ≡ length self.now.section.relocs }
+    {
+        self.relocs.len()
+    }
+
+    /// A relocation, by its index.
+    pub fn reloc(&self, k: u32) -> Reloc
+        requires { k < length self.now.section.relocs }
+        ensures { slice_get self.now.section.relocs k ≡ Some result }
+    {
+        self.relocs.get(k)
+    }
+}
