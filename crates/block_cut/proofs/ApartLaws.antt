@@ -8,7 +8,7 @@ use Rattle.std.proofs.lemmas.List.Sums.{length-filter, sum_by-cons, sum_by_push}
 use Rattle.std.proofs.lemmas.Option.{get_or_from_slice_get, slice_get_within}
 use Rattle.elf32_read.specs.declared.reloc.Reloc.{Reloc}
 use Rattle.block_cut.specs.Fields.{AreApart}
-use Rattle.block_cut.specs.Relocs.{field_end, field_of, is_crowded, overlap}
+use Rattle.block_cut.specs.Relocs.{field_end, field_of, overlaps_another, overlap}
 
 -- what stands at an index is one of a list's elements
 pub contains_at : {X : Type 0} (xs : List X) (k : ℕ) (x : X) → slice_get xs k ≡ Some x → Contains xs x
@@ -40,7 +40,7 @@ apart_push rs s m n are le ends past = record {
   ];
 }
   where
-    all : (r : Reloc) → is_crowded (rs ++ s ∷ []) r ≡ nat_lt 1 (count_by (overlap r) rs + cond (overlap r s) 1 0)
+    all : (r : Reloc) → overlaps_another (rs ++ s ∷ []) r ≡ nat_lt 1 (count_by (overlap r) rs + cond (overlap r s) 1 0)
     all r = ap (nat_lt 1) (length-filter (overlap r) (rs ++ s ∷ []) ∙ sum_by_push (λ t. cond (overlap r t) 1 0) rs s)
 
     one : (b : Bool) → nat_lt 1 (0 + cond b 1 0) ≡ false

@@ -1,64 +1,44 @@
--- A section that isn't code but has a relocation is data, so it has an address, and it ends where all data end or before. A relocation
--- without a fault changes bytes of its section, so the word that it fills in lies there as well.
-use Rattle.std.proofs.Common.{◌≡◌, ℕ, ◌+◌, ◌<◌, ◌≤◌, List, [], ◌∷◌, ◌++◌, map, filter, Bool, true, false, cond, not, Option, Some, None, slice_get, refl, sym, ap, ◌∙◌, arith}
-use Rattle.std.specs.Prelude.{◌&&◌, ◌||◌, nat_lt}
+-- The words of data by relocations that are decided. A section of data ends where all data end or before, and a relocation without a fault
+-- changes bytes of its section, so the word that it fills in lies there as well.
+use Rattle.std.proofs.Common.{◌≡◌, ℕ, ◌+◌, ◌≤◌, List, [], ◌∷◌, ◌++◌, length, get_or, map, filter, take, Bool, true, false, cond, eqb, not, Option, Some, None, slice_get, refl, sym, ap, ◌∙◌, arith}
+use Rattle.std.specs.Prelude.{All, ◌&&◌, ◌||◌, nat_lt}
 use Rattle.std.specs.List.{flat_map, fold}
 use Rattle.std.specs.Option.{option_map, option_map_or, option_or}
 use Rattle.std.proofs.lemmas.Bool.{eq-eqb, ltb-false, or_parts}
-use Rattle.std.proofs.lemmas.List.{map-append}
-use Rattle.std.proofs.lemmas.List.Elements.{filter-append}
+use Rattle.std.proofs.lemmas.Grind.{flat_map-append}
+use Rattle.std.proofs.lemmas.List.{append-nil, map-append, take_all}
+use Rattle.std.proofs.lemmas.List.Elements.{All-filter, All-map, filter-append}
 use Rattle.std.proofs.lemmas.List.Sums.{fold-append}
-use Rattle.std.proofs.lemmas.Option.{slice_get_within}
-use Rattle.elf32_read.specs.Header.{header_of, section_count}
-use Rattle.elf32_read.specs.Kept.{has_flags, is_kept}
-use Rattle.elf32_read.specs.Object.{object_fault}
-use Rattle.elf32_read.specs.Parts.{ObjectParts, SectionParts, is_code_section, is_kept_section, relocs_held, relocs_of, section_parts}
-use Rattle.elf32_read.specs.Relocs.{relas_for}
+use Rattle.std.proofs.lemmas.Option.{slice_get-get_or}
+use Rattle.elf32_read.specs.Parts.{ObjectParts, SectionParts}
 use Rattle.elf32_read.specs.declared.fault.Fault.{Fault}
 use Rattle.elf32_read.specs.declared.fault.Fault.TheVariants.{RelocKind as KindFault, RelocPlace}
 use Rattle.elf32_read.specs.declared.reloc.Reloc.{Reloc}
-use Rattle.elf32_read.proofs.Faultless.{is_kept_section-parts}
 use Rattle.psabi_reloc.specs.Kinds.{field_length, kind_of}
 use Rattle.psabi_reloc.specs.declared.kind.RelocKind.{RelocKind}
 use Rattle.psabi_reloc.specs.declared.kind.RelocKind.TheVariants as kind
 use Rattle.psabi_sym.specs.Blocks.{aligned_up, end_from}
-use Rattle.psabi_sym.specs.Data.{address_in, blocks_in, blocks_of, class_end, class_of, class_start, data_address, data_end, end_after, is_code_at, is_of_class, has_class, role_of, section_block}
+use Rattle.psabi_sym.specs.Data.{address_in, blocks_in, blocks_of, class_end, class_start, data_address, data_end, end_after, is_of_class, has_class, role_of, section_block}
 use Rattle.psabi_sym.specs.Classes.{classes_before, same_class}
-use Rattle.psabi_sym.specs.Faults.{first_some, gather_fault}
-use Rattle.psabi_sym.specs.Inputs.{Inputs, ParsedInputs, parsed}
-use Rattle.psabi_sym.specs.Listed.{all_sections, section_at, sections_before}
+use Rattle.psabi_sym.specs.Faults.{first_some}
+use Rattle.psabi_sym.specs.Inputs.{ParsedInputs}
+use Rattle.psabi_sym.specs.Listed.{ListedSection, all_sections, section_at, sections_before}
 use Rattle.psabi_sym.specs.declared.block.Block.{Block}
 use Rattle.psabi_sym.specs.declared.data_class.DataClass.{DataClass}
 use Rattle.psabi_sym.specs.declared.data_class.DataClass.TheVariants.{ReadOnly, Data, SmallData, SmallZero, Zero, Common}
 use Rattle.psabi_sym.specs.declared.section_row.SectionRole.TheVariants.{Code, InClass, Dropped}
-use Rattle.psabi_sym.proofs.ContentLaws.{address_of_data}
-use Rattle.psabi_sym.proofs.Gathered.{readable}
+use Rattle.psabi_sym.specs.declared.section_row.SectionRole.{SectionRole}
+use Rattle.psabi_sym.proofs.ContentLaws.{address_of_data, none_of_code, none_of_dropped}
 use Rattle.psabi_sym.proofs.PlaceLaws.{not_common}
 use Rattle.block_cut.specs.Faults.{if_so, reloc_fault, relocs_fault, section_fault}
-use Rattle.block_cut.specs.Relocs.{field_end, is_bad_kind, is_bad_place, is_crowded, is_ignored, is_placed, is_word}
+use Rattle.block_cut.specs.Relocs.{field_end, is_bad_kind, is_bad_place, overlaps_another, is_ignored, is_placed, is_word}
+use Rattle.block_cut.specs.DataWords.{data_word, data_words, held_address, resolved_word, words_in}
+use Rattle.block_cut.specs.Resolved.{asks, resolved_reloc, resolved_relocs}
+use Rattle.block_cut.specs.declared.data_word.DataWord.{DataWord}
+use Rattle.block_cut.specs.declared.resolved_reloc.ResolvedReloc.{ResolvedReloc}
 use Rattle.block_cut.proofs.FirstLaws.{none_at, none_within}
 use Rattle.block_cut.proofs.ListedLaws.{cut_at, listed}
-use Rattle.block_cut.proofs.WholeLaws.{section_there}
-
--- ---- data
-
--- a relocation is kept with its section
-kept_with : (file : List ℕ) (i k : ℕ) (r : Reloc) → slice_get (relocs_of file i) k ≡ Some r → is_kept file (header_of file i) ≡ true
-kept_with file i k r at = by (is_kept file (header_of file i)) refl at
-  where
-    by : (b : Bool) → is_kept file (header_of file i) ≡ b → slice_get (cond b (flat_map (relocs_held file) (relas_for file i)) []) k ≡ Some r → is_kept file (header_of file i) ≡ true
-    by true is at = is
-    by false is at = absurd (omega (arith, slice_get_within [] k r at))
-
--- and if that isn't code, it is data
-pub data_role : (file : List ℕ) (i k : ℕ) (r : Reloc) → object_fault file ≡ None → i < section_count file → is_code_section (section_parts file i) ≡ false → slice_get (relocs_of file i) k ≡ Some r
-    → role_of (section_parts file i) ≡ InClass (class_of (section_parts file i))
-unfolding role_of
-data_role file i k r read within not_code at =
-    let s = section_parts file i in
-    let kept : is_kept_section s ≡ true = is_kept_section-parts file read i within ∙ kept_with file i k r at in
-    let flags : has_flags 4 s.flags ≡ false = ap (λ b. b && has_flags 4 s.flags) (sym kept) ∙ not_code in
-    λ j. cond (not (kept j)) Dropped (cond (flags j) Code (InClass (class_of s)))
+use Rattle.block_cut.proofs.TakeLaws.{take_next}
 
 -- ---- where data end
 
@@ -175,8 +155,8 @@ module _ (inputs : ParsedInputs) (o i : ℕ) (s : SectionParts) (found : section
   pub word_inside : (r : Reloc) → reloc_fault inputs (listed o i s) r ≡ None → is_word (kind_of r.kind) ≡ true → r.offset + 4 ≤ s.size
   word_inside r none word =
       let is = word_kind (kind_of r.kind) word in
-      let place : (not (is_ignored (kind_of r.kind)) && (nat_lt s.size (field_end r) || (not (is_placed s r) || is_crowded s.relocs r))) ≡ false = place_none r none in
-      let bad = ap (λ k. not (is_ignored k) && (nat_lt s.size (field_end r) || (not (is_placed s r) || is_crowded s.relocs r))) (sym is) ∙ place in
+      let place : (not (is_ignored (kind_of r.kind)) && (nat_lt s.size (field_end r) || (not (is_placed s r) || overlaps_another s.relocs r))) ≡ false = place_none r none in
+      let bad = ap (λ k. not (is_ignored k) && (nat_lt s.size (field_end r) || (not (is_placed s r) || overlaps_another s.relocs r))) (sym is) ∙ place in
       let inside = ltb-false s.size (field_end r) (or_parts (nat_lt s.size (field_end r)) _ bad).0 in
       let four : field_end r ≡ r.offset + 4 = ap (λ k. r.offset + field_length k r.addend) is in
       omega (arith, inside, four)
@@ -194,27 +174,101 @@ module _ (inputs : ParsedInputs) (o i : ℕ) (s : SectionParts) (found : section
       word_kind (Some kind.Hi20) word = absurd cc
       word_kind (Some kind.Lo12I) word = absurd cc
       word_kind (Some kind.Lo12S) word = absurd cc
+      word_kind (Some kind.RvcBranch) word = absurd cc
+      word_kind (Some kind.RvcJump) word = absurd cc
       word_kind (Some kind.Align) word = absurd cc
 
--- ---- a relocation of data
+-- ---- the words of a section
 
--- its section has an address, and a word that it fills in lies before the end of all data
-pub record IsDataHere (inputs : Inputs) (o i : ℕ) (r : Reloc) : Type 0 where
-  pub at : ℕ
-  pub is : data_address (parsed inputs) o i ≡ Some at
-  pub inside : is_word (kind_of r.kind) ≡ true → at + r.offset ≤ data_end (parsed inputs)
+-- a section of data that a file holds begins at an address
+pub record IsHeld (inputs : ParsedInputs) (l : ListedSection) (at : ℕ) : Type 0 where
+  pub class : DataClass
+  pub role : role_of l.section ≡ InClass class
+  pub address : data_address inputs l.object l.index ≡ Some at
+  pub at_is : at ≡ address_in inputs l.object l.index l.section class
+  pub held : eqb l.section.kind 8 ≡ false
 
-pub data_here : (inputs : Inputs) (o i : ℕ) (file : List ℕ) → gather_fault inputs ≡ None → relocs_fault (parsed inputs) ≡ None → slice_get inputs.files o ≡ Some file → i < section_count file
-    → is_code_at (parsed inputs).objects o i ≡ false → (k : ℕ) (r : Reloc) → slice_get (relocs_of file i) k ≡ Some r → IsDataHere inputs o i r
-data_here inputs o i file gathered faultless there within not_code k r at =
-    let s = section_parts file i in
-    let found = section_there inputs o i file there within in
-    let code : is_code_section s ≡ false = sym (ap (λ x. option_map_or is_code_section x false) found) ∙ not_code in
-    let role = data_role file i k r (readable inputs o file gathered there) within code at in
-    let class = class_of s in
-    let none = reloc_none (parsed inputs) o i s found faultless k r at in
-    record {
-      at = address_in (parsed inputs) o i s class;
-      is = address_of_data (parsed inputs) o i s found class role;
-      inside = λ word. omega (arith, data_fits (parsed inputs) o i s found class role, word_inside (parsed inputs) o i s found r none word);
-    }
+module _ (inputs : ParsedInputs) (l : ListedSection) where
+  pub held_is : section_at inputs.objects l.object l.index ≡ Some l.section → (at : ℕ) → held_address inputs l ≡ Some at → IsHeld inputs l at
+  held_is found at is = by (eqb l.section.kind 8) refl is
+    where
+      of : eqb l.section.kind 8 ≡ false → (r : SectionRole) → role_of l.section ≡ r → data_address inputs l.object l.index ≡ Some at → IsHeld inputs l at
+      of held Code role address = absurd (cc (none_of_code inputs l.object l.index l.section found role, address))
+      of held Dropped role address = absurd (cc (none_of_dropped inputs l.object l.index l.section found role, address))
+      of held (InClass class) role address =
+          let two : Some at ≡ Some (address_in inputs l.object l.index l.section class) = sym address ∙ address_of_data inputs l.object l.index l.section found class role in
+          record { class = class; role = role; address = address; at_is = cc; held = held }
+
+      by : (b : Bool) → eqb l.section.kind 8 ≡ b → cond b None (data_address inputs l.object l.index) ≡ Some at → IsHeld inputs l at
+      by true kind is = absurd cc
+      by false kind is = of kind (role_of l.section) refl is
+
+  -- no file holds it, or it is code or dropped, so it has no words
+  pub words_unheld : held_address inputs l ≡ None → words_in inputs l ≡ []
+  words_unheld none = by (eqb l.section.kind 8) (data_address inputs l.object l.index) none
+    where
+      by : (b : Bool) (o : Option ℕ) → cond b None o ≡ None → cond b [] (option_map_or (λ at. map (data_word inputs l at) (filter (λ (r : Reloc). is_word (kind_of r.kind)) l.section.relocs)) o []) ≡ []
+      by true o none = refl
+      by false None none = refl
+      by false (Some at) none = absurd cc
+
+  -- the words by relocations as they come are those by relocations that are decided
+  words_decided : (at : ℕ) (rs : List Reloc) → map (resolved_word at) (filter (λ d. is_word d.kind) (map (resolved_reloc inputs l) (filter asks rs))) ≡ map (data_word inputs l at) (filter (λ r. is_word (kind_of r.kind)) rs)
+  words_decided at [] = refl
+  words_decided at (r ∷ rs) = by (asks r) (is_word (kind_of r.kind)) refl (asked (kind_of r.kind)) (words_decided at rs)
+    where
+      kept : List ResolvedReloc → List DataWord
+      kept ds = map (resolved_word at) (filter (λ d. is_word d.kind) ds)
+
+      own : List Reloc
+      own = filter (λ r. is_word (kind_of r.kind)) rs
+
+      decided : List ResolvedReloc
+      decided = map (resolved_reloc inputs l) (filter asks rs)
+
+      asked : (k : Option RelocKind) → is_word k ≡ true → not (is_ignored k) ≡ true
+      asked None word = absurd cc
+      asked (Some kind.Ignored) word = absurd cc
+      asked (Some k) word = refl
+
+      first : (b : Bool) → is_word (kind_of r.kind) ≡ b → kept decided ≡ map (data_word inputs l at) own → kept (resolved_reloc inputs l r ∷ decided) ≡ map (data_word inputs l at) (cond b (r ∷ own) own)
+      first true word rest = ap (λ b. map (resolved_word at) (cond b (resolved_reloc inputs l r ∷ filter (λ d. is_word d.kind) decided) (filter (λ d. is_word d.kind) decided))) word ∙ ap (λ t. data_word inputs l at r ∷ t) rest
+      first false word rest = ap (λ b. map (resolved_word at) (cond b (resolved_reloc inputs l r ∷ filter (λ d. is_word d.kind) decided) (filter (λ d. is_word d.kind) decided))) word ∙ rest
+
+      by : (a w : Bool) → is_word (kind_of r.kind) ≡ w → (w ≡ true → a ≡ true) → kept decided ≡ map (data_word inputs l at) own
+          → kept (map (resolved_reloc inputs l) (cond a (r ∷ filter asks rs) (filter asks rs))) ≡ map (data_word inputs l at) (cond w (r ∷ own) own)
+      by true w word asks rest = first w word rest
+      by false true word asks rest = absurd (cc (asks refl))
+      by false false word asks rest = rest
+
+  -- else these are its words
+  pub words_held : (at : ℕ) → IsHeld inputs l at → words_in inputs l ≡ map (resolved_word at) (filter (λ d. is_word d.kind) (resolved_relocs inputs l))
+  words_held at is =
+      (λ j. cond (is.held j) [] (option_map_or (λ at. map (data_word inputs l at) (filter (λ (r : Reloc). is_word (kind_of r.kind)) l.section.relocs)) (is.address j) []))
+      ∙ sym (words_decided at l.section.relocs)
+
+  -- each of them lies before the end of all data
+  pub words_low : section_at inputs.objects l.object l.index ≡ Some l.section → relocs_fault inputs ≡ None → (at : ℕ) → IsHeld inputs l at
+      → All (λ d. is_word d.kind ≡ true → at + d.offset ≤ data_end inputs) (resolved_relocs inputs l)
+  words_low found none at is =
+      All-map (λ d. is_word d.kind ≡ true → at + d.offset ≤ data_end inputs) (resolved_reloc inputs l) (filter asks l.section.relocs)
+      (All-filter asks (λ r. is_word (kind_of r.kind) ≡ true → at + r.offset ≤ data_end inputs) l.section.relocs
+      (λ k d lt word.
+      let r = get_or l.section.relocs k d in
+      let fine = reloc_none inputs l.object l.index l.section found none k r (slice_get-get_or l.section.relocs k d lt) in
+      omega (arith, is.at_is, data_fits inputs l.object l.index l.section found is.class is.role, word_inside inputs l.object l.index l.section found r fine word)))
+
+-- ---- one section after another
+
+-- those of one section more
+pub words_next : (inputs : ParsedInputs) (k : ℕ) (l : ListedSection) → slice_get (all_sections inputs.objects) k ≡ Some l
+    → flat_map (words_in inputs) (take (k + 1) (all_sections inputs.objects)) ≡ flat_map (words_in inputs) (take k (all_sections inputs.objects)) ++ words_in inputs l
+words_next inputs k l at =
+    ap (flat_map (words_in inputs)) (take_next (all_sections inputs.objects) k l at)
+    ∙ flat_map-append (words_in inputs) (take k (all_sections inputs.objects)) (l ∷ [])
+    ∙ ap (λ m. flat_map (words_in inputs) (take k (all_sections inputs.objects)) ++ m) (append-nil (words_in inputs l))
+
+-- after the last there are all
+pub words_all : (inputs : ParsedInputs) (k : ℕ) → length (all_sections inputs.objects) ≤ k → flat_map (words_in inputs) (take k (all_sections inputs.objects)) ≡ data_words inputs
+unfolding data_words
+words_all inputs k past = ap (flat_map (words_in inputs)) (take_all k (all_sections inputs.objects) past)

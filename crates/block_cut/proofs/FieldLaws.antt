@@ -13,9 +13,10 @@ use Rattle.std.proofs.lemmas.Bool.{cases_lt, eq-eqb, ne_eqb, le-ltb, lt-ltb}
 use Rattle.std.proofs.lemmas.List.Sorted.{searched, sum_by-IsPermutation}
 use Rattle.std.proofs.lemmas.List.Sums.{length-filter, sum_by-cons}
 use Rattle.elf32_read.specs.declared.reloc.Reloc.{Reloc}
+use Rattle.block_cut.specs.declared.fields.FieldEnds.{FieldEnds}
 use Rattle.block_cut.specs.declared.fields.Fields.{Fields}
-use Rattle.block_cut.specs.Fields.{AreFields, IsSortedOf, ends_of, has_field, is_upper, starts_of, uppers_of}
-use Rattle.block_cut.specs.Relocs.{field_end, field_of, is_crowded, overlap}
+use Rattle.block_cut.specs.Fields.{AreEnds, AreFields, IsSortedOf, ends_of, has_field, is_upper, starts_of, uppers_of}
+use Rattle.block_cut.specs.Relocs.{field_end, field_of, overlaps_another, overlap}
 
 -- ---- counts
 
@@ -105,12 +106,12 @@ overlap_none r (s ∷ rs) none =
     let here = le-ltb (max r.offset s.offset) (min (field_end r) (field_end s)) (omega (arith, none)) in
     omega (arith, sum_by-cons (λ t. cond (overlap r t) 1 0) s rs, ap {B = ℕ} (λ b. cond b 1 0) here, overlap_none r rs none)
 
-pub crowded_none : (r : Reloc) (rs : List Reloc) → field_of r ≡ 0 → false ≡ is_crowded rs r
+pub crowded_none : (r : Reloc) (rs : List Reloc) → field_of r ≡ 0 → false ≡ overlaps_another rs r
 crowded_none r rs none = ap (nat_lt 1) (sym (length-filter (overlap r) rs ∙ overlap_none r rs none))
 
-pub crowded_is : (r : Reloc) (rs : List Reloc) (fields : Fields) (begun ended : ℕ) → 0 < field_of r → AreFields rs fields
+pub crowded_is : (r : Reloc) (rs : List Reloc) (fields : FieldEnds) (begun ended : ℕ) → 0 < field_of r → AreEnds rs fields
     → begun ≡ count_by (λ n. nat_lt n (field_end r)) fields.starts.items → ended ≡ count_by (λ n. nat_lt n (r.offset + 1)) fields.ends.items
-    → nat_lt (ended + 1) begun ≡ is_crowded rs r
+    → nat_lt (ended + 1) begun ≡ overlaps_another rs r
 crowded_is r rs fields begun ended has are is_begun is_ended =
     let first = is_begun ∙ count_sorted _ (starts_of rs) fields.starts.items are.starts ∙ count_kept has_field (λ s. s.offset) (λ n. nat_lt n (field_end r)) rs in
     let second = is_ended ∙ count_sorted _ (ends_of rs) fields.ends.items are.ends ∙ count_kept has_field field_end (λ n. nat_lt n (r.offset + 1)) rs in

@@ -1,8 +1,8 @@
 -- What the item at a place is: it is that of a start of the section, and takes the bytes that its step goes, or it is padding.
-use Rattle.std.proofs.Common.{◌≡◌, ℕ, zero, suc, ◌+◌, ◌%◌, ◌<◌, ◌≤◌, ℤ, pos, negsuc, List, Bool, true, false, cond, Option, Some, None, refl, sym, ap, ◌∙◌, arith, eqb, ltb, eq-eqb}
+use Rattle.std.proofs.Common.{◌≡◌, ℕ, zero, suc, ◌+◌, ◌%◌, ◌<◌, ◌≤◌, ℤ, pos, negsuc, List, Bool, true, false, cond, Option, Some, None, refl, sym, ap, subst, ◌∙◌, arith, eqb, ltb, eq-eqb}
+use Rattle.std.specs.Prelude.{◌&&◌}
 use Rattle.std.specs.Option.{option_and_then, option_map_or}
 use Rattle.std.proofs.lemmas.Bool.{and_parts, eqb-true, lt-ltb, ltb-true}
-use Rattle.zc_base.specs.Fields.{word_in}
 use Rattle.zc_base.specs.declared.place.Place.{Place}
 use Rattle.elf32_read.specs.Parts.{ObjectParts, SectionParts, is_code_section}
 use Rattle.elf32_read.specs.declared.reloc.Reloc.{Reloc}
@@ -14,16 +14,17 @@ use Rattle.psabi_sym.specs.declared.target.Target.TheVariants.{Code, Number, Abs
 use Rattle.psabi_reloc.specs.Kinds.{field_length, kind_of, padding_length}
 use Rattle.psabi_reloc.specs.declared.kind.RelocKind.{RelocKind}
 use Rattle.psabi_reloc.specs.declared.kind.RelocKind.TheVariants as kind
-use Rattle.rv_decode.specs.Decode.{decoded}
 use Rattle.rv_decode.specs.declared.instr.Instr.{Instr}
 use Rattle.rv_decode.specs.declared.instr.Instr.TheVariants as instr
 use Rattle.block_cut.specs.declared.item.Item.{Item}
-use Rattle.block_cut.specs.declared.item.Item.TheVariants.{Branch, Jump, Align, Raw, RawPair}
-use Rattle.block_cut.specs.Items.{call_item, code_at, instr_item, item_at, item_from, item_in, item_of, item_under, known_item, of_instr, reloc_item, size_on, starts_on, target_away, target_of, to_place}
-use Rattle.block_cut.specs.PlainLayout.{after_item}
-use Rattle.block_cut.specs.Relocs.{field_of, fits_at, is_bad_kind, is_ignored, is_padding, reloc_on}
+use Rattle.block_cut.specs.declared.item.Item.TheVariants.{Branch, Jump, Align}
+use Rattle.block_cut.specs.Items.{call_item, code_at, instr_item, item_at, item_from, item_in, item_of, item_under, known_item, of_instr, raw_in, raw_pair, reloc_item, size_on, starts_on, target_away, target_of, to_place, transfer_item}
+use Rattle.block_cut.specs.PlainLayout.{after_item, padding_of}
+use Rattle.block_cut.specs.Units.{own_size, unit_of}
+use Rattle.block_cut.specs.Relocs.{field_of, fits_at, instr_in, is_bad_kind, is_filling, is_ignored, is_padding, reloc_on}
 use Rattle.psabi_sym.proofs.BlockLaws.{aligned_up-lt}
-use Rattle.block_cut.proofs.SoundLaws.{sound_at}
+use Rattle.block_cut.proofs.SoundLaws.{rvc_bad, sound_at}
+use Rattle.block_cut.proofs.UnitLaws.{unit_even}
 
 -- ---- the item at a place
 
@@ -61,41 +62,48 @@ item_at-none inputs q at = ap (option_and_then (item_from inputs q)) at
 
 -- ---- padding
 
--- padding of whole words has a power of two above it, from 8 to 256, and so has its relocation room
+-- padding of whole units has a power of two above it, from 4 to 256, and so has its relocation room
 pub record IsPadded (n : ℕ) : Type 0 where
-  pub some : 4 ≤ n
-  pub words : n % 4 ≡ 0
-  pub short : n ≤ 252
+  pub some : 2 ≤ n
+  pub even : n % 2 ≡ 0
+  pub short : n ≤ 254
   pub power : power_above n % 4 ≡ 0
   pub above : n < power_above n
   pub most : power_above n ≤ 256
 
-pub padded : (n : ℕ) → is_padding (pos n) ≡ true → IsPadded n
-padded n is =
+pub padded : (c : Bool) (n : ℕ) → is_padding c (pos n) ≡ true → IsPadded n
+padded c n is =
     let two = and_parts (ltb 0 n) _ is in
-    let rest = and_parts (ltb n 256) (eqb (n % 4) 0) two.1 in
-    let some = ltb-true 0 n two.0 in
+    let rest = and_parts (ltb n 256) (eqb (n % unit_of c) 0) two.1 in
     let short = ltb-true n 256 rest.0 in
-    let words : n % 4 ≡ 0 = eqb-true (n % 4) 0 rest.1 in
-    let power = powers n (ltb n 2) refl (ltb n 4) refl (ltb n 8) refl (ltb n 16) refl (ltb n 32) refl (ltb n 64) refl (ltb n 128) refl some short words in
-    record { some = omega arith; words = words; short = omega arith; power = power.0; above = power.1; most = power.2 }
+    let even : n % 2 ≡ 0 = unit_even c n (eqb-true (n % unit_of c) 0 rest.1) in
+    let some : 2 ≤ n = omega (arith, ltb-true 0 n two.0, even) in
+    let power = powers n (ltb n 2) refl (ltb n 4) refl (ltb n 8) refl (ltb n 16) refl (ltb n 32) refl (ltb n 64) refl (ltb n 128) refl some short in
+    record { some = some; even = even; short = omega (arith, short, even); power = power.0; above = power.1; most = power.2 }
   where
     powers : (n : ℕ) (b2 : Bool) → ltb n 2 ≡ b2 → (b4 : Bool) → ltb n 4 ≡ b4 → (b8 : Bool) → ltb n 8 ≡ b8 → (b16 : Bool) → ltb n 16 ≡ b16 → (b32 : Bool) → ltb n 32 ≡ b32 → (b64 : Bool) → ltb n 64 ≡ b64 → (b128 : Bool) → ltb n 128 ≡ b128
-        → 0 < n → n < 256 → n % 4 ≡ 0
+        → 2 ≤ n → n < 256
         → let p : ℕ = cond b2 2 (cond b4 4 (cond b8 8 (cond b16 16 (cond b32 32 (cond b64 64 (cond b128 128 256)))))) in (p % 4 ≡ 0) × (n < p) × (p ≤ 256)
-    powers n true e2 b4 e4 b8 e8 b16 e16 b32 e32 b64 e64 b128 e128 some short words = absurd (omega (arith, ltb-true n 2 e2))
-    powers n false e2 true e4 b8 e8 b16 e16 b32 e32 b64 e64 b128 e128 some short words = absurd (omega (arith, ltb-true n 4 e4))
-    powers n false e2 false e4 true e8 b16 e16 b32 e32 b64 e64 b128 e128 some short words = (refl, ltb-true n 8 e8, omega arith)
-    powers n false e2 false e4 false e8 true e16 b32 e32 b64 e64 b128 e128 some short words = (refl, ltb-true n 16 e16, omega arith)
-    powers n false e2 false e4 false e8 false e16 true e32 b64 e64 b128 e128 some short words = (refl, ltb-true n 32 e32, omega arith)
-    powers n false e2 false e4 false e8 false e16 false e32 true e64 b128 e128 some short words = (refl, ltb-true n 64 e64, omega arith)
-    powers n false e2 false e4 false e8 false e16 false e32 false e64 true e128 some short words = (refl, ltb-true n 128 e128, omega arith)
-    powers n false e2 false e4 false e8 false e16 false e32 false e64 false e128 some short words = (refl, short, omega arith)
+    powers n true e2 b4 e4 b8 e8 b16 e16 b32 e32 b64 e64 b128 e128 some short = absurd (omega (arith, ltb-true n 2 e2))
+    powers n false e2 true e4 b8 e8 b16 e16 b32 e32 b64 e64 b128 e128 some short = (refl, ltb-true n 4 e4, omega arith)
+    powers n false e2 false e4 true e8 b16 e16 b32 e32 b64 e64 b128 e128 some short = (refl, ltb-true n 8 e8, omega arith)
+    powers n false e2 false e4 false e8 true e16 b32 e32 b64 e64 b128 e128 some short = (refl, ltb-true n 16 e16, omega arith)
+    powers n false e2 false e4 false e8 false e16 true e32 b64 e64 b128 e128 some short = (refl, ltb-true n 32 e32, omega arith)
+    powers n false e2 false e4 false e8 false e16 false e32 true e64 b128 e128 some short = (refl, ltb-true n 64 e64, omega arith)
+    powers n false e2 false e4 false e8 false e16 false e32 false e64 true e128 some short = (refl, ltb-true n 128 e128, omega arith)
+    powers n false e2 false e4 false e8 false e16 false e32 false e64 false e128 some short = (refl, short, omega arith)
+
+pub filling : (c : Bool) (z : ℤ) → is_padding c z ≡ true → is_filling z ≡ true
+filling c (pos n) is =
+    let two = and_parts (ltb 0 n) _ is in
+    let rest = and_parts (ltb n 256) (eqb (n % unit_of c) 0) two.1 in
+    ap (λ b. b && ltb n 256) two.0 ∙ rest.0
+filling c (negsuc n) is = absurd cc
 
 -- ALIGN is the one type of its kind
 pub align_kind : (n : ℕ) → kind_of n ≡ Some kind.Align → n ≡ 43
 align_kind n is =
-    last (eqb n 43) refl
+    last (eqb n 43) (eqb n 44) (eqb n 45) refl
     (skip (eqb n 28) kind.Lo12S _ (λ e. cc) (skip (eqb n 27) kind.Lo12I _ (λ e. cc) (skip (eqb n 26) kind.Hi20 _ (λ e. cc)
     (skip (eqb n 25) kind.PcrelLo12S _ (λ e. cc) (skip (eqb n 24) kind.PcrelLo12I _ (λ e. cc) (skip (eqb n 23) kind.PcrelHi20 _ (λ e. cc)
     (skip (eqb n 19) kind.Call _ (λ e. cc) (skip (eqb n 18) kind.Call _ (λ e. cc) (skip (eqb n 17) kind.Jal _ (λ e. cc)
@@ -106,15 +114,17 @@ align_kind n is =
     skip true k rest other h = absurd (other h)
     skip false k rest other h = h
 
-    last : (b : Bool) → eqb n 43 ≡ b → cond b (Some kind.Align) None ≡ Some kind.Align → n ≡ 43
-    last true e h = eqb-true n 43 e
-    last false e h = absurd cc
+    last : (b c d : Bool) → eqb n 43 ≡ b → cond b (Some kind.Align) (cond c (Some kind.RvcBranch) (cond d (Some kind.RvcJump) None)) ≡ Some kind.Align → n ≡ 43
+    last true c d e h = eqb-true n 43 e
+    last false true d e h = absurd cc
+    last false false true e h = absurd cc
+    last false false false e h = absurd cc
 
 -- so the room of a relocation that asks for padding is that power
-room_is : (r : Reloc) (m : ℕ) → kind_of r.kind ≡ Some kind.Align → r.addend ≡ pos m → is_padding (pos m) ≡ true → reloc_room r ≡ power_above m
+room_is : (r : Reloc) (m : ℕ) → kind_of r.kind ≡ Some kind.Align → r.addend ≡ pos m → IsPadded m → reloc_room r ≡ power_above m
 unfolding reloc_room
 room_is r m align number padding =
-    ap (λ b. cond b (align_room r.addend) 0) (eq-eqb r.kind 43 (align_kind r.kind align)) ∙ ap align_room number ∙ by m (padded m padding)
+    ap (λ b. cond b (align_room r.addend) 0) (eq-eqb r.kind 43 (align_kind r.kind align)) ∙ ap align_room number ∙ by m padding
   where
     by : (m : ℕ) → IsPadded m → align_room (pos m) ≡ power_above m
     by zero is = absurd (omega (arith, is.some))
@@ -122,23 +132,31 @@ room_is r m align number padding =
 
 -- ---- sizes
 
--- an item takes so many bytes, or it is padding of so many
+-- an item takes the bytes of its step, or it is padding of so many
 pub data Takes (i : Item) (n : ℕ) : Type 0 where
-  Bytes : ((a : ℕ) → after_item a i ≡ a + n) → Takes i n
-  Padding : i ≡ Align n → is_padding (pos n) ≡ true → Takes i n
+  Bytes : padding_of i ≡ None → Takes i n
+  Padding : i ≡ Align n → IsPadded n → Takes i n
 
-word_takes : (objects : List ObjectParts) (q : Place) (word : ℕ) (a : ℕ) → after_item a (item_of objects q word) ≡ a + 4
-word_takes objects q word a = by (decoded word)
+-- what isn't padding goes on by its bytes
+pub after_plain : (a n : ℕ) (i : Item) → padding_of i ≡ None → after_item a n i ≡ a + n
+after_plain a n i is = ap (λ o. option_map_or (λ bytes. aligned_up (power_above bytes) a) o (a + n)) is
+
+-- what has no relocation isn't padding
+own_plain : (objects : List ObjectParts) (q : Place) (size : ℕ) (bytes : List ℕ) → padding_of (item_of objects q size bytes) ≡ None
+own_plain objects q size bytes = by (instr_in size bytes q.offset)
   where
-    jump : (o : Option Place) (f : Place → Item) → ((p : Place) → after_item a (f p) ≡ a + 4) → after_item a (option_map_or f o (Raw word)) ≡ a + 4
-    jump None f is = refl
-    jump (Some p) f is = is p
+    raw : Item
+    raw = raw_in size bytes q.offset
 
-    of : (i : Instr) → after_item a (instr_item objects q i word) ≡ a + 4
+    goes : (o : Option Place) (f : Place → Item) → ((p : Place) → padding_of (f p) ≡ None) → padding_of (option_map_or f o raw) ≡ None
+    goes None f is = refl
+    goes (Some p) f is = is p
+
+    of : (i : Instr) → padding_of (instr_item objects q i raw) ≡ None
     of (instr.Upper op rd imm) = refl
-    of (instr.Jal rd distance) = jump (target_away objects q distance) (Jump (instr.Jal rd (pos 0))) (λ p. refl)
+    of (instr.Jal rd distance) = goes (target_away objects q distance) (Jump rd) (λ p. refl)
     of (instr.Jalr rd base imm) = refl
-    of (instr.Branch op first second distance) = jump (target_away objects q distance) (Branch (instr.Branch op first second (pos 0))) (λ p. refl)
+    of (instr.Branch op first second distance) = goes (target_away objects q distance) (Branch op first second) (λ p. refl)
     of (instr.Load op rd base imm) = refl
     of (instr.Store op source base imm) = refl
     of (instr.WithImm op rd first imm) = refl
@@ -148,54 +166,66 @@ word_takes objects q word a = by (decoded word)
     of instr.Ebreak = refl
     of (instr.Csrrw rd source) = refl
 
-    by : (o : Option Instr) → after_item a (Rattle.block_cut.specs.Items.spelled objects q o word) ≡ a + 4
+    by : (o : Option Instr) → padding_of (Rattle.block_cut.specs.Items.spelled objects q o raw) ≡ None
     by None = refl
     by (Some i) = of i
 
-instr_takes : (o : Option Instr) (word : ℕ) (f : Instr → Item) → ((i : Instr) (a : ℕ) → after_item a (f i) ≡ a + 4) → (a : ℕ) → after_item a (of_instr o word f) ≡ a + 4
-instr_takes None word f is a = refl
-instr_takes (Some i) word f is a = is i a
+instr_plain : (o : Option Instr) (raw : Item) (f : Instr → Item) → padding_of raw ≡ None → ((i : Instr) → padding_of (f i) ≡ None) → padding_of (of_instr o raw f) ≡ None
+instr_plain None raw f stays is = stays
+instr_plain (Some i) raw f stays is = is i
 
-place_takes : (t : Target) (f : Place → Item) (other : Item) (n a : ℕ) → ((p : Place) → after_item a (f p) ≡ a + n) → after_item a other ≡ a + n → after_item a (to_place t f other) ≡ a + n
-place_takes (Code p) f other n a is stays = is p
-place_takes (Number k) f other n a is stays = stays
-place_takes (Absent k) f other n a is stays = stays
-place_takes Nowhere f other n a is stays = stays
+place_plain : (t : Target) (f : Place → Item) (other : Item) → ((p : Place) → padding_of (f p) ≡ None) → padding_of other ≡ None → padding_of (to_place t f other) ≡ None
+place_plain (Code p) f other is stays = is p
+place_plain (Number k) f other is stays = stays
+place_plain (Absent k) f other is stays = stays
+place_plain Nowhere f other is stays = stays
 
-call_takes : (first second : Option Instr) (one two : ℕ) (p : Place) (a : ℕ) → after_item a (call_item first second (RawPair one two) p) ≡ a + 8
-call_takes (Some (instr.Upper op temp upper)) (Some (instr.Jalr rd base lower)) one two p a = refl
-call_takes first second one two p a = refl
+transfer_plain : (i : Instr) (other : Item) (p : Place) → padding_of other ≡ None → padding_of (transfer_item i other p) ≡ None
+transfer_plain (instr.Upper op rd imm) other p is = is
+transfer_plain (instr.Jal rd distance) other p is = refl
+transfer_plain (instr.Jalr rd base imm) other p is = is
+transfer_plain (instr.Branch op first second distance) other p is = refl
+transfer_plain (instr.Load op rd base imm) other p is = is
+transfer_plain (instr.Store op source base imm) other p is = is
+transfer_plain (instr.WithImm op rd first imm) other p is = is
+transfer_plain (instr.WithReg op rd first second) other p is = is
+transfer_plain (instr.Fence rest) other p is = is
+transfer_plain instr.Ecall other p is = is
+transfer_plain instr.Ebreak other p is = is
+transfer_plain (instr.Csrrw rd source) other p is = is
+
+call_plain : (first second : Option Instr) (other : Item) (p : Place) → padding_of other ≡ None → padding_of (call_item first second other p) ≡ None
+call_plain (Some (instr.Upper op temp upper)) (Some (instr.Jalr rd base lower)) other p is = refl
+call_plain first second other p is = is
 
 -- the same of a relocation of a kind with an addend
 data TakesBy (k : Option RelocKind) (addend : ℤ) (i : Item) : Type 0 where
-  Field : ((a : ℕ) → after_item a i ≡ a + field_length k addend) → TakesBy k addend i
-  Fill : (m : ℕ) → k ≡ Some kind.Align → addend ≡ pos m → i ≡ Align m → is_padding (pos m) ≡ true → TakesBy k addend i
+  Field : padding_of i ≡ None → TakesBy k addend i
+  Fill : (m : ℕ) → k ≡ Some kind.Align → addend ≡ pos m → i ≡ Align m → IsPadded m → TakesBy k addend i
 
--- with a relocation an item takes the bytes that this changes
-reloc_takes : (s : SectionParts) (n : ℕ) (k : Option RelocKind) (addend : ℤ) (t : Target) (word second : ℕ) → is_ignored k ≡ false → is_bad_kind s k ≡ false → fits_at s n addend k ≡ true
-    → TakesBy k addend (known_item k addend t word second)
-reloc_takes s n None addend t word second asks known fits = absurd cc
-reloc_takes s n (Some kind.Ignored) addend t word second asks known fits = absurd cc
-reloc_takes s n (Some kind.Word) addend t word second asks known fits = Field (λ a. refl)
-reloc_takes s n (Some kind.Branch) addend t word second asks known fits =
-    Field (instr_takes (decoded word) word _ (λ i a. place_takes t _ (Raw word) 4 a (λ p. refl) refl))
-reloc_takes s n (Some kind.Jal) addend t word second asks known fits =
-    Field (instr_takes (decoded word) word _ (λ i a. place_takes t _ (Raw word) 4 a (λ p. refl) refl))
-reloc_takes s n (Some kind.Call) addend t word second asks known fits =
-    Field (λ a. place_takes t _ (RawPair word second) 8 a (λ p. call_takes (decoded word) (decoded second) word second p a) refl)
-reloc_takes s n (Some kind.PcrelHi20) addend t word second asks known fits = Field (instr_takes (decoded word) word _ (λ i a. refl))
-reloc_takes s n (Some kind.PcrelLo12I) addend t word second asks known fits =
-    Field (instr_takes (decoded word) word _ (λ i a. place_takes t _ (Raw word) 4 a (λ p. refl) refl))
-reloc_takes s n (Some kind.PcrelLo12S) addend t word second asks known fits =
-    Field (instr_takes (decoded word) word _ (λ i a. place_takes t _ (Raw word) 4 a (λ p. refl) refl))
-reloc_takes s n (Some kind.Hi20) addend t word second asks known fits = Field (instr_takes (decoded word) word _ (λ i a. refl))
-reloc_takes s n (Some kind.Lo12I) addend t word second asks known fits = Field (instr_takes (decoded word) word _ (λ i a. refl))
-reloc_takes s n (Some kind.Lo12S) addend t word second asks known fits = Field (instr_takes (decoded word) word _ (λ i a. refl))
-reloc_takes s n (Some kind.Align) addend t word second asks known fits = by addend fits
-  where
-    by : (z : ℤ) → is_padding z ≡ true → TakesBy (Some kind.Align) z (Align (padding_length z))
-    by (pos m) is = Fill m refl refl refl is
-    by (negsuc m) is = absurd cc
+module _ (s : SectionParts) (t : Target) (bytes : List ℕ) (n : ℕ) where
+  -- with a relocation an item takes the bytes that this changes
+  reloc_takes : (k : Option RelocKind) (addend : ℤ) → is_ignored k ≡ false → is_bad_kind s k ≡ false → fits_at s n addend k ≡ true
+      → TakesBy k addend (known_item k addend t bytes n)
+  reloc_takes None addend asks known fits = absurd cc
+  reloc_takes (Some kind.Ignored) addend asks known fits = absurd cc
+  reloc_takes (Some kind.Word) addend asks known fits = Field refl
+  reloc_takes (Some kind.Branch) addend asks known fits = Field (instr_plain (instr_in 4 bytes n) _ _ refl (λ i. place_plain t _ _ (λ p. transfer_plain i _ p refl) refl))
+  reloc_takes (Some kind.Jal) addend asks known fits = Field (instr_plain (instr_in 4 bytes n) _ _ refl (λ i. place_plain t _ _ (λ p. transfer_plain i _ p refl) refl))
+  reloc_takes (Some kind.Call) addend asks known fits = Field (place_plain t _ (raw_pair bytes n) (λ p. call_plain (instr_in 4 bytes n) (instr_in 4 bytes (n + 4)) _ p refl) refl)
+  reloc_takes (Some kind.PcrelHi20) addend asks known fits = Field (instr_plain (instr_in 4 bytes n) _ _ refl (λ i. refl))
+  reloc_takes (Some kind.PcrelLo12I) addend asks known fits = Field (instr_plain (instr_in 4 bytes n) _ _ refl (λ i. place_plain t _ _ (λ p. refl) refl))
+  reloc_takes (Some kind.PcrelLo12S) addend asks known fits = Field (instr_plain (instr_in 4 bytes n) _ _ refl (λ i. place_plain t _ _ (λ p. refl) refl))
+  reloc_takes (Some kind.Hi20) addend asks known fits = Field (instr_plain (instr_in 4 bytes n) _ _ refl (λ i. refl))
+  reloc_takes (Some kind.Lo12I) addend asks known fits = Field (instr_plain (instr_in 4 bytes n) _ _ refl (λ i. refl))
+  reloc_takes (Some kind.Lo12S) addend asks known fits = Field (instr_plain (instr_in 4 bytes n) _ _ refl (λ i. refl))
+  reloc_takes (Some kind.RvcBranch) addend asks known fits = absurd (rvc_bad s kind.RvcBranch refl known)
+  reloc_takes (Some kind.RvcJump) addend asks known fits = absurd (rvc_bad s kind.RvcJump refl known)
+  reloc_takes (Some kind.Align) addend asks known fits = by addend fits
+    where
+      by : (z : ℤ) → is_padding s.compressed z ≡ true → TakesBy (Some kind.Align) z (Align (padding_length z))
+      by (pos m) is = Fill m refl refl refl (padded s.compressed m is)
+      by (negsuc m) is = absurd cc
 
 -- the room that the relocation at an offset may take
 abbrev pub room_at : SectionParts → ℕ → ℕ
@@ -210,28 +240,31 @@ module _ (inputs : ParsedInputs) (s : SectionParts) (q : Place) (code : is_code_
       of k addend i (Field is) = Bytes is
       of k addend i (Fill m align number is padding) =
           let n : field_length k addend ≡ m = (λ j. field_length (align j) (number j)) in
-          Padding (is ∙ ap Align (sym n)) (ap (λ x. is_padding (pos x)) n ∙ padding)
+          Padding (is ∙ ap Align (sym n)) (subst IsPadded (sym n) padding)
 
-      by : (o : Option Reloc) → reloc_on s q.offset ≡ o → Takes (item_under inputs q o (word_in s.bytes q.offset) (word_in s.bytes (q.offset + 4))) (option_map_or field_of o 4)
-      by None is = Bytes (word_takes inputs.objects q (word_in s.bytes q.offset))
+      by : (o : Option Reloc) → reloc_on s q.offset ≡ o → Takes (item_under inputs q o (size_on s q.offset) s.bytes) (option_map_or field_of o (own_size s.compressed s.bytes q.offset))
+      by None is = Bytes (own_plain inputs.objects q (size_on s q.offset) s.bytes)
       by (Some r) is =
           let sound = sound_at s q.offset r code is in
           of (kind_of r.kind) r.addend _
-          (reloc_takes s q.offset (kind_of r.kind) r.addend (target_of inputs q.object r) (word_in s.bytes q.offset) (word_in s.bytes (q.offset + 4)) sound.asks sound.known sound.fits)
+          (reloc_takes s (target_of inputs q.object r) s.bytes q.offset (kind_of r.kind) r.addend sound.asks sound.known sound.fits)
 
   -- and in the plain layout no more than these and its relocation's room
-  pub item_fits : (a : ℕ) → after_item a (item_in inputs s q) ≤ a + size_on s q.offset + room_at s q.offset
+  pub item_fits : (a : ℕ) → after_item a (size_on s q.offset) (item_in inputs s q) ≤ a + size_on s q.offset + room_at s q.offset
   item_fits a = by (reloc_on s q.offset) refl
     where
-      of : (r : Reloc) (i : Item) → TakesBy (kind_of r.kind) r.addend i → after_item a i ≤ a + field_of r + reloc_room r
-      of r i (Field is) = omega (arith, is a)
+      own : ℕ
+      own = own_size s.compressed s.bytes q.offset
+
+      of : (r : Reloc) (i : Item) → TakesBy (kind_of r.kind) r.addend i → after_item a (field_of r) i ≤ a + field_of r + reloc_room r
+      of r i (Field is) = omega (arith, after_plain a (field_of r) i is)
       of r i (Fill m align number is padding) =
           let room : reloc_room r ≡ power_above m = room_is r m align number padding in
-          let up : after_item a i ≡ aligned_up (power_above m) a = ap (after_item a) is in
-          omega (arith, room, up, aligned_up-lt (power_above m) a, (padded m padding).above)
+          let up : after_item a (field_of r) i ≡ aligned_up (power_above m) a = ap (after_item a (field_of r)) is in
+          omega (arith, room, up, aligned_up-lt (power_above m) a, padding.above)
 
-      by : (o : Option Reloc) → reloc_on s q.offset ≡ o → after_item a (item_under inputs q o (word_in s.bytes q.offset) (word_in s.bytes (q.offset + 4))) ≤ a + option_map_or field_of o 4 + option_map_or reloc_room o 0
-      by None is = omega (arith, word_takes inputs.objects q (word_in s.bytes q.offset) a)
+      by : (o : Option Reloc) → reloc_on s q.offset ≡ o → after_item a (option_map_or field_of o own) (item_under inputs q o (size_on s q.offset) s.bytes) ≤ a + option_map_or field_of o own + option_map_or reloc_room o 0
+      by None is = omega (arith, after_plain a own (item_of inputs.objects q (size_on s q.offset) s.bytes) (own_plain inputs.objects q (size_on s q.offset) s.bytes))
       by (Some r) is =
           let sound = sound_at s q.offset r code is in
-          of r _ (reloc_takes s q.offset (kind_of r.kind) r.addend (target_of inputs q.object r) (word_in s.bytes q.offset) (word_in s.bytes (q.offset + 4)) sound.asks sound.known sound.fits)
+          of r _ (reloc_takes s (target_of inputs q.object r) s.bytes q.offset (kind_of r.kind) r.addend sound.asks sound.known sound.fits)

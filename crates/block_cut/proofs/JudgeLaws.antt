@@ -1,41 +1,109 @@
--- The first fault of all relocations: sections are looked at in order, and those before one have none.
-use Rattle.std.proofs.Common.{◌≡◌, ℕ, ◌+◌, ◌≤◌, length, map, Some, None, slice_get, sym, ap, ◌∙◌}
-use Rattle.elf32_read.specs.Parts.{ObjectParts, SectionParts}
+-- The first fault of relocations, by those that are decided: what asks for nothing has none, and what has a fault by itself has that.
+use Rattle.std.proofs.Common.{◌≡◌, ℕ, pos, List, [], ◌∷◌, map, filter, Bool, true, false, cond, Option, Some, None, refl, sym, ap, ◌∙◌}
+use Rattle.std.specs.Prelude.{◌&&◌, ◌||◌, not, nat_lt}
+use Rattle.std.specs.Option.{option_map, option_or}
+use Rattle.elf32_read.specs.Parts.{is_code_section}
 use Rattle.elf32_read.specs.declared.fault.Fault.{Fault}
+use Rattle.elf32_read.specs.declared.fault.Fault.TheVariants as fault
+use Rattle.elf32_read.specs.declared.reloc.Reloc.{Reloc}
+use Rattle.psabi_reloc.specs.Kinds.{kind_of}
+use Rattle.psabi_reloc.specs.declared.kind.RelocKind.{RelocKind}
+use Rattle.psabi_reloc.specs.declared.kind.RelocKind.TheVariants as kind
 use Rattle.psabi_sym.specs.Faults.{first_some}
 use Rattle.psabi_sym.specs.Inputs.{ParsedInputs}
-use Rattle.psabi_sym.specs.Listed.{all_sections, section_at, sections_before}
-use Rattle.block_cut.specs.Faults.{relocs_fault, section_fault}
-use Rattle.block_cut.specs.Judged.{IsFaultlessBefore}
-use Rattle.block_cut.proofs.FirstLaws.{none_after, some_after}
-use Rattle.block_cut.proofs.ListedLaws.{before_end, before_first, before_more, before_next, cut_at, listed}
+use Rattle.psabi_sym.specs.Listed.{ListedSection}
+use Rattle.psabi_sym.specs.Resolve.{resolved}
+use Rattle.block_cut.specs.Faults.{has_bad_target, if_so, is_bad_target, is_nothing, is_pair_at, lacks_pcrel_hi, reloc_fault, section_fault}
+use Rattle.block_cut.specs.Items.{target_of}
+use Rattle.block_cut.specs.Relocs.{field_end, is_bad_kind, is_bad_place, is_placed, overlaps_another, is_ignored, is_pcrel_lo, is_transfer}
+use Rattle.block_cut.specs.Resolved.{asks, fault_of, resolved_fault, resolved_reloc, resolved_relocs}
+use Rattle.block_cut.specs.declared.resolved_reloc.RelocFault.TheVariants.{Kind, Place, Pair}
 
-module _ (inputs : ParsedInputs) where
-  -- before the first section there is none
-  pub none_first : IsFaultlessBefore inputs 0 0
-  unfolding all_sections
-  none_first = ap (λ l. first_some (map (section_fault inputs) l)) (before_first inputs.objects 0)
+module _ (inputs : ParsedInputs) (l : ListedSection) where
+  -- what asks for nothing has no fault
+  ignored_none : (r : Reloc) → asks r ≡ false → reloc_fault inputs l r ≡ None
+  ignored_none r nothing = by (kind_of r.kind) refl nothing
+    where
+      by : (k : Option RelocKind) → kind_of r.kind ≡ k → not (is_ignored k) ≡ false → reloc_fault inputs l r ≡ None
+      by None is nothing = absurd cc
+      by (Some kind.Word) is nothing = absurd cc
+      by (Some kind.Branch) is nothing = absurd cc
+      by (Some kind.Jal) is nothing = absurd cc
+      by (Some kind.Call) is nothing = absurd cc
+      by (Some kind.PcrelHi20) is nothing = absurd cc
+      by (Some kind.PcrelLo12I) is nothing = absurd cc
+      by (Some kind.PcrelLo12S) is nothing = absurd cc
+      by (Some kind.Hi20) is nothing = absurd cc
+      by (Some kind.Lo12I) is nothing = absurd cc
+      by (Some kind.Lo12S) is nothing = absurd cc
+      by (Some kind.RvcBranch) is nothing = absurd cc
+      by (Some kind.RvcJump) is nothing = absurd cc
+      by (Some kind.Align) is nothing = absurd cc
+      by (Some kind.Ignored) is nothing = λ j. none (fine j) (place j) (pair j) (target j)
+        where
+          none : Bool → Bool → Bool → Bool → Option Fault
+          none a b c d = first_some (if_so a (fault.RelocKind l.index r.offset) ∷ if_so b (fault.RelocPlace l.index r.offset) ∷ if_so c (fault.LoPair l.index r.offset) ∷ if_so d (fault.BadTarget l.index r.offset) ∷ [])
 
-  module _ (o i : ℕ) (s : SectionParts) (found : section_at inputs.objects o i ≡ Some s) (none : IsFaultlessBefore inputs o i) where
-    -- with a section that has none there is none before the next
-    pub none_more : section_fault inputs (listed o i s) ≡ None → IsFaultlessBefore inputs o (i + 1)
-    none_more here =
-        ap (λ l. first_some (map (section_fault inputs) l)) (before_more inputs.objects o i s found)
-        ∙ none_after (section_fault inputs) (sections_before inputs.objects o i) (listed o i s) none here
+          bad : (b : Bool) → (not b && (not true && not false) || false) ≡ false
+          bad true = refl
+          bad false = refl
 
-    -- that of a section is the first
-    pub fault_here : (fault : ℕ × Fault) → section_fault inputs (listed o i s) ≡ Some fault → relocs_fault inputs ≡ Some fault
-    unfolding relocs_fault
-    fault_here fault here =
-        let cut = cut_at inputs.objects o i s found in
-        ap (λ l. first_some (map (section_fault inputs) l)) cut.all_are
-        ∙ some_after (section_fault inputs) (sections_before inputs.objects o i) (listed o i s) cut.rest fault none here
+          fine : is_bad_kind l.section (kind_of r.kind) ≡ false
+          fine = ap (is_bad_kind l.section) is ∙ bad (is_code_section l.section)
 
-  -- after an object's last section comes the next object
-  pub none_next_object : (o : ℕ) (object : ObjectParts) → slice_get inputs.objects o ≡ Some object → IsFaultlessBefore inputs o (length object.sections) → IsFaultlessBefore inputs (o + 1) 0
-  none_next_object o object at none = ap (λ l. first_some (map (section_fault inputs) l)) (sym (before_next inputs.objects o object at)) ∙ none
+          rest : Bool
+          rest = nat_lt l.section.size (field_end r) || (not (is_placed l.section r) || overlaps_another l.section.relocs r)
 
-  -- after all there is none
-  pub none_at_all : (o : ℕ) → length inputs.objects ≤ o → IsFaultlessBefore inputs o 0 → relocs_fault inputs ≡ None
-  unfolding relocs_fault
-  none_at_all o past none = ap (λ l. first_some (map (section_fault inputs) l)) (sym (before_end inputs.objects o past)) ∙ none
+          place : is_bad_place l.section r ≡ false
+          place = ap (λ k. not (is_ignored k) && rest) is
+
+          lone : Bool
+          lone = not (is_nothing r.addend) || not (is_pair_at l (resolved inputs l.object r.symbol (pos 0)))
+
+          pair : lacks_pcrel_hi inputs l r ≡ false
+          pair = ap (λ k. is_pcrel_lo k && lone) is
+
+          target : has_bad_target inputs l r ≡ false
+          target = ap (λ k. not (is_ignored k) && is_bad_target inputs.objects (is_transfer k) (target_of inputs l.object r)) is
+
+  -- what asks for something has what is wrong with it by itself, and else what is wrong with its target
+  resolved_is : (r : Reloc) → asks r ≡ true → resolved_fault inputs.objects l.index (resolved_reloc inputs l r) ≡ reloc_fault inputs l r
+  resolved_is r asked =
+      by (is_bad_kind l.section (kind_of r.kind)) (is_bad_place l.section r) (lacks_pcrel_hi inputs l r)
+      ∙ ap (λ b. first_some (
+      if_so (is_bad_kind l.section (kind_of r.kind)) (fault.RelocKind l.index r.offset)
+      ∷ if_so (is_bad_place l.section r) (fault.RelocPlace l.index r.offset)
+      ∷ if_so (lacks_pcrel_hi inputs l r) (fault.LoPair l.index r.offset)
+      ∷ if_so (b && leads) (fault.BadTarget l.index r.offset)
+      ∷ [])) (sym asked)
+    where
+      leads : Bool
+      leads = is_bad_target inputs.objects (is_transfer (kind_of r.kind)) (target_of inputs l.object r)
+
+      last : (b : Bool) → if_so b (fault.BadTarget l.index r.offset) ≡ option_or (if_so b (fault.BadTarget l.index r.offset)) None
+      last true = refl
+      last false = refl
+
+      by : (bad place pair : Bool) → fault_of (cond bad (Some Kind) (cond place (Some Place) (cond pair (Some Pair) None))) (if_so leads (fault.BadTarget l.index r.offset)) l.index r.offset
+          ≡ first_some (if_so bad (fault.RelocKind l.index r.offset) ∷ if_so place (fault.RelocPlace l.index r.offset) ∷ if_so pair (fault.LoPair l.index r.offset) ∷ if_so leads (fault.BadTarget l.index r.offset) ∷ [])
+      by true place pair = refl
+      by false true pair = refl
+      by false false true = refl
+      by false false false = last leads
+
+  -- so the first of a section is the first of those that are decided
+  pub first_resolved : first_some (map (resolved_fault inputs.objects l.index) (resolved_relocs inputs l)) ≡ first_some (map (reloc_fault inputs l) l.section.relocs)
+  first_resolved = all l.section.relocs
+    where
+      all : (rs : List Reloc) → first_some (map (resolved_fault inputs.objects l.index) (map (resolved_reloc inputs l) (filter asks rs))) ≡ first_some (map (reloc_fault inputs l) rs)
+      all [] = refl
+      all (r ∷ rs) = by (asks r) refl (all rs)
+        where
+          by : (b : Bool) → asks r ≡ b → first_some (map (resolved_fault inputs.objects l.index) (map (resolved_reloc inputs l) (filter asks rs))) ≡ first_some (map (reloc_fault inputs l) rs)
+              → first_some (map (resolved_fault inputs.objects l.index) (map (resolved_reloc inputs l) (cond b (r ∷ filter asks rs) (filter asks rs)))) ≡ option_or (reloc_fault inputs l r) (first_some (map (reloc_fault inputs l) rs))
+          by true asked rest = λ j. option_or (resolved_is r asked j) (rest j)
+          by false nothing rest = rest ∙ ap (λ o. option_or o (first_some (map (reloc_fault inputs l) rs))) (sym (ignored_none r nothing))
+
+  -- with its object's index
+  pub section_resolved : option_map {U = ℕ × Fault} (λ (f : Fault). (l.object, f)) (first_some (map (resolved_fault inputs.objects l.index) (resolved_relocs inputs l))) ≡ section_fault inputs l
+  section_resolved = ap (option_map {U = ℕ × Fault} (λ (f : Fault). (l.object, f))) first_resolved

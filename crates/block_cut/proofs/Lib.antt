@@ -3,7 +3,6 @@ pub mod DataLaws
 pub mod FaultLaws
 pub mod FieldLaws
 pub mod FirstLaws
-mod HeldLaws
 pub mod ItemLaws
 pub mod JudgeLaws
 pub mod LedLaws
@@ -12,6 +11,7 @@ pub mod PlaceLaws
 pub mod PlaceOrder
 pub mod PlainLaws
 pub mod ReachLaws
+pub mod ResolvedLaws
 pub mod RoomLaws
 pub mod SizeLaws
 pub mod SoundLaws
@@ -19,6 +19,7 @@ pub mod StartLaws
 pub mod TableLaws
 pub mod TakeLaws
 pub mod TextLaws
+pub mod UnitLaws
 pub mod WholeLaws
 pub mod WordLaws
-pub mod WordsLaws
+pub mod WordTables

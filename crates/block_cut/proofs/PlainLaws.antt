@@ -1,7 +1,7 @@
 -- Addresses in the plain layout. In inputs without a fault between objects:
 -- - `next_start`: the place after an item is where an item starts, or its section's end;
 -- - `next_address`: its address is the one after the item;
--- - `address_bounds`: addresses are multiples of 4, from the text's start to the plain end, which is 256 KiB away at most;
+-- - `address_bounds`: addresses are even, from the text's start to the plain end, which is 256 KiB away at most;
 -- - `rises`, `rises_past`: addresses rise with places, and what comes after an item lies past its bytes;
 -- - `apart`: two places with one address are the same, or the first of them is padding's or a section's end.
 use Rattle.std.proofs.Common.{◌≡◌, ℕ, ◌+◌, ◌-◌, ◌%◌, ◌<◌, ◌≤◌, ◌⊎◌, List, [], ◌∷◌, ◌++◌, length, filter, map, max, Bool, true, false, cond, Option, Some, None, refl, sym, ap, subst, ◌∙◌, arith, eqb, ltb, eq-eqb, inl, inr}
@@ -9,7 +9,6 @@ use Rattle.std.specs.Prelude.{◌||◌}
 use Rattle.std.specs.List.{fold}
 use Rattle.std.specs.Option.{option_map, option_map_or}
 use Rattle.std.proofs.lemmas.Bool.{cases_eq, cases_lt, eqb-true}
-use Rattle.std.proofs.lemmas.List.{map-append}
 use Rattle.std.proofs.lemmas.List.Sums.{fold-append}
 use Rattle.std.proofs.lemmas.Nat.Gcd.{dvd_of_mod-eq-zero}
 use Rattle.std.proofs.Math.Nat.{mod-mod_of_dvd}
@@ -23,13 +22,14 @@ use Rattle.psabi_sym.specs.Inputs.{Inputs, ParsedInputs, parsed}
 use Rattle.psabi_sym.specs.Listed.{ListedSection, all_sections, section_at, sections_before}
 use Rattle.block_cut.specs.declared.item.Item.{Item}
 use Rattle.block_cut.specs.declared.item.Item.TheVariants.{Align}
-use Rattle.block_cut.specs.Items.{code_at, is_end_at, is_start_at, is_target_at, item_at, item_in, next_at, place_of, size_on, starts_in, starts_on}
-use Rattle.block_cut.specs.PlainLayout.{address_on, after_item, after_items, items_before, plain_address, plain_end, plain_end_of, plain_start, section_begin, section_end}
-use Rattle.block_cut.proofs.ItemLaws.{IsItemAt, Takes, Bytes, Padding, item_found, item_takes, padded}
+use Rattle.block_cut.specs.Items.{code_at, is_end_at, is_start_at, is_target_at, item_at, item_in, next_at, place_of, size_at, size_on, starts_in, starts_on}
+use Rattle.block_cut.specs.PlainLayout.{address_on, after_item, after_start, after_starts, starts_before, plain_address, plain_end, plain_end_of, plain_start, section_begin, section_end}
+use Rattle.block_cut.proofs.ItemLaws.{IsItemAt, Takes, Bytes, Padding, after_plain, item_found, item_takes}
 use Rattle.block_cut.proofs.ListedLaws.{between, cut_at, listed}
 use Rattle.block_cut.proofs.PlaceOrder.{IsOrdered, Earlier, Within, ordered, same_or_before}
-use Rattle.block_cut.proofs.RoomLaws.{AreWhole, after_items-ge, aligned_up-ge, all_whole, ends-ge, items_in-code, plain_end-fits, section_end-code, section_end-other}
+use Rattle.block_cut.proofs.RoomLaws.{AreWhole, after_starts-ge, aligned_up-ge, all_whole, ends-ge, plain_end-fits, section_end-code, section_end-other}
 use Rattle.block_cut.proofs.StartLaws.{among_first, among_later, before_end_all, before_next_start, front, is_among, none_within, start_is, step}
+use Rattle.block_cut.proofs.UnitLaws.{unit_even}
 use Rattle.block_cut.proofs.WholeLaws.{code_is_section, code_whole}
 use Rattle.block_cut.specs.Whole.{IsWhole}
 
@@ -90,16 +90,17 @@ item_placed inputs q i found = place_address inputs q found.section found.code (
 -- ---- rounding up
 
 -- to a multiple of words
-pub aligned_up-words : (align at : ℕ) → align % 4 ≡ 0 → at % 4 ≡ 0 → aligned_up align at % 4 ≡ 0
+pub aligned_up-words : (align at : ℕ) → align % 4 ≡ 0 → at % 2 ≡ 0 → aligned_up align at % 2 ≡ 0
 unfolding aligned_up
 aligned_up-words align at words whole = elim (cases_eq align 0) [
-  | inl e ↦ ap (λ n. (at + (max 1 n - at % max 1 n) % max 1 n) % 4) e ∙ grind (arith, whole)
+  | inl e ↦ ap (λ n. (at + (max 1 n - at % max 1 n) % max 1 n) % 2) e ∙ grind (arith, whole)
   | inr ne ↦
       let some : max 1 align ≡ align = omega (arith, ne) in
-      let four = dvd_of_mod-eq-zero 4 words in
-      let one : at % align % 4 ≡ at % 4 = mod-mod_of_dvd 4 at four in
-      let two : (align - at % align) % align % 4 ≡ (align - at % align) % 4 = mod-mod_of_dvd 4 (align - at % align) four in
-      ap (λ n. (at + (n - at % n) % n) % 4) some ∙ omega (arith, one, two, words, whole, ne)
+      let even : align % 2 ≡ 0 = omega (arith, words) in
+      let half = dvd_of_mod-eq-zero 2 even in
+      let one : at % align % 2 ≡ at % 2 = mod-mod_of_dvd 2 at half in
+      let two : (align - at % align) % align % 2 ≡ (align - at % align) % 2 = mod-mod_of_dvd 2 (align - at % align) half in
+      ap (λ n. (at + (n - at % n) % n) % 2) some ∙ omega (arith, one, two, even, whole, ne)
 ]
 
 -- ---- addresses in a section
@@ -115,16 +116,15 @@ module _ (inputs : ParsedInputs) (q : Place) (s : SectionParts) (code : is_code_
 
   -- the address of an offset
   abbrev pub at_offset : ℕ → ℕ
-  at_offset n = after_items (plain_start inputs q.object q.section s) (items_before inputs (spot q s) n)
+  at_offset n = after_starts inputs (spot q s) (plain_start inputs q.object q.section s) (starts_before s n)
 
   -- after an item it is the one after the item
-  pub offset_next : (k : ℕ) → starts_on s k ≡ true → at_offset (k + size_on s k) ≡ after_item (at_offset k) (item_on k)
+  pub offset_next : (k : ℕ) → starts_on s k ≡ true → at_offset (k + size_on s k) ≡ after_item (at_offset k) (size_on s k) (item_on k)
   offset_next k start =
       let begin = plain_start inputs q.object q.section s in
       let before = filter (λ m. ltb m k) (starts_in s) in
-      ap (λ l. after_items begin (map item_on l)) (before_next_start s code whole k start)
-      ∙ ap (after_items begin) (map-append item_on before (k ∷ []))
-      ∙ fold-append after_item begin (map item_on before) (item_on k ∷ [])
+      ap (after_starts inputs (spot q s) begin) (before_next_start s code whole k start)
+      ∙ fold-append (after_start inputs (spot q s)) begin before (k ∷ [])
 
   -- it rises
   pub offset_rises : (m k : ℕ) → m ≤ k → at_offset m ≤ at_offset k
@@ -132,61 +132,59 @@ module _ (inputs : ParsedInputs) (q : Place) (s : SectionParts) (code : is_code_
       let begin = plain_start inputs q.object q.section s in
       let more = front s code whole m k le in
       let before = filter (λ j. ltb j m) (starts_in s) in
-      let is : at_offset k ≡ after_items (at_offset m) (map item_on more.rest) =
-      ap (λ l. after_items begin (map item_on l)) more.are ∙ ap (after_items begin) (map-append item_on before more.rest)
-      ∙ fold-append after_item begin (map item_on before) (map item_on more.rest) in
-      omega (arith, is, after_items-ge (at_offset m) (map item_on more.rest))
+      let is : at_offset k ≡ after_starts inputs (spot q s) (at_offset m) more.rest =
+      ap (after_starts inputs (spot q s) begin) more.are ∙ fold-append (after_start inputs (spot q s)) begin before more.rest in
+      omega (arith, is, after_starts-ge inputs (spot q s) (at_offset m) more.rest)
 
   -- the end's is where the section ends
   pub offset_end : at_offset (length s.bytes) ≡ section_end inputs (plain_end_of inputs (sections_before inputs.objects q.object q.section)) (spot q s)
   offset_end =
       let begin = plain_start inputs q.object q.section s in
-      ap (λ l. after_items begin (map item_on l)) (before_end_all s code whole)
-      ∙ sym (section_end-code inputs (plain_end_of inputs (sections_before inputs.objects q.object q.section)) (spot q s) code ∙ ap (after_items begin) (items_in-code inputs (spot q s) code))
+      ap (after_starts inputs (spot q s) begin) (before_end_all s code whole)
+      ∙ sym (section_end-code inputs (plain_end_of inputs (sections_before inputs.objects q.object q.section)) (spot q s) code)
 
-  -- an item keeps words
-  item_words : (k a : ℕ) → starts_on s k ≡ true → a % 4 ≡ 0 → after_item a (item_on k) % 4 ≡ 0
+  -- an item keeps addresses even
+  item_words : (k a : ℕ) → starts_on s k ≡ true → a % 2 ≡ 0 → after_item a (size_on s k) (item_on k) % 2 ≡ 0
   item_words k a start words = by (item_takes inputs s (place_of (spot q s) k) code)
     where
-      by : Takes (item_on k) (size_on s k) → after_item a (item_on k) % 4 ≡ 0
+      by : Takes (item_on k) (size_on s k) → after_item a (size_on s k) (item_on k) % 2 ≡ 0
       by (Bytes is) =
           let own = start_is s code whole k start in
           let st = step s code whole k own.words own.inside in
-          ap (λ n. n % 4) (is a) ∙ omega (arith, st.words, words)
-      by (Padding is padding) = ap (λ i. after_item a i % 4) is ∙ aligned_up-words (power_above (size_on s k)) a (padded (size_on s k) padding).power words
+          ap (λ n. n % 2) (after_plain a (size_on s k) (item_on k) is) ∙ omega (arith, unit_even s.compressed (size_on s k) st.words, words)
+      by (Padding is padding) = ap (λ i. after_item a (size_on s k) i % 2) is ∙ aligned_up-words (power_above (size_on s k)) a padding.power words
 
-  items_words : (xs : List ℕ) (p : ℕ → Bool) (a : ℕ) → ((k : ℕ) → is_among k xs ≡ true → starts_on s k ≡ true) → a % 4 ≡ 0 → after_items a (map item_on (filter p xs)) % 4 ≡ 0
-  items_words [] p a starts words = words
-  items_words (x ∷ xs) p a starts words =
-      by (p x) (items_words xs p a (λ k is. starts k (among_later x k xs is)) words)
-      (items_words xs p (after_item a (item_on x)) (λ k is. starts k (among_later x k xs is)) (item_words x a (starts x (among_first x x xs refl)) words))
+  starts_words : (xs : List ℕ) (p : ℕ → Bool) (a : ℕ) → ((k : ℕ) → is_among k xs ≡ true → starts_on s k ≡ true) → a % 2 ≡ 0 → after_starts inputs (spot q s) a (filter p xs) % 2 ≡ 0
+  starts_words [] p a starts words = words
+  starts_words (x ∷ xs) p a starts words =
+      by (p x) (starts_words xs p a (λ k is. starts k (among_later x k xs is)) words)
+      (starts_words xs p (after_start inputs (spot q s) a x) (λ k is. starts k (among_later x k xs is)) (item_words x a (starts x (among_first x x xs refl)) words))
     where
-      by : (b : Bool) → after_items a (map item_on (filter p xs)) % 4 ≡ 0 → after_items (after_item a (item_on x)) (map item_on (filter p xs)) % 4 ≡ 0 → after_items a (map item_on (cond b (x ∷ filter p xs) (filter p xs))) % 4 ≡ 0
+      by : (b : Bool) → after_starts inputs (spot q s) a (filter p xs) % 2 ≡ 0 → after_starts inputs (spot q s) (after_start inputs (spot q s) a x) (filter p xs) % 2 ≡ 0 → after_starts inputs (spot q s) a (cond b (x ∷ filter p xs) (filter p xs)) % 2 ≡ 0
       by true skip keep = keep
       by false skip keep = skip
 
-  -- each address is a multiple of 4 if the section begins at one
-  pub offset_words : (n : ℕ) → plain_end_of inputs (sections_before inputs.objects q.object q.section) % 4 ≡ 0 → at_offset n % 4 ≡ 0
+  -- each address is even if the section begins at an even one
+  pub offset_words : (n : ℕ) → plain_end_of inputs (sections_before inputs.objects q.object q.section) % 2 ≡ 0 → at_offset n % 2 ≡ 0
   offset_words n words =
-      items_words (starts_in s) (λ m. ltb m n) (plain_start inputs q.object q.section s) (λ k is. is)
+      starts_words (starts_in s) (λ m. ltb m n) (plain_start inputs q.object q.section s) (λ k is. is)
       (aligned_up-words (max 4 s.align) (plain_end_of inputs (sections_before inputs.objects q.object q.section)) whole.aligned words)
 
 -- ---- all sections
 
--- sections end at words
-ends_words : (inputs : ParsedInputs) (a : ℕ) (ls : List ListedSection) → AreWhole ls → a % 4 ≡ 0 → fold (section_end inputs) a ls % 4 ≡ 0
+-- sections end at even addresses
+ends_words : (inputs : ParsedInputs) (a : ℕ) (ls : List ListedSection) → AreWhole ls → a % 2 ≡ 0 → fold (section_end inputs) a ls % 2 ≡ 0
 ends_words inputs a [] whole words = words
 ends_words inputs a (l ∷ ls) whole words = ends_words inputs (section_end inputs a l) ls whole.1 (by (is_code_section l.section) refl)
   where
-    by : (b : Bool) → is_code_section l.section ≡ b → section_end inputs a l % 4 ≡ 0
+    by : (b : Bool) → is_code_section l.section ≡ b → section_end inputs a l % 2 ≡ 0
     by true code =
         let s = l.section in
         let q : Place = place_of l 0 in
-        ap (λ n. n % 4)
-        (section_end-code inputs a l code
-        ∙ ap (after_items (section_begin a s)) (items_in-code inputs l code ∙ ap (map (λ m. item_in inputs s (place_of l m))) (sym (before_end_all s code (whole.0 code)))))
-        ∙ items_words inputs q s code (whole.0 code) (starts_in s) (λ m. ltb m (length s.bytes)) (section_begin a s) (λ k is. is) (aligned_up-words (max 4 s.align) a (whole.0 code).aligned words)
-    by false other = ap (λ n. n % 4) (section_end-other inputs a l other) ∙ words
+        ap (λ n. n % 2)
+        (section_end-code inputs a l code ∙ ap (after_starts inputs l (section_begin a s)) (sym (before_end_all s code (whole.0 code))))
+        ∙ starts_words inputs q s code (whole.0 code) (starts_in s) (λ m. ltb m (length s.bytes)) (section_begin a s) (λ k is. is) (aligned_up-words (max 4 s.align) a (whole.0 code).aligned words)
+    by false other = ap (λ n. n % 2) (section_end-other inputs a l other) ∙ words
 
 pub whole_before : (first second : List ListedSection) → AreWhole (first ++ second) → AreWhole first
 whole_before [] second whole = tt
@@ -203,7 +201,7 @@ pub record IsHere (inputs : ParsedInputs) (q : Place) (a : ℕ) : Type 0 where
   pub whole : IsWhole section
   pub target : (starts_on section q.offset ≡ true) ⊎ (q.offset ≡ length section.bytes)
   pub inside : q.offset ≤ length section.bytes
-  pub words : q.offset % 4 ≡ 0
+  pub words : q.offset % 2 ≡ 0
   pub address : address_on inputs q section ≡ a
 
 -- two places have the same address, and what is to be said of it: they are one, or the first of them takes no room
@@ -229,9 +227,9 @@ module _ (inputs : Inputs) (none : gather_fault inputs ≡ None) where
       let place = lies at.section two.1 whole at.target in
       record { section = at.section; code = at.code; found = two.0; code_is = two.1; whole = whole; target = at.target; inside = place.0; words = place.1; address = at.address }
     where
-      lies : (s : SectionParts) → is_code_section s ≡ true → IsWhole s → (starts_on s q.offset ≡ true) ⊎ (q.offset ≡ length s.bytes) → (q.offset ≤ length s.bytes) × (q.offset % 4 ≡ 0)
-      lies s code whole (inl start) = let own = start_is s code whole q.offset start in (omega (arith, own.inside), own.words)
-      lies s code whole (inr end) = (omega (arith, end), ap (λ n. n % 4) end ∙ whole.words)
+      lies : (s : SectionParts) → is_code_section s ≡ true → IsWhole s → (starts_on s q.offset ≡ true) ⊎ (q.offset ≡ length s.bytes) → (q.offset ≤ length s.bytes) × (q.offset % 2 ≡ 0)
+      lies s code whole (inl start) = let own = start_is s code whole q.offset start in (omega (arith, own.inside), unit_even s.compressed q.offset own.words)
+      lies s code whole (inr end) = (omega (arith, end), ap (λ n. n % 2) end ∙ unit_even s.compressed (length s.bytes) whole.words)
 
   -- ---- the next place
 
@@ -244,6 +242,7 @@ module _ (inputs : Inputs) (none : gather_fault inputs ≡ None) where
     pub start : starts_on section q.offset ≡ true
     pub item : item_in (parsed inputs) section q ≡ i
     pub next : next_at objects q ≡ record q { offset = q.offset + size_on section q.offset }
+    pub size : size_at objects q ≡ size_on section q.offset
     pub target : (starts_on section (q.offset + size_on section q.offset) ≡ true) ⊎ (q.offset + size_on section q.offset ≡ length section.bytes)
 
   pub item_here : (q : Place) (i : Item) → item_at (parsed inputs) q ≡ Some i → IsItemHere q i
@@ -260,6 +259,7 @@ module _ (inputs : Inputs) (none : gather_fault inputs ≡ None) where
         start = found.start;
         item = found.item;
         next = ap (λ o. record q { offset = q.offset + option_map_or (λ t. size_on t q.offset) o 4 }) found.code;
+        size = ap (λ o. option_map_or (λ t. size_on t q.offset) o 4) found.code;
         target = (start_is s two.1 whole q.offset found.start).next;
       }
 
@@ -275,14 +275,14 @@ module _ (inputs : Inputs) (none : gather_fault inputs ≡ None) where
       by s at (inr end) = inr (ap (λ o. option_map_or (λ t. eqb (q.offset + size_on s q.offset) (length t.bytes)) o false) at ∙ eq-eqb (q.offset + size_on s q.offset) (length s.bytes) end)
 
   -- its address is the one after the item
-  pub next_address : (q : Place) (i : Item) (a : ℕ) → item_at (parsed inputs) q ≡ Some i → plain_address (parsed inputs) q ≡ Some a → plain_address (parsed inputs) (next_at objects q) ≡ Some (after_item a i)
+  pub next_address : (q : Place) (i : Item) (a : ℕ) → item_at (parsed inputs) q ≡ Some i → plain_address (parsed inputs) q ≡ Some a → plain_address (parsed inputs) (next_at objects q) ≡ Some (after_item a (size_at objects q) i)
   next_address q i a is address =
       let at = item_here q i is in
       let s = at.section in
       let same : address_on (parsed inputs) q s ≡ a = cc (place_address (parsed inputs) q s at.code (inl at.start), address) in
       ap (plain_address (parsed inputs)) at.next
       ∙ place_address (parsed inputs) (record q { offset = q.offset + size_on s q.offset }) s at.code at.target
-      ∙ ap Some (offset_next (parsed inputs) q s at.code_is at.whole q.offset at.start ∙ (λ j. after_item (same j) (at.item j)))
+      ∙ ap Some (offset_next (parsed inputs) q s at.code_is at.whole q.offset at.start ∙ (λ j. after_item (same j) (sym at.size j) (at.item j)))
 
   -- ---- bounds
 
@@ -290,10 +290,10 @@ module _ (inputs : Inputs) (none : gather_fault inputs ≡ None) where
     pub low : inputs.map.text ≤ a
     pub high : a ≤ plain_end (parsed inputs)
     pub few : a ≤ inputs.map.text + 0x4_0000
-    pub words : a % 4 ≡ 0
+    pub words : a % 2 ≡ 0
 
   -- the code before a section ends at a word, at the text's start or after it
-  before_words : IsMap inputs.map → (q : Place) (s : SectionParts) → section_at objects q.object q.section ≡ Some s → plain_end_of (parsed inputs) (sections_before objects q.object q.section) % 4 ≡ 0
+  before_words : IsMap inputs.map → (q : Place) (s : SectionParts) → section_at objects q.object q.section ≡ Some s → plain_end_of (parsed inputs) (sections_before objects q.object q.section) % 2 ≡ 0
   before_words map q s found =
       let cut = cut_at objects q.object q.section s found in
       ends_words (parsed inputs) inputs.map.text (sections_before objects q.object q.section)
@@ -320,7 +320,7 @@ module _ (inputs : Inputs) (none : gather_fault inputs ≡ None) where
       let rises = offset_rises (parsed inputs) q s at.code_is at.whole q.offset (length s.bytes) at.inside in
       let end = offset_end (parsed inputs) q s at.code_is at.whole in
       let last = section_ends q.object q.section s at.found in (
-        omega (arith, at.address, ends-ge (parsed inputs) inputs.map.text (sections_before objects q.object q.section), aligned_up-ge (max 4 s.align) before, after_items-ge begin (items_before (parsed inputs) (spot q s) q.offset)),
+        omega (arith, at.address, ends-ge (parsed inputs) inputs.map.text (sections_before objects q.object q.section), aligned_up-ge (max 4 s.align) before, after_starts-ge (parsed inputs) (spot q s) begin (starts_before s q.offset)),
         omega (arith, at.address, rises, end, last),
       )
 
@@ -333,14 +333,14 @@ module _ (inputs : Inputs) (none : gather_fault inputs ≡ None) where
         low = range.0;
         high = range.1;
         few = omega (arith, range.1, plain_end-fits inputs none);
-        words = ap (λ n. n % 4) (sym at.address) ∙ offset_words (parsed inputs) q at.section at.code_is at.whole q.offset (before_words map q at.section at.found);
+        words = ap (λ n. n % 2) (sym at.address) ∙ offset_words (parsed inputs) q at.section at.code_is at.whole q.offset (before_words map q at.section at.found);
       }
 
   -- all code ends at a word, near the text's start
   pub record IsEnd (a : ℕ) : Type 0 where
     pub low : inputs.map.text ≤ a
     pub few : a ≤ inputs.map.text + 0x4_0000
-    pub words : a % 4 ≡ 0
+    pub words : a % 2 ≡ 0
 
   pub end_bounds : IsMap inputs.map → IsEnd (plain_end (parsed inputs))
   unfolding plain_end
@@ -367,7 +367,7 @@ module _ (inputs : Inputs) (none : gather_fault inputs ≡ None) where
         all,
         ends-ge (parsed inputs) end more.rest,
         aligned_up-ge (max 4 t.align) (plain_end_of (parsed inputs) (sections_before objects r.object r.section)),
-        after_items-ge begin (items_before (parsed inputs) (spot r t) r.offset),
+        after_starts-ge (parsed inputs) (spot r t) begin (starts_before t r.offset),
       )
 
   -- a place that comes later has no lesser address
@@ -392,7 +392,7 @@ module _ (inputs : Inputs) (none : gather_fault inputs ≡ None) where
           omega (arith, at.address, to.address, moved, offset_rises (parsed inputs) q at.section at.code_is at.whole q.offset r.offset (omega (arith, lt)))
 
   -- and what comes after an item lies past its bytes
-  pub rises_past : (q r : Place) (i : Item) (a b : ℕ) → is_before q r ≡ true → item_at (parsed inputs) q ≡ Some i → plain_address (parsed inputs) q ≡ Some a → plain_address (parsed inputs) r ≡ Some b → after_item a i ≤ b
+  pub rises_past : (q r : Place) (i : Item) (a b : ℕ) → is_before q r ≡ true → item_at (parsed inputs) q ≡ Some i → plain_address (parsed inputs) q ≡ Some a → plain_address (parsed inputs) r ≡ Some b → after_item a (size_at objects q) i ≤ b
   rises_past q r i a b before is one two = by (here q a one) (item_here q i is) (here r b two) (ordered q r before)
     where
       past : (s : SectionParts) → is_code_section s ≡ true → IsWhole s → starts_on s q.offset ≡ true → q.offset < r.offset → (starts_on s r.offset ≡ true) ⊎ (r.offset ≡ length s.bytes) → q.offset + size_on s q.offset ≤ r.offset
@@ -404,7 +404,7 @@ module _ (inputs : Inputs) (none : gather_fault inputs ≡ None) where
           let own = start_is s code whole q.offset start in
           omega (arith, end, (step s code whole q.offset own.words own.inside).inside)
 
-      by : IsHere (parsed inputs) q a → IsItemHere q i → IsHere (parsed inputs) r b → IsOrdered q r → after_item a i ≤ b
+      by : IsHere (parsed inputs) q a → IsItemHere q i → IsHere (parsed inputs) r b → IsOrdered q r → after_item a (size_at objects q) i ≤ b
       by at own to (Earlier order) =
           let s = own.section in
           let same : at.section ≡ s = cc (sym at.code ∙ own.code) in
@@ -412,7 +412,7 @@ module _ (inputs : Inputs) (none : gather_fault inputs ≡ None) where
           let st = step s own.code_is own.whole q.offset start.words start.inside in
           let next = offset_next (parsed inputs) q s own.code_is own.whole q.offset own.start in
           let here_is : address_on (parsed inputs) q s ≡ a = ap (address_on (parsed inputs) q) (sym same) ∙ at.address in
-          let after : after_item a i ≡ at_offset (parsed inputs) q s own.code_is own.whole (q.offset + size_on s q.offset) = sym (next ∙ (λ j. after_item (here_is j) (own.item j))) in
+          let after : after_item a (size_at objects q) i ≡ at_offset (parsed inputs) q s own.code_is own.whole (q.offset + size_on s q.offset) = sym (next ∙ (λ j. after_item (here_is j) (sym own.size j) (own.item j))) in
           omega (
             arith,
             after,
@@ -427,7 +427,7 @@ module _ (inputs : Inputs) (none : gather_fault inputs ≡ None) where
           let same : s ≡ to.section = cc (sym own.code ∙ (λ j. code_at objects (record { object = object j; section = section j; offset = 0 })) ∙ to.code) in
           let next = offset_next (parsed inputs) q s own.code_is own.whole q.offset own.start in
           let here_is : address_on (parsed inputs) q s ≡ a = ap (address_on (parsed inputs) q) (sym first) ∙ at.address in
-          let after : after_item a i ≡ at_offset (parsed inputs) q s own.code_is own.whole (q.offset + size_on s q.offset) = sym (next ∙ (λ j. after_item (here_is j) (own.item j))) in
+          let after : after_item a (size_at objects q) i ≡ at_offset (parsed inputs) q s own.code_is own.whole (q.offset + size_on s q.offset) = sym (next ∙ (λ j. after_item (here_is j) (sym own.size j) (own.item j))) in
           let moved : address_on (parsed inputs) r to.section ≡ at_offset (parsed inputs) q s own.code_is own.whole r.offset =
           λ j. address_on (parsed inputs) (record { object = sym object j; section = sym section j; offset = r.offset }) (sym same j) in
           let over : q.offset + size_on s q.offset ≤ r.offset =
@@ -442,7 +442,7 @@ module _ (inputs : Inputs) (none : gather_fault inputs ≡ None) where
       takes i is own (Bytes bytes) =
           let start = start_is own.section own.code_is own.whole q.offset own.start in
           let st = step own.section own.code_is own.whole q.offset start.words start.inside in
-          absurd (omega (arith, bytes a, st.some, rises_past q r i a a before is one two))
+          absurd (omega (arith, after_plain a (size_at objects q) i bytes, own.size, st.some, rises_past q r i a a before is one two))
       takes i is own (Padding padding p) = InPadding (size_on own.section q.offset) (is ∙ ap Some padding)
 
       by : (o : Option Item) → item_at (parsed inputs) q ≡ o → IsFlat (parsed inputs) q

@@ -27,10 +27,10 @@ use Rattle.psabi_sym.proofs.BridgeLaws.{map-map}
 use Rattle.psabi_sym.proofs.Gathered.{all_none}
 use Rattle.psabi_sym.proofs.PlaceLaws.{code_is}
 use Rattle.block_cut.specs.declared.item.Item.{Item}
-use Rattle.block_cut.specs.declared.item.Item.TheVariants.{Op, Hi, Lo, PcHi, PcLo, Branch, Jump, Call, Align, Word, Raw, RawPair}
 use Rattle.block_cut.specs.Items.{item_in, items_in, place_of, size_on, starts_in}
-use Rattle.block_cut.specs.PlainLayout.{after_item, after_items, plain_end, section_begin, section_end}
+use Rattle.block_cut.specs.PlainLayout.{after_item, after_start, after_starts, padding_of, plain_end, section_begin, section_end}
 use Rattle.block_cut.specs.Relocs.{is_sound, reloc_on}
+use Rattle.block_cut.specs.Units.{unit_of}
 use Rattle.block_cut.proofs.ItemLaws.{item_fits, room_at}
 use Rattle.block_cut.proofs.ListedLaws.{listed}
 use Rattle.block_cut.proofs.StartLaws.{Above, IsStep, along}
@@ -143,7 +143,7 @@ module _ (s : SectionParts) (code : is_code_section s ≡ true) (whole : IsWhole
   own_room_once : (at room : ℕ) → sum_by (own_room at room) (starts_in s) ≤ room
   own_room_once at room = along s code whole (λ n xs. sum_by (own_room at room) xs ≤ room) (omega arith) each
     where
-      each : (n : ℕ) (xs : List ℕ) → n < length s.bytes → n % 4 ≡ 0 → IsStep s n → Above (n + size_on s n) xs → sum_by (own_room at room) xs ≤ room → sum_by (own_room at room) (n ∷ xs) ≤ room
+      each : (n : ℕ) (xs : List ℕ) → n < length s.bytes → n % unit_of s.compressed ≡ 0 → IsStep s n → Above (n + size_on s n) xs → sum_by (own_room at room) xs ≤ room → sum_by (own_room at room) (n ∷ xs) ≤ room
       each n xs lt words st above rest = by (eqb at n) refl
         where
           by : (b : Bool) → eqb at n ≡ b → sum_by (own_room at room) (n ∷ xs) ≤ room
@@ -174,16 +174,16 @@ module _ (s : SectionParts) (code : is_code_section s ≡ true) (whole : IsWhole
   -- ---- sections
 
   -- items from a start on take no more than the bytes that are left, and the rooms
-  pub items_fit : (inputs : ParsedInputs) (l : ListedSection) (a : ℕ) → after_items a (map (λ m. item_in inputs s (place_of l m)) (starts_in s)) ≤ a + length s.bytes + sum_by reloc_room s.relocs
-  items_fit inputs l a = omega (arith, all a, rooms_fit)
+  pub items_fit : (inputs : ParsedInputs) (o i a : ℕ) → after_starts inputs (listed o i s) a (starts_in s) ≤ a + length s.bytes + sum_by reloc_room s.relocs
+  items_fit inputs o i a = omega (arith, all a, rooms_fit)
     where
-      f : ℕ → Item
-      f m = item_in inputs s (place_of l m)
+      l : ListedSection
+      l = listed o i s
 
-      all : (a : ℕ) → after_items a (map (λ m. item_in inputs s (place_of l m)) (starts_in s)) + 0 ≤ a + length s.bytes + sum_by (room_at s) (starts_in s)
-      all = along s code whole (λ n xs. (a : ℕ) → after_items a (map (λ m. item_in inputs s (place_of l m)) xs) + n ≤ a + length s.bytes + sum_by (room_at s) xs)
+      all : (a : ℕ) → after_starts inputs (listed o i s) a (starts_in s) + 0 ≤ a + length s.bytes + sum_by (room_at s) (starts_in s)
+      all = along s code whole (λ n xs. (a : ℕ) → after_starts inputs (listed o i s) a xs + n ≤ a + length s.bytes + sum_by (room_at s) xs)
           (λ a. omega arith)
-          (λ n xs lt words st above rest a. omega (arith, rest (after_item a (item_in inputs s (place_of l n))), item_fits inputs s (place_of l n) code a, sum_by-cons (room_at s) n xs))
+          (λ n xs lt words st above rest a. omega (arith, rest (after_start inputs (listed o i s) a n), item_fits inputs s (place_of (listed o i s) n) code a, sum_by-cons (room_at s) n xs))
 
 -- rounding up doesn't go back
 pub aligned_up-ge : (align at : ℕ) → at ≤ aligned_up align at
@@ -191,23 +191,17 @@ unfolding aligned_up
 aligned_up-ge align at = grind arith
 
 -- nor does an item
-pub after_item-ge : (a : ℕ) (i : Item) → a ≤ after_item a i
-after_item-ge a (Op i) = omega arith
-after_item-ge a (Hi i t) = omega arith
-after_item-ge a (Lo i t) = omega arith
-after_item-ge a (PcHi i t) = omega arith
-after_item-ge a (PcLo i from) = omega arith
-after_item-ge a (Branch i to) = omega arith
-after_item-ge a (Jump i to) = omega arith
-after_item-ge a (Call rd temp to) = omega arith
-after_item-ge a (Align bytes) = aligned_up-ge (power_above bytes) a
-after_item-ge a (Word t) = omega arith
-after_item-ge a (Raw word) = omega arith
-after_item-ge a (RawPair first second) = omega arith
+pub after_item-ge : (a n : ℕ) (i : Item) → a ≤ after_item a n i
+after_item-ge a n i = by (padding_of i)
+  where
+    by : (o : Option ℕ) → a ≤ option_map_or (λ bytes. aligned_up (power_above bytes) a) o (a + n)
+    by None = omega arith
+    by (Some bytes) = aligned_up-ge (power_above bytes) a
 
-pub after_items-ge : (a : ℕ) (items : List Item) → a ≤ after_items a items
-after_items-ge a [] = omega arith
-after_items-ge a (i ∷ is) = omega (arith, after_item-ge a i, after_items-ge (after_item a i) is)
+pub after_starts-ge : (inputs : ParsedInputs) (l : ListedSection) (a : ℕ) (ns : List ℕ) → a ≤ after_starts inputs l a ns
+after_starts-ge inputs l a [] = omega arith
+after_starts-ge inputs l a (n ∷ ns) =
+    omega (arith, after_item-ge a (size_on l.section n) (item_in inputs l.section (place_of l n)), after_starts-ge inputs l (after_start inputs l a n) ns)
 
 -- the items of a section of code are those of its starts
 pub items_in-code : (inputs : ParsedInputs) (l : ListedSection) → is_code_section l.section ≡ true → items_in inputs l ≡ map (λ m. item_in inputs l.section (place_of l m)) (starts_in l.section)
@@ -217,18 +211,18 @@ items_in-code inputs l code =
 pub items_in-other : (inputs : ParsedInputs) (l : ListedSection) → is_code_section l.section ≡ false → items_in inputs l ≡ []
 items_in-other inputs l other = ap (λ b. map (item_in inputs l.section) (cond b (map (place_of l) (starts_in l.section)) [])) other
 
-pub section_end-code : (inputs : ParsedInputs) (a : ℕ) (l : ListedSection) → is_code_section l.section ≡ true → section_end inputs a l ≡ after_items (section_begin a l.section) (items_in inputs l)
-section_end-code inputs a l code = ap (λ b. cond b (after_items (section_begin a l.section) (items_in inputs l)) a) code
+pub section_end-code : (inputs : ParsedInputs) (a : ℕ) (l : ListedSection) → is_code_section l.section ≡ true → section_end inputs a l ≡ after_starts inputs l (section_begin a l.section) (starts_in l.section)
+section_end-code inputs a l code = ap (λ b. cond b (after_starts inputs l (section_begin a l.section) (starts_in l.section)) a) code
 
 pub section_end-other : (inputs : ParsedInputs) (a : ℕ) (l : ListedSection) → is_code_section l.section ≡ false → section_end inputs a l ≡ a
-section_end-other inputs a l other = ap (λ b. cond b (after_items (section_begin a l.section) (items_in inputs l)) a) other
+section_end-other inputs a l other = ap (λ b. cond b (after_starts inputs l (section_begin a l.section) (starts_in l.section)) a) other
 
 pub section_end-ge : (inputs : ParsedInputs) (a : ℕ) (l : ListedSection) → a ≤ section_end inputs a l
 section_end-ge inputs a l = by (is_code_section l.section) refl
   where
     by : (b : Bool) → is_code_section l.section ≡ b → a ≤ section_end inputs a l
     by true code =
-        omega (arith, section_end-code inputs a l code, aligned_up-ge (max 4 l.section.align) a, after_items-ge (section_begin a l.section) (items_in inputs l))
+        omega (arith, section_end-code inputs a l code, aligned_up-ge (max 4 l.section.align) a, after_starts-ge inputs l (section_begin a l.section) (starts_in l.section))
     by false other = omega (arith, section_end-other inputs a l other)
 
 pub ends-ge : (inputs : ParsedInputs) (a : ℕ) (ls : List ListedSection) → a ≤ fold (section_end inputs) a ls
@@ -277,8 +271,7 @@ section_end_fits inputs a l whole = by (is_code_section l.section) refl
         omega (
           arith,
           section_end-code inputs a l code,
-          ap (after_items begin) (items_in-code inputs l code),
-          items_fit s code (whole code) inputs l begin,
+          items_fit s code (whole code) inputs l.object l.index begin,
           aligned_up-lt (max 4 s.align) a,
           code_room_is s code,
           (whole code).bytes,

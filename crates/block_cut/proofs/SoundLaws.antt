@@ -1,4 +1,4 @@
--- What a sound relocation in code is: it stands at a word, and changes whole words of its section.
+-- What a sound relocation in code is: it stands at a unit, and changes whole units of its section.
 use Rattle.std.proofs.Common.{◌≡◌, ℕ, ◌+◌, ◌%◌, ◌≤◌, ℤ, pos, negsuc, List, [], ◌∷◌, Bool, true, false, cond, Option, Some, None, eqb, ltb, refl, sym, ap, ◌∙◌, arith}
 use Rattle.std.specs.Prelude.{◌&&◌, ◌||◌, not}
 use Rattle.std.specs.List.{find}
@@ -7,8 +7,10 @@ use Rattle.elf32_read.specs.Parts.{SectionParts, is_code_section}
 use Rattle.elf32_read.specs.declared.reloc.Reloc.{Reloc}
 use Rattle.psabi_reloc.specs.Kinds.{field_length, kind_of}
 use Rattle.psabi_reloc.specs.declared.kind.RelocKind.{RelocKind}
-use Rattle.psabi_reloc.specs.declared.kind.RelocKind.TheVariants.{Ignored, Word, Branch, Jal, Call, PcrelHi20, PcrelLo12I, PcrelLo12S, Hi20, Lo12I, Lo12S, Align}
-use Rattle.block_cut.specs.Relocs.{field_end, field_of, fits_at, is_bad_kind, is_bad_place, is_crowded, is_ignored, is_padding, is_placed, is_sound, reloc_on}
+use Rattle.psabi_reloc.specs.declared.kind.RelocKind.TheVariants.{Ignored, Word, Branch, Jal, Call, PcrelHi20, PcrelLo12I, PcrelLo12S, Hi20, Lo12I, Lo12S, RvcBranch, RvcJump, Align}
+use Rattle.block_cut.specs.Units.{unit_of}
+use Rattle.block_cut.proofs.UnitLaws.{unit_even, unit_four}
+use Rattle.block_cut.specs.Relocs.{field_end, field_of, fits_at, is_bad_kind, is_bad_place, overlaps_another, is_ignored, is_padding, is_placed, is_rvc, is_sound, is_word, reloc_on}
 
 -- what is found passes the test
 pub found_passes : {X : Type 0} (p : X → Bool) (xs : List X) (x : X) → find p xs ≡ Some x → p x ≡ true
@@ -19,44 +21,53 @@ found_passes p (y ∷ ys) x found = by (p y) refl (found_passes p ys x) found
     by true passes rest here = let same : y ≡ x = cc in ap p (sym same) ∙ passes
     by false passes rest here = rest here
 
--- the bytes of a field are whole words, and there are some
-pub record IsField (length : ℕ) : Type 0 where
-  pub some : 4 ≤ length
-  pub words : length % 4 ≡ 0
+-- the bytes of a field are whole units, and there are some
+pub record IsField (c : Bool) (length : ℕ) : Type 0 where
+  pub some : 2 ≤ length
+  pub words : length % unit_of c ≡ 0
   pub short : length ≤ 255
 
 -- padding has a field
-padding_field : (addend : ℤ) → is_padding addend ≡ true → IsField (field_length (Some Align) addend)
-padding_field (pos n) is =
+padding_field : (c : Bool) (addend : ℤ) → is_padding c addend ≡ true → IsField c (field_length (Some Align) addend)
+padding_field c (pos n) is =
     let two = and_parts (ltb 0 n) _ is in
-    let rest = and_parts (ltb n 256) (eqb (n % 4) 0) two.1 in
+    let rest = and_parts (ltb n 256) (eqb (n % unit_of c) 0) two.1 in
     let some = ltb-true 0 n two.0 in
     let short = ltb-true n 256 rest.0 in
-    let words = eqb-true (n % 4) 0 rest.1 in
-    record { some = omega arith; words = words; short = omega arith }
-padding_field (negsuc n) is = absurd cc
+    let words = eqb-true (n % unit_of c) 0 rest.1 in
+    record { some = omega (arith, unit_even c n words); words = words; short = omega arith }
+padding_field c (negsuc n) is = absurd cc
 
-four : IsField 4
-four = record { some = omega arith; words = refl; short = omega arith }
+four : (c : Bool) → IsField c 4
+four c = record { some = omega arith; words = unit_four c 4 refl; short = omega arith }
 
-eight : IsField 8
-eight = record { some = omega arith; words = refl; short = omega arith }
+eight : (c : Bool) → IsField c 8
+eight c = record { some = omega arith; words = unit_four c 8 refl; short = omega arith }
+
+-- what changes an instruction of 2 bytes can't stand
+pub rvc_bad : (s : SectionParts) (k : RelocKind) → is_rvc (Some k) ≡ true → is_bad_kind s (Some k) ≡ false → ⊥
+rvc_bad s k rvc known =
+    let two = or_parts (not (is_code_section s) && (not (is_ignored (Some k)) && not (is_word (Some k)))) (is_rvc (Some k)) known in
+    let e : true ≡ false = sym rvc ∙ two.1 in
+    absurd cc
 
 -- the field of a kind that is known and asks for something
-kind_field : (s : SectionParts) (n : ℕ) (addend : ℤ) (k : Option RelocKind) → is_ignored k ≡ false → is_bad_kind s k ≡ false → fits_at s n addend k ≡ true → IsField (field_length k addend)
+kind_field : (s : SectionParts) (n : ℕ) (addend : ℤ) (k : Option RelocKind) → is_ignored k ≡ false → is_bad_kind s k ≡ false → fits_at s n addend k ≡ true → IsField s.compressed (field_length k addend)
 kind_field s n addend None ignored bad fits = absurd cc
 kind_field s n addend (Some Ignored) ignored bad fits = absurd cc
-kind_field s n addend (Some Word) ignored bad fits = four
-kind_field s n addend (Some Branch) ignored bad fits = four
-kind_field s n addend (Some Jal) ignored bad fits = four
-kind_field s n addend (Some Call) ignored bad fits = eight
-kind_field s n addend (Some PcrelHi20) ignored bad fits = four
-kind_field s n addend (Some PcrelLo12I) ignored bad fits = four
-kind_field s n addend (Some PcrelLo12S) ignored bad fits = four
-kind_field s n addend (Some Hi20) ignored bad fits = four
-kind_field s n addend (Some Lo12I) ignored bad fits = four
-kind_field s n addend (Some Lo12S) ignored bad fits = four
-kind_field s n addend (Some Align) ignored bad fits = padding_field addend fits
+kind_field s n addend (Some Word) ignored bad fits = four s.compressed
+kind_field s n addend (Some Branch) ignored bad fits = four s.compressed
+kind_field s n addend (Some Jal) ignored bad fits = four s.compressed
+kind_field s n addend (Some Call) ignored bad fits = eight s.compressed
+kind_field s n addend (Some PcrelHi20) ignored bad fits = four s.compressed
+kind_field s n addend (Some PcrelLo12I) ignored bad fits = four s.compressed
+kind_field s n addend (Some PcrelLo12S) ignored bad fits = four s.compressed
+kind_field s n addend (Some Hi20) ignored bad fits = four s.compressed
+kind_field s n addend (Some Lo12I) ignored bad fits = four s.compressed
+kind_field s n addend (Some Lo12S) ignored bad fits = four s.compressed
+kind_field s n addend (Some RvcBranch) ignored bad fits = absurd (rvc_bad s RvcBranch refl bad)
+kind_field s n addend (Some RvcJump) ignored bad fits = absurd (rvc_bad s RvcJump refl bad)
+kind_field s n addend (Some Align) ignored bad fits = padding_field s.compressed addend fits
 
 -- a sound relocation at an offset of code
 pub record IsSoundAt (s : SectionParts) (n : ℕ) (r : Reloc) : Type 0 where
@@ -64,8 +75,8 @@ pub record IsSoundAt (s : SectionParts) (n : ℕ) (r : Reloc) : Type 0 where
   pub asks : is_ignored (kind_of r.kind) ≡ false
   pub known : is_bad_kind s (kind_of r.kind) ≡ false
   pub fits : fits_at s n r.addend (kind_of r.kind) ≡ true
-  pub field : IsField (field_of r)
-  pub words : n % 4 ≡ 0
+  pub field : IsField s.compressed (field_of r)
+  pub words : n % unit_of s.compressed ≡ 0
   pub inside : n + field_of r ≤ s.size
 
 pub sound_parts : (s : SectionParts) (r : Reloc) → is_code_section s ≡ true → is_sound s r ≡ true → IsSoundAt s r.offset r
@@ -75,22 +86,22 @@ sound_parts s r code sound =
     let asks = not-true (is_ignored k) two.0 in
     let rest = and_parts (not (is_bad_kind s k)) (not (is_bad_place s r)) two.1 in
     let known = not-true (is_bad_kind s k) rest.0 in
-    let good : (not (is_ignored k) && (ltb s.size (field_end r) || (not (is_placed s r) || is_crowded s.relocs r))) ≡ false = not-true (is_bad_place s r) rest.1 in
-    let fine : (ltb s.size (field_end r) || (not (is_placed s r) || is_crowded s.relocs r)) ≡ false =
-    ap (λ b. b && (ltb s.size (field_end r) || (not (is_placed s r) || is_crowded s.relocs r))) (sym two.0) ∙ good in
+    let good : (not (is_ignored k) && (ltb s.size (field_end r) || (not (is_placed s r) || overlaps_another s.relocs r))) ≡ false = not-true (is_bad_place s r) rest.1 in
+    let fine : (ltb s.size (field_end r) || (not (is_placed s r) || overlaps_another s.relocs r)) ≡ false =
+    ap (λ b. b && (ltb s.size (field_end r) || (not (is_placed s r) || overlaps_another s.relocs r))) (sym two.0) ∙ good in
     let places = or_parts (ltb s.size (field_end r)) _ fine in
-    let placed = or_parts (not (is_placed s r)) (is_crowded s.relocs r) places.1 in
-    let is : (not (is_code_section s) || ((eqb (r.offset % 4) 0) && fits_at s r.offset r.addend k)) ≡ true = not_false (is_placed s r) placed.0 in
-    let there : ((eqb (r.offset % 4) 0) && fits_at s r.offset r.addend k) ≡ true =
-    ap (λ b. not b || ((eqb (r.offset % 4) 0) && fits_at s r.offset r.addend k)) (sym code) ∙ is in
-    let ends = and_parts (eqb (r.offset % 4) 0) (fits_at s r.offset r.addend k) there in
+    let placed = or_parts (not (is_placed s r)) (overlaps_another s.relocs r) places.1 in
+    let is : (not (is_code_section s) || ((eqb (r.offset % unit_of s.compressed) 0) && fits_at s r.offset r.addend k)) ≡ true = not_false (is_placed s r) placed.0 in
+    let there : ((eqb (r.offset % unit_of s.compressed) 0) && fits_at s r.offset r.addend k) ≡ true =
+    ap (λ b. not b || ((eqb (r.offset % unit_of s.compressed) 0) && fits_at s r.offset r.addend k)) (sym code) ∙ is in
+    let ends = and_parts (eqb (r.offset % unit_of s.compressed) 0) (fits_at s r.offset r.addend k) there in
     record {
       at = refl;
       asks = asks;
       known = known;
       fits = ends.1;
       field = kind_field s r.offset r.addend k asks known ends.1;
-      words = eqb-true (r.offset % 4) 0 ends.0;
+      words = eqb-true (r.offset % unit_of s.compressed) 0 ends.0;
       inside = ltb-false s.size (field_end r) places.0;
     }
   where
@@ -111,7 +122,7 @@ sound_at s n r code found =
       known = is.known;
       fits = ap (λ m. fits_at s m r.addend (kind_of r.kind)) (sym at) ∙ is.fits;
       field = is.field;
-      words = ap (λ m. m % 4) (sym at) ∙ is.words;
+      words = ap (λ m. m % unit_of s.compressed) (sym at) ∙ is.words;
       inside = omega (arith, at, is.inside);
     }
 

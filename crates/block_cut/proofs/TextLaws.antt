@@ -1,65 +1,325 @@
--- Code word after word: what stands at each word is what the definitions say, and after a section its items and its room were added.
-use Rattle.std.proofs.Common.{◌≡◌, ◌≢◌, ℕ, ◌+◌, ◌*◌, ◌/◌, ◌%◌, ◌≤◌, List, [], ◌∷◌, ◌++◌, length, filter, map, max, Bool, true, false, cond, Option, IfSome, Some, None, refl, sym, ap, subst, ◌∙◌, arith, eqb, ltb, inl, inr}
+-- The places of a section of code, halfword after halfword: which there are and where they lie; and how far code comes with each section.
+use Rattle.std.proofs.Common.{◌≡◌, ◌≢◌, ℕ, ◌+◌, ◌-◌, ◌*◌, ◌/◌, ◌%◌, ◌<◌, ◌≤◌, List, [], ◌∷◌, ◌++◌, length, filter, get_or, map, drop, take, Bool, true, false, cond, Option, IfSome, Some, None, refl, sym, ap, subst, ◌∙◌, arith, eqb, ltb, inl, inr, slice_get}
 use Rattle.std.specs.Prelude.{◌||◌}
-use Rattle.std.specs.List.{flat_map, range_with_len}
-use Rattle.std.proofs.lemmas.Bool.{eqb-true, false_from_ne_true}
-use Rattle.std.proofs.lemmas.List.{append-nil, length-append, length-map, map-append}
+use Rattle.std.specs.List.{find, flat_map}
+use Rattle.std.specs.Option.{option_and_then, option_map, option_map_or, unwrap_or}
+use Rattle.std.proofs.lemmas.Bool.{eqb-false, eqb-true, le-ltb, lt-ltb, ne_eqb, or_parts}
+use Rattle.std.proofs.lemmas.List.Elements.{filter-append}
+use Rattle.std.proofs.lemmas.List.{append-nil, take-append-drop, length-append, length-map, map-append}
+use Rattle.std.proofs.lemmas.Option.{get_or_from_slice_get, slice_get-map}
 use Rattle.std.proofs.lemmas.List.Concat.{flat_map-append}
-use Rattle.std.proofs.lemmas.List.FromFn.{map-range_with_len_more}
 use Rattle.std.proofs.lemmas.List.Sums.{fold-append, sum_by-append, sum_by-cons}
-use Rattle.zc_base.specs.Fields.{word_in}
 use Rattle.zc_base.specs.declared.place.Place.{Place}
-use Rattle.elf32_read.specs.Parts.{SectionParts, is_code_section}
+use Rattle.elf32_read.specs.Parts.{ObjectParts, SectionParts, is_code_section}
 use Rattle.elf32_read.specs.declared.reloc.Reloc.{Reloc}
-use Rattle.psabi_reloc.specs.Kinds.{kind_of}
-use Rattle.psabi_reloc.specs.declared.kind.RelocKind.TheVariants.{Align}
-use Rattle.psabi_sym.specs.Blocks.{aligned_up}
+use Rattle.psabi_reloc.specs.Kinds.{field_length, kind_of}
+use Rattle.psabi_reloc.specs.declared.kind.RelocKind.TheVariants.{Call}
 use Rattle.psabi_sym.specs.Faults.{code_room, gather_fault}
 use Rattle.psabi_sym.specs.Inputs.{Inputs, ParsedInputs, parsed}
-use Rattle.psabi_sym.specs.Listed.{ListedSection, section_at, sections_before}
-use Rattle.block_cut.specs.Cut.{HasRoom, IsExtent, by_word, place_at, text_word, text_words_at, words_of}
-use Rattle.block_cut.specs.Items.{item_at, item_in, item_under, items_in, place_of, size_on, starts_in, starts_on}
-use Rattle.block_cut.specs.PlainLayout.{after_item, after_items, items_before, plain_address, plain_end_of, plain_start, section_end}
-use Rattle.block_cut.specs.Relocs.{field_of, fits_at, is_padding, reloc_on}
+use Rattle.psabi_sym.specs.Listed.{ListedSection, all_sections, section_at, sections_before}
+use Rattle.psabi_sym.proofs.SectionNumbers.{before_number, listed_at}
+use Rattle.block_cut.specs.CodeSection.{IsCodeSection}
+use Rattle.block_cut.specs.Items.{code_at, code_only, is_target_at, item_in, items_in, place_of, size_at, size_on, starts_in, starts_on}
+use Rattle.block_cut.specs.Places.{code_place, code_places, targets_in}
+use Rattle.block_cut.specs.PlainLayout.{address_on, after_item, after_start, after_starts, plain_address, plain_end_of, plain_start, section_end, starts_before}
+use Rattle.block_cut.specs.Relocs.{field_of, reloc_on}
+use Rattle.block_cut.specs.Resolved.{asks, is_right_at, resolved_reloc, resolved_relocs}
+use Rattle.block_cut.specs.SectionText.{HasRoom, SectionTables, by_halfword, number_on, numbered, numbers_in, section_tables}
+use Rattle.block_cut.specs.Text.{IsExtent}
 use Rattle.block_cut.specs.Whole.{IsWhole}
-use Rattle.block_cut.specs.declared.code_word.CodeWord.{CodeWord}
+use Rattle.block_cut.specs.declared.code_place.CodePlace.{CodePlace}
+use Rattle.block_cut.specs.declared.code_section.CodeSection.{CodeSection}
 use Rattle.block_cut.specs.declared.extent.Extent.{Extent}
-use Rattle.block_cut.specs.declared.item.Item.{Item}
-use Rattle.block_cut.specs.declared.text_word.TextWord.{TextWord}
-use Rattle.block_cut.proofs.ItemLaws.{item_at-code, item_there}
-use Rattle.block_cut.proofs.ListedLaws.{before_more, cut_at, listed}
-use Rattle.block_cut.proofs.PlainLaws.{at_offset, offset_end, offset_rises, place_address, section_ends, target_on, whole_before}
-use Rattle.block_cut.proofs.RoomLaws.{AreWhole, all_whole, code_room_is, items_in-code, items_in-other, plain_end-fits, rooms, rooms_few, section_end-code, section_end-ge, section_end-other}
+use Rattle.block_cut.specs.declared.resolved_reloc.ResolvedReloc.{ResolvedReloc}
+use Rattle.block_cut.proofs.ItemLaws.{item_at-code}
+use Rattle.block_cut.proofs.PlainLaws.{offset_end, offset_rises, place_address, section_ends, whole_before}
+use Rattle.block_cut.proofs.ResolvedLaws.{resolved_on}
+use Rattle.block_cut.proofs.RoomLaws.{AreWhole, all_whole, code_room_is, items_in-code, items_in-other, plain_end-fits, rooms, rooms_few, section_end-ge, section_end-other}
 use Rattle.block_cut.proofs.SoundLaws.{sound_at}
-use Rattle.block_cut.proofs.StartLaws.{along, before_end_all, before_first_none, before_next_start, filter_between, none_within, start_is, step}
-use Rattle.block_cut.proofs.WordLaws.{IsCodeHere, no_address}
+use Rattle.block_cut.proofs.StartLaws.{along, before_end_all, before_first_none, start_is}
+use Rattle.block_cut.proofs.TakeLaws.{take_next}
+use Rattle.block_cut.proofs.UnitLaws.{unit_even}
+use Rattle.block_cut.proofs.WholeLaws.{inputs_whole}
+use Rattle.block_cut.proofs.WordLaws.{IsCodeHere, before_other, before_start, code_here, end_other, last_got, no_target, number_target, some_target, target_got, target_nowhere}
 
--- ---- how many items there are
+-- ---- the relocation at a halfword
 
--- no more than words
-starts_few : (s : SectionParts) → is_code_section s ≡ true → IsWhole s → 4 * length (starts_in s) ≤ length s.bytes
+-- the one that the table of a section of code has
+pub reloc_found : (inputs : Inputs) (l : ListedSection) (section : CodeSection) (n : ℕ) (reloc : Option ResolvedReloc) → IsCodeSection inputs l section → n % 2 ≡ 0 → n ≤ length l.section.bytes
+    → reloc ≡ numbered section.relocs.now (get_or section.table.now (n / 2) 0) → find (is_right_at n) (resolved_relocs (parsed inputs) l) ≡ reloc
+reloc_found inputs l section n reloc is words inside got =
+    let even : 2 * (n / 2) ≡ n = omega (arith, words) in
+    ap (λ m. find (is_right_at m) (resolved_relocs (parsed inputs) l)) (sym even) ∙ ap (find (is_right_at (2 * (n / 2)))) (sym is.relocs_are)
+    ∙ sym (is.table_is.each (n / 2) (omega (arith, inside))) ∙ sym got
+
+-- an item has room where one starts, by that relocation
+pub room_there : (inputs : Inputs) (l : ListedSection) (section : CodeSection) (n : ℕ) (reloc : Option ResolvedReloc) → IsCodeSection inputs l section → IsWhole l.section → starts_on l.section n ≡ true
+    → reloc ≡ numbered section.relocs.now (get_or section.table.now (n / 2) 0) → HasRoom section.content n reloc
+room_there inputs l section n reloc is whole start got =
+    let s = l.section in
+    let own = start_is s is.code whole n start in
+    let long = ap length is.content_is in
+    let found = reloc_found inputs l section n reloc is (unit_even s.compressed n own.words) (omega (arith, own.inside)) got in
+    record { word = omega (arith, own.inside, own.words, whole.words, long); second = by (reloc_on s n) refl reloc (sym (resolved_on (parsed inputs) l n) ∙ found) }
+  where
+    by : (o : Option Reloc) → reloc_on l.section n ≡ o → (d : Option ResolvedReloc) → option_map (resolved_reloc (parsed inputs) l) o ≡ d → IfSome d (λ x. x.kind ≡ Some Call → n + 8 ≤ length section.content)
+    by None at None is_none = tt
+    by None at (Some d) same = absurd cc
+    by (Some r) at None same = absurd cc
+    by (Some r) at (Some d) same = λ call.
+        let own : resolved_reloc (parsed inputs) l r ≡ d = cc in
+        let kind : kind_of r.kind ≡ Some Call = ap (λ x. x.kind) own ∙ call in
+        let eight : field_of r ≡ 8 = ap (λ x. field_length x r.addend) kind in
+        omega (arith, (sound_at l.section n r is.code at).inside, eight, whole.bytes, ap length is.content_is)
+
+-- relocations that ask for something are no more than all
+pub resolved_few : (inputs : ParsedInputs) (l : ListedSection) → length (resolved_relocs inputs l) ≤ length l.section.relocs
+resolved_few inputs l = omega (arith, length-map (filter asks l.section.relocs) (resolved_reloc inputs l), few l.section.relocs)
+  where
+    few : (rs : List Reloc) → length (filter asks rs) ≤ length rs
+    few [] = omega arith
+    few (r ∷ rs) = by (asks r) (few rs)
+      where
+        by : (b : Bool) → length (filter asks rs) ≤ length rs → length (cond b (r ∷ filter asks rs) (filter asks rs)) ≤ length (r ∷ rs)
+        by true le = omega arith
+        by false le = omega arith
+
+-- ---- what starts at a halfword
+
+module _ (s : SectionParts) (code : is_code_section s ≡ true) (whole : IsWhole s) (n : ℕ) (is : (starts_on s n || eqb n (length s.bytes)) ≡ true) where
+  -- it is a word
+  pub target_word : n % 4 ≡ 0
+  target_word = by (starts_on s n) refl is
+    where
+      by : (b : Bool) → starts_on s n ≡ b → (b || eqb n (length s.bytes)) ≡ true → n % 4 ≡ 0
+      by true start is = (start_is s code whole n start).words
+      by false other is = ap (λ m. m % 4) (eqb-true n (length s.bytes) is) ∙ whole.words
+
+  -- and an item if it isn't the end
+  pub target_start : n ≢ length s.bytes → starts_on s n ≡ true
+  target_start ne = by (starts_on s n) (eqb n (length s.bytes)) is (ne_eqb n (length s.bytes) ne)
+    where
+      by : (a b : Bool) → (a || b) ≡ true → b ≡ false → a ≡ true
+      by true b is other = refl
+      by false b is other = absurd (cc (is, other))
+
+-- ---- places so far
+
+-- those before an offset
+abbrev pub targets_before : SectionParts → ℕ → List ℕ
+targets_before s n = filter (λ m. ltb m n) (targets_in s)
+
+-- after so many halfwords of a section
+pub record IsSoFar (inputs : ParsedInputs) (l : ListedSection) (k : ℕ) (places : List CodePlace) (address : ℕ) : Type 0 where
+  pub places_are : places ≡ map (code_place inputs l) (targets_before l.section (2 * k))
+  pub address_is : address ≡ after_starts inputs l (plain_start inputs l.object l.index l.section) (starts_before l.section (2 * k))
+
+module _ (s : SectionParts) where
+  -- up to the end they are starts
+  targets_inside : (n : ℕ) → n ≤ length s.bytes → targets_before s n ≡ starts_before s n
+  targets_inside n le =
+      filter-append (λ m. ltb m n) (starts_in s) (length s.bytes ∷ [])
+      ∙ ap (λ b. starts_before s n ++ cond b (length s.bytes ∷ []) []) (le-ltb (length s.bytes) n le) ∙ append-nil (starts_before s n)
+
+  -- and past it the end too
+  targets_past : (n : ℕ) → length s.bytes < n → targets_before s n ≡ starts_before s n ++ length s.bytes ∷ []
+  targets_past n lt =
+      filter-append (λ m. ltb m n) (starts_in s) (length s.bytes ∷ [])
+      ∙ ap (λ b. starts_before s n ++ cond b (length s.bytes ∷ []) []) (lt-ltb (length s.bytes) n lt)
+
+module _ (inputs : Inputs) (none : gather_fault inputs ≡ None) (l : ListedSection) (here : IsCodeHere inputs l.object l.index l.section) where
+  abbrev given : ParsedInputs
+  given = parsed inputs
+
+  abbrev s : SectionParts
+  s = l.section
+
+  -- the address after items
+  abbrev after_of : List ℕ → ℕ
+  after_of ns = after_starts given l (plain_start given l.object l.index s) ns
+
+  -- the end is even
+  even_end : length s.bytes % 2 ≡ 0
+  even_end = unit_even s.compressed (length s.bytes) here.whole.words
+
+  -- ---- a halfword further
+
+  module _ (k : ℕ) (places : List CodePlace) (address : ℕ) (le : 2 * k ≤ length s.bytes) (so_far : IsSoFar given l k places address) where
+    next : 2 * (k + 1) ≡ 2 * k + 2
+    next = omega arith
+
+    -- where nothing starts
+    pub none_more : (starts_on s (2 * k) || eqb (2 * k) (length s.bytes)) ≡ false → IsSoFar given l (k + 1) places address
+    none_more fails =
+        let two = or_parts (starts_on s (2 * k)) (eqb (2 * k) (length s.bytes)) fails in
+        let inside : 2 * k + 2 ≤ length s.bytes = omega (arith, le, even_end, eqb-false (2 * k) (length s.bytes) two.1) in
+        let same : starts_before s (2 * (k + 1)) ≡ starts_before s (2 * k) =
+        ap (starts_before s) next ∙ before_other s here.code here.whole (2 * k) (omega arith) two.0 in
+        record {
+          places_are = so_far.places_are ∙ ap (map (code_place given l)) (targets_inside s (2 * k) le ∙ sym same ∙ sym (targets_inside s (2 * (k + 1)) (omega (arith, inside))));
+          address_is = so_far.address_is ∙ ap after_of (sym same);
+        }
+
+    -- where something does: what the place is, and the address after it
+    pub one_more : (place : CodePlace) (new : ℕ) → (starts_on s (2 * k) || eqb (2 * k) (length s.bytes)) ≡ true
+        → place ≡ record { item = cond (starts_on s (2 * k)) (Some (item_in given s (place_of l (2 * k)))) None; address = address; offset = 2 * k; size = size_on s (2 * k) }
+        → new ≡ option_map_or (after_item address place.size) place.item address
+        → IsSoFar given l (k + 1) (places ++ place ∷ []) new
+    one_more place new passes is new_is = by (starts_on s (2 * k)) refl passes is
+      where
+        q : Place
+        q = place_of l (2 * k)
+
+        size : size_on s (2 * k) ≡ size_at given.objects q
+        size = sym (ap (λ x. option_map_or (λ t. size_on t (2 * k)) x 4) (here.at (2 * k)))
+
+        -- with the place there
+        with_place : place ≡ code_place given l (2 * k) → targets_before s (2 * (k + 1)) ≡ targets_before s (2 * k) ++ 2 * k ∷ [] → places ++ place ∷ [] ≡ map (code_place given l) (targets_before s (2 * (k + 1)))
+        with_place own more =
+            (λ j. so_far.places_are j ++ own j ∷ []) ∙ sym (map-append (code_place given l) (targets_before s (2 * k)) (2 * k ∷ []))
+            ∙ ap (map (code_place given l)) (sym more)
+
+        -- what it is
+        own : (b : Bool) → starts_on s (2 * k) ≡ b → place ≡ record { item = cond b (Some (item_in given s q)) None; address = address; offset = 2 * k; size = size_on s (2 * k) }
+            → plain_address given q ≡ Some address → place ≡ code_place given l (2 * k)
+        own b start same at =
+            same ∙ (λ j. record {
+              item = sym (item_at-code given q s (here.at (2 * k)) ∙ ap (λ x. cond x (Some (item_in given s q)) None) start) j;
+              address = sym (ap (λ o. unwrap_or o 0) at) j;
+              offset = 2 * k;
+              size = size j;
+            })
+
+        by : (b : Bool) → starts_on s (2 * k) ≡ b → (b || eqb (2 * k) (length s.bytes)) ≡ true
+            → place ≡ record { item = cond b (Some (item_in given s q)) None; address = address; offset = 2 * k; size = size_on s (2 * k) } → IsSoFar given l (k + 1) (places ++ place ∷ []) new
+        by true start passes same =
+            let inside = (start_is s here.code here.whole (2 * k) start).inside in
+            let starts : starts_before s (2 * (k + 1)) ≡ starts_before s (2 * k) ++ 2 * k ∷ [] = ap (starts_before s) next ∙ before_start s here.code here.whole (2 * k) start in
+            let more : targets_before s (2 * (k + 1)) ≡ targets_before s (2 * k) ++ 2 * k ∷ [] =
+            targets_inside s (2 * (k + 1)) (omega (arith, inside, even_end)) ∙ starts ∙ ap (λ ns. ns ++ 2 * k ∷ []) (sym (targets_inside s (2 * k) le)) in
+            let at : plain_address given q ≡ Some address = place_address given q s (here.at (2 * k)) (inl start) ∙ ap Some (sym so_far.address_is) in
+            record {
+              places_are = with_place (own true start same at) more;
+              address_is = new_is ∙ (λ j. option_map_or (after_item address (same j).size) (same j).item address)
+                  ∙ ap (λ a. after_start given l a (2 * k)) so_far.address_is
+                  ∙ sym (ap after_of starts ∙ fold-append (after_start given l) (plain_start given l.object l.index s) (starts_before s (2 * k)) (2 * k ∷ []));
+            }
+        by false other passes same =
+            let ends : 2 * k ≡ length s.bytes = eqb-true (2 * k) (length s.bytes) passes in
+            let starts : starts_before s (2 * (k + 1)) ≡ starts_before s (2 * k) = ap (starts_before s) next ∙ before_other s here.code here.whole (2 * k) (omega arith) other in
+            let more : targets_before s (2 * (k + 1)) ≡ targets_before s (2 * k) ++ 2 * k ∷ [] =
+            targets_past s (2 * (k + 1)) (omega (arith, ends)) ∙ (λ j. starts j ++ sym ends j ∷ []) ∙ ap (λ ns. ns ++ 2 * k ∷ []) (sym (targets_inside s (2 * k) le)) in
+            let at : plain_address given q ≡ Some address = place_address given q s (here.at (2 * k)) (inr ends) ∙ ap Some (sym so_far.address_is) in
+            record {
+              places_are = with_place (own false other same at) more;
+              address_is = new_is ∙ (λ j. option_map_or (after_item address (same j).size) (same j).item address) ∙ so_far.address_is ∙ ap after_of (sym starts);
+            }
+
+  -- ---- the section
+
+  -- at first there is its start
+  pub at_first : (begin : ℕ) → begin ≡ plain_start given l.object l.index s → IsSoFar given l 0 [] begin
+  at_first begin is =
+      let empty : starts_before s (2 * 0) ≡ [] = before_first_none s here.code here.whole in
+      record {
+        places_are = ap (map (code_place given l)) (sym (targets_inside s (2 * 0) (omega arith) ∙ empty));
+        address_is = is ∙ ap after_of (sym empty);
+      }
+
+  -- after the last halfword all places are there
+  pub at_last : (k : ℕ) (places : List CodePlace) (address : ℕ) → k ≡ length s.bytes / 2 + 1 → IsSoFar given l k places address → places ≡ code_places given l
+  at_last k places address last so_far =
+      let past : 2 * k ≡ length s.bytes + 2 = omega (arith, last, even_end) in
+      let own : starts_before s (2 * k) ≡ starts_in s =
+      ap (starts_before s) past ∙ before_other s here.code here.whole (length s.bytes) even_end (end_other s here.code here.whole) ∙ before_end_all s here.code here.whole in
+      so_far.places_are ∙ ap (map (code_place given l)) (targets_past s (2 * k) (omega (arith, past)) ∙ ap (λ ns. ns ++ length s.bytes ∷ []) own)
+      ∙ sym (ap (λ b. cond b (map (code_place given l) (targets_in s)) []) here.code)
+
+  -- ---- room
+
+  -- the code before the section ends near the text's start
+  pub before_fits : plain_end_of given (sections_before given.objects l.object l.index) ≤ inputs.map.text + 0x4_0000
+  before_fits = omega (arith, section_end-ge given (plain_end_of given (sections_before given.objects l.object l.index)) l, section_ends inputs none l.object l.index s here.found, plain_end-fits inputs none)
+
+  -- so do its halfwords
+  pub address_fits : (k : ℕ) (places : List CodePlace) (address : ℕ) → 2 * k ≤ length s.bytes → IsSoFar given l k places address → address ≤ inputs.map.text + 0x4_0000
+  address_fits k places address le so_far =
+      omega (
+        arith,
+        so_far.address_is,
+        offset_rises given (place_of l 0) s here.code here.whole (2 * k) (length s.bytes) le,
+        offset_end given (place_of l 0) s here.code here.whole,
+        section_ends inputs none l.object l.index s here.found,
+        plain_end-fits inputs none,
+      )
+
+-- ---- look-ups
+
+-- what the number at an offset of a section says: where its place is
+pub record IsNumberOf (inputs : Inputs) (l : ListedSection) (n number : ℕ) : Type 0 where
+  pub none : number ≡ 0 → is_target_at (parsed inputs).objects (place_of l n) ≡ false
+  pub some : number ≢ 0 → (is_target_at (parsed inputs).objects (place_of l n) ≡ true) × (slice_get (code_places (parsed inputs) l) (number - 1) ≡ Some (code_place (parsed inputs) l n))
+
+pub by_number : (inputs : Inputs) (l : ListedSection) (n number : ℕ) (numbers : List ℕ) → gather_fault inputs ≡ None → section_at (parsed inputs).objects l.object l.index ≡ Some l.section
+    → numbers ≡ numbers_in l.section → ((s : SectionParts) → is_code_section s ≡ true → IsWhole s → numbers ≡ by_halfword (number_on s) s → number ≡ number_on s n) → (numbers ≡ [] → number ≡ 0)
+    → IsNumberOf inputs l n number
+by_number inputs l n number numbers none found are value empty = by (is_code_section l.section) refl
+  where
+    objects : List ObjectParts
+    objects = (parsed inputs).objects
+
+    by : (b : Bool) → is_code_section l.section ≡ b → IsNumberOf inputs l n number
+    by true code =
+        let s = l.section in
+        let here = code_here inputs l.object l.index s none found code in
+        let own : number ≡ number_on s n = value s code here.whole (are ∙ ap (λ b. cond b (by_halfword (number_on s) s) []) code) in
+        record {
+          none = λ e. no_target objects (place_of l n) s (here.at n) (sym own ∙ e);
+          some = λ ne.
+              let target = number_target s n (λ e. ne (own ∙ e)) in
+              let count : number - 1 ≡ length (starts_before s n) = omega (arith, own, ap (λ b. cond b (length (starts_before s n) + 1) 0) target) in (
+                some_target objects (place_of l n) s (here.at n) (λ e. ne (own ∙ e)),
+                (λ j. slice_get (cond (code j) (map (code_place (parsed inputs) l) (targets_in s)) []) (count j))
+                    ∙ slice_get-map (code_place (parsed inputs) l) (targets_in s) (length (starts_before s n)) ∙ ap (option_map (code_place (parsed inputs) l)) (target_got s code here.whole n target),
+              );
+        }
+    by false other =
+        let zero_is = empty (are ∙ ap (λ b. cond b (by_halfword (number_on l.section) l.section) []) other) in
+        let nowhere : code_at objects (place_of l n) ≡ None = ap (option_and_then code_only) found ∙ ap (λ b. cond b (Some l.section) None) other in
+        record { none = λ e. target_nowhere objects (place_of l n) nowhere; some = λ ne. absurd (ne zero_is) }
+
+-- what is kept of a section, one by one
+pub record AreTables (inputs : ParsedInputs) (l : ListedSection) (t : SectionTables) : Type 0 where
+  pub relocs : t.relocs ≡ resolved_relocs inputs l
+  pub numbers : t.numbers ≡ numbers_in l.section
+  pub places : t.places ≡ code_places inputs l
+
+pub tables_of : (inputs : ParsedInputs) (l : ListedSection) (t : SectionTables) → t ≡ section_tables inputs l → AreTables inputs l t
+unfolding section_tables
+tables_of inputs l t is = record { relocs = ap (λ x. x.relocs) is; numbers = ap (λ x. x.numbers) is; places = ap (λ x. x.places) is }
+
+-- those of the section with a number
+pub kept_at : (inputs : ParsedInputs) (sections : List SectionTables) (k : ℕ) (l : ListedSection) (d : SectionTables) → sections ≡ map (section_tables inputs) (all_sections inputs.objects) → slice_get (all_sections inputs.objects) k ≡ Some l
+    → get_or sections k d ≡ section_tables inputs l
+kept_at inputs sections k l d are at =
+    ap (λ ts. get_or ts k d) are
+    ∙ get_or_from_slice_get (map (section_tables inputs) (all_sections inputs.objects)) k (section_tables inputs l) d
+    (slice_get-map (section_tables inputs) (all_sections inputs.objects) k ∙ ap (option_map (section_tables inputs)) at)
+
+-- ---- how far code comes
+
+-- no more than halfwords
+starts_few : (s : SectionParts) → is_code_section s ≡ true → IsWhole s → 2 * length (starts_in s) ≤ length s.bytes
 starts_few s code whole =
-    let all : 4 * length (starts_in s) + 0 ≤ length s.bytes =
-    along s code whole (λ n xs. 4 * length xs + n ≤ length s.bytes) (omega arith) (λ n xs lt words st above rest. omega (arith, st.some)) in
+    let all : 2 * length (starts_in s) + 0 ≤ length s.bytes =
+    along s code whole (λ n xs. 2 * length xs + n ≤ length s.bytes) (omega arith) (λ n xs lt words st above rest. omega (arith, st.some)) in
     omega arith
 
-filter_few : (p : ℕ → Bool) (xs : List ℕ) → length (filter p xs) ≤ length xs
-filter_few p [] = omega arith
-filter_few p (x ∷ xs) = by (p x) (filter_few p xs)
-  where
-    by : (b : Bool) → length (filter p xs) ≤ length xs → length (cond b (x ∷ filter p xs) (filter p xs)) ≤ length (x ∷ xs)
-    by true le = omega arith
-    by false le = omega arith
-
--- the bytes of a section of code are among its room
-size_in_room : (s : SectionParts) → is_code_section s ≡ true → IsWhole s → length s.bytes ≤ code_room s
-size_in_room s code whole = omega (arith, code_room_is s code, whole.bytes)
-
-items_few : (inputs : ParsedInputs) (ls : List ListedSection) → AreWhole ls → 4 * length (flat_map (items_in inputs) ls) ≤ rooms ls
+items_few : (inputs : ParsedInputs) (ls : List ListedSection) → AreWhole ls → 2 * length (flat_map (items_in inputs) ls) ≤ rooms ls
 items_few inputs [] whole = omega arith
 items_few inputs (l ∷ ls) whole = by (is_code_section l.section) refl (items_few inputs ls whole.1)
   where
-    by : (b : Bool) → is_code_section l.section ≡ b → 4 * length (flat_map (items_in inputs) ls) ≤ rooms ls → 4 * length (items_in inputs l ++ flat_map (items_in inputs) ls) ≤ rooms (l ∷ ls)
+    by : (b : Bool) → is_code_section l.section ≡ b → 2 * length (flat_map (items_in inputs) ls) ≤ rooms ls → 2 * length (items_in inputs l ++ flat_map (items_in inputs) ls) ≤ rooms (l ∷ ls)
     by true code rest =
         let own : length (items_in inputs l) ≡ length (starts_in l.section) =
         ap length (items_in-code inputs l code) ∙ length-map (starts_in l.section) (λ m. item_in inputs l.section (place_of l m)) in
@@ -68,7 +328,8 @@ items_few inputs (l ∷ ls) whole = by (is_code_section l.section) refl (items_f
           length-append (items_in inputs l) (flat_map (items_in inputs) ls),
           own,
           starts_few l.section code (whole.0 code),
-          size_in_room l.section code (whole.0 code),
+          code_room_is l.section code,
+          (whole.0 code).bytes,
           rest,
           sum_by-cons (λ (m : ListedSection). code_room m.section) l ls,
         )
@@ -81,239 +342,118 @@ items_few inputs (l ∷ ls) whole = by (is_code_section l.section) refl (items_f
           sum_by-cons (λ (m : ListedSection). code_room m.section) l ls,
         )
 
--- ---- words so far
+module _ (inputs : Inputs) (none : gather_fault inputs ≡ None) (k : ℕ) (l : ListedSection) (at : slice_get (all_sections (parsed inputs).objects) k ≡ Some l) where
+  abbrev front : List ListedSection
+  front = take k (all_sections (parsed inputs).objects)
 
--- after so many words of a section
-pub record IsSoFar (inputs : ParsedInputs) (o i : ℕ) (s : SectionParts) (k : ℕ) (words : List TextWord) (extent : Extent) : Type 0 where
-  pub words_are : words ≡ map (λ j. text_word inputs (place_at o i (4 * j))) (range_with_len 0 k)
-  pub end_is : extent.end ≡ after_items (plain_start inputs o i s) (items_before inputs (listed o i s) (4 * k))
-  pub count_is : extent.count ≡ length (flat_map (items_in inputs) (sections_before inputs.objects o i)) + length (items_before inputs (listed o i s) (4 * k))
+  section_found : section_at (parsed inputs).objects l.object l.index ≡ Some l.section
+  section_found = listed_at (parsed inputs).objects k l at
 
-module _ (inputs : Inputs) (none : gather_fault inputs ≡ None) (o i : ℕ) (s : SectionParts) (here : IsCodeHere inputs o i s) where
-  abbrev given : ParsedInputs
-  given = parsed inputs
+  front_more : take (k + 1) (all_sections (parsed inputs).objects) ≡ front ++ l ∷ []
+  front_more = take_next (all_sections (parsed inputs).objects) k l at
 
-  -- the address of an offset, and the items before it
-  abbrev address_of : ℕ → ℕ
-  address_of n = at_offset given (place_at o i 0) s here.code here.whole n
+  -- where the code ends before a section
+  pub end_before : (a : ℕ) → a ≡ plain_end_of (parsed inputs) front → a ≡ plain_end_of (parsed inputs) (sections_before (parsed inputs).objects l.object l.index)
+  end_before a is = is ∙ ap (plain_end_of (parsed inputs)) (sym (before_number (parsed inputs).objects k l at))
 
-  abbrev before_of : ℕ → List Item
-  before_of n = items_before given (listed o i s) n
-
-  -- ---- a word further
-
-  abbrev before : ℕ → List ℕ
-  before n = filter (λ m. ltb m n) (starts_in s)
-
-  -- past a start
-  before_start : (n : ℕ) → starts_on s n ≡ true → before (n + 4) ≡ before (n + size_on s n)
-  before_start n start =
-      let own = start_is s here.code here.whole n start in
-      let st = step s here.code here.whole n own.words own.inside in
-      sym (filter_between (n + 4) (n + size_on s n) (starts_in s) (omega (arith, st.some)) (λ m low high. none_within s here.code here.whole n m start (omega (arith, low)) high))
-
-  -- past any other word
-  before_other : (n : ℕ) → n % 4 ≡ 0 → starts_on s n ≡ false → before (n + 4) ≡ before n
-  before_other n words other =
-      filter_between n (n + 4) (starts_in s) (omega arith)
-      (λ m low high. false_from_ne_true (starts_on s m) (λ start.
-      let own = start_is s here.code here.whole m start in
-      let same : m ≡ n = omega (arith, own.words, words, low, high) in
-      cc (start, other, same)))
-
-  -- the end isn't a start
-  end_other : starts_on s (length s.bytes) ≡ false
-  end_other = false_from_ne_true (starts_on s (length s.bytes)) (λ start. omega (arith, (start_is s here.code here.whole (length s.bytes) start).inside))
-
-  -- all lie before what is after the end
-  before_all : before (length s.bytes + 4) ≡ starts_in s
-  before_all = before_other (length s.bytes) here.whole.words end_other ∙ before_end_all s here.code here.whole
-
-  abbrev items_of : List ℕ → List Item
-  items_of ns = map (λ m. item_in given s (place_of (listed o i s) m)) ns
-
-  -- ---- what is said of a word
-
-  module _ (k : ℕ) (words : List TextWord) (old new : Extent) (word : CodeWord) (bytes : List ℕ) (result : TextWord)
-      (le : 4 * k ≤ length s.bytes) (so_far : IsSoFar given o i s k words old)
-      (target : word.is_target ≡ (starts_on s (4 * k) || eqb (4 * k) (length s.bytes))) (reloc : word.reloc ≡ reloc_on s (4 * k)) (are : bytes ≡ s.bytes) where
-    abbrev at : Place
-    at = place_at o i (4 * k)
-
-    abbrev item : Item
-    item = item_under given at word.reloc (word_in bytes (4 * k)) (word_in bytes (4 * k + 4))
-
-    item_is : item ≡ item_in given s at
-    item_is = λ j. item_under given at (reloc j) (word_in (are j) (4 * k)) (word_in (are j) (4 * k + 4))
-
-    -- one word more, with what it is
-    with_word : result ≡ text_word given at → words ++ result ∷ [] ≡ map (λ j. text_word given (place_at o i (4 * j))) (range_with_len 0 (k + 1))
-    with_word is =
-        (λ j. so_far.words_are j ++ is j ∷ []) ∙ sym (map-range_with_len_more (λ j. text_word given (place_at o i (4 * j))) 0 k k (omega arith))
-
-    -- and if nothing was added
-    stays : result ≡ text_word given at → new ≡ old → before (4 * k + 4) ≡ before (4 * k) → IsSoFar given o i s (k + 1) (words ++ result ∷ []) new
-    stays is same all =
-        let next : 4 * (k + 1) ≡ 4 * k + 4 = omega arith in
-        let items : before_of (4 * (k + 1)) ≡ before_of (4 * k) = ap before_of next ∙ ap items_of all in
-        record {
-          words_are = with_word is;
-          end_is = ap (λ e. e.end) same ∙ so_far.end_is ∙ ap (after_items (plain_start given o i s)) (sym items);
-          count_is = ap (λ e. e.count) same ∙ so_far.count_is ∙ ap (λ l. length (flat_map (items_in given) (sections_before given.objects o i)) + length l) (sym items);
-        }
-
-    pub one_more : (word.is_target ≡ false → (result ≡ record { item = None; address = None }) × (new ≡ old))
-        → (word.is_target ≡ true → 4 * k ≡ length bytes → (result ≡ record { item = None; address = Some old.end }) × (new ≡ old))
-        → (word.is_target ≡ true → 4 * k ≢ length bytes → (result ≡ record { item = Some item; address = Some old.end }) × (new ≡ record { end = after_item old.end item; count = old.count + 1 }))
-        → IsSoFar given o i s (k + 1) (words ++ result ∷ []) new
-    one_more inner end start = by (starts_on s (4 * k)) refl (eqb (4 * k) (length s.bytes)) refl
-      where
-        same_end : Some old.end ≡ Some (after_items (plain_start given o i s) (before_of (4 * k)))
-        same_end = ap Some so_far.end_is
-
-        by : (b : Bool) → starts_on s (4 * k) ≡ b → (e : Bool) → eqb (4 * k) (length s.bytes) ≡ e → IsSoFar given o i s (k + 1) (words ++ result ∷ []) new
-        by true is e end_is =
-            let own = start_is s here.code here.whole (4 * k) is in
-            let passes : word.is_target ≡ true = target ∙ ap (λ b. b || eqb (4 * k) (length s.bytes)) is in
-            let gives = start passes (λ same. omega (arith, same, own.inside, ap length are)) in
-            let found : item_at given at ≡ Some item = item_there given at s (here.at (4 * k)) is ∙ ap Some (sym item_is) in
-            let address : plain_address given at ≡ Some old.end = place_address given at s (here.at (4 * k)) (inl is) ∙ sym same_end in
-            let next : 4 * (k + 1) ≡ 4 * k + 4 = omega arith in
-            let items : before_of (4 * (k + 1)) ≡ before_of (4 * k) ++ item ∷ [] =
-            ap before_of next ∙ ap items_of (before_start (4 * k) is ∙ before_next_start s here.code here.whole (4 * k) is)
-            ∙ map-append (λ m. item_in given s (place_of (listed o i s) m)) (before (4 * k)) (4 * k ∷ []) ∙ ap (λ x. before_of (4 * k) ++ x ∷ []) (sym item_is) in
-            record {
-              words_are = with_word (gives.0 ∙ (λ j. record { item = sym found j; address = sym address j }));
-              end_is = ap (λ x. x.end) gives.1 ∙ ap (λ a. after_item a item) so_far.end_is
-                  ∙ sym (ap (after_items (plain_start given o i s)) items ∙ fold-append after_item (plain_start given o i s) (before_of (4 * k)) (item ∷ []));
-              count_is = omega (arith, ap (λ x. x.count) gives.1, so_far.count_is, ap length items, length-append (before_of (4 * k)) (item ∷ []));
-            }
-        by false is true end_is =
-            let passes : word.is_target ≡ true = target ∙ (λ j. is j || end_is j) in
-            let ends = eqb-true (4 * k) (length s.bytes) end_is in
-            let gives = end passes (ends ∙ ap length (sym are)) in
-            let found : item_at given at ≡ None = item_at-code given at s (here.at (4 * k)) ∙ ap (λ b. cond b (Some (item_in given s at)) None) is in
-            let address : plain_address given at ≡ Some old.end = place_address given at s (here.at (4 * k)) (inr ends) ∙ sym same_end in
-            stays (gives.0 ∙ (λ j. record { item = sym found j; address = sym address j })) gives.1 (before_other (4 * k) (omega arith) is)
-        by false is false end_is =
-            let fails : word.is_target ≡ false = target ∙ (λ j. is j || end_is j) in
-            let gives = inner fails in
-            let found : item_at given at ≡ None = item_at-code given at s (here.at (4 * k)) ∙ ap (λ b. cond b (Some (item_in given s at)) None) is in
-            let address : plain_address given at ≡ None =
-            no_address given at (target_on given.objects at s (here.at (4 * k)) ∙ (λ j. is j || end_is j)) in
-            stays (gives.0 ∙ (λ j. record { item = sym found j; address = sym address j })) gives.1 (before_other (4 * k) (omega arith) is)
-
-  -- ---- the section
-
-  -- at first there is its start
-  pub at_first : (extent new : Extent) → IsExtent given (sections_before given.objects o i) extent → new.end ≡ aligned_up (max 4 s.align) extent.end → new.count ≡ extent.count → IsSoFar given o i s 0 [] new
-  at_first extent new so_far end count =
-      let empty : before_of (4 * 0) ≡ [] = ap items_of (before_first_none s here.code here.whole) in
-      record {
-        words_are = refl;
-        end_is = end ∙ ap (aligned_up (max 4 s.align)) so_far.end_is ∙ ap (after_items (plain_start given o i s)) (sym empty);
-        count_is = omega (arith, count, so_far.count_is, ap length empty);
-      }
-
-  -- after the last word its items and its room were added
-  pub at_last : (k : ℕ) (words : List TextWord) (extent : Extent) → k ≡ length s.bytes / 4 + 1 → IsSoFar given o i s k words extent → IsExtent given (sections_before given.objects o (i + 1)) extent
-  at_last k words extent last so_far =
-      let past : 4 * k ≡ length s.bytes + 4 = omega (arith, last, here.whole.words) in
-      let l = listed o i s in
-      let front = sections_before given.objects o i in
-      let own : before_of (4 * k) ≡ items_in given l = ap before_of past ∙ ap items_of before_all ∙ sym (items_in-code given l here.code) in
-      let more = before_more given.objects o i s here.found in
-      record {
-        end_is = so_far.end_is ∙ ap (after_items (plain_start given o i s)) own
-            ∙ sym (ap (plain_end_of given) more ∙ fold-append (section_end given) inputs.map.text front (l ∷ []) ∙ section_end-code given (plain_end_of given front) l here.code);
-        count_is = so_far.count_is ∙ ap (λ x. length (flat_map (items_in given) front) + length x) own
-            ∙ sym (ap (λ ls. length (flat_map (items_in given) ls)) more ∙ ap length (flat_map-append (items_in given) front (l ∷ []))
-            ∙ length-append (flat_map (items_in given) front) (items_in given l ++ []) ∙ ap (λ x. length (flat_map (items_in given) front) + length x) (append-nil (items_in given l)));
-      }
-
-  -- the words are all of the section
-  pub words_all : (k : ℕ) (words : List TextWord) (extent : Extent) → k ≡ length s.bytes / 4 + 1 → IsSoFar given o i s k words extent → words ≡ text_words_at given o i
-  words_all k words extent last so_far =
-      so_far.words_are ∙ ap (λ n. map (λ j. text_word given (place_at o i (4 * j))) (range_with_len 0 n)) last
-      ∙ sym (ap (words_of (λ t n. text_word given (place_at o i n))) here.found ∙ ap (λ b. cond b (by_word (λ n. text_word given (place_at o i n)) s) []) here.code)
-
-  -- ---- room
-
-  -- the code before the section ends near the text's start
-  pub before_fits : plain_end_of given (sections_before given.objects o i) ≤ inputs.map.text + 0x4_0000
-  before_fits = omega (arith, section_end-ge given (plain_end_of given (sections_before given.objects o i)) (listed o i s), section_ends inputs none o i s here.found, plain_end-fits inputs none)
-
-  -- so do its words
-  pub end_fits : (k : ℕ) (words : List TextWord) (extent : Extent) → 4 * k ≤ length s.bytes → IsSoFar given o i s k words extent → extent.end ≤ inputs.map.text + 0x4_0000
-  end_fits k words extent le so_far =
+  -- there are few items
+  pub count_fits : (extent : Extent) (places : List CodePlace) → IsExtent (parsed inputs) front extent → places ≡ code_places (parsed inputs) l → extent.count + length places < 0x100_0000
+  count_fits extent places is are =
+      let all : front ++ drop k (all_sections (parsed inputs).objects) ≡ all_sections (parsed inputs).objects = take-append-drop k (all_sections (parsed inputs).objects) in
+      let whole = whole_before front (drop k (all_sections (parsed inputs).objects)) (subst AreWhole (sym all) (all_whole inputs none)) in
       omega (
         arith,
-        so_far.end_is,
-        offset_rises given (place_at o i 0) s here.code here.whole (4 * k) (length s.bytes) le,
-        offset_end given (place_at o i 0) s here.code here.whole,
-        section_ends inputs none o i s here.found,
-        plain_end-fits inputs none,
-      )
-
-  -- and there are few items
-  pub count_fits : (k : ℕ) (words : List TextWord) (extent : Extent) → IsSoFar given o i s k words extent → 4 * extent.count ≤ 0x4_0000
-  count_fits k words extent so_far =
-      let cut = cut_at given.objects o i s here.found in
-      let front = sections_before given.objects o i in
-      let whole = whole_before front (listed o i s ∷ cut.rest) (subst AreWhole cut.all_are (all_whole inputs none)) in
-      let own : length (before_of (4 * k)) ≤ length (starts_in s) =
-      omega (arith, length-map (before (4 * k)) (λ m. item_in given s (place_of (listed o i s) m)), filter_few (λ m. ltb m (4 * k)) (starts_in s)) in
-      omega (
-        arith,
-        so_far.count_is,
-        own,
-        starts_few s here.code here.whole,
-        size_in_room s here.code here.whole,
-        items_few given front whole,
+        is.count_is,
+        items_few (parsed inputs) front whole,
         rooms_few inputs none,
-        ap rooms cut.all_are,
-        sum_by-append (λ (m : ListedSection). code_room m.section) front (listed o i s ∷ cut.rest),
-        sum_by-cons (λ (m : ListedSection). code_room m.section) (listed o i s) cut.rest,
+        ap rooms (sym all),
+        sum_by-append (λ (m : ListedSection). code_room m.section) front (drop k (all_sections (parsed inputs).objects)),
+        ap length are,
+        few (is_code_section l.section) refl,
       )
-
-  -- an item has room where a target isn't the end
-  pub room_there : (n : ℕ) (word : CodeWord) (bytes : List ℕ) → word.is_target ≡ true → n ≢ length bytes → word.is_target ≡ (starts_on s n || eqb n (length s.bytes)) → word.reloc ≡ reloc_on s n → bytes ≡ s.bytes → HasRoom bytes n word.reloc
-  room_there n word bytes is not_end target reloc are =
-      by (starts_on s n) refl
     where
-      by : (b : Bool) → starts_on s n ≡ b → HasRoom bytes n word.reloc
-      by true start =
-          let own = start_is s here.code here.whole n start in
-          let long = ap length are in
+      few : (b : Bool) → is_code_section l.section ≡ b → length (cond b (map (code_place (parsed inputs) l) (targets_in l.section)) []) ≤ 0x20_0001
+      few true code =
+          let whole = inputs_whole inputs l.object l.index l.section none section_found code in
+          omega (
+            arith,
+            length-map (targets_in l.section) (code_place (parsed inputs) l),
+            length-append (starts_in l.section) (length l.section.bytes ∷ []),
+            starts_few l.section code whole,
+            whole.short,
+          )
+      few false other = omega arith
+
+  -- the last place is the end
+  last_place : slice_get (map (code_place (parsed inputs) l) (targets_in l.section)) (length (map (code_place (parsed inputs) l) (targets_in l.section)) - 1) ≡ Some (code_place (parsed inputs) l (length l.section.bytes))
+  last_place =
+      let count : length (map (code_place (parsed inputs) l) (targets_in l.section)) - 1 ≡ length (starts_in l.section) =
+      omega (arith, length-map (targets_in l.section) (code_place (parsed inputs) l), length-append (starts_in l.section) (length l.section.bytes ∷ [])) in
+      ap (slice_get (map (code_place (parsed inputs) l) (targets_in l.section))) count
+      ∙ slice_get-map (code_place (parsed inputs) l) (targets_in l.section) (length (starts_in l.section)) ∙ ap (option_map (code_place (parsed inputs) l)) (last_got (starts_in l.section) (length l.section.bytes))
+
+  -- with a section that isn't code it comes no further
+  pub none_added : (old : Extent) (places : List CodePlace) → places ≡ code_places (parsed inputs) l → None ≡ slice_get places (length places - 1) → IsExtent (parsed inputs) front old → IsExtent (parsed inputs) (take (k + 1) (all_sections (parsed inputs).objects)) old
+  none_added old places are last is = by (is_code_section l.section) refl
+    where
+      by : (b : Bool) → is_code_section l.section ≡ b → IsExtent (parsed inputs) (take (k + 1) (all_sections (parsed inputs).objects)) old
+      by true code =
+          let list : places ≡ map (code_place (parsed inputs) l) (targets_in l.section) = are ∙ ap (λ b. cond b (map (code_place (parsed inputs) l) (targets_in l.section)) []) code in
+          let missing : None ≡ Some (code_place (parsed inputs) l (length l.section.bytes)) = last ∙ ap (λ ps. slice_get ps (length ps - 1)) list ∙ last_place in
+          absurd (cc missing)
+      by false other = record {
+        end_is = is.end_is ∙ sym (ap (plain_end_of (parsed inputs)) front_more ∙ fold-append (section_end (parsed inputs)) inputs.map.text front (l ∷ []) ∙ section_end-other (parsed inputs) (plain_end_of (parsed inputs) front) l other);
+        count_is = is.count_is
+            ∙ sym (ap (λ ls. length (flat_map (items_in (parsed inputs)) ls)) front_more ∙ ap length (flat_map-append (items_in (parsed inputs)) front (l ∷ []))
+            ∙ length-append (flat_map (items_in (parsed inputs)) front) (items_in (parsed inputs) l ++ [])
+            ∙ ap (λ x. length (flat_map (items_in (parsed inputs)) front) + length (x ++ [])) (items_in-other (parsed inputs) l other) ∙ omega arith);
+      }
+
+  -- with code it comes to the end's address, and has an item for each other place
+  pub code_added : (old : Extent) (places : List CodePlace) (end : CodePlace) → places ≡ code_places (parsed inputs) l → Some end ≡ slice_get places (length places - 1) → IsExtent (parsed inputs) front old
+      → IsExtent (parsed inputs) (take (k + 1) (all_sections (parsed inputs).objects)) (record { end = end.address; count = old.count + (length places - 1) })
+  code_added old places end are last is = by (is_code_section l.section) refl
+    where
+      by : (b : Bool) → is_code_section l.section ≡ b → IsExtent (parsed inputs) (take (k + 1) (all_sections (parsed inputs).objects)) (record { end = end.address; count = old.count + (length places - 1) })
+      by true code =
+          let s = l.section in
+          let here = code_here inputs l.object l.index s none section_found code in
+          let list : places ≡ map (code_place (parsed inputs) l) (targets_in s) = are ∙ ap (λ b. cond b (map (code_place (parsed inputs) l) (targets_in s)) []) code in
+          let same : Some end ≡ Some (code_place (parsed inputs) l (length s.bytes)) = last ∙ ap (λ ps. slice_get ps (length ps - 1)) list ∙ last_place in
+          let own : end ≡ code_place (parsed inputs) l (length s.bytes) = cc same in
+          let address : end.address ≡ section_end (parsed inputs) (plain_end_of (parsed inputs) front) l =
+          ap (λ p. p.address) own ∙ ap (λ o. unwrap_or o 0) (place_address (parsed inputs) (place_of l (length s.bytes)) s (here.at (length s.bytes)) (inr refl))
+          ∙ offset_end (parsed inputs) (place_of l 0) s code here.whole ∙ ap (λ ls. section_end (parsed inputs) (plain_end_of (parsed inputs) ls) l) (before_number (parsed inputs).objects k l at) in
+          let many : length (items_in (parsed inputs) l) ≡ length (starts_in s) = ap length (items_in-code (parsed inputs) l code) ∙ length-map (starts_in s) (λ m. item_in (parsed inputs) s (place_of l m)) in
           record {
-            word = omega (arith, own.inside, own.words, here.whole.words, long);
-            field = room word.reloc reloc;
-            padding = fill word.reloc reloc;
+            end_is = address ∙ sym (ap (plain_end_of (parsed inputs)) front_more ∙ fold-append (section_end (parsed inputs)) inputs.map.text front (l ∷ []));
+            count_is = omega (
+              arith,
+              is.count_is,
+              many,
+              ap length list,
+              length-map (targets_in s) (code_place (parsed inputs) l),
+              length-append (starts_in s) (length s.bytes ∷ []),
+              ap (λ ls. length (flat_map (items_in (parsed inputs)) ls)) front_more,
+              ap length (flat_map-append (items_in (parsed inputs)) front (l ∷ [])),
+              length-append (flat_map (items_in (parsed inputs)) front) (items_in (parsed inputs) l ++ []),
+              ap length (append-nil (items_in (parsed inputs) l)),
+            );
           }
-        where
-          room : (r : Option Reloc) → r ≡ reloc_on s n → IfSome r (λ t. n + field_of t ≤ length bytes)
-          room None at = tt
-          room (Some r) at = omega (arith, (sound_at s n r here.code (sym at)).inside, here.whole.bytes, ap length are)
-
-          fill : (r : Option Reloc) → r ≡ reloc_on s n → IfSome r (λ t. kind_of t.kind ≡ Some Align → is_padding t.addend ≡ true)
-          fill None at = tt
-          fill (Some r) at = λ align. ap (fits_at s n r.addend) (sym align) ∙ (sound_at s n r here.code (sym at)).fits
       by false other =
-          let ends : eqb n (length s.bytes) ≡ true = sym (ap (λ b. b || eqb n (length s.bytes)) other) ∙ sym target ∙ is in
-          absurd (not_end (eqb-true n (length s.bytes) ends ∙ ap length (sym are)))
+          let empty : places ≡ [] = are ∙ ap (λ b. cond b (map (code_place (parsed inputs) l) (targets_in l.section)) []) other in
+          let missing : Some end ≡ None = last ∙ ap (λ ps. slice_get ps (length ps - 1)) empty in
+          absurd (cc missing)
 
--- ---- what isn't code adds nothing
+-- ---- addresses
 
-pub other_adds : (inputs : ParsedInputs) (o i : ℕ) (s : SectionParts) (extent : Extent) → section_at inputs.objects o i ≡ Some s → is_code_section s ≡ false → IsExtent inputs (sections_before inputs.objects o i) extent → IsExtent inputs (sections_before inputs.objects o (i + 1)) extent
-other_adds inputs o i s extent found other so_far =
-    let l = listed o i s in
-    let front = sections_before inputs.objects o i in
-    let more = before_more inputs.objects o i s found in
-    record {
-      end_is = so_far.end_is
-          ∙ sym (ap (plain_end_of inputs) more ∙ fold-append (section_end inputs) inputs.map.text front (l ∷ []) ∙ section_end-other inputs (plain_end_of inputs front) l other);
-      count_is = so_far.count_is
-          ∙ sym (ap (λ ls. length (flat_map (items_in inputs) ls)) more ∙ ap length (flat_map-append (items_in inputs) front (l ∷ []))
-          ∙ length-append (flat_map (items_in inputs) front) (items_in inputs l ++ [])
-          ∙ ap (λ x. length (flat_map (items_in inputs) front) + length (x ++ [])) (items_in-other inputs l other) ∙ omega arith);
-    }
+-- what code may lead to has one
+pub target_address : (inputs : ParsedInputs) (q : Place) → is_target_at inputs.objects q ≡ true → Some (unwrap_or (plain_address inputs q) 0) ≡ plain_address inputs q
+unfolding plain_address
+target_address inputs q is = by (code_at inputs.objects q) refl
+  where
+    by : (o : Option SectionParts) → code_at inputs.objects q ≡ o → Some (unwrap_or (plain_address inputs q) 0) ≡ plain_address inputs q
+    by None at = absurd (cc (is, target_nowhere inputs.objects q at))
+    by (Some s) at =
+        let there : plain_address inputs q ≡ Some (address_on inputs q s) = λ j. cond (is j) (option_map (address_on inputs q) (at j)) None in
+        ap (λ o. Some (unwrap_or o 0)) there ∙ sym there

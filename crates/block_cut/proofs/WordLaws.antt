@@ -1,63 +1,46 @@
--- Tables of words: what a table has at a place is what the definition says of it, and the walk over the words of a section.
-use Rattle.std.proofs.Common.{◌≡◌, ◌≢◌, ℕ, ◌+◌, ◌*◌, ◌/◌, ◌%◌, ◌<◌, ◌≤◌, ◌⊎◌, List, [], ◌∷◌, ◌++◌, length, get_or, take, Bool, true, false, cond, Option, Some, None, slice_get, refl, sym, ap, subst, ◌∙◌, arith, eqb, eq-eqb, inl, inr}
+-- Tables by halfwords: what a table has at an offset is what the definition says of it, and the walk over the halfwords of a section.
+use Rattle.std.proofs.Common.{◌≡◌, ◌≢◌, ℕ, zero, suc, ◌+◌, ◌*◌, ◌/◌, ◌%◌, ◌<◌, ◌≤◌, ◌⊎◌, List, [], ◌∷◌, ◌++◌, filter, length, get_or, take, Bool, true, false, cond, Option, Some, None, slice_get, refl, sym, ap, subst, ◌∙◌, arith, eqb, ltb, eq-eqb, inl, inr}
 use Rattle.std.specs.Prelude.{◌||◌}
 use Rattle.std.specs.List.{find}
 use Rattle.std.specs.Option.{option_and_then, option_map, option_map_or, option_or}
-use Rattle.std.proofs.lemmas.Bool.{cases_eq, false_from_ne_true, ne_eqb}
+use Rattle.std.proofs.lemmas.Bool.{cases_eq, cases_lt, eqb-true, false_from_ne_true, le-ltb, lt-ltb, ne_eqb}
 use Rattle.std.proofs.lemmas.List.{take_more}
 use Rattle.std.proofs.lemmas.List.Folds.{find-append}
 use Rattle.std.proofs.lemmas.List.FromFn.{get_or-map-range_with_len, length-map-range_with_len}
 use Rattle.std.proofs.lemmas.Option.{get_or_from_slice_get, slice_get_within}
 use Rattle.zc_base.specs.declared.place.Place.{Place}
-use Rattle.elf32_read.specs.Header.{section_count}
-use Rattle.elf32_read.specs.Parts.{ObjectParts, SectionParts, is_code_section, section_parts}
+use Rattle.elf32_read.specs.Parts.{ObjectParts, SectionParts, is_code_section}
 use Rattle.elf32_read.proofs.Listed.{slice_get-listed}
-use Rattle.psabi_sym.specs.Data.{is_code_at}
 use Rattle.psabi_sym.specs.Faults.{gather_fault}
 use Rattle.psabi_sym.specs.Inputs.{Inputs, ParsedInputs, parsed}
 use Rattle.psabi_sym.specs.Listed.{section_at}
-use Rattle.block_cut.specs.Cut.{by_word, place_at, words_of}
-use Rattle.block_cut.specs.Items.{code_at, code_only, is_target_at, item_at, item_in, size_on, starts_on}
-use Rattle.block_cut.specs.PlainLayout.{address_on, plain_address}
+use Rattle.block_cut.specs.Cut.{place_at}
+use Rattle.block_cut.specs.Items.{code_at, code_only, is_target_at, item_at, item_in, size_on, starts_in, starts_on}
+use Rattle.block_cut.specs.Places.{targets_in}
+use Rattle.block_cut.specs.PlainLayout.{address_on, plain_address, starts_before}
+use Rattle.block_cut.specs.SectionText.{by_halfword, number_on}
+use Rattle.block_cut.specs.Units.{unit_of}
 use Rattle.block_cut.specs.Whole.{IsWhole}
 use Rattle.block_cut.proofs.ItemLaws.{item_at-code, item_at-none}
 use Rattle.block_cut.proofs.PlainLaws.{target_on}
-use Rattle.block_cut.proofs.StartLaws.{none_within, start_first, start_is, step}
-use Rattle.block_cut.proofs.WholeLaws.{code_is_section, code_whole, inputs_whole, section_there}
+use Rattle.block_cut.proofs.StartLaws.{Above, Among, Here, There, IsStep, above_filter, above_none, along, among, before_end_all, before_next_start, filter_between, is_among, none_within, start_first, start_is, step}
+use Rattle.block_cut.proofs.UnitLaws.{unit_even, unit_four, unit_sum}
+use Rattle.block_cut.proofs.WholeLaws.{inputs_whole}
 
--- ---- words of a section
+-- ---- halfwords of a section
 
--- what stands at an offset of a word, or at the end
-pub word_there : {W : Type 0} (f : ℕ → W) (s : SectionParts) (n : ℕ) → n % 4 ≡ 0 → n ≤ length s.bytes → slice_get (by_word f s) (n / 4) ≡ Some (f n)
-word_there f s n words le =
-    let at : 4 * (n / 4) ≡ n = omega (arith, words) in
-    slice_get-listed (λ k. f (4 * k)) (length s.bytes / 4 + 1) (n / 4) (omega (arith, le)) ∙ ap (λ m. Some (f m)) at
+-- what stands at an even offset, or at the end
+pub halfword_there : {W : Type 0} (f : ℕ → W) (s : SectionParts) (n : ℕ) → n % 2 ≡ 0 → n ≤ length s.bytes → slice_get (by_halfword f s) (n / 2) ≡ Some (f n)
+halfword_there f s n even le =
+    let at : 2 * (n / 2) ≡ n = omega (arith, even) in
+    slice_get-listed (λ k. f (2 * k)) (length s.bytes / 2 + 1) (n / 2) (omega (arith, le)) ∙ ap (λ m. Some (f m)) at
 
--- how many there are, and what stands at an offset of a word
-pub word_count : {W : Type 0} (f : ℕ → W) (s : SectionParts) → length (by_word f s) ≡ length s.bytes / 4 + 1
-word_count f s = length-map-range_with_len (λ k. f (4 * k)) 0 (length s.bytes / 4 + 1)
+-- how many there are, and what stands at one
+pub halfword_count : {W : Type 0} (f : ℕ → W) (s : SectionParts) → length (by_halfword f s) ≡ length s.bytes / 2 + 1
+halfword_count f s = length-map-range_with_len (λ k. f (2 * k)) 0 (length s.bytes / 2 + 1)
 
-pub word_got : {W : Type 0} (f : ℕ → W) (s : SectionParts) (n : ℕ) (d : W) → n % 4 ≡ 0 → n / 4 < length (by_word f s) → get_or (by_word f s) (n / 4) d ≡ f n
-word_got f s n d words lt =
-    let at : 4 * (n / 4) ≡ n = omega (arith, words) in
-    get_or-map-range_with_len (λ k. f (4 * k)) 0 (length s.bytes / 4 + 1) (n / 4) (n / 4) d (omega (arith, lt, word_count f s)) (omega arith) ∙ ap f at
-
--- the words of a section of code, and of another
-pub words_code : {W : Type 0} (f : SectionParts → ℕ → W) (objects : List ObjectParts) (q : Place) (s : SectionParts) → code_at objects q ≡ Some s → words_of f (section_at objects q.object q.section) ≡ by_word (f s) s
-words_code f objects q s at =
-    let two = code_is_section objects q s at in
-    ap (words_of f) two.0 ∙ ap (λ b. cond b (by_word (f s) s) []) two.1
-
-pub words_other : {W : Type 0} (f : SectionParts → ℕ → W) (objects : List ObjectParts) (q : Place) → code_at objects q ≡ None → words_of f (section_at objects q.object q.section) ≡ []
-words_other f objects q at = by (section_at objects q.object q.section) at
-  where
-    by : (o : Option SectionParts) → option_and_then code_only o ≡ None → words_of f o ≡ []
-    by None at = refl
-    by (Some s) at = tested (is_code_section s) at
-      where
-        tested : (b : Bool) → cond b (Some s) None ≡ None → cond b (by_word (f s) s) [] ≡ []
-        tested true at = absurd cc
-        tested false at = refl
+pub halfword_got : {W : Type 0} (f : ℕ → W) (s : SectionParts) (k : ℕ) (d : W) → k < length (by_halfword f s) → get_or (by_halfword f s) k d ≡ f (2 * k)
+halfword_got f s k d lt = get_or-map-range_with_len (λ j. f (2 * j)) 0 (length s.bytes / 2 + 1) k k d (omega (arith, lt, halfword_count f s)) (omega arith)
 
 -- ---- places that nothing leads to
 
@@ -68,28 +51,16 @@ target_nowhere objects q at = λ j. option_map_or (λ t. starts_on t q.offset) (
 neither : (a b : Bool) → a ≡ false → b ≡ false → (a || b) ≡ false
 neither a b one two = (λ j. one j || two j)
 
-module _ (inputs : Inputs) (none : gather_fault inputs ≡ None) (q : Place) where
-  -- the offset isn't a word's
-  pub target_askew : q.offset % 4 ≢ 0 → is_target_at (parsed inputs).objects q ≡ false
-  target_askew askew = by (code_at (parsed inputs).objects q) refl
-    where
-      by : (o : Option SectionParts) → code_at (parsed inputs).objects q ≡ o → is_target_at (parsed inputs).objects q ≡ false
-      by None at = target_nowhere (parsed inputs).objects q at
-      by (Some s) at =
-          let two = code_is_section (parsed inputs).objects q s at in
-          let whole = code_whole inputs q s none at in
-          target_on (parsed inputs).objects q s at
-          ∙ neither _ _ (false_from_ne_true (starts_on s q.offset) (λ is. askew (start_is s two.1 whole q.offset is).words))
-          (ne_eqb q.offset (length s.bytes) (λ e. askew (ap (λ n. n % 4) e ∙ whole.words)))
+module _ (s : SectionParts) (code : is_code_section s ≡ true) (whole : IsWhole s) where
+  -- an offset that isn't even
+  pub other_odd : (n : ℕ) → n % 2 ≢ 0 → (starts_on s n || eqb n (length s.bytes)) ≡ false
+  other_odd n odd = neither _ _ (false_from_ne_true (starts_on s n) (λ is. odd (unit_even s.compressed n (start_is s code whole n is).words)))
+      (ne_eqb n (length s.bytes) (λ e. odd (ap (λ m. m % 2) e ∙ unit_even s.compressed (length s.bytes) whole.words)))
 
-  -- or it lies after the section
-  pub target_past : (s : SectionParts) → code_at (parsed inputs).objects q ≡ Some s → length s.bytes < q.offset → is_target_at (parsed inputs).objects q ≡ false
-  target_past s at past =
-      let two = code_is_section (parsed inputs).objects q s at in
-      let whole = code_whole inputs q s none at in
-      target_on (parsed inputs).objects q s at
-      ∙ neither _ _ (false_from_ne_true (starts_on s q.offset) (λ is. omega (arith, (start_is s two.1 whole q.offset is).inside, past)))
-      (ne_eqb q.offset (length s.bytes) (λ e. omega (arith, e, past)))
+  -- or one past the section
+  pub other_past : (n : ℕ) → length s.bytes < n → (starts_on s n || eqb n (length s.bytes)) ≡ false
+  other_past n past = neither _ _ (false_from_ne_true (starts_on s n) (λ is. omega (arith, (start_is s code whole n is).inside, past)))
+      (ne_eqb n (length s.bytes) (λ e. omega (arith, e, past)))
 
 -- a place that nothing leads to has no item and no address
 pub no_address : (inputs : ParsedInputs) (q : Place) → is_target_at inputs.objects q ≡ false → plain_address inputs q ≡ None
@@ -126,14 +97,14 @@ or_none (Some x) = refl
 pub record IsNext (s : SectionParts) (at next : ℕ) : Type 0 where
   pub low : at ≤ next
   pub high : next ≤ length s.bytes
-  pub words : next % 4 ≡ 0
+  pub words : next % unit_of s.compressed ≡ 0
   pub target : (starts_on s next ≡ true) ⊎ (next ≡ length s.bytes)
   pub between : (m : ℕ) → at ≤ m → m < next → starts_on s m ≡ false
 
 module _ (s : SectionParts) (code : is_code_section s ≡ true) (whole : IsWhole s) where
   -- at first the start
   pub next_first : IsNext s 0 0
-  next_first = record { low = omega arith; high = omega arith; words = refl; target = start_first s code whole; between = λ m low high. absurd (omega arith) }
+  next_first = record { low = omega arith; high = omega arith; words = unit_four s.compressed 0 refl; target = start_first s code whole; between = λ m low high. absurd (omega arith) }
 
   -- the word at an offset is a target if that is the next one
   pub is_next : (at next : ℕ) → IsNext s at next → eqb next at ≡ (starts_on s at || eqb at (length s.bytes))
@@ -152,11 +123,11 @@ module _ (s : SectionParts) (code : is_code_section s ≡ true) (whole : IsWhole
       by (inl start) = ap (λ b. b || eqb at (length s.bytes)) start
       by (inr end) = ap (λ b. starts_on s at || b) (eq-eqb at (length s.bytes) end) ∙ or_true (starts_on s at)
 
-  -- a word on, if an item starts there
-  pub next_item : (at : ℕ) → IsNext s at at → at < length s.bytes → IsNext s (at + 4) (at + size_on s at)
+  -- a halfword on, if an item starts there
+  pub next_item : (at : ℕ) → IsNext s at at → at < length s.bytes → IsNext s (at + 2) (at + size_on s at)
   next_item at is lt = by is.target
     where
-      by : (starts_on s at ≡ true) ⊎ (at ≡ length s.bytes) → IsNext s (at + 4) (at + size_on s at)
+      by : (starts_on s at ≡ true) ⊎ (at ≡ length s.bytes) → IsNext s (at + 2) (at + size_on s at)
       by (inr end) = absurd (omega (arith, end, lt))
       by (inl start) =
           let own = start_is s code whole at start in
@@ -164,47 +135,132 @@ module _ (s : SectionParts) (code : is_code_section s ≡ true) (whole : IsWhole
           record {
             low = omega (arith, st.some);
             high = st.inside;
-            words = omega (arith, own.words, st.words);
+            words = unit_sum s.compressed at (size_on s at) own.words st.words;
             target = own.next;
             between = λ m low high. none_within s code whole at m start (omega (arith, low)) high;
           }
 
   -- and if none does
-  pub next_word : (at next : ℕ) → IsNext s at next → at % 4 ≡ 0 → next ≢ at → IsNext s (at + 4) next
+  pub next_word : (at next : ℕ) → IsNext s at next → at % 2 ≡ 0 → next ≢ at → IsNext s (at + 2) next
   next_word at next is words ne = record {
-    low = omega (arith, is.low, ne, words, is.words);
+    low = omega (arith, is.low, ne, words, unit_even s.compressed next is.words);
     high = is.high;
     words = is.words;
     target = is.target;
     between = λ m low high. is.between m (omega (arith, low)) high;
   }
 
--- ---- sections of code in a file
+-- ---- numbers of places
 
--- a section that is code, by its index: it is whole
+-- the last of a list, and one of its front
+pub last_got : {X : Type 0} (xs : List X) (x : X) → slice_get (xs ++ x ∷ []) (length xs) ≡ Some x
+last_got [] x = refl
+last_got (y ∷ ys) x = last_got ys x
+
+front_got : {X : Type 0} (xs ys : List X) (k : ℕ) (x : X) → slice_get xs k ≡ Some x → slice_get (xs ++ ys) k ≡ Some x
+front_got [] ys k x at = absurd cc
+front_got (z ∷ zs) ys zero x at = at
+front_got (z ∷ zs) ys (suc k) x at = front_got zs ys k x at
+
+module _ (s : SectionParts) (code : is_code_section s ≡ true) (whole : IsWhole s) where
+  -- a start comes after as many as there are before it
+  start_got : (k : ℕ) → starts_on s k ≡ true → slice_get (starts_in s) (length (filter (λ m. ltb m k) (starts_in s))) ≡ Some k
+  start_got = along s code whole (λ n xs. (k : ℕ) → is_among k xs ≡ true → slice_get xs (length (filter (λ m. ltb m k) xs)) ≡ Some k)
+      (λ k is. absurd cc)
+      (λ n xs lt words st above rest k is. one n xs st above rest k (among n k xs is))
+    where
+      one : (n : ℕ) (xs : List ℕ) → IsStep s n → Above (n + size_on s n) xs → ((k : ℕ) → is_among k xs ≡ true → slice_get xs (length (filter (λ m. ltb m k) xs)) ≡ Some k) → (k : ℕ) → Among n k xs
+          → slice_get (n ∷ xs) (length (filter (λ m. ltb m k) (n ∷ xs))) ≡ Some k
+      one n xs st above rest k (Here e) =
+          let none : filter (λ m. ltb m k) (n ∷ xs) ≡ [] =
+          ap (λ b. cond b (n ∷ filter (λ m. ltb m k) xs) (filter (λ m. ltb m k) xs)) (le-ltb n k (omega (arith, e))) ∙ above_filter (n + size_on s n) k xs above (omega (arith, e)) in
+          ap (λ l. slice_get (n ∷ xs) (length l)) none ∙ ap Some e
+      one n xs st above rest k (There is) = elim (cases_lt k (n + size_on s n)) [
+        | inl lt ↦ absurd (cc (is, above_none (n + size_on s n) k xs above lt))
+        | inr le ↦
+            let kept : filter (λ m. ltb m k) (n ∷ xs) ≡ n ∷ filter (λ m. ltb m k) xs =
+            ap (λ b. cond b (n ∷ filter (λ m. ltb m k) xs) (filter (λ m. ltb m k) xs)) (lt-ltb n k (omega (arith, le, st.some))) in
+            ap (λ l. slice_get (n ∷ xs) (length l)) kept ∙ rest k is
+      ]
+
+  -- so does the end, after all of them
+  pub target_got : (n : ℕ) → (starts_on s n || eqb n (length s.bytes)) ≡ true → slice_get (targets_in s) (length (starts_before s n)) ≡ Some n
+  target_got n is = by (starts_on s n) refl is
+    where
+      by : (b : Bool) → starts_on s n ≡ b → (b || eqb n (length s.bytes)) ≡ true → slice_get (targets_in s) (length (starts_before s n)) ≡ Some n
+      by true start is = front_got (starts_in s) (length s.bytes ∷ []) (length (starts_before s n)) n (start_got n start)
+      by false other is =
+          let end = eqb-true n (length s.bytes) is in
+          let all : starts_before s n ≡ starts_in s = ap (starts_before s) end ∙ before_end_all s code whole in
+          ap (λ l. slice_get (targets_in s) (length l)) all ∙ last_got (starts_in s) (length s.bytes) ∙ ap Some (sym end)
+
+-- by the number it is known whether code may lead there
+pub number_target : (s : SectionParts) (n : ℕ) → number_on s n ≢ 0 → (starts_on s n || eqb n (length s.bytes)) ≡ true
+number_target s n some = by (starts_on s n || eqb n (length s.bytes)) some
+  where
+    by : (b : Bool) → cond b (length (starts_before s n) + 1) 0 ≢ 0 → b ≡ true
+    by true some = refl
+    by false some = absurd (some refl)
+
+pub number_none : (s : SectionParts) (n : ℕ) → (starts_on s n || eqb n (length s.bytes)) ≡ false → number_on s n ≡ 0
+number_none s n is = ap (λ b. cond b (length (starts_before s n) + 1) 0) is
+
+pub number_other : (s : SectionParts) (n : ℕ) → number_on s n ≡ 0 → (starts_on s n || eqb n (length s.bytes)) ≡ false
+number_other s n none = by (starts_on s n || eqb n (length s.bytes)) none
+  where
+    by : (b : Bool) → cond b (length (starts_before s n) + 1) 0 ≡ 0 → b ≡ false
+    by true none = absurd (omega (arith, none))
+    by false none = refl
+
+-- the number that a table has for a halfword
+pub number_got : (s : SectionParts) (numbers : List ℕ) (k d : ℕ) → numbers ≡ by_halfword (number_on s) s → k < length numbers → (2 * k ≤ length s.bytes) × (get_or numbers k d ≡ number_on s (2 * k))
+number_got s numbers k d are lt =
+    let inside : k < length (by_halfword (number_on s) s) = omega (arith, lt, ap length are) in
+    (omega (arith, inside, halfword_count (number_on s) s), ap (λ l. get_or l k d) are ∙ halfword_got (number_on s) s k d inside)
+
+pub no_target : (objects : List ObjectParts) (q : Place) (s : SectionParts) → code_at objects q ≡ Some s → number_on s q.offset ≡ 0 → is_target_at objects q ≡ false
+no_target objects q s at none = target_on objects q s at ∙ number_other s q.offset none
+
+pub some_target : (objects : List ObjectParts) (q : Place) (s : SectionParts) → code_at objects q ≡ Some s → number_on s q.offset ≢ 0 → is_target_at objects q ≡ true
+some_target objects q s at some = target_on objects q s at ∙ number_target s q.offset some
+
+-- ---- starts before a halfword
+
+module _ (s : SectionParts) (code : is_code_section s ≡ true) (whole : IsWhole s) where
+  -- past a start it is one of them
+  pub before_start : (n : ℕ) → starts_on s n ≡ true → starts_before s (n + 2) ≡ starts_before s n ++ n ∷ []
+  before_start n start =
+      let own = start_is s code whole n start in
+      let st = step s code whole n own.words own.inside in
+      sym (filter_between (n + 2) (n + size_on s n) (starts_in s) (omega (arith, st.some)) (λ m low high. none_within s code whole n m start (omega (arith, low)) high))
+      ∙ before_next_start s code whole n start
+
+  -- past any other halfword they are the same
+  pub before_other : (n : ℕ) → n % 2 ≡ 0 → starts_on s n ≡ false → starts_before s (n + 2) ≡ starts_before s n
+  before_other n even other =
+      filter_between n (n + 2) (starts_in s) (omega arith)
+      (λ m low high. false_from_ne_true (starts_on s m) (λ start.
+      let own = start_is s code whole m start in
+      let same : m ≡ n = omega (arith, unit_even s.compressed m own.words, even, low, high) in
+      cc (start, other, same)))
+
+  -- the end isn't a start
+  pub end_other : starts_on s (length s.bytes) ≡ false
+  end_other = false_from_ne_true (starts_on s (length s.bytes)) (λ start. omega (arith, (start_is s code whole (length s.bytes) start).inside))
+
+-- ---- sections of code
+
+-- a section that is code, by its object's index and its own: it is whole
 pub record IsCodeHere (inputs : Inputs) (o i : ℕ) (s : SectionParts) : Type 0 where
   pub found : section_at (parsed inputs).objects o i ≡ Some s
   pub code : is_code_section s ≡ true
   pub at : (n : ℕ) → code_at (parsed inputs).objects (place_at o i n) ≡ Some s
   pub whole : IsWhole s
 
-pub code_here : (inputs : Inputs) (o i : ℕ) (file : List ℕ) → gather_fault inputs ≡ None → slice_get inputs.files o ≡ Some file → i < section_count file → is_code_at (parsed inputs).objects o i ≡ true
-    → IsCodeHere inputs o i (section_parts file i)
-code_here inputs o i file none at within is =
-    let s = section_parts file i in
-    let found = section_there inputs o i file at within in
-    let code : is_code_section s ≡ true = sym (ap (λ x. option_map_or is_code_section x false) found) ∙ is in
-    record {
-      found = found;
-      code = code;
-      at = λ n. ap (option_and_then code_only) found ∙ ap (λ b. cond b (Some s) None) code;
-      whole = inputs_whole inputs o i s none found code;
-    }
-
--- no code reaches as far as the largest offset
-pub target_far : (inputs : Inputs) → gather_fault inputs ≡ None → (q : Place) → 0x40_0000 < q.offset → is_target_at (parsed inputs).objects q ≡ false
-target_far inputs none q far = by (code_at (parsed inputs).objects q) refl
-  where
-    by : (o : Option SectionParts) → code_at (parsed inputs).objects q ≡ o → is_target_at (parsed inputs).objects q ≡ false
-    by None at = target_nowhere (parsed inputs).objects q at
-    by (Some s) at = target_past inputs none q s at (omega (arith, far, (code_whole inputs q s none at).short))
+pub code_here : (inputs : Inputs) (o i : ℕ) (s : SectionParts) → gather_fault inputs ≡ None → section_at (parsed inputs).objects o i ≡ Some s → is_code_section s ≡ true → IsCodeHere inputs o i s
+code_here inputs o i s none found code = record {
+  found = found;
+  code = code;
+  at = λ n. ap (option_and_then code_only) found ∙ ap (λ b. cond b (Some s) None) code;
+  whole = inputs_whole inputs o i s none found code;
+}

@@ -17,15 +17,15 @@ use Rattle.psabi_reloc.specs.Kinds.{kind_of}
 use Rattle.psabi_reloc.specs.Reaches.{branch_reach}
 use Rattle.block_cut.specs.Items.{all_places, entry_in, is_target_at, item_at, target_of}
 use Rattle.block_cut.specs.PlainLayout.{plain_address}
-use Rattle.block_cut.specs.Relocs.{is_bad_kind, is_bad_place, is_ignored, is_pcrel_lo, is_transfer, is_upper_on}
+use Rattle.block_cut.specs.Relocs.{is_bad_kind, is_bad_place, is_ignored, is_pcrel_lo, is_transfer, has_pcrel_hi_at}
 use Rattle.block_cut.specs.declared.item.Item.{Item}
-use Rattle.block_cut.specs.declared.item.Item.TheVariants.{Op, Hi, Lo, PcHi, PcLo, Branch, Jump, Call, Align, Word, Raw, RawPair}
+use Rattle.block_cut.specs.declared.item.Item.TheVariants.{Branch}
 
 -- ---- relocations
 
 -- a lower part goes with an upper part that stands where its symbol is, in the same section
 abbrev pub is_pair_at : ListedSection → Target → Bool
-is_pair_at l (Code q) = (q.object == l.object) && ((q.section == l.index) && is_upper_on l.section q.offset)
+is_pair_at l (Code q) = (q.object == l.object) && ((q.section == l.index) && has_pcrel_hi_at l.section q.offset)
 is_pair_at l (Number n) = false
 is_pair_at l (Absent n) = false
 is_pair_at l Nowhere = false
@@ -36,20 +36,20 @@ is_nothing (pos n) = n == 0
 is_nothing (negsuc n) = false
 
 -- a lower part that doesn't
-abbrev pub is_lonely : ParsedInputs → ListedSection → Reloc → Bool
-is_lonely inputs l r =
+abbrev pub lacks_pcrel_hi : ParsedInputs → ListedSection → Reloc → Bool
+lacks_pcrel_hi inputs l r =
     is_pcrel_lo (kind_of r.kind) && (not (is_nothing r.addend) || not (is_pair_at l (resolved inputs l.object r.symbol (pos 0))))
 
 -- code and data may lead to an item's start or to a section's end, and what makes an instruction go somewhere to no number
-abbrev pub is_lost : List ObjectParts → Bool → Target → Bool
-is_lost objects transfers (Code to) = not (is_target_at objects to)
-is_lost objects transfers (Number n) = transfers
-is_lost objects transfers (Absent n) = false
-is_lost objects transfers Nowhere = true
+abbrev pub is_bad_target : List ObjectParts → Bool → Target → Bool
+is_bad_target objects transfers (Code to) = not (is_target_at objects to)
+is_bad_target objects transfers (Number n) = transfers
+is_bad_target objects transfers (Absent n) = false
+is_bad_target objects transfers Nowhere = true
 
 -- a relocation that leads nowhere
-abbrev pub is_astray : ParsedInputs → ListedSection → Reloc → Bool
-is_astray inputs l r = not (is_ignored (kind_of r.kind)) && is_lost inputs.objects (is_transfer (kind_of r.kind)) (target_of inputs l.object r)
+abbrev pub has_bad_target : ParsedInputs → ListedSection → Reloc → Bool
+has_bad_target inputs l r = not (is_ignored (kind_of r.kind)) && is_bad_target inputs.objects (is_transfer (kind_of r.kind)) (target_of inputs l.object r)
 
 -- a fault, if it stands
 abbrev pub if_so : Bool → Fault → Option Fault
@@ -61,8 +61,8 @@ abbrev pub reloc_fault : ParsedInputs → ListedSection → Reloc → Option Fau
 reloc_fault inputs l r = first_some (
     if_so (is_bad_kind l.section (kind_of r.kind)) (RelocKind l.index r.offset)
     ∷ if_so (is_bad_place l.section r) (RelocPlace l.index r.offset)
-    ∷ if_so (is_lonely inputs l r) (LoPair l.index r.offset)
-    ∷ if_so (is_astray inputs l r) (BadTarget l.index r.offset)
+    ∷ if_so (lacks_pcrel_hi inputs l r) (LoPair l.index r.offset)
+    ∷ if_so (has_bad_target inputs l r) (BadTarget l.index r.offset)
     ∷ [])
 
 -- that of a section, in the order of its relocations, with its object's index
@@ -81,30 +81,20 @@ entry_fault inputs = if is_none (entry_in inputs) then Some (0, NoEntry) else No
 
 -- ---- branches
 
--- the way from an address to another, if both are known
+-- the distance from an address to another, if both are known
 abbrev pub distance_between : Option ℕ → Option ℕ → Option ℤ
 distance_between None to = None
 distance_between (Some from) None = None
 distance_between (Some from) (Some to) = Some (pos to -ℤ pos from)
 
--- the way from a place to another in the plain layout
+-- the distance from a place to another in the plain layout
 abbrev pub plain_distance : ParsedInputs → Place → Place → Option ℤ
 plain_distance inputs q to = distance_between (plain_address inputs q) (plain_address inputs to)
 
 -- where a branch leads
 abbrev pub branch_target : Item → Option Place
-branch_target (Op i) = None
-branch_target (Hi i t) = None
-branch_target (Lo i t) = None
-branch_target (PcHi i t) = None
-branch_target (PcLo i from) = None
-branch_target (Branch i to) = Some to
-branch_target (Jump i to) = None
-branch_target (Call rd temp to) = None
-branch_target (Align bytes) = None
-branch_target (Word t) = None
-branch_target (Raw word) = None
-branch_target (RawPair first second) = None
+branch_target (Branch op first second to) = Some to
+branch_target item = None
 
 -- a branch at a place that doesn't reach so far
 abbrev pub is_far : ParsedInputs → Place → Place → Bool

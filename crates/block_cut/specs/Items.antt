@@ -14,13 +14,12 @@ use Rattle.psabi_sym.specs.Start.{start_name}
 use Rattle.psabi_sym.specs.declared.target.Target.{Target}
 use Rattle.psabi_sym.specs.declared.target.Target.TheVariants.{Code, Number, Absent, Nowhere}
 use Rattle.psabi_reloc.specs.Kinds.{kind_of, padding_length}
-use Rattle.psabi_reloc.specs.Patched.{with_distance}
 use Rattle.psabi_reloc.specs.declared.kind.RelocKind.{RelocKind}
 use Rattle.psabi_reloc.specs.declared.kind.RelocKind.TheVariants as kind
 use Rattle.rv_decode.specs.declared.instr.Instr.{Instr}
 use Rattle.rv_decode.specs.declared.instr.Instr.TheVariants as instr
-use Rattle.rv_decode.specs.Decode.{decoded}
-use Rattle.block_cut.specs.Relocs.{field_of, reloc_on}
+use Rattle.block_cut.specs.Relocs.{field_of, instr_in, reloc_on}
+use Rattle.block_cut.specs.Units.{own_size}
 use Rattle.block_cut.specs.declared.item.Item.{Item}
 use Rattle.block_cut.specs.declared.item.Item.TheVariants.{Op, Hi, Lo, PcHi, PcLo, Branch, Jump, Call, Align, Word, Raw, RawPair}
 
@@ -36,9 +35,9 @@ code_at objects q = option_and_then code_only (section_at objects q.object q.sec
 
 -- ---- places
 
--- the bytes of what stands at an offset of a section: those that its relocation changes, and else a word
+-- the bytes of what stands at an offset of a section: those that its relocation changes, and else its own
 abbrev pub size_on : SectionParts → ℕ → ℕ
-size_on s n = option_map_or field_of (reloc_on s n) 4
+size_on s n = option_map_or field_of (reloc_on s n) (own_size s.compressed s.bytes n)
 
 -- the offsets where items start, from one on: each after the item before it, as long as the section goes on
 abbrev pub starts_from : ℕ → SectionParts → ℕ → List ℕ
@@ -53,9 +52,13 @@ starts_in s = starts_from (length s.bytes) s 0
 abbrev pub starts_on : SectionParts → ℕ → Bool
 starts_on s n = list_any (λ m. m == n) (starts_in s)
 
+-- the bytes of what stands at a place
+abbrev pub size_at : List ObjectParts → Place → ℕ
+size_at objects q = option_map_or (λ s. size_on s q.offset) (code_at objects q) 4
+
 -- the place after the item at a place
 abbrev pub next_at : List ObjectParts → Place → Place
-next_at objects q = record q { offset = q.offset + option_map_or (λ s. size_on s q.offset) (code_at objects q) 4 }
+next_at objects q = record q { offset = q.offset + size_at objects q }
 
 -- whether an item starts at a place
 abbrev pub is_start_at : List ObjectParts → Place → Bool
@@ -88,38 +91,41 @@ target_only objects p = if is_target_at objects p then Some p else None
 abbrev pub target_away : List ObjectParts → Place → ℤ → Option Place
 target_away objects q distance = option_and_then (target_only objects) (place_away q distance)
 
--- what the instruction at a place is, with its word: a branch or `jal` goes to a place, or else the word is copied unread;
--- so is a write to jvt; all others stand for themselves
-abbrev pub instr_item : List ObjectParts → Place → Instr → ℕ → Item
-instr_item objects q (instr.Upper op rd imm) word = Op (instr.Upper op rd imm)
-instr_item objects q (instr.Jal rd distance) word =
-    option_map_or (Jump (instr.Jal rd (pos 0))) (target_away objects q distance) (Raw word)
-instr_item objects q (instr.Jalr rd base imm) word = Op (instr.Jalr rd base imm)
-instr_item objects q (instr.Branch op first second distance) word =
-    option_map_or (Branch (instr.Branch op first second (pos 0))) (target_away objects q distance) (Raw word)
-instr_item objects q (instr.Load op rd base imm) word = Op (instr.Load op rd base imm)
-instr_item objects q (instr.Store op source base imm) word = Op (instr.Store op source base imm)
-instr_item objects q (instr.WithImm op rd first imm) word = Op (instr.WithImm op rd first imm)
-instr_item objects q (instr.WithReg op rd first second) word = Op (instr.WithReg op rd first second)
-instr_item objects q (instr.Fence rest) word = Op (instr.Fence rest)
-instr_item objects q instr.Ecall word = Op instr.Ecall
-instr_item objects q instr.Ebreak word = Op instr.Ebreak
-instr_item objects q (instr.Csrrw rd source) word = Raw word
+-- so many bytes that are copied unread; so far 4
+abbrev pub raw_in : ℕ → List ℕ → ℕ → Item
+raw_in size bytes n = Raw (word_in bytes n)
 
--- what a word at a place spells: its instruction's item, or else a word that is copied unread
-abbrev pub spelled : List ObjectParts → Place → Option Instr → ℕ → Item
-spelled objects q None word = Raw word
-spelled objects q (Some i) word = instr_item objects q i word
+-- what the instruction at a place is: a branch or `jal` goes to a place, or else its bytes are copied unread; so is a write to jvt;
+-- all others stand for themselves
+abbrev pub instr_item : List ObjectParts → Place → Instr → Item → Item
+instr_item objects q (instr.Upper op rd imm) raw = Op (instr.Upper op rd imm)
+instr_item objects q (instr.Jal rd distance) raw = option_map_or (Jump rd) (target_away objects q distance) raw
+instr_item objects q (instr.Jalr rd base imm) raw = Op (instr.Jalr rd base imm)
+instr_item objects q (instr.Branch op first second distance) raw =
+    option_map_or (Branch op first second) (target_away objects q distance) raw
+instr_item objects q (instr.Load op rd base imm) raw = Op (instr.Load op rd base imm)
+instr_item objects q (instr.Store op source base imm) raw = Op (instr.Store op source base imm)
+instr_item objects q (instr.WithImm op rd first imm) raw = Op (instr.WithImm op rd first imm)
+instr_item objects q (instr.WithReg op rd first second) raw = Op (instr.WithReg op rd first second)
+instr_item objects q (instr.Fence rest) raw = Op (instr.Fence rest)
+instr_item objects q instr.Ecall raw = Op instr.Ecall
+instr_item objects q instr.Ebreak raw = Op instr.Ebreak
+instr_item objects q (instr.Csrrw rd source) raw = raw
 
--- the item that the word at a place is
-abbrev pub item_of : List ObjectParts → Place → ℕ → Item
-item_of objects q word = spelled objects q (decoded word) word
+-- what stands at a place: its instruction's item, or else bytes that are copied unread
+abbrev pub spelled : List ObjectParts → Place → Option Instr → Item → Item
+spelled objects q None raw = raw
+spelled objects q (Some i) raw = instr_item objects q i raw
+
+-- the item that so many bytes at a place are
+abbrev pub item_of : List ObjectParts → Place → ℕ → List ℕ → Item
+item_of objects q size bytes = spelled objects q (instr_in size bytes q.offset) (raw_in size bytes q.offset)
 
 -- ---- items with one
 
--- the item of an instruction, or else a word that is copied unread
-abbrev pub of_instr : Option Instr → ℕ → (Instr → Item) → Item
-of_instr first word item = option_map_or item first (Raw word)
+-- the item of an instruction, or else bytes that are copied unread
+abbrev pub of_instr : Option Instr → Item → (Instr → Item) → Item
+of_instr first raw item = option_map_or item first raw
 
 -- the item that goes to a place, or another, which goes nowhere: a weak symbol that no object defines is no place
 abbrev pub to_place : Target → (Place → Item) → Item → Item
@@ -128,30 +134,50 @@ to_place (Number n) item other = other
 to_place (Absent n) item other = other
 to_place Nowhere item other = other
 
+-- the branch or jump to a place that an instruction is, or else another item
+abbrev pub transfer_item : Instr → Item → Place → Item
+transfer_item (instr.Branch op first second distance) other to = Branch op first second to
+transfer_item (instr.Jal rd distance) other to = Jump rd to
+transfer_item i other to = other
+
+-- a branch or jump to a target, of so many bytes
+abbrev pub transfer_in : ℕ → Target → List ℕ → ℕ → Item
+transfer_in size t bytes n =
+    of_instr (instr_in size bytes n) (raw_in size bytes n) (λ i. to_place t (transfer_item i (raw_in size bytes n)) (raw_in size bytes n))
+
 -- the call that an `auipc` and a `jalr` are
 abbrev pub call_item : Option Instr → Option Instr → Item → Place → Item
 call_item (Some (instr.Upper op temp upper)) (Some (instr.Jalr rd base lower)) other to = Call rd temp to
 call_item first second other to = other
 
--- what two words are with a relocation of this kind to this target; the second counts for a call alone
-abbrev pub reloc_item : RelocKind → ℤ → Target → ℕ → ℕ → Item
-reloc_item kind.Ignored addend t word second = Raw word
-reloc_item kind.Word addend t word second = Word t
-reloc_item kind.Branch addend t word second = of_instr (decoded word) word (λ i. to_place t (Branch (with_distance i (pos 0))) (Raw word))
-reloc_item kind.Jal addend t word second = of_instr (decoded word) word (λ i. to_place t (Jump (with_distance i (pos 0))) (Raw word))
-reloc_item kind.Call addend t word second = to_place t (call_item (decoded word) (decoded second) (RawPair word second)) (RawPair word second)
-reloc_item kind.PcrelHi20 addend t word second = of_instr (decoded word) word (λ i. PcHi i t)
-reloc_item kind.PcrelLo12I addend t word second = of_instr (decoded word) word (λ i. to_place t (PcLo i) (Raw word))
-reloc_item kind.PcrelLo12S addend t word second = of_instr (decoded word) word (λ i. to_place t (PcLo i) (Raw word))
-reloc_item kind.Hi20 addend t word second = of_instr (decoded word) word (λ i. Hi i t)
-reloc_item kind.Lo12I addend t word second = of_instr (decoded word) word (λ i. Lo i t)
-reloc_item kind.Lo12S addend t word second = of_instr (decoded word) word (λ i. Lo i t)
-reloc_item kind.Align addend t word second = Align (padding_length addend)
+-- two words that are copied unread
+abbrev pub raw_pair : List ℕ → ℕ → Item
+raw_pair bytes n = RawPair (word_in bytes n) (word_in bytes (n + 4))
+
+-- what the bytes at an offset are with a relocation of this kind to this target
+abbrev pub reloc_item : RelocKind → ℤ → Target → List ℕ → ℕ → Item
+reloc_item kind.Ignored addend t bytes n = raw_in 4 bytes n
+reloc_item kind.Word addend t bytes n = Word t
+reloc_item kind.Branch addend t bytes n = transfer_in 4 t bytes n
+reloc_item kind.Jal addend t bytes n = transfer_in 4 t bytes n
+reloc_item kind.Call addend t bytes n =
+    to_place t (call_item (instr_in 4 bytes n) (instr_in 4 bytes (n + 4)) (raw_pair bytes n)) (raw_pair bytes n)
+reloc_item kind.PcrelHi20 addend t bytes n = of_instr (instr_in 4 bytes n) (raw_in 4 bytes n) (λ i. PcHi i t)
+reloc_item kind.PcrelLo12I addend t bytes n =
+    of_instr (instr_in 4 bytes n) (raw_in 4 bytes n) (λ i. to_place t (PcLo i) (raw_in 4 bytes n))
+reloc_item kind.PcrelLo12S addend t bytes n =
+    of_instr (instr_in 4 bytes n) (raw_in 4 bytes n) (λ i. to_place t (PcLo i) (raw_in 4 bytes n))
+reloc_item kind.Hi20 addend t bytes n = of_instr (instr_in 4 bytes n) (raw_in 4 bytes n) (λ i. Hi i t)
+reloc_item kind.Lo12I addend t bytes n = of_instr (instr_in 4 bytes n) (raw_in 4 bytes n) (λ i. Lo i t)
+reloc_item kind.Lo12S addend t bytes n = of_instr (instr_in 4 bytes n) (raw_in 4 bytes n) (λ i. Lo i t)
+reloc_item kind.RvcBranch addend t bytes n = raw_in 4 bytes n
+reloc_item kind.RvcJump addend t bytes n = raw_in 4 bytes n
+reloc_item kind.Align addend t bytes n = Align (padding_length addend)
 
 -- the same by the kind's number; a kind that isn't known says nothing
-abbrev pub known_item : Option RelocKind → ℤ → Target → ℕ → ℕ → Item
-known_item None addend t word second = Raw word
-known_item (Some k) addend t word second = reloc_item k addend t word second
+abbrev pub known_item : Option RelocKind → ℤ → Target → List ℕ → ℕ → Item
+known_item None addend t bytes n = raw_in 4 bytes n
+known_item (Some k) addend t bytes n = reloc_item k addend t bytes n
 
 -- ---- items
 
@@ -159,14 +185,14 @@ known_item (Some k) addend t word second = reloc_item k addend t word second
 abbrev pub target_of : ParsedInputs → ℕ → Reloc → Target
 target_of inputs o r = resolved inputs o r.symbol r.addend
 
--- the item at a place with this relocation, by its words
-abbrev pub item_under : ParsedInputs → Place → Option Reloc → ℕ → ℕ → Item
-item_under inputs q None word second = item_of inputs.objects q word
-item_under inputs q (Some r) word second = known_item (kind_of r.kind) r.addend (target_of inputs q.object r) word second
+-- the item at a place with this relocation, by its bytes, of which it has so many if there is none
+abbrev pub item_under : ParsedInputs → Place → Option Reloc → ℕ → List ℕ → Item
+item_under inputs q None size bytes = item_of inputs.objects q size bytes
+item_under inputs q (Some r) size bytes = known_item (kind_of r.kind) r.addend (target_of inputs q.object r) bytes q.offset
 
 -- the item that starts at a place of a section
 abbrev pub item_in : ParsedInputs → SectionParts → Place → Item
-item_in inputs s q = item_under inputs q (reloc_on s q.offset) (word_in s.bytes q.offset) (word_in s.bytes (q.offset + 4))
+item_in inputs s q = item_under inputs q (reloc_on s q.offset) (size_on s q.offset) s.bytes
 
 -- the item at a place of a section, if one starts there
 abbrev pub item_from : ParsedInputs → Place → SectionParts → Option Item

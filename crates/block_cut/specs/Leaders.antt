@@ -16,7 +16,7 @@ use Rattle.rv_decode.specs.declared.instr.Instr.TheVariants as instr
 use Rattle.block_cut.specs.Items.{all_places, is_target_at, item_at, next_at, target_of}
 use Rattle.block_cut.specs.Relocs.{is_ignored}
 use Rattle.block_cut.specs.declared.item.Item.{Item}
-use Rattle.block_cut.specs.declared.item.Item.TheVariants.{Op, Hi, Lo, PcHi, PcLo, Branch, Jump, Call, Align, Word, Raw, RawPair}
+use Rattle.block_cut.specs.declared.item.Item.TheVariants.{Op, Lo, PcLo, Branch, Jump, Call}
 
 -- ---- targets of relocations
 
@@ -39,48 +39,25 @@ section_leads inputs q l = list_any (reloc_leads inputs q l.object) l.section.re
 
 -- `jalr`
 abbrev pub is_jalr : Instr → Bool
-is_jalr (instr.Upper op rd imm) = false
-is_jalr (instr.Jal rd distance) = false
 is_jalr (instr.Jalr rd base imm) = true
-is_jalr (instr.Branch op first second distance) = false
-is_jalr (instr.Load op rd base imm) = false
-is_jalr (instr.Store op source base imm) = false
-is_jalr (instr.WithImm op rd first imm) = false
-is_jalr (instr.WithReg op rd first second) = false
-is_jalr (instr.Fence rest) = false
-is_jalr instr.Ecall = false
-is_jalr instr.Ebreak = false
-is_jalr (instr.Csrrw rd source) = false
+is_jalr i = false
 
 -- a basic block ends with the item: a branch, a jump, a call, or a `jalr`
 abbrev pub ends_block : Item → Bool
 ends_block (Op i) = is_jalr i
-ends_block (Hi i t) = false
 ends_block (Lo i t) = is_jalr i
-ends_block (PcHi i t) = false
 ends_block (PcLo i from) = is_jalr i
-ends_block (Branch i to) = true
-ends_block (Jump i to) = true
+ends_block (Branch op first second to) = true
+ends_block (Jump rd to) = true
 ends_block (Call rd temp to) = true
-ends_block (Align bytes) = false
-ends_block (Word t) = false
-ends_block (Raw word) = false
-ends_block (RawPair first second) = false
+ends_block item = false
 
 -- the place that a branch or jump leads to is this one
 abbrev pub goes_to : Place → Item → Bool
-goes_to q (Op i) = false
-goes_to q (Hi i t) = false
-goes_to q (Lo i t) = false
-goes_to q (PcHi i t) = false
-goes_to q (PcLo i from) = false
-goes_to q (Branch i to) = same_place to q
-goes_to q (Jump i to) = same_place to q
+goes_to q (Branch op first second to) = same_place to q
+goes_to q (Jump rd to) = same_place to q
 goes_to q (Call rd temp to) = same_place to q
-goes_to q (Align bytes) = false
-goes_to q (Word t) = false
-goes_to q (Raw word) = false
-goes_to q (RawPair first second) = false
+goes_to q item = false
 
 -- what stands at a place leads to another: it goes there, or it ends a block and the other is next
 abbrev pub item_leads : ParsedInputs → Place → Place → Bool

@@ -1,7 +1,7 @@
 -- Where code lies if it is written as it is: sections one after another, each item with its own size, and padding as its place needs.
-use Rattle.std.specs.Prelude.{ℕ, ◌+◌, ◌-◌, nat_lt, max, if◌then◌else◌, List, length, map, filter, Option, None}
+use Rattle.std.specs.Prelude.{ℕ, ◌+◌, ◌-◌, nat_lt, max, if◌then◌else◌, List, length, map, filter, Option, Some, None}
 use Rattle.std.specs.List.{fold}
-use Rattle.std.specs.Option.{option_map}
+use Rattle.std.specs.Option.{option_map, option_map_or}
 use Rattle.zc_base.specs.declared.counts.Counts.{Counts}
 use Rattle.zc_base.specs.declared.place.Place.{Place}
 use Rattle.elf32_read.specs.Parts.{SectionParts, is_code_section}
@@ -9,30 +9,28 @@ use Rattle.psabi_sym.specs.Blocks.{aligned_up}
 use Rattle.psabi_sym.specs.Faults.{power_above}
 use Rattle.psabi_sym.specs.Inputs.{ParsedInputs}
 use Rattle.psabi_sym.specs.Listed.{ListedSection, all_sections, sections_before}
-use Rattle.block_cut.specs.Items.{all_items, code_at, is_target_at, items_in, place_of, starts_in, item_in}
+use Rattle.block_cut.specs.Items.{all_items, code_at, is_target_at, place_of, size_on, starts_in, item_in}
 use Rattle.block_cut.specs.declared.item.Item.{Item}
-use Rattle.block_cut.specs.declared.item.Item.TheVariants.{Op, Hi, Lo, PcHi, PcLo, Branch, Jump, Call, Align, Word, Raw, RawPair}
+use Rattle.block_cut.specs.declared.item.Item.TheVariants.{Align}
 
 -- ---- items
 
--- the address after an item at an address: padding goes up to the power of two above its bytes
-abbrev pub after_item : ℕ → Item → ℕ
-after_item a (Op i) = a + 4
-after_item a (Hi i t) = a + 4
-after_item a (Lo i t) = a + 4
-after_item a (PcHi i t) = a + 4
-after_item a (PcLo i from) = a + 4
-after_item a (Branch i to) = a + 4
-after_item a (Jump i to) = a + 4
-after_item a (Call rd temp to) = a + 8
-after_item a (Align bytes) = aligned_up (power_above bytes) a
-after_item a (Word t) = a + 4
-after_item a (Raw word) = a + 4
-after_item a (RawPair first second) = a + 8
+-- the bytes of padding that an item is
+abbrev pub padding_of : Item → Option ℕ
+padding_of (Align bytes) = Some bytes
+padding_of item = None
 
--- the address after items, one after another from an address on
-abbrev pub after_items : ℕ → List Item → ℕ
-after_items a items = fold after_item a items
+-- the address after an item at an address that has so many bytes in its section: padding goes up to the power of two above its bytes
+abbrev pub after_item : ℕ → ℕ → Item → ℕ
+after_item a size item = option_map_or (λ bytes. aligned_up (power_above bytes) a) (padding_of item) (a + size)
+
+-- the address after the item that starts at an offset of a section
+abbrev pub after_start : ParsedInputs → ListedSection → ℕ → ℕ → ℕ
+after_start inputs l a n = after_item a (size_on l.section n) (item_in inputs l.section (place_of l n))
+
+-- the address after the items that start at offsets, one after another from an address on
+abbrev pub after_starts : ParsedInputs → ListedSection → ℕ → List ℕ → ℕ
+after_starts inputs l a ns = fold (after_start inputs l) a ns
 
 -- ---- sections
 
@@ -42,7 +40,7 @@ section_begin a s = aligned_up (max 4 s.align) a
 
 -- where it ends then; what isn't code takes no room
 abbrev pub section_end : ParsedInputs → ℕ → ListedSection → ℕ
-section_end inputs a l = if is_code_section l.section then after_items (section_begin a l.section) (items_in inputs l) else a
+section_end inputs a l = if is_code_section l.section then after_starts inputs l (section_begin a l.section) (starts_in l.section) else a
 
 -- where the code of sections ends
 abbrev pub plain_end_of : ParsedInputs → List ListedSection → ℕ
@@ -58,14 +56,17 @@ plain_end inputs = plain_end_of inputs (all_sections inputs.objects)
 
 -- ---- places
 
--- the items of a section before an offset
+-- where items start in a section before an offset, and these items
+abbrev pub starts_before : SectionParts → ℕ → List ℕ
+starts_before s n = filter (λ m. nat_lt m n) (starts_in s)
+
 abbrev pub items_before : ParsedInputs → ListedSection → ℕ → List Item
-items_before inputs l n = map (λ m. item_in inputs l.section (place_of l m)) (filter (λ m. nat_lt m n) (starts_in l.section))
+items_before inputs l n = map (λ m. item_in inputs l.section (place_of l m)) (starts_before l.section n)
 
 -- the address of a place in a section
 abbrev pub address_on : ParsedInputs → Place → SectionParts → ℕ
 address_on inputs q s =
-    after_items (plain_start inputs q.object q.section s) (items_before inputs (record { object = q.object; index = q.section; section = s }) q.offset)
+    after_starts inputs (record { object = q.object; index = q.section; section = s }) (plain_start inputs q.object q.section s) (starts_before s q.offset)
 
 -- the address of a place where an item starts or a section of code ends; none of another
 unfoldable pub plain_address : ParsedInputs → Place → Option ℕ

@@ -1,13 +1,18 @@
 -- A section with what its relocations change, as the code holds it.
 use Rattle.std.specs.Prelude.{◌≡◌, true, length}
-use Rattle.elf32_read.specs.Parts.{SectionParts, is_code_section}
+use Rattle.elf32_read.specs.Parts.{is_code_section}
+use Rattle.psabi_sym.specs.Listed.{ListedSection}
 use Rattle.block_cut.specs.Fields.{AreFields}
+use Rattle.block_cut.specs.Instrs.{instrs_in}
 use Rattle.block_cut.specs.declared.relocated.Relocated.{Relocated}
 
--- it is this section; the file has all bytes of code
-pub record IsRelocated (parts : SectionParts) (section : Relocated) : Type 0 where
-  pub code : section.is_code ≡ is_code_section parts
-  pub size : section.size ≡ parts.size
-  pub bytes : section.bytes.now ≡ parts.bytes
-  pub fields : AreFields parts.relocs section.fields
-  pub whole : section.is_code ≡ true → length parts.bytes ≡ parts.size
+-- it is this section; of code the file has all bytes, and it is known what the words spell
+pub record IsRelocated (l : ListedSection) (relocated : Relocated) : Type 0 where
+  pub object : relocated.object ≡ l.object
+  pub index : relocated.index ≡ l.index
+  pub code : relocated.is_code ≡ is_code_section l.section
+  pub size : relocated.size ≡ l.section.size
+  pub bytes : relocated.bytes.now ≡ l.section.bytes
+  pub words : relocated.is_code ≡ true → relocated.words.now ≡ instrs_in l.section.bytes
+  pub fields : AreFields l.section.relocs relocated.fields
+  pub whole : relocated.is_code ≡ true → length l.section.bytes ≡ l.section.size

@@ -1,25 +1,25 @@
 // The objects with their code cut into items.
 
-ghost use Rattle.std.specs.Prelude.{◌≡◌, ◌<◌, ◌+◌, ◌^◌, None, Some, IfOk, IfErr, IfSome};
+ghost use Rattle.std.specs.Prelude.{◌≡◌, ◌<◌, ◌+◌, ◌^◌, None, Some, IfOk, IfErr, IfSome, length, slice_get};
 ghost use Rattle.std.specs.Option.{option_map};
-ghost use Rattle.psabi_sym.specs.Faults.{gather_fault};
-ghost use Rattle.psabi_sym.specs.Inputs.{parsed, Inputs};
+ghost use Rattle.psabi_sym.specs.Inputs.{parsed};
 ghost use Rattle.psabi_sym.specs.LinkFault.{IsRefusal};
-ghost use Rattle.block_cut.specs.Cut.{IsText};
+ghost use Rattle.psabi_sym.specs.Listed.{all_sections, ListedSection};
 ghost use Rattle.block_cut.specs.DataWords.{data_words};
 ghost use Rattle.block_cut.specs.Faults.{first_fault};
 ghost use Rattle.block_cut.specs.Items.{entry_of, item_at, next_at, start_only};
 ghost use Rattle.block_cut.specs.Leaders.{is_leader_at};
+ghost use Rattle.block_cut.specs.Text.{IsText};
+ghost use Rattle.block_cut.specs.Places.{code_places};
 ghost use Rattle.block_cut.specs.PlainLayout.{plain_address, plain_counts};
 
-use crate::code::Code;
+use crate::code_place::CodePlace;
 use crate::data_word::DataWord;
 use crate::data_words::data_words;
 use crate::item::Item;
 use crate::judge::judge_relocs;
 use crate::leaders::Leaders;
 use crate::leads::all_leads;
-use crate::plain_layout::item_size;
 use crate::reach::first_out_of_reach;
 use crate::text::Text;
 use elf32_read::fault::Fault;
@@ -60,12 +60,11 @@ impl Cut {
         ensures faultless { IfOk result (λ _. first_fault objects ≡ None) }
         ensures err { IfErr result (λ fault. IsRefusal (first_fault objects) fault) }
     {
-        let code = Code::new(alloc, &objects)?;
-        if let Err(fault) = judge_relocs(alloc, &objects, &code) {
+        let text = Text::new(alloc, &objects)?;
+        if let Err(fault) = judge_relocs(&objects, &text) {
             return Err(fault);
         }
-        let text = Text::new(alloc, &objects, &code)?;
-        let Some(entry) = start_only(&text, objects.start()) else {
+        let Some(entry) = start_only(&objects, &text, objects.start()) else {
             return Err(LinkFault::Object {
                 index: 0,
                 fault: Fault::NoEntry,
@@ -80,7 +79,7 @@ impl Cut {
                 },
             });
         }
-        let words = data_words(alloc, &objects)?;
+        let words = data_words(alloc, &objects, &text)?;
         let leaders = all_leads(alloc, &objects, &text)?;
         Ok(Cut {
             objects,
@@ -97,33 +96,28 @@ impl Cut {
         ensures item { result ≡ item_at (parsed self.now) p }
         ensures room { IfSome result (λ _. p.offset + 256 < 2 ^ 32) }
     {
-        self.text.item(p)
+        self.text.item(&self.objects, p)
     }
 
     /// The place after the item at a place, if one starts there.
     pub fn next(&self, p: Place) -> Option<Place>
         ensures { result ≡ option_map (λ _. next_at (parsed self.now).objects p) (item_at (parsed self.now) p) }
     {
-        match self.text.item(p) {
+        match self.item(p) {
             None => None,
-            Some(item) => Some(Place {
-                object: p.object,
-                section: p.section,
-                offset: p.offset + item_size(&item),
-            }),
+            Some(item) => Some(self.next_after(p, &item)),
         }
     }
 
-    /// The place after an item that was found at a place, without another look.
+    /// The place after an item that was found at a place.
     pub fn next_after(&self, p: Place, item: &Item) -> Place
         requires { item_at (parsed self.now) p ≡ Some item.now }
         ensures { result ≡ next_at (parsed self.now).objects p }
     {
-        let _ = &self.text;
-        Place {
-            object: p.object,
-            section: p.section,
-            offset: p.offset + item_size(item),
+        let _ = item;
+        match self.text.place(&self.objects, p) {
+            None => p,
+            Some(place) => after(p, place.size),
         }
     }
 
@@ -131,7 +125,17 @@ impl Cut {
     pub fn plain_address(&self, p: Place) -> Option<u32>
         ensures { result ≡ plain_address (parsed self.now) p }
     {
-        self.text.address(p)
+        self.text.address(&self.objects, p)
+    }
+
+    /// The places of a section, by its number among all: where an item starts, in order, and at last where the
+    /// section ends; none if it isn't code.
+    pub fn places(&self, section: u32) -> &[CodePlace]
+        requires { section < length (all_sections (parsed self.now).objects) }
+        ensures { (l : ListedSection) → slice_get (all_sections (parsed self.now).objects) section ≡ Some l
+            → result.now ≡ code_places (parsed self.now) l }
+    {
+        self.text.places(section)
     }
 
     /// The place where the program starts.
@@ -161,7 +165,7 @@ impl Cut {
     pub fn leader(&self, p: Place) -> bool
         ensures { result ≡ is_leader_at (parsed self.now) p }
     {
-        self.text.has_start(p) || self.leaders.has(p)
+        self.text.has_start(&self.objects, p) || self.leaders.has(&self.objects, p)
     }
 
     /// What the plain layout counts.
@@ -183,15 +187,27 @@ impl Cut {
 }
 
 // The place that a target is, if an item starts there.
-fn start_only(text: &Text, target: Target) -> Option<Place>
-    ensures { (inputs : Inputs) → gather_fault inputs ≡ None → IsText (parsed inputs) text.now
-        → result ≡ start_only (parsed inputs).objects target }
+fn start_only(objects: &Objects, text: &Text, target: Target) -> Option<Place>
+    requires { IsText (parsed objects.now) text.now }
+    ensures { result ≡ start_only (parsed objects.now).objects target }
 {
     let Target::Code(p) = target else {
         return None;
     };
-    match text.item(p) {
+    match text.item(objects, p) {
         None => None,
         Some(_) => Some(p),
+    }
+}
+
+// The place so many bytes after another.
+fn after(p: Place, size: u8) -> Place
+    requires { p.offset + size < 2 ^ 32 }
+    ensures { result ≡ record p { offset = p.offset + size } }
+{
+    Place {
+        object: p.object,
+        section: p.section,
+        offset: p.offset + u32::from(size),
     }
 }

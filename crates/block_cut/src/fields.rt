@@ -1,49 +1,54 @@
 // The bytes that the relocations of a section change.
 
-ghost use Rattle.std.specs.Prelude.{◌≡◌, ◌<◌, ◌≤◌, ◌++◌, ◌∷◌, ◌==◌, ◌&&◌, [], length, nat_lt, Contains, List, Some, IfOk, IfSome, slice_get};
+ghost use Rattle.std.specs.Prelude.{◌≡◌, ◌<◌, ◌≤◌, ◌++◌, ◌∷◌, ◌==◌, ◌&&◌, ℕ, [], length, nat_lt, Contains, List, Some, IfOk, IfSome};
 ghost use Rattle.std.specs.List.{count_by, list_any};
 ghost use Rattle.std.specs.List.Sorted.{IsNonDecreasing};
-ghost use Rattle.elf32_read.specs.Header.{header_of, section_count};
-ghost use Rattle.elf32_read.specs.Parts.{relocs_held, relocs_of};
 ghost use Rattle.elf32_read.specs.declared.reloc.Reloc.{Reloc};
-ghost use Rattle.psabi_reloc.specs.Kinds.{kind_of};
-ghost use Rattle.block_cut.specs.Fields.{AreApart, AreFields, HoldsFields, IsSortedOf};
-ghost use Rattle.block_cut.specs.Relocs.{field_end, field_of, is_crowded, is_pcrel_hi};
+ghost use Rattle.psabi_reloc.specs.Kinds.{field_length, kind_of};
+ghost use Rattle.block_cut.specs.Fields.{AreApart, AreEnds, AreFields, HoldsEnds, HoldsFields, IsSortedOf};
+ghost use Rattle.block_cut.specs.Relocs.{field_end, field_of, overlaps_another, is_pcrel_hi};
 
-use crate::kinds::is_pcrel_hi;
-use elf32_read::object::Object;
+use crate::kinds::{is_ignored, is_pcrel_hi};
 use elf32_read::reloc::Reloc;
 use psabi_reloc::kind::RelocKind;
-use psabi_sym::objects::Objects;
+use psabi_sym::section_ref::SectionRef;
 use std::alloc::{AllocError, Global};
 
-/// Where the fields of a section's relocations begin, where they end, and where the upper parts of
-/// PC-relative pairs stand, each in ascending order. A field has bytes: NONE, RELAX and types that aren't
-/// known have none. If each relocation's field begins where those before it have ended, as compilers write
-/// them, `end` is where the last one ends.
+/// Where the fields of a section's relocations begin, and where they end, each in ascending order. A field has
+/// bytes: NONE, RELAX and types that aren't known have none.
 #[derive(Drop)]
-pub struct Fields {
+pub struct FieldEnds {
     pub starts: Vec<u64>,
     pub ends: Vec<u64>,
-    pub uppers: Vec<u64>,
-    pub end: Option<u64>,
 }
 
-/// How many bytes a relocation changes.
-pub fn field_length(reloc: Reloc) -> u32
-    ensures { result ≡ field_of reloc }
+/// Where the upper parts of PC-relative pairs stand in a section, in ascending order, and where its fields
+/// begin and end. These aren't needed if each relocation's field begins where those before it have ended, as
+/// compilers write them: `end` is where the last one ends then. `asking` is how many relocations ask for something.
+#[derive(Drop)]
+pub struct Fields {
+    pub uppers: Vec<u32>,
+    pub end: Option<u64>,
+    pub unordered: FieldEnds,
+    pub asking: usize,
+}
+
+/// How many bytes a relocation of this kind changes, with its addend.
+pub fn field_length(kind: Option<RelocKind>, addend: i32) -> u32
+    ensures { result ≡ field_length kind addend }
 {
-    match RelocKind::of(reloc.kind) {
+    match kind {
         None => 0,
-        Some(kind) => kind.field_length(reloc.addend),
+        Some(kind) => kind.field_length(addend),
     }
 }
 
-/// Where the bytes end that a relocation changes.
-pub fn field_end(reloc: Reloc) -> u64
+/// Where the bytes end that a relocation of this kind changes.
+pub fn field_end(reloc: Reloc, kind: Option<RelocKind>) -> u64
+    requires { kind ≡ kind_of reloc.kind }
     ensures { result ≡ field_end reloc }
 {
-    u64::from(reloc.offset) + u64::from(field_length(reloc))
+    u64::from(reloc.offset) + u64::from(field_length(kind, reloc.addend))
 }
 
 // How many numbers lie below another.
@@ -54,13 +59,82 @@ fn count_below(numbers: &[u64], most: u64) -> usize
     numbers.partition_point(|n| *n < most)
 }
 
+// Brings numbers into ascending order, if they aren't.
+fn sort(numbers: &mut Vec<u32>)
+    ensures { IsSortedOf numbers.old.items numbers.new.items }
+{
+    if numbers.is_sorted() {
+        return;
+    }
+    numbers.sort_unstable();
+}
+
+impl FieldEnds {
+    // Those of no relocations.
+    fn none(alloc: Global) -> FieldEnds
+        ensures { HoldsEnds [] result }
+    {
+        FieldEnds {
+            starts: Vec::new(alloc),
+            ends: Vec::new(alloc),
+        }
+    }
+
+    // Adds those of one more relocation.
+    fn add(&mut self, reloc: Reloc) -> Result<(), AllocError>
+        ensures { IfOk result (λ _. (relocs : List Reloc) → HoldsEnds relocs self.old
+            → HoldsEnds (relocs ++ reloc ∷ []) self.new) }
+    {
+        let start = u64::from(reloc.offset);
+        let end = field_end(reloc, RelocKind::of(reloc.kind));
+        if start < end {
+            self.starts.push(start)?;
+            self.ends.push(end)?;
+        }
+        Ok(())
+    }
+
+    // Those of the relocations of a section, as they come.
+    fn held(alloc: Global, section: &SectionRef) -> Result<FieldEnds, AllocError>
+        ensures { IfOk result (HoldsEnds section.now.section.relocs) }
+    {
+        let mut ends = FieldEnds::none(alloc);
+        for k in 0..section.reloc_count() {
+            ends.add(section.reloc(k))?;
+        }
+        Ok(ends)
+    }
+
+    // Those of the relocations of a section, in ascending order.
+    fn new(alloc: Global, section: &SectionRef) -> Result<FieldEnds, AllocError>
+        ensures { IfOk result (AreEnds section.now.section.relocs) }
+    {
+        let mut ends = FieldEnds::held(alloc, section)?;
+        ends.starts.sort_unstable();
+        ends.ends.sort_unstable();
+        Ok(ends)
+    }
+
+    // Whether a byte from one offset to another, which one of the relocations changes, is changed by another as well.
+    fn overlaps_another(&self, start: u64, end: u64) -> bool
+        requires { start < end }
+        ensures { (relocs : List Reloc) (r : Reloc) → AreEnds relocs self.now → start ≡ r.offset → end ≡ field_end r
+            → result ≡ overlaps_another relocs r }
+    {
+        let begun = count_below(&self.starts, end);
+        let ended = count_below(&self.ends, start + 1);
+        ended + 1 < begun
+    }
+}
+
 // Where the fields of relocations end with one more, if it begins where those before it have ended.
-fn end_with(before: Option<u64>, reloc: Reloc) -> Option<u64>
+fn end_with(before: Option<u64>, reloc: Reloc, kind: Option<RelocKind>) -> Option<u64>
+    requires { kind ≡ kind_of reloc.kind }
     ensures { (relocs : List Reloc) → IfSome before (λ n. AreApart n relocs)
         → IfSome result (λ n. AreApart n (relocs ++ reloc ∷ [])) }
 {
     let start = u64::from(reloc.offset);
-    let end = field_end(reloc);
+    let end = field_end(reloc, kind);
     if start == end {
         return before;
     }
@@ -76,88 +150,68 @@ impl Fields {
         ensures { HoldsFields [] result }
     {
         Fields {
-            starts: Vec::new(alloc),
-            ends: Vec::new(alloc),
             uppers: Vec::new(alloc),
             end: Some(0),
+            unordered: FieldEnds::none(alloc),
+            asking: 0,
         }
     }
 
-    // Adds those of one more relocation.
+    // Adds those of one more relocation, but where it begins and ends.
     fn add(&mut self, reloc: Reloc) -> Result<(), AllocError>
         ensures { IfOk result (λ _. (relocs : List Reloc) → HoldsFields relocs self.old
             → HoldsFields (relocs ++ reloc ∷ []) self.new) }
     {
-        let start = u64::from(reloc.offset);
-        let end = field_end(reloc);
-        if start < end {
-            self.starts.push(start)?;
-            self.ends.push(end)?;
+        let kind = RelocKind::of(reloc.kind);
+        if is_pcrel_hi(kind) {
+            self.uppers.push(reloc.offset)?;
         }
-        if is_pcrel_hi(RelocKind::of(reloc.kind)) {
-            self.uppers.push(start)?;
+        if !is_ignored(kind) {
+            self.asking = self.asking.saturating_add(1);
         }
-        self.end = end_with(self.end, reloc);
+        self.end = end_with(self.end, reloc, kind);
         Ok(())
     }
 
-    // Those of the relocations that a section holds.
-    fn held(alloc: Global, object: &Object, rela: u32) -> Result<Fields, AllocError>
-        requires { rela < section_count object.now }
-        ensures { IfOk result (HoldsFields (relocs_held object.now (header_of object.now rela))) }
+    // Those of the relocations of a section, as they come.
+    fn held(alloc: Global, section: &SectionRef) -> Result<Fields, AllocError>
+        ensures { IfOk result (HoldsFields section.now.section.relocs) }
     {
         let mut fields = Fields::none(alloc);
-        for k in 0..object.rela_count(rela) {
-            fields.add(object.rela(rela, k))?;
+        for k in 0..section.reloc_count() {
+            fields.add(section.reloc(k))?;
         }
         Ok(fields)
     }
 
-    // Brings them into order.
-    fn sort(&mut self)
-        ensures { (relocs : List Reloc) → HoldsFields relocs self.old → AreFields relocs self.new }
+    /// Those of the relocations of a section. It looks at each relocation once if they are in order, and else
+    /// twice, and sorts.
+    pub fn new(alloc: Global, section: &SectionRef) -> Result<Fields, AllocError>
+        ensures { IfOk result (AreFields section.now.section.relocs) }
     {
-        self.starts.sort_unstable();
-        self.ends.sort_unstable();
-        self.uppers.sort_unstable();
-    }
-
-    /// Those of the relocations of a section, by its object's index and its own. It looks at each
-    /// relocation once, and sorts.
-    pub fn new(
-        alloc: Global,
-        objects: &Objects,
-        o: u16,
-        object: &Object,
-        section: u16,
-    ) -> Result<Fields, AllocError>
-        requires object { slice_get objects.now.files o ≡ Some object.now }
-        requires section { section < section_count object.now }
-        ensures { IfOk result (AreFields (relocs_of object.now section)) }
-    {
-        let mut fields = match objects.rela_of(o, section) {
-            None => Fields::none(alloc),
-            Some(rela) => Fields::held(alloc, object, rela)?,
-        };
-        fields.sort();
+        let mut fields = Fields::held(alloc, section)?;
+        if fields.end.is_none() {
+            fields.unordered = FieldEnds::new(alloc, section)?;
+        }
+        sort(&mut fields.uppers);
         Ok(fields)
     }
 
-    /// Whether a byte that one of the relocations changes is changed by another as well.
-    pub fn is_crowded(&self, reloc: Reloc) -> bool
-        ensures { (relocs : List Reloc) → AreFields relocs self.now → Contains relocs reloc → result ≡ is_crowded relocs reloc }
+    /// Whether a byte that one of the relocations changes, which is of this kind, is changed by another as well.
+    pub fn overlaps_another(&self, reloc: Reloc, kind: Option<RelocKind>) -> bool
+        requires { kind ≡ kind_of reloc.kind }
+        ensures { (relocs : List Reloc) → AreFields relocs self.now → Contains relocs reloc
+            → result ≡ overlaps_another relocs reloc }
     {
         if self.end.is_some() {
             return false;
         }
         let start = u64::from(reloc.offset);
-        let end = field_end(reloc);
+        let end = field_end(reloc, kind);
         if start == end {
             return false;
         }
-        let begun = count_below(&self.starts, end);
-        let ended = count_below(&self.ends, start + 1);
-        ended + 1 < begun
+        self.unordered.overlaps_another(start, end)
     }
 
     /// Whether the upper part of a PC-relative pair stands at an offset.
@@ -165,6 +219,6 @@ impl Fields {
         ensures { (relocs : List Reloc) → AreFields relocs self.now
             → result ≡ list_any (λ r. is_pcrel_hi (kind_of r.kind) && r.offset == offset) relocs }
     {
-        self.uppers.binary_search(&u64::from(offset)).is_ok()
+        self.uppers.binary_search(&offset).is_ok()
     }
 }

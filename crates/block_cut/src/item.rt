@@ -1,7 +1,7 @@
 // The items that code is cut into.
 
 use psabi_sym::target::Target;
-use rv_decode::instr::Instr;
+use rv_decode::instr::{BranchOp, Instr};
 use zc_base::place::Place;
 use zc_base::reg::Reg;
 
@@ -11,17 +11,14 @@ use zc_base::reg::Reg;
 /// |---|---|
 /// | `Op` | an instruction without relocation that is neither a branch nor a `jal` |
 /// | `Hi`, `Lo` | an instruction whose immediate is the upper or lower part of the target |
-/// | `PcHi` | an `auipc` whose immediate is the upper part of the way to the target |
+/// | `PcHi` | an `auipc` whose immediate is the upper part of the PC-relative offset of the target |
 /// | `PcLo` | an instruction with the lower part that goes with the `auipc` at that place |
-/// | `Branch`, `Jump` | a branch or a `jal` to a place |
+/// | `Branch`, `Jump` | a branch with its operation and registers, or a `jal` with its link register `rd`, to a place |
 /// | `Call` | an `auipc` of `temp` and a `jalr` with the link register `rd`, to a place |
 /// | `Align` | so many bytes of padding |
 /// | `Word` | a word of data in code that holds the target |
 /// | `Raw` | a word that is copied unread |
 /// | `RawPair` | the two words of a call to a weak symbol that no object defines |
-///
-/// The instruction of a `Branch` or `Jump` has its operation and its registers. Its distance is 0, since
-/// the place says where it goes.
 #[derive(Clone, Copy)]
 pub enum Item {
     Op(Instr),
@@ -29,9 +26,21 @@ pub enum Item {
     Lo(Instr, Target),
     PcHi(Instr, Target),
     PcLo(Instr, Place),
-    Branch(Instr, Place),
-    Jump(Instr, Place),
-    Call { rd: Reg, temp: Reg, to: Place },
+    Branch {
+        op: BranchOp,
+        first: Reg,
+        second: Reg,
+        to: Place,
+    },
+    Jump {
+        rd: Reg,
+        to: Place,
+    },
+    Call {
+        rd: Reg,
+        temp: Reg,
+        to: Place,
+    },
     Align(u16),
     Word(Target),
     Raw(u32),

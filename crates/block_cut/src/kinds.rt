@@ -1,12 +1,14 @@
 // What kinds of relocations ask of a section, and of the words that they change.
 
-ghost use Rattle.std.specs.Prelude.{◌≡◌, ◌+◌, ◌≤◌, if◌then◌else◌, length, nat_le, None, Some};
+ghost use Rattle.std.specs.Prelude.{◌≡◌, ◌+◌, ◌%◌, ◌≤◌, if◌then◌else◌, length, nat_le, Bool, None, Some};
 ghost use Rattle.elf32_read.specs.Parts.{SectionParts};
 ghost use Rattle.psabi_reloc.specs.Kinds.{field_length};
 ghost use Rattle.rv_decode.specs.Decode.{decoded};
 ghost use Rattle.zc_base.specs.Fields.{word_in};
-ghost use Rattle.block_cut.specs.Relocs.{fits_at, is_ignored, is_padding, is_pcrel_hi, is_pcrel_lo, is_transfer, is_word};
+ghost use Rattle.block_cut.specs.Relocs.{fits_at, is_ignored, is_padding, is_pcrel_hi, is_pcrel_lo, is_rvc, is_transfer, is_word};
+ghost use Rattle.block_cut.specs.Instrs.{instrs_in};
 
+use crate::section_words::instr_on;
 use elf32_read::reloc::Reloc;
 use psabi_reloc::kind::RelocKind;
 use rv_decode::decode::decode;
@@ -47,15 +49,31 @@ pub fn is_transfer(kind: Option<RelocKind>) -> bool
 {
     matches!(
         kind,
-        Some(RelocKind::Branch | RelocKind::Jal | RelocKind::Call)
+        Some(
+            RelocKind::Branch
+                | RelocKind::Jal
+                | RelocKind::Call
+                | RelocKind::RvcBranch
+                | RelocKind::RvcJump
+        )
     )
 }
 
-// Whether padding may have so many bytes: 1 to 255, in words of four.
-fn is_padding(addend: i32) -> bool
-    ensures { result ≡ is_padding addend }
+/// Whether a kind changes an instruction of 2 bytes.
+pub fn is_rvc(kind: Option<RelocKind>) -> bool
+    ensures { result ≡ is_rvc kind }
 {
-    0 < addend && addend < 256 && addend % 4 == 0
+    matches!(kind, Some(RelocKind::RvcBranch | RelocKind::RvcJump))
+}
+
+/// What the starts and sizes of items are multiples of.
+pub const UNIT: u32 = 4;
+
+// Whether padding may have so many bytes: 1 to 255, in units.
+fn is_padding(addend: i32) -> bool
+    ensures { (compressed : Bool) → result ≡ is_padding compressed addend }
+{
+    0 < addend && addend < 256 && addend as u32 % UNIT == 0
 }
 
 /// The instruction that the word at an offset spells; none if there is no whole word.
@@ -68,17 +86,19 @@ pub fn instr_at(bytes: &[u8], at: usize) -> Option<Instr>
     decode(u32_at(bytes, at))
 }
 
-/// Whether the words that a relocation changes are of its kind, or else its addend.
-pub fn fits_at(bytes: &[u8], reloc: Reloc, kind: RelocKind) -> bool
-    ensures { (s : SectionParts) → s.bytes ≡ bytes.now
-        → reloc.offset + field_length (Some kind) reloc.addend ≤ length bytes.now
+/// Whether the words that a relocation of this kind changes, which begin at a multiple of 4, are of its kind, or
+/// else its addend; by what each word of its section spells.
+pub fn fits_at(words: &[Option<Instr>], reloc: Reloc, kind: RelocKind) -> bool
+    requires { reloc.offset % 4 ≡ 0 }
+    ensures { (s : SectionParts) → words.now ≡ instrs_in s.bytes
+        → reloc.offset + field_length (Some kind) reloc.addend ≤ length s.bytes
         → result ≡ fits_at s reloc.offset reloc.addend (Some kind) }
 {
     let at = reloc.offset as usize;
     match kind {
         RelocKind::Align => is_padding(reloc.addend),
-        RelocKind::Ignored | RelocKind::Word => true,
-        RelocKind::Call => kind.fits(instr_at(bytes, at), instr_at(bytes, at + 4)),
+        RelocKind::Ignored | RelocKind::Word | RelocKind::RvcBranch | RelocKind::RvcJump => true,
+        RelocKind::Call => kind.fits(instr_on(words, at), instr_on(words, at + 4)),
         RelocKind::Branch
         | RelocKind::Jal
         | RelocKind::PcrelHi20
@@ -86,6 +106,6 @@ pub fn fits_at(bytes: &[u8], reloc: Reloc, kind: RelocKind) -> bool
         | RelocKind::PcrelLo12S
         | RelocKind::Hi20
         | RelocKind::Lo12I
-        | RelocKind::Lo12S => kind.fits(instr_at(bytes, at), None),
+        | RelocKind::Lo12S => kind.fits(instr_on(words, at), None),
     }
 }

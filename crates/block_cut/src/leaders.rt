@@ -1,77 +1,98 @@
 // Places that basic blocks begin at.
 
 ghost use Rattle.std.specs.Prelude.{◌≡◌, ◌&&◌, ◌||◌, false, IfOk};
+ghost use Rattle.psabi_sym.specs.Inputs.{parsed};
 ghost use Rattle.zc_base.specs.Places.{same_place};
 ghost use Rattle.zc_base.specs.declared.place.Place.{Place};
 ghost use Rattle.block_cut.specs.Led.{has_place, is_marked, Adds};
 
-use crate::marks::ObjectMarks;
-use crate::text::Text;
+use crate::marks::Marks;
+use psabi_sym::objects::Objects;
+use psabi_sym::section_row::SectionRow;
 use std::alloc::{AllocError, Global};
 use std::collections::BTreeSet;
 use zc_base::place::Place;
 
-/// Some places in code. Those at words are marked, and all others are in a set: only symbols lead there.
+/// Some places in code. Those at halfwords are marked, by the number of their section among all; all others are in a
+/// set: only symbols lead there.
 #[derive(Drop)]
 pub struct Leaders {
-    pub objects: Vec<ObjectMarks>,
+    pub sections: Vec<Marks>,
     pub others: BTreeSet<Place>,
 }
 
+// How many halfwords a section of code has, with its end; none of another section.
+fn halfwords(row: SectionRow) -> usize {
+    if !row.is_code() {
+        return 0;
+    }
+    row.size as usize / 2 + 1
+}
+
 impl Leaders {
-    /// No places, with room for marks at the words of this text.
-    pub fn new(alloc: Global, text: &Text) -> Result<Leaders, AllocError>
-        ensures { IfOk result (λ leaders. (q : Place) → has_place leaders q ≡ false) }
+    /// No places, with room for marks at the halfwords of code.
+    pub fn new(alloc: Global, objects: &Objects) -> Result<Leaders, AllocError>
+        ensures { IfOk result (λ leaders. (q : Place) → has_place (parsed objects.now).objects leaders q ≡ false) }
     {
-        let mut objects = Vec::with_capacity(alloc, text.words.len())?;
-        for sections in &text.words {
-            objects.push(ObjectMarks::new(alloc, sections)?)?;
+        let count = objects.section_count();
+        let mut sections = Vec::with_capacity(alloc, count as usize)?;
+        for k in 0..count {
+            sections.push(Marks::new(alloc, halfwords(objects.section_row(k)))?)?;
         }
         Ok(Leaders {
-            objects,
+            sections,
             others: BTreeSet::new(alloc),
         })
     }
 
-    // Marks the word at a place, or says that there is none.
-    fn mark(&mut self, p: Place) -> bool
+    // Marks the halfword at a place, or says that there is none.
+    fn mark(&mut self, objects: &Objects, p: Place) -> bool
         ensures others { self.new.others ≡ self.old.others }
-        ensures marks { (q : Place) → is_marked self.new.objects.items q
-            ≡ (is_marked self.old.objects.items q || (result && same_place p q)) }
+        ensures marks { (q : Place) → is_marked (parsed objects.now).objects self.new.sections.items q
+            ≡ (is_marked (parsed objects.now).objects self.old.sections.items q || (result && same_place p q)) }
     {
-        if p.offset % 4 != 0 || self.objects.len() <= p.object as usize {
+        if p.offset % 2 != 0 {
             return false;
         }
-        self.objects[p.object as usize].mark(p.section, p.offset / 4)
+        let Some(k) = objects.section_number(p.object, p.section) else {
+            return false;
+        };
+        if self.sections.len() <= k as usize {
+            return false;
+        }
+        self.sections[k as usize].mark(p.offset / 2)
     }
 
-    /// Adds a place. It takes constant time at a word, and logarithmic time elsewhere.
-    pub fn add(&mut self, p: Place) -> Result<(), AllocError>
-        ensures { IfOk result (λ _. Adds (same_place p) self.old self.new) }
+    /// Adds a place. It takes constant time at a halfword, and logarithmic time elsewhere.
+    pub fn add(&mut self, objects: &Objects, p: Place) -> Result<(), AllocError>
+        ensures { IfOk result (λ _. Adds (parsed objects.now).objects (same_place p) self.old self.new) }
     {
-        if !self.mark(p) {
+        if !self.mark(objects, p) {
             self.others.insert(p)?;
         }
         Ok(())
     }
 
-    // Whether the word at a place is marked.
-    fn is_marked(&self, p: Place) -> bool
-        ensures { result ≡ is_marked self.now.objects.items p }
+    // Whether the halfword at a place is marked.
+    fn is_marked(&self, objects: &Objects, p: Place) -> bool
+        ensures { result ≡ is_marked (parsed objects.now).objects self.now.sections.items p }
     {
-        if p.offset % 4 != 0 {
+        if p.offset % 2 != 0 {
             return false;
         }
-        match self.objects.get(p.object as usize) {
+        let Some(k) = objects.section_number(p.object, p.section) else {
+            return false;
+        };
+        match self.sections.get(k as usize) {
             None => false,
-            Some(marks) => marks.has(p.section, p.offset / 4),
+            Some(marks) => marks.has(p.offset / 2),
         }
     }
 
-    /// Whether a place is among them. It takes constant time if all are at words, and else logarithmic time.
-    pub fn has(&self, p: Place) -> bool
-        ensures { result ≡ has_place self.now p }
+    /// Whether a place is among them. It takes constant time if all are at halfwords, and else logarithmic time.
+    pub fn has(&self, objects: &Objects, p: Place) -> bool
+        ensures { result ≡ has_place (parsed objects.now).objects self.now p }
     {
-        self.is_marked(p) || self.others.contains(&p)
+        self.is_marked(objects, p) || self.others.contains(&p)
     }
 }

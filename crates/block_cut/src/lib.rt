@@ -1,8 +1,9 @@
 //! The code of the objects, cut into items.
 #![tactic(auto)]
 
-mod code;
-mod code_word;
+pub mod code_place;
+mod code_section;
+mod content;
 pub mod cut;
 pub mod data_word;
 mod data_words;
@@ -11,7 +12,6 @@ mod fields;
 pub mod item;
 mod item_leads;
 mod judge;
-mod judged;
 mod kinds;
 mod leaders;
 mod leads;
@@ -20,8 +20,9 @@ mod plain_layout;
 mod reach;
 mod reloc_item;
 mod relocated;
+mod resolved_reloc;
+mod section_text;
+mod section_words;
 mod spelled;
 mod text;
-mod text_word;
 mod walk;
-mod words;

@@ -3,7 +3,6 @@
 ghost use Rattle.std.specs.Prelude.{◌≡◌, ◌+◌, ◌^◌, ◌<◌, ◌≤◌, max};
 ghost use Rattle.psabi_sym.specs.Blocks.{aligned_up};
 ghost use Rattle.psabi_sym.specs.Faults.{power_above};
-ghost use Rattle.block_cut.specs.Sizes.{item_size};
 ghost use Rattle.block_cut.specs.PlainLayout.{after_item};
 
 use crate::item::Item;
@@ -37,42 +36,24 @@ fn power_above(bytes: u16) -> u32
     }
 }
 
-/// The address after an item at an address.
+/// The address after an item at an address, by its bytes in its section.
 #[tactic(auto, unfolding(psabi_sym::specs::Blocks::aligned_up))]
-pub fn after_item(at: u32, item: &Item) -> u32
+pub fn after_item(at: u32, size: u8, item: &Item) -> u32
     requires { at + 256 < 2 ^ 32 }
-    ensures { result ≡ after_item at item.now }
+    ensures { result ≡ after_item at size item.now }
 {
     match item {
         Item::Align(bytes) => at.next_multiple_of(power_above(*bytes)),
-        Item::Call { .. } | Item::RawPair(..) => at + 8,
         Item::Op(_)
         | Item::Hi(..)
         | Item::Lo(..)
         | Item::PcHi(..)
         | Item::PcLo(..)
-        | Item::Branch(..)
-        | Item::Jump(..)
+        | Item::Branch { .. }
+        | Item::Jump { .. }
+        | Item::Call { .. }
         | Item::Word(_)
-        | Item::Raw(_) => at + 4,
-    }
-}
-
-/// How many bytes an item takes in its section.
-pub fn item_size(item: &Item) -> u32
-    ensures { result ≡ item_size item.now }
-{
-    match item {
-        Item::Align(bytes) => u32::from(*bytes),
-        Item::Call { .. } | Item::RawPair(..) => 8,
-        Item::Op(_)
-        | Item::Hi(..)
-        | Item::Lo(..)
-        | Item::PcHi(..)
-        | Item::PcLo(..)
-        | Item::Branch(..)
-        | Item::Jump(..)
-        | Item::Word(_)
-        | Item::Raw(_) => 4,
+        | Item::Raw(_)
+        | Item::RawPair(..) => at + u32::from(size),
     }
 }

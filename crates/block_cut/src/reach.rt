@@ -1,97 +1,82 @@
 // Branches that don't reach in the plain layout.
 
-ghost use Rattle.std.specs.Prelude.{◌≡◌, ◌≤◌, ◌<◌, ◌+◌, ℕ, false, not, IfSome, None, Some, MatchOption, length, slice_get};
+ghost use Rattle.std.specs.Prelude.{◌≡◌, ◌≤◌, ◌+◌, ℕ, false, not, IfSome, None, Some};
 ghost use Rattle.std.specs.List.{find};
 ghost use Rattle.std.specs.Option.{option_map, option_map_or};
-ghost use Rattle.elf32_read.specs.Header.{section_count};
 ghost use Rattle.psabi_reloc.specs.Reaches.{branch_reach};
 ghost use Rattle.psabi_sym.specs.Faults.{gather_fault};
-ghost use Rattle.psabi_sym.specs.Inputs.{parsed, Inputs};
+ghost use Rattle.psabi_sym.specs.Inputs.{parsed};
+ghost use Rattle.psabi_sym.specs.Listed.{ListedSection, section_at};
 ghost use Rattle.zc_base.specs.declared.place.Place.{Place};
-ghost use Rattle.block_cut.specs.Cut.{place_at, places_at, places_before, text_word, text_words_at, IsText};
+ghost use Rattle.block_cut.specs.Text.{IsText};
 ghost use Rattle.block_cut.specs.Faults.{distance_between, is_out_of_reach};
-ghost use Rattle.block_cut.specs.Items.{all_places};
+ghost use Rattle.block_cut.specs.Items.{all_places, place_of, places_of};
+ghost use Rattle.block_cut.specs.Places.{code_places, place_there};
 
+use crate::code_place::CodePlace;
 use crate::item::Item;
 use crate::text::Text;
-use crate::text_word::TextWord;
-use elf32_read::object::Object;
 use psabi_reloc::reaches::branch_reaches;
 use psabi_sym::objects::Objects;
 use zc_base::place::Place;
 
-// Whether a branch doesn't reach so far, if both addresses are known.
-fn is_far(from: Option<u32>, to: Option<u32>) -> bool
-    ensures { (least : ℕ) → IfSome from (λ a. (least ≤ a) × (a ≤ least + 0x4_0000)) → IfSome to (λ a. (least ≤ a) × (a ≤ least + 0x4_0000))
-        → result ≡ option_map_or (λ d. not (branch_reach d)) (distance_between from to) false }
+// Whether a branch doesn't reach from an address to another, if that is known.
+fn is_far(from: u32, to: Option<u32>) -> bool
+    ensures { (least : ℕ) → (least ≤ from) × (from ≤ least + 0x4_0000)
+        → IfSome to (λ a. (least ≤ a) × (a ≤ least + 0x4_0000))
+        → result ≡ option_map_or (λ d. not (branch_reach d)) (distance_between (Some from) to) false }
 {
-    let (Some(from), Some(to)) = (from, to) else {
+    let Some(to) = to else {
         return false;
     };
     !branch_reaches(to.wrapping_sub(from).cast_signed())
 }
 
-// Whether a branch stands at a word that doesn't reach so far.
-fn is_out_of_reach(text: &Text, word: &TextWord) -> bool
-    ensures { (inputs : Inputs) (q : Place) → gather_fault inputs ≡ None → IsText (parsed inputs) text.now
-        → word.now ≡ text_word (parsed inputs) q → result ≡ is_out_of_reach (parsed inputs) q }
-{
-    let Some(item) = &word.item else {
-        return false;
-    };
-    let Item::Branch(_, to) = item else {
-        return false;
-    };
-    is_far(word.address, text.address(*to))
-}
-
-// The offset of the first such word of a section.
-fn first_offset(text: &Text, words: &[TextWord]) -> Option<u32>
-    requires { length words.now ≤ 0x20_0000 }
-    ensures { (inputs : Inputs) (o i : ℕ) → gather_fault inputs ≡ None → IsText (parsed inputs) text.now
-        → words.now ≡ text_words_at (parsed inputs) o i
-        → option_map (place_at o i) result ≡ find (is_out_of_reach (parsed inputs)) (places_at (parsed inputs).objects o i) }
-{
-    for (k, word) in words.iter().enumerate() {
-        if is_out_of_reach(text, word) {
-            return Some(4 * k as u32);
-        }
-    }
-    None
-}
-
-// The first such place of an object, by its index, if there is none before.
-fn first_in_object(objects: &Objects, text: &Text, o: u16, object: &Object) -> Option<Place>
+// Whether a branch stands at a place that doesn't reach so far.
+fn is_out_of_reach(objects: &Objects, text: &Text, place: &CodePlace) -> bool
     requires faultless { gather_fault objects.now ≡ None }
     requires text { IsText (parsed objects.now) text.now }
-    requires object { slice_get objects.now.files o ≡ Some object.now }
-    requires before { find (is_out_of_reach (parsed objects.now)) (places_before (parsed objects.now).objects o 0) ≡ None }
-    ensures { MatchOption result
-        (find (is_out_of_reach (parsed objects.now)) (places_before (parsed objects.now).objects (o + 1) 0) ≡ None)
-        (λ q. find (is_out_of_reach (parsed objects.now)) (all_places (parsed objects.now).objects) ≡ Some q) }
+    ensures { (q : Place) → place.now ≡ place_there (parsed objects.now) q
+        → result ≡ is_out_of_reach (parsed objects.now) q }
 {
-    for i in 0..object.section_count() {
-        let section = i as u16;
-        if let Some(offset) = first_offset(text, text.words(o, section)) {
-            return Some(Place {
-                object: o,
-                section,
-                offset,
-            });
+    let Some(item) = &place.item else {
+        return false;
+    };
+    let Item::Branch { to, .. } = item else {
+        return false;
+    };
+    is_far(place.address, text.address(objects, *to))
+}
+
+// The offset of the first such place among those of a section.
+fn first_offset(objects: &Objects, text: &Text, places: &[CodePlace]) -> Option<u32>
+    requires faultless { gather_fault objects.now ≡ None }
+    requires text { IsText (parsed objects.now) text.now }
+    ensures { (l : ListedSection) → section_at (parsed objects.now).objects l.object l.index ≡ Some l.section
+        → places.now ≡ code_places (parsed objects.now) l
+        → option_map (place_of l) result ≡ find (is_out_of_reach (parsed objects.now)) (places_of l) }
+{
+    for place in places {
+        if is_out_of_reach(objects, text, place) {
+            return Some(place.offset);
         }
     }
     None
 }
 
-/// The first place of a branch that doesn't reach in the plain layout. It looks at each word once.
+/// The first place of a branch that doesn't reach in the plain layout. It looks at each place once.
 pub fn first_out_of_reach(objects: &Objects, text: &Text) -> Option<Place>
     requires { IsText (parsed objects.now) text.now }
     ensures { result ≡ find (is_out_of_reach (parsed objects.now)) (all_places (parsed objects.now).objects) }
 {
-    for i in 0..objects.object_count() {
-        let o = i as u16;
-        if let Some(place) = first_in_object(objects, text, o, &objects.object(o)) {
-            return Some(place);
+    for k in 0..objects.section_count() {
+        let row = objects.section_row(k);
+        if let Some(offset) = first_offset(objects, text, text.places(k)) {
+            return Some(Place {
+                object: row.object,
+                section: row.index,
+                offset,
+            });
         }
     }
     None

@@ -1,103 +1,197 @@
-// Sections with what their relocations change.
+// Sections whose relocations are decided.
 
-ghost use Rattle.std.specs.Prelude.{◌≡◌, ◌<◌, ◌≤◌, Contains, Some, None, IfOk, slice_get};
-ghost use Rattle.elf32_read.specs.Header.{section_count};
-ghost use Rattle.elf32_read.specs.Parts.{SectionParts, section_parts};
+ghost use Rattle.std.specs.Prelude.{◌≡◌, ◌+◌, ◌≤◌, Contains, Some, None, IfOk, false, if◌then◌else◌, length, nat_le, true};
+ghost use Rattle.elf32_read.specs.Parts.{is_code_section};
 ghost use Rattle.psabi_reloc.specs.Kinds.{kind_of};
 ghost use Rattle.psabi_sym.specs.Faults.{gather_fault};
+ghost use Rattle.psabi_sym.specs.Inputs.{parsed, Inputs};
+ghost use Rattle.psabi_sym.specs.Listed.{ListedSection, section_at};
+ghost use Rattle.block_cut.specs.Faults.{is_pair_at};
+ghost use Rattle.block_cut.specs.Items.{target_of};
 ghost use Rattle.block_cut.specs.Relocated.{IsRelocated};
-ghost use Rattle.block_cut.specs.Relocs.{field_end, is_bad_kind, is_bad_place, is_placed, is_sound, is_upper_on};
+ghost use Rattle.block_cut.specs.Relocs.{field_end, instr_in, is_bad_kind, is_bad_place, is_ignored, is_placed, has_pcrel_hi_at};
+ghost use Rattle.block_cut.specs.Resolved.{own_fault, resolved_reloc, resolved_relocs};
+ghost use Rattle.block_cut.specs.Instrs.{instrs_in};
 
-use crate::fields::{Fields, field_end};
-use crate::kinds::{fits_at, instr_at, is_ignored, is_word};
-use elf32_read::object::Object;
+use crate::fields::{Fields, field_end, field_length};
+use crate::kinds::{UNIT, fits_at, instr_at, is_ignored, is_pcrel_lo, is_rvc, is_word};
+use crate::resolved_reloc::{RelocFault, ResolvedReloc};
+use crate::section_words::instr_on;
 use elf32_read::reloc::Reloc;
 use psabi_reloc::kind::RelocKind;
 use psabi_sym::objects::Objects;
+use psabi_sym::section_ref::SectionRef;
+use psabi_sym::target::Target;
+use rv_decode::instr::Instr;
 use std::alloc::{AllocError, Global};
 
-/// A section with what its relocations change: whether it is code, its size in memory, and its content.
+/// A section with what its relocations change: its object's index and its own, whether it is code, its size in
+/// memory, its content, what its words spell if it is code, and the fields of its relocations.
 #[derive(Drop)]
 pub struct Relocated<'a> {
+    pub object: u16,
+    pub index: u16,
     pub is_code: bool,
     pub size: u32,
     pub bytes: &'a [u8],
+    pub words: &'a [Option<Instr>],
     pub fields: Fields,
 }
 
 impl<'a> Relocated<'a> {
-    /// A section, by its object's index and its own. It looks at each of its relocations once, and
-    /// sorts them.
-    pub fn new(
+    // A section, by what its words spell if it is code.
+    fn new(
         alloc: Global,
-        objects: &Objects,
-        o: u16,
-        object: &Object<'a>,
-        section: u16,
+        section: &SectionRef<'a>,
+        words: &'a [Option<Instr>],
     ) -> Result<Relocated<'a>, AllocError>
-        requires faultless { gather_fault objects.now ≡ None }
-        requires object { slice_get objects.now.files o ≡ Some object.now }
-        requires section { section < section_count object.now }
-        ensures { IfOk result (IsRelocated (section_parts object.now section)) }
+        requires words { is_code_section section.now.section ≡ true → words.now ≡ instrs_in section.now.section.bytes }
+        ensures { IfOk result (λ relocated. (inputs : Inputs) → gather_fault inputs ≡ None
+            → section_at (parsed inputs).objects section.now.object section.now.index ≡ Some section.now.section
+            → IsRelocated section.now relocated) }
     {
-        let parts = object.section_entry(u32::from(section));
         Ok(Relocated {
-            is_code: objects.is_code(o, section),
-            size: parts.size,
-            bytes: parts.bytes,
-            fields: Fields::new(alloc, objects, o, object, section)?,
+            object: section.object(),
+            index: section.index(),
+            is_code: section.is_code(),
+            size: section.size(),
+            bytes: section.bytes(),
+            words,
+            fields: Fields::new(alloc, section)?,
         })
     }
 
-    /// Whether a relocation's kind isn't known, or can't stand in this section.
-    pub fn is_bad_kind(&self, kind: Option<RelocKind>) -> bool
-        ensures { (s : SectionParts) → IsRelocated s self.now → result ≡ is_bad_kind s kind }
+    // Whether a relocation's kind isn't known, or can't stand in this section.
+    fn is_bad_kind(&self, kind: Option<RelocKind>) -> bool
+        ensures { (l : ListedSection) → IsRelocated l self.now → result ≡ is_bad_kind l.section kind }
     {
         match kind {
             None => true,
-            Some(_) => !self.is_code && !is_ignored(kind) && !is_word(kind),
+            Some(_) => (!self.is_code && !is_ignored(kind) && !is_word(kind)) || is_rvc(kind),
         }
     }
 
-    // Whether a relocation changes whole words that are of its kind, if this is code.
-    fn is_placed(&self, reloc: Reloc) -> bool
-        ensures { (s : SectionParts) → IsRelocated s self.now → field_end reloc ≤ s.size → result ≡ is_placed s reloc }
+    // Whether a relocation of this kind changes whole units that are of its kind, if this is code.
+    fn is_placed(&self, reloc: Reloc, kind: Option<RelocKind>) -> bool
+        requires { kind ≡ kind_of reloc.kind }
+        ensures { (l : ListedSection) → IsRelocated l self.now → field_end reloc ≤ l.section.size
+            → result ≡ is_placed l.section reloc }
     {
         if !self.is_code {
             return true;
         }
-        match RelocKind::of(reloc.kind) {
-            None => reloc.offset % 4 == 0,
-            Some(kind) => reloc.offset % 4 == 0 && fits_at(self.bytes, reloc, kind),
-        }
-    }
-
-    /// Whether the field of one of its relocations passes the section's end, isn't whole words of its kind,
-    /// or is changed by another as well.
-    pub fn is_bad_place(&self, reloc: Reloc) -> bool
-        ensures { (s : SectionParts) → IsRelocated s self.now → Contains s.relocs reloc → result ≡ is_bad_place s reloc }
-    {
-        if is_ignored(RelocKind::of(reloc.kind)) {
+        if reloc.offset % UNIT != 0 {
             return false;
         }
-        u64::from(self.size) < field_end(reloc)
-            || !self.is_placed(reloc)
-            || self.fields.is_crowded(reloc)
+        match kind {
+            None => true,
+            Some(kind) => fits_at(self.words, reloc, kind),
+        }
     }
 
-    /// Whether one of its relocations changes something, and can stand.
-    pub fn is_sound(&self, reloc: Reloc) -> bool
-        ensures { (s : SectionParts) → IsRelocated s self.now → Contains s.relocs reloc → result ≡ is_sound s reloc }
+    // Whether the field of one of its relocations, which is of this kind, passes the section's end, isn't whole units
+    // of its kind, or is changed by another as well.
+    fn is_bad_place(&self, reloc: Reloc, kind: Option<RelocKind>) -> bool
+        requires kind { kind ≡ kind_of reloc.kind }
+        requires asks { is_ignored kind ≡ false }
+        ensures { (l : ListedSection) → IsRelocated l self.now → Contains l.section.relocs reloc
+            → result ≡ is_bad_place l.section reloc }
     {
-        let kind = RelocKind::of(reloc.kind);
-        !is_ignored(kind) && !self.is_bad_kind(kind) && !self.is_bad_place(reloc)
+        u64::from(self.size) < field_end(reloc, kind)
+            || !self.is_placed(reloc, kind)
+            || self.fields.overlaps_another(reloc, kind)
     }
 
-    /// Whether the upper part of a PC-relative pair stands at an offset: an `auipc` with its relocation.
-    pub fn has_upper(&self, offset: u32) -> bool
-        ensures { (s : SectionParts) → IsRelocated s self.now → result ≡ is_upper_on s offset }
+    // What the bytes at an offset spell; nothing if there is no whole word.
+    fn spelled_at(&self, offset: usize) -> Option<Instr>
+        ensures { (l : ListedSection) → IsRelocated l self.now
+            → result
+            ≡ (if nat_le (offset + 4) (length l.section.bytes) then instr_in 4 l.section.bytes offset else None) }
     {
-        let spelled = instr_at(self.bytes, offset as usize);
+        if self.is_code && offset % 4 == 0 {
+            return instr_on(self.words, offset);
+        }
+        instr_at(self.bytes, offset)
+    }
+
+    // Whether the upper part of a PC-relative pair stands at an offset: an `auipc` with its relocation.
+    fn has_upper(&self, offset: u32) -> bool
+        ensures { (l : ListedSection) → IsRelocated l self.now → result ≡ has_pcrel_hi_at l.section offset }
+    {
+        let spelled = self.spelled_at(offset as usize);
         RelocKind::PcrelHi20.fits(spelled, None) && self.fields.has_upper(offset)
     }
+
+    // Whether the upper part that a lower part of this section goes with stands at a target.
+    fn is_pair(&self, target: Target) -> bool
+        ensures { (l : ListedSection) → IsRelocated l self.now → result ≡ is_pair_at l target }
+    {
+        let Target::Code(q) = target else {
+            return false;
+        };
+        q.object == self.object && q.section == self.index && self.has_upper(q.offset)
+    }
+
+    // What is wrong with one of its relocations by itself, which is of this kind and has this target. A lower part
+    // with an addend has no upper part, so one that may have one leads to where its symbol is.
+    fn own_fault(&self, reloc: Reloc, kind: Option<RelocKind>, target: Target) -> Option<RelocFault>
+        requires kind { kind ≡ kind_of reloc.kind }
+        requires asks { is_ignored kind ≡ false }
+        ensures { (inputs : Inputs) (l : ListedSection) → IsRelocated l self.now → Contains l.section.relocs reloc
+            → target ≡ target_of (parsed inputs) l.object reloc → result ≡ own_fault (parsed inputs) l reloc }
+    {
+        if self.is_bad_kind(kind) {
+            return Some(RelocFault::Kind);
+        }
+        if self.is_bad_place(reloc, kind) {
+            return Some(RelocFault::Place);
+        }
+        if is_pcrel_lo(kind) && (reloc.addend != 0 || !self.is_pair(target)) {
+            return Some(RelocFault::Pair);
+        }
+        None
+    }
+
+    // One of its relocations, which is of this kind, decided.
+    fn resolve(&self, objects: &Objects, reloc: Reloc, kind: Option<RelocKind>) -> ResolvedReloc
+        requires kind { kind ≡ kind_of reloc.kind }
+        requires asks { is_ignored kind ≡ false }
+        ensures { (l : ListedSection) → IsRelocated l self.now → Contains l.section.relocs reloc
+            → result ≡ resolved_reloc (parsed objects.now) l reloc }
+    {
+        let target = objects.resolve(self.object, reloc.symbol, reloc.addend);
+        ResolvedReloc {
+            target,
+            offset: reloc.offset,
+            size: field_length(kind, reloc.addend).min(255) as u8,
+            kind,
+            fault: self.own_fault(reloc, kind, target),
+        }
+    }
+}
+
+/// The relocations of a section that ask for something, decided, in order; by what its words spell if it is code. It
+/// resolves each once, in logarithmic time.
+pub fn resolve_relocs(
+    alloc: Global,
+    objects: &Objects,
+    section: &SectionRef,
+    words: &[Option<Instr>],
+) -> Result<Vec<ResolvedReloc>, AllocError>
+    requires gathered { gather_fault objects.now ≡ None }
+    requires section { section_at (parsed objects.now).objects section.now.object section.now.index
+        ≡ Some section.now.section }
+    requires words { is_code_section section.now.section ≡ true → words.now ≡ instrs_in section.now.section.bytes }
+    ensures { IfOk result (λ relocs. relocs.items ≡ resolved_relocs (parsed objects.now) section.now) }
+{
+    let relocated = Relocated::new(alloc, section, words)?;
+    let mut relocs = Vec::with_capacity(alloc, relocated.fields.asking)?;
+    for k in 0..section.reloc_count() {
+        let reloc = section.reloc(k);
+        let kind = RelocKind::of(reloc.kind);
+        if !is_ignored(kind) {
+            relocs.push(relocated.resolve(objects, reloc, kind))?;
+        }
+    }
+    Ok(relocs)
 }

@@ -1,16 +1,18 @@
 // What words without a relocation spell.
 
-ghost use Rattle.std.specs.Prelude.{◌≡◌, ◌<◌, ◌^◌, ◌+ℤ◌, ◌-◌, pos, None, Some};
-ghost use Rattle.psabi_sym.specs.Faults.{gather_fault};
-ghost use Rattle.psabi_sym.specs.Inputs.{parsed, Inputs};
+ghost use Rattle.std.specs.Prelude.{◌≡◌, ◌<◌, ◌^◌, ◌+ℤ◌, ◌-◌, pos, List, None, Some};
+ghost use Rattle.elf32_read.specs.Parts.{ObjectParts, SectionParts};
 ghost use Rattle.psabi_sym.specs.Resolve.{offset_within};
 ghost use Rattle.rv_decode.specs.Decode.{decoded};
 ghost use Rattle.rv_decode.specs.Immediates.{InRange};
-ghost use Rattle.block_cut.specs.Cut.{IsCode};
-ghost use Rattle.block_cut.specs.Items.{instr_item, item_of, target_away};
+ghost use Rattle.zc_base.specs.declared.place.Place.{Place};
+ghost use Rattle.block_cut.specs.SectionText.{by_halfword, number_on};
+ghost use Rattle.block_cut.specs.declared.item.Item.TheVariants.{Raw};
+ghost use Rattle.block_cut.specs.Items.{code_at, instr_item, spelled, target_away};
+ghost use Rattle.block_cut.specs.Whole.{IsWhole};
 
-use crate::code::Code;
 use crate::item::Item;
+use crate::walk::number_at;
 use rv_decode::instr::Instr;
 use zc_base::place::Place;
 
@@ -26,30 +28,30 @@ fn offset_away(offset: u32, distance: i32) -> Option<u32>
 }
 
 // Where a branch or jump at a place leads, if an item starts there or its section ends there.
-fn target_away(code: &Code, q: Place, distance: i32) -> Option<Place>
-    ensures { (inputs : Inputs) → gather_fault inputs ≡ None → IsCode (parsed inputs) code.now
-        → result ≡ target_away (parsed inputs).objects q distance }
+fn target_away(numbers: &[u32], q: Place, distance: i32) -> Option<Place>
+    ensures { (objects : List ObjectParts) (s : SectionParts) → code_at objects q ≡ Some s → IsWhole s
+        → numbers.now ≡ by_halfword (number_on s) s → result ≡ target_away objects q distance }
 {
     let to = Place {
         object: q.object,
         section: q.section,
         offset: offset_away(q.offset, distance)?,
     };
-    if !code.has_target(to) {
+    if number_at(numbers, to.offset) == 0 {
         return None;
     }
     Some(to)
 }
 
 // The item of an instruction at a place, and of its word.
-fn instr_item(code: &Code, q: Place, instr: Instr, word: u32) -> Item
+fn instr_item(numbers: &[u32], q: Place, instr: Instr, word: u32) -> Item
     requires { InRange instr }
-    ensures { (inputs : Inputs) → gather_fault inputs ≡ None → IsCode (parsed inputs) code.now
-        → result ≡ instr_item (parsed inputs).objects q instr word }
+    ensures { (objects : List ObjectParts) (s : SectionParts) → code_at objects q ≡ Some s → IsWhole s
+        → numbers.now ≡ by_halfword (number_on s) s → result ≡ instr_item objects q instr (Raw word) }
 {
     match instr {
-        Instr::Jal { rd, distance } => match target_away(code, q, distance) {
-            Some(to) => Item::Jump(Instr::Jal { rd, distance: 0 }, to),
+        Instr::Jal { rd, distance } => match target_away(numbers, q, distance) {
+            Some(to) => Item::Jump { rd, to },
             None => Item::Raw(word),
         },
         Instr::Branch {
@@ -57,16 +59,13 @@ fn instr_item(code: &Code, q: Place, instr: Instr, word: u32) -> Item
             first,
             second,
             distance,
-        } => match target_away(code, q, distance) {
-            Some(to) => {
-                let branch = Instr::Branch {
-                    op,
-                    first,
-                    second,
-                    distance: 0,
-                };
-                Item::Branch(branch, to)
-            }
+        } => match target_away(numbers, q, distance) {
+            Some(to) => Item::Branch {
+                op,
+                first,
+                second,
+                to,
+            },
             None => Item::Raw(word),
         },
         Instr::Csrrw { .. } => Item::Raw(word),
@@ -82,14 +81,15 @@ fn instr_item(code: &Code, q: Place, instr: Instr, word: u32) -> Item
     }
 }
 
-/// The item of a word without a relocation at a place, by the instruction that it spells.
-pub fn item_of(code: &Code, q: Place, spelled: Option<Instr>, word: u32) -> Item
-    requires { spelled ≡ decoded word }
-    ensures { (inputs : Inputs) → gather_fault inputs ≡ None → IsCode (parsed inputs) code.now
-        → result ≡ item_of (parsed inputs).objects q word }
+/// The item of a word without a relocation at a place, by the numbers of its section's places and by the
+/// instruction that it spells, if it is one.
+pub fn item_of(numbers: &[u32], q: Place, instr: Option<Instr>, word: u32) -> Item
+    requires { instr ≡ decoded word }
+    ensures { (objects : List ObjectParts) (s : SectionParts) → code_at objects q ≡ Some s → IsWhole s
+        → numbers.now ≡ by_halfword (number_on s) s → result ≡ spelled objects q instr (Raw word) }
 {
-    match spelled {
+    match instr {
         None => Item::Raw(word),
-        Some(instr) => instr_item(code, q, instr, word),
+        Some(instr) => instr_item(numbers, q, instr, word),
     }
 }

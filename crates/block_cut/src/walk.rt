@@ -1,99 +1,147 @@
-// A walk over the words of a section of code.
+// A walk over the halfwords of a section of code.
 
-ghost use Rattle.std.specs.Prelude.{◌≡◌, ◌<◌, ◌-◌, ◌/◌, ◌==◌, ℕ, if◌then◌else◌, IfOk, None, Some, true, length, slice_get, slice_index_or};
-ghost use Rattle.std.specs.Option.{option_map_or, option_or};
-ghost use Rattle.elf32_read.specs.Header.{section_count};
-ghost use Rattle.elf32_read.specs.Parts.{SectionParts, is_code_section, section_parts};
-ghost use Rattle.psabi_sym.specs.Faults.{gather_fault};
-ghost use Rattle.block_cut.specs.Cut.{by_word, code_word};
-ghost use Rattle.block_cut.specs.Relocated.{IsRelocated};
-ghost use Rattle.block_cut.specs.Relocs.{field_of, reloc_on};
+ghost use Rattle.std.specs.Prelude.{◌≡◌, ◌+◌, ◌-◌, ◌/◌, ◌<◌, ◌^◌, ◌==◌, ℕ, if◌then◌else◌, IfOk, [], true, length, slice_get, slice_index_or};
+ghost use Rattle.std.specs.Option.{option_map_or, unwrap_or};
+ghost use Rattle.elf32_read.specs.Parts.{SectionParts, is_code_section};
+ghost use Rattle.psabi_sym.specs.Inputs.{ParsedInputs};
+ghost use Rattle.psabi_sym.specs.Listed.{ListedSection};
+ghost use Rattle.block_cut.specs.SectionText.{by_halfword, number_on, numbered, IsRelocTable};
+ghost use Rattle.block_cut.specs.Resolved.{is_right, resolved_relocs};
 ghost use Rattle.block_cut.specs.Whole.{IsWhole};
 
-use crate::code_word::CodeWord;
-use crate::fields::field_length;
-use crate::relocated::Relocated;
-use elf32_read::object::Object;
-use elf32_read::reloc::Reloc;
-use psabi_sym::objects::Objects;
+use crate::resolved_reloc::{RelocFault, ResolvedReloc};
 use std::alloc::{AllocError, Global};
 
-// Keeps a relocation at its word, unless one is there.
-fn keep(table: &mut [Option<Reloc>], reloc: Reloc)
-    requires { reloc.offset / 4 < length table.old }
-    ensures { (k : ℕ) → slice_index_or table.new k None
-        ≡ (if k == reloc.offset / 4 then option_or (slice_index_or table.old k None) (Some reloc) else slice_index_or table.old k None) }
+// Whether a relocation can say what stands at its offset: its kind and its place are right.
+fn is_right(fault: Option<RelocFault>) -> bool
+    ensures { result ≡ is_right fault }
 {
-    let word = reloc.offset as usize / 4;
-    if table[word].is_none() {
-        table[word] = Some(reloc);
-    }
+    !matches!(fault, Some(RelocFault::Kind | RelocFault::Place))
 }
 
-/// The sound relocation that begins at each word of a section of code and at its end, by the section's
-/// object and its index. It looks at each relocation once.
-pub fn relocs_by_word(
+/// For each halfword, of which there are so many, the number of the relocation that says what stands there, from
+/// 1 on; 0 where none does. It looks at each relocation once.
+pub fn relocs_by_halfword(
     alloc: Global,
-    objects: &Objects,
-    o: u16,
-    object: &Object,
-    i: u16,
-    section: &Relocated,
-) -> Result<Vec<Option<Reloc>>, AllocError>
-    requires faultless { gather_fault objects.now ≡ None }
-    requires object { slice_get objects.now.files o ≡ Some object.now }
-    requires index { i < section_count object.now }
-    requires section { IsRelocated (section_parts object.now i) section.now }
-    requires code { is_code_section (section_parts object.now i) ≡ true }
-    ensures { IfOk result (λ table. table.items ≡ by_word (reloc_on (section_parts object.now i)) (section_parts object.now i)) }
+    count: usize,
+    relocs: &[ResolvedReloc],
+) -> Result<Vec<u32>, AllocError>
+    requires { length relocs.now < 2 ^ 32 }
+    ensures { IfOk result (λ table. IsRelocTable relocs.now count table.items) }
 {
-    let mut table = vec![in alloc; None; section.bytes.len() / 4 + 1]?;
-    let Some(rela) = objects.rela_of(o, i) else {
-        return Ok(table);
-    };
-    for k in 0..object.rela_count(rela) {
-        let reloc = object.rela(rela, k);
-        if section.is_sound(reloc) {
-            keep(&mut table, reloc);
+    let mut table = vec![in alloc; 0; count]?;
+    for (k, reloc) in relocs.iter().enumerate() {
+        if is_right(reloc.fault) && reloc.offset % 2 == 0 {
+            keep(&mut table, reloc.offset as usize / 2, k as u32 + 1);
         }
     }
     Ok(table)
 }
 
-// How many bytes the item takes that starts at a word with this relocation.
-fn size_with(reloc: Option<Reloc>) -> u32
-    ensures { result ≡ option_map_or field_of reloc 4 }
+// Keeps a number at a halfword, if there is such a halfword and it has none.
+fn keep(table: &mut [u32], halfword: usize, number: u32)
+    ensures count { length table.new ≡ length table.old }
+    ensures entries { (k : ℕ) → k < length table.old → slice_index_or table.new k 0
+        ≡ (if k == halfword then (if slice_index_or table.old k 0 == 0 then number else slice_index_or table.old k 0)
+        else slice_index_or table.old k 0) }
+{
+    if halfword < table.len() && table[halfword] == 0 {
+        table[halfword] = number;
+    }
+}
+
+/// One of some relocations, by its number from 1 on; 0 stands for none.
+pub fn numbered(relocs: &[ResolvedReloc], number: u32) -> Option<ResolvedReloc>
+    ensures { result ≡ numbered relocs.now number }
+{
+    if number == 0 {
+        return None;
+    }
+    match relocs.get(number as usize - 1) {
+        None => None,
+        Some(reloc) => Some(*reloc),
+    }
+}
+
+/// How many bytes what stands at a halfword has, by the relocation that says it.
+pub fn size_with(reloc: Option<ResolvedReloc>) -> u8
+    ensures { result ≡ option_map_or (λ d. d.size) reloc 4 }
 {
     match reloc {
         None => 4,
-        Some(reloc) => field_length(reloc),
+        Some(reloc) => reloc.size,
     }
 }
 
-// How many bytes are left until the next item after a word, where so many were left at it.
-fn left_after(left: u32, reloc: Option<Reloc>) -> u32
-    ensures { result ≡ (if left == 0 then option_map_or field_of reloc 4 else left) - 4 }
+// How many bytes are left until the next item after a halfword, where so many were left at it.
+fn left_after(left: u8, size: u8) -> u8
+    ensures { result ≡ (if left == 0 then size else left) - 2 }
 {
     if left == 0 {
-        return size_with(reloc).saturating_sub(4);
+        return size.saturating_sub(2);
     }
-    left.saturating_sub(4)
+    left.saturating_sub(2)
 }
 
-/// The words of a section of code, by the relocation that begins at each. An item starts at the first,
-/// and after each item the next.
-pub fn words_with(alloc: Global, relocs: &[Option<Reloc>]) -> Result<Vec<CodeWord>, AllocError>
-    ensures { IfOk result (λ words. (s : SectionParts) → is_code_section s ≡ true → IsWhole s
-        → relocs.now ≡ by_word (reloc_on s) s → words.items ≡ by_word (code_word s) s) }
+// The number of the place at a halfword where so many bytes are left and so many places came before.
+fn next_number(left: u8, before: u32) -> u32
+    requires { before + 1 < 2 ^ 32 }
+    ensures { result ≡ (if left == 0 then before + 1 else 0) }
 {
-    let mut words = Vec::with_capacity(alloc, relocs.len())?;
-    let mut left = 0;
-    for reloc in relocs {
-        words.push(CodeWord {
-            is_target: left == 0,
-            reloc: *reloc,
-        })?;
-        left = left_after(left, *reloc);
+    if left == 0 {
+        return before + 1;
     }
-    Ok(words)
+    0
+}
+
+/// The number of the place at each halfword of a section of code, from 1 on, by the number of the relocation that
+/// stands there; 0 where no item starts and the section doesn't end.
+pub fn place_numbers(
+    alloc: Global,
+    relocs: &[ResolvedReloc],
+    table: &[u32],
+) -> Result<Vec<u32>, AllocError>
+    requires { length table.now < 2 ^ 31 }
+    ensures { IfOk result (λ numbers. (inputs : ParsedInputs) (l : ListedSection) → is_code_section l.section ≡ true
+        → IsWhole l.section
+        → relocs.now ≡ resolved_relocs inputs l → IsRelocTable relocs.now (length l.section.bytes / 2 + 1) table.now
+        → numbers.items ≡ by_halfword (number_on l.section) l.section) }
+{
+    let mut numbers = Vec::with_capacity(alloc, table.len())?;
+    let mut before = 0;
+    let mut left = 0;
+    for reloc in table {
+        let number = next_number(left, before);
+        numbers.push(number)?;
+        before = before.max(number);
+        left = left_after(left, size_with(numbered(relocs, *reloc)));
+    }
+    Ok(numbers)
+}
+
+/// The number of the place at an offset, from 1 on, by the numbers at all halfwords of its section; 0 if no item
+/// starts there and the section doesn't end there.
+pub fn number_at(numbers: &[u32], offset: u32) -> u32
+    ensures value { (s : SectionParts) → is_code_section s ≡ true → IsWhole s
+        → numbers.now ≡ by_halfword (number_on s) s
+        → result ≡ number_on s offset }
+    ensures none { numbers.now ≡ [] → result ≡ 0 }
+{
+    if offset % 2 != 0 {
+        return 0;
+    }
+    match numbers.get(offset as usize / 2) {
+        None => 0,
+        Some(number) => *number,
+    }
+}
+
+/// How many places there are, by the numbers at all halfwords of a section of code: the last is the end's.
+pub fn place_count(numbers: &[u32]) -> usize
+    ensures { result ≡ unwrap_or (slice_get numbers.now (length numbers.now - 1)) 0 }
+{
+    match numbers.last() {
+        None => 0,
+        Some(number) => *number as usize,
+    }
 }

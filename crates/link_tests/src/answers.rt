@@ -54,8 +54,24 @@ fn item_text(alloc: Global, item: Item) -> Result<String, AllocError> {
         Item::Lo(instr, to) => instr_text(alloc, "Lo", instr, target_text(alloc, to)?),
         Item::PcHi(instr, to) => instr_text(alloc, "PcHi", instr, target_text(alloc, to)?),
         Item::PcLo(instr, to) => instr_text(alloc, "PcLo", instr, place_text(alloc, to)?),
-        Item::Branch(instr, to) => instr_text(alloc, "Branch", instr, place_text(alloc, to)?),
-        Item::Jump(instr, to) => instr_text(alloc, "Jump", instr, place_text(alloc, to)?),
+        Item::Branch {
+            op,
+            first,
+            second,
+            to,
+        } => {
+            let branch = Instr::Branch {
+                op,
+                first,
+                second,
+                distance: 0,
+            };
+            instr_text(alloc, "Branch", branch, place_text(alloc, to)?)
+        }
+        Item::Jump { rd, to } => {
+            let jump = Instr::Jal { rd, distance: 0 };
+            instr_text(alloc, "Jump", jump, place_text(alloc, to)?)
+        }
         Item::Call { rd, temp, to } => {
             let to = place_text(alloc, to)?;
             format!(in alloc; "Call x{} x{} {to}", rd.number(), temp.number())

@@ -25,13 +25,15 @@ starts_not inputs p is = by (code_at inputs.objects p) refl
         tested false start = ap (λ o. option_map_or (λ t. starts_on t p.offset) o false) at ∙ start
 
 pub returns-in-None : goal.returns-in-None
-returns-in-None c = λ inputs none is.
+returns-in-None c =
+    let inputs = c.args.objects.now in
     let p = c.in-Code.p in
-    let at : item_at (parsed inputs) p ≡ None = sym (c.item.ensures inputs none is) ∙ c.in-None.is in
+    let at : item_at (parsed inputs) p ≡ None = sym c.item.ensures ∙ c.in-None.is in
     sym (ap (start_only (parsed inputs).objects) c.in-Code.is ∙ ap (λ b. cond b (Some p) None) (starts_not (parsed inputs) p at))
 
 pub returns-in-Some : goal.returns-in-Some
-returns-in-Some c = λ inputs none is.
+returns-in-Some c =
+    let inputs = c.args.objects.now in
     let p = c.in-Code.p in
-    let at = sym (c.item.ensures inputs none is) ∙ c.in-Some.is in
+    let at = sym c.item.ensures ∙ c.in-Some.is in
     sym (ap (start_only (parsed inputs).objects) c.in-Code.is ∙ ap (λ b. cond b (Some p) None) (starts (parsed inputs) p _ at))

@@ -1,51 +1,43 @@
-use Rattle.std.proofs.Common.{◌≡◌, ◌++◌, [], None, Some, false, sym, ap, subst, ◌∙◌}
-use Rattle.std.specs.Option.{option_map_or}
+use Rattle.std.proofs.Common.{◌≡◌, ◌+◌, ◌≤◌, true, ◌++◌, filter, map, sym, ap, subst, ◌∙◌, arith}
+use Rattle.std.specs.Prelude.{All}
 use Rattle.std.proofs.lemmas.List.{append-nil}
-use Rattle.std.proofs.lemmas.Option.{get_or_from_slice_get, slice_get_within}
-use Rattle.elf32_read.specs.Lent.{IsSectionEntry}
-use Rattle.elf32_read.specs.Parts.{is_code_section, section_parts}
+use Rattle.psabi_sym.specs.Data.{data_end}
 use Rattle.psabi_sym.specs.Inputs.{parsed}
-use Rattle.block_cut.specs.DataWords.{words_in}
-use Rattle.block_cut.proofs.HeldLaws.{rela_is}
-use Rattle.block_cut.proofs.ListedLaws.{listed}
-use Rattle.block_cut.proofs.WholeLaws.{section_there}
-use Rattle.block_cut.proofs.WordsLaws.{words_of_code, words_of_none, words_of_zeros}
+use Rattle.psabi_sym.proofs.SectionNumbers.{listed_at}
+use Rattle.block_cut.specs.DataWords.{resolved_word, words_in}
+use Rattle.block_cut.specs.Relocs.{is_word}
+use Rattle.block_cut.proofs.DataLaws.{held_is, words_held, words_low, words_unheld}
 use Rattle.block_cut.proofs.data_words.add_section.Goals as goal
-use Rattle.block_cut.proofs.data_words.add_section.Goals.{then-is_code-via-then-is_code, then-is_code-via-else-is_code+then-section_entry-eq-NOBITS}
 
-pub returns-then-is_code : goal.returns-then-is_code
-returns-then-is_code c =
-    let inputs = c.args.objects.now in
-    let file = c.args.object.now in
-    let o = c.args.o in
-    let i = c.args.i in
-    let s = section_parts file i in
-    let found = section_there inputs o i file c.requires.object c.requires.section in
-    let none : words_in (parsed inputs) (listed o i s) ≡ [] = elim c.then-is_code.branch [
-      | then-is_code-via-then-is_code w ↦
-          words_of_code (parsed inputs) (listed o i s) found (sym (ap (λ x. option_map_or is_code_section x false) found) ∙ sym c.is_code.ensures ∙ w.if-is_code.true)
-      | then-is_code-via-else-is_code+then-section_entry-eq-NOBITS w ↦
-          let is = subst (λ n. IsSectionEntry w.section_entry.result (section_parts file n)) w.from.ensures w.section_entry.ensures in
-          words_of_zeros (parsed inputs) (listed o i s) (sym is.kind ∙ w.if-section_entry-eq-NOBITS.true)
-    ] in
-    sym (ap (λ l. c.args.words.now.items ++ l) none ∙ append-nil c.args.words.now.items)
+pub held_address-requires : goal.held_address-requires
+held_address-requires c = listed_at (parsed c.args.objects.now).objects c.args.k c.section.result c.section.ensures
 
-pub rela_of-requires-clause-object : goal.rela_of-requires-clause-object
-rela_of-requires-clause-object c = slice_get_within c.args.objects.now.files c.args.o c.args.object.now c.requires.object
-
-pub rela_of-requires-clause-section : goal.rela_of-requires-clause-section
-rela_of-requires-clause-section c = rw (get_or_from_slice_get c.args.objects.now.files c.args.o c.args.object.now [] c.requires.object) c.requires.section
-
-pub add_held-requires-clause-rela : goal.add_held-requires-clause-rela
-add_held-requires-clause-rela c = (rela_is c.args.objects.now.files c.args.o c.args.i c.args.object.now (Some c.in-Some.rela) c.requires.object c.in-Some.ensures).0
-
-pub add_held-requires-clause-held : goal.add_held-requires-clause-held
-add_held-requires-clause-held c = (rela_is c.args.objects.now.files c.args.o c.args.i c.args.object.now (Some c.in-Some.rela) c.requires.object c.in-Some.ensures).1
+pub add_words-requires : goal.add_words-requires
+add_words-requires c =
+    let inputs = parsed c.args.objects.now in
+    let l = c.section.result in
+    let found = listed_at inputs.objects c.args.k l c.section.ensures in
+    let at = c.in-Some.at in
+    let held = held_is inputs l found at (sym c.held_address.ensures ∙ c.in-Some.is) in
+    let low = words_low inputs l found c.requires.faultless at held in
+    let are = c.relocs.ensures c.args.objects.now l c.requires.text c.section.ensures in
+    let all : All (λ d. is_word d.kind ≡ true → at + d.offset ≤ data_end inputs) c.relocs.result.now = subst (All (λ d. is_word d.kind ≡ true → at + d.offset ≤ data_end inputs)) (sym are) low in
+    λ k d lt word. omega (arith, all k d lt word, c.data_end-end.ensures.value, c.data_end-end.type_inv)
 
 pub returns-in-None : goal.returns-in-None
-returns-in-None c =
-    let inputs = c.args.objects.now in
-    let file = c.args.object.now in
-    let i = c.args.i in
-    let none = words_of_none (parsed inputs) (listed c.args.o i (section_parts file i)) (rela_is inputs.files c.args.o i file None c.requires.object c.in-None.ensures) in
-    sym (ap (λ l. c.args.words.now.items ++ l) none ∙ append-nil c.args.words.now.items)
+returns-in-None c = λ l at.
+    let inputs = parsed c.args.objects.now in
+    let same : c.section.result ≡ l = cc (c.section.ensures, at) in
+    let none = words_unheld inputs c.section.result (sym c.held_address.ensures ∙ c.in-None.is) in
+    sym (ap (λ ws. c.args.words.now.items ++ ws) (ap (words_in inputs) (sym same) ∙ none) ∙ append-nil c.args.words.now.items)
+
+pub returns-in_ok-add_words-in-Some : goal.returns-in_ok-add_words-in-Some
+returns-in_ok-add_words-in-Some c = λ l at.
+    let inputs = parsed c.args.objects.now in
+    let own = c.section.result in
+    let same : own ≡ l = cc (c.section.ensures, at) in
+    let held = held_is inputs own (listed_at inputs.objects c.args.k own c.section.ensures) c.in-Some.at (sym c.held_address.ensures ∙ c.in-Some.is) in
+    let are = c.relocs.ensures c.args.objects.now own c.requires.text c.section.ensures in
+    c.in_ok-add_words-in-Some.ensures
+    ∙ ap (λ ds. c.args.words.now.items ++ map (resolved_word c.in-Some.at) (filter (λ d. is_word d.kind) ds)) are
+    ∙ ap (λ ws. c.args.words.now.items ++ ws) (sym (words_held inputs own c.in-Some.at held) ∙ ap (words_in inputs) same)

@@ -1,31 +1,36 @@
-use Rattle.std.proofs.Common.{◌≡◌, ◌+◌, ◌*◌, ◌<◌, suc, length, ap, ◌∙◌, arith}
+use Rattle.std.proofs.Common.{◌≡◌, ◌∙◌, length, ap, arith}
+use Rattle.std.proofs.lemmas.List.{length-map}
 use Rattle.psabi_sym.specs.Inputs.{parsed}
-use Rattle.block_cut.specs.Cut.{place_at}
+use Rattle.block_cut.specs.Items.{place_of}
 use Rattle.block_cut.specs.Leaders.{item_leads}
-use Rattle.block_cut.proofs.LedLaws.{adds_more, adds_none, adds_same, any_below, items_all}
-use Rattle.block_cut.proofs.ReachLaws.{word_at}
+use Rattle.block_cut.specs.Places.{code_place}
+use Rattle.block_cut.proofs.LedLaws.{adds_all, adds_next, adds_none, adds_same, items_lead, offset_few, offsets_of, place_got, places_are}
 use Rattle.block_cut.proofs.item_leads.add_items.Goals as goal
 
-pub loop-k-init : goal.loop-k-init
-loop-k-init c = λ inputs none are. adds_none c.args.leaders.now
+pub loop-place-init : goal.loop-place-init
+loop-place-init c = adds_none (parsed c.args.objects.now).objects c.args.leaders.now
 
-pub loop-k-preserved : goal.loop-k-preserved
-loop-k-preserved c = λ inputs none are.
-    let o = c.args.o in
-    let i = c.args.i in
-    let k = c.loop-k.k in
-    let inside : k < length c.args.words.now = omega arith in
-    let word = c.index-words-k.is ∙ word_at inputs none o i c.args.words.now are k _ inside in
-    let next : suc k ≡ k + 1 = omega arith in
-    adds_same _ (λ q. any_below (λ k. item_leads (parsed inputs) q (place_at o i (4 * k))) (k + 1)) c.args.leaders.now c.add_word.new.leaders
-    (λ q. ap (any_below (λ k. item_leads (parsed inputs) q (place_at o i (4 * k)))) next)
-    (adds_more _ _ c.args.leaders.now c.loop-k.leaders c.add_word.new.leaders (c.loop-k.invariant inputs none are) (c.in_ok-add_word.ensures inputs none word))
+pub add_place-requires : goal.add_place-requires
+add_place-requires c =
+    let inputs = c.args.objects.now in
+    let l = c.args.section.now in
+    let k = c.loop-place.place-index in
+    let here = place_got (parsed inputs) l c.args.places.now c.requires.places k c.place-item.result (omega arith) c.place-item.is in
+    omega (arith, offset_few inputs l c.requires.gathered c.requires.section here.n (here.held), here.offset)
+
+pub loop-place-preserved : goal.loop-place-preserved
+loop-place-preserved c =
+    let inputs = parsed c.args.objects.now in
+    let l = c.args.section.now in
+    let k = c.loop-place.place-index in
+    let here = place_got inputs l c.args.places.now c.requires.places k c.place-item.result (omega arith) c.place-item.is in
+    adds_next inputs.objects (λ q n. item_leads inputs q (place_of l n)) (offsets_of l) k here.n c.args.leaders.now c.loop-place.leaders c.add_place.new.leaders here.at c.loop-place.invariant
+    (c.in_ok-add_place.ensures here.n here.is)
 
 pub returns : goal.returns
-returns c = λ inputs none are.
-    let o = c.args.o in
-    let i = c.args.i in
-    let all : c.loop-k.k ≡ length c.args.words.now = omega arith in
-    adds_same _ _ c.args.leaders.now c.loop-k.leaders
-    (λ q. ap (any_below (λ k. item_leads (parsed inputs) q (place_at o i (4 * k)))) all ∙ items_all inputs none o i c.args.words.now are q)
-    (c.loop-k.invariant inputs none are)
+returns c =
+    let inputs = parsed c.args.objects.now in
+    let l = c.args.section.now in
+    let count : length c.args.places.now ≡ length (offsets_of l) = ap length (c.requires.places ∙ places_are inputs l) ∙ length-map (offsets_of l) (code_place inputs l) in
+    adds_same inputs.objects _ _ c.args.leaders.now c.loop-place.leaders (items_lead c.args.objects.now l c.requires.gathered c.requires.section)
+    (adds_all inputs.objects (λ q n. item_leads inputs q (place_of l n)) (offsets_of l) c.loop-place.place-index c.args.leaders.now c.loop-place.leaders (omega (arith, count)) c.loop-place.invariant)

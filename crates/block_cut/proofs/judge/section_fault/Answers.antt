@@ -1,16 +1,21 @@
-use Rattle.std.proofs.Common.{Some, ap, refl}
-use Rattle.std.specs.Option.{option_map}
-use Rattle.elf32_read.specs.Parts.{section_parts}
-use Rattle.elf32_read.specs.declared.fault.Fault.{Fault}
-use Rattle.block_cut.proofs.HeldLaws.{rela_is}
-use Rattle.block_cut.proofs.ListedLaws.{listed}
+use Rattle.std.proofs.Common.{get_or, sym, ◌∙◌, arith}
+use Rattle.std.proofs.lemmas.Option.{slice_get-get_or}
+use Rattle.psabi_sym.specs.Inputs.{parsed}
+use Rattle.block_cut.specs.Resolved.{resolved_fault}
+use Rattle.block_cut.proofs.FirstLaws.{none_next, some_next}
+use Rattle.block_cut.proofs.ResolvedLaws.{no_reloc}
 use Rattle.block_cut.proofs.judge.section_fault.Goals as goal
 
-pub returns : goal.returns
-returns c =
-    let file = c.args.object.now in
-    let o = c.args.o in
-    let i = c.args.i in
-    let held = (rela_is c.args.objects.now.files o i file (Some c.in-Some.rela) c.requires.object c.in-Some.ensures).1 in
-    let first = c.held_fault.ensures (listed o i (section_parts file i)) (record { object = refl; index = refl; section = c.in_ok-new.ensures }) held in
-    ap (option_map {U = _} (λ (f : Fault). (o, f))) first
+pub returns-in-Some : goal.returns-in-Some
+returns-in-Some c =
+    let f = resolved_fault (parsed c.args.objects.now).objects c.args.section in
+    let relocs = c.args.relocs.now in
+    let k = c.loop-reloc.reloc-index in
+    sym (some_next f relocs k (get_or relocs k no_reloc) (slice_get-get_or relocs k no_reloc (omega arith)) c.loop-reloc.invariant c.in-Some.fault (sym c.reloc_fault.ensures ∙ c.in-Some.is))
+
+pub loop-reloc-preserved : goal.loop-reloc-preserved
+loop-reloc-preserved c =
+    let f = resolved_fault (parsed c.args.objects.now).objects c.args.section in
+    let relocs = c.args.relocs.now in
+    let k = c.loop-reloc.reloc-index in
+    none_next f relocs k (get_or relocs k no_reloc) (slice_get-get_or relocs k no_reloc (omega arith)) c.loop-reloc.invariant (sym c.reloc_fault.ensures ∙ c.in_default.is)

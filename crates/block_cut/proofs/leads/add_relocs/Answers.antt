@@ -1,31 +1,20 @@
-use Rattle.std.proofs.Common.{[], None, Some, sym, ap}
-use Rattle.std.specs.List.{list_any}
-use Rattle.std.proofs.lemmas.Option.{get_or_from_slice_get, slice_get_within}
+use Rattle.std.proofs.Common.{get_or, arith}
+use Rattle.std.proofs.lemmas.Option.{slice_get-get_or}
 use Rattle.psabi_sym.specs.Inputs.{parsed}
-use Rattle.block_cut.specs.Leaders.{reloc_leads}
-use Rattle.block_cut.proofs.HeldLaws.{rela_is}
-use Rattle.block_cut.proofs.LedLaws.{adds_none, adds_same}
+use Rattle.block_cut.specs.Leaders.{is_place}
+use Rattle.block_cut.proofs.LedLaws.{adds_all, adds_next, adds_none}
+use Rattle.block_cut.proofs.ResolvedLaws.{no_reloc}
 use Rattle.block_cut.proofs.leads.add_relocs.Goals as goal
 
-pub rela_of-requires-clause-object : goal.rela_of-requires-clause-object
-rela_of-requires-clause-object c = slice_get_within c.args.objects.now.files c.args.o c.args.object.now c.requires.object
+pub loop-reloc-init : goal.loop-reloc-init
+loop-reloc-init c = adds_none (parsed c.args.objects.now).objects c.args.leaders.now
 
-pub rela_of-requires-clause-section : goal.rela_of-requires-clause-section
-rela_of-requires-clause-section c = rw (get_or_from_slice_get c.args.objects.now.files c.args.o c.args.object.now [] c.requires.object) c.requires.section
+pub loop-reloc-preserved : goal.loop-reloc-preserved
+loop-reloc-preserved c =
+    let relocs = c.args.relocs.now in
+    let k = c.loop-reloc.reloc-index in
+    adds_next (parsed c.args.objects.now).objects (λ q d. is_place q d.target) relocs k (get_or relocs k no_reloc) c.args.leaders.now c.loop-reloc.leaders c.add_reloc.new.leaders
+    (slice_get-get_or relocs k no_reloc (omega arith)) c.loop-reloc.invariant c.in_ok-add_reloc.ensures
 
-pub returns-in-None : goal.returns-in-None
-returns-in-None c =
-    let inputs = c.args.objects.now in
-    let o = c.args.o in
-    let none = rela_is inputs.files o c.args.i c.args.object.now None c.requires.object c.in-None.ensures in
-    adds_same _ _ c.args.leaders.now c.args.leaders.now (λ q. sym (ap (list_any (reloc_leads (parsed inputs) q o)) none)) (adds_none c.args.leaders.now)
-
-pub add_held-requires : goal.add_held-requires
-add_held-requires c = (rela_is c.args.objects.now.files c.args.o c.args.i c.args.object.now (Some c.in-Some.rela) c.requires.object c.in-Some.ensures).0
-
-pub returns-in_ok-add_held-in-Some : goal.returns-in_ok-add_held-in-Some
-returns-in_ok-add_held-in-Some c =
-    let inputs = c.args.objects.now in
-    let o = c.args.o in
-    let held = (rela_is inputs.files o c.args.i c.args.object.now (Some c.in-Some.rela) c.requires.object c.in-Some.ensures).1 in
-    adds_same _ _ c.args.leaders.now c.add_held.new.leaders (λ q. sym (ap (list_any (reloc_leads (parsed inputs) q o)) held)) c.in_ok-add_held-in-Some.ensures
+pub returns : goal.returns
+returns c = adds_all (parsed c.args.objects.now).objects (λ q d. is_place q d.target) c.args.relocs.now c.loop-reloc.reloc-index c.args.leaders.now c.loop-reloc.leaders (omega arith) c.loop-reloc.invariant

@@ -1,45 +1,25 @@
-use Rattle.std.proofs.Common.{◌≡◌, ◌<◌, ◌||◌, Some, length, slice_get, ap, ◌∙◌, arith}
-use Rattle.std.specs.List.{list_any}
-use Rattle.std.specs.Option.{option_map}
-use Rattle.std.proofs.lemmas.Option.{slice_get-map}
-use Rattle.elf32_read.specs.Header.{section_count}
-use Rattle.elf32_read.specs.Parts.{object_parts, section_parts}
+use Rattle.std.proofs.Common.{get_or, arith}
+use Rattle.std.proofs.lemmas.Option.{slice_get-get_or}
 use Rattle.psabi_sym.specs.Inputs.{parsed}
-use Rattle.psabi_sym.specs.Listed.{sections_before}
-use Rattle.psabi_sym.proofs.PartLaws.{section_count_is}
+use Rattle.psabi_sym.specs.Listed.{all_sections}
 use Rattle.block_cut.specs.Led.{leads_from}
-use Rattle.block_cut.proofs.LedLaws.{leads_more}
-use Rattle.block_cut.proofs.ListedLaws.{before_next}
-use Rattle.block_cut.proofs.ReachLaws.{words_few}
-use Rattle.block_cut.proofs.WholeLaws.{section_there}
+use Rattle.block_cut.proofs.LedLaws.{adds_all, adds_next, adds_none}
+use Rattle.block_cut.proofs.ResolvedLaws.{no_section}
 use Rattle.block_cut.proofs.leads.add_sections.Goals as goal
 
-pub add_items-requires : goal.add_items-requires
-add_items-requires c =
-    words_few c.args.objects.now c.requires.faultless c.args.o c.loop-i.i c.words.result.now (c.words.ensures ∙ c.requires.text.words c.args.o c.loop-i.i)
+pub loop-k-init : goal.loop-k-init
+loop-k-init c = adds_none (parsed c.args.objects.now).objects c.args.leaders.now
 
-pub loop-i-init : goal.loop-i-init
-loop-i-init c = λ q other is. is
-
-pub loop-i-preserved : goal.loop-i-preserved
-loop-i-preserved c = λ q other before.
-    let inputs = c.args.objects.now in
-    let file = c.args.object.now in
-    let o = c.args.o in
-    let i = c.loop-i.i in
-    let within : i < section_count file = omega arith in
-    let found = section_there inputs o i file c.requires.object within in
-    let items = c.in_ok-add_items.ensures inputs c.requires.faultless (c.words.ensures ∙ c.requires.text.words o i) in
-    leads_more (parsed inputs) o i (section_parts file i) found c.loop-i.leaders c.add_relocs.new.leaders c.add_items.new.leaders c.in_ok-add_relocs.ensures items q other
-    (c.loop-i.invariant q other before)
+pub loop-k-preserved : goal.loop-k-preserved
+loop-k-preserved c =
+    let inputs = parsed c.args.objects.now in
+    let all = all_sections inputs.objects in
+    let k = c.loop-k.k in
+    let l = get_or all k no_section in
+    let at = slice_get-get_or all k no_section (omega (arith, c.section_count-k-end.ensures.count)) in
+    adds_next inputs.objects (leads_from inputs) all k l c.args.leaders.now c.loop-k.leaders c.add_section.new.leaders at c.loop-k.invariant (c.in_ok-add_section.ensures l at)
 
 pub returns : goal.returns
-returns c = λ q other before.
-    let inputs = c.args.objects.now in
-    let file = c.args.object.now in
-    let objects = (parsed inputs).objects in
-    let o = c.args.o in
-    let at : slice_get objects o ≡ Some (object_parts file) = slice_get-map object_parts inputs.files o ∙ ap (option_map object_parts) c.requires.object in
-    let all : c.loop-i.i ≡ length (object_parts file).sections = omega (arith, section_count_is file) in
-    c.loop-i.invariant q other before
-    ∙ ap (λ l. list_any (leads_from (parsed inputs) q) l || other) (ap (sections_before objects o) all ∙ before_next objects o (object_parts file) at)
+returns c =
+    let inputs = parsed c.args.objects.now in
+    adds_all inputs.objects (leads_from inputs) (all_sections inputs.objects) c.loop-k.k c.args.leaders.now c.loop-k.leaders (omega (arith, c.section_count-k-end.ensures.count)) c.loop-k.invariant

@@ -1,26 +1,32 @@
-use Rattle.std.proofs.Common.{◌≡◌, List, Bool, None, sym, ap, ◌∙◌, arith}
-use Rattle.std.specs.List.{find, flat_map}
-use Rattle.std.proofs.lemmas.List.{length-map}
+use Rattle.std.proofs.Common.{◌≡◌, Some, sym, ap, ◌∙◌}
+use Rattle.std.specs.Option.{option_map}
 use Rattle.zc_base.specs.declared.place.Place.{Place}
-use Rattle.elf32_read.specs.Parts.{ObjectParts, object_parts}
 use Rattle.psabi_sym.specs.Inputs.{parsed}
 use Rattle.psabi_sym.specs.Listed.{all_sections}
-use Rattle.block_cut.specs.Cut.{places_before}
+use Rattle.psabi_sym.proofs.SectionNumbers.{listed_at}
 use Rattle.block_cut.specs.Faults.{is_out_of_reach}
-use Rattle.block_cut.specs.Items.{places_of}
-use Rattle.block_cut.proofs.ListedLaws.{before_end, before_first}
+use Rattle.block_cut.specs.Items.{place_of}
+use Rattle.block_cut.proofs.ReachLaws.{first_of_all, none_more}
 use Rattle.block_cut.proofs.reach.first_out_of_reach.Goals as goal
 
--- before all objects there is no place
-none_yet : (p : Place → Bool) (objects : List ObjectParts) → find p (places_before objects 0 0) ≡ None
-unfolding all_sections
-none_yet p objects = ap (λ l. find p (flat_map places_of l)) (before_first objects 0)
-
-pub loop-i-init : goal.loop-i-init
-loop-i-init c = none_yet (is_out_of_reach (parsed c.args.objects.now)) (parsed c.args.objects.now).objects
-
-pub returns : goal.returns
-returns c =
+pub returns-in-Some : goal.returns-in-Some
+returns-in-Some c =
     let inputs = c.args.objects.now in
-    let n = c.loop-i.i in
-    sym (ap (λ l. find (is_out_of_reach (parsed inputs)) (flat_map places_of l)) (sym (before_end (parsed inputs).objects n (omega (arith, length-map inputs.files object_parts)))) ∙ c.loop-i.invariant)
+    let k = c.loop-k.k in
+    let l = c.section_row-row.ensures.0 in
+    let at = c.section_row-row.ensures.1 in
+    let row = c.section_row-row.ensures.2 in
+    let own = c.first_offset.ensures l (listed_at (parsed inputs).objects k l at) (c.places.ensures inputs l c.requires at) in
+    let q : Place = record { object = c.section_row-row.result.object; section = c.section_row-row.result.index; offset = c.in-Some.offset } in
+    let same : q ≡ place_of l c.in-Some.offset = λ j. record { object = (row j).object; section = (row j).index; offset = c.in-Some.offset } in
+    ap Some same
+    ∙ sym (first_of_all (is_out_of_reach (parsed inputs)) (all_sections (parsed inputs).objects) k l (place_of l c.in-Some.offset) at c.loop-k.invariant (sym own ∙ ap (option_map (place_of l)) c.in-Some.is))
+
+pub loop-k-preserved : goal.loop-k-preserved
+loop-k-preserved c =
+    let inputs = c.args.objects.now in
+    let k = c.loop-k.k in
+    let l = c.section_row-row.ensures.0 in
+    let at = c.section_row-row.ensures.1 in
+    let own = c.first_offset.ensures l (listed_at (parsed inputs).objects k l at) (c.places.ensures inputs l c.requires at) in
+    none_more (is_out_of_reach (parsed inputs)) (all_sections (parsed inputs).objects) k l at c.loop-k.invariant (sym own ∙ ap (option_map (place_of l)) c.in_default.is)

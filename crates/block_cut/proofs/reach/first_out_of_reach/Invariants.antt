@@ -1,9 +1,10 @@
-use Rattle.std.proofs.Common.{◌≡◌, None}
-use Rattle.std.specs.List.{find}
+use Rattle.std.proofs.Common.{◌≡◌, None, take}
+use Rattle.std.specs.List.{find, flat_map}
 use Rattle.psabi_sym.specs.Inputs.{parsed}
-use Rattle.block_cut.specs.Cut.{places_before}
+use Rattle.psabi_sym.specs.Listed.{all_sections}
 use Rattle.block_cut.specs.Faults.{is_out_of_reach}
+use Rattle.block_cut.specs.Items.{places_of}
 use Rattle.block_cut.proofs.reach.first_out_of_reach.Given as goal
 
-abbrev pub invariant-loop-i : goal.invariant-loop-i
-invariant-loop-i l = find (is_out_of_reach (parsed l.objects)) (places_before (parsed l.objects).objects l.i 0) ≡ None
+abbrev pub invariant-loop-k : goal.invariant-loop-k
+invariant-loop-k l = find (is_out_of_reach (parsed l.objects)) (flat_map places_of (take l.k (all_sections (parsed l.objects).objects))) ≡ None

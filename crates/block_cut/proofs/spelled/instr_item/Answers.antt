@@ -1,10 +1,8 @@
 use Rattle.std.proofs.Common.{◌≡◌, ℤ, pos, negsuc, sym, ap, subst, ◌∙◌, arith, to_z, of_z, w32}
 use Rattle.std.specs.Option.{option_map_or}
 use Rattle.std.proofs.lemmas.Int.{to_z-of_z}
-use Rattle.psabi_sym.specs.Inputs.{parsed}
 use Rattle.rv_decode.specs.Bits.{FitsIn}
 use Rattle.rv_decode.specs.Immediates.{InRange}
-use Rattle.rv_decode.specs.declared.instr.Instr.TheVariants as instr
 use Rattle.block_cut.specs.declared.item.Item.TheVariants.{Branch, Jump, Raw}
 use Rattle.block_cut.specs.Items.{instr_item, target_away}
 use Rattle.block_cut.proofs.spelled.instr_item.Goals as goal
@@ -19,35 +17,35 @@ far (pos n) lt = omega (arith, lt)
 far (negsuc n) lt = omega (arith, lt)
 
 pub returns-in-Some : goal.returns-in-Some
-returns-in-Some c = λ inputs none is.
+returns-in-Some c = λ objects s at whole are.
     let q = c.args.q in
     let word = c.args.word in
     let same = read_back c.in-Jal.distance (subst InRange c.in-Jal.is c.requires).0 in
-    let found = ap (target_away (parsed inputs).objects q) (sym same) ∙ sym (c.target_away.ensures inputs none is) ∙ c.in-Some.is in
-    sym (ap (λ i. instr_item (parsed inputs).objects q i word) c.in-Jal.is ∙ ap (λ t. option_map_or (Jump (instr.Jal c.in-Jal.rd (pos 0))) t (Raw word)) found)
+    let found = ap (target_away objects q) (sym same) ∙ sym (c.target_away.ensures objects s at whole are) ∙ c.in-Some.is in
+    sym (ap (λ i. instr_item objects q i (Raw word)) c.in-Jal.is ∙ ap (λ t. option_map_or (Jump c.in-Jal.rd) t (Raw word)) found)
 
 pub returns-in-None : goal.returns-in-None
-returns-in-None c = λ inputs none is.
+returns-in-None c = λ objects s at whole are.
     let q = c.args.q in
     let word = c.args.word in
     let same = read_back c.in-Jal.distance (subst InRange c.in-Jal.is c.requires).0 in
-    let found = ap (target_away (parsed inputs).objects q) (sym same) ∙ sym (c.target_away.ensures inputs none is) ∙ c.in-None.is in
-    sym (ap (λ i. instr_item (parsed inputs).objects q i word) c.in-Jal.is ∙ ap (λ t. option_map_or (Jump (instr.Jal c.in-Jal.rd (pos 0))) t (Raw word)) found)
+    let found = ap (target_away objects q) (sym same) ∙ sym (c.target_away.ensures objects s at whole are) ∙ c.in-None.is in
+    sym (ap (λ i. instr_item objects q i (Raw word)) c.in-Jal.is ∙ ap (λ t. option_map_or (Jump c.in-Jal.rd) t (Raw word)) found)
 
 pub returns-in-Some-target_away : goal.returns-in-Some-target_away
-returns-in-Some-target_away c = λ inputs none is.
+returns-in-Some-target_away c = λ objects s at whole are.
     let q = c.args.q in
     let word = c.args.word in
     let b = c.in-Branch in
     let same = read_back b.distance (far b.distance (subst InRange b.is c.requires).0) in
-    let found = ap (target_away (parsed inputs).objects q) (sym same) ∙ sym (c.target_away-in-Branch.ensures inputs none is) ∙ c.in-Some-target_away.is in
-    sym (ap (λ i. instr_item (parsed inputs).objects q i word) b.is ∙ ap (λ t. option_map_or (Branch (instr.Branch b.op b.first b.second (pos 0))) t (Raw word)) found)
+    let found = ap (target_away objects q) (sym same) ∙ sym (c.target_away-in-Branch.ensures objects s at whole are) ∙ c.in-Some-target_away.is in
+    sym (ap (λ i. instr_item objects q i (Raw word)) b.is ∙ ap (λ t. option_map_or (Branch b.op b.first b.second) t (Raw word)) found)
 
 pub returns-in-None-target_away : goal.returns-in-None-target_away
-returns-in-None-target_away c = λ inputs none is.
+returns-in-None-target_away c = λ objects s at whole are.
     let q = c.args.q in
     let word = c.args.word in
     let b = c.in-Branch in
     let same = read_back b.distance (far b.distance (subst InRange b.is c.requires).0) in
-    let found = ap (target_away (parsed inputs).objects q) (sym same) ∙ sym (c.target_away-in-Branch.ensures inputs none is) ∙ c.in-None-target_away.is in
-    sym (ap (λ i. instr_item (parsed inputs).objects q i word) b.is ∙ ap (λ t. option_map_or (Branch (instr.Branch b.op b.first b.second (pos 0))) t (Raw word)) found)
+    let found = ap (target_away objects q) (sym same) ∙ sym (c.target_away-in-Branch.ensures objects s at whole are) ∙ c.in-None-target_away.is in
+    sym (ap (λ i. instr_item objects q i (Raw word)) b.is ∙ ap (λ t. option_map_or (Branch b.op b.first b.second) t (Raw word)) found)

@@ -8,8 +8,7 @@ use Rattle.block_cut.proofs.cut.Cut.item.Goals as goal
 
 pub returns-clause-item : goal.returns-clause-item
 returns-clause-item c =
-    let inputs = c.self.inside.objects in
-    c.item.ensures inputs (faultless inputs c.self.invariant.faultless).gathered c.self.invariant.text_is
+    c.item.ensures
     ∙ ap (λ v. item_at (parsed v) c.args.p) c.self.view_is
 
 -- an item ends in its section, which is no longer than a file
@@ -17,7 +16,7 @@ pub returns-clause-room : goal.returns-clause-room
 returns-clause-room c =
     let inputs = c.self.inside.objects in
     let none = (faultless inputs c.self.invariant.faultless).gathered in
-    room c.item.result (sym (c.item.ensures inputs none c.self.invariant.text_is))
+    room c.item.result (sym c.item.ensures)
   where
     room : (o : Option Item) → item_at (parsed c.self.inside.objects) c.args.p ≡ o → IfSome o (λ _. c.args.p.offset + 256 < 2 ^ 32)
     room None is = tt

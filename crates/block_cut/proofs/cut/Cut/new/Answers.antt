@@ -15,7 +15,7 @@ returns-in_default-start_only-clause-err c =
     let inputs = c.args.objects in
     let none = c.new.ensures.gathered in
     let missing : entry_in (parsed inputs) ≡ None =
-    ap (start_only (parsed inputs).objects) (sym c.start.ensures) ∙ sym (c.start_only.ensures inputs none c.in_ok-text.ensures) ∙ c.in_default-start_only.is in
+    ap (start_only (parsed inputs).objects) (sym c.start.ensures) ∙ sym c.start_only.ensures ∙ c.in_default-start_only.is in
     no_entry inputs none c.in_default.ensures.faultless missing
 
 pub returns-in-Some-first_out_of_reach-clause-err : goal.returns-in-Some-first_out_of_reach-clause-err
@@ -24,7 +24,7 @@ returns-in-Some-first_out_of_reach-clause-err c =
     let none = c.new.ensures.gathered in
     let q = c.in-Some-first_out_of_reach.place in
     let found : entry_in (parsed inputs) ≡ Some c.in-Some.entry =
-    ap (start_only (parsed inputs).objects) (sym c.start.ensures) ∙ sym (c.start_only.ensures inputs none c.in_ok-text.ensures) ∙ c.in-Some.is in
+    ap (start_only (parsed inputs).objects) (sym c.start.ensures) ∙ sym c.start_only.ensures ∙ c.in-Some.is in
     out_of_range inputs c.in-Some.entry q none c.in_default.ensures.faultless found (sym c.first_out_of_reach.ensures ∙ c.in-Some-first_out_of_reach.is)
     ∙ ap (λ (n : ℕ). let fault : Fault = Range q.section q.offset in Some (n, fault)) (sym c.from.ensures)
 
@@ -33,11 +33,11 @@ invariant_of-result c =
     let inputs = c.args.objects in
     let none = c.new.ensures.gathered in
     let found : entry_in (parsed inputs) ≡ Some c.in-Some.entry =
-    ap (start_only (parsed inputs).objects) (sym c.start.ensures) ∙ sym (c.start_only.ensures inputs none c.in_ok-text.ensures) ∙ c.in-Some.is in
+    ap (start_only (parsed inputs).objects) (sym c.start.ensures) ∙ sym c.start_only.ensures ∙ c.in-Some.is in
     record {
       faultless = no_fault inputs c.in-Some.entry none c.in_default.ensures.faultless found (sym c.first_out_of_reach.ensures ∙ c.in_default-first_out_of_reach.is);
       is_map = c.new.ensures.is_map;
-      text_is = c.in_ok-text.ensures;
+      text_is = c.in_ok-text.ensures.text;
       words_are = c.in_ok-words.ensures;
       entry_is = entry_is (parsed inputs) c.in-Some.entry found;
       leaders_are = c.in_ok-leaders.ensures;
@@ -48,5 +48,5 @@ returns-clause-faultless c =
     let inputs = c.args.objects in
     let none = c.new.ensures.gathered in
     let found : entry_in (parsed inputs) ≡ Some c.in-Some.entry =
-    ap (start_only (parsed inputs).objects) (sym c.start.ensures) ∙ sym (c.start_only.ensures inputs none c.in_ok-text.ensures) ∙ c.in-Some.is in
+    ap (start_only (parsed inputs).objects) (sym c.start.ensures) ∙ sym c.start_only.ensures ∙ c.in-Some.is in
     no_fault inputs c.in-Some.entry none c.in_default.ensures.faultless found (sym c.first_out_of_reach.ensures ∙ c.in_default-first_out_of_reach.is)

@@ -1,7 +1,6 @@
-use Rattle.std.proofs.Common.{◌≡◌, false}
-use Rattle.zc_base.specs.declared.place.Place.{Place}
-use Rattle.block_cut.specs.Led.{is_marked}
+use Rattle.std.proofs.Common.{◌≡◌, ℕ, false}
+use Rattle.block_cut.specs.Led.{mark_in}
 use Rattle.block_cut.proofs.leaders.Leaders.new.Given as goal
 
-abbrev pub invariant-loop-sections : goal.invariant-loop-sections
-invariant-loop-sections l = (q : Place) → is_marked l.objects.items q ≡ false
+abbrev pub invariant-loop-k : goal.invariant-loop-k
+invariant-loop-k l = (n k : ℕ) → mark_in l.sections.items n k ≡ false

@@ -1,50 +1,36 @@
-use Rattle.std.proofs.Common.{◌+◌, ◌≡◌, length, ap, sym, subst, ◌∙◌, arith}
-use Rattle.std.proofs.lemmas.List.{length-map, length_push}
-use Rattle.elf32_read.specs.Header.{section_count}
-use Rattle.elf32_read.specs.Parts.{object_parts}
-use Rattle.psabi_sym.specs.Inputs.{ParsedInputs, parsed}
-use Rattle.psabi_sym.specs.Listed.{all_sections, sections_before}
-use Rattle.block_cut.specs.Cut.{IsExtent, list_in, place_at, text_word, text_words_at, words_of}
-use Rattle.block_cut.specs.declared.extent.Extent.{Extent}
-use Rattle.block_cut.proofs.ListedLaws.{before_end, before_first}
-use Rattle.block_cut.proofs.TableLaws.{rows_all, rows_more, section_nowhere, section_past}
+use Rattle.std.proofs.Common.{◌++◌, ◌∷◌, [], map, take, sym, ap, ◌∙◌, arith}
+use Rattle.std.proofs.lemmas.List.{map-append}
+use Rattle.psabi_sym.specs.Inputs.{parsed}
+use Rattle.psabi_sym.specs.Listed.{all_sections}
+use Rattle.psabi_sym.proofs.SectionNumbers.{listed_at}
+use Rattle.block_cut.specs.SectionText.{section_tables}
+use Rattle.block_cut.proofs.TakeLaws.{take_next}
+use Rattle.block_cut.proofs.TextLaws.{count_fits, end_before, tables_of}
 use Rattle.block_cut.proofs.text.Text.new.Goals as goal
 
--- no code yet
-none_yet : (inputs : ParsedInputs) (extent : Extent) → extent.end ≡ inputs.map.text → extent.count ≡ 0 → IsExtent inputs (sections_before inputs.objects 0 0) extent
-unfolding all_sections
-none_yet inputs extent end count = subst (λ before. IsExtent inputs before extent) (sym (before_first inputs.objects 0)) (record { end_is = end; count_is = count })
+pub new-requires-clause-section : goal.new-requires-clause-section
+new-requires-clause-section c = listed_at (parsed c.args.objects.now).objects c.loop-k.k c.section-section.result c.section-section.ensures
 
-pub loop-i-init : goal.loop-i-init
-loop-i-init c = record {
-  extent = none_yet (parsed c.args.objects.now) (record { end = c.map.result.text; count = 0 }) (ap (λ m. m.text) c.map.ensures.value) (λ j. 0);
-  count = ap length c.new-words.ensures.items;
-  rows = λ o i lt. absurd (omega (arith, lt));
-}
+pub new-requires-clause-end : goal.new-requires-clause-end
+new-requires-clause-end c =
+    end_before c.args.objects.now c.section_count-count.ensures.faultless c.loop-k.k c.section-section.result c.section-section.ensures c.loop-k.extent.end c.loop-k.invariant.extent.end_is
 
-pub loop-i-preserved : goal.loop-i-preserved
-loop-i-preserved c =
+pub with-extent-requires : goal.with-extent-requires
+with-extent-requires c =
     let inputs = c.args.objects.now in
-    let file = c.object.result in
-    let old = c.loop-i.words.items in
-    let rows = c.in_ok-add_object.field-0 in
-    let pushed = c.in_ok-push.ensures.items in
-    let o = c.loop-i.i in
-    record {
-      extent = c.in_ok-add_object.ensures.so_far;
-      count = ap length pushed ∙ length_push old rows ∙ ap (λ n. n + 1) c.loop-i.invariant.count;
-      rows = λ p i lt.
-          ap (λ l. list_in l p i) pushed
-          ∙ rows_more (text_words_at (parsed inputs)) old rows o (section_count file) c.loop-i.invariant.count c.in_ok-add_object.ensures.rows
-          (λ j past. ap (words_of (λ s n. text_word (parsed inputs) (place_at o j n))) (section_past inputs o j file c.object.ensures past)) c.loop-i.invariant.rows p i lt;
-    }
+    let l = c.section-section.result in
+    let places = c.places.ensures ∙ (tables_of (parsed inputs) l c.in_ok-text.text c.in_ok-text.ensures).places in
+    omega (arith, count_fits inputs c.section_count-count.ensures.faultless c.loop-k.k l c.section-section.ensures c.loop-k.extent c.places.result.now c.loop-k.invariant.extent places)
 
-pub returns : goal.returns
-returns c =
+pub loop-k-preserved : goal.loop-k-preserved
+loop-k-preserved c =
     let inputs = c.args.objects.now in
-    let n = c.loop-i.i in
+    let l = c.section-section.result in
+    let k = c.loop-k.k in
+    let all = all_sections (parsed inputs).objects in
+    let places = c.places.ensures ∙ (tables_of (parsed inputs) l c.in_ok-text.text c.in_ok-text.ensures).places in
     record {
-      words = rows_all (text_words_at (parsed inputs)) c.loop-i.words.items n c.loop-i.invariant.count
-          (λ o i past. ap (words_of (λ s m. text_word (parsed inputs) (place_at o i m))) (section_nowhere (parsed inputs).objects o i (omega (arith, past, length-map inputs.files object_parts)))) c.loop-i.invariant.rows;
-      extent = subst (λ before. IsExtent (parsed inputs) before c.loop-i.extent) (before_end (parsed inputs).objects n (omega (arith, length-map inputs.files object_parts))) c.loop-i.invariant.extent;
+      sections = c.in_ok-push.ensures.items ∙ (λ j. c.loop-k.invariant.sections j ++ c.in_ok-text.ensures j ∷ [])
+          ∙ sym (map-append (section_tables (parsed inputs)) (take k all) (l ∷ [])) ∙ ap (map (section_tables (parsed inputs))) (sym (take_next all k l c.section-section.ensures));
+      extent = c.with-extent.ensures inputs k l c.section_count-count.ensures.faultless c.section-section.ensures places c.loop-k.invariant.extent;
     }

@@ -1,0 +1,23 @@
+use Rattle.std.proofs.Common.{slice_get, length, ap, ◌∙◌, arith}
+use Rattle.std.proofs.lemmas.List.{length-map}
+use Rattle.psabi_sym.specs.Inputs.{Inputs, parsed}
+use Rattle.psabi_sym.specs.Listed.{all_sections}
+use Rattle.block_cut.specs.Places.{code_places}
+use Rattle.block_cut.specs.SectionText.{section_tables}
+use Rattle.block_cut.proofs.cut.Cut.places.Goals as goal
+
+pub places-requires : goal.places-requires
+places-requires c =
+    let inputs = c.self.inside.objects in
+    omega (
+      arith,
+      c.requires,
+      ap (λ (v : Inputs). length (all_sections (parsed v).objects)) c.self.view_is,
+      ap length c.self.invariant.text_is.sections,
+      length-map (all_sections (parsed inputs).objects) (section_tables (parsed inputs)),
+    )
+
+pub returns : goal.returns
+returns c = λ l at.
+    c.places.ensures c.self.inside.objects l c.self.invariant.text_is (ap (λ (v : Inputs). slice_get (all_sections (parsed v).objects) c.args.section) c.self.view_is ∙ at)
+    ∙ ap (λ (v : Inputs). code_places (parsed v) l) c.self.view_is

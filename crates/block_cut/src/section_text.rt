@@ -1,0 +1,161 @@
+// What is kept of sections.
+
+ghost use Rattle.std.specs.Prelude.{◌≡◌, ◌&&◌, ◌==◌, ◌+◌, ◌^◌, ◌<◌, ℕ, IfOk, MatchOption, None, Some, false, true, length, slice_get};
+ghost use Rattle.elf32_read.specs.Parts.{is_code_section};
+ghost use Rattle.psabi_sym.specs.Faults.{gather_fault};
+ghost use Rattle.psabi_sym.specs.Inputs.{parsed, Inputs};
+ghost use Rattle.psabi_sym.specs.Listed.{all_sections, section_at, sections_before, ListedSection};
+ghost use Rattle.zc_base.specs.MemMap.{IsMap};
+ghost use Rattle.block_cut.specs.SectionText.{section_tables};
+ghost use Rattle.block_cut.specs.Items.{is_target_at, place_of};
+ghost use Rattle.block_cut.specs.Places.{code_place};
+ghost use Rattle.block_cut.specs.PlainLayout.{plain_end_of};
+
+use crate::code_place::{CodePlace, address_after};
+use crate::code_section::CodeSection;
+use crate::content::Content;
+use crate::plain_layout::begin_after;
+use crate::relocated::resolve_relocs;
+use crate::resolved_reloc::ResolvedReloc;
+use crate::section_words::decode_words;
+use crate::walk::{number_at, place_count, place_numbers, relocs_by_halfword};
+use psabi_sym::objects::Objects;
+use psabi_sym::section_ref::SectionRef;
+use std::alloc::{AllocError, Global};
+use std::marker::Model;
+
+/// What is kept of a section: the relocations that ask for something, the numbers of its places by the offset / 2, from
+/// 1 on, with 0 where nothing starts, and these places. What isn't code has no places.
+#[derive(Drop)]
+pub struct SectionText {
+    relocs: Vec<ResolvedReloc>,
+    numbers: Vec<u32>,
+    places: Vec<CodePlace>,
+}
+
+impl Model for SectionText {
+    ghost use Rattle.block_cut.specs.SectionText.{SectionTables};
+
+    ghost Value = { SectionTables };
+
+    ghost view = { λ text. record { relocs = text.relocs.items; numbers = text.numbers.items; places = text.places.items } };
+}
+
+// What is kept of a section that isn't code.
+fn data_section(
+    alloc: Global,
+    objects: &Objects,
+    section: &SectionRef,
+) -> Result<SectionText, AllocError>
+    requires faultless { gather_fault objects.now ≡ None }
+    requires section { section_at (parsed objects.now).objects section.now.object section.now.index
+        ≡ Some section.now.section }
+    requires data { is_code_section section.now.section ≡ false }
+    ensures { IfOk result (λ text. text ≡ section_tables (parsed objects.now) section.now) }
+{
+    Ok(SectionText {
+        relocs: resolve_relocs(alloc, objects, section, &[])?,
+        numbers: Vec::new(alloc),
+        places: Vec::new(alloc),
+    })
+}
+
+// What is kept of a section of code, where the code before it ends at an address. It decodes each word once.
+fn code_section(
+    alloc: Global,
+    objects: &Objects,
+    section: &SectionRef,
+    end: u32,
+) -> Result<SectionText, AllocError>
+    requires faultless { gather_fault objects.now ≡ None }
+    requires is_map { IsMap objects.now.map }
+    requires section { section_at (parsed objects.now).objects section.now.object section.now.index
+        ≡ Some section.now.section }
+    requires code { is_code_section section.now.section ≡ true }
+    requires end { end ≡ plain_end_of (parsed objects.now)
+        (sections_before (parsed objects.now).objects section.now.object section.now.index) }
+    ensures { IfOk result (λ text. text ≡ section_tables (parsed objects.now) section.now) }
+{
+    let bytes = section.bytes();
+    let words = decode_words(alloc, bytes)?;
+    let relocs = resolve_relocs(alloc, objects, section, &words)?;
+    // There are no more, so no number is too large.
+    let _most = section.reloc_count();
+    let table = relocs_by_halfword(alloc, bytes.len() / 2 + 1, &relocs)?;
+    let numbers = place_numbers(alloc, &relocs, &table)?;
+    let code = CodeSection {
+        object: section.object(),
+        index: section.index(),
+        content: Content::new(bytes, &words),
+        relocs: &relocs,
+        table: &table,
+        numbers: &numbers,
+    };
+    let mut address = begin_after(end, section.align());
+    let mut places = Vec::with_capacity(alloc, place_count(&numbers))?;
+    for (k, number) in numbers.iter().enumerate() {
+        if *number != 0 {
+            let place = code.place(2 * k as u32, address);
+            address = address_after(address, place.size, &place.item);
+            places.push(place)?;
+        }
+    }
+    Ok(SectionText {
+        relocs,
+        numbers,
+        places,
+    })
+}
+
+impl SectionText {
+    /// What is kept of a section, where the code before it ends at an address.
+    pub fn new(
+        alloc: Global,
+        objects: &Objects,
+        section: &SectionRef,
+        end: u32,
+    ) -> Result<SectionText, AllocError>
+        requires faultless { gather_fault objects.now ≡ None }
+        requires is_map { IsMap objects.now.map }
+        requires section { section_at (parsed objects.now).objects section.now.object section.now.index
+            ≡ Some section.now.section }
+        requires end { end ≡ plain_end_of (parsed objects.now)
+            (sections_before (parsed objects.now).objects section.now.object section.now.index) }
+        ensures { IfOk result (λ text. text ≡ section_tables (parsed objects.now) section.now) }
+    {
+        if section.is_code() {
+            return code_section(alloc, objects, section, end);
+        }
+        data_section(alloc, objects, section)
+    }
+
+    /// Its relocations that ask for something, resolved.
+    pub fn relocs(&self) -> &[ResolvedReloc]
+        ensures { result.now ≡ self.now.relocs }
+    {
+        &self.relocs
+    }
+
+    /// Its places, in order.
+    pub fn places(&self) -> &[CodePlace]
+        ensures { result.now ≡ self.now.places }
+    {
+        &self.places
+    }
+
+    /// The place at an offset, if an item starts there or the section ends there. It takes constant time.
+    pub fn place(&self, offset: u32) -> Option<&CodePlace>
+        ensures { (inputs : Inputs) (l : ListedSection) → gather_fault inputs ≡ None
+            → section_at (parsed inputs).objects l.object l.index ≡ Some l.section
+            → self.now ≡ section_tables (parsed inputs) l
+            → MatchOption result (is_target_at (parsed inputs).objects (place_of l offset) ≡ false)
+            (λ place. (is_target_at (parsed inputs).objects (place_of l offset) ≡ true)
+            × (place.now ≡ code_place (parsed inputs) l offset)) }
+    {
+        let number = number_at(&self.numbers, offset);
+        if number == 0 {
+            return None;
+        }
+        self.places.get(number as usize - 1)
+    }
+}
