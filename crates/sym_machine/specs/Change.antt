@@ -258,36 +258,6 @@ upper_does op Ecall w next = Stops NoInstruction
 upper_does op Ebreak w next = Stops NoInstruction
 upper_does op (Csrrw rd source) w next = Stops NoInstruction
 
--- a branch to a place
-abbrev pub branch_to : Program → Instr → Place → PlainCore → Place → Does
-branch_to p (instr.Branch op first second distance) to s next = branch_does (condition p op (reg_of s first) (reg_of s second)) to next
-branch_to p (Upper op rd imm) to s next = Stops NoInstruction
-branch_to p (Jal rd distance) to s next = Stops NoInstruction
-branch_to p (Jalr rd base imm) to s next = Stops NoInstruction
-branch_to p (Load op rd base imm) to s next = Stops NoInstruction
-branch_to p (Store op source base imm) to s next = Stops NoInstruction
-branch_to p (WithImm op rd first imm) to s next = Stops NoInstruction
-branch_to p (WithReg op rd first second) to s next = Stops NoInstruction
-branch_to p (Fence rest) to s next = Stops NoInstruction
-branch_to p Ecall to s next = Stops NoInstruction
-branch_to p Ebreak to s next = Stops NoInstruction
-branch_to p (Csrrw rd source) to s next = Stops NoInstruction
-
--- a `jal` to a place
-abbrev pub jump_to : Instr → Place → Place → Does
-jump_to (Jal rd distance) to next = jump_does (Some to) rd next
-jump_to (Upper op rd imm) to next = Stops NoInstruction
-jump_to (Jalr rd base imm) to next = Stops NoInstruction
-jump_to (instr.Branch op first second distance) to next = Stops NoInstruction
-jump_to (Load op rd base imm) to next = Stops NoInstruction
-jump_to (Store op source base imm) to next = Stops NoInstruction
-jump_to (WithImm op rd first imm) to next = Stops NoInstruction
-jump_to (WithReg op rd first second) to next = Stops NoInstruction
-jump_to (Fence rest) to next = Stops NoInstruction
-jump_to Ecall to next = Stops NoInstruction
-jump_to Ebreak to next = Stops NoInstruction
-jump_to (Csrrw rd source) to next = Stops NoInstruction
-
 -- a call to a place: what its first register holds afterwards isn't known, and then the link register gets the next place's
 -- address. Register 0 takes no part of an address, so a call by it goes to no place
 abbrev pub call_to : ℕ → ℕ → Place → Place → Does
@@ -302,8 +272,8 @@ item_does p (Hi i t) s next = upper_does Lui i (high_word t) next
 item_does p (Lo i t) s next = by_sum i (low_sum t (reg_of s (base_of i))) s next
 item_does p (PcHi i t) s next = upper_does Auipc i (value_word (value.PcHi s.place)) next
 item_does p (PcLo i q) s next = by_sum i (pc_low_sum q (pc_target (p.item q)) (reg_of s (base_of i))) s next
-item_does p (Branch i to) s next = branch_to p i to s next
-item_does p (Jump i to) s next = jump_to i to next
+item_does p (Branch op first second to) s next = branch_does (condition p op (reg_of s first) (reg_of s second)) to next
+item_does p (Jump rd to) s next = jump_does (Some to) rd next
 item_does p (Call rd temp to) s next = call_to rd temp to next
 item_does p (Align bytes) s next = Goes (onward next)
 item_does p (Word t) s next = Stops NoInstruction

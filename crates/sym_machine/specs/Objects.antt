@@ -5,8 +5,7 @@ use Rattle.psabi_sym.specs.Contents.{data_contents, overlaid}
 use Rattle.psabi_sym.specs.Data.{data_end, data_file_end}
 use Rattle.psabi_sym.specs.Inputs.{ParsedInputs}
 use Rattle.block_cut.specs.DataWords.{data_words}
-use Rattle.block_cut.specs.Items.{entry_of, is_end_at, item_at, next_at}
-use Rattle.block_cut.specs.Leaders.{is_leader_at}
+use Rattle.block_cut.specs.Items.{entry_of, item_at, next_at}
 use Rattle.block_cut.specs.declared.data_word.DataWord.{DataWord}
 use Rattle.sym_machine.specs.declared.word.SymByte.{SymByte}
 use Rattle.sym_machine.specs.declared.word.SymByte.TheVariants.{Num}
@@ -30,8 +29,6 @@ unfoldable pub program_of : ParsedInputs → Program
 program_of inputs = record {
   item = item_at inputs;
   next = next_at inputs.objects;
-  is_end = is_end_at inputs.objects;
-  is_leader = is_leader_at inputs;
   entry = entry_of inputs;
   map = inputs.map;
   bytes = data_bytes inputs;

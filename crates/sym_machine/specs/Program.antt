@@ -1,5 +1,5 @@
 -- What the symbolic machine knows of the objects.
-use Rattle.std.specs.Prelude.{ℕ, ◌+◌, ◌-◌, Bool, List, [], ◌∷◌, length, Option}
+use Rattle.std.specs.Prelude.{ℕ, ◌+◌, ◌-◌, List, [], ◌∷◌, length, Option}
 use Rattle.zc_base.specs.declared.mem_map.MemMap.{MemMap}
 use Rattle.zc_base.specs.declared.place.Place.{Place}
 use Rattle.block_cut.specs.declared.item.Item.{Item}
@@ -7,13 +7,11 @@ use Rattle.rv_decode.specs.Memory.{Region, Data, Stack, blank}
 use Rattle.sym_machine.specs.declared.word.SymByte.{SymByte}
 use Rattle.sym_machine.specs.declared.word.SymByte.TheVariants.{Undef}
 
--- the item at a place, the place after it, whether a place is the end of a section of code, and whether the item there leads
--- a basic block; the place of the program's start; where memory lies; and the bytes of data, from the map's start of data on
+-- the item at a place and the place after it; the place of the program's start; where memory lies; and the bytes of data,
+-- from the map's start of data on
 pub record Program : Type 0 where
   pub item : Place → Option Item
   pub next : Place → Place
-  pub is_end : Place → Bool
-  pub is_leader : Place → Bool
   pub entry : Place
   pub map : MemMap
   pub bytes : List SymByte

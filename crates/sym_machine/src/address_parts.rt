@@ -69,8 +69,8 @@ fn pc_target(cut: &Cut, q: Place) -> Option<Target>
             | Item::Hi(_, _)
             | Item::Lo(_, _)
             | Item::PcLo(_, _)
-            | Item::Branch(_, _)
-            | Item::Jump(_, _)
+            | Item::Branch { .. }
+            | Item::Jump { .. }
             | Item::Call { .. }
             | Item::Align(_)
             | Item::Word(_)
@@ -82,7 +82,8 @@ fn pc_target(cut: &Cut, q: Place) -> Option<Target>
 
 /// The sum of a base and the lower part that goes with the `auipc` at a place.
 pub fn pc_low_sum(cut: &Cut, q: Place, base: &Held) -> Held
-    ensures { word_of result ≡ parts.pc_low_sum q (parts.pc_target ((program_of (parsed cut.now)).item q)) (word_of base.now) }
+    ensures { word_of result ≡ parts.pc_low_sum q
+        (parts.pc_target ((program_of (parsed cut.now)).item q)) (word_of base.now) }
 {
     if !base.is_value(Value::PcHi(q)) {
         return Held::UNDEFINED;

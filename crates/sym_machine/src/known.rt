@@ -47,8 +47,8 @@ fn is_solid(cut: &Cut, q: Place) -> bool
             | Item::Lo(_, _)
             | Item::PcHi(_, _)
             | Item::PcLo(_, _)
-            | Item::Branch(_, _)
-            | Item::Jump(_, _)
+            | Item::Branch { .. }
+            | Item::Jump { .. }
             | Item::Call { .. }
             | Item::Word(_)
             | Item::Raw(_)

@@ -11,6 +11,7 @@ ghost use Rattle.sym_machine.specs.Step.{made};
 
 use super::State;
 use crate::answer::SymStep;
+use crate::known::condition;
 use crate::results::{imm_word, reg_word};
 use crate::why::Why;
 use block_cut::cut::Cut;
@@ -29,7 +30,9 @@ impl State {
         next: Place,
     ) -> Result<SymStep, AllocError>
         requires { self.old.core.exit ≡ None }
-        ensures { Makes result (made self.old.map self.old.core (item_does (program_of (parsed cut.now)) item.now self.old.core next)) self.old.core self.new.core }
+        ensures { Makes result
+            (made self.old.map self.old.core (item_does (program_of (parsed cut.now)) item.now self.old.core next))
+            self.old.core self.new.core }
     {
         match item {
             Item::Op(instr) => self.step_op(instr, next),
@@ -37,8 +40,16 @@ impl State {
             Item::Lo(instr, target) => self.step_lo(instr, *target, next),
             Item::PcHi(instr, _) => self.step_pc_hi(instr, next),
             Item::PcLo(instr, q) => self.step_pc_lo(cut, instr, *q, next),
-            Item::Branch(instr, to) => self.step_branch(cut, instr, *to, next),
-            Item::Jump(instr, to) => self.step_jump(instr, *to, next),
+            Item::Branch {
+                op,
+                first,
+                second,
+                to,
+            } => {
+                let taken = condition(cut, *op, self.register(*first), self.register(*second));
+                Ok(self.branch(taken, *to, next))
+            }
+            Item::Jump { rd, to } => self.jump(Some(*to), *rd, next),
             Item::Call { rd, temp, to } => Ok(self.call(*rd, *temp, *to, next)),
             Item::Align(_) => Ok(self.go(next)),
             Item::Word(_) | Item::Raw(_) => Ok(self.stuck(Why::NoInstruction)),
@@ -49,7 +60,8 @@ impl State {
     // An instruction without relocation.
     fn step_op(&mut self, instr: &Instr, next: Place) -> Result<SymStep, AllocError>
         requires { self.old.core.exit ≡ None }
-        ensures { Makes result (made self.old.map self.old.core (op_does instr.now self.old.core next)) self.old.core self.new.core }
+        ensures { Makes result (made self.old.map self.old.core (op_does instr.now self.old.core next)) self.old.core
+            self.new.core }
     {
         match instr {
             Instr::Upper { op, rd, imm } => self.step_upper_imm(*op, *rd, *imm, next),
@@ -81,7 +93,8 @@ impl State {
         next: Place,
     ) -> Result<SymStep, AllocError>
         requires { self.old.core.exit ≡ None }
-        ensures { Makes result (made self.old.map self.old.core (Goes (gives rd (words.imm_word op (reg_of self.old.core first) imm) next))) self.old.core self.new.core }
+        ensures { Makes result (made self.old.map self.old.core
+            (Goes (gives rd (words.imm_word op (reg_of self.old.core first) imm) next))) self.old.core self.new.core }
     {
         let word = imm_word(op, self.register(first), imm);
         self.give(rd, &word, next)
@@ -97,7 +110,9 @@ impl State {
         next: Place,
     ) -> Result<SymStep, AllocError>
         requires { self.old.core.exit ≡ None }
-        ensures { Makes result (made self.old.map self.old.core (Goes (gives rd (words.reg_word op first second (reg_of self.old.core first) (reg_of self.old.core second)) next))) self.old.core self.new.core }
+        ensures { Makes result (made self.old.map self.old.core (Goes (gives rd
+            (words.reg_word op first second (reg_of self.old.core first) (reg_of self.old.core second)) next)))
+            self.old.core self.new.core }
     {
         let word = reg_word(
             op,

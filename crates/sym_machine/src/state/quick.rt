@@ -5,7 +5,7 @@ ghost use Rattle.std.specs.Prelude.{◌≡◌, ◌<◌, ◌^◌, ◌%◌, [], No
 ghost use Rattle.std.specs.Bool.{OnFalse, OnTrue};
 ghost use Rattle.rv_decode.specs.declared.instr.Instr.TheVariants.{Jalr, Load, Store, WithImm, WithReg};
 ghost use Rattle.sym_machine.specs.Answer.{RunsOn};
-ghost use Rattle.sym_machine.specs.Change.{branch_does, branch_to, item_does, jump_to, op_does};
+ghost use Rattle.sym_machine.specs.Change.{branch_does, item_does, op_does};
 ghost use Rattle.sym_machine.specs.Conditions.{condition};
 ghost use Rattle.sym_machine.specs.Program.{Program};
 ghost use Rattle.sym_machine.specs.State.{reg_of};
@@ -26,13 +26,20 @@ impl State {
     // changes nothing.
     pub(super) fn quick_item(&mut self, item: &Item, next: Place) -> bool
         requires { self.old.core.exit ≡ None }
-        ensures made { OnTrue result ((p : Program) → RunsOn (made self.old.map self.old.core (item_does p item.now self.old.core next)) [] self.old.core self.new.core) }
+        ensures made { OnTrue result ((p : Program) → RunsOn
+            (made self.old.map self.old.core (item_does p item.now self.old.core next)) [] self.old.core
+            self.new.core) }
         ensures same { OnFalse result (self.new ≡ self.old) }
     {
         match item {
             Item::Op(instr) => self.quick_op(instr, next),
-            Item::Branch(instr, to) => self.quick_branch(instr, *to, next),
-            Item::Jump(instr, to) => self.quick_jump(instr, *to, next),
+            Item::Branch {
+                op,
+                first,
+                second,
+                to,
+            } => self.quick_compare(*op, *first, *second, *to, next),
+            Item::Jump { rd, to } => self.link(*rd, *to, next),
             Item::Hi(..)
             | Item::Lo(..)
             | Item::PcHi(..)
@@ -48,7 +55,8 @@ impl State {
     // The same of an instruction without relocation.
     fn quick_op(&mut self, instr: &Instr, next: Place) -> bool
         requires { self.old.core.exit ≡ None }
-        ensures made { OnTrue result (RunsOn (made self.old.map self.old.core (op_does instr.now self.old.core next)) [] self.old.core self.new.core) }
+        ensures made { OnTrue result (RunsOn (made self.old.map self.old.core (op_does instr.now self.old.core next))
+            [] self.old.core self.new.core) }
         ensures same { OnFalse result (self.new ≡ self.old) }
     {
         match instr {
@@ -101,7 +109,8 @@ impl State {
     // An operation on a register and an immediate.
     fn quick_imm(&mut self, op: ImmOp, rd: Reg, first: Reg, imm: i32, next: Place) -> bool
         requires { self.old.core.exit ≡ None }
-        ensures made { OnTrue result (RunsOn (made self.old.map self.old.core (op_does (WithImm op rd first imm) self.old.core next)) [] self.old.core self.new.core) }
+        ensures made { OnTrue result (RunsOn (made self.old.map self.old.core (op_does (WithImm op rd first imm)
+            self.old.core next)) [] self.old.core self.new.core) }
         ensures same { OnFalse result (self.new ≡ self.old) }
     {
         match self.plain(first) {
@@ -113,7 +122,8 @@ impl State {
     // An operation on two registers.
     fn quick_reg(&mut self, op: RegOp, rd: Reg, first: Reg, second: Reg, next: Place) -> bool
         requires { self.old.core.exit ≡ None }
-        ensures made { OnTrue result (RunsOn (made self.old.map self.old.core (op_does (WithReg op rd first second) self.old.core next)) [] self.old.core self.new.core) }
+        ensures made { OnTrue result (RunsOn (made self.old.map self.old.core (op_does (WithReg op rd first second)
+            self.old.core next)) [] self.old.core self.new.core) }
         ensures same { OnFalse result (self.new ≡ self.old) }
     {
         match (self.plain(first), self.plain(second)) {
@@ -125,7 +135,8 @@ impl State {
     // A `jalr` to the place whose address a register holds.
     fn quick_return(&mut self, rd: Reg, base: Reg, imm: i32, next: Place) -> bool
         requires { self.old.core.exit ≡ None }
-        ensures made { OnTrue result (RunsOn (made self.old.map self.old.core (op_does (Jalr rd base imm) self.old.core next)) [] self.old.core self.new.core) }
+        ensures made { OnTrue result (RunsOn (made self.old.map self.old.core (op_does (Jalr rd base imm)
+            self.old.core next)) [] self.old.core self.new.core) }
         ensures same { OnFalse result (self.new ≡ self.old) }
     {
         if imm != 0 {
@@ -134,35 +145,6 @@ impl State {
         match self.plain_code(base) {
             Some(to) => self.link(rd, to, next),
             None => false,
-        }
-    }
-
-    // A `jal` to a place.
-    fn quick_jump(&mut self, instr: &Instr, to: Place, next: Place) -> bool
-        requires { self.old.core.exit ≡ None }
-        ensures made { OnTrue result (RunsOn (made self.old.map self.old.core (jump_to instr.now to next)) [] self.old.core self.new.core) }
-        ensures same { OnFalse result (self.new ≡ self.old) }
-    {
-        match instr {
-            Instr::Jal { rd, .. } => self.link(*rd, to, next),
-            _ => false,
-        }
-    }
-
-    // A branch to a place.
-    fn quick_branch(&mut self, instr: &Instr, to: Place, next: Place) -> bool
-        requires { self.old.core.exit ≡ None }
-        ensures made { OnTrue result ((p : Program) → RunsOn (made self.old.map self.old.core (branch_to p instr.now to self.old.core next)) [] self.old.core self.new.core) }
-        ensures same { OnFalse result (self.new ≡ self.old) }
-    {
-        match instr {
-            Instr::Branch {
-                op,
-                first,
-                second,
-                ..
-            } => self.quick_compare(*op, *first, *second, to, next),
-            _ => false,
         }
     }
 
@@ -176,7 +158,9 @@ impl State {
         next: Place,
     ) -> bool
         requires { self.old.core.exit ≡ None }
-        ensures made { OnTrue result ((p : Program) → RunsOn (made self.old.map self.old.core (branch_does (condition p op (reg_of self.old.core first) (reg_of self.old.core second)) to next)) [] self.old.core self.new.core) }
+        ensures made { OnTrue result ((p : Program) → RunsOn
+            (made self.old.map self.old.core (branch_does (condition p op (reg_of self.old.core first) (reg_of
+            self.old.core second)) to next)) [] self.old.core self.new.core) }
         ensures same { OnFalse result (self.new ≡ self.old) }
     {
         match (self.plain(first), self.plain(second)) {
@@ -202,7 +186,8 @@ impl State {
     // A load.
     fn quick_load(&mut self, op: LoadOp, rd: Reg, base: Reg, imm: i32, next: Place) -> bool
         requires { self.old.core.exit ≡ None }
-        ensures made { OnTrue result (RunsOn (made self.old.map self.old.core (op_does (Load op rd base imm) self.old.core next)) [] self.old.core self.new.core) }
+        ensures made { OnTrue result (RunsOn (made self.old.map self.old.core (op_does (Load op rd base imm)
+            self.old.core next)) [] self.old.core self.new.core) }
         ensures same { OnFalse result (self.new ≡ self.old) }
     {
         let Some(a) = self.quick_address(base, imm, load_width(op)) else {
@@ -217,7 +202,8 @@ impl State {
     // A store.
     fn quick_store(&mut self, op: StoreOp, source: Reg, base: Reg, imm: i32, next: Place) -> bool
         requires { self.old.core.exit ≡ None }
-        ensures made { OnTrue result (RunsOn (made self.old.map self.old.core (op_does (Store op source base imm) self.old.core next)) [] self.old.core self.new.core) }
+        ensures made { OnTrue result (RunsOn (made self.old.map self.old.core (op_does (Store op source base imm)
+            self.old.core next)) [] self.old.core self.new.core) }
         ensures same { OnFalse result (self.new ≡ self.old) }
     {
         let (Some(a), Some(n)) = (

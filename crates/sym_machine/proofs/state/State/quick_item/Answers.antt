@@ -10,4 +10,4 @@ use Rattle.sym_machine.proofs.state.State.quick_item.Goals as goal
 pub returns-in-Branch-clause-made : goal.returns-in-Branch-clause-made
 returns-in-Branch-clause-made c =
     let s = c.args.self.now.core in
-    subst (λ (i : Item). OnTrue c.quick_branch.result ((p : Program) → RunsOn (made c.args.self.now.map s (item_does p i s c.args.next)) [] s c.quick_branch.new.self.core)) (sym c.in-Branch.is) c.quick_branch.ensures.made
+    subst (λ (i : Item). OnTrue c.quick_compare.result ((p : Program) → RunsOn (made c.args.self.now.map s (item_does p i s c.args.next)) [] s c.quick_compare.new.self.core)) (sym c.in-Branch.is) c.quick_compare.ensures.made
