@@ -1,20 +1,21 @@
 -- A settled layout as it is kept: how many addresses there are, that they rise, and its long branches one by one.
-use Rattle.std.proofs.Common.{◌≡◌, ℕ, ◌+◌, ◌-◌, ◌<◌, ◌≤◌, List, Option, Some, None, true, false, is_some, drop, get_or, length, slice_index, cond, eqb, refl, ap, ◌∙◌, arith}
+use Rattle.std.proofs.Common.{◌≡◌, ℕ, ◌+◌, ◌-◌, ◌<◌, ◌≤◌, List, Option, Some, None, true, false, is_some, drop, get_or, length, slice_index, cond, eqb, refl, sym, ap, ◌∙◌, arith}
+use Rattle.std.specs.Option.{option_map}
 use Rattle.std.proofs.lemmas.List.{drop_more, get_or_default}
 use Rattle.zc_base.specs.declared.place.Place.{Place}
 use Rattle.psabi_sym.specs.Faults.{gather_fault}
 use Rattle.psabi_sym.specs.Inputs.{Inputs, ParsedInputs, parsed}
 use Rattle.block_cut.specs.Items.{item_at}
-use Rattle.block_cut.specs.PlainLayout.{plain_address}
 use Rattle.block_cut.specs.declared.item.Item.{Item}
 use Rattle.shrink_layout.specs.Layout.{addresses_of}
 use Rattle.shrink_layout.specs.Least.{AreForms}
+use Rattle.shrink_layout.specs.Numbers.{IsPlaceNumber}
 use Rattle.shrink_layout.specs.Pieces.{number_of, pieces_of}
 use Rattle.shrink_layout.specs.Settled.{AreSettled, is_branch, long_branches, settled_address, settled_addresses, settled_end, settled_size}
 use Rattle.shrink_layout.specs.declared.piece.Piece.{Piece}
 use Rattle.shrink_layout.proofs.AddressLaws.{ascending, first_address, layout_forms, length_addresses}
 use Rattle.shrink_layout.proofs.NumberLaws.{number_below}
-use Rattle.shrink_layout.proofs.PlaceAddressLaws.{address_nowhere, address_there, size_nowhere, size_there, target_none, target_some}
+use Rattle.shrink_layout.proofs.PlaceAddressLaws.{address_nowhere, address_there, size_nowhere, size_there}
 
 module _ (inputs : ParsedInputs) (sizes : List ℕ) (settled : AreSettled inputs sizes) where
   -- each size is a form
@@ -61,17 +62,13 @@ module _ (inputs : ParsedInputs) (sizes : List ℕ) (settled : AreSettled inputs
 
 -- ---- by what is found
 
--- a place has an address in the layout if it has one in the plain layout
-pub address_by : (inputs : ParsedInputs) (sizes : List ℕ) (q : Place) → (is_some (plain_address inputs q) ≡ false → settled_address inputs sizes q ≡ None)
-    × (is_some (plain_address inputs q) ≡ true → settled_address inputs sizes q ≡ Some (slice_index (settled_addresses inputs sizes) (number_of inputs.objects q)))
-address_by inputs sizes q = by (plain_address inputs q) refl
-  where
-    by : (o : Option ℕ) → plain_address inputs q ≡ o → (is_some o ≡ false → settled_address inputs sizes q ≡ None)
-        × (is_some o ≡ true → settled_address inputs sizes q ≡ Some (slice_index (settled_addresses inputs sizes) (number_of inputs.objects q)))
-    by None is = (λ out. address_nowhere inputs sizes q (target_none inputs q is), λ there. absurd cc)
-    by (Some a) is = (λ out. absurd cc, λ there. address_there inputs sizes q (target_some inputs q a is))
+-- a place has an address if it has a number, which is the address's index
+pub address_by_number : (inputs : ParsedInputs) (sizes : List ℕ) (q : Place) (number : Option ℕ) → IsPlaceNumber inputs.objects q number
+    → settled_address inputs sizes q ≡ option_map (slice_index (settled_addresses inputs sizes)) number
+address_by_number inputs sizes q None has = address_nowhere inputs sizes q has
+address_by_number inputs sizes q (Some n) has = address_there inputs sizes q has.0 ∙ ap (λ k. Some (slice_index (settled_addresses inputs sizes) k)) (sym has.1)
 
--- and a size if an item starts there
+-- a place has a size if an item starts there
 pub size_by : (inputs : ParsedInputs) (sizes : List ℕ) (q : Place) → (is_some (item_at inputs q) ≡ false → settled_size inputs sizes q ≡ None)
     × (is_some (item_at inputs q) ≡ true → settled_size inputs sizes q ≡ Some (slice_index (settled_addresses inputs sizes) (number_of inputs.objects q + 1) - slice_index (settled_addresses inputs sizes) (number_of inputs.objects q)))
 size_by inputs sizes q = by (item_at inputs q) refl

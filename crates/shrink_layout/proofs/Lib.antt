@@ -2,6 +2,7 @@ pub mod AddressLaws
 pub mod AddressSteps
 pub mod BlockLaws
 pub mod Distances
+pub mod FilledLaws
 pub mod FormLaws
 pub mod GrownLaws
 pub mod KeptLaws
@@ -13,6 +14,6 @@ pub mod OrderLaws
 pub mod PlaceAddressLaws
 pub mod PremiseLaws
 pub mod RoundLaws
+pub mod SectionLaws
 pub mod TableNumberLaws
 pub mod TestLaws
-pub mod WalkLaws

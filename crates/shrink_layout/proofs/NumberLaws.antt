@@ -17,7 +17,6 @@ use Rattle.psabi_sym.specs.Faults.{gather_fault}
 use Rattle.psabi_sym.specs.Inputs.{Inputs, ParsedInputs, parsed}
 use Rattle.psabi_sym.specs.Listed.{ListedSection, section_at, sections_before}
 use Rattle.psabi_sym.proofs.BridgeLaws.{map-map}
-use Rattle.block_cut.specs.Cut.{place_at}
 use Rattle.block_cut.specs.Items.{code_at, item_at, item_in, items_in, next_at, place_of, size_on, starts_in, starts_on}
 use Rattle.block_cut.specs.Whole.{IsWhole}
 use Rattle.block_cut.specs.declared.item.Item.{Item}
@@ -29,6 +28,10 @@ use Rattle.block_cut.proofs.WholeLaws.{code_is_section, code_whole}
 use Rattle.shrink_layout.specs.Pieces.{number_of, piece_count, piece_of, pieces_before, pieces_in, pieces_of, section_alignment, section_pieces}
 use Rattle.shrink_layout.specs.declared.piece.Piece.{Piece}
 use Rattle.shrink_layout.specs.declared.piece.Piece.TheVariants.{Align}
+
+-- the place at an offset of a section
+abbrev pub place_at : ℕ → ℕ → ℕ → Place
+place_at o i n = record { object = o; section = i; offset = n }
 
 -- ---- how many pieces there are
 

@@ -1,16 +1,13 @@
 -- Addresses and sizes of places in a layout.
-use Rattle.std.proofs.Common.{◌≡◌, ◌-◌, ◌+◌, ℕ, List, Bool, true, false, cond, Option, Some, None, slice_index, refl, ap, ◌∙◌, inl, inr, ◌⊎◌}
+use Rattle.std.proofs.Common.{◌≡◌, ◌-◌, ◌+◌, ℕ, List, Bool, true, false, cond, Some, None, slice_index, refl, ap, ◌∙◌, inl, inr, ◌⊎◌}
 use Rattle.std.specs.Prelude.{◌||◌}
 use Rattle.std.specs.Option.{option_map}
 use Rattle.zc_base.specs.declared.place.Place.{Place}
 use Rattle.psabi_sym.specs.Faults.{gather_fault}
 use Rattle.psabi_sym.specs.Inputs.{Inputs, ParsedInputs, parsed}
-use Rattle.elf32_read.specs.Parts.{SectionParts}
-use Rattle.block_cut.specs.Items.{code_at, is_end_at, is_start_at, is_target_at, item_at, next_at}
+use Rattle.block_cut.specs.Items.{is_end_at, is_start_at, is_target_at, item_at, next_at}
 use Rattle.block_cut.specs.declared.item.Item.{Item}
-use Rattle.block_cut.specs.PlainLayout.{address_on, plain_address}
 use Rattle.block_cut.proofs.PlainLaws.{next_start}
-use Rattle.block_cut.proofs.WordLaws.{no_address, target_nowhere}
 use Rattle.shrink_layout.specs.Pieces.{number_of}
 use Rattle.shrink_layout.specs.Settled.{settled_address, settled_addresses, settled_size}
 use Rattle.shrink_layout.proofs.NumberLaws.{number_next}
@@ -29,13 +26,11 @@ address_nowhere inputs sizes q is = ap (λ b. cond b (Some (slice_index (settled
 -- an item's size is the way to the next address
 pub size_there : (inputs : ParsedInputs) (sizes : List ℕ) (q : Place) (i : Item) → item_at inputs q ≡ Some i
     → settled_size inputs sizes q ≡ Some (slice_index (settled_addresses inputs sizes) (number_of inputs.objects q + 1) - slice_index (settled_addresses inputs sizes) (number_of inputs.objects q))
-unfolding settled_size
 size_there inputs sizes q i is =
     ap (option_map (λ _. slice_index (settled_addresses inputs sizes) (number_of inputs.objects q + 1) - slice_index (settled_addresses inputs sizes) (number_of inputs.objects q))) is
 
 -- and elsewhere there is no size
 pub size_nowhere : (inputs : ParsedInputs) (sizes : List ℕ) (q : Place) → item_at inputs q ≡ None → settled_size inputs sizes q ≡ None
-unfolding settled_size
 size_nowhere inputs sizes q is =
     ap (option_map (λ _. slice_index (settled_addresses inputs sizes) (number_of inputs.objects q + 1) - slice_index (settled_addresses inputs sizes) (number_of inputs.objects q))) is
 
@@ -58,23 +53,3 @@ module _ (inputs : Inputs) (none : gather_fault inputs ≡ None) (q : Place) (i 
   next_address_there sizes =
       address_there (parsed inputs) sizes (next_at (parsed inputs).objects q) next_target
       ∙ ap (λ k. Some (slice_index (settled_addresses (parsed inputs) sizes) k)) (number_next inputs none q i is)
-
--- ---- where there are addresses
-
--- a place has an address in each layout, or in none
-pub target_none : (inputs : ParsedInputs) (q : Place) → plain_address inputs q ≡ None → is_target_at inputs.objects q ≡ false
-unfolding plain_address
-target_none inputs q none = by (is_target_at inputs.objects q) refl (code_at inputs.objects q) refl
-  where
-    by : (b : Bool) → is_target_at inputs.objects q ≡ b → (o : Option SectionParts) → code_at inputs.objects q ≡ o → is_target_at inputs.objects q ≡ false
-    by false is o at = is
-    by true is None at = target_nowhere inputs.objects q at
-    by true is (Some s) at = let some : plain_address inputs q ≡ Some (address_on inputs q s) = (λ j. cond (is j) (option_map (address_on inputs q) (at j)) None) in absurd (cc (some, none))
-
--- where the plain layout has one, code may lead
-pub target_some : (inputs : ParsedInputs) (q : Place) (a : ℕ) → plain_address inputs q ≡ Some a → is_target_at inputs.objects q ≡ true
-target_some inputs q a some = by (is_target_at inputs.objects q) refl
-  where
-    by : (b : Bool) → is_target_at inputs.objects q ≡ b → is_target_at inputs.objects q ≡ true
-    by true is = is
-    by false is = absurd (cc (no_address inputs q is, some))

@@ -1,7 +1,7 @@
 -- What the layout asks of pieces holds of those of inputs without a fault: alignments are at least 1 and even, sizes are even,
 -- targets are pieces or the end (`targets`), and all have little room (`room_few`). If nothing is aligned above 4 bytes, no piece
 -- is aligned above 2 (`all_tight`).
-use Rattle.std.proofs.Common.{◌≡◌, ℕ, zero, suc, ◌+◌, ◌*◌, ◌%◌, ◌<◌, ◌≤◌, List, [], ◌∷◌, ◌++◌, All, get_or, length, map, max, Bool, true, false, cond, None, refl, sym, ap, ◌∙◌, arith, leb, ltb, pos}
+use Rattle.std.proofs.Common.{◌≡◌, ℕ, zero, suc, ◌+◌, ◌*◌, ◌%◌, ◌<◌, ◌≤◌, List, [], ◌∷◌, ◌++◌, All, get_or, length, map, max, Bool, true, false, cond, None, refl, sym, ap, ◌∙◌, arith, leb, ltb}
 use Rattle.std.specs.Prelude.{◌&&◌, nat_le, not}
 use Rattle.std.specs.List.{flat_map, list_any, sum_by}
 use Rattle.std.proofs.lemmas.Bool.{and_parts, leb-false, ltb-false, ltb-true, not-true, or_parts}
@@ -19,22 +19,20 @@ use Rattle.zc_base.specs.declared.place.Place.{Place}
 use Rattle.psabi_reloc.specs.Parts.{hi20_of, lo12_of}
 use Rattle.psabi_reloc.specs.Patched.{with_imm, with_upper}
 use Rattle.rv_decode.specs.declared.instr.Instr.{Instr}
-use Rattle.rv_decode.specs.declared.instr.Instr.TheVariants.{Jal}
-use Rattle.block_cut.specs.Cut.{place_at}
 use Rattle.block_cut.specs.Items.{all_items, item_in, items_in, size_on, starts_in}
-use Rattle.block_cut.specs.PlainLayout.{after_item}
+use Rattle.block_cut.specs.PlainLayout.{padding_of}
 use Rattle.block_cut.specs.Whole.{IsWhole}
 use Rattle.block_cut.specs.declared.item.Item.{Item}
 use Rattle.block_cut.specs.declared.item.Item.TheVariants as item
-use Rattle.block_cut.proofs.ItemLaws.{Takes, Bytes, Padding, item_takes, padded}
+use Rattle.block_cut.proofs.ItemLaws.{Takes, Bytes, Padding, item_takes}
 use Rattle.block_cut.proofs.RoomLaws.{AreWhole, all_whole, code_room_is, rooms, rooms_few}
 use Rattle.block_cut.proofs.StartLaws.{along}
 use Rattle.shrink_layout.specs.Forms.{HasAlignment, IsEven, longest, target}
 use Rattle.shrink_layout.specs.Least.{IsTight}
-use Rattle.shrink_layout.specs.Pieces.{is_align, is_aligned_code, is_short, is_unaligned, jump_piece, number_of, part_size, piece_of, pieces_in, pieces_of, section_alignment, section_pieces}
+use Rattle.shrink_layout.specs.Pieces.{is_align, is_aligned_code, is_short, is_short_branch, is_short_jump, is_unaligned, jump_piece, number_of, part_size, piece_of, pieces_in, pieces_of, section_alignment, section_pieces}
 use Rattle.shrink_layout.specs.declared.piece.Piece.{Piece}
 use Rattle.shrink_layout.specs.declared.piece.Piece.TheVariants.{Fixed, Align, Branch, Jump}
-use Rattle.shrink_layout.proofs.NumberLaws.{number_most, piece_on, section_pieces-code}
+use Rattle.shrink_layout.proofs.NumberLaws.{number_most, piece_on, place_at, section_pieces-code}
 
 -- ---- lists
 
@@ -119,9 +117,9 @@ module _ (inputs : ParsedInputs) where
       by (item.Lo i t) e = part t (λ x. with_imm i (lo12_of x))
       by (item.PcHi i t) e = four
       by (item.PcLo i q) e = four
-      by (item.Branch i to) e = branch to (is_short i)
-      by (item.Jump i to) e = leads to (is_short i)
-      by (item.Call rd temp to) e = leads to (is_short (Jal rd (pos 0)))
+      by (item.Branch op first second to) e = branch to (is_short_branch op first second)
+      by (item.Jump rd to) e = leads to (is_short_jump rd)
+      by (item.Call rd temp to) e = leads to (is_short_jump rd)
       by (item.Align bytes) e = align bytes e
       by (item.Word t) e = four
       by (item.Raw word) e = four
@@ -146,12 +144,11 @@ module _ (inputs : ParsedInputs) where
 
   -- an item takes at most twice the bytes of its step
   item_longest : (i : Item) (n : ℕ) → 4 ≤ n → Takes i n → longest (piece_of objects i) ≤ 2 * n
-  item_longest i n some (Padding is padding) =
-      let p = padded n padding in
+  item_longest i n some (Padding is p) =
       omega (arith, ap (λ x. longest (piece_of objects x)) is, (power_is n).near (omega arith) (omega (arith, p.short)))
   item_longest i n some (Bytes is) =
       piece_case i (λ p. longest p ≤ 2 * n) (omega arith) (omega arith) (omega arith) (λ q b. omega arith) (λ q. omega arith)
-      (λ bytes e. absurd (omega (arith, some, is 0, ap (after_item 0) e, (power_is bytes).at_start)))
+      (λ bytes e. absurd (cc (is, ap padding_of e)))
 
   -- ---- pieces of sections
 
@@ -218,7 +215,7 @@ module _ (inputs : ParsedInputs) where
             (λ n xs lt words st above rest. omega (
               arith,
               sum_by-cons longest (piece_on inputs o i s n) (map (piece_on inputs o i s) xs),
-              item_longest (item_in inputs s (place_at o i n)) (size_on s n) st.some (item_takes inputs s (place_at o i n) code),
+              item_longest (item_in inputs s (place_at o i n)) (size_on s n) (omega (arith, st.words, st.some)) (item_takes inputs s (place_at o i n) code),
               rest,
             ))
 
@@ -226,7 +223,7 @@ module _ (inputs : ParsedInputs) where
     starts_few : 4 * length (starts_in s) ≤ length s.bytes
     starts_few =
         let all : 4 * length (starts_in s) + 0 ≤ length s.bytes =
-        along s code whole (λ n xs. 4 * length xs + n ≤ length s.bytes) (omega arith) (λ n xs lt words st above rest. omega (arith, st.some, rest)) in
+        along s code whole (λ n xs. 4 * length xs + n ≤ length s.bytes) (omega arith) (λ n xs lt words st above rest. omega (arith, st.some, st.words, rest)) in
         omega arith
 
   -- the pieces of sections have twice their room, and are no more than the words of it

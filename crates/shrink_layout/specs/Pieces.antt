@@ -2,7 +2,7 @@
 -- manual, "C Extension for Compressed Instructions"; RISC-V Zc specification 1.0, "Zcb").
 use Rattle.std.specs.Prelude.{ℕ, pos, ◌+◌, Bool, true, false, nat_lt, nat_le, if◌then◌else◌, List, [], ◌∷◌, length, filter, map, not, ◌&&◌}
 use Rattle.std.specs.List.{flat_map, list_any, sum_by}
-use Rattle.std.specs.Option.{is_some, option_map_or}
+use Rattle.std.specs.Option.{is_some, option_map_or, option_to_list}
 use Rattle.zc_base.specs.declared.place.Place.{Place}
 use Rattle.elf32_read.specs.Parts.{ObjectParts, SectionParts, is_code_section}
 use Rattle.psabi_reloc.specs.Parts.{hi20_of, lo12_of}
@@ -12,11 +12,13 @@ use Rattle.psabi_sym.specs.Inputs.{ParsedInputs}
 use Rattle.psabi_sym.specs.Listed.{ListedSection, all_sections, sections_before}
 use Rattle.psabi_sym.specs.declared.target.Target.{Target}
 use Rattle.psabi_sym.specs.declared.target.Target.TheVariants.{Code, Number, Absent, Nowhere}
+use Rattle.rv_decode.specs.declared.instr.BranchOp.{BranchOp}
 use Rattle.rv_decode.specs.declared.instr.Instr.{Instr}
-use Rattle.rv_decode.specs.declared.instr.Instr.TheVariants.{Jal}
+use Rattle.rv_decode.specs.declared.instr.Instr.TheVariants as instr
 use Rattle.zc_decode.specs.declared.short.Short.TheVariants.{Base}
 use Rattle.zc_encode.specs.Halves.{encoded16}
 use Rattle.block_cut.specs.Items.{all_items, code_at, items_in, starts_in}
+use Rattle.block_cut.specs.declared.code_place.CodePlace.{CodePlace}
 use Rattle.block_cut.specs.declared.item.Item.{Item}
 use Rattle.block_cut.specs.declared.item.Item.TheVariants as item
 use Rattle.shrink_layout.specs.declared.piece.Piece.{Piece}
@@ -43,6 +45,13 @@ number_of objects q = option_map_or (λ s. pieces_before objects q.object q.sect
 abbrev pub is_short : Instr → Bool
 is_short i = is_some (encoded16 (Base i))
 
+-- so it is with a branch on two registers, and with a `jal`, if it doesn't lead too far
+abbrev pub is_short_branch : BranchOp → ℕ → ℕ → Bool
+is_short_branch op first second = is_short (instr.Branch op first second (pos 0))
+
+abbrev pub is_short_jump : ℕ → Bool
+is_short_jump rd = is_short (instr.Jal rd (pos 0))
+
 -- the size of an instruction whose immediate doesn't depend on the layout
 abbrev pub instr_size : Instr → ℕ
 instr_size i = if is_short i then 2 else 4
@@ -66,15 +75,19 @@ piece_of objects (item.Hi i t) = Fixed (part_size t (λ x. with_upper i (hi20_of
 piece_of objects (item.Lo i t) = Fixed (part_size t (λ x. with_imm i (lo12_of x)))
 piece_of objects (item.PcHi i t) = Fixed 4
 piece_of objects (item.PcLo i q) = Fixed 4
-piece_of objects (item.Branch i to) = Branch (number_of objects to) (is_short i)
-piece_of objects (item.Jump i to) = jump_piece objects to (is_short i)
-piece_of objects (item.Call rd temp to) = jump_piece objects to (is_short (Jal rd (pos 0)))
+piece_of objects (item.Branch op first second to) = Branch (number_of objects to) (is_short_branch op first second)
+piece_of objects (item.Jump rd to) = jump_piece objects to (is_short_jump rd)
+piece_of objects (item.Call rd temp to) = jump_piece objects to (is_short_jump rd)
 piece_of objects (item.Align bytes) = Align (power_above bytes)
 piece_of objects (item.Word t) = Fixed 4
 piece_of objects (item.Raw word) = Fixed 4
 piece_of objects (item.RawPair first second) = Fixed 8
 
 -- ---- all pieces
+
+-- the items that start at places
+abbrev pub items_held : List CodePlace → List Item
+items_held places = flat_map (λ p. option_to_list p.item) places
 
 -- the padding before a section: up to 4 its alignment is that of the instructions that it has, which may take 2 bytes now
 abbrev pub section_alignment : SectionParts → ℕ
@@ -102,8 +115,8 @@ is_align (item.Hi i t) = false
 is_align (item.Lo i t) = false
 is_align (item.PcHi i t) = false
 is_align (item.PcLo i q) = false
-is_align (item.Branch i to) = false
-is_align (item.Jump i to) = false
+is_align (item.Branch op first second to) = false
+is_align (item.Jump rd to) = false
 is_align (item.Call rd temp to) = false
 is_align (item.Align bytes) = true
 is_align (item.Word t) = false

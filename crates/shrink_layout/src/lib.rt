@@ -3,6 +3,7 @@
 #![tactic(auto)]
 
 mod addresses;
+mod item_piece;
 mod moves;
 mod multiples;
 mod numbers;
@@ -12,6 +13,3 @@ mod pieces;
 mod round;
 mod rounds;
 pub mod settled;
-mod text_part;
-mod walk;
-mod word_numbers;

@@ -6,6 +6,7 @@ ghost use Rattle.shrink_layout.specs.Blocks.{IsKept, IsMovedBy, IsSameStep, IsSt
 ghost use Rattle.shrink_layout.specs.Forms.{HasAlignment, longest};
 ghost use Rattle.shrink_layout.specs.Least.{AreForms};
 
+use crate::multiples::BLOCK;
 use crate::piece::Piece;
 
 // The addresses of the pieces between two numbers, each after the bytes of the one before it.
@@ -121,8 +122,8 @@ pub fn move_on(
     let mut count = 0;
     changes[0] = 0;
     for block in 0..grown.len() {
-        let first = block * 64;
-        let end = pieces.len().min(first + 64);
+        let first = block * BLOCK;
+        let end = pieces.len().min(first + BLOCK);
         let next = addresses[end];
         let multiple = if grown[block] { 0 } else { multiples[block] };
         if lay_block(addresses, pieces, sizes, first, end, here, multiple) {

@@ -7,6 +7,9 @@ ghost use Rattle.shrink_layout.specs.Forms.{HasAlignment};
 use crate::piece::Piece;
 use std::alloc::{AllocError, Global};
 
+/// How many pieces a block has.
+pub const BLOCK: usize = 64;
+
 // A multiple of this number and of the alignment of a piece; 0 if neither is one of the other.
 fn multiple_with(multiple: u32, piece: Piece) -> u32
     requires alignment { HasAlignment piece }
@@ -34,10 +37,10 @@ pub fn multiples_of(alloc: Global, pieces: &[Piece]) -> Result<Vec<u32>, AllocEr
     ensures blocks { IfOk result (λ v. length v.items ≡ length pieces.now / 64 + 1) }
     ensures moved { IfOk result (λ v. (k : ℕ) → k < length pieces.now → 0 < slice_index v.items (k / 64) → IsMovedBy (slice_index v.items (k / 64)) (piece_at pieces.now k)) }
 {
-    let mut multiples = vec![in alloc; 1; pieces.len() / 64 + 1]?;
+    let mut multiples = vec![in alloc; 1; pieces.len() / BLOCK + 1]?;
     for k in 0..pieces.len() {
-        let multiple = multiples[k / 64];
-        multiples[k / 64] = multiple_with(multiple, pieces[k]);
+        let multiple = multiples[k / BLOCK];
+        multiples[k / BLOCK] = multiple_with(multiple, pieces[k]);
     }
     Ok(multiples)
 }

@@ -5,6 +5,7 @@ ghost use Rattle.shrink_layout.specs.Blocks.{AreTested, IsKept, IsSpanned, Other
 ghost use Rattle.shrink_layout.specs.Forms.{holds, target};
 ghost use Rattle.shrink_layout.specs.Layout.{fit_from, grown_from, holds_at};
 
+use crate::multiples::BLOCK;
 use crate::piece::Piece;
 
 // Whether the form of the piece with number k reaches.
@@ -116,12 +117,12 @@ pub fn grow(
     for block in 0..grown.len() {
         grown[block] = false;
         if changes[lows[block]] != changes[highs[block] + 1] {
-            let first = block * 64;
-            let end = pieces.len().min(first + 64);
+            let first = block * BLOCK;
+            let end = pieces.len().min(first + BLOCK);
             let tested = grow_block(pieces, addresses, sizes, first, end);
             grown[block] = !tested.fitted;
-            lows[block] = tested.low / 64;
-            highs[block] = tested.high / 64;
+            lows[block] = tested.low / BLOCK;
+            highs[block] = tested.high / BLOCK;
             fitted &= tested.fitted;
         }
     }

@@ -111,8 +111,10 @@ fn count(text: u32, end: u32, items: u32, pieces: &[Piece], sizes: &[u32]) -> Co
 
 // The layout of objects that are cut.
 fn lay_out(alloc: Global, cut: &Cut) -> Result<Kept, AllocError>
-    ensures settled { IfOk result (λ kept. IsSettled cut.now kept.numbers kept.sizes.items kept.addresses.items kept.counts) }
-    ensures least { IsTrue (is_unaligned (parsed cut.now)) → IfOk result (λ kept. IsLeast cut.now.map.text (pieces_of (parsed cut.now)) kept.sizes.items) }
+    ensures settled { IfOk result
+        (λ kept. IsSettled cut.now kept.numbers kept.sizes.items kept.addresses.items kept.counts) }
+    ensures least { IsTrue (is_unaligned (parsed cut.now)) → IfOk result
+        (λ kept. IsLeast cut.now.map.text (pieces_of (parsed cut.now)) kept.sizes.items) }
 {
     let numbered = number_pieces(alloc, cut)?;
     let text = cut.objects().map().text;
@@ -132,7 +134,8 @@ fn lay_out(alloc: Global, cut: &Cut) -> Result<Kept, AllocError>
 pub fn settle(alloc: Global, planned: Planned) -> Result<Settled, AllocError>
     ensures same { IfOk result (λ settled. settled.inputs ≡ planned) }
     ensures layout { IfOk result (λ settled. AreSettled (parsed planned) settled.sizes) }
-    ensures least { IsTrue (is_unaligned (parsed planned)) → IfOk result (λ settled. IsLeast planned.map.text (pieces_of (parsed planned)) settled.sizes) }
+    ensures least { IsTrue (is_unaligned (parsed planned)) → IfOk result
+        (λ settled. IsLeast planned.map.text (pieces_of (parsed planned)) settled.sizes) }
 {
     let kept = lay_out(alloc, planned.cut())?;
     Ok(Settled {
@@ -150,20 +153,22 @@ impl Settled {
     pub fn address(&self, p: Place) -> Option<u32>
         ensures { result ≡ settled_address (parsed self.now.inputs) self.now.sizes p }
     {
-        if self.planned.cut().plain_address(p).is_none() {
-            return None;
+        let objects = self.planned.cut().objects();
+        match self.numbers.place_number(objects, p) {
+            None => None,
+            Some(k) => Some(self.addresses[k as usize]),
         }
-        Some(self.addresses[self.numbers.number(p) as usize])
     }
 
     /// The bytes of the item at a place, if one starts there.
     pub fn size(&self, p: Place) -> Option<u32>
         ensures { result ≡ settled_size (parsed self.now.inputs) self.now.sizes p }
     {
-        if self.planned.cut().item(p).is_none() {
+        let cut = self.planned.cut();
+        if cut.item(p).is_none() {
             return None;
         }
-        let k = self.numbers.number(p) as usize;
+        let k = self.numbers.number(cut.objects(), p) as usize;
         Some(self.addresses[k + 1] - self.addresses[k])
     }
 

@@ -1,35 +1,40 @@
-use Rattle.std.proofs.Common.{Some, is_some, slice_index, sym, ap, ◌∙◌, arith}
-use Rattle.psabi_sym.specs.Inputs.{parsed}
-use Rattle.block_cut.specs.PlainLayout.{plain_address}
-use Rattle.shrink_layout.specs.Settled.{settled_address, settled_addresses}
-use Rattle.shrink_layout.proofs.KeptLaws.{address_by, kept_address, kept_long}
+-- A place has an address if it has a number, which is the address's index (`address_by_number`).
+use Rattle.std.proofs.Common.{◌≡◌, ℕ, Option, None, Some, sym, ap, subst, ◌∙◌, arith}
+use Rattle.zc_base.specs.declared.place.Place.{Place}
+use Rattle.psabi_sym.specs.Inputs.{Inputs, parsed}
+use Rattle.shrink_layout.specs.Numbers.{IsPlaceNumber}
+use Rattle.shrink_layout.specs.Settled.{settled_address}
+use Rattle.shrink_layout.proofs.KeptLaws.{address_by_number, kept_address, kept_long}
 use Rattle.shrink_layout.proofs.NumberLaws.{number_most}
 use Rattle.shrink_layout.proofs.settled.Settled.address.Goals as goal
 
-pub returns-then-is_none : goal.returns-then-is_none
-returns-then-is_none c =
+-- what is known of the place's number, of equal inputs, by what it is
+known : (x y : Inputs) (q : Place) (o p : Option ℕ) → x ≡ y → o ≡ p → IsPlaceNumber (parsed x).objects q o → IsPlaceNumber (parsed y).objects q p
+known x y q o p same is has = subst (λ n. IsPlaceNumber (parsed y).objects q n) is (subst (λ z. IsPlaceNumber (parsed z).objects q o) same has)
+
+pub returns-in-None : goal.returns-in-None
+returns-in-None c =
     let own = c.self.inside in
     let q = c.args.p in
-    let found = c.plain_address.ensures ∙ ap (λ x. plain_address (parsed x) q) c.cut.ensures.same in
-    sym ((address_by (parsed own.planned) own.sizes.items q).0 (ap is_some (sym found) ∙ c.if-is_none.ensures))
+    let has = known c.objects-objects.result.now own.planned q c.place_number.result None (c.objects-objects.ensures.same ∙ c.cut.ensures.same) c.in-None.is c.place_number.ensures in
+    sym (address_by_number (parsed own.planned) own.sizes.items q None has)
     ∙ ap (λ s. settled_address (parsed s.inputs) s.sizes q) c.self.view_is
 
 pub index-requires : goal.index-requires
 index-requires c =
     let own = c.self.inside in
     let is = c.self.invariant in
-    let number = c.number.ensures own.planned is.faultless is.numbers_are in
-    omega (arith, number, number_most (parsed own.planned) c.args.p, own.addresses.ok, kept_long (parsed own.planned) own.sizes.items is.settled own.addresses.items is.addresses_are)
+    let q = c.args.p in
+    let has = known c.objects-objects.result.now own.planned q c.place_number.result (Some c.in-Some.k) (c.objects-objects.ensures.same ∙ c.cut.ensures.same) c.in-Some.is c.place_number.ensures in
+    omega (arith, has.1, number_most (parsed own.planned) q, own.addresses.ok, kept_long (parsed own.planned) own.sizes.items is.settled own.addresses.items is.addresses_are)
 
-pub returns : goal.returns
-returns c =
+pub returns-in-Some : goal.returns-in-Some
+returns-in-Some c =
     let own = c.self.inside in
     let is = c.self.invariant in
     let q = c.args.p in
-    let found = c.plain_address.ensures ∙ ap (λ x. plain_address (parsed x) q) c.cut.ensures.same in
-    let number = c.number.ensures own.planned is.faultless is.numbers_are in
-    let most = number_most (parsed own.planned) q in
-    ap Some (c.index.ensures ∙ kept_address (parsed own.planned) own.sizes.items is.settled own.addresses.items is.addresses_are c.number.result c.index.result.now (omega (arith, number, most)))
-    ∙ ap (λ k. Some (slice_index (settled_addresses (parsed own.planned) own.sizes.items) k)) number
-    ∙ sym ((address_by (parsed own.planned) own.sizes.items q).1 (ap is_some (sym found) ∙ c.if-is_none.ensures))
+    let k = c.in-Some.k in
+    let has = known c.objects-objects.result.now own.planned q c.place_number.result (Some k) (c.objects-objects.ensures.same ∙ c.cut.ensures.same) c.in-Some.is c.place_number.ensures in
+    ap Some (c.index.ensures ∙ kept_address (parsed own.planned) own.sizes.items is.settled own.addresses.items is.addresses_are k c.index.result.now (omega (arith, has.1, number_most (parsed own.planned) q)))
+    ∙ sym (address_by_number (parsed own.planned) own.sizes.items q (Some k) has)
     ∙ ap (λ s. settled_address (parsed s.inputs) s.sizes q) c.self.view_is

@@ -1,6 +1,7 @@
 use Rattle.std.proofs.Common.{◌+◌, ◌-◌, Some, is_some, slice_index, sym, ap, ◌∙◌, arith}
 use Rattle.psabi_sym.specs.Inputs.{parsed}
 use Rattle.block_cut.specs.Items.{item_at}
+use Rattle.shrink_layout.specs.Pieces.{number_of}
 use Rattle.shrink_layout.specs.Settled.{settled_addresses, settled_size}
 use Rattle.shrink_layout.proofs.KeptLaws.{addresses_rise, below_by, kept_address, kept_long, size_by}
 use Rattle.shrink_layout.proofs.settled.Settled.size.Goals as goal
@@ -10,9 +11,9 @@ index-requires c =
     let own = c.self.inside in
     let is = c.self.invariant in
     let q = c.args.p in
-    let found = c.item.ensures.item ∙ ap (λ x. item_at (parsed x) q) c.cut.ensures.same in
+    let found = c.item.ensures.item ∙ ap (λ x. item_at (parsed x) q) c.cut-cut.ensures.same in
     let below = below_by own.planned is.faultless q (ap is_some (sym found) ∙ c.if-is_none.ensures) in
-    let number = c.number-k.ensures own.planned is.faultless is.numbers_are in
+    let number = c.number-k.ensures ∙ ap (λ x. number_of (parsed x).objects c.args.p) (c.objects.ensures.same ∙ c.cut-cut.ensures.same) in
     omega (arith, number, below, own.addresses.ok, kept_long (parsed own.planned) own.sizes.items is.settled own.addresses.items is.addresses_are)
 
 pub index-requires-2 : goal.index-requires-2
@@ -20,9 +21,9 @@ index-requires-2 c =
     let own = c.self.inside in
     let is = c.self.invariant in
     let q = c.args.p in
-    let found = c.item.ensures.item ∙ ap (λ x. item_at (parsed x) q) c.cut.ensures.same in
+    let found = c.item.ensures.item ∙ ap (λ x. item_at (parsed x) q) c.cut-cut.ensures.same in
     let below = below_by own.planned is.faultless q (ap is_some (sym found) ∙ c.if-is_none.ensures) in
-    let number = c.number-k.ensures own.planned is.faultless is.numbers_are in
+    let number = c.number-k.ensures ∙ ap (λ x. number_of (parsed x).objects c.args.p) (c.objects.ensures.same ∙ c.cut-cut.ensures.same) in
     omega (arith, number, below, own.addresses.ok, kept_long (parsed own.planned) own.sizes.items is.settled own.addresses.items is.addresses_are)
 
 pub overflow_sub-result : goal.overflow_sub-result
@@ -32,9 +33,9 @@ overflow_sub-result c =
     let q = c.args.p in
     let k = c.number-k.result in
     let inputs = parsed own.planned in
-    let found = c.item.ensures.item ∙ ap (λ x. item_at (parsed x) q) c.cut.ensures.same in
+    let found = c.item.ensures.item ∙ ap (λ x. item_at (parsed x) q) c.cut-cut.ensures.same in
     let below = below_by own.planned is.faultless q (ap is_some (sym found) ∙ c.if-is_none.ensures) in
-    let number = c.number-k.ensures own.planned is.faultless is.numbers_are in
+    let number = c.number-k.ensures ∙ ap (λ x. number_of (parsed x).objects c.args.p) (c.objects.ensures.same ∙ c.cut-cut.ensures.same) in
     let first = c.index-2.ensures ∙ kept_address inputs own.sizes.items is.settled own.addresses.items is.addresses_are k c.index-2.result.now (omega (arith, number, below)) in
     let second = c.index.ensures ∙ kept_address inputs own.sizes.items is.settled own.addresses.items is.addresses_are (k + 1) c.index.result.now (omega (arith, number, below)) in
     omega (arith, first, second, addresses_rise inputs own.sizes.items is.settled k (k + 1) (omega arith) (omega (arith, number, below)))
@@ -46,10 +47,10 @@ returns c =
     let q = c.args.p in
     let k = c.number-k.result in
     let inputs = parsed own.planned in
-    let found = c.item.ensures.item ∙ ap (λ x. item_at (parsed x) q) c.cut.ensures.same in
+    let found = c.item.ensures.item ∙ ap (λ x. item_at (parsed x) q) c.cut-cut.ensures.same in
     let some = ap is_some (sym found) ∙ c.if-is_none.ensures in
     let below = below_by own.planned is.faultless q some in
-    let number = c.number-k.ensures own.planned is.faultless is.numbers_are in
+    let number = c.number-k.ensures ∙ ap (λ x. number_of (parsed x).objects c.args.p) (c.objects.ensures.same ∙ c.cut-cut.ensures.same) in
     let first = c.index-2.ensures ∙ kept_address inputs own.sizes.items is.settled own.addresses.items is.addresses_are k c.index-2.result.now (omega (arith, number, below)) in
     let second = c.index.ensures ∙ kept_address inputs own.sizes.items is.settled own.addresses.items is.addresses_are (k + 1) c.index.result.now (omega (arith, number, below)) in
     (λ j. Some (second j - first j))
