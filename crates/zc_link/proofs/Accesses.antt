@@ -2,6 +2,7 @@
 -- the machine loads, byte by byte, with signs or zeros above; and the bytes that a store writes stand for the machine's.
 use Rattle.std.proofs.Common.{◌≡◌, ℕ, zero, suc, ◌+◌, ◌-◌, ◌*◌, ◌/◌, ◌%◌, ◌^◌, ◌<◌, ◌≤◌, length, Option, Some, None, Bool, true, false, cond, refl, sym, ap, ◌∙◌, subst, arith, pos, negsuc, eqb, ltb, get_or}
 use Rattle.std.proofs.lemmas.Bool.{cond-true, eq-eqb, eqb-true, ltb-false, ltb-true}
+use Rattle.zc_base.specs.declared.place.Place.{Place}
 use Rattle.rv_decode.specs.declared.instr.LoadOp.{LoadOp}
 use Rattle.rv_decode.specs.declared.instr.LoadOp.TheVariants.{Lb, Lh, Lw, Lbu, Lhu}
 use Rattle.rv_decode.specs.declared.instr.StoreOp.{StoreOp}
@@ -36,7 +37,7 @@ pub record Reached (p : Program) (n a : ℕ) (does : Does) (c : Change) : Type 0
   pub aligned : a % n ≡ 0
   pub spans : SpansMemory p a n
 
-module _ {p : Program} {e : Image} {s : PlainCore} {z : ZcCore} (room : Room p e) (ready : Ready p e s z) where
+module _ {p : Program} {Named : Place → Type 0} {e : Image} {s : PlainCore} {z : ZcCore} (room : Room p e) (ready : Ready p Named e s z) where
   abbrev V : Value → Option ℕ
   V = value_in p (place_address e)
 
@@ -172,15 +173,15 @@ module _ {p : Program} {e : Image} {s : PlainCore} {z : ZcCore} (room : Room p e
   load_below Lhu a = omega (arith, ready.core.bytes a, ready.core.bytes (a + 1))
 
   -- signs and zeros name no places
-  sign_names : (c : SymByte) → NamesByte p (sign_of c)
+  sign_names : (c : SymByte) → NamesByte Named (sign_of c)
   sign_names (Num n) = tt
   sign_names (Part v i) = tt
   sign_names Undef = tt
 
-  byte_names : (n a x : ℕ) → SpansMemory p a n → a ≤ x → x < a + n → NamesByte p (cell_of s x)
+  byte_names : (n a x : ℕ) → SpansMemory p a n → a ≤ x → x < a + n → NamesByte Named (cell_of s x)
   byte_names n a x spans low high = ready.names.memory x (within room n a x spans low high)
 
-  pub load_names : (op : LoadOp) (a : ℕ) → SpansMemory p a (load_width op) → NamesWord p (load_word op s a)
+  pub load_names : (op : LoadOp) (a : ℕ) → SpansMemory p a (load_width op) → NamesWord Named (load_word op s a)
   load_names Lb a spans =
       let sign = sign_names (cell_of s a) in
       (byte_names 1 a a spans (omega arith) (omega arith), sign, sign, sign)
@@ -207,19 +208,19 @@ byte_below m i = below (m / 256 ^ i)
 module _ {p : Program} {e : Image} (room : Room p e) where
   -- what a store writes in both
   pub stored_agrees :
-      (op : StoreOp) (w : SymWord) (n a : ℕ) → SpansMemory p a (store_width op) → WordStands (value_in p (place_address e)) w n → NamesWord p w
-      → Agrees p e (written a (length (stored_bytes op w)) (λ i. get_or (stored_bytes op w) i Undef)) (written a (store_width op) (byte_of n))
-  stored_agrees Sb w n a spans st names =
+      {Named : Place → Type 0} (op : StoreOp) (w : SymWord) (n a : ℕ) → SpansMemory p a (store_width op) → WordStands (value_in p (place_address e)) w n → NamesWord Named w
+      → Agrees p Named e (written a (length (stored_bytes op w)) (λ i. get_or (stored_bytes op w) i Undef)) (written a (store_width op) (byte_of n))
+  stored_agrees {Named} Sb w n a spans st names =
       written_agrees room a 1 (λ i. get_or (stored_bytes Sb w) i Undef) (byte_of n) spans stands named (λ i _. byte_below n i)
     where
       stands : (i : ℕ) → i < 1 → ByteStands (value_in p (place_address e)) (get_or (stored_bytes Sb w) i Undef) (byte_of n i)
       stands zero lt = st.b0
       stands (suc i) lt = absurd (omega (arith, lt))
 
-      named : (i : ℕ) → i < 1 → NamesByte p (get_or (stored_bytes Sb w) i Undef)
+      named : (i : ℕ) → i < 1 → NamesByte Named (get_or (stored_bytes Sb w) i Undef)
       named zero lt = names.0
       named (suc i) lt = absurd (omega (arith, lt))
-  stored_agrees Sh w n a spans st names =
+  stored_agrees {Named} Sh w n a spans st names =
       written_agrees room a 2 (λ i. get_or (stored_bytes Sh w) i Undef) (byte_of n) spans stands named (λ i _. byte_below n i)
     where
       stands : (i : ℕ) → i < 2 → ByteStands (value_in p (place_address e)) (get_or (stored_bytes Sh w) i Undef) (byte_of n i)
@@ -227,11 +228,11 @@ module _ {p : Program} {e : Image} (room : Room p e) where
       stands (suc zero) lt = st.b1
       stands (suc (suc i)) lt = absurd (omega (arith, lt))
 
-      named : (i : ℕ) → i < 2 → NamesByte p (get_or (stored_bytes Sh w) i Undef)
+      named : (i : ℕ) → i < 2 → NamesByte Named (get_or (stored_bytes Sh w) i Undef)
       named zero lt = names.0
       named (suc zero) lt = names.1
       named (suc (suc i)) lt = absurd (omega (arith, lt))
-  stored_agrees Sw w n a spans st names =
+  stored_agrees {Named} Sw w n a spans st names =
       written_agrees room a 4 (λ i. get_or (stored_bytes Sw w) i Undef) (byte_of n) spans stands named (λ i _. byte_below n i)
     where
       stands : (i : ℕ) → i < 4 → ByteStands (value_in p (place_address e)) (get_or (stored_bytes Sw w) i Undef) (byte_of n i)
@@ -241,7 +242,7 @@ module _ {p : Program} {e : Image} (room : Room p e) where
       stands (suc (suc (suc zero))) lt = st.b3
       stands (suc (suc (suc (suc i)))) lt = absurd (omega (arith, lt))
 
-      named : (i : ℕ) → i < 4 → NamesByte p (get_or (stored_bytes Sw w) i Undef)
+      named : (i : ℕ) → i < 4 → NamesByte Named (get_or (stored_bytes Sw w) i Undef)
       named zero lt = names.0
       named (suc zero) lt = names.1
       named (suc (suc zero)) lt = names.2

@@ -21,7 +21,7 @@ use Rattle.sym_machine.specs.Words.{code_from, code_of, code_word, is_part, is_v
 use Rattle.zc_link.specs.Image.{Image, place_address}
 use Rattle.zc_link.specs.Leads.{NamesTarget}
 use Rattle.zc_link.specs.Room.{Room}
-use Rattle.zc_link.specs.Sound.{IsNamed, NamesWord}
+use Rattle.zc_link.specs.Sound.{NamesWord}
 use Rattle.zc_link.specs.Stands.{ByteStands, WordStands}
 use Rattle.zc_link.specs.Values.{pc_upper, target_value, value_in, way}
 use Rattle.zc_link.proofs.PartLaws.{parts_sum, way_sum}
@@ -192,33 +192,33 @@ module _ {p : Program} {e : Image} (room : Room p e) where
 
 -- ---- the places that these words name
 
-module _ (p : Program) where
-  pub code_names : (q : Place) → IsNamed p q → NamesWord p (code_word q)
+module _ (Named : Place → Type 0) where
+  pub code_names : (q : Place) → Named q → NamesWord Named (code_word q)
   code_names q named = (named, named, named, named)
 
-  pub target_names : (t : Target) → NamesTarget p t → NamesWord p (target_word t)
+  pub target_names : (t : Target) → NamesTarget Named t → NamesWord Named (target_word t)
   target_names (target.Code q) named = code_names q named
-  target_names (target.Number n) named = number_names p n
-  target_names (target.Absent n) named = number_names p n
-  target_names target.Nowhere named = undef_names p
+  target_names (target.Number n) named = number_names Named n
+  target_names (target.Absent n) named = number_names Named n
+  target_names target.Nowhere named = undef_names Named
 
-  pub high_names : (t : Target) → NamesWord p (high_word t)
+  pub high_names : (t : Target) → NamesWord Named (high_word t)
   high_names (target.Code q) = (tt, tt, tt, tt)
-  high_names (target.Number n) = number_names p (hi20_of n * 2 ^ 12)
-  high_names (target.Absent n) = number_names p (hi20_of n * 2 ^ 12)
-  high_names target.Nowhere = undef_names p
+  high_names (target.Number n) = number_names Named (hi20_of n * 2 ^ 12)
+  high_names (target.Absent n) = number_names Named (hi20_of n * 2 ^ 12)
+  high_names target.Nowhere = undef_names Named
 
   -- a word if a test holds, and else an undefined one
-  if_names : (b : Bool) (w : SymWord) → NamesWord p w → NamesWord p (cond b w undef_word)
+  if_names : (b : Bool) (w : SymWord) → NamesWord Named w → NamesWord Named (cond b w undef_word)
   if_names true w names = names
-  if_names false w names = undef_names p
+  if_names false w names = undef_names Named
 
-  pub low_names : (t : Target) (base : SymWord) → NamesTarget p t → NamesWord p base → NamesWord p (low_sum t base)
+  pub low_names : (t : Target) (base : SymWord) → NamesTarget Named t → NamesWord Named base → NamesWord Named (low_sum t base)
   low_names (target.Code q) base named names = if_names (is_value (AbsHi q) base) (code_word q) (code_names q named)
-  low_names (target.Number n) base named names = sum_names p base (lo12_of n) names
-  low_names (target.Absent n) base named names = sum_names p base (lo12_of n) names
-  low_names target.Nowhere base named names = undef_names p
+  low_names (target.Number n) base named names = sum_names Named base (lo12_of n) names
+  low_names (target.Absent n) base named names = sum_names Named base (lo12_of n) names
+  low_names target.Nowhere base named names = undef_names Named
 
-  pub pc_low_names : (q : Place) (o : Option Target) (base : SymWord) → ((t : Target) → o ≡ Some t → NamesTarget p t) → NamesWord p (pc_low_sum q o base)
-  pc_low_names q None base named = if_names (is_value (PcHi q) base) undef_word (undef_names p)
+  pub pc_low_names : (q : Place) (o : Option Target) (base : SymWord) → ((t : Target) → o ≡ Some t → NamesTarget Named t) → NamesWord Named (pc_low_sum q o base)
+  pc_low_names q None base named = if_names (is_value (PcHi q) base) undef_word (undef_names Named)
   pc_low_names q (Some t) base named = if_names (is_value (PcHi q) base) (target_word t) (target_names t (named t refl))

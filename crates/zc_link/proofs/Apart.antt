@@ -3,6 +3,7 @@
 use Rattle.std.proofs.Common.{◌≡◌, ◌≢◌, ℕ, suc, ◌+◌, ◌<◌, List, [], ◌∷◌, Bool, true, false, cond, refl, sym, ap, ap₂, ◌∙◌, subst, inl, inr, ⊎_elim, arith, ltb, leb}
 use Rattle.std.specs.Prelude.{◌&&◌, ◌⊎◌}
 use Rattle.std.proofs.lemmas.Bool.{and_parts, leb-true, ltb-true}
+use Rattle.zc_base.specs.declared.place.Place.{Place}
 use Rattle.rv_decode.specs.declared.instr.Instr.TheVariants.{Branch, Jal, Jalr, Upper}
 use Rattle.rv_decode.specs.declared.instr.UpperOp.TheVariants.{Auipc}
 use Rattle.rv_decode.specs.Memory.{Extent, Region, cells_changed, changed, extents_of, is_stack, lies_in, written}
@@ -79,7 +80,7 @@ module _ (a b : ℕ) where
 
 -- ---- on the way
 
-module _ {p : Program} {e : Image} {pace : Pace} (laid : Laid p e pace) where
+module _ {p : Program} {Named : Place → Type 0} {e : Image} {pace : Pace} (laid : Laid p Named e pace) where
   cuts_apart_from : {From : ℕ → ZcState → Type 0} → ((k : ℕ) (z : ZcState) → From k z → SameExtents (loaded e) z.core) → CutsApart p From
   unfolding with_cell
   cuts_apart_from from k z way c is a b cell small = all_dirtied-with_cell a b c.dirt z.core (λ x h same.
@@ -88,7 +89,7 @@ module _ {p : Program} {e : Image} {pace : Pace} (laid : Laid p e pace) where
       let high = cell.high in
       omega (arith, within.0, same, under, high))
 
-  pub cuts_apart : (r : PlainState) → CutsApart p (FromPair p e pace r)
+  pub cuts_apart : (r : PlainState) → CutsApart p (FromPair p Named e pace r)
   cuts_apart r = cuts_apart_from (λ k z from. from.sound.alike.extents)
 
   pub lead_cuts_apart : CutsApart p (FromLoad p e)
@@ -96,7 +97,7 @@ module _ {p : Program} {e : Image} {pace : Pace} (laid : Laid p e pace) where
 
   -- a long branch of two commits is taken, so its first instruction goes on to the jump
   long_bare :
-      (s : PlainCore) (y : ZcCore) → Alike p e s y → LongLaid p e s.place y.pc → 1 < commits_of p s LongOf → Bares e (commits_of p s LongOf) y.regs y.pc
+      (s : PlainCore) (y : ZcCore) → Alike p Named e s y → LongLaid p e s.place y.pc → 1 < commits_of p s LongOf → Bares e (commits_of p s LongOf) y.regs y.pc
   long_bare s y al long more =
       let taken = known_taken s long more in
       subst (λ n. Bares e n y.regs y.pc) (sym taken.commits)
@@ -104,14 +105,14 @@ module _ {p : Program} {e : Image} {pace : Pace} (laid : Laid p e pace) where
 
   -- a piece of several instructions has none that looks at memory
   piece_bare :
-      (s : PlainCore) (y : ZcCore) (x : Piece) → Alike p e s y → PieceLaid p e s.place y.pc x → (1 < span_of x) ⊎ (1 < commits_of p s x)
+      (s : PlainCore) (y : ZcCore) (x : Piece) → Alike p Named e s y → PieceLaid p e s.place y.pc x → (1 < span_of x) ⊎ (1 < commits_of p s x)
       → Bares e (commits_of p s x) y.regs y.pc
   piece_bare s y Alone al item more = ⊎_elim (λ steps. absurd (omega (arith, steps))) (λ commits. absurd (omega (arith, commits))) more
   piece_bare s y (AlignOf count) al align more = nops_bare e count y.regs y.pc align.end align.nops
   piece_bare s y CallOf al call more = two_bare e y.regs y.pc (Upper Auipc call.temp call.upper) (Jalr call.rd call.temp call.lower) tt tt tt call.at
   piece_bare s y LongOf al long more = ⊎_elim (λ steps. absurd (omega (arith, steps))) (λ commits. long_bare s y al long commits) more
 
-  pub commits_apart : (r : PlainState) → (1 < pace.span r.core.place) ⊎ (1 < pace.weight r.core) → CommitsApart p (FromPair p e pace r)
+  pub commits_apart : (r : PlainState) → (1 < pace.span r.core.place) ⊎ (1 < pace.weight r.core) → CommitsApart p (FromPair p Named e pace r)
   commits_apart r more = bare_apart laid.room (λ k z from. record {
     going = from.sound.alike.going;
     same = record { extents = from.sound.alike.extents; text = from.sound.alike.text };

@@ -4,6 +4,7 @@ use Rattle.std.specs.Prelude.{◌||◌, ◌⊎◌, All}
 use Rattle.std.proofs.lemmas.Bool.{and_parts, leb-true, or_cases}
 use Rattle.std.proofs.lemmas.List.{get_or-map, length-map, length-take}
 use Rattle.std.proofs.lemmas.List.Elements.{All-take}
+use Rattle.zc_base.specs.declared.place.Place.{Place}
 use Rattle.rv_decode.specs.Memory.{Data, Extent, Stack, blank, extents_of, is_data, lies_in, spans, written}
 use Rattle.rv_decode.specs.State.{ZcCore, byte_in}
 use Rattle.rv_decode.proofs.MemoryLaws.{length_blank, untouched}
@@ -93,8 +94,8 @@ taken_bytes len input left same = record {
 
 module _ {p : Program} {e : Image} (room : Room p e) where
   -- what a read leaves in the buffer
-  pub read_agrees : (at to len : ℕ) (bytes : List ℕ) → IsBuffer p at to len → length bytes ≤ len → All (λ b. b < 256) bytes
-      → Agrees p e (written at (length (map Num bytes)) (λ i. get_or (map Num bytes) i Undef)) (written to (length bytes) (λ i. get_or bytes i 0))
+  pub read_agrees : {Named : Place → Type 0} (at to len : ℕ) (bytes : List ℕ) → IsBuffer p at to len → length bytes ≤ len → All (λ b. b < 256) bytes
+      → Agrees p Named e (written at (length (map Num bytes)) (λ i. get_or (map Num bytes) i Undef)) (written to (length bytes) (λ i. get_or bytes i 0))
   read_agrees at to len bytes (inl none) short are =
       let empty : length bytes ≡ 0 = omega (arith, short, none) in
       let both : length (map Num bytes) ≡ 0 = length-map bytes Num ∙ empty in
@@ -104,14 +105,14 @@ module _ {p : Program} {e : Image} (room : Room p e) where
         text = λ x v text. untouched to (length bytes) (λ i. get_or bytes i 0) x v (λ l u. omega (arith, empty, l, u));
         small = λ x v lt. rw (untouched to (length bytes) (λ i. get_or bytes i 0) x v (λ l u. omega (arith, empty, l, u))) lt;
       }
-  read_agrees at to len bytes (inr lies) short are =
+  read_agrees {Named} at to len bytes (inr lies) short are =
       let n = length bytes in
       let f : ℕ → SymByte = λ i. get_or (map Num bytes) i Undef in
       let g : ℕ → ℕ = λ i. get_or bytes i 0 in
       let number : (i : ℕ) → i < n → f i ≡ Num (g i) = λ i lt. get_or-map Num bytes i 0 Undef lt in
-      let agrees : Agrees p e (written at n f) (written at n g) = written_agrees room at n f g (part lies.1)
+      let agrees : Agrees p Named e (written at n f) (written at n g) = written_agrees room at n f g (part lies.1)
       (λ i lt. rw (number i lt) refl) (λ i lt. rw (number i lt) tt) (λ i lt. are i 0 lt) in
-      subst (λ k. Agrees p e (written at k f) (written to n g)) (sym (length-map bytes Num)) (subst (λ a. Agrees p e (written at n f) (written a n g)) lies.0 agrees)
+      subst (λ k. Agrees p Named e (written at k f) (written to n g)) (sym (length-map bytes Num)) (subst (λ a. Agrees p Named e (written at n f) (written a n g)) lies.0 agrees)
     where
       part : SpansMemory p at len → SpansMemory p at (length bytes)
       part (inl d) = inl (d.0, omega (arith, d.1, short))
@@ -119,7 +120,7 @@ module _ {p : Program} {e : Image} (room : Room p e) where
 
   -- ---- writes
 
-  module _ {s : PlainCore} {z : ZcCore} (ready : Ready p e s z) where
+  module _ {Named : Place → Type 0} {s : PlainCore} {z : ZcCore} (ready : Ready p Named e s z) where
     -- bytes that are numbers are the machine's
     bytes_are : (n a : ℕ) (bytes : List ℕ) → ((x : ℕ) → a ≤ x → x < a + n → IsMemory p x) → numbers_at s.memory a n ≡ Some bytes → bytes ≡ bytes_at z a n
     bytes_are zero a bytes m h = cc

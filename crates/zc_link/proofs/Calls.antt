@@ -25,10 +25,10 @@ use Rattle.zc_machine.specs.Fetch.{fetched_at}
 use Rattle.zc_machine.specs.Run.{zc_turns}
 use Rattle.zc_machine.proofs.TurnLaws.{zc_turns-more}
 use Rattle.zc_link.specs.Image.{Image, loaded, place_address}
-use Rattle.zc_link.specs.Pieces.{CallLaid, JumpCallLaid, OneAt}
+use Rattle.zc_link.specs.Pieces.{CallLaid, OneAt, ReachLaid}
 use Rattle.zc_link.specs.Room.{Room}
 use Rattle.zc_link.specs.Simulates.{Comes}
-use Rattle.zc_link.specs.Sound.{Alike, IsNamed, Ready}
+use Rattle.zc_link.specs.Sound.{Alike, Ready}
 use Rattle.zc_link.specs.Values.{value_in}
 use Rattle.zc_link.proofs.Addresses.{code_names, code_stands}
 use Rattle.zc_link.proofs.Commits.{AfterCuts, after_cuts, zc_turns-one}
@@ -56,27 +56,27 @@ called rd temp to next c h = tested (eqb temp 0) refl h
 abbrev sp_word : List SymWord → SymWord
 sp_word regs = reads (number_word 0) undef_word regs 2
 
-module _ {p : Program} {e : Image} {r r' : PlainState} {cuts : ℕ → List Cut} {z : ZcState} (room : Room p e) (from : FromSound p e r r' cuts z) where
+module _ {p : Program} {Named : Place → Type 0} {e : Image} {r r' : PlainState} {cuts : ℕ → List Cut} {z : ZcState} (room : Room p e) (from : FromSound p Named e r r' cuts z) where
   -- ---- by one instruction
 
   pub jump_call_comes :
-      (rd temp : ℕ) (to : Place) → IsNamed p (p.next r.core.place) → JumpCallLaid p e r.core.place z.core.pc rd to
-      → call_to rd temp to (p.next r.core.place) ≡ Goes from.step.change → Comes p e cuts 1 z r'
+      (rd temp : ℕ) (to : Place) → Named (p.next r.core.place) → ReachLaid p e r.core.place z.core.pc (Jal rd) to
+      → call_to rd temp to (p.next r.core.place) ≡ Goes from.step.change → Comes p Named e cuts 1 z r'
   jump_call_comes rd temp to named laid h = single_comes room from laid.laid law
     where
       law :
-          (y : ZcCore) → y.pc ≡ z.core.pc → Alike p e r.core y → place_address e (p.next r.core.place) ≡ Some (after y laid.laid.at.size)
-          → Moves p e (Jal rd laid.distance) laid.laid.at.size from.step.change r.core y
+          (y : ZcCore) → y.pc ≡ z.core.pc → Alike p Named e r.core y → place_address e (p.next r.core.place) ≡ Some (after y laid.laid.at.size)
+          → Moves p Named e (Jal rd laid.distance) laid.laid.at.size from.step.change r.core y
       law y at al listed =
           let next = p.next r.core.place in
           let size = laid.laid.at.size in
           let link = after y size in
           let is = called rd temp to next from.step.change h in
-          subst (λ c. Moves p e (Jal rd laid.distance) size c r.core y) is.change (record {
+          subst (λ c. Moves p Named e (Jal rd laid.distance) size c r.core y) is.change (record {
             made = record {
               after = record (core_onward y size (set_reg y.regs rd link)) { pc = add32 y.pc laid.distance };
               commits = refl;
-              ready = ready_moved (ready_set (ready_forgets al.ready temp) rd link (code_word next) (omega arith) (code_stands room next link listed) (code_names p next named)) to _ _;
+              ready = ready_moved (ready_set (ready_forgets al.ready temp) rd link (code_word next) (omega arith) (code_stands room next link listed) (code_names Named next named)) to _ _;
               quiet = record { events = refl; taken = refl };
             };
             place = laid.reaches ∙ ap (λ a. Some (add32 a laid.distance)) (sym at);
@@ -105,7 +105,7 @@ module _ {p : Program} {e : Image} {r r' : PlainState} {cuts : ℕ → List Cut}
 
   module _ (laid : CallLaid p e r.core.place z.core.pc) (is : Called laid.rd laid.temp laid.to (p.next r.core.place) from.step.change) where
     -- the state before the first word
-    abbrev first : AfterCuts p e (Upper Auipc laid.temp laid.upper) laid.at.one.size r.core (cuts 0) z
+    abbrev first : AfterCuts p Named e (Upper Auipc laid.temp laid.upper) laid.at.one.size r.core (cuts 0) z
     first = after_cuts room (cuts 0) (from.are 0) laid.at.one from.sound.alike
 
     -- what that gives
@@ -124,13 +124,13 @@ module _ {p : Program} {e : Image} {r r' : PlainState} {cuts : ℕ → List Cut}
         let end = subst (λ c. Ended p.map (after_change c r.core) r'.core) (sym is.change) from.step.end in
         no_sp r.core.regs laid.rd laid.temp (p.next r.core.place) end.sp from.sound.alike.plain.count end.is
 
-    between_alike : Alike p e forgotten between
+    between_alike : Alike p Named e forgotten between
     between_alike =
         let same_word = reads-set_reg_other (number_word 0) undef_word r.core.regs laid.temp undef_word 2 (λ x. not_sp (sym x)) in
         let same : reg_in between 2 ≡ reg_in first.now 2 = reads-set_reg_other 0 0 first.now.regs laid.temp way_part 2 (λ x. not_sp (sym x)) in
         let al = first.alike in
         record {
-          ready = ready_moved (ready_set al.ready laid.temp way_part undef_word (omega arith) (undef_stands (value_in p (place_address e)) way_part) (undef_names p)) r.core.place _ _;
+          ready = ready_moved (ready_set al.ready laid.temp way_part undef_word (omega arith) (undef_stands (value_in p (place_address e)) way_part) (undef_names Named)) r.core.place _ _;
           sp = ap number_of same_word ∙ al.sp ∙ ap Some (sym same);
           low = rw same al.low;
           high = rw same al.high;
@@ -151,7 +151,7 @@ module _ {p : Program} {e : Image} {r r' : PlainState} {cuts : ℕ → List Cut}
       small = omega (arith, laid.at.two.small, between_pc);
     }
 
-    abbrev second : AfterCuts p e (Jalr laid.rd laid.temp laid.lower) laid.at.two.size forgotten (cuts 1) after_first
+    abbrev second : AfterCuts p Named e (Jalr laid.rd laid.temp laid.lower) laid.at.two.size forgotten (cuts 1) after_first
     second = after_cuts room (cuts 1) (from.are 1) second_at between_alike
 
     abbrev link : ℕ
@@ -177,17 +177,17 @@ module _ {p : Program} {e : Image} {r r' : PlainState} {cuts : ℕ → List Cut}
     reached : place_address e laid.to ≡ Some there.pc
     reached = laid.reaches ∙ ap (λ x. Some (add32 x laid.lower / 2 * 2)) (ap (λ a. (a + laid.upper * 2 ^ 12) % 2 ^ 32) (sym first.pc) ∙ sym held)
 
-    two_comes : IsNamed p (p.next r.core.place) → Comes p e cuts 2 z r'
+    two_comes : Named (p.next r.core.place) → Comes p Named e cuts 2 z r'
     two_comes named =
         let next = p.next r.core.place in
-        let ready : Ready p e (after_change (call_change laid.rd laid.temp laid.to next) r.core) there =
+        let ready : Ready p Named e (after_change (call_change laid.rd laid.temp laid.to next) r.core) there =
         ready_moved (ready_set second.alike.ready laid.rd link (code_word next) (omega arith)
-        (code_stands room next link (laid.next ∙ ap Some (sym link_is))) (code_names p next named)) laid.to _ _ in
-        comes_after from 2 there runs (subst (λ c. Ready p e (after_change c r.core) there) is.change ready)
+        (code_stands room next link (laid.next ∙ ap Some (sym link_is))) (code_names Named next named)) laid.to _ _ in
+        comes_after from 2 there runs (subst (λ c. Ready p Named e (after_change c r.core) there) is.change ready)
         (subst IsQuiet is.change (record { events = refl; taken = refl }))
         (ap (λ (c : Change). place_address e c.place) (sym is.change) ∙ reached)
 
-  pub call_comes : (laid : CallLaid p e r.core.place z.core.pc) → IsNamed p (p.next r.core.place) → Comes p e cuts 2 z r'
+  pub call_comes : (laid : CallLaid p e r.core.place z.core.pc) → Named (p.next r.core.place) → Comes p Named e cuts 2 z r'
   call_comes laid named =
       let does = ap (λ o. place_does p o r.core (p.next r.core.place)) (sym laid.item) ∙ from.step.does in
       two_comes laid (called laid.rd laid.temp laid.to (p.next r.core.place) from.step.change does) named

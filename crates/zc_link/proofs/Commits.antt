@@ -2,6 +2,7 @@
 -- instruction at pc then does.
 use Rattle.std.proofs.Common.{◌≡◌, ℕ, suc, List, Ok, ap, ◌∙◌}
 use Rattle.std.specs.Prelude.{All}
+use Rattle.zc_base.specs.declared.place.Place.{Place}
 use Rattle.interrupt_plan.specs.Plan.{Cut, IsCut}
 use Rattle.rv_decode.specs.declared.instr.Instr.{Instr}
 use Rattle.rv_decode.specs.Effect.{effect}
@@ -23,18 +24,18 @@ use Rattle.zc_link.specs.Sound.{Alike}
 use Rattle.zc_link.proofs.Cuts.{Spoiled, all_cuts_kept, all_dirtied_spoiled, spoiled_below, stack_within, unspoiled}
 
 -- the state after the interrupts before the commit of this instruction, and what the turn then is
-pub record AfterCuts (p : Program) (e : Image) (i : Instr) (size : ℕ) (s : PlainCore) (cuts : List Cut) (z : ZcState) : Type 0 where
+pub record AfterCuts (p : Program) (Named : Place → Type 0) (e : Image) (i : Instr) (size : ℕ) (s : PlainCore) (cuts : List Cut) (z : ZcState) : Type 0 where
   pub now : ZcCore
-  pub alike : Alike p e s now
+  pub alike : Alike p Named e s now
   pub pc : now.pc ≡ z.core.pc
   pub regs : now.regs ≡ z.core.regs
   pub turn : zc_turn cuts z ≡ committed (effect_step (effect i size now) now) (record z { core = now })
 
 pub after_cuts :
-    {p : Program} {e : Image} {s : PlainCore} {z : ZcState} {i : Instr} → Room p e → (cuts : List Cut) → All IsCut cuts → (at : OneAt e z.core.pc (Base i))
-    → Alike p e s z.core → AfterCuts p e i at.size s cuts z
+    {p : Program} {Named : Place → Type 0} {e : Image} {s : PlainCore} {z : ZcState} {i : Instr} → Room p e → (cuts : List Cut) → All IsCut cuts → (at : OneAt e z.core.pc (Base i))
+    → Alike p Named e s z.core → AfterCuts p Named e i at.size s cuts z
 unfolding zc_step
-after_cuts {p} {e} {s} {z} {i} room cuts are at al = record {
+after_cuts {p} {Named} {e} {s} {z} {i} room cuts are at al = record {
   now = all_cuts cuts z.core;
   alike = alike;
   pc = pc;
@@ -49,7 +50,7 @@ after_cuts {p} {e} {s} {z} {i} room cuts are at al = record {
         (λ c y is k. all_dirtied_spoiled p.map.stack_low z.core (λ a h. (stack_within room z.core al.extents a h).0) c.dirt y is k)
         cuts z.core are (unspoiled p.map.stack_low (reg_in z.core 2) z.core al.core.bytes)
 
-    alike : Alike p e s (all_cuts cuts z.core)
+    alike : Alike p Named e s (all_cuts cuts z.core)
     alike = spoiled_below room spoiled al
 
     pc : (all_cuts cuts z.core).pc ≡ z.core.pc

@@ -4,6 +4,7 @@ use Rattle.std.proofs.Common.{◌≡◌, ℕ, ◌+◌, ◌-◌, ◌<◌, ◌≤�
 use Rattle.std.specs.Prelude.{◌⊎◌, ◌&&◌, All}
 use Rattle.std.proofs.lemmas.Bool.{and_parts, cases_Bool, cases_lt, cond_both, ltb-true}
 use Rattle.std.proofs.lemmas.List.Elements.{All-head, All-tail}
+use Rattle.zc_base.specs.declared.place.Place.{Place}
 use Rattle.interrupt_plan.specs.Plan.{Cut, IsCut}
 use Rattle.rv_decode.specs.Memory.{cell_at, changed, extents_of, is_stack, lies_in, written}
 use Rattle.rv_decode.specs.State.{ZcCore, byte_in, reg_in}
@@ -97,8 +98,8 @@ module _ {p : Program} {e : Image} (room : Room p e) where
 
   -- whatever n is: the program must not know these bytes
   pub spoiled_alike :
-      {s : PlainCore} {y z : ZcCore} (n : ℕ) → n ≤ p.map.stack_high → ((a : ℕ) → p.map.stack_low ≤ a → a < n → cell_of s a ≡ Undef)
-      → Spoiled p.map.stack_low n y z → Alike p e s y → Alike p e s z
+      {Named : Place → Type 0} {s : PlainCore} {y z : ZcCore} (n : ℕ) → n ≤ p.map.stack_high → ((a : ℕ) → p.map.stack_low ≤ a → a < n → cell_of s a ≡ Undef)
+      → Spoiled p.map.stack_low n y z → Alike p Named e s y → Alike p Named e s z
   spoiled_alike {s} {y} {z} n high unknown sp al = record {
     ready = record {
       running = al.running;
@@ -138,5 +139,5 @@ module _ {p : Program} {e : Image} (room : Room p e) where
           (cases_lt a n)
 
   -- bytes below sp are not known
-  pub spoiled_below : {s : PlainCore} {y z : ZcCore} → Spoiled p.map.stack_low (reg_in y 2) y z → Alike p e s y → Alike p e s z
+  pub spoiled_below : {Named : Place → Type 0} {s : PlainCore} {y z : ZcCore} → Spoiled p.map.stack_low (reg_in y 2) y z → Alike p Named e s y → Alike p Named e s z
   spoiled_below {s} {y} {z} sp al = spoiled_alike (reg_in y 2) al.high al.below sp al

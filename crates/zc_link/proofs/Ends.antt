@@ -45,8 +45,8 @@ ends_stands {p} {A} {s} {s'} {z} end h = subst (λ x. Stands p A x z) (sym end.s
 })
 
 -- and states that are ready are alike
-pub ends_alike : {p : Program} {e : Image} {s s' : PlainCore} {z : ZcCore} → Ended p.map s s' → Ready p e s z → Alike p e s' z
-ends_alike {p} {e} {s} {s'} {z} end ready = subst (λ x. Alike p e x z) (sym end.state) (record {
+pub ends_alike : {p : Program} {Named : Place → Type 0} {e : Image} {s s' : PlainCore} {z : ZcCore} → Ended p.map s s' → Ready p Named e s z → Alike p Named e s' z
+ends_alike {p} {Named} {e} {s} {s'} {z} end ready = subst (λ x. Alike p Named e x z) (sym end.state) (record {
   ready = record {
     running = ready.running;
     going = ready.going;
@@ -56,7 +56,7 @@ ends_alike {p} {e} {s} {s'} {z} end ready = subst (λ x. Alike p e x z) (sym end
     memory = λ a m. settled_holds (λ c. ByteStands (value_in p (place_address e)) c (byte_in z a)) p.map end.sp s a tt (ready.memory a m);
     names = record {
       registers = ready.names.registers;
-      memory = λ a m. settled_holds (NamesByte p) p.map end.sp s a tt (ready.names.memory a m);
+      memory = λ a m. settled_holds (NamesByte Named) p.map end.sp s a tt (ready.names.memory a m);
     };
     lies = extents-changed (undefined_below p.map end.sp) s.memory ∙ ready.lies;
     extents = ready.extents;

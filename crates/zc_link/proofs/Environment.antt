@@ -3,6 +3,7 @@
 use Rattle.std.proofs.Common.{◌≡◌, ℕ, zero, suc, ◌+◌, ◌%◌, ◌^◌, ◌<◌, List, [], ◌∷◌, ◌++◌, length, map, take, drop, Option, Some, None, Ok, Bool, true, false, cond, refl, sym, ap, ◌∙◌, subst, inl, inr, arith, eqb}
 use Rattle.std.specs.Prelude.{◌||◌, ◌⊎◌}
 use Rattle.std.proofs.lemmas.Bool.{cond-true, eq-eqb, eqb-true, or_left, or_right}
+use Rattle.zc_base.specs.declared.place.Place.{Place}
 use Rattle.interrupt_plan.specs.Plan.{Cut}
 use Rattle.rv_decode.specs.declared.instr.Instr.TheVariants.{Ecall}
 use Rattle.rv_decode.specs.Memory.{extents_of, is_data, lies_in}
@@ -38,10 +39,10 @@ use Rattle.zc_link.proofs.Words.{number_is, number_names, number_stands}
 use Rattle.zc_link.proofs.Writes.{ready_changed}
 
 module _
-    {p : Program} {e : Image} {r r' : PlainState} {cuts : ℕ → List Cut} {z : ZcState} (room : Room p e) (from : FromSound p e r r' cuts z)
+    {p : Program} {Named : Place → Type 0} {e : Image} {r r' : PlainState} {cuts : ℕ → List Cut} {z : ZcState} (room : Room p e) (from : FromSound p Named e r r' cuts z)
     (laid : OpLaid p e r.core.place z.core.pc Ecall) where
   -- the state that asks
-  w : AfterCuts p e laid.laid.here laid.laid.at.size r.core (cuts 0) z
+  w : AfterCuts p Named e laid.laid.here laid.laid.at.size r.core (cuts 0) z
   w = after_cuts room (cuts 0) (from.are 0) laid.laid.at from.sound.alike
 
   -- the turn is the environment's answer
@@ -63,7 +64,7 @@ module _
   -- the answer to it ends both
   exit_over :
       (status : ℕ) → called w.now ≡ Wants (call.Exit status) → Ended p.map (after_change (exit_change status) r.core) r'.core
-      → r'.events ≡ r.events ++ Exit status ∷ [] → Comes p e cuts 1 z r'
+      → r'.events ≡ r.events ++ Exit status ∷ [] → Comes p Named e cuts 1 z r'
   exit_over status wants end events =
       let z1 : ZcState = record z { core = record w.now { exit = Some status; commits = w.now.commits + 1 }; events = z.events ++ Exit status ∷ [] } in
       record {
@@ -82,7 +83,7 @@ module _
   wants_exit : (a0 : ℕ) → reg_in w.now 17 ≡ 93 → a0 ≡ reg_in w.now 10 → called w.now ≡ Wants (call.Exit (a0 % 256))
   wants_exit a0 a7 is = cond-true (eqb (reg_in w.now 17) 93) _ _ (eq-eqb (reg_in w.now 17) 93 a7) ∙ ap (λ n. Wants (call.Exit (n % 256))) (sym is)
 
-  exit_comes : (o : Option ℕ) → number_of (reg_of r.core 10) ≡ o → reg_in w.now 17 ≡ 93 → exit_does o r.core.place ≡ Goes from.step.change → Comes p e cuts 1 z r'
+  exit_comes : (o : Option ℕ) → number_of (reg_of r.core 10) ≡ o → reg_in w.now 17 ≡ 93 → exit_does o r.core.place ≡ Goes from.step.change → Comes p Named e cuts 1 z r'
   exit_comes None is a7 h = absurd cc
   exit_comes (Some a0) is a7 h =
       let made : exit_change (a0 % 256) ≡ from.step.change = cc in
@@ -102,7 +103,7 @@ module _
   answer_comes :
       (c : Change) (event : Event) (core : ZcCore) (input : List ℕ) → c ≡ from.step.change → c.place ≡ p.next r.core.place → c.events ≡ event ∷ []
       → zc_turn (cuts 0) z ≡ Ok (record { core = core; input = input; events = z.events ++ event ∷ [] })
-      → core.pc ≡ (w.now.pc + 4) % 2 ^ 32 → drop c.taken r.core.input ≡ input → Ready p e (after_change c r.core) core → Comes p e cuts 1 z r'
+      → core.pc ≡ (w.now.pc + 4) % 2 ^ 32 → drop c.taken r.core.input ≡ input → Ready p Named e (after_change c r.core) core → Comes p Named e cuts 1 z r'
   answer_comes c event core input made place events turn pc left ready =
       let end : Ended p.map (after_change c r.core) r'.core = subst (λ x. Ended p.map (after_change x r.core) r'.core) (sym made) from.step.end in
       let z1 : ZcState = record { core = core; input = input; events = z.events ++ event ∷ [] } in
@@ -192,7 +193,7 @@ module _
       let found = ap (λ n. eqb n 0 || lies_in is_data (extents_of w.now.memory) (reg_in w.now 11) n) (sym held.len) ∙ buffer_found c.at c.len buffer in
       rw (a7, input, found) (ap (λ n. Wants (call.Read (reg_in w.now 11) n)) (sym held.len))
 
-  read_comes : reg_in w.now 17 ≡ 63 → with_buffer is_input r.core (read_does r.core (p.next r.core.place)) ≡ Goes from.step.change → Comes p e cuts 1 z r'
+  read_comes : reg_in w.now 17 ≡ 63 → with_buffer is_input r.core (read_does r.core (p.next r.core.place)) ≡ Goes from.step.change → Comes p Named e cuts 1 z r'
   read_comes a7 h =
       let b = has_buffer is_input (read_does r.core (p.next r.core.place)) h in
       let a = b.arguments in
@@ -206,7 +207,7 @@ module _
       let core = has_read bytes w.now in
       let low : n < 2 ^ 32 = omega (arith, w.alike.core.words 12, b.held.len) in
       let number : WordStands (value_in p (place_address e)) (number_word n) (length bytes) = subst (WordStands (value_in p (place_address e)) (number_word n)) (sym t.count) (number_stands (value_in p (place_address e)) n) in
-      let ready = ready_moved (ready_fed (ready_set (ready_changed room _ _ (read_agrees room a.at to a.len bytes b.buffer t.short (t.are w.alike.plain.input)) w.alike.ready) 10 (length bytes) (number_word n) (omega (arith, low, t.count)) number (number_names p n)) n) (p.next s.place) _ _ in
+      let ready = ready_moved (ready_fed (ready_set (ready_changed room _ _ (read_agrees room a.at to a.len bytes b.buffer t.short (t.are w.alike.plain.input)) w.alike.ready) 10 (length bytes) (number_word n) (omega (arith, low, t.count)) number (number_names Named n)) n) (p.next s.place) _ _ in
       answer_comes c (Read bytes) core (drop a.len z.input) made refl refl
       (asked (call.Read to a.len) (wants_read a b.held a7 b.is_known b.buffer) ∙ ap (λ l. Ok (record { core = has_read l w.now; input = drop a.len z.input; events = z.events ++ Read l ∷ [] })) (sym t.same))
       refl t.rest ready
@@ -219,13 +220,13 @@ module _
       let found = ap (λ n. eqb n 0 || lies_in is_data (extents_of w.now.memory) (reg_in w.now 11) n) (sym held.len) ∙ buffer_found c.at c.len buffer in
       rw (a7, output, found) (λ i. Wants (call.Write (sym held.a0 i) (reg_in w.now 11) (sym held.len i)))
 
-  write_comes : reg_in w.now 17 ≡ 64 → with_buffer is_output r.core (write_does r.core (p.next r.core.place)) ≡ Goes from.step.change → Comes p e cuts 1 z r'
+  write_comes : reg_in w.now 17 ≡ 64 → with_buffer is_output r.core (write_does r.core (p.next r.core.place)) ≡ Goes from.step.change → Comes p Named e cuts 1 z r'
   write_comes a7 h =
       let b = has_buffer is_output (write_does r.core (p.next r.core.place)) h in
       by b.arguments b.held b.is_known b.buffer (numbers_at r.core.memory b.arguments.at b.arguments.len) refl b.does
     where
       by : (a : Arguments) → AreHeld a → is_output a.a0 ≡ true → IsBuffer p a.at (reg_in w.now 11) a.len → (o : Option (List ℕ)) → numbers_at r.core.memory a.at a.len ≡ o
-          → output_does o (p.next r.core.place) a ≡ Goes from.step.change → Comes p e cuts 1 z r'
+          → output_does o (p.next r.core.place) a ≡ Goes from.step.change → Comes p Named e cuts 1 z r'
       by a held known buffer None is g = absurd cc
       by a held known buffer (Some bytes) is g =
           let V = value_in p (place_address e) in
@@ -233,26 +234,26 @@ module _
           let made : c ≡ from.step.change = cc in
           let same : bytes ≡ bytes_at w.now (reg_in w.now 11) a.len = numbers_are room w.alike.ready a.at (reg_in w.now 11) a.len bytes buffer is in
           let number : WordStands V (number_word a.len) (reg_in w.now 12) = subst (λ n. WordStands V (number_word n) (reg_in w.now 12)) (sym held.len) (number_stands V (reg_in w.now 12)) in
-          let ready = ready_moved (ready_set w.alike.ready 10 (reg_in w.now 12) (number_word a.len) (w.alike.core.words 12) number (number_names p a.len)) (p.next r.core.place) _ _ in
+          let ready = ready_moved (ready_set w.alike.ready 10 (reg_in w.now 12) (number_word a.len) (w.alike.core.words 12) number (number_names Named a.len)) (p.next r.core.place) _ _ in
           answer_comes c (Write a.a0 bytes) (has_written w.now) z.input made refl refl
           (asked (call.Write a.a0 (reg_in w.now 11) a.len) (wants_write a held a7 known buffer) ∙ ap (λ l. Ok (record { core = has_written w.now; input = z.input; events = z.events ++ Write a.a0 l ∷ [] })) (sym same))
           refl from.sound.input ready
 
   -- ---- all calls, by a7
 
-  pub call_comes : call_does (number_of (reg_of r.core 17)) r.core (p.next r.core.place) ≡ Goes from.step.change → Comes p e cuts 1 z r'
+  pub call_comes : call_does (number_of (reg_of r.core 17)) r.core (p.next r.core.place) ≡ Goes from.step.change → Comes p Named e cuts 1 z r'
   call_comes h = known (number_of (reg_of r.core 17)) refl h
     where
       by_number :
           (a7 : ℕ) (x y v : Bool) → a7 ≡ reg_in w.now 17 → eqb a7 93 ≡ x → eqb a7 63 ≡ y → eqb a7 64 ≡ v
           → cond x (exit_does (number_of (reg_of r.core 10)) r.core.place)
           (cond y (with_buffer is_input r.core (read_does r.core (p.next r.core.place)))
-          (cond v (with_buffer is_output r.core (write_does r.core (p.next r.core.place))) (Stops UnknownCall))) ≡ Goes from.step.change → Comes p e cuts 1 z r'
+          (cond v (with_buffer is_output r.core (write_does r.core (p.next r.core.place))) (Stops UnknownCall))) ≡ Goes from.step.change → Comes p Named e cuts 1 z r'
       by_number a7 true y v is exit read write g = exit_comes (number_of (reg_of r.core 10)) refl (sym is ∙ eqb-true a7 93 exit) g
       by_number a7 false true v is exit read write g = read_comes (sym is ∙ eqb-true a7 63 read) g
       by_number a7 false false true is exit read write g = write_comes (sym is ∙ eqb-true a7 64 write) g
       by_number a7 false false false is exit read write g = absurd cc
 
-      known : (o : Option ℕ) → number_of (reg_of r.core 17) ≡ o → call_does o r.core (p.next r.core.place) ≡ Goes from.step.change → Comes p e cuts 1 z r'
+      known : (o : Option ℕ) → number_of (reg_of r.core 17) ≡ o → call_does o r.core (p.next r.core.place) ≡ Goes from.step.change → Comes p Named e cuts 1 z r'
       known None is g = absurd cc
       known (Some a7) is g = by_number a7 (eqb a7 93) (eqb a7 63) (eqb a7 64) (holds 17 a7 (omega arith) is) refl refl refl g

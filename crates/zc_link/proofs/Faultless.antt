@@ -17,7 +17,7 @@ use Rattle.psabi_sym.specs.Listed.{ListedSection, section_at, sections_before}
 use Rattle.psabi_sym.specs.declared.target.Target.{Target}
 use Rattle.psabi_sym.specs.declared.target.Target.TheVariants.{Code, Number, Absent, Nowhere}
 use Rattle.psabi_sym.proofs.FaultLaws.{neither}
-use Rattle.block_cut.specs.Faults.{entry_fault, first_fault, if_so, is_astray, is_lonely, is_lost, range_fault, reloc_fault, relocs_fault, section_fault}
+use Rattle.block_cut.specs.Faults.{entry_fault, first_fault, if_so, has_bad_target, lacks_pcrel_hi, is_bad_target, range_fault, reloc_fault, relocs_fault, section_fault}
 use Rattle.block_cut.specs.Items.{is_target_at, target_of}
 use Rattle.block_cut.specs.Relocs.{is_bad_kind, is_bad_place, is_ignored, is_transfer, reloc_on}
 use Rattle.block_cut.proofs.ListedLaws.{cut_at, listed}
@@ -86,16 +86,16 @@ all_none inputs none =
 pub record IsGood (inputs : ParsedInputs) (l : ListedSection) (r : Reloc) : Type 0 where
   pub known : is_bad_kind l.section (kind_of r.kind) ≡ false
   pub placed : is_bad_place l.section r ≡ false
-  pub paired : is_lonely inputs l r ≡ false
-  pub leads : is_astray inputs l r ≡ false
+  pub paired : lacks_pcrel_hi inputs l r ≡ false
+  pub leads : has_bad_target inputs l r ≡ false
 
 pub good : (inputs : ParsedInputs) (l : ListedSection) (r : Reloc) → reloc_fault inputs l r ≡ None → IsGood inputs l r
 good inputs l r none =
     let n = r.offset in
     let one = neither (if_so (is_bad_kind l.section (kind_of r.kind)) (RelocKind l.index n)) _ none in
     let two = neither (if_so (is_bad_place l.section r) (RelocPlace l.index n)) _ one.1 in
-    let three = neither (if_so (is_lonely inputs l r) (LoPair l.index n)) _ two.1 in
-    let four = neither (if_so (is_astray inputs l r) (BadTarget l.index n)) _ three.1 in
+    let three = neither (if_so (lacks_pcrel_hi inputs l r) (LoPair l.index n)) _ two.1 in
+    let four = neither (if_so (has_bad_target inputs l r) (BadTarget l.index n)) _ three.1 in
     record { known = not_so _ _ one.0; placed = not_so _ _ two.0; paired = not_so _ _ three.0; leads = not_so _ _ four.0 }
 
 module _ (inputs : Inputs) (none : first_fault inputs ≡ None) where
@@ -132,7 +132,7 @@ module _ (p : ParsedInputs) (A : Place → Option ℕ) (listed : (q : Place) →
       by (Some b) e h = (b, e)
 
   -- what a relocation that asks for something leads to has a value
-  pub has_value : (t : Target) (transfers : Bool) → is_lost p.objects transfers t ≡ false → HasValue A t
+  pub has_value : (t : Target) (transfers : Bool) → is_bad_target p.objects transfers t ≡ false → HasValue A t
   has_value (Code to) transfers h = target_listed to (is_true (is_target_at p.objects to) h)
     where
       is_true : (b : Bool) → not b ≡ false → b ≡ true
@@ -145,4 +145,4 @@ module _ (p : ParsedInputs) (A : Place → Option ℕ) (listed : (q : Place) →
   pub reloc_value : (l : ListedSection) (r : Reloc) → is_ignored (kind_of r.kind) ≡ false → IsGood p l r → HasValue A (target_of p l.object r)
   reloc_value l r asks is =
       has_value (target_of p l.object r) (is_transfer (kind_of r.kind))
-      (ap (λ b. not b && is_lost p.objects (is_transfer (kind_of r.kind)) (target_of p l.object r)) (sym asks) ∙ is.leads)
+      (ap (λ b. not b && is_bad_target p.objects (is_transfer (kind_of r.kind)) (target_of p l.object r)) (sym asks) ∙ is.leads)

@@ -3,16 +3,14 @@ use Rattle.std.proofs.Common.{◌≡◌, ◌≢◌, ℕ, ℤ, pos, negsuc, ◌-�
 use Rattle.std.specs.Prelude.{IfSome, IsTrue}
 use Rattle.std.specs.Option.{is_some}
 use Rattle.std.proofs.lemmas.Bool.{and_from, and_parts, eqb-true, lt-ltb, ltb-true}
-use Rattle.psabi_reloc.specs.Kinds.{is_branch, is_jal}
-use Rattle.psabi_reloc.specs.Patched.{with_distance}
 use Rattle.psabi_reloc.specs.Reaches.{branch_reach, is_even_of, jal_reach}
 use Rattle.rv_decode.specs.Bits.{FitsIn, IsEven}
 use Rattle.rv_decode.specs.declared.instr.Instr.{Instr}
-use Rattle.rv_decode.specs.declared.instr.Instr.TheVariants.{Upper, Jal, Jalr, Branch, Load, Store, WithImm, WithReg, Fence, Ecall, Ebreak, Csrrw}
+use Rattle.rv_decode.specs.declared.instr.Instr.TheVariants.{Branch, Jal}
+use Rattle.rv_decode.specs.declared.instr.BranchOp.{BranchOp}
 use Rattle.shrink_layout.specs.Pieces.{is_short}
 use Rattle.zc_decode.specs.declared.short.Short.TheVariants.{Base}
 use Rattle.zc_encode.specs.Halves.{encoded16}
-use Rattle.zca_zcb_pass.specs.Forms.{IsBranch, IsJump}
 use Rattle.zca_zcb_pass.proofs.ReachLaws.{branch_reaches, jump_reaches}
 use Rattle.zc_link.specs.LaidOut.{HasBranchSize, HasCallSize, HasJumpSize}
 
@@ -40,63 +38,34 @@ some_short None short each = absurd cc
 some_short (Some half) short each = each
 
 -- a branch that has one at a distance reaches
-pub short_branch : (i : Instr) (d : ℤ) → IsBranch i → IsTrue (is_short (with_distance i d)) → branch_reach d ≡ true
-short_branch i d branch short =
-    even_more 9 13 d (omega arith) (some_short (encoded16 (Base (with_distance i d))) short (branch_reaches i d (encoded16 (Base (with_distance i d))) refl branch))
+pub short_branch : (op : BranchOp) (first second : ℕ) (d : ℤ) → IsTrue (is_short (Branch op first second d)) → branch_reach d ≡ true
+short_branch op first second d short =
+    let i : Instr = Branch op first second d in
+    even_more 9 13 d (omega arith) (some_short (encoded16 (Base i)) short (branch_reaches i d (encoded16 (Base i)) refl tt))
 
-pub short_jump : (i : Instr) (d : ℤ) → IsJump i → IsTrue (is_short (with_distance i d)) → jal_reach d ≡ true
-short_jump i d jump short =
-    even_more 12 21 d (omega arith) (some_short (encoded16 (Base (with_distance i d))) short (jump_reaches i d (encoded16 (Base (with_distance i d))) refl jump))
-
--- ---- kinds
-
--- a branch stays one with another distance
-pub branch_is : (j : Instr) (d : ℤ) → is_branch (Some j) ≡ true → IsBranch (with_distance j d)
-branch_is (Branch op first second distance) d h = tt
-branch_is (Upper op rd imm) d h = absurd cc
-branch_is (Jal rd distance) d h = absurd cc
-branch_is (Jalr rd base imm) d h = absurd cc
-branch_is (Load op rd base imm) d h = absurd cc
-branch_is (Store op source base imm) d h = absurd cc
-branch_is (WithImm op rd first imm) d h = absurd cc
-branch_is (WithReg op rd first second) d h = absurd cc
-branch_is (Fence rest) d h = absurd cc
-branch_is Ecall d h = absurd cc
-branch_is Ebreak d h = absurd cc
-branch_is (Csrrw rd source) d h = absurd cc
-
-pub jump_is : (j : Instr) (d : ℤ) → is_jal (Some j) ≡ true → IsJump (with_distance j d)
-jump_is (Jal rd distance) d h = tt
-jump_is (Upper op rd imm) d h = absurd cc
-jump_is (Branch op first second distance) d h = absurd cc
-jump_is (Jalr rd base imm) d h = absurd cc
-jump_is (Load op rd base imm) d h = absurd cc
-jump_is (Store op source base imm) d h = absurd cc
-jump_is (WithImm op rd first imm) d h = absurd cc
-jump_is (WithReg op rd first second) d h = absurd cc
-jump_is (Fence rest) d h = absurd cc
-jump_is Ecall d h = absurd cc
-jump_is Ebreak d h = absurd cc
-jump_is (Csrrw rd source) d h = absurd cc
+pub short_jump : (rd : ℕ) (d : ℤ) → IsTrue (is_short (Jal rd d)) → jal_reach d ≡ true
+short_jump rd d short =
+    let i : Instr = Jal rd d in
+    even_more 12 21 d (omega arith) (some_short (encoded16 (Base i)) short (jump_reaches i d (encoded16 (Base i)) refl tt))
 
 -- ---- sizes
 
 -- a branch in less than eight bytes reaches by itself, and in eight by its jump
-pub branch_far : (i : Instr) (n : ℕ) (d : ℤ) → IsBranch i → n ≢ 8 → HasBranchSize i n d → branch_reach d ≡ true
-branch_far i n d branch other (inl four) = four.1
-branch_far i n d branch other (inr (inl two)) = short_branch i d branch two.1
-branch_far i n d branch other (inr (inr eight)) = absurd (other eight.0)
+pub branch_far : (op : BranchOp) (first second n : ℕ) (d : ℤ) → n ≢ 8 → HasBranchSize (Branch op first second) n d → branch_reach d ≡ true
+branch_far op first second n d other (inl four) = four.1
+branch_far op first second n d other (inr (inl two)) = short_branch op first second d two.1
+branch_far op first second n d other (inr (inr eight)) = absurd (other eight.0)
 
-pub branch_long : (i : Instr) (n : ℕ) (d : ℤ) → n ≡ 8 → HasBranchSize i n d → jal_reach (d -ℤ pos 4) ≡ true
-branch_long i n d is (inl four) = absurd (omega (arith, is, four.0))
-branch_long i n d is (inr (inl two)) = absurd (omega (arith, is, two.0))
-branch_long i n d is (inr (inr eight)) = eight.1
+pub branch_long : (branch : ℤ → Instr) (n : ℕ) (d : ℤ) → n ≡ 8 → HasBranchSize branch n d → jal_reach (d -ℤ pos 4) ≡ true
+branch_long branch n d is (inl four) = absurd (omega (arith, is, four.0))
+branch_long branch n d is (inr (inl two)) = absurd (omega (arith, is, two.0))
+branch_long branch n d is (inr (inr eight)) = eight.1
 
 -- a jump reaches
-pub jump_far : (i : Instr) (n : ℕ) (d : ℤ) → IsJump i → HasJumpSize i n d → jal_reach d ≡ true
-jump_far i n d jump (inl four) = four.1
-jump_far i n d jump (inr two) = short_jump i d jump two.1
+pub jump_far : (rd n : ℕ) (d : ℤ) → HasJumpSize rd n d → jal_reach d ≡ true
+jump_far rd n d (inl four) = four.1
+jump_far rd n d (inr two) = short_jump rd d two.1
 
 pub call_far : (rd n : ℕ) (d : ℤ) → n ≢ 8 → HasCallSize rd n d → jal_reach d ≡ true
 call_far rd n d other (inl eight) = absurd (other eight)
-call_far rd n d other (inr size) = jump_far (Jal rd (pos 0)) n d tt size
+call_far rd n d other (inr size) = jump_far rd n d size

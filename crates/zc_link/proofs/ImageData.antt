@@ -23,7 +23,7 @@ use Rattle.psabi_sym.specs.declared.target.Target.{Target}
 use Rattle.psabi_sym.specs.declared.target.Target.TheVariants as target
 use Rattle.psabi_sym.proofs.ContentLaws.{length-data_contents, length-overlaid}
 use Rattle.block_cut.specs.DataWords.{data_words}
-use Rattle.block_cut.specs.Faults.{first_fault, is_lost}
+use Rattle.block_cut.specs.Faults.{first_fault, is_bad_target}
 use Rattle.block_cut.specs.Items.{code_at, is_end_at, is_start_at, is_target_at, starts_on, target_of}
 use Rattle.block_cut.specs.Leaders.{is_leader_at, is_place, reloc_leads, section_leads}
 use Rattle.block_cut.specs.Relocs.{is_ignored, is_transfer, is_word}
@@ -33,7 +33,6 @@ use Rattle.block_cut.specs.declared.data_word.DataWord.{DataWord}
 use Rattle.sym_machine.specs.AddressParts.{target_bytes}
 use Rattle.sym_machine.specs.Objects.{data_bytes, program_of, unfilled_bytes}
 use Rattle.sym_machine.specs.Objects as objects
-use Rattle.sym_machine.specs.Program.{Program}
 use Rattle.sym_machine.specs.declared.word.SymByte.{SymByte}
 use Rattle.sym_machine.specs.declared.word.SymByte.TheVariants.{Num, Undef}
 use Rattle.sym_machine.specs.declared.word.Value.{Value}
@@ -118,10 +117,10 @@ module _ (p : ParsedInputs) (A : Place → Option ℕ) where
 
 -- ---- bytes that stand for others
 
-module _ (p : ParsedInputs) (A : Place → Option ℕ) (program : Program) (V : Value → Option ℕ) (place : (q : Place) → V (value.Code q) ≡ A q) where
+module _ (p : ParsedInputs) (A : Place → Option ℕ) (Named : Place → Type 0) (V : Value → Option ℕ) (place : (q : Place) → V (value.Code q) ≡ A q) where
   -- a byte stands for another, and names what a program may name
   abbrev Fine : SymByte → ℕ → Type 0
-  Fine s b = ByteStands V s b × NamesByte program s
+  Fine s b = ByteStands V s b × NamesByte Named s
 
   -- two lists, byte by byte
   pub record AreFine (ss : List SymByte) (bs : List ℕ) : Type 0 where
@@ -146,7 +145,7 @@ module _ (p : ParsedInputs) (A : Place → Option ℕ) (program : Program) (V : 
       byte (suc (suc (suc zero))) lt = (omega arith, tt)
       byte (suc (suc (suc (suc k)))) lt = absurd (omega arith)
 
-  code_fine : (x : ℕ) (q : Place) → A q ≡ Some x → IsNamed program q → AreFine (target_bytes (target.Code q)) (word_bytes x)
+  code_fine : (x : ℕ) (q : Place) → A q ≡ Some x → Named q → AreFine (target_bytes (target.Code q)) (word_bytes x)
   code_fine x q at named = record { same = refl; each = byte }
     where
       byte : (k : ℕ) → k < 4 → Fine (get_or (target_bytes (target.Code q)) k Undef) (get_or (word_bytes x) k 0)
@@ -156,7 +155,7 @@ module _ (p : ParsedInputs) (A : Place → Option ℕ) (program : Program) (V : 
       byte (suc (suc (suc zero))) lt = ((x, place q ∙ at, omega arith), named)
       byte (suc (suc (suc (suc k)))) lt = absurd (omega arith)
 
-  target_fine : (t : Target) → HasValue A t → NamesTarget program t → AreFine (target_bytes t) (word_bytes (unwrap_or (target_value A t) 0))
+  target_fine : (t : Target) → HasValue A t → NamesTarget Named t → AreFine (target_bytes t) (word_bytes (unwrap_or (target_value A t) 0))
   target_fine (target.Code q) has named = code_fine (unwrap_or (A q) 0) q (has.1 ∙ ap Some (sym (ap (λ o. unwrap_or o 0) has.1))) named
   target_fine (target.Number n) has named = number_fine n n refl
   target_fine (target.Absent n) has named = number_fine n n refl
@@ -198,7 +197,7 @@ module _ (p : ParsedInputs) (A : Place → Option ℕ) (program : Program) (V : 
   pub record IsFineWord (w : DataWord) : Type 0 where
     pub within : IsWithin p w
     pub has : HasValue A w.target
-    pub named : NamesTarget program w.target
+    pub named : NamesTarget Named w.target
 
   filled_fine : (ws : List DataWord) (ss : List SymByte) (bs : List ℕ) → All IsFineWord ws → data_file_end p - p.map.data_low ≤ length bs → AreFine ss bs
       → AreFine (fold (objects.with_word p) ss ws) (fold (with_data_word p A) bs ws)
@@ -219,26 +218,25 @@ module _ (inputs : Inputs) (none : first_fault inputs ≡ None) where
   p0 = parsed inputs
 
   -- a place that leads a basic block is one that a program may name
-  named : (to : Place) → is_target_at p0.objects to ≡ true → is_leader_at p0 to ≡ true → IsNamed (program_of p0) to
-  unfolding program_of
+  named : (to : Place) → is_target_at p0.objects to ≡ true → is_leader_at p0 to ≡ true → IsNamed p0 to
   named to target leader = by (or_cases (is_start_at p0.objects to) (is_end_at p0.objects to) target)
     where
-      starts : (o : Option SectionParts) → code_at p0.objects to ≡ o → option_map_or (λ s. starts_on s to.offset) o false ≡ true → IsNamed (program_of p0) to
+      starts : (o : Option SectionParts) → code_at p0.objects to ≡ o → option_map_or (λ s. starts_on s to.offset) o false ≡ true → IsNamed p0 to
       starts None at h = absurd cc
       starts (Some s) at h = inl (rw (item_there p0 to s at h) refl, rw leader refl)
 
-      by : (is_start_at p0.objects to ≡ true) ⊎ (is_end_at p0.objects to ≡ true) → IsNamed (program_of p0) to
+      by : (is_start_at p0.objects to ≡ true) ⊎ (is_end_at p0.objects to ≡ true) → IsNamed p0 to
       by (inl start) = starts (code_at p0.objects to) refl start
       by (inr end) = inr (rw end refl)
 
   -- where a relocation of data leads is such a place
   reloc_named : (o i : ℕ) (s : SectionParts) (r : Reloc) (to : Place) → section_at p0.objects o i ≡ Some s → is_ignored (kind_of r.kind) ≡ false → IsGood p0 (listed o i s) r
-      → ((test : Reloc → Bool) → test r ≡ true → list_any test s.relocs ≡ true) → target_of p0 o r ≡ target.Code to → IsNamed (program_of p0) to
+      → ((test : Reloc → Bool) → test r ≡ true → list_any test s.relocs ≡ true) → target_of p0 o r ≡ target.Code to → IsNamed p0 to
   unfolding is_leader_at
   reloc_named o i s r to found asks fine among leads =
       let cut = cut_at p0.objects o i s found in
       let lost : not (is_target_at p0.objects to) ≡ false =
-      ap (is_lost p0.objects (is_transfer (kind_of r.kind))) (sym leads) ∙ ap (λ b. not b && is_lost p0.objects (is_transfer (kind_of r.kind)) (target_of p0 o r)) (sym asks) ∙ fine.leads in
+      ap (is_bad_target p0.objects (is_transfer (kind_of r.kind))) (sym leads) ∙ ap (λ b. not b && is_bad_target p0.objects (is_transfer (kind_of r.kind)) (target_of p0 o r)) (sym asks) ∙ fine.leads in
       let mine : reloc_leads p0 to o r ≡ true = (λ j. not (asks j) && is_place to (leads j)) ∙ same_place-refl to in
       let own : section_leads p0 to (listed o i s) ≡ true = among (reloc_leads p0 to o) mine in
       let some : list_any (section_leads p0 to) (all_sections p0.objects) ≡ true =
@@ -249,15 +247,15 @@ module _ (inputs : Inputs) (none : first_fault inputs ≡ None) where
       not_false true h = refl
       not_false false h = absurd cc
 
-  target_named : (t : Target) → ((to : Place) → t ≡ target.Code to → IsNamed (program_of p0) to) → NamesTarget (program_of p0) t
+  target_named : (t : Target) → ((to : Place) → t ≡ target.Code to → IsNamed p0 to) → NamesTarget (IsNamed p0) t
   target_named (target.Code to) each = each to refl
   target_named (target.Number n) each = tt
   target_named (target.Absent n) each = tt
   target_named target.Nowhere each = tt
 
   module _ (A : Place → Option ℕ) (lists : (q : Place) → is_some (A q) ≡ is_target_at p0.objects q) (V : Value → Option ℕ) (place : (q : Place) → V (value.Code q) ≡ A q) where
-    words_fine : All (IsFineWord p0 A (program_of p0) V place) (data_words p0)
-    words_fine = all_words inputs none (IsFineWord p0 A (program_of p0) V place) (λ o i at s r found content address word fine among.
+    words_fine : All (IsFineWord p0 A (IsNamed p0) V place) (data_words p0)
+    words_fine = all_words inputs none (IsFineWord p0 A (IsNamed p0) V place) (λ o i at s r found content address word fine among.
         let within = content_within p0 o i at s found content address in
         let field = word_field p0 (listed o i s) r word fine in
         let asks = word_asks (kind_of r.kind) word in
@@ -268,30 +266,19 @@ module _ (inputs : Inputs) (none : first_fault inputs ≡ None) where
         })
       where
         word_asks : (k : Option RelocKind) → is_word k ≡ true → is_ignored k ≡ false
-        word_asks None h = refl
         word_asks (Some kind.Ignored) h = absurd cc
-        word_asks (Some kind.Word) h = refl
-        word_asks (Some kind.Branch) h = refl
-        word_asks (Some kind.Jal) h = refl
-        word_asks (Some kind.Call) h = refl
-        word_asks (Some kind.PcrelHi20) h = refl
-        word_asks (Some kind.PcrelLo12I) h = refl
-        word_asks (Some kind.PcrelLo12S) h = refl
-        word_asks (Some kind.Hi20) h = refl
-        word_asks (Some kind.Lo12I) h = refl
-        word_asks (Some kind.Lo12S) h = refl
-        word_asks (Some kind.Align) h = refl
+        word_asks other h = refl
 
     -- the program's bytes of data stand for the image's
-    pub data_fine : AreFine p0 A (program_of p0) V place (data_bytes p0) (image_data p0 A ++ replicate (data_end p0 - data_file_end p0) 0)
+    pub data_fine : AreFine p0 A (IsNamed p0) V place (data_bytes p0) (image_data p0 A ++ replicate (data_end p0 - data_file_end p0) 0)
     unfolding data_bytes image_data
     data_fine =
         let zeros = replicate (data_end p0 - data_file_end p0) 0 in
         let cs = data_contents p0 in
         let size = length-data_contents p0 in
         let whole : fold (with_data_word p0 A) cs (data_words p0) ++ zeros ≡ fold (with_data_word p0 A) (cs ++ zeros) (data_words p0) = filled_append p0 A (data_words p0) cs zeros (words_within inputs none) size in
-        subst (AreFine p0 A (program_of p0) V place (fold (objects.with_word p0) (unfilled_bytes p0) (data_words p0))) (sym whole)
-        (filled_fine p0 A (program_of p0) V place (data_words p0) (map Num (cs ++ zeros)) (cs ++ zeros) words_fine (omega (arith, size, length-append cs zeros)) (numbers_fine p0 A (program_of p0) V place (cs ++ zeros)))
+        subst (AreFine p0 A (IsNamed p0) V place (fold (objects.with_word p0) (unfilled_bytes p0) (data_words p0))) (sym whole)
+        (filled_fine p0 A (IsNamed p0) V place (data_words p0) (map Num (cs ++ zeros)) (cs ++ zeros) words_fine (omega (arith, size, length-append cs zeros)) (numbers_fine p0 A (IsNamed p0) V place (cs ++ zeros)))
 
 -- ---- in the code
 

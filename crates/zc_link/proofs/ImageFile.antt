@@ -46,7 +46,7 @@ use Rattle.zc_link.specs.Pace.{listed_size, pace_in}
 use Rattle.zc_link.specs.Places.{address_in}
 use Rattle.zc_link.specs.Preserves.{KeepsStep, Preserves}
 use Rattle.zc_link.specs.Room.{Room}
-use Rattle.zc_link.specs.Sound.{NamesByte}
+use Rattle.zc_link.specs.Sound.{IsNamed, NamesByte}
 use Rattle.zc_link.specs.Standing.{IsReady}
 use Rattle.zc_link.specs.Stands.{ByteStands}
 use Rattle.zc_link.specs.Values.{target_value, value_in}
@@ -106,8 +106,8 @@ copied_item A B items own bytes a n (Hi i t) same form w = tt
 copied_item A B items own bytes a n (Lo i t) same form w = tt
 copied_item A B items own bytes a n (PcHi i t) same form w = tt
 copied_item A B items own bytes a n (PcLo i from) same form w = tt
-copied_item A B items own bytes a n (Branch i to) same form w = tt
-copied_item A B items own bytes a n (Jump i to) same form w = tt
+copied_item A B items own bytes a n (Branch op first second to) same form w = tt
+copied_item A B items own bytes a n (Jump rd to) same form w = tt
 copied_item A B items own bytes a n (Call rd temp to) same form w = tt
 copied_item A B items own bytes a n (Align k) same form w = tt
 copied_item A B items own bytes a n (Word t) same form w = (w.value, ap (λ f. target_value f t) (sym same) ∙ w.is, ap bytes (sym form) ∙ w.holds)
@@ -214,7 +214,7 @@ module _ (inputs : Inputs) (ready : IsReady inputs) (A : Place → Option ℕ) (
   place_value q = λ j. listed_are j q
 
   -- each byte of the program's data stands for the image's
-  fine : AreFine p3 A program V place_value (data_bytes p3) (memory.data_cells parts)
+  fine : AreFine p3 A (IsNamed p3) V place_value (data_bytes p3) (memory.data_cells parts)
   fine = data_fine inputs ready.faultless A lies.listed V place_value
 
   -- an address of data is that of a byte
@@ -230,9 +230,9 @@ module _ (inputs : Inputs) (ready : IsReady inputs) (A : Place → Option ℕ) (
       (fine.each (a - inputs.map.data_low) (cell_within a low high)).0) tt
 
   -- and names what the program may name
-  names : (a : ℕ) → NamesByte program (cell_at Undef (first_memory program) a)
+  names : (a : ℕ) → NamesByte (IsNamed p3) (cell_at Undef (first_memory program) a)
   unfolding program_of
-  names a = memory.first_cell program parts out (NamesByte program) a (λ low high. (fine.each (a - inputs.map.data_low) (cell_within a low high)).1) tt
+  names a = memory.first_cell program parts out (NamesByte (IsNamed p3)) a (λ low high. (fine.each (a - inputs.map.data_low) (cell_within a low high)).1) tt
 
   -- regions and places lie as they should
   rooms : Room program e
@@ -254,7 +254,7 @@ module _ (inputs : Inputs) (ready : IsReady inputs) (A : Place → Option ℕ) (
       }
 
   -- all of it is laid
-  laid_out : Laid program e (pace_in program e)
+  laid_out : Laid program (IsNamed p3) e (pace_in program e)
   unfolding program_of
   laid_out =
       let start = start_listed inputs ready A lies.listed in
@@ -321,11 +321,11 @@ module _ (inputs : Inputs) (ready : IsReady inputs) (A : Place → Option ℕ) (
 
   -- which does what the program does
   preserves : Preserves inputs (image_bytes parts)
-  preserves = laid_preserves inputs (image_bytes parts) e (pace_in program e) read laid_out
+  preserves = laid_preserves inputs (image_bytes parts) (IsNamed p3) e (pace_in program e) read laid_out
 
   -- and keeps step with it
   keeps : KeepsStep inputs (image_bytes parts)
-  keeps = record { image = e; read = read; simulates = simulates program e (pace_in program e) laid_out }
+  keeps = record { image = e; read = read; simulates = simulates program (IsNamed p3) e (pace_in program e) laid_out }
 
   abbrev text_part : SegmentData
   text_part = record { at = inputs.map.text; size = length text; code = true; bytes = text }

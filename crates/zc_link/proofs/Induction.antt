@@ -5,6 +5,7 @@ use Rattle.std.proofs.Common.{◌≡◌, ℕ, zero, suc, ◌+◌, ◌-◌, ◌*�
 use Rattle.std.specs.Prelude.{◌⊎◌, IsSome}
 use Rattle.std.proofs.lemmas.Bool.{cases_lt, false≢true}
 use Rattle.std.proofs.lemmas.List.Elements.{All-nil}
+use Rattle.zc_base.specs.declared.place.Place.{Place}
 use Rattle.interrupt_plan.specs.Plan.{AreCuts, Cut, IsPlan, cuts_at}
 use Rattle.interrupt_plan.proofs.PlanLaws.{cuts_at-bytes}
 use Rattle.rv_decode.specs.Run.{◌>>=◌, iterate}
@@ -22,17 +23,17 @@ use Rattle.zc_link.specs.Image.{Image, loaded, place_address}
 use Rattle.zc_link.specs.Preserves.{Follows, FollowsUnder, KeepsStep, Preserves, PreservesQuietly}
 use Rattle.zc_link.specs.Pace.{Pace, pace_in}
 use Rattle.zc_link.specs.Simulates.{Simulates, lead_from, lead_of}
-use Rattle.zc_link.specs.Sound.{Sound, Together}
+use Rattle.zc_link.specs.Sound.{IsNamed, Sound, Together}
 use Rattle.zc_link.specs.Stands.{Stands}
 
 -- ---- what is known at the ends
 
-together_stands : (p : Program) (e : Image) (s : PlainCore) (z : ZcState) → Together p e s z → Stands p (place_address e) s z
-together_stands p e s z (inl so) = record { registers = so.alike.registers; memory = so.alike.memory; input = so.input; place = λ _. so.place }
-together_stands p e s z (inr over) = over.stands
+together_stands : (p : Program) (Named : Place → Type 0) (e : Image) (s : PlainCore) (z : ZcState) → Together p Named e s z → Stands p (place_address e) s z
+together_stands p Named e s z (inl so) = record { registers = so.alike.registers; memory = so.alike.memory; input = so.input; place = λ _. so.place }
+together_stands p Named e s z (inr over) = over.stands
 
-sound_listed : (p : Program) (e : Image) (s : PlainCore) (z : ZcState) → Sound p e s z → IsSome (place_address e s.place)
-sound_listed p e s z so = rw so.place refl
+sound_listed : (p : Program) (Named : Place → Type 0) (e : Image) (s : PlainCore) (z : ZcState) → Sound p Named e s z → IsSome (place_address e s.place)
+sound_listed p Named e s z so = rw so.place refl
 
 -- an image that starts at the program's start has no commits before it, and another three
 lead_few : (o : Option ℕ) (entry : ℕ) → lead_from o entry ≤ 3
@@ -45,7 +46,7 @@ lead_few (Some start) entry = either (eqb start entry)
 
 -- ---- the induction
 
-module _ (p : Program) (e : Image) (pace : Pace) (law : Simulates p e pace) where
+module _ (p : Program) (Named : Place → Type 0) (e : Image) (pace : Pace) (law : Simulates p Named e pace) where
   -- what m commits come to with these interrupts
   record Ran (cuts : ℕ → List Cut) (m : ℕ) (r : PlainState) (z : ZcState) : Type 0 where
     after : ZcState
@@ -56,7 +57,7 @@ module _ (p : Program) (e : Image) (pace : Pace) (law : Simulates p e pace) wher
   abbrev Runs : ℕ → PlainState → PlainState → Type 0
   Runs n r r' =
       (m : ℕ) × (m ≤ 64 * n)
-      × ((cuts : ℕ → List Cut) → AreCuts cuts → (z : ZcState) → Together p e r.core z → z.events ≡ r.events → Ran cuts m r' z)
+      × ((cuts : ℕ → List Cut) → AreCuts cuts → (z : ZcState) → Together p Named e r.core z → z.events ≡ r.events → Ran cuts m r' z)
 
   -- no commit is made: the program has exited, or has made no step
   waits : (n : ℕ) (r r' : PlainState) → r'.core ≡ r.core → r'.events ≡ r.events → Runs n r r'
@@ -66,7 +67,7 @@ module _ (p : Program) (e : Image) (pace : Pace) (law : Simulates p e pace) wher
     λ cuts are z t same. record {
       after = z;
       runs = refl;
-      follows = record { events = same ∙ sym events; stands = λ _. subst (λ s. Stands p (place_address e) s z) (sym core) (together_stands p e r.core z t) };
+      follows = record { events = same ∙ sym events; stands = λ _. subst (λ s. Stands p (place_address e) s z) (sym core) (together_stands p Named e r.core z t) };
     },
   )
 
@@ -77,7 +78,7 @@ module _ (p : Program) (e : Image) (pace : Pace) (law : Simulates p e pace) wher
     omega arith,
     λ cuts are z t same. ⊎_elim
         (λ so.
-        let way = law.inside n r r' some within (sound_listed p e r.core z so) running h in
+        let way = law.inside n r r' some within (sound_listed p Named e r.core z so) running h in
         record {
           after = z;
           runs = refl;
@@ -160,7 +161,7 @@ pub preserves : (inputs : Inputs) (elf : List ℕ) → KeepsStep inputs elf → 
 preserves inputs elf keeps = record {
   image = keeps.image;
   read = keeps.read;
-  follows = follows (program_of (parsed inputs)) keeps.image (pace_in (program_of (parsed inputs)) keeps.image) keeps.simulates;
+  follows = follows (program_of (parsed inputs)) (IsNamed (parsed inputs)) keeps.image (pace_in (program_of (parsed inputs)) keeps.image) keeps.simulates;
 }
 
 -- what holds under every plan holds without interrupts

@@ -27,7 +27,7 @@ use Rattle.sym_machine.specs.Step.{after_change}
 use Rattle.sym_machine.specs.Words.{code_of, code_word, imm_word, number_of, reg_word, upper_word}
 use Rattle.zc_link.specs.Image.{Image, place_address}
 use Rattle.zc_link.specs.Room.{Room}
-use Rattle.zc_link.specs.Sound.{IsNamed, NamesWord, Ready}
+use Rattle.zc_link.specs.Sound.{NamesWord, Ready}
 use Rattle.zc_link.specs.Stands.{WordStands}
 use Rattle.zc_link.specs.Values.{value_in}
 use Rattle.zc_link.proofs.Accesses.{load_below, load_names, load_stands, made_there, reached, stored_agrees}
@@ -45,27 +45,27 @@ pub record IsQuiet (c : Change) : Type 0 where
   pub taken : c.taken ≡ 0
 
 -- the effect commits, and the states after the change and after the commit are ready
-pub record Made (p : Program) (e : Image) (i : Instr) (size : ℕ) (c : Change) (s : PlainCore) (z : ZcCore) : Type 0 where
+pub record Made (p : Program) (Named : Place → Type 0) (e : Image) (i : Instr) (size : ℕ) (c : Change) (s : PlainCore) (z : ZcCore) : Type 0 where
   pub after : ZcCore
   pub commits : effect i size z ≡ Commits after
-  pub ready : Ready p e (after_change c s) after
+  pub ready : Ready p Named e (after_change c s) after
   pub quiet : IsQuiet c
 
 -- and both go on to what follows the instruction, be it listed or not
-pub record GoesOn (p : Program) (e : Image) (i : Instr) (size : ℕ) (c : Change) (s : PlainCore) (next : Place) (z : ZcCore) : Type 0 where
-  pub made : Made p e i size c s z
+pub record GoesOn (p : Program) (Named : Place → Type 0) (e : Image) (i : Instr) (size : ℕ) (c : Change) (s : PlainCore) (next : Place) (z : ZcCore) : Type 0 where
+  pub made : Made p Named e i size c s z
   pub place : c.place ≡ next
   pub pc : made.after.pc ≡ (z.pc + size) % 2 ^ 32
 
 -- or both go to a listed place
-pub record Moves (p : Program) (e : Image) (i : Instr) (size : ℕ) (c : Change) (s : PlainCore) (z : ZcCore) : Type 0 where
-  pub made : Made p e i size c s z
+pub record Moves (p : Program) (Named : Place → Type 0) (e : Image) (i : Instr) (size : ℕ) (c : Change) (s : PlainCore) (z : ZcCore) : Type 0 where
+  pub made : Made p Named e i size c s z
   pub place : place_address e c.place ≡ Some made.after.pc
 
 -- what goes on moves, if the next place is listed
 pub moves_on :
-    {p : Program} {e : Image} {i : Instr} {size : ℕ} {c : Change} {s : PlainCore} {next : Place} {z : ZcCore}
-    → place_address e next ≡ Some ((z.pc + size) % 2 ^ 32) → GoesOn p e i size c s next z → Moves p e i size c s z
+    {p : Program} {Named : Place → Type 0} {e : Image} {i : Instr} {size : ℕ} {c : Change} {s : PlainCore} {next : Place} {z : ZcCore}
+    → place_address e next ≡ Some ((z.pc + size) % 2 ^ 32) → GoesOn p Named e i size c s next z → Moves p Named e i size c s z
 moves_on {e = e} listed goes = record { made = goes.made; place = ap (place_address e) goes.place ∙ listed ∙ ap Some (sym goes.pc) }
 
 -- ---- formats that go on
@@ -82,15 +82,15 @@ some_store Sb = omega arith
 some_store Sh = omega arith
 some_store Sw = omega arith
 
-module _ {p : Program} {e : Image} {s : PlainCore} {z : ZcCore} (room : Room p e) (ready : Ready p e s z) (size : ℕ) (c : Change) (next : Place) where
+module _ {p : Program} {Named : Place → Type 0} {e : Image} {s : PlainCore} {z : ZcCore} (room : Room p e) (ready : Ready p Named e s z) (size : ℕ) (c : Change) (next : Place) where
   abbrev V : Value → Option ℕ
   V = value_in p (place_address e)
 
   -- a result that goes to a register
   pub register_goes :
       (i : Instr) (rd v : ℕ) (w : SymWord) → effect i size z ≡ effect_gives v rd size z → v < 2 ^ 32
-      → WordStands V w v → NamesWord p w → Goes (gives rd w next) ≡ Goes c → GoesOn p e i size c s next z
-  register_goes i rd v w does small stands names h = subst (λ x. GoesOn p e i size x s next z) same (record {
+      → WordStands V w v → NamesWord Named w → Goes (gives rd w next) ≡ Goes c → GoesOn p Named e i size c s next z
+  register_goes i rd v w does small stands names h = subst (λ x. GoesOn p Named e i size x s next z) same (record {
     made = record {
       after = core_onward z size (set_reg z.regs rd v);
       commits = does;
@@ -107,17 +107,17 @@ module _ {p : Program} {e : Image} {s : PlainCore} {z : ZcCore} (room : Room p e
   -- an operation on a register and an immediate
   pub imm_goes :
       (op : ImmOp) (rd first : ℕ) (imm : ℤ) → first < 32 → Goes (gives rd (imm_word op (reg_of s first) imm) next) ≡ Goes c
-      → GoesOn p e (WithImm op rd first imm) size c s next z
+      → GoesOn p Named e (WithImm op rd first imm) size c s next z
   imm_goes op rd first imm low h =
       let n = reg_in z first in
       register_goes (WithImm op rd first imm) rd (imm_result op n imm) (imm_word op (reg_of s first) imm) refl (imm_result-below op n imm (ready.core.words first))
       (imm_word_stands room op (reg_of s first) imm n (ready.core.words first) (ready.registers first low))
-      (imm_names p op (reg_of s first) imm (ready.names.registers first low)) h
+      (imm_names Named op (reg_of s first) imm (ready.names.registers first low)) h
 
   -- an operation on two registers
   pub reg_goes :
       (op : RegOp) (rd first second : ℕ) → first < 32 → second < 32
-      → Goes (gives rd (reg_word op first second (reg_of s first) (reg_of s second)) next) ≡ Goes c → GoesOn p e (WithReg op rd first second) size c s next z
+      → Goes (gives rd (reg_word op first second (reg_of s first) (reg_of s second)) next) ≡ Goes c → GoesOn p Named e (WithReg op rd first second) size c s next z
   reg_goes op rd first second low_first low_second h =
       let m = reg_in z first in
       let n = reg_in z second in
@@ -125,17 +125,17 @@ module _ {p : Program} {e : Image} {s : PlainCore} {z : ZcCore} (room : Room p e
       (reg_result-below op m n (ready.core.words first) (ready.core.words second))
       (reg_word_stands room op first second (reg_of s first) (reg_of s second) m n (ready.core.words first) (ready.core.words second)
       (λ zero. ap (reg_in z) zero) (λ zero. ap (reg_in z) zero) (ready.registers first low_first) (ready.registers second low_second))
-      (reg_names p op first second (reg_of s first) (reg_of s second) (ready.names.registers first low_first) (ready.names.registers second low_second)) h
+      (reg_names Named op first second (reg_of s first) (reg_of s second) (ready.names.registers first low_first) (ready.names.registers second low_second)) h
 
   -- an upper immediate
-  pub upper_goes : (op : UpperOp) (rd imm : ℕ) → Goes (gives rd (upper_word op imm) next) ≡ Goes c → GoesOn p e (Upper op rd imm) size c s next z
+  pub upper_goes : (op : UpperOp) (rd imm : ℕ) → Goes (gives rd (upper_word op imm) next) ≡ Goes c → GoesOn p Named e (Upper op rd imm) size c s next z
   upper_goes op rd imm h =
       register_goes (Upper op rd imm) rd (upper_result op z.pc imm) (upper_word op imm) refl (upper_result-below op z.pc imm) (upper_word_stands room op z.pc imm)
-      (upper_names p op imm) h
+      (upper_names Named op imm) h
 
   -- a fence
-  pub fence_goes : (rest : ℕ) → Goes (onward next) ≡ Goes c → GoesOn p e (Fence rest) size c s next z
-  fence_goes rest h = subst (λ x. GoesOn p e (Fence rest) size x s next z) same (record {
+  pub fence_goes : (rest : ℕ) → Goes (onward next) ≡ Goes c → GoesOn p Named e (Fence rest) size c s next z
+  fence_goes rest h = subst (λ x. GoesOn p Named e (Fence rest) size x s next z) same (record {
     made = record {
       after = core_onward z size z.regs;
       commits = refl;
@@ -152,7 +152,7 @@ module _ {p : Program} {e : Image} {s : PlainCore} {z : ZcCore} (room : Room p e
   -- a load, by the word of its sum
   pub load_goes :
       (op : LoadOp) (rd base : ℕ) (k : ℤ) (w : SymWord) → WordStands V w (add32 (reg_in z base) k)
-      → load_does op rd (number_of w) s next ≡ Goes c → GoesOn p e (Load op rd base k) size c s next z
+      → load_does op rd (number_of w) s next ≡ Goes c → GoesOn p Named e (Load op rd base k) size c s next z
   load_goes op rd base k w stands h =
       let a = add32 (reg_in z base) k in
       let ok = reached room ready (load_width op) w a (λ x. Goes (gives rd (load_word op s x) next)) c (omega arith) stands h in
@@ -163,14 +163,14 @@ module _ {p : Program} {e : Image} {s : PlainCore} {z : ZcCore} (room : Room p e
   -- a store
   pub store_goes :
       (op : StoreOp) (source base : ℕ) (k : ℤ) (w : SymWord) → source < 32 → WordStands V w (add32 (reg_in z base) k)
-      → store_does op (reg_of s source) (number_of w) s next ≡ Goes c → GoesOn p e (Store op source base k) size c s next z
+      → store_does op (reg_of s source) (number_of w) s next ≡ Goes c → GoesOn p Named e (Store op source base k) size c s next z
   store_goes op source base k w low stands h =
       let n = store_width op in
       let a = add32 (reg_in z base) k in
       let ok = reached room ready n w a (λ x. Goes (puts x (stored_bytes op (reg_of s source)) next)) c (omega arith) stands h in
       let agrees = stored_agrees room op (reg_of s source) (reg_in z source) a ok.spans (ready.registers source low) (ready.names.registers source low) in
       let same : puts a (stored_bytes op (reg_of s source)) next ≡ c = (let g = ok.goes in cc) in
-      subst (λ x. GoesOn p e (Store op source base k) size x s next z) same (record {
+      subst (λ x. GoesOn p Named e (Store op source base k) size x s next z) same (record {
         made = record {
           after = core_onward (stored n a (reg_in z source) z) size z.regs;
           commits = made_there room ready n a (Commits (core_onward (stored n a (reg_in z source) z) size z.regs)) (some_store op) ok.aligned ok.spans;
@@ -186,13 +186,13 @@ module _ {p : Program} {e : Image} {s : PlainCore} {z : ZcCore} (room : Room p e
   module _ (listed : place_address e next ≡ Some (after z size)) where
     -- a jump to a place: a register gets the address of the next one
     pub jump_moves :
-        (i : Instr) (rd pc : ℕ) (to : Place) → IsNamed p next → effect i size z ≡ jumps pc rd size z → place_address e to ≡ Some pc
-        → jump_does (Some to) rd next ≡ Goes c → Moves p e i size c s z
-    jump_moves i rd pc to named does at h = subst (λ x. Moves p e i size x s z) same (record {
+        (i : Instr) (rd pc : ℕ) (to : Place) → Named next → effect i size z ≡ jumps pc rd size z → place_address e to ≡ Some pc
+        → jump_does (Some to) rd next ≡ Goes c → Moves p Named e i size c s z
+    jump_moves i rd pc to named does at h = subst (λ x. Moves p Named e i size x s z) same (record {
       made = record {
         after = record (core_onward z size (set_reg z.regs rd (after z size))) { pc = pc };
         commits = does;
-        ready = ready_moved (ready_set ready rd (after z size) (code_word next) (omega arith) (code_stands room next (after z size) listed) (code_names p next named)) to _ _;
+        ready = ready_moved (ready_set ready rd (after z size) (code_word next) (omega arith) (code_stands room next (after z size) listed) (code_names Named next named)) to _ _;
         quiet = record { events = refl; taken = refl };
       };
       place = at;
@@ -203,11 +203,11 @@ module _ {p : Program} {e : Image} {s : PlainCore} {z : ZcCore} (room : Room p e
 
     -- `jalr`, by the word of its sum
     pub jalr_moves :
-        (rd base : ℕ) (k : ℤ) (w : SymWord) → IsNamed p next → WordStands V w (add32 (reg_in z base) k)
-        → jump_does (code_of w) rd next ≡ Goes c → Moves p e (Jalr rd base k) size c s z
+        (rd base : ℕ) (k : ℤ) (w : SymWord) → Named next → WordStands V w (add32 (reg_in z base) k)
+        → jump_does (code_of w) rd next ≡ Goes c → Moves p Named e (Jalr rd base k) size c s z
     jalr_moves rd base k w named stands h = known (code_of w) refl h
       where
-        known : (o : Option Place) → code_of w ≡ o → jump_does o rd next ≡ Goes c → Moves p e (Jalr rd base k) size c s z
+        known : (o : Option Place) → code_of w ≡ o → jump_does o rd next ≡ Goes c → Moves p Named e (Jalr rd base k) size c s z
         known None is g = absurd cc
         known (Some q) is g =
             let n : ℕ = add32 (reg_in z base) k in
@@ -219,21 +219,21 @@ module _ {p : Program} {e : Image} {s : PlainCore} {z : ZcCore} (room : Room p e
     -- a branch whose condition is known
     pub branch_moves :
         (op : BranchOp) (first second : ℕ) (distance : ℤ) (to : Place) → first < 32 → second < 32 → place_address e to ≡ Some (add32 z.pc distance)
-        → branch_does (condition p op (reg_of s first) (reg_of s second)) to next ≡ Goes c → Moves p e (Branch op first second distance) size c s z
+        → branch_does (condition p op (reg_of s first) (reg_of s second)) to next ≡ Goes c → Moves p Named e (Branch op first second distance) size c s z
     branch_moves op first second distance to low_first low_second at h = known (condition p op (reg_of s first) (reg_of s second)) refl h
       where
         lands : (t : Bool) → place_address e (cond t to next) ≡ Some (branch_target t distance size z)
         lands true = at
         lands false = listed
 
-        known : (o : Option Bool) → condition p op (reg_of s first) (reg_of s second) ≡ o → branch_does o to next ≡ Goes c → Moves p e (Branch op first second distance) size c s z
+        known : (o : Option Bool) → condition p op (reg_of s first) (reg_of s second) ≡ o → branch_does o to next ≡ Goes c → Moves p Named e (Branch op first second distance) size c s z
         known None is g = absurd cc
         known (Some t) is g =
             let taken =
             condition_is room op (reg_of s first) (reg_of s second) (reg_in z first) (reg_in z second) t (ready.core.words first) (ready.core.words second)
             (ready.registers first low_first) (ready.registers second low_second) is in
             let same : onward (cond t to next) ≡ c = cc in
-            subst (λ x. Moves p e (Branch op first second distance) size x s z) same (record {
+            subst (λ x. Moves p Named e (Branch op first second distance) size x s z) same (record {
               made = record {
                 after = record (core_onward z size z.regs) { pc = branch_target t distance size z };
                 commits = ap (λ b. Commits (record (core_onward z size z.regs) { pc = branch_target b distance size z })) taken;

@@ -6,6 +6,7 @@ use Rattle.interrupt_plan.specs.Plan.{Cut}
 use Rattle.psabi_reloc.specs.Parts.{hi20_of}
 use Rattle.psabi_reloc.specs.Patched.{with_upper}
 use Rattle.psabi_sym.specs.declared.target.Target.{Target}
+use Rattle.rv_decode.specs.declared.instr.BranchOp.{BranchOp}
 use Rattle.rv_decode.specs.declared.instr.Instr.{Instr}
 use Rattle.rv_decode.specs.declared.instr.Instr.TheVariants as instr
 use Rattle.rv_decode.specs.Bits.{add32}
@@ -13,7 +14,8 @@ use Rattle.rv_decode.specs.State.{ZcCore, ZcState, reg_in}
 use Rattle.block_cut.specs.declared.item.Item.{Item}
 use Rattle.block_cut.specs.declared.item.Item.TheVariants.{Op, Hi, Lo, PcHi, PcLo, Branch, Jump, Call, Align, Word, Raw, RawPair}
 use Rattle.sym_machine.specs.AddressParts.{pc_target}
-use Rattle.sym_machine.specs.Change.{Goes, branch_to, jump_to, op_does, place_does}
+use Rattle.sym_machine.specs.Change.{Goes, branch_does, jump_does, op_does, place_does}
+use Rattle.sym_machine.specs.Conditions.{condition}
 use Rattle.sym_machine.specs.Program.{Program}
 use Rattle.sym_machine.specs.State.{PlainState, reg_of}
 use Rattle.sym_machine.specs.Words.{sum_word}
@@ -33,34 +35,34 @@ use Rattle.zc_link.proofs.Singles.{FromSound, single_comes}
 use Rattle.zc_link.proofs.Words.{sum_stands}
 
 -- what the `auipc` at a place leads to is named
-pc_named : {p : Program} → Leads p → (q : Place) (t : Target) → pc_target (p.item q) ≡ Some t → NamesTarget p t
-pc_named {p} leads q t h = by (p.item q) refl h
+pc_named : {p : Program} {Named : Place → Type 0} → Leads p Named → (q : Place) (t : Target) → pc_target (p.item q) ≡ Some t → NamesTarget Named t
+pc_named {p} {Named} leads q t h = by (p.item q) refl h
   where
-    by : (o : Option Item) → p.item q ≡ o → pc_target o ≡ Some t → NamesTarget p t
+    by : (o : Option Item) → p.item q ≡ o → pc_target o ≡ Some t → NamesTarget Named t
     by None is g = absurd cc
     by (Some (Op i)) is g = absurd cc
     by (Some (Hi i u)) is g = absurd cc
     by (Some (Lo i u)) is g = absurd cc
-    by (Some (PcHi i t1)) is g = let same : t1 ≡ t = cc in subst (NamesTarget p) same (leads.item q (PcHi i t1) is)
+    by (Some (PcHi i t1)) is g = let same : t1 ≡ t = cc in subst (NamesTarget Named) same (leads.item q (PcHi i t1) is)
     by (Some (PcLo i from)) is g = absurd cc
-    by (Some (Branch i to)) is g = absurd cc
-    by (Some (Jump i to)) is g = absurd cc
+    by (Some (Branch op first second to)) is g = absurd cc
+    by (Some (Jump rd to)) is g = absurd cc
     by (Some (Call rd temp to)) is g = absurd cc
     by (Some (Align bytes)) is g = absurd cc
     by (Some (Word u)) is g = absurd cc
     by (Some (Raw word)) is g = absurd cc
     by (Some (RawPair first second)) is g = absurd cc
 
-module _ {p : Program} {e : Image} {r r' : PlainState} {cuts : ℕ → List Cut} {z : ZcState} (room : Room p e) (leads : Leads p) (from : FromSound p e r r' cuts z) where
+module _ {p : Program} {Named : Place → Type 0} {e : Image} {r r' : PlainState} {cuts : ℕ → List Cut} {z : ZcState} (room : Room p e) (leads : Leads p Named) (from : FromSound p Named e r r' cuts z) where
   -- an instruction that goes on
   goes_comes :
       {i : Instr} → (laid : AloneLaid p e r.core.place z.core.pc i)
-      → ((y : ZcCore) → y.pc ≡ z.core.pc → Ready p e r.core y → GoesOn p e i laid.at.size from.step.change r.core (p.next r.core.place) y) → Comes p e cuts 1 z r'
+      → ((y : ZcCore) → y.pc ≡ z.core.pc → Ready p Named e r.core y → GoesOn p Named e i laid.at.size from.step.change r.core (p.next r.core.place) y) → Comes p Named e cuts 1 z r'
   goes_comes laid law = single_comes room from laid (λ y at al listed. moves_on listed (law y at al.ready))
 
   -- the sum of a register and an immediate stands for the machine's
   base_sum :
-      {y : ZcCore} (base : ℕ) (imm : ℤ) → Ready p e r.core y → base < 32
+      {y : ZcCore} (base : ℕ) (imm : ℤ) → Ready p Named e r.core y → base < 32
       → WordStands (value_in p (place_address e)) (sum_word (reg_of r.core base) imm) (add32 (reg_in y base) imm)
   base_sum {y} base imm ready low =
       sum_stands (value_in p (place_address e)) (reg_of r.core base) imm (reg_in y base) (ready.core.words base) (ready.registers base low)
@@ -69,7 +71,7 @@ module _ {p : Program} {e : Image} {r r' : PlainState} {cuts : ℕ → List Cut}
 
   op_comes :
       (i : Instr) → p.item r.core.place ≡ Some (Op i) → OpLaid p e r.core.place z.core.pc i → op_does i r.core (p.next r.core.place) ≡ Goes from.step.change
-      → Comes p e cuts 1 z r'
+      → Comes p Named e cuts 1 z r'
   op_comes (instr.Upper op rd imm) item laid h = goes_comes laid.laid (λ y at ready.
       upper_goes room ready laid.laid.at.size from.step.change (p.next r.core.place) op rd imm h)
   op_comes (instr.Jal rd distance) item laid h = absurd cc
@@ -95,56 +97,36 @@ module _ {p : Program} {e : Image} {r r' : PlainState} {cuts : ℕ → List Cut}
   -- ---- branches and jumps to places
 
   branch_comes :
-      (i : Instr) (to : Place) → ReachLaid p e r.core.place z.core.pc i to → branch_to p i to r.core (p.next r.core.place) ≡ Goes from.step.change → Comes p e cuts 1 z r'
-  branch_comes (instr.Upper op rd imm) to laid h = absurd cc
-  branch_comes (instr.Jal rd distance) to laid h = absurd cc
-  branch_comes (instr.Jalr rd base imm) to laid h = absurd cc
-  branch_comes (instr.Branch op first second distance) to laid h =
+      (op : BranchOp) (first second : ℕ) (to : Place) → ReachLaid p e r.core.place z.core.pc (instr.Branch op first second) to
+      → branch_does (condition p op (reg_of r.core first) (reg_of r.core second)) to (p.next r.core.place) ≡ Goes from.step.change
+      → Comes p Named e cuts 1 z r'
+  branch_comes op first second to laid h =
       single_comes room from laid.laid (λ y at al listed.
       branch_moves room al.ready laid.laid.at.size from.step.change (p.next r.core.place) listed op first second laid.distance to laid.laid.registers.0 laid.laid.registers.1
       (laid.reaches ∙ ap (λ a. Some (add32 a laid.distance)) (sym at)) h)
-  branch_comes (instr.Load op rd base imm) to laid h = absurd cc
-  branch_comes (instr.Store op source base imm) to laid h = absurd cc
-  branch_comes (instr.WithImm op rd first imm) to laid h = absurd cc
-  branch_comes (instr.WithReg op rd first second) to laid h = absurd cc
-  branch_comes (instr.Fence rest) to laid h = absurd cc
-  branch_comes instr.Ecall to laid h = absurd cc
-  branch_comes instr.Ebreak to laid h = absurd cc
-  branch_comes (instr.Csrrw rd source) to laid h = absurd cc
 
   jump_comes :
-      (i : Instr) (to : Place) → p.item r.core.place ≡ Some (Jump i to) → ReachLaid p e r.core.place z.core.pc i to
-      → jump_to i to (p.next r.core.place) ≡ Goes from.step.change → Comes p e cuts 1 z r'
-  jump_comes (instr.Upper op rd imm) to item laid h = absurd cc
-  jump_comes (instr.Jal rd distance) to item laid h =
+      (rd : ℕ) (to : Place) → p.item r.core.place ≡ Some (Jump rd to) → ReachLaid p e r.core.place z.core.pc (instr.Jal rd) to
+      → jump_does (Some to) rd (p.next r.core.place) ≡ Goes from.step.change → Comes p Named e cuts 1 z r'
+  jump_comes rd to item laid h =
       single_comes room from laid.laid (λ y at al listed.
       jump_moves room al.ready laid.laid.at.size from.step.change (p.next r.core.place) listed (instr.Jal rd laid.distance) rd (add32 y.pc laid.distance) to
-      (leads.next r.core.place (Jump (instr.Jal rd distance) to) item refl) refl (laid.reaches ∙ ap (λ a. Some (add32 a laid.distance)) (sym at)) h)
-  jump_comes (instr.Jalr rd base imm) to item laid h = absurd cc
-  jump_comes (instr.Branch op first second distance) to item laid h = absurd cc
-  jump_comes (instr.Load op rd base imm) to item laid h = absurd cc
-  jump_comes (instr.Store op source base imm) to item laid h = absurd cc
-  jump_comes (instr.WithImm op rd first imm) to item laid h = absurd cc
-  jump_comes (instr.WithReg op rd first second) to item laid h = absurd cc
-  jump_comes (instr.Fence rest) to item laid h = absurd cc
-  jump_comes instr.Ecall to item laid h = absurd cc
-  jump_comes instr.Ebreak to item laid h = absurd cc
-  jump_comes (instr.Csrrw rd source) to item laid h = absurd cc
+      (leads.next r.core.place (Jump rd to) item refl) refl (laid.reaches ∙ ap (λ a. Some (add32 a laid.distance)) (sym at)) h)
 
   -- ---- all items
 
   -- the upper part of the way from here
   pc_hi_comes :
       (i : Instr) (t : Target) → p.item r.core.place ≡ Some (PcHi i t) → PcHiLaid p e r.core.place z.core.pc i t
-      → place_does p (Some (PcHi i t)) r.core (p.next r.core.place) ≡ Goes from.step.change → Comes p e cuts 1 z r'
+      → place_does p (Some (PcHi i t)) r.core (p.next r.core.place) ≡ Goes from.step.change → Comes p Named e cuts 1 z r'
   pc_hi_comes i t item laid h = goes_comes laid.laid (λ y at ready.
-      subst (λ a. GoesOn p e (with_upper i (hi20_of (way a laid.value))) laid.laid.at.size from.step.change r.core (p.next r.core.place) y) at
+      subst (λ a. GoesOn p Named e (with_upper i (hi20_of (way a laid.value))) laid.laid.at.size from.step.change r.core (p.next r.core.place) y) at
       (pc_hi_goes room ready laid.laid.at.size from.step.change (p.next r.core.place) i r.core.place t laid.value (ap pc_target item)
       (from.sound.place ∙ ap Some (sym at)) laid.is h))
 
   pub item_comes :
       (o : Option Item) → p.item r.core.place ≡ o → ItemLaid p e r.core.place z.core.pc o
-      → place_does p o r.core (p.next r.core.place) ≡ Goes from.step.change → Comes p e cuts 1 z r'
+      → place_does p o r.core (p.next r.core.place) ≡ Goes from.step.change → Comes p Named e cuts 1 z r'
   item_comes None item laid h = absurd cc
   item_comes (Some (Op i)) item laid h = op_comes i item laid h
   item_comes (Some (Hi i t)) item laid h = goes_comes laid.laid (λ y at ready. hi_goes room ready laid.laid.at.size from.step.change (p.next r.core.place) i t laid.value laid.is h)
@@ -157,8 +139,8 @@ module _ {p : Program} {e : Image} {r r' : PlainState} {cuts : ℕ → List Cut}
       single_comes room from laid.laid (λ y at al listed.
       pc_lo_moves room al.ready laid.laid.at.size from.step.change (p.next r.core.place) listed i q laid.to laid.address laid.value laid.leads (pc_named leads q) laid.listed laid.is
       laid.laid.registers (leads.next r.core.place (PcLo i q) item) h)
-  item_comes (Some (Branch i to)) item laid h = branch_comes i to laid h
-  item_comes (Some (Jump i to)) item laid h = jump_comes i to item laid h
+  item_comes (Some (Branch op first second to)) item laid h = branch_comes op first second to laid h
+  item_comes (Some (Jump rd to)) item laid h = jump_comes rd to item laid h
   item_comes (Some (Call rd temp to)) item laid h = jump_call_comes room from rd temp to (leads.next r.core.place (Call rd temp to) item refl) laid h
   item_comes (Some (Align bytes)) item laid h = absurd laid
   item_comes (Some (Word t)) item laid h = absurd cc

@@ -38,7 +38,7 @@ use Rattle.zc_link.proofs.SectionOrder.{IsBefore, IsRising, before_places, secti
 
 -- starts are words apart
 starts_few : (s : SectionParts) → is_code_section s ≡ true → IsWhole s → 4 * length (starts_in s) ≤ length s.bytes
-starts_few s code whole = omega (arith, along s code whole (λ n xs. n + 4 * length xs ≤ length s.bytes) (omega arith) (λ n xs lt words st above rest. omega (arith, rest, st.some)))
+starts_few s code whole = omega (arith, along s code whole (λ n xs. n + 4 * length xs ≤ length s.bytes) (omega arith) (λ n xs lt words st above rest. omega (arith, rest, st.some, st.words)))
 
 -- what has the role of code is code
 code_role : (role : SectionRole) → is_code_role role ≡ true → role ≡ Code

@@ -45,7 +45,7 @@ over_jump laid = instr.Branch laid.other laid.first laid.second laid.over
 
 -- the image's branch is taken just if the program's isn't
 other_taken :
-    {p : Program} {e : Image} {q : Place} {a : ℕ} {s : PlainCore} {y : ZcCore} (t : Bool) → Room p e → Ready p e s y → (laid : LongLaid p e q a)
+    {p : Program} {Named : Place → Type 0} {e : Image} {q : Place} {a : ℕ} {s : PlainCore} {y : ZcCore} (t : Bool) → Room p e → Ready p Named e s y → (laid : LongLaid p e q a)
     → branch_taken s laid ≡ Some t → is_taken laid.other (reg_in y laid.first) (reg_in y laid.second) ≡ not t
 other_taken {s = s} {y = y} t room ready laid is =
     laid.opposite (reg_in y laid.first) (reg_in y laid.second)
@@ -72,20 +72,20 @@ known_taken {p} s laid more = by (branch_taken s laid) refl
 
 -- then the image's isn't, and goes on to the jump
 pub goes_over :
-    {p : Program} {e : Image} {a : ℕ} (s : PlainCore) (y : ZcCore) → Room p e → Alike p e s y → (laid : LongLaid p e s.place a)
+    {p : Program} {Named : Place → Type 0} {e : Image} {a : ℕ} (s : PlainCore) (y : ZcCore) → Room p e → Alike p Named e s y → (laid : LongLaid p e s.place a)
     → branch_taken s laid ≡ Some true → is_taken laid.other (reg_in y laid.first) (reg_in y laid.second) ≡ false
 goes_over s y room al laid is = other_taken true room al.ready laid is
 
 -- ---- its commits
 
 module _
-    {p : Program} {e : Image} {r r' : PlainState} {cuts : ℕ → List Cut} {z : ZcState}
-    (room : Room p e) (from : FromSound p e r r' cuts z) (laid : LongLaid p e r.core.place z.core.pc) where
+    {p : Program} {Named : Place → Type 0} {e : Image} {r r' : PlainState} {cuts : ℕ → List Cut} {z : ZcState}
+    (room : Room p e) (from : FromSound p Named e r r' cuts z) (laid : LongLaid p e r.core.place z.core.pc) where
   abbrev next : Place
   next = p.next r.core.place
 
   -- the state before the first instruction
-  abbrev first : AfterCuts p e (over_jump laid) laid.at.one.size r.core (cuts 0) z
+  abbrev first : AfterCuts p Named e (over_jump laid) laid.at.one.size r.core (cuts 0) z
   first = after_cuts room (cuts 0) (from.are 0) laid.at.one from.sound.alike
 
   -- the state after it, by whether it is taken
@@ -99,14 +99,14 @@ module _
 
   -- a change of the program's that only goes to a place
   comes_to :
-      (k : ℕ) (y : ZcCore) (to : Place) → zc_turns cuts k z ≡ Ok (record z { core = y }) → Ready p e (after_change (onward to) r.core) y
-      → place_address e to ≡ Some y.pc → onward to ≡ from.step.change → Comes p e cuts k z r'
+      (k : ℕ) (y : ZcCore) (to : Place) → zc_turns cuts k z ≡ Ok (record z { core = y }) → Ready p Named e (after_change (onward to) r.core) y
+      → place_address e to ≡ Some y.pc → onward to ≡ from.step.change → Comes p Named e cuts k z r'
   comes_to k y to runs ready at is =
-      comes_after from k y runs (subst (λ c. Ready p e (after_change c r.core) y) is ready) (subst IsQuiet is (record { events = refl; taken = refl }))
+      comes_after from k y runs (subst (λ c. Ready p Named e (after_change c r.core) y) is ready) (subst IsQuiet is (record { events = refl; taken = refl }))
       (ap (λ (c : Change). place_address e c.place) (sym is) ∙ at)
 
   -- one, over the jump
-  over_comes : branch_taken r.core laid ≡ Some false → onward next ≡ from.step.change → Comes p e cuts 1 z r'
+  over_comes : branch_taken r.core laid ≡ Some false → onward next ≡ from.step.change → Comes p Named e cuts 1 z r'
   over_comes is same =
       let y = after_first true in
       comes_to 1 y next (zc_turns-one cuts z (record z { core = y }) (first_turn false is)) (ready_moved first.alike.ready next y.pc y.commits)
@@ -128,13 +128,13 @@ module _
   }
 
   -- the state before the jump, and after it
-  abbrev second : AfterCuts p e (Jal 0 laid.distance) laid.at.two.size r.core (cuts 1) (record z { core = between })
+  abbrev second : AfterCuts p Named e (Jal 0 laid.distance) laid.at.two.size r.core (cuts 1) (record z { core = between })
   second = after_cuts room (cuts 1) (from.are 1) second_at (alike_moved between.pc between.commits first.alike)
 
   abbrev there : ZcCore
   there = record (core_onward second.now laid.at.two.size second.now.regs) { pc = add32 second.now.pc laid.distance }
 
-  two_come : branch_taken r.core laid ≡ Some true → onward laid.to ≡ from.step.change → Comes p e cuts 2 z r'
+  two_come : branch_taken r.core laid ≡ Some true → onward laid.to ≡ from.step.change → Comes p Named e cuts 2 z r'
   two_come is same =
       let z1 : ZcState = record z { core = between } in
       let runs = zc_turns-more cuts 1 z z1 (record z { core = there }) (zc_turns-one cuts z z1 (first_turn true is)) second.turn in
@@ -143,13 +143,13 @@ module _
 
   -- ---- both
 
-  pub long_comes : Comes p e cuts (commits_of p r.core LongOf) z r'
-  long_comes = subst (λ k. Comes p e cuts k z r') (sym (long_commits_are r.core laid)) (by (branch_taken r.core laid) refl does)
+  pub long_comes : Comes p Named e cuts (commits_of p r.core LongOf) z r'
+  long_comes = subst (λ k. Comes p Named e cuts k z r') (sym (long_commits_are r.core laid)) (by (branch_taken r.core laid) refl does)
     where
       does : branch_does (branch_taken r.core laid) laid.to next ≡ Goes from.step.change
       does = ap (λ o. place_does p o r.core next) (sym laid.item) ∙ from.step.does
 
-      by : (o : Option Bool) → branch_taken r.core laid ≡ o → branch_does o laid.to next ≡ Goes from.step.change → Comes p e cuts (long_commits o) z r'
+      by : (o : Option Bool) → branch_taken r.core laid ≡ o → branch_does o laid.to next ≡ Goes from.step.change → Comes p Named e cuts (long_commits o) z r'
       by None is h = absurd cc
       by (Some false) is h = over_comes is (let same : onward next ≡ from.step.change = cc in same)
       by (Some true) is h = two_come is (let same : onward laid.to ≡ from.step.change = cc in same)

@@ -110,32 +110,32 @@ module _ {p : Program} {e : Image} (room : Room p e) where
 
 -- ---- the places that they name
 
-module _ (p : Program) where
-  pub imm_names : (op : ImmOp) (w : SymWord) (imm : ℤ) → NamesWord p w → NamesWord p (imm_word op w imm)
-  imm_names Addi w imm names = sum_names p w imm names
-  imm_names Slti w imm names = numeric_names p (number_of w) (λ n. imm_result Slti n imm)
-  imm_names Sltiu w imm names = code_or_names p (cond (is_one imm) (code_of w) None) 0 (imm_numeric Sltiu w imm) (numeric_names p (number_of w) (λ n. imm_result Sltiu n imm))
-  imm_names Xori w imm names = numeric_names p (number_of w) (λ n. imm_result Xori n imm)
-  imm_names Ori w imm names = numeric_names p (number_of w) (λ n. imm_result Ori n imm)
-  imm_names Andi w imm names = numeric_names p (number_of w) (λ n. imm_result Andi n imm)
-  imm_names Slli w imm names = numeric_names p (number_of w) (λ n. imm_result Slli n imm)
-  imm_names Srli w imm names = numeric_names p (number_of w) (λ n. imm_result Srli n imm)
-  imm_names Srai w imm names = numeric_names p (number_of w) (λ n. imm_result Srai n imm)
+module _ (Named : Place → Type 0) where
+  pub imm_names : (op : ImmOp) (w : SymWord) (imm : ℤ) → NamesWord Named w → NamesWord Named (imm_word op w imm)
+  imm_names Addi w imm names = sum_names Named w imm names
+  imm_names Slti w imm names = numeric_names Named (number_of w) (λ n. imm_result Slti n imm)
+  imm_names Sltiu w imm names = code_or_names Named (cond (is_one imm) (code_of w) None) 0 (imm_numeric Sltiu w imm) (numeric_names Named (number_of w) (λ n. imm_result Sltiu n imm))
+  imm_names Xori w imm names = numeric_names Named (number_of w) (λ n. imm_result Xori n imm)
+  imm_names Ori w imm names = numeric_names Named (number_of w) (λ n. imm_result Ori n imm)
+  imm_names Andi w imm names = numeric_names Named (number_of w) (λ n. imm_result Andi n imm)
+  imm_names Slli w imm names = numeric_names Named (number_of w) (λ n. imm_result Slli n imm)
+  imm_names Srli w imm names = numeric_names Named (number_of w) (λ n. imm_result Srli n imm)
+  imm_names Srai w imm names = numeric_names Named (number_of w) (λ n. imm_result Srai n imm)
 
-  reg_numeric_names : (op : RegOp) (a b : SymWord) → NamesWord p (reg_numeric op a b)
-  reg_numeric_names op a b = numeric2_names p (number_of a) (number_of b) (reg_result op)
+  reg_numeric_names : (op : RegOp) (a b : SymWord) → NamesWord Named (reg_numeric op a b)
+  reg_numeric_names op a b = numeric2_names Named (number_of a) (number_of b) (reg_result op)
 
-  pub reg_names : (op : RegOp) (first second : ℕ) (a b : SymWord) → NamesWord p a → NamesWord p b → NamesWord p (reg_word op first second a b)
+  pub reg_names : (op : RegOp) (first second : ℕ) (a b : SymWord) → NamesWord Named a → NamesWord Named b → NamesWord Named (reg_word op first second a b)
   reg_names Add first second a b names_a names_b = either (eqb second 0) (eqb first 0)
     where
-      either : (x y : Bool) → NamesWord p (cond x a (cond y b (reg_numeric Add a b)))
+      either : (x y : Bool) → NamesWord Named (cond x a (cond y b (reg_numeric Add a b)))
       either true y = names_a
       either false true = names_b
       either false false = reg_numeric_names Add a b
   reg_names Sub first second a b names_a names_b = reg_numeric_names Sub a b
   reg_names Sll first second a b names_a names_b = reg_numeric_names Sll a b
   reg_names Slt first second a b names_a names_b = reg_numeric_names Slt a b
-  reg_names Sltu first second a b names_a names_b = code_or_names p (cond (eqb first 0) (code_of b) None) 1 (reg_numeric Sltu a b) (reg_numeric_names Sltu a b)
+  reg_names Sltu first second a b names_a names_b = code_or_names Named (cond (eqb first 0) (code_of b) None) 1 (reg_numeric Sltu a b) (reg_numeric_names Sltu a b)
   reg_names Xor first second a b names_a names_b = reg_numeric_names Xor a b
   reg_names Srl first second a b names_a names_b = reg_numeric_names Srl a b
   reg_names Sra first second a b names_a names_b = reg_numeric_names Sra a b
@@ -150,6 +150,6 @@ module _ (p : Program) where
   reg_names Rem first second a b names_a names_b = reg_numeric_names Rem a b
   reg_names Remu first second a b names_a names_b = reg_numeric_names Remu a b
 
-  pub upper_names : (op : UpperOp) (imm : ℕ) → NamesWord p (upper_word op imm)
-  upper_names Lui imm = number_names p (upper_result Lui 0 imm)
-  upper_names Auipc imm = undef_names p
+  pub upper_names : (op : UpperOp) (imm : ℕ) → NamesWord Named (upper_word op imm)
+  upper_names Lui imm = number_names Named (upper_result Lui 0 imm)
+  upper_names Auipc imm = undef_names Named

@@ -1,5 +1,6 @@
 -- Padding. Its instructions do nothing, so the states stay alike from one to the next, whatever interrupts come between them.
 use Rattle.std.proofs.Common.{◌≡◌, ℕ, zero, suc, ◌+◌, List, Some, Ok, refl, sym, ap, ◌∙◌, subst}
+use Rattle.zc_base.specs.declared.place.Place.{Place}
 use Rattle.interrupt_plan.specs.Plan.{AreCuts, Cut}
 use Rattle.rv_decode.specs.Effect.{onward as core_onward}
 use Rattle.rv_decode.specs.Run.{◌>>=◌}
@@ -20,14 +21,14 @@ use Rattle.zc_link.proofs.Ready.{alike_moved, ready_moved}
 use Rattle.zc_link.proofs.Singles.{FromSound, below_top, comes_after}
 
 -- so many commits come to a state that is still alike, at an address
-record Padded (p : Program) (e : Image) (s : PlainCore) (cuts : ℕ → List Cut) (count b : ℕ) (z : ZcState) : Type 0 where
+record Padded (p : Program) (Named : Place → Type 0) (e : Image) (s : PlainCore) (cuts : ℕ → List Cut) (count b : ℕ) (z : ZcState) : Type 0 where
   after : ZcCore
   runs : zc_turns cuts count z ≡ Ok (record z { core = after })
-  alike : Alike p e s after
+  alike : Alike p Named e s after
   pc : after.pc ≡ b
 
-module _ {p : Program} {e : Image} (room : Room p e) (s : PlainCore) where
-  nops_run : (count b : ℕ) (cuts : ℕ → List Cut) (z : ZcState) → AreCuts cuts → Nops e z.core.pc count b → Alike p e s z.core → Padded p e s cuts count b z
+module _ {p : Program} {Named : Place → Type 0} {e : Image} (room : Room p e) (s : PlainCore) where
+  nops_run : (count b : ℕ) (cuts : ℕ → List Cut) (z : ZcState) → AreCuts cuts → Nops e z.core.pc count b → Alike p Named e s z.core → Padded p Named e s cuts count b z
   nops_run zero b cuts z are nops al = record { after = z.core; runs = refl; alike = al; pc = sym nops }
   nops_run (suc count) b cuts z are nops al =
       let at = nops.0 in
@@ -41,15 +42,15 @@ module _ {p : Program} {e : Image} (room : Room p e) (s : PlainCore) where
 
 -- an ALIGN
 pub align_comes :
-    {p : Program} {e : Image} {r r' : PlainState} {cuts : ℕ → List Cut} {z : ZcState} (count : ℕ) → Room p e → (from : FromSound p e r r' cuts z)
-    → AlignLaid p e r.core.place z.core.pc count → Comes p e cuts count z r'
-align_comes {p} {e} {r} {r'} {cuts} {z} count room from laid =
+    {p : Program} {Named : Place → Type 0} {e : Image} {r r' : PlainState} {cuts : ℕ → List Cut} {z : ZcState} (count : ℕ) → Room p e → (from : FromSound p Named e r r' cuts z)
+    → AlignLaid p e r.core.place z.core.pc count → Comes p Named e cuts count z r'
+align_comes {p} {Named} {e} {r} {r'} {cuts} {z} count room from laid =
     let next = p.next r.core.place in
     let pad = nops_run room r.core count laid.end cuts z from.are laid.nops from.sound.alike in
     let does : place_does p (p.item r.core.place) r.core next ≡ Goes (onward next) = ap (λ o. place_does p o r.core next) laid.item in
     let same : Goes (onward next) ≡ Goes from.step.change = sym does ∙ from.step.does in
     let is : onward next ≡ from.step.change = cc in
-    let ready : Ready p e (after_change (onward next) r.core) pad.after = ready_moved pad.alike.ready next pad.after.pc pad.after.commits in
-    comes_after from count pad.after pad.runs (subst (λ c. Ready p e (after_change c r.core) pad.after) is ready)
+    let ready : Ready p Named e (after_change (onward next) r.core) pad.after = ready_moved pad.alike.ready next pad.after.pc pad.after.commits in
+    comes_after from count pad.after pad.runs (subst (λ c. Ready p Named e (after_change c r.core) pad.after) is ready)
     (subst IsQuiet is (record { events = refl; taken = refl }))
     (ap (λ (c : Change). place_address e c.place) (sym is) ∙ laid.next ∙ ap Some (sym pad.pc))

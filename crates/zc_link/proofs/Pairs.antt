@@ -5,7 +5,6 @@ use Rattle.std.specs.Prelude.{◌&&◌, ◌||◌, not}
 use Rattle.std.specs.List.{find, list_any}
 use Rattle.std.specs.Option.{is_some, option_and_then}
 use Rattle.std.proofs.lemmas.Bool.{and_from, and_parts, eq-eqb, eqb-true, leb-true, lt-ltb, ltb-false, or_cases, or_parts}
-use Rattle.zc_base.specs.Fields.{word_in}
 use Rattle.zc_base.specs.declared.place.Place.{Place}
 use Rattle.elf32_read.specs.Parts.{SectionParts, is_code_section}
 use Rattle.elf32_read.specs.declared.reloc.Reloc.{Reloc}
@@ -18,12 +17,11 @@ use Rattle.psabi_sym.specs.Listed.{ListedSection, section_at}
 use Rattle.psabi_sym.specs.Resolve.{resolved}
 use Rattle.psabi_sym.specs.declared.target.Target.TheVariants.{Code}
 use Rattle.psabi_sym.proofs.FaultLaws.{neither}
-use Rattle.rv_decode.specs.Decode.{decoded}
 use Rattle.rv_decode.specs.declared.instr.Instr.{Instr}
 use Rattle.block_cut.specs.declared.item.Item.TheVariants.{PcHi}
 use Rattle.block_cut.specs.Faults.{first_fault, is_nothing, is_pair_at, reloc_fault}
-use Rattle.block_cut.specs.Items.{code_at, code_only, is_target_at, item_at, item_under, known_item, of_instr, starts_on, target_of}
-use Rattle.block_cut.specs.Relocs.{field_end, field_of, is_crowded, is_ignored, is_pcrel_hi, is_pcrel_lo, is_placed, is_sound, is_upper_on, overlap, reloc_on}
+use Rattle.block_cut.specs.Items.{code_at, code_only, is_target_at, item_at, item_under, known_item, of_instr, raw_in, size_on, starts_on, target_of}
+use Rattle.block_cut.specs.Relocs.{field_end, field_of, instr_in, overlaps_another, is_ignored, is_pcrel_hi, is_pcrel_lo, is_placed, is_sound, has_pcrel_hi_at, overlap, reloc_on}
 use Rattle.block_cut.proofs.ItemLaws.{item_there}
 use Rattle.block_cut.proofs.ListedLaws.{listed}
 use Rattle.block_cut.proofs.PlainLaws.{target_on}
@@ -36,19 +34,8 @@ use Rattle.zc_link.proofs.Faultless.{good, reloc_good, reloc_value, section_none
 
 -- the one kind
 hi_kind : (k : Option RelocKind) → is_pcrel_hi k ≡ true → k ≡ Some kind.PcrelHi20
-hi_kind None h = absurd cc
-hi_kind (Some kind.Ignored) h = absurd cc
-hi_kind (Some kind.Word) h = absurd cc
-hi_kind (Some kind.Branch) h = absurd cc
-hi_kind (Some kind.Jal) h = absurd cc
-hi_kind (Some kind.Call) h = absurd cc
 hi_kind (Some kind.PcrelHi20) h = refl
-hi_kind (Some kind.PcrelLo12I) h = absurd cc
-hi_kind (Some kind.PcrelLo12S) h = absurd cc
-hi_kind (Some kind.Hi20) h = absurd cc
-hi_kind (Some kind.Lo12I) h = absurd cc
-hi_kind (Some kind.Lo12S) h = absurd cc
-hi_kind (Some kind.Align) h = absurd cc
+hi_kind other h = absurd cc
 
 -- an upper part at an offset, and a sound relocation there
 abbrev hi_at : ℕ → Reloc → Bool
@@ -162,19 +149,19 @@ module _ (inputs : Inputs) (none : first_fault inputs ≡ None) (A : Place → O
   few_there o i s r n found code is =
       let sound = sound_at s n r code is in
       let fine = reloc_good inputs none o i n s r found is in
-      let placed : (not false && (ltb s.size (field_end r) || (not (is_placed s r) || is_crowded s.relocs r))) ≡ false =
-      ap (λ b. not b && (ltb s.size (field_end r) || (not (is_placed s r) || is_crowded s.relocs r))) (sym sound.asks) ∙ fine.placed in
-      let one = or_parts (ltb s.size (field_end r)) (not (is_placed s r) || is_crowded s.relocs r) placed in
-      let two = or_parts (not (is_placed s r)) (is_crowded s.relocs r) one.1 in
+      let placed : (not false && (ltb s.size (field_end r) || (not (is_placed s r) || overlaps_another s.relocs r))) ≡ false =
+      ap (λ b. not b && (ltb s.size (field_end r) || (not (is_placed s r) || overlaps_another s.relocs r))) (sym sound.asks) ∙ fine.placed in
+      let one = or_parts (ltb s.size (field_end r)) (not (is_placed s r) || overlaps_another s.relocs r) placed in
+      let two = or_parts (not (is_placed s r)) (overlaps_another s.relocs r) one.1 in
       ltb-false 1 (length (filter (overlap r) s.relocs)) two.1
 
-  upper_at : (from : Place) (s : SectionParts) → code_at p2.objects from ≡ Some s → starts_on s from.offset ≡ true → is_upper_on s from.offset ≡ true → IsUpperAt p2 A from
+  upper_at : (from : Place) (s : SectionParts) → code_at p2.objects from ≡ Some s → starts_on s from.offset ≡ true → has_pcrel_hi_at s from.offset ≡ true → IsUpperAt p2 A from
   unfolding reloc_on
   upper_at from s at start upper =
       let n = from.offset in
       let two = code_is_section p2.objects from s at in
       let parts = and_parts (leb (n + 4) (length s.bytes)) _ upper in
-      let marks = and_parts (is_auipc (decoded (word_in s.bytes n))) (list_any (hi_at n) s.relocs) parts.1 in
+      let marks = and_parts (is_auipc (instr_in 4 s.bytes n)) (list_any (hi_at n) s.relocs) parts.1 in
       let l = listed from.object from.section s in
       let fine = section_none inputs none from.object from.section s two.0 in
       let found = some_found p2 l n s.relocs fine marks.1 in
@@ -182,17 +169,20 @@ module _ (inputs : Inputs) (none : first_fault inputs ≡ None) (A : Place → O
       let sound = sound_at s n r two.1 found.1 in
       let field = sound.field.some in
       let hi = found_upper p2 l n s.relocs r fine marks.1 found.1 (omega arith) (few_there from.object from.section s r n two.0 two.1 found.1) in
-      of (decoded (word_in s.bytes n)) refl marks.0 r (hi_kind (kind_of r.kind) hi) found.1 (reloc_value p2 A targets l r sound.asks (reloc_good inputs none from.object from.section n s r two.0 found.1))
+      of (instr_in 4 s.bytes n) refl marks.0 r (hi_kind (kind_of r.kind) hi) found.1
+      (reloc_value p2 A targets l r sound.asks (reloc_good inputs none from.object from.section n s r two.0 found.1))
     where
-      of : (d : Option Instr) → decoded (word_in s.bytes from.offset) ≡ d → is_auipc d ≡ true → (r : Reloc) → kind_of r.kind ≡ Some kind.PcrelHi20 → reloc_on s from.offset ≡ Some r → HasValue A (target_of p2 from.object r) → IsUpperAt p2 A from
+      of :
+          (d : Option Instr) → instr_in 4 s.bytes from.offset ≡ d → is_auipc d ≡ true → (r : Reloc) → kind_of r.kind ≡ Some kind.PcrelHi20
+          → reloc_on s from.offset ≡ Some r → HasValue A (target_of p2 from.object r) → IsUpperAt p2 A from
       of None e auipc r k is has = absurd cc
       of (Some i) e auipc r k is has = record {
         first = i;
         reloc = r;
         item = item_there p2 from s at start ∙ ap Some
-            ((λ j. item_under p2 from (is j) (word_in s.bytes from.offset) (word_in s.bytes (from.offset + 4)))
-            ∙ (λ j. known_item (k j) r.addend (target_of p2 from.object r) (word_in s.bytes from.offset) (word_in s.bytes (from.offset + 4)))
-            ∙ ap (λ d. of_instr d (word_in s.bytes from.offset) (λ i2. PcHi i2 (target_of p2 from.object r))) e);
+            ((λ j. item_under p2 from (is j) (size_on s from.offset) s.bytes)
+            ∙ (λ j. known_item (k j) r.addend (target_of p2 from.object r) s.bytes from.offset)
+            ∙ ap (λ d. of_instr d (raw_in 4 s.bytes from.offset) (λ i2. PcHi i2 (target_of p2 from.object r))) e);
         has = has;
       }
 
@@ -210,7 +200,7 @@ module _ (inputs : Inputs) (none : first_fault inputs ≡ None) (A : Place → O
       let to : resolved p2 q.object r.symbol (pos 0) ≡ Code from = ap (resolved p2 q.object r.symbol) (sym zero) ∙ leads in
       let pair : is_pair_at l (Code from) ≡ true = ap (is_pair_at l) (sym to) ∙ not_false (is_pair_at l (resolved p2 q.object r.symbol (pos 0))) parts.1 in
       let one = and_parts (eqb from.object q.object) _ pair in
-      let rest = and_parts (eqb from.section q.section) (is_upper_on s from.offset) one.1 in
+      let rest = and_parts (eqb from.section q.section) (has_pcrel_hi_at s from.offset) one.1 in
       let object = eqb-true from.object q.object one.0 in
       let section = eqb-true from.section q.section rest.0 in
       let here : code_at p2.objects from ≡ Some s = (λ j. option_and_then code_only (section_at p2.objects (object j) (section j))) ∙ at in

@@ -1,5 +1,6 @@
 -- A piece's law is its step: from a sound pair the steps of its items are its commits, whatever interrupts come before them.
 use Rattle.std.proofs.Common.{◌≡◌, ℕ, ◌<◌, List, Ok, refl, ap, ◌∙◌, arith}
+use Rattle.zc_base.specs.declared.place.Place.{Place}
 use Rattle.interrupt_plan.specs.Plan.{AreCuts, Cut}
 use Rattle.rv_decode.specs.Run.{iterate}
 use Rattle.rv_decode.specs.State.{ZcState}
@@ -36,15 +37,15 @@ one_turn p r r' h =
     first.1 ∙ ap Ok last
 
 pub piece_comes :
-    {p : Program} {e : Image} {r r' : PlainState} {z : ZcState} (x : Piece) → Room p e → Leads p → (cuts : ℕ → List Cut) → AreCuts cuts → Sound p e r.core z
+    {p : Program} {Named : Place → Type 0} {e : Image} {r r' : PlainState} {z : ZcState} (x : Piece) → Room p e → Leads p Named → (cuts : ℕ → List Cut) → AreCuts cuts → Sound p Named e r.core z
     → z.events ≡ r.events → PieceLaid p e r.core.place z.core.pc x → iterate (plain_turn p) (span_of x) r ≡ Ok r'
-    → Comes p e cuts (commits_of p r.core x) z r'
-piece_comes {p} {e} {r} {r'} {z} x room leads cuts are so same laid h = by x laid h
+    → Comes p Named e cuts (commits_of p r.core x) z r'
+piece_comes {p} {Named} {e} {r} {r'} {z} x room leads cuts are so same laid h = by x laid h
   where
-    from : iterate (plain_turn p) 1 r ≡ Ok r' → FromSound p e r r' cuts z
+    from : iterate (plain_turn p) 1 r ≡ Ok r' → FromSound p Named e r r' cuts z
     from g = record { sound = so; same = same; are = are; step = stepped p r r' so.alike.running (one_turn p r r' g) }
 
-    by : (y : Piece) → PieceLaid p e r.core.place z.core.pc y → iterate (plain_turn p) (span_of y) r ≡ Ok r' → Comes p e cuts (commits_of p r.core y) z r'
+    by : (y : Piece) → PieceLaid p e r.core.place z.core.pc y → iterate (plain_turn p) (span_of y) r ≡ Ok r' → Comes p Named e cuts (commits_of p r.core y) z r'
     by Alone item g = item_comes room leads (from g) (p.item r.core.place) refl item (from g).step.does
     by (AlignOf count) align g = align_comes count room (from g) align
     by CallOf call g = call_comes room (from g) call (leads.next r.core.place (Call call.rd call.temp call.to) call.item refl)

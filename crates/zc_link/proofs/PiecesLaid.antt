@@ -7,13 +7,14 @@ use Rattle.zc_base.specs.MemMap.{IsMap}
 use Rattle.zc_base.specs.declared.place.Place.{Place}
 use Rattle.elf32_write.specs.Parts.{Parts}
 use Rattle.psabi_reloc.specs.Parts.{hi20_of, lo12_of}
-use Rattle.psabi_reloc.specs.Patched.{with_distance, with_imm, with_upper}
+use Rattle.psabi_reloc.specs.Patched.{with_imm, with_upper}
 use Rattle.psabi_sym.specs.Faults.{power_above}
 use Rattle.psabi_sym.specs.Inputs.{Inputs, ParsedInputs, parsed}
 use Rattle.psabi_sym.specs.declared.target.Target.{Target}
 use Rattle.psabi_sym.proofs.BlockLaws.{aligned_up-lt}
 use Rattle.rv_decode.specs.Bits.{FitsIn, add32}
 use Rattle.rv_decode.specs.Registers.{HasRegisters}
+use Rattle.rv_decode.specs.declared.instr.BranchOp.{BranchOp}
 use Rattle.rv_decode.specs.declared.instr.Instr.{Instr}
 use Rattle.rv_decode.specs.declared.instr.Instr.TheVariants as instr
 use Rattle.rv_decode.specs.declared.instr.UpperOp.TheVariants.{Auipc}
@@ -36,7 +37,7 @@ use Rattle.zc_link.specs.Written.{Holds, IsLong, IsSpelled, IsWritten, WithCall,
 use Rattle.zc_link.specs.Values.{target_value, way}
 use Rattle.zc_link.proofs.Fetched.{StandAt, nops_at, one_at, spelled_at, stand_at, stand_first, stand_next}
 use Rattle.zc_link.proofs.ImageMemory.{AreLaidOut, image_of}
-use Rattle.zc_link.proofs.ItemRegisters.{distance_registers, imm_registers, item_registers, upper_registers}
+use Rattle.zc_link.proofs.ItemRegisters.{imm_registers, item_registers, upper_registers}
 use Rattle.zc_link.proofs.Lookup.{found_holds}
 use Rattle.zc_link.proofs.PartLaws.{call_reaches}
 use Rattle.zc_link.proofs.SizedPieces.{few_commits, piece_in, power_most, sized_piece}
@@ -118,22 +119,23 @@ module _ (inputs : Inputs) (is_map : IsMap inputs.map) (A : Place → Option ℕ
       }
 
   -- a branch of two
-  long_laid : (q : Place) (a n : ℕ) (i : Instr) (to : Place) (d : ℤ) (bytes : List ℕ) → n ≡ 8 → A (next_at p.objects q) ≡ Some (a + n) → StandAt program parts out a bytes → A to ≡ Some (add32 a d)
-      → IsLong i d bytes → program.item q ≡ Some (Branch i to) → LongLaid program here q a
+  long_laid :
+      (q : Place) (a n : ℕ) (op : BranchOp) (first second : ℕ) (to : Place) (d : ℤ) (bytes : List ℕ) → n ≡ 8
+      → A (next_at p.objects q) ≡ Some (a + n) → StandAt program parts out a bytes → A to ≡ Some (add32 a d) → IsLong op first second d bytes
+      → program.item q ≡ Some (Branch op first second to) → LongLaid program here q a
   unfolding one_at
-  long_laid q a n i to d bytes eight next st leads l same =
+  long_laid q a n op first second to d bytes eight next st leads l same =
       let both = subst (StandAt program parts out a) l.both st in
       let four : a + length l.first ≡ a + 4 = ap (λ x. a + length x) l.over.are in
-      let registers = decoded-registers l.over.word (instr.Branch l.other l.one l.two (pos 8)) l.over.spells in
+      let registers = decoded-registers l.over.word (instr.Branch l.other first second (pos 8)) l.over.spells in
       let small = even_word (next_at p.objects q) (a + n) next in
       let end : a + n ≡ a + 4 + 4 = omega (arith, eight) in
       record {
-        op = l.op;
-        first = l.one;
-        second = l.two;
-        far = l.far;
+        op = op;
+        first = first;
+        second = second;
         to = to;
-        item = same ∙ (λ j. Some (Branch (l.is j) to));
+        item = same;
         first_low = registers.0;
         second_low = registers.1;
         other = l.other;
@@ -141,7 +143,7 @@ module _ (inputs : Inputs) (is_map : IsMap inputs.map) (A : Place → Option ℕ
         over = pos 8;
         distance = d -ℤ pos 4;
         at = record {
-          one = one_at program parts out a l.first (instr.Branch l.other l.one l.two (pos 8)) (stand_first program parts out a l.first l.second both) l.over;
+          one = one_at program parts out a l.first (instr.Branch l.other first second (pos 8)) (stand_first program parts out a l.first l.second both) l.over;
           two = one_at program parts out (a + 4) l.second (instr.Jal 0 (d -ℤ pos 4))
               (subst (λ x. StandAt program parts out x l.second) four (stand_next program parts out a l.first l.second both)) l.jump;
         };
@@ -198,19 +200,24 @@ module _ (inputs : Inputs) (is_map : IsMap inputs.map) (A : Place → Option ℕ
   item_laid q a item is = subst (ItemLaid program here q a) (sym (same_item q item is))
 
   -- a branch: in eight bytes it is two instructions, and else one
-  branch_laid : (q : Place) (a n : ℕ) (i : Instr) (to : Place) (bytes : List ℕ) → WrittenAt q a n (Branch i to) bytes → PieceLaid program here q a (sized_piece (Some (Branch i to)) n)
-  branch_laid q a n i to bytes w = by w.written.holds
+  branch_laid :
+      (q : Place) (a n : ℕ) (op : BranchOp) (first second : ℕ) (to : Place) (bytes : List ℕ) → WrittenAt q a n (Branch op first second to) bytes
+      → PieceLaid program here q a (sized_piece (Some (Branch op first second to)) n)
+  branch_laid q a n op first second to bytes w = by w.written.holds
     where
-      by : IsSpelled n bytes (with_distance i w.written.distance) ⊎ ((n ≡ 8) × IsLong i w.written.distance bytes) → PieceLaid program here q a (sized_piece (Some (Branch i to)) n)
+      by :
+          IsSpelled n bytes (instr.Branch op first second w.written.distance) ⊎ ((n ≡ 8) × IsLong op first second w.written.distance bytes)
+          → PieceLaid program here q a (sized_piece (Some (Branch op first second to)) n)
       by (inl sp) =
           let d = w.written.distance in
-          subst (λ b. PieceLaid program here q a (cond b LongOf Alone)) (sym (spelled_short n bytes (with_distance i d) sp))
-          (item_laid q a (Branch i to) w.is
-          (record { distance = d; reaches = (λ j. shows.listed j to) ∙ w.written.leads; laid = alone q a n bytes (with_distance i d) (distance_registers i d (item_registers p q (Branch i to) w.is)) w.next w.stands sp }))
+          let i : Instr = instr.Branch op first second d in
+          subst (λ b. PieceLaid program here q a (cond b LongOf Alone)) (sym (spelled_short n bytes i sp))
+          (item_laid q a (Branch op first second to) w.is
+          (record { distance = d; reaches = (λ j. shows.listed j to) ∙ w.written.leads; laid = alone q a n bytes i (item_registers p q (Branch op first second to) w.is) w.next w.stands sp }))
       by (inr l) =
           let eight : eqb n 8 ≡ true = ap (λ k. eqb k 8) l.0 in
           subst (λ b. PieceLaid program here q a (cond b LongOf Alone)) (sym eight)
-          (long_laid q a n i to w.written.distance bytes l.0 w.next w.stands w.written.leads l.1 (same_item q (Branch i to) w.is))
+          (long_laid q a n op first second to w.written.distance bytes l.0 w.next w.stands w.written.leads l.1 (same_item q (Branch op first second to) w.is))
 
   -- so is a call
   calling_laid : (q : Place) (a n rd temp : ℕ) (to : Place) (bytes : List ℕ) → WrittenAt q a n (Call rd temp to) bytes → PieceLaid program here q a (sized_piece (Some (Call rd temp to)) n)
@@ -262,11 +269,11 @@ module _ (inputs : Inputs) (is_map : IsMap inputs.map) (A : Place → Option ℕ
         is = value_is l.to l.value l.is;
         laid = alone q a n bytes (with_imm i lower) (imm_registers i lower (item_registers p q (PcLo i from) w.is)) w.next w.stands l.holds;
       })
-  piece_laid q a n (Branch i to) bytes w = branch_laid q a n i to bytes w
-  piece_laid q a n (Jump i to) bytes w =
+  piece_laid q a n (Branch op first second to) bytes w = branch_laid q a n op first second to bytes w
+  piece_laid q a n (Jump rd to) bytes w =
       let d = w.written.distance in
-      item_laid q a (Jump i to) w.is
-      (record { distance = d; reaches = (λ j. shows.listed j to) ∙ w.written.leads; laid = alone q a n bytes (with_distance i d) (distance_registers i d (item_registers p q (Jump i to) w.is)) w.next w.stands w.written.holds })
+      item_laid q a (Jump rd to) w.is
+      (record { distance = d; reaches = (λ j. shows.listed j to) ∙ w.written.leads; laid = alone q a n bytes (instr.Jal rd d) (item_registers p q (Jump rd to) w.is) w.next w.stands w.written.holds })
   piece_laid q a n (Call rd temp to) bytes w = calling_laid q a n rd temp to bytes w
   piece_laid q a n (Align k) bytes w =
       let one = laid.even q a w.at in

@@ -10,26 +10,27 @@ use Rattle.psabi_sym.specs.Blocks.{aligned_up}
 use Rattle.psabi_sym.specs.Faults.{gather_fault, power_above}
 use Rattle.psabi_sym.specs.Inputs.{Inputs, ParsedInputs, parsed}
 use Rattle.psabi_sym.specs.Listed.{section_at, sections_before}
-use Rattle.rv_decode.specs.declared.instr.Instr.{Instr}
+use Rattle.rv_decode.specs.declared.instr.BranchOp.{BranchOp}
 use Rattle.rv_decode.specs.Bits.{as_signed}
 use Rattle.block_cut.specs.Cut.{place_at}
-use Rattle.block_cut.specs.Items.{code_at, is_target_at, item_at, next_at, starts_on}
-use Rattle.block_cut.specs.PlainLayout.{address_on, after_item, items_before, plain_address, plain_end, plain_end_of, plain_start}
+use Rattle.block_cut.specs.Items.{code_at, is_target_at, item_at, next_at, size_at, starts_on}
+use Rattle.block_cut.specs.PlainLayout.{address_on, after_item, starts_before, plain_address, plain_end, plain_end_of, plain_start}
 use Rattle.block_cut.specs.declared.item.Item.{Item}
 use Rattle.block_cut.specs.declared.item.Item.TheVariants.{Op, Hi, Lo, PcHi, PcLo, Branch, Jump, Call, Align, Word, Raw, RawPair}
 use Rattle.block_cut.proofs.PlainLaws.{AreBounds, AtEnd, Coincide, FirstFlat, InPadding, IsFlat, Same, SecondFlat, address_bounds, apart, next_address, place_address, spot}
-use Rattle.block_cut.proofs.RoomLaws.{after_items-ge, aligned_up-ge, plain_end-fits}
+use Rattle.block_cut.proofs.RoomLaws.{after_starts-ge, aligned_up-ge, plain_end-fits}
 use Rattle.block_cut.proofs.StartLaws.{start_first}
 use Rattle.block_cut.proofs.WholeLaws.{code_whole}
 use Rattle.sym_machine.specs.Conditions.{is_solid}
 use Rattle.zc_link.specs.LaidOut.{IsLaidOut, LiesAt, end_after, text_end}
-use Rattle.zc_link.specs.Standing.{IsReady}
+use Rattle.zc_link.specs.Standing.{HasOwnSize, IsReady}
 use Rattle.zc_link.specs.Values.{way}
 use Rattle.zc_link.proofs.Faultless.{all_none}
 use Rattle.zc_link.proofs.PlainEnds as ends
 use Rattle.zc_link.proofs.PlainEnds.{code_found}
 use Rattle.zc_link.proofs.PlainReach.{branch_reaches}
 use Rattle.zc_link.proofs.ShortWays.{way_distance, way_jumps}
+use Rattle.zc_link.proofs.Standing.{item_own}
 
 -- a place has an address just if code may lead there
 pub plain_listed : (p : ParsedInputs) (q : Place) → is_some (plain_address p q) ≡ is_target_at p.objects q
@@ -75,34 +76,37 @@ module _ (inputs : Inputs) (ready : IsReady inputs) where
       (omega (arith, two.few, one.low)) (omega (arith, one.few, two.low)) (omega (arith, one.words)) (omega (arith, two.words))
 
   -- and a branch, since no fault stands there
-  branches : (q to : Place) (i : Instr) (a b : ℕ) → item_at p q ≡ Some (Branch i to) → A q ≡ Some a → A to ≡ Some b → branch_reach (as_signed (way a b)) ≡ true
-  branches q to i a b is from there =
+  branches :
+      (q to : Place) (op : BranchOp) (first second : ℕ) (a b : ℕ) → item_at p q ≡ Some (Branch op first second to) → A q ≡ Some a → A to ≡ Some b
+      → branch_reach (as_signed (way a b)) ≡ true
+  branches q to op first second a b is from there =
       let one = bounds q a from in
       let two = bounds to b there in
       let map = ready.is_map in
       ap branch_reach (way_distance a b (omega (arith, one.few, map.code, map.data_room, map.top)) (omega (arith, two.few, map.code, map.data_room, map.top))
       (omega (arith, two.few, one.low)) (omega (arith, one.few, two.low)))
-      ∙ branch_reaches inputs ready.faultless q i to a b is from there
+      ∙ branch_reaches inputs ready.faultless q op first second to a b is from there
 
-  -- each has its longest form
+  -- each has its longest form: as many bytes as in its object, but for padding
   lies : (q : Place) (a : ℕ) (item : Item) → item_at p q ≡ Some item → A q ≡ Some a → LiesAt p A q a item
-  lies q a item is at = by item is (next_address inputs none q item a is at)
+  lies q a item is at = by item (size_at p.objects q) is (next_address inputs none q item a is at) (item_own inputs none ready A (plain_listed p) q item is)
     where
-      by : (i : Item) → item_at p q ≡ Some i → A (next_at p.objects q) ≡ Some (after_item a i) → LiesAt p A q a i
-      by (Op i) h next = record { size = 4; next = next; form = inl refl }
-      by (Hi i t) h next = record { size = 4; next = next; form = λ x value. inl refl }
-      by (Lo i t) h next = record { size = 4; next = next; form = λ x value. inl refl }
-      by (PcHi i t) h next = record { size = 4; next = next; form = refl }
-      by (PcLo i from) h next = record { size = 4; next = next; form = refl }
-      by (Branch i to) h next = record { size = 4; next = next; form = λ b there. inl (refl, branches q to i a b h at there) }
-      by (Jump i to) h next = record { size = 4; next = next; form = λ b there. inl (refl, jumps q to a b at there) }
-      by (Call rd temp to) h next = record { size = 8; next = next; form = λ b there. inl refl }
-      by (Align n) h next =
+      by : (i : Item) (own : ℕ) → item_at p q ≡ Some i → A (next_at p.objects q) ≡ Some (after_item a own i) → HasOwnSize i own → LiesAt p A q a i
+      by (Op i) own h next size = record { size = own; next = next; form = inl size }
+      by (Hi i t) own h next size = record { size = own; next = next; form = λ x value. inl size }
+      by (Lo i t) own h next size = record { size = own; next = next; form = λ x value. inl size }
+      by (PcHi i t) own h next size = record { size = own; next = next; form = size }
+      by (PcLo i from) own h next size = record { size = own; next = next; form = size }
+      by (Branch op first second to) own h next size =
+          record { size = own; next = next; form = λ b there. inl (size, branches q to op first second a b h at there) }
+      by (Jump rd to) own h next size = record { size = own; next = next; form = λ b there. inl (size, jumps q to a b at there) }
+      by (Call rd temp to) own h next size = record { size = own; next = next; form = λ b there. inl size }
+      by (Align n) own h next size =
           let up : a + (aligned_up (power_above n) a - a) ≡ aligned_up (power_above n) a = omega (arith, aligned_up-ge (power_above n) a) in
           record { size = aligned_up (power_above n) a - a; next = next ∙ ap Some (sym up); form = up }
-      by (Word t) h next = record { size = 4; next = next; form = refl }
-      by (Raw word) h next = record { size = 4; next = next; form = refl }
-      by (RawPair first second) h next = record { size = 8; next = next; form = refl }
+      by (Word t) own h next size = record { size = own; next = next; form = size }
+      by (Raw word) own h next size = record { size = own; next = next; form = size }
+      by (RawPair first second) own h next size = record { size = own; next = next; form = size }
 
   -- ---- sections
 
@@ -120,7 +124,7 @@ module _ (inputs : Inputs) (ready : IsReady inputs) where
         ends.ends_before inputs none o i s found,
         ap (λ x. unwrap_or x 0) here,
         aligned_up-ge (max 4 s.align) end,
-        after_items-ge (plain_start p o i s) (items_before p (spot q s) 0),
+        after_starts-ge p (spot q s) (plain_start p o i s) (starts_before s 0),
       )
 
   -- ---- places of their own

@@ -11,7 +11,7 @@ use Rattle.block_cut.specs.declared.item.Item.TheVariants.{Branch}
 use Rattle.block_cut.specs.Faults.{branch_target, distance_between, first_fault, is_far, is_out_of_reach, range_fault}
 use Rattle.block_cut.specs.Items.{all_places, item_at, place_of, places_of, starts_in}
 use Rattle.block_cut.specs.PlainLayout.{plain_address}
-use Rattle.rv_decode.specs.declared.instr.Instr.{Instr}
+use Rattle.rv_decode.specs.declared.instr.BranchOp.{BranchOp}
 use Rattle.block_cut.proofs.ItemLaws.{item_found}
 use Rattle.block_cut.proofs.ListedLaws.{cut_at, listed}
 use Rattle.block_cut.proofs.WholeLaws.{code_is_section}
@@ -25,10 +25,12 @@ module _ (inputs : Inputs) (none : first_fault inputs ≡ None) where
   fine = all_none inputs none
 
   -- the branch at a place reaches
-  pub branch_reaches : (q : Place) (i : Instr) (to : Place) (a b : ℕ) → item_at p q ≡ Some (Branch i to) → plain_address p q ≡ Some a → plain_address p to ≡ Some b → branch_reach (pos b -ℤ pos a) ≡ true
+  pub branch_reaches :
+      (q : Place) (op : BranchOp) (first second : ℕ) (to : Place) (a b : ℕ) → item_at p q ≡ Some (Branch op first second to)
+      → plain_address p q ≡ Some a → plain_address p to ≡ Some b → branch_reach (pos b -ℤ pos a) ≡ true
   unfolding range_fault
-  branch_reaches q i to a b is from there =
-      let found = item_found p q (Branch i to) is in
+  branch_reaches q op first second to a b is from there =
+      let found = item_found p q (Branch op first second to) is in
       let s = found.section in
       let two = code_is_section p.objects q s found.code in
       let l = listed q.object q.section s in

@@ -1,12 +1,11 @@
 -- The places that the program of objects without a fault names begin basic blocks, or are ends of sections. What an item's relocation
 -- leads to isn't astray, so an item starts there or a section ends; and a place that a relocation, a branch or a jump leads to, or
 -- that follows what ends a block, is a leader by definition.
-use Rattle.std.proofs.Common.{◌≡◌, ℕ, ◌+◌, ◌⊎◌, ℤ, pos, List, [], ◌∷◌, ◌++◌, map, Option, Some, None, Bool, true, false, cond, refl, sym, ap, ◌∙◌, subst, inl, inr, eqb}
+use Rattle.std.proofs.Common.{◌≡◌, ℕ, ◌+◌, ◌⊎◌, ℤ, List, [], ◌∷◌, ◌++◌, map, Option, Some, None, Bool, true, false, cond, refl, sym, ap, ◌∙◌, subst, inl, inr, eqb}
 use Rattle.std.specs.Prelude.{◌&&◌, ◌||◌, not}
 use Rattle.std.specs.List.{flat_map, list_any}
 use Rattle.std.specs.Option.{option_and_then, option_map, option_map_or}
 use Rattle.std.proofs.lemmas.Bool.{and_from, not-false, or_cases, or_left, or_right}
-use Rattle.zc_base.specs.Fields.{word_in}
 use Rattle.zc_base.specs.Places.{same_place}
 use Rattle.zc_base.specs.declared.place.Place.{Place}
 use Rattle.elf32_read.specs.Parts.{ObjectParts, SectionParts}
@@ -21,15 +20,14 @@ use Rattle.psabi_sym.specs.Inputs.{Inputs, ParsedInputs, parsed}
 use Rattle.psabi_sym.specs.Listed.{ListedSection, all_sections, sections_before}
 use Rattle.psabi_sym.specs.declared.target.Target.{Target}
 use Rattle.psabi_sym.specs.declared.target.Target.TheVariants.{Code, Number, Absent, Nowhere}
-use Rattle.rv_decode.specs.Decode.{decoded}
 use Rattle.rv_decode.specs.declared.instr.Instr.{Instr}
 use Rattle.rv_decode.specs.declared.instr.Instr.TheVariants as instr
 use Rattle.block_cut.specs.declared.item.Item.{Item}
-use Rattle.block_cut.specs.declared.item.Item.TheVariants.{Branch, Jump, Raw, RawPair}
-use Rattle.block_cut.specs.Faults.{first_fault, if_so, is_astray, is_lonely, is_lost, entry_fault, range_fault, reloc_fault, relocs_fault, section_fault}
-use Rattle.block_cut.specs.Items.{all_places, call_item, code_at, instr_item, is_end_at, is_start_at, is_target_at, item_at, item_under, known_item, next_at, of_instr, place_away, place_of, places_of, spelled, starts_in, starts_on, target_away, target_of, target_only, to_place}
+use Rattle.block_cut.specs.declared.item.Item.TheVariants.{Branch, Jump}
+use Rattle.block_cut.specs.Faults.{first_fault, if_so, has_bad_target, lacks_pcrel_hi, is_bad_target, entry_fault, range_fault, reloc_fault, relocs_fault, section_fault}
+use Rattle.block_cut.specs.Items.{all_places, call_item, code_at, instr_item, is_end_at, is_start_at, is_target_at, item_at, item_under, known_item, next_at, of_instr, place_away, place_of, places_of, raw_in, raw_pair, size_on, spelled, starts_in, starts_on, target_away, target_of, target_only, to_place, transfer_item}
 use Rattle.block_cut.specs.Leaders.{ends_block, goes_to, is_leader_at, is_place, item_leads, reloc_leads, section_leads}
-use Rattle.block_cut.specs.Relocs.{is_bad_kind, is_bad_place, is_ignored, is_transfer, reloc_on}
+use Rattle.block_cut.specs.Relocs.{instr_in, is_bad_kind, is_bad_place, is_ignored, is_transfer, reloc_on}
 use Rattle.block_cut.proofs.ItemLaws.{item_found, item_there}
 use Rattle.block_cut.proofs.ListedLaws.{cut_at, listed}
 use Rattle.block_cut.proofs.PlainLaws.{next_start}
@@ -65,16 +63,16 @@ not_so true fault h = absurd cc
 not_so false fault h = refl
 
 -- a relocation without a fault isn't astray
-not_astray : (inputs : ParsedInputs) (l : ListedSection) (r : Reloc) → reloc_fault inputs l r ≡ None → is_astray inputs l r ≡ false
+not_astray : (inputs : ParsedInputs) (l : ListedSection) (r : Reloc) → reloc_fault inputs l r ≡ None → has_bad_target inputs l r ≡ false
 not_astray inputs l r none =
     let n = r.offset in
-    let last = if_so (is_astray inputs l r) (BadTarget l.index n) ∷ [] in
-    let lonely = if_so (is_lonely inputs l r) (LoPair l.index n) in
+    let last = if_so (has_bad_target inputs l r) (BadTarget l.index n) ∷ [] in
+    let lonely = if_so (lacks_pcrel_hi inputs l r) (LoPair l.index n) in
     let place = if_so (is_bad_place l.section r) (RelocPlace l.index n) in
     let a = none_first (if_so (is_bad_kind l.section (kind_of r.kind)) (RelocKind l.index n)) (place ∷ lonely ∷ last) none in
     let b = none_first place (lonely ∷ last) a.1 in
     let c = none_first lonely last b.1 in
-    not_so (is_astray inputs l r) (BadTarget l.index n) (none_first (if_so (is_astray inputs l r) (BadTarget l.index n)) [] c.1).0
+    not_so (has_bad_target inputs l r) (BadTarget l.index n) (none_first (if_so (has_bad_target inputs l r) (BadTarget l.index n)) [] c.1).0
 
 module _ (inputs : Inputs) (none : first_fault inputs ≡ None) where
   abbrev objects : List ObjectParts
@@ -83,21 +81,23 @@ module _ (inputs : Inputs) (none : first_fault inputs ≡ None) where
   abbrev program : Program
   program = program_of (parsed inputs)
 
+  abbrev Named : Place → Type 0
+  Named q = IsNamed (parsed inputs) q
+
   fine : Faultless inputs
   fine = faultless inputs none
 
   -- ---- places that are named
 
   -- a target that is a leader
-  named : (to : Place) → is_target_at objects to ≡ true → is_leader_at (parsed inputs) to ≡ true → IsNamed program to
-  unfolding program_of
+  named : (to : Place) → is_target_at objects to ≡ true → is_leader_at (parsed inputs) to ≡ true → Named to
   named to target leader = by (or_cases (is_start_at objects to) (is_end_at objects to) target)
     where
-      starts : (o : Option SectionParts) → code_at objects to ≡ o → option_map_or (λ s. starts_on s to.offset) o false ≡ true → IsNamed program to
+      starts : (o : Option SectionParts) → code_at objects to ≡ o → option_map_or (λ s. starts_on s to.offset) o false ≡ true → Named to
       starts None at h = absurd cc
       starts (Some s) at h = inl (rw (item_there (parsed inputs) to s at h) refl, rw leader refl)
 
-      by : (is_start_at objects to ≡ true) ⊎ (is_end_at objects to ≡ true) → IsNamed program to
+      by : (is_start_at objects to ≡ true) ⊎ (is_end_at objects to ≡ true) → Named to
       by (inl start) = starts (code_at objects to) refl start
       by (inr end) = inr (rw end refl)
 
@@ -150,17 +150,17 @@ module _ (inputs : Inputs) (none : first_fault inputs ≡ None) where
       ap (λ ls. first_some (map (section_fault (parsed inputs)) ls)) (sym cut.all_are) ∙ fine.relocs in
       let own = mapped_none _ (first_some (map (reloc_fault (parsed inputs) l) s.relocs)) (none_there (section_fault (parsed inputs)) (sections_before objects q.object q.section) cut.rest l all) in
       let one = not_astray (parsed inputs) l r (none_found _ (reloc_fault (parsed inputs) l) s.relocs r found own) in
-      let lost : is_lost objects (is_transfer (kind_of r.kind)) (target_of (parsed inputs) q.object r) ≡ false =
-      ap (λ b. not b && is_lost objects (is_transfer (kind_of r.kind)) (target_of (parsed inputs) q.object r)) (sym asks) ∙ one in
-      not-false (is_target_at objects to) (ap (is_lost objects (is_transfer (kind_of r.kind))) (sym leads) ∙ lost)
+      let lost : is_bad_target objects (is_transfer (kind_of r.kind)) (target_of (parsed inputs) q.object r) ≡ false =
+      ap (λ b. not b && is_bad_target objects (is_transfer (kind_of r.kind)) (target_of (parsed inputs) q.object r)) (sym asks) ∙ one in
+      not-false (is_target_at objects to) (ap (is_bad_target objects (is_transfer (kind_of r.kind))) (sym leads) ∙ lost)
 
   reloc_named :
       (q to : Place) (s : SectionParts) (r : Reloc) → code_at objects q ≡ Some s → reloc_on s q.offset ≡ Some r → is_ignored (kind_of r.kind) ≡ false
-      → target_of (parsed inputs) q.object r ≡ Code to → IsNamed program to
+      → target_of (parsed inputs) q.object r ≡ Code to → Named to
   reloc_named q to s r at found asks leads = named to (reloc_target q to s r at found asks leads) (reloc_leader q to s r at found asks leads)
 
   -- a target whose place is named, if it has one
-  target_named : (t : Target) → ((to : Place) → t ≡ Code to → IsNamed program to) → NamesTarget program t
+  target_named : (t : Target) → ((to : Place) → t ≡ Code to → Named to) → NamesTarget Named t
   target_named (Code to) place = place to refl
   target_named (Number n) place = tt
   target_named (Absent n) place = tt
@@ -168,40 +168,54 @@ module _ (inputs : Inputs) (none : first_fault inputs ≡ None) where
 
   -- items of an instruction, and items that go to a place
   instr_named :
-      (o : Option Instr) (word : ℕ) (f : Instr → Item) → ((i : Instr) → NamesItem program (f i)) → NamesItem program (of_instr o word f)
-  instr_named None word f each = tt
-  instr_named (Some i) word f each = each i
+      (o : Option Instr) (other : Item) (f : Instr → Item) → NamesItem Named other → ((i : Instr) → NamesItem Named (f i))
+      → NamesItem Named (of_instr o other f)
+  instr_named None other f stays each = stays
+  instr_named (Some i) other f stays each = each i
 
   place_named :
-      (t : Target) (f : Place → Item) (other : Item) → ((to : Place) → t ≡ Code to → NamesItem program (f to))
-      → NamesItem program other → NamesItem program (to_place t f other)
+      (t : Target) (f : Place → Item) (other : Item) → ((to : Place) → t ≡ Code to → NamesItem Named (f to))
+      → NamesItem Named other → NamesItem Named (to_place t f other)
   place_named (Code to) f other place stays = place to refl
   place_named (Number n) f other place stays = stays
   place_named (Absent n) f other place stays = stays
   place_named Nowhere f other place stays = stays
 
-  call_named : (first second : Option Instr) (one two : ℕ) (to : Place) → IsNamed program to → NamesItem program (call_item first second (RawPair one two) to)
-  call_named (Some (instr.Upper op temp upper)) (Some (instr.Jalr rd base lower)) one two to is = is
-  call_named first second one two to is = tt
+  transfer_named : (i : Instr) (other : Item) (to : Place) → Named to → NamesItem Named other → NamesItem Named (transfer_item i other to)
+  transfer_named (instr.Branch op first second distance) other to is stays = is
+  transfer_named (instr.Jal rd distance) other to is stays = is
+  transfer_named i other to is stays = stays
+
+  call_named : (first second : Option Instr) (other : Item) (to : Place) → Named to → NamesItem Named other → NamesItem Named (call_item first second other to)
+  call_named (Some (instr.Upper op temp upper)) (Some (instr.Jalr rd base lower)) other to is stays = is
+  call_named first second other to is stays = stays
 
   -- by the relocation's kind
-  kind_named :
-      (k : Option Kind) (addend : ℤ) (t : Target) (word second : ℕ) → ((to : Place) → t ≡ Code to → IsNamed program to)
-      → NamesItem program (known_item k addend t word second)
-  kind_named None addend t word second place = tt
-  kind_named (Some kind.Ignored) addend t word second place = tt
-  kind_named (Some kind.Word) addend t word second place = tt
-  kind_named (Some kind.Branch) addend t word second place = instr_named (decoded word) word _ (λ i. place_named t _ (Raw word) place tt)
-  kind_named (Some kind.Jal) addend t word second place = instr_named (decoded word) word _ (λ i. place_named t _ (Raw word) place tt)
-  kind_named (Some kind.Call) addend t word second place =
-      place_named t _ (RawPair word second) (λ to is. call_named (decoded word) (decoded second) word second to (place to is)) tt
-  kind_named (Some kind.PcrelHi20) addend t word second place = instr_named (decoded word) word _ (λ i. target_named t place)
-  kind_named (Some kind.PcrelLo12I) addend t word second place = instr_named (decoded word) word _ (λ i. place_named t _ (Raw word) (λ to is. tt) tt)
-  kind_named (Some kind.PcrelLo12S) addend t word second place = instr_named (decoded word) word _ (λ i. place_named t _ (Raw word) (λ to is. tt) tt)
-  kind_named (Some kind.Hi20) addend t word second place = instr_named (decoded word) word _ (λ i. target_named t place)
-  kind_named (Some kind.Lo12I) addend t word second place = instr_named (decoded word) word _ (λ i. target_named t place)
-  kind_named (Some kind.Lo12S) addend t word second place = instr_named (decoded word) word _ (λ i. target_named t place)
-  kind_named (Some kind.Align) addend t word second place = tt
+  module _ (t : Target) (bytes : List ℕ) (n : ℕ) (place : (to : Place) → t ≡ Code to → Named to) where
+    abbrev raw : Item
+    raw = raw_in 4 bytes n
+
+    abbrev one : Option Instr
+    one = instr_in 4 bytes n
+
+    kind_named : (k : Option Kind) (addend : ℤ) → NamesItem Named (known_item k addend t bytes n)
+    kind_named None addend = tt
+    kind_named (Some kind.Ignored) addend = tt
+    kind_named (Some kind.Word) addend = tt
+    kind_named (Some kind.Branch) addend = instr_named one raw _ tt (λ i. place_named t _ raw (λ to is. transfer_named i raw to (place to is) tt) tt)
+    kind_named (Some kind.Jal) addend = instr_named one raw _ tt (λ i. place_named t _ raw (λ to is. transfer_named i raw to (place to is) tt) tt)
+    kind_named (Some kind.Call) addend =
+        let pair = raw_pair bytes n in
+        place_named t _ pair (λ to is. call_named one (instr_in 4 bytes (n + 4)) pair to (place to is) tt) tt
+    kind_named (Some kind.PcrelHi20) addend = instr_named one raw _ tt (λ i. target_named t place)
+    kind_named (Some kind.PcrelLo12I) addend = instr_named one raw _ tt (λ i. place_named t _ raw (λ to is. tt) tt)
+    kind_named (Some kind.PcrelLo12S) addend = instr_named one raw _ tt (λ i. place_named t _ raw (λ to is. tt) tt)
+    kind_named (Some kind.Hi20) addend = instr_named one raw _ tt (λ i. target_named t place)
+    kind_named (Some kind.Lo12I) addend = instr_named one raw _ tt (λ i. target_named t place)
+    kind_named (Some kind.Lo12S) addend = instr_named one raw _ tt (λ i. target_named t place)
+    kind_named (Some kind.RvcBranch) addend = tt
+    kind_named (Some kind.RvcJump) addend = tt
+    kind_named (Some kind.Align) addend = tt
 
   -- ---- items without
 
@@ -218,67 +232,66 @@ module _ (inputs : Inputs) (none : first_fault inputs ≡ None) where
       by (Some p) g = only p (is_target_at objects p) refl g
 
   -- where the item at a place goes, if code may lead there
-  going_named : (q to : Place) (i : Item) → item_at (parsed inputs) q ≡ Some i → goes_to to i ≡ true → is_target_at objects to ≡ true → IsNamed program to
+  going_named : (q to : Place) (i : Item) → item_at (parsed inputs) q ≡ Some i → goes_to to i ≡ true → is_target_at objects to ≡ true → Named to
   going_named q to i is goes target = named to target (item_leader q to i is (or_left (goes_to to i) _ goes))
 
   instr_item_named :
-      (q : Place) (i : Instr) (word : ℕ) → item_at (parsed inputs) q ≡ Some (instr_item objects q i word) → NamesItem program (instr_item objects q i word)
-  instr_item_named q (instr.Upper op rd imm) word is = tt
-  instr_item_named q (instr.Jal rd distance) word is = by (target_away objects q distance) refl is
+      (q : Place) (i : Instr) (other : Item) → NamesItem Named other → item_at (parsed inputs) q ≡ Some (instr_item objects q i other)
+      → NamesItem Named (instr_item objects q i other)
+  instr_item_named q (instr.Upper op rd imm) other stays is = tt
+  instr_item_named q (instr.Jal rd distance) other stays is = by (target_away objects q distance) refl is
     where
       by :
-          (o : Option Place) → target_away objects q distance ≡ o → item_at (parsed inputs) q ≡ Some (option_map_or (Jump (instr.Jal rd (pos 0))) o (Raw word))
-          → NamesItem program (option_map_or (Jump (instr.Jal rd (pos 0))) o (Raw word))
-      by None away here = tt
-      by (Some to) away here = going_named q to (Jump (instr.Jal rd (pos 0)) to) here (same_place-refl to) (away_target q to distance away)
-  instr_item_named q (instr.Jalr rd base imm) word is = tt
-  instr_item_named q (instr.Branch op first second distance) word is = by (target_away objects q distance) refl is
+          (o : Option Place) → target_away objects q distance ≡ o → item_at (parsed inputs) q ≡ Some (option_map_or (Jump rd) o other)
+          → NamesItem Named (option_map_or (Jump rd) o other)
+      by None away here = stays
+      by (Some to) away here = going_named q to (Jump rd to) here (same_place-refl to) (away_target q to distance away)
+  instr_item_named q (instr.Jalr rd base imm) other stays is = tt
+  instr_item_named q (instr.Branch op first second distance) other stays is = by (target_away objects q distance) refl is
     where
       by :
           (o : Option Place) → target_away objects q distance ≡ o
-          → item_at (parsed inputs) q ≡ Some (option_map_or (Branch (instr.Branch op first second (pos 0))) o (Raw word))
-          → NamesItem program (option_map_or (Branch (instr.Branch op first second (pos 0))) o (Raw word))
-      by None away here = tt
-      by (Some to) away here = going_named q to (Branch (instr.Branch op first second (pos 0)) to) here (same_place-refl to) (away_target q to distance away)
-  instr_item_named q (instr.Load op rd base imm) word is = tt
-  instr_item_named q (instr.Store op source base imm) word is = tt
-  instr_item_named q (instr.WithImm op rd first imm) word is = tt
-  instr_item_named q (instr.WithReg op rd first second) word is = tt
-  instr_item_named q (instr.Fence rest) word is = tt
-  instr_item_named q instr.Ecall word is = tt
-  instr_item_named q instr.Ebreak word is = tt
-  instr_item_named q (instr.Csrrw rd source) word is = tt
+          → item_at (parsed inputs) q ≡ Some (option_map_or (Branch op first second) o other) → NamesItem Named (option_map_or (Branch op first second) o other)
+      by None away here = stays
+      by (Some to) away here = going_named q to (Branch op first second to) here (same_place-refl to) (away_target q to distance away)
+  instr_item_named q (instr.Load op rd base imm) other stays is = tt
+  instr_item_named q (instr.Store op source base imm) other stays is = tt
+  instr_item_named q (instr.WithImm op rd first imm) other stays is = tt
+  instr_item_named q (instr.WithReg op rd first second) other stays is = tt
+  instr_item_named q (instr.Fence rest) other stays is = tt
+  instr_item_named q instr.Ecall other stays is = tt
+  instr_item_named q instr.Ebreak other stays is = tt
+  instr_item_named q (instr.Csrrw rd source) other stays is = stays
 
-  word_named : (q : Place) (o : Option Instr) (word : ℕ) → item_at (parsed inputs) q ≡ Some (spelled objects q o word) → NamesItem program (spelled objects q o word)
-  word_named q None word is = tt
-  word_named q (Some i) word is = instr_item_named q i word is
+  bare_named :
+      (q : Place) (o : Option Instr) (other : Item) → NamesItem Named other → item_at (parsed inputs) q ≡ Some (spelled objects q o other)
+      → NamesItem Named (spelled objects q o other)
+  bare_named q None other stays is = stays
+  bare_named q (Some i) other stays is = instr_item_named q i other stays is
 
   -- ---- all items
 
-  item_named : (q : Place) (i : Item) → item_at (parsed inputs) q ≡ Some i → NamesItem program i
+  item_named : (q : Place) (i : Item) → item_at (parsed inputs) q ≡ Some i → NamesItem Named i
   item_named q i is =
       let found = item_found (parsed inputs) q i is in
       let s = found.section in
-      subst (NamesItem program) found.item (by s found.code (reloc_on s q.offset) refl (is ∙ ap Some (sym found.item)))
+      subst (NamesItem Named) found.item (by s found.code (reloc_on s q.offset) refl (is ∙ ap Some (sym found.item)))
     where
       by :
           (s : SectionParts) → code_at objects q ≡ Some s → (o : Option Reloc) → reloc_on s q.offset ≡ o
-          → item_at (parsed inputs) q ≡ Some (item_under (parsed inputs) q (reloc_on s q.offset) (word_in s.bytes q.offset) (word_in s.bytes (q.offset + 4)))
-          → NamesItem program (item_under (parsed inputs) q (reloc_on s q.offset) (word_in s.bytes q.offset) (word_in s.bytes (q.offset + 4)))
+          → item_at (parsed inputs) q ≡ Some (item_under (parsed inputs) q (reloc_on s q.offset) (size_on s q.offset) s.bytes)
+          → NamesItem Named (item_under (parsed inputs) q (reloc_on s q.offset) (size_on s q.offset) s.bytes)
       by s at None on here =
-          let word = word_in s.bytes q.offset in
-          let second = word_in s.bytes (q.offset + 4) in
-          subst (λ o. NamesItem program (item_under (parsed inputs) q o word second)) (sym on)
-          (word_named q (decoded word) word (here ∙ ap (λ o. Some (item_under (parsed inputs) q o word second)) on))
+          let own = size_on s q.offset in
+          subst (λ o. NamesItem Named (item_under (parsed inputs) q o own s.bytes)) (sym on)
+          (bare_named q (instr_in own s.bytes q.offset) (raw_in own s.bytes q.offset) tt (here ∙ ap (λ o. Some (item_under (parsed inputs) q o own s.bytes)) on))
       by s at (Some r) on here =
-          let word = word_in s.bytes q.offset in
-          let second = word_in s.bytes (q.offset + 4) in
           let asks = (sound_at s q.offset r (code_is_section objects q s at).1 on).asks in
-          subst (λ o. NamesItem program (item_under (parsed inputs) q o word second)) (sym on)
-          (kind_named (kind_of r.kind) r.addend (target_of (parsed inputs) q.object r) word second (λ to leads. reloc_named q to s r at on asks leads))
+          subst (λ o. NamesItem Named (item_under (parsed inputs) q o (size_on s q.offset) s.bytes)) (sym on)
+          (kind_named (target_of (parsed inputs) q.object r) s.bytes q.offset (λ to leads. reloc_named q to s r at on asks leads) (kind_of r.kind) r.addend)
 
   -- the place after what ends a block
-  after_named : (q : Place) (i : Item) → item_at (parsed inputs) q ≡ Some i → ends_block i ≡ true → IsNamed program (next_at objects q)
+  after_named : (q : Place) (i : Item) → item_at (parsed inputs) q ≡ Some i → ends_block i ≡ true → Named (next_at objects q)
   after_named q i is ends =
       let next = next_at objects q in
       let leads : (goes_to next i || (ends_block i && same_place next next)) ≡ true =
@@ -289,6 +302,6 @@ module _ (inputs : Inputs) (none : first_fault inputs ≡ None) where
       target (inl start) = or_left (is_start_at objects (next_at objects q)) _ start
       target (inr end) = or_right (is_start_at objects (next_at objects q)) _ end
 
-  pub leads_faultless : Leads program
+  pub leads_faultless : Leads program (IsNamed (parsed inputs))
   unfolding program_of
   leads_faultless = record { item = item_named; next = after_named }

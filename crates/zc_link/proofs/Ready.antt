@@ -15,9 +15,9 @@ use Rattle.zc_link.specs.Stands.{WordStands}
 use Rattle.zc_link.specs.Values.{value_in}
 use Rattle.zc_link.proofs.Words.{undef_names, undef_stands}
 
-module _ {p : Program} {e : Image} {s : PlainCore} {z : ZcCore} (ready : Ready p e s z) where
+module _ {p : Program} {Named : Place → Type 0} {e : Image} {s : PlainCore} {z : ZcCore} (ready : Ready p Named e s z) where
   -- nothing of Ready speaks of the place, of pc, or of the number of commits
-  pub ready_moved : (q : Place) (pc commits : ℕ) → Ready p e (record s { place = q; exit = None }) (record z { pc = pc; commits = commits })
+  pub ready_moved : (q : Place) (pc commits : ℕ) → Ready p Named e (record s { place = q; exit = None }) (record z { pc = pc; commits = commits })
   ready_moved q pc commits = record {
     running = refl;
     going = ready.going;
@@ -33,7 +33,7 @@ module _ {p : Program} {e : Image} {s : PlainCore} {z : ZcCore} (ready : Ready p
   }
 
   -- nor what of the input is left, but that it is bytes
-  pub ready_fed : (n : ℕ) → Ready p e (record s { input = drop n s.input }) z
+  pub ready_fed : (n : ℕ) → Ready p Named e (record s { input = drop n s.input }) z
   ready_fed n = record {
     running = ready.running;
     going = ready.going;
@@ -50,8 +50,8 @@ module _ {p : Program} {e : Image} {s : PlainCore} {z : ZcCore} (ready : Ready p
 
   -- a register gets a word, and a number that the word stands for
   pub ready_set :
-      (rd v : ℕ) (w : SymWord) → v < 2 ^ 32 → WordStands (value_in p (place_address e)) w v → NamesWord p w
-      → Ready p e (record s { regs = set_reg s.regs rd w }) (record z { regs = set_reg z.regs rd v })
+      (rd v : ℕ) (w : SymWord) → v < 2 ^ 32 → WordStands (value_in p (place_address e)) w v → NamesWord Named w
+      → Ready p Named e (record s { regs = set_reg s.regs rd w }) (record z { regs = set_reg z.regs rd v })
   ready_set rd v w small stands names = record {
     running = ready.running;
     going = ready.going;
@@ -62,7 +62,7 @@ module _ {p : Program} {e : Image} {s : PlainCore} {z : ZcCore} (ready : Ready p
         (ready.plain.count ∙ sym ready.core.count) stands (ready.registers r lt);
     memory = ready.memory;
     names = record {
-      registers = λ r lt. set_reg_each (NamesWord p) (number_word 0) undef_word s.regs rd r w names (ready.names.registers r lt);
+      registers = λ r lt. set_reg_each (NamesWord Named) (number_word 0) undef_word s.regs rd r w names (ready.names.registers r lt);
       memory = ready.names.memory;
     };
     lies = ready.lies;
@@ -72,7 +72,7 @@ module _ {p : Program} {e : Image} {s : PlainCore} {z : ZcCore} (ready : Ready p
   }
 
   -- the program forgets what a register holds
-  pub ready_forgets : (rd : ℕ) → Ready p e (record s { regs = set_reg s.regs rd undef_word }) z
+  pub ready_forgets : (rd : ℕ) → Ready p Named e (record s { regs = set_reg s.regs rd undef_word }) z
   ready_forgets rd = record {
     running = ready.running;
     going = ready.going;
@@ -83,7 +83,7 @@ module _ {p : Program} {e : Image} {s : PlainCore} {z : ZcCore} (ready : Ready p
         (undef_stands (value_in p (place_address e)) (reg_in z r)) (ready.registers r lt);
     memory = ready.memory;
     names = record {
-      registers = λ r lt. set_reg_each (NamesWord p) (number_word 0) undef_word s.regs rd r undef_word (undef_names p) (ready.names.registers r lt);
+      registers = λ r lt. set_reg_each (NamesWord Named) (number_word 0) undef_word s.regs rd r undef_word (undef_names Named) (ready.names.registers r lt);
       memory = ready.names.memory;
     };
     lies = ready.lies;
@@ -93,7 +93,7 @@ module _ {p : Program} {e : Image} {s : PlainCore} {z : ZcCore} (ready : Ready p
   }
 
 -- what is alike stays so if pc and the number of commits change
-pub alike_moved : {p : Program} {e : Image} {s : PlainCore} {z : ZcCore} (pc commits : ℕ) → Alike p e s z → Alike p e s (record z { pc = pc; commits = commits })
+pub alike_moved : {p : Program} {Named : Place → Type 0} {e : Image} {s : PlainCore} {z : ZcCore} (pc commits : ℕ) → Alike p Named e s z → Alike p Named e s (record z { pc = pc; commits = commits })
 alike_moved pc commits al = record {
   ready = record {
     running = al.running;

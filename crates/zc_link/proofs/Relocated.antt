@@ -26,7 +26,7 @@ use Rattle.sym_machine.specs.Words.{value_word}
 use Rattle.zc_link.specs.Image.{Image, place_address}
 use Rattle.zc_link.specs.Leads.{NamesTarget}
 use Rattle.zc_link.specs.Room.{Room}
-use Rattle.zc_link.specs.Sound.{IsNamed, NamesWord, Ready}
+use Rattle.zc_link.specs.Sound.{NamesWord, Ready}
 use Rattle.zc_link.specs.Stands.{WordStands}
 use Rattle.zc_link.specs.Values.{pc_upper, target_value, value_in, way}
 use Rattle.zc_link.proofs.Addresses.{high_names, high_stands, low_names, low_stands, pc_low_names, pc_low_stands, way_stands}
@@ -47,16 +47,16 @@ base_low instr.Ecall k registers = omega arith
 base_low instr.Ebreak k registers = omega arith
 base_low (instr.Csrrw rd source) k registers = omega arith
 
-module _ {p : Program} {e : Image} {s : PlainCore} {z : ZcCore} (room : Room p e) (ready : Ready p e s z) (size : ℕ) (c : Change) (next : Place) where
+module _ {p : Program} {Named : Place → Type 0} {e : Image} {s : PlainCore} {z : ZcCore} (room : Room p e) (ready : Ready p Named e s z) (size : ℕ) (c : Change) (next : Place) where
   -- ---- upper parts
 
   pub hi_goes :
       (i : Instr) (t : Target) (x : ℕ) → target_value (place_address e) t ≡ Some x → upper_does Lui i (high_word t) next ≡ Goes c
-      → GoesOn p e (with_upper i (hi20_of x)) size c s next z
+      → GoesOn p Named e (with_upper i (hi20_of x)) size c s next z
   hi_goes (instr.Upper Lui rd imm) t x is h =
       let v : ℕ = upper_result Lui z.pc (hi20_of x) in
       let same : v ≡ hi20_of x * 2 ^ 12 = omega arith in
-      register_goes room ready size c next (instr.Upper Lui rd (hi20_of x)) rd v (high_word t) refl (omega arith) (rw same (high_stands room t x is)) (high_names p t) h
+      register_goes room ready size c next (instr.Upper Lui rd (hi20_of x)) rd v (high_word t) refl (omega arith) (rw same (high_stands room t x is)) (high_names Named t) h
   hi_goes (instr.Upper Auipc rd imm) t x is h = absurd cc
   hi_goes (instr.Jal rd distance) t x is h = absurd cc
   hi_goes (instr.Jalr rd base imm) t x is h = absurd cc
@@ -74,7 +74,7 @@ module _ {p : Program} {e : Image} {s : PlainCore} {z : ZcCore} (room : Room p e
   pub pc_hi_goes :
       (i : Instr) (q : Place) (t : Target) (x : ℕ) → pc_target (p.item q) ≡ Some t → place_address e q ≡ Some z.pc
       → target_value (place_address e) t ≡ Some x → upper_does Auipc i (value_word (PcHi q)) next ≡ Goes c
-      → GoesOn p e (with_upper i (hi20_of (way z.pc x))) size c s next z
+      → GoesOn p Named e (with_upper i (hi20_of (way z.pc x))) size c s next z
   pc_hi_goes (instr.Upper Lui rd imm) q t x leads at is h = absurd cc
   pc_hi_goes (instr.Upper Auipc rd imm) q t x leads at is h =
       register_goes room ready size c next (instr.Upper Auipc rd (hi20_of (way z.pc x))) rd (pc_upper z.pc x) (value_word (PcHi q)) refl (omega arith)
@@ -96,8 +96,8 @@ module _ {p : Program} {e : Image} {s : PlainCore} {z : ZcCore} (room : Room p e
   module _ (listed : place_address e next ≡ Some (after z size)) where
     -- `addi`
     addi_moves :
-        (op : ImmOp) (rd first : ℕ) (k : ℤ) (w : SymWord) → WordStands (value_in p (place_address e)) w (add32 (reg_in z first) k) → NamesWord p w
-        → addi_does op rd w next ≡ Goes c → Moves p e (instr.WithImm op rd first k) size c s z
+        (op : ImmOp) (rd first : ℕ) (k : ℤ) (w : SymWord) → WordStands (value_in p (place_address e)) w (add32 (reg_in z first) k) → NamesWord Named w
+        → addi_does op rd w next ≡ Goes c → Moves p Named e (instr.WithImm op rd first k) size c s z
     addi_moves Addi rd first k w stands names h =
         moves_on listed (register_goes room ready size c next (instr.WithImm Addi rd first k) rd (add32 (reg_in z first) k) w refl (omega arith) stands names h)
     addi_moves Slti rd first k w stands names h = absurd cc
@@ -111,9 +111,9 @@ module _ {p : Program} {e : Image} {s : PlainCore} {z : ZcCore} (room : Room p e
 
     -- any sum, by its word
     pub sum_moves :
-        (i : Instr) (k : ℤ) (w : SymWord) → HasRegisters (with_imm i k) → (is_jalr i ≡ true → IsNamed p next)
-        → WordStands (value_in p (place_address e)) w (add32 (reg_in z (base_of i)) k) → NamesWord p w → by_sum i w s next ≡ Goes c
-        → Moves p e (with_imm i k) size c s z
+        (i : Instr) (k : ℤ) (w : SymWord) → HasRegisters (with_imm i k) → (is_jalr i ≡ true → Named next)
+        → WordStands (value_in p (place_address e)) w (add32 (reg_in z (base_of i)) k) → NamesWord Named w → by_sum i w s next ≡ Goes c
+        → Moves p Named e (with_imm i k) size c s z
     sum_moves (instr.Upper op rd imm) k w registers named stands names h = absurd cc
     sum_moves (instr.Jal rd distance) k w registers named stands names h = absurd cc
     sum_moves (instr.Jalr rd base imm) k w registers named stands names h = jalr_moves room ready size c next listed rd base k w (named refl) stands h
@@ -129,24 +129,24 @@ module _ {p : Program} {e : Image} {s : PlainCore} {z : ZcCore} (room : Room p e
 
     -- with the lower part of an address
     pub lo_moves :
-        (i : Instr) (t : Target) (x : ℕ) → target_value (place_address e) t ≡ Some x → NamesTarget p t → HasRegisters (with_imm i (lo12_of x))
-        → (is_jalr i ≡ true → IsNamed p next) → by_sum i (low_sum t (reg_of s (base_of i))) s next ≡ Goes c → Moves p e (with_imm i (lo12_of x)) size c s z
+        (i : Instr) (t : Target) (x : ℕ) → target_value (place_address e) t ≡ Some x → NamesTarget Named t → HasRegisters (with_imm i (lo12_of x))
+        → (is_jalr i ≡ true → Named next) → by_sum i (low_sum t (reg_of s (base_of i))) s next ≡ Goes c → Moves p Named e (with_imm i (lo12_of x)) size c s z
     lo_moves i t x is names registers named h =
         let base = base_of i in
         let low = base_low i (lo12_of x) registers in
         sum_moves i (lo12_of x) (low_sum t (reg_of s base)) registers named
         (low_stands room t (reg_of s base) (reg_in z base) x (ready.core.words base) is (ready.registers base low))
-        (low_names p t (reg_of s base) names (ready.names.registers base low)) h
+        (low_names Named t (reg_of s base) names (ready.names.registers base low)) h
 
     -- with the lower part of the way from an `auipc`
     pub pc_lo_moves :
-        (i : Instr) (from : Place) (t : Target) (a x : ℕ) → pc_target (p.item from) ≡ Some t → ((u : Target) → pc_target (p.item from) ≡ Some u → NamesTarget p u)
+        (i : Instr) (from : Place) (t : Target) (a x : ℕ) → pc_target (p.item from) ≡ Some t → ((u : Target) → pc_target (p.item from) ≡ Some u → NamesTarget Named u)
         → place_address e from ≡ Some a → target_value (place_address e) t ≡ Some x → HasRegisters (with_imm i (lo12_of (way a x)))
-        → (is_jalr i ≡ true → IsNamed p next) → by_sum i (pc_low_sum from (pc_target (p.item from)) (reg_of s (base_of i))) s next ≡ Goes c
-        → Moves p e (with_imm i (lo12_of (way a x))) size c s z
+        → (is_jalr i ≡ true → Named next) → by_sum i (pc_low_sum from (pc_target (p.item from)) (reg_of s (base_of i))) s next ≡ Goes c
+        → Moves p Named e (with_imm i (lo12_of (way a x))) size c s z
     pc_lo_moves i from t a x leads names at is registers named h =
         let base = base_of i in
         let low = base_low i (lo12_of (way a x)) registers in
         sum_moves i (lo12_of (way a x)) (pc_low_sum from (pc_target (p.item from)) (reg_of s base)) registers named
         (pc_low_stands room from t a x (reg_of s base) (reg_in z base) (ready.core.words base) leads at is (ready.registers base low))
-        (pc_low_names p from (pc_target (p.item from)) (reg_of s base) names) h
+        (pc_low_names Named from (pc_target (p.item from)) (reg_of s base) names) h

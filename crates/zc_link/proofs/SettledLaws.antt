@@ -30,7 +30,6 @@ use Rattle.shrink_layout.proofs.PremiseLaws.{all_aligned}
 use Rattle.zc_link.specs.LaidOut.{IsLaidOut, LiesAt, text_end}
 use Rattle.zc_link.proofs.SettledLawsForms.{IsNear, has_form, width_some}
 use Rattle.zc_link.proofs.SettledLawsPlaces.{address, address_rises, end_settled, forms, settled_begins, settled_even, settled_few, settled_here, settled_high, settled_listed, settled_low, settled_short}
-use Rattle.zc_link.proofs.SettledLawsShort.{kind_at}
 
 module _
     (inputs : Inputs) (none : gather_fault inputs ≡ None) (is_map : IsMap inputs.map)
@@ -100,7 +99,7 @@ module _
         size = width p size a;
         next = next_address_there inputs none q item is sizes ∙ ap Some own.ends ∙ ap (λ x. Some (x + width p size x)) here.number;
         form = has_form objects A at_number inputs.map.text (omega (arith, is_map.code, is_map.data_room, is_map.top)) near a here.even here.low here.few item size
-            (kind_at (parsed inputs) q item is) aligned own.form reach;
+            aligned own.form reach;
       }
 
   -- ---- addresses of their own

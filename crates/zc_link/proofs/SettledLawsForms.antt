@@ -1,11 +1,10 @@
 -- The forms of items: the size that a layout gives an item's piece is one that the item may have at its address (`has_form`), since the
 -- form of the piece reaches its target. All addresses are near each other, so a jump always reaches.
-use Rattle.std.proofs.Common.{◌≡◌, ℕ, suc, ◌+◌, ◌-◌, ◌%◌, ◌^◌, ◌<◌, ◌≤◌, ◌⊎◌, pos, negsuc, ◌-ℤ◌, Bool, true, false, cond, List, Option, Some, refl, sym, ap, ◌∙◌, subst, arith, eqb, ltb, inl, inr, max}
+use Rattle.std.proofs.Common.{◌≡◌, ℕ, suc, ◌+◌, ◌-◌, ◌%◌, ◌^◌, ◌<◌, ◌≤◌, ◌⊎◌, ℤ, pos, negsuc, ◌-ℤ◌, Bool, true, false, cond, List, Option, Some, refl, sym, ap, ◌∙◌, subst, arith, eqb, ltb, inl, inr, max}
 use Rattle.std.specs.Prelude.{IsTrue}
 use Rattle.std.proofs.lemmas.Bool.{and_from, cases_lt, eq-eqb, lt-ltb}
 use Rattle.zc_base.specs.declared.place.Place.{Place}
 use Rattle.elf32_read.specs.Parts.{ObjectParts}
-use Rattle.psabi_reloc.specs.Kinds.{is_jal}
 use Rattle.psabi_reloc.specs.Parts.{hi20_of, lo12_of}
 use Rattle.psabi_reloc.specs.Patched.{with_imm, with_upper}
 use Rattle.psabi_reloc.specs.Reaches.{branch_reach, jal_reach, short_branch_reach, short_jump_reach}
@@ -14,6 +13,7 @@ use Rattle.psabi_sym.specs.Faults.{power_above}
 use Rattle.psabi_sym.specs.declared.target.Target.{Target}
 use Rattle.psabi_sym.specs.declared.target.Target.TheVariants.{Code, Number, Absent, Nowhere}
 use Rattle.rv_decode.specs.Bits.{as_signed}
+use Rattle.rv_decode.specs.declared.instr.BranchOp.{BranchOp}
 use Rattle.rv_decode.specs.declared.instr.Instr.{Instr}
 use Rattle.rv_decode.specs.declared.instr.Instr.TheVariants as instr
 use Rattle.block_cut.specs.declared.item.Item.{Item}
@@ -26,7 +26,7 @@ use Rattle.shrink_layout.proofs.Distances.{distance_back, distance_on}
 use Rattle.zc_link.specs.LaidOut.{HasBranchSize, HasForm, HasJumpSize, HasSize, OfWay}
 use Rattle.zc_link.specs.Values.{target_value, way}
 use Rattle.zc_link.proofs.ShortWays.{way_distance}
-use Rattle.zc_link.proofs.SettledLawsShort.{HasKind, branch_short, jump_short}
+use Rattle.zc_link.proofs.SettledLawsShort.{branch_short, jump_short}
 
 -- ---- ways
 
@@ -112,44 +112,57 @@ module _
         ∙ ap jal_reach (less_four a b)
         ∙ jal_settled (a + 4) b (omega (arith, even)) there.even (omega (arith, there.few, low)) (omega (arith, few, there.low))
 
-    branch_form :
-        (i : Instr) (to : Place) (size : ℕ) → HasKind (Branch i to)
-        → IsForm (piece.Branch (number_of objects to) (is_short i)) size
-        → holds (piece.Branch (number_of objects to) (is_short i)) size a (address (number_of objects to)) ≡ true
-        → OfWay A a to (HasBranchSize i size)
-    branch_form i to size kind form reach b is = by (is_short i) refl form
-      where
-        at : (n : ℕ) → size ≡ n → holds (piece.Branch (number_of objects to) (is_short i)) n a (address (number_of objects to)) ≡ true
-        at n same = ap (λ m. holds (piece.Branch (number_of objects to) (is_short i)) m a (address (number_of objects to))) (sym same) ∙ reach
+    module _ (op : BranchOp) (first second : ℕ) where
+      abbrev branch : ℤ → Instr
+      branch d = instr.Branch op first second d
 
-        four : size ≡ 4 → HasBranchSize i size (as_signed (way a b))
-        four same = inl (same, ap branch_reach (way_near to b is) ∙ at 4 same)
+      -- whether it has a short form
+      abbrev short : Bool
+      short = is_short (branch (pos 0))
 
-        eight : size ≡ 8 → HasBranchSize i size (as_signed (way a b))
-        eight same = inr (inr (same, long_near to b is))
+      branch_form :
+          (to : Place) (size : ℕ) → IsForm (piece.Branch (number_of objects to) short) size
+          → holds (piece.Branch (number_of objects to) short) size a (address (number_of objects to)) ≡ true
+          → OfWay A a to (HasBranchSize branch size)
+      branch_form to size form reach b is = by short refl form
+        where
+          at : (n : ℕ) → size ≡ n → holds (piece.Branch (number_of objects to) short) n a (address (number_of objects to)) ≡ true
+          at n same = ap (λ m. holds (piece.Branch (number_of objects to) short) m a (address (number_of objects to))) (sym same) ∙ reach
 
-        by : (s : Bool) → is_short i ≡ s → IsForm (piece.Branch (number_of objects to) s) size → HasBranchSize i size (as_signed (way a b))
-        by true e (inl same) = inr (inl (same, branch_short i (as_signed (way a b)) kind e (ap short_branch_reach (way_near to b is) ∙ at 2 same)))
-        by true e (inr (inl same)) = four same
-        by true e (inr (inr same)) = eight same
-        by false e (inl same) = four same
-        by false e (inr same) = eight same
+          four : size ≡ 4 → HasBranchSize branch size (as_signed (way a b))
+          four same = inl (same, ap branch_reach (way_near to b is) ∙ at 4 same)
 
-    jump_form : (i : Instr) (to : Place) (size : ℕ) → is_jal (Some i) ≡ true → IsForm (jump_piece objects to (is_short i)) size
-        → holds (jump_piece objects to (is_short i)) size a (address (target (jump_piece objects to (is_short i)))) ≡ true
-        → OfWay A a to (HasJumpSize i (width (jump_piece objects to (is_short i)) size a))
-    jump_form i to size kind form reach b is = by (is_short i) refl form reach
-      where
-        by :
-            (s : Bool) → is_short i ≡ s → IsForm (jump_piece objects to s) size
-            → holds (jump_piece objects to s) size a (address (target (jump_piece objects to s))) ≡ true
-            → HasJumpSize i (width (jump_piece objects to s) size a) (as_signed (way a b))
-        by true e (inl same) reach =
-            let at : short_jump_reach (distance a (address (number_of objects to))) ≡ true =
-            ap (λ m. holds (piece.Jump (number_of objects to)) m a (address (number_of objects to))) (sym same) ∙ reach in
-            inr (same, jump_short i (as_signed (way a b)) kind e (ap short_jump_reach (way_near to b is) ∙ at))
-        by true e (inr same) reach = inl (same, jal_near to b is)
-        by false e same reach = inl (same, jal_near to b is)
+          eight : size ≡ 8 → HasBranchSize branch size (as_signed (way a b))
+          eight same = inr (inr (same, long_near to b is))
+
+          by : (s : Bool) → short ≡ s → IsForm (piece.Branch (number_of objects to) s) size → HasBranchSize branch size (as_signed (way a b))
+          by true e (inl same) =
+              inr (inl (same, branch_short op first second (pos 0) (as_signed (way a b)) e (ap short_branch_reach (way_near to b is) ∙ at 2 same)))
+          by true e (inr (inl same)) = four same
+          by true e (inr (inr same)) = eight same
+          by false e (inl same) = four same
+          by false e (inr same) = eight same
+
+    module _ (rd : ℕ) where
+      abbrev short_jump : Bool
+      short_jump = is_short (instr.Jal rd (pos 0))
+
+      jump_form :
+          (to : Place) (size : ℕ) → IsForm (jump_piece objects to short_jump) size
+          → holds (jump_piece objects to short_jump) size a (address (target (jump_piece objects to short_jump))) ≡ true
+          → OfWay A a to (HasJumpSize rd (width (jump_piece objects to short_jump) size a))
+      jump_form to size form reach b is = by short_jump refl form reach
+        where
+          by :
+              (s : Bool) → short_jump ≡ s → IsForm (jump_piece objects to s) size
+              → holds (jump_piece objects to s) size a (address (target (jump_piece objects to s))) ≡ true
+              → HasJumpSize rd (width (jump_piece objects to s) size a) (as_signed (way a b))
+          by true e (inl same) reach =
+              let at : short_jump_reach (distance a (address (number_of objects to))) ≡ true =
+              ap (λ m. holds (piece.Jump (number_of objects to)) m a (address (number_of objects to))) (sym same) ∙ reach in
+              inr (same, jump_short rd (pos 0) (as_signed (way a b)) e (ap short_jump_reach (way_near to b is) ∙ at))
+          by true e (inr same) reach = inl (same, jal_near to b is)
+          by false e same reach = inl (same, jal_near to b is)
 
     -- ---- all items
 
@@ -161,21 +174,21 @@ module _
 
     -- an item may have the size that its piece has
     pub has_form :
-        (item : Item) (size : ℕ) → HasKind item → HasAlignment (piece_of objects item) → IsForm (piece_of objects item) size
+        (item : Item) (size : ℕ) → HasAlignment (piece_of objects item) → IsForm (piece_of objects item) size
         → holds (piece_of objects item) size a (address (target (piece_of objects item))) ≡ true
         → HasForm A a (width (piece_of objects item) size a) item
-    has_form (Op i) size kind aligned form reach = subst (HasSize i) (sym form) (instr_form i)
-    has_form (Hi i t) size kind aligned form reach = λ x is. subst (HasSize (with_upper i (hi20_of x))) (sym form) (part_form t (λ x. with_upper i (hi20_of x)) x is)
-    has_form (Lo i t) size kind aligned form reach = λ x is. subst (HasSize (with_imm i (lo12_of x))) (sym form) (part_form t (λ x. with_imm i (lo12_of x)) x is)
-    has_form (PcHi i t) size kind aligned form reach = form
-    has_form (PcLo i from) size kind aligned form reach = form
-    has_form (Branch i to) size kind aligned form reach = branch_form i to size kind form reach
-    has_form (Jump i to) size kind aligned form reach = jump_form i to size kind form reach
-    has_form (Call rd temp to) size kind aligned form reach = λ b is. inr (jump_form (instr.Jal rd (pos 0)) to size refl form reach b is)
-    has_form (Align bytes) size kind aligned form reach = align_form (power_above bytes) aligned
-    has_form (Word t) size kind aligned form reach = form
-    has_form (Raw word) size kind aligned form reach = form
-    has_form (RawPair first second) size kind aligned form reach = form
+    has_form (Op i) size aligned form reach = subst (HasSize i) (sym form) (instr_form i)
+    has_form (Hi i t) size aligned form reach = λ x is. subst (HasSize (with_upper i (hi20_of x))) (sym form) (part_form t (λ x. with_upper i (hi20_of x)) x is)
+    has_form (Lo i t) size aligned form reach = λ x is. subst (HasSize (with_imm i (lo12_of x))) (sym form) (part_form t (λ x. with_imm i (lo12_of x)) x is)
+    has_form (PcHi i t) size aligned form reach = form
+    has_form (PcLo i from) size aligned form reach = form
+    has_form (Branch op first second to) size aligned form reach = branch_form op first second to size form reach
+    has_form (Jump rd to) size aligned form reach = jump_form rd to size form reach
+    has_form (Call rd temp to) size aligned form reach = λ b is. inr (jump_form rd to size form reach b is)
+    has_form (Align bytes) size aligned form reach = align_form (power_above bytes) aligned
+    has_form (Word t) size aligned form reach = form
+    has_form (Raw word) size aligned form reach = form
+    has_form (RawPair first second) size aligned form reach = form
 
 -- ---- room of their own
 
@@ -212,8 +225,8 @@ width_some objects (Hi i t) size a solid form = omega (arith, form, part_some t 
 width_some objects (Lo i t) size a solid form = omega (arith, form, part_some t (λ x. with_imm i (lo12_of x)))
 width_some objects (PcHi i t) size a solid form = omega (arith, form)
 width_some objects (PcLo i from) size a solid form = omega (arith, form)
-width_some objects (Branch i to) size a solid form = branch_some (number_of objects to) (is_short i) size form
-width_some objects (Jump i to) size a solid form = jump_some objects to (is_short i) size a form
+width_some objects (Branch op first second to) size a solid form = branch_some (number_of objects to) (is_short (instr.Branch op first second (pos 0))) size form
+width_some objects (Jump rd to) size a solid form = jump_some objects to (is_short (instr.Jal rd (pos 0))) size a form
 width_some objects (Call rd temp to) size a solid form = jump_some objects to (is_short (instr.Jal rd (pos 0))) size a form
 width_some objects (Align bytes) size a solid form = absurd cc
 width_some objects (Word t) size a solid form = omega (arith, form)

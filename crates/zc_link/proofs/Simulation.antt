@@ -1,6 +1,7 @@
 -- A laid image keeps step with the program: the start is sound, each piece's law is its step, and cells of data lie apart from
 -- interrupts. So the image follows the program under every plan, and its file preserves the objects' program.
 use Rattle.std.proofs.Common.{◌≡◌, ℕ, List, Some, sym, ap, ◌∙◌, subst}
+use Rattle.zc_base.specs.declared.place.Place.{Place}
 use Rattle.interrupt_plan.specs.Plan.{IsPlan}
 use Rattle.rv_decode.specs.Run.{iterate}
 use Rattle.psabi_sym.specs.Inputs.{Inputs, parsed}
@@ -17,14 +18,14 @@ use Rattle.zc_link.proofs.Induction as induction
 use Rattle.zc_link.proofs.Pieces.{piece_comes, piece_inside, span_some}
 use Rattle.zc_link.proofs.Start.{starts}
 
-module _ (p : Program) (e : Image) (pace : Pace) (laid : Laid p e pace) where
-  pub simulates : Simulates p e pace
+module _ (p : Program) (Named : Place → Type 0) (e : Image) (pace : Pace) (laid : Laid p Named e pace) where
+  pub simulates : Simulates p Named e pace
   simulates = record {
     some = λ q. rw (laid.spans q) (span_some (laid.piece q));
     few = laid.few;
     step = λ r r' h cuts are z so same.
         let steps = ap (λ k. iterate (plain_turn p) k r) (sym (laid.spans r.core.place)) ∙ h in
-        subst (λ k. Comes p e cuts k z r') (sym (laid.weights r.core))
+        subst (λ k. Comes p Named e cuts k z r') (sym (laid.weights r.core))
         (piece_comes (laid.piece r.core.place) laid.room laid.leads cuts are so same (laid.each r.core.place z.core.pc so.place) steps);
     inside = λ k r r' some lt listed running h. piece_inside p e r r' (laid.piece r.core.place) k some (rw (laid.spans r.core.place) at lt);
     start = λ input bytes cuts are. starts laid input bytes cuts;
@@ -35,11 +36,12 @@ module _ (p : Program) (e : Image) (pace : Pace) (laid : Laid p e pace) where
   }
 
   pub follows : FollowsUnder IsPlan p e
-  follows = induction.follows p e pace simulates
+  follows = induction.follows p Named e pace simulates
 
 -- ---- files
 
 -- a file whose image is laid for the objects' program preserves it
 pub laid_preserves :
-    (inputs : Inputs) (elf : List ℕ) (e : Image) (pace : Pace) → image_in elf inputs.map ≡ Some e → Laid (program_of (parsed inputs)) e pace → Preserves inputs elf
-laid_preserves inputs elf e pace read laid = record { image = e; read = read; follows = follows (program_of (parsed inputs)) e pace laid }
+    (inputs : Inputs) (elf : List ℕ) (Named : Place → Type 0) (e : Image) (pace : Pace) → image_in elf inputs.map ≡ Some e → Laid (program_of (parsed inputs)) Named e pace
+    → Preserves inputs elf
+laid_preserves inputs elf Named e pace read laid = record { image = e; read = read; follows = follows (program_of (parsed inputs)) Named e pace laid }

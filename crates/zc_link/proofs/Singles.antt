@@ -2,6 +2,7 @@
 -- the instruction goes on from there, and the step's end makes the states sound again.
 use Rattle.std.proofs.Common.{◌≡◌, ℕ, ◌+◌, ◌%◌, ◌^◌, ◌<◌, List, ◌++◌, Some, Ok, sym, ap, ◌∙◌, inl, arith, drop}
 use Rattle.std.proofs.lemmas.List.{append-nil}
+use Rattle.zc_base.specs.declared.place.Place.{Place}
 use Rattle.interrupt_plan.specs.Plan.{AreCuts, Cut}
 use Rattle.rv_decode.specs.declared.instr.Instr.{Instr}
 use Rattle.rv_decode.specs.Effect.{Commits, effect}
@@ -22,8 +23,8 @@ use Rattle.zc_link.proofs.Ends.{ends_alike}
 use Rattle.zc_link.proofs.Instrs.{IsQuiet, Moves}
 
 -- a sound pair, a step of the program from it, and interrupts before each commit
-pub record FromSound (p : Program) (e : Image) (r r' : PlainState) (cuts : ℕ → List Cut) (z : ZcState) : Type 0 where
-  pub sound : Sound p e r.core z
+pub record FromSound (p : Program) (Named : Place → Type 0) (e : Image) (r r' : PlainState) (cuts : ℕ → List Cut) (z : ZcState) : Type 0 where
+  pub sound : Sound p Named e r.core z
   pub same : z.events ≡ r.events
   pub are : AreCuts cuts
   pub step : Stepped p r r'
@@ -34,9 +35,9 @@ below_top a b size same small = omega arith
 
 -- some commits, of which the last leaves states that are ready after the step's change, at a listed place
 pub comes_after :
-    {p : Program} {e : Image} {r r' : PlainState} {cuts : ℕ → List Cut} {z : ZcState} (from : FromSound p e r r' cuts z) (k : ℕ) (y : ZcCore)
-    → zc_turns cuts k z ≡ Ok (record z { core = y }) → Ready p e (after_change from.step.change r.core) y → IsQuiet from.step.change
-    → place_address e from.step.change.place ≡ Some y.pc → Comes p e cuts k z r'
+    {p : Program} {Named : Place → Type 0} {e : Image} {r r' : PlainState} {cuts : ℕ → List Cut} {z : ZcState} (from : FromSound p Named e r r' cuts z) (k : ℕ) (y : ZcCore)
+    → zc_turns cuts k z ≡ Ok (record z { core = y }) → Ready p Named e (after_change from.step.change r.core) y → IsQuiet from.step.change
+    → place_address e from.step.change.place ≡ Some y.pc → Comes p Named e cuts k z r'
 comes_after {e = e} {r = r} {z = z} from k y runs ready quiet place = record {
   after = record z { core = y };
   runs = runs;
@@ -50,11 +51,11 @@ comes_after {e = e} {r = r} {z = z} from k y runs ready quiet place = record {
 
 -- an instruction that moves to a listed place, from every state that the interrupts may leave
 pub single_comes :
-    {p : Program} {e : Image} {r r' : PlainState} {cuts : ℕ → List Cut} {z : ZcState} {i : Instr}
-    → Room p e → (from : FromSound p e r r' cuts z) → (laid : AloneLaid p e r.core.place z.core.pc i)
-    → ((y : ZcCore) → y.pc ≡ z.core.pc → Alike p e r.core y → place_address e (p.next r.core.place) ≡ Some ((y.pc + laid.at.size) % 2 ^ 32)
-    → Moves p e i laid.at.size from.step.change r.core y)
-    → Comes p e cuts 1 z r'
+    {p : Program} {Named : Place → Type 0} {e : Image} {r r' : PlainState} {cuts : ℕ → List Cut} {z : ZcState} {i : Instr}
+    → Room p e → (from : FromSound p Named e r r' cuts z) → (laid : AloneLaid p e r.core.place z.core.pc i)
+    → ((y : ZcCore) → y.pc ≡ z.core.pc → Alike p Named e r.core y → place_address e (p.next r.core.place) ≡ Some ((y.pc + laid.at.size) % 2 ^ 32)
+    → Moves p Named e i laid.at.size from.step.change r.core y)
+    → Comes p Named e cuts 1 z r'
 single_comes {p} {e} {r} {r'} {cuts} {z} room from laid law =
     let w = after_cuts room (cuts 0) (from.are 0) laid.at from.sound.alike in
     let moves = law w.now w.pc w.alike (laid.next ∙ ap Some (below_top z.core.pc w.now.pc laid.at.size w.pc laid.at.small)) in

@@ -4,10 +4,11 @@ use Rattle.zc_base.specs.declared.place.Place.{Place}
 use Rattle.psabi_sym.specs.Faults.{power_above}
 use Rattle.block_cut.specs.declared.item.Item.{Item}
 use Rattle.block_cut.specs.declared.item.Item.TheVariants.{Op, Hi, Lo, PcHi, PcLo, Branch, Jump, Call, Align, Word, Raw, RawPair}
+use Rattle.sym_machine.specs.Conditions.{condition}
 use Rattle.sym_machine.specs.Program.{Program}
-use Rattle.sym_machine.specs.State.{PlainCore}
+use Rattle.sym_machine.specs.State.{PlainCore, reg_of}
 use Rattle.zc_link.specs.Image.{Image}
-use Rattle.zc_link.specs.Pace.{branch_condition, item_commits, listed_size, long_commits, padding_commits}
+use Rattle.zc_link.specs.Pace.{item_commits, listed_size, long_commits, padding_commits}
 use Rattle.zc_link.specs.Pieces.{AlignOf, Alone, CallOf, LongOf, Piece, commits_of, span_of, taken_at}
 
 -- what starts at a place, by its item and its size: padding is so many instructions, and in eight bytes a branch and a call are two
@@ -18,8 +19,8 @@ sized_piece (Some (Hi i t)) n = Alone
 sized_piece (Some (Lo i t)) n = Alone
 sized_piece (Some (PcHi i t)) n = Alone
 sized_piece (Some (PcLo i from)) n = Alone
-sized_piece (Some (Branch i to)) n = cond (eqb n 8) LongOf Alone
-sized_piece (Some (Jump i to)) n = Alone
+sized_piece (Some (Branch op first second to)) n = cond (eqb n 8) LongOf Alone
+sized_piece (Some (Jump rd to)) n = Alone
 sized_piece (Some (Call rd temp to)) n = cond (eqb n 8) CallOf Alone
 sized_piece (Some (Align bytes)) n = AlignOf (padding_commits n)
 sized_piece (Some (Word t)) n = Alone
@@ -45,12 +46,12 @@ commits_are p s n (Some (Hi i t)) is = refl
 commits_are p s n (Some (Lo i t)) is = refl
 commits_are p s n (Some (PcHi i t)) is = refl
 commits_are p s n (Some (PcLo i from)) is = refl
-commits_are p s n (Some (Branch i to)) is = by (eqb n 8)
+commits_are p s n (Some (Branch op first second to)) is = by (eqb n 8)
   where
-    by : (b : Bool) → cond b (long_commits (branch_condition p s i)) 1 ≡ commits_of p s (cond b LongOf Alone)
+    by : (b : Bool) → cond b (long_commits (condition p op (reg_of s first) (reg_of s second))) 1 ≡ commits_of p s (cond b LongOf Alone)
     by true = ap (λ x. long_commits (taken_at p s x)) (sym is)
     by false = refl
-commits_are p s n (Some (Jump i to)) is = refl
+commits_are p s n (Some (Jump rd to)) is = refl
 commits_are p s n (Some (Call rd temp to)) is = by (eqb n 8)
   where
     by : (b : Bool) → cond b 2 1 ≡ commits_of p s (cond b CallOf Alone)
@@ -69,14 +70,14 @@ few_commits p s n (Some (Hi i t)) short = omega arith
 few_commits p s n (Some (Lo i t)) short = omega arith
 few_commits p s n (Some (PcHi i t)) short = omega arith
 few_commits p s n (Some (PcLo i from)) short = omega arith
-few_commits p s n (Some (Branch i to)) short = by (eqb n 8) (branch_condition p s i)
+few_commits p s n (Some (Branch op first second to)) short = by (eqb n 8) (condition p op (reg_of s first) (reg_of s second))
   where
     by : (b : Bool) (taken : Option Bool) → cond b (long_commits taken) 1 ≤ 64
     by true None = omega arith
     by true (Some false) = omega arith
     by true (Some true) = omega arith
     by false taken = omega arith
-few_commits p s n (Some (Jump i to)) short = omega arith
+few_commits p s n (Some (Jump rd to)) short = omega arith
 few_commits p s n (Some (Call rd temp to)) short = by (eqb n 8)
   where
     by : (b : Bool) → cond b 2 1 ≤ 64

@@ -1,66 +1,38 @@
--- What is known of each item of inputs without a fault: its words spell what it is, and what it leads to has an address.
-use Rattle.std.proofs.Common.{◌≡◌, ℕ, ◌+◌, ◌≤◌, ℤ, pos, List, length, Option, Some, None, Bool, true, false, cond, eqb, refl, sym, ap, ◌∙◌, subst, arith}
+-- What is known of each item of inputs without a fault: its bytes, of which it has so many, spell what it is, and what it leads to has an
+-- address.
+use Rattle.std.proofs.Common.{◌≡◌, ℕ, ◌+◌, ℤ, List, length, Option, Some, None, Bool, true, false, cond, eqb, refl, sym, ap, ◌∙◌, subst, arith}
 use Rattle.std.specs.Prelude.{◌&&◌, not}
 use Rattle.std.specs.Option.{is_some, option_and_then, option_map_or}
 use Rattle.std.proofs.lemmas.Bool.{and_parts, eqb-true, or_left, or_right}
-use Rattle.zc_base.specs.Fields.{word_in}
 use Rattle.zc_base.specs.declared.place.Place.{Place}
 use Rattle.elf32_read.specs.Parts.{ObjectParts, SectionParts}
 use Rattle.elf32_read.specs.declared.reloc.Reloc.{Reloc}
-use Rattle.psabi_reloc.specs.Kinds.{is_auipc, is_auipc_op, is_branch, is_call, is_jal, is_lui, is_store, is_sum, kind_of}
-use Rattle.psabi_reloc.specs.Patched.{with_distance}
+use Rattle.psabi_reloc.specs.Kinds.{field_length, is_auipc, is_auipc_op, is_call, is_lui, is_store, is_sum, kind_of}
 use Rattle.psabi_reloc.specs.declared.kind.RelocKind.{RelocKind}
 use Rattle.psabi_reloc.specs.declared.kind.RelocKind.TheVariants as kind
 use Rattle.psabi_sym.specs.Faults.{gather_fault}
 use Rattle.psabi_sym.specs.Inputs.{Inputs, ParsedInputs, parsed}
 use Rattle.psabi_sym.specs.declared.target.Target.{Target}
 use Rattle.psabi_sym.specs.declared.target.Target.TheVariants.{Code, Number, Absent, Nowhere}
-use Rattle.rv_decode.specs.Decode.{decoded}
 use Rattle.rv_decode.specs.declared.instr.Instr.{Instr}
 use Rattle.rv_decode.specs.declared.instr.Instr.TheVariants as instr
 use Rattle.rv_decode.specs.declared.instr.UpperOp.{UpperOp}
 use Rattle.rv_decode.specs.declared.instr.UpperOp.TheVariants.{Lui, Auipc}
-use Rattle.block_cut.specs.Faults.{first_fault, is_lost}
-use Rattle.block_cut.specs.Items.{call_item, code_at, is_target_at, item_at, item_in, item_under, known_item, of_instr, place_away, size_on, spelled, target_away, target_of, target_only, to_place}
-use Rattle.block_cut.specs.Relocs.{fits_at, is_pcrel_lo, is_transfer, reloc_on}
+use Rattle.block_cut.specs.Faults.{first_fault, is_bad_target}
+use Rattle.block_cut.specs.Items.{call_item, code_at, is_target_at, item_at, item_in, item_under, known_item, of_instr, place_away, raw_in, raw_pair, size_at, size_on, spelled, target_away, target_of, target_only, to_place, transfer_item}
+use Rattle.block_cut.specs.Relocs.{field_of, fits_at, instr_in, is_bad_kind, is_ignored, is_pcrel_lo, is_transfer, reloc_on}
+use Rattle.block_cut.specs.Units.{own_size}
 use Rattle.block_cut.specs.declared.item.Item.{Item}
-use Rattle.block_cut.specs.declared.item.Item.TheVariants.{Op, Hi, Lo, PcHi, PcLo, Branch, Jump, Call, Align, Word, Raw, RawPair}
-use Rattle.block_cut.proofs.ItemLaws.{Bytes, Padding, Takes, item_takes}
+use Rattle.block_cut.specs.declared.item.Item.TheVariants.{Hi, Lo, PcHi, PcLo, Branch, Jump}
 use Rattle.block_cut.proofs.ListedLaws.{listed}
 use Rattle.block_cut.proofs.PlainLaws.{item_here}
-use Rattle.block_cut.proofs.SoundLaws.{sound_at}
+use Rattle.block_cut.proofs.SoundLaws.{rvc_bad, sound_at}
 use Rattle.block_cut.proofs.StartLaws.{start_is, step}
 use Rattle.block_cut.proofs.WholeLaws.{code_is_section}
 use Rattle.zc_link.specs.LaidOut.{IsLaidOut}
-use Rattle.zc_link.specs.Standing.{GoesWith, HasValue, IsReady, ItemStands, SpellsKind, SpellsWay, StandsHere, bytes_read, is_lower}
+use Rattle.zc_link.specs.Standing.{GoesWith, HasOwnSize, HasValue, IsReady, ItemStands, SpellsKind, SpellsWay, StandsHere, is_lower}
 use Rattle.zc_link.proofs.Faultless.{all_none, reloc_good, reloc_value, target_listed}
 use Rattle.zc_link.proofs.Pairs.{goes_with}
-
--- an item is read from no more bytes than it takes
-read_takes : (i : Item) (n : ℕ) → Takes i n → bytes_read i ≤ n
-read_takes (Align m) n takes = omega arith
-read_takes (Op i) n (Bytes is) = omega (arith, is 0)
-read_takes (Hi i t) n (Bytes is) = omega (arith, is 0)
-read_takes (Lo i t) n (Bytes is) = omega (arith, is 0)
-read_takes (PcHi i t) n (Bytes is) = omega (arith, is 0)
-read_takes (PcLo i from) n (Bytes is) = omega (arith, is 0)
-read_takes (Branch i to) n (Bytes is) = omega (arith, is 0)
-read_takes (Jump i to) n (Bytes is) = omega (arith, is 0)
-read_takes (Call rd temp to) n (Bytes is) = omega (arith, is 0)
-read_takes (Word t) n (Bytes is) = omega (arith, is 0)
-read_takes (Raw word) n (Bytes is) = omega (arith, is 0)
-read_takes (RawPair first second) n (Bytes is) = omega (arith, is 0)
-read_takes (Op i) n (Padding is p) = absurd cc
-read_takes (Hi i t) n (Padding is p) = absurd cc
-read_takes (Lo i t) n (Padding is p) = absurd cc
-read_takes (PcHi i t) n (Padding is p) = absurd cc
-read_takes (PcLo i from) n (Padding is p) = absurd cc
-read_takes (Branch i to) n (Padding is p) = absurd cc
-read_takes (Jump i to) n (Padding is p) = absurd cc
-read_takes (Call rd temp to) n (Padding is p) = absurd cc
-read_takes (Word t) n (Padding is p) = absurd cc
-read_takes (Raw word) n (Padding is p) = absurd cc
-read_takes (RawPair first second) n (Padding is p) = absurd cc
 
 -- objects without a fault have none between them
 pub gathered : (inputs : Inputs) → first_fault inputs ≡ None → gather_fault inputs ≡ None
@@ -83,95 +55,125 @@ module _ (inputs : Inputs) (none : gather_fault inputs ≡ None) (ready : IsRead
   p = parsed inputs
 
   module _ (q : Place) (s : SectionParts) (at : code_at p.objects q ≡ Some s) where
-    abbrev word : ℕ
-    word = word_in s.bytes q.offset
+    abbrev n : ℕ
+    n = q.offset
 
-    abbrev second : ℕ
-    second = word_in s.bytes (q.offset + 4)
+    -- the bytes of what stands here, and the instructions that they spell
+    abbrev own : ℕ
+    own = size_on s n
+
+    abbrev one : Option Instr
+    one = instr_in own s.bytes n
+
+    abbrev two : Option Instr
+    two = instr_in 4 s.bytes (n + 4)
+
+    -- what is copied unread
+    abbrev raw : Item
+    raw = raw_in own s.bytes n
 
     abbrev Stands : Item → Type 0
-    Stands i = ItemStands A (item_at p) word second i
+    Stands i = ItemStands A (item_at p) one two i × HasOwnSize i own
 
     -- a branch or a jump to a place
-    way_stands : (is_kind : Option Instr → Bool) (i : Instr) (to : Place) → decoded word ≡ Some i → is_kind (Some i) ≡ true → is_target_at p.objects to ≡ true → SpellsWay A is_kind word (with_distance i (pos 0)) to
-    way_stands is_kind i to spells kind target =
+    way_stands : (i : ℤ → Instr) (distance : ℤ) (to : Place) → one ≡ Some (i distance) → is_target_at p.objects to ≡ true → SpellsWay A one i to
+    way_stands i distance to spells target =
         let there = target_listed p A targets to target in
-        record { first = i; spelled = record { spells = spells; kind = kind }; is = refl; address = there.0; listed = there.1 }
+        record { distance = distance; spells = spells; address = there.0; listed = there.1 }
 
     -- an item without a relocation
-    bare : (d : Option Instr) → decoded word ≡ d → Stands (spelled p.objects q d word)
-    bare None e = tt
-    bare (Some (instr.Upper op rd imm)) e = e
-    bare (Some (instr.Jalr rd base imm)) e = e
-    bare (Some (instr.Load op rd base imm)) e = e
-    bare (Some (instr.Store op source base imm)) e = e
-    bare (Some (instr.WithImm op rd first imm)) e = e
-    bare (Some (instr.WithReg op rd left right)) e = e
-    bare (Some (instr.Fence rest)) e = e
-    bare (Some instr.Ecall) e = e
-    bare (Some instr.Ebreak) e = e
-    bare (Some (instr.Csrrw rd source)) e = tt
-    bare (Some (instr.Jal rd distance)) e = by (target_away p.objects q distance) refl
+    bare : (d : Option Instr) → one ≡ d → own ≡ 4 → Stands (spelled p.objects q d raw)
+    bare None e four = (tt, four)
+    bare (Some (instr.Upper op rd imm)) e four = (e, four)
+    bare (Some (instr.Jalr rd base imm)) e four = (e, four)
+    bare (Some (instr.Load op rd base imm)) e four = (e, four)
+    bare (Some (instr.Store op source base imm)) e four = (e, four)
+    bare (Some (instr.WithImm op rd first imm)) e four = (e, four)
+    bare (Some (instr.WithReg op rd left right)) e four = (e, four)
+    bare (Some (instr.Fence rest)) e four = (e, four)
+    bare (Some instr.Ecall) e four = (e, four)
+    bare (Some instr.Ebreak) e four = (e, four)
+    bare (Some (instr.Csrrw rd source)) e four = (tt, four)
+    bare (Some (instr.Jal rd distance)) e four = by (target_away p.objects q distance) refl
       where
-        by : (o : Option Place) → target_away p.objects q distance ≡ o → Stands (option_map_or (Jump (instr.Jal rd (pos 0))) o (Raw word))
-        by None away = tt
-        by (Some to) away = way_stands is_jal (instr.Jal rd distance) to e refl (away_target p.objects q to distance away)
-    bare (Some (instr.Branch op left right distance)) e = by (target_away p.objects q distance) refl
+        by : (o : Option Place) → target_away p.objects q distance ≡ o → Stands (option_map_or (Jump rd) o raw)
+        by None away = (tt, four)
+        by (Some to) away = (way_stands (instr.Jal rd) distance to e (away_target p.objects q to distance away), four)
+    bare (Some (instr.Branch op left right distance)) e four = by (target_away p.objects q distance) refl
       where
-        by : (o : Option Place) → target_away p.objects q distance ≡ o → Stands (option_map_or (Branch (instr.Branch op left right (pos 0))) o (Raw word))
-        by None away = tt
-        by (Some to) away = way_stands is_branch (instr.Branch op left right distance) to e refl (away_target p.objects q to distance away)
+        by : (o : Option Place) → target_away p.objects q distance ≡ o → Stands (option_map_or (Branch op left right) o raw)
+        by None away = (tt, four)
+        by (Some to) away = (way_stands (instr.Branch op left right) distance to e (away_target p.objects q to distance away), four)
 
     -- ---- with one
 
     -- a place where it may lead
-    target_is : (t : Target) (to : Place) (transfers : Bool) → is_lost p.objects transfers t ≡ false → t ≡ Code to → is_target_at p.objects to ≡ true
-    target_is t to transfers lost is = not_false (is_target_at p.objects to) (ap (is_lost p.objects transfers) (sym is) ∙ lost)
+    target_is : (t : Target) (to : Place) (transfers : Bool) → is_bad_target p.objects transfers t ≡ false → t ≡ Code to → is_target_at p.objects to ≡ true
+    target_is t to transfers lost is = not_false (is_target_at p.objects to) (ap (is_bad_target p.objects transfers) (sym is) ∙ lost)
       where
         not_false : (b : Bool) → not b ≡ false → b ≡ true
         not_false true h = refl
         not_false false h = absurd cc
 
     -- an instruction with a part of an address
-    parted : (is_kind : Option Instr → Bool) (f : Instr → Item) (d : Option Instr) → decoded word ≡ d → is_kind d ≡ true → ((i : Instr) → SpellsKind is_kind word i → Stands (f i)) → Stands (of_instr d word f)
-    parted is_kind f None e kind each = tt
-    parted is_kind f (Some i) e kind each = each i (record { spells = e; kind = kind })
+    parted :
+        (is_kind : Option Instr → Bool) (f : Instr → Item) (d : Option Instr) → one ≡ d → own ≡ 4 → is_kind d ≡ true
+        → ((i : Instr) → SpellsKind is_kind one i → Stands (f i)) → Stands (of_instr d raw f)
+    parted is_kind f None e four kind each = (tt, four)
+    parted is_kind f (Some i) e four kind each = each i (record { spells = e; kind = kind })
 
     -- a branch or a jump
-    led : (is_kind : Option Instr → Bool) (item : Instr → Place → Item) (d : Option Instr) (t : Target) → decoded word ≡ d → is_kind d ≡ true → is_lost p.objects true t ≡ false
-        → ((i : Instr) (to : Place) → SpellsWay A is_kind word (with_distance i (pos 0)) to → Stands (item (with_distance i (pos 0)) to))
-        → Stands (of_instr d word (λ i. to_place t (item (with_distance i (pos 0))) (Raw word)))
-    led is_kind item None t e kind lost each = tt
-    led is_kind item (Some i) (Code to) e kind lost each = each i to (way_stands is_kind i to e kind (target_is (Code to) to true lost refl))
-    led is_kind item (Some i) (Number n) e kind lost each = tt
-    led is_kind item (Some i) (Absent n) e kind lost each = tt
-    led is_kind item (Some i) Nowhere e kind lost each = tt
+    transferred : (i : Instr) (to : Place) → one ≡ Some i → own ≡ 4 → is_target_at p.objects to ≡ true → Stands (transfer_item i raw to)
+    transferred (instr.Branch op left right distance) to e four target = (way_stands (instr.Branch op left right) distance to e target, four)
+    transferred (instr.Jal rd distance) to e four target = (way_stands (instr.Jal rd) distance to e target, four)
+    transferred i to e four target = (tt, four)
+
+    led :
+        (d : Option Instr) (t : Target) → one ≡ d → own ≡ 4 → is_bad_target p.objects true t ≡ false
+        → Stands (of_instr d raw (λ i. to_place t (transfer_item i raw) raw))
+    led None t e four lost = (tt, four)
+    led (Some i) (Code to) e four lost = transferred i to e four (target_is (Code to) to true lost refl)
+    led (Some i) (Number k) e four lost = (tt, four)
+    led (Some i) (Absent k) e four lost = (tt, four)
+    led (Some i) Nowhere e four lost = (tt, four)
 
     -- a call
-    called : (d d2 : Option Instr) (t : Target) → decoded word ≡ d → decoded second ≡ d2 → is_call d d2 ≡ true → is_lost p.objects true t ≡ false
-        → Stands (to_place t (call_item d d2 (RawPair word second)) (RawPair word second))
-    called d d2 (Number n) e e2 kind lost = tt
-    called d d2 (Absent n) e e2 kind lost = tt
-    called d d2 Nowhere e e2 kind lost = tt
-    called (Some (instr.Upper op temp upper)) (Some (instr.Jalr rd base lower)) (Code to) e e2 kind lost =
+    called :
+        (d d2 : Option Instr) (t : Target) → one ≡ d → two ≡ d2 → own ≡ 8 → is_call d d2 ≡ true → is_bad_target p.objects true t ≡ false
+        → Stands (to_place t (call_item d d2 (raw_pair s.bytes n)) (raw_pair s.bytes n))
+    called d d2 (Number k) e e2 eight kind lost = (tt, eight)
+    called d d2 (Absent k) e e2 eight kind lost = (tt, eight)
+    called d d2 Nowhere e e2 eight kind lost = (tt, eight)
+    called (Some (instr.Upper op temp upper)) (Some (instr.Jalr rd base lower)) (Code to) e e2 eight kind lost =
         let there = target_listed p A targets to (target_is (Code to) to true lost refl) in
-        let two = and_parts (is_auipc_op op) (eqb base temp) kind in
-        let same : base ≡ temp = eqb-true base temp two.1 in
-        record { upper = upper; lower = lower; first_spells = by op two.0 e; second_spells = e2 ∙ ap (λ b. Some (instr.Jalr rd b lower)) same; address = there.0; listed = there.1 }
+        let tests = and_parts (is_auipc_op op) (eqb base temp) kind in
+        let same : base ≡ temp = eqb-true base temp tests.1 in (
+          record {
+            upper = upper;
+            lower = lower;
+            first_spells = by op tests.0 e;
+            second_spells = e2 ∙ ap (λ b. Some (instr.Jalr rd b lower)) same;
+            address = there.0;
+            listed = there.1;
+          },
+          eight,
+        )
       where
-        by : (op : UpperOp) → is_auipc_op op ≡ true → decoded word ≡ Some (instr.Upper op temp upper) → decoded word ≡ Some (instr.Upper Auipc temp upper)
+        by : (op : UpperOp) → is_auipc_op op ≡ true → one ≡ Some (instr.Upper op temp upper) → one ≡ Some (instr.Upper Auipc temp upper)
         by Lui h e = absurd cc
         by Auipc h e = e
-    called d d2 (Code to) e e2 kind lost = tt
+    called d d2 (Code to) e e2 eight kind lost = (tt, eight)
 
     -- the lower part of a way
-    lowered : (is_kind : Option Instr → Bool) (d : Option Instr) (t : Target) → decoded word ≡ d → is_kind d ≡ true → ((i : Instr) → is_kind (Some i) ≡ true → is_lower (Some i) ≡ true)
-        → ((from : Place) → t ≡ Code from → GoesWith A (item_at p) from) → Stands (of_instr d word (λ i. to_place t (PcLo i) (Raw word)))
-    lowered is_kind None t e kind lower pair = tt
-    lowered is_kind (Some i) (Code from) e kind lower pair = (record { spells = e; kind = lower i kind }, pair from refl)
-    lowered is_kind (Some i) (Number n) e kind lower pair = tt
-    lowered is_kind (Some i) (Absent n) e kind lower pair = tt
-    lowered is_kind (Some i) Nowhere e kind lower pair = tt
+    lowered :
+        (is_kind : Option Instr → Bool) (d : Option Instr) (t : Target) → one ≡ d → own ≡ 4 → is_kind d ≡ true
+        → ((i : Instr) → is_kind (Some i) ≡ true → is_lower (Some i) ≡ true)
+        → ((from : Place) → t ≡ Code from → GoesWith A (item_at p) from) → Stands (of_instr d raw (λ i. to_place t (PcLo i) raw))
+    lowered is_kind None t e four kind lower pair = (tt, four)
+    lowered is_kind (Some i) (Code from) e four kind lower pair = ((record { spells = e; kind = lower i kind }, pair from refl), four)
+    lowered is_kind (Some i) (Number k) e four kind lower pair = (tt, four)
+    lowered is_kind (Some i) (Absent k) e four kind lower pair = (tt, four)
+    lowered is_kind (Some i) Nowhere e four kind lower pair = (tt, four)
 
     sums : (i : Instr) → is_sum (Some i) ≡ true → is_lower (Some i) ≡ true
     sums i h = or_left (is_sum (Some i)) (is_store (Some i)) h
@@ -179,59 +181,88 @@ module _ (inputs : Inputs) (none : gather_fault inputs ≡ None) (ready : IsRead
     stores : (i : Instr) → is_store (Some i) ≡ true → is_lower (Some i) ≡ true
     stores i h = or_right (is_sum (Some i)) (is_store (Some i)) h
 
-    -- by the relocation's kind
-    by_kind : (r : Reloc) → reloc_on s q.offset ≡ Some r → (k : Option RelocKind) → kind_of r.kind ≡ k → fits_at s q.offset r.addend k ≡ true → is_lost p.objects (is_transfer k) (target_of p q.object r) ≡ false
-        → HasValue A (target_of p q.object r) → Stands (known_item k r.addend (target_of p q.object r) word second)
-    by_kind r on None k fits lost has = tt
-    by_kind r on (Some kind.Ignored) k fits lost has = tt
-    by_kind r on (Some kind.Word) k fits lost has = has
-    by_kind r on (Some kind.Branch) k fits lost has = led is_branch Branch (decoded word) (target_of p q.object r) refl fits lost (λ i to way. way)
-    by_kind r on (Some kind.Jal) k fits lost has = led is_jal Jump (decoded word) (target_of p q.object r) refl fits lost (λ i to way. way)
-    by_kind r on (Some kind.Call) k fits lost has = called (decoded word) (decoded second) (target_of p q.object r) refl refl fits lost
-    by_kind r on (Some kind.PcrelHi20) k fits lost has = parted is_auipc (λ i. PcHi i (target_of p q.object r)) (decoded word) refl fits (λ i spells. (spells, has))
-    by_kind r on (Some kind.PcrelLo12I) k fits lost has =
-        lowered is_sum (decoded word) (target_of p q.object r) refl fits sums
-        (λ from leads. goes_with inputs ready.faultless A targets q from s r at on (ap is_pcrel_lo k) leads (target_is (target_of p q.object r) from false lost leads))
-    by_kind r on (Some kind.PcrelLo12S) k fits lost has =
-        lowered is_store (decoded word) (target_of p q.object r) refl fits stores
-        (λ from leads. goes_with inputs ready.faultless A targets q from s r at on (ap is_pcrel_lo k) leads (target_is (target_of p q.object r) from false lost leads))
-    by_kind r on (Some kind.Hi20) k fits lost has = parted is_lui (λ i. Hi i (target_of p q.object r)) (decoded word) refl fits (λ i spells. (spells, has))
-    by_kind r on (Some kind.Lo12I) k fits lost has =
-        parted is_sum (λ i. Lo i (target_of p q.object r)) (decoded word) refl fits (λ i spells. (record { spells = spells.spells; kind = sums i spells.kind }, has))
-    by_kind r on (Some kind.Lo12S) k fits lost has =
-        parted is_store (λ i. Lo i (target_of p q.object r)) (decoded word) refl fits (λ i spells. (record { spells = spells.spells; kind = stores i spells.kind }, has))
-    by_kind r on (Some kind.Align) k fits lost has = tt
+    module _
+        (r : Reloc) (on : reloc_on s n ≡ Some r)
+        (has : is_ignored (kind_of r.kind) ≡ false → HasValue A (target_of p q.object r)) where
+      abbrev t : Target
+      t = target_of p q.object r
+
+      -- the `auipc` of a lower part
+      paired :
+          (k : Option RelocKind) → kind_of r.kind ≡ k → is_pcrel_lo k ≡ true → is_bad_target p.objects false t ≡ false
+          → (from : Place) → t ≡ Code from → GoesWith A (item_at p) from
+      paired k is lo lost from leads =
+          goes_with inputs ready.faultless A targets q from s r at on (ap is_pcrel_lo is ∙ lo) leads (target_is t from false lost leads)
+
+      -- by the relocation's kind
+      by_kind :
+          (k : Option RelocKind) → kind_of r.kind ≡ k → own ≡ field_length k r.addend → is_ignored k ≡ false → is_bad_kind s k ≡ false
+          → fits_at s n r.addend k ≡ true → is_bad_target p.objects (is_transfer k) t ≡ false → Stands (known_item k r.addend t s.bytes n)
+      by_kind None is size asks known fits lost = absurd cc
+      by_kind (Some kind.Ignored) is size asks known fits lost = absurd cc
+      by_kind (Some kind.Word) is size asks known fits lost = (has (ap is_ignored is), size)
+      by_kind (Some kind.Branch) is size asks known fits lost = led one t refl size lost
+      by_kind (Some kind.Jal) is size asks known fits lost = led one t refl size lost
+      by_kind (Some kind.Call) is size asks known fits lost = called one two t refl refl size fits lost
+      by_kind (Some kind.PcrelHi20) is size asks known fits lost =
+          parted is_auipc (λ i. PcHi i t) one refl size fits (λ i spells. ((spells, has (ap is_ignored is)), size))
+      by_kind (Some kind.PcrelLo12I) is size asks known fits lost =
+          lowered is_sum one t refl size fits sums (paired (Some kind.PcrelLo12I) is refl lost)
+      by_kind (Some kind.PcrelLo12S) is size asks known fits lost =
+          lowered is_store one t refl size fits stores (paired (Some kind.PcrelLo12S) is refl lost)
+      by_kind (Some kind.Hi20) is size asks known fits lost =
+          parted is_lui (λ i. Hi i t) one refl size fits (λ i spells. ((spells, has (ap is_ignored is)), size))
+      by_kind (Some kind.Lo12I) is size asks known fits lost =
+          parted is_sum (λ i. Lo i t) one refl size fits
+          (λ i spells. ((record { spells = spells.spells; kind = sums i spells.kind }, has (ap is_ignored is)), size))
+      by_kind (Some kind.Lo12S) is size asks known fits lost =
+          parted is_store (λ i. Lo i t) one refl size fits
+          (λ i spells. ((record { spells = spells.spells; kind = stores i spells.kind }, has (ap is_ignored is)), size))
+      by_kind (Some kind.RvcBranch) is size asks known fits lost = absurd (rvc_bad s kind.RvcBranch refl known)
+      by_kind (Some kind.RvcJump) is size asks known fits lost = absurd (rvc_bad s kind.RvcJump refl known)
+      by_kind (Some kind.Align) is size asks known fits lost = (tt, size)
 
     -- an item
     pub item_stands : (item : Item) → item_at p q ≡ Some item → Stands item
     item_stands item is =
-        let own = item_here inputs none q item is in
-        let same : own.section ≡ s = cc (sym own.code ∙ at) in
-        subst Stands (ap (λ t. item_in p t q) (sym same) ∙ own.item) (by (reloc_on s q.offset) refl)
+        let here = item_here inputs none q item is in
+        let same : here.section ≡ s = cc (sym here.code ∙ at) in
+        subst Stands (ap (λ t. item_in p t q) (sym same) ∙ here.item) (by (reloc_on s n) refl)
       where
-        by : (o : Option Reloc) → reloc_on s q.offset ≡ o → Stands (item_under p q o word second)
-        by None on = bare (decoded word) refl
+        by : (o : Option Reloc) → reloc_on s n ≡ o → Stands (item_under p q o own s.bytes)
+        by None on = bare one refl (ap (λ o. option_map_or field_of o (own_size s.compressed s.bytes n)) on)
         by (Some r) on =
-            let two = code_is_section p.objects q s at in
-            let sound = sound_at s q.offset r two.1 on in
-            let fine = reloc_good inputs ready.faultless q.object q.section q.offset s r two.0 on in
-            let lost : is_lost p.objects (is_transfer (kind_of r.kind)) (target_of p q.object r) ≡ false =
-            ap (λ b. not b && is_lost p.objects (is_transfer (kind_of r.kind)) (target_of p q.object r)) (sym sound.asks) ∙ fine.leads in
-            by_kind r on (kind_of r.kind) refl sound.fits lost (reloc_value p A targets (listed q.object q.section s) r sound.asks fine)
+            let section = code_is_section p.objects q s at in
+            let sound = sound_at s n r section.1 on in
+            let fine = reloc_good inputs ready.faultless q.object q.section n s r section.0 on in
+            let transfers = is_transfer (kind_of r.kind) in
+            let t = target_of p q.object r in
+            let lost : is_bad_target p.objects transfers t ≡ false =
+            ap (λ b. not b && is_bad_target p.objects transfers t) (sym sound.asks) ∙ fine.leads in
+            by_kind r on (λ asks. reloc_value p A targets (listed q.object q.section s) r asks fine) (kind_of r.kind) refl
+            (ap (λ o. option_map_or field_of o (own_size s.compressed s.bytes n)) on) sound.asks sound.known sound.fits lost
+
+  -- the bytes that an item has in its object
+  pub item_own : (q : Place) (item : Item) → item_at p q ≡ Some item → HasOwnSize item (size_at p.objects q)
+  item_own q item is =
+      let here = item_here inputs none q item is in
+      subst (HasOwnSize item) (sym here.size) (item_stands q here.section here.code item is).1
 
 -- an item stands where the text so far ends
-pub stands_here : (inputs : Inputs) → gather_fault inputs ≡ None → IsReady inputs → (A : Place → Option ℕ) → IsLaidOut (parsed inputs) A → (q : Place) (s : SectionParts) (item : Item) (text : List ℕ)
-    → code_at (parsed inputs).objects q ≡ Some s → item_at (parsed inputs) q ≡ Some item → A q ≡ Some (inputs.map.text + length text) → StandsHere (parsed inputs) A s.bytes q item text
+pub stands_here :
+    (inputs : Inputs) → gather_fault inputs ≡ None → IsReady inputs → (A : Place → Option ℕ) → IsLaidOut (parsed inputs) A
+    → (q : Place) (s : SectionParts) (item : Item) (text : List ℕ) → code_at (parsed inputs).objects q ≡ Some s
+    → item_at (parsed inputs) q ≡ Some item → A q ≡ Some (inputs.map.text + length text) → StandsHere (parsed inputs) A s.bytes q item text
 stands_here inputs none ready A laid q s item text at is address =
     let own = item_here inputs none q item is in
     let same : own.section ≡ s = cc (sym own.code ∙ at) in
     let start = start_is own.section own.code_is own.whole q.offset own.start in
     let st = step own.section own.code_is own.whole q.offset start.words start.inside in
-    let takes = read_takes item (size_on own.section q.offset) (subst (λ i. Takes i (size_on own.section q.offset)) own.item (item_takes (parsed inputs) own.section q own.code_is)) in
     record {
       is = is;
-      within = omega (arith, st.inside, takes, ap (λ (t : SectionParts). length t.bytes) same);
+      size = item_own inputs none ready A laid.listed q item is;
+      within = omega (arith, st.inside, own.size, ap (λ (t : SectionParts). length t.bytes) same);
       address = address;
       lies = laid.each q (inputs.map.text + length text) item is address;
-      stands = item_stands inputs none ready A laid.listed q s at item is;
+      stands = (item_stands inputs none ready A laid.listed q s at item is).0;
     }

@@ -4,6 +4,7 @@ use Rattle.std.proofs.Common.{◌≡◌, ℕ, zero, suc, ◌+◌, ◌-◌, ◌^�
 use Rattle.std.specs.Prelude.{◌&&◌, All}
 use Rattle.std.proofs.lemmas.Bool.{and_parts, cases_lt, cond-false, cond-true, cond_both, eq-eqb, leb-true, ne_eqb}
 use Rattle.std.proofs.lemmas.List.{get_or-replicate, get_or_past, length-replicate}
+use Rattle.zc_base.specs.declared.place.Place.{Place}
 use Rattle.interrupt_plan.specs.Plan.{Cut}
 use Rattle.rv_decode.specs.Memory.{blank, cell_at}
 use Rattle.rv_decode.specs.State.{IsCore, reg_in, start_regs}
@@ -59,7 +60,7 @@ stack_unknown p under a low =
         absurd (omega (arith, high, under, low))
     no_data false h = refl
 
-module _ {p : Program} {e : Image} {pace : Pace} (laid : Laid p e pace) where
+module _ {p : Program} {Named : Place → Type 0} {e : Image} {pace : Pace} (laid : Laid p Named e pace) where
   at_entry : place_address e p.entry ≡ Some e.entry
   at_entry = by_begins laid.begins
     where
@@ -75,10 +76,10 @@ module _ {p : Program} {e : Image} {pace : Pace} (laid : Laid p e pace) where
       start_reads (WordStands V) (number_word 0) (number_word p.map.stack_high) undef_word 0 e.map.stack_high 0
       (number_stands V 0) (rw high_same (number_stands V e.map.stack_high)) (undef_stands V 0) r
 
-  start_names : (input : List ℕ) (r : ℕ) → NamesWord p (reg_of (first_plain p input) r)
+  start_names : (input : List ℕ) (r : ℕ) → NamesWord Named (reg_of (first_plain p input) r)
   start_names input r =
-      start_reads {Y = ℕ} (λ w n. NamesWord p w) (number_word 0) (number_word p.map.stack_high) undef_word 0 0 0
-      (number_names p 0) (number_names p p.map.stack_high) (undef_names p) r
+      start_reads {Y = ℕ} (λ w n. NamesWord Named w) (number_word 0) (number_word p.map.stack_high) undef_word 0 0 0
+      (number_names Named 0) (number_names Named p.map.stack_high) (undef_names Named) r
 
   start_core : IsCore (loaded e)
   unfolding first_core
@@ -92,7 +93,7 @@ module _ {p : Program} {e : Image} {pace : Pace} (laid : Laid p e pace) where
   unfolding first_core
   start_sp input = ap Some (number_is (value_in p (place_address e)) (reg_of (first_plain p input) 2) (reg_in (loaded e) 2) _ (start_core.words 2) (start_stands input 2) refl)
 
-  start_sound : (input : List ℕ) → All (λ b. b < 256) input → Sound p e (first_plain p input) (first_state (loaded e) input)
+  start_sound : (input : List ℕ) → All (λ b. b < 256) input → Sound p Named e (first_plain p input) (first_state (loaded e) input)
   unfolding first_core
   start_sound input bytes = record {
     alike = record {
@@ -124,7 +125,7 @@ module _ {p : Program} {e : Image} {pace : Pace} (laid : Laid p e pace) where
 
   pub starts :
       (input : List ℕ) → All (λ b. b < 256) input → (cuts : ℕ → List Cut)
-      → Comes p e cuts (lead_of p e) (first_state (loaded e) input) (record { core = first_plain p input; events = [] })
+      → Comes p Named e cuts (lead_of p e) (first_state (loaded e) input) (record { core = first_plain p input; events = [] })
   starts input bytes cuts =
-      subst (λ k. Comes p e cuts k (first_state (loaded e) input) (record { core = first_plain p input; events = [] })) (sym no_lead)
+      subst (λ k. Comes p Named e cuts k (first_state (loaded e) input) (record { core = first_plain p input; events = [] })) (sym no_lead)
       (record { after = first_state (loaded e) input; runs = refl; together = inl (start_sound input bytes); events = refl })

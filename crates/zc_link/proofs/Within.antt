@@ -26,7 +26,7 @@ use Rattle.psabi_sym.proofs.ContentLaws.{address_in-ge}
 use Rattle.psabi_sym.proofs.FaultLaws.{neither}
 use Rattle.block_cut.specs.DataWords.{data_word, data_words, words_in}
 use Rattle.block_cut.specs.Faults.{first_fault, reloc_fault}
-use Rattle.block_cut.specs.Relocs.{field_end, field_of, is_crowded, is_ignored, is_placed, is_word}
+use Rattle.block_cut.specs.Relocs.{field_end, field_of, overlaps_another, is_ignored, is_placed, is_word}
 use Rattle.block_cut.specs.declared.data_word.DataWord.{DataWord}
 use Rattle.block_cut.proofs.ListedLaws.{cut_at, listed}
 use Rattle.zc_link.proofs.ListedLaws.{all_listed}
@@ -189,25 +189,14 @@ word_field p l r word fine =
     let s = l.section in
     let k = word_kind (kind_of r.kind) word in
     let size : field_of r ≡ 4 = ap (λ x. field_length x r.addend) k in
-    let placed : (ltb s.size (field_end r) || (not (is_placed s r) || is_crowded s.relocs r)) ≡ false =
-    ap (λ x. not (is_ignored x) && (ltb s.size (field_end r) || (not (is_placed s r) || is_crowded s.relocs r))) (sym k) ∙ fine.placed in
-    let one = or_parts (ltb s.size (field_end r)) (not (is_placed s r) || is_crowded s.relocs r) placed in
+    let placed : (ltb s.size (field_end r) || (not (is_placed s r) || overlaps_another s.relocs r)) ≡ false =
+    ap (λ x. not (is_ignored x) && (ltb s.size (field_end r) || (not (is_placed s r) || overlaps_another s.relocs r))) (sym k) ∙ fine.placed in
+    let one = or_parts (ltb s.size (field_end r)) (not (is_placed s r) || overlaps_another s.relocs r) placed in
     omega (arith, size, ltb-false s.size (field_end r) one.0)
   where
     word_kind : (k : Option RelocKind) → is_word k ≡ true → k ≡ Some kind.Word
-    word_kind None h = absurd cc
-    word_kind (Some kind.Ignored) h = absurd cc
     word_kind (Some kind.Word) h = refl
-    word_kind (Some kind.Branch) h = absurd cc
-    word_kind (Some kind.Jal) h = absurd cc
-    word_kind (Some kind.Call) h = absurd cc
-    word_kind (Some kind.PcrelHi20) h = absurd cc
-    word_kind (Some kind.PcrelLo12I) h = absurd cc
-    word_kind (Some kind.PcrelLo12S) h = absurd cc
-    word_kind (Some kind.Hi20) h = absurd cc
-    word_kind (Some kind.Lo12I) h = absurd cc
-    word_kind (Some kind.Lo12S) h = absurd cc
-    word_kind (Some kind.Align) h = absurd cc
+    word_kind other h = absurd cc
 
 pub words_within : (inputs : Inputs) → first_fault inputs ≡ None → All (IsWithin (parsed inputs)) (data_words (parsed inputs))
 words_within inputs none = all_words inputs none (IsWithin (parsed inputs)) (λ o i at s r found content address word fine among.

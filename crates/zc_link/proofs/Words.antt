@@ -9,7 +9,6 @@ use Rattle.sym_machine.specs.declared.word.Value.{Value}
 use Rattle.sym_machine.specs.declared.word.SymByte.{SymByte}
 use Rattle.sym_machine.specs.declared.word.SymByte.TheVariants.{Num, Part, Undef}
 use Rattle.sym_machine.specs.declared.word.SymWord.{SymWord}
-use Rattle.sym_machine.specs.Program.{Program}
 use Rattle.sym_machine.specs.Words.{code_or, is_zero, number_of, number_of_bytes, number_word, numeric, numeric2, sum_word, undef_word}
 use Rattle.zc_link.specs.Sound.{NamesWord}
 use Rattle.zc_link.specs.Stands.{ByteStands, WordStands}
@@ -92,31 +91,31 @@ module _ (V : Value → Option ℕ) where
 
 -- ---- the places that words name
 
-module _ (p : Program) where
-  pub number_names : (n : ℕ) → NamesWord p (number_word n)
+module _ (Named : Place → Type 0) where
+  pub number_names : (n : ℕ) → NamesWord Named (number_word n)
   number_names n = (tt, tt, tt, tt)
 
-  pub undef_names : NamesWord p undef_word
+  pub undef_names : NamesWord Named undef_word
   undef_names = (tt, tt, tt, tt)
 
-  pub numeric_names : (o : Option ℕ) (f : ℕ → ℕ) → NamesWord p (numeric o f)
+  pub numeric_names : (o : Option ℕ) (f : ℕ → ℕ) → NamesWord Named (numeric o f)
   numeric_names None f = undef_names
   numeric_names (Some n) f = number_names (f n)
 
-  pub numeric2_names : (o u : Option ℕ) (f : ℕ → ℕ → ℕ) → NamesWord p (numeric2 o u f)
+  pub numeric2_names : (o u : Option ℕ) (f : ℕ → ℕ → ℕ) → NamesWord Named (numeric2 o u f)
   numeric2_names None None f = undef_names
   numeric2_names None (Some l) f = undef_names
   numeric2_names (Some k) None f = undef_names
   numeric2_names (Some k) (Some l) f = number_names (f k l)
 
-  pub code_or_names : (o : Option Place) (k : ℕ) (w : SymWord) → NamesWord p w → NamesWord p (code_or o k w)
+  pub code_or_names : (o : Option Place) (k : ℕ) (w : SymWord) → NamesWord Named w → NamesWord Named (code_or o k w)
   code_or_names None k w names = names
   code_or_names (Some q) k w names = number_names k
 
   -- a sum is a copy, or it names none
-  pub sum_names : (w : SymWord) (imm : ℤ) → NamesWord p w → NamesWord p (sum_word w imm)
+  pub sum_names : (w : SymWord) (imm : ℤ) → NamesWord Named w → NamesWord Named (sum_word w imm)
   sum_names w imm names = either (is_zero imm)
     where
-      either : (b : Bool) → NamesWord p (cond b w (numeric (number_of w) (λ n. add32 n imm)))
+      either : (b : Bool) → NamesWord Named (cond b w (numeric (number_of w) (λ n. add32 n imm)))
       either true = names
       either false = numeric_names (number_of w) (λ n. add32 n imm)

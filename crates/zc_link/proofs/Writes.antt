@@ -3,6 +3,7 @@
 use Rattle.std.proofs.Common.{◌≡◌, ℕ, ◌+◌, ◌-◌, ◌<◌, ◌≤◌, Bool, true, false, cond, refl, ap, ◌∙◌, inl, inr, ⊎_elim, arith, leb, ltb}
 use Rattle.std.specs.Prelude.{◌&&◌}
 use Rattle.std.proofs.lemmas.Bool.{and_parts, cases_Bool, cond_both, leb-true, ltb-true}
+use Rattle.zc_base.specs.declared.place.Place.{Place}
 use Rattle.rv_decode.specs.Memory.{cell_at, changed, extents_of, is_data, is_text, lies_in, written}
 use Rattle.rv_decode.specs.State.{ZcCore, byte_in}
 use Rattle.rv_decode.proofs.MemoryLaws.{cell-changed, cell-uncovered, cell_kept, extents-changed, is_covered, lies_covered, lies_inside}
@@ -17,10 +18,10 @@ use Rattle.zc_link.specs.Stands.{ByteStands, IsMemory}
 use Rattle.zc_link.specs.Values.{value_in}
 
 -- what a change makes of a byte of the program's, and of the machine's
-pub record Agrees (p : Program) (e : Image) (fs : ℕ → SymByte → SymByte) (fz : ℕ → ℕ → ℕ) : Type 0 where
+pub record Agrees (p : Program) (Named : Place → Type 0) (e : Image) (fs : ℕ → SymByte → SymByte) (fz : ℕ → ℕ → ℕ) : Type 0 where
   -- bytes that stand for each other do so again
   pub stands : (x : ℕ) (c : SymByte) (v : ℕ) → IsMemory p x → ByteStands (value_in p (place_address e)) c v → ByteStands (value_in p (place_address e)) (fs x c) (fz x v)
-  pub names : (x : ℕ) (c : SymByte) → NamesByte p c → NamesByte p (fs x c)
+  pub names : (x : ℕ) (c : SymByte) → NamesByte Named c → NamesByte Named (fs x c)
   -- text stays, and bytes stay bytes
   pub text : (x v : ℕ) → lies_in is_text (extents_of (loaded e).memory) x 1 ≡ true → fz x v ≡ v
   pub small : (x v : ℕ) → v < 256 → fz x v < 256
@@ -32,9 +33,9 @@ module _ {p : Program} {e : Image} (room : Room p e) where
   within n a x (inr k) low high = inr (omega (arith, k.0, low), omega (arith, k.1, high))
 
   pub ready_changed :
-      {s : PlainCore} {z : ZcCore} (fs : ℕ → SymByte → SymByte) (fz : ℕ → ℕ → ℕ) → Agrees p e fs fz → Ready p e s z
-      → Ready p e (record s { memory = changed fs s.memory }) (record z { memory = changed fz z.memory })
-  ready_changed {s} {z} fs fz agrees ready = record {
+      {Named : Place → Type 0} {s : PlainCore} {z : ZcCore} (fs : ℕ → SymByte → SymByte) (fz : ℕ → ℕ → ℕ) → Agrees p Named e fs fz → Ready p Named e s z
+      → Ready p Named e (record s { memory = changed fs s.memory }) (record z { memory = changed fz z.memory })
+  ready_changed {Named} {s} {z} fs fz agrees ready = record {
     running = ready.running;
     going = ready.going;
     plain = record { count = ready.plain.count; input = ready.plain.input };
@@ -64,8 +65,8 @@ module _ {p : Program} {e : Image} (room : Room p e) where
           rw (cell-changed fz z.memory x 0 here)
           (cell (λ c. ByteStands (value_in p (place_address e)) c (fz x (byte_in z x))) x (agrees.stands x (cell_of s x) (byte_in z x) m (ready.memory x m)) tt)
 
-      named : (x : ℕ) → IsMemory p x → NamesByte p (cell_at Undef (changed fs s.memory) x)
-      named x m = cell (NamesByte p) x (agrees.names x (cell_of s x) (ready.names.memory x m)) tt
+      named : (x : ℕ) → IsMemory p x → NamesByte Named (cell_at Undef (changed fs s.memory) x)
+      named x m = cell (NamesByte Named) x (agrees.names x (cell_of s x) (ready.names.memory x m)) tt
 
       text : (x : ℕ) → lies_in is_text (extents_of (loaded e).memory) x 1 ≡ true → cell_at 0 (changed fz z.memory) x ≡ byte_in (loaded e) x
       text x t =
@@ -74,12 +75,12 @@ module _ {p : Program} {e : Image} (room : Room p e) where
 
   -- n bytes from an address of memory on are written, and the given ones stand for each other
   pub written_agrees :
-      (a n : ℕ) (f : ℕ → SymByte) (g : ℕ → ℕ) → SpansMemory p a n
-      → ((i : ℕ) → i < n → ByteStands (value_in p (place_address e)) (f i) (g i)) → ((i : ℕ) → i < n → NamesByte p (f i)) → ((i : ℕ) → i < n → g i < 256)
-      → Agrees p e (written a n f) (written a n g)
-  written_agrees a n f g spans stands names small = record {
+      {Named : Place → Type 0} (a n : ℕ) (f : ℕ → SymByte) (g : ℕ → ℕ) → SpansMemory p a n
+      → ((i : ℕ) → i < n → ByteStands (value_in p (place_address e)) (f i) (g i)) → ((i : ℕ) → i < n → NamesByte Named (f i)) → ((i : ℕ) → i < n → g i < 256)
+      → Agrees p Named e (written a n f) (written a n g)
+  written_agrees {Named} a n f g spans stands names small = record {
     stands = λ x c v m st. by_stands x c v st;
-    names = λ x c named. cond_both (leb a x && ltb x (a + n)) (f (x - a)) c (NamesByte p) (λ t. names (x - a) (index x t)) (λ _. named);
+    names = λ x c named. cond_both (leb a x && ltb x (a + n)) (f (x - a)) c (NamesByte Named) (λ t. names (x - a) (index x t)) (λ _. named);
     text = λ x v text. cond_both (leb a x && ltb x (a + n)) (g (x - a)) v (λ y. y ≡ v) (λ t. absurd (no_text x text t)) (λ _. refl);
     small = λ x v lt. cond_both (leb a x && ltb x (a + n)) (g (x - a)) v (λ y. y < 256) (λ t. small (x - a) (index x t)) (λ _. lt);
   }

@@ -20,9 +20,9 @@ pub data Begins (p : Program) (e : Image) : Type 0 where
   AtEntry : place_address e p.entry ≡ Some e.entry → Begins p e
 
 -- if this holds of a program and an image, the image keeps step with the program at this pace
-pub record Laid (p : Program) (e : Image) (pace : Pace) : Type 0 where
+pub record Laid (p : Program) (Named : Place → Type 0) (e : Image) (pace : Pace) : Type 0 where
   pub room : Room p e
-  pub leads : Leads p
+  pub leads : Leads p Named
   pub begins : Begins p e
   -- what starts at each place, in so many items and so many commits
   pub piece : Place → Piece
@@ -34,5 +34,5 @@ pub record Laid (p : Program) (e : Image) (pace : Pace) : Type 0 where
   -- memory begins with bytes that stand for the image's, and name what a program may name
   pub first :
       (a : ℕ) → IsMemory p a → ByteStands (value_in p (place_address e)) (cell_at Undef (first_memory p) a) (byte_in (loaded e) a)
-  pub names : (a : ℕ) → IsMemory p a → NamesByte p (cell_at Undef (first_memory p) a)
+  pub names : (a : ℕ) → IsMemory p a → NamesByte Named (cell_at Undef (first_memory p) a)
   pub bytes : (a : ℕ) → byte_in (loaded e) a < 256

@@ -5,7 +5,7 @@ use Rattle.std.specs.Option.{is_some, unwrap_or}
 use Rattle.zc_base.specs.declared.place.Place.{Place}
 use Rattle.elf32_read.specs.Parts.{SectionParts, is_code_section}
 use Rattle.psabi_reloc.specs.Parts.{hi20_of, lo12_of}
-use Rattle.psabi_reloc.specs.Patched.{with_distance, with_imm, with_upper}
+use Rattle.psabi_reloc.specs.Patched.{with_imm, with_upper}
 use Rattle.psabi_reloc.specs.Reaches.{branch_reach, jal_reach}
 use Rattle.psabi_sym.specs.Blocks.{aligned_up}
 use Rattle.psabi_sym.specs.Faults.{power_above}
@@ -29,19 +29,19 @@ use Rattle.zc_link.specs.Values.{target_value, way}
 abbrev pub HasSize : Instr → ℕ → Type 0
 HasSize i n = (n ≡ 4) ⊎ ((n ≡ 2) × IsTrue (is_short i))
 
--- so does a jump at a distance, in four bytes if it reaches
-abbrev pub HasJumpSize : Instr → ℕ → ℤ → Type 0
-HasJumpSize i n distance = ((n ≡ 4) × (jal_reach distance ≡ true)) ⊎ ((n ≡ 2) × IsTrue (is_short (with_distance i distance)))
+-- so does a `jal` with this link register, in four bytes if it reaches
+abbrev pub HasJumpSize : ℕ → ℕ → ℤ → Type 0
+HasJumpSize rd n distance = ((n ≡ 4) × (jal_reach distance ≡ true)) ⊎ ((n ≡ 2) × IsTrue (is_short (instr.Jal rd distance)))
 
--- and a branch; and if that doesn't reach it takes eight, of which the last four are a jump that does
-abbrev pub HasBranchSize : Instr → ℕ → ℤ → Type 0
-HasBranchSize i n distance =
+-- and a branch, by its distance; and if that doesn't reach it takes eight, of which the last four are a jump that does
+abbrev pub HasBranchSize : (ℤ → Instr) → ℕ → ℤ → Type 0
+HasBranchSize branch n distance =
     ((n ≡ 4) × (branch_reach distance ≡ true))
-    ⊎ (((n ≡ 2) × IsTrue (is_short (with_distance i distance))) ⊎ ((n ≡ 8) × (jal_reach (distance -ℤ pos 4) ≡ true)))
+    ⊎ (((n ≡ 2) × IsTrue (is_short (branch distance))) ⊎ ((n ≡ 8) × (jal_reach (distance -ℤ pos 4) ≡ true)))
 
 -- a call is two words, or one jump
 abbrev pub HasCallSize : ℕ → ℕ → ℤ → Type 0
-HasCallSize rd n distance = (n ≡ 8) ⊎ HasJumpSize (instr.Jal rd (pos 0)) n distance
+HasCallSize rd n distance = (n ≡ 8) ⊎ HasJumpSize rd n distance
 
 -- this of the way from an address to a place, if that has an address
 abbrev pub OfWay : (Place → Option ℕ) → ℕ → Place → (ℤ → Type 0) → Type 0
@@ -58,8 +58,8 @@ HasForm A a n (Hi i t) = OfValue A t (λ x. HasSize (with_upper i (hi20_of x)) n
 HasForm A a n (Lo i t) = OfValue A t (λ x. HasSize (with_imm i (lo12_of x)) n)
 HasForm A a n (PcHi i t) = n ≡ 4
 HasForm A a n (PcLo i from) = n ≡ 4
-HasForm A a n (Branch i to) = OfWay A a to (HasBranchSize i n)
-HasForm A a n (Jump i to) = OfWay A a to (HasJumpSize i n)
+HasForm A a n (Branch op first second to) = OfWay A a to (HasBranchSize (instr.Branch op first second) n)
+HasForm A a n (Jump rd to) = OfWay A a to (HasJumpSize rd n)
 HasForm A a n (Call rd temp to) = OfWay A a to (HasCallSize rd n)
 HasForm A a n (Align bytes) = a + n ≡ aligned_up (power_above bytes) a
 HasForm A a n (Word t) = n ≡ 4

@@ -1,4 +1,4 @@
--- What is needed of a program: the places that it names begin basic blocks, or are ends of sections of code.
+-- What is needed of a program: it names only places that it may name, which are handed to this.
 use Rattle.std.specs.Prelude.{◌≡◌, true, Some}
 use Rattle.zc_base.specs.declared.place.Place.{Place}
 use Rattle.psabi_sym.specs.declared.target.Target.{Target}
@@ -7,31 +7,30 @@ use Rattle.block_cut.specs.Leaders.{ends_block}
 use Rattle.block_cut.specs.declared.item.Item.{Item}
 use Rattle.block_cut.specs.declared.item.Item.TheVariants.{Op, Hi, Lo, PcHi, PcLo, Branch, Jump, Call, Align, Word, Raw, RawPair}
 use Rattle.sym_machine.specs.Program.{Program}
-use Rattle.zc_link.specs.Sound.{IsNamed}
 
--- a target in code is such a place
-abbrev pub NamesTarget : Program → Target → Type 0
-NamesTarget p (Code q) = IsNamed p q
-NamesTarget p (Number n) = Unit {0}
-NamesTarget p (Absent n) = Unit {0}
-NamesTarget p Nowhere = Unit {0}
+-- a target in code is a place that a program may name
+abbrev pub NamesTarget : (Place → Type 0) → Target → Type 0
+NamesTarget Named (Code q) = Named q
+NamesTarget Named (Number n) = Unit {0}
+NamesTarget Named (Absent n) = Unit {0}
+NamesTarget Named Nowhere = Unit {0}
 
 -- where an item leads, or whose address it gives; a lower part gives what the `auipc` leads to that it names
-abbrev pub NamesItem : Program → Item → Type 0
-NamesItem p (Op i) = Unit {0}
-NamesItem p (Hi i t) = NamesTarget p t
-NamesItem p (Lo i t) = NamesTarget p t
-NamesItem p (PcHi i t) = NamesTarget p t
-NamesItem p (PcLo i from) = Unit {0}
-NamesItem p (Branch i to) = IsNamed p to
-NamesItem p (Jump i to) = IsNamed p to
-NamesItem p (Call rd temp to) = IsNamed p to
-NamesItem p (Align bytes) = Unit {0}
-NamesItem p (Word t) = Unit {0}
-NamesItem p (Raw word) = Unit {0}
-NamesItem p (RawPair first second) = Unit {0}
+abbrev pub NamesItem : (Place → Type 0) → Item → Type 0
+NamesItem Named (Op i) = Unit {0}
+NamesItem Named (Hi i t) = NamesTarget Named t
+NamesItem Named (Lo i t) = NamesTarget Named t
+NamesItem Named (PcHi i t) = NamesTarget Named t
+NamesItem Named (PcLo i from) = Unit {0}
+NamesItem Named (Branch op first second to) = Named to
+NamesItem Named (Jump rd to) = Named to
+NamesItem Named (Call rd temp to) = Named to
+NamesItem Named (Align bytes) = Unit {0}
+NamesItem Named (Word t) = Unit {0}
+NamesItem Named (Raw word) = Unit {0}
+NamesItem Named (RawPair first second) = Unit {0}
 
 -- of each item, and of the place after each that ends a basic block
-pub record Leads (p : Program) : Type 0 where
-  pub item : (q : Place) (i : Item) → p.item q ≡ Some i → NamesItem p i
-  pub next : (q : Place) (i : Item) → p.item q ≡ Some i → ends_block i ≡ true → IsNamed p (p.next q)
+pub record Leads (p : Program) (Named : Place → Type 0) : Type 0 where
+  pub item : (q : Place) (i : Item) → p.item q ≡ Some i → NamesItem Named i
+  pub next : (q : Place) (i : Item) → p.item q ≡ Some i → ends_block i ≡ true → Named (p.next q)

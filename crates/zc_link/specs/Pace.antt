@@ -1,8 +1,6 @@
 -- How many steps of the program and how many commits of the machine go together.
 use Rattle.std.specs.Prelude.{ℕ, ◌+◌, ◌-◌, ◌/◌, ◌%◌, Bool, true, false, ◌==◌, if◌then◌else◌, Option, Some, None}
 use Rattle.zc_base.specs.declared.place.Place.{Place}
-use Rattle.rv_decode.specs.declared.instr.Instr.{Instr}
-use Rattle.rv_decode.specs.declared.instr.Instr.TheVariants as instr
 use Rattle.block_cut.specs.declared.item.Item.{Item}
 use Rattle.block_cut.specs.declared.item.Item.TheVariants.{Op, Hi, Lo, PcHi, PcLo, Branch, Jump, Call, Align, Word, Raw, RawPair}
 use Rattle.sym_machine.specs.Conditions.{condition}
@@ -14,21 +12,6 @@ use Rattle.zc_link.specs.Image.{Image, place_address}
 pub record Pace : Type 0 where
   pub span : Place → ℕ
   pub weight : PlainCore → ℕ
-
--- whether a branch is taken, if that is known
-abbrev pub branch_condition : Program → PlainCore → Instr → Option Bool
-branch_condition p s (instr.Upper op rd imm) = None
-branch_condition p s (instr.Jal rd distance) = None
-branch_condition p s (instr.Jalr rd base imm) = None
-branch_condition p s (instr.Branch op first second distance) = condition p op (reg_of s first) (reg_of s second)
-branch_condition p s (instr.Load op rd base imm) = None
-branch_condition p s (instr.Store op source base imm) = None
-branch_condition p s (instr.WithImm op rd first imm) = None
-branch_condition p s (instr.WithReg op rd first second) = None
-branch_condition p s (instr.Fence rest) = None
-branch_condition p s instr.Ecall = None
-branch_condition p s instr.Ebreak = None
-branch_condition p s (instr.Csrrw rd source) = None
 
 -- a branch of two instructions takes both if it is taken, and else goes over the second
 abbrev pub long_commits : Option Bool → ℕ
@@ -48,8 +31,9 @@ item_commits p s n (Some (Hi i t)) = 1
 item_commits p s n (Some (Lo i t)) = 1
 item_commits p s n (Some (PcHi i t)) = 1
 item_commits p s n (Some (PcLo i from)) = 1
-item_commits p s n (Some (Branch i to)) = if n == 8 then long_commits (branch_condition p s i) else 1
-item_commits p s n (Some (Jump i to)) = 1
+item_commits p s n (Some (Branch op first second to)) =
+    if n == 8 then long_commits (condition p op (reg_of s first) (reg_of s second)) else 1
+item_commits p s n (Some (Jump rd to)) = 1
 item_commits p s n (Some (Call rd temp to)) = if n == 8 then 2 else 1
 item_commits p s n (Some (Align bytes)) = padding_commits n
 item_commits p s n (Some (Word t)) = 1

@@ -12,19 +12,20 @@ use Rattle.rv_decode.specs.Effect.{effect}
 use Rattle.rv_decode.specs.Registers.{HasRegisters}
 use Rattle.rv_decode.specs.State.{IsCore, ZcCore}
 use Rattle.psabi_reloc.specs.Parts.{hi20_of, lo12_of}
-use Rattle.psabi_reloc.specs.Patched.{with_distance, with_imm, with_upper}
+use Rattle.psabi_reloc.specs.Patched.{with_imm, with_upper}
 use Rattle.psabi_sym.specs.declared.target.Target.{Target}
 use Rattle.block_cut.specs.declared.item.Item.{Item}
 use Rattle.block_cut.specs.declared.item.Item.TheVariants.{Op, Hi, Lo, PcHi, PcLo, Branch, Jump, Call, Align, Word, Raw, RawPair}
 use Rattle.sym_machine.specs.AddressParts.{pc_target}
+use Rattle.sym_machine.specs.Conditions.{condition}
 use Rattle.sym_machine.specs.Program.{Program}
-use Rattle.sym_machine.specs.State.{PlainCore}
+use Rattle.sym_machine.specs.State.{PlainCore, reg_of}
 use Rattle.zca_zcb_pass.specs.Forms.{IsOpposite}
 use Rattle.zc_decode.specs.declared.short.Short.{Short}
 use Rattle.zc_decode.specs.declared.short.Short.TheVariants.{Base}
 use Rattle.zc_machine.specs.Fetch.{Found, fetched_at}
 use Rattle.zc_link.specs.Image.{Image, loaded, place_address}
-use Rattle.zc_link.specs.Pace.{branch_condition, long_commits}
+use Rattle.zc_link.specs.Pace.{long_commits}
 use Rattle.zc_link.specs.Values.{target_value, way}
 
 -- what starts at a place: an item that is one instruction, or an ALIGN of so many, or a call or a branch of two
@@ -43,19 +44,8 @@ span_of LongOf = 1
 
 -- a branch at a place is taken, if that is known
 abbrev pub taken_at : Program → PlainCore → Option Item → Option Bool
-taken_at p s None = None
-taken_at p s (Some (Op i)) = None
-taken_at p s (Some (Hi i t)) = None
-taken_at p s (Some (Lo i t)) = None
-taken_at p s (Some (PcHi i t)) = None
-taken_at p s (Some (PcLo i from)) = None
-taken_at p s (Some (Branch i to)) = branch_condition p s i
-taken_at p s (Some (Jump i to)) = None
-taken_at p s (Some (Call rd temp to)) = None
-taken_at p s (Some (Align bytes)) = None
-taken_at p s (Some (Word t)) = None
-taken_at p s (Some (Raw word)) = None
-taken_at p s (Some (RawPair first second)) = None
+taken_at p s (Some (Branch op first second to)) = condition p op (reg_of s first) (reg_of s second)
+taken_at p s other = None
 
 -- its number of commits, by the program's state
 abbrev pub commits_of : Program → PlainCore → Piece → ℕ
@@ -124,17 +114,11 @@ pub record PcLoLaid (p : Program) (e : Image) (q : Place) (a : ℕ) (i : Instr) 
   pub is : target_value (place_address e) to ≡ Some value
   pub laid : AloneLaid p e q a (with_imm i (lo12_of (way address value)))
 
--- a branch or a jump with its distance
-pub record ReachLaid (p : Program) (e : Image) (q : Place) (a : ℕ) (i : Instr) (to : Place) : Type 0 where
+-- an instruction that goes to a place, by its distance: a branch, a jump, or a call that is one `jal`
+pub record ReachLaid (p : Program) (e : Image) (q : Place) (a : ℕ) (i : ℤ → Instr) (to : Place) : Type 0 where
   pub distance : ℤ
   pub reaches : place_address e to ≡ Some (add32 a distance)
-  pub laid : AloneLaid p e q a (with_distance i distance)
-
--- a call that is one `jal`
-pub record JumpCallLaid (p : Program) (e : Image) (q : Place) (a rd : ℕ) (to : Place) : Type 0 where
-  pub distance : ℤ
-  pub reaches : place_address e to ≡ Some (add32 a distance)
-  pub laid : AloneLaid p e q a (Jal rd distance)
+  pub laid : AloneLaid p e q a (i distance)
 
 -- an item that is one instruction; of what the symbolic machine is stuck at, and of a section's end, nothing is owed, and padding
 -- isn't one instruction
@@ -145,9 +129,9 @@ ItemLaid p e q a (Some (Hi i t)) = HiLaid p e q a i t
 ItemLaid p e q a (Some (Lo i t)) = LoLaid p e q a i t
 ItemLaid p e q a (Some (PcHi i t)) = PcHiLaid p e q a i t
 ItemLaid p e q a (Some (PcLo i from)) = PcLoLaid p e q a i from
-ItemLaid p e q a (Some (Branch i to)) = ReachLaid p e q a i to
-ItemLaid p e q a (Some (Jump i to)) = ReachLaid p e q a i to
-ItemLaid p e q a (Some (Call rd temp to)) = JumpCallLaid p e q a rd to
+ItemLaid p e q a (Some (Branch op first second to)) = ReachLaid p e q a (instr.Branch op first second) to
+ItemLaid p e q a (Some (Jump rd to)) = ReachLaid p e q a (Jal rd) to
+ItemLaid p e q a (Some (Call rd temp to)) = ReachLaid p e q a (Jal rd) to
 ItemLaid p e q a (Some (Align bytes)) = ⊥
 ItemLaid p e q a (Some (Word t)) = Unit {0}
 ItemLaid p e q a (Some (Raw word)) = Unit {0}
@@ -186,9 +170,8 @@ pub record LongLaid (p : Program) (e : Image) (q : Place) (a : ℕ) : Type 0 whe
   pub op : BranchOp
   pub first : ℕ
   pub second : ℕ
-  pub far : ℤ
   pub to : Place
-  pub item : p.item q ≡ Some (Branch (instr.Branch op first second far) to)
+  pub item : p.item q ≡ Some (Branch op first second to)
   pub first_low : first < 32
   pub second_low : second < 32
   pub other : BranchOp

@@ -30,10 +30,10 @@ lead_of p e = lead_from (place_address e p.entry) e.entry
 
 -- with these interrupts before them, k commits from z come to a state that belongs together with this one of the program, and
 -- to the same events
-pub record Comes (p : Program) (e : Image) (cuts : ℕ → List Cut) (k : ℕ) (z : ZcState) (r : PlainState) : Type 0 where
+pub record Comes (p : Program) (Named : Place → Type 0) (e : Image) (cuts : ℕ → List Cut) (k : ℕ) (z : ZcState) (r : PlainState) : Type 0 where
   pub after : ZcState
   pub runs : zc_turns cuts k z ≡ Ok after
-  pub together : Together p e r.core after
+  pub together : Together p Named e r.core after
   pub events : after.events ≡ r.events
 
 -- some steps of the program, but fewer than its span, come to a place that isn't listed, without an event
@@ -61,9 +61,9 @@ all_poked [] r = r
 all_poked (c ∷ cs) r = all_poked cs (poked_plain c r)
 
 -- a sound pair with all its commits left; with some cells of data written the program isn't stuck on the way
-pub record FromPair (p : Program) (e : Image) (pace : Pace) (r : PlainState) (k : ℕ) (z : ZcState) : Type 0 where
+pub record FromPair (p : Program) (Named : Place → Type 0) (e : Image) (pace : Pace) (r : PlainState) (k : ℕ) (z : ZcState) : Type 0 where
   pub commits : k ≡ pace.weight r.core
-  pub sound : Sound p e r.core z
+  pub sound : Sound p Named e r.core z
   pub cells : List (ℕ × ℕ)
   pub are : All (λ c. IsCell p c.0 × (c.1 < 256)) cells
   pub after : PlainState
@@ -98,14 +98,14 @@ CommitsApart p From =
 
 -- ---- the whole
 
-pub record Simulates (p : Program) (e : Image) (pace : Pace) : Type 0 where
+pub record Simulates (p : Program) (Named : Place → Type 0) (e : Image) (pace : Pace) : Type 0 where
   pub some : (q : Place) → 0 < pace.span q
   pub few : (s : PlainCore) → pace.weight s ≤ 64 * pace.span s.place
   -- from every sound pair the span's steps are the weight's commits
   pub step :
       (r r' : PlainState) → iterate (plain_turn p) (pace.span r.core.place) r ≡ Ok r'
-      → (cuts : ℕ → List Cut) → AreCuts cuts → (z : ZcState) → Sound p e r.core z → z.events ≡ r.events
-      → Comes p e cuts (pace.weight r.core) z r'
+      → (cuts : ℕ → List Cut) → AreCuts cuts → (z : ZcState) → Sound p Named e r.core z → z.events ≡ r.events
+      → Comes p Named e cuts (pace.weight r.core) z r'
   -- on the way nothing is claimed but the events
   pub inside :
       (k : ℕ) (r r' : PlainState) → 0 < k → k < pace.span r.core.place → IsSome (place_address e r.core.place) → r.core.exit ≡ None
@@ -113,11 +113,11 @@ pub record Simulates (p : Program) (e : Image) (pace : Pace) : Type 0 where
   -- the start is sound, after the stub if there is one
   pub start :
       (input : List ℕ) → All (λ b. b < 256) input → (cuts : ℕ → List Cut) → AreCuts cuts
-      → Comes p e cuts (lead_of p e) (first_state (loaded e) input) (record { core = first_plain p input; events = [] })
+      → Comes p Named e cuts (lead_of p e) (first_state (loaded e) input) (record { core = first_plain p input; events = [] })
   -- an interrupt does the same whatever data hold, and so does each commit if there are several, of steps or of commits
-  pub cuts_apart : (r : PlainState) → CutsApart p (FromPair p e pace r)
+  pub cuts_apart : (r : PlainState) → CutsApart p (FromPair p Named e pace r)
   pub commits_apart :
-      (r : PlainState) → (1 < pace.span r.core.place) ⊎ (1 < pace.weight r.core) → CommitsApart p (FromPair p e pace r)
+      (r : PlainState) → (1 < pace.span r.core.place) ⊎ (1 < pace.weight r.core) → CommitsApart p (FromPair p Named e pace r)
   -- the same on the way to the start
   pub lead_cuts_apart : CutsApart p (FromLoad p e)
   pub lead_commits_apart : CommitsApart p (FromLoad p e)

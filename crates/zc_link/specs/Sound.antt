@@ -1,9 +1,12 @@
 -- States of the two machines that belong together: Ready and Alike whatever the place, Sound at a listed place, Over after
--- the exit.
+-- the exit. Which places a program may name is handed to them.
 use Rattle.std.specs.Prelude.{◌≡◌, ℕ, ◌<◌, ◌≤◌, ◌⊎◌, IsSome, IsTrue, true, Some, None}
 use Rattle.zc_base.specs.declared.place.Place.{Place}
 use Rattle.rv_decode.specs.Memory.{extents_of, is_text, lies_in}
 use Rattle.rv_decode.specs.State.{IsCore, ZcCore, ZcState, byte_in, reg_in}
+use Rattle.psabi_sym.specs.Inputs.{ParsedInputs}
+use Rattle.block_cut.specs.Items.{is_end_at, item_at}
+use Rattle.block_cut.specs.Leaders.{is_leader_at}
 use Rattle.sym_machine.specs.declared.word.SymByte.{SymByte}
 use Rattle.sym_machine.specs.declared.word.SymByte.TheVariants.{Num, Part, Undef}
 use Rattle.sym_machine.specs.declared.word.SymWord.{SymWord}
@@ -17,40 +20,40 @@ use Rattle.zc_link.specs.Values.{value_in}
 
 -- ---- addresses of code in a state
 
--- a place whose address a program may hold: that of an item that leads a basic block, or the end of a section of code
-abbrev pub IsNamed : Program → Place → Type 0
-IsNamed p q = (IsSome (p.item q) × IsTrue (p.is_leader q)) ⊎ IsTrue (p.is_end q)
+-- a place whose address the program of objects may hold: that of an item that leads a basic block, or the end of a section of code
+abbrev pub IsNamed : ParsedInputs → Place → Type 0
+IsNamed inputs q = (IsSome (item_at inputs q) × IsTrue (is_leader_at inputs q)) ⊎ IsTrue (is_end_at inputs.objects q)
 
--- a byte that is part of a code address is part of that of such a place
-abbrev pub NamesByte : Program → SymByte → Type 0
-NamesByte p (Num n) = Unit {0}
-NamesByte p (Part (Code q) i) = IsNamed p q
-NamesByte p (Part (AbsHi q) i) = Unit {0}
-NamesByte p (Part (PcHi q) i) = Unit {0}
-NamesByte p Undef = Unit {0}
+-- a byte that is part of a code address is part of that of a place that a program may name
+abbrev pub NamesByte : (Place → Type 0) → SymByte → Type 0
+NamesByte Named (Num n) = Unit {0}
+NamesByte Named (Part (Code q) i) = Named q
+NamesByte Named (Part (AbsHi q) i) = Unit {0}
+NamesByte Named (Part (PcHi q) i) = Unit {0}
+NamesByte Named Undef = Unit {0}
 
 -- the same of each byte of a word
-abbrev pub NamesWord : Program → SymWord → Type 0
-NamesWord p w = NamesByte p w.b0 × NamesByte p w.b1 × NamesByte p w.b2 × NamesByte p w.b3
+abbrev pub NamesWord : (Place → Type 0) → SymWord → Type 0
+NamesWord Named w = NamesByte Named w.b0 × NamesByte Named w.b1 × NamesByte Named w.b2 × NamesByte Named w.b3
 
 -- and of all registers and all memory
-pub record Names (p : Program) (s : PlainCore) : Type 0 where
-  pub registers : (r : ℕ) → r < 32 → NamesWord p (reg_of s r)
-  pub memory : (a : ℕ) → IsMemory p a → NamesByte p (cell_of s a)
+pub record Names (p : Program) (Named : Place → Type 0) (s : PlainCore) : Type 0 where
+  pub registers : (r : ℕ) → r < 32 → NamesWord Named (reg_of s r)
+  pub memory : (a : ℕ) → IsMemory p a → NamesByte Named (cell_of s a)
 
 -- ---- states
 
 -- neither has exited, and both are states; registers and memory stand for the machine's; the regions of both are as they were
 -- at the start, and so is the machine's text; and if the text begins with a table of jumps, jvt is the text's start: then the
 -- image doesn't start at the program's start
-pub record Ready (p : Program) (e : Image) (s : PlainCore) (z : ZcCore) : Type 0 where
+pub record Ready (p : Program) (Named : Place → Type 0) (e : Image) (s : PlainCore) (z : ZcCore) : Type 0 where
   pub running : s.exit ≡ None
   pub going : z.exit ≡ None
   pub plain : IsPlainState s
   pub core : IsCore z
   pub registers : (r : ℕ) → r < 32 → WordStands (value_in p (place_address e)) (reg_of s r) (reg_in z r)
   pub memory : (a : ℕ) → IsMemory p a → ByteStands (value_in p (place_address e)) (cell_of s a) (byte_in z a)
-  pub names : Names p s
+  pub names : Names p Named s
   pub lies : extents_of s.memory ≡ extents_of (first_memory p)
   pub extents : extents_of z.memory ≡ extents_of (loaded e).memory
   pub text : (a : ℕ) → lies_in is_text (extents_of (loaded e).memory) a 1 ≡ true → byte_in z a ≡ byte_in (loaded e) a
@@ -58,8 +61,8 @@ pub record Ready (p : Program) (e : Image) (s : PlainCore) (z : ZcCore) : Type 0
 
 -- and the program's sp is a number, the machine's, within the stack; and the bytes of the stack below it are undefined to the
 -- program
-pub record Alike (p : Program) (e : Image) (s : PlainCore) (z : ZcCore) : Type 0 where
-  pub ready : Ready p e s z
+pub record Alike (p : Program) (Named : Place → Type 0) (e : Image) (s : PlainCore) (z : ZcCore) : Type 0 where
+  pub ready : Ready p Named e s z
   pub open ready use *
   pub sp : number_of (reg_of s 2) ≡ Some (reg_in z 2)
   pub low : p.map.stack_low ≤ reg_in z 2
@@ -67,8 +70,8 @@ pub record Alike (p : Program) (e : Image) (s : PlainCore) (z : ZcCore) : Type 0
   pub below : (a : ℕ) → p.map.stack_low ≤ a → a < reg_in z 2 → cell_of s a ≡ Undef
 
 -- and the place is listed at pc, and the inputs that are left are equal
-pub record Sound (p : Program) (e : Image) (s : PlainCore) (z : ZcState) : Type 0 where
-  pub alike : Alike p e s z.core
+pub record Sound (p : Program) (Named : Place → Type 0) (e : Image) (s : PlainCore) (z : ZcState) : Type 0 where
+  pub alike : Alike p Named e s z.core
   pub input : s.input ≡ z.input
   pub place : place_address e s.place ≡ Some z.core.pc
 
@@ -80,5 +83,5 @@ pub record Over (p : Program) (e : Image) (s : PlainCore) (z : ZcState) : Type 0
   pub stands : Stands p (place_address e) s z
 
 -- one of the two
-abbrev pub Together : Program → Image → PlainCore → ZcState → Type 0
-Together p e s z = Sound p e s z ⊎ Over p e s z
+abbrev pub Together : Program → (Place → Type 0) → Image → PlainCore → ZcState → Type 0
+Together p Named e s z = Sound p Named e s z ⊎ Over p e s z

@@ -1,19 +1,17 @@
 -- What is known of an item where it stands in its object, before it is written at its address in a layout.
-use Rattle.std.specs.Prelude.{◌≡◌, ℕ, ℤ, pos, ◌+◌, ◌%◌, ◌^◌, ◌<◌, ◌≤◌, ◌||◌, List, ◌++◌, length, slice_index, Bool, true, Option, Some, None}
-use Rattle.zc_base.specs.Fields.{word_in}
+use Rattle.std.specs.Prelude.{◌≡◌, ℕ, ℤ, ◌+◌, ◌%◌, ◌^◌, ◌<◌, ◌≤◌, ◌||◌, List, ◌++◌, length, slice_index, Bool, true, false, Option, Some, None}
 use Rattle.zc_base.specs.MemMap.{IsMap}
 use Rattle.zc_base.specs.declared.place.Place.{Place}
 use Rattle.elf32_read.specs.Parts.{SectionParts}
-use Rattle.psabi_reloc.specs.Kinds.{is_auipc, is_branch, is_jal, is_lui, is_store, is_sum}
-use Rattle.psabi_reloc.specs.Patched.{with_distance}
+use Rattle.psabi_reloc.specs.Kinds.{is_auipc, is_lui, is_store, is_sum}
 use Rattle.psabi_sym.specs.Inputs.{Inputs, ParsedInputs}
 use Rattle.psabi_sym.specs.declared.target.Target.{Target}
 use Rattle.rv_decode.specs.declared.instr.Instr.{Instr}
 use Rattle.rv_decode.specs.declared.instr.Instr.TheVariants as instr
 use Rattle.rv_decode.specs.declared.instr.UpperOp.TheVariants.{Auipc}
-use Rattle.rv_decode.specs.Decode.{decoded}
 use Rattle.block_cut.specs.Faults.{first_fault}
-use Rattle.block_cut.specs.Items.{code_at, item_at, next_at}
+use Rattle.block_cut.specs.Items.{code_at, item_at, next_at, size_at}
+use Rattle.block_cut.specs.Relocs.{instr_in}
 use Rattle.block_cut.specs.declared.item.Item.{Item}
 use Rattle.block_cut.specs.declared.item.Item.TheVariants.{Op, Hi, Lo, PcHi, PcLo, Branch, Jump, Call, Align, Word, Raw, RawPair}
 use Rattle.zc_link.specs.Copied.{bytes_from}
@@ -26,22 +24,21 @@ pub record IsReady (inputs : Inputs) : Type 0 where
   pub faultless : first_fault inputs ≡ None
   pub is_map : IsMap inputs.map
 
--- ---- words
+-- ---- instructions
 
--- a word spells an instruction of a kind
-pub record SpellsKind (is_kind : Option Instr → Bool) (word : ℕ) (i : Instr) : Type 0 where
-  pub spells : decoded word ≡ Some i
+-- what is spelled is an instruction of a kind
+pub record SpellsKind (is_kind : Option Instr → Bool) (spelled : Option Instr) (i : Instr) : Type 0 where
+  pub spells : spelled ≡ Some i
   pub kind : is_kind (Some i) ≡ true
 
 -- an `addi`, a load or a `jalr`; or a store
 abbrev pub is_lower : Option Instr → Bool
 is_lower i = is_sum i || is_store i
 
--- it is one of a kind, but for its distance, and the place that it leads to has an address
-pub record SpellsWay (A : Place → Option ℕ) (is_kind : Option Instr → Bool) (word : ℕ) (i : Instr) (to : Place) : Type 0 where
-  pub first : Instr
-  pub spelled : SpellsKind is_kind word first
-  pub is : i ≡ with_distance first (pos 0)
+-- it is this instruction with some distance, and the place that it leads to has an address
+pub record SpellsWay (A : Place → Option ℕ) (spelled : Option Instr) (i : ℤ → Instr) (to : Place) : Type 0 where
+  pub distance : ℤ
+  pub spells : spelled ≡ Some (i distance)
   pub address : ℕ
   pub listed : A to ≡ Some address
 
@@ -60,54 +57,56 @@ pub record GoesWith (A : Place → Option ℕ) (item : Place → Option Item) (f
   pub listed : A from ≡ Some address
   pub has : HasValue A to
 
--- the two words of a call
-pub record SpellsCall (A : Place → Option ℕ) (word second rd temp : ℕ) (to : Place) : Type 0 where
+-- the two instructions of a call
+pub record SpellsCall (A : Place → Option ℕ) (one two : Option Instr) (rd temp : ℕ) (to : Place) : Type 0 where
   pub upper : ℕ
   pub lower : ℤ
-  pub first_spells : decoded word ≡ Some (instr.Upper Auipc temp upper)
-  pub second_spells : decoded second ≡ Some (instr.Jalr rd temp lower)
+  pub first_spells : one ≡ Some (instr.Upper Auipc temp upper)
+  pub second_spells : two ≡ Some (instr.Jalr rd temp lower)
   pub address : ℕ
   pub listed : A to ≡ Some address
 
 -- ---- items
 
--- of an item, by its words
-abbrev pub ItemStands : (Place → Option ℕ) → (Place → Option Item) → (word second : ℕ) → Item → Type 0
-ItemStands A item word second (Op i) = decoded word ≡ Some i
-ItemStands A item word second (Hi i t) = SpellsKind is_lui word i × HasValue A t
-ItemStands A item word second (Lo i t) = SpellsKind is_lower word i × HasValue A t
-ItemStands A item word second (PcHi i t) = SpellsKind is_auipc word i × HasValue A t
-ItemStands A item word second (PcLo i from) = SpellsKind is_lower word i × GoesWith A item from
-ItemStands A item word second (Branch i to) = SpellsWay A is_branch word i to
-ItemStands A item word second (Jump i to) = SpellsWay A is_jal word i to
-ItemStands A item word second (Call rd temp to) = SpellsCall A word second rd temp to
-ItemStands A item word second (Align n) = Unit {0}
-ItemStands A item word second (Word t) = HasValue A t
-ItemStands A item word second (Raw copied) = Unit {0}
-ItemStands A item word second (RawPair first next) = Unit {0}
+-- of an item, by the instructions that its bytes spell
+abbrev pub ItemStands : (Place → Option ℕ) → (Place → Option Item) → (one two : Option Instr) → Item → Type 0
+ItemStands A item one two (Op i) = one ≡ Some i
+ItemStands A item one two (Hi i t) = SpellsKind is_lui one i × HasValue A t
+ItemStands A item one two (Lo i t) = SpellsKind is_lower one i × HasValue A t
+ItemStands A item one two (PcHi i t) = SpellsKind is_auipc one i × HasValue A t
+ItemStands A item one two (PcLo i from) = SpellsKind is_lower one i × GoesWith A item from
+ItemStands A item one two (Branch op first second to) = SpellsWay A one (instr.Branch op first second) to
+ItemStands A item one two (Jump rd to) = SpellsWay A one (instr.Jal rd) to
+ItemStands A item one two (Call rd temp to) = SpellsCall A one two rd temp to
+ItemStands A item one two (Align n) = Unit {0}
+ItemStands A item one two (Word t) = HasValue A t
+ItemStands A item one two (Raw copied) = Unit {0}
+ItemStands A item one two (RawPair first second) = Unit {0}
 
--- how many bytes of its object it is read from: none of those that only ask for room
-abbrev pub bytes_read : Item → ℕ
-bytes_read (Op i) = 4
-bytes_read (Hi i t) = 4
-bytes_read (Lo i t) = 4
-bytes_read (PcHi i t) = 4
-bytes_read (PcLo i from) = 4
-bytes_read (Branch i to) = 4
-bytes_read (Jump i to) = 4
-bytes_read (Call rd temp to) = 8
-bytes_read (Align n) = 0
-bytes_read (Word t) = 4
-bytes_read (Raw word) = 4
-bytes_read (RawPair first second) = 8
+-- an item has one word, which its relocation may change
+abbrev pub is_one_word : Item → Bool
+is_one_word (Call rd temp to) = false
+is_one_word (Align n) = false
+is_one_word (RawPair first second) = false
+is_one_word other = true
+
+-- the bytes that an item has in its object: two words, so many of padding, and else one word
+abbrev pub HasOwnSize : Item → ℕ → Type 0
+HasOwnSize (Call rd temp to) own = own ≡ 8
+HasOwnSize (Align n) own = own ≡ n
+HasOwnSize (RawPair first second) own = own ≡ 8
+HasOwnSize other own = own ≡ 4
 
 -- an item stands at a place of code with these bytes, in which it lies, and the text so far ends at its address
-pub record StandsHere (inputs : ParsedInputs) (A : Place → Option ℕ) (code : List ℕ) (q : Place) (item : Item) (text : List ℕ) : Type 0 where
+pub record StandsHere
+    (inputs : ParsedInputs) (A : Place → Option ℕ) (code : List ℕ) (q : Place) (item : Item) (text : List ℕ) : Type 0 where
   pub is : item_at inputs q ≡ Some item
-  pub within : q.offset + bytes_read item ≤ length code
+  pub size : HasOwnSize item (size_at inputs.objects q)
+  pub within : q.offset + size_at inputs.objects q ≤ length code
   pub address : A q ≡ Some (inputs.map.text + length text)
   pub lies : LiesAt inputs A q (inputs.map.text + length text) item
-  pub stands : ItemStands A (item_at inputs) (word_in code q.offset) (word_in code (q.offset + 4)) item
+  pub stands :
+      ItemStands A (item_at inputs) (instr_in (size_at inputs.objects q) code q.offset) (instr_in 4 code (q.offset + 4)) item
 
 -- the item at a place lies at this address, and takes so many bytes
 abbrev pub IsExtent : ParsedInputs → (Place → Option ℕ) → Place → (address size : ℕ) → Type 0

@@ -5,7 +5,7 @@ use Rattle.zc_base.specs.Fields.{half_bytes, word_bytes}
 use Rattle.zc_base.specs.declared.place.Place.{Place}
 use Rattle.elf32_read.specs.Parts.{SectionParts}
 use Rattle.psabi_reloc.specs.Parts.{hi20_of, lo12_of}
-use Rattle.psabi_reloc.specs.Patched.{with_distance, with_imm, with_upper}
+use Rattle.psabi_reloc.specs.Patched.{with_imm, with_upper}
 use Rattle.psabi_sym.specs.Inputs.{ParsedInputs}
 use Rattle.psabi_sym.specs.Listed.{ListedSection}
 use Rattle.psabi_sym.specs.declared.target.Target.{Target}
@@ -88,12 +88,7 @@ pub record WithWay (A : Place → Option ℕ) (a : ℕ) (to : Place) (P : ℤ �
   pub holds : P distance
 
 -- a branch of the opposite condition over eight bytes, and a jump whose distance is less by the four bytes before it
-pub record IsLong (i : Instr) (distance : ℤ) (bytes : List ℕ) : Type 0 where
-  pub op : BranchOp
-  pub one : ℕ
-  pub two : ℕ
-  pub far : ℤ
-  pub is : i ≡ instr.Branch op one two far
+pub record IsLong (op : BranchOp) (one two : ℕ) (distance : ℤ) (bytes : List ℕ) : Type 0 where
   pub other : BranchOp
   pub opposite : IsOpposite op other
   pub first : List ℕ
@@ -119,8 +114,9 @@ IsWritten A item own a n (Hi i t) bytes = WithValue A t (λ x. IsSpelled n bytes
 IsWritten A item own a n (Lo i t) bytes = WithValue A t (λ x. IsSpelled n bytes (with_imm i (lo12_of x)))
 IsWritten A item own a n (PcHi i t) bytes = WithValue A t (λ x. IsSpelled n bytes (with_upper i (hi20_of (way a x))))
 IsWritten A item own a n (PcLo i from) bytes = WithLower A item from (λ x. IsSpelled n bytes (with_imm i (lo12_of x)))
-IsWritten A item own a n (Branch i to) bytes = WithWay A a to (λ d. IsSpelled n bytes (with_distance i d) ⊎ ((n ≡ 8) × IsLong i d bytes))
-IsWritten A item own a n (Jump i to) bytes = WithWay A a to (λ d. IsSpelled n bytes (with_distance i d))
+IsWritten A item own a n (Branch op one two to) bytes =
+    WithWay A a to (λ d. IsSpelled n bytes (instr.Branch op one two d) ⊎ ((n ≡ 8) × IsLong op one two d bytes))
+IsWritten A item own a n (Jump rd to) bytes = WithWay A a to (λ d. IsSpelled n bytes (instr.Jal rd d))
 IsWritten A item own a n (Call rd temp to) bytes =
     WithWay A a to (λ d. IsSpelled n bytes (instr.Jal rd d)) ⊎ ((n ≡ 8) × WithCall A a rd temp to bytes)
 IsWritten A item own a n (Align k) bytes = bytes ≡ padding n

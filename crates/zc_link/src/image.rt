@@ -24,7 +24,8 @@ use zc_base::fields::put_u32;
 pub fn image_of<L: Layout>(alloc: Global, layout: &L, flags: u32) -> Result<Vec<u8>, AllocError>
     requires { flags ≤ 1 }
     ensures ready { IfOk result (λ _. IsReady (L.inputs layout.now)) }
-    ensures image { IfOk result (λ elf. IsImageOf (L.inputs layout.now) (L.addresses layout.now) flags (text_end (parsed (L.inputs layout.now)) (L.addresses layout.now)) elf.items) }
+    ensures image { IfOk result (λ elf. IsImageOf (L.inputs layout.now) (L.addresses layout.now) flags
+        (text_end (parsed (L.inputs layout.now)) (L.addresses layout.now)) elf.items) }
 {
     let laid = Text::lay(alloc, layout)?;
     let bytes = data_bytes(alloc, layout)?;
@@ -54,10 +55,12 @@ fn write<L: Layout>(
     bytes: Vec<u8>,
 ) -> Result<Vec<u8>, AllocError>
     requires flags { flags ≤ 1 }
-    requires laid { IsTextOf (parsed (L.inputs layout.now)) (L.addresses layout.now) (all_sections (parsed (L.inputs layout.now)).objects) laid.text.items laid.places.items }
+    requires laid { IsTextOf (parsed (L.inputs layout.now)) (L.addresses layout.now)
+        (all_sections (parsed (L.inputs layout.now)).objects) laid.text.items laid.places.items }
     requires bytes { bytes.items ≡ image_data (parsed (L.inputs layout.now)) (L.addresses layout.now) }
     ensures ready { IsReady (L.inputs layout.now) }
-    ensures image { IfOk result (λ elf. IsImageOf (L.inputs layout.now) (L.addresses layout.now) flags (text_end (parsed (L.inputs layout.now)) (L.addresses layout.now)) elf.items) }
+    ensures image { IfOk result (λ elf. IsImageOf (L.inputs layout.now) (L.addresses layout.now) flags
+        (text_end (parsed (L.inputs layout.now)) (L.addresses layout.now)) elf.items) }
 {
     let objects = layout.cut().objects();
     let map = objects.map();

@@ -1,6 +1,6 @@
 // What is written for an item: its own words with what its relocation asks for, or a short form of them.
 
-ghost use Rattle.std.specs.Prelude.{◌≡◌, ◌<◌, ◌^◌, List, true, Some, IsTrue, ℕ};
+ghost use Rattle.std.specs.Prelude.{◌≡◌, ◌<◌, ◌^◌, List, true, Some, None, IsTrue, ℕ};
 ghost use Rattle.std.specs.Option.{unwrap_or};
 ghost use Rattle.block_cut.specs.Items.{item_at};
 ghost use Rattle.block_cut.specs.declared.item.Item.TheVariants.{Branch, Jump};
@@ -9,12 +9,13 @@ ghost use Rattle.psabi_reloc.specs.Patched.{with_imm};
 ghost use Rattle.psabi_reloc.specs.Reaches.{branch_reach, jal_reach};
 ghost use Rattle.psabi_sym.specs.Inputs.{parsed};
 ghost use Rattle.rv_decode.specs.Decode.{decoded};
+ghost use Rattle.rv_decode.specs.declared.instr.BranchOp.{BranchOp};
 ghost use Rattle.rv_decode.specs.declared.instr.Instr.{Instr};
 ghost use Rattle.shrink_layout.specs.Pieces.{is_short};
 ghost use Rattle.zc_base.specs.Fields.{half_bytes, word_bytes};
 ghost use Rattle.zc_base.specs.declared.place.Place.{Place};
 ghost use Rattle.zc_link.specs.LaidOut.{HasForm, OfWay};
-ghost use Rattle.zc_link.specs.Standing.{GoesWith, ItemStands, bytes_read, is_lower};
+ghost use Rattle.zc_link.specs.Standing.{GoesWith, ItemStands, is_lower, is_one_word};
 ghost use Rattle.zc_link.specs.Values.{target_value, way};
 ghost use Rattle.zc_link.specs.Written.{IsWritten, SpellsShort};
 
@@ -48,7 +49,8 @@ pub fn way_to<L: Layout>(layout: &L, address: u32, to: Place) -> u32
 
 // The way from the `auipc` at a place to what its relocation resolves to.
 fn way_from<L: Layout>(layout: &L, from: Place) -> u32
-    ensures { (g : GoesWith (L.addresses layout.now) (item_at (parsed (L.inputs layout.now))) from) → result ≡ way g.address g.has.0 }
+    ensures { (g : GoesWith (L.addresses layout.now) (item_at (parsed (L.inputs layout.now))) from)
+        → result ≡ way g.address g.has.0 }
 {
     match layout.cut().item(from) {
         Some(Item::PcHi(_, t)) => {
@@ -71,22 +73,27 @@ fn put_lower(instr: &Instr, word: u32, x: u32) -> u32
 
 /// The word that is written at an address for an item of one word, from its own.
 pub fn patched<L: Layout>(layout: &L, item: Item, address: u32, word: u32) -> u32
-    requires stands { ItemStands (L.addresses layout.now) (item_at (parsed (L.inputs layout.now))) word 0 item }
-    requires branch { (i : Instr) (to : Place) → item ≡ Branch i to → OfWay (L.addresses layout.now) address to (λ d. branch_reach d ≡ true) }
-    requires jump { (i : Instr) (to : Place) → item ≡ Jump i to → OfWay (L.addresses layout.now) address to (λ d. jal_reach d ≡ true) }
-    ensures four { bytes_read item ≡ 4
-        → IsWritten (L.addresses layout.now) (item_at (parsed (L.inputs layout.now))) (λ n. word_bytes word) address 4 item (word_bytes result) }
-    ensures two { bytes_read item ≡ 4 → HasForm (L.addresses layout.now) address 2 item
+    requires stands { ItemStands (L.addresses layout.now) (item_at (parsed (L.inputs layout.now)))
+        (decoded word) None item }
+    requires branch { (op : BranchOp) (one two : ℕ) (to : Place) → item ≡ Branch op one two to
+        → OfWay (L.addresses layout.now) address to (λ d. branch_reach d ≡ true) }
+    requires jump { (rd : ℕ) (to : Place) → item ≡ Jump rd to
+        → OfWay (L.addresses layout.now) address to (λ d. jal_reach d ≡ true) }
+    ensures four { is_one_word item ≡ true
+        → IsWritten (L.addresses layout.now) (item_at (parsed (L.inputs layout.now))) (λ n. word_bytes word) address 4
+        item (word_bytes result) }
+    ensures two { is_one_word item ≡ true → HasForm (L.addresses layout.now) address 2 item
         → (i : Instr) × (decoded result ≡ Some i) × IsTrue (is_short i) × ((bytes : List ℕ) → SpellsShort bytes i
-        → IsWritten (L.addresses layout.now) (item_at (parsed (L.inputs layout.now))) (λ n. word_bytes word) address 2 item bytes) }
+        → IsWritten (L.addresses layout.now) (item_at (parsed (L.inputs layout.now))) (λ n. word_bytes word) address 2
+        item bytes) }
 {
     match item {
         Item::Hi(_, t) => put_hi20(word, target_value(layout, t)),
         Item::Lo(i, t) => put_lower(&i, word, target_value(layout, t)),
         Item::PcHi(_, t) => put_hi20(word, target_value(layout, t).wrapping_sub(address)),
         Item::PcLo(i, from) => put_lower(&i, word, way_from(layout, from)),
-        Item::Branch(_, to) => put_branch(word, way_to(layout, address, to).cast_signed()),
-        Item::Jump(_, to) => put_jal(word, way_to(layout, address, to).cast_signed()),
+        Item::Branch { to, .. } => put_branch(word, way_to(layout, address, to).cast_signed()),
+        Item::Jump { to, .. } => put_jal(word, way_to(layout, address, to).cast_signed()),
         Item::Word(t) => target_value(layout, t),
         _ => word,
     }

@@ -8,6 +8,7 @@ ghost use Rattle.psabi_sym.specs.Inputs.{parsed};
 ghost use Rattle.psabi_sym.specs.Listed.{all_sections, sections_before};
 ghost use Rattle.block_cut.specs.declared.item.Item.TheVariants.{Branch, Call};
 ghost use Rattle.rv_decode.specs.Decode.{decoded};
+ghost use Rattle.rv_decode.specs.declared.instr.BranchOp.{BranchOp};
 ghost use Rattle.rv_decode.specs.declared.instr.Instr.{Instr};
 ghost use Rattle.shrink_layout.specs.Pieces.{is_short};
 ghost use Rattle.zc_link.specs.Copied.{bytes_from};
@@ -15,6 +16,7 @@ ghost use Rattle.zc_link.specs.ImageParts.{targets_of};
 ghost use Rattle.zc_link.specs.Standing.{AddsHere, IsCodeAt, IsExtent, StandsHere};
 ghost use Rattle.zc_link.specs.Written.{IsSoFar, IsTextOf, SpellsShort, padding};
 ghost use Rattle.zc_base.specs.Fields.{half_bytes, word_bytes};
+ghost use Rattle.zc_base.specs.declared.place.Place.{Place};
 
 use crate::item::{patched, shortened, way_to};
 use crate::layout::Layout;
@@ -26,7 +28,6 @@ use rv_encode::encode::encode;
 use std::alloc::{AllocError, Global};
 use zc_base::fields::u32_at;
 use zc_base::place::Place;
-use zc_base::reg::Reg;
 use zca_zcb_pass::long::long_branch;
 
 // `addi x0,x0,0`.
@@ -42,10 +43,11 @@ pub struct Text {
     pub places: Vec<(Place, u32)>,
 }
 
-// Where an item lies: its place, its address, and the bytes from there to the next place.
+// Where an item lies: its place, the bytes of its section, its address, and the bytes from there to the next place.
 #[derive(Clone, Copy)]
-struct Extent {
+struct Extent<'a> {
     at: Place,
+    code: &'a [u8],
     address: u32,
     size: u32,
 }
@@ -54,7 +56,8 @@ impl Text {
     /// The text of a layout's code, with all its places. It takes time linear in the code and the number of
     /// sections.
     pub fn lay<L: Layout>(alloc: Global, layout: &L) -> Result<Text, AllocError>
-        ensures { IfOk result (λ l. IsTextOf (parsed (L.inputs layout.now)) (L.addresses layout.now) (all_sections (parsed (L.inputs layout.now)).objects) l.text.items l.places.items) }
+        ensures { IfOk result (λ l. IsTextOf (parsed (L.inputs layout.now)) (L.addresses layout.now)
+            (all_sections (parsed (L.inputs layout.now)).objects) l.text.items l.places.items) }
     {
         let mut laid = Text {
             text: Vec::new(alloc),
@@ -69,8 +72,11 @@ impl Text {
     // Adds the code of an object, by its index.
     fn add_object<L: Layout>(&mut self, layout: &L, o: u16) -> Result<(), AllocError>
         requires object { o < length (L.inputs layout.now).files }
-        requires before { IsTextOf (parsed (L.inputs layout.now)) (L.addresses layout.now) (sections_before (parsed (L.inputs layout.now)).objects o 0) self.old.text.items self.old.places.items }
-        ensures { OnOk result (IsTextOf (parsed (L.inputs layout.now)) (L.addresses layout.now) (sections_before (parsed (L.inputs layout.now)).objects (o + 1) 0) self.new.text.items self.new.places.items) }
+        requires before { IsTextOf (parsed (L.inputs layout.now)) (L.addresses layout.now)
+            (sections_before (parsed (L.inputs layout.now)).objects o 0) self.old.text.items self.old.places.items }
+        ensures { OnOk result (IsTextOf (parsed (L.inputs layout.now)) (L.addresses layout.now)
+            (sections_before (parsed (L.inputs layout.now)).objects (o + 1) 0)
+            self.new.text.items self.new.places.items) }
     {
         let object = layout.cut().objects().object(o);
         for i in 0..object.section_count() {
@@ -90,8 +96,11 @@ impl Text {
     ) -> Result<(), AllocError>
         requires object { slice_get (L.inputs layout.now).files o ≡ Some object.now }
         requires section { i < section_count object.now }
-        requires before { IsTextOf (parsed (L.inputs layout.now)) (L.addresses layout.now) (sections_before (parsed (L.inputs layout.now)).objects o i) self.old.text.items self.old.places.items }
-        ensures { OnOk result (IsTextOf (parsed (L.inputs layout.now)) (L.addresses layout.now) (sections_before (parsed (L.inputs layout.now)).objects o (i + 1)) self.new.text.items self.new.places.items) }
+        requires before { IsTextOf (parsed (L.inputs layout.now)) (L.addresses layout.now)
+            (sections_before (parsed (L.inputs layout.now)).objects o i) self.old.text.items self.old.places.items }
+        ensures { OnOk result (IsTextOf (parsed (L.inputs layout.now)) (L.addresses layout.now)
+            (sections_before (parsed (L.inputs layout.now)).objects o (i + 1))
+            self.new.text.items self.new.places.items) }
     {
         let objects = layout.cut().objects();
         if !objects.is_code(o, i) {
@@ -115,9 +124,12 @@ impl Text {
         code: &[u8],
     ) -> Result<(), AllocError>
         requires here { IsCodeAt (parsed (L.inputs layout.now)) first code.now }
-        requires begin { IsSoFar (parsed (L.inputs layout.now)) (L.addresses layout.now) (flat_map targets_of (sections_before (parsed (L.inputs layout.now)).objects first.object first.section))
+        requires begin { IsSoFar (parsed (L.inputs layout.now)) (L.addresses layout.now)
+            (flat_map targets_of (sections_before (parsed (L.inputs layout.now)).objects first.object first.section))
             (unwrap_or (L.addresses layout.now first) 0) self.old.text.items self.old.places.items }
-        ensures { OnOk result (IsTextOf (parsed (L.inputs layout.now)) (L.addresses layout.now) (sections_before (parsed (L.inputs layout.now)).objects first.object (first.section + 1)) self.new.text.items self.new.places.items) }
+        ensures { OnOk result (IsTextOf (parsed (L.inputs layout.now)) (L.addresses layout.now)
+            (sections_before (parsed (L.inputs layout.now)).objects first.object (first.section + 1))
+            self.new.text.items self.new.places.items) }
     {
         let cut = layout.cut();
         let mut at = first;
@@ -127,13 +139,13 @@ impl Text {
             let next = cut.next_after(at, &item);
             let end = layout.address(next).unwrap_or(0);
             let size = end.wrapping_sub(address);
-            add_item(
-                &mut self.text,
-                layout,
-                Extent { at, address, size },
-                item,
+            let extent = Extent {
+                at,
                 code,
-            )?;
+                address,
+                size,
+            };
+            add_item(&mut self.text, layout, extent, item)?;
             at = next;
             address = end;
         }
@@ -149,18 +161,25 @@ fn add_item<L: Layout>(
     layout: &L,
     extent: Extent,
     item: Item,
-    code: &[u8],
 ) -> Result<(), AllocError>
-    requires stands { StandsHere (parsed (L.inputs layout.now)) (L.addresses layout.now) code.now extent.at item text.old.items }
-    requires extent { IsExtent (parsed (L.inputs layout.now)) (L.addresses layout.now) extent.at extent.address extent.size }
-    ensures { OnOk result (AddsHere (parsed (L.inputs layout.now)) (L.addresses layout.now) code.now extent.at item text.old.items text.new.items) }
+    requires stands { StandsHere (parsed (L.inputs layout.now)) (L.addresses layout.now) extent.code.now extent.at
+        item text.old.items }
+    requires extent { IsExtent (parsed (L.inputs layout.now)) (L.addresses layout.now) extent.at
+        extent.address extent.size }
+    ensures { OnOk result (AddsHere (parsed (L.inputs layout.now)) (L.addresses layout.now) extent.entry.code.now
+        extent.entry.at item text.old.items text.new.items) }
 {
-    let Extent { at, address, size } = extent;
+    let Extent {
+        at,
+        code,
+        address,
+        size,
+    } = extent;
     let offset = at.offset as usize;
     match item {
         Item::Align(_) => add_padding(text, size),
-        Item::Branch(i, to) => add_branch(text, layout, extent, i, to, code),
-        Item::Call { rd, to, .. } => add_call(text, layout, extent, rd, to, code),
+        Item::Branch { .. } => add_branch(text, layout, extent, item),
+        Item::Call { .. } => add_call(text, layout, extent, item),
         Item::Raw(_) => add_own(text, code, offset, 4),
         Item::RawPair(_, _) => add_own(text, code, offset, 8),
         _ => {
@@ -175,21 +194,42 @@ fn add_branch<L: Layout>(
     text: &mut Vec<u8>,
     layout: &L,
     extent: Extent,
-    i: Instr,
-    to: Place,
-    code: &[u8],
+    item: Item,
 ) -> Result<(), AllocError>
-    requires stands { StandsHere (parsed (L.inputs layout.now)) (L.addresses layout.now) code.now extent.at (Branch i to) text.old.items }
-    requires extent { IsExtent (parsed (L.inputs layout.now)) (L.addresses layout.now) extent.at extent.address extent.size }
-    ensures { OnOk result (AddsHere (parsed (L.inputs layout.now)) (L.addresses layout.now) code.now extent.at (Branch i to) text.old.items text.new.items) }
+    requires branch { (op : BranchOp) × (one : ℕ) × (two : ℕ) × (to : Place) × (item ≡ Branch op one two to) }
+    requires stands { StandsHere (parsed (L.inputs layout.now)) (L.addresses layout.now) extent.code.now extent.at
+        item text.old.items }
+    requires extent { IsExtent (parsed (L.inputs layout.now)) (L.addresses layout.now) extent.at
+        extent.address extent.size }
+    ensures { OnOk result (AddsHere (parsed (L.inputs layout.now)) (L.addresses layout.now) extent.entry.code.now
+        extent.entry.at item text.old.items text.new.items) }
 {
-    let Extent { at, address, size } = extent;
+    let Extent {
+        at,
+        code,
+        address,
+        size,
+    } = extent;
     if size == 8 {
-        let [over, jump] = long_branch(i, way_to(layout, address, to).cast_signed());
+        let Item::Branch {
+            op,
+            first,
+            second,
+            to,
+        } = item
+        else {
+            unreachable!()
+        };
+        let branch = Instr::Branch {
+            op,
+            first,
+            second,
+            distance: 0,
+        };
+        let [over, jump] = long_branch(branch, way_to(layout, address, to).cast_signed());
         add_words(text, over, jump)
     } else {
-        let own = u32_at(code, at.offset as usize);
-        let word = patched(layout, Item::Branch(i, to), address, own);
+        let word = patched(layout, item, address, u32_at(code, at.offset as usize));
         add_form(text, word, size)
     }
 }
@@ -199,16 +239,25 @@ fn add_call<L: Layout>(
     text: &mut Vec<u8>,
     layout: &L,
     extent: Extent,
-    rd: Reg,
-    to: Place,
-    code: &[u8],
+    item: Item,
 ) -> Result<(), AllocError>
-    requires stands { (temp : ℕ) × StandsHere (parsed (L.inputs layout.now)) (L.addresses layout.now) code.now extent.at (Call rd temp to) text.old.items }
-    requires extent { IsExtent (parsed (L.inputs layout.now)) (L.addresses layout.now) extent.at extent.address extent.size }
-    ensures { (temp : ℕ) → StandsHere (parsed (L.inputs layout.now)) (L.addresses layout.now) code.now extent.at (Call rd temp to) text.old.items
-        → OnOk result (AddsHere (parsed (L.inputs layout.now)) (L.addresses layout.now) code.now extent.at (Call rd temp to) text.old.items text.new.items) }
+    requires call { (rd : ℕ) × (temp : ℕ) × (to : Place) × (item ≡ Call rd temp to) }
+    requires stands { StandsHere (parsed (L.inputs layout.now)) (L.addresses layout.now) extent.code.now extent.at
+        item text.old.items }
+    requires extent { IsExtent (parsed (L.inputs layout.now)) (L.addresses layout.now) extent.at
+        extent.address extent.size }
+    ensures { OnOk result (AddsHere (parsed (L.inputs layout.now)) (L.addresses layout.now) extent.entry.code.now
+        extent.entry.at item text.old.items text.new.items) }
 {
-    let Extent { at, address, size } = extent;
+    let Extent {
+        at,
+        code,
+        address,
+        size,
+    } = extent;
+    let Item::Call { rd, to, .. } = item else {
+        unreachable!()
+    };
     let offset = at.offset as usize;
     let distance = way_to(layout, address, to).cast_signed();
     if size == 8 {

@@ -7,7 +7,7 @@ use Rattle.psabi_sym.specs.Listed.{sections_before}
 use Rattle.zc_base.specs.declared.place.Place.{Place}
 use Rattle.block_cut.specs.Items.{code_at, item_at, next_at}
 use Rattle.zc_link.specs.Written.{IsTextOf}
-use Rattle.zc_link.specs.Standing.{AddsHere, IsExtent, StandsHere}
+use Rattle.zc_link.specs.Standing.{AddsHere, StandsHere}
 use Rattle.zc_link.proofs.LaidLaws.{extent_is}
 use Rattle.zc_link.proofs.Standing.{gathered, stands_here}
 use Rattle.zc_link.proofs.Walk.{Walks, bytes_are, in_section, next_further, walk_begins, walk_ends, walk_steps}
