@@ -73,8 +73,8 @@ def copied(data, i, symbols):
     return changed
 
 
-def linked(program, files, symbols):
-    """The entry, the code and the data that another linker writes."""
+def linked_file(program, files, symbols):
+    """The file that another linker writes."""
     with tempfile.TemporaryDirectory() as folder:
         order, out = (os.path.join(folder, name) for name in ('script', 'out'))
         paths = [os.path.join(folder, f'{i}.o') for i in range(len(files))]
@@ -88,7 +88,12 @@ def linked(program, files, symbols):
         if done.returncode:
             raise Differs(done.stderr.decode()[:500])
         with open(out, 'rb') as file:
-            data = file.read()
+            return file.read()
+
+
+def linked(program, files, symbols):
+    """The entry, the code and the data that another linker writes."""
+    data = linked_file(program, files, symbols)
     read = Object(data)
     by_name = {read.name_of(section): section for section in read.sections}
     return struct.unpack_from('<I', data, 24)[0], *(by_name[name].content if name in by_name else b''
