@@ -1,13 +1,14 @@
 #!/usr/bin/env python3
 """Measures `zc` on chains of branches, which take as many rounds as there are branches.
 
-    bench/chains.py [--repeats R] [PROGRAM]        PROGRAM is build/zcld if none is given
+    bench/chains.py [--repeats R] [--before BEFORE] [PROGRAM]        PROGRAM is build/zcld if none is given
 
 The layout starts with the shortest forms, and each round gives the next longer one to what doesn't reach. In each chain but
-the first, a branch reaches just so unless the one next to it in the chain has grown, so each round makes one branch longer (two,
-if the chain grows from both ends), and a layout that looked at all code in each round would take seconds. Each object is linked
-R times, all in turn, in an order that changes. A time is the processor's for a whole process: the least of the R. Memory is the
-most that a process held, as GNU time tells it.
+the first, a branch reaches just so unless the one next to it in the chain has grown, so each round makes one branch longer
+(two, if the chain grows from both ends), and a layout that looked at all code in each round would take seconds. Each object
+is linked R times, all in turn, in an order that changes; by BEFORE, an earlier program of zcld, as well. A time is the
+processor's for a whole process: the least of the R. Memory is the most that a process held, as GNU time tells it. A ratio
+above 1 says that the earlier program took longer, or held more.
 
     bench/chains.py --model COUNT
 
@@ -20,8 +21,8 @@ import shutil
 import sys
 import tempfile
 
-from links import text_size
-from run import Call, milliseconds, processor_name, table
+from links import BEFORE, NOW, compared, heads_of, programs_of, text_size
+from run import Call, processor_name, table
 
 sys.path.insert(0, os.path.join(os.path.dirname(os.path.abspath(__file__)), os.pardir, 'fuzz'))
 
@@ -84,8 +85,8 @@ def counted(count):
     table(['chain', 'words', 'rounds', 'text, bytes'], rows)
 
 
-def measured(program, repeats):
-    before, timer = os.getloadavg()[0], shutil.which('time')
+def measured(programs, repeats):
+    load, timer = os.getloadavg()[0], shutil.which('time')
     with tempfile.TemporaryDirectory() as folder:
         rows, order = [], random.Random(1)
         for name, chain in CHAINS.items():
@@ -93,35 +94,37 @@ def measured(program, repeats):
                 base = os.path.join(folder, str(len(rows)))
                 with open(base + '.o', 'wb') as file:
                     file.write(made_object(chain(count)))
-                words = [program, 'zc', '--out', base + '.elf', '--cert', base + '.cert', base + '.o']
-                rows.append((name, f'{4 * count:,}', base + '.elf', Call(words, 0)))
-        in_turn = [row[-1] for row in rows]
+                rows.append((name, f'{4 * count:,}', base + '.' + NOW, {
+                    who: Call([program, 'zc', '--out', f'{base}.{who}', '--cert', f'{base}.{who}.cert', base + '.o'], 0)
+                    for who, program in programs.items()}))
+        in_turn = [call for row in rows for call in row[-1].values()]
         for _ in range(repeats):
             order.shuffle(in_turn)
             for call in in_turn:
                 call.make()
         print(f'Processor: {processor_name()}, {os.cpu_count()} of them.')
-        print(f'Load over one minute: {before:.1f} before, {os.getloadavg()[0]:.1f} after. Each call was made {repeats} times.')
+        print(f'Load over one minute: {load:.1f} before, {os.getloadavg()[0]:.1f} after. Each call was made {repeats} times.')
         print('Times are the processor\'s milliseconds for a whole process, the least of all calls. Memory is the most that a '
               'process held.')
-        table(['chain', 'code, bytes', 'text, bytes', 'zc, ms', 'KiB'],
-              [[name, code, f'{text_size(image):,}', milliseconds(call.processor), call.peak(timer)]
-               for name, code, image, call in rows])
+        cells = []
+        for name, code, image, calls in rows:
+            peaks = {who: call.peak(timer) for who, call in calls.items()}
+            cells.append([name, code, f'{text_size(image):,}', *(it for who in calls for it in compared(calls, who, peaks))])
+        beside = heads_of(BEFORE) if BEFORE in programs else []
+        table(['chain', 'code, bytes', 'text, bytes', 'zc, ms', 'KiB', *beside], cells)
 
 
 def main():
     arguments = argparse.ArgumentParser(description='Measures `zc` on chains of branches.')
     arguments.add_argument('program', nargs='?', default=os.path.join('build', 'zcld'))
+    arguments.add_argument('--before', help='an earlier program of zcld, to be measured beside this one')
     arguments.add_argument('--repeats', type=int, default=5)
     arguments.add_argument('--model', type=int, metavar='COUNT', help='count the rounds of chains of COUNT words, by the model')
     given = arguments.parse_args()
     if given.model:
         counted(given.model)
         return
-    program = os.path.abspath(given.program)
-    if not os.access(program, os.X_OK):
-        sys.exit(f'{given.program} is no program: `make` builds it')
-    measured(program, max(1, given.repeats))
+    measured(programs_of(given), max(1, given.repeats))
 
 
 if __name__ == '__main__':

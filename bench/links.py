@@ -1,17 +1,19 @@
 #!/usr/bin/env python3
 """Measures `plain` and `zc` on lists of objects with many relocations, beside GNU ld and LLD.
 
-    bench/links.py [--repeats R] [PROGRAM]        PROGRAM is build/zcld if none is given
+    bench/links.py [--repeats R] [--before BEFORE] [PROGRAM]        PROGRAM is build/zcld if none is given
 
 Objects are made by rule: code that calls functions and uses data of other objects in each way that compilers do, with a
-relocation for nearly every word, and tables of addresses in data. Each list is linked R times by `zcld plain` and `zcld zc`, and
-R times by each other linker for RISC-V that is installed, without relaxation beside `plain` and with it beside `zc`. The last
-list is one for `zc` alone: a chain of branches, each of which reaches just so over the next ones, so that each round of the
-layout makes but a few longer. All calls are made in turn, in an order that changes. A time is the processor's for a whole
-process: the least of the R. A ratio above 1 says that the other linker took longer. Memory is the most that a process held, as
-GNU time tells it.
+relocation for nearly every word, and tables of addresses in data. Each list is linked R times by `zcld plain` and `zcld zc`,
+and R times by each other linker for RISC-V that is installed, without relaxation beside `plain` and with it beside `zc`. The
+last list is one for `zc` alone: a chain of branches, each of which reaches just so over the next ones, so that each round of
+the layout makes but a few longer. With BEFORE, another program of zcld, its calls are made as well, and the images must be
+the same. All calls are made in turn, in an order that changes. A time is the processor's for a whole process: the least of
+the R. A ratio above 1 says that the other linker took longer, or held more. Memory is the most that a process held, as GNU
+time tells it.
 """
 import argparse
+import filecmp
 import os
 import random
 import shutil
@@ -27,6 +29,8 @@ from made_objects import A0, A1, A7, ECALL, NOP, RA, T0, T1, ZERO, addi, auipc, 
 from object_items import (BRANCH, CALL, HI20, JAL, LO12_I, LO12_S, PCREL_HI20, PCREL_LO12_I, PCREL_LO12_S, R_32, RELAX)
 from written_object import DATA_FLAGS, FUNCTION_TYPE, LOCAL, PROGBITS, Written
 
+# Who is asked: this program, an earlier one, and other linkers.
+NOW, BEFORE = 'zcld', 'before'
 LINKERS = {'GNU ld': ('riscv64-unknown-elf-ld', 'riscv32-unknown-elf-ld', 'riscv64-linux-gnu-ld'), 'LLD': ('ld.lld',)}
 # Of each list: how many objects, the words of code and of tables of each, and whether there are hints for relaxation.
 LISTS = ((16, 256, 3072, False), (16, 4080, 64, False), (128, 504, 64, False), (256, 252, 64, False), (256, 252, 64, True))
@@ -130,23 +134,31 @@ def linkers():
 
 
 class Listed:
-    """A list that is linked: what it has, and the calls, by the command and who is asked."""
+    """A list that is linked: what it has, and the calls and the small images, by who is asked."""
 
-    def __init__(self, what, paths, folder, number, program, others):
-        self.what = what
-        base = os.path.join(folder, str(number))
-        self.plain = {'zcld': Call([program, 'plain', '--out', base + '.plain', *paths], 0)}
-        self.small = {'zcld': Call([program, 'zc', '--out', base + '.zc', '--cert', base + '.cert', *paths], 0)}
+    def __init__(self, what, paths, base, programs, others):
+        self.what, self.plain, self.small, self.images = what, {}, {}, {}
+        for name, program in programs.items():
+            out, self.images[name] = f'{base}.{name}.plain', f'{base}.{name}.zc'
+            self.plain[name] = Call([program, 'plain', '--out', out, *paths], 0)
+            self.small[name] = Call([program, 'zc', '--out', self.images[name], '--cert', f'{base}.{name}.cert', *paths], 0)
         for name, words in others.items():
-            self.plain[name] = Call([*words, '--no-relax', '-o', f'{base}.{name[-2:]}', *paths], 0)
-            self.small[name] = Call([*words, '-o', f'{base}.{name[-2:]}.relaxed', *paths], 0)
-        self.images = {'zcld': base + '.zc', **{name: f'{base}.{name[-2:]}.relaxed' for name in others}}
+            out, self.images[name] = f'{base}.{name[-2:]}', f'{base}.{name[-2:]}.relaxed'
+            self.plain[name] = Call([*words, '--no-relax', '-o', out, *paths], 0)
+            self.small[name] = Call([*words, '-o', self.images[name], *paths], 0)
+        self.same = [(f'{base}.{NOW}.{kind}', f'{base}.{BEFORE}.{kind}') for kind in ('plain', 'zc', 'cert')]
 
     def calls(self):
         return [*self.plain.values(), *self.small.values()]
 
+    def compare(self):
+        """Ends this if both programs didn't write the same."""
+        for now, before in self.same:
+            if not filecmp.cmp(now, before, shallow=False):
+                sys.exit(f'{self.what[0]}: {os.path.basename(now)} isn\'t {os.path.basename(before)}')
 
-def lists_of(program, others, folder):
+
+def lists_of(programs, others, folder):
     """The lists, and the chain, which no other linker makes smaller."""
     made = [(made_list(*row), f'{row[0]} objects' + (', with hints' if row[3] else ''), others) for row in LISTS]
     data, code = chain()
@@ -157,7 +169,8 @@ def lists_of(program, others, folder):
         for path, data in zip(paths, files):
             with open(path, 'wb') as file:
                 file.write(data)
-        lists.append(Listed((what, code, relocs, sum(map(len, files))), paths, folder, number, program, beside))
+        base = os.path.join(folder, str(number))
+        lists.append(Listed((what, code, relocs, sum(map(len, files))), paths, base, programs, beside))
     return lists
 
 
@@ -170,55 +183,76 @@ def text_size(path):
     return sum(header[4] for header in headers if header[0] == 1 and header[6] & 1)
 
 
-def report(lists, others, kind):
-    timer = shutil.which('time')
+def ratio(other, mine):
+    return f'{other / mine:.2f}' if other and mine else None
+
+
+def compared(calls, name, peaks):
+    """The time and the memory of a call, and their ratios to those of this program, if it is another's."""
+    cells = [milliseconds(calls[name].processor), peaks[name]]
+    if name != NOW:
+        cells += [ratio(min(calls[name].processor), min(calls[NOW].processor)), ratio(peaks[name], peaks[NOW])]
+    return cells
+
+
+def heads_of(name, text=()):
+    return [f'{name}, ms', 'KiB', 'ratio', 'of KiB', *text]
+
+
+def report(lists, names, kind):
+    """A table of the calls of one kind: this program's, and beside them those of others."""
+    timer, text = shutil.which('time'), ['text'] if kind == 'small' else []
     rows = []
     for it in lists:
         calls = getattr(it, kind)
-        mine = calls['zcld']
-        cells = [*it.what, milliseconds(mine.processor), mine.peak(timer)]
-        cells += [text_size(it.images['zcld'])] if kind == 'small' else []
-        for name in others:
-            call = calls.get(name)
-            if call is None:
-                cells += ['', '', ''] + ([''] if kind == 'small' else [])
-                continue
-            cells += [milliseconds(call.processor), call.peak(timer), f'{min(call.processor) / min(mine.processor):.1f}']
-            cells += [text_size(it.images[name])] if kind == 'small' else []
+        peaks, cells = {name: call.peak(timer) for name, call in calls.items()}, [*it.what]
+        for name in (NOW, *names):
+            if name in calls:
+                cells += compared(calls, name, peaks) + [text_size(it.images[name])] * len(text)
+            else:
+                cells += [''] * len(heads_of(name, text))
         rows.append(cells)
-    text = ['text'] if kind == 'small' else []
     heads = ['list', 'code, bytes', 'relocations', 'files, bytes', f'{"zc" if text else "plain"}, ms', 'KiB', *text]
-    for name in others:
-        heads += [f'{name}, ms', 'KiB', 'ratio', *text]
-    table(heads, rows)
+    table(heads + [head for name in names for head in heads_of(name, text)], rows)
+
+
+def programs_of(given):
+    """The programs that the words name, by who is asked."""
+    programs = {NOW: given.program, **({BEFORE: given.before} if given.before else {})}
+    for path in programs.values():
+        if not os.access(path, os.X_OK):
+            sys.exit(f'{path} is no program: `make` builds it')
+    return {name: os.path.abspath(path) for name, path in programs.items()}
 
 
 def main():
     arguments = argparse.ArgumentParser(description='Measures `plain` and `zc` on lists of objects with many relocations.')
     arguments.add_argument('program', nargs='?', default=os.path.join('build', 'zcld'))
+    arguments.add_argument('--before', help='an earlier program of zcld, to be measured beside this one')
     arguments.add_argument('--repeats', type=int, default=40)
     given = arguments.parse_args()
-    program = os.path.abspath(given.program)
-    if not os.access(program, os.X_OK):
-        sys.exit(f'{given.program} is no program: `make` builds it')
-    before, others = os.getloadavg()[0], linkers()
+    programs = programs_of(given)
+    load, others = os.getloadavg()[0], linkers()
     with tempfile.TemporaryDirectory() as folder:
-        lists = lists_of(program, others, folder)
+        lists = lists_of(programs, others, folder)
         in_turn = [call for it in lists for call in it.calls()]
         order = random.Random(1)
         for _ in range(max(1, given.repeats)):
             order.shuffle(in_turn)
             for call in in_turn:
                 call.make()
+        for it in lists if given.before else ():
+            it.compare()
         print(f'Processor: {processor_name()}, {os.cpu_count()} of them.')
-        print(f'Load over one minute: {before:.1f} before, {os.getloadavg()[0]:.1f} after. '
+        print(f'Load over one minute: {load:.1f} before, {os.getloadavg()[0]:.1f} after. '
               f'Each call was made {given.repeats} times.')
         print('Times are the processor\'s milliseconds for a whole process, the least of all calls. Memory is the most that a '
               'process held. Text is in bytes.')
-        beside = ', '.join(f'{name} ({os.path.basename(it[0])})' for name, it in others.items())
-        print(f'Beside `plain` and `zc` stand {beside or "none"}.')
-        report(lists, others, 'plain')
-        report(lists, others, 'small')
+        names = [*list(programs)[1:], *others]
+        told = [f'{name} ({programs[name] if name in programs else os.path.basename(others[name][0])})' for name in names]
+        print(f'Beside `plain` and `zc` stand {", ".join(told) or "none"}.')
+        report(lists, names, 'plain')
+        report(lists, names, 'small')
 
 
 if __name__ == '__main__':

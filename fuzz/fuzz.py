@@ -172,7 +172,7 @@ def any_words(rng):
 SECTION_NAMES = (b'.text', b'.text.second', b'.data', b'.data.second', b'.sdata', b'.sdata.second', b'.bss', b'.sbss',
                  b'.sbss.second', b'.rodata', b'.init_array', b'.eh_frame', b'.comment', b'.rela', b'.symtab', b'.names')
 SYMBOL_NAMES = (b'', b'_start', b'table', b'main', b'buffer', b'_end', b'_starts')
-NONE, HI20, RELAX, ALIGN = 0, 26, 51, 43
+NONE, HI20, RELAX, ALIGN, RVC_JUMP = 0, 26, 51, 43, 45
 
 
 def names_of(names):
@@ -246,7 +246,7 @@ def made_object(rng, is_straight=True, is_first=True):
     table = symbols(rng, parts, is_first)
     given = len(parts)
     for _ in range(rng.choice((0, 0, 0, 1, 2)) if given > 1 else 0):
-        kind = rng.choice((NONE, RELAX)) if rng.random() < 0.8 else rng.choice((HI20, 1, ALIGN, 23))
+        kind = rng.choice((NONE, RELAX)) if rng.random() < 0.8 else rng.choice((HI20, 1, ALIGN, 23, RVC_JUMP))
         entries = b''.join(struct.pack('<3I', 4 * k, rng.randrange(len(table) // 16) << 8 | kind, 0)
                            for k in range(rng.choice((1, 1, 3))))
         about = rng.randrange(1, given)

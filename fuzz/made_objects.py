@@ -5,8 +5,8 @@ way. An odd list has something in it that is no fault of the objects' form, but 
 """
 import struct
 
-from object_items import (ALIGN, BRANCH, CALL, CALL_PLT, HI20, JAL, LO12_I, LO12_S, NONE, PCREL_HI20, PCREL_LO12_I,
-                          PCREL_LO12_S, R_32, RELAX)
+from object_items import (ALIGN, BRANCH, CALL, CALL_PLT, HI20, JAL, LO12_I, LO12_S, NONE, OF_TWO_BYTES, PCREL_HI20,
+                          PCREL_LO12_I, PCREL_LO12_S, R_32, RELAX)
 from written_object import (ABS, COMMON, CONSTANT_FLAGS, DATA_FLAGS, DATA_TYPE, FUNCTION_TYPE, GLOBAL, LOCAL, NOBITS,
                             PROGBITS, SECTION_TYPE, WEAK, Reloc, Written)
 
@@ -494,10 +494,10 @@ def any_reloc(program):
 def odd_reloc(program, read, section, reloc):
     """Changes a relocation."""
     rng = program.rng
-    which = rng.randrange(9)
+    which = rng.randrange(10)
     if which == 0:
         reloc.kind = rng.choice((NONE, R_32, 2, BRANCH, JAL, CALL, CALL_PLT, 20, PCREL_HI20, PCREL_LO12_I, PCREL_LO12_S, HI20,
-                                 LO12_I, LO12_S, 35, 39, ALIGN, 44, 45, RELAX, 57, 192, 255))
+                                 LO12_I, LO12_S, 35, 39, ALIGN, *OF_TWO_BYTES, RELAX, 57, 192, 255))
     elif which == 1:
         reloc.offset += rng.choice((-8, -4, -2, -1, 1, 2, 4, 8, 4096))
     elif which == 2:
@@ -517,6 +517,9 @@ def odd_reloc(program, read, section, reloc):
     elif which == 7:
         other = rng.choice(section.relocs)
         reloc.offset, other.offset = other.offset, reloc.offset
+    elif which == 8:
+        short = Reloc(reloc.offset + rng.randrange(-3, 10), rng.choice(OF_TWO_BYTES), reloc.symbol, 0)
+        section.relocs.insert(rng.randrange(len(section.relocs) + 1), short)
     else:
         section.relocs.append(Reloc(reloc.offset + rng.choice((-4, 0, 4)), rng.choice((R_32, ALIGN, CALL, RELAX, 44, 99)),
                                     rng.choice((None, *read.symbols)), rng.choice((0, 4, 8, 12, 300))))

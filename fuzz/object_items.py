@@ -12,10 +12,13 @@ from object_faults import RELA, Object, gather_fault, told
 
 NONE, R_32, BRANCH, JAL, CALL, CALL_PLT, ALIGN, RELAX = 0, 1, 16, 17, 18, 19, 43, 51
 PCREL_HI20, PCREL_LO12_I, PCREL_LO12_S, HI20, LO12_I, LO12_S = 23, 24, 25, 26, 27, 28
+RVC_BRANCH, RVC_JUMP = 44, 45
 WITHOUT_FIELD = (NONE, RELAX)
 CALLS, LOW_OF_PAIR = (CALL, CALL_PLT), (PCREL_LO12_I, PCREL_LO12_S)
+# These change instructions of 2 bytes, which no object may have: an entry of such a type is a fault, but its field counts.
+OF_TWO_BYTES = (RVC_BRANCH, RVC_JUMP)
 FIELDS = {R_32: 4, BRANCH: 4, JAL: 4, CALL: 8, CALL_PLT: 8, PCREL_HI20: 4, PCREL_LO12_I: 4, PCREL_LO12_S: 4, HI20: 4,
-          LO12_I: 4, LO12_S: 4}
+          LO12_I: 4, LO12_S: 4, RVC_BRANCH: 2, RVC_JUMP: 2}
 KIND_FAULT, PLACE_FAULT, PAIR_FAULT, TARGET_FAULT, RANGE_FAULT, ENTRY_FAULT = 11, 12, 13, 14, 15, 16
 
 
@@ -124,7 +127,7 @@ class Part:
 
     def is_bad_kind(self, entry):
         known = (NONE, R_32, RELAX) if not self.is_code else (NONE, RELAX, ALIGN, *FIELDS)
-        return entry.kind not in known
+        return entry.kind not in known or entry.kind in OF_TWO_BYTES
 
     def is_bad_place(self, entry):
         if entry.kind in WITHOUT_FIELD:

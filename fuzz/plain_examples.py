@@ -1,10 +1,10 @@
 """Small lists of objects with relocations, and what a plain link makes of them or refuses (RISC-V ELF psABI, "Relocations")."""
 from made_objects import (A0, A1, A2, A7, ECALL, NOP, RA, SP, T0, ZERO, add, addi, auipc, branch, jal, jalr, lui, lw, sw)
-from object_items import (ALIGN, BRANCH, CALL, CALL_PLT, HI20, JAL, LO12_I, LO12_S, PCREL_HI20, PCREL_LO12_I, PCREL_LO12_S,
-                          R_32, RELAX)
+from object_items import (ALIGN, BRANCH, CALL, CALL_PLT, HI20, JAL, LO12_I, LO12_S, OF_TWO_BYTES, PCREL_HI20, PCREL_LO12_I,
+                          PCREL_LO12_S, R_32, RELAX)
 from written_object import ABS, COMMON, CONSTANT_FLAGS, DATA_FLAGS, LOCAL, NOBITS, PROGBITS, WEAK, Written
 
-GOT_HI20, ADD32, SUB32, RVC_JUMP = 20, 35, 39, 45
+GOT_HI20, ADD32, SUB32 = 20, 35, 39
 EXIT = (addi(A7, ZERO, 93), ECALL)
 CALL_WORDS = (auipc(RA), jalr(RA, RA))
 
@@ -113,11 +113,17 @@ def refused_one(kind, words=(NOP,), addend=0, offset=0, value=0, home=None, bind
 
 def refused_data(kind, offset=0, size=8):
     """An object with one relocation of data."""
-    made, text = object_with(*EXIT)
+    return data_with(size, (offset, kind))
+
+
+def data_with(size, *rows):
+    """An object with relocations of data: the offset and the type."""
+    made, _ = object_with(*EXIT)
     data = made.section(b'.data', PROGBITS, DATA_FLAGS)
     data.content += bytes(size)
-    data.reloc(kind, made.symbols[0])
-    data.relocs[-1].offset = offset
+    for offset, kind in rows:
+        data.reloc(kind, made.symbols[0])
+        data.relocs[-1].offset = offset
     return made
 
 
@@ -173,9 +179,46 @@ def start_at(made, value, home=None):
 
 def of_kind():
     """RelocKind."""
-    unknown = (2, 15, GOT_HI20, 21, 29, ADD32, SUB32, 42, 44, RVC_JUMP, 46, 57, 255)
+    unknown = (2, 15, GOT_HI20, 21, 29, ADD32, SUB32, 42, *OF_TWO_BYTES, 46, 57, 255)
     return ([(f'type {kind}', refused_one(kind)) for kind in unknown]
-            + [(f'type {kind} in data', refused_data(kind)) for kind in (HI20, CALL, ALIGN, ADD32)])
+            + [(f'type {kind} in data', refused_data(kind)) for kind in (HI20, CALL, ALIGN, ADD32, *OF_TWO_BYTES)])
+
+
+def beside_two_bytes():
+    """RelocKind: fields beside the 2 bytes of a type that no object may have, and overlaps of which that entry is the first."""
+    rows = []
+    for kind in OF_TWO_BYTES:
+        rows += [
+            (f'type {kind} over the end', refused_one(kind, offset=35)), (f'type {kind} far out', refused_one(kind, offset=-1)),
+            (f'type {kind} twice', with_relocs((NOP,), (2, kind, 0, 0), (2, kind, 0, 0))),
+            (f'type {kind} before a word', with_relocs((NOP, lui(T0)), (4, HI20, 0, 0), (2, kind, 0, 0))),
+            (f'type {kind} behind a word', with_relocs((lui(T0), NOP), (0, HI20, 0, 0), (4, kind, 0, 0))),
+            (f'type {kind} behind a call', with_relocs((*CALL_WORDS, NOP), (0, CALL, 0, 0), (8, kind, 0, 0))),
+            (f'type {kind} behind ALIGN', with_relocs((NOP,) * 4, (0, ALIGN, 0, 12), (12, kind, 0, 0))),
+            (f'type {kind} with a hint', with_relocs((NOP,), (0, RELAX, 0, 0), (0, kind, 0, 0))),
+            (f'type {kind} far out, and a word at 0', with_relocs((lui(T0),), (0, HI20, 0, 0), (-1, kind, 0, 0))),
+            (f'type {kind} in a word, as the first', with_relocs((lui(T0),), (2, kind, 0, 0), (0, HI20, 0, 0))),
+            (f'type {kind} before a word of data', data_with(8, (3, R_32), (1, kind))),
+            (f'type {kind} behind a word of data', data_with(8, (1, R_32), (5, kind))),
+            (f'type {kind} in a word of data, as the first', data_with(8, (2, kind), (0, R_32))),
+        ]
+    return rows
+
+
+def over_two_bytes():
+    """RelocPlace: the first entry's field overlaps the 2 bytes of a type that no object may have."""
+    rows = []
+    for kind in OF_TWO_BYTES:
+        rows += [
+            (f'type {kind} at a word', with_relocs((lui(T0),), (0, HI20, 0, 0), (0, kind, 0, 0))),
+            (f'type {kind} at the end of a word', with_relocs((lui(T0), NOP), (0, HI20, 0, 0), (3, kind, 0, 0))),
+            (f'type {kind} from before a word', with_relocs((NOP, lui(T0)), (4, HI20, 0, 0), (3, kind, 0, 0))),
+            (f'type {kind} at the end of a call', with_relocs((*CALL_WORDS, NOP), (0, CALL, 0, 0), (6, kind, 0, 0))),
+            (f'type {kind} at the end of ALIGN', with_relocs((NOP,) * 4, (0, ALIGN, 0, 12), (10, kind, 0, 0))),
+            (f'type {kind} in a word of data', data_with(8, (0, R_32), (3, kind))),
+            (f'type {kind} from before a word of data', data_with(8, (1, R_32), (0, kind))),
+        ]
+    return rows
 
 
 def of_place():
@@ -276,8 +319,9 @@ def in_order():
 
 def refusals():
     """Each list that is refused: what it is, its files, and the line."""
-    for fault, make in (('11 RelocKind', of_kind), ('12 RelocPlace', of_place), ('13 LoPair', of_pair),
-                        ('14 BadTarget', of_target), ('15 Range', of_range), ('16 NoEntry', of_entry)):
+    for fault, make in (('11 RelocKind', of_kind), ('11 RelocKind', beside_two_bytes), ('12 RelocPlace', of_place),
+                        ('12 RelocPlace', over_two_bytes), ('13 LoPair', of_pair), ('14 BadTarget', of_target),
+                        ('15 Range', of_range), ('16 NoEntry', of_entry)):
         for what, made in make():
             yield f'{fault}, {what}', [made.bytes()], f'refused 0 {fault}'
     for what, objects, line in in_order():

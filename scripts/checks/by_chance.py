@@ -1,6 +1,7 @@
 """Programs and lists of objects by chance."""
 import random
 
+from close_relocs import close_relocs
 from far_lists import far_list
 from made_objects import A0, RA, SP, ZERO, addi, branch, jal, jalr, lui, made_list, of_format_i, of_format_r, store, sw
 from object_faults import told
@@ -92,3 +93,16 @@ def random_lists(group):
         for what, folder in (('plain', plainly), ('zc', small)):
             group.same(f'list {number}, {what}', folder.run(('run', '--steps', '6400003', 'out')), traced)
             folder.remove()
+
+
+def random_relocations(group):
+    """300 objects by chance whose relocations lie close together: the first fault, or the plain image"""
+    for number in range(300):
+        files = [close_relocs(random.Random(f'close {number}'))]
+        found = first_fault(files)
+        if found:
+            folder = group.folder(out=OLD, cert=OLD)
+            group.refused_by_all(f'object {number}', folder, folder.write_list(files), 121, told(found).decode())
+        else:
+            folder, _ = group.linked_plainly(f'object {number}', files)
+        folder.remove()

@@ -1,0 +1,30 @@
+"""Makes objects by chance whose relocations lie close together: fields that overlap, and fields that just don't."""
+from made_objects import A0, A1, NOP, RA, T0, addi, auipc, branch, jal, jalr, lui, sw
+from object_items import BRANCH, CALL, HI20, JAL, LO12_I, LO12_S, OF_TWO_BYTES, R_32, RELAX
+from plain_examples import EXIT, GOT_HI20, object_with
+from written_object import DATA_FLAGS, PROGBITS, Reloc
+
+# Types, each with words of its kind.
+FITTING = ((R_32, (NOP,)), (HI20, (lui(T0),)), (LO12_I, (addi(T0, T0),)), (LO12_S, (sw(T0, T0),)), (JAL, (jal(RA),)),
+           (BRANCH, (branch(0, A0, A1),)), (CALL, (auipc(RA), jalr(RA, RA))))
+# Types of entries that are put in between: most often one with a field of 2 bytes.
+BETWEEN = (*OF_TWO_BYTES, *OF_TWO_BYTES, *OF_TWO_BYTES, R_32, RELAX, GOT_HI20)
+
+
+def close_relocs(rng):
+    """An object of code and data: some of its words have a relocation, and up to two more lie anywhere among them."""
+    made, text = object_with()
+    data = made.section(b'.data', PROGBITS, DATA_FLAGS)
+    for section, rows in ((text, FITTING), (data, ((R_32, (0,)),))):
+        for _ in range(4):
+            kind, words = rng.choice(rows)
+            if rng.random() < 0.6:
+                section.reloc(kind, made.symbols[0], 0, words)
+            else:
+                section.words(*words)
+    for section in rng.choice(((), (text,), (data,), (text, data))):
+        for _ in range(rng.choice((1, 1, 2))):
+            entry = Reloc(rng.randrange(-2, len(section.content) + 2), rng.choice(BETWEEN), None, 0)
+            section.relocs.insert(rng.randrange(len(section.relocs) + 1), entry)
+    text.words(*EXIT)
+    return made.bytes()
