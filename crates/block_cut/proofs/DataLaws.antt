@@ -1,12 +1,12 @@
 -- The words of data by relocations that are decided. A section of data ends where all data end or before, and a relocation without a fault
 -- changes bytes of its section, so the word that it fills in lies there as well.
-use Rattle.std.proofs.Common.{◌≡◌, ℕ, ◌+◌, ◌≤◌, List, [], ◌∷◌, ◌++◌, length, get_or, map, filter, take, Bool, true, false, cond, eqb, not, Option, Some, None, slice_get, refl, sym, ap, ◌∙◌, arith}
+use Rattle.std.proofs.Common.{◌≡◌, ℕ, ◌+◌, ◌≤◌, List, [], ◌∷◌, ◌++◌, get_or, map, filter, take, Bool, true, false, cond, eqb, not, Option, Some, None, slice_get, refl, sym, ap, ◌∙◌, arith}
 use Rattle.std.specs.Prelude.{All, ◌&&◌, ◌||◌, nat_lt}
 use Rattle.std.specs.List.{flat_map, fold}
 use Rattle.std.specs.Option.{option_map, option_map_or, option_or}
 use Rattle.std.proofs.lemmas.Bool.{eq-eqb, ltb-false, or_parts}
 use Rattle.std.proofs.lemmas.Grind.{flat_map-append}
-use Rattle.std.proofs.lemmas.List.{append-nil, map-append, take_all}
+use Rattle.std.proofs.lemmas.List.{append-nil, map-append}
 use Rattle.std.proofs.lemmas.List.Elements.{All-filter, All-map, filter-append}
 use Rattle.std.proofs.lemmas.List.Sums.{fold-append}
 use Rattle.std.proofs.lemmas.Option.{slice_get-get_or}
@@ -20,7 +20,6 @@ use Rattle.psabi_reloc.specs.declared.kind.RelocKind.TheVariants as kind
 use Rattle.psabi_sym.specs.Blocks.{aligned_up, end_from}
 use Rattle.psabi_sym.specs.Data.{address_in, blocks_in, blocks_of, class_end, class_start, data_address, data_end, end_after, is_of_class, has_class, role_of, section_block}
 use Rattle.psabi_sym.specs.Classes.{classes_before, same_class}
-use Rattle.psabi_sym.specs.Faults.{first_some}
 use Rattle.psabi_sym.specs.Inputs.{ParsedInputs}
 use Rattle.psabi_sym.specs.Listed.{ListedSection, all_sections, section_at, sections_before}
 use Rattle.psabi_sym.specs.declared.block.Block.{Block}
@@ -30,13 +29,13 @@ use Rattle.psabi_sym.specs.declared.section_row.SectionRole.TheVariants.{Code, I
 use Rattle.psabi_sym.specs.declared.section_row.SectionRole.{SectionRole}
 use Rattle.psabi_sym.proofs.ContentLaws.{address_of_data, none_of_code, none_of_dropped}
 use Rattle.psabi_sym.proofs.PlaceLaws.{not_common}
-use Rattle.block_cut.specs.Faults.{if_so, reloc_fault, relocs_fault, section_fault}
+use Rattle.block_cut.specs.Faults.{if_so, reloc_fault, section_fault}
 use Rattle.block_cut.specs.Relocs.{field_end, is_bad_kind, is_bad_place, overlaps_another, is_ignored, is_placed, is_word}
 use Rattle.block_cut.specs.DataWords.{data_word, data_words, held_address, resolved_word, words_in}
 use Rattle.block_cut.specs.Resolved.{asks, resolved_reloc, resolved_relocs}
 use Rattle.block_cut.specs.declared.data_word.DataWord.{DataWord}
 use Rattle.block_cut.specs.declared.resolved_reloc.ResolvedReloc.{ResolvedReloc}
-use Rattle.block_cut.proofs.FirstLaws.{none_at, none_within}
+use Rattle.block_cut.proofs.FirstLaws.{none_at}
 use Rattle.block_cut.proofs.ListedLaws.{cut_at, listed}
 use Rattle.block_cut.proofs.TakeLaws.{take_next}
 
@@ -134,13 +133,9 @@ module _ (inputs : ParsedInputs) (o i : ℕ) (s : SectionParts) (found : section
   none_mapped None none = refl
   none_mapped (Some fault) none = absurd cc
 
-  -- if none has a fault, this one doesn't
-  pub reloc_none : relocs_fault inputs ≡ None → (k : ℕ) (r : Reloc) → slice_get s.relocs k ≡ Some r → reloc_fault inputs (listed o i s) r ≡ None
-  unfolding relocs_fault
-  reloc_none none k r at =
-      let cut = cut_at inputs.objects o i s found in
-      let here = none_within (section_fault inputs) (sections_before inputs.objects o i) (listed o i s) cut.rest (ap (λ l. first_some (map (section_fault inputs) l)) (sym cut.all_are) ∙ none) in
-      none_at (reloc_fault inputs (listed o i s)) s.relocs k r at (none_mapped _ here)
+  -- if none of the section has a fault, this one doesn't
+  pub reloc_none : section_fault inputs (listed o i s) ≡ None → (k : ℕ) (r : Reloc) → slice_get s.relocs k ≡ Some r → reloc_fault inputs (listed o i s) r ≡ None
+  reloc_none none k r at = none_at (reloc_fault inputs (listed o i s)) s.relocs k r at (none_mapped _ none)
 
   -- so its place is one that it can have
   place_none : (r : Reloc) → reloc_fault inputs (listed o i s) r ≡ None → is_bad_place s r ≡ false
@@ -248,7 +243,7 @@ module _ (inputs : ParsedInputs) (l : ListedSection) where
       ∙ sym (words_decided at l.section.relocs)
 
   -- each of them lies before the end of all data
-  pub words_low : section_at inputs.objects l.object l.index ≡ Some l.section → relocs_fault inputs ≡ None → (at : ℕ) → IsHeld inputs l at
+  pub words_low : section_at inputs.objects l.object l.index ≡ Some l.section → section_fault inputs l ≡ None → (at : ℕ) → IsHeld inputs l at
       → All (λ d. is_word d.kind ≡ true → at + d.offset ≤ data_end inputs) (resolved_relocs inputs l)
   words_low found none at is =
       All-map (λ d. is_word d.kind ≡ true → at + d.offset ≤ data_end inputs) (resolved_reloc inputs l) (filter asks l.section.relocs)
@@ -268,7 +263,7 @@ words_next inputs k l at =
     ∙ flat_map-append (words_in inputs) (take k (all_sections inputs.objects)) (l ∷ [])
     ∙ ap (λ m. flat_map (words_in inputs) (take k (all_sections inputs.objects)) ++ m) (append-nil (words_in inputs l))
 
--- after the last there are all
-pub words_all : (inputs : ParsedInputs) (k : ℕ) → length (all_sections inputs.objects) ≤ k → flat_map (words_in inputs) (take k (all_sections inputs.objects)) ≡ data_words inputs
+-- those of all sections
+pub all_words : (inputs : ParsedInputs) → flat_map (words_in inputs) (all_sections inputs.objects) ≡ data_words inputs
 unfolding data_words
-words_all inputs k past = ap (flat_map (words_in inputs)) (take_all k (all_sections inputs.objects) past)
+all_words inputs = refl

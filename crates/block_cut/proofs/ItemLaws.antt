@@ -20,11 +20,11 @@ use Rattle.block_cut.specs.declared.item.Item.{Item}
 use Rattle.block_cut.specs.declared.item.Item.TheVariants.{Branch, Jump, Align}
 use Rattle.block_cut.specs.Items.{call_item, code_at, instr_item, item_at, item_from, item_in, item_of, item_under, known_item, of_instr, raw_in, raw_pair, reloc_item, size_on, starts_on, target_away, target_of, to_place, transfer_item}
 use Rattle.block_cut.specs.PlainLayout.{after_item, padding_of}
-use Rattle.block_cut.specs.Units.{own_size, unit_of}
+use Rattle.block_cut.specs.CodeSizes.{own_size, code_step}
 use Rattle.block_cut.specs.Relocs.{field_of, fits_at, instr_in, is_bad_kind, is_filling, is_ignored, is_padding, reloc_on}
 use Rattle.psabi_sym.proofs.BlockLaws.{aligned_up-lt}
 use Rattle.block_cut.proofs.SoundLaws.{rvc_bad, sound_at}
-use Rattle.block_cut.proofs.UnitLaws.{unit_even}
+use Rattle.block_cut.proofs.CodeSizeLaws.{step_even}
 
 -- ---- the item at a place
 
@@ -74,9 +74,9 @@ pub record IsPadded (n : ℕ) : Type 0 where
 pub padded : (c : Bool) (n : ℕ) → is_padding c (pos n) ≡ true → IsPadded n
 padded c n is =
     let two = and_parts (ltb 0 n) _ is in
-    let rest = and_parts (ltb n 256) (eqb (n % unit_of c) 0) two.1 in
+    let rest = and_parts (ltb n 256) (eqb (n % code_step c) 0) two.1 in
     let short = ltb-true n 256 rest.0 in
-    let even : n % 2 ≡ 0 = unit_even c n (eqb-true (n % unit_of c) 0 rest.1) in
+    let even : n % 2 ≡ 0 = step_even c n (eqb-true (n % code_step c) 0 rest.1) in
     let some : 2 ≤ n = omega (arith, ltb-true 0 n two.0, even) in
     let power = powers n (ltb n 2) refl (ltb n 4) refl (ltb n 8) refl (ltb n 16) refl (ltb n 32) refl (ltb n 64) refl (ltb n 128) refl some short in
     record { some = some; even = even; short = omega (arith, short, even); power = power.0; above = power.1; most = power.2 }
@@ -96,7 +96,7 @@ padded c n is =
 pub filling : (c : Bool) (z : ℤ) → is_padding c z ≡ true → is_filling z ≡ true
 filling c (pos n) is =
     let two = and_parts (ltb 0 n) _ is in
-    let rest = and_parts (ltb n 256) (eqb (n % unit_of c) 0) two.1 in
+    let rest = and_parts (ltb n 256) (eqb (n % code_step c) 0) two.1 in
     ap (λ b. b && ltb n 256) two.0 ∙ rest.0
 filling c (negsuc n) is = absurd cc
 

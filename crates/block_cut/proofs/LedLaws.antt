@@ -17,11 +17,11 @@ use Rattle.psabi_sym.specs.Inputs.{Inputs, ParsedInputs, parsed}
 use Rattle.psabi_sym.specs.Listed.{IsSectionNumber, ListedSection, ListedSymbol, all_sections, all_symbols, section_at, symbols_in}
 use Rattle.psabi_sym.specs.Rows.{section_starts}
 use Rattle.psabi_sym.proofs.FlatLaws.{length-parsed, parsed_more, symbols_push}
-use Rattle.psabi_sym.proofs.SectionNumbers.{has_number, number_of_section}
-use Rattle.block_cut.specs.Items.{all_places, code_at, code_only, is_target_at, item_at, item_in, next_at, place_of, places_of, size_at, starts_in, starts_on, target_of}
-use Rattle.block_cut.specs.Leaders.{ends_block, goes_to, is_leader_at, is_place, item_leads, reloc_leads, section_leads, symbol_leads}
-use Rattle.block_cut.specs.Led.{Adds, has_place, is_led_to, is_marked, leads_from, mark_at, mark_in, section_number}
-use Rattle.block_cut.specs.Places.{code_place, code_places, targets_in}
+use Rattle.psabi_sym.proofs.SectionNumbers.{has_number, listed_at, number_of_section}
+use Rattle.block_cut.specs.Items.{code_at, code_only, is_target_at, item_at, item_in, next_at, place_of, places_of, size_at, starts_in, starts_on, target_of, targets_in}
+use Rattle.block_cut.specs.Leaders.{ends_block, goes_to, is_leader_at, is_place, item_leads, reloc_leads, section_leads}
+use Rattle.block_cut.specs.Led.{Adds, has_place, is_led_to, is_marked, mark_at, mark_in, section_number}
+use Rattle.block_cut.specs.Places.{code_place, code_places}
 use Rattle.block_cut.specs.Resolved.{asks, resolved_reloc, resolved_relocs}
 use Rattle.block_cut.specs.declared.code_place.CodePlace.{CodePlace}
 use Rattle.block_cut.specs.declared.item.Item.{Item}
@@ -46,23 +46,12 @@ or_assoc false b c = refl
 -- ---- lists
 
 -- one element more
-any_next : {X : Type 0} (p : X → Bool) (xs : List X) (k : ℕ) (x : X) → slice_get xs k ≡ Some x → list_any p (take (k + 1) xs) ≡ (list_any p (take k xs) || p x)
+pub any_next : {X : Type 0} (p : X → Bool) (xs : List X) (k : ℕ) (x : X) → slice_get xs k ≡ Some x → list_any p (take (k + 1) xs) ≡ (list_any p (take k xs) || p x)
 any_next p xs k x at =
     ap (list_any p) (take_next xs k x at) ∙ list_any-append p (take k xs) (x ∷ []) ∙ ap (λ b. list_any p (take k xs) || b) (or_false (p x))
 
--- either of two tests
-any_either : {X : Type 0} (f g : X → Bool) (xs : List X) → list_any (λ x. f x || g x) xs ≡ (list_any f xs || list_any g xs)
-any_either f g [] = refl
-any_either f g (x ∷ xs) = ap (λ b. (f x || g x) || b) (any_either f g xs) ∙ by (f x) (g x) (list_any f xs) (list_any g xs)
-  where
-    by : (a b c d : Bool) → ((a || b) || (c || d)) ≡ ((a || c) || (b || d))
-    by true b c d = refl
-    by false true true d = refl
-    by false true false d = refl
-    by false false c d = refl
-
 -- a test of all that the elements have
-any_flat : {X Y : Type 0} (p : Y → Bool) (h : X → List Y) (xs : List X) → list_any p (flat_map h xs) ≡ list_any (λ x. list_any p (h x)) xs
+pub any_flat : {X Y : Type 0} (p : Y → Bool) (h : X → List Y) (xs : List X) → list_any p (flat_map h xs) ≡ list_any (λ x. list_any p (h x)) xs
 any_flat p h [] = refl
 any_flat p h (x ∷ xs) = list_any-append p (h x) (flat_map h xs) ∙ ap (λ b. list_any p (h x) || b) (any_flat p h xs)
 
@@ -85,6 +74,10 @@ pub number_is : (objects : List ObjectParts) (q : Place) (number : Option ℕ) �
 number_is objects q None is = ap (option_map (λ s. section_starts objects q.object + q.section)) is
 number_is objects q (Some k) is =
     ap (option_map (λ s. section_starts objects q.object + q.section)) is.1 ∙ ap Some (sym (has_number objects k (listed q.object q.section is.0) is.2).place)
+
+-- so a section's own number is that of its places
+pub number_listed : (objects : List ObjectParts) (k : ℕ) (l : ListedSection) → slice_get (all_sections objects) k ≡ Some l → section_number objects (place_of l 0) ≡ Some k
+number_listed objects k l at = number_is objects (place_of l 0) (Some k) (l.section, listed_at objects k l at, at)
 
 -- the section with a number at a place
 pub section_numbered : (objects : List ObjectParts) (q : Place) (k : ℕ) → section_number objects q ≡ Some k
@@ -305,6 +298,10 @@ relocs_lead inputs l q = all l.section.relocs
 
 -- ---- sections and symbols
 
+-- an item of a section leads to a place
+abbrev pub items_from : ParsedInputs → Place → ListedSection → Bool
+items_from inputs q l = list_any (item_leads inputs q) (places_of l)
+
 -- a symbol of one object more
 pub symbols_more : (inputs : Inputs) (i : ℕ) (file : List ℕ) → slice_get inputs.files i ≡ Some file → (p : ListedSymbol → Bool)
     → list_any p (all_symbols (take (i + 1) (parsed inputs).objects)) ≡ (list_any p (all_symbols (take i (parsed inputs).objects)) || list_any p (symbols_in (i, object_parts file)))
@@ -320,17 +317,6 @@ symbols_more inputs i file at p =
 pub no_symbols : (objects : List ObjectParts) (p : ListedSymbol → Bool) → list_any p (all_symbols (take 0 objects)) ≡ false
 unfolding all_symbols
 no_symbols objects p = refl
-
--- those of all sections, by what leads there
-pub leads_all : (inputs : ParsedInputs) (q : Place) → (list_any (leads_from inputs q) (all_sections inputs.objects) || list_any (symbol_leads inputs.objects q) (all_symbols inputs.objects)) ≡ is_led_to inputs q
-leads_all inputs q =
-    let relocs = list_any (section_leads inputs q) (all_sections inputs.objects) in
-    let items = list_any (item_leads inputs q) (all_places inputs.objects) in
-    let symbols = list_any (symbol_leads inputs.objects q) (all_symbols inputs.objects) in
-    ap (λ b. b || symbols)
-    (any_either (section_leads inputs q) (λ l. list_any (item_leads inputs q) (places_of l)) (all_sections inputs.objects)
-    ∙ ap (λ b. relocs || b) (sym (any_flat (item_leads inputs q) places_of (all_sections inputs.objects))))
-    ∙ or_assoc relocs items symbols
 
 -- a basic block begins where a section starts, and there
 pub leader_is : (inputs : ParsedInputs) (q : Place) → is_leader_at inputs q ≡ ((eqb q.offset 0 && is_target_at inputs.objects q) || is_led_to inputs q)

@@ -11,6 +11,7 @@ pub mod PlaceLaws
 pub mod PlaceOrder
 pub mod PlainLaws
 pub mod ReachLaws
+pub mod RelocTargetLaws
 pub mod ResolvedLaws
 pub mod RoomLaws
 pub mod SizeLaws
@@ -19,7 +20,7 @@ pub mod StartLaws
 pub mod TableLaws
 pub mod TakeLaws
 pub mod TextLaws
-pub mod UnitLaws
+pub mod CodeSizeLaws
 pub mod WholeLaws
 pub mod WordLaws
 pub mod WordTables

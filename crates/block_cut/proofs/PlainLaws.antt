@@ -29,7 +29,7 @@ use Rattle.block_cut.proofs.ListedLaws.{between, cut_at, listed}
 use Rattle.block_cut.proofs.PlaceOrder.{IsOrdered, Earlier, Within, ordered, same_or_before}
 use Rattle.block_cut.proofs.RoomLaws.{AreWhole, after_starts-ge, aligned_up-ge, all_whole, ends-ge, plain_end-fits, section_end-code, section_end-other}
 use Rattle.block_cut.proofs.StartLaws.{among_first, among_later, before_end_all, before_next_start, front, is_among, none_within, start_is, step}
-use Rattle.block_cut.proofs.UnitLaws.{unit_even}
+use Rattle.block_cut.proofs.CodeSizeLaws.{step_even}
 use Rattle.block_cut.proofs.WholeLaws.{code_is_section, code_whole}
 use Rattle.block_cut.specs.Whole.{IsWhole}
 
@@ -151,7 +151,7 @@ module _ (inputs : ParsedInputs) (q : Place) (s : SectionParts) (code : is_code_
       by (Bytes is) =
           let own = start_is s code whole k start in
           let st = step s code whole k own.words own.inside in
-          ap (λ n. n % 2) (after_plain a (size_on s k) (item_on k) is) ∙ omega (arith, unit_even s.compressed (size_on s k) st.words, words)
+          ap (λ n. n % 2) (after_plain a (size_on s k) (item_on k) is) ∙ omega (arith, step_even s.compressed (size_on s k) st.words, words)
       by (Padding is padding) = ap (λ i. after_item a (size_on s k) i % 2) is ∙ aligned_up-words (power_above (size_on s k)) a padding.power words
 
   starts_words : (xs : List ℕ) (p : ℕ → Bool) (a : ℕ) → ((k : ℕ) → is_among k xs ≡ true → starts_on s k ≡ true) → a % 2 ≡ 0 → after_starts inputs (spot q s) a (filter p xs) % 2 ≡ 0
@@ -228,8 +228,8 @@ module _ (inputs : Inputs) (none : gather_fault inputs ≡ None) where
       record { section = at.section; code = at.code; found = two.0; code_is = two.1; whole = whole; target = at.target; inside = place.0; words = place.1; address = at.address }
     where
       lies : (s : SectionParts) → is_code_section s ≡ true → IsWhole s → (starts_on s q.offset ≡ true) ⊎ (q.offset ≡ length s.bytes) → (q.offset ≤ length s.bytes) × (q.offset % 2 ≡ 0)
-      lies s code whole (inl start) = let own = start_is s code whole q.offset start in (omega (arith, own.inside), unit_even s.compressed q.offset own.words)
-      lies s code whole (inr end) = (omega (arith, end), ap (λ n. n % 2) end ∙ unit_even s.compressed (length s.bytes) whole.words)
+      lies s code whole (inl start) = let own = start_is s code whole q.offset start in (omega (arith, own.inside), step_even s.compressed q.offset own.words)
+      lies s code whole (inr end) = (omega (arith, end), ap (λ n. n % 2) end ∙ step_even s.compressed (length s.bytes) whole.words)
 
   -- ---- the next place
 

@@ -15,8 +15,8 @@ use Rattle.psabi_sym.specs.Inputs.{Inputs, ParsedInputs, parsed}
 use Rattle.psabi_sym.specs.Listed.{ListedSection, section_at}
 use Rattle.rv_decode.specs.declared.instr.BranchOp.{BranchOp}
 use Rattle.block_cut.specs.Faults.{branch_target, distance_between, is_far, is_out_of_reach}
-use Rattle.block_cut.specs.Items.{item_at, item_in, place_of, places_of, starts_in}
-use Rattle.block_cut.specs.Places.{code_place, code_places, targets_in}
+use Rattle.block_cut.specs.Items.{item_at, item_in, place_of, places_of, starts_in, targets_in}
+use Rattle.block_cut.specs.Places.{code_place, code_places}
 use Rattle.block_cut.specs.PlainLayout.{plain_address}
 use Rattle.block_cut.specs.declared.code_place.CodePlace.{CodePlace}
 use Rattle.block_cut.specs.declared.item.Item.TheVariants.{Branch}

@@ -30,7 +30,7 @@ use Rattle.block_cut.specs.declared.item.Item.{Item}
 use Rattle.block_cut.specs.Items.{item_in, items_in, place_of, size_on, starts_in}
 use Rattle.block_cut.specs.PlainLayout.{after_item, after_start, after_starts, padding_of, plain_end, section_begin, section_end}
 use Rattle.block_cut.specs.Relocs.{is_sound, reloc_on}
-use Rattle.block_cut.specs.Units.{unit_of}
+use Rattle.block_cut.specs.CodeSizes.{code_step}
 use Rattle.block_cut.proofs.ItemLaws.{item_fits, room_at}
 use Rattle.block_cut.proofs.ListedLaws.{listed}
 use Rattle.block_cut.proofs.StartLaws.{Above, IsStep, along}
@@ -143,7 +143,7 @@ module _ (s : SectionParts) (code : is_code_section s ≡ true) (whole : IsWhole
   own_room_once : (at room : ℕ) → sum_by (own_room at room) (starts_in s) ≤ room
   own_room_once at room = along s code whole (λ n xs. sum_by (own_room at room) xs ≤ room) (omega arith) each
     where
-      each : (n : ℕ) (xs : List ℕ) → n < length s.bytes → n % unit_of s.compressed ≡ 0 → IsStep s n → Above (n + size_on s n) xs → sum_by (own_room at room) xs ≤ room → sum_by (own_room at room) (n ∷ xs) ≤ room
+      each : (n : ℕ) (xs : List ℕ) → n < length s.bytes → n % code_step s.compressed ≡ 0 → IsStep s n → Above (n + size_on s n) xs → sum_by (own_room at room) xs ≤ room → sum_by (own_room at room) (n ∷ xs) ≤ room
       each n xs lt words st above rest = by (eqb at n) refl
         where
           by : (b : Bool) → eqb at n ≡ b → sum_by (own_room at room) (n ∷ xs) ≤ room

@@ -8,8 +8,8 @@ use Rattle.elf32_read.specs.declared.reloc.Reloc.{Reloc}
 use Rattle.psabi_reloc.specs.Kinds.{field_length, kind_of}
 use Rattle.psabi_reloc.specs.declared.kind.RelocKind.{RelocKind}
 use Rattle.psabi_reloc.specs.declared.kind.RelocKind.TheVariants.{Ignored, Word, Branch, Jal, Call, PcrelHi20, PcrelLo12I, PcrelLo12S, Hi20, Lo12I, Lo12S, RvcBranch, RvcJump, Align}
-use Rattle.block_cut.specs.Units.{unit_of}
-use Rattle.block_cut.proofs.UnitLaws.{unit_even, unit_four}
+use Rattle.block_cut.specs.CodeSizes.{code_step}
+use Rattle.block_cut.proofs.CodeSizeLaws.{step_even, step_four}
 use Rattle.block_cut.specs.Relocs.{field_end, field_of, fits_at, is_bad_kind, is_bad_place, overlaps_another, is_ignored, is_padding, is_placed, is_rvc, is_sound, is_word, reloc_on}
 
 -- what is found passes the test
@@ -24,25 +24,25 @@ found_passes p (y ∷ ys) x found = by (p y) refl (found_passes p ys x) found
 -- the bytes of a field are whole units, and there are some
 pub record IsField (c : Bool) (length : ℕ) : Type 0 where
   pub some : 2 ≤ length
-  pub words : length % unit_of c ≡ 0
+  pub words : length % code_step c ≡ 0
   pub short : length ≤ 255
 
 -- padding has a field
 padding_field : (c : Bool) (addend : ℤ) → is_padding c addend ≡ true → IsField c (field_length (Some Align) addend)
 padding_field c (pos n) is =
     let two = and_parts (ltb 0 n) _ is in
-    let rest = and_parts (ltb n 256) (eqb (n % unit_of c) 0) two.1 in
+    let rest = and_parts (ltb n 256) (eqb (n % code_step c) 0) two.1 in
     let some = ltb-true 0 n two.0 in
     let short = ltb-true n 256 rest.0 in
-    let words = eqb-true (n % unit_of c) 0 rest.1 in
-    record { some = omega (arith, unit_even c n words); words = words; short = omega arith }
+    let words = eqb-true (n % code_step c) 0 rest.1 in
+    record { some = omega (arith, step_even c n words); words = words; short = omega arith }
 padding_field c (negsuc n) is = absurd cc
 
 four : (c : Bool) → IsField c 4
-four c = record { some = omega arith; words = unit_four c 4 refl; short = omega arith }
+four c = record { some = omega arith; words = step_four c 4 refl; short = omega arith }
 
 eight : (c : Bool) → IsField c 8
-eight c = record { some = omega arith; words = unit_four c 8 refl; short = omega arith }
+eight c = record { some = omega arith; words = step_four c 8 refl; short = omega arith }
 
 -- what changes an instruction of 2 bytes can't stand
 pub rvc_bad : (s : SectionParts) (k : RelocKind) → is_rvc (Some k) ≡ true → is_bad_kind s (Some k) ≡ false → ⊥
@@ -76,7 +76,7 @@ pub record IsSoundAt (s : SectionParts) (n : ℕ) (r : Reloc) : Type 0 where
   pub known : is_bad_kind s (kind_of r.kind) ≡ false
   pub fits : fits_at s n r.addend (kind_of r.kind) ≡ true
   pub field : IsField s.compressed (field_of r)
-  pub words : n % unit_of s.compressed ≡ 0
+  pub words : n % code_step s.compressed ≡ 0
   pub inside : n + field_of r ≤ s.size
 
 pub sound_parts : (s : SectionParts) (r : Reloc) → is_code_section s ≡ true → is_sound s r ≡ true → IsSoundAt s r.offset r
@@ -91,17 +91,17 @@ sound_parts s r code sound =
     ap (λ b. b && (ltb s.size (field_end r) || (not (is_placed s r) || overlaps_another s.relocs r))) (sym two.0) ∙ good in
     let places = or_parts (ltb s.size (field_end r)) _ fine in
     let placed = or_parts (not (is_placed s r)) (overlaps_another s.relocs r) places.1 in
-    let is : (not (is_code_section s) || ((eqb (r.offset % unit_of s.compressed) 0) && fits_at s r.offset r.addend k)) ≡ true = not_false (is_placed s r) placed.0 in
-    let there : ((eqb (r.offset % unit_of s.compressed) 0) && fits_at s r.offset r.addend k) ≡ true =
-    ap (λ b. not b || ((eqb (r.offset % unit_of s.compressed) 0) && fits_at s r.offset r.addend k)) (sym code) ∙ is in
-    let ends = and_parts (eqb (r.offset % unit_of s.compressed) 0) (fits_at s r.offset r.addend k) there in
+    let is : (not (is_code_section s) || ((eqb (r.offset % code_step s.compressed) 0) && fits_at s r.offset r.addend k)) ≡ true = not_false (is_placed s r) placed.0 in
+    let there : ((eqb (r.offset % code_step s.compressed) 0) && fits_at s r.offset r.addend k) ≡ true =
+    ap (λ b. not b || ((eqb (r.offset % code_step s.compressed) 0) && fits_at s r.offset r.addend k)) (sym code) ∙ is in
+    let ends = and_parts (eqb (r.offset % code_step s.compressed) 0) (fits_at s r.offset r.addend k) there in
     record {
       at = refl;
       asks = asks;
       known = known;
       fits = ends.1;
       field = kind_field s r.offset r.addend k asks known ends.1;
-      words = eqb-true (r.offset % unit_of s.compressed) 0 ends.0;
+      words = eqb-true (r.offset % code_step s.compressed) 0 ends.0;
       inside = ltb-false s.size (field_end r) places.0;
     }
   where
@@ -122,7 +122,7 @@ sound_at s n r code found =
       known = is.known;
       fits = ap (λ m. fits_at s m r.addend (kind_of r.kind)) (sym at) ∙ is.fits;
       field = is.field;
-      words = ap (λ m. m % unit_of s.compressed) (sym at) ∙ is.words;
+      words = ap (λ m. m % code_step s.compressed) (sym at) ∙ is.words;
       inside = omega (arith, at, is.inside);
     }
 

@@ -10,8 +10,8 @@ use Rattle.elf32_read.specs.Parts.{SectionParts, is_code_section}
 use Rattle.elf32_read.specs.declared.reloc.Reloc.{Reloc}
 use Rattle.block_cut.specs.Items.{size_on, starts_from, starts_in, starts_on}
 use Rattle.block_cut.specs.Relocs.{field_of, reloc_on}
-use Rattle.block_cut.specs.Units.{own_size, unit_of}
-use Rattle.block_cut.proofs.UnitLaws.{own_short, own_sized, unit_sum}
+use Rattle.block_cut.specs.CodeSizes.{own_size, code_step}
+use Rattle.block_cut.proofs.CodeSizeLaws.{own_short, own_sized, step_sum}
 use Rattle.block_cut.proofs.SoundLaws.{sound_at}
 use Rattle.block_cut.specs.Whole.{IsWhole}
 
@@ -77,7 +77,7 @@ filter_between low high (x ∷ xs) le none =
 pub record IsStep (s : SectionParts) (n : ℕ) : Type 0 where
   pub some : 2 ≤ size_on s n
   pub short : size_on s n ≤ 255
-  pub words : size_on s n % unit_of s.compressed ≡ 0
+  pub words : size_on s n % code_step s.compressed ≡ 0
   pub inside : n + size_on s n ≤ length s.bytes
 
 -- a start that is among those from somewhere on
@@ -107,7 +107,7 @@ not_among n k xs ne none = ap (λ b. b || is_among k xs) (ne_eqb n k ne) ∙ non
 
 -- what a start is: a unit inside, and the next one is a start or the end
 pub record IsStart (s : SectionParts) (xs : List ℕ) (k : ℕ) : Type 0 where
-  pub words : k % unit_of s.compressed ≡ 0
+  pub words : k % code_step s.compressed ≡ 0
   pub inside : k < length s.bytes
   pub next : (is_among (k + size_on s k) xs ≡ true) ⊎ (k + size_on s k ≡ length s.bytes)
 
@@ -118,21 +118,21 @@ pub record IsFront (xs : List ℕ) (m k : ℕ) : Type 0 where
 
 module _ (s : SectionParts) (code : is_code_section s ≡ true) (whole : IsWhole s) where
   -- each step is one of whole units inside
-  pub step : (n : ℕ) → n % unit_of s.compressed ≡ 0 → n < length s.bytes → IsStep s n
+  pub step : (n : ℕ) → n % code_step s.compressed ≡ 0 → n < length s.bytes → IsStep s n
   step n words lt = by (reloc_on s n) refl
     where
       by : (o : Option Reloc) → reloc_on s n ≡ o → IsStep s n
       by None is =
           let size : size_on s n ≡ own_size s.compressed s.bytes n = ap (λ o. option_map_or field_of o (own_size s.compressed s.bytes n)) is in
           let own = own_sized s.compressed s.bytes n words lt whole.words in
-          record { some = omega (arith, size, own.some); short = omega (arith, size, own.short); words = ap (λ m. m % unit_of s.compressed) size ∙ own.units; inside = omega (arith, size, own.inside) }
+          record { some = omega (arith, size, own.some); short = omega (arith, size, own.short); words = ap (λ m. m % code_step s.compressed) size ∙ own.units; inside = omega (arith, size, own.inside) }
       by (Some r) is =
           let size : size_on s n ≡ field_of r = ap (λ o. option_map_or field_of o (own_size s.compressed s.bytes n)) is in
           let sound = sound_at s n r code is in
           record {
             some = omega (arith, size, sound.field.some);
             short = omega (arith, size, sound.field.short);
-            words = ap (λ m. m % unit_of s.compressed) size ∙ sound.field.words;
+            words = ap (λ m. m % code_step s.compressed) size ∙ sound.field.words;
             inside = omega (arith, size, sound.inside, whole.bytes);
           }
 
@@ -144,11 +144,11 @@ module _ (s : SectionParts) (code : is_code_section s ≡ true) (whole : IsWhole
       by None is = omega (arith, own_short s.compressed s.bytes n, ap (λ o. option_map_or field_of o (own_size s.compressed s.bytes n)) is)
       by (Some r) is = omega (arith, (sound_at s n r code is).field.short, ap (λ o. option_map_or field_of o (own_size s.compressed s.bytes n)) is)
 
-  above_from : (fuel n : ℕ) → n % unit_of s.compressed ≡ 0 → n ≤ length s.bytes → Above n (starts_from fuel s n)
+  above_from : (fuel n : ℕ) → n % code_step s.compressed ≡ 0 → n ≤ length s.bytes → Above n (starts_from fuel s n)
   above_from zero n words le = tt
   above_from (suc fuel) n words le =
       by (ltb n (length s.bytes)) refl
-      (λ lt. let st = step n words lt in above_less n (n + size_on s n) (starts_from fuel s (n + size_on s n)) (omega arith) (above_from fuel (n + size_on s n) (unit_sum s.compressed n (size_on s n) words st.words) st.inside))
+      (λ lt. let st = step n words lt in above_less n (n + size_on s n) (starts_from fuel s (n + size_on s n)) (omega arith) (above_from fuel (n + size_on s n) (step_sum s.compressed n (size_on s n) words st.words) st.inside))
     where
       by : (b : Bool) → ltb n (length s.bytes) ≡ b → (n < length s.bytes → Above n (starts_from fuel s (n + size_on s n))) → Above n (cond b (n ∷ starts_from fuel s (n + size_on s n)) [])
       by true lt rest = (omega arith, rest (ltb-true n (length s.bytes) lt))
@@ -156,24 +156,24 @@ module _ (s : SectionParts) (code : is_code_section s ≡ true) (whole : IsWhole
 
   -- what holds at the end, and of a start if it holds from the next one on, holds of the whole walk
   pub along_from : (P : ℕ → List ℕ → Type 0) → P (length s.bytes) []
-      → ((n : ℕ) (xs : List ℕ) → n < length s.bytes → n % unit_of s.compressed ≡ 0 → IsStep s n → Above (n + size_on s n) xs → P (n + size_on s n) xs → P n (n ∷ xs))
-      → (fuel n : ℕ) → n % unit_of s.compressed ≡ 0 → n ≤ length s.bytes → length s.bytes ≤ n + fuel → P n (starts_from fuel s n)
+      → ((n : ℕ) (xs : List ℕ) → n < length s.bytes → n % code_step s.compressed ≡ 0 → IsStep s n → Above (n + size_on s n) xs → P (n + size_on s n) xs → P n (n ∷ xs))
+      → (fuel n : ℕ) → n % code_step s.compressed ≡ 0 → n ≤ length s.bytes → length s.bytes ≤ n + fuel → P n (starts_from fuel s n)
   along_from P last each zero n words le more = let same : length s.bytes ≡ n = omega arith in subst (λ m. P m []) same last
   along_from P last each (suc fuel) n words le more =
       by (ltb n (length s.bytes)) refl
-      (λ lt. let st = step n words lt in along_from P last each fuel (n + size_on s n) (unit_sum s.compressed n (size_on s n) words st.words) st.inside (omega (arith, st.some)))
+      (λ lt. let st = step n words lt in along_from P last each fuel (n + size_on s n) (step_sum s.compressed n (size_on s n) words st.words) st.inside (omega (arith, st.some)))
     where
       by : (b : Bool) → ltb n (length s.bytes) ≡ b → (n < length s.bytes → P (n + size_on s n) (starts_from fuel s (n + size_on s n))) → P n (cond b (n ∷ starts_from fuel s (n + size_on s n)) [])
       by true lt rest =
           let inside = ltb-true n (length s.bytes) lt in
           let st = step n words inside in
-          each n (starts_from fuel s (n + size_on s n)) inside words st (above_from fuel (n + size_on s n) (unit_sum s.compressed n (size_on s n) words st.words) st.inside) (rest inside)
+          each n (starts_from fuel s (n + size_on s n)) inside words st (above_from fuel (n + size_on s n) (step_sum s.compressed n (size_on s n) words st.words) st.inside) (rest inside)
       by false past rest =
           let same : length s.bytes ≡ n = omega (arith, ltb-false n (length s.bytes) past) in
           subst (λ m. P m []) same last
 
   pub along : (P : ℕ → List ℕ → Type 0) → P (length s.bytes) []
-      → ((n : ℕ) (xs : List ℕ) → n < length s.bytes → n % unit_of s.compressed ≡ 0 → IsStep s n → Above (n + size_on s n) xs → P (n + size_on s n) xs → P n (n ∷ xs))
+      → ((n : ℕ) (xs : List ℕ) → n < length s.bytes → n % code_step s.compressed ≡ 0 → IsStep s n → Above (n + size_on s n) xs → P (n + size_on s n) xs → P n (n ∷ xs))
       → P 0 (starts_in s)
   unfolding starts_in
   along P last each = along_from P last each (length s.bytes) 0 refl (omega arith) (omega arith)
@@ -195,9 +195,9 @@ module _ (s : SectionParts) (code : is_code_section s ≡ true) (whole : IsWhole
       more n m xs (inl is) = inl (among_later n m xs is)
       more n m xs (inr end) = inr end
 
-      one : (n : ℕ) (xs : List ℕ) → n < length s.bytes → n % unit_of s.compressed ≡ 0 → IsWalk (n + size_on s n) xs → (k : ℕ) → Among n k xs → IsStart s (n ∷ xs) k
+      one : (n : ℕ) (xs : List ℕ) → n < length s.bytes → n % code_step s.compressed ≡ 0 → IsWalk (n + size_on s n) xs → (k : ℕ) → Among n k xs → IsStart s (n ∷ xs) k
       one n xs lt words rest k (Here e) = record {
-        words = ap (λ m. m % unit_of s.compressed) (sym e) ∙ words;
+        words = ap (λ m. m % code_step s.compressed) (sym e) ∙ words;
         inside = omega (arith, e, lt);
         next = more n (k + size_on s k) xs (subst (λ m. (is_among (m + size_on s m) xs ≡ true) ⊎ (m + size_on s m ≡ length s.bytes)) e rest.first);
       }
@@ -267,7 +267,7 @@ module _ (s : SectionParts) (code : is_code_section s ≡ true) (whole : IsWhole
       kept : (n j : ℕ) (xs : List ℕ) → n < j → filter (λ m. ltb m j) (n ∷ xs) ≡ n ∷ filter (λ m. ltb m j) xs
       kept n j xs lt = ap (λ b. cond b (n ∷ filter (λ m. ltb m j) xs) (filter (λ m. ltb m j) xs)) (lt-ltb n j lt)
 
-      each : (n : ℕ) (xs : List ℕ) → n < length s.bytes → n % unit_of s.compressed ≡ 0 → IsStep s n → Above (n + size_on s n) xs → ((m k : ℕ) → m ≤ k → IsFront xs m k) → (m k : ℕ) → m ≤ k → IsFront (n ∷ xs) m k
+      each : (n : ℕ) (xs : List ℕ) → n < length s.bytes → n % code_step s.compressed ≡ 0 → IsStep s n → Above (n + size_on s n) xs → ((m k : ℕ) → m ≤ k → IsFront xs m k) → (m k : ℕ) → m ≤ k → IsFront (n ∷ xs) m k
       each n xs lt words st above rest m k le = elim (cases_lt n m) [
         | inl low ↦
             let more = rest m k le in

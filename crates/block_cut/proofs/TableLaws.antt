@@ -14,7 +14,7 @@ use Rattle.block_cut.specs.Items.{item_in, item_of, item_under, place_of, size_o
 use Rattle.block_cut.specs.Relocs.{field_of, reloc_on}
 use Rattle.block_cut.specs.Resolved.{is_right, is_right_at, resolved_item, resolved_reloc, resolved_relocs}
 use Rattle.block_cut.specs.SectionText.{IsRelocTable, numbered}
-use Rattle.block_cut.specs.Units.{own_size}
+use Rattle.block_cut.specs.CodeSizes.{own_size}
 use Rattle.block_cut.specs.declared.resolved_reloc.ResolvedReloc.{ResolvedReloc}
 use Rattle.block_cut.proofs.ResolvedLaws.{resolved_at, resolved_on}
 use Rattle.block_cut.proofs.WordLaws.{found_next, or_none}

@@ -17,19 +17,19 @@ use Rattle.psabi_reloc.specs.declared.kind.RelocKind.TheVariants.{Call}
 use Rattle.psabi_sym.specs.Faults.{code_room, gather_fault}
 use Rattle.psabi_sym.specs.Inputs.{Inputs, ParsedInputs, parsed}
 use Rattle.psabi_sym.specs.Listed.{ListedSection, all_sections, section_at, sections_before}
-use Rattle.psabi_sym.proofs.SectionNumbers.{before_number, listed_at}
+use Rattle.psabi_sym.proofs.SectionNumbers.{before_number, has_number, listed_at}
 use Rattle.block_cut.specs.CodeSection.{IsCodeSection}
-use Rattle.block_cut.specs.Items.{code_at, code_only, is_target_at, item_in, items_in, place_of, size_at, size_on, starts_in, starts_on}
-use Rattle.block_cut.specs.Places.{code_place, code_places, targets_in}
+use Rattle.block_cut.specs.Items.{code_at, code_only, index_on, is_target_at, item_in, items_in, place_of, size_at, size_on, starts_in, starts_on, targets_in}
+use Rattle.block_cut.specs.Places.{IsPlaceNumber, code_place, code_places}
 use Rattle.block_cut.specs.PlainLayout.{address_on, after_item, after_start, after_starts, plain_address, plain_end_of, plain_start, section_end, starts_before}
 use Rattle.block_cut.specs.Relocs.{field_of, reloc_on}
 use Rattle.block_cut.specs.Resolved.{asks, is_right_at, resolved_reloc, resolved_relocs}
 use Rattle.block_cut.specs.SectionText.{HasRoom, SectionTables, by_halfword, number_on, numbered, numbers_in, section_tables}
-use Rattle.block_cut.specs.Text.{IsExtent}
+use Rattle.block_cut.specs.CodeTables.{IsCodeSpan}
 use Rattle.block_cut.specs.Whole.{IsWhole}
 use Rattle.block_cut.specs.declared.code_place.CodePlace.{CodePlace}
 use Rattle.block_cut.specs.declared.code_section.CodeSection.{CodeSection}
-use Rattle.block_cut.specs.declared.extent.Extent.{Extent}
+use Rattle.block_cut.specs.declared.code_span.CodeSpan.{CodeSpan}
 use Rattle.block_cut.specs.declared.resolved_reloc.ResolvedReloc.{ResolvedReloc}
 use Rattle.block_cut.proofs.ItemLaws.{item_at-code}
 use Rattle.block_cut.proofs.PlainLaws.{offset_end, offset_rises, place_address, section_ends, whole_before}
@@ -38,7 +38,7 @@ use Rattle.block_cut.proofs.RoomLaws.{AreWhole, all_whole, code_room_is, items_i
 use Rattle.block_cut.proofs.SoundLaws.{sound_at}
 use Rattle.block_cut.proofs.StartLaws.{along, before_end_all, before_first_none, start_is}
 use Rattle.block_cut.proofs.TakeLaws.{take_next}
-use Rattle.block_cut.proofs.UnitLaws.{unit_even}
+use Rattle.block_cut.proofs.CodeSizeLaws.{step_even}
 use Rattle.block_cut.proofs.WholeLaws.{inputs_whole}
 use Rattle.block_cut.proofs.WordLaws.{IsCodeHere, before_other, before_start, code_here, end_other, last_got, no_target, number_target, some_target, target_got, target_nowhere}
 
@@ -59,7 +59,7 @@ room_there inputs l section n reloc is whole start got =
     let s = l.section in
     let own = start_is s is.code whole n start in
     let long = ap length is.content_is in
-    let found = reloc_found inputs l section n reloc is (unit_even s.compressed n own.words) (omega (arith, own.inside)) got in
+    let found = reloc_found inputs l section n reloc is (step_even s.compressed n own.words) (omega (arith, own.inside)) got in
     record { word = omega (arith, own.inside, own.words, whole.words, long); second = by (reloc_on s n) refl reloc (sym (resolved_on (parsed inputs) l n) ∙ found) }
   where
     by : (o : Option Reloc) → reloc_on l.section n ≡ o → (d : Option ResolvedReloc) → option_map (resolved_reloc (parsed inputs) l) o ≡ d → IfSome d (λ x. x.kind ≡ Some Call → n + 8 ≤ length section.content)
@@ -140,7 +140,7 @@ module _ (inputs : Inputs) (none : gather_fault inputs ≡ None) (l : ListedSect
 
   -- the end is even
   even_end : length s.bytes % 2 ≡ 0
-  even_end = unit_even s.compressed (length s.bytes) here.whole.words
+  even_end = step_even s.compressed (length s.bytes) here.whole.words
 
   -- ---- a halfword further
 
@@ -259,6 +259,7 @@ module _ (inputs : Inputs) (none : gather_fault inputs ≡ None) (l : ListedSect
 pub record IsNumberOf (inputs : Inputs) (l : ListedSection) (n number : ℕ) : Type 0 where
   pub none : number ≡ 0 → is_target_at (parsed inputs).objects (place_of l n) ≡ false
   pub some : number ≢ 0 → (is_target_at (parsed inputs).objects (place_of l n) ≡ true) × (slice_get (code_places (parsed inputs) l) (number - 1) ≡ Some (code_place (parsed inputs) l n))
+  pub index : number ≢ 0 → number - 1 ≡ index_on l.section n
 
 pub by_number : (inputs : Inputs) (l : ListedSection) (n number : ℕ) (numbers : List ℕ) → gather_fault inputs ≡ None → section_at (parsed inputs).objects l.object l.index ≡ Some l.section
     → numbers ≡ numbers_in l.section → ((s : SectionParts) → is_code_section s ≡ true → IsWhole s → numbers ≡ by_halfword (number_on s) s → number ≡ number_on s n) → (numbers ≡ [] → number ≡ 0)
@@ -273,30 +274,31 @@ by_number inputs l n number numbers none found are value empty = by (is_code_sec
         let s = l.section in
         let here = code_here inputs l.object l.index s none found code in
         let own : number ≡ number_on s n = value s code here.whole (are ∙ ap (λ b. cond b (by_halfword (number_on s) s) []) code) in
+        let count : number ≢ 0 → number - 1 ≡ length (starts_before s n) =
+        λ ne. omega (arith, own, ap (λ b. cond b (length (starts_before s n) + 1) 0) (number_target s n (λ e. ne (own ∙ e)))) in
         record {
           none = λ e. no_target objects (place_of l n) s (here.at n) (sym own ∙ e);
           some = λ ne.
-              let target = number_target s n (λ e. ne (own ∙ e)) in
-              let count : number - 1 ≡ length (starts_before s n) = omega (arith, own, ap (λ b. cond b (length (starts_before s n) + 1) 0) target) in (
+              let target = number_target s n (λ e. ne (own ∙ e)) in (
                 some_target objects (place_of l n) s (here.at n) (λ e. ne (own ∙ e)),
-                (λ j. slice_get (cond (code j) (map (code_place (parsed inputs) l) (targets_in s)) []) (count j))
+                (λ j. slice_get (cond (code j) (map (code_place (parsed inputs) l) (targets_in s)) []) (count ne j))
                     ∙ slice_get-map (code_place (parsed inputs) l) (targets_in s) (length (starts_before s n)) ∙ ap (option_map (code_place (parsed inputs) l)) (target_got s code here.whole n target),
               );
+          index = count;
         }
     by false other =
         let zero_is = empty (are ∙ ap (λ b. cond b (by_halfword (number_on l.section) l.section) []) other) in
         let nowhere : code_at objects (place_of l n) ≡ None = ap (option_and_then code_only) found ∙ ap (λ b. cond b (Some l.section) None) other in
-        record { none = λ e. target_nowhere objects (place_of l n) nowhere; some = λ ne. absurd (ne zero_is) }
+        record { none = λ e. target_nowhere objects (place_of l n) nowhere; some = λ ne. absurd (ne zero_is); index = λ ne. absurd (ne zero_is) }
 
 -- what is kept of a section, one by one
 pub record AreTables (inputs : ParsedInputs) (l : ListedSection) (t : SectionTables) : Type 0 where
-  pub relocs : t.relocs ≡ resolved_relocs inputs l
   pub numbers : t.numbers ≡ numbers_in l.section
   pub places : t.places ≡ code_places inputs l
 
 pub tables_of : (inputs : ParsedInputs) (l : ListedSection) (t : SectionTables) → t ≡ section_tables inputs l → AreTables inputs l t
 unfolding section_tables
-tables_of inputs l t is = record { relocs = ap (λ x. x.relocs) is; numbers = ap (λ x. x.numbers) is; places = ap (λ x. x.places) is }
+tables_of inputs l t is = record { numbers = ap (λ x. x.numbers) is; places = ap (λ x. x.places) is }
 
 -- those of the section with a number
 pub kept_at : (inputs : ParsedInputs) (sections : List SectionTables) (k : ℕ) (l : ListedSection) (d : SectionTables) → sections ≡ map (section_tables inputs) (all_sections inputs.objects) → slice_get (all_sections inputs.objects) k ≡ Some l
@@ -305,6 +307,21 @@ kept_at inputs sections k l d are at =
     ap (λ ts. get_or ts k d) are
     ∙ get_or_from_slice_get (map (section_tables inputs) (all_sections inputs.objects)) k (section_tables inputs l) d
     (slice_get-map (section_tables inputs) (all_sections inputs.objects) k ∙ ap (option_map (section_tables inputs)) at)
+
+-- where a place of the section with a number stands among all, if code may lead there
+pub place_number : (objects : List ObjectParts) (q : Place) (k n : ℕ) (s : SectionParts) → section_at objects q.object q.section ≡ Some s
+    → slice_get (all_sections objects) k ≡ Some (record { object = q.object; index = q.section; section = s })
+    → is_target_at objects q ≡ true → n ≡ index_on s q.offset → IsPlaceNumber objects q (record { section = k; index = n })
+place_number objects q k n s found at target index = record {
+  section = s;
+  here = by (is_code_section s) refl;
+  section_is = (has_number objects k (record { object = q.object; index = q.section; section = s }) at).place;
+  index_is = index;
+}
+  where
+    by : (b : Bool) → is_code_section s ≡ b → code_at objects q ≡ Some s
+    by true code = ap (option_and_then code_only) found ∙ ap (λ b. cond b (Some s) None) code
+    by false other = absurd (cc (target, target_nowhere objects q (ap (option_and_then code_only) found ∙ ap (λ b. cond b (Some s) None) other)))
 
 -- ---- how far code comes
 
@@ -357,8 +374,8 @@ module _ (inputs : Inputs) (none : gather_fault inputs ≡ None) (k : ℕ) (l : 
   end_before a is = is ∙ ap (plain_end_of (parsed inputs)) (sym (before_number (parsed inputs).objects k l at))
 
   -- there are few items
-  pub count_fits : (extent : Extent) (places : List CodePlace) → IsExtent (parsed inputs) front extent → places ≡ code_places (parsed inputs) l → extent.count + length places < 0x100_0000
-  count_fits extent places is are =
+  pub count_fits : (span : CodeSpan) (places : List CodePlace) → IsCodeSpan (parsed inputs) front span → places ≡ code_places (parsed inputs) l → span.count + length places < 0x100_0000
+  count_fits span places is are =
       let all : front ++ drop k (all_sections (parsed inputs).objects) ≡ all_sections (parsed inputs).objects = take-append-drop k (all_sections (parsed inputs).objects) in
       let whole = whole_before front (drop k (all_sections (parsed inputs).objects)) (subst AreWhole (sym all) (all_whole inputs none)) in
       omega (
@@ -393,10 +410,10 @@ module _ (inputs : Inputs) (none : gather_fault inputs ≡ None) (k : ℕ) (l : 
       ∙ slice_get-map (code_place (parsed inputs) l) (targets_in l.section) (length (starts_in l.section)) ∙ ap (option_map (code_place (parsed inputs) l)) (last_got (starts_in l.section) (length l.section.bytes))
 
   -- with a section that isn't code it comes no further
-  pub none_added : (old : Extent) (places : List CodePlace) → places ≡ code_places (parsed inputs) l → None ≡ slice_get places (length places - 1) → IsExtent (parsed inputs) front old → IsExtent (parsed inputs) (take (k + 1) (all_sections (parsed inputs).objects)) old
+  pub none_added : (old : CodeSpan) (places : List CodePlace) → places ≡ code_places (parsed inputs) l → None ≡ slice_get places (length places - 1) → IsCodeSpan (parsed inputs) front old → IsCodeSpan (parsed inputs) (take (k + 1) (all_sections (parsed inputs).objects)) old
   none_added old places are last is = by (is_code_section l.section) refl
     where
-      by : (b : Bool) → is_code_section l.section ≡ b → IsExtent (parsed inputs) (take (k + 1) (all_sections (parsed inputs).objects)) old
+      by : (b : Bool) → is_code_section l.section ≡ b → IsCodeSpan (parsed inputs) (take (k + 1) (all_sections (parsed inputs).objects)) old
       by true code =
           let list : places ≡ map (code_place (parsed inputs) l) (targets_in l.section) = are ∙ ap (λ b. cond b (map (code_place (parsed inputs) l) (targets_in l.section)) []) code in
           let missing : None ≡ Some (code_place (parsed inputs) l (length l.section.bytes)) = last ∙ ap (λ ps. slice_get ps (length ps - 1)) list ∙ last_place in
@@ -410,11 +427,11 @@ module _ (inputs : Inputs) (none : gather_fault inputs ≡ None) (k : ℕ) (l : 
       }
 
   -- with code it comes to the end's address, and has an item for each other place
-  pub code_added : (old : Extent) (places : List CodePlace) (end : CodePlace) → places ≡ code_places (parsed inputs) l → Some end ≡ slice_get places (length places - 1) → IsExtent (parsed inputs) front old
-      → IsExtent (parsed inputs) (take (k + 1) (all_sections (parsed inputs).objects)) (record { end = end.address; count = old.count + (length places - 1) })
+  pub code_added : (old : CodeSpan) (places : List CodePlace) (end : CodePlace) → places ≡ code_places (parsed inputs) l → Some end ≡ slice_get places (length places - 1) → IsCodeSpan (parsed inputs) front old
+      → IsCodeSpan (parsed inputs) (take (k + 1) (all_sections (parsed inputs).objects)) (record { end = end.address; count = old.count + (length places - 1) })
   code_added old places end are last is = by (is_code_section l.section) refl
     where
-      by : (b : Bool) → is_code_section l.section ≡ b → IsExtent (parsed inputs) (take (k + 1) (all_sections (parsed inputs).objects)) (record { end = end.address; count = old.count + (length places - 1) })
+      by : (b : Bool) → is_code_section l.section ≡ b → IsCodeSpan (parsed inputs) (take (k + 1) (all_sections (parsed inputs).objects)) (record { end = end.address; count = old.count + (length places - 1) })
       by true code =
           let s = l.section in
           let here = code_here inputs l.object l.index s none section_found code in

@@ -19,7 +19,7 @@ use Rattle.psabi_sym.specs.Listed.{section_at}
 use Rattle.psabi_sym.proofs.Gathered.{readable}
 use Rattle.psabi_sym.proofs.PartLaws.{section_count_is, section_got}
 use Rattle.block_cut.specs.Items.{code_at, code_only}
-use Rattle.block_cut.proofs.UnitLaws.{unit_four}
+use Rattle.block_cut.proofs.CodeSizeLaws.{step_four}
 pub use Rattle.block_cut.specs.Whole.{IsWhole}
 
 -- an alignment that isn't one of words
@@ -53,7 +53,7 @@ file_whole file i read lt code =
     let bytes = content_whole file h ((faultless_whole file read).contents i lt) not_null not_nobits in
     record {
       bytes = bytes;
-      words = unit_four (section_parts file i).compressed (length (section_parts file i).bytes) (ap (λ n. n % 4) bytes ∙ is.words);
+      words = step_four (section_parts file i).compressed (length (section_parts file i).bytes) (ap (λ n. n % 4) bytes ∙ is.words);
       short = omega (arith, content_short file h, ltb-false 0x40_0000 (length file) (no_fault file read).short);
       low = is.aligned.low;
       aligned = word_aligned h.align is.aligned;

@@ -15,16 +15,15 @@ use Rattle.psabi_sym.specs.Faults.{gather_fault}
 use Rattle.psabi_sym.specs.Inputs.{Inputs, ParsedInputs, parsed}
 use Rattle.psabi_sym.specs.Listed.{section_at}
 use Rattle.block_cut.specs.Cut.{place_at}
-use Rattle.block_cut.specs.Items.{code_at, code_only, is_target_at, item_at, item_in, size_on, starts_in, starts_on}
-use Rattle.block_cut.specs.Places.{targets_in}
+use Rattle.block_cut.specs.Items.{code_at, code_only, is_target_at, item_at, item_in, size_on, starts_in, starts_on, targets_in}
 use Rattle.block_cut.specs.PlainLayout.{address_on, plain_address, starts_before}
 use Rattle.block_cut.specs.SectionText.{by_halfword, number_on}
-use Rattle.block_cut.specs.Units.{unit_of}
+use Rattle.block_cut.specs.CodeSizes.{code_step}
 use Rattle.block_cut.specs.Whole.{IsWhole}
 use Rattle.block_cut.proofs.ItemLaws.{item_at-code, item_at-none}
 use Rattle.block_cut.proofs.PlainLaws.{target_on}
 use Rattle.block_cut.proofs.StartLaws.{Above, Among, Here, There, IsStep, above_filter, above_none, along, among, before_end_all, before_next_start, filter_between, is_among, none_within, start_first, start_is, step}
-use Rattle.block_cut.proofs.UnitLaws.{unit_even, unit_four, unit_sum}
+use Rattle.block_cut.proofs.CodeSizeLaws.{step_even, step_four, step_sum}
 use Rattle.block_cut.proofs.WholeLaws.{inputs_whole}
 
 -- ---- halfwords of a section
@@ -54,8 +53,8 @@ neither a b one two = (λ j. one j || two j)
 module _ (s : SectionParts) (code : is_code_section s ≡ true) (whole : IsWhole s) where
   -- an offset that isn't even
   pub other_odd : (n : ℕ) → n % 2 ≢ 0 → (starts_on s n || eqb n (length s.bytes)) ≡ false
-  other_odd n odd = neither _ _ (false_from_ne_true (starts_on s n) (λ is. odd (unit_even s.compressed n (start_is s code whole n is).words)))
-      (ne_eqb n (length s.bytes) (λ e. odd (ap (λ m. m % 2) e ∙ unit_even s.compressed (length s.bytes) whole.words)))
+  other_odd n odd = neither _ _ (false_from_ne_true (starts_on s n) (λ is. odd (step_even s.compressed n (start_is s code whole n is).words)))
+      (ne_eqb n (length s.bytes) (λ e. odd (ap (λ m. m % 2) e ∙ step_even s.compressed (length s.bytes) whole.words)))
 
   -- or one past the section
   pub other_past : (n : ℕ) → length s.bytes < n → (starts_on s n || eqb n (length s.bytes)) ≡ false
@@ -97,14 +96,14 @@ or_none (Some x) = refl
 pub record IsNext (s : SectionParts) (at next : ℕ) : Type 0 where
   pub low : at ≤ next
   pub high : next ≤ length s.bytes
-  pub words : next % unit_of s.compressed ≡ 0
+  pub words : next % code_step s.compressed ≡ 0
   pub target : (starts_on s next ≡ true) ⊎ (next ≡ length s.bytes)
   pub between : (m : ℕ) → at ≤ m → m < next → starts_on s m ≡ false
 
 module _ (s : SectionParts) (code : is_code_section s ≡ true) (whole : IsWhole s) where
   -- at first the start
   pub next_first : IsNext s 0 0
-  next_first = record { low = omega arith; high = omega arith; words = unit_four s.compressed 0 refl; target = start_first s code whole; between = λ m low high. absurd (omega arith) }
+  next_first = record { low = omega arith; high = omega arith; words = step_four s.compressed 0 refl; target = start_first s code whole; between = λ m low high. absurd (omega arith) }
 
   -- the word at an offset is a target if that is the next one
   pub is_next : (at next : ℕ) → IsNext s at next → eqb next at ≡ (starts_on s at || eqb at (length s.bytes))
@@ -135,7 +134,7 @@ module _ (s : SectionParts) (code : is_code_section s ≡ true) (whole : IsWhole
           record {
             low = omega (arith, st.some);
             high = st.inside;
-            words = unit_sum s.compressed at (size_on s at) own.words st.words;
+            words = step_sum s.compressed at (size_on s at) own.words st.words;
             target = own.next;
             between = λ m low high. none_within s code whole at m start (omega (arith, low)) high;
           }
@@ -143,7 +142,7 @@ module _ (s : SectionParts) (code : is_code_section s ≡ true) (whole : IsWhole
   -- and if none does
   pub next_word : (at next : ℕ) → IsNext s at next → at % 2 ≡ 0 → next ≢ at → IsNext s (at + 2) next
   next_word at next is words ne = record {
-    low = omega (arith, is.low, ne, words, unit_even s.compressed next is.words);
+    low = omega (arith, is.low, ne, words, step_even s.compressed next is.words);
     high = is.high;
     words = is.words;
     target = is.target;
@@ -241,7 +240,7 @@ module _ (s : SectionParts) (code : is_code_section s ≡ true) (whole : IsWhole
       filter_between n (n + 2) (starts_in s) (omega arith)
       (λ m low high. false_from_ne_true (starts_on s m) (λ start.
       let own = start_is s code whole m start in
-      let same : m ≡ n = omega (arith, unit_even s.compressed m own.words, even, low, high) in
+      let same : m ≡ n = omega (arith, step_even s.compressed m own.words, even, low, high) in
       cc (start, other, same)))
 
   -- the end isn't a start

@@ -7,20 +7,20 @@ use Rattle.block_cut.specs.DataWords.{data_words}
 use Rattle.block_cut.specs.Faults.{first_fault}
 use Rattle.block_cut.specs.Items.{entry_of}
 use Rattle.block_cut.specs.Led.{has_place, is_led_to}
-use Rattle.block_cut.specs.Text.{IsText}
+use Rattle.block_cut.specs.CodeTables.{AreCodeTables}
 use Rattle.block_cut.specs.declared.data_word.DataWord.{DataWord}
 use Rattle.block_cut.specs.declared.leaders.Leaders.{Leaders}
-use Rattle.block_cut.specs.declared.text.Text.{Text}
+use Rattle.block_cut.specs.declared.code_tables.CodeTables.{CodeTables}
 
 -- the place at an offset of a section, by its object's index and its own
 abbrev pub place_at : ℕ → ℕ → ℕ → Place
 place_at o i n = record { object = o; section = i; offset = n }
 
 -- what the code keeps: all sections, the words of data, where the program starts, and where relocations, items and symbols lead
-pub record IsCut (inputs : Inputs) (text : Text) (words : List DataWord) (entry : Place) (leaders : Leaders) : Type 0 where
+pub record IsCut (inputs : Inputs) (tables : CodeTables) (words : List DataWord) (entry : Place) (leaders : Leaders) : Type 0 where
   pub faultless : first_fault inputs ≡ None
   pub is_map : IsMap inputs.map
-  pub text_is : IsText (parsed inputs) text
+  pub tables_are : AreCodeTables (parsed inputs) tables
   pub words_are : words ≡ data_words (parsed inputs)
   pub entry_is : entry ≡ entry_of (parsed inputs)
   pub leaders_are : (q : Place) → has_place (parsed inputs).objects leaders q ≡ is_led_to (parsed inputs) q

@@ -1,6 +1,6 @@
 -- What the bytes and relocations of objects spell at places in code (System V gABI, "Sections"; RISC-V ELF psABI, "Relocations";
 -- RISC-V unprivileged manual, "Base Instruction Formats" and "Control Transfer Instructions").
-use Rattle.std.specs.Prelude.{ℕ, zero, suc, ◌+◌, ℤ, pos, negsuc, ◌+ℤ◌, Bool, false, ◌||◌, ◌==◌, nat_lt, if◌then◌else◌, List, [], ◌∷◌, length, map, Option, Some, None}
+use Rattle.std.specs.Prelude.{ℕ, zero, suc, ◌+◌, ℤ, pos, negsuc, ◌+ℤ◌, Bool, false, ◌||◌, ◌==◌, nat_lt, if◌then◌else◌, List, [], ◌∷◌, ◌++◌, filter, length, map, Option, Some, None}
 use Rattle.std.specs.List.{flat_map, list_any}
 use Rattle.std.specs.Option.{option_and_then, option_map_or, unwrap_or}
 use Rattle.zc_base.specs.Fields.{word_in}
@@ -19,7 +19,7 @@ use Rattle.psabi_reloc.specs.declared.kind.RelocKind.TheVariants as kind
 use Rattle.rv_decode.specs.declared.instr.Instr.{Instr}
 use Rattle.rv_decode.specs.declared.instr.Instr.TheVariants as instr
 use Rattle.block_cut.specs.Relocs.{field_of, instr_in, reloc_on}
-use Rattle.block_cut.specs.Units.{own_size}
+use Rattle.block_cut.specs.CodeSizes.{own_size}
 use Rattle.block_cut.specs.declared.item.Item.{Item}
 use Rattle.block_cut.specs.declared.item.Item.TheVariants.{Op, Hi, Lo, PcHi, PcLo, Branch, Jump, Call, Align, Word, Raw, RawPair}
 
@@ -52,6 +52,10 @@ starts_in s = starts_from (length s.bytes) s 0
 abbrev pub starts_on : SectionParts → ℕ → Bool
 starts_on s n = list_any (λ m. m == n) (starts_in s)
 
+-- how many items of a section start before an offset
+abbrev pub index_on : SectionParts → ℕ → ℕ
+index_on s n = length (filter (λ m. nat_lt m n) (starts_in s))
+
 -- the bytes of what stands at a place
 abbrev pub size_at : List ObjectParts → Place → ℕ
 size_at objects q = option_map_or (λ s. size_on s q.offset) (code_at objects q) 4
@@ -59,6 +63,11 @@ size_at objects q = option_map_or (λ s. size_on s q.offset) (code_at objects q)
 -- the place after the item at a place
 abbrev pub next_at : List ObjectParts → Place → Place
 next_at objects q = record q { offset = q.offset + size_at objects q }
+
+-- the place after so many items from a place on
+abbrev pub after_items : List ObjectParts → ℕ → Place → Place
+after_items objects zero q = q
+after_items objects (suc n) q = after_items objects n (next_at objects q)
 
 -- whether an item starts at a place
 abbrev pub is_start_at : List ObjectParts → Place → Bool
@@ -215,6 +224,18 @@ places_of l = if is_code_section l.section then map (place_of l) (starts_in l.se
 -- those of all code, by object, section and offset
 abbrev pub all_places : List ObjectParts → List Place
 all_places objects = flat_map places_of (all_sections objects)
+
+-- the offsets in a section of code that code may lead to, in order: where its items start, and at last its end
+abbrev pub targets_in : SectionParts → List ℕ
+targets_in s = starts_in s ++ length s.bytes ∷ []
+
+-- the places of a section that code may lead to; what isn't code has none
+abbrev pub targets_of : ListedSection → List Place
+targets_of l = if is_code_section l.section then map (place_of l) (targets_in l.section) else []
+
+-- those of all code, by object, section and offset
+abbrev pub all_targets : List ObjectParts → List Place
+all_targets objects = flat_map targets_of (all_sections objects)
 
 -- the items of a section, in order
 abbrev pub items_in : ParsedInputs → ListedSection → List Item

@@ -6,9 +6,9 @@ use Rattle.zc_base.specs.Places.{same_place}
 use Rattle.zc_base.specs.declared.place.Place.{Place}
 use Rattle.elf32_read.specs.Parts.{ObjectParts}
 use Rattle.psabi_sym.specs.Inputs.{ParsedInputs}
-use Rattle.psabi_sym.specs.Listed.{ListedSection, all_sections, all_symbols, section_at}
+use Rattle.psabi_sym.specs.Listed.{all_sections, all_symbols, section_at}
 use Rattle.psabi_sym.specs.Rows.{section_starts}
-use Rattle.block_cut.specs.Items.{all_places, places_of}
+use Rattle.block_cut.specs.Items.{all_places}
 use Rattle.block_cut.specs.declared.leaders.Leaders.{Leaders}
 use Rattle.block_cut.specs.Leaders.{item_leads, section_leads, symbol_leads}
 
@@ -43,10 +43,6 @@ abbrev pub Adds : List ObjectParts → (Place → Bool) → Leaders → Leaders 
 Adds objects test old new = (q : Place) → has_place objects new q ≡ (has_place objects old q || test q)
 
 -- ---- what leads to places
-
--- a relocation or an item of a section leads to a place
-abbrev pub leads_from : ParsedInputs → Place → ListedSection → Bool
-leads_from inputs q l = section_leads inputs q l || list_any (item_leads inputs q) (places_of l)
 
 -- a relocation, an item or a symbol leads to a place
 abbrev pub is_led_to : ParsedInputs → Place → Bool

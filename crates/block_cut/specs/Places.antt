@@ -1,17 +1,15 @@
 -- The places of code with what stands there: where items start, and where a section of code ends.
-use Rattle.std.specs.Prelude.{ℕ, if◌then◌else◌, List, [], ◌∷◌, ◌++◌, length, map}
+use Rattle.std.specs.Prelude.{◌≡◌, ℕ, ◌+◌, if◌then◌else◌, List, [], map, Some}
 use Rattle.std.specs.Option.{unwrap_or}
 use Rattle.zc_base.specs.declared.place.Place.{Place}
-use Rattle.elf32_read.specs.Parts.{SectionParts, is_code_section}
+use Rattle.elf32_read.specs.Parts.{ObjectParts, SectionParts, is_code_section}
 use Rattle.psabi_sym.specs.Inputs.{ParsedInputs}
 use Rattle.psabi_sym.specs.Listed.{ListedSection}
-use Rattle.block_cut.specs.Items.{item_at, place_of, size_at, starts_in}
+use Rattle.psabi_sym.specs.Rows.{section_starts}
+use Rattle.block_cut.specs.Items.{code_at, index_on, item_at, place_of, size_at, targets_in}
 use Rattle.block_cut.specs.PlainLayout.{plain_address}
 use Rattle.block_cut.specs.declared.code_place.CodePlace.{CodePlace}
-
--- the offsets in a section of code where items start, in order, and at last its end
-abbrev pub targets_in : SectionParts → List ℕ
-targets_in s = starts_in s ++ length s.bytes ∷ []
+use Rattle.block_cut.specs.declared.place_number.PlaceNumber.{PlaceNumber}
 
 -- a place with what stands there
 abbrev pub place_there : ParsedInputs → Place → CodePlace
@@ -29,3 +27,12 @@ code_place inputs l n = place_there inputs (place_of l n)
 -- those of a section; what isn't code has none
 abbrev pub code_places : ParsedInputs → ListedSection → List CodePlace
 code_places inputs l = if is_code_section l.section then map (code_place inputs l) (targets_in l.section) else []
+
+-- ---- numbers
+
+-- a place of code stands in the section with this number among all, after so many of that section's items
+pub record IsPlaceNumber (objects : List ObjectParts) (q : Place) (number : PlaceNumber) : Type 0 where
+  pub section : SectionParts
+  pub here : code_at objects q ≡ Some section
+  pub section_is : number.section ≡ section_starts objects q.object + q.section
+  pub index_is : number.index ≡ index_on section q.offset

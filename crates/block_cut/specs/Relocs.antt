@@ -9,7 +9,7 @@ use Rattle.psabi_reloc.specs.declared.kind.RelocKind.{RelocKind}
 use Rattle.psabi_reloc.specs.declared.kind.RelocKind.TheVariants.{Ignored, Word, Branch, Jal, Call, PcrelHi20, PcrelLo12I, PcrelLo12S, RvcBranch, RvcJump, Align}
 use Rattle.rv_decode.specs.Decode.{decoded}
 use Rattle.rv_decode.specs.declared.instr.Instr.{Instr}
-use Rattle.block_cut.specs.Units.{unit_of}
+use Rattle.block_cut.specs.CodeSizes.{code_step}
 
 -- ---- fields
 
@@ -80,7 +80,7 @@ is_filling (negsuc n) = false
 
 -- padding of so many bytes, in units
 abbrev pub is_padding : Bool → ℤ → Bool
-is_padding compressed (pos n) = nat_lt 0 n && (nat_lt n 256 && (n % unit_of compressed == 0))
+is_padding compressed (pos n) = nat_lt 0 n && (nat_lt n 256 && (n % code_step compressed == 0))
 is_padding compressed (negsuc n) = false
 
 -- the instruction of so many bytes at an offset; so far all have 4
@@ -97,7 +97,7 @@ fits_at s n addend (Some k) = fits k (instr_in 4 s.bytes n) (instr_in 4 s.bytes 
 
 -- in code a relocation changes whole units that are of its kind
 abbrev pub is_placed : SectionParts → Reloc → Bool
-is_placed s r = not (is_code_section s) || ((r.offset % unit_of s.compressed == 0) && fits_at s r.offset r.addend (kind_of r.kind))
+is_placed s r = not (is_code_section s) || ((r.offset % code_step s.compressed == 0) && fits_at s r.offset r.addend (kind_of r.kind))
 
 -- a field that passes the section's end, isn't whole units of its kind, or that another changes as well
 abbrev pub is_bad_place : SectionParts → Reloc → Bool

@@ -1,6 +1,6 @@
 -- Relocations as they are decided once: what each asks for, what it resolves to, and what is wrong with it by itself.
-use Rattle.std.specs.Prelude.{ℕ, pos, Bool, true, false, not, ◌&&◌, ◌==◌, min, if◌then◌else◌, List, filter, map, Option, Some, None}
-use Rattle.elf32_read.specs.Parts.{ObjectParts}
+use Rattle.std.specs.Prelude.{ℕ, pos, Bool, true, false, not, ◌&&◌, ◌==◌, min, if◌then◌else◌, List, [], filter, map, Option, Some, None}
+use Rattle.elf32_read.specs.Parts.{ObjectParts, is_code_section}
 use Rattle.elf32_read.specs.declared.fault.Fault.{Fault}
 use Rattle.elf32_read.specs.declared.fault.Fault.TheVariants.{RelocKind, RelocPlace, LoPair, BadTarget}
 use Rattle.elf32_read.specs.declared.reloc.Reloc.{Reloc}
@@ -38,6 +38,10 @@ resolved_reloc inputs l r = record {
 -- those of a section that ask for something, in order
 abbrev pub resolved_relocs : ParsedInputs → ListedSection → List ResolvedReloc
 resolved_relocs inputs l = map (resolved_reloc inputs l) (filter asks l.section.relocs)
+
+-- those that are kept until all code is cut: what isn't code has none
+abbrev pub code_relocs : ParsedInputs → ListedSection → List ResolvedReloc
+code_relocs inputs l = if is_code_section l.section then resolved_relocs inputs l else []
 
 -- a fault by what is wrong at an offset of a section; another if nothing is
 abbrev pub fault_of : Option RelocFault → Option Fault → ℕ → ℕ → Option Fault

@@ -1,4 +1,4 @@
--- What the code keeps of a section: its relocations, the numbers of its places by halfwords, and these.
+-- What the code keeps of a section: the numbers of its places by halfwords, and these.
 use Rattle.std.specs.Prelude.{◌≡◌, ℕ, ◌+◌, ◌-◌, ◌*◌, ◌/◌, ◌<◌, ◌||◌, ◌==◌, if◌then◌else◌, IfSome, List, [], length, map, slice_get, slice_index_or, ◌≤◌, Option, Some, None}
 use Rattle.std.specs.List.{find, range_with_len}
 use Rattle.elf32_read.specs.Parts.{SectionParts, is_code_section}
@@ -8,7 +8,7 @@ use Rattle.psabi_reloc.specs.declared.kind.RelocKind.TheVariants.{Call}
 use Rattle.block_cut.specs.Items.{starts_on}
 use Rattle.block_cut.specs.Places.{code_places}
 use Rattle.block_cut.specs.PlainLayout.{starts_before}
-use Rattle.block_cut.specs.Resolved.{is_right_at, resolved_relocs}
+use Rattle.block_cut.specs.Resolved.{is_right_at}
 use Rattle.block_cut.specs.declared.code_place.CodePlace.{CodePlace}
 use Rattle.block_cut.specs.declared.resolved_reloc.ResolvedReloc.{ResolvedReloc}
 
@@ -44,10 +44,9 @@ pub record HasRoom (bytes : List ℕ) (n : ℕ) (reloc : Option ResolvedReloc) :
 
 -- what is kept of a section
 pub record SectionTables : Type 0 where
-  pub relocs : List ResolvedReloc
   pub numbers : List ℕ
   pub places : List CodePlace
 
--- its relocations, the numbers of its places, and these
+-- the numbers of its places, and these
 unfoldable pub section_tables : ParsedInputs → ListedSection → SectionTables
-section_tables inputs l = record { relocs = resolved_relocs inputs l; numbers = numbers_in l.section; places = code_places inputs l }
+section_tables inputs l = record { numbers = numbers_in l.section; places = code_places inputs l }

@@ -58,11 +58,13 @@ impl<'a> CodeSection<'a> {
         requires whole { at % 4 ≡ 0 }
         requires inside { at / 2 < length self.now.table.now }
         requires room { at ≢ length self.now.content
-            → HasRoom self.now.content at (numbered self.now.relocs.now (slice_index_or self.now.table.now (at / 2) 0)) }
+            → HasRoom self.now.content at
+            (numbered self.now.relocs.now (slice_index_or self.now.table.now (at / 2) 0)) }
         ensures { (inputs : Inputs) (l : ListedSection) → gather_fault inputs ≡ None → IsCodeSection inputs l self.now
             → (starts_on l.section at || at == length l.section.bytes) ≡ true
             → result ≡ record {
-              item = (if starts_on l.section at then Some (item_in (parsed inputs) l.section (place_of l at)) else None);
+              item = (if starts_on l.section at
+                  then Some (item_in (parsed inputs) l.section (place_of l at)) else None);
               address = address;
               offset = at;
               size = size_on l.section at;

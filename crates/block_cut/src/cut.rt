@@ -1,27 +1,27 @@
 // The objects with their code cut into items.
 
-ghost use Rattle.std.specs.Prelude.{◌≡◌, ◌<◌, ◌+◌, ◌^◌, None, Some, IfOk, IfErr, IfSome, length, slice_get};
+ghost use Rattle.std.specs.Prelude.{◌≡◌, ◌<◌, ◌+◌, ◌^◌, None, Some, IfOk, IfErr, IfSome, MatchOption, false, true, length, slice_get};
 ghost use Rattle.std.specs.Option.{option_map};
 ghost use Rattle.psabi_sym.specs.Inputs.{parsed};
 ghost use Rattle.psabi_sym.specs.LinkFault.{IsRefusal};
 ghost use Rattle.psabi_sym.specs.Listed.{all_sections, ListedSection};
 ghost use Rattle.block_cut.specs.DataWords.{data_words};
 ghost use Rattle.block_cut.specs.Faults.{first_fault};
-ghost use Rattle.block_cut.specs.Items.{entry_of, item_at, next_at, start_only};
+ghost use Rattle.block_cut.specs.Items.{entry_of, is_target_at, item_at, next_at, start_only};
 ghost use Rattle.block_cut.specs.Leaders.{is_leader_at};
-ghost use Rattle.block_cut.specs.Text.{IsText};
-ghost use Rattle.block_cut.specs.Places.{code_places};
+ghost use Rattle.block_cut.specs.CodeTables.{AreCodeTables};
+ghost use Rattle.block_cut.specs.Places.{IsPlaceNumber, code_places, place_there};
 ghost use Rattle.block_cut.specs.PlainLayout.{plain_address, plain_counts};
 
 use crate::code_place::CodePlace;
+use crate::code_tables::CodeTables;
 use crate::data_word::DataWord;
-use crate::data_words::data_words;
 use crate::item::Item;
-use crate::judge::judge_relocs;
 use crate::leaders::Leaders;
-use crate::leads::all_leads;
+use crate::leads::add_leads;
+use crate::place_number::PlaceNumber;
 use crate::reach::first_out_of_reach;
-use crate::text::Text;
+use crate::reloc_targets::RelocTargets;
 use elf32_read::fault::Fault;
 use psabi_sym::link_fault::LinkFault;
 use psabi_sym::objects::Objects;
@@ -35,7 +35,7 @@ use zc_base::place::Place;
 #[derive(Drop)]
 pub struct Cut {
     objects: Objects,
-    text: Text,
+    tables: CodeTables,
     words: Vec<DataWord>,
     entry: Place,
     leaders: Leaders,
@@ -49,7 +49,7 @@ impl Model for Cut {
 
     ghost view = { λ cut. cut.objects };
 
-    ghost invariant = { λ cut. IsCut cut.objects cut.text cut.words.items cut.entry cut.leaders };
+    ghost invariant = { λ cut. IsCut cut.objects cut.tables cut.words.items cut.entry cut.leaders };
 }
 
 impl Cut {
@@ -60,17 +60,18 @@ impl Cut {
         ensures faultless { IfOk result (λ _. first_fault objects ≡ None) }
         ensures err { IfErr result (λ fault. IsRefusal (first_fault objects) fault) }
     {
-        let text = Text::new(alloc, &objects)?;
-        if let Err(fault) = judge_relocs(&objects, &text) {
-            return Err(fault);
-        }
-        let Some(entry) = start_only(&objects, &text, objects.start()) else {
+        let (tables, relocs) = CodeTables::new(alloc, &objects)?;
+        let targets = match RelocTargets::find(alloc, &objects, &tables, relocs) {
+            Err(fault) => return Err(fault),
+            Ok(targets) => targets,
+        };
+        let Some(entry) = start_only(&objects, &tables, objects.start()) else {
             return Err(LinkFault::Object {
                 index: 0,
                 fault: Fault::NoEntry,
             });
         };
-        if let Some(place) = first_out_of_reach(&objects, &text) {
+        if let Some(place) = first_out_of_reach(&objects, &tables) {
             return Err(LinkFault::Object {
                 index: u32::from(place.object),
                 fault: Fault::Range {
@@ -79,24 +80,42 @@ impl Cut {
                 },
             });
         }
-        let words = data_words(alloc, &objects, &text)?;
-        let leaders = all_leads(alloc, &objects, &text)?;
+        let mut leaders = targets.leaders;
+        add_leads(&mut leaders, &objects, &tables)?;
         Ok(Cut {
             objects,
-            text,
-            words,
+            tables,
+            words: targets.words,
             entry,
             leaders,
         })
     }
 
-    /// The item at a place, if one starts there. It takes constant time, as do all that follow unless they say
-    /// otherwise.
+    /// What stands at a place, if an item starts there or a section of code ends there. It takes constant time, as do
+    /// all that follow unless they say otherwise.
+    pub fn at(&self, p: Place) -> Option<&CodePlace>
+        ensures { MatchOption result (is_target_at (parsed self.now).objects p ≡ false)
+            (λ place. (is_target_at (parsed self.now).objects p ≡ true)
+            × (place.now ≡ place_there (parsed self.now) p)) }
+    {
+        self.tables.place(&self.objects, p)
+    }
+
+    /// Where a place stands among all, if an item starts there or a section of code ends there.
+    pub fn number(&self, p: Place) -> Option<PlaceNumber>
+        ensures { MatchOption result (is_target_at (parsed self.now).objects p ≡ false)
+            (λ number. (is_target_at (parsed self.now).objects p ≡ true)
+            × IsPlaceNumber (parsed self.now).objects p number) }
+    {
+        self.tables.number(&self.objects, p)
+    }
+
+    /// The item at a place, if one starts there.
     pub fn item(&self, p: Place) -> Option<Item>
         ensures item { result ≡ item_at (parsed self.now) p }
         ensures room { IfSome result (λ _. p.offset + 256 < 2 ^ 32) }
     {
-        self.text.item(&self.objects, p)
+        self.tables.item(&self.objects, p)
     }
 
     /// The place after the item at a place, if one starts there.
@@ -115,7 +134,7 @@ impl Cut {
         ensures { result ≡ next_at (parsed self.now).objects p }
     {
         let _ = item;
-        match self.text.place(&self.objects, p) {
+        match self.tables.place(&self.objects, p) {
             None => p,
             Some(place) => after(p, place.size),
         }
@@ -125,7 +144,7 @@ impl Cut {
     pub fn plain_address(&self, p: Place) -> Option<u32>
         ensures { result ≡ plain_address (parsed self.now) p }
     {
-        self.text.address(&self.objects, p)
+        self.tables.address(&self.objects, p)
     }
 
     /// The places of a section, by its number among all: where an item starts, in order, and at last where the
@@ -135,7 +154,7 @@ impl Cut {
         ensures { (l : ListedSection) → slice_get (all_sections (parsed self.now).objects) section ≡ Some l
             → result.now ≡ code_places (parsed self.now) l }
     {
-        self.text.places(section)
+        self.tables.places(section)
     }
 
     /// The place where the program starts.
@@ -165,17 +184,17 @@ impl Cut {
     pub fn leader(&self, p: Place) -> bool
         ensures { result ≡ is_leader_at (parsed self.now) p }
     {
-        self.text.has_start(&self.objects, p) || self.leaders.has(&self.objects, p)
+        self.tables.has_start(&self.objects, p) || self.leaders.has(&self.objects, p)
     }
 
     /// What the plain layout counts.
     pub fn counts(&self) -> Counts
         ensures { result ≡ plain_counts (parsed self.now) }
     {
-        let extent = self.text.extent;
+        let span = self.tables.span;
         Counts {
-            text: extent.end - self.objects.map().text,
-            items: extent.count,
+            text: span.end - self.objects.map().text,
+            items: span.count,
             short: 0,
             long: 0,
             pushes: 0,
@@ -187,14 +206,14 @@ impl Cut {
 }
 
 // The place that a target is, if an item starts there.
-fn start_only(objects: &Objects, text: &Text, target: Target) -> Option<Place>
-    requires { IsText (parsed objects.now) text.now }
+fn start_only(objects: &Objects, tables: &CodeTables, target: Target) -> Option<Place>
+    requires { AreCodeTables (parsed objects.now) tables.now }
     ensures { result ≡ start_only (parsed objects.now).objects target }
 {
     let Target::Code(p) = target else {
         return None;
     };
-    match text.item(objects, p) {
+    match tables.item(objects, p) {
         None => None,
         Some(_) => Some(p),
     }

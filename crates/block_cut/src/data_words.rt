@@ -1,21 +1,20 @@
 // The words of data that hold addresses, read from the relocations.
 
-ghost use Rattle.std.specs.Prelude.{◌≡◌, ◌<◌, ◌+◌, ◌^◌, ◌++◌, None, Some, IfOk, All, filter, length, map, slice_get, true};
+ghost use Rattle.std.specs.Prelude.{◌≡◌, ◌<◌, ◌+◌, ◌^◌, ◌++◌, None, Some, IfOk, All, filter, map, true};
 ghost use Rattle.psabi_sym.specs.Inputs.{parsed};
-ghost use Rattle.psabi_sym.specs.Listed.{ListedSection, all_sections, section_at};
-ghost use Rattle.block_cut.specs.Text.{IsText};
-ghost use Rattle.block_cut.specs.DataWords.{data_words, held_address, resolved_word, words_in};
-ghost use Rattle.block_cut.specs.Faults.{relocs_fault};
+ghost use Rattle.psabi_sym.specs.Listed.{section_at};
+ghost use Rattle.block_cut.specs.DataWords.{held_address, resolved_word, words_in};
+ghost use Rattle.block_cut.specs.Faults.{section_fault};
 ghost use Rattle.block_cut.specs.Relocs.{is_word};
+ghost use Rattle.block_cut.specs.Resolved.{resolved_relocs};
 
 use crate::data_word::DataWord;
 use crate::kinds::is_word;
 use crate::resolved_reloc::ResolvedReloc;
-use crate::text::Text;
 use psabi_sym::objects::Objects;
 use psabi_sym::section_ref::SectionRef;
 use psabi_sym::section_row::SectionRole;
-use std::alloc::{AllocError, Global};
+use std::alloc::AllocError;
 
 const NOBITS: u32 = 8;
 
@@ -51,44 +50,26 @@ fn add_words(words: &mut Vec<DataWord>, at: u32, relocs: &[ResolvedReloc]) -> Re
     Ok(())
 }
 
-// Adds the words of a section, by its number among all.
-fn add_section(
+/// Adds the words of a section, by its relocations, of which none has a fault.
+pub fn add_section_words(
     words: &mut Vec<DataWord>,
     objects: &Objects,
-    text: &Text,
-    k: u32,
+    section: &SectionRef,
+    relocs: &[ResolvedReloc],
 ) -> Result<(), AllocError>
-    requires text { IsText (parsed objects.now) text.now }
-    requires faultless { relocs_fault (parsed objects.now) ≡ None }
-    requires section { k < length (all_sections (parsed objects.now).objects) }
-    ensures { IfOk result (λ _. (l : ListedSection) → slice_get (all_sections (parsed objects.now).objects) k ≡ Some l
-        → words.new.items ≡ words.old.items ++ words_in (parsed objects.now) l) }
+    requires section { section_at (parsed objects.now).objects section.now.object section.now.index
+        ≡ Some section.now.section }
+    requires relocs { relocs.now ≡ resolved_relocs (parsed objects.now) section.now }
+    requires faultless { section_fault (parsed objects.now) section.now ≡ None }
+    ensures { IfOk result (λ _. words.new.items ≡ words.old.items ++ words_in (parsed objects.now) section.now) }
 {
     // No data lie beyond this, so no address is too large.
     let _end = objects.data_end();
-    match held_address(objects, &objects.section(k)) {
+    match held_address(objects, section) {
         None => Ok(()),
         Some(at) => {
-            add_words(words, at, text.relocs(k))?;
+            add_words(words, at, relocs)?;
             Ok(())
         }
     }
-}
-
-/// The words of data that hold addresses, by object, section and relocation; no relocation of the objects
-/// has a fault. It looks at each relocation once.
-pub fn data_words(
-    alloc: Global,
-    objects: &Objects,
-    text: &Text,
-) -> Result<Vec<DataWord>, AllocError>
-    requires text { IsText (parsed objects.now) text.now }
-    requires faultless { relocs_fault (parsed objects.now) ≡ None }
-    ensures { IfOk result (λ words. words.items ≡ data_words (parsed objects.now)) }
-{
-    let mut words = Vec::new(alloc);
-    for k in 0..objects.section_count() {
-        add_section(&mut words, objects, text, k)?;
-    }
-    Ok(words)
 }

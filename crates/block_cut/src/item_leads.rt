@@ -1,13 +1,12 @@
 // Where items lead.
 
-ghost use Rattle.std.specs.Prelude.{◌≡◌, ◌+◌, ◌<◌, ◌^◌, ◌&&◌, ℕ, false, IfOk, None, Some};
+ghost use Rattle.std.specs.Prelude.{◌≡◌, ◌+◌, ◌<◌, ◌^◌, ◌&&◌, ℕ, false, IfOk};
 ghost use Rattle.std.specs.List.{list_any};
 ghost use Rattle.std.specs.Option.{option_map_or};
-ghost use Rattle.psabi_sym.specs.Faults.{gather_fault};
 ghost use Rattle.psabi_sym.specs.Inputs.{parsed};
-ghost use Rattle.psabi_sym.specs.Listed.{section_at};
 ghost use Rattle.zc_base.specs.Places.{same_place};
 ghost use Rattle.zc_base.specs.declared.place.Place.{Place};
+ghost use Rattle.block_cut.specs.Home.{IsHome};
 ghost use Rattle.block_cut.specs.Items.{place_of, places_of};
 ghost use Rattle.block_cut.specs.Leaders.{ends_block, goes_to, is_jalr, item_leads};
 ghost use Rattle.block_cut.specs.Led.{Adds};
@@ -21,6 +20,14 @@ use psabi_sym::section_ref::SectionRef;
 use rv_decode::instr::Instr;
 use std::alloc::AllocError;
 use zc_base::place::Place;
+
+/// A section whose items are walked over: the objects, itself, and its number among all.
+#[derive(Drop)]
+pub struct Home<'a> {
+    pub objects: &'a Objects,
+    pub section: &'a SectionRef<'a>,
+    pub number: u32,
+}
 
 // Whether an instruction is a `jalr`.
 fn is_jalr(instr: &Instr) -> bool
@@ -64,72 +71,66 @@ fn target_of(item: &Item) -> Option<Place>
 }
 
 // Adds the place that an item goes to.
-fn add_target(leaders: &mut Leaders, objects: &Objects, item: &Item) -> Result<(), AllocError>
-    ensures { IfOk result (λ _. Adds (parsed objects.now).objects (λ q. goes_to q item.now) leaders.old leaders.new) }
+fn add_target(leaders: &mut Leaders, home: &Home, item: &Item) -> Result<(), AllocError>
+    requires { IsHome home.now }
+    ensures { IfOk result (λ _. Adds (parsed home.now.objects.now).objects (λ q. goes_to q item.now)
+        leaders.old leaders.new) }
 {
-    match target_of(item) {
-        None => Ok(()),
-        Some(to) => leaders.add(objects, to),
+    let Some(to) = target_of(item) else {
+        return Ok(());
+    };
+    if to.object == home.section.object() && to.section == home.section.index() {
+        leaders.add_in(home.number, to)?;
+        return Ok(());
     }
+    leaders.add(home.objects, to)?;
+    Ok(())
 }
 
 // Adds the place after an item, if a basic block ends with it.
-fn add_next(
-    leaders: &mut Leaders,
-    objects: &Objects,
-    next: Place,
-    item: &Item,
-) -> Result<(), AllocError>
-    ensures { IfOk result (λ _. Adds (parsed objects.now).objects (λ q. ends_block item.now && same_place next q)
-        leaders.old leaders.new) }
+fn add_next(leaders: &mut Leaders, home: &Home, offset: u32, item: &Item) -> Result<(), AllocError>
+    requires { IsHome home.now }
+    ensures { IfOk result (λ _. Adds (parsed home.now.objects.now).objects
+        (λ q. ends_block item.now && same_place (place_of home.now.section.now offset) q) leaders.old leaders.new) }
 {
     if !ends_block(item) {
         return Ok(());
     }
-    leaders.add(objects, next)
+    let next = Place {
+        object: home.section.object(),
+        section: home.section.index(),
+        offset,
+    };
+    leaders.add_in(home.number, next)?;
+    Ok(())
 }
 
 // Adds the places that what stands at a place of a section leads to.
-fn add_place(
-    leaders: &mut Leaders,
-    objects: &Objects,
-    section: &SectionRef,
-    place: &CodePlace,
-) -> Result<(), AllocError>
-    requires { place.now.offset + 256 < 2 ^ 32 }
-    ensures { IfOk result (λ _. (n : ℕ) → place.now ≡ code_place (parsed objects.now) section.now n
-        → Adds (parsed objects.now).objects (λ q. item_leads (parsed objects.now) q (place_of section.now n))
-        leaders.old leaders.new) }
+fn add_place(leaders: &mut Leaders, home: &Home, place: &CodePlace) -> Result<(), AllocError>
+    requires home { IsHome home.now }
+    requires room { place.now.offset + 256 < 2 ^ 32 }
+    ensures { IfOk result (λ _. (n : ℕ) → place.now ≡ code_place (parsed home.now.objects.now) home.now.section.now n
+        → Adds (parsed home.now.objects.now).objects
+        (λ q. item_leads (parsed home.now.objects.now) q (place_of home.now.section.now n)) leaders.old leaders.new) }
 {
     let Some(item) = &place.item else {
         return Ok(());
     };
-    let next = Place {
-        object: section.object(),
-        section: section.index(),
-        offset: place.offset + u32::from(place.size),
-    };
-    add_target(leaders, objects, item)?;
-    add_next(leaders, objects, next, item)?;
+    add_target(leaders, home, item)?;
+    add_next(leaders, home, place.offset + u32::from(place.size), item)?;
     Ok(())
 }
 
 /// Adds the places that the items of a section lead to, by its places.
-pub fn add_items(
-    leaders: &mut Leaders,
-    objects: &Objects,
-    section: &SectionRef,
-    places: &[CodePlace],
-) -> Result<(), AllocError>
-    requires gathered { gather_fault objects.now ≡ None }
-    requires section { section_at (parsed objects.now).objects section.now.object section.now.index
-        ≡ Some section.now.section }
-    requires places { places.now ≡ code_places (parsed objects.now) section.now }
-    ensures { IfOk result (λ _. Adds (parsed objects.now).objects
-        (λ q. list_any (item_leads (parsed objects.now) q) (places_of section.now)) leaders.old leaders.new) }
+pub fn add_items(leaders: &mut Leaders, home: &Home, places: &[CodePlace]) -> Result<(), AllocError>
+    requires home { IsHome home.now }
+    requires places { places.now ≡ code_places (parsed home.now.objects.now) home.now.section.now }
+    ensures { IfOk result (λ _. Adds (parsed home.now.objects.now).objects
+        (λ q. list_any (item_leads (parsed home.now.objects.now) q) (places_of home.now.section.now))
+        leaders.old leaders.new) }
 {
     for place in places {
-        add_place(leaders, objects, section, place)?;
+        add_place(leaders, home, place)?;
     }
     Ok(())
 }

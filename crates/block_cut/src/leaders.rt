@@ -1,10 +1,11 @@
 // Places that basic blocks begin at.
 
-ghost use Rattle.std.specs.Prelude.{◌≡◌, ◌&&◌, ◌||◌, false, IfOk};
+ghost use Rattle.std.specs.Prelude.{◌≡◌, ◌&&◌, ◌||◌, false, IfOk, List, Some};
+ghost use Rattle.elf32_read.specs.Parts.{ObjectParts};
 ghost use Rattle.psabi_sym.specs.Inputs.{parsed};
 ghost use Rattle.zc_base.specs.Places.{same_place};
 ghost use Rattle.zc_base.specs.declared.place.Place.{Place};
-ghost use Rattle.block_cut.specs.Led.{has_place, is_marked, Adds};
+ghost use Rattle.block_cut.specs.Led.{has_place, is_marked, section_number, Adds};
 
 use crate::marks::Marks;
 use psabi_sym::objects::Objects;
@@ -45,31 +46,43 @@ impl Leaders {
         })
     }
 
-    // Marks the halfword at a place, or says that there is none.
-    fn mark(&mut self, objects: &Objects, p: Place) -> bool
+    // Marks the halfword at a place of the section with a number among all, or says that there is none.
+    fn mark(&mut self, section: u32, p: Place) -> bool
         ensures others { self.new.others ≡ self.old.others }
-        ensures marks { (q : Place) → is_marked (parsed objects.now).objects self.new.sections.items q
-            ≡ (is_marked (parsed objects.now).objects self.old.sections.items q || (result && same_place p q)) }
+        ensures marks { (objects : List ObjectParts) (q : Place) → section_number objects p ≡ Some section
+            → is_marked objects self.new.sections.items q
+            ≡ (is_marked objects self.old.sections.items q || (result && same_place p q)) }
     {
         if p.offset % 2 != 0 {
             return false;
         }
-        let Some(k) = objects.section_number(p.object, p.section) else {
-            return false;
-        };
-        if self.sections.len() <= k as usize {
+        if self.sections.len() <= section as usize {
             return false;
         }
-        self.sections[k as usize].mark(p.offset / 2)
+        self.sections[section as usize].mark(p.offset / 2)
     }
 
-    /// Adds a place. It takes constant time at a halfword, and logarithmic time elsewhere.
+    /// Adds a place of the section with a number among all. It takes constant time at a halfword, and logarithmic time
+    /// elsewhere.
+    pub fn add_in(&mut self, section: u32, p: Place) -> Result<(), AllocError>
+        ensures { IfOk result (λ _. (objects : List ObjectParts) → section_number objects p ≡ Some section
+            → Adds objects (same_place p) self.old self.new) }
+    {
+        if !self.mark(section, p) {
+            self.others.insert(p)?;
+        }
+        Ok(())
+    }
+
+    /// Adds a place, in as much time.
     pub fn add(&mut self, objects: &Objects, p: Place) -> Result<(), AllocError>
         ensures { IfOk result (λ _. Adds (parsed objects.now).objects (same_place p) self.old self.new) }
     {
-        if !self.mark(objects, p) {
+        let Some(section) = objects.section_number(p.object, p.section) else {
             self.others.insert(p)?;
-        }
+            return Ok(());
+        };
+        self.add_in(section, p)?;
         Ok(())
     }
 

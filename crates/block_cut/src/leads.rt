@@ -1,6 +1,6 @@
 // Where relocations, items and symbols lead.
 
-ghost use Rattle.std.specs.Prelude.{◌≡◌, ◌<◌, ◌&&◌, IfOk, None, Some, length, slice_get};
+ghost use Rattle.std.specs.Prelude.{◌≡◌, ◌<◌, ◌&&◌, ◌||◌, IfOk, None, Some, length, slice_get};
 ghost use Rattle.std.specs.List.{list_any};
 ghost use Rattle.elf32_read.specs.Parts.{object_parts, symbol_parts};
 ghost use Rattle.psabi_sym.specs.Faults.{gather_fault};
@@ -8,19 +8,20 @@ ghost use Rattle.psabi_sym.specs.Inputs.{parsed};
 ghost use Rattle.psabi_sym.specs.Listed.{ListedSection, ListedSymbol, all_sections, all_symbols, symbols_in};
 ghost use Rattle.zc_base.specs.Places.{same_place};
 ghost use Rattle.zc_base.specs.declared.place.Place.{Place};
-ghost use Rattle.block_cut.specs.Text.{IsText};
-ghost use Rattle.block_cut.specs.Leaders.{is_place, symbol_leads};
-ghost use Rattle.block_cut.specs.Led.{has_place, is_led_to, leads_from, Adds};
+ghost use Rattle.block_cut.specs.CodeTables.{AreCodeTables};
+ghost use Rattle.block_cut.specs.Items.{all_places, places_of};
+ghost use Rattle.block_cut.specs.Leaders.{is_place, item_leads, symbol_leads};
+ghost use Rattle.block_cut.specs.Led.{Adds};
 
-use crate::item_leads::add_items;
+use crate::code_tables::CodeTables;
+use crate::item_leads::{Home, add_items};
 use crate::leaders::Leaders;
 use crate::resolved_reloc::ResolvedReloc;
-use crate::text::Text;
 use elf32_read::object::Object;
 use elf32_read::symbol_entry::SymbolEntry;
 use psabi_sym::objects::Objects;
 use psabi_sym::target::Target;
-use std::alloc::{AllocError, Global};
+use std::alloc::AllocError;
 use zc_base::place::Place;
 
 const GLOBAL: u8 = 1;
@@ -44,8 +45,8 @@ fn add_reloc(
     }
 }
 
-// Adds the places that relocations lead to.
-fn add_relocs(
+/// Adds the places that relocations lead to. It looks at each relocation once.
+pub fn add_relocs(
     leaders: &mut Leaders,
     objects: &Objects,
     relocs: &[ResolvedReloc],
@@ -59,33 +60,43 @@ fn add_relocs(
     Ok(())
 }
 
-// Adds the places that the relocations and items of a section lead to, by its number.
+// Adds the places that the items of a section lead to, by its number.
 fn add_section(
     leaders: &mut Leaders,
     objects: &Objects,
-    text: &Text,
+    tables: &CodeTables,
     k: u32,
 ) -> Result<(), AllocError>
     requires gathered { gather_fault objects.now ≡ None }
-    requires text { IsText (parsed objects.now) text.now }
+    requires tables { AreCodeTables (parsed objects.now) tables.now }
     requires section { k < length (all_sections (parsed objects.now).objects) }
     ensures { IfOk result (λ _. (l : ListedSection) → slice_get (all_sections (parsed objects.now).objects) k ≡ Some l
-        → Adds (parsed objects.now).objects (λ q. leads_from (parsed objects.now) q l) leaders.old leaders.new) }
+        → Adds (parsed objects.now).objects (λ q. list_any (item_leads (parsed objects.now) q) (places_of l))
+        leaders.old leaders.new) }
 {
-    add_relocs(leaders, objects, text.relocs(k))?;
-    add_items(leaders, objects, &objects.section(k), text.places(k))?;
+    let section = objects.section(k);
+    let home = Home {
+        objects,
+        section: &section,
+        number: k,
+    };
+    add_items(leaders, &home, tables.places(k))?;
     Ok(())
 }
 
-// Adds the places that the relocations and items of all sections lead to.
-fn add_sections(leaders: &mut Leaders, objects: &Objects, text: &Text) -> Result<(), AllocError>
-    requires { IsText (parsed objects.now) text.now }
+// Adds the places that the items of all sections lead to.
+fn add_sections(
+    leaders: &mut Leaders,
+    objects: &Objects,
+    tables: &CodeTables,
+) -> Result<(), AllocError>
+    requires { AreCodeTables (parsed objects.now) tables.now }
     ensures { IfOk result (λ _. Adds (parsed objects.now).objects
-        (λ q. list_any (leads_from (parsed objects.now) q) (all_sections (parsed objects.now).objects))
+        (λ q. list_any (item_leads (parsed objects.now) q) (all_places (parsed objects.now).objects))
         leaders.old leaders.new) }
 {
     for k in 0..objects.section_count() {
-        add_section(leaders, objects, text, k)?;
+        add_section(leaders, objects, tables, k)?;
     }
     Ok(())
 }
@@ -154,14 +165,19 @@ fn add_symbols(leaders: &mut Leaders, objects: &Objects) -> Result<(), AllocErro
     Ok(())
 }
 
-/// The places that relocations, items and symbols lead to. It looks at each relocation, place and symbol once.
-pub fn all_leads(alloc: Global, objects: &Objects, text: &Text) -> Result<Leaders, AllocError>
-    requires { IsText (parsed objects.now) text.now }
-    ensures { IfOk result (λ leaders. (q : Place)
-        → has_place (parsed objects.now).objects leaders q ≡ is_led_to (parsed objects.now) q) }
+/// Adds the places that items and symbols lead to. It looks at each place and symbol once.
+pub fn add_leads(
+    leaders: &mut Leaders,
+    objects: &Objects,
+    tables: &CodeTables,
+) -> Result<(), AllocError>
+    requires { AreCodeTables (parsed objects.now) tables.now }
+    ensures { IfOk result (λ _. Adds (parsed objects.now).objects
+        (λ q. list_any (item_leads (parsed objects.now) q) (all_places (parsed objects.now).objects)
+        || list_any (symbol_leads (parsed objects.now).objects q) (all_symbols (parsed objects.now).objects))
+        leaders.old leaders.new) }
 {
-    let mut leaders = Leaders::new(alloc, objects)?;
-    add_sections(&mut leaders, objects, text)?;
-    add_symbols(&mut leaders, objects)?;
-    Ok(leaders)
+    add_sections(leaders, objects, tables)?;
+    add_symbols(leaders, objects)?;
+    Ok(())
 }

@@ -2,12 +2,14 @@
 #![tactic(auto)]
 
 pub mod code_place;
+mod code_relocs;
 mod code_section;
+mod code_span;
+mod code_tables;
 mod content;
 pub mod cut;
 pub mod data_word;
 mod data_words;
-mod extent;
 mod fields;
 pub mod item;
 mod item_leads;
@@ -16,13 +18,14 @@ mod kinds;
 mod leaders;
 mod leads;
 mod marks;
+pub mod place_number;
 mod plain_layout;
 mod reach;
 mod reloc_item;
+mod reloc_targets;
 mod relocated;
 mod resolved_reloc;
 mod section_text;
 mod section_words;
 mod spelled;
-mod text;
 mod walk;

@@ -8,14 +8,14 @@ ghost use Rattle.psabi_sym.specs.Faults.{gather_fault};
 ghost use Rattle.psabi_sym.specs.Inputs.{parsed};
 ghost use Rattle.psabi_sym.specs.Listed.{ListedSection, section_at};
 ghost use Rattle.zc_base.specs.declared.place.Place.{Place};
-ghost use Rattle.block_cut.specs.Text.{IsText};
+ghost use Rattle.block_cut.specs.CodeTables.{AreCodeTables};
 ghost use Rattle.block_cut.specs.Faults.{distance_between, is_out_of_reach};
 ghost use Rattle.block_cut.specs.Items.{all_places, place_of, places_of};
 ghost use Rattle.block_cut.specs.Places.{code_places, place_there};
 
 use crate::code_place::CodePlace;
+use crate::code_tables::CodeTables;
 use crate::item::Item;
-use crate::text::Text;
 use psabi_reloc::reaches::branch_reaches;
 use psabi_sym::objects::Objects;
 use zc_base::place::Place;
@@ -33,9 +33,9 @@ fn is_far(from: u32, to: Option<u32>) -> bool
 }
 
 // Whether a branch stands at a place that doesn't reach so far.
-fn is_out_of_reach(objects: &Objects, text: &Text, place: &CodePlace) -> bool
+fn is_out_of_reach(objects: &Objects, tables: &CodeTables, place: &CodePlace) -> bool
     requires faultless { gather_fault objects.now ≡ None }
-    requires text { IsText (parsed objects.now) text.now }
+    requires tables { AreCodeTables (parsed objects.now) tables.now }
     ensures { (q : Place) → place.now ≡ place_there (parsed objects.now) q
         → result ≡ is_out_of_reach (parsed objects.now) q }
 {
@@ -45,19 +45,19 @@ fn is_out_of_reach(objects: &Objects, text: &Text, place: &CodePlace) -> bool
     let Item::Branch { to, .. } = item else {
         return false;
     };
-    is_far(place.address, text.address(objects, *to))
+    is_far(place.address, tables.address(objects, *to))
 }
 
 // The offset of the first such place among those of a section.
-fn first_offset(objects: &Objects, text: &Text, places: &[CodePlace]) -> Option<u32>
+fn first_offset(objects: &Objects, tables: &CodeTables, places: &[CodePlace]) -> Option<u32>
     requires faultless { gather_fault objects.now ≡ None }
-    requires text { IsText (parsed objects.now) text.now }
+    requires tables { AreCodeTables (parsed objects.now) tables.now }
     ensures { (l : ListedSection) → section_at (parsed objects.now).objects l.object l.index ≡ Some l.section
         → places.now ≡ code_places (parsed objects.now) l
         → option_map (place_of l) result ≡ find (is_out_of_reach (parsed objects.now)) (places_of l) }
 {
     for place in places {
-        if is_out_of_reach(objects, text, place) {
+        if is_out_of_reach(objects, tables, place) {
             return Some(place.offset);
         }
     }
@@ -65,13 +65,13 @@ fn first_offset(objects: &Objects, text: &Text, places: &[CodePlace]) -> Option<
 }
 
 /// The first place of a branch that doesn't reach in the plain layout. It looks at each place once.
-pub fn first_out_of_reach(objects: &Objects, text: &Text) -> Option<Place>
-    requires { IsText (parsed objects.now) text.now }
+pub fn first_out_of_reach(objects: &Objects, tables: &CodeTables) -> Option<Place>
+    requires { AreCodeTables (parsed objects.now) tables.now }
     ensures { result ≡ find (is_out_of_reach (parsed objects.now)) (all_places (parsed objects.now).objects) }
 {
     for k in 0..objects.section_count() {
         let row = objects.section_row(k);
-        if let Some(offset) = first_offset(objects, text, text.places(k)) {
+        if let Some(offset) = first_offset(objects, tables, tables.places(k)) {
             return Some(Place {
                 object: row.object,
                 section: row.index,

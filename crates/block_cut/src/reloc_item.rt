@@ -98,7 +98,8 @@ fn calling_item(content: &Content, at: u32, target: Target) -> Item
     requires whole { at % 4 ≡ 0 }
     requires inside { at + 8 ≤ length content.now }
     ensures { result ≡ to_place target
-        (call_item (decoded (word_in content.now at)) (decoded (word_in content.now (at + 4))) (raw_pair content.now at)) (raw_pair content.now at) }
+        (call_item (decoded (word_in content.now at)) (decoded (word_in content.now (at + 4)))
+        (raw_pair content.now at)) (raw_pair content.now at) }
 {
     let first = at as usize;
     let second = first + 4;

@@ -3,13 +3,12 @@
 ghost use Rattle.std.specs.Prelude.{◌≡◌, ◌&&◌, ◌==◌, ◌+◌, ◌^◌, ◌<◌, ℕ, IfOk, MatchOption, None, Some, false, true, length, slice_get};
 ghost use Rattle.elf32_read.specs.Parts.{is_code_section};
 ghost use Rattle.psabi_sym.specs.Faults.{gather_fault};
-ghost use Rattle.psabi_sym.specs.Inputs.{parsed, Inputs};
-ghost use Rattle.psabi_sym.specs.Listed.{all_sections, section_at, sections_before, ListedSection};
-ghost use Rattle.zc_base.specs.MemMap.{IsMap};
+ghost use Rattle.psabi_sym.specs.Inputs.{parsed, Inputs, ParsedInputs};
+ghost use Rattle.psabi_sym.specs.Listed.{section_at, ListedSection};
+ghost use Rattle.block_cut.specs.CutSection.{IsCutSection, IsSectionAfter};
 ghost use Rattle.block_cut.specs.SectionText.{section_tables};
-ghost use Rattle.block_cut.specs.Items.{is_target_at, place_of};
+ghost use Rattle.block_cut.specs.Items.{index_on, is_target_at, place_of};
 ghost use Rattle.block_cut.specs.Places.{code_place};
-ghost use Rattle.block_cut.specs.PlainLayout.{plain_end_of};
 
 use crate::code_place::{CodePlace, address_after};
 use crate::code_section::CodeSection;
@@ -24,11 +23,10 @@ use psabi_sym::section_ref::SectionRef;
 use std::alloc::{AllocError, Global};
 use std::marker::Model;
 
-/// What is kept of a section: the relocations that ask for something, the numbers of its places by the offset / 2, from
-/// 1 on, with 0 where nothing starts, and these places. What isn't code has no places.
+/// What is kept of a section: the numbers of its places by the offset / 2, from 1 on, with 0 where nothing starts, and
+/// these places. What isn't code has none.
 #[derive(Drop)]
 pub struct SectionText {
-    relocs: Vec<ResolvedReloc>,
     numbers: Vec<u32>,
     places: Vec<CodePlace>,
 }
@@ -38,43 +36,41 @@ impl Model for SectionText {
 
     ghost Value = { SectionTables };
 
-    ghost view = { λ text. record { relocs = text.relocs.items; numbers = text.numbers.items; places = text.places.items } };
+    ghost view = { λ text. record { numbers = text.numbers.items; places = text.places.items } };
 }
 
-// What is kept of a section that isn't code.
-fn data_section(
-    alloc: Global,
-    objects: &Objects,
-    section: &SectionRef,
-) -> Result<SectionText, AllocError>
-    requires faultless { gather_fault objects.now ≡ None }
-    requires section { section_at (parsed objects.now).objects section.now.object section.now.index
-        ≡ Some section.now.section }
-    requires data { is_code_section section.now.section ≡ false }
-    ensures { IfOk result (λ text. text ≡ section_tables (parsed objects.now) section.now) }
+/// A section whose code is cut: what is kept of it, and its relocations that ask for something, resolved, if it is
+/// code.
+#[derive(Drop)]
+pub struct CutSection {
+    pub text: SectionText,
+    pub relocs: Vec<ResolvedReloc>,
+}
+
+// A section that isn't code.
+fn data_section(alloc: Global) -> CutSection
+    ensures { (inputs : ParsedInputs) (l : ListedSection) → is_code_section l.section ≡ false
+        → IsCutSection inputs l result }
 {
-    Ok(SectionText {
-        relocs: resolve_relocs(alloc, objects, section, &[])?,
-        numbers: Vec::new(alloc),
-        places: Vec::new(alloc),
-    })
+    CutSection {
+        text: SectionText {
+            numbers: Vec::new(alloc),
+            places: Vec::new(alloc),
+        },
+        relocs: Vec::new(alloc),
+    }
 }
 
-// What is kept of a section of code, where the code before it ends at an address. It decodes each word once.
+// A section of code, where the code before it ends at an address. It decodes each word once.
 fn code_section(
     alloc: Global,
     objects: &Objects,
     section: &SectionRef,
     end: u32,
-) -> Result<SectionText, AllocError>
-    requires faultless { gather_fault objects.now ≡ None }
-    requires is_map { IsMap objects.now.map }
-    requires section { section_at (parsed objects.now).objects section.now.object section.now.index
-        ≡ Some section.now.section }
+) -> Result<CutSection, AllocError>
+    requires after { IsSectionAfter objects.now section.now end }
     requires code { is_code_section section.now.section ≡ true }
-    requires end { end ≡ plain_end_of (parsed objects.now)
-        (sections_before (parsed objects.now).objects section.now.object section.now.index) }
-    ensures { IfOk result (λ text. text ≡ section_tables (parsed objects.now) section.now) }
+    ensures { IfOk result (IsCutSection (parsed objects.now) section.now) }
 {
     let bytes = section.bytes();
     let words = decode_words(alloc, bytes)?;
@@ -100,42 +96,31 @@ fn code_section(
             places.push(place)?;
         }
     }
-    Ok(SectionText {
+    Ok(CutSection {
+        text: SectionText { numbers, places },
         relocs,
-        numbers,
-        places,
     })
 }
 
-impl SectionText {
-    /// What is kept of a section, where the code before it ends at an address.
+impl CutSection {
+    /// A section with its code cut, where the code before it ends at an address.
     pub fn new(
         alloc: Global,
         objects: &Objects,
         section: &SectionRef,
         end: u32,
-    ) -> Result<SectionText, AllocError>
-        requires faultless { gather_fault objects.now ≡ None }
-        requires is_map { IsMap objects.now.map }
-        requires section { section_at (parsed objects.now).objects section.now.object section.now.index
-            ≡ Some section.now.section }
-        requires end { end ≡ plain_end_of (parsed objects.now)
-            (sections_before (parsed objects.now).objects section.now.object section.now.index) }
-        ensures { IfOk result (λ text. text ≡ section_tables (parsed objects.now) section.now) }
+    ) -> Result<CutSection, AllocError>
+        requires { IsSectionAfter objects.now section.now end }
+        ensures { IfOk result (IsCutSection (parsed objects.now) section.now) }
     {
         if section.is_code() {
             return code_section(alloc, objects, section, end);
         }
-        data_section(alloc, objects, section)
+        Ok(data_section(alloc))
     }
+}
 
-    /// Its relocations that ask for something, resolved.
-    pub fn relocs(&self) -> &[ResolvedReloc]
-        ensures { result.now ≡ self.now.relocs }
-    {
-        &self.relocs
-    }
-
+impl SectionText {
     /// Its places, in order.
     pub fn places(&self) -> &[CodePlace]
         ensures { result.now ≡ self.now.places }
@@ -157,5 +142,21 @@ impl SectionText {
             return None;
         }
         self.places.get(number as usize - 1)
+    }
+
+    /// How many of its items stand before an offset, if an item starts there or the section ends there.
+    pub fn index(&self, offset: u32) -> Option<u32>
+        ensures { (inputs : Inputs) (l : ListedSection) → gather_fault inputs ≡ None
+            → section_at (parsed inputs).objects l.object l.index ≡ Some l.section
+            → self.now ≡ section_tables (parsed inputs) l
+            → MatchOption result (is_target_at (parsed inputs).objects (place_of l offset) ≡ false)
+            (λ index. (is_target_at (parsed inputs).objects (place_of l offset) ≡ true)
+            × (index ≡ index_on l.section offset)) }
+    {
+        let number = number_at(&self.numbers, offset);
+        if number == 0 {
+            return None;
+        }
+        Some(number - 1)
     }
 }

@@ -176,13 +176,22 @@ impl State {
             return Ok(SymStep::Exited(status));
         }
         let place = self.place;
-        let Some(item) = cut.item(place) else {
+        let Some(here) = cut.at(place) else {
             return Ok(self.stuck(Why::NoInstruction));
         };
-        let next = cut.next_after(place, &item);
-        if self.quick_item(&item, next) {
+        let Some(item) = &here.item else {
+            return Ok(self.stuck(Why::NoInstruction));
+        };
+        // Objects without a fault have no item near the end of the numbers.
+        let _objects = cut.objects();
+        let next = Place {
+            object: place.object,
+            section: place.section,
+            offset: place.offset + u32::from(here.size),
+        };
+        if self.quick_item(item, next) {
             return Ok(SymStep::Done);
         }
-        self.step_item(cut, &item, next)
+        self.step_item(cut, item, next)
     }
 }

@@ -8,20 +8,20 @@ use Rattle.block_cut.proofs.LedLaws.{adds_all, adds_next, adds_none, adds_same, 
 use Rattle.block_cut.proofs.item_leads.add_items.Goals as goal
 
 pub loop-place-init : goal.loop-place-init
-loop-place-init c = adds_none (parsed c.args.objects.now).objects c.args.leaders.now
+loop-place-init c = adds_none (parsed c.args.home.now.objects.now).objects c.args.leaders.now
 
-pub add_place-requires : goal.add_place-requires
-add_place-requires c =
-    let inputs = c.args.objects.now in
-    let l = c.args.section.now in
+pub add_place-requires-clause-room : goal.add_place-requires-clause-room
+add_place-requires-clause-room c =
+    let inputs = c.args.home.now.objects.now in
+    let l = c.args.home.now.section.now in
     let k = c.loop-place.place-index in
     let here = place_got (parsed inputs) l c.args.places.now c.requires.places k c.place-item.result (omega arith) c.place-item.is in
-    omega (arith, offset_few inputs l c.requires.gathered c.requires.section here.n (here.held), here.offset)
+    omega (arith, offset_few inputs l c.requires.home.gathered c.requires.home.found here.n (here.held), here.offset)
 
 pub loop-place-preserved : goal.loop-place-preserved
 loop-place-preserved c =
-    let inputs = parsed c.args.objects.now in
-    let l = c.args.section.now in
+    let inputs = parsed c.args.home.now.objects.now in
+    let l = c.args.home.now.section.now in
     let k = c.loop-place.place-index in
     let here = place_got inputs l c.args.places.now c.requires.places k c.place-item.result (omega arith) c.place-item.is in
     adds_next inputs.objects (λ q n. item_leads inputs q (place_of l n)) (offsets_of l) k here.n c.args.leaders.now c.loop-place.leaders c.add_place.new.leaders here.at c.loop-place.invariant
@@ -29,8 +29,8 @@ loop-place-preserved c =
 
 pub returns : goal.returns
 returns c =
-    let inputs = parsed c.args.objects.now in
-    let l = c.args.section.now in
+    let inputs = parsed c.args.home.now.objects.now in
+    let l = c.args.home.now.section.now in
     let count : length c.args.places.now ≡ length (offsets_of l) = ap length (c.requires.places ∙ places_are inputs l) ∙ length-map (offsets_of l) (code_place inputs l) in
-    adds_same inputs.objects _ _ c.args.leaders.now c.loop-place.leaders (items_lead c.args.objects.now l c.requires.gathered c.requires.section)
+    adds_same inputs.objects _ _ c.args.leaders.now c.loop-place.leaders (items_lead c.args.home.now.objects.now l c.requires.home.gathered c.requires.home.found)
     (adds_all inputs.objects (λ q n. item_leads inputs q (place_of l n)) (offsets_of l) c.loop-place.place-index c.args.leaders.now c.loop-place.leaders (omega (arith, count)) c.loop-place.invariant)

@@ -9,4 +9,4 @@ use Rattle.block_cut.proofs.item_leads.add_items.Given as goal
 
 abbrev pub invariant-loop-place : goal.invariant-loop-place
 invariant-loop-place l =
-    Adds (parsed l.objects).objects (λ q. list_any (λ n. item_leads (parsed l.objects) q (place_of l.section n)) (take l.place-index (offsets_of l.section))) l.fn.leaders l.leaders
+    Adds (parsed l.home.objects.now).objects (λ q. list_any (λ n. item_leads (parsed l.home.objects.now) q (place_of l.home.section.now n)) (take l.place-index (offsets_of l.home.section.now))) l.fn.leaders l.leaders

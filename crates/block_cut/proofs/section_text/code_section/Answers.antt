@@ -22,22 +22,22 @@ relocs_by_halfword-requires c =
 pub place_numbers-requires : goal.place_numbers-requires
 place_numbers-requires c =
     let l = c.args.section.now in
-    let here = code_here c.args.objects.now l.object l.index l.section c.requires.faultless c.requires.section c.requires.code in
+    let here = code_here c.args.objects.now l.object l.index l.section c.requires.after.faultless c.requires.after.section c.requires.code in
     omega (arith, ap length c.deref-4.ensures.value, c.in_ok-table.ensures.count_is, ap length c.bytes-bytes.ensures, here.whole.short)
 
 pub begin_after-address-requires : goal.begin_after-address-requires
 begin_after-address-requires c =
     let inputs = c.args.objects.now in
     let l = c.args.section.now in
-    let here = code_here inputs l.object l.index l.section c.requires.faultless c.requires.section c.requires.code in
-    omega (arith, before_fits inputs c.requires.faultless l here, c.requires.end, here.whole.low, c.align.ensures, c.requires.is_map.code, c.requires.is_map.data_room, c.requires.is_map.top)
+    let here = code_here inputs l.object l.index l.section c.requires.after.faultless c.requires.after.section c.requires.code in
+    omega (arith, before_fits inputs c.requires.after.faultless l here, c.requires.after.end, here.whole.low, c.align.ensures, c.requires.after.is_map.code, c.requires.after.is_map.data_room, c.requires.after.is_map.top)
 
 pub loop-k-init : goal.loop-k-init
 loop-k-init c =
     let inputs = c.args.objects.now in
     let l = c.args.section.now in
-    let here = code_here inputs l.object l.index l.section c.requires.faultless c.requires.section c.requires.code in
-    let begin = c.begin_after-address.ensures ∙ (λ j. aligned_up (max 4 (c.align.ensures j)) (c.requires.end j)) in
+    let here = code_here inputs l.object l.index l.section c.requires.after.faultless c.requires.after.section c.requires.code in
+    let begin = c.begin_after-address.ensures ∙ (λ j. aligned_up (max 4 (c.align.ensures j)) (c.requires.after.end j)) in
     let relocs = c.deref-2.ensures.value ∙ c.in_ok-relocs.ensures in
     let bytes = c.bytes-bytes.ensures in
     let first = subst (λ rs. IsRelocTable rs (length c.bytes-bytes.result.now / 2 + 1) c.in_ok-table.table.items) relocs c.in_ok-table.ensures in
@@ -47,7 +47,7 @@ loop-k-init c =
     (subst (λ rs. IsRelocTable rs (length l.section.bytes / 2 + 1) c.in_ok-table.table.items) (sym (c.deref-3.ensures.value ∙ c.in_ok-relocs.ensures)) named)) in
     record {
       code = record {
-        found = c.requires.section;
+        found = c.requires.after.section;
         code = c.requires.code;
         object_is = c.object.ensures;
         index_is = c.index.ensures;
@@ -57,14 +57,14 @@ loop-k-init c =
             (subst (λ rs. IsRelocTable rs (length l.section.bytes / 2 + 1) c.in_ok-table.table.items) (sym (c.deref-6.ensures.value ∙ c.in_ok-relocs.ensures)) named);
         numbers_are = c.deref-8.ensures.value ∙ numbers;
       };
-      so_far = subst (λ ps. IsSoFar (parsed inputs) l 0 ps c.begin_after-address.result) (sym c.in_ok-places.ensures.items) (at_first inputs c.requires.faultless l here c.begin_after-address.result begin);
+      so_far = subst (λ ps. IsSoFar (parsed inputs) l 0 ps c.begin_after-address.result) (sym c.in_ok-places.ensures.items) (at_first inputs c.requires.after.faultless l here c.begin_after-address.result begin);
     }
 
 pub overflow_cast-k : goal.overflow_cast-k
 overflow_cast-k c =
     let l = c.args.section.now in
     let is = c.loop-k.invariant.code in
-    let here = code_here c.args.objects.now l.object l.index l.section c.requires.faultless is.found is.code in
+    let here = code_here c.args.objects.now l.object l.index l.section c.requires.after.faultless is.found is.code in
     let at = number_got l.section c.deref-number-items.result.now c.loop-k.k 0 (c.deref-number-items.ensures.value ∙ sym c.deref-8.ensures.value ∙ is.numbers_are) c.loop-k-test.true in
     omega (arith, at.0, here.whole.short)
 
@@ -72,7 +72,7 @@ pub overflow_mul-k : goal.overflow_mul-k
 overflow_mul-k c =
     let l = c.args.section.now in
     let is = c.loop-k.invariant.code in
-    let here = code_here c.args.objects.now l.object l.index l.section c.requires.faultless is.found is.code in
+    let here = code_here c.args.objects.now l.object l.index l.section c.requires.after.faultless is.found is.code in
     let at = number_got l.section c.deref-number-items.result.now c.loop-k.k 0 (c.deref-number-items.ensures.value ∙ sym c.deref-8.ensures.value ∙ is.numbers_are) c.loop-k-test.true in
     omega (arith, at.0, here.whole.short)
 
@@ -80,7 +80,7 @@ pub place-place-requires-clause-whole : goal.place-place-requires-clause-whole
 place-place-requires-clause-whole c =
     let l = c.args.section.now in
     let is = c.loop-k.invariant.code in
-    let here = code_here c.args.objects.now l.object l.index l.section c.requires.faultless is.found is.code in
+    let here = code_here c.args.objects.now l.object l.index l.section c.requires.after.faultless is.found is.code in
     let at = number_got l.section c.deref-number-items.result.now c.loop-k.k 0 (c.deref-number-items.ensures.value ∙ sym c.deref-8.ensures.value ∙ is.numbers_are) c.loop-k-test.true in
     let target = number_target l.section (2 * c.loop-k.k) (λ e. c.if-number-ne0.true (at.1 ∙ e)) in
     target_word l.section is.code here.whole (2 * c.loop-k.k) target
@@ -89,7 +89,7 @@ pub place-place-requires-clause-inside : goal.place-place-requires-clause-inside
 place-place-requires-clause-inside c =
     let l = c.args.section.now in
     let is = c.loop-k.invariant.code in
-    let here = code_here c.args.objects.now l.object l.index l.section c.requires.faultless is.found is.code in
+    let here = code_here c.args.objects.now l.object l.index l.section c.requires.after.faultless is.found is.code in
     let at = number_got l.section c.deref-number-items.result.now c.loop-k.k 0 (c.deref-number-items.ensures.value ∙ sym c.deref-8.ensures.value ∙ is.numbers_are) c.loop-k-test.true in
     omega (arith, at.0, is.table_is.count_is)
 
@@ -97,7 +97,7 @@ pub place-place-requires-clause-room : goal.place-place-requires-clause-room
 place-place-requires-clause-room c = λ not_end.
     let l = c.args.section.now in
     let is = c.loop-k.invariant.code in
-    let here = code_here c.args.objects.now l.object l.index l.section c.requires.faultless is.found is.code in
+    let here = code_here c.args.objects.now l.object l.index l.section c.requires.after.faultless is.found is.code in
     let at = number_got l.section c.deref-number-items.result.now c.loop-k.k 0 (c.deref-number-items.ensures.value ∙ sym c.deref-8.ensures.value ∙ is.numbers_are) c.loop-k-test.true in
     let target = number_target l.section (2 * c.loop-k.k) (λ e. c.if-number-ne0.true (at.1 ∙ e)) in
     let start = target_start l.section is.code here.whole (2 * c.loop-k.k) target (λ e. not_end (e ∙ sym (ap length is.content_is))) in
@@ -107,21 +107,21 @@ pub address_after-address-requires : goal.address_after-address-requires
 address_after-address-requires c =
     let l = c.args.section.now in
     let is = c.loop-k.invariant.code in
-    let here = code_here c.args.objects.now l.object l.index l.section c.requires.faultless is.found is.code in
+    let here = code_here c.args.objects.now l.object l.index l.section c.requires.after.faultless is.found is.code in
     let at = number_got l.section c.deref-number-items.result.now c.loop-k.k 0 (c.deref-number-items.ensures.value ∙ sym c.deref-8.ensures.value ∙ is.numbers_are) c.loop-k-test.true in
-    let map = c.requires.is_map in
-    omega (arith, address_fits c.args.objects.now c.requires.faultless l here c.loop-k.k c.loop-k.places.items c.loop-k.address at.0 c.loop-k.invariant.so_far, map.code, map.data_room, map.top)
+    let map = c.requires.after.is_map in
+    omega (arith, address_fits c.args.objects.now c.requires.after.faultless l here c.loop-k.k c.loop-k.places.items c.loop-k.address at.0 c.loop-k.invariant.so_far, map.code, map.data_room, map.top)
 
 pub loop-k-preserved : goal.loop-k-preserved
 loop-k-preserved c =
     let inputs = c.args.objects.now in
-    let none = c.requires.faultless in
+    let none = c.requires.after.faultless in
     let k = c.loop-k.k in
     let places = c.loop-k.places.items in
     let so_far = c.loop-k.invariant.so_far in
     let l = c.args.section.now in
     let is = c.loop-k.invariant.code in
-    let here = code_here c.args.objects.now l.object l.index l.section c.requires.faultless is.found is.code in
+    let here = code_here c.args.objects.now l.object l.index l.section c.requires.after.faultless is.found is.code in
     let at = number_got l.section c.deref-number-items.result.now c.loop-k.k 0 (c.deref-number-items.ensures.value ∙ sym c.deref-8.ensures.value ∙ is.numbers_are) c.loop-k-test.true in
     record {
       code = is;
@@ -144,12 +144,14 @@ returns c =
     let inputs = c.args.objects.now in
     let l = c.args.section.now in
     let is = c.loop-k.invariant.code in
-    let here = code_here inputs l.object l.index l.section c.requires.faultless is.found is.code in
+    let here = code_here inputs l.object l.index l.section c.requires.after.faultless is.found is.code in
     let numbers = sym c.deref-8.ensures.value ∙ is.numbers_are in
     let end : c.loop-k.k ≡ length l.section.bytes / 2 + 1 =
     omega (arith, ap length numbers, ap length c.deref-number-items.ensures.value, halfword_count (number_on l.section) l.section, c.loop-k-test.false, c.loop-k.auto.k-end) in
-    λ j. record {
-      relocs = c.in_ok-relocs.ensures j;
-      numbers = (numbers ∙ sym (ap (λ b. cond b (by_halfword (number_on l.section) l.section) []) is.code)) j;
-      places = at_last inputs c.requires.faultless l here c.loop-k.k c.loop-k.places.items c.loop-k.address end c.loop-k.invariant.so_far j;
+    record {
+      text_is = λ j. record {
+        numbers = (numbers ∙ sym (ap (λ b. cond b (by_halfword (number_on l.section) l.section) []) is.code)) j;
+        places = at_last inputs c.requires.after.faultless l here c.loop-k.k c.loop-k.places.items c.loop-k.address end c.loop-k.invariant.so_far j;
+      };
+      relocs_are = c.in_ok-relocs.ensures ∙ sym (ap (λ b. cond b (resolved_relocs (parsed inputs) l) []) is.code);
     }

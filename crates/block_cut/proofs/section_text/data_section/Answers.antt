@@ -1,15 +1,16 @@
 use Rattle.std.proofs.Common.{[], cond, map, sym, ap, ◌∙◌}
-use Rattle.psabi_sym.specs.Inputs.{parsed}
-use Rattle.block_cut.specs.Places.{code_place, targets_in}
+use Rattle.block_cut.specs.Items.{targets_in}
+use Rattle.block_cut.specs.Places.{code_place}
+use Rattle.block_cut.specs.Resolved.{resolved_relocs}
 use Rattle.block_cut.specs.SectionText.{by_halfword, number_on, section_tables}
 use Rattle.block_cut.proofs.section_text.data_section.Goals as goal
 
 pub returns : goal.returns
 unfolding section_tables
-returns c =
-    let l = c.args.section.now in
-    λ j. record {
-      relocs = c.in_ok-resolve_relocs.ensures j;
-      numbers = (c.new.ensures.items ∙ sym (ap (λ b. cond b (by_halfword (number_on l.section) l.section) []) c.requires.data)) j;
-      places = (c.new-2.ensures.items ∙ sym (ap (λ b. cond b (map (code_place (parsed c.args.objects.now) l) (targets_in l.section)) []) c.requires.data)) j;
-    }
+returns c = λ inputs l other. record {
+  text_is = λ j. record {
+    numbers = (c.new.ensures.items ∙ sym (ap (λ b. cond b (by_halfword (number_on l.section) l.section) []) other)) j;
+    places = (c.new-2.ensures.items ∙ sym (ap (λ b. cond b (map (code_place inputs l) (targets_in l.section)) []) other)) j;
+  };
+  relocs_are = c.new-3.ensures.items ∙ sym (ap (λ b. cond b (resolved_relocs inputs l) []) other);
+}

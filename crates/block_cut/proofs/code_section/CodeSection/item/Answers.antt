@@ -17,7 +17,7 @@ use Rattle.block_cut.specs.declared.resolved_reloc.ResolvedReloc.{ResolvedReloc}
 use Rattle.block_cut.proofs.StartLaws.{start_is}
 use Rattle.block_cut.proofs.TableLaws.{item_with, item_without}
 use Rattle.block_cut.proofs.TextLaws.{reloc_found}
-use Rattle.block_cut.proofs.UnitLaws.{unit_even}
+use Rattle.block_cut.proofs.CodeSizeLaws.{step_even}
 use Rattle.block_cut.proofs.WholeLaws.{inputs_whole}
 use Rattle.block_cut.proofs.WordLaws.{code_here}
 use Rattle.block_cut.proofs.code_section.CodeSection.item.Goals as goal
@@ -28,7 +28,7 @@ found : (inputs : Inputs) (l : ListedSection) (section : CodeSection) (n : ℕ) 
 found inputs l section n reloc none is start got =
     let s = l.section in
     let own = start_is s is.code (inputs_whole inputs l.object l.index s none is.found is.code) n start in
-    reloc_found inputs l section n reloc is (unit_even s.compressed n own.words) (omega (arith, own.inside)) got
+    reloc_found inputs l section n reloc is (step_even s.compressed n own.words) (omega (arith, own.inside)) got
 
 pub returns-in-Some : goal.returns-in-Some
 returns-in-Some c = λ inputs l none is got start.

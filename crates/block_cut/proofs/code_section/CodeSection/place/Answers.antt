@@ -11,7 +11,7 @@ use Rattle.block_cut.specs.declared.resolved_reloc.ResolvedReloc.{ResolvedReloc}
 use Rattle.block_cut.proofs.StartLaws.{start_is}
 use Rattle.block_cut.proofs.TableLaws.{sized_on}
 use Rattle.block_cut.proofs.TextLaws.{reloc_found}
-use Rattle.block_cut.proofs.UnitLaws.{unit_even}
+use Rattle.block_cut.proofs.CodeSizeLaws.{step_even}
 use Rattle.block_cut.proofs.WholeLaws.{inputs_whole}
 use Rattle.block_cut.proofs.WordLaws.{end_other}
 use Rattle.block_cut.proofs.code_section.CodeSection.place.Goals.{then-is_end, else-is_end}
@@ -24,10 +24,10 @@ start_there false b is other = absurd (cc (is, other))
 
 -- it lies inside, or at the end
 inside : (s : SectionParts) → is_code_section s ≡ true → IsWhole s → (n : ℕ) (b : Bool) → starts_on s n ≡ b → (b || eqb n (length s.bytes)) ≡ true → (n ≤ length s.bytes) × (n % 2 ≡ 0)
-inside s code whole n true start is = let own = start_is s code whole n start in (omega (arith, own.inside), unit_even s.compressed n own.words)
+inside s code whole n true start is = let own = start_is s code whole n start in (omega (arith, own.inside), step_even s.compressed n own.words)
 inside s code whole n false other is =
     let ends = eqb-true n (length s.bytes) is in
-    (omega (arith, ends), ap (λ m. m % 2) ends ∙ unit_even s.compressed (length s.bytes) whole.words)
+    (omega (arith, ends), ap (λ m. m % 2) ends ∙ step_even s.compressed (length s.bytes) whole.words)
 
 pub returns : goal.returns
 returns c = λ inputs l none is target.

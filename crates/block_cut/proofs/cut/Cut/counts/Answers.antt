@@ -11,13 +11,13 @@ unfolding plain_end
 overflow_sub-result c =
     let inputs = c.self.inside.objects in
     let is = c.self.invariant in
-    omega (arith, (end_bounds inputs (faultless inputs is.faultless).gathered is.is_map).low, is.text_is.extent.end_is, ap (λ m. m.text) c.map.ensures.value)
+    omega (arith, (end_bounds inputs (faultless inputs is.faultless).gathered is.is_map).low, is.tables_are.span.end_is, ap (λ m. m.text) c.map.ensures.value)
 
 pub returns : goal.returns
 unfolding plain_end
 returns c =
     let inputs = c.self.inside.objects in
-    let is = c.self.invariant.text_is.extent in
+    let is = c.self.invariant.tables_are.span in
     let text = ap (λ m. m.text) c.map.ensures.value in
     let own : Counts = plain_counts (parsed inputs) in
     (λ j. record {

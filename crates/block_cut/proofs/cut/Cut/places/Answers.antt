@@ -13,11 +13,11 @@ places-requires c =
       arith,
       c.requires,
       ap (λ (v : Inputs). length (all_sections (parsed v).objects)) c.self.view_is,
-      ap length c.self.invariant.text_is.sections,
+      ap length c.self.invariant.tables_are.sections,
       length-map (all_sections (parsed inputs).objects) (section_tables (parsed inputs)),
     )
 
 pub returns : goal.returns
 returns c = λ l at.
-    c.places.ensures c.self.inside.objects l c.self.invariant.text_is (ap (λ (v : Inputs). slice_get (all_sections (parsed v).objects) c.args.section) c.self.view_is ∙ at)
+    c.places.ensures c.self.inside.objects l c.self.invariant.tables_are (ap (λ (v : Inputs). slice_get (all_sections (parsed v).objects) c.args.section) c.self.view_is ∙ at)
     ∙ ap (λ (v : Inputs). code_places (parsed v) l) c.self.view_is

@@ -1,7 +1,12 @@
 -- A step goes by the exit's status, and then by what stands at the place.
-use Rattle.std.proofs.Common.{◌≡◌, None, Some, ap, sym, ◌∙◌, refl, inr, subst}
+use Rattle.std.proofs.Common.{◌≡◌, ◌+◌, None, Some, ap, sym, ◌∙◌, refl, inr, subst, arith}
 use Rattle.psabi_sym.specs.Inputs.{parsed}
 use Rattle.rv_decode.specs.Memory.{extents_of}
+use Rattle.zc_base.specs.declared.place.Place.{Place}
+use Rattle.block_cut.specs.Items.{item_at}
+use Rattle.block_cut.proofs.FaultLaws.{faultless}
+use Rattle.block_cut.proofs.SizeLaws.{item_sized}
+use Rattle.block_cut.proofs.WordLaws.{no_item}
 use Rattle.sym_machine.specs.Answer.{Makes, StepAnswers}
 use Rattle.sym_machine.specs.Change.{item_does, place_does}
 use Rattle.sym_machine.specs.Kept.{Working}
@@ -12,7 +17,7 @@ use Rattle.sym_machine.specs.Step.{PlainStep, made, plain_step}
 use Rattle.sym_machine.proofs.StateLaws.{step_of}
 use Rattle.sym_machine.proofs.StepLaws.{step_past_exit}
 use Rattle.sym_machine.proofs.state.State.step.Goals as goal
-use Rattle.sym_machine.proofs.state.State.step.Goals.{After-item}
+use Rattle.sym_machine.proofs.state.State.step.Goals.{After-at}
 
 pub returns-in-Some : goal.returns-in-Some
 returns-in-Some c =
@@ -20,7 +25,7 @@ returns-in-Some c =
     inr (exited, refl, step_past_exit (program_of (parsed c.args.cut.now)) c.args.self.now.core c.in-Some.status exited)
 
 -- a step of the definition, by what stands at the place
-step_here : (c : After-item) → plain_step (program_of (parsed c.args.cut.now)) c.args.self.now.core
+step_here : (c : After-at) → plain_step (program_of (parsed c.args.cut.now)) c.args.self.now.core
     ≡ (let p = program_of (parsed c.args.cut.now) in
     made c.args.self.now.map c.args.self.now.core (place_does p (p.item c.self.inside.place) c.args.self.now.core (p.next c.self.inside.place)))
 step_here c =
@@ -33,23 +38,42 @@ step_here c =
     let place : s.place ≡ i.place = ap (λ (w : Working). w.core.place) (sym c.self.view_is) in
     step_of i.memory c.self.invariant.0.kept p of s running ∙ (λ j. made (map j) s (place_does p (p.item (place j)) s (p.next (place j))))
 
+pub returns-in_default-at : goal.returns-in_default-at
+unfolding program_of
+returns-in_default-at c =
+    let p : Program = program_of (parsed c.args.cut.now) in
+    let s : PlainCore = c.args.self.now.core in
+    let none : p.item c.self.inside.place ≡ None = no_item (parsed c.args.cut.now) c.self.inside.place c.in_default-at.ensures in
+    let is = step_here (goal.at.returns-in_default-at c).After-at ∙ ap (λ o. made c.args.self.now.map s (place_does p o s (p.next c.self.inside.place))) none in
+    subst (λ (st : PlainStep). StepAnswers st c.stuck.result s s) (sym is) c.stuck.ensures
+
 pub returns-in_default-item : goal.returns-in_default-item
 unfolding program_of
 returns-in_default-item c =
     let p : Program = program_of (parsed c.args.cut.now) in
     let s : PlainCore = c.args.self.now.core in
-    let none : p.item c.self.inside.place ≡ None = sym c.item.ensures.item ∙ c.in_default-item.is in
-    let is = step_here (goal.at.returns-in_default-item c).After-item ∙ ap (λ o. made c.args.self.now.map s (place_does p o s (p.next c.self.inside.place))) none in
-    subst (λ (st : PlainStep). StepAnswers st c.stuck.result s s) (sym is) c.stuck.ensures
+    let none : p.item c.self.inside.place ≡ None = sym (ap (λ w. w.item) c.in-Some-at.ensures.1) ∙ c.in_default-item.is in
+    let is = step_here (goal.at.returns-in_default-item c).After-at ∙ ap (λ o. made c.args.self.now.map s (place_does p o s (p.next c.self.inside.place))) none in
+    subst (λ (st : PlainStep). StepAnswers st c.stuck-in_default-item.result s s) (sym is) c.stuck-in_default-item.ensures
+
+pub overflow_add-next : goal.overflow_add-next
+overflow_add-next c =
+    let inputs = c.args.cut.now in
+    let q = c.self.inside.place in
+    let none = (faultless inputs c.objects-objects.ensures.faultless).gathered in
+    let here : item_at (parsed inputs) q ≡ Some c.in-Some-item.item = sym (ap (λ w. w.item) c.in-Some-at.ensures.1) ∙ c.in-Some-item.is in
+    omega (arith, (item_sized inputs none q c.in-Some-item.item here).inside, c.from.ensures, ap (λ w. w.size) c.in-Some-at.ensures.1)
 
 pub returns-then-quick_item : goal.returns-then-quick_item
 unfolding program_of
 returns-then-quick_item c =
     let p : Program = program_of (parsed c.args.cut.now) in
     let s : PlainCore = c.args.self.now.core in
-    let here : p.item c.self.inside.place ≡ Some c.in-Some-item.item = sym c.item.ensures.item ∙ c.in-Some-item.is in
-    let next : p.next c.self.inside.place ≡ c.next_after-next.result = sym c.next_after-next.ensures in
-    let is = step_here (goal.at.returns-then-quick_item c).After-item ∙ (λ j. made c.args.self.now.map s (place_does p (here j) s (next j))) in
+    let q = c.self.inside.place in
+    let here : p.item q ≡ Some c.in-Some-item.item = sym (ap (λ w. w.item) c.in-Some-at.ensures.1) ∙ c.in-Some-item.is in
+    let next : p.next q ≡ record { object = q.object; section = q.section; offset = q.offset + c.from.result } =
+    λ j. record { object = q.object; section = q.section; offset = q.offset + sym (c.from.ensures ∙ ap (λ w. w.size) c.in-Some-at.ensures.1) j } in
+    let is = step_here (goal.at.returns-then-quick_item c).After-at ∙ (λ j. made c.args.self.now.map s (place_does p (here j) s (next j))) in
     let does = c.if-quick_item.ensures.made p in
     (does.0, does.1, is ∙ does.2)
 
@@ -58,9 +82,12 @@ unfolding program_of
 returns c =
     let p : Program = program_of (parsed c.args.cut.now) in
     let s : PlainCore = c.args.self.now.core in
+    let q = c.self.inside.place in
     let item = c.in-Some-item.item in
-    let here : p.item c.self.inside.place ≡ Some item = sym c.item.ensures.item ∙ c.in-Some-item.is in
-    let next : p.next c.self.inside.place ≡ c.next_after-next.result = sym c.next_after-next.ensures in
-    let is = step_here (goal.at.returns c).After-item ∙ (λ j. made c.args.self.now.map s (place_does p (here j) s (next j))) in
+    let to : Place = record { object = q.object; section = q.section; offset = q.offset + c.from.result } in
+    let here : p.item q ≡ Some item = sym (ap (λ w. w.item) c.in-Some-at.ensures.1) ∙ c.in-Some-item.is in
+    let next : p.next q ≡ to =
+    λ j. record { object = q.object; section = q.section; offset = q.offset + sym (c.from.ensures ∙ ap (λ w. w.size) c.in-Some-at.ensures.1) j } in
+    let is = step_here (goal.at.returns c).After-at ∙ (λ j. made c.args.self.now.map s (place_does p (here j) s (next j))) in
     subst (λ (st : PlainStep). Makes c.step_item.result st s c.step_item.new.self.core) (sym is)
-    (subst (λ (w : Working). Makes c.step_item.result (made w.map w.core (item_does p item w.core c.next_after-next.result)) w.core c.step_item.new.self.core) c.if-quick_item.ensures.same c.step_item.ensures)
+    (subst (λ (w : Working). Makes c.step_item.result (made w.map w.core (item_does p item w.core to)) w.core c.step_item.new.self.core) c.if-quick_item.ensures.same c.step_item.ensures)

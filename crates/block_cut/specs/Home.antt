@@ -1,0 +1,14 @@
+-- A section whose items are walked over.
+use Rattle.std.specs.Prelude.{◌≡◌, Some, None}
+use Rattle.psabi_sym.specs.Faults.{gather_fault}
+use Rattle.psabi_sym.specs.Inputs.{parsed}
+use Rattle.psabi_sym.specs.Listed.{section_at}
+use Rattle.block_cut.specs.Items.{place_of}
+use Rattle.block_cut.specs.Led.{section_number}
+use Rattle.block_cut.specs.declared.item_leads.Home.{Home}
+
+-- it is one of objects without a fault between them, with its number among all
+pub record IsHome (home : Home) : Type 0 where
+  pub gathered : gather_fault home.objects.now ≡ None
+  pub found : section_at (parsed home.objects.now).objects home.section.now.object home.section.now.index ≡ Some home.section.now.section
+  pub number_is : section_number (parsed home.objects.now).objects (place_of home.section.now 0) ≡ Some home.number
