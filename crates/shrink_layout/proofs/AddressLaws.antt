@@ -7,7 +7,7 @@ use Rattle.std.proofs.lemmas.List.{get_or_default}
 use Rattle.std.proofs.lemmas.List.Elements.{All-nil, All-cons, All-tail}
 use Rattle.std.proofs.lemmas.List.Sums.{sum_by-cons}
 use Rattle.shrink_layout.specs.declared.piece.Piece.{Piece}
-use Rattle.shrink_layout.specs.Forms.{IsForm, HasAlignment, IsEven, holds, longest, target, width}
+use Rattle.shrink_layout.specs.Forms.{IsForm, HasAlignment, IsEven, holds, longest, near_limit, target, width}
 use Rattle.shrink_layout.specs.Layout.{addresses_of, holds_at, fit_from, all_fit, IsLayout}
 use Rattle.shrink_layout.specs.Least.{AreForms}
 use Rattle.shrink_layout.proofs.FormLaws.{even_after, width_most}
@@ -88,10 +88,6 @@ address_most at (p ∷ pieces) (size ∷ sizes) some h =
 pub last_address : (at : ℕ) (pieces : List Piece) (sizes : List ℕ) → All HasAlignment pieces → AreForms pieces sizes → slice_index (addresses_of at pieces sizes) (length pieces) ≤ at + sum_by longest pieces
 last_address at pieces sizes some h = address_most at pieces sizes some h (length pieces) 0 (omega (arith, length_addresses at pieces sizes h))
 
--- so they are small if there is room
-pub small_addresses : (at limit : ℕ) (pieces : List Piece) (sizes : List ℕ) → All HasAlignment pieces → AreForms pieces sizes → at + sum_by longest pieces < limit → All (λ a. a < limit) (addresses_of at pieces sizes)
-small_addresses at limit pieces sizes some h room = λ k d lt. omega (arith, address_most at pieces sizes some h k d lt)
-
 -- nor is one before the first
 pub address_least : (at : ℕ) (pieces : List Piece) (sizes : List ℕ) → AreForms pieces sizes → All (λ a. at ≤ a) (addresses_of at pieces sizes)
 address_least at pieces sizes h = λ k d lt.
@@ -103,14 +99,14 @@ address_least at pieces sizes h = λ k d lt.
     )
 
 -- so any two are near
-pub near_addresses : (at : ℕ) (pieces : List Piece) (sizes : List ℕ) → All HasAlignment pieces → AreForms pieces sizes → sum_by longest pieces < 0x8000_0000
-    → All (λ a. All (λ b. a < b + 0x8000_0000) (addresses_of at pieces sizes)) (addresses_of at pieces sizes)
+pub near_addresses : (at : ℕ) (pieces : List Piece) (sizes : List ℕ) → All HasAlignment pieces → AreForms pieces sizes → sum_by longest pieces < near_limit
+    → All (λ a. All (λ b. a < b + near_limit) (addresses_of at pieces sizes)) (addresses_of at pieces sizes)
 near_addresses at pieces sizes some h near = λ k d lt j e within. omega (arith, near, address_most at pieces sizes some h k d lt, address_least at pieces sizes h j e within)
 
 -- ---- what fits
 
 -- if pieces that are counted from n on fit, the form of each reaches its target
-fit_at : (a : List ℕ) (n : ℕ) (pieces : List Piece) (sizes : List ℕ) (k : ℕ) (d : Piece) → k < length pieces → AreForms pieces sizes → fit_from a n pieces sizes ≡ true → holds_at a (n + k) (get_or pieces k d) (slice_index sizes k) ≡ true
+pub fit_at : (a : List ℕ) (n : ℕ) (pieces : List Piece) (sizes : List ℕ) (k : ℕ) (d : Piece) → k < length pieces → AreForms pieces sizes → fit_from a n pieces sizes ≡ true → holds_at a (n + k) (get_or pieces k d) (slice_index sizes k) ≡ true
 fit_at a n [] sizes k d lt h fits = absurd (omega arith)
 fit_at a n (p ∷ pieces) [] k d lt h fits = absurd h
 fit_at a n (p ∷ pieces) (size ∷ sizes) zero d lt h fits =

@@ -8,7 +8,7 @@ use Rattle.std.proofs.lemmas.Nat.Gcd.{dvd_of_mod-eq-zero, dvd_trans, mod-eq-zero
 use Rattle.psabi_reloc.specs.Reaches.{branch_reach, short_branch_reach, short_jump_reach}
 use Rattle.shrink_layout.specs.declared.piece.Piece.{Piece}
 use Rattle.shrink_layout.specs.declared.piece.Piece.TheVariants.{Fixed, Align, Branch, Jump}
-use Rattle.shrink_layout.specs.Blocks.{AreTested, IsKept, IsMovedBy, IsSameStep, IsStep, IsStill, OthersFit, piece_at}
+use Rattle.shrink_layout.specs.Blocks.{AreTested, IsKept, IsMovedBy, IsSameStep, IsStep, IsStill, OthersFit, block_size, nth_piece}
 use Rattle.shrink_layout.specs.Forms.{HasAlignment, distance, holds, longest, target, width}
 use Rattle.shrink_layout.specs.Layout.{addresses_of, holds_at}
 use Rattle.shrink_layout.specs.Least.{AreForms}
@@ -35,7 +35,7 @@ rises pieces sizes a i (suc d) some h within steps =
     let at = ap (slice_index a) e in
     let left = ap (λ m. sum_by longest (drop m pieces)) e in
     let lt : n < length pieces = omega arith in
-    let p = piece_at pieces n in
+    let p = nth_piece pieces n in
     let most : width p (slice_index sizes n) (slice_index a n) ≤ longest p = width_most p (slice_index sizes n) (slice_index a n) (some n (Fixed 0) lt) (form_at pieces sizes n (Fixed 0) lt h) in
     let step = steps n (omega arith) (omega arith) in
     let room = room_step pieces n (Fixed 0) lt in
@@ -142,8 +142,8 @@ still_between changes count low high b ascend within ge le still =
     omega (arith, still, before, after, ascend b (omega arith))
 
 -- if nothing changed between a piece and its target, the way is the same
-way_to : (old new : List ℕ) (low high k t n : ℕ) → ((m : ℕ) → m < n → low ≤ m / 64 → m / 64 ≤ high → IsSameStep old new m) → k < n → t ≤ n
-    → low ≤ k / 64 → k / 64 ≤ high → low ≤ t / 64 → t / 64 ≤ high
+way_to : (old new : List ℕ) (low high k t n : ℕ) → ((m : ℕ) → m < n → low ≤ m / block_size → m / block_size ≤ high → IsSameStep old new m) → k < n → t ≤ n
+    → low ≤ k / block_size → k / block_size ≤ high → low ≤ t / block_size → t / block_size ≤ high
     → slice_index new t + slice_index old k ≡ slice_index old t + slice_index new k
 way_to old new low high k t n same in_k in_t low_k high_k low_t high_t = elim (cases_lt t k) [
   | inl back ↦ omega (arith, way_between old new t k (omega arith) (λ m ge lt. same m (omega arith) (omega arith) (omega arith)))
@@ -152,16 +152,16 @@ way_to old new low high k t n same in_k in_t low_k high_k low_t high_t = elim (c
 
 -- so where nothing changed near a block, each of its pieces fits as before
 pub others_fit : (pieces : List Piece) (sizes old new : List ℕ) (grown : List Bool) (lows highs changes : List ℕ)
-    → All (λ p. target p ≤ length pieces) pieces → length grown ≡ length pieces / 64 + 1 → length highs ≡ length grown → All (λ b. b < length grown) highs
+    → All (λ p. target p ≤ length pieces) pieces → length grown ≡ length pieces / block_size + 1 → length highs ≡ length grown → All (λ b. b < length grown) highs
     → AreTested old pieces sizes grown lows highs
     → ((b : ℕ) → b < length grown → slice_index changes b ≤ slice_index changes (b + 1))
     → ((b : ℕ) → b < length grown → slice_index changes b ≡ slice_index changes (b + 1) → IsKept grown b)
-    → ((k : ℕ) → k < length pieces → slice_index changes (k / 64) ≡ slice_index changes (k / 64 + 1) → IsSameStep old new k)
+    → ((k : ℕ) → k < length pieces → slice_index changes (k / block_size) ≡ slice_index changes (k / block_size + 1) → IsSameStep old new k)
     → OthersFit new pieces sizes changes lows highs
 others_fit pieces sizes old new grown lows highs changes targets blocks high_blocks high tested ascend kept moved k lt still =
     let n : ℕ = length pieces in
-    let b : ℕ = k / 64 in
-    let p = piece_at pieces k in
+    let b : ℕ = k / block_size in
+    let p = nth_piece pieces k in
     let size = slice_index sizes k in
     let t : ℕ = target p in
     let low_b : ℕ = slice_index lows b in
@@ -174,21 +174,17 @@ others_fit pieces sizes old new grown lows highs changes targets blocks high_blo
     let holds_now : holds_at new k p size ≡ true = elim near.2 [
       | inl all ↦ all (slice_index new k) (slice_index new t)
       | inr spanned ↦
-          let way = way_to old new low_b high_b k t n (λ m in_m ge le. moved m in_m (same_count (m / 64) ge le)) lt (targets k (Fixed 0) lt) near.0 near.1 spanned.0 spanned.1 in
+          let way = way_to old new low_b high_b k t n (λ m in_m ge le. moved m in_m (same_count (m / block_size) ge le)) lt (targets k (Fixed 0) lt) near.0 near.1 spanned.0 spanned.1 in
           still_holds p size (slice_index old k) (slice_index old t) (slice_index new k) (slice_index new t) way held
     ] in
     (holds_now, near)
 
--- at first something changed near each block
-pub none_still : (changes lows highs : List ℕ) (b : ℕ) → slice_index lows b ≡ 0 → slice_index highs b ≡ 0 → (slice_index changes 0 ≡ slice_index changes 1 → ⊥) → IsStill changes (slice_index lows b) (slice_index highs b) → ⊥
-none_still changes lows highs b low high differ still = differ (ap (slice_index changes) (sym low) ∙ still ∙ ap (λ h. slice_index changes (h + 1)) high)
-
 -- where sizes were kept, addresses still follow one another
 pub kept_steps : (text : ℕ) (pieces : List Piece) (old new a : List ℕ) (grown : List Bool) → a ≡ addresses_of text pieces old → AreForms pieces old
-    → ((k : ℕ) → k < length pieces → IsKept grown (k / 64) → slice_index new k ≡ slice_index old k)
-    → (k : ℕ) → k < length pieces → IsKept grown (k / 64) → IsStep pieces new a k
+    → ((k : ℕ) → k < length pieces → IsKept grown (k / block_size) → slice_index new k ≡ slice_index old k)
+    → (k : ℕ) → k < length pieces → IsKept grown (k / block_size) → IsStep pieces new a k
 kept_steps text pieces old new a grown is h same k lt kept =
     let all = addresses_of text pieces old in
-    let p = piece_at pieces k in
+    let p = nth_piece pieces k in
     subst (λ x. IsStep pieces new x k) (sym is)
     (next_address text pieces old k (Fixed 0) lt h ∙ ap (λ s. slice_index all k + width p s (slice_index all k)) (sym (same k lt kept)))

@@ -1,5 +1,5 @@
 -- Forms of one piece: the next longer one is the least above it, and what is even leaves addresses even.
-use Rattle.std.proofs.Common.{◌≡◌, ℕ, ◌+◌, ◌-◌, ◌%◌, ◌<◌, ◌≤◌, ◌⊎◌, Bool, true, false, cond, eqb, refl, ◌∙◌, arith, inl, inr}
+use Rattle.std.proofs.Common.{◌≡◌, ℕ, ◌+◌, ◌-◌, ◌%◌, ◌<◌, ◌≤◌, ◌⊎◌, Bool, true, false, cond, eqb, ◌==◌, if◌then◌else◌, refl, ◌∙◌, arith, inl, inr}
 use Rattle.std.proofs.Math.Nat.{mod-mod_of_dvd}
 use Rattle.std.proofs.lemmas.Nat.Gcd.{dvd_of_mod-eq-zero}
 use Rattle.std.proofs.lemmas.Bool.{true≢false}
@@ -11,12 +11,19 @@ use Rattle.shrink_layout.specs.Least.{IsTight}
 
 -- ---- the forms from the shortest on
 
--- how much a piece can still grow
+-- how many more times a piece can grow
 abbrev pub slack : Piece → ℕ → ℕ
 slack (Fixed n) size = 0
 slack (Align alignment) size = 0
-slack (Branch to short) size = 8 - size
-slack (Jump to) size = 4 - size
+slack (Branch to short) size = if size == 2 then 2 else (if size == 4 then 1 else 0)
+slack (Jump to) size = if size == 2 then 1 else 0
+
+-- no more than twice
+pub slack_most : (p : Piece) (size : ℕ) → slack p size ≤ 2
+slack_most (Fixed n) size = omega arith
+slack_most (Align alignment) size = omega arith
+slack_most (Branch to short) size = grind (arith, nat_tests)
+slack_most (Jump to) size = grind (arith, nat_tests)
 
 -- the shortest form is one
 pub shortest_form : (p : Piece) → IsForm p (shortest p)

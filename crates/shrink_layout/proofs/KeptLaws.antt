@@ -1,82 +1,85 @@
--- A settled layout as it is kept: how many addresses there are, that they rise, and its long branches one by one.
-use Rattle.std.proofs.Common.{◌≡◌, ℕ, ◌+◌, ◌-◌, ◌<◌, ◌≤◌, List, Option, Some, None, true, false, is_some, drop, get_or, length, slice_index, cond, eqb, refl, sym, ap, ◌∙◌, arith}
-use Rattle.std.specs.Option.{option_map}
-use Rattle.std.proofs.lemmas.List.{drop_more, get_or_default}
+-- The layout as it is kept: its sizes, how many addresses there are, that they rise, and what is counted.
+use Rattle.std.proofs.Common.{◌≡◌, ℕ, ◌+◌, ◌-◌, ◌*◌, ◌<◌, ◌≤◌, List, Option, Some, None, true, false, is_some, get_or, length, slice_index, refl, ap, ◌∙◌, arith}
+use Rattle.std.proofs.lemmas.List.{get_or_default}
 use Rattle.zc_base.specs.declared.place.Place.{Place}
 use Rattle.psabi_sym.specs.Faults.{gather_fault}
 use Rattle.psabi_sym.specs.Inputs.{Inputs, ParsedInputs, parsed}
 use Rattle.block_cut.specs.Items.{item_at}
 use Rattle.block_cut.specs.declared.item.Item.{Item}
-use Rattle.shrink_layout.specs.Layout.{addresses_of}
+use Rattle.shrink_layout.specs.Counted.{is_long_piece, is_short_piece, pieces_with}
+use Rattle.shrink_layout.specs.Layout.{addresses_of, sizes_of}
 use Rattle.shrink_layout.specs.Least.{AreForms}
-use Rattle.shrink_layout.specs.Numbers.{IsPlaceNumber}
 use Rattle.shrink_layout.specs.Pieces.{number_of, pieces_of}
-use Rattle.shrink_layout.specs.Settled.{AreSettled, is_branch, long_branches, settled_address, settled_addresses, settled_end, settled_size}
-use Rattle.shrink_layout.specs.declared.piece.Piece.{Piece}
-use Rattle.shrink_layout.proofs.AddressLaws.{ascending, first_address, layout_forms, length_addresses}
+use Rattle.shrink_layout.specs.Settled.{is_long, is_sized, settled_addresses, settled_end, settled_size, settled_sizes, units_with}
+use Rattle.shrink_layout.proofs.AddressLaws.{ascending, first_address, length_addresses}
+use Rattle.shrink_layout.proofs.CountLaws.{long_item, units_counted, short_item}
 use Rattle.shrink_layout.proofs.NumberLaws.{number_below}
-use Rattle.shrink_layout.proofs.PlaceAddressLaws.{address_nowhere, address_there, size_nowhere, size_there}
+use Rattle.shrink_layout.proofs.PlaceAddressLaws.{size_nowhere, size_there}
+use Rattle.shrink_layout.proofs.RoundLaws.{length_forms, round_forms}
 
-module _ (inputs : ParsedInputs) (sizes : List ℕ) (settled : AreSettled inputs sizes) where
+module _ (inputs : ParsedInputs) where
   -- each size is a form
-  pub settled_forms : AreForms (pieces_of inputs) sizes
-  settled_forms = layout_forms inputs.map.text (pieces_of inputs) sizes settled
+  pub settled_forms : AreForms (pieces_of inputs) (settled_sizes inputs)
+  unfolding settled_sizes sizes_of
+  settled_forms = round_forms inputs.map.text (pieces_of inputs) (2 * length (pieces_of inputs))
+
+  -- there is one for each piece
+  pub sizes_long : length (settled_sizes inputs) ≡ length (pieces_of inputs)
+  sizes_long = length_forms (pieces_of inputs) (settled_sizes inputs) settled_forms
 
   -- there is an address for each piece, and for the end
-  pub addresses_long : length (settled_addresses inputs sizes) ≡ length (pieces_of inputs) + 1
+  pub addresses_long : length (settled_addresses inputs) ≡ length (pieces_of inputs) + 1
   unfolding settled_addresses
-  addresses_long = length_addresses inputs.map.text (pieces_of inputs) sizes settled_forms
+  addresses_long = length_addresses inputs.map.text (pieces_of inputs) (settled_sizes inputs) settled_forms
 
   -- addresses rise
-  pub addresses_rise : (i j : ℕ) → i ≤ j → j ≤ length (pieces_of inputs) → slice_index (settled_addresses inputs sizes) i ≤ slice_index (settled_addresses inputs sizes) j
+  pub addresses_rise : (i j : ℕ) → i ≤ j → j ≤ length (pieces_of inputs) → slice_index (settled_addresses inputs) i ≤ slice_index (settled_addresses inputs) j
   unfolding settled_addresses
-  addresses_rise i j le most = ascending inputs.map.text (pieces_of inputs) sizes settled_forms i j le most
+  addresses_rise i j le most = ascending inputs.map.text (pieces_of inputs) (settled_sizes inputs) settled_forms i j le most
 
   -- the first is where the text begins
-  pub address_first : slice_index (settled_addresses inputs sizes) 0 ≡ inputs.map.text
+  pub address_first : slice_index (settled_addresses inputs) 0 ≡ inputs.map.text
   unfolding settled_addresses
-  address_first = first_address inputs.map.text (pieces_of inputs) sizes
+  address_first = first_address inputs.map.text (pieces_of inputs) (settled_sizes inputs)
 
   -- so the text doesn't end before it begins
-  pub end_rises : inputs.map.text ≤ settled_end inputs sizes
+  pub end_rises : inputs.map.text ≤ settled_end inputs
   unfolding settled_end
   end_rises = omega (arith, address_first, addresses_rise 0 (length (pieces_of inputs)) (omega arith) (omega arith))
 
   -- those of the pieces are kept
-  pub kept_addresses : addresses_of inputs.map.text (pieces_of inputs) sizes ≡ settled_addresses inputs sizes
-  unfolding settled_addresses
+  pub kept_sizes : sizes_of inputs.map.text (pieces_of inputs) ≡ settled_sizes inputs
+  unfolding settled_sizes
+  kept_sizes = refl
+
+  pub kept_addresses : addresses_of inputs.map.text (pieces_of inputs) (sizes_of inputs.map.text (pieces_of inputs)) ≡ settled_addresses inputs
+  unfolding settled_addresses settled_sizes
   kept_addresses = refl
 
-  module _ (addresses : List ℕ) (are : addresses ≡ settled_addresses inputs sizes) where
+  module _ (addresses : List ℕ) (are : addresses ≡ settled_addresses inputs) where
     pub kept_long : length addresses ≡ length (pieces_of inputs) + 1
     kept_long = ap length are ∙ addresses_long
 
     -- one of them, however it is read
-    pub kept_address : (k d : ℕ) → k ≤ length (pieces_of inputs) → get_or addresses k d ≡ slice_index (settled_addresses inputs sizes) k
+    pub kept_address : (k d : ℕ) → k ≤ length (pieces_of inputs) → get_or addresses k d ≡ slice_index (settled_addresses inputs) k
     kept_address k d le = get_or_default addresses k d 0 (omega (arith, le, kept_long)) ∙ ap (λ l. slice_index l k) are
 
     -- that of the end is the last
-    pub kept_end : (k d : ℕ) → k ≡ length (pieces_of inputs) → get_or addresses k d ≡ settled_end inputs sizes
+    pub kept_end : (k d : ℕ) → k ≡ length (pieces_of inputs) → get_or addresses k d ≡ settled_end inputs
     unfolding settled_end
-    kept_end k d last = kept_address k d (omega (arith, last)) ∙ ap (slice_index (settled_addresses inputs sizes)) last
+    kept_end k d last = kept_address k d (omega (arith, last)) ∙ ap (slice_index (settled_addresses inputs)) last
 
 -- ---- by what is found
 
--- a place has an address if it has a number, which is the address's index
-pub address_by_number : (inputs : ParsedInputs) (sizes : List ℕ) (q : Place) (number : Option ℕ) → IsPlaceNumber inputs.objects q number
-    → settled_address inputs sizes q ≡ option_map (slice_index (settled_addresses inputs sizes)) number
-address_by_number inputs sizes q None has = address_nowhere inputs sizes q has
-address_by_number inputs sizes q (Some n) has = address_there inputs sizes q has.0 ∙ ap (λ k. Some (slice_index (settled_addresses inputs sizes) k)) (sym has.1)
-
 -- a place has a size if an item starts there
-pub size_by : (inputs : ParsedInputs) (sizes : List ℕ) (q : Place) → (is_some (item_at inputs q) ≡ false → settled_size inputs sizes q ≡ None)
-    × (is_some (item_at inputs q) ≡ true → settled_size inputs sizes q ≡ Some (slice_index (settled_addresses inputs sizes) (number_of inputs.objects q + 1) - slice_index (settled_addresses inputs sizes) (number_of inputs.objects q)))
-size_by inputs sizes q = by (item_at inputs q) refl
+pub size_by : (inputs : ParsedInputs) (q : Place) → (is_some (item_at inputs q) ≡ false → settled_size inputs q ≡ None)
+    × (is_some (item_at inputs q) ≡ true → settled_size inputs q ≡ Some (slice_index (settled_addresses inputs) (number_of inputs.objects q + 1) - slice_index (settled_addresses inputs) (number_of inputs.objects q)))
+size_by inputs q = by (item_at inputs q) refl
   where
-    by : (o : Option Item) → item_at inputs q ≡ o → (is_some o ≡ false → settled_size inputs sizes q ≡ None)
-        × (is_some o ≡ true → settled_size inputs sizes q ≡ Some (slice_index (settled_addresses inputs sizes) (number_of inputs.objects q + 1) - slice_index (settled_addresses inputs sizes) (number_of inputs.objects q)))
-    by None is = (λ out. size_nowhere inputs sizes q is, λ there. absurd cc)
-    by (Some i) is = (λ out. absurd cc, λ there. size_there inputs sizes q i is)
+    by : (o : Option Item) → item_at inputs q ≡ o → (is_some o ≡ false → settled_size inputs q ≡ None)
+        × (is_some o ≡ true → settled_size inputs q ≡ Some (slice_index (settled_addresses inputs) (number_of inputs.objects q + 1) - slice_index (settled_addresses inputs) (number_of inputs.objects q)))
+    by None is = (λ out. size_nowhere inputs q is, λ there. absurd cc)
+    by (Some i) is = (λ out. absurd cc, λ there. size_there inputs q i is)
 
 -- its number is below the number of pieces then
 pub below_by : (inputs : Inputs) → gather_fault inputs ≡ None → (q : Place) → is_some (item_at (parsed inputs) q) ≡ true → number_of (parsed inputs).objects q < length (pieces_of (parsed inputs))
@@ -88,9 +91,11 @@ below_by inputs none q there = by (item_at (parsed inputs) q) refl there
 
 -- ---- counts
 
--- the long branches from one piece on
-pub long_next : (pieces : List Piece) (sizes : List ℕ) (k : ℕ) (d : Piece) (e : ℕ) → length sizes ≡ length pieces → k < length pieces
-    → long_branches (drop k pieces) (drop k sizes) ≡ cond (is_branch (get_or pieces k d)) (cond (eqb (get_or sizes k e) 8) 1 0) 0 + long_branches (drop (k + 1) pieces) (drop (k + 1) sizes)
-long_next pieces sizes k d e same lt =
-    let within : k < length sizes = omega (arith, same, lt) in
-    (λ j. long_branches (drop_more pieces k d lt j) (drop_more sizes k e within j))
+module _ (inputs : Inputs) (none : gather_fault inputs ≡ None) where
+  -- items that take two bytes
+  pub short_counted : pieces_with is_short_piece (pieces_of (parsed inputs)) (settled_sizes (parsed inputs)) ≡ units_with (parsed inputs) (is_sized 2)
+  short_counted = units_counted inputs none is_short_piece (is_sized 2) (λ alignment size. refl) (short_item (parsed inputs).objects)
+
+  -- branches that take eight
+  pub long_counted : pieces_with is_long_piece (pieces_of (parsed inputs)) (settled_sizes (parsed inputs)) ≡ units_with (parsed inputs) is_long
+  long_counted = units_counted inputs none is_long_piece is_long (λ alignment size. refl) (long_item (parsed inputs).objects)

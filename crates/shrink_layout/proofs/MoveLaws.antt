@@ -1,10 +1,10 @@
 -- The loop over blocks that moves addresses on.
-use Rattle.std.proofs.Common.{◌≡◌, ℕ, ◌+◌, ◌-◌, ◌%◌, ◌/◌, ◌<◌, ◌≤◌, Bool, List, All, drop, length, set, get_or-set_same, get_or-set_other, length-set, false, ◌*◌, sym, ap, ◌∙◌, subst, arith, inl, inr}
+use Rattle.std.proofs.Common.{◌≡◌, ℕ, ◌+◌, ◌-◌, ◌%◌, ◌/◌, ◌<◌, ◌≤◌, ◌*◌, ◌^◌, Bool, true, false, List, All, drop, length, min, set, get_or-set_same, get_or-set_other, length-set, refl, sym, ap, ◌∙◌, subst, arith, inl, inr}
 use Rattle.std.specs.Prelude.{slice_index}
 use Rattle.std.specs.List.{sum_by}
 use Rattle.shrink_layout.specs.declared.piece.Piece.{Piece}
-use Rattle.std.proofs.lemmas.Bool.{cases_eq, cases_lt}
-use Rattle.shrink_layout.specs.Blocks.{IsKept, IsMovedBy, IsSameStep, IsStep, piece_at}
+use Rattle.std.proofs.lemmas.Bool.{cases_eq, cases_lt, true≢false}
+use Rattle.shrink_layout.specs.Blocks.{AreMultiples, AreNewIn, AreSteps, IsKept, IsMovedBy, IsSameStep, IsStep, block_count, block_size, nth_piece}
 use Rattle.shrink_layout.specs.Forms.{HasAlignment, longest, width}
 use Rattle.shrink_layout.specs.Least.{AreForms}
 use Rattle.shrink_layout.proofs.BlockLaws.{alike_on, rises, same_width}
@@ -22,7 +22,7 @@ pub record IsMovedOn (pieces : List Piece) (sizes old addresses : List ℕ) (gro
   pub few : count ≤ block
   pub ascend : (b : ℕ) → b < block → slice_index changes b ≤ slice_index changes (b + 1)
   pub kept : (b : ℕ) → b < block → slice_index changes b ≡ slice_index changes (b + 1) → IsKept grown b
-  pub moved : (k : ℕ) → k < n → slice_index changes (k / 64) ≡ slice_index changes (k / 64 + 1) → IsSameStep old addresses k
+  pub moved : (k : ℕ) → k < n → slice_index changes (k / block_size) ≡ slice_index changes (k / block_size + 1) → IsSameStep old addresses k
 
 -- ---- one block
 
@@ -70,7 +70,7 @@ shift_same old new first end here in_old same moved k ge lt =
 -- and each is one
 pub shift_steps : (pieces : List Piece) (sizes old new : List ℕ) (first end here n : ℕ) → All HasAlignment pieces → AreForms pieces sizes → length old ≡ length pieces + 1 → end ≤ length pieces
     → ((k : ℕ) → first ≤ k → k < end → IsStep pieces sizes (set old first here) k)
-    → ((k : ℕ) → first ≤ k → k < end → IsMovedBy n (piece_at pieces k)) → here % n ≡ slice_index old first % n
+    → ((k : ℕ) → first ≤ k → k < end → IsMovedBy n (nth_piece pieces k)) → here % n ≡ slice_index old first % n
     → slice_index new first ≡ slice_index old first
     → ((k : ℕ) → first < k → k ≤ end → slice_index new k + here ≡ slice_index old k + slice_index old first)
     → (k : ℕ) → first ≤ k → k < end → IsStep pieces sizes new k
@@ -78,7 +78,7 @@ shift_steps pieces sizes old new first end here n some h long within steps movab
     let in_old : first < length old = omega (arith, long) in
     let before = set old first here in
     let at = slice_index old first in
-    let p = piece_at pieces k in
+    let p = nth_piece pieces k in
     let size = slice_index sizes k in
     let now = moved_alike old new first end here in_old same moved k ge (omega arith) in
     let next = moved_alike old new first end here in_old same moved (k + 1) (omega arith) (omega arith) in
@@ -95,11 +95,11 @@ shift_steps pieces sizes old new first end here n some h long within steps movab
 
 -- a step between addresses that are the same is a step
 pub same_step : (pieces : List Piece) (sizes a b : List ℕ) (k : ℕ) → slice_index b k ≡ slice_index a k → slice_index b (k + 1) ≡ slice_index a (k + 1) → IsStep pieces sizes a k → IsStep pieces sizes b k
-same_step pieces sizes a b k here next step = next ∙ step ∙ ap (λ x. x + width (piece_at pieces k) (slice_index sizes k) x) (sym here)
+same_step pieces sizes a b k here next step = next ∙ step ∙ ap (λ x. x + width (nth_piece pieces k) (slice_index sizes k) x) (sym here)
 
 -- a block was laid, of which the first piece has number n, and the one after the last has number end
 pub block_more : (pieces : List Piece) (sizes old a b : List ℕ) (grown : List Bool) (changes changes' : List ℕ) (block n end here next count count' : ℕ) (changed : Bool) → All HasAlignment pieces → AreForms pieces sizes
-    → length old ≡ length pieces + 1 → block < length grown → n ≡ 64 * block → n ≤ end → end ≤ length pieces → end ≤ n + 64 → (end < length pieces → end ≡ n + 64)
+    → length old ≡ length pieces + 1 → block < length grown → n ≡ block_size * block → n ≤ end → end ≤ length pieces → end ≤ n + block_size → (end < length pieces → end ≡ n + block_size)
     → IsMovedOn pieces sizes old a grown changes block n here count
     → length b ≡ length a → ((k : ℕ) → k ≤ n → slice_index b k ≡ slice_index a k) → ((k : ℕ) → end < k → slice_index b k ≡ slice_index a k)
     → ((k : ℕ) → n ≤ k → k < end → IsStep pieces sizes b k) → (changed ≡ false → (k : ℕ) → n ≤ k → k < end → IsSameStep (set a n here) b k)
@@ -146,13 +146,13 @@ block_more pieces sizes old a b grown changes changes' block n end here next cou
       ];
       moved = λ k lt same_count. elim (cases_lt k n) [
         | inl done ↦
-            let m : ℕ = k / 64 in
+            let m : ℕ = k / block_size in
             let was = now.moved k done (omega (arith, rest m (omega arith), rest (m + 1) (omega arith), same_count)) in
             omega (arith, was, before k (omega arith), before (k + 1) (omega arith))
         | inr new ↦
-            let at : k / 64 ≡ block = omega arith in
-            let next_at : k / 64 + 1 ≡ block + 1 = omega arith in
-            let unchanged : count ≡ count' = omega (arith, rest (k / 64) (omega arith), ap (slice_index changes) at, ap (slice_index changes') next_at, here_now, now.count_is, same_count) in
+            let at : k / block_size ≡ block = omega arith in
+            let next_at : k / block_size + 1 ≡ block + 1 = omega arith in
+            let unchanged : count ≡ count' = omega (arith, rest (k / block_size) (omega arith), ap (slice_index changes) at, ap (slice_index changes') next_at, here_now, now.count_is, same_count) in
             let was_next = other_was a n here (k + 1) (omega arith) ∙ now.after (k + 1) (omega arith) in
             let was : slice_index (set a n here) k ≡ slice_index old k = elim (cases_eq k n) [
               | inl first ↦ ap (slice_index (set a n here)) first ∙ first_was a n here in_a ∙ now.here_is (omega arith) ∙ ap (slice_index old) (sym first)
@@ -173,3 +173,68 @@ stood_before pieces sizes old a grown changes block n here count k long now ge l
       | inr other ↦ other_was a n here k (omega arith) ∙ now.after k (omega arith)
     ] in
     same_step pieces sizes old (set a n here) k at next step
+
+-- ---- the next block, whose pieces have numbers from first on, before end
+
+module _ (pieces : List Piece) (sizes old a : List ℕ) (grown : List Bool) (changes : List ℕ) (block first end here count : ℕ) (some : All HasAlignment pieces) (forms : AreForms pieces sizes)
+    (long : length old ≡ length pieces + 1) (blocks : length grown ≡ block_count pieces) (in_grown : block < length grown)
+    (first_is : first ≡ block * block_size) (end_is : end ≡ min (length pieces) (block * block_size + block_size))
+    (so_far : IsMovedOn pieces sizes old a grown changes block (min (length pieces) (block_size * block)) here count) where
+  -- the block before it ends where it starts
+  starts : min (length pieces) (block_size * block) ≡ first
+  starts = omega (arith, blocks, in_grown, first_is)
+
+  -- it doesn't end before it starts
+  order : first ≤ end
+  order = omega (arith, starts, first_is, end_is)
+
+  now : IsMovedOn pieces sizes old a grown changes block first here count
+  now = subst (λ m. IsMovedOn pieces sizes old a grown changes block m here count) starts so_far
+
+  -- if none of its pieces grew, its addresses followed one another before
+  pub stood : ((k : ℕ) → k < length pieces → IsKept grown (k / block_size) → IsStep pieces sizes old k) → IsKept grown block
+      → AreSteps pieces sizes (set a first here) first end
+  stood steps kept k ge lt =
+      let in_pieces : k < length pieces = omega (arith, end_is, lt) in
+      let at : block ≡ k / block_size = omega (arith, first_is, end_is, ge, lt) in
+      stood_before pieces sizes old a grown changes block first here count k long now ge in_pieces (steps k in_pieces (subst (IsKept grown) at kept))
+
+  -- so it can be moved without a sum above 2^32
+  pub can_shift : slice_index old 0 + sum_by longest pieces < 2 ^ 32 → AreSteps pieces sizes (set a first here) first end
+      → (k : ℕ) → first < k → k ≤ end → (here ≤ slice_index a k) × (slice_index a first + slice_index a k < here + 2 ^ 32)
+  can_shift room steps k lt le =
+      let rose = block_rose pieces sizes a first end here k some forms (now.same ∙ long) (omega (arith, end_is)) steps lt le in
+      (rose.0, omega (arith, rose.1, now.room, room))
+
+  -- what was made of its addresses is what the loop keeps
+  next : (b : List ℕ) (count' : ℕ) (changed : Bool) → AreNewIn a b first end → AreSteps pieces sizes b first end
+      → (changed ≡ false → (k : ℕ) → first ≤ k → k < end → IsSameStep (set a first here) b k) → (changed ≡ false → IsKept grown block)
+      → count ≤ count' → count' ≤ count + 1 → (count ≡ count' → changed ≡ false)
+      → IsMovedOn pieces sizes old b grown (set changes (block + 1) count') (block + 1) (min (length pieces) (block_size * (block + 1))) (slice_index a end) count'
+  next b count' changed others steps moved kept least most still =
+      let ends : end ≡ min (length pieces) (block_size * (block + 1)) = omega (arith, end_is) in
+      subst (λ m. IsMovedOn pieces sizes old b grown (set changes (block + 1) count') (block + 1) m (slice_index a end) count') ends
+      (block_more pieces sizes old a b grown changes (set changes (block + 1) count') block first end here (slice_index a end) count count' changed some forms long in_grown
+      (omega (arith, first_is)) order (omega (arith, end_is)) (omega (arith, first_is, end_is)) (λ lt. omega (arith, first_is, end_is, lt))
+      now others.same others.before others.after steps moved kept refl least most still refl)
+
+  -- if it is moved, it doesn't count as changed
+  pub shifted : (b multiples : List ℕ) → AreSteps pieces sizes (set a first here) first end → AreMultiples pieces multiples → 0 < slice_index multiples block
+      → here % slice_index multiples block ≡ slice_index a first % slice_index multiples block → IsKept grown block → AreNewIn a b first end
+      → ((k : ℕ) → first < k → k ≤ end → slice_index b k + here ≡ slice_index a k + slice_index a first)
+      → IsMovedOn pieces sizes old b grown (set changes (block + 1) count) (block + 1) (min (length pieces) (block_size * (block + 1))) (slice_index a end) count
+  shifted b multiples steps are positive alike kept others moved =
+      let same : slice_index b first ≡ slice_index a first = others.before first (omega arith) in
+      let movable : (k : ℕ) → first ≤ k → k < end → IsMovedBy (slice_index multiples block) (nth_piece pieces k) =
+      λ k ge lt.
+      let at : k / block_size ≡ block = omega (arith, first_is, end_is, ge, lt) in
+      subst (λ n. IsMovedBy (slice_index multiples n) (nth_piece pieces k)) at (are k (omega (arith, end_is, lt)) (omega (arith, positive, ap (slice_index multiples) at))) in
+      next b count false others
+      (shift_steps pieces sizes a b first end here (slice_index multiples block) some forms (now.same ∙ long) (omega (arith, end_is)) steps movable alike same moved)
+      (λ e. shift_same a b first end here (omega (arith, now.same, long, order, end_is)) same moved) (λ e. kept) (omega arith) (omega arith) (λ e. refl)
+
+  -- if it is laid anew, it does
+  pub laid_anew : (b : List ℕ) → AreNewIn a b first end → AreSteps pieces sizes b first end
+      → IsMovedOn pieces sizes old b grown (set changes (block + 1) (count + 1)) (block + 1) (min (length pieces) (block_size * (block + 1))) (slice_index a end) (count + 1)
+  laid_anew b others steps =
+      next b (count + 1) true others steps (λ e. absurd (true≢false e)) (λ e. absurd (true≢false e)) (omega arith) (omega arith) (λ e. absurd (omega (arith, e)))

@@ -2,111 +2,88 @@
 -- - `piece_there`: the piece with an item's number is the item's;
 -- - `number_next`: the place after an item has the next number;
 -- - `number_most`, `number_below`: numbers are at most the number of pieces, and those of items are below it.
-use Rattle.std.proofs.Common.{◌≡◌, ℕ, ◌+◌, ◌<◌, ◌≤◌, List, [], ◌∷◌, ◌++◌, length, filter, map, Bool, true, false, cond, Option, Some, None, slice_get, refl, sym, ap, ◌∙◌, arith, append_assoc, eqb, ltb}
+use Rattle.std.proofs.Common.{◌≡◌, ℕ, ◌+◌, ◌<◌, ◌≤◌, ◌⊎◌, inl, inr, List, [], ◌∷◌, ◌++◌, length, filter, map, Bool, true, false, cond, Option, Some, None, slice_get, refl, sym, ap, ◌∙◌, arith, append_assoc, eqb, ltb}
 use Rattle.std.specs.Prelude.{◌||◌}
-use Rattle.std.specs.List.{sum_by}
-use Rattle.std.specs.Option.{option_map_or}
+use Rattle.std.specs.List.{flat_map, sum_by}
+use Rattle.std.specs.Option.{option_map, option_map_or}
 use Rattle.std.proofs.lemmas.Bool.{eqb-true, lt-ltb, ltb-true}
 use Rattle.std.proofs.lemmas.Grind.{flat_map-append}
 use Rattle.std.proofs.lemmas.List.{length-append, length-map, map-append}
-use Rattle.std.proofs.lemmas.List.Sums.{sum_by-cons}
+use Rattle.std.proofs.lemmas.List.Sums.{sum_by-append, sum_by-cons}
 use Rattle.std.proofs.lemmas.Option.{slice_get_within}
 use Rattle.zc_base.specs.declared.place.Place.{Place}
 use Rattle.elf32_read.specs.Parts.{ObjectParts, SectionParts, is_code_section}
 use Rattle.psabi_sym.specs.Faults.{gather_fault}
 use Rattle.psabi_sym.specs.Inputs.{Inputs, ParsedInputs, parsed}
-use Rattle.psabi_sym.specs.Listed.{ListedSection, section_at, sections_before}
+use Rattle.psabi_sym.specs.Listed.{ListedSection, all_sections, section_at, sections_before}
 use Rattle.psabi_sym.proofs.BridgeLaws.{map-map}
-use Rattle.block_cut.specs.Items.{code_at, item_at, item_in, items_in, next_at, place_of, size_on, starts_in, starts_on}
+use Rattle.block_cut.specs.Items.{code_at, is_end_at, is_start_at, is_target_at, item_at, next_at, place_of, places_of, size_on, starts_in, starts_on}
 use Rattle.block_cut.specs.Whole.{IsWhole}
 use Rattle.block_cut.specs.declared.item.Item.{Item}
 use Rattle.block_cut.proofs.ItemLaws.{item_found}
 use Rattle.block_cut.proofs.ListedLaws.{cut_at, listed}
-use Rattle.block_cut.proofs.RoomLaws.{items_in-code}
+use Rattle.block_cut.proofs.PlainLaws.{next_start}
 use Rattle.block_cut.proofs.StartLaws.{before_end_all, before_next_start, front, is_among, start_is, step}
 use Rattle.block_cut.proofs.WholeLaws.{code_is_section, code_whole}
-use Rattle.shrink_layout.specs.Pieces.{number_of, piece_count, piece_of, pieces_before, pieces_in, pieces_of, section_alignment, section_pieces}
-use Rattle.shrink_layout.specs.declared.piece.Piece.{Piece}
-use Rattle.shrink_layout.specs.declared.piece.Piece.TheVariants.{Align}
+use Rattle.shrink_layout.specs.Pieces.{number_of, piece_at, piece_count, piece_of, pieces_before, pieces_of, section_alignment, unit_piece}
+use Rattle.shrink_layout.specs.Units.{OneItem, front_size}
+use Rattle.shrink_layout.specs.declared.piece.Piece.TheVariants.{Fixed, Align}
 
 -- the place at an offset of a section
 abbrev pub place_at : ℕ → ℕ → ℕ → Place
 place_at o i n = record { object = o; section = i; offset = n }
 
--- ---- how many pieces there are
+-- ---- lists that are laid as pieces are
 
--- a section has its padding and its items
-pub length-section_pieces : (inputs : ParsedInputs) (l : ListedSection) → length (section_pieces inputs l) ≡ piece_count l
-length-section_pieces inputs l = by (is_code_section l.section) refl
-  where
-    by : (b : Bool) → is_code_section l.section ≡ b
-        → length (cond b (Align (section_alignment l.section) ∷ map (piece_of inputs.objects) (items_in inputs l)) []) ≡ cond {A = ℕ} b (1 + length (starts_in l.section)) 0
-    by true code =
-        omega (
-          arith,
-          length-map (items_in inputs l) (piece_of inputs.objects),
-          ap length (items_in-code inputs l code),
-          length-map (starts_in l.section) (λ m. item_in inputs l.section (place_of l m)),
-        )
-    by false other = refl
+-- what there is for the padding of a section of code and for each of its items, as `pieces_in` has it for pieces
+module _ {X : Type 0} (pad : SectionParts → X) (f : Place → X) where
+  abbrev pub section_laid : ListedSection → List X
+  section_laid l = cond (is_code_section l.section) (pad l.section ∷ map f (places_of l)) []
 
--- those of sections one after another
-pub length-pieces_in : (inputs : ParsedInputs) (ls : List ListedSection) → length (pieces_in inputs ls) ≡ sum_by piece_count ls
-length-pieces_in inputs [] = refl
-length-pieces_in inputs (l ∷ ls) =
-    omega (
-      arith,
-      length-append (section_pieces inputs l) (pieces_in inputs ls),
-      length-section_pieces inputs l,
-      length-pieces_in inputs ls,
-      sum_by-cons piece_count l ls,
-    )
+  abbrev pub laid_in : List ListedSection → List X
+  laid_in ls = flat_map section_laid ls
 
--- ---- the list cut at a section
+  -- a section has so many
+  pub length-section_laid : (l : ListedSection) → length (section_laid l) ≡ piece_count l
+  length-section_laid l = by (is_code_section l.section)
+    where
+      by : (b : Bool) → length (cond b (pad l.section ∷ map f (cond b (map (place_of l) (starts_in l.section)) [])) []) ≡ cond {A = ℕ} b (1 + length (starts_in l.section)) 0
+      by true = omega (arith, length-map (map (place_of l) (starts_in l.section)) f, length-map (starts_in l.section) (place_of l))
+      by false = refl
 
--- the piece of the item at an offset of a section
-abbrev pub piece_on : ParsedInputs → ℕ → ℕ → SectionParts → ℕ → Piece
-piece_on inputs o i s m = piece_of inputs.objects (item_in inputs s (place_at o i m))
+  -- those of sections one after another
+  pub length-laid_in : (ls : List ListedSection) → length (laid_in ls) ≡ sum_by piece_count ls
+  length-laid_in [] = refl
+  length-laid_in (l ∷ ls) =
+      omega (
+        arith,
+        length-append (section_laid l) (laid_in ls),
+        length-section_laid l,
+        length-laid_in ls,
+        sum_by-cons piece_count l ls,
+      )
 
--- a section of code: its padding, and the pieces of its items
-pub section_pieces-code : (inputs : ParsedInputs) (o i : ℕ) (s : SectionParts) → is_code_section s ≡ true
-    → section_pieces inputs (listed o i s) ≡ Align (section_alignment s) ∷ map (piece_on inputs o i s) (starts_in s)
-section_pieces-code inputs o i s code =
-    let l = listed o i s in
-    ap (λ b. cond b (Align (section_alignment s) ∷ map (piece_of inputs.objects) (items_in inputs l)) []) code
-    ∙ ap (λ is. Align (section_alignment s) ∷ map (piece_of inputs.objects) is) (items_in-code inputs l code)
-    ∙ ap (λ ps. Align (section_alignment s) ∷ ps) (map-map (piece_of inputs.objects) (λ m. item_in inputs s (place_of l m)) (starts_in s))
+  -- a section of code
+  pub section_laid-code : (o i : ℕ) (s : SectionParts) → is_code_section s ≡ true → section_laid (listed o i s) ≡ pad s ∷ map (λ m. f (place_at o i m)) (starts_in s)
+  section_laid-code o i s code =
+      (λ j. cond (code j) (pad s ∷ map f (cond (code j) (map (place_at o i) (starts_in s)) [])) [])
+      ∙ ap (λ xs. pad s ∷ xs) (map-map f (place_at o i) (starts_in s))
 
--- all pieces are those before a section of code, its padding, those of its items, and the rest
-pub record IsCutInto (inputs : ParsedInputs) (o i : ℕ) (s : SectionParts) : Type 0 where
-  pub rest : List Piece
-  pub are : pieces_of inputs ≡ pieces_in inputs (sections_before inputs.objects o i) ++ Align (section_alignment s) ∷ (map (piece_on inputs o i s) (starts_in s) ++ rest)
+  -- what is laid for all is that of the sections before one of code, that of its padding and its items, and the rest
+  pub record IsCutInto (objects : List ObjectParts) (o i : ℕ) (s : SectionParts) : Type 0 where
+    pub rest : List X
+    pub are : laid_in (all_sections objects) ≡ laid_in (sections_before objects o i) ++ pad s ∷ (map (λ m. f (place_at o i m)) (starts_in s) ++ rest)
 
--- so it is at each section of code
-pub cut_into : (inputs : ParsedInputs) (o i : ℕ) (s : SectionParts) → section_at inputs.objects o i ≡ Some s → is_code_section s ≡ true → IsCutInto inputs o i s
-unfolding pieces_of
-cut_into inputs o i s found code =
-    let cut = cut_at inputs.objects o i s found in
-    let before = sections_before inputs.objects o i in
-    record {
-      rest = pieces_in inputs cut.rest;
-      are = ap (pieces_in inputs) cut.all_are ∙ flat_map-append (section_pieces inputs) before (listed o i s ∷ cut.rest)
-          ∙ ap (λ ps. pieces_in inputs before ++ (ps ++ pieces_in inputs cut.rest)) (section_pieces-code inputs o i s code);
-    }
-
--- so many are there at least
-pieces_long : (inputs : ParsedInputs) (o i : ℕ) (s : SectionParts) → IsCutInto inputs o i s → sum_by piece_count (sections_before inputs.objects o i) + 1 + length (starts_in s) ≤ length (pieces_of inputs)
-pieces_long inputs o i s cut =
-    let before = pieces_in inputs (sections_before inputs.objects o i) in
-    let own = map (piece_on inputs o i s) (starts_in s) in
-    omega (
-      arith,
-      ap length cut.are,
-      length-append before (Align (section_alignment s) ∷ (own ++ cut.rest)),
-      length-append own cut.rest,
-      length-map (starts_in s) (piece_on inputs o i s),
-      length-pieces_in inputs (sections_before inputs.objects o i),
-    )
+  -- so it is at each section of code
+  pub cut_into : (objects : List ObjectParts) (o i : ℕ) (s : SectionParts) → section_at objects o i ≡ Some s → is_code_section s ≡ true → IsCutInto objects o i s
+  cut_into objects o i s found code =
+      let cut = cut_at objects o i s found in
+      let before = sections_before objects o i in
+      record {
+        rest = laid_in cut.rest;
+        are = ap laid_in cut.all_are ∙ flat_map-append section_laid before (listed o i s ∷ cut.rest)
+            ∙ ap (λ xs. laid_in before ++ (xs ++ laid_in cut.rest)) (section_laid-code o i s code);
+      }
 
 -- ---- starts below an offset
 
@@ -166,27 +143,56 @@ starts_cut s code whole n start =
 
 -- ---- numbers
 
--- that of a place of code
-pub number-code : (objects : List ObjectParts) (q : Place) (s : SectionParts) → code_at objects q ≡ Some s → number_of objects q ≡ pieces_before objects q.object q.section s q.offset
-number-code objects q s at = ap (λ o. option_map_or (λ t. pieces_before objects q.object q.section t q.offset) o 0) at
+-- that of a place where code may lead
+pub number-code : (objects : List ObjectParts) (q : Place) (s : SectionParts) → is_target_at objects q ≡ true → code_at objects q ≡ Some s
+    → number_of objects q ≡ pieces_before objects q.object q.section s q.offset
+number-code objects q s target at = λ j. cond (target j) (option_map_or (λ t. pieces_before objects q.object q.section t q.offset) (at j) 0) 0
 
--- that of a place that is nowhere in code
-pub number-nowhere : (objects : List ObjectParts) (q : Place) → code_at objects q ≡ None → number_of objects q ≡ 0
-number-nowhere objects q at = ap (λ o. option_map_or (λ t. pieces_before objects q.object q.section t q.offset) o 0) at
+-- that of a place where it may not
+pub number-nowhere : (objects : List ObjectParts) (q : Place) → is_target_at objects q ≡ false → number_of objects q ≡ 0
+number-nowhere objects q other = ap (λ b. cond b (option_map_or (λ t. pieces_before objects q.object q.section t q.offset) (code_at objects q) 0) 0) other
+
+-- code may lead to an item
+pub item_target : (inputs : ParsedInputs) (q : Place) (i : Item) → item_at inputs q ≡ Some i → is_target_at inputs.objects q ≡ true
+item_target inputs q i is =
+    let found = item_found inputs q i is in
+    ap (λ o. option_map_or (λ t. starts_on t q.offset) o false || is_end_at inputs.objects q) found.code
+    ∙ ap (λ b. b || is_end_at inputs.objects q) found.start
+
+-- there are as many pieces as sections and items, and what stands in front
+pub length-pieces_of : (inputs : ParsedInputs) → length (pieces_of inputs) ≡ 1 + sum_by piece_count (all_sections inputs.objects)
+unfolding pieces_of
+length-pieces_of inputs =
+    let all = length-laid_in (λ s. Align (section_alignment s)) (piece_at inputs) (all_sections inputs.objects) in
+    omega (arith, all)
 
 -- no more stand before an offset than there are
 pub before_most : (inputs : ParsedInputs) (o i : ℕ) (s : SectionParts) (n : ℕ) → section_at inputs.objects o i ≡ Some s → is_code_section s ≡ true → pieces_before inputs.objects o i s n ≤ length (pieces_of inputs)
-before_most inputs o i s n found code = omega (arith, pieces_long inputs o i s (cut_into inputs o i s found code), filter_few (λ m. ltb m n) (starts_in s))
+before_most inputs o i s n found code =
+    let cut = cut_at inputs.objects o i s found in
+    let l = listed o i s in
+    let own : piece_count l ≡ 1 + length (starts_in s) = ap (λ b. cond b (1 + length (starts_in s)) 0) code in
+    omega (
+      arith,
+      length-pieces_of inputs,
+      ap (sum_by piece_count) cut.all_are,
+      sum_by-append piece_count (sections_before inputs.objects o i) (l ∷ cut.rest),
+      sum_by-cons piece_count l cut.rest,
+      own,
+      filter_few (λ m. ltb m n) (starts_in s),
+    )
 
 -- nor before a place
 pub number_most : (inputs : ParsedInputs) (q : Place) → number_of inputs.objects q ≤ length (pieces_of inputs)
-number_most inputs q = by (code_at inputs.objects q) refl
+number_most inputs q = by (is_target_at inputs.objects q) refl (code_at inputs.objects q) refl
   where
-    by : (o : Option SectionParts) → code_at inputs.objects q ≡ o → number_of inputs.objects q ≤ length (pieces_of inputs)
-    by None at = omega (arith, number-nowhere inputs.objects q at)
-    by (Some s) at =
+    by : (b : Bool) → is_target_at inputs.objects q ≡ b → (o : Option SectionParts) → code_at inputs.objects q ≡ o → number_of inputs.objects q ≤ length (pieces_of inputs)
+    by false other o at = omega (arith, number-nowhere inputs.objects q other)
+    by true target None at =
+        omega (arith, ap (λ o. cond (is_target_at inputs.objects q) (option_map_or (λ t. pieces_before inputs.objects q.object q.section t q.offset) o 0) 0) at, ap (λ b. cond {A = ℕ} b 0 0) target)
+    by true target (Some s) at =
         let two = code_is_section inputs.objects q s at in
-        omega (arith, number-code inputs.objects q s at, before_most inputs q.object q.section s q.offset two.0 two.1)
+        omega (arith, number-code inputs.objects q s target at, before_most inputs q.object q.section s q.offset two.0 two.1)
 
 -- the element after a list
 pub behind : {X : Type 0} (xs : List X) (y : X) (ys : List X) → slice_get (xs ++ y ∷ ys) (length xs) ≡ Some y
@@ -197,36 +203,56 @@ module _ (inputs : Inputs) (none : gather_fault inputs ≡ None) where
   abbrev given : ParsedInputs
   given = parsed inputs
 
-  -- the piece of an item has its number
-  pub piece_there : (q : Place) (i : Item) → item_at given q ≡ Some i → slice_get (pieces_of given) (number_of given.objects q) ≡ Some (piece_of given.objects i)
-  piece_there q i is =
+  -- what is laid for an item has its place's number
+  pub laid_there : {X : Type 0} (first : X) (pad : SectionParts → X) (f : Place → X) (q : Place) (i : Item) → item_at given q ≡ Some i
+      → slice_get (first ∷ laid_in pad f (all_sections given.objects)) (number_of given.objects q) ≡ Some (f q)
+  laid_there {X = X} first pad f q i is =
       let found = item_found given q i is in
       let s = found.section in
       let two = code_is_section given.objects q s found.code in
-      let cut = cut_into given q.object q.section s two.0 two.1 in
+      let cut = cut_into pad f given.objects q.object q.section s two.0 two.1 in
       let starts = starts_cut s two.1 (code_whole inputs q s none found.code) q.offset found.start in
-      let f = piece_on given q.object q.section s in
+      let g : ℕ → X = λ m. f (place_at q.object q.section m) in
       let before = filter (λ m. ltb m q.offset) (starts_in s) in
-      let front = pieces_in given (sections_before given.objects q.object q.section) in
-      let head = front ++ Align (section_alignment s) ∷ map f before in
-      let own : map f (starts_in s) ≡ map f before ++ f q.offset ∷ map f starts.rest = ap (map f) starts.are ∙ map-append f before (q.offset ∷ starts.rest) in
-      let all : pieces_of given ≡ head ++ f q.offset ∷ (map f starts.rest ++ cut.rest) =
-      cut.are
-      ∙ ap (λ l. front ++ Align (section_alignment s) ∷ l) (ap (λ l. l ++ cut.rest) own ∙ append_assoc (map f before) (f q.offset ∷ map f starts.rest) cut.rest)
-      ∙ sym (append_assoc front (Align (section_alignment s) ∷ map f before) (f q.offset ∷ (map f starts.rest ++ cut.rest))) in
+      let own = laid_in pad f (sections_before given.objects q.object q.section) in
+      let head = (first ∷ own) ++ pad s ∷ map g before in
+      let items : map g (starts_in s) ≡ map g before ++ g q.offset ∷ map g starts.rest = ap (map g) starts.are ∙ map-append g before (q.offset ∷ starts.rest) in
+      let all : first ∷ laid_in pad f (all_sections given.objects) ≡ head ++ g q.offset ∷ (map g starts.rest ++ cut.rest) =
+      ap (λ xs. first ∷ xs) cut.are
+      ∙ ap (λ l. (first ∷ own) ++ pad s ∷ l) (ap (λ l. l ++ cut.rest) items ∙ append_assoc (map g before) (g q.offset ∷ map g starts.rest) cut.rest)
+      ∙ sym (append_assoc (first ∷ own) (pad s ∷ map g before) (g q.offset ∷ (map g starts.rest ++ cut.rest))) in
       let number : number_of given.objects q ≡ length head =
       omega (
         arith,
-        number-code given.objects q s found.code,
-        length-append front (Align (section_alignment s) ∷ map f before),
-        length-map before f,
-        length-pieces_in given (sections_before given.objects q.object q.section),
+        number-code given.objects q s (item_target given q i is) found.code,
+        length-append own (pad s ∷ map g before),
+        length-map before g,
+        length-laid_in pad f (sections_before given.objects q.object q.section),
       ) in
-      (λ j. slice_get (all j) (number j)) ∙ behind head (f q.offset) (map f starts.rest ++ cut.rest) ∙ ap (λ x. Some (piece_of given.objects x)) found.item
+      (λ j. slice_get (all j) (number j)) ∙ behind head (g q.offset) (map g starts.rest ++ cut.rest)
 
-  -- so it is below the number of pieces
+  -- so the piece of an item does
+  pub piece_there : (q : Place) (i : Item) → item_at given q ≡ Some i → slice_get (pieces_of given) (number_of given.objects q) ≡ Some (piece_of given.objects i)
+  unfolding pieces_of
+  piece_there q i is =
+      laid_there (Fixed front_size) (λ s. Align (section_alignment s)) (piece_at given) q i is
+      ∙ ap (λ x. Some (unit_piece given.objects (option_map OneItem x))) is
+
+  -- and its number is below the number of pieces
   pub number_below : (q : Place) (i : Item) → item_at given q ≡ Some i → number_of given.objects q < length (pieces_of given)
   number_below q i is = slice_get_within (pieces_of given) (number_of given.objects q) (piece_of given.objects i) (piece_there q i is)
+
+  -- code may lead to what follows an item
+  pub next_target : (q : Place) (i : Item) → item_at given q ≡ Some i → is_target_at given.objects (next_at given.objects q) ≡ true
+  next_target q i is = by (next_start inputs none q i is)
+    where
+      or_true : (b : Bool) → (b || true) ≡ true
+      or_true true = refl
+      or_true false = refl
+
+      by : (is_start_at given.objects (next_at given.objects q) ≡ true) ⊎ (is_end_at given.objects (next_at given.objects q) ≡ true) → is_target_at given.objects (next_at given.objects q) ≡ true
+      by (inl start) = ap (λ b. b || is_end_at given.objects (next_at given.objects q)) start
+      by (inr end) = ap (λ b. is_start_at given.objects (next_at given.objects q) || b) end ∙ or_true (is_start_at given.objects (next_at given.objects q))
 
   -- the place after it has the next one
   pub number_next : (q : Place) (i : Item) → item_at given q ≡ Some i → number_of given.objects (next_at given.objects q) ≡ number_of given.objects q + 1
@@ -241,8 +267,8 @@ module _ (inputs : Inputs) (none : gather_fault inputs ≡ None) where
       omega (
         arith,
         ap (number_of given.objects) next,
-        number-code given.objects (place_at q.object q.section (q.offset + size_on s q.offset)) s found.code,
-        number-code given.objects q s found.code,
+        number-code given.objects (place_at q.object q.section (q.offset + size_on s q.offset)) s (ap (is_target_at given.objects) (sym next) ∙ next_target q i is) found.code,
+        number-code given.objects q s (item_target given q i is) found.code,
         ap length (before_next_start s two.1 whole q.offset found.start),
         length-append before (q.offset ∷ []),
       )

@@ -1,7 +1,7 @@
 -- What the layout asks of pieces holds of those of inputs without a fault: alignments are at least 1 and even, sizes are even,
 -- targets are pieces or the end (`targets`), and all have little room (`room_few`). If nothing is aligned above 4 bytes, no piece
 -- is aligned above 2 (`all_tight`).
-use Rattle.std.proofs.Common.{◌≡◌, ℕ, zero, suc, ◌+◌, ◌*◌, ◌%◌, ◌<◌, ◌≤◌, List, [], ◌∷◌, ◌++◌, All, get_or, length, map, max, Bool, true, false, cond, None, refl, sym, ap, ◌∙◌, arith, leb, ltb}
+use Rattle.std.proofs.Common.{◌≡◌, ℕ, zero, suc, ◌+◌, ◌*◌, ◌%◌, ◌<◌, ◌≤◌, List, [], ◌∷◌, ◌++◌, All, get_or, length, map, max, Bool, true, false, cond, None, refl, sym, ap, subst, ◌∙◌, arith, leb, ltb}
 use Rattle.std.specs.Prelude.{◌&&◌, nat_le, not}
 use Rattle.std.specs.List.{flat_map, list_any, sum_by}
 use Rattle.std.proofs.lemmas.Bool.{and_parts, leb-false, ltb-false, ltb-true, not-true, or_parts}
@@ -29,10 +29,12 @@ use Rattle.block_cut.proofs.RoomLaws.{AreWhole, all_whole, code_room_is, rooms, 
 use Rattle.block_cut.proofs.StartLaws.{along}
 use Rattle.shrink_layout.specs.Forms.{HasAlignment, IsEven, longest, target}
 use Rattle.shrink_layout.specs.Least.{IsTight}
-use Rattle.shrink_layout.specs.Pieces.{is_align, is_aligned_code, is_short, is_short_branch, is_short_jump, is_unaligned, jump_piece, number_of, part_size, piece_of, pieces_in, pieces_of, section_alignment, section_pieces}
+use Rattle.shrink_layout.specs.Pieces.{is_align, is_aligned_code, is_short, is_short_branch, is_short_jump, is_unaligned, jump_piece, number_of, part_size, piece_of, pieces_of, section_alignment}
+use Rattle.shrink_layout.specs.Units.{front_size}
 use Rattle.shrink_layout.specs.declared.piece.Piece.{Piece}
 use Rattle.shrink_layout.specs.declared.piece.Piece.TheVariants.{Fixed, Align, Branch, Jump}
-use Rattle.shrink_layout.proofs.NumberLaws.{number_most, piece_on, place_at, section_pieces-code}
+use Rattle.shrink_layout.proofs.ItemPieces.{item_pieces, item_pieces-code, item_pieces_in, piece_on, pieces_by_items}
+use Rattle.shrink_layout.proofs.NumberLaws.{number_most, place_at}
 
 -- ---- lists
 
@@ -170,10 +172,10 @@ module _ (inputs : ParsedInputs) where
 
   -- P holds of each piece of sections if it holds of what pads them and of their items
   each_piece : (P : Piece → Type 0) → ((s : SectionParts) → IsWhole s → P (Align (section_alignment s))) → ((i : Item) → P (piece_of objects i)) → (ls : List ListedSection) → AreWhole ls
-      → Each P (pieces_in inputs ls)
+      → Each P (item_pieces_in inputs ls)
   each_piece P pads item [] whole = tt
   each_piece P pads item (l ∷ ls) whole =
-      each-append P (section_pieces inputs l) (pieces_in inputs ls) (by (is_code_section l.section) refl) (each_piece P pads item ls whole.1)
+      each-append P (item_pieces inputs l) (item_pieces_in inputs ls) (by (is_code_section l.section) refl) (each_piece P pads item ls whole.1)
     where
       by : (b : Bool) → is_code_section l.section ≡ b → Each P (cond b (Align (section_alignment l.section) ∷ map (piece_of objects) (items_in inputs l)) [])
       by true code = (pads l.section (whole.0 code), each-map P (piece_of objects) item (items_in inputs l))
@@ -185,12 +187,12 @@ module _ (inputs : ParsedInputs) where
   each_tight (i ∷ is) none = let two = or_parts (is_align i) (list_any is_align is) none in (item_tight i two.0, each_tight is two.1)
 
   -- so all pieces of sections are tight that aren't aligned either
-  sections_tight : (ls : List ListedSection) → list_any is_align (flat_map (items_in inputs) ls) ≡ false → list_any is_aligned_code ls ≡ false → Each IsTight (pieces_in inputs ls)
+  sections_tight : (ls : List ListedSection) → list_any is_align (flat_map (items_in inputs) ls) ≡ false → list_any is_aligned_code ls ≡ false → Each IsTight (item_pieces_in inputs ls)
   sections_tight [] none low = tt
   sections_tight (l ∷ ls) none low =
       let items = or_parts (list_any is_align (items_in inputs l)) (list_any is_align (flat_map (items_in inputs) ls)) (sym (list_any-append is_align (items_in inputs l) (flat_map (items_in inputs) ls)) ∙ none) in
       let two = or_parts (is_aligned_code l) (list_any is_aligned_code ls) low in
-      each-append IsTight (section_pieces inputs l) (pieces_in inputs ls) (by (is_code_section l.section) items.0 two.0) (sections_tight ls items.1 two.1)
+      each-append IsTight (item_pieces inputs l) (item_pieces_in inputs ls) (by (is_code_section l.section) items.0 two.0) (sections_tight ls items.1 two.1)
     where
       aligned : (b : Bool) → leb l.section.align 4 ≡ b → ltb 4 l.section.align ≡ false → cond b 2 l.section.align ≡ 2
       aligned true le high = refl
@@ -227,24 +229,24 @@ module _ (inputs : ParsedInputs) where
         omega arith
 
   -- the pieces of sections have twice their room, and are no more than the words of it
-  sections_longest : (ls : List ListedSection) → AreWhole ls → (sum_by longest (pieces_in inputs ls) ≤ 2 * rooms ls) × (4 * length (pieces_in inputs ls) ≤ rooms ls)
+  sections_longest : (ls : List ListedSection) → AreWhole ls → (sum_by longest (item_pieces_in inputs ls) ≤ 2 * rooms ls) × (4 * length (item_pieces_in inputs ls) ≤ rooms ls)
   sections_longest [] whole = (omega arith, omega arith)
   sections_longest (l ∷ ls) whole = by (is_code_section l.section) refl (sections_longest ls whole.1)
     where
       ps : List Piece
-      ps = pieces_in inputs ls
+      ps = item_pieces_in inputs ls
 
-      by : (b : Bool) → is_code_section l.section ≡ b → (sum_by longest (pieces_in inputs ls) ≤ 2 * rooms ls) × (4 * length (pieces_in inputs ls) ≤ rooms ls)
-          → (sum_by longest (pieces_in inputs (l ∷ ls)) ≤ 2 * rooms (l ∷ ls)) × (4 * length (pieces_in inputs (l ∷ ls)) ≤ rooms (l ∷ ls))
+      by : (b : Bool) → is_code_section l.section ≡ b → (sum_by longest (item_pieces_in inputs ls) ≤ 2 * rooms ls) × (4 * length (item_pieces_in inputs ls) ≤ rooms ls)
+          → (sum_by longest (item_pieces_in inputs (l ∷ ls)) ≤ 2 * rooms (l ∷ ls)) × (4 * length (item_pieces_in inputs (l ∷ ls)) ≤ rooms (l ∷ ls))
       by true code rest =
           let s = l.section in
-          let own = section_pieces-code inputs l.object l.index s code in
+          let own = item_pieces-code inputs l.object l.index s code in
           let items = map (piece_on inputs l.object l.index s) (starts_in s) in
           let room = code_room_is s code in
           let few = starts_few l.object l.index s code (whole.0 code) in (
             omega (
               arith,
-              sum_by-append longest (section_pieces inputs l) (pieces_in inputs ls),
+              sum_by-append longest (item_pieces inputs l) (item_pieces_in inputs ls),
               ap (sum_by longest) own,
               sum_by-cons longest (Align (section_alignment s)) items,
               (padding_is s (whole.0 code)).most,
@@ -256,7 +258,7 @@ module _ (inputs : ParsedInputs) where
             ),
             omega (
               arith,
-              length-append (section_pieces inputs l) (pieces_in inputs ls),
+              length-append (item_pieces inputs l) (item_pieces_in inputs ls),
               ap length own,
               length-map (starts_in s) (piece_on inputs l.object l.index s),
               few,
@@ -267,17 +269,17 @@ module _ (inputs : ParsedInputs) where
             ),
           )
       by false other rest =
-          let own : section_pieces inputs l ≡ [] = ap (λ b. cond b (Align (section_alignment l.section) ∷ map (piece_of objects) (items_in inputs l)) []) other in (
+          let own : item_pieces inputs l ≡ [] = ap (λ b. cond b (Align (section_alignment l.section) ∷ map (piece_of objects) (items_in inputs l)) []) other in (
             omega (
               arith,
-              sum_by-append longest (section_pieces inputs l) (pieces_in inputs ls),
+              sum_by-append longest (item_pieces inputs l) (item_pieces_in inputs ls),
               ap (sum_by longest) own,
               sum_by-cons (λ (m : ListedSection). code_room m.section) l ls,
               rest.0,
             ),
             omega (
               arith,
-              length-append (section_pieces inputs l) (pieces_in inputs ls),
+              length-append (item_pieces inputs l) (item_pieces_in inputs ls),
               ap length own,
               sum_by-cons (λ (m : ListedSection). code_room m.section) l ls,
               rest.1,
@@ -290,37 +292,46 @@ module _ (inputs : Inputs) (none : gather_fault inputs ≡ None) where
   abbrev given : ParsedInputs
   given = parsed inputs
 
+  abbrev sections : List ListedSection
+  sections = all_sections given.objects
+
+  -- P holds of each piece if it holds of what stands in front, of what pads sections, and of items
+  all_pieces : (P : Piece → Type 0) → P (Fixed front_size) → ((s : SectionParts) → IsWhole s → P (Align (section_alignment s))) → ((i : Item) → P (piece_of given.objects i)) → All P (pieces_of given)
+  all_pieces P front pads item =
+      subst (All P) (sym (pieces_by_items given))
+      (all_of P (Fixed front_size ∷ item_pieces_in given sections) (front, each_piece given P pads item sections (all_whole inputs none)))
+
   -- all alignments are at least 1
   pub all_aligned : All HasAlignment (pieces_of given)
-  unfolding pieces_of
-  all_aligned = all_of HasAlignment (pieces_of given) (each_piece given HasAlignment (λ s whole. (padding_is given s whole).some) (item_aligned given) (all_sections given.objects) (all_whole inputs none))
+  all_aligned = all_pieces HasAlignment tt (λ s whole. (padding_is given s whole).some) (item_aligned given)
 
   -- and all pieces are even
   pub all_even : All IsEven (pieces_of given)
-  unfolding pieces_of
-  all_even = all_of IsEven (pieces_of given) (each_piece given IsEven (λ s whole. (padding_is given s whole).even) (item_even given) (all_sections given.objects) (all_whole inputs none))
+  all_even = all_pieces IsEven refl (λ s whole. (padding_is given s whole).even) (item_even given)
 
   -- targets are pieces, or the end
   pub targets : All (λ p. target p ≤ length (pieces_of given)) (pieces_of given)
-  unfolding pieces_of
-  targets =
-      all_of (λ p. target p ≤ length (pieces_of given)) (pieces_of given)
-      (each_piece given (λ p. target p ≤ length (pieces_of given)) (λ s whole. omega arith) (item_leads given) (all_sections given.objects) (all_whole inputs none))
+  targets = all_pieces (λ p. target p ≤ length (pieces_of given)) (omega arith) (λ s whole. omega arith) (item_leads given)
 
   -- the longest forms take little room
   pub room_few : sum_by longest (pieces_of given) ≤ 0x8_0000
-  unfolding pieces_of
-  room_few = omega (arith, (sections_longest given (all_sections given.objects) (all_whole inputs none)).0, rooms_few inputs none)
+  room_few =
+      omega (
+        arith,
+        ap (sum_by longest) (pieces_by_items given),
+        sum_by-cons longest (Fixed front_size) (item_pieces_in given sections),
+        (sections_longest given sections (all_whole inputs none)).0,
+        rooms_few inputs none,
+      )
 
   -- and there are few pieces
-  pub pieces_few : 4 * length (pieces_of given) ≤ 0x4_0000
-  unfolding pieces_of
-  pieces_few = omega (arith, (sections_longest given (all_sections given.objects) (all_whole inputs none)).1, rooms_few inputs none)
+  pub pieces_few : 4 * length (pieces_of given) ≤ 0x4_0004
+  pieces_few = omega (arith, ap length (pieces_by_items given), (sections_longest given sections (all_whole inputs none)).1, rooms_few inputs none)
 
 -- if nothing is aligned above 4 bytes, all are tight
 pub all_tight : (inputs : ParsedInputs) → is_unaligned inputs ≡ true → All IsTight (pieces_of inputs)
-unfolding pieces_of
 all_tight inputs is =
     let two = and_parts (not (list_any is_align (all_items inputs))) (not (list_any is_aligned_code (all_sections inputs.objects))) is in
-    all_of IsTight (pieces_of inputs)
-    (sections_tight inputs (all_sections inputs.objects) (not-true (list_any is_align (all_items inputs)) two.0) (not-true (list_any is_aligned_code (all_sections inputs.objects)) two.1))
+    subst (All IsTight) (sym (pieces_by_items inputs))
+    (all_of IsTight (Fixed front_size ∷ item_pieces_in inputs (all_sections inputs.objects))
+    (tt, sections_tight inputs (all_sections inputs.objects) (not-true (list_any is_align (all_items inputs)) two.0) (not-true (list_any is_aligned_code (all_sections inputs.objects)) two.1)))

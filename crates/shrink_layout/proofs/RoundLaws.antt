@@ -1,9 +1,9 @@
 -- Rounds: each is a choice of forms, each that doesn't fit leaves less to grow, and one that fits stays.
-use Rattle.std.proofs.Common.{◌≡◌, ℕ, zero, suc, ◌+◌, ◌<◌, ◌≤◌, Bool, true, false, cond, ◌&&◌, List, [], ◌∷◌, map, length, refl, sym, ap, ◌∙◌, arith, inl, inr}
-use Rattle.std.proofs.lemmas.Bool.{and_parts, cases_lt, true≢false}
+use Rattle.std.proofs.Common.{◌≡◌, ℕ, zero, suc, ◌+◌, ◌<◌, ◌≤◌, Bool, true, false, cond, ◌&&◌, List, [], ◌∷◌, map, length, refl, ap, arith}
+use Rattle.std.proofs.lemmas.Bool.{and_parts, true≢false}
 use Rattle.shrink_layout.specs.declared.piece.Piece.{Piece}
 use Rattle.shrink_layout.specs.Forms.{shortest, longer, IsForm}
-use Rattle.shrink_layout.specs.Layout.{addresses_of, holds_at, fit_from, grown_from, Fits, all_fit, next_sizes, round, IsLayout}
+use Rattle.shrink_layout.specs.Layout.{holds_at, fit_from, grown_from, round}
 use Rattle.shrink_layout.specs.Least.{AreForms}
 use Rattle.shrink_layout.proofs.FormLaws.{slack, shortest_form, longer_form, slack_falls}
 
@@ -82,43 +82,3 @@ grown_same a k (p ∷ pieces) [] h fits = refl
 grown_same a k (p ∷ pieces) (size ∷ sizes) h fits =
     let parts = and_parts (holds_at a k p size) (fit_from a (k + 1) pieces sizes) fits in
     same_head (holds_at a k p size) p size _ _ parts.0 (grown_same a (k + 1) pieces sizes h.1 parts.1)
-
--- so the next one is the same
-pub next_same : (text : ℕ) (pieces : List Piece) (sizes sizes' : List ℕ) → AreForms pieces sizes → sizes' ≡ next_sizes text pieces sizes → all_fit text pieces sizes ≡ true → sizes' ≡ sizes
-next_same text pieces sizes sizes' h is fits = is ∙ grown_same (addresses_of text pieces sizes) 0 pieces sizes h fits
-
--- ---- the first round that fits
-
--- the sizes are those of a round, and no earlier round fits
-pub record IsRound (text : ℕ) (pieces : List Piece) (sizes : List ℕ) : Type 0 where
-  pub number : ℕ
-  pub is : sizes ≡ round text pieces number
-  pub none_before : (r : ℕ) → r < number → Fits text pieces (round text pieces r) → ⊥
-
--- the shortest forms are
-pub first_round : (text : ℕ) (pieces : List Piece) (sizes : List ℕ) → sizes ≡ map shortest pieces → IsRound text pieces sizes
-first_round text pieces sizes is = record { number = 0; is = is; none_before = λ r lt fits. absurd (omega arith) }
-
--- and so are those after a round that doesn't fit
-pub next_round : (text : ℕ) (pieces : List Piece) (sizes sizes' : List ℕ) → IsRound text pieces sizes → sizes' ≡ next_sizes text pieces sizes → all_fit text pieces sizes ≡ false → IsRound text pieces sizes'
-next_round text pieces sizes sizes' now is out = record {
-  number = suc now.number;
-  is = is ∙ ap (next_sizes text pieces) now.is;
-  none_before = λ r lt fits. elim (cases_lt r now.number) [
-    | inl before ↦ now.none_before r before fits
-    | inr not_before ↦
-        let e : r ≡ now.number = omega arith in
-        let same : round text pieces r ≡ sizes = ap (round text pieces) e ∙ sym now.is in
-        let it_fits : all_fit text pieces (round text pieces r) ≡ true = fits in
-        true≢false (sym it_fits ∙ ap (all_fit text pieces) same ∙ out)
-  ];
-}
-
--- a round that fits, and of which none before fits, is the layout
-pub layout_is : (text : ℕ) (pieces : List Piece) (sizes sizes' : List ℕ) → IsRound text pieces sizes → sizes' ≡ sizes → all_fit text pieces sizes ≡ true → IsLayout text pieces sizes'
-layout_is text pieces sizes sizes' now same fits = record {
-  rounds = now.number;
-  is = same ∙ now.is;
-  fits = ap (all_fit text pieces) same ∙ fits;
-  first = now.none_before;
-}

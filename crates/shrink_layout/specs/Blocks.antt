@@ -1,65 +1,150 @@
--- What a round knows of the one before it, by blocks of 64 pieces: which pieces still fit, and which addresses still follow one another.
-use Rattle.std.specs.Prelude.{◌≡◌, ℕ, ◌+◌, ◌/◌, ◌%◌, ◌<◌, ◌≤◌, ◌⊎◌, Bool, true, false, if◌then◌else◌, List, length, slice_index, slice_index_or}
+-- Blocks of pieces. A round tests only the pieces of blocks near which something changed in the round before, and moves
+-- the addresses of a block as a whole where its pieces take as many bytes as before.
+use Rattle.std.specs.Prelude.{◌≡◌, ℕ, ◌+◌, ◌/◌, ◌%◌, ◌<◌, ◌≤◌, ◌^◌, ◌⊎◌, All, Bool, true, false, if◌then◌else◌, List, drop, length, slice_index, slice_index_or}
+use Rattle.std.specs.List.{sum_by}
+use Rattle.shrink_layout.specs.declared.blocks.Span.{Span}
 use Rattle.shrink_layout.specs.declared.piece.Piece.{Piece}
 use Rattle.shrink_layout.specs.declared.piece.Piece.TheVariants.{Fixed, Align, Branch, Jump}
-use Rattle.shrink_layout.specs.Forms.{holds, longer, target, width}
+use Rattle.shrink_layout.specs.Forms.{HasAlignment, holds, longer, longest, near_limit, target, width}
 use Rattle.shrink_layout.specs.Layout.{holds_at}
+use Rattle.shrink_layout.specs.Least.{AreForms}
+
+-- how many pieces a block has; the last one may have fewer
+abbrev pub block_size : ℕ
+block_size = 64
+
+-- how many blocks there are; the last one may have no pieces
+abbrev pub block_count : List Piece → ℕ
+block_count pieces = length pieces / block_size + 1
 
 -- the piece with number k
-abbrev pub piece_at : List Piece → ℕ → Piece
-piece_at pieces k = slice_index_or pieces k (Fixed 0)
+abbrev pub nth_piece : List Piece → ℕ → Piece
+nth_piece pieces k = slice_index_or pieces k (Fixed 0)
+
+-- the numbers from one up to another are those of some of so many pieces
+abbrev pub IsWithin : Span → ℕ → Type 0
+IsWithin span count = (span.first ≤ span.end) × (span.end ≤ count)
 
 -- ---- addresses
 
 -- the address after the piece with number k is its own and the bytes that it takes
 abbrev pub IsStep : List Piece → List ℕ → List ℕ → ℕ → Type 0
 IsStep pieces sizes addresses k =
-    slice_index addresses (k + 1) ≡ slice_index addresses k + width (piece_at pieces k) (slice_index sizes k) (slice_index addresses k)
+    slice_index addresses (k + 1)
+    ≡ slice_index addresses k + width (nth_piece pieces k) (slice_index sizes k) (slice_index addresses k)
 
--- it takes as many bytes at both addresses
+-- so it is for the pieces with numbers from first on, before end
+abbrev pub AreSteps : List Piece → List ℕ → List ℕ → ℕ → ℕ → Type 0
+AreSteps pieces sizes addresses first end = (k : ℕ) → first ≤ k → k < end → IsStep pieces sizes addresses k
+
+-- only addresses after the one with number first, up to the one with number end, may have changed
+pub record AreNewIn (old new : List ℕ) (first end : ℕ) : Type 0 where
+  pub same : length new ≡ length old
+  pub before : (k : ℕ) → k ≤ first → slice_index new k ≡ slice_index old k
+  pub after : (k : ℕ) → end < k → slice_index new k ≡ slice_index old k
+
+-- whatever forms the pieces from number first on take, they end below 2^32
+pub record HaveRoom (pieces : List Piece) (sizes addresses : List ℕ) (first : ℕ) : Type 0 where
+  pub alignments : All HasAlignment pieces
+  pub forms : AreForms pieces sizes
+  pub long : length addresses ≡ length pieces + 1
+  pub room : slice_index addresses first + sum_by longest (drop first pieces) < 2 ^ 32
+
+-- ---- blocks that are moved as a whole
+
+-- the piece with number k takes as many bytes at its old and its new address
 abbrev pub IsSameStep : List ℕ → List ℕ → ℕ → Type 0
 IsSameStep old new k = slice_index new (k + 1) + slice_index old k ≡ slice_index old (k + 1) + slice_index new k
 
--- padding is the same after a move by a multiple of this number
+-- padding takes as many bytes if it is moved by a multiple of n
 abbrev pub IsMovedBy : ℕ → Piece → Type 0
 IsMovedBy n (Fixed size) = Unit {0}
 IsMovedBy n (Align alignment) = n % alignment ≡ 0
 IsMovedBy n (Branch to short) = Unit {0}
 IsMovedBy n (Jump to) = Unit {0}
 
+-- for each block a number by a multiple of which all of its pieces can be moved so, or 0
+abbrev pub AreMultiples : List Piece → List ℕ → Type 0
+AreMultiples pieces multiples =
+    (k : ℕ) → k < length pieces → 0 < slice_index multiples (k / block_size)
+    → IsMovedBy (slice_index multiples (k / block_size)) (nth_piece pieces k)
+
 -- no piece of the block grew
 abbrev pub IsKept : List Bool → ℕ → Type 0
 IsKept grown block = slice_index_or grown block false ≡ false
 
--- ---- sizes
+-- ---- pieces that are tested
+
+-- any two addresses are less than 2 GiB apart
+abbrev pub AreNear : List ℕ → Type 0
+AreNear addresses = All (λ a. All (λ b. a < b + near_limit) addresses) addresses
+
+-- each piece and each target has an address, and these are near
+pub record CanBeTested (pieces : List Piece) (addresses : List ℕ) : Type 0 where
+  pub long : length addresses ≡ length pieces + 1
+  pub near : AreNear addresses
+  pub targets : All (λ p. target p ≤ length pieces) pieces
+
+-- whether the piece with number k reaches its target
+abbrev pub fits_at : List ℕ → List Piece → List ℕ → ℕ → Bool
+fits_at addresses pieces sizes k = holds_at addresses k (nth_piece pieces k) (slice_index sizes k)
 
 -- the form that a round gives to the piece with number k
 abbrev pub grown_size : List ℕ → ℕ → Piece → ℕ → ℕ
 grown_size addresses k p size = if holds_at addresses k p size then size else longer p size
 
--- the form reaches wherever the piece lies, or its target lies within the pieces from one number to another
-abbrev pub IsSpanned : Piece → ℕ → ℕ → ℕ → Type 0
-IsSpanned p size low high = ((«from» to : ℕ) → holds p size «from» to ≡ true) ⊎ ((low ≤ target p) × (target p ≤ high))
+-- the form reaches from any address to any other
+abbrev pub ReachesAll : Piece → ℕ → Type 0
+ReachesAll p size = («from» to : ℕ) → holds p size «from» to ≡ true
 
--- the piece is in a block that is one of those from low to high, and so is its target, if the form doesn't reach everywhere
+-- it does, or the target's number is one from low to high
+abbrev pub IsSpanned : Piece → ℕ → ℕ → ℕ → Type 0
+IsSpanned p size low high = ReachesAll p size ⊎ ((low ≤ target p) × (target p ≤ high))
+
+-- the pieces with numbers from first on, before end, were tested: those that don't fit have grown, and all other sizes
+-- are as before; it is told whether all fitted; and first, and the targets that may get out of reach, are numbers from
+-- low to high
+pub record HaveGrownIn (addresses : List ℕ) (pieces : List Piece) (old sizes : List ℕ) (first end : ℕ) (fitted : Bool)
+    (low high : ℕ) : Type 0 where
+  pub same : length sizes ≡ length old
+  pub before : (k : ℕ) → k < first → slice_index sizes k ≡ slice_index old k
+  pub after : (k : ℕ) → end ≤ k → slice_index sizes k ≡ slice_index old k
+  pub grown : (k : ℕ) → first ≤ k → k < end
+      → slice_index sizes k ≡ grown_size addresses k (nth_piece pieces k) (slice_index old k)
+  pub fit : fitted ≡ true → (k : ℕ) → first ≤ k → k < end → fits_at addresses pieces old k ≡ true
+  pub unfit : fitted ≡ false → (k : ℕ) × (first ≤ k) × (k < end) × (fits_at addresses pieces old k ≡ false)
+  pub spanned : (k : ℕ) → first ≤ k → k < end → IsSpanned (nth_piece pieces k) (slice_index sizes k) low high
+  pub low_most : low ≤ first
+  pub high_least : first ≤ high
+  pub high_most : high ≤ length pieces
+
+-- ---- pieces that need no test
+
+-- the block of the piece is one from low to high, and so is that of its target, if that may get out of reach
 abbrev pub IsNear : Piece → ℕ → ℕ → ℕ → ℕ → Type 0
 IsNear p size block low high =
-    (low ≤ block) × (block ≤ high) × (((«from» to : ℕ) → holds p size «from» to ≡ true) ⊎ ((low ≤ target p / 64) × (target p / 64 ≤ high)))
+    (low ≤ block) × (block ≤ high)
+    × (ReachesAll p size ⊎ ((low ≤ target p / block_size) × (target p / block_size ≤ high)))
 
--- no block from low to high changed
+-- so it is for the piece with number k, from what is kept of its block
+abbrev pub IsNearAt : List Piece → List ℕ → List ℕ → List ℕ → ℕ → Type 0
+IsNearAt pieces sizes lows highs k =
+    IsNear (nth_piece pieces k) (slice_index sizes k) (k / block_size)
+    (slice_index lows (k / block_size)) (slice_index highs (k / block_size))
+
+-- no block from low to high changed; for each block it is counted how many before it did
 abbrev pub IsStill : List ℕ → ℕ → ℕ → Type 0
 IsStill changes low high = slice_index changes low ≡ slice_index changes (high + 1)
 
--- in blocks that are kept each piece fits, and all are near
+-- after a test, the pieces of blocks of which none grew fit
 abbrev pub AreTested : List ℕ → List Piece → List ℕ → List Bool → List ℕ → List ℕ → Type 0
 AreTested addresses pieces sizes grown lows highs =
     (k : ℕ) → k < length pieces
-    → (IsKept grown (k / 64) → holds_at addresses k (piece_at pieces k) (slice_index sizes k) ≡ true)
-    × IsNear (piece_at pieces k) (slice_index sizes k) (k / 64) (slice_index lows (k / 64)) (slice_index highs (k / 64))
+    → (IsKept grown (k / block_size) → fits_at addresses pieces sizes k ≡ true) × IsNearAt pieces sizes lows highs k
 
--- where nothing changed near a block, each of its pieces fits and is near
+-- before the next, those of blocks near which nothing changed do
 abbrev pub OthersFit : List ℕ → List Piece → List ℕ → List ℕ → List ℕ → List ℕ → Type 0
 OthersFit addresses pieces sizes changes lows highs =
-    (k : ℕ) → k < length pieces → IsStill changes (slice_index lows (k / 64)) (slice_index highs (k / 64))
-    → (holds_at addresses k (piece_at pieces k) (slice_index sizes k) ≡ true)
-    × IsNear (piece_at pieces k) (slice_index sizes k) (k / 64) (slice_index lows (k / 64)) (slice_index highs (k / 64))
+    (k : ℕ) → k < length pieces
+    → IsStill changes (slice_index lows (k / block_size)) (slice_index highs (k / block_size))
+    → (fits_at addresses pieces sizes k ≡ true) × IsNearAt pieces sizes lows highs k

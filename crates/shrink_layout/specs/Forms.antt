@@ -1,6 +1,6 @@
--- The forms of a piece: its sizes from the shortest on, each with the condition on the distance to its target (RISC-V unprivileged
--- manual, "Control Transfer Instructions", of RV32I and of the C extension).
-use Rattle.std.specs.Prelude.{◌≡◌, ℕ, ℤ, pos, ◌-ℤ◌, ◌-◌, ◌%◌, ◌<◌, ◌⊎◌, Bool, true, false, ◌==◌, if◌then◌else◌}
+-- The forms of a piece: its sizes from the shortest on, each with the condition on the distance to its target (RISC-V
+-- unprivileged manual, "Control Transfer Instructions", of RV32I and of the C extension).
+use Rattle.std.specs.Prelude.{◌≡◌, ℕ, ℤ, pos, ◌-ℤ◌, ◌-◌, ◌%◌, ◌^◌, ◌<◌, ◌⊎◌, Bool, true, false, ◌==◌, if◌then◌else◌}
 use Rattle.psabi_reloc.specs.Reaches.{branch_reach, short_branch_reach, short_jump_reach}
 use Rattle.shrink_layout.specs.declared.piece.Piece.{Piece}
 use Rattle.shrink_layout.specs.declared.piece.Piece.TheVariants.{Fixed, Align, Branch, Jump}
@@ -49,12 +49,17 @@ target (Jump to) = to
 abbrev pub distance : ℕ → ℕ → ℤ
 distance «from» to = pos to -ℤ pos «from»
 
+-- distances below this are those of 32 bits in two's complement
+abbrev pub near_limit : ℕ
+near_limit = 2 ^ 31
+
 -- whether a form reaches from the address of its piece to that of the target; the longest always does
 abbrev pub holds : Piece → ℕ → ℕ → ℕ → Bool
 holds (Fixed n) size «from» to = true
 holds (Align alignment) size «from» to = true
 holds (Branch t short) size «from» to =
-    if size == 2 then short_branch_reach (distance «from» to) else (if size == 4 then branch_reach (distance «from» to) else true)
+    if size == 2 then short_branch_reach (distance «from» to)
+    else (if size == 4 then branch_reach (distance «from» to) else true)
 holds (Jump t) size «from» to = if size == 2 then short_jump_reach (distance «from» to) else true
 
 -- ---- addresses

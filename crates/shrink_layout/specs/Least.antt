@@ -15,7 +15,8 @@ AreForms (p ∷ pieces) (size ∷ sizes) = IsForm p size × AreForms pieces size
 -- the sizes fit, and every choice that fits is at least as large at every piece
 pub record IsLeast (text : ℕ) (pieces : List Piece) (sizes : List ℕ) : Type 0 where
   pub fits : Fits text pieces sizes
-  pub least : (other : List ℕ) → AreForms pieces other → Fits text pieces other → (k : ℕ) → slice_index sizes k ≤ slice_index other k
+  pub least : (other : List ℕ) → AreForms pieces other → Fits text pieces other
+      → (k : ℕ) → slice_index sizes k ≤ slice_index other k
 
 -- no piece is aligned above 2 bytes
 abbrev pub IsTight : Piece → Type 0

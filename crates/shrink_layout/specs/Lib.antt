@@ -4,4 +4,9 @@ pub mod Layout
 pub mod Least
 pub mod Numbers
 pub mod Pieces
+pub mod Rounds
 pub mod Settled
+pub mod Units
+pub mod Halves
+pub mod Made
+pub mod Counted

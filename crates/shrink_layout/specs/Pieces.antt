@@ -1,8 +1,8 @@
 -- The pieces of code: the padding before each section of it, and its items, each with the forms that it has (RISC-V unprivileged
 -- manual, "C Extension for Compressed Instructions"; RISC-V Zc specification 1.0, "Zcb").
-use Rattle.std.specs.Prelude.{ℕ, pos, ◌+◌, Bool, true, false, nat_lt, nat_le, if◌then◌else◌, List, [], ◌∷◌, length, filter, map, not, ◌&&◌}
+use Rattle.std.specs.Prelude.{ℕ, pos, ◌+◌, Bool, true, false, nat_lt, nat_le, if◌then◌else◌, List, [], ◌∷◌, length, map, not, ◌&&◌, Option, Some, None}
 use Rattle.std.specs.List.{flat_map, list_any, sum_by}
-use Rattle.std.specs.Option.{is_some, option_map_or, option_to_list}
+use Rattle.std.specs.Option.{is_some, option_map_or}
 use Rattle.zc_base.specs.declared.place.Place.{Place}
 use Rattle.elf32_read.specs.Parts.{ObjectParts, SectionParts, is_code_section}
 use Rattle.psabi_reloc.specs.Parts.{hi20_of, lo12_of}
@@ -17,10 +17,10 @@ use Rattle.rv_decode.specs.declared.instr.Instr.{Instr}
 use Rattle.rv_decode.specs.declared.instr.Instr.TheVariants as instr
 use Rattle.zc_decode.specs.declared.short.Short.TheVariants.{Base}
 use Rattle.zc_encode.specs.Halves.{encoded16}
-use Rattle.block_cut.specs.Items.{all_items, code_at, items_in, starts_in}
-use Rattle.block_cut.specs.declared.code_place.CodePlace.{CodePlace}
+use Rattle.block_cut.specs.Items.{all_items, code_at, index_on, is_target_at, places_of, starts_in}
 use Rattle.block_cut.specs.declared.item.Item.{Item}
 use Rattle.block_cut.specs.declared.item.Item.TheVariants as item
+use Rattle.shrink_layout.specs.Units.{CodeUnit, OneItem, front_size, unit_at}
 use Rattle.shrink_layout.specs.declared.piece.Piece.{Piece}
 use Rattle.shrink_layout.specs.declared.piece.Piece.TheVariants.{Fixed, Align, Branch, Jump}
 
@@ -30,14 +30,15 @@ use Rattle.shrink_layout.specs.declared.piece.Piece.TheVariants.{Fixed, Align, B
 abbrev pub piece_count : ListedSection → ℕ
 piece_count l = if is_code_section l.section then 1 + length (starts_in l.section) else 0
 
--- how many pieces stand before an offset of a section, by its object's index and its own
+-- how many pieces stand before an offset of a section, by its object's index and its own: what is in front of all code, the
+-- sections before it, its padding, and the items before the offset
 abbrev pub pieces_before : List ObjectParts → ℕ → ℕ → SectionParts → ℕ → ℕ
-pieces_before objects o i s n =
-    sum_by piece_count (sections_before objects o i) + 1 + length (filter (λ m. nat_lt m n) (starts_in s))
+pieces_before objects o i s n = 1 + sum_by piece_count (sections_before objects o i) + 1 + index_on s n
 
--- how many stand before a place of code
+-- how many stand before a place where an item starts or a section of code ends; 0 of any other
 abbrev pub number_of : List ObjectParts → Place → ℕ
-number_of objects q = option_map_or (λ s. pieces_before objects q.object q.section s q.offset) (code_at objects q) 0
+number_of objects q =
+    if is_target_at objects q then option_map_or (λ s. pieces_before objects q.object q.section s q.offset) (code_at objects q) 0 else 0
 
 -- ---- forms
 
@@ -83,11 +84,16 @@ piece_of objects (item.Word t) = Fixed 4
 piece_of objects (item.Raw word) = Fixed 4
 piece_of objects (item.RawPair first second) = Fixed 8
 
--- ---- all pieces
+-- the piece of what is written at a place
+abbrev pub unit_piece : List ObjectParts → Option CodeUnit → Piece
+unit_piece objects None = Fixed 0
+unit_piece objects (Some (OneItem i)) = piece_of objects i
 
--- the items that start at places
-abbrev pub items_held : List CodePlace → List Item
-items_held places = flat_map (λ p. option_to_list p.item) places
+-- the piece at a place
+abbrev pub piece_at : ParsedInputs → Place → Piece
+piece_at inputs q = unit_piece inputs.objects (unit_at inputs q)
+
+-- ---- all pieces
 
 -- the padding before a section: up to 4 its alignment is that of the instructions that it has, which may take 2 bytes now
 abbrev pub section_alignment : SectionParts → ℕ
@@ -96,15 +102,15 @@ section_alignment s = if nat_le s.align 4 then 2 else s.align
 -- a section's pieces
 abbrev pub section_pieces : ParsedInputs → ListedSection → List Piece
 section_pieces inputs l =
-    if is_code_section l.section then Align (section_alignment l.section) ∷ map (piece_of inputs.objects) (items_in inputs l) else []
+    if is_code_section l.section then Align (section_alignment l.section) ∷ map (piece_at inputs) (places_of l) else []
 
 -- those of sections one after another
 abbrev pub pieces_in : ParsedInputs → List ListedSection → List Piece
 pieces_in inputs sections = flat_map (section_pieces inputs) sections
 
--- those of all code, by object, section and offset
+-- those of all code, by object, section and offset, behind what stands in front
 unfoldable pub pieces_of : ParsedInputs → List Piece
-pieces_of inputs = pieces_in inputs (all_sections inputs.objects)
+pieces_of inputs = Fixed front_size ∷ pieces_in inputs (all_sections inputs.objects)
 
 -- ---- alignments
 

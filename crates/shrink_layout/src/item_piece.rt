@@ -3,15 +3,18 @@
 ghost use Rattle.std.specs.Prelude.{◌≡◌, None};
 ghost use Rattle.psabi_sym.specs.Faults.{gather_fault, power_above};
 ghost use Rattle.psabi_sym.specs.Inputs.{parsed};
-ghost use Rattle.shrink_layout.specs.Numbers.{AreNumbers};
+ghost use Rattle.shrink_layout.specs.Halves.{IsHalfOf};
+ghost use Rattle.shrink_layout.specs.Numbers.{AreFirstNumbers};
 ghost use Rattle.shrink_layout.specs.Pieces as pieces;
 ghost use Rattle.shrink_layout.specs.Pieces.{piece_of};
 
-use crate::numbers::Numbers;
-use crate::part_size::{instr_size, is_short, lower_size, upper_size};
+use crate::instr_piece::{
+    ItemPiece, fixed, instr_piece, is_short, lower_piece, upper_piece, without_half,
+};
+use crate::numbers::number_of;
 use crate::piece::Piece;
+use block_cut::cut::Cut;
 use block_cut::item::Item;
-use psabi_sym::objects::Objects;
 use rv_decode::instr::{BranchOp, Instr};
 use zc_base::place::Place;
 use zc_base::reg::Reg;
@@ -45,49 +48,47 @@ fn is_short_branch(op: BranchOp, first: Reg, second: Reg) -> bool
 }
 
 // The piece of a `jal` to a place.
-fn jump_piece(objects: &Objects, numbers: &Numbers, rd: Reg, to: Place) -> Piece
-    requires faultless { gather_fault objects.now ≡ None }
-    requires numbers { AreNumbers (parsed objects.now).objects numbers.now }
-    ensures { result ≡ pieces.jump_piece (parsed objects.now).objects to (pieces.is_short_jump rd) }
+fn jump_piece(cut: &Cut, starts: &[u32], rd: Reg, to: Place) -> ItemPiece
+    requires faultless { gather_fault cut.now ≡ None }
+    requires starts { AreFirstNumbers (parsed cut.now).objects starts.now }
+    ensures { result ≡ record {
+      piece = pieces.jump_piece (parsed cut.now).objects to (pieces.is_short_jump rd);
+      half = 0;
+    } }
 {
     if !is_short(Instr::Jal { rd, distance: 0 }) {
-        return Piece::Fixed { size: 4 };
+        return fixed(4);
     }
-    Piece::Jump {
-        to: numbers.number(objects, to),
-    }
+    without_half(Piece::Jump {
+        to: number_of(cut, starts, to),
+    })
 }
 
-/// The piece of an item.
-pub fn item_piece(objects: &Objects, numbers: &Numbers, item: &Item) -> Piece
-    requires faultless { gather_fault objects.now ≡ None }
-    requires numbers { AreNumbers (parsed objects.now).objects numbers.now }
-    ensures { result ≡ piece_of (parsed objects.now).objects item.now }
+/// The piece of an item, with its halfword.
+pub fn item_piece(cut: &Cut, starts: &[u32], item: &Item) -> ItemPiece
+    requires faultless { gather_fault cut.now ≡ None }
+    requires starts { AreFirstNumbers (parsed cut.now).objects starts.now }
+    ensures piece { result.piece ≡ piece_of (parsed cut.now).objects item.now }
+    ensures half { IsHalfOf item.now result.half }
 {
     match item {
-        Item::Op(i) => Piece::Fixed {
-            size: instr_size(*i),
-        },
-        Item::Hi(i, t) => Piece::Fixed {
-            size: upper_size(*i, *t),
-        },
-        Item::Lo(i, t) => Piece::Fixed {
-            size: lower_size(*i, *t),
-        },
+        Item::Op(i) => instr_piece(*i),
+        Item::Hi(i, t) => upper_piece(*i, *t),
+        Item::Lo(i, t) => lower_piece(*i, *t),
         Item::Branch {
             op,
             first,
             second,
             to,
-        } => Piece::Branch {
-            to: numbers.number(objects, *to),
+        } => without_half(Piece::Branch {
+            to: number_of(cut, starts, *to),
             short: is_short_branch(*op, *first, *second),
-        },
-        Item::Jump { rd, to } | Item::Call { rd, to, .. } => jump_piece(objects, numbers, *rd, *to),
-        Item::Align(bytes) => Piece::Align {
+        }),
+        Item::Jump { rd, to } | Item::Call { rd, to, .. } => jump_piece(cut, starts, *rd, *to),
+        Item::Align(bytes) => without_half(Piece::Align {
             alignment: power_above(*bytes),
-        },
-        Item::PcHi(..) | Item::PcLo(..) | Item::Word(_) | Item::Raw(_) => Piece::Fixed { size: 4 },
-        Item::RawPair(..) => Piece::Fixed { size: 8 },
+        }),
+        Item::PcHi(..) | Item::PcLo(..) | Item::Word(_) | Item::Raw(_) => fixed(4),
+        Item::RawPair(..) => fixed(8),
     }
 }

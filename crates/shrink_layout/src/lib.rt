@@ -3,11 +3,11 @@
 #![tactic(auto)]
 
 mod addresses;
+mod blocks;
+mod instr_piece;
 mod item_piece;
 mod moves;
-mod multiples;
 mod numbers;
-mod part_size;
 pub mod piece;
 mod pieces;
 mod round;

@@ -1,7 +1,7 @@
 // What the layout knows of an item.
 
 ghost use Rattle.std.specs.Prelude.{◌≡◌, ◌<◌, ◌≤◌, ◌+◌};
-ghost use Rattle.shrink_layout.specs.Forms.{HasAlignment, IsForm, holds, longer, longest, shortest, target, width};
+ghost use Rattle.shrink_layout.specs.Forms.{HasAlignment, IsForm, holds, longer, longest, near_limit, shortest, target, width};
 
 use psabi_reloc::reaches::{branch_reaches, short_branch_reaches, short_jump_reaches};
 
@@ -59,7 +59,7 @@ impl Piece {
 
     /// Whether this form reaches from one address to another, which is less than 2 GiB away.
     pub fn holds(self, size: u32, from: u32, to: u32) -> bool
-        ensures { from < to + 0x8000_0000 → to < from + 0x8000_0000 → result ≡ holds self size from to }
+        ensures { from < to + near_limit → to < from + near_limit → result ≡ holds self size from to }
     {
         let distance = to.wrapping_sub(from).cast_signed();
         match self {

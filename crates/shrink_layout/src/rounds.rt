@@ -1,24 +1,48 @@
 // The layout of pieces: rounds, of which the first that fits is taken.
 
-ghost use Rattle.std.specs.Prelude.{◌≡◌, ◌≢◌, ℕ, ◌≤◌, ◌<◌, ◌+◌, ◌^◌, ◌/◌, ◌%◌, All, IfOk, length, map, slice_index};
-ghost use Rattle.shrink_layout.specs.Blocks.{IsMovedBy, piece_at};
-ghost use Rattle.std.specs.List.{sum_by};
-ghost use Rattle.shrink_layout.specs.Forms.{HasAlignment, IsEven, longest, shortest, target};
-ghost use Rattle.shrink_layout.specs.Layout.{IsLayout, addresses_of};
+ghost use Rattle.std.specs.Prelude.{◌≡◌, ◌%◌, All, IfOk, map};
+ghost use Rattle.shrink_layout.specs.Forms.{IsEven, shortest};
+ghost use Rattle.shrink_layout.specs.Layout.{IsLayout, addresses_of, all_fit, sizes_of};
 ghost use Rattle.shrink_layout.specs.Least.{IsLeast, IsTight};
+ghost use Rattle.shrink_layout.specs.Rounds.{CanBeLaid, next_pieces, shortest_pieces};
 
 use crate::addresses::fill;
+use crate::blocks::Blocks;
 use crate::moves::move_on;
-use crate::multiples::multiples_of;
 use crate::piece::Piece;
 use crate::round::grow;
 use std::alloc::{AllocError, Global};
+use std::marker::Model;
 
 /// The size of each piece, and the address of each piece and of the end.
 #[derive(Drop)]
-pub struct Rounds {
+pub struct PieceLayout {
     pub sizes: Vec<u32>,
     pub addresses: Vec<u32>,
+}
+
+// Pieces at the sizes that the rounds so far gave them.
+#[derive(Drop)]
+struct Rounds<'a> {
+    pieces: &'a [Piece],
+    sizes: Vec<u32>,
+    addresses: Vec<u32>,
+    blocks: Blocks,
+}
+
+impl<'a> Model for Rounds<'a> {
+    ghost use Rattle.std.specs.Prelude.{slice_index};
+    ghost use Rattle.shrink_layout.specs.Rounds.{AreLaid, LaidPieces};
+
+    ghost Value = { LaidPieces };
+
+    ghost view = { λ r. record {
+      text = slice_index r.addresses.items 0;
+      pieces = r.pieces.now;
+      sizes = r.sizes.items;
+    } };
+
+    ghost invariant = { λ r. AreLaid r.pieces.now r.sizes.items r.addresses.items r.blocks };
 }
 
 // The shortest form of each piece.
@@ -28,76 +52,73 @@ fn shortest_sizes(alloc: Global, pieces: &[Piece]) -> Result<Vec<u32>, AllocErro
     pieces.iter().map(|piece| piece.shortest()).collect(alloc)
 }
 
-// Rounds from the shortest forms on, until all pieces fit. At first something changed near each block.
-fn make_rounds(
-    text: u32,
-    pieces: &[Piece],
-    multiples: &[u32],
-    sizes: &mut [u32],
-    addresses: &mut [u32],
-    grown: &mut [bool],
-    lows: &mut [usize],
-    highs: &mut [usize],
-    changes: &mut [usize],
-)
-    requires alignments { All HasAlignment pieces.now }
-    requires targets { All (λ p. target p ≤ length pieces.now) pieces.now }
-    requires room { text + sum_by longest pieces.now < 2 ^ 32 }
-    requires near { sum_by longest pieces.now < 0x8000_0000 }
-    requires shortest { sizes.old ≡ map shortest pieces.now }
-    requires addressed { addresses.old ≡ addresses_of text pieces.now sizes.old }
-    requires blocks { length grown.old ≡ length pieces.now / 64 + 1 }
-    requires multiples_blocks { length multiples.now ≡ length grown.old }
-    requires lows_blocks { length lows.old ≡ length grown.old }
-    requires highs_blocks { length highs.old ≡ length grown.old }
-    requires changes_blocks { length changes.old ≡ length grown.old + 1 }
-    requires low { All (λ b. b ≡ 0) lows.old }
-    requires high { All (λ b. b ≡ 0) highs.old }
-    requires changed { slice_index changes.old 0 ≢ slice_index changes.old 1 }
-    requires multiples { (k : ℕ) → k < length pieces.now → 0 < slice_index multiples.now (k / 64) → IsMovedBy (slice_index multiples.now (k / 64)) (piece_at pieces.now k) }
-    ensures layout { IsLayout text pieces.now sizes.new }
-    ensures addresses { addresses.new ≡ addresses_of text pieces.now sizes.new }
-    ensures least { text % 2 ≡ 0 → All IsEven pieces.now → All IsTight pieces.now → IsLeast text pieces.now sizes.new }
-{
-    loop {
-        if grow(pieces, addresses, changes, sizes, grown, lows, highs) {
-            return;
+impl<'a> Rounds<'a> {
+    // The shortest forms.
+    fn new(alloc: Global, text: u32, pieces: &'a [Piece]) -> Result<Rounds<'a>, AllocError>
+        requires { CanBeLaid text pieces.now }
+        ensures { IfOk result (λ r. r ≡ shortest_pieces text pieces.now) }
+    {
+        let sizes = shortest_sizes(alloc, pieces)?;
+        let mut addresses = Vec::new(alloc);
+        fill(&mut addresses, text, pieces, &sizes)?;
+        let blocks = Blocks::new(alloc, pieces)?;
+        Ok(Rounds {
+            pieces,
+            sizes,
+            addresses,
+            blocks,
+        })
+    }
+
+    // One round. Says whether all pieces fitted before it.
+    fn next(&mut self) -> bool
+        ensures fitted { result ≡ all_fit self.old.text self.old.pieces self.old.sizes }
+        ensures next { self.new ≡ next_pieces self.old }
+    {
+        if grow(
+            self.pieces,
+            &self.addresses,
+            &mut self.sizes,
+            &mut self.blocks,
+        ) {
+            return true;
         }
-        move_on(addresses, pieces, sizes, grown, multiples, changes);
+        move_on(
+            self.pieces,
+            &self.sizes,
+            &mut self.addresses,
+            &mut self.blocks,
+        );
+        false
+    }
+
+    // The sizes and addresses.
+    fn layout(self) -> PieceLayout
+        ensures sizes { result.sizes.items ≡ self.entry.sizes }
+        ensures addresses { result.addresses.items ≡ addresses_of self.entry.text self.entry.pieces self.entry.sizes }
+    {
+        PieceLayout {
+            sizes: self.sizes,
+            addresses: self.addresses,
+        }
     }
 }
 
-/// The layout of pieces from an address on: rounds, each of which gives the next longer form to the
-/// pieces that don't fit, until all do.
-pub fn settle_pieces(alloc: Global, text: u32, pieces: &[Piece]) -> Result<Rounds, AllocError>
-    requires alignments { All HasAlignment pieces.now }
-    requires targets { All (λ p. target p ≤ length pieces.now) pieces.now }
-    requires room { text + sum_by longest pieces.now < 2 ^ 32 }
-    requires near { sum_by longest pieces.now < 0x8000_0000 }
-    ensures layout { IfOk result (λ r. IsLayout text pieces.now r.sizes.items) }
-    ensures addresses { IfOk result (λ r. r.addresses.items ≡ addresses_of text pieces.now r.sizes.items) }
-    ensures least { text % 2 ≡ 0 → All IsEven pieces.now → All IsTight pieces.now → IfOk result (λ r. IsLeast text pieces.now r.sizes.items) }
+/// The layout of pieces from an address on: rounds, each of which gives the next longer form to the pieces that
+/// don't fit, until all do.
+pub fn settle_pieces(alloc: Global, text: u32, pieces: &[Piece]) -> Result<PieceLayout, AllocError>
+    requires { CanBeLaid text pieces.now }
+    ensures layout { IfOk result (λ _. IsLayout text pieces.now (sizes_of text pieces.now)) }
+    ensures sizes { IfOk result (λ r. r.sizes.items ≡ sizes_of text pieces.now) }
+    ensures addresses { IfOk result
+        (λ r. r.addresses.items ≡ addresses_of text pieces.now (sizes_of text pieces.now)) }
+    ensures least { text % 2 ≡ 0 → All IsEven pieces.now → All IsTight pieces.now
+        → IfOk result (λ _. IsLeast text pieces.now (sizes_of text pieces.now)) }
 {
-    let mut sizes = shortest_sizes(alloc, pieces)?;
-    let mut addresses = Vec::new(alloc);
-    fill(&mut addresses, text, pieces, &sizes)?;
-    let multiples = multiples_of(alloc, pieces)?;
-    let blocks = multiples.len();
-    let mut grown = vec![in alloc; false; blocks]?;
-    let mut lows = vec![in alloc; 0; blocks]?;
-    let mut highs = vec![in alloc; 0; blocks]?;
-    let mut changes = vec![in alloc; 0; blocks + 1]?;
-    changes[0] = 1;
-    make_rounds(
-        text,
-        pieces,
-        &multiples,
-        &mut sizes,
-        &mut addresses,
-        &mut grown,
-        &mut lows,
-        &mut highs,
-        &mut changes,
-    );
-    Ok(Rounds { sizes, addresses })
+    let mut rounds = Rounds::new(alloc, text, pieces)?;
+    loop {
+        if rounds.next() {
+            return Ok(rounds.layout());
+        }
+    }
 }

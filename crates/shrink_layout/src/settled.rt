@@ -1,29 +1,38 @@
 // The objects with the layout of their code.
 
-ghost use Rattle.std.specs.Prelude.{◌≡◌, ◌<◌, ◌≤◌, ◌-◌, ◌==◌, ◌^◌, IfOk, IsTrue, filter, if◌then◌else◌, length};
+ghost use Rattle.std.specs.Prelude.{◌≡◌, ◌≤◌, ◌^◌, ◌<◌, if◌then◌else◌, IfOk, IsTrue, Some, length, true};
 ghost use Rattle.psabi_sym.specs.Inputs.{parsed, Inputs};
+ghost use Rattle.block_cut.specs.Items.{is_target_at, item_at};
+ghost use Rattle.block_cut.specs.Places.{IsPlaceNumber};
+ghost use Rattle.block_cut.specs.declared.item.Item.{Item};
+ghost use Rattle.shrink_layout.specs.Counted.{is_long_piece, is_short_piece, pieces_with};
+ghost use Rattle.shrink_layout.specs.Halves.{IsHalfOf};
+ghost use Rattle.shrink_layout.specs.Layout.{IsLayout};
 ghost use Rattle.shrink_layout.specs.Least.{IsLeast};
-ghost use Rattle.shrink_layout.specs.Numbers.{IsSettled};
+ghost use Rattle.shrink_layout.specs.Numbers.{HasPlace, IsSettled};
 ghost use Rattle.shrink_layout.specs.Pieces.{is_unaligned, pieces_of};
-ghost use Rattle.shrink_layout.specs.Settled.{AreSettled, is_branch, long_branches, settled_address, settled_counts, settled_end, settled_size};
+ghost use Rattle.shrink_layout.specs.Settled.{settled_address, settled_counts, settled_end, settled_size, settled_sizes};
+ghost use Rattle.zc_base.specs.declared.place.Place.{Place};
 
-use crate::numbers::Numbers;
+use crate::numbers::{first_numbers, number_of, piece_number};
 use crate::piece::Piece;
-use crate::pieces::number_pieces;
+use crate::pieces::make_pieces;
 use crate::rounds::settle_pieces;
 use block_cut::cut::Cut;
+use block_cut::place_number::PlaceNumber;
 use frame_match::planned::Planned;
 use std::alloc::{AllocError, Global};
 use std::marker::Model;
 use zc_base::counts::Counts;
 use zc_base::place::Place;
 
-/// The layout of objects' code that is made smaller.
+/// The layout of objects' code that is made smaller: the number of each section's first place, and for each piece its
+/// halfword, if that is known before the layout, and its address.
 #[derive(Drop)]
 pub struct Settled {
     planned: Planned,
-    numbers: Numbers,
-    sizes: Vec<u32>,
+    starts: Vec<u32>,
+    halves: Vec<u16>,
     addresses: Vec<u32>,
     counts: Counts,
 }
@@ -31,35 +40,40 @@ pub struct Settled {
 // What is kept of a layout beside the objects.
 #[derive(Drop)]
 struct Kept {
-    numbers: Numbers,
-    sizes: Vec<u32>,
+    starts: Vec<u32>,
+    halves: Vec<u16>,
     addresses: Vec<u32>,
     counts: Counts,
 }
 
 impl Model for Settled {
+    ghost use Rattle.psabi_sym.specs.Inputs.{Inputs};
     ghost use Rattle.shrink_layout.specs.Numbers.{IsSettled};
-    ghost use Rattle.shrink_layout.specs.Settled.{Layout};
 
-    ghost Value = { Layout };
+    ghost Value = { Inputs };
 
-    ghost view = { λ settled. record { inputs = settled.planned; sizes = settled.sizes.items } };
+    ghost view = { λ settled. settled.planned };
 
     ghost invariant = { λ settled.
-        IsSettled settled.planned settled.numbers settled.sizes.items settled.addresses.items settled.counts };
+        IsSettled settled.planned settled.starts.items settled.halves.items settled.addresses.items settled.counts };
 }
 
-// How many items take two bytes.
-fn short_count(sizes: &[u32]) -> usize
-    ensures value { result ≡ length (filter (λ size. size == 2) sizes.now) }
-    ensures most { result ≤ length sizes.now }
+// One for a piece that isn't padding and takes two bytes, and else none.
+fn short_of(piece: Piece, size: u32) -> u32
+    ensures value { result ≡ (if is_short_piece piece size then 1 else 0) }
+    ensures most { result ≤ 1 }
 {
-    sizes.iter().filter(|size| **size == 2).count()
+    match piece {
+        Piece::Align { .. } => 0,
+        Piece::Fixed { .. } | Piece::Branch { .. } | Piece::Jump { .. } => {
+            if size == 2 { 1 } else { 0 }
+        }
+    }
 }
 
 // One for a branch that takes eight bytes, and else none.
-fn long_of(piece: Piece, size: u32) -> usize
-    ensures value { result ≡ (if is_branch piece then (if size == 8 then 1 else 0) else 0) }
+fn long_of(piece: Piece, size: u32) -> u32
+    ensures value { result ≡ (if is_long_piece piece size then 1 else 0) }
     ensures most { result ≤ 1 }
 {
     match piece {
@@ -68,40 +82,33 @@ fn long_of(piece: Piece, size: u32) -> usize
     }
 }
 
-// How many branches take eight bytes.
-fn long_count(pieces: &[Piece], sizes: &[u32]) -> usize
-    requires { length sizes.now ≡ length pieces.now }
-    ensures value { result ≡ long_branches pieces.now sizes.now }
-    ensures most { result ≤ length pieces.now }
-{
-    let mut count = 0;
-    for k in 0..pieces.len() {
-        count += long_of(pieces[k], sizes[k]);
-    }
-    count
-}
-
-// What a layout counts, by where its text begins and ends and how many items there are.
-fn count(text: u32, end: u32, items: u32, pieces: &[Piece], sizes: &[u32]) -> Counts
-    requires rises { text ≤ end }
+// What a layout counts, by the text's bytes and the number of items. The first piece isn't counted, since it
+// stands in front of all code.
+fn count(text: u32, items: u32, pieces: &[Piece], sizes: &[u32]) -> Counts
     requires same { length sizes.now ≡ length pieces.now }
     requires few { length pieces.now < 2 ^ 32 }
     ensures { result ≡ record {
-      text = end - text;
+      text = text;
       items = items;
-      short = length (filter (λ size. size == 2) sizes.now);
-      long = long_branches pieces.now sizes.now;
+      short = pieces_with is_short_piece pieces.now sizes.now;
+      long = pieces_with is_long_piece pieces.now sizes.now;
       pushes = 0;
       pops = 0;
       moves = 0;
       table = 0;
     } }
 {
+    let mut short = 0;
+    let mut long = 0;
+    for k in 1..pieces.len() {
+        short += short_of(pieces[k], sizes[k]);
+        long += long_of(pieces[k], sizes[k]);
+    }
     Counts {
-        text: end - text,
+        text,
         items,
-        short: short_count(sizes) as u32,
-        long: long_count(pieces, sizes) as u32,
+        short,
+        long,
         pushes: 0,
         pops: 0,
         moves: 0,
@@ -112,19 +119,20 @@ fn count(text: u32, end: u32, items: u32, pieces: &[Piece], sizes: &[u32]) -> Co
 // The layout of objects that are cut.
 fn lay_out(alloc: Global, cut: &Cut) -> Result<Kept, AllocError>
     ensures settled { IfOk result
-        (λ kept. IsSettled cut.now kept.numbers kept.sizes.items kept.addresses.items kept.counts) }
+        (λ kept. IsSettled cut.now kept.starts.items kept.halves.items kept.addresses.items kept.counts) }
     ensures least { IsTrue (is_unaligned (parsed cut.now)) → IfOk result
-        (λ kept. IsLeast cut.now.map.text (pieces_of (parsed cut.now)) kept.sizes.items) }
+        (λ _. IsLeast cut.now.map.text (pieces_of (parsed cut.now)) (settled_sizes (parsed cut.now))) }
 {
-    let numbered = number_pieces(alloc, cut)?;
+    let starts = first_numbers(alloc, cut)?;
+    let made = make_pieces(alloc, cut, &starts)?;
     let text = cut.objects().map().text;
-    let rounds = settle_pieces(alloc, text, &numbered.pieces)?;
-    let end = rounds.addresses[numbered.pieces.len()];
+    let rounds = settle_pieces(alloc, text, &made.pieces)?;
+    let end = rounds.addresses[made.pieces.len()];
     let items = cut.counts().items;
-    let counts = count(text, end, items, &numbered.pieces, &rounds.sizes);
+    let counts = count(end - text, items, &made.pieces, &rounds.sizes);
     Ok(Kept {
-        numbers: numbered.numbers,
-        sizes: rounds.sizes,
+        starts,
+        halves: made.halves,
         addresses: rounds.addresses,
         counts,
     })
@@ -132,16 +140,17 @@ fn lay_out(alloc: Global, cut: &Cut) -> Result<Kept, AllocError>
 
 /// Settles the layout of objects whose code is made smaller: the first round of sizes that fits.
 pub fn settle(alloc: Global, planned: Planned) -> Result<Settled, AllocError>
-    ensures same { IfOk result (λ settled. settled.inputs ≡ planned) }
-    ensures layout { IfOk result (λ settled. AreSettled (parsed planned) settled.sizes) }
+    ensures same { IfOk result (λ settled. settled ≡ planned) }
+    ensures layout { IfOk result
+        (λ _. IsLayout planned.map.text (pieces_of (parsed planned)) (settled_sizes (parsed planned))) }
     ensures least { IsTrue (is_unaligned (parsed planned)) → IfOk result
-        (λ settled. IsLeast planned.map.text (pieces_of (parsed planned)) settled.sizes) }
+        (λ _. IsLeast planned.map.text (pieces_of (parsed planned)) (settled_sizes (parsed planned))) }
 {
     let kept = lay_out(alloc, planned.cut())?;
     Ok(Settled {
         planned,
-        numbers: kept.numbers,
-        sizes: kept.sizes,
+        starts: kept.starts,
+        halves: kept.halves,
         addresses: kept.addresses,
         counts: kept.counts,
     })
@@ -151,45 +160,68 @@ impl Settled {
     /// The address of a place where an item starts or a section of code ends. It takes constant time, as
     /// does all that follows.
     pub fn address(&self, p: Place) -> Option<u32>
-        ensures { result ≡ settled_address (parsed self.now.inputs) self.now.sizes p }
+        ensures { result ≡ settled_address (parsed self.now) p }
     {
-        let objects = self.planned.cut().objects();
-        match self.numbers.place_number(objects, p) {
+        match self.planned.cut().number(p) {
             None => None,
-            Some(k) => Some(self.addresses[k as usize]),
+            Some(number) => Some(self.address_at(number)),
+        }
+    }
+
+    /// The address of a place, by where it stands among all.
+    pub fn address_at(&self, number: PlaceNumber) -> u32
+        requires { HasPlace (parsed self.now).objects number }
+        ensures { (q : Place) → is_target_at (parsed self.now).objects q ≡ true
+            → IsPlaceNumber (parsed self.now).objects q number → Some result ≡ settled_address (parsed self.now) q }
+    {
+        self.addresses[piece_number(&self.starts, number) as usize]
+    }
+
+    /// The halfword of the item that starts at a place, by where the place stands among all, if that is known
+    /// before the layout: some halfword does what its instruction does, which doesn't depend on addresses.
+    pub fn half_at(&self, number: PlaceNumber) -> u16
+        requires { HasPlace (parsed self.now).objects number }
+        ensures { (q : Place) (item : Item) → item_at (parsed self.now) q ≡ Some item
+            → IsPlaceNumber (parsed self.now).objects q number → IsHalfOf item result }
+    {
+        let k = piece_number(&self.starts, number) as usize;
+        // No piece stands at the end of all code.
+        if k < self.halves.len() {
+            self.halves[k]
+        } else {
+            0
         }
     }
 
     /// The bytes of the item at a place, if one starts there.
     pub fn size(&self, p: Place) -> Option<u32>
-        ensures { result ≡ settled_size (parsed self.now.inputs) self.now.sizes p }
+        ensures { result ≡ settled_size (parsed self.now) p }
     {
         let cut = self.planned.cut();
         if cut.item(p).is_none() {
             return None;
         }
-        let k = self.numbers.number(cut.objects(), p) as usize;
+        let k = number_of(cut, &self.starts, p) as usize;
         Some(self.addresses[k + 1] - self.addresses[k])
     }
 
     /// Where the text ends.
     pub fn text_end(&self) -> u32
-        ensures { result ≡ settled_end (parsed self.now.inputs) self.now.sizes }
+        ensures { result ≡ settled_end (parsed self.now) }
     {
         self.addresses[self.addresses.len() - 1]
     }
 
     /// What the layout counts.
     pub fn counts(&self) -> Counts
-        ensures { result ≡ settled_counts (parsed self.now.inputs) self.now.sizes }
+        ensures { result ≡ settled_counts (parsed self.now) }
     {
         self.counts
     }
 
     /// The objects with their items and groups.
     pub fn planned(&self) -> &Planned
-        ensures same { result.now ≡ self.now.inputs }
-        ensures settled { AreSettled (parsed self.now.inputs) self.now.sizes }
+        ensures same { result.now ≡ self.now }
     {
         &self.planned
     }

@@ -2,7 +2,7 @@ use Rattle.std.proofs.Common.{◌≡◌, ℕ, ◌+◌, ◌<◌, ◌≤◌, get_o
 use Rattle.std.specs.Prelude.{slice_index}
 use Rattle.std.proofs.lemmas.Bool.{cases_lt}
 use Rattle.shrink_layout.specs.declared.piece.Piece.TheVariants.{Fixed}
-use Rattle.shrink_layout.specs.Blocks.{IsStep, piece_at}
+use Rattle.shrink_layout.specs.Blocks.{IsStep, nth_piece}
 use Rattle.shrink_layout.specs.Forms.{width}
 use Rattle.shrink_layout.proofs.AddressLaws.{form_at}
 use Rattle.shrink_layout.proofs.AddressSteps.{room_step}
@@ -11,10 +11,10 @@ use Rattle.shrink_layout.proofs.RoundLaws.{length_forms}
 use Rattle.shrink_layout.proofs.moves.lay_anew.Goals as goal
 
 pub bounds-sizes-k : goal.bounds-sizes-k
-bounds-sizes-k c = omega (arith, length_forms c.args.pieces.now c.args.sizes.now c.requires.forms)
+bounds-sizes-k c = omega (arith, length_forms c.args.pieces.now c.args.sizes.now c.requires.room.forms)
 
 pub width-at-requires-clause-form : goal.width-at-requires-clause-form
-width-at-requires-clause-form c = form_at c.args.pieces.now c.args.sizes.now c.loop-k.k _ (omega arith) c.requires.forms
+width-at-requires-clause-form c = form_at c.args.pieces.now c.args.sizes.now c.loop-k.k _ (omega arith) c.requires.room.forms
 
 pub loop-k-preserved : goal.loop-k-preserved
 loop-k-preserved c =
@@ -27,12 +27,12 @@ loop-k-preserved c =
     let now = c.loop-k.invariant in
     let b = set a (k + 1) (at + w) in
     let in_pieces : k < length pieces = omega arith in
-    let from_first : c.args.first ≤ k = omega arith in
-    let in_a : k + 1 < length a = omega (arith, now.same, c.requires.addressed) in
+    let from_first : c.args.span.first ≤ k = omega arith in
+    let in_a : k + 1 < length a = omega (arith, now.same, c.requires.room.long) in
     let here : slice_index b (k + 1) ≡ at + w = get_or-set_same a (k + 1) (at + w) 0 in_a in
     let other = λ (j : ℕ) (ne : j ≡ k + 1 → ⊥). get_or-set_other a (k + 1) j (at + w) 0 ne in
     let size = slice_index sizes k in
-    let p = piece_at pieces k in
+    let p = nth_piece pieces k in
     let k_is : at ≡ slice_index b k = now.at_is ∙ sym (other k (λ e. omega (arith, e))) in
     let step : IsStep pieces sizes b k = here ∙ ap (λ x. at + x) c.width-at.ensures.value ∙ ap (λ x. x + width p size x) k_is in
     record {

@@ -9,8 +9,8 @@ abbrev pub invariant-loop-k : goal.invariant-loop-k
 invariant-loop-k l = record {
   same : length l.addresses ≡ length l.initial.addresses;
   at_is : l.at ≡ slice_index l.addresses l.k;
-  room : l.at + sum_by longest (drop l.k l.pieces) ≤ slice_index l.initial.addresses l.first + sum_by longest (drop l.first l.pieces);
-  before : (j : ℕ) → j ≤ l.first → slice_index l.addresses j ≡ slice_index l.initial.addresses j;
+  room : l.at + sum_by longest (drop l.k l.pieces) ≤ slice_index l.initial.addresses l.fn.span.first + sum_by longest (drop l.fn.span.first l.pieces);
+  before : (j : ℕ) → j ≤ l.fn.span.first → slice_index l.addresses j ≡ slice_index l.initial.addresses j;
   after : (j : ℕ) → l.k < j → slice_index l.addresses j ≡ slice_index l.initial.addresses j;
-  steps : (j : ℕ) → l.first ≤ j → j < l.k → IsStep l.pieces l.sizes l.addresses j;
+  steps : (j : ℕ) → l.fn.span.first ≤ j → j < l.k → IsStep l.pieces l.sizes l.addresses j;
 }

@@ -1,8 +1,13 @@
 use Rattle.std.proofs.Common.{◌≡◌, ℕ, ◌+◌, ◌*◌, ◌<◌, ◌⊎◌, Bool, true, false, not, ◌&&◌, get_or, get_or-set_same, get_or-set_other, length, length-set, min, set, refl, sym, ap, ◌∙◌, subst, arith, inl, inr}
+use Rattle.std.specs.Prelude.{slice_index}
 use Rattle.std.proofs.lemmas.Bool.{and_parts, true≢false}
-use Rattle.shrink_layout.proofs.TestLaws.{AreGrown, IsPartly, block_grows, block_stays, fitted_all, grown_all}
+use Rattle.shrink_layout.specs.declared.blocks.Blocks.{Blocks}
+use Rattle.shrink_layout.specs.Blocks.{HaveGrownIn, IsStill, OthersFit, block_size}
+use Rattle.shrink_layout.proofs.LaidLaws.{are_next, have_grown, index_is, laid_testable, were_fit}
+use Rattle.shrink_layout.proofs.RoundLaws.{length_forms}
+use Rattle.shrink_layout.proofs.TestLaws.{AreGrown, block_grows, block_stays}
 use Rattle.shrink_layout.proofs.round.grow.Goals as goal
-use Rattle.shrink_layout.proofs.round.grow.Goals.{then-changes-lows, else-changes-lows}
+use Rattle.shrink_layout.proofs.round.grow.Goals.{then-index, else-index}
 
 -- what isn't false is true
 unless : (b : Bool) → not b ≡ false → b ≡ true
@@ -14,11 +19,11 @@ one_false : (b c : Bool) → (b && c) ≡ false → (b ≡ false) ⊎ (c ≡ fal
 one_false true c e = inr e
 one_false false c e = inl refl
 
-pub grow_block-tested-requires-clause-near : goal.grow_block-tested-requires-clause-near
-grow_block-tested-requires-clause-near c = c.requires.near
+pub grow_block-tested-requires-clause-sized : goal.grow_block-tested-requires-clause-sized
+grow_block-tested-requires-clause-sized c = c.loop-block.invariant.grown.same ∙ length_forms c.args.pieces.now c.args.sizes.now c.requires.laid.forms
 
-pub grow_block-tested-requires-clause-targets : goal.grow_block-tested-requires-clause-targets
-grow_block-tested-requires-clause-targets c = c.requires.targets
+pub grow_block-tested-requires-clause-testable : goal.grow_block-tested-requires-clause-testable
+grow_block-tested-requires-clause-testable c = laid_testable c.args.pieces.now c.args.sizes.now c.args.addresses.now c.args.blocks.now c.requires.laid
 
 pub loop-block-preserved : goal.loop-block-preserved
 loop-block-preserved c =
@@ -26,52 +31,81 @@ loop-block-preserved c =
     let pieces = c.args.pieces.now in
     let old = c.args.sizes.now in
     let sizes = c.loop-block.sizes in
-    let grown = c.loop-block.grown in
+    let before = c.args.blocks.now in
+    let lows = c.loop-block.blocks.lows.items in
+    let highs = c.loop-block.blocks.highs.items in
+    let grown = c.loop-block.blocks.grown.items in
+    let changes = c.loop-block.blocks.changes.items in
+    let new = c.if-index.blocks in
     let block = c.loop-block.block in
-    let n : ℕ = block * 64 in
-    let n' : ℕ = min (length pieces) (64 * (block + 1)) in
-    let n_is : min (length pieces) (64 * block) ≡ n = omega (arith, c.loop-block.invariant.blocks) in
-    let in_grown : block < length grown = omega arith in
-    let now = subst (λ m. AreGrown a pieces old sizes c.args.lows.now c.loop-block.lows c.args.highs.now c.loop-block.highs grown block m c.loop-block.fitted) n_is c.loop-block.invariant in
-    elim c.if-changes-lows.branch [
-      | then-changes-lows w ↦
+    let fitted = c.loop-block.fitted in
+    let is = c.loop-block.invariant in
+    let laid = c.requires.laid in
+    let n : ℕ = block * block_size in
+    let n' : ℕ = min (length pieces) (block_size * (block + 1)) in
+    let in_grown : block < length grown = omega (arith, c.loop-block-test.true, c.len-block-end.ensures, is.grown.blocks, laid.blocks_are.grown_count) in
+    let n_is : min (length pieces) (block_size * block) ≡ n = omega (arith, is.grown.blocks, in_grown) in
+    let now = subst (λ m. AreGrown a pieces old sizes before.lows.items lows before.highs.items highs grown block m fitted) n_is is.grown in
+    elim c.if-index.branch [
+      | then-index w ↦
           let tested = w.grow_block-tested in
-          let made = tested.ensures in
-          let end_is : w.min-end.result ≡ n' = omega (arith, w.min-end.ensures) in
-          let part : IsPartly a pieces sizes tested.new.sizes n w.min-end.result tested.result.fitted tested.result.low tested.result.high = record {
-            same = made.same;
-            before = made.before;
-            after = made.after;
-            grown = made.grown;
-            fit = made.fitted;
-            unfit = made.unfitted;
-            spanned = made.spanned;
-            low_most = made.low;
-            high_least = made.high;
-            high_most = made.highest;
-          } in
+          let first_is = w.of_block-span.ensures.first in
+          let end = w.of_block-span.result.end in
+          let end_is = w.of_block-span.ensures.end in
+          let end_of : end ≡ n' = omega (arith, end_is) in
+          let part : HaveGrownIn a pieces sizes tested.new.sizes n end tested.result.fitted tested.result.low tested.result.high =
+          subst (λ m. HaveGrownIn a pieces sizes tested.new.sizes m end tested.result.fitted tested.result.low tested.result.high) first_is tested.ensures in
           let marked = set grown block false in
-          let in_marked : block < length marked = omega (arith, length-set grown block false) in
+          let in_marked : block < length marked = omega (arith, in_grown, length-set grown block false) in
           let mark = not tested.result.fitted in
-          let here : get_or c.if-changes-lows.grown block false ≡ mark = ap (λ g. get_or g block false) w.grown-is ∙ get_or-set_same marked block mark false in_marked in
-          let all = block_grows a pieces old sizes tested.new.sizes c.args.lows.now c.loop-block.lows c.if-changes-lows.lows c.args.highs.now c.loop-block.highs c.if-changes-lows.highs grown c.if-changes-lows.grown block n w.min-end.result
-          tested.result.low tested.result.high c.loop-block.fitted c.if-changes-lows.fitted tested.result.fitted c.requires.targets in_grown (omega arith) (omega (arith, w.min-end.ensures)) (omega (arith, w.min-end.ensures, now.blocks)) (omega (arith, w.min-end.ensures))
-          now part (λ b ne. ap (λ g. get_or g b false) w.grown-is ∙ get_or-set_other marked block b mark false ne ∙ get_or-set_other grown block b false false ne)
-          (λ kept. unless tested.result.fitted (sym here ∙ kept)) (ap length w.grown-is ∙ length-set marked block mark ∙ length-set grown block false)
-          w.lows-is w.highs-is (λ y. and_parts c.loop-block.fitted tested.result.fitted (sym w.fitted-is ∙ y)) (λ y. one_false c.loop-block.fitted tested.result.fitted (sym w.fitted-is ∙ y)) in
-          let ended = subst (λ m. AreGrown a pieces old tested.new.sizes c.args.lows.now c.if-changes-lows.lows c.args.highs.now c.if-changes-lows.highs c.if-changes-lows.grown (block + 1) m c.if-changes-lows.fitted) end_is all in
-          subst (λ s. AreGrown a pieces old s c.args.lows.now c.if-changes-lows.lows c.args.highs.now c.if-changes-lows.highs c.if-changes-lows.grown (block + 1) n' c.if-changes-lows.fitted) (sym w.sizes-is) ended
-      | else-changes-lows w ↦
-          let all = block_stays a pieces old sizes c.args.lows.now c.loop-block.lows c.args.highs.now c.loop-block.highs c.args.changes.now grown c.if-changes-lows.grown block n n' c.loop-block.fitted
-          in_grown (omega arith) (omega arith) (omega (arith, now.blocks)) (omega arith) now c.requires.others w.if-changes-lows.false w.grown-is in
-          let with_sizes = subst (λ s. AreGrown a pieces old s c.args.lows.now c.loop-block.lows c.args.highs.now c.loop-block.highs c.if-changes-lows.grown (block + 1) n' c.loop-block.fitted) (sym w.sizes-is) all in
-          let with_lows = subst (λ l. AreGrown a pieces old c.if-changes-lows.sizes c.args.lows.now l c.args.highs.now c.loop-block.highs c.if-changes-lows.grown (block + 1) n' c.loop-block.fitted) (sym w.lows-is) with_sizes in
-          let with_highs = subst (λ h. AreGrown a pieces old c.if-changes-lows.sizes c.args.lows.now c.if-changes-lows.lows c.args.highs.now h c.if-changes-lows.grown (block + 1) n' c.loop-block.fitted) (sym w.highs-is) with_lows in
-          subst (λ f. AreGrown a pieces old c.if-changes-lows.sizes c.args.lows.now c.if-changes-lows.lows c.args.highs.now c.if-changes-lows.highs c.if-changes-lows.grown (block + 1) n' f) (sym w.fitted-is) with_highs
+          let grown_is : new.grown.items ≡ set marked block mark = ap (λ b. b.grown.items) w.blocks-is in
+          let here : get_or new.grown.items block false ≡ mark = ap (λ g. get_or g block false) grown_is ∙ get_or-set_same marked block mark false in_marked in
+          let all = block_grows a pieces old sizes tested.new.sizes before.lows.items lows new.lows.items before.highs.items highs new.highs.items grown new.grown.items block n end
+          tested.result.low tested.result.high fitted c.if-index.fitted tested.result.fitted laid.can.targets in_grown (omega arith) (omega (arith, end_is)) (omega (arith, end_is, now.blocks, in_grown)) (omega (arith, end_is))
+          now part (λ b ne. ap (λ g. get_or g b false) grown_is ∙ get_or-set_other marked block b mark false ne ∙ get_or-set_other grown block b false false ne)
+          (λ kept. unless tested.result.fitted (sym here ∙ kept)) (ap length grown_is ∙ length-set marked block mark ∙ length-set grown block false)
+          (ap (λ b. b.lows.items) w.blocks-is) (ap (λ b. b.highs.items) w.blocks-is) (λ y. and_parts fitted tested.result.fitted (sym w.fitted-is ∙ y)) (λ y. one_false fitted tested.result.fitted (sym w.fitted-is ∙ y)) in
+          let ended = subst (λ m. AreGrown a pieces old tested.new.sizes before.lows.items new.lows.items before.highs.items new.highs.items new.grown.items (block + 1) m c.if-index.fitted) end_of all in
+          record {
+            multiples_same = ap (λ b. b.multiples.items) w.blocks-is ∙ is.multiples_same;
+            changes_same = ap (λ b. b.changes.items) w.blocks-is ∙ is.changes_same;
+            grown = subst (λ s. AreGrown a pieces old s before.lows.items new.lows.items before.highs.items new.highs.items new.grown.items (block + 1) n' c.if-index.fitted) (sym w.sizes-is) ended;
+          }
+      | else-index w ↦
+          let in_lows : block < length lows = omega (arith, in_grown, now.lows_blocks) in
+          let in_highs : block < length highs = omega (arith, in_grown, now.highs_blocks) in
+          let low = index_is lows block _ c.index.result.now in_lows c.index.ensures in
+          let high = index_is highs block _ c.index-in-loop-block-2.result.now in_highs c.index-in-loop-block-2.ensures in
+          let long : length changes ≡ length grown + 1 = omega (arith, ap length is.changes_same, laid.blocks_are.changes_count, now.blocks) in
+          let first = index_is changes c.index.result.now _ c.index-in-loop-block.result.now (omega (arith, low, long, now.low block 0 in_lows)) c.index-in-loop-block.ensures in
+          let last = index_is changes (c.index-in-loop-block-2.result.now + 1) _ c.index-in-loop-block-3.result.now (omega (arith, high, long, now.high block 0 in_highs)) c.index-in-loop-block-3.ensures in
+          let still : IsStill changes (slice_index lows block) (slice_index highs block) =
+          ap (slice_index changes) (sym low) ∙ sym first ∙ w.if-index.false ∙ last ∙ ap (λ h. slice_index changes (h + 1)) high in
+          let others = subst (λ l. OthersFit a pieces old l before.lows.items before.highs.items) (sym is.changes_same) laid.others in
+          let all = block_stays a pieces old sizes before.lows.items lows before.highs.items highs changes grown (set grown block false) block n n' fitted
+          in_grown (omega arith) (omega arith) (omega (arith, now.blocks, in_grown)) (omega arith) now others still refl in
+          let with_sizes = subst (λ s. AreGrown a pieces old s before.lows.items lows before.highs.items highs (set grown block false) (block + 1) n' fitted) (sym w.sizes-is) all in
+          let with_blocks : AreGrown a pieces old c.if-index.sizes before.lows.items new.lows.items before.highs.items new.highs.items new.grown.items (block + 1) n' fitted =
+          subst (λ (b : Blocks). AreGrown a pieces old c.if-index.sizes before.lows.items b.lows.items before.highs.items b.highs.items b.grown.items (block + 1) n' fitted) (sym w.blocks-is) with_sizes in
+          record {
+            multiples_same = ap (λ b. b.multiples.items) w.blocks-is ∙ is.multiples_same;
+            changes_same = ap (λ b. b.changes.items) w.blocks-is ∙ is.changes_same;
+            grown = subst (AreGrown a pieces old c.if-index.sizes before.lows.items new.lows.items before.highs.items new.highs.items new.grown.items (block + 1) n') (sym w.fitted-is) with_blocks;
+          }
     ]
 
-pub returns-clause-grown : goal.returns-clause-grown
-returns-clause-grown c = grown_all _ _ _ _ _ _ _ _ _ _ _ _ (omega (arith, c.requires.blocks, c.loop-block.invariant.blocks, c.loop-block-test.false)) c.requires.same c.loop-block.invariant
-
 pub returns-clause-fitted : goal.returns-clause-fitted
-returns-clause-fitted c = fitted_all _ _ _ _ _ _ _ _ _ _ _ _ (omega (arith, c.requires.blocks, c.loop-block.invariant.blocks, c.loop-block-test.false)) c.requires.same c.loop-block.invariant
+returns-clause-fitted c =
+    were_fit c.args.pieces.now c.args.sizes.now c.loop-block.sizes c.args.addresses.now c.args.blocks.now c.loop-block.blocks _ _ c.loop-block.fitted c.requires.laid
+    (omega (arith, c.requires.laid.blocks_are.grown_count, c.loop-block.invariant.grown.blocks, c.len-block-end.ensures, c.loop-block-test.false)) c.loop-block.invariant.grown
+
+pub returns-clause-sizes : goal.returns-clause-sizes
+returns-clause-sizes c =
+    are_next c.args.pieces.now c.args.sizes.now c.loop-block.sizes c.args.addresses.now c.args.blocks.now c.loop-block.blocks _ _ c.loop-block.fitted c.requires.laid
+    (omega (arith, c.requires.laid.blocks_are.grown_count, c.loop-block.invariant.grown.blocks, c.len-block-end.ensures, c.loop-block-test.false)) c.loop-block.invariant.grown
+
+pub returns-clause-grown : goal.returns-clause-grown
+returns-clause-grown c =
+    have_grown c.args.pieces.now c.args.sizes.now c.loop-block.sizes c.args.addresses.now c.args.blocks.now c.loop-block.blocks _ _ c.loop-block.fitted c.requires.laid
+    (omega (arith, c.requires.laid.blocks_are.grown_count, c.loop-block.invariant.grown.blocks, c.len-block-end.ensures, c.loop-block-test.false)) c.loop-block.invariant.grown
+    c.loop-block.invariant.multiples_same c.loop-block.invariant.changes_same

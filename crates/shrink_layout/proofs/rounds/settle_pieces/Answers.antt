@@ -1,23 +1,50 @@
-use Rattle.std.proofs.Common.{ℕ, ◌<◌, List, length, sym, ap, ◌∙◌, subst}
-use Rattle.std.specs.Prelude.{◌/◌, slice_index}
-use Rattle.shrink_layout.specs.Blocks.{IsMovedBy, piece_at}
-use Rattle.shrink_layout.specs.Layout.{addresses_of}
-use Rattle.shrink_layout.specs.Least.{AreForms}
-use Rattle.shrink_layout.proofs.RoundLaws.{shortest_forms}
+use Rattle.std.proofs.Common.{◌<◌, sym, ap, ◌∙◌, subst}
+use Rattle.shrink_layout.specs.Layout.{addresses_of, sizes_of}
+use Rattle.shrink_layout.specs.Rounds.{LaidPieces}
+use Rattle.shrink_layout.proofs.RoundLaws.{slack_of}
+use Rattle.shrink_layout.proofs.SizesLaws.{AreOfRound, next_fits, next_less, next_of_round, shortest_of_round, sizes_layout, sizes_least}
 use Rattle.shrink_layout.proofs.rounds.settle_pieces.Goals as goal
 
-pub fill-requires-clause-forms : goal.fill-requires-clause-forms
-fill-requires-clause-forms c = subst (AreForms c.args.pieces.now) (sym (c.deref.ensures.value ∙ c.in_ok-sizes.ensures)) (shortest_forms c.args.pieces.now)
+pub loop-rounds-init : goal.loop-rounds-init
+loop-rounds-init c =
+    let is = c.in_ok-rounds.ensures in
+    record {
+      text_same = ap (λ r. r.text) is;
+      pieces_same = ap (λ r. r.pieces) is;
+      round = subst AreOfRound (sym is) (shortest_of_round c.args.text c.args.pieces.now);
+    }
 
-pub make_rounds-requires-clause-shortest : goal.make_rounds-requires-clause-shortest
-make_rounds-requires-clause-shortest c = c.deref_mut.ensures.value ∙ c.in_ok-sizes.ensures
+pub loop-rounds-smaller : goal.loop-rounds-smaller
+loop-rounds-smaller c =
+    let now = c.loop-rounds.rounds in
+    subst (λ (r : LaidPieces). slack_of r.pieces r.sizes < slack_of now.pieces now.sizes) (sym c.next.ensures.next)
+    (next_less now c.loop-rounds.invariant.round (sym c.next.ensures.fitted ∙ c.if-next.false))
 
-pub make_rounds-requires-clause-addressed : goal.make_rounds-requires-clause-addressed
-make_rounds-requires-clause-addressed c =
-    c.deref_mut-2.ensures.value ∙ c.in_ok-fill.ensures
-    ∙ ap (addresses_of c.args.text c.args.pieces.now) (c.deref.ensures.value ∙ sym c.deref_mut.ensures.value)
+pub loop-rounds-preserved : goal.loop-rounds-preserved
+loop-rounds-preserved c =
+    let is = c.next.ensures.next in
+    record {
+      text_same = ap (λ r. r.text) is ∙ c.loop-rounds.invariant.text_same;
+      pieces_same = ap (λ r. r.pieces) is ∙ c.loop-rounds.invariant.pieces_same;
+      round = subst AreOfRound (sym is) (next_of_round c.loop-rounds.rounds c.loop-rounds.invariant.round);
+    }
 
-pub make_rounds-requires-clause-multiples : goal.make_rounds-requires-clause-multiples
-make_rounds-requires-clause-multiples c =
-    subst (λ (ms : List ℕ). (k : ℕ) → k < length c.args.pieces.now → 0 < slice_index ms (k / 64) → IsMovedBy (slice_index ms (k / 64)) (piece_at c.args.pieces.now k))
-    (sym c.deref-2.ensures.value) c.in_ok-multiples.ensures.moved
+pub returns-then-next-clause-layout : goal.returns-then-next-clause-layout
+returns-then-next-clause-layout c = sizes_layout c.args.text c.args.pieces.now
+
+pub returns-then-next-clause-sizes : goal.returns-then-next-clause-sizes
+returns-then-next-clause-sizes c =
+    let now = c.loop-rounds.invariant in
+    c.layout.ensures.sizes ∙ ap (λ r. r.sizes) c.next.ensures.next
+    ∙ next_fits c.loop-rounds.rounds now.round (sym c.next.ensures.fitted ∙ c.if-next.true) ∙ (λ i. sizes_of (now.text_same i) (now.pieces_same i))
+
+pub returns-then-next-clause-addresses : goal.returns-then-next-clause-addresses
+returns-then-next-clause-addresses c =
+    let now = c.loop-rounds.invariant in
+    let is = c.next.ensures.next in
+    let sizes = sym c.layout.ensures.sizes ∙ returns-then-next-clause-sizes c in
+    c.layout.ensures.addresses ∙ (λ i. addresses_of (is i).text (is i).pieces c.next.new.self.sizes)
+    ∙ (λ i. addresses_of (now.text_same i) (now.pieces_same i) (sizes i))
+
+pub returns-then-next-clause-least : goal.returns-then-next-clause-least
+returns-then-next-clause-least c even all_even tight = sizes_least c.args.text c.args.pieces.now even all_even tight c.requires.targets

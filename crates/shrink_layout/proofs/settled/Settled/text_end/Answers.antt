@@ -7,18 +7,19 @@ use Rattle.shrink_layout.proofs.settled.Settled.text_end.Goals as goal
 pub overflow_sub-len : goal.overflow_sub-len
 overflow_sub-len c =
     let own = c.self.inside in
-    omega (arith, c.len.ensures, own.addresses.ok, kept_long (parsed own.planned) own.sizes.items c.self.invariant.settled own.addresses.items c.self.invariant.addresses_are)
+    omega (arith, c.len.ensures, own.addresses.ok, kept_long (parsed own.planned) own.addresses.items c.self.invariant.addresses_are)
 
 pub index-requires : goal.index-requires
 index-requires c =
     let own = c.self.inside in
-    omega (arith, c.len.ensures, own.addresses.ok, kept_long (parsed own.planned) own.sizes.items c.self.invariant.settled own.addresses.items c.self.invariant.addresses_are)
+    omega (arith, c.len.ensures, own.addresses.ok, kept_long (parsed own.planned) own.addresses.items c.self.invariant.addresses_are)
 
 pub returns : goal.returns
 returns c =
     let own = c.self.inside in
-    let long = kept_long (parsed own.planned) own.sizes.items c.self.invariant.settled own.addresses.items c.self.invariant.addresses_are in
+    let inputs = parsed own.planned in
+    let are = c.self.invariant.addresses_are in
     c.index.ensures
-    ∙ kept_end (parsed own.planned) own.sizes.items c.self.invariant.settled own.addresses.items c.self.invariant.addresses_are (c.len.result - 1) c.index.result.now
-    (omega (arith, c.len.ensures, own.addresses.ok, long))
-    ∙ ap (λ s. settled_end (parsed s.inputs) s.sizes) c.self.view_is
+    ∙ kept_end inputs own.addresses.items are (c.len.result - 1) c.index.result.now
+    (omega (arith, c.len.ensures, own.addresses.ok, kept_long inputs own.addresses.items are))
+    ∙ ap (λ x. settled_end (parsed x)) c.self.view_is

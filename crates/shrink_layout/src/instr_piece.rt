@@ -1,0 +1,129 @@
+// The pieces of instructions that don't depend on the layout, and those of instructions with parts of addresses.
+
+ghost use Rattle.std.specs.Prelude.{◌≡◌};
+ghost use Rattle.psabi_reloc.specs.Parts.{hi20_of, lo12_of};
+ghost use Rattle.psabi_reloc.specs.Patched.{with_imm, with_upper};
+ghost use Rattle.block_cut.specs.declared.item.Item.TheVariants as item;
+ghost use Rattle.shrink_layout.specs.Halves.{IsHalfOf};
+ghost use Rattle.shrink_layout.specs.Pieces.{instr_size, is_short, part_size};
+ghost use Rattle.shrink_layout.specs.declared.piece.Piece.TheVariants.{Fixed};
+
+use crate::piece::Piece;
+use psabi_reloc::parts::{hi20, lo12};
+use psabi_sym::target::Target;
+use rv_decode::instr::Instr;
+use zca_zcb_pass::short::short_of;
+
+/// The piece of an item, and the halfword that does what the item does if that is known before the layout, else 0.
+#[derive(Clone, Copy)]
+pub struct ItemPiece {
+    pub piece: Piece,
+    pub half: u16,
+}
+
+/// A piece of which no halfword is known.
+pub fn without_half(piece: Piece) -> ItemPiece
+    ensures { result ≡ record { piece = piece; half = 0 } }
+{
+    ItemPiece { piece, half: 0 }
+}
+
+/// A piece of one size.
+pub fn fixed(size: u32) -> ItemPiece
+    ensures { result ≡ record { piece = Fixed size; half = 0 } }
+{
+    without_half(Piece::Fixed { size })
+}
+
+/// Whether a halfword does what an instruction does.
+pub fn is_short(i: Instr) -> bool
+    ensures { result ≡ is_short i }
+{
+    short_of(i).is_some()
+}
+
+/// The piece of an instruction whose immediate doesn't depend on the layout.
+pub fn instr_piece(i: Instr) -> ItemPiece
+    ensures piece { result.piece ≡ Fixed (instr_size i) }
+    ensures half { IsHalfOf (item.Op i) result.half }
+{
+    match short_of(i) {
+        None => fixed(4),
+        Some(half) => ItemPiece {
+            piece: Piece::Fixed { size: 2 },
+            half,
+        },
+    }
+}
+
+// An instruction with these upper 20 bits.
+fn with_upper(i: Instr, imm: u32) -> Instr
+    ensures { result ≡ with_upper i imm }
+{
+    match i {
+        Instr::Upper { op, rd, .. } => Instr::Upper { op, rd, imm },
+        Instr::Jal { .. }
+        | Instr::Jalr { .. }
+        | Instr::Branch { .. }
+        | Instr::Load { .. }
+        | Instr::Store { .. }
+        | Instr::WithImm { .. }
+        | Instr::WithReg { .. }
+        | Instr::Fence { .. }
+        | Instr::Ecall
+        | Instr::Ebreak
+        | Instr::Csrrw { .. } => i,
+    }
+}
+
+// An instruction with this number to add to the base of a sum.
+fn with_imm(i: Instr, imm: i32) -> Instr
+    ensures { result ≡ with_imm i imm }
+{
+    match i {
+        Instr::Jalr { rd, base, .. } => Instr::Jalr { rd, base, imm },
+        Instr::Load { op, rd, base, .. } => Instr::Load { op, rd, base, imm },
+        Instr::Store {
+            op,
+            source,
+            base,
+            ..
+        } => Instr::Store {
+            op,
+            source,
+            base,
+            imm,
+        },
+        Instr::WithImm { op, rd, first, .. } => Instr::WithImm { op, rd, first, imm },
+        Instr::Upper { .. }
+        | Instr::Jal { .. }
+        | Instr::Branch { .. }
+        | Instr::WithReg { .. }
+        | Instr::Fence { .. }
+        | Instr::Ecall
+        | Instr::Ebreak
+        | Instr::Csrrw { .. } => i,
+    }
+}
+
+/// The piece of an instruction with the upper part of a target: addresses of code aren't known yet.
+pub fn upper_piece(i: Instr, t: Target) -> ItemPiece
+    ensures piece { result.piece ≡ Fixed (part_size t (λ x. with_upper i (hi20_of x))) }
+    ensures half { IsHalfOf (item.Hi i t) result.half }
+{
+    match t {
+        Target::Code(_) | Target::Nowhere => fixed(4),
+        Target::Number(x) | Target::Absent(x) => instr_piece(with_upper(i, hi20(x))),
+    }
+}
+
+/// That of one with the lower part.
+pub fn lower_piece(i: Instr, t: Target) -> ItemPiece
+    ensures piece { result.piece ≡ Fixed (part_size t (λ x. with_imm i (lo12_of x))) }
+    ensures half { IsHalfOf (item.Lo i t) result.half }
+{
+    match t {
+        Target::Code(_) | Target::Nowhere => fixed(4),
+        Target::Number(x) | Target::Absent(x) => instr_piece(with_imm(i, lo12(x))),
+    }
+}
