@@ -1,9 +1,10 @@
 -- Interrupts and cells of data lie apart. An interrupt writes in the stack, a cell lies in data, and the stack begins at or after
 -- data's end: so an interrupt does the same whatever data hold. And so do the commits of a piece of several instructions.
-use Rattle.std.proofs.Common.{◌≡◌, ◌≢◌, ℕ, suc, ◌+◌, ◌<◌, List, [], ◌∷◌, Bool, true, false, cond, refl, sym, ap, ap₂, ◌∙◌, subst, inl, inr, ⊎_elim, arith, ltb, leb}
+use Rattle.std.proofs.Common.{◌≡◌, ◌≢◌, ℕ, suc, ◌+◌, ◌<◌, List, [], ◌∷◌, Bool, true, false, cond, refl, sym, ap, ap₂, ◌∙◌, subst, ⊎_elim, arith, ltb, leb}
 use Rattle.std.specs.Prelude.{◌&&◌, ◌⊎◌}
 use Rattle.std.proofs.lemmas.Bool.{and_parts, leb-true, ltb-true}
 use Rattle.zc_base.specs.declared.place.Place.{Place}
+use Rattle.rv_decode.specs.declared.instr.BranchOp.{BranchOp}
 use Rattle.rv_decode.specs.declared.instr.Instr.TheVariants.{Branch, Jal, Jalr, Upper}
 use Rattle.rv_decode.specs.declared.instr.UpperOp.TheVariants.{Auipc}
 use Rattle.rv_decode.specs.Memory.{Extent, Region, cells_changed, changed, extents_of, is_stack, lies_in, written}
@@ -14,8 +15,8 @@ use Rattle.sym_machine.specs.State.{PlainCore, PlainState}
 use Rattle.zc_machine.specs.Interrupt.{all_dirtied, dirtied, is_free}
 use Rattle.zc_link.specs.Image.{Image, loaded}
 use Rattle.zc_link.specs.Laid.{Laid}
-use Rattle.zc_link.specs.Pace.{Pace}
-use Rattle.zc_link.specs.Pieces.{AlignOf, Alone, CallOf, LongLaid, LongOf, Piece, PieceLaid, commits_of, span_of}
+use Rattle.zc_link.specs.Pace.{AlignOf, Alone, CallOf, LongOf, Piece, commits_of, pace_of, span_of}
+use Rattle.zc_link.specs.Pieces.{LongLaid, PieceLaid}
 use Rattle.zc_link.specs.Simulates.{CommitsApart, Commits, Cuts, CutsApart, FromLoad, FromPair, OnWay, Pokes, Starts}
 use Rattle.zc_link.specs.Sound.{Alike}
 use Rattle.zc_link.proofs.Bare.{Bares, bare_apart, nops_bare, two_bare}
@@ -80,7 +81,7 @@ module _ (a b : ℕ) where
 
 -- ---- on the way
 
-module _ {p : Program} {Named : Place → Type 0} {e : Image} {pace : Pace} (laid : Laid p Named e pace) where
+module _ {p : Program} {Named : Place → Type 0} {e : Image} {piece : Place → Piece} (laid : Laid p Named e piece) where
   cuts_apart_from : {From : ℕ → ZcState → Type 0} → ((k : ℕ) (z : ZcState) → From k z → SameExtents (loaded e) z.core) → CutsApart p From
   unfolding with_cell
   cuts_apart_from from k z way c is a b cell small = all_dirtied-with_cell a b c.dirt z.core (λ x h same.
@@ -89,7 +90,7 @@ module _ {p : Program} {Named : Place → Type 0} {e : Image} {pace : Pace} (lai
       let high = cell.high in
       omega (arith, within.0, same, under, high))
 
-  pub cuts_apart : (r : PlainState) → CutsApart p (FromPair p Named e pace r)
+  pub cuts_apart : (r : PlainState) → CutsApart p (FromPair p Named e (pace_of p piece) r)
   cuts_apart r = cuts_apart_from (λ k z from. from.sound.alike.extents)
 
   pub lead_cuts_apart : CutsApart p (FromLoad p e)
@@ -97,11 +98,12 @@ module _ {p : Program} {Named : Place → Type 0} {e : Image} {pace : Pace} (lai
 
   -- a long branch of two commits is taken, so its first instruction goes on to the jump
   long_bare :
-      (s : PlainCore) (y : ZcCore) → Alike p Named e s y → LongLaid p e s.place y.pc → 1 < commits_of p s LongOf → Bares e (commits_of p s LongOf) y.regs y.pc
-  long_bare s y al long more =
-      let taken = known_taken s long more in
+      (s : PlainCore) (y : ZcCore) (op : BranchOp) (first second : ℕ) → Alike p Named e s y → LongLaid p e s.place y.pc op first second
+      → 1 < commits_of p s (LongOf op first second) → Bares e (commits_of p s (LongOf op first second)) y.regs y.pc
+  long_bare s y op first second al long more =
+      let taken = known_taken p s op first second more in
       subst (λ n. Bares e n y.regs y.pc) (sym taken.commits)
-      (two_bare e y.regs y.pc (Branch long.other long.first long.second long.over) (Jal 0 long.distance) tt (goes_over s y laid.room al long taken.is) tt long.at)
+      (two_bare e y.regs y.pc (Branch long.other first second long.over) (Jal 0 long.distance) tt (goes_over s y laid.room al long taken.is) tt long.at)
 
   -- a piece of several instructions has none that looks at memory
   piece_bare :
@@ -110,18 +112,18 @@ module _ {p : Program} {Named : Place → Type 0} {e : Image} {pace : Pace} (lai
   piece_bare s y Alone al item more = ⊎_elim (λ steps. absurd (omega (arith, steps))) (λ commits. absurd (omega (arith, commits))) more
   piece_bare s y (AlignOf count) al align more = nops_bare e count y.regs y.pc align.end align.nops
   piece_bare s y CallOf al call more = two_bare e y.regs y.pc (Upper Auipc call.temp call.upper) (Jalr call.rd call.temp call.lower) tt tt tt call.at
-  piece_bare s y LongOf al long more = ⊎_elim (λ steps. absurd (omega (arith, steps))) (λ commits. long_bare s y al long commits) more
+  piece_bare s y (LongOf op first second) al long more =
+      ⊎_elim (λ steps. absurd (omega (arith, steps))) (λ commits. long_bare s y op first second al long commits) more
 
-  pub commits_apart : (r : PlainState) → (1 < pace.span r.core.place) ⊎ (1 < pace.weight r.core) → CommitsApart p (FromPair p Named e pace r)
+  pub commits_apart :
+      (r : PlainState) → (1 < span_of (piece r.core.place)) ⊎ (1 < commits_of p r.core (piece r.core.place))
+      → CommitsApart p (FromPair p Named e (pace_of p piece) r)
   commits_apart r more = bare_apart laid.room (λ k z from. record {
     going = from.sound.alike.going;
     same = record { extents = from.sound.alike.extents; text = from.sound.alike.text };
-    bares = subst (λ n. Bares e n z.core.regs z.core.pc) (sym (from.commits ∙ laid.weights r.core))
-        (piece_bare r.core z.core (laid.piece r.core.place) from.sound.alike (laid.each r.core.place z.core.pc from.sound.place) several);
+    bares = subst (λ n. Bares e n z.core.regs z.core.pc) (sym from.commits)
+        (piece_bare r.core z.core (piece r.core.place) from.sound.alike (laid.each r.core.place z.core.pc from.sound.place) more);
   })
-    where
-      several : (1 < span_of (laid.piece r.core.place)) ⊎ (1 < commits_of p r.core (laid.piece r.core.place))
-      several = ⊎_elim (λ steps. inl (rw (laid.spans r.core.place) at steps)) (λ commits. inr (rw (laid.weights r.core) at commits)) more
 
   -- no commit comes before the start
   none_left : {k : ℕ} {z : ZcState} → OnWay p (FromLoad p e) k z → k ≡ 0

@@ -1,7 +1,10 @@
 -- The definitions on small cases, computed.
 use Rattle.std.specs.Prelude.{◌≡◌, ℕ, List, [], ◌∷◌, true, false, Some, None, refl}
 use Rattle.zc_base.specs.declared.place.Place.{Place}
-use Rattle.zc_link.specs.Pace.{bytes_between, long_commits, padding_commits}
+use Rattle.rv_decode.specs.declared.instr.BranchOp.TheVariants.{Beq}
+use Rattle.block_cut.specs.declared.item.Item.TheVariants.{Align, Branch, Call, RawPair}
+use Rattle.shrink_layout.specs.Units.{OneItem}
+use Rattle.zc_link.specs.Pace.{AlignOf, Alone, CallOf, LongOf, bytes_between, long_commits, padding_commits, piece_of}
 use Rattle.zc_link.specs.Places.{address_in}
 use Rattle.zc_link.specs.Simulates.{lead_from}
 use Rattle.zc_link.specs.Values.{pc_upper}
@@ -38,7 +41,27 @@ over_the_jump = refl
 by_the_jump : long_commits (Some true) ≡ 2
 by_the_jump = refl
 
+-- in eight bytes a branch and a call are two instructions, and else one
+long_branch : piece_of 8 (Some (OneItem (Branch Beq 10 11 (place_at 4)))) ≡ LongOf Beq 10 11
+long_branch = refl
+
+short_branch : piece_of 2 (Some (OneItem (Branch Beq 10 0 (place_at 4)))) ≡ Alone
+short_branch = refl
+
+call_of_two : piece_of 8 (Some (OneItem (Call 1 1 (place_at 4)))) ≡ CallOf
+call_of_two = refl
+
+call_of_one : piece_of 4 (Some (OneItem (Call 1 1 (place_at 4)))) ≡ Alone
+call_of_one = refl
+
+-- eight bytes that are copied unread are one piece too
+pair_of_words : piece_of 8 (Some (OneItem (RawPair 0 0))) ≡ Alone
+pair_of_words = refl
+
 -- padding of a word and a halfword, and of none
+padding_piece : piece_of 6 (Some (OneItem (Align 6))) ≡ AlignOf 2
+padding_piece = refl
+
 padding_of_six : padding_commits 6 ≡ 2
 padding_of_six = refl
 

@@ -1,24 +1,26 @@
 -- What it means that no fault stands in relocations: what an item's relocation leads to is a place where an item starts or a section
 -- ends, or a number.
 use Rattle.std.proofs.Common.{◌≡◌, ℕ, List, [], ◌∷◌, ◌++◌, map, Option, Some, None, Bool, true, false, cond, eqb, refl, sym, ap, ◌∙◌}
-use Rattle.std.specs.Prelude.{◌&&◌, ◌||◌, not}
+use Rattle.std.specs.Prelude.{◌&&◌, ◌||◌, is_none, not}
 use Rattle.std.specs.List.{find, flat_map}
-use Rattle.std.specs.Option.{is_some, option_map}
-use Rattle.std.proofs.lemmas.Bool.{eqb-true}
+use Rattle.std.specs.Option.{is_some, option_map, unwrap_or}
+use Rattle.std.proofs.lemmas.Bool.{eqb-true, or_left}
 use Rattle.zc_base.specs.declared.place.Place.{Place}
-use Rattle.elf32_read.specs.Parts.{SectionParts}
+use Rattle.elf32_read.specs.Parts.{ObjectParts, SectionParts}
 use Rattle.elf32_read.specs.declared.fault.Fault.{Fault}
-use Rattle.elf32_read.specs.declared.fault.Fault.TheVariants.{BadTarget, LoPair, RelocKind, RelocPlace}
+use Rattle.elf32_read.specs.declared.fault.Fault.TheVariants.{BadTarget, LoPair, NoEntry, RelocKind, RelocPlace}
 use Rattle.elf32_read.specs.declared.reloc.Reloc.{Reloc}
 use Rattle.psabi_reloc.specs.Kinds.{kind_of}
 use Rattle.psabi_sym.specs.Faults.{first_some, gather_fault}
 use Rattle.psabi_sym.specs.Inputs.{Inputs, ParsedInputs, parsed}
 use Rattle.psabi_sym.specs.Listed.{ListedSection, section_at, sections_before}
+use Rattle.psabi_sym.specs.Resolve.{name_target}
+use Rattle.psabi_sym.specs.Start.{start_name}
 use Rattle.psabi_sym.specs.declared.target.Target.{Target}
 use Rattle.psabi_sym.specs.declared.target.Target.TheVariants.{Code, Number, Absent, Nowhere}
 use Rattle.psabi_sym.proofs.FaultLaws.{neither}
 use Rattle.block_cut.specs.Faults.{entry_fault, first_fault, if_so, has_bad_target, lacks_pcrel_hi, is_bad_target, range_fault, reloc_fault, relocs_fault, section_fault}
-use Rattle.block_cut.specs.Items.{is_target_at, target_of}
+use Rattle.block_cut.specs.Items.{entry_in, entry_of, is_end_at, is_start_at, is_target_at, start_only, target_of}
 use Rattle.block_cut.specs.Relocs.{is_bad_kind, is_bad_place, is_ignored, is_transfer, reloc_on}
 use Rattle.block_cut.proofs.ListedLaws.{cut_at, listed}
 use Rattle.block_cut.proofs.StartLaws.{is_among}
@@ -146,3 +148,33 @@ module _ (p : ParsedInputs) (A : Place → Option ℕ) (listed : (q : Place) →
   reloc_value l r asks is =
       has_value (target_of p l.object r) (is_transfer (kind_of r.kind))
       (ap (λ b. not b && is_bad_target p.objects (is_transfer (kind_of r.kind)) (target_of p l.object r)) (sym asks) ∙ is.leads)
+
+-- ---- the start
+
+-- where the program may start an item starts
+start_at : (objects : List ObjectParts) (t : Target) (q : Place) → start_only objects t ≡ Some q → is_start_at objects q ≡ true
+start_at objects (Code r) q h = by (is_start_at objects r) refl h
+  where
+    by : (b : Bool) → is_start_at objects r ≡ b → cond b (Some r) None ≡ Some q → is_start_at objects q ≡ true
+    by true starts g = let same : r ≡ q = cc in ap (is_start_at objects) (sym same) ∙ starts
+    by false starts g = absurd cc
+start_at objects (Number n) q h = absurd cc
+start_at objects (Absent n) q h = absurd cc
+start_at objects Nowhere q h = absurd cc
+
+-- where the program starts has an address
+pub start_listed :
+    (inputs : Inputs) (A : Place → Option ℕ) → first_fault inputs ≡ None → ((q : Place) → is_some (A q) ≡ is_target_at (parsed inputs).objects q)
+    → (b : ℕ) × (A (entry_of (parsed inputs)) ≡ Some b)
+unfolding entry_fault
+start_listed inputs A none lists = by (entry_in p) refl (all_none inputs none).entry
+  where
+    p : ParsedInputs
+    p = parsed inputs
+
+    by : (o : Option Place) → entry_in p ≡ o → cond {A = Option (ℕ × Fault)} (is_none o) (Some (0, NoEntry)) None ≡ None → (b : ℕ) × (A (entry_of p) ≡ Some b)
+    by None is h = absurd cc
+    by (Some q) is h =
+        let start = start_at p.objects (name_target p start_name) q is in
+        let there = target_listed p A lists q (or_left (is_start_at p.objects q) (is_end_at p.objects q) start) in
+        (there.0, ap (λ o. A (unwrap_or o (record { object = 0; section = 0; offset = 0 }))) is ∙ there.1)

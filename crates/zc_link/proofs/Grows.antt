@@ -1,20 +1,24 @@
 -- A text that grows: what it holds it keeps, and one item more, a gap, or a section's end make it the text so far again.
-use Rattle.std.proofs.Common.{◌≡◌, ℕ, ◌+◌, ◌-◌, ◌<◌, ◌≤◌, List, [], ◌∷◌, ◌++◌, length, map, take, drop, Option, Some, None, refl, sym, ap, ◌∙◌, subst, arith, length-append, get_or, ⊎_elim}
+use Rattle.std.proofs.Common.{◌≡◌, ℕ, ◌+◌, ◌-◌, ◌<◌, ◌≤◌, List, [], ◌∷◌, ◌++◌, length, take, drop, Some, None, refl, sym, ap, ◌∙◌, subst, arith, length-append, ⊎_elim}
 use Rattle.std.specs.Prelude.{All, replicate}
-use Rattle.std.specs.Option.{unwrap_or}
+use Rattle.std.specs.List.{flat_map}
+use Rattle.std.specs.Option.{option_map, option_to_list}
 use Rattle.std.proofs.Math.Seq.{drop-append_seam, take-length}
 use Rattle.std.proofs.lemmas.Bool.{cases_lt}
-use Rattle.std.proofs.lemmas.List.{drop-append-le, get_or-append_right, get_or-replicate, get_or_append_left, length-drop, length-replicate, map-append, take-append-le}
+use Rattle.std.proofs.lemmas.List.{drop-append-le, get_or-append_right, get_or-replicate, get_or_append_left, length-drop, length-replicate, take-append-le}
+use Rattle.std.proofs.lemmas.List.Concat.{flat_map-append}
 use Rattle.std.proofs.lemmas.List.Elements.{All-append, All-cons, All-nil, All-weaker}
 use Rattle.zc_base.specs.declared.place.Place.{Place}
 use Rattle.elf32_read.specs.Parts.{SectionParts}
-use Rattle.psabi_sym.specs.Inputs.{ParsedInputs}
-use Rattle.block_cut.specs.Items.{code_at, item_at, next_at}
+use Rattle.psabi_sym.specs.Inputs.{ParsedInputs, parsed}
+use Rattle.block_cut.specs.Items.{code_at, item_at}
 use Rattle.block_cut.specs.declared.item.Item.{Item}
+use Rattle.shrink_layout.specs.Units.{OneItem}
 use Rattle.zc_link.specs.Copied.{bytes_from}
 use Rattle.zc_link.specs.ImageParts.{with_address}
-use Rattle.zc_link.specs.Written.{HasGaps, Holds, HoldsItem, IsSoFar, IsWritten}
-use Rattle.zc_link.specs.Standing.{AddsItem}
+use Rattle.zc_link.specs.Standing.{WrittenHere}
+use Rattle.zc_link.specs.TextLayout.{TextLayout, behind, front_end}
+use Rattle.zc_link.specs.Written.{GapsAreZero, Holds, HoldsUnit, IsSoFar, UnitWritten}
 use Rattle.zc_link.proofs.Adds.{bytes_append, zeros_are}
 
 -- ---- bytes
@@ -29,16 +33,28 @@ added_there : (text bytes : List ℕ) (at n : ℕ) → at ≡ length text → n 
 added_there text bytes at n is_at is_n =
     (λ j. take (is_n j) (drop (is_at j) (text ++ bytes))) ∙ ap (take (length bytes)) (drop-append_seam text bytes) ∙ take-length bytes
 
--- ---- what a text holds
+-- so does what a text begins with
+begins_still : (front text more : List ℕ) → take (length front) text ≡ front → take (length front) (text ++ more) ≡ front
+begins_still [] text more is = refl
+begins_still (x ∷ front) [] more is = absurd cc
+begins_still (x ∷ front) (y ∷ text) more is =
+    let first : y ≡ x = cc in
+    let rest : take (length front) text ≡ front = cc in
+    (λ j. first j ∷ begins_still front text more rest j)
 
-module _ (inputs : ParsedInputs) (A : Place → Option ℕ) where
+module _ (L : TextLayout) where
+  abbrev p : ParsedInputs
+  p = parsed L.inputs
+
   abbrev start : ℕ
-  start = inputs.map.text
+  start = L.inputs.map.text
+
+  -- ---- what a text holds
 
   -- it keeps
-  holds_more : (text more : List ℕ) (e : Place × ℕ) → Holds inputs A text e → Holds inputs A (text ++ more) e
-  holds_more text more e holds item is =
-      let h = holds item is in
+  holds_more : (text more : List ℕ) (e : Place × ℕ) → Holds L text e → Holds L (text ++ more) e
+  holds_more text more e holds u is =
+      let h = holds u is in
       record {
         size = h.size;
         next = h.next;
@@ -46,108 +62,106 @@ module _ (inputs : ParsedInputs) (A : Place → Option ℕ) where
         within = omega (arith, h.within, length-append text more);
         section = h.section;
         here = h.here;
-        written = subst (IsWritten A (item_at inputs) (bytes_from h.section.bytes e.0.offset) e.1 h.size item)
+        written = subst (UnitWritten L.address (item_at p) (bytes_from h.section.bytes e.0.offset) e.1 h.size u)
             (sym (front_stays text more (e.1 - start) h.size (omega (arith, h.low, h.within)))) h.written;
       }
 
-  all_more : (text more : List ℕ) (places : List (Place × ℕ)) → All (Holds inputs A text) places → All (Holds inputs A (text ++ more)) places
-  all_more text more places all = All-weaker (Holds inputs A text) (Holds inputs A (text ++ more)) (λ e h. holds_more text more e h) places all
+  all_more : (text more : List ℕ) (places : List (Place × ℕ)) → All (Holds L text) places → All (Holds L (text ++ more)) places
+  all_more text more places all = All-weaker (Holds L text) (Holds L (text ++ more)) (λ e h. holds_more text more e h) places all
 
-  -- what was added for an item it holds
-  item_held : (s : SectionParts) (q : Place) (item : Item) (n : ℕ) (text text' : List ℕ) → code_at inputs.objects q ≡ Some s → item_at inputs q ≡ Some item
-      → A (next_at inputs.objects q) ≡ Some (start + length text + n) → AddsItem inputs A s.bytes q item n text text' → Holds inputs A text' (q, start + length text)
-  item_held s q item n text text' at is next adds item' is' =
-      let same : item ≡ item' = cc in
+  -- what is added for an item it holds
+  item_held :
+      (s : SectionParts) (q : Place) (item : Item) (n : ℕ) (text bytes : List ℕ) → code_at p.objects q ≡ Some s → L.unit q ≡ Some (OneItem item)
+      → L.address (behind L q) ≡ Some (start + length text + n) → front_end L ≤ start + length text
+      → WrittenHere L s.bytes q item (start + length text) n bytes → Holds L (text ++ bytes) (q, start + length text)
+  item_held s q item n text bytes at is next low adds u is' =
+      let same : OneItem item ≡ u = cc in
       let a = start + length text in
-      subst (λ i. HoldsItem inputs A text' (q, a) i) same
+      subst (HoldsUnit L (text ++ bytes) (q, a)) same
       (record {
         size = n;
         next = next;
-        low = omega arith;
-        within = omega (arith, adds.long, ap length adds.more, length-append text adds.bytes);
+        low = low;
+        within = omega (arith, adds.long, length-append text bytes);
         section = s;
         here = at;
-        written = subst (IsWritten A (item_at inputs) (bytes_from s.bytes q.offset) a n item)
-            (sym (ap (λ t. bytes_from t (a - start) n) adds.more ∙ added_there text adds.bytes (a - start) n (omega arith) (sym adds.long))) adds.written;
+        written = subst (UnitWritten L.address (item_at p) (bytes_from s.bytes q.offset) a n (OneItem item))
+            (sym (added_there text bytes (a - start) n (omega arith) (sym adds.long))) adds.written;
       })
 
   -- ---- gaps
 
   -- bytes of an item are no gap
-  item_gaps : (q : Place) (item : Item) (text bytes : List ℕ) → item_at inputs q ≡ Some item → A q ≡ Some (start + length text) → A (next_at inputs.objects q) ≡ Some (start + length text + length bytes)
-      → HasGaps inputs A text → HasGaps inputs A (text ++ bytes)
-  item_gaps q item text bytes is address next before k lt gap = ⊎_elim
-      (λ (early : start + k < start + length text). get_or_append_left text bytes 0 k (omega (arith, early)) ∙ before k (omega (arith, early)) gap)
+  item_gaps :
+      (q : Place) (item : Item) (text bytes : List ℕ) → L.unit q ≡ Some (OneItem item) → L.address q ≡ Some (start + length text)
+      → L.address (behind L q) ≡ Some (start + length text + length bytes) → GapsAreZero L text → GapsAreZero L (text ++ bytes)
+  item_gaps q item text bytes is address next before k past lt gap = ⊎_elim
+      (λ (early : start + k < start + length text).
+      get_or_append_left text bytes 0 k (omega (arith, early)) ∙ before k past (omega (arith, early)) gap)
       (λ (late : start + length text + length bytes ≤ start + k). absurd (omega (arith, late, lt, length-append text bytes)))
-      (gap q item (start + length text) (length bytes) is address next)
+      (gap q (OneItem item) (start + length text) (length bytes) is address next)
 
   -- and zeros are 0
-  zero_gaps : (text : List ℕ) (n : ℕ) → HasGaps inputs A text → HasGaps inputs A (text ++ replicate n 0)
-  zero_gaps text n before k lt gap = ⊎_elim
-      (λ (front : k < length text). get_or_append_left text (replicate n 0) 0 k front ∙ before k front gap)
-      (λ (behind : length text ≤ k).
-      get_or-append_right text (replicate n 0) (length text) k 0 refl behind
-      ∙ get_or-replicate n (k - length text) 0 0 (omega (arith, behind, lt, length-append text (replicate n 0), length-replicate {A = ℕ} n 0)))
+  zero_gaps : (text : List ℕ) (n : ℕ) → GapsAreZero L text → GapsAreZero L (text ++ replicate n 0)
+  zero_gaps text n before k past lt gap = ⊎_elim
+      (λ (front : k < length text). get_or_append_left text (replicate n 0) 0 k front ∙ before k past front gap)
+      (λ (later : length text ≤ k).
+      get_or-append_right text (replicate n 0) (length text) k 0 refl later
+      ∙ get_or-replicate n (k - length text) 0 0 (omega (arith, later, lt, length-append text (replicate n 0), length-replicate {A = ℕ} n 0)))
       (cases_lt k (length text))
 
   -- ---- the text so far
 
   -- with one place more
-  listed_more : (targets : List Place) (q : Place) (a : ℕ) (places places' : List (Place × ℕ)) → places ≡ map (with_address A) targets → (q, a) ≡ with_address A q
-      → places' ≡ places ++ (q, a) ∷ [] → places' ≡ map (with_address A) (targets ++ q ∷ [])
-  listed_more targets q a places places' listed is more =
-      more ∙ (λ j. listed j ++ is j ∷ []) ∙ sym (map-append (with_address A) targets (q ∷ []))
-
-  -- a place has its address
-  abbrev Placed : Place × ℕ → Type 0
-  Placed e = A e.0 ≡ Some e.1
-
-  placed_more : (q : Place) (a : ℕ) (places places' : List (Place × ℕ)) → places' ≡ places ++ (q, a) ∷ [] → A q ≡ Some a → All Placed places → All Placed places'
-  placed_more q a places places' more here before = subst (All Placed) (sym more) (All-append Placed places ((q, a) ∷ []) before (All-cons Placed (q, a) [] here (All-nil Placed)))
+  listed_more :
+      (targets : List Place) (q : Place) (a : ℕ) (places : List (Place × ℕ)) → places ≡ flat_map (with_address L) targets
+      → L.address q ≡ Some a → places ++ (q, a) ∷ [] ≡ flat_map (with_address L) (targets ++ q ∷ [])
+  listed_more targets q a places listed address =
+      (λ j. listed j ++ (option_to_list (option_map (λ x. (q, x)) (sym address j)) ++ []))
+      ∙ sym (flat_map-append (with_address L) targets (q ∷ []))
 
   -- an item
-  pub so_far_item : (s : SectionParts) (q : Place) (item : Item) (n : ℕ) (targets : List Place) (end a : ℕ) (text text' : List ℕ) (places places' : List (Place × ℕ))
-      → code_at inputs.objects q ≡ Some s → item_at inputs q ≡ Some item → A q ≡ Some (start + length text) → A (next_at inputs.objects q) ≡ Some (start + length text + n) → a ≡ unwrap_or (A q) 0
-      → IsSoFar inputs A targets end text places → places' ≡ places ++ (q, a) ∷ [] → AddsItem inputs A s.bytes q item n text text'
-      → IsSoFar inputs A (targets ++ q ∷ []) (start + length text') text' places'
-  so_far_item s q item n targets end a text text' places places' at is address next got before more adds =
-      let same : a ≡ start + length text = got ∙ ap (λ o. unwrap_or o 0) address in
+  pub so_far_item :
+      (s : SectionParts) (q : Place) (item : Item) (n : ℕ) (targets : List Place) (end : ℕ) (text bytes : List ℕ) (places : List (Place × ℕ))
+      → code_at p.objects q ≡ Some s → L.unit q ≡ Some (OneItem item) → L.address q ≡ Some (start + length text)
+      → L.address (behind L q) ≡ Some (start + length text + n) → front_end L ≤ start + length text
+      → WrittenHere L s.bytes q item (start + length text) n bytes → IsSoFar L targets end text places
+      → IsSoFar L (targets ++ q ∷ []) (start + length (text ++ bytes)) (text ++ bytes) (places ++ (q, start + length text) ∷ [])
+  so_far_item s q item n targets end text bytes places at is address next low adds before =
+      let a = start + length text in
       record {
-        listed = listed_more targets q a places places' before.listed (ap (λ x. (q, x)) got) more;
-        placed = placed_more q a places places' more (address ∙ ap Some (sym same)) before.placed;
+        listed = listed_more targets q a places before.listed address;
         ends = refl;
-        holds = subst (All (Holds inputs A text')) (sym more)
-            (All-append (Holds inputs A text') places ((q, a) ∷ [])
-            (subst (λ t. All (Holds inputs A t) places) (sym adds.more) (all_more text adds.bytes places before.holds))
-            (All-cons (Holds inputs A text') (q, a) [] (subst (λ x. Holds inputs A text' (q, x)) (sym same) (item_held s q item n text text' at is next adds)) (All-nil (Holds inputs A text'))));
-        gaps = subst (HasGaps inputs A) (sym adds.more)
-            (item_gaps q item text adds.bytes is address (next ∙ ap (λ m. Some (start + length text + m)) (sym adds.long)) before.gaps);
-        octets = subst (λ t. (k : ℕ) → get_or t k 0 < 256) (sym adds.more) (bytes_append text adds.bytes before.octets adds.octets);
+        front = begins_still L.front text bytes before.front;
+        holds = All-append (Holds L (text ++ bytes)) places ((q, a) ∷ []) (all_more text bytes places before.holds)
+            (All-cons (Holds L (text ++ bytes)) (q, a) [] (item_held s q item n text bytes at is next low adds) (All-nil (Holds L (text ++ bytes))));
+        gaps = item_gaps q item text bytes is address (next ∙ ap (λ m. Some (start + length text + m)) (sym adds.long)) before.gaps;
+        octets = bytes_append text bytes before.octets adds.octets;
       }
 
   -- a section's end
-  pub so_far_end : (q : Place) (targets : List Place) (end a : ℕ) (text : List ℕ) (places places' : List (Place × ℕ))
-      → item_at inputs q ≡ None → A q ≡ Some end → a ≡ unwrap_or (A q) 0 → IsSoFar inputs A targets end text places → places' ≡ places ++ (q, a) ∷ []
-      → IsSoFar inputs A (targets ++ q ∷ []) end text places'
-  so_far_end q targets end a text places places' none address got before more = record {
-    listed = listed_more targets q a places places' before.listed (ap (λ x. (q, x)) got) more;
-    placed = placed_more q a places places' more (address ∙ ap Some (sym (got ∙ ap (λ o. unwrap_or o 0) address))) before.placed;
+  pub so_far_end :
+      (q : Place) (targets : List Place) (end : ℕ) (text : List ℕ) (places : List (Place × ℕ)) → L.unit q ≡ None → L.address q ≡ Some end
+      → IsSoFar L targets end text places → IsSoFar L (targets ++ q ∷ []) end text (places ++ (q, end) ∷ [])
+  so_far_end q targets end text places none address before = record {
+    listed = listed_more targets q end places before.listed address;
     ends = before.ends;
-    holds = subst (All (Holds inputs A text)) (sym more)
-        (All-append (Holds inputs A text) places ((q, a) ∷ []) before.holds
-        (All-cons (Holds inputs A text) (q, a) [] (λ item is. absurd (cc (none, is))) (All-nil (Holds inputs A text))));
+    front = before.front;
+    holds = All-append (Holds L text) places ((q, end) ∷ []) before.holds
+        (All-cons (Holds L text) (q, end) [] (λ u is. absurd (cc (none, is))) (All-nil (Holds L text)));
     gaps = before.gaps;
     octets = before.octets;
   }
 
   -- a gap of zeros
-  pub so_far_gap : (targets : List Place) (end n : ℕ) (text text' : List ℕ) (places : List (Place × ℕ))
-      → IsSoFar inputs A targets end text places → text' ≡ text ++ replicate n 0 → IsSoFar inputs A targets (end + n) text' places
-  so_far_gap targets end n text text' places before more = record {
+  pub so_far_gap :
+      (targets : List Place) (end n : ℕ) (text : List ℕ) (places : List (Place × ℕ)) → IsSoFar L targets end text places
+      → IsSoFar L targets (end + n) (text ++ replicate n 0) places
+  so_far_gap targets end n text places before = record {
     listed = before.listed;
-    placed = before.placed;
-    ends = omega (arith, before.ends, ap length more, length-append text (replicate n 0), length-replicate {A = ℕ} n 0);
-    holds = subst (λ t. All (Holds inputs A t) places) (sym more) (all_more text (replicate n 0) places before.holds);
-    gaps = subst (HasGaps inputs A) (sym more) (zero_gaps text n before.gaps);
-    octets = subst (λ t. (k : ℕ) → get_or t k 0 < 256) (sym more) (bytes_append text (replicate n 0) before.octets (zeros_are n));
+    ends = omega (arith, before.ends, length-append text (replicate n 0), length-replicate {A = ℕ} n 0);
+    front = begins_still L.front text (replicate n 0) before.front;
+    holds = all_more text (replicate n 0) places before.holds;
+    gaps = zero_gaps text n before.gaps;
+    octets = bytes_append text (replicate n 0) before.octets (zeros_are n);
   }

@@ -31,7 +31,7 @@ use Rattle.block_cut.proofs.ItemLaws.{item_there}
 use Rattle.block_cut.proofs.ListedLaws.{cut_at, listed}
 use Rattle.block_cut.specs.declared.data_word.DataWord.{DataWord}
 use Rattle.sym_machine.specs.AddressParts.{target_bytes}
-use Rattle.sym_machine.specs.Objects.{data_bytes, program_of, unfilled_bytes}
+use Rattle.sym_machine.specs.Objects.{data_bytes, unfilled_bytes}
 use Rattle.sym_machine.specs.Objects as objects
 use Rattle.sym_machine.specs.declared.word.SymByte.{SymByte}
 use Rattle.sym_machine.specs.declared.word.SymByte.TheVariants.{Num, Undef}

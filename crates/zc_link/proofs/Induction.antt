@@ -20,11 +20,13 @@ use Rattle.sym_machine.proofs.RunLaws.{all_stay}
 use Rattle.zc_machine.specs.Run.{first_state, zc_after, zc_turns}
 use Rattle.zc_machine.proofs.TurnLaws.{zc_turns-add}
 use Rattle.zc_link.specs.Image.{Image, loaded, place_address}
-use Rattle.zc_link.specs.Preserves.{Follows, FollowsUnder, KeepsStep, Preserves, PreservesQuietly}
-use Rattle.zc_link.specs.Pace.{Pace, pace_in}
-use Rattle.zc_link.specs.Simulates.{Simulates, lead_from, lead_of}
+use Rattle.zc_link.specs.Links.{Simulates}
+use Rattle.zc_link.specs.Preserves.{Follows, FollowsUnder, Preserves, PreservesQuietly}
+use Rattle.zc_link.specs.Pace.{Pace, pace_of}
+use Rattle.zc_link.specs.Simulates.{IsSimulation, lead_from, lead_of}
 use Rattle.zc_link.specs.Sound.{IsNamed, Sound, Together}
 use Rattle.zc_link.specs.Stands.{Stands}
+use Rattle.zc_link.specs.TextLayout.{TextLayout, piece_in}
 
 -- ---- what is known at the ends
 
@@ -46,7 +48,7 @@ lead_few (Some start) entry = either (eqb start entry)
 
 -- ---- the induction
 
-module _ (p : Program) (Named : Place → Type 0) (e : Image) (pace : Pace) (law : Simulates p Named e pace) where
+module _ (p : Program) (Named : Place → Type 0) (e : Image) (pace : Pace) (law : IsSimulation p Named e pace) where
   -- what m commits come to with these interrupts
   record Ran (cuts : ℕ → List Cut) (m : ℕ) (r : PlainState) (z : ZcState) : Type 0 where
     after : ZcState
@@ -156,13 +158,15 @@ module _ (p : Program) (Named : Place → Type 0) (e : Image) (pace : Pace) (law
 
 -- ---- files
 
--- what keeps step with the objects' program preserves it
-pub preserves : (inputs : Inputs) (elf : List ℕ) → KeepsStep inputs elf → Preserves inputs elf
-preserves inputs elf keeps = record {
-  image = keeps.image;
-  read = keeps.read;
-  follows = follows (program_of (parsed inputs)) (IsNamed (parsed inputs)) keeps.image (pace_in (program_of (parsed inputs)) keeps.image) keeps.simulates;
-}
+-- a file that does the steps of the objects' program preserves it
+pub preserves : (L : TextLayout) (elf : List ℕ) → Simulates L elf → Preserves L.inputs elf
+preserves L elf steps =
+    let inputs = parsed L.inputs in
+    record {
+      image = steps.image;
+      read = steps.read;
+      follows = follows (program_of inputs) (IsNamed inputs) steps.image (pace_of (program_of inputs) (piece_in L)) steps.simulates;
+    }
 
 -- what holds under every plan holds without interrupts
 pub quietly : (inputs : Inputs) (elf : List ℕ) → Preserves inputs elf → PreservesQuietly inputs elf

@@ -1,36 +1,36 @@
--- Addresses of any layout of code: they are below 2^32, and even, and so is the way from one to a later one.
-use Rattle.std.proofs.Common.{◌≡◌, ℕ, ◌+◌, ◌%◌, ◌^◌, ◌<◌, Option, Some, ap, ◌∙◌, arith}
-use Rattle.std.specs.Option.{unwrap_or}
+-- Laws of any layout of code: addresses are below 2^32, and where an item starts it is what is written there.
+use Rattle.std.proofs.Common.{◌≡◌, ℕ, ◌^◌, ◌<◌, Option, Some, None, true, false, refl, sym, ap, ◌∙◌, arith}
+use Rattle.std.specs.Prelude.{◌&&◌}
+use Rattle.std.specs.Option.{is_some, option_map_or}
 use Rattle.zc_base.specs.MemMap.{IsMap}
 use Rattle.zc_base.specs.declared.place.Place.{Place}
-use Rattle.psabi_sym.specs.Inputs.{Inputs, parsed}
-use Rattle.block_cut.specs.Items.{next_at}
+use Rattle.psabi_sym.specs.Inputs.{parsed}
+use Rattle.block_cut.specs.Items.{is_start_at, item_at, starts_on}
+use Rattle.block_cut.specs.declared.item.Item.{Item}
+use Rattle.block_cut.proofs.ItemLaws.{item_found}
+use Rattle.shrink_layout.specs.Units.{CodeUnit, OneItem}
 use Rattle.zc_link.specs.LaidOut.{IsLaidOut}
-use Rattle.zc_link.specs.Standing.{IsExtent}
-use Rattle.zc_link.specs.Values.{way}
+use Rattle.zc_link.specs.TextLayout.{TextLayout}
 
--- on the way to a later address lie the bytes between them
-pub way_later : (a n : ℕ) → a + n < 2 ^ 32 → way a (a + n) ≡ n
-way_later a n small = omega (arith, small)
-
-module _ (inputs : Inputs) (is_map : IsMap inputs.map) (A : Place → Option ℕ) (laid : IsLaidOut (parsed inputs) A) where
+module _ (L : TextLayout) (is_map : IsMap L.inputs.map) (laid : IsLaidOut L) where
   -- an address is small
-  pub address_small : (q : Place) (a : ℕ) → A q ≡ Some a → a < 2 ^ 32
+  pub address_small : (q : Place) (a : ℕ) → L.address q ≡ Some a → a < 2 ^ 32
   address_small q a is = omega (arith, laid.high q a is, laid.short, is_map.code, is_map.data_room, is_map.top)
 
-  -- the bytes between two are even in number
-  pub between_even : (q r : Place) (a n : ℕ) → A q ≡ Some a → A r ≡ Some (a + n) → n % 2 ≡ 0
-  between_even q r a n one two = omega (arith, laid.even q a one, laid.even r (a + n) two)
+  -- where an item starts at a place with an address, something is written
+  pub unit_there : (q : Place) (item : Item) (a : ℕ) → item_at (parsed L.inputs) q ≡ Some item → L.address q ≡ Some a → (u : CodeUnit) × (L.unit q ≡ Some u)
+  unit_there q item a is at =
+      let found = item_found (parsed L.inputs) q item is in
+      let start : is_start_at (parsed L.inputs).objects q ≡ true = ap (λ o. option_map_or (λ s. starts_on s q.offset) o false) found.code ∙ found.start in
+      by (L.unit q) refl (laid.written q ∙ (λ j. is_some (at j) && start j))
+    where
+      by : (o : Option CodeUnit) → L.unit q ≡ o → is_some (L.unit q) ≡ true → (u : CodeUnit) × (L.unit q ≡ Some u)
+      by None is some = absurd (cc (ap is_some is, some))
+      by (Some u) is some = (u, is)
 
-  -- and so far is the way
-  pub between_way : (r : Place) (a n : ℕ) → A r ≡ Some (a + n) → way a (a + n) ≡ n
-  between_way r a n two = way_later a n (address_small r (a + n) two)
-
-  -- an item lies between its address and that of the next place
-  pub extent_is :
-      (q : Place) (address end : ℕ) → address ≡ unwrap_or (A q) 0 → end ≡ unwrap_or (A (next_at (parsed inputs).objects q)) 0
-      → IsExtent (parsed inputs) A q address (way address end)
-  extent_is q address end here there a n at next =
-      let same : address ≡ a = here ∙ ap (λ o. unwrap_or o 0) at in
-      let after : end ≡ a + n = there ∙ ap (λ o. unwrap_or o 0) next in
-      (same, (λ j. way (same j) (after j)) ∙ between_way (next_at (parsed inputs).objects q) a n next, between_even q (next_at (parsed inputs).objects q) a n at next, address_small q a at)
+  -- which is the item by itself
+  pub unit_is : (q : Place) (item : Item) (a : ℕ) → item_at (parsed L.inputs) q ≡ Some item → L.address q ≡ Some a → L.unit q ≡ Some (OneItem item)
+  unit_is q item a is at = let there = unit_there q item a is at in by there.0 there.1
+    where
+      by : (u : CodeUnit) → L.unit q ≡ Some u → L.unit q ≡ Some (OneItem item)
+      by (OneItem i) unit = let same : i ≡ item = cc (sym (laid.each q a (OneItem i) unit at).is ∙ is) in unit ∙ ap (λ x. Some (OneItem x)) same

@@ -2,7 +2,7 @@
 use Rattle.std.proofs.Common.{◌≡◌, ℕ, ◌+◌, ◌*◌, ◌<◌, ◌≤◌, List, [], ◌∷◌, ◌++◌, map, length, max, ◌⊎◌, inl, inr, Option, Bool, true, false, cond, nat_lt, refl, ap, ◌∙◌, arith, length-append, eqb}
 use Rattle.std.specs.Prelude.{All, Some, None}
 use Rattle.std.specs.List.{flat_map, list_any, sum_by}
-use Rattle.std.specs.Option.{unwrap_or}
+use Rattle.std.specs.Option.{option_map, option_to_list}
 use Rattle.std.proofs.lemmas.Bool.{and_from, eq-eqb, le-ltb, lt-ltb, ltb-false, or_from, or_right}
 use Rattle.std.proofs.lemmas.List.{length-map}
 use Rattle.std.proofs.lemmas.List.Elements.{All-append, All-cons, All-head, All-nil, All-tail, All-weaker}
@@ -18,19 +18,20 @@ use Rattle.elf32_read.proofs.Faultless.{no_fault}
 use Rattle.elf32_write.specs.Loadable.{IsEntry}
 use Rattle.psabi_sym.specs.Data.{is_code_role, role_of}
 use Rattle.psabi_sym.specs.Faults.{code_room, gather_fault, reloc_room, room_in_code}
-use Rattle.psabi_sym.specs.Inputs.{Inputs, ParsedInputs, parsed}
+use Rattle.psabi_sym.specs.Inputs.{ParsedInputs, parsed}
 use Rattle.psabi_sym.specs.Listed.{ListedSection, all_sections}
 use Rattle.psabi_sym.specs.declared.section_row.SectionRole.{SectionRole}
 use Rattle.psabi_sym.specs.declared.section_row.SectionRole.TheVariants.{Code, InClass, Dropped}
 use Rattle.psabi_sym.proofs.Gathered.{few_gathered, readable}
 use Rattle.psabi_sym.proofs.PlaceLaws.{code_is}
-use Rattle.block_cut.specs.Items.{place_of, size_on, starts_in, starts_on}
+use Rattle.block_cut.specs.Items.{all_targets, place_of, size_on, starts_in, starts_on, targets_of}
 use Rattle.block_cut.proofs.RoomLaws.{AreWhole, all_whole, rooms, rooms_few}
 use Rattle.block_cut.proofs.StartLaws.{along, start_is}
 use Rattle.block_cut.proofs.WholeLaws.{code_is_section, code_whole, section_of}
 use Rattle.block_cut.specs.Whole.{IsWhole}
-use Rattle.zc_link.specs.ImageParts.{all_targets, listed_places, targets_of, with_address}
+use Rattle.zc_link.specs.ImageParts.{listed_places, with_address}
 use Rattle.zc_link.specs.LaidOut.{IsLaidOut}
+use Rattle.zc_link.specs.TextLayout.{TextLayout}
 use Rattle.zc_link.proofs.Lookup.{address_target, target_there}
 use Rattle.zc_link.proofs.SectionOrder.{IsBefore, IsRising, before_places, sections_rising}
 
@@ -79,15 +80,24 @@ targets_few (l ∷ ls) whole = by (is_code_section l.section) refl (targets_few 
         )
     by false other rest = omega (arith, rest, sum_is)
 
+-- a list has no more entries than places
+entries_few : (L : TextLayout) (qs : List Place) → length (flat_map (with_address L) qs) ≤ length qs
+entries_few L [] = omega arith
+entries_few L (q ∷ qs) = by (L.address q) (entries_few L qs)
+  where
+    by : (o : Option ℕ) → length (flat_map (with_address L) qs) ≤ length qs → length (option_to_list (option_map (λ a. (q, a)) o) ++ flat_map (with_address L) qs) ≤ length (q ∷ qs)
+    by None rest = omega (arith, rest)
+    by (Some a) rest = omega (arith, rest)
+
 -- and those of all code are few
-pub places_few : (inputs : Inputs) (A : Place → Option ℕ) → gather_fault inputs ≡ None → 4 * length (listed_places (parsed inputs) A) ≤ 0x4_0000
+pub places_few : (L : TextLayout) → gather_fault L.inputs ≡ None → 4 * length (listed_places L) ≤ 0x4_0000
 unfolding listed_places
-places_few inputs A none =
+places_few L none =
     omega (
       arith,
-      length-map (all_targets (parsed inputs).objects) (with_address A),
-      targets_few (all_sections (parsed inputs).objects) (all_whole inputs none),
-      rooms_few inputs none,
+      entries_few L (all_targets (parsed L.inputs).objects),
+      targets_few (all_sections (parsed L.inputs).objects) (all_whole L.inputs none),
+      rooms_few L.inputs none,
     )
 
 -- ---- in order
@@ -105,12 +115,36 @@ sorted_append (x ∷ xs) ys one two apart =
     let P = λ (z : Place). All (λ y. is_before z y ≡ true) ys in
     (All-append (λ r. is_before x r ≡ true) xs ys one.0 (All-head P x xs apart), sorted_append xs ys one.1 two (All-tail P x xs apart))
 
--- a list in order ascends with any addresses
-sorted_ascends : (f : Place → ℕ) (qs : List Place) → IsSorted qs → is_ascending (map (λ q. (q, f q)) qs) ≡ true
-unfolding IsSorted
-sorted_ascends f [] sorted = refl
-sorted_ascends f (q ∷ []) sorted = refl
-sorted_ascends f (q ∷ r ∷ rs) sorted = and_from _ _ (All-head (λ x. is_before q x ≡ true) r rs sorted.0) (sorted_ascends f (r ∷ rs) sorted.1)
+-- so do entries of a list, by their places
+AreSorted : List (Place × ℕ) → Type 0
+AreSorted [] = Unit {0}
+AreSorted (e ∷ es) = All (λ d. is_before e.0 d.0 ≡ true) es × AreSorted es
+
+-- such a list ascends
+sorted_ascends : (es : List (Place × ℕ)) → AreSorted es → is_ascending es ≡ true
+unfolding AreSorted
+sorted_ascends [] sorted = refl
+sorted_ascends (d ∷ []) sorted = refl
+sorted_ascends (d ∷ e ∷ es) sorted = and_from _ _ (All-head (λ x. is_before d.0 x.0 ≡ true) e es sorted.0) (sorted_ascends (e ∷ es) sorted.1)
+
+-- what holds of each place holds of each one's entry
+each_entry : (P : Place → Type 0) (L : TextLayout) (qs : List Place) → All P qs → All (λ e. P e.0) (flat_map (with_address L) qs)
+each_entry P L [] all = All-nil (λ (e : Place × ℕ). P e.0)
+each_entry P L (q ∷ qs) all = by (L.address q) (All-head P q qs all) (each_entry P L qs (All-tail P q qs all))
+  where
+    by : (o : Option ℕ) → P q → All (λ e. P e.0) (flat_map (with_address L) qs) → All (λ e. P e.0) (option_to_list (option_map (λ a. (q, a)) o) ++ flat_map (with_address L) qs)
+    by None here rest = rest
+    by (Some a) here rest = All-cons (λ (e : Place × ℕ). P e.0) (q, a) (flat_map (with_address L) qs) here rest
+
+-- the entries of places in order are in order
+entries_sorted : (L : TextLayout) (qs : List Place) → IsSorted qs → AreSorted (flat_map (with_address L) qs)
+unfolding IsSorted AreSorted
+entries_sorted L [] sorted = tt
+entries_sorted L (q ∷ qs) sorted = by (L.address q) (entries_sorted L qs sorted.1)
+  where
+    by : (o : Option ℕ) → AreSorted (flat_map (with_address L) qs) → AreSorted (option_to_list (option_map (λ a. (q, a)) o) ++ flat_map (with_address L) qs)
+    by None rest = rest
+    by (Some a) rest = (each_entry (λ r. is_before q r ≡ true) L qs sorted.0, rest)
 
 -- offsets that go up from a number on
 IsUp : ℕ → List ℕ → Type 0
@@ -187,16 +221,19 @@ sections_sorted (l ∷ ls) whole up =
         (each_target (λ y. is_before (place_of l n) y ≡ true) m (λ k. before_places l m n k (All-head (IsBefore l) m ms all)))
         (later ms n (All-tail (IsBefore l) m ms all))
 
-module _ (inputs : Inputs) (none : gather_fault inputs ≡ None) (map : IsMap inputs.map) (A : Place → Option ℕ) (laid : IsLaidOut (parsed inputs) A) where
+module _ (L : TextLayout) (none : gather_fault L.inputs ≡ None) (map : IsMap L.inputs.map) (laid : IsLaidOut L) where
   abbrev p : ParsedInputs
-  p = parsed inputs
+  p = parsed L.inputs
+
+  abbrev A : Place → Option ℕ
+  A = L.address
 
   -- and those of all code
-  pub ascends : is_ascending (listed_places p A) ≡ true
+  pub ascends : is_ascending (listed_places L) ≡ true
   unfolding listed_places
   ascends =
-      sorted_ascends (λ q. unwrap_or (A q) 0) (all_targets p.objects)
-      (sections_sorted (all_sections p.objects) (all_whole inputs none) (sections_rising p.objects))
+      sorted_ascends (listed_places L)
+      (entries_sorted L (all_targets p.objects) (sections_sorted (all_sections p.objects) (all_whole L.inputs none) (sections_rising p.objects)))
 
   -- ---- numbers
 
@@ -205,11 +242,11 @@ module _ (inputs : Inputs) (none : gather_fault inputs ≡ None) (map : IsMap in
   place_entry q a at =
       let is = target_there p.objects q (address_target p A laid.listed q a at) in
       let two = code_is_section p.objects q is.section is.code in
-      let whole = code_whole inputs q is.section none is.code in
-      let of = section_of inputs q.object q.section is.section two.0 in
-      let few = few_gathered inputs none in
-      let inside = slice_get_within inputs.files q.object of.file of.at in
-      let sections = ltb-false 4096 (section_count of.file) (no_fault of.file (readable inputs q.object of.file none of.at)).few in
+      let whole = code_whole L.inputs q is.section none is.code in
+      let of = section_of L.inputs q.object q.section is.section two.0 in
+      let few = few_gathered L.inputs none in
+      let inside = slice_get_within L.inputs.files q.object of.file of.at in
+      let sections = ltb-false 4096 (section_count of.file) (no_fault of.file (readable L.inputs q.object of.file none of.at)).few in
       let within = of.within in
       let high = laid.high q a at in
       let short = laid.short in
@@ -229,7 +266,7 @@ module _ (inputs : Inputs) (none : gather_fault inputs ≡ None) (map : IsMap in
   entries places placed = All-weaker (λ (e : Place × ℕ). A e.0 ≡ Some e.1) IsEntry (λ e at. place_entry e.0 e.1 at) places placed
 
   -- and none lies outside the text
-  pub are_inside : (places : List (Place × ℕ)) → All (λ e. A e.0 ≡ Some e.1) places → list_any (is_outside inputs.map) places ≡ false
+  pub are_inside : (places : List (Place × ℕ)) → All (λ e. A e.0 ≡ Some e.1) places → list_any (is_outside L.inputs.map) places ≡ false
   are_inside [] placed = refl
   are_inside (e ∷ es) placed =
       let P = λ (d : Place × ℕ). A d.0 ≡ Some d.1 in
@@ -237,4 +274,4 @@ module _ (inputs : Inputs) (none : gather_fault inputs ≡ None) (map : IsMap in
       let low = laid.low e.0 e.1 at in
       let high = laid.high e.0 e.1 at in
       let short = laid.short in
-      or_from _ _ (or_from _ _ (le-ltb e.1 inputs.map.text low) (le-ltb inputs.map.data_low e.1 (omega (arith, high, short, map.code)))) (are_inside es (All-tail P e es placed))
+      or_from _ _ (or_from _ _ (le-ltb e.1 L.inputs.map.text (omega (arith, low))) (le-ltb L.inputs.map.data_low e.1 (omega (arith, high, short, map.code)))) (are_inside es (All-tail P e es placed))

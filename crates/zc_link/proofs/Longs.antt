@@ -4,6 +4,7 @@ use Rattle.std.proofs.Common.{◌≡◌, ℕ, ◌+◌, ◌<◌, List, Option, So
 use Rattle.std.specs.Prelude.{not}
 use Rattle.zc_base.specs.declared.place.Place.{Place}
 use Rattle.interrupt_plan.specs.Plan.{Cut}
+use Rattle.rv_decode.specs.declared.instr.BranchOp.{BranchOp}
 use Rattle.rv_decode.specs.declared.instr.Instr.{Instr}
 use Rattle.rv_decode.specs.declared.instr.Instr.TheVariants as instr
 use Rattle.rv_decode.specs.declared.instr.Instr.TheVariants.{Jal}
@@ -22,8 +23,8 @@ use Rattle.zc_machine.specs.Run.{committed, zc_turn, zc_turns}
 use Rattle.zc_machine.specs.Step.{effect_step}
 use Rattle.zc_machine.proofs.TurnLaws.{zc_turns-more}
 use Rattle.zc_link.specs.Image.{Image, loaded, place_address}
-use Rattle.zc_link.specs.Pace.{long_commits}
-use Rattle.zc_link.specs.Pieces.{LongLaid, LongOf, OneAt, commits_of, taken_at}
+use Rattle.zc_link.specs.Pace.{LongOf, commits_of, long_commits}
+use Rattle.zc_link.specs.Pieces.{LongLaid, OneAt}
 use Rattle.zc_link.specs.Room.{Room}
 use Rattle.zc_link.specs.Simulates.{Comes}
 use Rattle.zc_link.specs.Sound.{Alike, Ready}
@@ -36,63 +37,62 @@ use Rattle.zc_link.proofs.Singles.{FromSound, below_top, comes_after}
 -- ---- whether it is taken
 
 -- whether the program's branch is taken, if that is known
-abbrev branch_taken : {p : Program} {e : Image} {q : Place} {a : ℕ} → PlainCore → LongLaid p e q a → Option Bool
-branch_taken {p} s laid = condition p laid.op (reg_of s laid.first) (reg_of s laid.second)
-
--- the instruction over the jump
-abbrev over_jump : {p : Program} {e : Image} {q : Place} {a : ℕ} → LongLaid p e q a → Instr
-over_jump laid = instr.Branch laid.other laid.first laid.second laid.over
+abbrev branch_taken : Program → PlainCore → BranchOp → ℕ → ℕ → Option Bool
+branch_taken p s op one two = condition p op (reg_of s one) (reg_of s two)
 
 -- the image's branch is taken just if the program's isn't
 other_taken :
-    {p : Program} {Named : Place → Type 0} {e : Image} {q : Place} {a : ℕ} {s : PlainCore} {y : ZcCore} (t : Bool) → Room p e → Ready p Named e s y → (laid : LongLaid p e q a)
-    → branch_taken s laid ≡ Some t → is_taken laid.other (reg_in y laid.first) (reg_in y laid.second) ≡ not t
-other_taken {s = s} {y = y} t room ready laid is =
-    laid.opposite (reg_in y laid.first) (reg_in y laid.second)
-    ∙ ap not (condition_is room laid.op (reg_of s laid.first) (reg_of s laid.second) (reg_in y laid.first) (reg_in y laid.second) t
-    (ready.core.words laid.first) (ready.core.words laid.second) (ready.registers laid.first laid.first_low) (ready.registers laid.second laid.second_low) is)
-
--- its commits, by that
-long_commits_are :
-    {p : Program} {e : Image} {a : ℕ} (s : PlainCore) (laid : LongLaid p e s.place a) → commits_of p s LongOf ≡ long_commits (branch_taken s laid)
-long_commits_are {p} s laid = ap (λ o. long_commits (taken_at p s o)) laid.item
+    {p : Program} {Named : Place → Type 0} {e : Image} {q : Place} {a : ℕ} {op : BranchOp} {one two : ℕ} {s : PlainCore} {y : ZcCore} (t : Bool) → Room p e → Ready p Named e s y
+    → (laid : LongLaid p e q a op one two) → branch_taken p s op one two ≡ Some t → is_taken laid.other (reg_in y one) (reg_in y two) ≡ not t
+other_taken {op = op} {one = one} {two = two} {s = s} {y = y} t room ready laid is =
+    laid.opposite (reg_in y one) (reg_in y two)
+    ∙ ap not (condition_is room op (reg_of s one) (reg_of s two) (reg_in y one) (reg_in y two) t
+    (ready.core.words one) (ready.core.words two) (ready.registers one laid.first_low) (ready.registers two laid.second_low) is)
 
 -- two commits, and so the program's branch is taken
-pub record IsTaken {p : Program} {e : Image} {a : ℕ} (s : PlainCore) (laid : LongLaid p e s.place a) : Type 0 where
-  pub is : branch_taken s laid ≡ Some true
-  pub commits : commits_of p s LongOf ≡ 2
+pub record IsTaken (p : Program) (s : PlainCore) (op : BranchOp) (one two : ℕ) : Type 0 where
+  pub is : branch_taken p s op one two ≡ Some true
+  pub commits : commits_of p s (LongOf op one two) ≡ 2
 
-pub known_taken : {p : Program} {e : Image} {a : ℕ} (s : PlainCore) (laid : LongLaid p e s.place a) → 1 < commits_of p s LongOf → IsTaken s laid
-known_taken {p} s laid more = by (branch_taken s laid) refl
+pub known_taken : (p : Program) (s : PlainCore) (op : BranchOp) (one two : ℕ) → 1 < commits_of p s (LongOf op one two) → IsTaken p s op one two
+known_taken p s op one two more = by (branch_taken p s op one two) refl
   where
-    by : (o : Option Bool) → branch_taken s laid ≡ o → IsTaken s laid
-    by None is = absurd (omega (arith, more, long_commits_are s laid, ap long_commits is))
-    by (Some false) is = absurd (omega (arith, more, long_commits_are s laid, ap long_commits is))
-    by (Some true) is = record { is = is; commits = long_commits_are s laid ∙ ap long_commits is }
+    by : (o : Option Bool) → branch_taken p s op one two ≡ o → IsTaken p s op one two
+    by None is = absurd (omega (arith, more, ap long_commits is))
+    by (Some false) is = absurd (omega (arith, more, ap long_commits is))
+    by (Some true) is = record { is = is; commits = ap long_commits is }
 
 -- then the image's isn't, and goes on to the jump
 pub goes_over :
-    {p : Program} {Named : Place → Type 0} {e : Image} {a : ℕ} (s : PlainCore) (y : ZcCore) → Room p e → Alike p Named e s y → (laid : LongLaid p e s.place a)
-    → branch_taken s laid ≡ Some true → is_taken laid.other (reg_in y laid.first) (reg_in y laid.second) ≡ false
+    {p : Program} {Named : Place → Type 0} {e : Image} {a : ℕ} {op : BranchOp} {one two : ℕ} (s : PlainCore) (y : ZcCore) → Room p e → Alike p Named e s y
+    → (laid : LongLaid p e s.place a op one two) → branch_taken p s op one two ≡ Some true → is_taken laid.other (reg_in y one) (reg_in y two) ≡ false
 goes_over s y room al laid is = other_taken true room al.ready laid is
 
 -- ---- its commits
 
 module _
-    {p : Program} {Named : Place → Type 0} {e : Image} {r r' : PlainState} {cuts : ℕ → List Cut} {z : ZcState}
-    (room : Room p e) (from : FromSound p Named e r r' cuts z) (laid : LongLaid p e r.core.place z.core.pc) where
+    {p : Program} {Named : Place → Type 0} {e : Image} {r r' : PlainState} {cuts : ℕ → List Cut} {z : ZcState} {op : BranchOp} {one two : ℕ}
+    (room : Room p e) (from : FromSound p Named e r r' cuts z) (laid : LongLaid p e r.core.place z.core.pc op one two) where
+  -- whether it is taken
+  abbrev taken : Option Bool
+  taken = branch_taken p r.core op one two
+
+  -- the instruction over the jump
+  abbrev over_jump : Instr
+  over_jump = instr.Branch laid.other one two laid.over
+
   abbrev next : Place
   next = p.next r.core.place
 
   -- the state before the first instruction
-  abbrev first : AfterCuts p Named e (over_jump laid) laid.at.one.size r.core (cuts 0) z
+  abbrev first : AfterCuts p Named e over_jump laid.at.one.size r.core (cuts 0) z
   first = after_cuts room (cuts 0) (from.are 0) laid.at.one from.sound.alike
 
   -- the state after it, by whether it is taken
   abbrev after_first : Bool → ZcCore
-  after_first taken = record (core_onward first.now laid.at.one.size first.now.regs) { pc = branch_target taken laid.over laid.at.one.size first.now }
+  after_first t = record (core_onward first.now laid.at.one.size first.now.regs) { pc = branch_target t laid.over laid.at.one.size first.now }
 
-  first_turn : (t : Bool) → branch_taken r.core laid ≡ Some t → zc_turn (cuts 0) z ≡ Ok (record z { core = after_first (not t) })
+  first_turn : (t : Bool) → taken ≡ Some t → zc_turn (cuts 0) z ≡ Ok (record z { core = after_first (not t) })
   first_turn t is =
       first.turn
       ∙ ap (λ b. committed (effect_step (Commits (after_first b)) first.now) (record z { core = first.now })) (other_taken t room first.alike.ready laid is)
@@ -106,7 +106,7 @@ module _
       (ap (λ (c : Change). place_address e c.place) (sym is) ∙ at)
 
   -- one, over the jump
-  over_comes : branch_taken r.core laid ≡ Some false → onward next ≡ from.step.change → Comes p Named e cuts 1 z r'
+  over_comes : taken ≡ Some false → onward next ≡ from.step.change → Comes p Named e cuts 1 z r'
   over_comes is same =
       let y = after_first true in
       comes_to 1 y next (zc_turns-one cuts z (record z { core = y }) (first_turn false is)) (ready_moved first.alike.ready next y.pc y.commits)
@@ -134,7 +134,7 @@ module _
   abbrev there : ZcCore
   there = record (core_onward second.now laid.at.two.size second.now.regs) { pc = add32 second.now.pc laid.distance }
 
-  two_come : branch_taken r.core laid ≡ Some true → onward laid.to ≡ from.step.change → Comes p Named e cuts 2 z r'
+  two_come : taken ≡ Some true → onward laid.to ≡ from.step.change → Comes p Named e cuts 2 z r'
   two_come is same =
       let z1 : ZcState = record z { core = between } in
       let runs = zc_turns-more cuts 1 z z1 (record z { core = there }) (zc_turns-one cuts z z1 (first_turn true is)) second.turn in
@@ -143,13 +143,13 @@ module _
 
   -- ---- both
 
-  pub long_comes : Comes p Named e cuts (commits_of p r.core LongOf) z r'
-  long_comes = subst (λ k. Comes p Named e cuts k z r') (sym (long_commits_are r.core laid)) (by (branch_taken r.core laid) refl does)
+  pub long_comes : Comes p Named e cuts (commits_of p r.core (LongOf op one two)) z r'
+  long_comes = by taken refl does
     where
-      does : branch_does (branch_taken r.core laid) laid.to next ≡ Goes from.step.change
+      does : branch_does taken laid.to next ≡ Goes from.step.change
       does = ap (λ o. place_does p o r.core next) (sym laid.item) ∙ from.step.does
 
-      by : (o : Option Bool) → branch_taken r.core laid ≡ o → branch_does o laid.to next ≡ Goes from.step.change → Comes p Named e cuts (long_commits o) z r'
+      by : (o : Option Bool) → taken ≡ o → branch_does o laid.to next ≡ Goes from.step.change → Comes p Named e cuts (long_commits o) z r'
       by None is h = absurd cc
       by (Some false) is h = over_comes is (let same : onward next ≡ from.step.change = cc in same)
       by (Some true) is h = two_come is (let same : onward laid.to ≡ from.step.change = cc in same)

@@ -2,21 +2,22 @@
 use Rattle.std.proofs.Common.{◌≡◌, ℕ, List, [], ◌∷◌, ◌++◌, map, length, Option, Some, None, Bool, true, false, cond, eqb, refl, sym, ap, ◌∙◌, subst, inl, inr, ◌⊎◌}
 use Rattle.std.specs.Prelude.{All, ◌||◌}
 use Rattle.std.specs.List.{flat_map, list_any}
-use Rattle.std.specs.Option.{is_some, option_map_or, unwrap_or}
+use Rattle.std.specs.Option.{is_some, option_map, option_map_or, option_to_list}
 use Rattle.std.proofs.lemmas.Bool.{eq-eqb, eqb-true, or_cases, or_left, or_right}
-use Rattle.std.proofs.lemmas.List.Elements.{All-head, All-tail}
+use Rattle.std.proofs.lemmas.List.Elements.{All-cons, All-head, All-nil, All-tail}
 use Rattle.std.proofs.lemmas.List.Folds.{list_any-append}
 use Rattle.zc_base.specs.Places.{same_place}
 use Rattle.zc_base.specs.declared.place.Place.{Place}
 use Rattle.elf32_read.specs.Parts.{ObjectParts, SectionParts}
-use Rattle.psabi_sym.specs.Inputs.{ParsedInputs}
+use Rattle.psabi_sym.specs.Inputs.{ParsedInputs, parsed}
 use Rattle.psabi_sym.specs.Listed.{sections_before}
-use Rattle.block_cut.specs.Items.{code_at, is_target_at, place_of, starts_in, starts_on}
+use Rattle.block_cut.specs.Items.{all_targets, code_at, is_target_at, place_of, starts_in, starts_on, targets_of}
 use Rattle.block_cut.proofs.ListedLaws.{cut_at, listed}
 use Rattle.block_cut.proofs.PlainLaws.{target_on}
 use Rattle.block_cut.proofs.WholeLaws.{code_is_section}
 use Rattle.zc_link.specs.Places.{address_in}
-use Rattle.zc_link.specs.ImageParts.{all_targets, listed_places, targets_of}
+use Rattle.zc_link.specs.ImageParts.{listed_places, with_address}
+use Rattle.zc_link.specs.TextLayout.{TextLayout}
 use Rattle.zc_link.proofs.Elements.{any_flat, any_offset}
 use Rattle.zc_link.proofs.PlaceLaws.{same_place-refl, same_place-true}
 
@@ -32,14 +33,42 @@ found_holds P (e ∷ es) q a all found = by (same_place e.0 q) refl found (λ la
         subst P (λ j. (sym place j, address j)) (All-head P e es all)
     by false is got rest = rest got
 
--- a place among those of a list is found in it
-pub among_found : (f : Place → ℕ) (qs : List Place) (q : Place) → list_any (λ r. same_place r q) qs ≡ true → (a : ℕ) × (address_in (map (λ r. (r, f r)) qs) q ≡ Some a)
-among_found f [] q among = absurd cc
-among_found f (r ∷ rs) q among = by (same_place r q) among (λ later. among_found f rs q later)
+-- each entry of a list of places with addresses has its place's address
+pub entries_placed : (L : TextLayout) (qs : List Place) → All (λ e. L.address e.0 ≡ Some e.1) (flat_map (with_address L) qs)
+entries_placed L [] = All-nil (λ (e : Place × ℕ). L.address e.0 ≡ Some e.1)
+entries_placed L (q ∷ qs) = by (L.address q) refl (entries_placed L qs)
   where
-    by : (b : Bool) → (b || list_any (λ s. same_place s q) rs) ≡ true → (list_any (λ s. same_place s q) rs ≡ true → (a : ℕ) × (address_in (map (λ s. (s, f s)) rs) q ≡ Some a)) → (a : ℕ) × (cond b (Some (f r)) (address_in (map (λ s. (s, f s)) rs) q) ≡ Some a)
-    by true is rest = (f r, refl)
-    by false is rest = rest is
+    by :
+        (o : Option ℕ) → L.address q ≡ o → All (λ e. L.address e.0 ≡ Some e.1) (flat_map (with_address L) qs)
+        → All (λ e. L.address e.0 ≡ Some e.1) (option_to_list (option_map (λ a. (q, a)) o) ++ flat_map (with_address L) qs)
+    by None is rest = rest
+    by (Some a) is rest = All-cons (λ (e : Place × ℕ). L.address e.0 ≡ Some e.1) (q, a) (flat_map (with_address L) qs) is rest
+
+-- a place among those of a list is found there if it has an address
+pub among_found :
+    (L : TextLayout) (qs : List Place) (q : Place) (a : ℕ) → L.address q ≡ Some a → list_any (λ r. same_place r q) qs ≡ true
+    → (b : ℕ) × (address_in (flat_map (with_address L) qs) q ≡ Some b)
+among_found L [] q a is among = absurd cc
+among_found L (r ∷ rs) q a is among = by (same_place r q) refl among (λ later. among_found L rs q a is later)
+  where
+    rest : List (Place × ℕ)
+    rest = flat_map (with_address L) rs
+
+    skipped : (o : Option ℕ) → same_place r q ≡ false → address_in (option_to_list (option_map (λ a. (r, a)) o) ++ rest) q ≡ address_in rest q
+    skipped None other = refl
+    skipped (Some b) other = ap (λ t. cond t (Some b) (address_in rest q)) other
+
+    by :
+        (b : Bool) → same_place r q ≡ b → (b || list_any (λ s. same_place s q) rs) ≡ true
+        → (list_any (λ s. same_place s q) rs ≡ true → (b : ℕ) × (address_in rest q ≡ Some b))
+        → (b : ℕ) × (address_in (with_address L r ++ rest) q ≡ Some b)
+    by true same h later =
+        let here : L.address r ≡ Some a = ap L.address (sym (same_place-true r q same)) ∙ is in (
+          a,
+          ap (λ o. address_in (option_to_list (option_map (λ a. (r, a)) o) ++ rest) q) here
+              ∙ ap (λ t. cond t (Some a) (address_in rest q)) same,
+        )
+    by false other h later = let found = later h in (found.0, skipped (L.address r) other ∙ found.1)
 
 -- a place where an item starts or a section of code ends
 pub record IsTarget (objects : List ObjectParts) (q : Place) : Type 0 where
@@ -86,17 +115,20 @@ module _ (p : ParsedInputs) (A : Place → Option ℕ) (lists : (q : Place) → 
   pub address_target : (q : Place) (a : ℕ) → A q ≡ Some a → is_target_at p.objects q ≡ true
   address_target q a is = sym (lists q) ∙ ap is_some is
 
-  -- then the list has these addresses
-  pub lookup : (places : List (Place × ℕ)) → places ≡ listed_places p A → All (λ e. A e.0 ≡ Some e.1) places → (q : Place) → address_in places q ≡ A q
+-- then an image lists these addresses
+module _ (L : TextLayout) (lists : (q : Place) → is_some (L.address q) ≡ is_target_at (parsed L.inputs).objects q) where
+  pub listed_placed : All (λ e. L.address e.0 ≡ Some e.1) (listed_places L)
   unfolding listed_places
-  lookup places are placed q = by (A q) refl (address_in places q) refl
-    where
-      there : (a : ℕ) → A q ≡ Some a → (b : ℕ) × (address_in places q ≡ Some b)
-      there a is =
-          let found = among_found (λ r. unwrap_or (A r) 0) (all_targets p.objects) q (target_among p.objects q (address_target q a is)) in
-          (found.0, ap (λ es. address_in es q) are ∙ found.1)
+  listed_placed = entries_placed L (all_targets (parsed L.inputs).objects)
 
-      by : (o : Option ℕ) → A q ≡ o → (u : Option ℕ) → address_in places q ≡ u → address_in places q ≡ A q
-      by o is (Some b) found = found ∙ sym (found_holds (λ e. A e.0 ≡ Some e.1) places q b placed found)
+  pub lookup : (q : Place) → address_in (listed_places L) q ≡ L.address q
+  unfolding listed_places
+  lookup q = by (L.address q) refl (address_in (listed_places L) q) refl
+    where
+      by : (o : Option ℕ) → L.address q ≡ o → (u : Option ℕ) → address_in (listed_places L) q ≡ u → address_in (listed_places L) q ≡ L.address q
+      by o is (Some b) found = found ∙ sym (found_holds (λ e. L.address e.0 ≡ Some e.1) (listed_places L) q b listed_placed found)
       by None is None found = found ∙ sym is
-      by (Some a) is None found = let other = there a is in absurd (cc (found, other.1))
+      by (Some a) is None found =
+          let among = target_among (parsed L.inputs).objects q (address_target (parsed L.inputs) L.address lists q a is) in
+          let other = among_found L (all_targets (parsed L.inputs).objects) q a is among in
+          absurd (cc (found, other.1))

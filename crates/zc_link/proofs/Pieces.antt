@@ -11,7 +11,8 @@ use Rattle.sym_machine.specs.Run.{plain_turn}
 use Rattle.sym_machine.specs.State.{PlainState}
 use Rattle.zc_link.specs.Image.{Image}
 use Rattle.zc_link.specs.Leads.{Leads}
-use Rattle.zc_link.specs.Pieces.{AlignOf, Alone, CallOf, LongOf, Piece, PieceLaid, commits_of, span_of}
+use Rattle.zc_link.specs.Pace.{AlignOf, Alone, CallOf, LongOf, Piece, commits_of, span_of}
+use Rattle.zc_link.specs.Pieces.{PieceLaid}
 use Rattle.zc_link.specs.Room.{Room}
 use Rattle.zc_link.specs.Simulates.{Comes, IsInside}
 use Rattle.zc_link.specs.Sound.{Sound}
@@ -27,7 +28,7 @@ pub span_some : (x : Piece) → 0 < span_of x
 span_some Alone = omega arith
 span_some (AlignOf count) = omega arith
 span_some CallOf = omega arith
-span_some LongOf = omega arith
+span_some (LongOf op first second) = omega arith
 
 -- the step of an item alone
 one_turn : (p : Program) (r r' : PlainState) → iterate (plain_turn p) 1 r ≡ Ok r' → plain_turn p r ≡ Ok r'
@@ -49,7 +50,7 @@ piece_comes {p} {Named} {e} {r} {r'} {z} x room leads cuts are so same laid h = 
     by Alone item g = item_comes room leads (from g) (p.item r.core.place) refl item (from g).step.does
     by (AlignOf count) align g = align_comes count room (from g) align
     by CallOf call g = call_comes room (from g) call (leads.next r.core.place (Call call.rd call.temp call.to) call.item refl)
-    by LongOf long g = long_comes room (from g) long
+    by (LongOf op first second) long g = long_comes room (from g) long
 
 -- a piece of one item has no place inside
 pub piece_inside :
@@ -57,4 +58,4 @@ pub piece_inside :
 piece_inside p e r r' Alone k some lt = absurd (omega (arith, some, lt))
 piece_inside p e r r' (AlignOf count) k some lt = absurd (omega (arith, some, lt))
 piece_inside p e r r' CallOf k some lt = absurd (omega (arith, some, lt))
-piece_inside p e r r' LongOf k some lt = absurd (omega (arith, some, lt))
+piece_inside p e r r' (LongOf op first second) k some lt = absurd (omega (arith, some, lt))

@@ -1,6 +1,7 @@
 -- The text that was written lies in its image as a layout owes: at each listed place stand the instructions of its item.
-use Rattle.std.proofs.Common.{◌≡◌, ℕ, ℤ, pos, negsuc, ◌+◌, ◌-◌, ◌-ℤ◌, ◌*◌, ◌%◌, ◌^◌, ◌<◌, ◌≤◌, ◌⊎◌, inl, inr, zero, suc, List, length, Option, Some, None, true, false, cond, eqb, refl, sym, ap, ◌∙◌, subst, arith}
-use Rattle.std.specs.Prelude.{All}
+use Rattle.std.proofs.Common.{◌≡◌, ℕ, ℤ, pos, negsuc, ◌+◌, ◌-◌, ◌-ℤ◌, ◌%◌, ◌^◌, ◌<◌, ◌≤◌, ◌⊎◌, inl, inr, zero, suc, List, length, Option, Some, None, true, false, cond, eqb, refl, sym, ap, ◌∙◌, subst, arith}
+use Rattle.std.specs.Prelude.{All, ◌&&◌}
+use Rattle.std.specs.Option.{is_some, option_map_or}
 use Rattle.std.proofs.Math.IntN.{+ℤ-neg_ℤ_cancel}
 use Rattle.std.proofs.lemmas.Bool.{cases_lt}
 use Rattle.zc_base.specs.MemMap.{IsMap}
@@ -8,10 +9,8 @@ use Rattle.zc_base.specs.declared.place.Place.{Place}
 use Rattle.elf32_write.specs.Parts.{Parts}
 use Rattle.psabi_reloc.specs.Parts.{hi20_of, lo12_of}
 use Rattle.psabi_reloc.specs.Patched.{with_imm, with_upper}
-use Rattle.psabi_sym.specs.Faults.{power_above}
-use Rattle.psabi_sym.specs.Inputs.{Inputs, ParsedInputs, parsed}
+use Rattle.psabi_sym.specs.Inputs.{ParsedInputs, parsed}
 use Rattle.psabi_sym.specs.declared.target.Target.{Target}
-use Rattle.psabi_sym.proofs.BlockLaws.{aligned_up-lt}
 use Rattle.rv_decode.specs.Bits.{FitsIn, add32}
 use Rattle.rv_decode.specs.Registers.{HasRegisters}
 use Rattle.rv_decode.specs.declared.instr.BranchOp.{BranchOp}
@@ -19,28 +18,30 @@ use Rattle.rv_decode.specs.declared.instr.Instr.{Instr}
 use Rattle.rv_decode.specs.declared.instr.Instr.TheVariants as instr
 use Rattle.rv_decode.specs.declared.instr.UpperOp.TheVariants.{Auipc}
 use Rattle.rv_decode.proofs.DecodeLaws.{decoded-in_range, decoded-registers}
-use Rattle.block_cut.specs.Items.{item_at, next_at}
+use Rattle.block_cut.specs.Items.{is_start_at, item_at, next_at, starts_on}
 use Rattle.block_cut.specs.declared.item.Item.{Item}
 use Rattle.block_cut.specs.declared.item.Item.TheVariants.{Op, Hi, Lo, PcHi, PcLo, Branch, Jump, Call, Align, Word, Raw, RawPair}
+use Rattle.block_cut.proofs.ItemLaws.{item_found}
+use Rattle.shrink_layout.specs.Units.{CodeUnit, OneItem}
 use Rattle.sym_machine.specs.AddressParts.{pc_target}
 use Rattle.sym_machine.specs.Conditions.{is_solid}
 use Rattle.sym_machine.specs.Program.{Program}
-use Rattle.sym_machine.specs.State.{PlainCore}
 use Rattle.zc_decode.specs.declared.short.Short.TheVariants.{Base}
 use Rattle.zc_encode.specs.Halves.{encoded16}
 use Rattle.zc_link.specs.Copied.{bytes_from}
 use Rattle.zc_link.specs.Image.{Image, place_address}
 use Rattle.zc_link.specs.LaidOut.{IsLaidOut}
-use Rattle.zc_link.specs.Pace.{bytes_between, listed_size, pace_in}
-use Rattle.zc_link.specs.Pieces.{Alone, AloneLaid, CallLaid, CallOf, ItemLaid, LongLaid, LongOf, PieceLaid}
-use Rattle.zc_link.specs.Written.{Holds, IsLong, IsSpelled, IsWritten, WithCall, WithWay}
+use Rattle.zc_link.specs.Pace.{Alone, CallOf, LongOf, piece_of}
+use Rattle.zc_link.specs.Pieces.{AloneLaid, CallLaid, ItemLaid, LongLaid, PieceLaid}
+use Rattle.zc_link.specs.TextLayout.{TextLayout, piece_in, size_in}
+use Rattle.zc_link.specs.Written.{Holds, HoldsUnit, IsLong, IsSpelled, IsWritten, WithCall, WithWay}
 use Rattle.zc_link.specs.Values.{target_value, way}
 use Rattle.zc_link.proofs.Fetched.{StandAt, nops_at, one_at, spelled_at, stand_at, stand_first, stand_next}
 use Rattle.zc_link.proofs.ImageMemory.{AreLaidOut, image_of}
 use Rattle.zc_link.proofs.ItemRegisters.{imm_registers, item_registers, upper_registers}
 use Rattle.zc_link.proofs.Lookup.{found_holds}
 use Rattle.zc_link.proofs.PartLaws.{call_reaches}
-use Rattle.zc_link.proofs.SizedPieces.{few_commits, piece_in, power_most, sized_piece}
+use Rattle.zc_link.proofs.SizedPieces.{behind_item, size_is}
 
 -- ---- by how it is spelled
 
@@ -72,16 +73,19 @@ after_word a (pos n) fits = near n (cases_lt n 4)
 -- ---- what is laid
 
 -- a program of the objects' items in an image that lists these addresses
-pub record ShowsLayout (inputs : Inputs) (A : Place → Option ℕ) (program : Program) (e : Image) : Type 0 where
-  pub item : program.item ≡ item_at (parsed inputs)
-  pub next : program.next ≡ next_at (parsed inputs).objects
-  pub map : program.map ≡ inputs.map
-  pub listed : place_address e ≡ A
+pub record ShowsLayout (L : TextLayout) (program : Program) (e : Image) : Type 0 where
+  pub item : program.item ≡ item_at (parsed L.inputs)
+  pub next : program.next ≡ next_at (parsed L.inputs).objects
+  pub map : program.map ≡ L.inputs.map
+  pub listed : place_address e ≡ L.address
 
-module _ (inputs : Inputs) (is_map : IsMap inputs.map) (A : Place → Option ℕ) (laid : IsLaidOut (parsed inputs) A) (program : Program) (parts : Parts) (out : AreLaidOut program parts)
-    (shows : ShowsLayout inputs A program (image_of program.map parts)) where
+module _ (L : TextLayout) (is_map : IsMap L.inputs.map) (laid : IsLaidOut L) (program : Program) (parts : Parts) (out : AreLaidOut program parts)
+    (shows : ShowsLayout L program (image_of program.map parts)) where
   abbrev p : ParsedInputs
-  p = parsed inputs
+  p = parsed L.inputs
+
+  abbrev A : Place → Option ℕ
+  A = L.address
 
   abbrev here : Image
   here = image_of program.map parts
@@ -122,7 +126,7 @@ module _ (inputs : Inputs) (is_map : IsMap inputs.map) (A : Place → Option ℕ
   long_laid :
       (q : Place) (a n : ℕ) (op : BranchOp) (first second : ℕ) (to : Place) (d : ℤ) (bytes : List ℕ) → n ≡ 8
       → A (next_at p.objects q) ≡ Some (a + n) → StandAt program parts out a bytes → A to ≡ Some (add32 a d) → IsLong op first second d bytes
-      → program.item q ≡ Some (Branch op first second to) → LongLaid program here q a
+      → program.item q ≡ Some (Branch op first second to) → LongLaid program here q a op first second
   unfolding one_at
   long_laid q a n op first second to d bytes eight next st leads l same =
       let both = subst (StandAt program parts out a) l.both st in
@@ -131,9 +135,6 @@ module _ (inputs : Inputs) (is_map : IsMap inputs.map) (A : Place → Option ℕ
       let small = even_word (next_at p.objects q) (a + n) next in
       let end : a + n ≡ a + 4 + 4 = omega (arith, eight) in
       record {
-        op = op;
-        first = first;
-        second = second;
         to = to;
         item = same;
         first_low = registers.0;
@@ -202,28 +203,28 @@ module _ (inputs : Inputs) (is_map : IsMap inputs.map) (A : Place → Option ℕ
   -- a branch: in eight bytes it is two instructions, and else one
   branch_laid :
       (q : Place) (a n : ℕ) (op : BranchOp) (first second : ℕ) (to : Place) (bytes : List ℕ) → WrittenAt q a n (Branch op first second to) bytes
-      → PieceLaid program here q a (sized_piece (Some (Branch op first second to)) n)
+      → PieceLaid program here q a (piece_of n (Some (OneItem (Branch op first second to))))
   branch_laid q a n op first second to bytes w = by w.written.holds
     where
       by :
           IsSpelled n bytes (instr.Branch op first second w.written.distance) ⊎ ((n ≡ 8) × IsLong op first second w.written.distance bytes)
-          → PieceLaid program here q a (sized_piece (Some (Branch op first second to)) n)
+          → PieceLaid program here q a (piece_of n (Some (OneItem (Branch op first second to))))
       by (inl sp) =
           let d = w.written.distance in
           let i : Instr = instr.Branch op first second d in
-          subst (λ b. PieceLaid program here q a (cond b LongOf Alone)) (sym (spelled_short n bytes i sp))
+          subst (λ b. PieceLaid program here q a (cond b (LongOf op first second) Alone)) (sym (spelled_short n bytes i sp))
           (item_laid q a (Branch op first second to) w.is
           (record { distance = d; reaches = (λ j. shows.listed j to) ∙ w.written.leads; laid = alone q a n bytes i (item_registers p q (Branch op first second to) w.is) w.next w.stands sp }))
       by (inr l) =
           let eight : eqb n 8 ≡ true = ap (λ k. eqb k 8) l.0 in
-          subst (λ b. PieceLaid program here q a (cond b LongOf Alone)) (sym eight)
+          subst (λ b. PieceLaid program here q a (cond b (LongOf op first second) Alone)) (sym eight)
           (long_laid q a n op first second to w.written.distance bytes l.0 w.next w.stands w.written.leads l.1 (same_item q (Branch op first second to) w.is))
 
   -- so is a call
-  calling_laid : (q : Place) (a n rd temp : ℕ) (to : Place) (bytes : List ℕ) → WrittenAt q a n (Call rd temp to) bytes → PieceLaid program here q a (sized_piece (Some (Call rd temp to)) n)
+  calling_laid : (q : Place) (a n rd temp : ℕ) (to : Place) (bytes : List ℕ) → WrittenAt q a n (Call rd temp to) bytes → PieceLaid program here q a (piece_of n (Some (OneItem (Call rd temp to))))
   calling_laid q a n rd temp to bytes w = by w.written
     where
-      by : WithWay A a to (λ d. IsSpelled n bytes (instr.Jal rd d)) ⊎ ((n ≡ 8) × WithCall A a rd temp to bytes) → PieceLaid program here q a (sized_piece (Some (Call rd temp to)) n)
+      by : WithWay A a to (λ d. IsSpelled n bytes (instr.Jal rd d)) ⊎ ((n ≡ 8) × WithCall A a rd temp to bytes) → PieceLaid program here q a (piece_of n (Some (OneItem (Call rd temp to))))
       by (inl one) =
           let d = one.distance in
           subst (λ b. PieceLaid program here q a (cond b CallOf Alone)) (sym (spelled_short n bytes (instr.Jal rd d) one.holds))
@@ -235,7 +236,7 @@ module _ (inputs : Inputs) (is_map : IsMap inputs.map) (A : Place → Option ℕ
           (call_laid q a n rd temp to bytes two.0 w.at w.next w.stands two.1 (same_item q (Call rd temp to) w.is))
 
   -- any item
-  piece_laid : (q : Place) (a n : ℕ) (item : Item) (bytes : List ℕ) → WrittenAt q a n item bytes → PieceLaid program here q a (sized_piece (Some item) n)
+  piece_laid : (q : Place) (a n : ℕ) (item : Item) (bytes : List ℕ) → WrittenAt q a n item bytes → PieceLaid program here q a (piece_of n (Some (OneItem item)))
   unfolding alone
   piece_laid q a n (Op i) bytes w =
       item_laid q a (Op i) w.is
@@ -291,47 +292,41 @@ module _ (inputs : Inputs) (is_map : IsMap inputs.map) (A : Place → Option ℕ
 
   -- ---- all
 
-  -- the size of an item is the way to the next place
-  size_is : (q : Place) (a n : ℕ) → A q ≡ Some a → A (next_at p.objects q) ≡ Some (a + n) → listed_size program here q ≡ n
-  size_is q a n at next =
-      let less : a + n - a ≡ n = omega arith in
-      (λ j. bytes_between ((listed_at q ∙ at) j) (next_listed q (a + n) next j)) ∙ less
+  -- where nothing is written no item starts
+  nothing_there : (q : Place) (a : ℕ) → A q ≡ Some a → L.unit q ≡ None → (o : Option Item) → item_at p q ≡ o → ItemLaid program here q a o
+  nothing_there q a at unit None is = tt
+  nothing_there q a at unit (Some item) is =
+      let found = item_found p q item is in
+      let start : is_start_at p.objects q ≡ true = ap (λ o. option_map_or (λ s. starts_on s q.offset) o false) found.code ∙ found.start in
+      let some : is_some (L.unit q) ≡ true = laid.written q ∙ (λ j. is_some (at j) && start j) in
+      absurd (cc (some, ap is_some unit))
+
+  -- what is written for an item at a place
+  unit_laid :
+      (q : Place) (a : ℕ) (item : Item) → A q ≡ Some a → L.unit q ≡ Some (OneItem item) → HoldsUnit L parts.text (q, a) (OneItem item)
+      → PieceLaid program here q a (piece_of (size_in L q) (Some (OneItem item)))
+  unit_laid q a item at unit h =
+      let start : program.map.text ≡ L.inputs.map.text = ap (λ m. m.text) shows.map in
+      let st = stand_at program parts out a h.size (omega (arith, h.low, start)) (omega (arith, h.within, start)) in
+      subst (λ n. PieceLaid program here q a (piece_of n (Some (OneItem item)))) (sym (size_is L q a h.size at h.next))
+      (piece_laid q a h.size item (bytes_from parts.text (a - L.inputs.map.text) h.size)
+      (record {
+        own = bytes_from h.section.bytes q.offset;
+        is = (laid.each q a (OneItem item) unit at).is;
+        at = at;
+        next = ap A (sym (behind_item L q item unit)) ∙ h.next;
+        stands = subst (λ x. StandAt program parts out a (bytes_from parts.text (a - x) h.size)) start st;
+        written = h.written;
+      }))
 
   -- each listed place's piece
-  pub each : All (Holds p A parts.text) parts.places → (q : Place) (a : ℕ) → place_address here q ≡ Some a → PieceLaid program here q a (piece_in program here q)
-  each holds q a listed = by (sym (listed_at q) ∙ listed) (item_at p q) refl
+  pub each : All (Holds L parts.text) parts.places → (q : Place) (a : ℕ) → place_address here q ≡ Some a → PieceLaid program here q a (piece_in L q)
+  each holds q a listed = by (sym (listed_at q) ∙ listed) (L.unit q) refl
     where
-      by : A q ≡ Some a → (o : Option Item) → item_at p q ≡ o → PieceLaid program here q a (piece_in program here q)
-      by at None is =
-          let none : program.item q ≡ None = (λ j. shows.item j q) ∙ is in
-          subst (λ o. PieceLaid program here q a (sized_piece o (listed_size program here q))) (sym none) (subst (ItemLaid program here q a) (sym none) tt)
-      by at (Some item) is =
-          let h = found_holds (Holds p A parts.text) parts.places q a holds listed item is in
-          let start : program.map.text ≡ inputs.map.text = ap (λ m. m.text) shows.map in
-          let st = stand_at program parts out a h.size (omega (arith, h.low, start)) (omega (arith, h.within, start)) in
-          let there = subst (λ x. StandAt program parts out a (bytes_from parts.text (a - x) h.size)) start st in
-          let piece = piece_laid q a h.size item (bytes_from parts.text (a - inputs.map.text) h.size)
-          (record { own = bytes_from h.section.bytes q.offset; is = is; at = at; next = h.next; stands = there; written = h.written }) in
-          subst (λ o. PieceLaid program here q a (sized_piece o (listed_size program here q))) (sym (same_item q item is))
-          (subst (λ n. PieceLaid program here q a (sized_piece (Some item) n)) (sym (size_is q a h.size at h.next)) piece)
-
-  -- padding has fewer than 256 bytes
-  padding_short : (q : Place) (k : ℕ) → program.item q ≡ Some (Align k) → listed_size program here q < 256
-  padding_short q k item = by (A q) refl
-    where
-      is : item_at p q ≡ Some (Align k)
-      is = (λ j. sym shows.item j q) ∙ item
-
-      by : (o : Option ℕ) → A q ≡ o → listed_size program here q < 256
-      by None at = let none : listed_size program here q ≡ 0 = ap (λ o. bytes_between o (place_address here (program.next q))) (listed_at q ∙ at) in omega (arith, none)
-      by (Some a) at =
-          let lies = laid.each q a (Align k) is at in
-          let size = size_is q a lies.size at lies.next in
-          omega (arith, size, lies.form, aligned_up-lt (power_above k) a, power_most k)
-
-  -- so no item has many commits
-  pub few : (s : PlainCore) → (pace_in program here).weight s ≤ 64 * (pace_in program here).span s.place
-  few s = few_commits program s (listed_size program here s.place) (program.item s.place) (λ k is. padding_short s.place k is)
+      by : A q ≡ Some a → (u : Option CodeUnit) → L.unit q ≡ u → PieceLaid program here q a (piece_of (size_in L q) u)
+      by at None unit = subst (ItemLaid program here q a) (λ j. sym shows.item j q) (nothing_there q a at unit (item_at p q) refl)
+      by at (Some (OneItem item)) unit =
+          unit_laid q a item at unit (found_holds (Holds L parts.text) parts.places q a holds listed (OneItem item) unit)
 
   -- places with room of their own have addresses of their own
   pub distinct : (q r : Place) (a : ℕ) → is_solid (program.item q) ≡ true → is_solid (program.item r) ≡ true → place_address here q ≡ Some a → place_address here r ≡ Some a → q ≡ r

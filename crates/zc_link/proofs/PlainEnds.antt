@@ -1,6 +1,6 @@
 -- In the plain layout the end of a section of code has the address where the section ends. So code ends by these addresses where the
 -- plain layout ends.
-use Rattle.std.proofs.Common.{◌≡◌, ℕ, ◌+◌, List, [], ◌∷◌, length, Bool, true, false, cond, Option, Some, None, refl, sym, ap, ◌∙◌, subst, inr}
+use Rattle.std.proofs.Common.{◌≡◌, ℕ, ◌+◌, List, [], ◌∷◌, length, Bool, true, false, cond, Option, Some, None, refl, sym, ap, ◌∙◌, subst, inr, arith}
 use Rattle.std.specs.Option.{option_and_then, unwrap_or}
 use Rattle.std.proofs.lemmas.List.Sums.{fold-append}
 use Rattle.zc_base.specs.declared.place.Place.{Place}
@@ -15,6 +15,7 @@ use Rattle.block_cut.proofs.PlainLaws.{offset_end, place_address}
 use Rattle.block_cut.proofs.RoomLaws.{section_end-other}
 use Rattle.block_cut.proofs.WholeLaws.{code_whole}
 use Rattle.zc_link.specs.LaidOut.{end_after, section_end, text_end}
+use Rattle.zc_link.specs.TextLayout.{TextLayout, front_end, plain_layout}
 use Rattle.zc_link.proofs.EachSection.{before_each, of_all}
 
 -- a section that is code is found at its places
@@ -27,17 +28,24 @@ module _ (inputs : Inputs) (none : gather_fault inputs ≡ None) where
   abbrev p : ParsedInputs
   p = parsed inputs
 
+  abbrev L : TextLayout
+  L = plain_layout inputs
+
   abbrev A : Place → Option ℕ
   A = plain_address p
 
+  -- nothing stands in front
+  pub front_is : front_end L ≡ inputs.map.text
+  front_is = omega arith
+
   -- sections end by their addresses where they do in the plain layout
   abbrev AreEnds : List ListedSection → Type 0
-  AreEnds ls = end_after p A ls ≡ plain_end_of p ls
+  AreEnds ls = end_after L ls ≡ plain_end_of p ls
 
   -- one section more
   section_ends :
       (o i : ℕ) (s : SectionParts) → section_at p.objects o i ≡ Some s
-      → section_end A (plain_end_of p (sections_before p.objects o i)) (listed o i s)
+      → section_end L (plain_end_of p (sections_before p.objects o i)) (listed o i s)
       ≡ plain_section_end p (plain_end_of p (sections_before p.objects o i)) (listed o i s)
   section_ends o i s found = by (is_code_section s) refl
     where
@@ -47,7 +55,7 @@ module _ (inputs : Inputs) (none : gather_fault inputs ≡ None) where
       end : ℕ
       end = plain_end_of p (sections_before p.objects o i)
 
-      by : (b : Bool) → is_code_section s ≡ b → section_end A end l ≡ plain_section_end p end l
+      by : (b : Bool) → is_code_section s ≡ b → section_end L end l ≡ plain_section_end p end l
       by true code =
           let q = place_of l (length s.bytes) in
           let at = code_found p o i (length s.bytes) s found code in
@@ -61,15 +69,15 @@ module _ (inputs : Inputs) (none : gather_fault inputs ≡ None) where
       let earlier = sections_before p.objects o i in
       let l = listed o i s in
       subst AreEnds (sym (before_more p.objects o i s found))
-      (fold-append (section_end A) inputs.map.text earlier (l ∷ [])
-      ∙ ap (λ e. section_end A e l) before ∙ section_ends o i s found
+      (fold-append (section_end L) (front_end L) earlier (l ∷ [])
+      ∙ ap (λ e. section_end L e l) before ∙ section_ends o i s found
       ∙ sym (fold-append (plain_section_end p) inputs.map.text earlier (l ∷ [])))
 
   -- the sections before one
   pub ends_before : (o i : ℕ) (s : SectionParts) → section_at p.objects o i ≡ Some s → AreEnds (sections_before p.objects o i)
-  ends_before = before_each p.objects AreEnds refl one_more
+  ends_before = before_each p.objects AreEnds front_is one_more
 
   -- and all
-  pub text_end_is : text_end p A ≡ plain_end p
+  pub text_end_is : text_end L ≡ plain_end p
   unfolding plain_end
-  text_end_is = of_all p.objects AreEnds refl one_more
+  text_end_is = of_all p.objects AreEnds front_is one_more

@@ -22,10 +22,16 @@ use Rattle.block_cut.proofs.RoomLaws.{after_starts-ge, aligned_up-ge, plain_end-
 use Rattle.block_cut.proofs.StartLaws.{start_first}
 use Rattle.block_cut.proofs.WholeLaws.{code_whole}
 use Rattle.sym_machine.specs.Conditions.{is_solid}
+use Rattle.shrink_layout.specs.Halves.{fixed_instr}
+use Rattle.shrink_layout.specs.Units.{CodeUnit, OneItem}
 use Rattle.zc_link.specs.LaidOut.{IsLaidOut, LiesAt, end_after, text_end}
+use Rattle.zc_link.specs.Pace.{bytes_between}
 use Rattle.zc_link.specs.Standing.{HasOwnSize, IsReady}
+use Rattle.zc_link.specs.TextLayout.{TextLayout, behind, plain_layout, size_in}
 use Rattle.zc_link.specs.Values.{way}
-use Rattle.zc_link.proofs.Faultless.{all_none}
+use Rattle.zc_link.proofs.Faultless.{all_none, start_listed}
+use Rattle.zc_link.proofs.ItemUnits.{item_behind, item_unit, item_written}
+use Rattle.zc_link.proofs.SizedPieces.{size_is}
 use Rattle.zc_link.proofs.PlainEnds as ends
 use Rattle.zc_link.proofs.PlainEnds.{code_found}
 use Rattle.zc_link.proofs.PlainReach.{branch_reaches}
@@ -51,6 +57,9 @@ module _ (inputs : Inputs) (ready : IsReady inputs) where
   abbrev p : ParsedInputs
   p = parsed inputs
 
+  abbrev L : TextLayout
+  L = plain_layout inputs
+
   abbrev A : Place → Option ℕ
   A = plain_address p
 
@@ -61,7 +70,7 @@ module _ (inputs : Inputs) (ready : IsReady inputs) where
   bounds q a at = address_bounds inputs none ready.is_map q a at
 
   -- where all code ends
-  pub plain_end_is : text_end p A ≡ plain_end p
+  pub plain_end_is : text_end L ≡ plain_end p
   plain_end_is = ends.text_end_is inputs none
 
   -- ---- items
@@ -87,33 +96,67 @@ module _ (inputs : Inputs) (ready : IsReady inputs) where
       (omega (arith, two.few, one.low)) (omega (arith, one.few, two.low)))
       ∙ branch_reaches inputs ready.faultless q op first second to a b is from there
 
+  -- the place behind what is written is the one after the item
+  behind_is : (q : Place) → behind L q ≡ next_at p.objects q
+  behind_is q = item_behind L q refl
+
   -- each has its longest form: as many bytes as in its object, but for padding
-  lies : (q : Place) (a : ℕ) (item : Item) → item_at p q ≡ Some item → A q ≡ Some a → LiesAt p A q a item
-  lies q a item is at = by item (size_at p.objects q) is (next_address inputs none q item a is at) (item_own inputs none ready A (plain_listed p) q item is)
+  lies_item : (q : Place) (a : ℕ) (item : Item) → item_at p q ≡ Some item → A q ≡ Some a → LiesAt L q a (OneItem item)
+  lies_item q a item is at =
+      by item (size_at p.objects q) is (ap A (behind_is q) ∙ next_address inputs none q item a is at)
+      (item_own inputs none ready A (plain_listed p) q item is)
     where
-      by : (i : Item) (own : ℕ) → item_at p q ≡ Some i → A (next_at p.objects q) ≡ Some (after_item a own i) → HasOwnSize i own → LiesAt p A q a i
-      by (Op i) own h next size = record { size = own; next = next; form = inl size }
-      by (Hi i t) own h next size = record { size = own; next = next; form = λ x value. inl size }
-      by (Lo i t) own h next size = record { size = own; next = next; form = λ x value. inl size }
-      by (PcHi i t) own h next size = record { size = own; next = next; form = size }
-      by (PcLo i from) own h next size = record { size = own; next = next; form = size }
+      by : (i : Item) (own : ℕ) → item_at p q ≡ Some i → A (behind L q) ≡ Some (after_item a own i) → HasOwnSize i own → LiesAt L q a (OneItem i)
+      by (Op i) own h next size = record { is = h; size = own; next = next; form = inl size }
+      by (Hi i t) own h next size = record { is = h; size = own; next = next; form = inl size }
+      by (Lo i t) own h next size = record { is = h; size = own; next = next; form = inl size }
+      by (PcHi i t) own h next size = record { is = h; size = own; next = next; form = size }
+      by (PcLo i from) own h next size = record { is = h; size = own; next = next; form = size }
       by (Branch op first second to) own h next size =
-          record { size = own; next = next; form = λ b there. inl (size, branches q to op first second a b h at there) }
-      by (Jump rd to) own h next size = record { size = own; next = next; form = λ b there. inl (size, jumps q to a b at there) }
-      by (Call rd temp to) own h next size = record { size = own; next = next; form = λ b there. inl size }
+          record { is = h; size = own; next = next; form = λ b there. inl (size, branches q to op first second a b h at there) }
+      by (Jump rd to) own h next size = record { is = h; size = own; next = next; form = λ b there. inl (size, jumps q to a b at there) }
+      by (Call rd temp to) own h next size = record { is = h; size = own; next = next; form = λ b there. inl size }
       by (Align n) own h next size =
           let up : a + (aligned_up (power_above n) a - a) ≡ aligned_up (power_above n) a = omega (arith, aligned_up-ge (power_above n) a) in
-          record { size = aligned_up (power_above n) a - a; next = next ∙ ap Some (sym up); form = up }
-      by (Word t) own h next size = record { size = own; next = next; form = size }
-      by (Raw word) own h next size = record { size = own; next = next; form = size }
-      by (RawPair first second) own h next size = record { size = own; next = next; form = size }
+          record { is = h; size = aligned_up (power_above n) a - a; next = next ∙ ap Some (sym up); form = up }
+      by (Word t) own h next size = record { is = h; size = own; next = next; form = size }
+      by (Raw word) own h next size = record { is = h; size = own; next = next; form = size }
+      by (RawPair first second) own h next size = record { is = h; size = own; next = next; form = size }
+
+  lies : (q : Place) (a : ℕ) (u : CodeUnit) → L.unit q ≡ Some u → A q ≡ Some a → LiesAt L q a u
+  lies q a (OneItem item) unit at = lies_item q a item (item_unit p q (OneItem item) unit) at
+
+  -- so in two bytes there is nothing but padding
+  pub padding_alone : (q : Place) (item : Item) → item_at p q ≡ Some item → size_in L q ≡ 2 → fixed_instr item ≡ None
+  padding_alone q item is two = by (A q) refl
+    where
+      of :
+          (a : ℕ) → A q ≡ Some a → (i : Item) (own : ℕ) → A (behind L q) ≡ Some (after_item a own i) → HasOwnSize i own → fixed_instr i ≡ None
+      of a at (Op i) own next size = absurd (omega (arith, size, two, size_is L q a own at next))
+      of a at (Hi i t) own next size = absurd (omega (arith, size, two, size_is L q a own at next))
+      of a at (Lo i t) own next size = absurd (omega (arith, size, two, size_is L q a own at next))
+      of a at (PcHi i t) own next size = refl
+      of a at (PcLo i from) own next size = refl
+      of a at (Branch op first second to) own next size = refl
+      of a at (Jump rd to) own next size = refl
+      of a at (Call rd temp to) own next size = refl
+      of a at (Align n) own next size = refl
+      of a at (Word t) own next size = refl
+      of a at (Raw word) own next size = refl
+      of a at (RawPair first second) own next size = refl
+
+      by : (o : Option ℕ) → A q ≡ o → fixed_instr item ≡ None
+      by None at = absurd (cc (ap (λ o. bytes_between o (A (behind L q))) at, two))
+      by (Some a) at =
+          of a at item (size_at p.objects q) (ap A (behind_is q) ∙ next_address inputs none q item a is at)
+          (item_own inputs none ready A (plain_listed p) q item is)
 
   -- ---- sections
 
   -- one begins after those before it
   begins :
       (o i : ℕ) (s : SectionParts) → section_at p.objects o i ≡ Some s → is_code_section s ≡ true
-      → end_after p A (sections_before p.objects o i) ≤ unwrap_or (A (place_at o i 0)) 0
+      → end_after L (sections_before p.objects o i) ≤ unwrap_or (A (place_at o i 0)) 0
   begins o i s found code =
       let q = place_at o i 0 in
       let at = code_found p o i 0 s found code in
@@ -143,14 +186,19 @@ module _ (inputs : Inputs) (ready : IsReady inputs) where
 
   -- ---- all
 
-  pub plain_is_laid_out : IsLaidOut p A
-  plain_is_laid_out = record {
-    listed = plain_listed p;
-    even = λ q a at. let b = bounds q a at in omega (arith, b.words);
-    low = λ q a at. (bounds q a at).low;
-    high = λ q a at. let b = bounds q a at in omega (arith, b.high, plain_end_is);
-    short = omega (arith, plain_end_is, plain_end-fits inputs none);
-    each = lies;
-    begins = begins;
-    distinct = distinct;
-  }
+  pub plain_is_laid_out : IsLaidOut L
+  plain_is_laid_out =
+      let start = start_listed inputs A ready.faultless (plain_listed p) in
+      record {
+        listed = plain_listed p;
+        written = item_written p A (plain_listed p);
+        front = refl;
+        entry = start.1 ∙ ap Some (sym (ap (λ o. unwrap_or o inputs.map.text) start.1));
+        even = λ q a at. let b = bounds q a at in omega (arith, b.words);
+        low = λ q a at. omega (arith, (bounds q a at).low);
+        high = λ q a at. let b = bounds q a at in omega (arith, b.high, plain_end_is);
+        short = omega (arith, plain_end_is, plain_end-fits inputs none);
+        each = lies;
+        begins = begins;
+        distinct = distinct;
+      }

@@ -3,6 +3,7 @@
 -- (`settled_distinct`).
 use Rattle.std.proofs.Common.{◌≡◌, ℕ, ◌+◌, ◌<◌, List, length, get_or, true, Option, Some, None, refl, sym, ap, ◌∙◌, subst, arith, inl, inr}
 use Rattle.std.specs.Prelude.{slice_index}
+use Rattle.std.specs.Option.{option_map, unwrap_or}
 use Rattle.std.proofs.lemmas.Option.{get_or_from_slice_get}
 use Rattle.zc_base.specs.MemMap.{IsMap}
 use Rattle.zc_base.specs.Places.{is_before}
@@ -14,37 +15,41 @@ use Rattle.psabi_sym.proofs.FaultLaws.{neither}
 use Rattle.block_cut.specs.Faults.{first_fault}
 use Rattle.block_cut.specs.Items.{item_at}
 use Rattle.block_cut.specs.declared.item.Item.{Item}
-use Rattle.block_cut.proofs.ItemLaws.{item_found}
 use Rattle.block_cut.proofs.PlaceOrder.{same_or_before}
 use Rattle.sym_machine.specs.Conditions.{is_solid}
 use Rattle.shrink_layout.specs.declared.piece.Piece.{Piece}
 use Rattle.shrink_layout.specs.declared.piece.Piece.TheVariants.{Fixed}
 use Rattle.shrink_layout.specs.Forms.{HasAlignment, IsForm, holds, target, width}
 use Rattle.shrink_layout.specs.Pieces.{number_of, piece_of, pieces_of}
-use Rattle.shrink_layout.specs.Settled.{AreSettled, settled_address, settled_addresses, settled_end}
+use Rattle.shrink_layout.specs.Settled.{settled_address, settled_addresses, settled_end, settled_sizes}
+use Rattle.shrink_layout.specs.Units.{CodeUnit, OneItem, unit_at}
 use Rattle.shrink_layout.proofs.AddressLaws.{fits_at, form_at, next_address}
-use Rattle.shrink_layout.proofs.NumberLaws.{number_below, number_most, piece_there}
+use Rattle.shrink_layout.proofs.NumberLaws.{item_target, number_below, number_most, piece_there}
 use Rattle.shrink_layout.proofs.OrderLaws.{number_rises_past}
 use Rattle.shrink_layout.proofs.PlaceAddressLaws.{next_address_there}
 use Rattle.shrink_layout.proofs.PremiseLaws.{all_aligned}
 use Rattle.zc_link.specs.LaidOut.{IsLaidOut, LiesAt, text_end}
+use Rattle.zc_link.specs.TextLayout.{zc_layout}
+use Rattle.zc_link.proofs.Faultless.{start_listed}
+use Rattle.zc_link.proofs.ItemUnits.{item_behind, item_written}
 use Rattle.zc_link.proofs.SettledLawsForms.{IsNear, has_form, width_some}
-use Rattle.zc_link.proofs.SettledLawsPlaces.{address, address_rises, end_settled, forms, settled_begins, settled_even, settled_few, settled_here, settled_high, settled_listed, settled_low, settled_short}
+use Rattle.zc_link.proofs.SettledLawsPlaces.{address, address_rises, end_settled, forms, settled, settled_begins, settled_even, settled_few, settled_here, settled_high, settled_listed, settled_low, settled_short}
 
-module _
-    (inputs : Inputs) (none : gather_fault inputs ≡ None) (is_map : IsMap inputs.map)
-    (sizes : List ℕ) (settled : AreSettled (parsed inputs) sizes) where
+module _ (inputs : Inputs) (none : gather_fault inputs ≡ None) (is_map : IsMap inputs.map) where
   abbrev objects : List ObjectParts
   objects = (parsed inputs).objects
 
   abbrev A : Place → Option ℕ
-  A = settled_address (parsed inputs) sizes
+  A = settled_address (parsed inputs)
+
+  abbrev sizes : List ℕ
+  sizes = settled_sizes (parsed inputs)
 
   abbrev pieces : List Piece
   pieces = pieces_of (parsed inputs)
 
   abbrev at_number : ℕ → ℕ
-  at_number = address inputs none is_map sizes settled
+  at_number = address inputs none is_map
 
   -- ---- an item
 
@@ -66,24 +71,24 @@ module _
       record {
         within = within;
         there = there;
-        form = subst (λ p. IsForm p (slice_index sizes n)) (there (Fixed 0)) (form_at pieces sizes n (Fixed 0) within (forms inputs none is_map sizes settled));
-        ends = next_address inputs.map.text pieces sizes n (Fixed 0) within (forms inputs none is_map sizes settled)
+        form = subst (λ p. IsForm p (slice_index sizes n)) (there (Fixed 0)) (form_at pieces sizes n (Fixed 0) within (forms inputs none is_map));
+        ends = next_address inputs.map.text pieces sizes n (Fixed 0) within (forms inputs none is_map)
             ∙ ap (λ p. at_number n + width p (slice_index sizes n) (at_number n)) (there (Fixed 0));
       }
 
   -- a place's address is near the text's start
   near : (q : Place) (b : ℕ) → A q ≡ Some b → IsNear objects at_number inputs.map.text q b
   near q b is = record {
-    number = settled_here inputs none is_map sizes settled q b is;
-    even = settled_even inputs none is_map sizes settled q b is;
-    low = settled_low inputs none is_map sizes settled q b is;
-    few = settled_few inputs none is_map sizes settled q b is;
+    number = settled_here inputs none is_map q b is;
+    even = settled_even inputs none is_map q b is;
+    low = omega (arith, settled_low inputs none is_map q b is);
+    few = settled_few inputs none is_map q b is;
   }
 
   -- an item lies between its place and the next
-  settled_lies : (q : Place) (a : ℕ) (item : Item) → item_at (parsed inputs) q ≡ Some item → A q ≡ Some a → LiesAt (parsed inputs) A q a item
+  lies : (q : Place) (a : ℕ) (item : Item) → item_at (parsed inputs) q ≡ Some item → A q ≡ Some a → LiesAt (zc_layout inputs) q a (OneItem item)
   unfolding settled_addresses
-  settled_lies q a item is got =
+  lies q a item is got =
       let own = piece_is q item is in
       let here = near q a got in
       let n = number_of objects q in
@@ -92,15 +97,23 @@ module _
       let there = own.there (Fixed 0) in
       let fits : holds p size (at_number n) (at_number (target p)) ≡ true =
       ap (λ r. holds r size (at_number n) (at_number (target r))) (sym there)
-      ∙ fits_at inputs.map.text pieces sizes n (Fixed 0) own.within (forms inputs none is_map sizes settled) settled.fits in
+      ∙ fits_at inputs.map.text pieces sizes n (Fixed 0) own.within (forms inputs none is_map) (settled inputs none is_map).fits in
       let reach : holds p size a (at_number (target p)) ≡ true = ap (λ x. holds p size x (at_number (target p))) (sym here.number) ∙ fits in
       let aligned : HasAlignment p = subst HasAlignment there (all_aligned inputs none n (Fixed 0) own.within) in
       record {
+        is = is;
         size = width p size a;
-        next = next_address_there inputs none q item is sizes ∙ ap Some own.ends ∙ ap (λ x. Some (x + width p size x)) here.number;
+        next = ap A (item_behind (zc_layout inputs) q refl) ∙ next_address_there inputs none q item is ∙ ap Some own.ends ∙ ap (λ x. Some (x + width p size x)) here.number;
         form = has_form objects A at_number inputs.map.text (omega (arith, is_map.code, is_map.data_room, is_map.top)) near a here.even here.low here.few item size
             aligned own.form reach;
       }
+
+  settled_lies : (q : Place) (a : ℕ) (u : CodeUnit) → unit_at (parsed inputs) q ≡ Some u → A q ≡ Some a → LiesAt (zc_layout inputs) q a u
+  settled_lies q a u unit got = by (item_at (parsed inputs) q) refl unit
+    where
+      by : (o : Option Item) → item_at (parsed inputs) q ≡ o → option_map OneItem o ≡ Some u → LiesAt (zc_layout inputs) q a u
+      by None is h = absurd cc
+      by (Some item) is h = let same : OneItem item ≡ u = cc in subst (LiesAt (zc_layout inputs) q a) same (lies q a item is got)
 
   -- ---- addresses of their own
 
@@ -122,13 +135,12 @@ module _
   beyond q r x y before =
       let own = piece_is q x.item x.is in
       let k = number_of objects q in
-      let found = item_found (parsed inputs) r y.item y.is in
       omega (
         arith,
         own.ends,
         width_some objects x.item (slice_index sizes k) (at_number k) x.solid own.form,
-        address_rises inputs none is_map sizes settled (k + 1) (number_of objects r)
-            (omega (arith, number_rises_past (parsed inputs) q r x.item found.section x.is found.code before)) (number_most (parsed inputs) r),
+        address_rises inputs none is_map (k + 1) (number_of objects r)
+            (omega (arith, number_rises_past (parsed inputs) q r x.item x.is (item_target (parsed inputs) r y.item y.is) before)) (number_most (parsed inputs) r),
       )
 
   -- so two such with one address are one
@@ -152,23 +164,25 @@ gathered : (inputs : Inputs) → first_fault inputs ≡ None → gather_fault in
 unfolding first_fault
 gathered inputs none = (neither (gather_fault inputs) _ none).0
 
-pub settled_is_laid_out :
-    (inputs : Inputs) → first_fault inputs ≡ None → IsMap inputs.map → (sizes : List ℕ) → AreSettled (parsed inputs) sizes
-    → IsLaidOut (parsed inputs) (settled_address (parsed inputs) sizes)
-settled_is_laid_out inputs none is_map sizes settled =
+pub settled_is_laid_out : (inputs : Inputs) → first_fault inputs ≡ None → IsMap inputs.map → IsLaidOut (zc_layout inputs)
+settled_is_laid_out inputs none is_map =
     let fine = gathered inputs none in
+    let A = settled_address (parsed inputs) in
+    let start = start_listed inputs A none (settled_listed inputs fine is_map) in
     record {
-      listed = settled_listed inputs fine is_map sizes settled;
-      even = settled_even inputs fine is_map sizes settled;
-      low = settled_low inputs fine is_map sizes settled;
-      high = settled_high inputs fine is_map sizes settled;
-      short = settled_short inputs fine is_map sizes settled;
-      each = settled_lies inputs fine is_map sizes settled;
-      begins = settled_begins inputs fine is_map sizes settled;
-      distinct = settled_distinct inputs fine is_map sizes settled;
+      listed = settled_listed inputs fine is_map;
+      written = item_written (parsed inputs) A (settled_listed inputs fine is_map);
+      front = refl;
+      entry = start.1 ∙ ap Some (sym (ap (λ o. unwrap_or o inputs.map.text) start.1));
+      even = settled_even inputs fine is_map;
+      low = settled_low inputs fine is_map;
+      high = settled_high inputs fine is_map;
+      short = settled_short inputs fine is_map;
+      each = settled_lies inputs fine is_map;
+      begins = settled_begins inputs fine is_map;
+      distinct = settled_distinct inputs fine is_map;
     }
 
 -- and its text ends where the last piece does
-pub settled_end_is : (inputs : Inputs) → first_fault inputs ≡ None → IsMap inputs.map → (sizes : List ℕ) → AreSettled (parsed inputs) sizes
-    → text_end (parsed inputs) (settled_address (parsed inputs) sizes) ≡ settled_end (parsed inputs) sizes
-settled_end_is inputs none is_map sizes settled = end_settled inputs (gathered inputs none) is_map sizes settled
+pub settled_end_is : (inputs : Inputs) → first_fault inputs ≡ None → IsMap inputs.map → text_end (zc_layout inputs) ≡ settled_end (parsed inputs)
+settled_end_is inputs none is_map = end_settled inputs (gathered inputs none) is_map

@@ -2,6 +2,7 @@
 -- form of the piece reaches its target. All addresses are near each other, so a jump always reaches.
 use Rattle.std.proofs.Common.{◌≡◌, ℕ, suc, ◌+◌, ◌-◌, ◌%◌, ◌^◌, ◌<◌, ◌≤◌, ◌⊎◌, ℤ, pos, negsuc, ◌-ℤ◌, Bool, true, false, cond, List, Option, Some, refl, sym, ap, ◌∙◌, subst, arith, eqb, ltb, inl, inr, max}
 use Rattle.std.specs.Prelude.{IsTrue}
+use Rattle.std.specs.Option.{option_map_or}
 use Rattle.std.proofs.lemmas.Bool.{and_from, cases_lt, eq-eqb, lt-ltb}
 use Rattle.zc_base.specs.declared.place.Place.{Place}
 use Rattle.elf32_read.specs.Parts.{ObjectParts}
@@ -20,11 +21,12 @@ use Rattle.block_cut.specs.declared.item.Item.{Item}
 use Rattle.block_cut.specs.declared.item.Item.TheVariants.{Op, Hi, Lo, PcHi, PcLo, Branch, Jump, Call, Align, Word, Raw, RawPair}
 use Rattle.sym_machine.specs.Conditions.{is_solid}
 use Rattle.shrink_layout.specs.declared.piece.Piece.TheVariants as piece
+use Rattle.shrink_layout.specs.Halves.{fixed_instr, fixed_part}
 use Rattle.shrink_layout.specs.Forms.{HasAlignment, IsForm, distance, holds, target, width}
 use Rattle.shrink_layout.specs.Pieces.{instr_size, is_short, jump_piece, number_of, part_size, piece_of}
 use Rattle.shrink_layout.proofs.Distances.{distance_back, distance_on}
 use Rattle.zc_link.specs.LaidOut.{HasBranchSize, HasForm, HasJumpSize, HasSize, OfWay}
-use Rattle.zc_link.specs.Values.{target_value, way}
+use Rattle.zc_link.specs.Values.{way}
 use Rattle.zc_link.proofs.ShortWays.{way_distance}
 use Rattle.zc_link.proofs.SettledLawsShort.{branch_short, jump_short}
 
@@ -76,18 +78,20 @@ module _
     (near : (q : Place) (b : ℕ) → A q ≡ Some b → IsNear objects address text q b) where
   -- ---- instructions
 
-  instr_form : (i : Instr) → HasSize i (instr_size i)
-  instr_form i = by (is_short i) refl
+  -- an item whose instruction is known before the layout
+  known_form : (item : Item) (i : Instr) → fixed_instr item ≡ Some i → HasSize item (instr_size i)
+  known_form item i is = by (is_short i) refl
     where
-      by : (b : Bool) → is_short i ≡ b → (◌≡◌ {A = ℕ} (cond b 2 4) 4) ⊎ ((◌≡◌ {A = ℕ} (cond b 2 4) 2) × IsTrue (is_short i))
-      by true e = inr (refl, e)
+      by : (b : Bool) → is_short i ≡ b
+          → (◌≡◌ {A = ℕ} (cond b 2 4) 4) ⊎ ((◌≡◌ {A = ℕ} (cond b 2 4) 2) × IsTrue (option_map_or is_short (fixed_instr item) false))
+      by true e = inr (refl, ap (λ o. option_map_or is_short o false) is ∙ e)
       by false e = inl refl
 
-  part_form : (t : Target) (f : ℕ → Instr) (x : ℕ) → target_value A t ≡ Some x → HasSize (f x) (part_size t f)
-  part_form (Code q) f x is = inl refl
-  part_form (Number n) f x is = let same : n ≡ x = cc in subst (λ k. HasSize (f k) (instr_size (f n))) same (instr_form (f n))
-  part_form (Absent n) f x is = let same : n ≡ x = cc in subst (λ k. HasSize (f k) (instr_size (f n))) same (instr_form (f n))
-  part_form Nowhere f x is = absurd cc
+  part_form : (item : Item) (t : Target) (f : ℕ → Instr) → fixed_instr item ≡ fixed_part t f → HasSize item (part_size t f)
+  part_form item (Code q) f is = inl refl
+  part_form item (Number n) f is = known_form item (f n) is
+  part_form item (Absent n) f is = known_form item (f n) is
+  part_form item Nowhere f is = inl refl
 
   module _ (a : ℕ) (even : a % 2 ≡ 0) (low : text ≤ a) (few : a ≤ text + 0x8_0000) where
     -- ---- branches and jumps
@@ -177,9 +181,9 @@ module _
         (item : Item) (size : ℕ) → HasAlignment (piece_of objects item) → IsForm (piece_of objects item) size
         → holds (piece_of objects item) size a (address (target (piece_of objects item))) ≡ true
         → HasForm A a (width (piece_of objects item) size a) item
-    has_form (Op i) size aligned form reach = subst (HasSize i) (sym form) (instr_form i)
-    has_form (Hi i t) size aligned form reach = λ x is. subst (HasSize (with_upper i (hi20_of x))) (sym form) (part_form t (λ x. with_upper i (hi20_of x)) x is)
-    has_form (Lo i t) size aligned form reach = λ x is. subst (HasSize (with_imm i (lo12_of x))) (sym form) (part_form t (λ x. with_imm i (lo12_of x)) x is)
+    has_form (Op i) size aligned form reach = subst (HasSize (Op i)) (sym form) (known_form (Op i) i refl)
+    has_form (Hi i t) size aligned form reach = subst (HasSize (Hi i t)) (sym form) (part_form (Hi i t) t (λ x. with_upper i (hi20_of x)) refl)
+    has_form (Lo i t) size aligned form reach = subst (HasSize (Lo i t)) (sym form) (part_form (Lo i t) t (λ x. with_imm i (lo12_of x)) refl)
     has_form (PcHi i t) size aligned form reach = form
     has_form (PcLo i from) size aligned form reach = form
     has_form (Branch op first second to) size aligned form reach = branch_form op first second to size form reach

@@ -18,16 +18,19 @@ use Rattle.block_cut.proofs.PlainLaws.{target_on}
 use Rattle.block_cut.proofs.StartLaws.{start_first}
 use Rattle.block_cut.proofs.WholeLaws.{inputs_whole}
 use Rattle.shrink_layout.specs.declared.piece.Piece.{Piece}
-use Rattle.shrink_layout.specs.Layout.{addresses_of}
+use Rattle.shrink_layout.specs.declared.piece.Piece.TheVariants.{Fixed}
+use Rattle.shrink_layout.specs.Layout.{IsLayout, addresses_of}
 use Rattle.shrink_layout.specs.Least.{AreForms}
 use Rattle.shrink_layout.specs.Pieces.{number_of, piece_count, pieces_before, pieces_of}
-use Rattle.shrink_layout.specs.Settled.{AreSettled, settled_address, settled_addresses, settled_end}
-use Rattle.shrink_layout.proofs.AddressLaws.{ascending, even_address, first_address, last_address, layout_forms}
-use Rattle.shrink_layout.proofs.NumberEnds.{first_number, first_number-next, length-pieces_of, number-end, number-start, start_within}
-use Rattle.shrink_layout.proofs.NumberLaws.{number-code, number_most}
+use Rattle.shrink_layout.specs.Settled.{settled_address, settled_addresses, settled_end, settled_sizes}
+use Rattle.shrink_layout.proofs.AddressLaws.{ascending, even_address, first_address, form_at, last_address, layout_forms, next_address}
+use Rattle.shrink_layout.proofs.NumberEnds.{padding_number, padding_number-next, number-end, number-start, start_within}
+use Rattle.shrink_layout.proofs.NumberLaws.{length-pieces_of, number-code, number_most}
 use Rattle.shrink_layout.proofs.PlaceAddressLaws.{address_there}
+use Rattle.shrink_layout.proofs.SizesLaws.{sizes_layout}
 use Rattle.shrink_layout.proofs.PremiseLaws.{all_aligned, all_even, room_few}
 use Rattle.zc_link.specs.LaidOut.{end_after, section_end, text_end}
+use Rattle.zc_link.specs.TextLayout.{TextLayout, front_end, zc_layout}
 use Rattle.zc_link.proofs.EachSection.{before_each, of_all}
 use Rattle.zc_link.proofs.PlainEnds.{code_found}
 
@@ -58,20 +61,29 @@ chosen_some : (b : Bool) (x : ℕ) → is_some (cond b (Some x) None) ≡ b
 chosen_some true x = refl
 chosen_some false x = refl
 
-module _
-    (inputs : Inputs) (none : gather_fault inputs ≡ None) (is_map : IsMap inputs.map)
-    (sizes : List ℕ) (settled : AreSettled (parsed inputs) sizes) where
+module _ (inputs : Inputs) (none : gather_fault inputs ≡ None) (is_map : IsMap inputs.map) where
   abbrev p : ParsedInputs
   p = parsed inputs
+
+  abbrev L : TextLayout
+  L = zc_layout inputs
 
   abbrev objects : List ObjectParts
   objects = p.objects
 
   abbrev A : Place → Option ℕ
-  A = settled_address p sizes
+  A = settled_address p
 
   abbrev pieces : List Piece
   pieces = pieces_of p
+
+  abbrev sizes : List ℕ
+  sizes = settled_sizes p
+
+  -- the sizes are those of the first round that fits
+  pub settled : IsLayout inputs.map.text pieces sizes
+  unfolding settled_sizes
+  settled = sizes_layout inputs.map.text pieces
 
   -- the address of the piece with a number
   abbrev pub address : ℕ → ℕ
@@ -83,7 +95,7 @@ module _
   -- so addresses are given to targets, and to no others
   pub settled_listed : (q : Place) → is_some (A q) ≡ is_target_at objects q
   unfolding settled_address
-  settled_listed q = chosen_some (is_target_at objects q) (slice_index (settled_addresses p sizes) (number_of objects q))
+  settled_listed q = chosen_some (is_target_at objects q) (slice_index (settled_addresses p) (number_of objects q))
 
   -- a target has the address of its number
   settled_there :
@@ -91,13 +103,25 @@ module _
       → A q ≡ Some (address (pieces_before objects q.object q.section s q.offset))
   unfolding settled_addresses
   settled_there q s at target =
-      address_there p sizes q (target_there objects q s at target)
-      ∙ ap (λ n. Some (address n)) (number-code objects q s at)
+      address_there p q (target_there objects q s at target)
+      ∙ ap (λ n. Some (address n)) (number-code objects q s (target_there objects q s at target) at)
 
   -- and a place with an address has that of its number
   pub settled_here : (q : Place) (a : ℕ) → A q ≡ Some a → address (number_of objects q) ≡ a
   unfolding settled_address settled_addresses
   settled_here q a is = chosen (is_target_at objects q) (address (number_of objects q)) a is
+
+  -- nothing stands in front of the first section
+  front_none : address 1 ≡ front_end L
+  unfolding pieces_of
+  front_none =
+      let size : slice_index sizes 0 ≡ 0 = form_at pieces sizes 0 (Fixed 0) (omega arith) forms in
+      omega (
+        arith,
+        next_address inputs.map.text pieces sizes 0 (Fixed 0) (omega arith) forms,
+        size,
+        first_address inputs.map.text pieces sizes,
+      )
 
   -- ---- bounds
 
@@ -122,7 +146,7 @@ module _
   pub settled_even : (q : Place) (a : ℕ) → A q ≡ Some a → a % 2 ≡ 0
   settled_even q a is = ap (λ n. n % 2) (sym (settled_here q a is)) ∙ address_even (number_of objects q)
 
-  pub settled_low : (q : Place) (a : ℕ) → A q ≡ Some a → inputs.map.text ≤ a
+  pub settled_low : (q : Place) (a : ℕ) → A q ≡ Some a → front_end L ≤ a
   settled_low q a is = omega (arith, settled_here q a is, address_low (number_of objects q) (number_most p q))
 
   pub settled_few : (q : Place) (a : ℕ) → A q ≡ Some a → a ≤ inputs.map.text + 0x8_0000
@@ -132,21 +156,21 @@ module _
 
   -- the code of these sections ends where the piece after theirs begins
   abbrev EndsThere : List ListedSection → Type 0
-  EndsThere ls = end_after p A ls ≡ address (sum_by piece_count ls)
+  EndsThere ls = end_after L ls ≡ address (1 + sum_by piece_count ls)
 
   -- with one section more
   ends_more :
       (o i : ℕ) (s : SectionParts) → section_at objects o i ≡ Some s → EndsThere (sections_before objects o i)
       → EndsThere (sections_before objects o (i + 1))
   ends_more o i s found before =
-      ap (end_after p A) (before_more objects o i s found)
-      ∙ fold-append (section_end A) inputs.map.text (sections_before objects o i) (listed o i s ∷ [])
+      ap (end_after L) (before_more objects o i s found)
+      ∙ fold-append (section_end L) (front_end L) (sections_before objects o i) (listed o i s ∷ [])
       ∙ by (is_code_section s) refl
     where
       end : ℕ
-      end = end_after p A (sections_before objects o i)
+      end = end_after L (sections_before objects o i)
 
-      by : (b : Bool) → is_code_section s ≡ b → section_end A end (listed o i s) ≡ address (first_number objects o (i + 1))
+      by : (b : Bool) → is_code_section s ≡ b → section_end L end (listed o i s) ≡ address (padding_number objects o (i + 1))
       by true code =
           let last = place_at o i (length s.bytes) in
           ap (λ b. cond b (unwrap_or (A last) end) end) code
@@ -154,42 +178,42 @@ module _
           ∙ ap address (number-end objects o i s found code (inputs_whole inputs o i s none found code))
       by false other =
           let nothing : piece_count (listed o i s) ≡ 0 = ap (λ b. cond {A = ℕ} b (1 + length (starts_in s)) 0) other in
-          let same : first_number objects o i ≡ first_number objects o (i + 1) = omega (arith, first_number-next objects o i s found, nothing) in
+          let same : padding_number objects o i ≡ padding_number objects o (i + 1) = omega (arith, padding_number-next objects o i s found, nothing) in
           ap (λ b. cond b (unwrap_or (A (place_at o i (length s.bytes))) end) end) other ∙ before ∙ ap address same
 
   -- of the sections before one
   ends_before :
       (o i : ℕ) (s : SectionParts) → section_at objects o i ≡ Some s
-      → end_after p A (sections_before objects o i) ≡ address (first_number objects o i)
-  ends_before = before_each objects EndsThere (sym (first_address inputs.map.text pieces sizes)) ends_more
+      → end_after L (sections_before objects o i) ≡ address (padding_number objects o i)
+  ends_before = before_each objects EndsThere (sym front_none) ends_more
 
   -- all code ends where the last piece does
-  text_ends : text_end p A ≡ address (length pieces)
-  text_ends = of_all objects EndsThere (sym (first_address inputs.map.text pieces sizes)) ends_more ∙ ap address (sym (length-pieces_of p))
+  text_ends : text_end L ≡ address (length pieces)
+  text_ends = of_all objects EndsThere (sym front_none) ends_more ∙ ap address (sym (length-pieces_of p))
 
-  pub end_settled : text_end p A ≡ settled_end p sizes
+  pub end_settled : text_end L ≡ settled_end p
   unfolding settled_end settled_addresses
   end_settled = text_ends
 
-  pub settled_high : (q : Place) (a : ℕ) → A q ≡ Some a → a ≤ text_end p A
+  pub settled_high : (q : Place) (a : ℕ) → A q ≡ Some a → a ≤ text_end L
   settled_high q a is =
       omega (arith, settled_here q a is, text_ends, address_rises (number_of objects q) (length pieces) (number_most p q) (omega arith))
 
-  pub settled_short : text_end p A ≤ inputs.map.text + 0x8_0000
+  pub settled_short : text_end L ≤ inputs.map.text + 0x8_0000
   settled_short = omega (arith, text_ends, address_few (length pieces) (omega arith))
 
   -- a section begins no earlier than those before it end
   pub settled_begins :
       (o i : ℕ) (s : SectionParts) → section_at objects o i ≡ Some s → is_code_section s ≡ true
-      → end_after p A (sections_before objects o i) ≤ unwrap_or (A (place_at o i 0)) 0
+      → end_after L (sections_before objects o i) ≤ unwrap_or (A (place_at o i 0)) 0
   settled_begins o i s found code =
       let whole = inputs_whole inputs o i s none found code in
-      let first : unwrap_or (A (place_at o i 0)) 0 ≡ address (first_number objects o i + 1) =
+      let first : unwrap_or (A (place_at o i 0)) 0 ≡ address (padding_number objects o i + 1) =
       ap (λ x. unwrap_or x 0) (settled_there (place_at o i 0) s (code_found p o i 0 s found code) (start_first s code whole))
       ∙ ap address (number-start objects o i s found code whole) in
       omega (
         arith,
         first,
         ends_before o i s found,
-        address_rises (first_number objects o i) (first_number objects o i + 1) (omega arith) (start_within p o i s found code whole),
+        address_rises (padding_number objects o i) (padding_number objects o i + 1) (omega arith) (start_within p o i s found code whole),
       )

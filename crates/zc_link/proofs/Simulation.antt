@@ -1,33 +1,29 @@
 -- A laid image keeps step with the program: the start is sound, each piece's law is its step, and cells of data lie apart from
 -- interrupts. So the image follows the program under every plan, and its file preserves the objects' program.
-use Rattle.std.proofs.Common.{◌≡◌, ℕ, List, Some, sym, ap, ◌∙◌, subst}
+use Rattle.std.proofs.Common.{◌≡◌, ℕ, List, Some}
 use Rattle.zc_base.specs.declared.place.Place.{Place}
 use Rattle.interrupt_plan.specs.Plan.{IsPlan}
-use Rattle.rv_decode.specs.Run.{iterate}
 use Rattle.psabi_sym.specs.Inputs.{Inputs, parsed}
 use Rattle.sym_machine.specs.Objects.{program_of}
 use Rattle.sym_machine.specs.Program.{Program}
-use Rattle.sym_machine.specs.Run.{plain_turn}
 use Rattle.zc_link.specs.Image.{Image, image_in}
 use Rattle.zc_link.specs.Laid.{Laid}
-use Rattle.zc_link.specs.Pace.{Pace}
+use Rattle.zc_link.specs.Pace.{Piece, pace_of}
 use Rattle.zc_link.specs.Preserves.{FollowsUnder, Preserves}
-use Rattle.zc_link.specs.Simulates.{Comes, Simulates}
+use Rattle.zc_link.specs.Simulates.{IsSimulation}
 use Rattle.zc_link.proofs.Apart.{commits_apart, cuts_apart, lead_commits_apart, lead_cuts_apart}
 use Rattle.zc_link.proofs.Induction as induction
 use Rattle.zc_link.proofs.Pieces.{piece_comes, piece_inside, span_some}
 use Rattle.zc_link.proofs.Start.{starts}
 
-module _ (p : Program) (Named : Place → Type 0) (e : Image) (pace : Pace) (laid : Laid p Named e pace) where
-  pub simulates : Simulates p Named e pace
+module _ (p : Program) (Named : Place → Type 0) (e : Image) (piece : Place → Piece) (laid : Laid p Named e piece) where
+  pub simulates : IsSimulation p Named e (pace_of p piece)
   simulates = record {
-    some = λ q. rw (laid.spans q) (span_some (laid.piece q));
+    some = λ q. span_some (piece q);
     few = laid.few;
     step = λ r r' h cuts are z so same.
-        let steps = ap (λ k. iterate (plain_turn p) k r) (sym (laid.spans r.core.place)) ∙ h in
-        subst (λ k. Comes p Named e cuts k z r') (sym (laid.weights r.core))
-        (piece_comes (laid.piece r.core.place) laid.room laid.leads cuts are so same (laid.each r.core.place z.core.pc so.place) steps);
-    inside = λ k r r' some lt listed running h. piece_inside p e r r' (laid.piece r.core.place) k some (rw (laid.spans r.core.place) at lt);
+        piece_comes (piece r.core.place) laid.room laid.leads cuts are so same (laid.each r.core.place z.core.pc so.place) h;
+    inside = λ k r r' some lt listed running h. piece_inside p e r r' (piece r.core.place) k some lt;
     start = λ input bytes cuts are. starts laid input bytes cuts;
     cuts_apart = cuts_apart laid;
     commits_apart = commits_apart laid;
@@ -36,12 +32,12 @@ module _ (p : Program) (Named : Place → Type 0) (e : Image) (pace : Pace) (lai
   }
 
   pub follows : FollowsUnder IsPlan p e
-  follows = induction.follows p Named e pace simulates
+  follows = induction.follows p Named e (pace_of p piece) simulates
 
 -- ---- files
 
 -- a file whose image is laid for the objects' program preserves it
 pub laid_preserves :
-    (inputs : Inputs) (elf : List ℕ) (Named : Place → Type 0) (e : Image) (pace : Pace) → image_in elf inputs.map ≡ Some e → Laid (program_of (parsed inputs)) Named e pace
+    (inputs : Inputs) (elf : List ℕ) (Named : Place → Type 0) (e : Image) (piece : Place → Piece) → image_in elf inputs.map ≡ Some e → Laid (program_of (parsed inputs)) Named e piece
     → Preserves inputs elf
-laid_preserves inputs elf Named e pace read laid = record { image = e; read = read; follows = follows (program_of (parsed inputs)) Named e pace laid }
+laid_preserves inputs elf Named e piece read laid = record { image = e; read = read; follows = follows (program_of (parsed inputs)) Named e piece laid }

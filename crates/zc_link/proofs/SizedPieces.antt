@@ -1,95 +1,58 @@
--- What starts at a place of an image, by its item and its size, and how many commits that is.
-use Rattle.std.proofs.Common.{◌≡◌, ℕ, ◌<◌, ◌≤◌, Option, Some, None, Bool, true, false, cond, eqb, ltb, refl, sym, ap, arith}
+-- What starts at a place of a layout, by what is written there and its size, and how many commits that is: few, since padding is short.
+use Rattle.std.proofs.Common.{◌≡◌, ℕ, ◌+◌, ◌-◌, ◌*◌, ◌<◌, ◌≤◌, Option, Some, None, Bool, true, false, cond, eqb, ltb, refl, ap, ◌∙◌, arith}
+use Rattle.std.specs.Option.{option_map_or}
 use Rattle.zc_base.specs.declared.place.Place.{Place}
 use Rattle.psabi_sym.specs.Faults.{power_above}
+use Rattle.psabi_sym.specs.Inputs.{parsed}
+use Rattle.psabi_sym.proofs.BlockLaws.{aligned_up-lt}
+use Rattle.block_cut.specs.Items.{after_items, next_at}
 use Rattle.block_cut.specs.declared.item.Item.{Item}
 use Rattle.block_cut.specs.declared.item.Item.TheVariants.{Op, Hi, Lo, PcHi, PcLo, Branch, Jump, Call, Align, Word, Raw, RawPair}
+use Rattle.shrink_layout.specs.Units.{CodeUnit, OneItem, unit_items}
 use Rattle.sym_machine.specs.Conditions.{condition}
 use Rattle.sym_machine.specs.Program.{Program}
 use Rattle.sym_machine.specs.State.{PlainCore, reg_of}
-use Rattle.zc_link.specs.Image.{Image}
-use Rattle.zc_link.specs.Pace.{item_commits, listed_size, long_commits, padding_commits}
-use Rattle.zc_link.specs.Pieces.{AlignOf, Alone, CallOf, LongOf, Piece, commits_of, span_of, taken_at}
+use Rattle.zc_link.specs.LaidOut.{IsLaidOut}
+use Rattle.zc_link.specs.Pace.{Alone, CallOf, LongOf, Piece, bytes_between, commits_of, long_commits, piece_of, span_of}
+use Rattle.zc_link.specs.TextLayout.{TextLayout, behind, piece_in, size_in}
 
--- what starts at a place, by its item and its size: padding is so many instructions, and in eight bytes a branch and a call are two
-abbrev pub sized_piece : Option Item → ℕ → Piece
-sized_piece None n = Alone
-sized_piece (Some (Op i)) n = Alone
-sized_piece (Some (Hi i t)) n = Alone
-sized_piece (Some (Lo i t)) n = Alone
-sized_piece (Some (PcHi i t)) n = Alone
-sized_piece (Some (PcLo i from)) n = Alone
-sized_piece (Some (Branch op first second to)) n = cond (eqb n 8) LongOf Alone
-sized_piece (Some (Jump rd to)) n = Alone
-sized_piece (Some (Call rd temp to)) n = cond (eqb n 8) CallOf Alone
-sized_piece (Some (Align bytes)) n = AlignOf (padding_commits n)
-sized_piece (Some (Word t)) n = Alone
-sized_piece (Some (Raw word)) n = Alone
-sized_piece (Some (RawPair first second)) n = Alone
+-- ---- commits
 
--- what starts at a place of an image
-abbrev pub piece_in : Program → Image → Place → Piece
-piece_in p e q = sized_piece (p.item q) (listed_size p e q)
+-- a piece has few commits for its items
+abbrev IsFew : Program → PlainCore → Piece → Type 0
+IsFew p s x = commits_of p s x ≤ 64 * span_of x
 
--- each is one item
-pub spans_one : (c : Piece) → 1 ≡ span_of c
-spans_one Alone = refl
-spans_one (AlignOf count) = refl
-spans_one CallOf = refl
-spans_one LongOf = refl
+-- a branch of two instructions has
+long_few : (taken : Option Bool) → long_commits taken ≤ 64
+long_few None = omega arith
+long_few (Some false) = omega arith
+long_few (Some true) = omega arith
 
--- its commits are those of the item
-pub commits_are : (p : Program) (s : PlainCore) (n : ℕ) (o : Option Item) → p.item s.place ≡ o → item_commits p s n o ≡ commits_of p s (sized_piece o n)
-commits_are p s n None is = refl
-commits_are p s n (Some (Op i)) is = refl
-commits_are p s n (Some (Hi i t)) is = refl
-commits_are p s n (Some (Lo i t)) is = refl
-commits_are p s n (Some (PcHi i t)) is = refl
-commits_are p s n (Some (PcLo i from)) is = refl
-commits_are p s n (Some (Branch op first second to)) is = by (eqb n 8)
+-- so has what is written for an item in n bytes, if padding is short
+item_few : (p : Program) (s : PlainCore) (n : ℕ) (i : Item) → ((bytes : ℕ) → i ≡ Align bytes → n < 256) → IsFew p s (piece_of n (Some (OneItem i)))
+item_few p s n (Op i) short = omega arith
+item_few p s n (Hi i t) short = omega arith
+item_few p s n (Lo i t) short = omega arith
+item_few p s n (PcHi i t) short = omega arith
+item_few p s n (PcLo i from) short = omega arith
+item_few p s n (Branch op first second to) short = by (eqb n 8)
   where
-    by : (b : Bool) → cond b (long_commits (condition p op (reg_of s first) (reg_of s second))) 1 ≡ commits_of p s (cond b LongOf Alone)
-    by true = ap (λ x. long_commits (taken_at p s x)) (sym is)
-    by false = refl
-commits_are p s n (Some (Jump rd to)) is = refl
-commits_are p s n (Some (Call rd temp to)) is = by (eqb n 8)
+    by : (b : Bool) → IsFew p s (cond b (LongOf op first second) Alone)
+    by true = long_few (condition p op (reg_of s first) (reg_of s second))
+    by false = omega arith
+item_few p s n (Jump rd to) short = omega arith
+item_few p s n (Call rd temp to) short = by (eqb n 8)
   where
-    by : (b : Bool) → cond b 2 1 ≡ commits_of p s (cond b CallOf Alone)
-    by true = refl
-    by false = refl
-commits_are p s n (Some (Align bytes)) is = refl
-commits_are p s n (Some (Word t)) is = refl
-commits_are p s n (Some (Raw word)) is = refl
-commits_are p s n (Some (RawPair first second)) is = refl
-
--- they are few if padding is short
-pub few_commits : (p : Program) (s : PlainCore) (n : ℕ) (o : Option Item) → ((bytes : ℕ) → o ≡ Some (Align bytes) → n < 256) → item_commits p s n o ≤ 64
-few_commits p s n None short = omega arith
-few_commits p s n (Some (Op i)) short = omega arith
-few_commits p s n (Some (Hi i t)) short = omega arith
-few_commits p s n (Some (Lo i t)) short = omega arith
-few_commits p s n (Some (PcHi i t)) short = omega arith
-few_commits p s n (Some (PcLo i from)) short = omega arith
-few_commits p s n (Some (Branch op first second to)) short = by (eqb n 8) (condition p op (reg_of s first) (reg_of s second))
-  where
-    by : (b : Bool) (taken : Option Bool) → cond b (long_commits taken) 1 ≤ 64
-    by true None = omega arith
-    by true (Some false) = omega arith
-    by true (Some true) = omega arith
-    by false taken = omega arith
-few_commits p s n (Some (Jump rd to)) short = omega arith
-few_commits p s n (Some (Call rd temp to)) short = by (eqb n 8)
-  where
-    by : (b : Bool) → cond b 2 1 ≤ 64
+    by : (b : Bool) → IsFew p s (cond b CallOf Alone)
     by true = omega arith
     by false = omega arith
-few_commits p s n (Some (Align bytes)) short = omega (arith, short bytes refl)
-few_commits p s n (Some (Word t)) short = omega arith
-few_commits p s n (Some (Raw word)) short = omega arith
-few_commits p s n (Some (RawPair first second)) short = omega arith
+item_few p s n (Align bytes) short = omega (arith, short bytes refl)
+item_few p s n (Word t) short = omega arith
+item_few p s n (Raw word) short = omega arith
+item_few p s n (RawPair first second) short = omega arith
 
 -- a power of two above a number is 256 at most
-pub power_most : (n : ℕ) → power_above n ≤ 256
+power_most : (n : ℕ) → power_above n ≤ 256
 power_most n = by (ltb n 2) (ltb n 4) (ltb n 8) (ltb n 16) (ltb n 32) (ltb n 64) (ltb n 128)
   where
     by : (b2 b4 b8 b16 b32 b64 b128 : Bool) → cond b2 2 (cond b4 4 (cond b8 8 (cond b16 16 (cond b32 32 (cond b64 64 (cond b128 128 256)))))) ≤ 256
@@ -101,3 +64,33 @@ power_most n = by (ltb n 2) (ltb n 4) (ltb n 8) (ltb n 16) (ltb n 32) (ltb n 64)
     by false false false false false true b128 = omega arith
     by false false false false false false true = omega arith
     by false false false false false false false = omega arith
+
+-- ---- in a layout
+
+-- behind an item by itself stands the next one
+pub behind_item : (L : TextLayout) (q : Place) (i : Item) → L.unit q ≡ Some (OneItem i) → behind L q ≡ next_at (parsed L.inputs).objects q
+behind_item L q i is = ap (λ u. after_items (parsed L.inputs).objects (option_map_or unit_items u 1) q) is
+
+-- the size of what is written is the way to the place behind it
+pub size_is : (L : TextLayout) (q : Place) (a n : ℕ) → L.address q ≡ Some a → L.address (behind L q) ≡ Some (a + n) → size_in L q ≡ n
+size_is L q a n at next = let less : a + n - a ≡ n = omega arith in (λ j. bytes_between (at j) (next j)) ∙ less
+
+module _ (L : TextLayout) (laid : IsLaidOut L) where
+  -- padding has fewer than 256 bytes
+  padding_short : (q : Place) (k : ℕ) → L.unit q ≡ Some (OneItem (Align k)) → size_in L q < 256
+  padding_short q k unit = by (L.address q) refl
+    where
+      by : (o : Option ℕ) → L.address q ≡ o → size_in L q < 256
+      by None at = let none : size_in L q ≡ 0 = ap (λ o. bytes_between o (L.address (behind L q))) at in omega (arith, none)
+      by (Some a) at =
+          let lies = laid.each q a (OneItem (Align k)) unit at in
+          let size = size_is L q a lies.size at lies.next in
+          omega (arith, size, lies.form, aligned_up-lt (power_above k) a, power_most k)
+
+  -- so no piece has many commits
+  pub few : (p : Program) (s : PlainCore) → commits_of p s (piece_in L s.place) ≤ 64 * span_of (piece_in L s.place)
+  few p s = by (L.unit s.place) refl
+    where
+      by : (u : Option CodeUnit) → L.unit s.place ≡ u → IsFew p s (piece_of (size_in L s.place) u)
+      by None unit = omega arith
+      by (Some (OneItem i)) unit = item_few p s (size_in L s.place) i (λ k is. padding_short s.place k (unit ∙ ap (λ x. Some (OneItem x)) is))

@@ -1,6 +1,6 @@
 -- What is known of each item of inputs without a fault: its bytes, of which it has so many, spell what it is, and what it leads to has an
 -- address.
-use Rattle.std.proofs.Common.{◌≡◌, ℕ, ◌+◌, ℤ, List, length, Option, Some, None, Bool, true, false, cond, eqb, refl, sym, ap, ◌∙◌, subst, arith}
+use Rattle.std.proofs.Common.{◌≡◌, ℕ, ◌+◌, ℤ, List, Option, Some, None, Bool, true, false, cond, eqb, refl, sym, ap, ◌∙◌, subst}
 use Rattle.std.specs.Prelude.{◌&&◌, not}
 use Rattle.std.specs.Option.{is_some, option_and_then, option_map_or}
 use Rattle.std.proofs.lemmas.Bool.{and_parts, eqb-true, or_left, or_right}
@@ -21,16 +21,14 @@ use Rattle.rv_decode.specs.declared.instr.UpperOp.TheVariants.{Lui, Auipc}
 use Rattle.block_cut.specs.Faults.{first_fault, is_bad_target}
 use Rattle.block_cut.specs.Items.{call_item, code_at, is_target_at, item_at, item_in, item_under, known_item, of_instr, place_away, raw_in, raw_pair, size_at, size_on, spelled, target_away, target_of, target_only, to_place, transfer_item}
 use Rattle.block_cut.specs.Relocs.{field_of, fits_at, instr_in, is_bad_kind, is_ignored, is_pcrel_lo, is_transfer, reloc_on}
-use Rattle.block_cut.specs.Units.{own_size}
+use Rattle.block_cut.specs.CodeSizes.{own_size}
 use Rattle.block_cut.specs.declared.item.Item.{Item}
 use Rattle.block_cut.specs.declared.item.Item.TheVariants.{Hi, Lo, PcHi, PcLo, Branch, Jump}
 use Rattle.block_cut.proofs.ListedLaws.{listed}
 use Rattle.block_cut.proofs.PlainLaws.{item_here}
 use Rattle.block_cut.proofs.SoundLaws.{rvc_bad, sound_at}
-use Rattle.block_cut.proofs.StartLaws.{start_is, step}
 use Rattle.block_cut.proofs.WholeLaws.{code_is_section}
-use Rattle.zc_link.specs.LaidOut.{IsLaidOut}
-use Rattle.zc_link.specs.Standing.{GoesWith, HasOwnSize, HasValue, IsReady, ItemStands, SpellsKind, SpellsWay, StandsHere, is_lower}
+use Rattle.zc_link.specs.Standing.{GoesWith, HasOwnSize, HasValue, IsReady, ItemStands, SpellsKind, SpellsWay, is_lower}
 use Rattle.zc_link.proofs.Faultless.{all_none, reloc_good, reloc_value, target_listed}
 use Rattle.zc_link.proofs.Pairs.{goes_with}
 
@@ -247,22 +245,3 @@ module _ (inputs : Inputs) (none : gather_fault inputs ≡ None) (ready : IsRead
   item_own q item is =
       let here = item_here inputs none q item is in
       subst (HasOwnSize item) (sym here.size) (item_stands q here.section here.code item is).1
-
--- an item stands where the text so far ends
-pub stands_here :
-    (inputs : Inputs) → gather_fault inputs ≡ None → IsReady inputs → (A : Place → Option ℕ) → IsLaidOut (parsed inputs) A
-    → (q : Place) (s : SectionParts) (item : Item) (text : List ℕ) → code_at (parsed inputs).objects q ≡ Some s
-    → item_at (parsed inputs) q ≡ Some item → A q ≡ Some (inputs.map.text + length text) → StandsHere (parsed inputs) A s.bytes q item text
-stands_here inputs none ready A laid q s item text at is address =
-    let own = item_here inputs none q item is in
-    let same : own.section ≡ s = cc (sym own.code ∙ at) in
-    let start = start_is own.section own.code_is own.whole q.offset own.start in
-    let st = step own.section own.code_is own.whole q.offset start.words start.inside in
-    record {
-      is = is;
-      size = item_own inputs none ready A laid.listed q item is;
-      within = omega (arith, st.inside, own.size, ap (λ (t : SectionParts). length t.bytes) same);
-      address = address;
-      lies = laid.each q (inputs.map.text + length text) item is address;
-      stands = (item_stands inputs none ready A laid.listed q s at item is).0;
-    }

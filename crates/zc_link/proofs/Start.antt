@@ -19,7 +19,7 @@ use Rattle.zc_machine.specs.Load.{first_core}
 use Rattle.zc_machine.specs.Run.{first_state}
 use Rattle.zc_link.specs.Image.{Image, loaded, place_address}
 use Rattle.zc_link.specs.Laid.{AtEntry, Begins, Laid}
-use Rattle.zc_link.specs.Pace.{Pace}
+use Rattle.zc_link.specs.Pace.{Piece}
 use Rattle.zc_link.specs.Simulates.{Comes, lead_from, lead_of}
 use Rattle.zc_link.specs.Sound.{NamesWord, Sound}
 use Rattle.zc_link.specs.Stands.{WordStands}
@@ -60,7 +60,7 @@ stack_unknown p under a low =
         absurd (omega (arith, high, under, low))
     no_data false h = refl
 
-module _ {p : Program} {Named : Place → Type 0} {e : Image} {pace : Pace} (laid : Laid p Named e pace) where
+module _ {p : Program} {Named : Place → Type 0} {e : Image} {piece : Place → Piece} (laid : Laid p Named e piece) where
   at_entry : place_address e p.entry ≡ Some e.entry
   at_entry = by_begins laid.begins
     where

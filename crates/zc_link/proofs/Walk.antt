@@ -1,165 +1,436 @@
--- The walk over a section: so far the text has the items before the place where it stands, and that is where an item starts or
--- the section ends.
-use Rattle.std.proofs.Common.{◌≡◌, ℕ, ◌+◌, ◌<◌, ◌≤◌, ◌⊎◌, inl, inr, List, [], ◌∷◌, ◌++◌, length, map, filter, Option, Some, None, Bool, true, false, refl, sym, ap, ◌∙◌, subst, arith, ltb, append_assoc, length-append, cond, eqb, eq-eqb}
-use Rattle.std.specs.Prelude.{◌||◌}
+-- The walk over a section, place by place: so far the text has what stands before the place at hand, whose address its end is. A
+-- place is told by how many items of the section stand before it.
+use Rattle.std.proofs.Common.{◌≡◌, ℕ, zero, suc, ltb, get_or, ◌+◌, ◌-◌, ◌^◌, ◌<◌, ◌≤◌, ◌⊎◌, inl, inr, List, [], ◌∷◌, ◌++◌, length, map, Option, Some, None, Bool, true, false, refl, sym, ap, ◌∙◌, subst, arith, append_assoc, length-append, cond, eqb, eq-eqb, slice_get, take}
+use Rattle.std.specs.Prelude.{◌||◌, ◌&&◌}
 use Rattle.std.specs.List.{flat_map}
-use Rattle.std.specs.Option.{option_and_then, option_map_or, unwrap_or}
-use Rattle.std.proofs.lemmas.List.{append-nil, map-append}
+use Rattle.std.specs.Option.{is_some, option_map, option_map_or, unwrap_or}
+use Rattle.std.proofs.lemmas.List.{append-nil, length-map, map-append}
 use Rattle.std.proofs.lemmas.List.Concat.{flat_map-append}
 use Rattle.std.proofs.lemmas.List.Sums.{fold-append}
+use Rattle.std.proofs.lemmas.Option.{slice_get-map, slice_get_read, slice_get_within}
 use Rattle.zc_base.specs.declared.place.Place.{Place}
-use Rattle.elf32_read.specs.Parts.{ObjectParts, SectionParts, is_code_section}
+use Rattle.elf32_read.specs.Parts.{SectionParts, is_code_section}
 use Rattle.psabi_sym.specs.Faults.{gather_fault}
 use Rattle.psabi_sym.specs.Inputs.{Inputs, ParsedInputs, parsed}
-use Rattle.psabi_sym.specs.Listed.{section_at, sections_before}
-use Rattle.block_cut.specs.Items.{code_at, code_only, is_target_at, item_at, next_at, place_of, size_on, starts_in, starts_on}
+use Rattle.psabi_sym.specs.Listed.{ListedSection, all_sections}
+use Rattle.psabi_sym.proofs.SectionNumbers.{listed_at}
+use Rattle.block_cut.specs.Items.{after_items, index_on, is_target_at, item_at, next_at, place_of, size_at, size_on, starts_from, starts_in, starts_on, targets_in, targets_of}
+use Rattle.block_cut.specs.Places.{IsPlaceNumber, code_place, code_places}
+use Rattle.block_cut.specs.PlainLayout.{starts_before}
+use Rattle.block_cut.specs.declared.code_place.CodePlace.{CodePlace}
 use Rattle.block_cut.specs.declared.item.Item.{Item}
 use Rattle.block_cut.proofs.ItemLaws.{item_there}
-use Rattle.block_cut.proofs.ListedLaws.{before_more}
-use Rattle.block_cut.proofs.PlainLaws.{item_here, spot, target_on}
+use Rattle.block_cut.proofs.PlainLaws.{item_here, target_on}
 use Rattle.block_cut.proofs.StartLaws.{before_end_all, before_first_none, before_next_start, start_first, start_is, step}
-use Rattle.block_cut.proofs.WholeLaws.{code_is_section, code_whole}
-use Rattle.block_cut.specs.Whole.{IsWhole}
-use Rattle.zc_link.specs.ImageParts.{targets_of}
+use Rattle.block_cut.proofs.TakeLaws.{take_next}
+use Rattle.block_cut.proofs.TextLaws.{place_number}
+use Rattle.block_cut.proofs.WordLaws.{IsCodeHere, code_here, target_got}
+use Rattle.shrink_layout.specs.Numbers.{HasPlace}
+use Rattle.shrink_layout.specs.Units.{CodeUnit, OneItem, unit_items}
 use Rattle.zc_link.specs.LaidOut.{IsLaidOut, end_after, section_end}
+use Rattle.zc_link.specs.Standing.{BeginsSection, IsReady, StandsHere, WrittenHere}
+use Rattle.zc_link.specs.TextLayout.{TextLayout, behind, front_end}
 use Rattle.zc_link.specs.Written.{IsSoFar, IsTextOf}
-use Rattle.zc_link.specs.Standing.{AddsHere, IsCodeAt}
-use Rattle.zc_link.proofs.Faultless.{target_listed}
+use Rattle.zc_link.specs.Pace.{bytes_between}
 use Rattle.zc_link.proofs.Grows.{so_far_end, so_far_item}
+use Rattle.zc_link.proofs.LaidLaws.{unit_is}
+use Rattle.zc_link.proofs.Standing.{item_own, item_stands}
 
--- where items start before a place of a section
-abbrev starts_before : SectionParts → ℕ → List ℕ
-starts_before s n = filter (λ m. ltb m n) (starts_in s)
+-- where an item starts, or the section ends
+abbrev pub IsTarget : SectionParts → ℕ → Type 0
+IsTarget s n = (starts_on s n ≡ true) ⊎ (n ≡ length s.bytes)
 
--- the places before it: those of the sections before, and those of its own
-abbrev pub walked : ParsedInputs → SectionParts → Place → List Place
-walked inputs s q = flat_map targets_of (sections_before inputs.objects q.object q.section) ++ map (place_of (spot q s)) (starts_before s q.offset)
-
-pub record Walks (inputs : ParsedInputs) (A : Place → Option ℕ) (s : SectionParts) (q : Place) (text : List ℕ) (places : List (Place × ℕ)) : Type 0 where
-  pub target : (starts_on s q.offset ≡ true) ⊎ (q.offset ≡ length s.bytes)
-  pub address : A q ≡ Some (inputs.map.text + length text)
-  pub so_far : IsSoFar inputs A (walked inputs s q) (inputs.map.text + length text) text places
-
--- code may lead where an item starts or the section ends
-pub may_lead : (objects : List ObjectParts) (q : Place) (s : SectionParts) → code_at objects q ≡ Some s → (starts_on s q.offset ≡ true) ⊎ (q.offset ≡ length s.bytes) → is_target_at objects q ≡ true
-may_lead objects q s at target = target_on objects q s at ∙ by target
+pub either : (s : SectionParts) (n : ℕ) → IsTarget s n → (starts_on s n || eqb n (length s.bytes)) ≡ true
+either s n (inl start) = ap (λ b. b || eqb n (length s.bytes)) start
+either s n (inr end) = ap (λ b. starts_on s n || b) (eq-eqb n (length s.bytes) end) ∙ or_true (starts_on s n)
   where
     or_true : (b : Bool) → (b || true) ≡ true
     or_true true = refl
     or_true false = refl
 
-    by : (starts_on s q.offset ≡ true) ⊎ (q.offset ≡ length s.bytes) → (starts_on s q.offset || eqb q.offset (length s.bytes)) ≡ true
-    by (inl start) = ap (λ b. b || eqb q.offset (length s.bytes)) start
-    by (inr end) = ap (λ b. starts_on s q.offset || b) (eq-eqb q.offset (length s.bytes) end) ∙ or_true (starts_on s q.offset)
+-- no section has many
+starts_few : (s : SectionParts) → length (starts_in s) ≤ length s.bytes
+unfolding starts_in
+starts_few s = few (length s.bytes) 0
+  where
+    few : (fuel n : ℕ) → length (starts_from fuel s n) ≤ fuel
+    few zero n = omega arith
+    few (suc fuel) n = by (ltb n (length s.bytes)) (few fuel (n + size_on s n))
+      where
+        by : (b : Bool) → length (starts_from fuel s (n + size_on s n)) ≤ fuel → length (cond b (n ∷ starts_from fuel s (n + size_on s n)) []) ≤ suc fuel
+        by true le = omega (arith, le)
+        by false le = omega arith
 
-module _ (inputs : Inputs) (none : gather_fault inputs ≡ None) (A : Place → Option ℕ) (laid : IsLaidOut (parsed inputs) A) (s : SectionParts) where
+-- the sections before the one with a number
+abbrev pub before : TextLayout → ℕ → List ListedSection
+before L k = take k (all_sections (parsed L.inputs).objects)
+
+-- after so many places of a section, at the next of them
+pub record Walks (L : TextLayout) (k : ℕ) (l : ListedSection) (i : ℕ) (text : List ℕ) (places : List (Place × ℕ)) : Type 0 where
+  pub offset : ℕ
+  pub target : IsTarget l.section offset
+  pub index : i ≡ index_on l.section offset
+  pub address : L.address (place_of l offset) ≡ Some (L.inputs.map.text + length text)
+  pub so_far :
+      IsSoFar L (flat_map targets_of (before L k) ++ map (place_of l) (starts_before l.section offset)) (L.inputs.map.text + length text) text places
+
+-- or after all of them
+pub data After (L : TextLayout) (k : ℕ) (l : ListedSection) (i : ℕ) (text : List ℕ) (places : List (Place × ℕ)) : Type 0 where
+  OnWay : Walks L k l i text places → After L k l i text places
+  AtEnd : length (targets_in l.section) ≤ i → IsTextOf L (before L (k + 1)) text places → After L k l i text places
+
+module _
+    (L : TextLayout) (none : gather_fault L.inputs ≡ None) (ready : IsReady L.inputs) (laid : IsLaidOut L) (k : ℕ) (l : ListedSection)
+    (at : slice_get (all_sections (parsed L.inputs).objects) k ≡ Some l) (code : is_code_section l.section ≡ true) where
   abbrev p : ParsedInputs
-  p = parsed inputs
+  p = parsed L.inputs
 
-  code_of : (q : Place) → code_at p.objects q ≡ Some s → is_code_section s ≡ true
-  code_of q at = (code_is_section p.objects q s at).1
+  abbrev s : SectionParts
+  s = l.section
 
-  whole_of : (q : Place) → code_at p.objects q ≡ Some s → IsWhole s
-  whole_of q at = code_whole inputs q s none at
+  abbrev start : ℕ
+  start = L.inputs.map.text
+
+  pub there : IsCodeHere L.inputs l.object l.index s
+  there = code_here L.inputs l.object l.index s none (listed_at p.objects k l at) code
+
+  -- its places
+  places_are : code_places p l ≡ map (code_place p l) (targets_in s)
+  places_are = ap (λ b. cond b (map (code_place p l) (targets_in s)) []) code
+
+  -- code may lead there
+  pub target_at : (n : ℕ) → IsTarget s n → is_target_at p.objects (place_of l n) ≡ true
+  target_at n target = target_on p.objects (place_of l n) s (there.at n) ∙ either s n target
+
+  -- where such a place stands among all
+  pub number_there : (n : ℕ) → IsTarget s n → IsPlaceNumber p.objects (place_of l n) (record { section = k; index = index_on s n })
+  number_there n target = place_number p.objects (place_of l n) k (index_on s n) s there.found at (target_at n target) refl
+
+  pub has_place : (n i : ℕ) → i ≡ index_on s n → IsTarget s n → HasPlace p.objects (record { section = k; index = i })
+  has_place n i is target =
+      (place_of l n, target_at n target, subst (λ m. IsPlaceNumber p.objects (place_of l n) (record { section = k; index = m })) (sym is) (number_there n target))
+
+  -- the place so many places on is the one at hand
+  pub place_got :
+      (i : ℕ) (text : List ℕ) (places : List (Place × ℕ)) (walks : Walks L k l i text places) (own : List CodePlace) (place : CodePlace)
+      → own ≡ code_places p l → slice_get own i ≡ Some place → place ≡ code_place p l walks.offset
+  place_got i text places walks own place are got =
+      let found : slice_get own i ≡ Some (code_place p l walks.offset) =
+      (λ j. slice_get ((are ∙ places_are) j) (walks.index j)) ∙ slice_get-map (code_place p l) (targets_in s) (index_on s walks.offset)
+      ∙ ap (option_map (code_place p l)) (target_got s code there.whole walks.offset (either s walks.offset walks.target)) in
+      cc (sym got ∙ found)
+
+  -- so few
+  pub index_few : (i : ℕ) (text : List ℕ) (places : List (Place × ℕ)) → Walks L k l i text places → (i < length (targets_in s)) × (i + 1 < 2 ^ 32)
+  index_few i text places walks =
+      let within = slice_get_within (targets_in s) (index_on s walks.offset) walks.offset (target_got s code there.whole walks.offset (either s walks.offset walks.target)) in
+      (omega (arith, within, walks.index), omega (arith, within, walks.index, length-append (starts_in s) (length s.bytes ∷ []), starts_few s, there.whole.short))
+
+  -- ---- an item
+
+  module _ (n : ℕ) (item : Item) (is : item_at p (place_of l n) ≡ Some item) where
+    abbrev q : Place
+    q = place_of l n
+
+    -- it starts there
+    pub start_there : starts_on s n ≡ true
+    start_there =
+        let own = item_here L.inputs none q item is in
+        let same : own.section ≡ s = cc (sym own.code ∙ there.at n) in
+        ap (λ t. starts_on t n) (sym same) ∙ own.start
+
+    -- the next place is a target, with the next number
+    abbrev after : ℕ
+    after = n + size_on s n
+
+    pub after_target : IsTarget s after
+    after_target = (start_is s code there.whole n start_there).next
+
+    pub after_before : starts_before s after ≡ starts_before s n ++ n ∷ []
+    after_before = before_next_start s code there.whole n start_there
+
+    pub after_index : (i : ℕ) → i ≡ index_on s n → i + 1 ≡ index_on s after
+    after_index i index = omega (arith, index, ap length after_before, length-append (starts_before s n) (n ∷ []))
+
+    next_is : next_at p.objects q ≡ place_of l after
+    next_is = ap (λ o. record q { offset = n + option_map_or (λ t. size_on t n) o 4 }) (there.at n)
+
+    -- what is written there
+    module _ (a : ℕ) (listed : L.address q ≡ Some a) where
+      pub unit : L.unit q ≡ Some (OneItem item)
+      unit = unit_is L ready.is_map laid q item a is listed
+
+      behind_is : behind L q ≡ place_of l after
+      behind_is = ap (λ u. after_items p.objects (option_map_or unit_items u 1) q) unit ∙ next_is
+
+      -- up to the next address
+      pub record TakesHere : Type 0 where
+        pub size : ℕ
+        pub next : L.address (place_of l after) ≡ Some (a + size)
+        pub behind_there : L.address (behind L q) ≡ Some (a + size)
+        pub stands : StandsHere L s.bytes q item a size
+
+      pub takes_here : TakesHere
+      takes_here =
+          let lies = laid.each q a (OneItem item) unit listed in
+          let own : size_at p.objects q ≡ size_on s n = ap (λ o. option_map_or (λ t. size_on t n) o 4) (there.at n) in
+          let start = start_is s code there.whole n start_there in
+          let st = step s code there.whole n start.words start.inside in
+          record {
+            size = lies.size;
+            next = ap L.address (sym behind_is) ∙ lies.next;
+            behind_there = lies.next;
+            stands = record {
+              is = is;
+              size = item_own L.inputs none ready L.address laid.listed q item is;
+              within = omega (arith, st.inside, own);
+              stands = (item_stands L.inputs none ready L.address laid.listed q s (there.at n) item is).0;
+              takes = (λ j. bytes_between (listed j) (lies.next j)) ∙ omega arith;
+              even = omega (arith, laid.even q a listed, laid.even (behind L q) (a + lies.size) lies.next);
+              form = lies.form;
+            };
+          }
+
+  -- ---- the walk
 
   -- at the section's start
-  pub walk_begins : (q : Place) (text : List ℕ) (places : List (Place × ℕ)) → code_at p.objects q ≡ Some s → q.offset ≡ 0
-      → IsSoFar p A (flat_map targets_of (sections_before p.objects q.object q.section)) (unwrap_or (A q) 0) text places → Walks p A s q text places
-  walk_begins q text places at zero before =
-      let none_before : starts_before s q.offset ≡ [] = ap (starts_before s) zero ∙ before_first_none s (code_of q at) (whole_of q at) in
-      let all = flat_map targets_of (sections_before p.objects q.object q.section) in
-      let targets : all ≡ walked p s q = sym (append-nil all) ∙ ap (λ l. all ++ map (place_of (spot q s)) l) (sym none_before) in
-      let target = subst (λ n. (starts_on s n ≡ true) ⊎ (n ≡ length s.bytes)) (sym zero) (start_first s (code_of q at) (whole_of q at)) in
-      let there = target_listed p A laid.listed q (may_lead p.objects q s at target) in
-      let same : inputs.map.text + length text ≡ there.0 = before.ends ∙ ap (λ o. unwrap_or o 0) there.1 in
+  pub walk_begins : (text : List ℕ) (places : List (Place × ℕ)) → BeginsSection L k text places → Walks L k l 0 text places
+  walk_begins text places begins =
+      let same : begins.section ≡ l = cc (sym begins.at ∙ at) in
+      let none_before : starts_before s 0 ≡ [] = before_first_none s code there.whole in
+      let all = flat_map targets_of (before L k) in
+      let targets : all ≡ all ++ map (place_of l) (starts_before s 0) = sym (append-nil all) ∙ ap (λ ns. all ++ map (place_of l) ns) (sym none_before) in
       record {
-        target = target;
-        address = there.1 ∙ ap Some (sym same);
-        so_far = subst (λ ts. IsSoFar p A ts (inputs.map.text + length text) text places) targets (subst (λ e. IsSoFar p A all e text places) (sym before.ends) before);
+        offset = 0;
+        target = start_first s code there.whole;
+        index = sym (ap length none_before);
+        address = ap (λ m. L.address (place_of m 0)) (sym same) ∙ begins.listed ∙ ap Some (sym begins.so_far.ends);
+        so_far = subst (λ ts. IsSoFar L ts (start + length text) text places) targets
+            (subst (λ e. IsSoFar L all e text places) (sym begins.so_far.ends) begins.so_far);
       }
 
-  -- one item more
-  pub walk_steps : (q : Place) (item : Item) (a : ℕ) (text text' : List ℕ) (places places' : List (Place × ℕ)) → code_at p.objects q ≡ Some s → item_at p q ≡ Some item
-      → Walks p A s q text places → a ≡ unwrap_or (A q) 0 → places' ≡ places ++ (q, a) ∷ [] → AddsHere p A s.bytes q item text text'
-      → Walks p A s (next_at p.objects q) text' places'
-  walk_steps q item a text text' places places' at is walks got more adds =
-      let own = item_here inputs none q item is in
-      let same : own.section ≡ s = cc (sym own.code ∙ at) in
-      let start : starts_on s q.offset ≡ true = ap (λ t. starts_on t q.offset) (sym same) ∙ own.start in
-      let code = code_of q at in
-      let whole = whole_of q at in
-      let next : Place = record q { offset = q.offset + size_on s q.offset } in
-      let next_is : next_at p.objects q ≡ next = ap (λ o. record q { offset = q.offset + option_map_or (λ t. size_on t q.offset) o 4 }) at in
-      let lies = laid.each q (inputs.map.text + length text) item is walks.address in
-      let one = adds lies.size lies.next in
-      let far : inputs.map.text + length text + lies.size ≡ inputs.map.text + length text' = omega (arith, ap length one.more, length-append text one.bytes, one.long) in
-      let grown = so_far_item p A s q item lies.size (walked p s q) (inputs.map.text + length text) a text text' places places' at is walks.address lies.next got walks.so_far more one in
-      let all = flat_map targets_of (sections_before p.objects q.object q.section) in
-      let targets : walked p s q ++ q ∷ [] ≡ walked p s next =
-      append_assoc all (map (place_of (spot q s)) (starts_before s q.offset)) (q ∷ [])
-      ∙ ap (λ l. all ++ l) (sym (map-append (place_of (spot q s)) (starts_before s q.offset) (q.offset ∷ [])))
-      ∙ ap (λ l. all ++ map (place_of (spot q s)) l) (sym (before_next_start s code whole q.offset start)) in
-      subst (λ r. Walks p A s r text' places') (sym next_is)
-      (record {
-        target = (start_is s code whole q.offset start).next;
-        address = ap A (sym next_is) ∙ lies.next ∙ ap Some far;
-        so_far = subst (λ ts. IsSoFar p A ts (inputs.map.text + length text') text' places') targets grown;
-      })
+  module _ (i : ℕ) (text : List ℕ) (places : List (Place × ℕ)) (walks : Walks L k l i text places) where
+    abbrev here : Place
+    here = place_of l walks.offset
 
-  -- at its end
-  pub walk_ends : (q : Place) (a : ℕ) (text : List ℕ) (places places' : List (Place × ℕ)) → code_at p.objects q ≡ Some s → item_at p q ≡ None
-      → Walks p A s q text places → a ≡ unwrap_or (A q) 0 → places' ≡ places ++ (q, a) ∷ [] → IsTextOf p A (sections_before p.objects q.object (q.section + 1)) text places'
-  walk_ends q a text places places' at last walks got more =
-      by walks.target
-    where
-      by : (starts_on s q.offset ≡ true) ⊎ (q.offset ≡ length s.bytes) → IsTextOf p A (sections_before p.objects q.object (q.section + 1)) text places'
-      by (inl start) = absurd (cc (item_there p q s at start, last))
-      by (inr over) =
-          let code = code_of q at in
-          let whole = whole_of q at in
-          let l = spot q s in
-          let before = sections_before p.objects q.object q.section in
-          let all = flat_map targets_of before in
-          let end_is : q ≡ place_of l (length s.bytes) = λ j. record q { offset = over j } in
-          let grown = so_far_end p A q (walked p s q) (inputs.map.text + length text) a text places places' last walks.address got walks.so_far more in
-          let those : starts_before s q.offset ≡ starts_in s = ap (starts_before s) over ∙ before_end_all s code whole in
-          let found = (code_is_section p.objects q s at).0 in
-          let later : sections_before p.objects q.object (q.section + 1) ≡ before ++ l ∷ [] = before_more p.objects q.object q.section s found in
-          let own : targets_of l ≡ map (place_of l) (starts_in s ++ length s.bytes ∷ []) = ap (λ b. cond b (map (place_of l) (starts_in s ++ length s.bytes ∷ [])) []) code in
-          let targets : walked p s q ++ q ∷ [] ≡ flat_map targets_of (sections_before p.objects q.object (q.section + 1)) =
-          append_assoc all (map (place_of l) (starts_before s q.offset)) (q ∷ [])
-          ∙ (λ j. all ++ (map (place_of l) (those j) ++ end_is j ∷ []))
-          ∙ ap (λ t. all ++ t) (sym (map-append (place_of l) (starts_in s) (length s.bytes ∷ [])) ∙ sym own ∙ sym (append-nil (targets_of l)))
-          ∙ sym (flat_map-append targets_of before (l ∷ []))
-          ∙ ap (flat_map targets_of) (sym later) in
-          let before_end = end_after p A before in
-          let ends : inputs.map.text + length text ≡ end_after p A (sections_before p.objects q.object (q.section + 1)) =
-          sym (ap (λ o. unwrap_or o before_end) (ap A (sym end_is) ∙ walks.address))
-          ∙ sym (ap (λ b. cond b (unwrap_or (A (place_of l (length s.bytes))) before_end) before_end) code)
-          ∙ sym (fold-append (section_end A) inputs.map.text before (l ∷ []))
-          ∙ ap (end_after p A) (sym later) in
-          subst (λ ts. IsSoFar p A ts (end_after p A (sections_before p.objects q.object (q.section + 1))) text places') targets
-          (subst (λ e. IsSoFar p A (walked p s q ++ q ∷ []) e text places') ends grown)
+    abbrev a : ℕ
+    a = start + length text
+
+    abbrev all : List Place
+    all = flat_map targets_of (before L k)
+
+    -- one item more
+    pub walk_steps :
+        (item : Item) (is : item_at p here ≡ Some item) (bytes : List ℕ)
+        → WrittenHere L s.bytes here item a (takes_here walks.offset item is a walks.address).size bytes
+        → Walks L k l (i + 1) (text ++ bytes) (places ++ (here, a) ∷ [])
+    walk_steps item is bytes written =
+        let n = walks.offset in
+        let takes = takes_here n item is a walks.address in
+        let next = after n item is in
+        let far : a + takes.size ≡ start + length (text ++ bytes) = omega (arith, length-append text bytes, written.long) in
+        let grown = so_far_item L s here item takes.size (all ++ map (place_of l) (starts_before s n)) a text bytes places (there.at n)
+        (unit n item is a walks.address) walks.address takes.behind_there (laid.low here a walks.address) written walks.so_far in
+        let targets : (all ++ map (place_of l) (starts_before s n)) ++ here ∷ [] ≡ all ++ map (place_of l) (starts_before s next) =
+        append_assoc all (map (place_of l) (starts_before s n)) (here ∷ [])
+        ∙ ap (λ ps. all ++ ps) (sym (map-append (place_of l) (starts_before s n) (n ∷ [])))
+        ∙ ap (λ ns. all ++ map (place_of l) ns) (sym (after_before n item is)) in
+        record {
+          offset = next;
+          target = after_target n item is;
+          index = after_index n item is i walks.index;
+          address = takes.next ∙ ap Some far;
+          so_far = subst (λ ts. IsSoFar L ts (start + length (text ++ bytes)) (text ++ bytes) (places ++ (here, a) ∷ [])) targets grown;
+        }
+
+    -- at its end
+    pub walk_ends : item_at p here ≡ None → After L k l (i + 1) text (places ++ (here, a) ∷ [])
+    walk_ends last = by walks.target
+      where
+        nothing : (b : Bool) → starts_on s walks.offset ≡ b → L.unit here ≡ None
+        nothing true start = absurd (cc (item_there p here s (there.at walks.offset) start, last))
+        nothing false other = unwritten (L.unit here) refl
+          where
+            not_here : (b : Bool) → (b && false) ≡ false
+            not_here true = refl
+            not_here false = refl
+
+            none_here : is_some (L.unit here) ≡ false
+            none_here =
+                laid.written here ∙ ap (λ b. is_some (L.address here) && b) (ap (λ o. option_map_or (λ t. starts_on t walks.offset) o false) (there.at walks.offset) ∙ other)
+                ∙ not_here (is_some (L.address here))
+
+            unwritten : (u : Option CodeUnit) → L.unit here ≡ u → L.unit here ≡ None
+            unwritten None is = is
+            unwritten (Some u) is = absurd (cc (none_here, ap is_some is))
+
+        by : IsTarget s walks.offset → After L k l (i + 1) text (places ++ (here, a) ∷ [])
+        by (inl start) = absurd (cc (item_there p here s (there.at walks.offset) start, last))
+        by (inr over) =
+            let end_is : here ≡ place_of l (length s.bytes) = ap (place_of l) over in
+            let grown = so_far_end L here (all ++ map (place_of l) (starts_before s walks.offset)) a text places (nothing (starts_on s walks.offset) refl) walks.address walks.so_far in
+            let those : starts_before s walks.offset ≡ starts_in s = ap (starts_before s) over ∙ before_end_all s code there.whole in
+            let later : before L (k + 1) ≡ before L k ++ l ∷ [] = take_next (all_sections p.objects) k l at in
+            let own : targets_of l ≡ map (place_of l) (targets_in s) = ap (λ b. cond b (map (place_of l) (targets_in s)) []) code in
+            let targets : (all ++ map (place_of l) (starts_before s walks.offset)) ++ here ∷ [] ≡ flat_map targets_of (before L (k + 1)) =
+            append_assoc all (map (place_of l) (starts_before s walks.offset)) (here ∷ [])
+            ∙ (λ j. all ++ (map (place_of l) (those j) ++ end_is j ∷ []))
+            ∙ ap (λ ts. all ++ ts) (sym (map-append (place_of l) (starts_in s) (length s.bytes ∷ [])) ∙ sym own ∙ sym (append-nil (targets_of l)))
+            ∙ sym (flat_map-append targets_of (before L k) (l ∷ []))
+            ∙ ap (flat_map targets_of) (sym later) in
+            let old_end = end_after L (before L k) in
+            let ends : a ≡ end_after L (before L (k + 1)) =
+            sym (ap (λ o. unwrap_or o old_end) (ap L.address (sym end_is) ∙ walks.address))
+            ∙ sym (ap (λ b. cond b (unwrap_or (L.address (place_of l (length s.bytes))) old_end) old_end) code)
+            ∙ sym (fold-append (section_end L) (front_end L) (before L k) (l ∷ []))
+            ∙ ap (end_after L) (sym later) in
+            AtEnd (omega (arith, walks.index, ap length those, length-append (starts_in s) (length s.bytes ∷ [])))
+            (subst (λ ts. IsSoFar L ts (end_after L (before L (k + 1))) text (places ++ (here, a) ∷ [])) targets
+            (subst (λ e. IsSoFar L ((all ++ map (place_of l) (starts_before s walks.offset)) ++ here ∷ []) e text (places ++ (here, a) ∷ [])) ends grown))
+
+  -- ---- a turn
+
+  -- the walk is on its way as long as there is a place
+  pub on_way :
+      (i : ℕ) (text : List ℕ) (places : List (Place × ℕ)) (own : List CodePlace) (place : CodePlace) → After L k l i text places
+      → own ≡ code_places p l → slice_get own i ≡ Some place → Walks L k l i text places
+  on_way i text places own place (OnWay walks) are got = walks
+  on_way i text places own place (AtEnd past all) are got =
+      absurd (omega (arith, past, slice_get_within own i place got, ap length (are ∙ places_are), length-map (targets_in s) (code_place p l)))
+
+  -- and at its end when there is none
+  pub at_end :
+      (i : ℕ) (text : List ℕ) (places : List (Place × ℕ)) (own : List CodePlace) → After L k l i text places → own ≡ code_places p l → length own ≤ i
+      → IsTextOf L (before L (k + 1)) text places
+  at_end i text places own (AtEnd past all) are over = all
+  at_end i text places own (OnWay walks) are over =
+      absurd (omega (arith, over, (index_few i text places walks).0, ap length (are ∙ places_are), length-map (targets_in s) (code_place p l)))
+
+  -- its values are those of the place at hand
+  module _
+      (i : ℕ) (text : List ℕ) (places : List (Place × ℕ)) (walks : Walks L k l i text places) (q : Place) (code_bytes : List ℕ) (address : ℕ)
+      (place_is : place_of l walks.offset ≡ q) (code_is : s.bytes ≡ code_bytes) (address_is : start + length text ≡ address) where
+    pub turn_number : IsPlaceNumber p.objects q (record { section = k; index = i })
+    turn_number =
+        subst (λ r. IsPlaceNumber p.objects r (record { section = k; index = i })) place_is
+        (subst (λ m. IsPlaceNumber p.objects (place_of l walks.offset) (record { section = k; index = m })) (sym walks.index)
+        (number_there walks.offset walks.target))
+
+    pub turn_ends : item_at p q ≡ None → After L k l (i + 1) text (places ++ (q, address) ∷ [])
+    turn_ends last =
+        subst (λ e. After L k l (i + 1) text (places ++ e ∷ [])) (λ j. (place_is j, address_is j))
+        (walk_ends i text places walks (ap (item_at p) place_is ∙ last))
+
+    module _ (item : Item) (is : item_at p q ≡ Some item) where
+      abbrev here_is : item_at p (place_of l walks.offset) ≡ Some item
+      here_is = ap (item_at p) place_is ∙ is
+
+      abbrev takes : TakesHere walks.offset item here_is (start + length text) walks.address
+      takes = takes_here walks.offset item here_is (start + length text) walks.address
+
+      -- the next place has the next number
+      pub turn_has : HasPlace p.objects (record { section = k; index = i + 1 })
+      turn_has = has_place (after walks.offset item here_is) (i + 1) (after_index walks.offset item here_is i walks.index) (after_target walks.offset item here_is)
+
+      -- and its address ends the item
+      pub turn_next :
+          (next : ℕ)
+          → ((r : Place) → is_target_at p.objects r ≡ true → IsPlaceNumber p.objects r (record { section = k; index = i + 1 }) → Some next ≡ L.address r)
+          → next ≡ address + takes.size
+      turn_next next found =
+          let n = after walks.offset item here_is in
+          let target = after_target walks.offset item here_is in
+          let number = subst (λ m. IsPlaceNumber p.objects (place_of l n) (record { section = k; index = m })) (sym (after_index walks.offset item here_is i walks.index)) (number_there n target) in
+          let same : Some next ≡ Some (start + length text + takes.size) = found (place_of l n) (target_at n target) number ∙ takes.next in
+          let far : next ≡ start + length text + takes.size = cc in
+          far ∙ ap (λ x. x + takes.size) address_is
+
+      module _ (next : ℕ) (next_is : next ≡ address + takes.size) where
+        size_is : takes.size ≡ next - address
+        size_is = omega (arith, next_is)
+
+        pub turn_stands : StandsHere L code_bytes q item address (next - address)
+        turn_stands =
+            subst (StandsHere L code_bytes q item address) size_is
+            (subst (λ x. StandsHere L code_bytes q item x takes.size) address_is
+            (subst (λ r. StandsHere L code_bytes r item (start + length text) takes.size) place_is
+            (subst (λ c. StandsHere L c (place_of l walks.offset) item (start + length text) takes.size) code_is takes.stands)))
+
+        pub turn_steps :
+            (bytes : List ℕ) → WrittenHere L code_bytes q item address (next - address) bytes
+            → Walks L k l (i + 1) (text ++ bytes) (places ++ (q, address) ∷ [])
+        turn_steps bytes written =
+            subst (λ e. Walks L k l (i + 1) (text ++ bytes) (places ++ e ∷ [])) (λ j. (place_is j, address_is j))
+            (walk_steps i text places walks item here_is bytes
+            (subst (λ c. WrittenHere L c (place_of l walks.offset) item (start + length text) takes.size bytes) (sym code_is)
+            (subst (λ r. WrittenHere L code_bytes r item (start + length text) takes.size bytes) (sym place_is)
+            (subst (λ x. WrittenHere L code_bytes q item x takes.size bytes) (sym address_is)
+            (subst (λ m. WrittenHere L code_bytes q item address m bytes) (sym size_is) written)))))
 
 -- ---- in the code
 
--- a place of the section that begins here lies in it
-pub in_section : (p : ParsedInputs) (first q : Place) (code : List ℕ) (here : IsCodeAt p first code) → q.object ≡ first.object → q.section ≡ first.section → code_at p.objects q ≡ Some here.section
-in_section p first q code here object section = (λ j. option_and_then code_only (section_at p.objects (object j) (section j))) ∙ here.here
+-- there is a section with each number
+pub listed_there : (sections : List ListedSection) (k : ℕ) → k < length sections → (l : ListedSection) × (slice_get sections k ≡ Some l)
+listed_there [] k lt = absurd (omega (arith, lt))
+listed_there (l ∷ sections) zero lt = (l, refl)
+listed_there (l ∷ sections) (suc k) lt = listed_there sections k (omega (arith, lt))
 
--- the section is that one, so it has these bytes
-pub bytes_are : (p : ParsedInputs) (first q : Place) (code : List ℕ) (here : IsCodeAt p first code) (s : SectionParts) → q.object ≡ first.object → q.section ≡ first.section → code_at p.objects q ≡ Some s → s.bytes ≡ code
-bytes_are p first q code here s object section at =
-    let same : s ≡ here.section = cc (sym at ∙ in_section p first q code here object section) in
-    ap (λ (t : SectionParts). t.bytes) same ∙ here.are
+-- the first place of a section of code
+module _
+    (L : TextLayout) (none : gather_fault L.inputs ≡ None) (ready : IsReady L.inputs) (laid : IsLaidOut L) (k : ℕ) (l : ListedSection)
+    (at : slice_get (all_sections (parsed L.inputs).objects) k ≡ Some l) (code : is_code_section l.section ≡ true) where
+  first_index : 0 ≡ index_on l.section 0
+  first_index = sym (ap length (before_first_none l.section code (there L none ready laid k l at code).whole))
 
--- the next place lies further on, in the section
-pub next_further : (inputs : Inputs) → gather_fault inputs ≡ None → (q : Place) (s : SectionParts) (item : Item) → code_at (parsed inputs).objects q ≡ Some s → item_at (parsed inputs) q ≡ Some item
-    → (q.offset < (next_at (parsed inputs).objects q).offset) × ((next_at (parsed inputs).objects q).offset ≤ length s.bytes)
-next_further inputs none q s item at is =
-    let own = item_here inputs none q item is in
-    let same : own.section ≡ s = cc (sym own.code ∙ at) in
-    let start = start_is own.section own.code_is own.whole q.offset own.start in
-    let st = step own.section own.code_is own.whole q.offset start.words start.inside in
-    let far : (next_at (parsed inputs).objects q).offset ≡ q.offset + size_on own.section q.offset = ap (λ (r : Place). r.offset) own.next in
-    (omega (arith, far, st.some), omega (arith, far, st.inside, ap (λ (t : SectionParts). length t.bytes) same))
+  first_target : IsTarget l.section 0
+  first_target = start_first l.section code (there L none ready laid k l at code).whole
+
+  pub first_has : HasPlace (parsed L.inputs).objects (record { section = k; index = 0 })
+  first_has = has_place L none ready laid k l at code 0 0 first_index first_target
+
+  pub first_address :
+      (begin : ℕ)
+      → ((q : Place) → is_target_at (parsed L.inputs).objects q ≡ true → IsPlaceNumber (parsed L.inputs).objects q (record { section = k; index = 0 }) → Some begin ≡ L.address q)
+      → L.address (place_of l 0) ≡ Some begin
+  first_address begin found =
+      sym (found (place_of l 0) (target_at L none ready laid k l at code 0 first_target)
+      (subst (λ m. IsPlaceNumber (parsed L.inputs).objects (place_of l 0) (record { section = k; index = m })) (sym first_index)
+      (number_there L none ready laid k l at code 0 first_target)))
+
+-- the place at hand, by the section and the places that were asked for
+pub record AtHand
+    (L : TextLayout) (k i : ℕ) (text : List ℕ) (places : List (Place × ℕ)) (object index : ℕ) (bytes : List ℕ) (place : CodePlace) : Type 0 where
+  pub section : ListedSection
+  pub at : slice_get (all_sections (parsed L.inputs).objects) k ≡ Some section
+  pub code : is_code_section section.section ≡ true
+  pub walks : Walks L k section i text places
+  pub place_is : place_of section walks.offset ≡ record { object = object; section = index; offset = place.offset }
+  pub code_is : section.section.bytes ≡ bytes
+  pub item_is : place.item ≡ item_at (parsed L.inputs) (record { object = object; section = index; offset = place.offset })
+
+pub at_hand :
+    (L : TextLayout) (none : gather_fault L.inputs ≡ None) (ready : IsReady L.inputs) (laid : IsLaidOut L) (k i : ℕ) (text : List ℕ)
+    (places : List (Place × ℕ)) (own : List CodePlace) (m : ListedSection) (old_text : List ℕ) (old_places : List (Place × ℕ)) → BeginsSection L k old_text old_places
+    → (cut objects : Inputs) → cut ≡ L.inputs → objects ≡ cut → slice_get (all_sections (parsed objects).objects) k ≡ Some m
+    → ((l : ListedSection) → slice_get (all_sections (parsed cut).objects) k ≡ Some l → own ≡ code_places (parsed cut) l)
+    → ((l : ListedSection) → slice_get (all_sections (parsed L.inputs).objects) k ≡ Some l → is_code_section l.section ≡ true → After L k l i text places)
+    → (place : CodePlace) → place ≡ get_or own i place → i < length own → AtHand L k i text places m.object m.index m.section.bytes place
+at_hand L none ready laid k i text places own m old_text old_places begins cut objects same_cut same_objects found are after place there lt =
+    let l = begins.section in
+    let here : slice_get (all_sections (parsed cut).objects) k ≡ Some l = ap (λ (x : Inputs). slice_get (all_sections (parsed x).objects) k) same_cut ∙ begins.at in
+    let section : l ≡ m = cc (sym here ∙ ap (λ (x : Inputs). slice_get (all_sections (parsed x).objects) k) (sym same_objects) ∙ found) in
+    let own_are : own ≡ code_places (parsed L.inputs) l = are l here ∙ ap (λ (x : Inputs). code_places (parsed x) l) same_cut in
+    let got = slice_get_read own (length own) i place refl lt there in
+    let walks = on_way L none ready laid k l begins.at begins.code i text places own place (after l begins.at begins.code) own_are got in
+    let is = place_got L none ready laid k l begins.at begins.code i text places walks own place own_are got in
+    let here_is : place_of l walks.offset ≡ record { object = m.object; section = m.index; offset = place.offset } =
+    λ j. record { object = (section j).object; section = (section j).index; offset = (sym is j).offset } in
+    record {
+      section = l;
+      at = begins.at;
+      code = begins.code;
+      walks = walks;
+      place_is = here_is;
+      code_is = ap (λ (x : ListedSection). x.section.bytes) section;
+      item_is = ap (λ (x : CodePlace). x.item) is ∙ ap (item_at (parsed L.inputs)) here_is;
+    }

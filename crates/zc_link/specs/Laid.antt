@@ -8,9 +8,9 @@ use Rattle.sym_machine.specs.Program.{Program, first_memory}
 use Rattle.sym_machine.specs.State.{PlainCore}
 use Rattle.zc_link.specs.Image.{Image, loaded, place_address}
 use Rattle.zc_link.specs.Leads.{Leads}
-use Rattle.zc_link.specs.Pieces.{Piece, PieceLaid, commits_of, span_of}
+use Rattle.zc_link.specs.Pace.{Piece, commits_of, span_of}
+use Rattle.zc_link.specs.Pieces.{PieceLaid}
 use Rattle.zc_link.specs.Room.{Room}
-use Rattle.zc_link.specs.Pace.{Pace}
 use Rattle.zc_link.specs.Sound.{NamesByte}
 use Rattle.zc_link.specs.Stands.{ByteStands, IsMemory}
 use Rattle.zc_link.specs.Values.{value_in}
@@ -19,16 +19,12 @@ use Rattle.zc_link.specs.Values.{value_in}
 pub data Begins (p : Program) (e : Image) : Type 0 where
   AtEntry : place_address e p.entry ≡ Some e.entry → Begins p e
 
--- if this holds of a program and an image, the image keeps step with the program at this pace
-pub record Laid (p : Program) (Named : Place → Type 0) (e : Image) (pace : Pace) : Type 0 where
+-- if this holds of a program, an image, and what starts at each place, the image does the program's steps at the pace of these pieces
+pub record Laid (p : Program) (Named : Place → Type 0) (e : Image) (piece : Place → Piece) : Type 0 where
   pub room : Room p e
   pub leads : Leads p Named
   pub begins : Begins p e
-  -- what starts at each place, in so many items and so many commits
-  pub piece : Place → Piece
-  pub spans : (q : Place) → pace.span q ≡ span_of (piece q)
-  pub weights : (s : PlainCore) → pace.weight s ≡ commits_of p s (piece s.place)
-  pub few : (s : PlainCore) → pace.weight s ≤ 64 * pace.span s.place
+  pub few : (s : PlainCore) → commits_of p s (piece s.place) ≤ 64 * span_of (piece s.place)
   -- each listed place's piece is laid at its address
   pub each : (q : Place) (a : ℕ) → place_address e q ≡ Some a → PieceLaid p e q a (piece q)
   -- memory begins with bytes that stand for the image's, and name what a program may name

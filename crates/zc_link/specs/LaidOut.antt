@@ -1,35 +1,35 @@
--- What a link needs of a layout: where the places of code lie, and how many bytes each item takes.
-use Rattle.std.specs.Prelude.{◌≡◌, ℕ, ℤ, pos, ◌-ℤ◌, ◌+◌, ◌%◌, ◌≤◌, ◌⊎◌, true, IsTrue, if◌then◌else◌, List, length, Option, Some}
+-- What a link needs of a layout: where the places of code lie, and how many bytes what is written at each takes.
+use Rattle.std.specs.Prelude.{◌≡◌, ℕ, ℤ, pos, ◌-ℤ◌, ◌+◌, ◌%◌, ◌≤◌, ◌⊎◌, ◌&&◌, true, false, IsTrue, if◌then◌else◌, List, [], length, Option, Some}
 use Rattle.std.specs.List.{fold}
-use Rattle.std.specs.Option.{is_some, unwrap_or}
+use Rattle.std.specs.Option.{is_some, option_map_or, unwrap_or}
 use Rattle.zc_base.specs.declared.place.Place.{Place}
 use Rattle.elf32_read.specs.Parts.{SectionParts, is_code_section}
-use Rattle.psabi_reloc.specs.Parts.{hi20_of, lo12_of}
-use Rattle.psabi_reloc.specs.Patched.{with_imm, with_upper}
 use Rattle.psabi_reloc.specs.Reaches.{branch_reach, jal_reach}
 use Rattle.psabi_sym.specs.Blocks.{aligned_up}
 use Rattle.psabi_sym.specs.Faults.{power_above}
-use Rattle.psabi_sym.specs.Inputs.{ParsedInputs}
+use Rattle.psabi_sym.specs.Inputs.{ParsedInputs, parsed}
 use Rattle.psabi_sym.specs.Listed.{ListedSection, all_sections, section_at, sections_before}
-use Rattle.psabi_sym.specs.declared.target.Target.{Target}
 use Rattle.rv_decode.specs.declared.instr.Instr.{Instr}
 use Rattle.rv_decode.specs.declared.instr.Instr.TheVariants as instr
 use Rattle.rv_decode.specs.Bits.{as_signed}
 use Rattle.block_cut.specs.Cut.{place_at}
-use Rattle.block_cut.specs.Items.{is_target_at, item_at, next_at, place_of}
+use Rattle.block_cut.specs.Items.{entry_of, is_start_at, is_target_at, item_at, place_of}
 use Rattle.block_cut.specs.declared.item.Item.{Item}
 use Rattle.block_cut.specs.declared.item.Item.TheVariants.{Op, Hi, Lo, PcHi, PcLo, Branch, Jump, Call, Align, Word, Raw, RawPair}
 use Rattle.sym_machine.specs.Conditions.{is_solid}
+use Rattle.shrink_layout.specs.Halves.{fixed_instr}
 use Rattle.shrink_layout.specs.Pieces.{is_short}
-use Rattle.zc_link.specs.Values.{target_value, way}
+use Rattle.shrink_layout.specs.Units.{CodeUnit, OneItem}
+use Rattle.zc_link.specs.TextLayout.{TextLayout, behind, front_end}
+use Rattle.zc_link.specs.Values.{way}
 
 -- ---- forms
 
--- an instruction takes four bytes, or two if a halfword does what it does
-abbrev pub HasSize : Instr → ℕ → Type 0
-HasSize i n = (n ≡ 4) ⊎ ((n ≡ 2) × IsTrue (is_short i))
+-- an item of one instruction takes four bytes, or two if that doesn't depend on the layout and a halfword does what it does
+abbrev pub HasSize : Item → ℕ → Type 0
+HasSize i n = (n ≡ 4) ⊎ ((n ≡ 2) × IsTrue (option_map_or is_short (fixed_instr i) false))
 
--- so does a `jal` with this link register, in four bytes if it reaches
+-- a `jal` with this link register takes four bytes if it reaches, or two if a halfword does what it does
 abbrev pub HasJumpSize : ℕ → ℕ → ℤ → Type 0
 HasJumpSize rd n distance = ((n ≡ 4) × (jal_reach distance ≡ true)) ⊎ ((n ≡ 2) × IsTrue (is_short (instr.Jal rd distance)))
 
@@ -47,15 +47,11 @@ HasCallSize rd n distance = (n ≡ 8) ⊎ HasJumpSize rd n distance
 abbrev pub OfWay : (Place → Option ℕ) → ℕ → Place → (ℤ → Type 0) → Type 0
 OfWay A a to P = (b : ℕ) → A to ≡ Some b → P (as_signed (way a b))
 
--- this of the address of what a symbol resolves to
-abbrev pub OfValue : (Place → Option ℕ) → Target → (ℕ → Type 0) → Type 0
-OfValue A t P = (x : ℕ) → target_value A t ≡ Some x → P x
-
 -- an item may take n bytes at an address, if A gives the addresses of places
 abbrev pub HasForm : (Place → Option ℕ) → ℕ → ℕ → Item → Type 0
-HasForm A a n (Op i) = HasSize i n
-HasForm A a n (Hi i t) = OfValue A t (λ x. HasSize (with_upper i (hi20_of x)) n)
-HasForm A a n (Lo i t) = OfValue A t (λ x. HasSize (with_imm i (lo12_of x)) n)
+HasForm A a n (Op i) = HasSize (Op i) n
+HasForm A a n (Hi i t) = HasSize (Hi i t) n
+HasForm A a n (Lo i t) = HasSize (Lo i t) n
 HasForm A a n (PcHi i t) = n ≡ 4
 HasForm A a n (PcLo i from) = n ≡ 4
 HasForm A a n (Branch op first second to) = OfWay A a to (HasBranchSize (instr.Branch op first second) n)
@@ -66,41 +62,56 @@ HasForm A a n (Word t) = n ≡ 4
 HasForm A a n (Raw word) = n ≡ 4
 HasForm A a n (RawPair first second) = n ≡ 8
 
+-- what is written at a place is the item that starts there
+abbrev pub IsUnitAt : ParsedInputs → Place → CodeUnit → Type 0
+IsUnitAt inputs q (OneItem i) = item_at inputs q ≡ Some i
+
+-- it may take n bytes at an address
+abbrev pub UnitForm : (Place → Option ℕ) → ℕ → ℕ → CodeUnit → Type 0
+UnitForm A a n (OneItem i) = HasForm A a n i
+
 -- ---- layouts
 
--- the item at a place takes the bytes up to the next place, in a form that it may have there
-pub record LiesAt (inputs : ParsedInputs) (A : Place → Option ℕ) (q : Place) (a : ℕ) (item : Item) : Type 0 where
+-- what is written at a place takes the bytes up to the place behind it, in a form that it may have there
+pub record LiesAt (L : TextLayout) (q : Place) (a : ℕ) (u : CodeUnit) : Type 0 where
+  pub is : IsUnitAt (parsed L.inputs) q u
   pub size : ℕ
-  pub next : A (next_at inputs.objects q) ≡ Some (a + size)
-  pub form : HasForm A a size item
+  pub next : L.address (behind L q) ≡ Some (a + size)
+  pub form : UnitForm L.address a size u
 
 -- where the code of a section ends, or what stands before it if it isn't code
-abbrev pub section_end : (Place → Option ℕ) → ℕ → ListedSection → ℕ
-section_end A end l = if is_code_section l.section then unwrap_or (A (place_of l (length l.section.bytes))) end else end
+abbrev pub section_end : TextLayout → ℕ → ListedSection → ℕ
+section_end L end l = if is_code_section l.section then unwrap_or (L.address (place_of l (length l.section.bytes))) end else end
 
--- where the code of sections ends, which stand one after another from the text's start on
-abbrev pub end_after : ParsedInputs → (Place → Option ℕ) → List ListedSection → ℕ
-end_after inputs A sections = fold (section_end A) inputs.map.text sections
+-- where the code of sections ends, which stand one after another behind what stands in front
+abbrev pub end_after : TextLayout → List ListedSection → ℕ
+end_after L sections = fold (section_end L) (front_end L) sections
 
 -- where all code ends
-abbrev pub text_end : ParsedInputs → (Place → Option ℕ) → ℕ
-text_end inputs A = end_after inputs A (all_sections inputs.objects)
+abbrev pub text_end : TextLayout → ℕ
+text_end L = end_after L (all_sections (parsed L.inputs).objects)
 
--- A gives the addresses of a layout of the code
-pub record IsLaidOut (inputs : ParsedInputs) (A : Place → Option ℕ) : Type 0 where
-  -- of the places where an item starts or a section of code ends, and of no others
-  pub listed : (q : Place) → is_some (A q) ≡ is_target_at inputs.objects q
-  -- they are even, and lie in the text, which isn't too long
-  pub even : (q : Place) (a : ℕ) → A q ≡ Some a → a % 2 ≡ 0
-  pub low : (q : Place) (a : ℕ) → A q ≡ Some a → inputs.map.text ≤ a
-  pub high : (q : Place) (a : ℕ) → A q ≡ Some a → a ≤ text_end inputs A
-  pub short : text_end inputs A ≤ inputs.map.text + 0x8_0000
-  -- an item lies between its place and the next
-  pub each : (q : Place) (a : ℕ) (item : Item) → item_at inputs q ≡ Some item → A q ≡ Some a → LiesAt inputs A q a item
+-- what a link needs of a layout
+pub record IsLaidOut (L : TextLayout) : Type 0 where
+  -- of the places where an item starts or a section of code ends, and of no others, there are addresses
+  pub listed : (q : Place) → is_some (L.address q) ≡ is_target_at (parsed L.inputs).objects q
+  -- where an item starts at a place with an address, something is written, and nowhere else
+  pub written : (q : Place) → is_some (L.unit q) ≡ (is_some (L.address q) && is_start_at (parsed L.inputs).objects q)
+  -- nothing stands in front of the first section, and the image starts where the program does
+  pub front : L.front ≡ []
+  pub entry : L.address (entry_of (parsed L.inputs)) ≡ Some L.entry
+  -- addresses are even, and lie in the text, which isn't too long
+  pub even : (q : Place) (a : ℕ) → L.address q ≡ Some a → a % 2 ≡ 0
+  pub low : (q : Place) (a : ℕ) → L.address q ≡ Some a → front_end L ≤ a
+  pub high : (q : Place) (a : ℕ) → L.address q ≡ Some a → a ≤ text_end L
+  pub short : text_end L ≤ L.inputs.map.text + 0x8_0000
+  -- what is written lies between its place and the place behind it
+  pub each : (q : Place) (a : ℕ) (u : CodeUnit) → L.unit q ≡ Some u → L.address q ≡ Some a → LiesAt L q a u
   -- a section begins no earlier than those before it end
   pub begins :
-      (o i : ℕ) (s : SectionParts) → section_at inputs.objects o i ≡ Some s → is_code_section s ≡ true
-      → end_after inputs A (sections_before inputs.objects o i) ≤ unwrap_or (A (place_at o i 0)) 0
+      (o i : ℕ) (s : SectionParts) → section_at (parsed L.inputs).objects o i ≡ Some s → is_code_section s ≡ true
+      → end_after L (sections_before (parsed L.inputs).objects o i) ≤ unwrap_or (L.address (place_at o i 0)) 0
   -- of two items with room of their own the addresses differ
   pub distinct :
-      (q r : Place) (a : ℕ) → is_solid (item_at inputs q) ≡ true → is_solid (item_at inputs r) ≡ true → A q ≡ Some a → A r ≡ Some a → q ≡ r
+      (q r : Place) (a : ℕ) → is_solid (item_at (parsed L.inputs) q) ≡ true → is_solid (item_at (parsed L.inputs) r) ≡ true
+      → L.address q ≡ Some a → L.address r ≡ Some a → q ≡ r

@@ -4,6 +4,7 @@ pub mod Values
 pub mod Stands
 pub mod Sound
 pub mod Pace
+pub mod TextLayout
 pub mod Simulates
 pub mod Preserves
 pub mod Leads
@@ -14,5 +15,6 @@ pub mod Copied
 pub mod ImageParts
 pub mod LaidOut
 pub mod Written
+pub mod Codes
 pub mod Standing
 pub mod Links

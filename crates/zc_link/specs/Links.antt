@@ -1,20 +1,26 @@
 -- What links give, and what is promised of them.
-use Rattle.std.specs.Prelude.{◌≡◌, ℕ, ◌+◌, IsTrue, List, [], ◌∷◌, filter, All, Option}
+use Rattle.std.specs.Prelude.{◌≡◌, ℕ, ◌+◌, IsTrue, List, [], ◌∷◌, filter, All, Some}
 use Rattle.zc_base.specs.declared.counts.Counts.{Counts}
 use Rattle.zc_base.specs.declared.mem_map.MemMap.{MemMap}
-use Rattle.zc_base.specs.declared.place.Place.{Place}
 use Rattle.elf32_read.specs.Places.{places_of}
 use Rattle.elf32_read.specs.Segments.{SegmentData, segments_of}
 use Rattle.elf32_write.specs.Image.{image_bytes}
 use Rattle.psabi_sym.specs.Inputs.{Inputs, parsed}
-use Rattle.block_cut.specs.PlainLayout.{plain_address, plain_counts, plain_end}
+use Rattle.block_cut.specs.PlainLayout.{plain_counts, plain_end}
+use Rattle.shrink_layout.specs.Layout.{IsLayout}
 use Rattle.shrink_layout.specs.Least.{IsLeast}
 use Rattle.shrink_layout.specs.Pieces.{is_unaligned, pieces_of}
-use Rattle.shrink_layout.specs.Settled.{AreSettled, settled_address, settled_counts, settled_end}
+use Rattle.shrink_layout.specs.Settled.{settled_counts, settled_end, settled_sizes}
+use Rattle.sym_machine.specs.Objects.{program_of}
 use Rattle.zc_link.specs.Copied.{Copied}
+use Rattle.zc_link.specs.Image.{Image, image_in}
 use Rattle.zc_link.specs.ImageParts.{listed_places, parts_of}
-use Rattle.zc_link.specs.Preserves.{KeepsStep, Preserves, PreservesQuietly}
-use Rattle.zc_link.specs.Written.{HasGaps, Holds}
+use Rattle.zc_link.specs.Pace.{pace_of}
+use Rattle.zc_link.specs.Preserves.{Preserves, PreservesQuietly}
+use Rattle.zc_link.specs.Simulates.{IsSimulation}
+use Rattle.zc_link.specs.Sound.{IsNamed}
+use Rattle.zc_link.specs.TextLayout.{TextLayout, piece_in, plain_layout, zc_layout}
+use Rattle.zc_link.specs.Written.{GapsAreZero, Holds, HoldsFront}
 
 -- what a link gives: the file of the image, and what the plain layout and the image count
 pub record Link : Type 0 where
@@ -31,32 +37,40 @@ pub record TextEndsAt (map : MemMap) (elf : List ℕ) (address : ℕ) : Type 0 w
   pub start : text.at ≡ map.text
   pub end : text.at + text.size ≡ address
 
--- the file is an image of the objects' parts with a text that holds, at each listed place, what is written for the item there,
--- and zeros between sections
-pub record HasParts (inputs : Inputs) (A : Place → Option ℕ) (flags : ℕ) (elf : List ℕ) : Type 0 where
+-- the file is an image of the objects' parts with a text that holds what stands in front, and at each listed place what is written
+-- there, and zeros between
+pub record HasParts (L : TextLayout) (flags : ℕ) (elf : List ℕ) : Type 0 where
   pub text : List ℕ
-  pub bytes : elf ≡ image_bytes (parts_of (parsed inputs) A flags text)
-  pub holds : All (Holds (parsed inputs) A text) (listed_places (parsed inputs) A)
-  pub gaps : HasGaps (parsed inputs) A text
+  pub bytes : elf ≡ image_bytes (parts_of L flags text)
+  pub front : HoldsFront L text
+  pub holds : All (Holds L text) (listed_places L)
+  pub gaps : GapsAreZero L text
 
--- an image of the inputs in a layout, if A gives its addresses and its text ends at this one: it has the parts laid out for the
--- objects; it does what the objects' program does, under every plan of interrupts and without one, and keeps step with it; what
--- it copies is the objects'; it lists each place where an item starts or a section ends, with its address; and its text ends
--- where the layout's does
-pub record IsImageOf (inputs : Inputs) (A : Place → Option ℕ) (flags end : ℕ) (elf : List ℕ) : Type 0 where
-  pub parts : HasParts inputs A flags elf
-  pub preserves : Preserves inputs elf
-  pub quietly : PreservesQuietly inputs elf
-  pub keeps_step : KeepsStep inputs elf
-  pub copied : Copied (parsed inputs) elf
-  pub places : places_of elf ≡ listed_places (parsed inputs) A
-  pub text_end : TextEndsAt inputs.map elf end
+-- the file is an image without a fault that does the steps of the objects' program at the pace of a layout
+pub record Simulates (L : TextLayout) (elf : List ℕ) : Type 0 where
+  pub image : Image
+  pub read : image_in elf L.inputs.map ≡ Some image
+  pub simulates :
+      IsSimulation (program_of (parsed L.inputs)) (IsNamed (parsed L.inputs)) image
+      (pace_of (program_of (parsed L.inputs)) (piece_in L))
+
+-- an image of the inputs in a layout, whose text ends at an address: it has the parts laid out for the objects; it does what the
+-- objects' program does, under every plan of interrupts and without one, step by step; what it copies is the objects'; it lists the
+-- places that have an address, in both layouts those where an item starts or a section of code ends; and its text ends there
+pub record IsImageOf (L : TextLayout) (flags end : ℕ) (elf : List ℕ) : Type 0 where
+  pub parts : HasParts L flags elf
+  pub preserves : Preserves L.inputs elf
+  pub quietly : PreservesQuietly L.inputs elf
+  pub simulates : Simulates L elf
+  pub copied : Copied (parsed L.inputs) elf
+  pub places : places_of elf ≡ listed_places L
+  pub text_end : TextEndsAt L.inputs.map elf end
 
 -- ---- links
 
 -- the link that writes code as it is: its image has the plain layout, and so have the counts
 pub record IsPlainLink (inputs : Inputs) (link : Link) : Type 0 where
-  pub image : IsImageOf inputs (plain_address (parsed inputs)) 0 (plain_end (parsed inputs)) link.elf
+  pub image : IsImageOf (plain_layout inputs) 0 (plain_end (parsed inputs)) link.elf
   pub open image use *
   pub plain : link.plain ≡ plain_counts (parsed inputs)
   pub zc : link.zc ≡ plain_counts (parsed inputs)
@@ -64,10 +78,10 @@ pub record IsPlainLink (inputs : Inputs) (link : Link) : Type 0 where
 -- the link that makes code smaller: its image has the layout of the first round of sizes that fits, which are the least that fit
 -- if nothing is aligned above 4 bytes; and what the plain layout and this one count
 pub record IsZcLink (inputs : Inputs) (link : Link) : Type 0 where
-  pub sizes : List ℕ
-  pub settled : AreSettled (parsed inputs) sizes
-  pub least : IsTrue (is_unaligned (parsed inputs)) → IsLeast inputs.map.text (pieces_of (parsed inputs)) sizes
-  pub image : IsImageOf inputs (settled_address (parsed inputs) sizes) 1 (settled_end (parsed inputs) sizes) link.elf
+  pub settled : IsLayout inputs.map.text (pieces_of (parsed inputs)) (settled_sizes (parsed inputs))
+  pub least : IsTrue (is_unaligned (parsed inputs))
+      → IsLeast inputs.map.text (pieces_of (parsed inputs)) (settled_sizes (parsed inputs))
+  pub image : IsImageOf (zc_layout inputs) 1 (settled_end (parsed inputs)) link.elf
   pub open image use *
   pub plain : link.plain ≡ plain_counts (parsed inputs)
-  pub zc : link.zc ≡ settled_counts (parsed inputs) sizes
+  pub zc : link.zc ≡ settled_counts (parsed inputs)

@@ -1,5 +1,5 @@
--- What starts at a listed place, and what is laid for it: its instructions stand at the place's address.
-use Rattle.std.specs.Prelude.{◌≡◌, ℕ, zero, suc, ℤ, pos, ◌+◌, ◌*◌, ◌/◌, ◌%◌, ◌^◌, ◌<◌, Bool, Option, Some, None}
+-- What is laid for what starts at a listed place: its instructions stand at the place's address.
+use Rattle.std.specs.Prelude.{◌≡◌, ℕ, zero, suc, ℤ, pos, ◌+◌, ◌*◌, ◌/◌, ◌%◌, ◌^◌, ◌<◌, Option, Some, None}
 use Rattle.zc_base.specs.declared.place.Place.{Place}
 use Rattle.rv_decode.specs.declared.instr.Instr.{Instr}
 use Rattle.rv_decode.specs.declared.instr.Instr.TheVariants as instr
@@ -17,42 +17,14 @@ use Rattle.psabi_sym.specs.declared.target.Target.{Target}
 use Rattle.block_cut.specs.declared.item.Item.{Item}
 use Rattle.block_cut.specs.declared.item.Item.TheVariants.{Op, Hi, Lo, PcHi, PcLo, Branch, Jump, Call, Align, Word, Raw, RawPair}
 use Rattle.sym_machine.specs.AddressParts.{pc_target}
-use Rattle.sym_machine.specs.Conditions.{condition}
 use Rattle.sym_machine.specs.Program.{Program}
-use Rattle.sym_machine.specs.State.{PlainCore, reg_of}
 use Rattle.zca_zcb_pass.specs.Forms.{IsOpposite}
 use Rattle.zc_decode.specs.declared.short.Short.{Short}
 use Rattle.zc_decode.specs.declared.short.Short.TheVariants.{Base}
 use Rattle.zc_machine.specs.Fetch.{Found, fetched_at}
 use Rattle.zc_link.specs.Image.{Image, loaded, place_address}
-use Rattle.zc_link.specs.Pace.{long_commits}
+use Rattle.zc_link.specs.Pace.{Piece, Alone, AlignOf, CallOf, LongOf}
 use Rattle.zc_link.specs.Values.{target_value, way}
-
--- what starts at a place: an item that is one instruction, or an ALIGN of so many, or a call or a branch of two
-pub data Piece : Type 0 where
-  Alone : Piece
-  AlignOf : (count : ℕ) → Piece
-  CallOf : Piece
-  LongOf : Piece
-
--- its number of items
-abbrev pub span_of : Piece → ℕ
-span_of Alone = 1
-span_of (AlignOf count) = 1
-span_of CallOf = 1
-span_of LongOf = 1
-
--- a branch at a place is taken, if that is known
-abbrev pub taken_at : Program → PlainCore → Option Item → Option Bool
-taken_at p s (Some (Branch op first second to)) = condition p op (reg_of s first) (reg_of s second)
-taken_at p s other = None
-
--- its number of commits, by the program's state
-abbrev pub commits_of : Program → PlainCore → Piece → ℕ
-commits_of p s Alone = 1
-commits_of p s (AlignOf count) = count
-commits_of p s CallOf = 2
-commits_of p s LongOf = long_commits (taken_at p s (p.item s.place))
 
 -- ---- instructions
 
@@ -166,10 +138,7 @@ pub record CallLaid (p : Program) (e : Image) (q : Place) (a : ℕ) : Type 0 whe
   pub next : place_address e (p.next q) ≡ Some (a + at.one.size + at.two.size)
 
 -- a branch of two instructions: one of the opposite condition over both, and a jump to the place
-pub record LongLaid (p : Program) (e : Image) (q : Place) (a : ℕ) : Type 0 where
-  pub op : BranchOp
-  pub first : ℕ
-  pub second : ℕ
+pub record LongLaid (p : Program) (e : Image) (q : Place) (a : ℕ) (op : BranchOp) (first second : ℕ) : Type 0 where
   pub to : Place
   pub item : p.item q ≡ Some (Branch op first second to)
   pub first_low : first < 32
@@ -189,4 +158,4 @@ abbrev pub PieceLaid : Program → Image → Place → ℕ → Piece → Type 0
 PieceLaid p e q a Alone = ItemLaid p e q a (p.item q)
 PieceLaid p e q a (AlignOf count) = AlignLaid p e q a count
 PieceLaid p e q a CallOf = CallLaid p e q a
-PieceLaid p e q a LongOf = LongLaid p e q a
+PieceLaid p e q a (LongOf op first second) = LongLaid p e q a op first second

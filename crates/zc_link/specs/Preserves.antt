@@ -8,9 +8,6 @@ use Rattle.sym_machine.specs.State.{PlainState}
 use Rattle.sym_machine.specs.Run.{plain}
 use Rattle.sym_machine.specs.Objects.{program_of}
 use Rattle.zc_link.specs.Image.{Image, image_in, place_address, zc}
-use Rattle.zc_link.specs.Pace.{pace_in}
-use Rattle.zc_link.specs.Simulates.{Simulates}
-use Rattle.zc_link.specs.Sound.{IsNamed}
 use Rattle.zc_link.specs.Stands.{Stands}
 
 -- the same environment calls so far; and if the place is listed, or the program has exited, each register and each byte of
@@ -46,10 +43,3 @@ Preserves inputs elf = PreservesUnder IsPlan inputs elf
 -- without interrupts
 abbrev pub PreservesQuietly : Inputs → List ℕ → Type 0
 PreservesQuietly inputs elf = PreservesUnder IsQuiet inputs elf
-
--- the file is an image without a fault, and it keeps step with the objects' program
-pub record KeepsStep (inputs : Inputs) (elf : List ℕ) : Type 0 where
-  pub image : Image
-  pub read : image_in elf inputs.map ≡ Some image
-  pub simulates :
-      Simulates (program_of (parsed inputs)) (IsNamed (parsed inputs)) image (pace_in (program_of (parsed inputs)) image)

@@ -98,7 +98,7 @@ CommitsApart p From =
 
 -- ---- the whole
 
-pub record Simulates (p : Program) (Named : Place → Type 0) (e : Image) (pace : Pace) : Type 0 where
+pub record IsSimulation (p : Program) (Named : Place → Type 0) (e : Image) (pace : Pace) : Type 0 where
   pub some : (q : Place) → 0 < pace.span q
   pub few : (s : PlainCore) → pace.weight s ≤ 64 * pace.span s.place
   -- from every sound pair the span's steps are the weight's commits

@@ -1,22 +1,25 @@
 -- What is known of an item where it stands in its object, before it is written at its address in a layout.
-use Rattle.std.specs.Prelude.{◌≡◌, ℕ, ℤ, ◌+◌, ◌%◌, ◌^◌, ◌<◌, ◌≤◌, ◌||◌, List, ◌++◌, length, slice_index, Bool, true, false, Option, Some, None}
+use Rattle.std.specs.Prelude.{◌≡◌, ℕ, ℤ, ◌+◌, ◌%◌, ◌<◌, ◌≤◌, ◌||◌, List, length, slice_get, slice_index, take, Bool, true, false, Option, Some, None}
+use Rattle.std.specs.List.{flat_map}
 use Rattle.zc_base.specs.MemMap.{IsMap}
 use Rattle.zc_base.specs.declared.place.Place.{Place}
-use Rattle.elf32_read.specs.Parts.{SectionParts}
+use Rattle.elf32_read.specs.Parts.{is_code_section}
 use Rattle.psabi_reloc.specs.Kinds.{is_auipc, is_lui, is_store, is_sum}
-use Rattle.psabi_sym.specs.Inputs.{Inputs, ParsedInputs}
+use Rattle.psabi_sym.specs.Inputs.{Inputs, parsed}
+use Rattle.psabi_sym.specs.Listed.{ListedSection, all_sections}
 use Rattle.psabi_sym.specs.declared.target.Target.{Target}
 use Rattle.rv_decode.specs.declared.instr.Instr.{Instr}
 use Rattle.rv_decode.specs.declared.instr.Instr.TheVariants as instr
 use Rattle.rv_decode.specs.declared.instr.UpperOp.TheVariants.{Auipc}
 use Rattle.block_cut.specs.Faults.{first_fault}
-use Rattle.block_cut.specs.Items.{code_at, item_at, next_at, size_at}
+use Rattle.block_cut.specs.Items.{item_at, place_of, size_at, targets_of}
 use Rattle.block_cut.specs.Relocs.{instr_in}
 use Rattle.block_cut.specs.declared.item.Item.{Item}
 use Rattle.block_cut.specs.declared.item.Item.TheVariants.{Op, Hi, Lo, PcHi, PcLo, Branch, Jump, Call, Align, Word, Raw, RawPair}
 use Rattle.zc_link.specs.Copied.{bytes_from}
-use Rattle.zc_link.specs.LaidOut.{LiesAt}
-use Rattle.zc_link.specs.Written.{IsWritten}
+use Rattle.zc_link.specs.LaidOut.{HasForm}
+use Rattle.zc_link.specs.TextLayout.{TextLayout, size_in}
+use Rattle.zc_link.specs.Written.{IsSoFar, IsWritten}
 use Rattle.zc_link.specs.Values.{target_value}
 
 -- inputs that are linked: no fault stands in them, and the map is one that a link may be made for
@@ -83,12 +86,15 @@ ItemStands A item one two (Word t) = HasValue A t
 ItemStands A item one two (Raw copied) = Unit {0}
 ItemStands A item one two (RawPair first second) = Unit {0}
 
--- an item has one word, which its relocation may change
-abbrev pub is_one_word : Item → Bool
-is_one_word (Call rd temp to) = false
-is_one_word (Align n) = false
-is_one_word (RawPair first second) = false
-is_one_word other = true
+-- an item is written as its own word with what its relocation asks for, unless a halfword of it is known before the layout
+abbrev pub is_patched : Item → Bool
+is_patched (Branch op first second to) = false
+is_patched (Jump rd to) = false
+is_patched (Call rd temp to) = false
+is_patched (Align n) = false
+is_patched (Raw copied) = false
+is_patched (RawPair first second) = false
+is_patched other = true
 
 -- the bytes that an item has in its object: two words, so many of padding, and else one word
 abbrev pub HasOwnSize : Item → ℕ → Type 0
@@ -97,40 +103,31 @@ HasOwnSize (Align n) own = own ≡ n
 HasOwnSize (RawPair first second) own = own ≡ 8
 HasOwnSize other own = own ≡ 4
 
--- an item stands at a place of code with these bytes, in which it lies, and the text so far ends at its address
-pub record StandsHere
-    (inputs : ParsedInputs) (A : Place → Option ℕ) (code : List ℕ) (q : Place) (item : Item) (text : List ℕ) : Type 0 where
-  pub is : item_at inputs q ≡ Some item
-  pub size : HasOwnSize item (size_at inputs.objects q)
-  pub within : q.offset + size_at inputs.objects q ≤ length code
-  pub address : A q ≡ Some (inputs.map.text + length text)
-  pub lies : LiesAt inputs A q (inputs.map.text + length text) item
+-- an item stands at a place of code with these bytes, in which it lies, and is written at an address in n bytes
+pub record StandsHere (L : TextLayout) (code : List ℕ) (q : Place) (item : Item) (a n : ℕ) : Type 0 where
+  pub is : item_at (parsed L.inputs) q ≡ Some item
+  pub size : HasOwnSize item (size_at (parsed L.inputs).objects q)
+  pub within : q.offset + size_at (parsed L.inputs).objects q ≤ length code
   pub stands :
-      ItemStands A (item_at inputs) (instr_in (size_at inputs.objects q) code q.offset) (instr_in 4 code (q.offset + 4)) item
+      ItemStands L.address (item_at (parsed L.inputs)) (instr_in (size_at (parsed L.inputs).objects q) code q.offset)
+      (instr_in 4 code (q.offset + 4)) item
+  pub takes : size_in L q ≡ n
+  pub even : n % 2 ≡ 0
+  pub form : HasForm L.address a n item
 
--- the item at a place lies at this address, and takes so many bytes
-abbrev pub IsExtent : ParsedInputs → (Place → Option ℕ) → Place → (address size : ℕ) → Type 0
-IsExtent inputs A q address size =
-    (a n : ℕ) → A q ≡ Some a → A (next_at inputs.objects q) ≡ Some (a + n) → (address ≡ a) × (size ≡ n) × (n % 2 ≡ 0) × (a < 2 ^ 32)
-
--- n bytes were added to a text: what is written for an item at the text's end
-pub record AddsItem (inputs : ParsedInputs) (A : Place → Option ℕ) (code : List ℕ) (q : Place) (item : Item) (n : ℕ) (text text' : List ℕ) : Type 0 where
-  pub bytes : List ℕ
-  pub more : text' ≡ text ++ bytes
+-- these bytes are what is written for it
+pub record WrittenHere (L : TextLayout) (code : List ℕ) (q : Place) (item : Item) (a n : ℕ) (bytes : List ℕ) : Type 0 where
   pub long : length bytes ≡ n
-  pub written : IsWritten A (item_at inputs) (bytes_from code q.offset) (inputs.map.text + length text) n item bytes
+  pub written : IsWritten L.address (item_at (parsed L.inputs)) (bytes_from code q.offset) a n item bytes
   pub octets : (k : ℕ) → slice_index bytes k < 256
-
--- up to the next place
-abbrev pub AddsHere : ParsedInputs → (Place → Option ℕ) → List ℕ → Place → Item → List ℕ → List ℕ → Type 0
-AddsHere inputs A code q item text text' =
-    (n : ℕ) → A (next_at inputs.objects q) ≡ Some (inputs.map.text + length text + n) → AddsItem inputs A code q item n text text'
 
 -- ---- sections
 
--- a section of code begins at a place, with these bytes
-pub record IsCodeAt (inputs : ParsedInputs) (q : Place) (code : List ℕ) : Type 0 where
-  pub section : SectionParts
-  pub first : q.offset ≡ 0
-  pub here : code_at inputs.objects q ≡ Some section
-  pub are : section.bytes ≡ code
+-- the text is so far that a section of code begins, which has this number among all
+pub record BeginsSection (L : TextLayout) (k : ℕ) (text : List ℕ) (places : List (Place × ℕ)) : Type 0 where
+  pub section : ListedSection
+  pub at : slice_get (all_sections (parsed L.inputs).objects) k ≡ Some section
+  pub code : is_code_section section.section ≡ true
+  pub address : ℕ
+  pub listed : L.address (place_of section 0) ≡ Some address
+  pub so_far : IsSoFar L (flat_map targets_of (take k (all_sections (parsed L.inputs).objects))) address text places

@@ -1,12 +1,12 @@
--- What is written for items in a layout: each in so many bytes, with what its relocation asks for (RISC-V ELF psABI, "Relocations").
-use Rattle.std.specs.Prelude.{◌≡◌, ℕ, ℤ, pos, ◌-ℤ◌, ◌+◌, ◌-◌, ◌/◌, ◌%◌, ◌^◌, ◌<◌, ◌≤◌, ◌⊎◌, ◌==◌, if◌then◌else◌, List, [], ◌++◌, length, map, replicate, slice_index, All, Option, Some}
+-- What is written in a layout: each item in so many bytes, with what its relocation asks for (RISC-V ELF psABI, "Relocations").
+use Rattle.std.specs.Prelude.{◌≡◌, ℕ, ℤ, pos, ◌-ℤ◌, ◌+◌, ◌-◌, ◌/◌, ◌%◌, ◌^◌, ◌<◌, ◌≤◌, ◌⊎◌, ◌==◌, if◌then◌else◌, List, [], ◌++◌, length, replicate, slice_index, take, All, Option, Some}
 use Rattle.std.specs.List.{flat_map}
 use Rattle.zc_base.specs.Fields.{half_bytes, word_bytes}
 use Rattle.zc_base.specs.declared.place.Place.{Place}
 use Rattle.elf32_read.specs.Parts.{SectionParts}
 use Rattle.psabi_reloc.specs.Parts.{hi20_of, lo12_of}
 use Rattle.psabi_reloc.specs.Patched.{with_imm, with_upper}
-use Rattle.psabi_sym.specs.Inputs.{ParsedInputs}
+use Rattle.psabi_sym.specs.Inputs.{parsed}
 use Rattle.psabi_sym.specs.Listed.{ListedSection}
 use Rattle.psabi_sym.specs.declared.target.Target.{Target}
 use Rattle.rv_decode.specs.declared.instr.Instr.{Instr}
@@ -18,12 +18,14 @@ use Rattle.rv_decode.specs.Decode.{decoded}
 use Rattle.zc_decode.specs.declared.short.Short.TheVariants.{Base}
 use Rattle.zc_encode.specs.Halves.{encoded16}
 use Rattle.zca_zcb_pass.specs.Forms.{HasEffectOf, IsOpposite}
-use Rattle.block_cut.specs.Items.{code_at, item_at, next_at}
+use Rattle.block_cut.specs.Items.{code_at, item_at, targets_of}
 use Rattle.block_cut.specs.declared.item.Item.{Item}
 use Rattle.block_cut.specs.declared.item.Item.TheVariants.{Op, Hi, Lo, PcHi, PcLo, Branch, Jump, Call, Align, Word, Raw, RawPair}
+use Rattle.shrink_layout.specs.Units.{CodeUnit, OneItem}
 use Rattle.zc_link.specs.Copied.{bytes_from}
-use Rattle.zc_link.specs.ImageParts.{targets_of, with_address}
+use Rattle.zc_link.specs.ImageParts.{with_address}
 use Rattle.zc_link.specs.LaidOut.{end_after}
+use Rattle.zc_link.specs.TextLayout.{TextLayout, behind, front_end}
 use Rattle.zc_link.specs.Values.{target_value, way}
 
 -- ---- words and halfwords
@@ -107,6 +109,10 @@ pub record WithCall (A : Place → Option ℕ) (a rd temp : ℕ) (to : Place) (b
   pub upper : Spells first (instr.Upper Auipc temp (hi20_of (way a address)))
   pub lower : Spells second (instr.Jalr rd temp (lo12_of (way a address)))
 
+-- the n bytes of a branch: itself, or its long form
+abbrev pub IsBranchSpelled : ℕ → List ℕ → BranchOp → (one two : ℕ) → ℤ → Type 0
+IsBranchSpelled n bytes op one two d = IsSpelled n bytes (instr.Branch op one two d) ⊎ ((n ≡ 8) × IsLong op one two d bytes)
+
 -- these n bytes are what is written for an item at an address, if A gives the addresses of places; `own` gives the object's own
 abbrev pub IsWritten : (Place → Option ℕ) → (Place → Option Item) → (ℕ → List ℕ) → ℕ → ℕ → Item → List ℕ → Type 0
 IsWritten A item own a n (Op i) bytes = IsSpelled n bytes i
@@ -114,8 +120,7 @@ IsWritten A item own a n (Hi i t) bytes = WithValue A t (λ x. IsSpelled n bytes
 IsWritten A item own a n (Lo i t) bytes = WithValue A t (λ x. IsSpelled n bytes (with_imm i (lo12_of x)))
 IsWritten A item own a n (PcHi i t) bytes = WithValue A t (λ x. IsSpelled n bytes (with_upper i (hi20_of (way a x))))
 IsWritten A item own a n (PcLo i from) bytes = WithLower A item from (λ x. IsSpelled n bytes (with_imm i (lo12_of x)))
-IsWritten A item own a n (Branch op one two to) bytes =
-    WithWay A a to (λ d. IsSpelled n bytes (instr.Branch op one two d) ⊎ ((n ≡ 8) × IsLong op one two d bytes))
+IsWritten A item own a n (Branch op one two to) bytes = WithWay A a to (IsBranchSpelled n bytes op one two)
 IsWritten A item own a n (Jump rd to) bytes = WithWay A a to (λ d. IsSpelled n bytes (instr.Jal rd d))
 IsWritten A item own a n (Call rd temp to) bytes =
     WithWay A a to (λ d. IsSpelled n bytes (instr.Jal rd d)) ⊎ ((n ≡ 8) × WithCall A a rd temp to bytes)
@@ -124,40 +129,52 @@ IsWritten A item own a n (Word t) bytes = WithValue A t (λ x. bytes ≡ word_by
 IsWritten A item own a n (Raw word) bytes = bytes ≡ own 4
 IsWritten A item own a n (RawPair first second) bytes = bytes ≡ own 8
 
+-- what is written at a place in n bytes
+abbrev pub UnitWritten : (Place → Option ℕ) → (Place → Option Item) → (ℕ → List ℕ) → ℕ → ℕ → CodeUnit → List ℕ → Type 0
+UnitWritten A item own a n (OneItem i) bytes = IsWritten A item own a n i bytes
+
 -- ---- text
 
--- what the text holds of the item at a place, if one starts there: it is written at its address, up to the next one's
-pub record HoldsItem (inputs : ParsedInputs) (A : Place → Option ℕ) (text : List ℕ) (e : Place × ℕ) (item : Item) : Type 0 where
+-- what the text holds of what is written at a place: it stands at its address, up to that of the place behind it
+pub record HoldsUnit (L : TextLayout) (text : List ℕ) (e : Place × ℕ) (u : CodeUnit) : Type 0 where
   pub size : ℕ
-  pub next : A (next_at inputs.objects e.0) ≡ Some (e.1 + size)
-  pub low : inputs.map.text ≤ e.1
-  pub within : e.1 + size ≤ inputs.map.text + length text
+  pub next : L.address (behind L e.0) ≡ Some (e.1 + size)
+  pub low : front_end L ≤ e.1
+  pub within : e.1 + size ≤ L.inputs.map.text + length text
   pub section : SectionParts
-  pub here : code_at inputs.objects e.0 ≡ Some section
-  pub written : IsWritten A (item_at inputs) (bytes_from section.bytes e.0.offset) e.1 size item (bytes_from text (e.1 - inputs.map.text) size)
+  pub here : code_at (parsed L.inputs).objects e.0 ≡ Some section
+  pub written :
+      UnitWritten L.address (item_at (parsed L.inputs)) (bytes_from section.bytes e.0.offset) e.1 size u
+      (bytes_from text (e.1 - L.inputs.map.text) size)
 
-abbrev pub Holds : ParsedInputs → (Place → Option ℕ) → List ℕ → Place × ℕ → Type 0
-Holds inputs A text e = (item : Item) → item_at inputs e.0 ≡ Some item → HoldsItem inputs A text e item
+abbrev pub Holds : TextLayout → List ℕ → Place × ℕ → Type 0
+Holds L text e = (u : CodeUnit) → L.unit e.0 ≡ Some u → HoldsUnit L text e u
 
--- no item takes the byte at an address
-abbrev pub IsGap : ParsedInputs → (Place → Option ℕ) → ℕ → Type 0
-IsGap inputs A a =
-    (q : Place) (item : Item) (b n : ℕ) → item_at inputs q ≡ Some item → A q ≡ Some b → A (next_at inputs.objects q) ≡ Some (b + n)
+-- the text begins with what stands in front
+abbrev pub HoldsFront : TextLayout → List ℕ → Type 0
+HoldsFront L text = take (length L.front) text ≡ L.front
+
+-- nothing that is written takes the byte at an address
+abbrev pub IsGap : TextLayout → ℕ → Type 0
+IsGap L a =
+    (q : Place) (u : CodeUnit) (b n : ℕ) → L.unit q ≡ Some u → L.address q ≡ Some b → L.address (behind L q) ≡ Some (b + n)
     → (a < b) ⊎ (b + n ≤ a)
 
--- such bytes of a text, those between sections, are 0
-abbrev pub HasGaps : ParsedInputs → (Place → Option ℕ) → List ℕ → Type 0
-HasGaps inputs A text = (k : ℕ) → k < length text → IsGap inputs A (inputs.map.text + k) → slice_index text k ≡ 0
+-- such bytes of a text, behind what stands in front, are 0
+abbrev pub GapsAreZero : TextLayout → List ℕ → Type 0
+GapsAreZero L text =
+    (k : ℕ) → length L.front ≤ k → k < length text → IsGap L (L.inputs.map.text + k) → slice_index text k ≡ 0
 
--- the text so far: it lists these places, it ends at this address, it holds each item of them, and all else of it is 0
-pub record IsSoFar (inputs : ParsedInputs) (A : Place → Option ℕ) (targets : List Place) (end : ℕ) (text : List ℕ) (places : List (Place × ℕ)) : Type 0 where
-  pub listed : places ≡ map (with_address A) targets
-  pub placed : All (λ e. A e.0 ≡ Some e.1) places
-  pub ends : inputs.map.text + length text ≡ end
-  pub holds : All (Holds inputs A text) places
-  pub gaps : HasGaps inputs A text
+-- the text so far: it lists these places, it ends at this address, it holds what stands in front and what is written at the places,
+-- and all else of it is 0
+pub record IsSoFar (L : TextLayout) (targets : List Place) (end : ℕ) (text : List ℕ) (places : List (Place × ℕ)) : Type 0 where
+  pub listed : places ≡ flat_map (with_address L) targets
+  pub ends : L.inputs.map.text + length text ≡ end
+  pub front : HoldsFront L text
+  pub holds : All (Holds L text) places
+  pub gaps : GapsAreZero L text
   pub octets : (k : ℕ) → slice_index text k < 256
 
 -- the text of these sections, one after another, with their places
-abbrev pub IsTextOf : ParsedInputs → (Place → Option ℕ) → List ListedSection → List ℕ → List (Place × ℕ) → Type 0
-IsTextOf inputs A sections text places = IsSoFar inputs A (flat_map targets_of sections) (end_after inputs A sections) text places
+abbrev pub IsTextOf : TextLayout → List ListedSection → List ℕ → List (Place × ℕ) → Type 0
+IsTextOf L sections text places = IsSoFar L (flat_map targets_of sections) (end_after L sections) text places

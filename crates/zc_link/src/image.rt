@@ -23,9 +23,9 @@ use zc_base::fields::put_u32;
 /// linear in the code, the data and the places.
 pub fn image_of<L: Layout>(alloc: Global, layout: &L, flags: u32) -> Result<Vec<u8>, AllocError>
     requires { flags ≤ 1 }
-    ensures ready { IfOk result (λ _. IsReady (L.inputs layout.now)) }
-    ensures image { IfOk result (λ elf. IsImageOf (L.inputs layout.now) (L.addresses layout.now) flags
-        (text_end (parsed (L.inputs layout.now)) (L.addresses layout.now)) elf.items) }
+    ensures ready { IfOk result (λ _. IsReady (L.layout layout.now).inputs) }
+    ensures image { IfOk result
+        (λ elf. IsImageOf (L.layout layout.now) flags (text_end (L.layout layout.now)) elf.items) }
 {
     let laid = Text::lay(alloc, layout)?;
     let bytes = data_bytes(alloc, layout)?;
@@ -34,7 +34,8 @@ pub fn image_of<L: Layout>(alloc: Global, layout: &L, flags: u32) -> Result<Vec<
 
 // The bytes of data that files hold, with each word that holds an address.
 fn data_bytes<L: Layout>(alloc: Global, layout: &L) -> Result<Vec<u8>, AllocError>
-    ensures { IfOk result (λ bytes. bytes.items ≡ image_data (parsed (L.inputs layout.now)) (L.addresses layout.now)) }
+    ensures { IfOk result (λ bytes. bytes.items
+        ≡ image_data (parsed (L.layout layout.now).inputs) (L.layout layout.now).address) }
 {
     let objects = layout.cut().objects();
     let start = objects.map().data_low;
@@ -55,18 +56,18 @@ fn write<L: Layout>(
     bytes: Vec<u8>,
 ) -> Result<Vec<u8>, AllocError>
     requires flags { flags ≤ 1 }
-    requires laid { IsTextOf (parsed (L.inputs layout.now)) (L.addresses layout.now)
-        (all_sections (parsed (L.inputs layout.now)).objects) laid.text.items laid.places.items }
-    requires bytes { bytes.items ≡ image_data (parsed (L.inputs layout.now)) (L.addresses layout.now) }
-    ensures ready { IsReady (L.inputs layout.now) }
-    ensures image { IfOk result (λ elf. IsImageOf (L.inputs layout.now) (L.addresses layout.now) flags
-        (text_end (parsed (L.inputs layout.now)) (L.addresses layout.now)) elf.items) }
+    requires laid { IsTextOf (L.layout layout.now) (all_sections (parsed (L.layout layout.now).inputs).objects)
+        laid.text.items laid.places.items }
+    requires bytes { bytes.items ≡ image_data (parsed (L.layout layout.now).inputs) (L.layout layout.now).address }
+    ensures ready { IsReady (L.layout layout.now).inputs }
+    ensures image { IfOk result
+        (λ elf. IsImageOf (L.layout layout.now) flags (text_end (L.layout layout.now)) elf.items) }
 {
     let objects = layout.cut().objects();
     let map = objects.map();
     let zero = zeros_after(objects, &bytes);
     let parts = ImageParts {
-        entry: layout.address(layout.cut().entry()).unwrap_or(map.text),
+        entry: layout.entry(),
         flags,
         text_at: map.text,
         text: laid.text,

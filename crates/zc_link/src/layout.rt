@@ -1,43 +1,63 @@
 // Layouts of code, as links see them.
 
-ghost use Rattle.std.specs.Prelude.{◌≡◌, ℕ, Option};
-ghost use Rattle.block_cut.specs.PlainLayout.{plain_address};
-ghost use Rattle.psabi_sym.specs.Inputs.{parsed, Inputs};
-ghost use Rattle.shrink_layout.specs.Settled.{settled_address};
+ghost use Rattle.std.specs.Prelude.{◌≡◌, ℕ, Some, true};
+ghost use Rattle.block_cut.specs.Items.{is_target_at, item_at};
+ghost use Rattle.block_cut.specs.Places.{IsPlaceNumber};
+ghost use Rattle.block_cut.specs.declared.item.Item.{Item};
+ghost use Rattle.psabi_sym.specs.Inputs.{parsed};
+ghost use Rattle.shrink_layout.specs.Halves.{IsHalfOf};
+ghost use Rattle.shrink_layout.specs.Numbers.{HasPlace};
 ghost use Rattle.zc_base.specs.declared.place.Place.{Place};
 ghost use Rattle.zc_link.specs.LaidOut.{IsLaidOut};
 ghost use Rattle.zc_link.specs.Standing.{IsReady};
+ghost use Rattle.zc_link.specs.TextLayout.{TextLayout, plain_layout, size_in, zc_layout};
 
 use block_cut::cut::Cut;
+use block_cut::place_number::PlaceNumber;
 use shrink_layout::settled::Settled;
 use zc_base::place::Place;
 
-/// Where the code of objects lies.
+/// What is written where.
 ///
 /// | Layout | Of |
 /// |---|---|
 /// | `Cut` | code that is written as it is |
 /// | `Settled` | code that is made smaller |
 pub trait Layout {
-    ghost inputs: { Self → Inputs };
-
-    ghost addresses: { Self → Place → Option ℕ };
+    ghost layout: { Self → TextLayout };
 
     /// The items.
     fn cut(&self) -> &Cut
-        ensures same { result.now ≡ inputs self.now }
-        ensures ready { IsReady (inputs self.now) }
-        ensures laid { IsLaidOut (parsed (inputs self.now)) (addresses self.now) };
+        ensures same { result.now ≡ (layout self.now).inputs }
+        ensures ready { IsReady (layout self.now).inputs }
+        ensures laid { IsLaidOut (layout self.now) };
 
     /// The address of a place where an item starts or a section of code ends.
     fn address(&self, p: Place) -> Option<u32>
-        ensures { result ≡ addresses self.now p };
+        ensures { result ≡ (layout self.now).address p };
+
+    /// The address of a place, by where it stands among all.
+    fn address_at(&self, number: PlaceNumber) -> u32
+        requires { HasPlace (parsed (layout self.now).inputs).objects number }
+        ensures { (q : Place) → is_target_at (parsed (layout self.now).inputs).objects q ≡ true
+            → IsPlaceNumber (parsed (layout self.now).inputs).objects q number
+            → Some result ≡ (layout self.now).address q };
+
+    /// The halfword of an item that is written in two bytes and whose instruction doesn't depend on addresses, by
+    /// where its place stands among all.
+    fn half_at(&self, number: PlaceNumber) -> u16
+        requires { HasPlace (parsed (layout self.now).inputs).objects number }
+        ensures { (q : Place) (item : Item) → item_at (parsed (layout self.now).inputs) q ≡ Some item
+            → IsPlaceNumber (parsed (layout self.now).inputs).objects q number → size_in (layout self.now) q ≡ 2
+            → IsHalfOf item result };
+
+    /// Where the image starts.
+    fn entry(&self) -> u32
+        ensures { result ≡ (layout self.now).entry };
 }
 
 impl Layout for Cut {
-    ghost inputs = { λ cut. cut };
-
-    ghost addresses = { λ cut. plain_address (parsed cut) };
+    ghost layout = { λ cut. plain_layout cut };
 
     fn cut(&self) -> &Cut {
         // What a link needs of its map is known from this call.
@@ -48,12 +68,27 @@ impl Layout for Cut {
     fn address(&self, p: Place) -> Option<u32> {
         self.plain_address(p)
     }
+
+    fn address_at(&self, number: PlaceNumber) -> u32 {
+        // This call says that the cut is ready for a link.
+        let cut = Layout::cut(self);
+        cut.places(number.section)[number.index as usize].address
+    }
+
+    fn half_at(&self, _number: PlaceNumber) -> u16 {
+        // This call says that the cut is ready for a link: so nothing takes two bytes but padding.
+        let _cut = Layout::cut(self);
+        0
+    }
+
+    fn entry(&self) -> u32 {
+        let start = self.plain_address(Cut::entry(self));
+        start.unwrap_or(self.objects().map().text)
+    }
 }
 
 impl Layout for Settled {
-    ghost inputs = { λ settled. settled.inputs };
-
-    ghost addresses = { λ settled. settled_address (parsed settled.inputs) settled.sizes };
+    ghost layout = { λ settled. zc_layout settled };
 
     fn cut(&self) -> &Cut {
         // This call says that a cut is ready for a link.
@@ -62,5 +97,18 @@ impl Layout for Settled {
 
     fn address(&self, p: Place) -> Option<u32> {
         Settled::address(self, p)
+    }
+
+    fn address_at(&self, number: PlaceNumber) -> u32 {
+        Settled::address_at(self, number)
+    }
+
+    fn half_at(&self, number: PlaceNumber) -> u16 {
+        Settled::half_at(self, number)
+    }
+
+    fn entry(&self) -> u32 {
+        let cut = self.planned().cut();
+        Settled::address(self, cut.entry()).unwrap_or(cut.objects().map().text)
     }
 }

@@ -1,6 +1,8 @@
 //! The links of objects to images, which do what the objects' program does.
 #![tactic(auto)]
 
+mod code;
+mod extent;
 mod image;
 mod item;
 mod layout;

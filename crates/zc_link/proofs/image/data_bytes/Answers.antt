@@ -25,7 +25,7 @@ none_here = record { at = 0; target = Code (record { object = 0; section = 0; of
 
 -- the layout's inputs
 abbrev of : (g : given.Over) → After-data_words-word-items g → Inputs
-of g c = g.L.Layout.inputs c.args.layout.now
+of g c = (g.L.Layout.layout c.args.layout.now).inputs
 
 -- the words are theirs, and data begin where their map has them
 words_are : (g : given.Over) (c : After-data_words-word-items g) → c.data_words-word-items.result.now ≡ data_words (parsed (of g c))
@@ -73,17 +73,17 @@ overflow_sub-at g c =
 pub put_u32-requires : goal.put_u32-requires
 put_u32-requires g c =
     let a = (goal.at.put_u32-requires g c).After-data_words-word-items in
-    room (of g a) a.cut.ensures.ready.faultless (g.L.Layout.addresses c.args.layout.now) c.data_words-word-items.result.now (words_are g a) c.loop-word.word-index c.loop-word-test.true c.map-start.result.data_low (starts g a)
+    room (of g a) a.cut.ensures.ready.faultless (g.L.Layout.layout c.args.layout.now).address c.data_words-word-items.result.now (words_are g a) c.loop-word.word-index c.loop-word-test.true c.map-start.result.data_low (starts g a)
     c.as_mut_slice.result.now c.loop-word.bytes.items c.as_mut_slice.ensures.value c.loop-word.invariant
 
 pub loop-word-preserved : goal.loop-word-preserved
 loop-word-preserved g c =
     let a = (goal.at.loop-word-preserved g c).After-data_words-word-items in
     let back : take c.loop-word.bytes.len (c.put_u32.new.bytes ++ drop (length c.put_u32.new.bytes) c.loop-word.bytes.items) ≡ c.put_u32.new.bytes = grind (arith, common_steps) in
-    put_more (of g a) a.cut.ensures.ready.faultless (g.L.Layout.addresses c.args.layout.now) c.data_words-word-items.result.now (words_are g a) c.loop-word.word-index c.loop-word-test.true c.map-start.result.data_low (starts g a)
+    put_more (of g a) a.cut.ensures.ready.faultless (g.L.Layout.layout c.args.layout.now).address c.data_words-word-items.result.now (words_are g a) c.loop-word.word-index c.loop-word-test.true c.map-start.result.data_low (starts g a)
     c.as_mut_slice.result.now c.loop-word.bytes.items c.as_mut_slice.ensures.value c.loop-word.invariant c.target_value.result c.put_u32.new.bytes _ back c.target_value.ensures c.put_u32.ensures
 
 pub returns : goal.returns
 returns g c =
     let a = (goal.at.returns g c).After-data_words-word-items in
-    whole (of g a) (g.L.Layout.addresses c.args.layout.now) c.data_words-word-items.result.now (words_are g a) c.loop-word.word-index (omega (arith, c.loop-word-test.false)) c.loop-word.bytes.items c.loop-word.invariant
+    whole (of g a) (g.L.Layout.layout c.args.layout.now).address c.data_words-word-items.result.now (words_are g a) c.loop-word.word-index (omega (arith, c.loop-word-test.false)) c.loop-word.bytes.items c.loop-word.invariant

@@ -9,4 +9,4 @@ use Rattle.zc_link.proofs.image.data_bytes.Given as goal
 
 abbrev pub invariant-loop-word : goal.invariant-loop-word
 invariant-loop-word g l =
-    l.bytes.items ≡ fold (with_data_word (parsed (g.L.Layout.inputs l.layout)) (g.L.Layout.addresses l.layout)) (data_contents (parsed (g.L.Layout.inputs l.layout))) (take l.word-index (data_words (parsed (g.L.Layout.inputs l.layout))))
+    l.bytes.items ≡ fold (with_data_word (parsed (g.L.Layout.layout l.layout).inputs) (g.L.Layout.layout l.layout).address) (data_contents (parsed (g.L.Layout.layout l.layout).inputs)) (take l.word-index (data_words (parsed (g.L.Layout.layout l.layout).inputs)))

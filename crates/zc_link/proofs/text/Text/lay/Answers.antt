@@ -1,21 +1,20 @@
--- Before the first object there is nothing, and after the last there is all.
+-- Before the first section there is nothing, and after the last there is all.
 use Rattle.std.proofs.Common.{◌≤◌, length, ap, ◌∙◌, subst, arith}
-use Rattle.std.proofs.lemmas.List.{length-map}
-use Rattle.elf32_read.specs.Parts.{object_parts}
+use Rattle.std.proofs.lemmas.List.{take_all}
 use Rattle.psabi_sym.specs.Inputs.{Inputs, parsed}
-use Rattle.block_cut.proofs.ListedLaws.{before_end}
+use Rattle.psabi_sym.specs.Listed.{all_sections}
 use Rattle.zc_link.specs.Written.{IsTextOf}
 use Rattle.zc_link.proofs.Sections.{nothing_yet}
 use Rattle.zc_link.proofs.text.Text.lay.Goals as goal
 
-pub loop-i-init : goal.loop-i-init
-loop-i-init g c =
-    nothing_yet (parsed (g.L.Layout.inputs c.args.layout.now)) (g.L.Layout.addresses c.args.layout.now) c.new.result.items c.new-2.result.items c.new.ensures.items c.new-2.ensures.items
+pub loop-k-init : goal.loop-k-init
+loop-k-init g c =
+    nothing_yet (g.L.Layout.layout c.args.layout.now) c.cut.ensures.laid c.new.result.items c.new-2.result.items c.new.ensures.items c.new-2.ensures.items
 
 pub returns : goal.returns
 returns g c =
-    let A = g.L.Layout.addresses c.args.layout.now in
-    let inputs = g.L.Layout.inputs c.args.layout.now in
-    let past : length (parsed inputs).objects ≤ c.loop-i.i =
-    omega (arith, length-map inputs.files object_parts, c.object_count-i-end.ensures.count, ap (λ (x : Inputs). length x.files) (c.objects.ensures.same ∙ c.cut.ensures.same)) in
-    subst (λ l. IsTextOf (parsed inputs) A l c.loop-i.laid.text.items c.loop-i.laid.places.items) (before_end (parsed inputs).objects c.loop-i.i past) c.loop-i.invariant
+    let L = g.L.Layout.layout c.args.layout.now in
+    let all = all_sections (parsed L.inputs).objects in
+    let past : length all ≤ c.loop-k.k =
+    omega (arith, c.loop-k-test.false, c.section_count-k-end.ensures.count, ap (λ (x : Inputs). length (all_sections (parsed x).objects)) (c.objects.ensures.same ∙ c.cut.ensures.same)) in
+    subst (λ ls. IsTextOf L ls c.loop-k.laid.text.items c.loop-k.laid.places.items) (take_all c.loop-k.k all past) c.loop-k.invariant

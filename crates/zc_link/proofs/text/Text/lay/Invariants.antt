@@ -1,9 +1,7 @@
--- So far the text has the objects before the one at hand.
-use Rattle.psabi_sym.specs.Inputs.{parsed}
-use Rattle.psabi_sym.specs.Listed.{sections_before}
+-- So far the text has the sections before the one at hand.
 use Rattle.zc_link.specs.Written.{IsTextOf}
+use Rattle.zc_link.proofs.Walk.{before}
 use Rattle.zc_link.proofs.text.Text.lay.Given as goal
 
-abbrev pub invariant-loop-i : goal.invariant-loop-i
-invariant-loop-i g l =
-    IsTextOf (parsed (g.L.Layout.inputs l.layout)) (g.L.Layout.addresses l.layout) (sections_before (parsed (g.L.Layout.inputs l.layout)).objects l.i 0) l.laid.text.items l.laid.places.items
+abbrev pub invariant-loop-k : goal.invariant-loop-k
+invariant-loop-k g l = IsTextOf (g.L.Layout.layout l.layout) (before (g.L.Layout.layout l.layout) l.k) l.laid.text.items l.laid.places.items

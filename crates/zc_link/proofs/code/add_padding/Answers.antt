@@ -2,7 +2,7 @@
 use Rattle.std.proofs.Common.{◌≡◌, ℕ, suc, ◌+◌, ◌-◌, ◌/◌, ◌++◌, List, ap, sym, ◌∙◌, arith, append_assoc}
 use Rattle.zc_base.specs.Fields.{word_bytes}
 use Rattle.zc_link.specs.Written.{copies, nop}
-use Rattle.zc_link.proofs.text.add_padding.Goals as goal
+use Rattle.zc_link.proofs.code.add_padding.Goals as goal
 
 -- one word more
 added : (n m : ℕ) (text text' all : List ℕ) → n ≡ suc m → text' ≡ text ++ word_bytes nop → text ++ copies nop n ≡ all → text' ++ copies nop m ≡ all
@@ -10,4 +10,4 @@ added n m text text' all is more before =
     ap (λ t. t ++ copies nop m) more ∙ append_assoc text (word_bytes nop) (copies nop m) ∙ sym (ap (λ k. text ++ copies nop k) is) ∙ before
 
 pub loop-i-preserved : goal.loop-i-preserved
-loop-i-preserved c = added (c.args.size / 4 - c.loop-i._i) (c.args.size / 4 - (c.loop-i._i + 1)) _ _ _ (omega arith) c.in_ok-add_word.ensures.added c.loop-i.invariant
+loop-i-preserved c = added (c.args.size / 4 - c.loop-i._i) (c.args.size / 4 - (c.loop-i._i + 1)) _ _ _ (omega arith) c.in_ok-add_word.ensures c.loop-i.invariant

@@ -1,0 +1,15 @@
+// Where what is written lies.
+
+use block_cut::place_number::PlaceNumber;
+use zc_base::place::Place;
+
+/// Where an item is written: its place and where that stands among all, the bytes of its section, its address, and how
+/// many bytes it takes there.
+#[derive(Clone, Copy)]
+pub struct Extent<'a> {
+    pub at: Place,
+    pub number: PlaceNumber,
+    pub code: &'a [u8],
+    pub address: u32,
+    pub size: u32,
+}
