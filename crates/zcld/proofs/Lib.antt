@@ -2,8 +2,10 @@ pub mod Answering
 pub mod CommandWords
 pub mod Commands
 pub mod FormsHeld
+pub mod Headline
 pub mod MachineFacts
 pub mod Names
+pub mod OutputFacts
 pub mod Pieces
 pub mod PlainFacts
 pub mod Refusals

@@ -1,5 +1,6 @@
 -- What is known of `trace`: its refusals, how its work ends, and what that does to the counts.
 use Rattle.std.proofs.Common.{ℕ, List, refl, sym, subst, ◌⊎◌, inl, inr}
+use Rattle.zc_base.specs.MemMap.{standard_map}
 use Rattle.psabi_sym.specs.Inputs.{Inputs}
 use Rattle.block_cut.specs.Faults.{first_fault}
 use Rattle.sym_machine.specs.RunEnd.{IfConsole}
@@ -45,7 +46,7 @@ module _ (steps : ℕ) (objects : List (List ℕ)) where
 
   pub trace_facts : Facts task (TraceWork steps)
   trace_facts = record {
-    refuses = λ files. fault_refuses (first_fault (inputs_of files));
-    ends = λ files. machine_ends task refl (Traces (inputs_of files) steps) (traces_end (inputs_of files));
-    moves = λ files. machine_moves task refl (Traces (inputs_of files) steps) (traces_write (inputs_of files));
+    refuses = λ files. fault_refuses (first_fault (inputs_of files standard_map));
+    ends = λ files. machine_ends task refl (Traces (inputs_of files standard_map) steps) (traces_end (inputs_of files standard_map));
+    moves = λ files. machine_moves task refl (Traces (inputs_of files standard_map) steps) (traces_write (inputs_of files standard_map));
   }

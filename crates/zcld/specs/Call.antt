@@ -1,5 +1,6 @@
 -- What a call of the program does: what its command does up to a world, and from there the outcome's line.
 use Rattle.std.specs.Prelude.{◌≡◌, ℕ, ◌⊎◌, true, false, IsTrue, List, Option, Some, None, ⊤}
+use Rattle.zc_base.specs.MemMap.{standard_map}
 use Rattle.zc_outside.specs.Desk.{Desk, OnlyWrites}
 use Rattle.zc_outside.specs.Files.{Files, Rose}
 use Rattle.zc_outside.specs.Streams.{Adds, AddsPart, KeepsBytes}
@@ -20,16 +21,16 @@ use Rattle.zcld.specs.Zc.{ZcWork}
 
 -- ---- the commands
 
--- what each command does outside
+-- what each command does outside; the standard map is that of all of them
 abbrev pub task_of : Command → Task
 task_of (Plain out objects) =
-    record { wanted = objects_wanted objects; refusal = objects_refusal; puts = true; takes = false; writes = true }
+    record { wanted = objects_wanted objects; refusal = objects_refusal standard_map; puts = true; takes = false; writes = true }
 task_of (Zc out cert objects) =
-    record { wanted = objects_wanted objects; refusal = objects_refusal; puts = true; takes = false; writes = false }
+    record { wanted = objects_wanted objects; refusal = objects_refusal standard_map; puts = true; takes = false; writes = false }
 task_of (Run steps image) =
-    record { wanted = image_wanted image; refusal = image_refusal; puts = false; takes = true; writes = true }
+    record { wanted = image_wanted image; refusal = image_refusal standard_map; puts = false; takes = true; writes = true }
 task_of (Trace steps objects) =
-    record { wanted = objects_wanted objects; refusal = objects_refusal; puts = false; takes = true; writes = true }
+    record { wanted = objects_wanted objects; refusal = objects_refusal standard_map; puts = false; takes = true; writes = true }
 
 -- the work of each command, once its files are read and accepted
 abbrev pub work_of : Command → List (List ℕ) → Outcome → World → World → Type 0

@@ -37,13 +37,9 @@ begins_with_dash (c ∷ word) = c == 45
 abbrev pub is_number : List ℕ → Bool
 is_number word = nat_le 1 (length word) && nat_le (length word) MOST_DIGITS && list_all is_ascii_digit word
 
--- the most steps that a word may allow
-abbrev pub most_steps : ℕ
-most_steps = MOST_STEPS
-
--- the steps that a word allows
+-- the steps that a word allows, at most MOST_STEPS
 abbrev pub steps_of : List ℕ → Option ℕ
-steps_of word = if is_number word && nat_le (digits_value 10 word) most_steps then Some (digits_value 10 word) else None
+steps_of word = if is_number word && nat_le (digits_value 10 word) MOST_STEPS then Some (digits_value 10 word) else None
 
 -- ---- the forms of commands
 
@@ -92,15 +88,11 @@ trace_form = record { options = optional (codes "--steps") ∷ []; positional = 
 pub data Spelled : Type 0 where
   Words : (values : List (Option (List ℕ))) (positional : List (List ℕ)) → Spelled
 
--- the place in a form's order of the option of this name
-abbrev pub place_of : Form → List ℕ → Option ℕ
-place_of form name = position (λ option. bytes_eq option.name name) form.options
-
 -- the values with one more: its option is one of the form's, and has none yet
 unfoldable pub with_value : Form → List (Option (List ℕ)) → List ℕ → List ℕ → Option (List (Option (List ℕ)))
 with_value form values name value =
     option_and_then (λ place. if is_some (slice_index_or values place None) then None else Some (slice_set values place (Some value)))
-    (place_of form name)
+    (position (λ option. bytes_eq option.name name) form.options)
 
 -- what words spell after these values: options, each with its value in the next word, and then the positional words
 abbrev pub spelled_from : Form → List (Option (List ℕ)) → List (List ℕ) → Option Spelled
@@ -111,18 +103,11 @@ spelled_from form values (option ∷ value ∷ words) =
     (if begins_with_dash value then None else
     option_and_then (λ more. spelled_from form more words) (with_value form values option value))
 
--- each required option has a value
-abbrev pub has_required : Form → List (Option (List ℕ)) → Bool
-has_required form values = list_all (λ (option, value). not option.required || is_some value) (zip form.options values)
-
--- no word begins with `-`
-abbrev pub has_no_option : List (List ℕ) → Bool
-has_no_option words = list_all (λ word. not (begins_with_dash word)) words
-
 -- no required option is missing, and the positional words are as many as the form has, and none of them is an option
 unfoldable pub is_complete : Form → Spelled → Bool
 is_complete form (Words values positional) =
-    has_required form values && takes_words form.positional (length positional) && has_no_option positional
+    list_all (λ (option, value). not option.required || is_some value) (zip form.options values)
+    && takes_words form.positional (length positional) && list_all (λ word. not (begins_with_dash word)) positional
 
 -- the values before any option
 abbrev pub no_values : Form → List (Option (List ℕ))

@@ -5,9 +5,11 @@ pub mod Outcome
 pub mod Task
 pub mod Objects
 pub mod Machines
+pub mod Puts
 pub mod Plain
 pub mod Zc
 pub mod Run
 pub mod Trace
 pub mod Call
+pub mod Headline
 pub mod Program

@@ -1,5 +1,6 @@
 -- What `trace` does: it reads objects, takes the console's whole input, and makes steps of the symbolic machine.
 use Rattle.std.specs.Prelude.{◌≡◌, ℕ, ◌⊎◌, List}
+use Rattle.zc_base.specs.MemMap.{standard_map}
 use Rattle.psabi_sym.specs.Inputs.{Inputs, parsed}
 use Rattle.sym_machine.specs.Objects.{program_of}
 use Rattle.sym_machine.specs.RunEnd.{Course, IfConsole, Traced}
@@ -39,6 +40,6 @@ abbrev pub Traces : Inputs → ℕ → List ℕ → Outcome → Desk → Desk �
 Traces inputs steps input outcome before after =
     ((outcome ≡ OutOfMemory) × (after ≡ before)) ⊎ HasTraced inputs steps input outcome before after
 
--- the work of `trace`
+-- the work of `trace`, in the standard map
 abbrev pub TraceWork : ℕ → List (List ℕ) → Outcome → World → World → Type 0
-TraceWork steps files outcome before after = MachineWork (Traces (inputs_of files) steps) outcome before after
+TraceWork steps files outcome before after = MachineWork (Traces (inputs_of files standard_map) steps) outcome before after

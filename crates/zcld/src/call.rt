@@ -5,6 +5,7 @@ ghost use Rattle.psabi_sym.specs.Objects.{contents_of};
 ghost use Rattle.zc_outside.specs.World.{world};
 ghost use Rattle.zcld.specs.Call.{Calls, Does};
 ghost use Rattle.zcld.specs.Command.{command_of, texts};
+ghost use Rattle.zcld.specs.Headline.{Links};
 
 use crate::command_line::{CommandLine, read};
 use crate::err_line::write_line;
@@ -28,6 +29,7 @@ pub fn zcld<S: Store, C: Console>(
     ensures usage { (result ≡ Outcome.Usage) ↔ (command_of (texts words.now) ≡ None) }
     ensures calls { Calls (command_of (texts words.now)) result
         (world (S.shown store.old) (C.shown console.old)) (world (S.shown store.new) (C.shown console.new)) }
+    ensures links { Links (command_of (texts words.now)) result (S.shown store.old).files (S.shown store.new).files }
 {
     let mut files = Vec::new(alloc);
     let outcome = perform(alloc, words, &mut files, store, console);

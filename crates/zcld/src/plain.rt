@@ -7,11 +7,13 @@ ghost use Rattle.block_cut.specs.Faults.{first_fault};
 ghost use Rattle.zc_link.specs.Links.{IsPlainLink};
 ghost use Rattle.zc_outside.specs.Desk.{OnlyWrites};
 ghost use Rattle.zc_outside.specs.Shelf.{OnlyPuts};
+ghost use Rattle.zc_base.specs.MemMap.{standard_map};
 ghost use Rattle.zc_outside.specs.World.{world};
 ghost use Rattle.zcld.specs.Call.{Does};
 ghost use Rattle.zcld.specs.Command.{Plain, texts};
 ghost use Rattle.zcld.specs.Objects.{RefusalCause, inputs_of};
-ghost use Rattle.zcld.specs.Plain.{PutsAndPrints};
+ghost use Rattle.zcld.specs.Plain.{plain_output};
+ghost use Rattle.zcld.specs.Puts.{PutsInTurn};
 
 use crate::err_line::numbered;
 use crate::objects::read_objects;
@@ -51,9 +53,9 @@ pub fn plain<S: Store, C: Console>(
 // What the objects in these files are linked to, or how the call ends without that.
 #[tactic(auto, using(crate::proofs::Refusals::gather_refuses))]
 fn link(alloc: Global, files: &[Vec<u8>]) -> Result<Linked, Outcome>
-    ensures faultless { IfOk result (λ linked. first_fault (inputs_of (contents_of files.now)) ≡ None) }
-    ensures ok { IfOk result (λ linked. IsPlainLink (inputs_of (contents_of files.now)) linked) }
-    ensures err { IfErr result (RefusalCause (first_fault (inputs_of (contents_of files.now)))) }
+    ensures faultless { IfOk result (λ linked. first_fault (inputs_of (contents_of files.now) standard_map) ≡ None) }
+    ensures ok { IfOk result (λ linked. IsPlainLink (inputs_of (contents_of files.now) standard_map) linked) }
+    ensures err { IfErr result (RefusalCause (first_fault (inputs_of (contents_of files.now) standard_map))) }
 {
     let objects = Objects::gather(alloc, files, MemMap::standard())?;
     Ok(link_plain(alloc, objects)?)
@@ -67,7 +69,7 @@ fn put_and_print<S: Store, C: Console>(
     line: &str,
     console: &mut C,
 ) -> Outcome
-    ensures done { PutsAndPrints result out.now image.now line.now
+    ensures done { PutsInTurn result (plain_output out.now image.now line.now)
         (world (S.shown store.old) (C.shown console.old)) (world (S.shown store.new) (C.shown console.new)) }
     ensures puts { OnlyPuts (S.shown store.old) (S.shown store.new) }
     ensures writes { OnlyWrites (C.shown console.old) (C.shown console.new) }

@@ -1,13 +1,13 @@
 // The command `run`: an image is read, and the machine runs it.
 
-ghost use Rattle.std.specs.Prelude.{◌≡◌};
+ghost use Rattle.std.specs.Prelude.{◌≡◌, []};
 ghost use Rattle.psabi_sym.specs.Objects.{contents_of};
 ghost use Rattle.zc_base.specs.MemMap.{standard_map};
 ghost use Rattle.zc_outside.specs.World.{world};
 ghost use Rattle.zcld.specs.Call.{Does};
 ghost use Rattle.zcld.specs.Command.{Run};
 ghost use Rattle.zcld.specs.Machines.{TakesAndRuns};
-ghost use Rattle.zcld.specs.Run.{Executes, run_outcome as outcome_of_end};
+ghost use Rattle.zcld.specs.Run.{Executes, course_of, first_core_of, run_outcome as outcome_of_end};
 
 use crate::input::take_all;
 use crate::limits::IMAGE_LIMIT;
@@ -51,7 +51,8 @@ pub fn run<S: Store, C: Console>(
 // Runs an image over the console's whole input.
 fn execute<C: Console>(alloc: Global, image: &Image, steps: u64, console: &mut C) -> Outcome
     requires { image.now.1 ≡ standard_map }
-    ensures { TakesAndRuns (Executes image.now.0 steps) result (C.shown console.old) (C.shown console.new) }
+    ensures { TakesAndRuns (Executes (course_of (first_core_of image.now.0 standard_map) [] steps)) result
+        (C.shown console.old) (C.shown console.new) }
 {
     let input = match take_all(alloc, console) {
         Ok(input) => input,

@@ -3,6 +3,7 @@
 ghost use Rattle.std.specs.Prelude.{◌≡◌, IfOk, IfErr, None};
 ghost use Rattle.psabi_sym.specs.Objects.{contents_of};
 ghost use Rattle.block_cut.specs.Faults.{first_fault};
+ghost use Rattle.zc_base.specs.MemMap.{standard_map};
 ghost use Rattle.zc_outside.specs.World.{world};
 ghost use Rattle.zcld.specs.Call.{Does};
 ghost use Rattle.zcld.specs.Command.{Trace, texts};
@@ -47,9 +48,9 @@ pub fn trace<S: Store, C: Console>(
 // The objects in these files, cut into items, or how the call ends without that.
 #[tactic(auto, using(crate::proofs::Refusals::gather_refuses))]
 fn cut_files(alloc: Global, files: &[Vec<u8>]) -> Result<Cut, Outcome>
-    ensures faultless { IfOk result (λ cut. first_fault (inputs_of (contents_of files.now)) ≡ None) }
-    ensures ok { IfOk result (λ cut. cut ≡ inputs_of (contents_of files.now)) }
-    ensures err { IfErr result (RefusalCause (first_fault (inputs_of (contents_of files.now)))) }
+    ensures faultless { IfOk result (λ cut. first_fault (inputs_of (contents_of files.now) standard_map) ≡ None) }
+    ensures ok { IfOk result (λ cut. cut ≡ inputs_of (contents_of files.now) standard_map) }
+    ensures err { IfErr result (RefusalCause (first_fault (inputs_of (contents_of files.now) standard_map))) }
 {
     let objects = Objects::gather(alloc, files, MemMap::standard())?;
     Ok(Cut::new(alloc, objects)?)

@@ -6,11 +6,13 @@ ghost use Rattle.psabi_sym.specs.Objects.{contents_of};
 ghost use Rattle.zc_link.specs.Links.{IsZcLink};
 ghost use Rattle.zc_outside.specs.Desk.{Desk};
 ghost use Rattle.zc_outside.specs.Shelf.{OnlyPuts};
+ghost use Rattle.zc_base.specs.MemMap.{standard_map};
 ghost use Rattle.zc_outside.specs.World.{world};
 ghost use Rattle.zcld.specs.Call.{Does};
 ghost use Rattle.zcld.specs.Command.{Zc, texts};
 ghost use Rattle.zcld.specs.Objects.{RefusalCause, inputs_of};
-ghost use Rattle.zcld.specs.Zc.{PutsInTurn, empty_certificate};
+ghost use Rattle.zcld.specs.Puts.{PutsInTurn};
+ghost use Rattle.zcld.specs.Zc.{zc_output};
 
 use crate::objects::read_objects;
 use crate::outcome::Outcome;
@@ -48,9 +50,9 @@ pub fn zc<S: Store>(
 // What the objects in these files are linked to, or how the call ends without that.
 #[tactic(auto, using(crate::proofs::Refusals::gather_refuses))]
 fn link(alloc: Global, files: &[Vec<u8>]) -> Result<Linked, Outcome>
-    ensures faultless { IfOk result (λ linked. first_fault (inputs_of (contents_of files.now)) ≡ None) }
-    ensures ok { IfOk result (λ linked. IsZcLink (inputs_of (contents_of files.now)) linked) }
-    ensures err { IfErr result (RefusalCause (first_fault (inputs_of (contents_of files.now)))) }
+    ensures faultless { IfOk result (λ linked. first_fault (inputs_of (contents_of files.now) standard_map) ≡ None) }
+    ensures ok { IfOk result (λ linked. IsZcLink (inputs_of (contents_of files.now) standard_map) linked) }
+    ensures err { IfErr result (RefusalCause (first_fault (inputs_of (contents_of files.now) standard_map))) }
 {
     let objects = Objects::gather(alloc, files, MemMap::standard())?;
     Ok(link_zc(alloc, objects)?)
@@ -59,9 +61,9 @@ fn link(alloc: Global, files: &[Vec<u8>]) -> Result<Linked, Outcome>
 // Writes the image, then the certificate, and says how that ended.
 fn put_both<S: Store>(store: &mut S, out: &str, image: &[u8], cert: &str) -> Outcome
     requires { out.now ≢ cert.now }
-    ensures puts { PutsInTurn result (S.shown store.old) (S.shown store.new)
-        out.now image.now cert.now empty_certificate }
-    ensures only { OnlyPuts (S.shown store.old) (S.shown store.new) }
+    ensures done { (desk : Desk) → PutsInTurn result (zc_output out.now cert.now image.now)
+        (world (S.shown store.old) desk) (world (S.shown store.new) desk) }
+    ensures puts { OnlyPuts (S.shown store.old) (S.shown store.new) }
 {
     match store.put(out, image) {
         Ok(()) => {}

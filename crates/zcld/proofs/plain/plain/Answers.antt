@@ -2,7 +2,8 @@
 use Rattle.std.proofs.Common.{◌≡◌, ◌∙◌, ap, rules, refl, inr, subst}
 use Rattle.zc_link.specs.Links.{Link}
 use Rattle.zc_outside.specs.World.{world}
-use Rattle.zcld.specs.Plain.{PutsAndPrints, plain_line}
+use Rattle.zcld.specs.Plain.{plain_line, plain_output}
+use Rattle.zcld.specs.Puts.{PutsInTurn}
 use Rattle.zcld.proofs.plain.plain.Goals as goal
 
 pub returns-in-Ok : goal.returns-in-Ok
@@ -20,8 +21,8 @@ returns-in-Ok g c =
       work = inr (record {
         link = link;
         linked = search rules;
-        done = subst (λ e. PutsAndPrints c.put_and_print.result c.args.out.now e (plain_line link.plain.text) between after) image
-            (subst (λ t. PutsAndPrints c.put_and_print.result c.args.out.now c.as_slice-in-Ok.result.now t between after) line c.put_and_print.ensures.done);
+        done = subst (λ e. PutsInTurn c.put_and_print.result (plain_output c.args.out.now e (plain_line link.plain.text)) between after) image
+            (subst (λ t. PutsInTurn c.put_and_print.result (plain_output c.args.out.now c.as_slice-in-Ok.result.now t) between after) line c.put_and_print.ensures.done);
         shelf = c.put_and_print.ensures.puts;
         desk = c.put_and_print.ensures.writes;
       });

@@ -8,5 +8,5 @@ returns-in-Ok g c = λ desk. inr (inr (record {
   only = record { shelf = c.read_objects.ensures.reads; desk = refl };
   read = search rules;
   accepted = search rules;
-  work = record { desk = refl; shelf = inr (record { link = c.in-Ok.linked; linked = search rules; put = search rules; only = c.put_both.ensures.only }) };
+  work = inr (record { link = c.in-Ok.linked; linked = search rules; done = search rules; shelf = c.put_both.ensures.puts; desk = refl });
 }))

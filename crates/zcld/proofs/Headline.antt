@@ -1,0 +1,101 @@
+-- The headline from what a call does: of an outcome that is Done, only the case is left in which the command did its work.
+use Rattle.std.proofs.Common.{◌≡◌, ℕ, List, [], ◌∷◌, map, Option, Some, None, refl, sym, ap, subst, ◌∙◌, inl, inr}
+use Rattle.std.proofs.lemmas.Option.{same_Some, none-some}
+use Rattle.zc_base.specs.MemMap.{standard_map}
+use Rattle.elf32_read.specs.declared.fault.Fault.{Fault}
+use Rattle.block_cut.specs.Faults.{first_fault}
+use Rattle.zc_link.specs.Preserves.{Preserves}
+use Rattle.zc_outside.specs.Files.{Files, KeepsFiles}
+use Rattle.zc_outside.specs.Wanted.{AreRead, each_within}
+use Rattle.zc_outside.specs.World.{World}
+use Rattle.zcld.specs.declared.outcome.Outcome.{Outcome}
+use Rattle.zcld.specs.declared.outcome.Outcome.TheVariants.{Done, OutOfMemory, Refused}
+use Rattle.zcld.specs.Call.{Calls, task_of}
+use Rattle.zcld.specs.Command.{Command, Plain, Zc}
+use Rattle.zcld.specs.Headline.{HoldsImage, Links}
+use Rattle.zcld.specs.Objects.{inputs_of, objects_wanted, refused_for}
+use Rattle.zcld.specs.Puts.{PutsFiles}
+use Rattle.zcld.specs.Plain.{PlainWork}
+use Rattle.zcld.specs.Task.{IsWorked, OnlyRead, Performs, Task}
+use Rattle.zcld.specs.Zc.{ZcWork}
+use Rattle.zcld.specs.declared.limits.TheConstants.{OBJECT_LIMIT}
+
+-- a refusal of objects isn't Done
+refused_undone : (found : Option (ℕ × Fault)) → refused_for found ≡ Some Done → ⊥
+refused_undone None none = none-some Done none
+refused_undone (Some f) some = let same : Refused f.0 f.1 ≡ Done = same_Some (Refused f.0 f.1) Done some in cc
+
+-- nor is want of memory
+done_not_memory : Done ≡ OutOfMemory → ⊥
+done_not_memory e = cc
+
+-- the bytes that were read stood under the names
+stood : (f : Files) (limit : ℕ) (names files : List (List ℕ)) → AreRead (Some f) (each_within limit names) files → map f names ≡ map Some files
+stood f limit [] [] read = refl
+stood f limit [] (bytes ∷ files) read = absurd read
+stood f limit (name ∷ names) [] read = absurd read
+stood f limit (name ∷ names) (bytes ∷ files) read =
+    let here : f name ≡ Some bytes = read.0.held in
+    let rest : map f names ≡ map Some files = stood f limit names files read.1 in
+    ap (λ x. x ∷ map f names) here ∙ ap (λ xs. Some bytes ∷ xs) rest
+
+-- the first of the files that were put stands, and the store told its files as before when they were put
+stands :
+    (f g : Files) (a : Option Files) (out image : List ℕ) (others : List (List ℕ × List ℕ)) → KeepsFiles (Some f) a →
+    PutsFiles a (Some g) ((out, image) ∷ others) → g out ≡ Some image
+stands f g None out image others kept puts = absurd kept
+stands f g (Some h) out image others kept puts = puts.0.0
+
+-- a command that is Done did its work
+done_worked :
+    (task : Task) (Work : List (List ℕ) → Outcome → World → World → Type 0) (files : List (List ℕ)) (before left : World) →
+    (task.refusal files ≡ Some Done → ⊥) → Performs task Work files Done before left → IsWorked task Work files Done before left
+done_worked task Work files before left undone does = elim does [
+  | inl unread ↦ absurd unread.cause
+  | inr (inl refused) ↦ absurd (undone refused.refused)
+  | inr (inr worked) ↦ worked
+]
+
+module _ (before after : World) where
+  -- objects were read, and an image that preserves them is the first file that was put
+  holds_image :
+      (out : List ℕ) (names : List (List ℕ)) (f g : Files) (files : List (List ℕ)) (elf : List ℕ) (others : List (List ℕ × List ℕ)) (between left : World) →
+      before.shelf.files ≡ Some f → after.shelf.files ≡ Some g → after.shelf ≡ left.shelf →
+      OnlyRead (objects_wanted names) before between → AreRead before.shelf.files (objects_wanted names) files →
+      PutsFiles between.shelf.files left.shelf.files ((out, elf) ∷ others) → Preserves (inputs_of files standard_map) elf →
+      HoldsImage out names f g
+  holds_image out names f g files elf others between left told tells same only read puts preserves =
+      let kept : KeepsFiles (Some f) between.shelf.files = subst (λ a. KeepsFiles a between.shelf.files) told only.shelf.files in
+      let there : left.shelf.files ≡ Some g = sym (ap (λ s. s.files) same) ∙ tells in
+      let put : PutsFiles between.shelf.files (Some g) ((out, elf) ∷ others) =
+      subst (λ b. PutsFiles between.shelf.files b ((out, elf) ∷ others)) there puts in (
+        files,
+        elf,
+        stood f OBJECT_LIMIT names files (subst (λ a. AreRead a (objects_wanted names) files) told read),
+        stands f g between.shelf.files out elf others kept put,
+        preserves,
+      )
+
+  by_cases :
+      (command : Option Command) (outcome : Outcome) (a b : Option Files) → before.shelf.files ≡ a → after.shelf.files ≡ b →
+      Calls command outcome before after → Links command outcome a b
+  by_cases (Some (Zc out cert names)) Done (Some f) (Some g) told tells calls =
+      let undone = refused_undone (first_fault (inputs_of calls.files standard_map)) in
+      let worked = done_worked (task_of (Zc out cert names)) (ZcWork out cert) calls.files before calls.left undone calls.does in
+      elim worked.work [
+        | inl memory ↦ absurd (done_not_memory memory.0)
+        | inr put ↦
+            holds_image out names f g calls.files put.link.elf _ worked.between calls.left told tells calls.line.shelf worked.only worked.read put.done.files put.linked.image.preserves
+      ]
+  by_cases (Some (Plain out names)) Done (Some f) (Some g) told tells calls =
+      let undone = refused_undone (first_fault (inputs_of calls.files standard_map)) in
+      let worked = done_worked (task_of (Plain out names)) (PlainWork out) calls.files before calls.left undone calls.does in
+      elim worked.work [
+        | inl memory ↦ absurd (done_not_memory memory.0)
+        | inr put ↦
+            holds_image out names f g calls.files put.link.elf _ worked.between calls.left told tells calls.line.shelf worked.only worked.read put.done.files put.linked.image.preserves
+      ]
+  by_cases command outcome a b told tells calls = tt
+
+  pub links : (command : Option Command) (outcome : Outcome) → Calls command outcome before after → Links command outcome before.shelf.files after.shelf.files
+  links command outcome calls = by_cases command outcome before.shelf.files after.shelf.files refl refl calls
