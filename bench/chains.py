@@ -14,27 +14,25 @@ above 1 says that the earlier program took longer, or held more.
 
 counts the rounds of chains of COUNT words by the model in fuzz/zc_link.py, and doesn't run the program.
 """
-import argparse
 import os
-import random
-import shutil
 import sys
 import tempfile
 
-from links import BEFORE, NOW, compared, heads_of, programs_of, text_size
-from run import Call, processor_name, table
-
+sys.path.insert(0, os.path.join(os.path.dirname(os.path.abspath(__file__)), os.pardir, 'scripts'))
 sys.path.insert(0, os.path.join(os.path.dirname(os.path.abspath(__file__)), os.pardir, 'fuzz'))
 
 import zc_link
-from made_objects import A0, NOP, T0, ZERO, branch, lui
-from object_data import TEXT_AT
+from links import BEFORE, NOW, compared, heads_of, programs_of, text_size, words_with_before
 from object_faults import Object
-from written_object import Written
+from run import made_object
+from zcld_tools.files import write
+from zcld_tools.images import TEXT_AT
+from zcld_tools.instructions import A0, NOP, T0, ZERO, branch, lui
+from zcld_tools.measured import Call, Runs, table
 
 COUNTS = (16384, 32768, 65535)
 # A word that has no short form: lui with an upper part that the short form can't hold.
-LONG = lui(T0) | 0x40000 << 12
+LONG = lui(T0, 0x40000)
 BEQ = 0
 
 
@@ -67,14 +65,6 @@ def from_both_ends(count):
 CHAINS = {'just so': just_so, 'forward': forward, 'backward': backward, 'from both ends': from_both_ends}
 
 
-def made_object(words):
-    made = Written()
-    text = made.section(b'.text')
-    made.symbol(b'_start', home=text)
-    text.words(*words)
-    return made.bytes()
-
-
 def counted(count):
     """The rounds of each chain of so many words, by the model."""
     rows = []
@@ -86,45 +76,34 @@ def counted(count):
 
 
 def measured(programs, repeats):
-    load, timer = os.getloadavg()[0], shutil.which('time')
     with tempfile.TemporaryDirectory() as folder:
-        rows, order = [], random.Random(1)
+        rows = []
         for name, chain in CHAINS.items():
             for count in COUNTS:
                 base = os.path.join(folder, str(len(rows)))
-                with open(base + '.o', 'wb') as file:
-                    file.write(made_object(chain(count)))
+                write(base + '.o', made_object(chain(count)))
                 rows.append((name, f'{4 * count:,}', base + '.' + NOW, {
-                    who: Call([program, 'zc', '--out', f'{base}.{who}', '--cert', f'{base}.{who}.cert', base + '.o'], 0)
+                    who: Call([program, 'zc', '--out', f'{base}.{who}', '--cert', f'{base}.{who}.cert', base + '.o'])
                     for who, program in programs.items()}))
-        in_turn = [call for row in rows for call in row[-1].values()]
-        for _ in range(repeats):
-            order.shuffle(in_turn)
-            for call in in_turn:
-                call.make()
-        print(f'Processor: {processor_name()}, {os.cpu_count()} of them.')
-        print(f'Load over one minute: {load:.1f} before, {os.getloadavg()[0]:.1f} after. Each call was made {repeats} times.')
+        Runs((call for row in rows for call in row[-1].values()), repeats).say()
         print('Times are the processor\'s milliseconds for a whole process, the least of all calls. Memory is the most that a '
               'process held.')
         cells = []
         for name, code, image, calls in rows:
-            peaks = {who: call.peak(timer) for who, call in calls.items()}
+            peaks = {who: call.peak() for who, call in calls.items()}
             cells.append([name, code, f'{text_size(image):,}', *(it for who in calls for it in compared(calls, who, peaks))])
         beside = heads_of(BEFORE) if BEFORE in programs else []
         table(['chain', 'code, bytes', 'text, bytes', 'zc, ms', 'KiB', *beside], cells)
 
 
 def main():
-    arguments = argparse.ArgumentParser(description='Measures `zc` on chains of branches.')
-    arguments.add_argument('program', nargs='?', default=os.path.join('build', 'zcld'))
-    arguments.add_argument('--before', help='an earlier program of zcld, to be measured beside this one')
-    arguments.add_argument('--repeats', type=int, default=5)
+    arguments = words_with_before('Measures `zc` on chains of branches.', 5)
     arguments.add_argument('--model', type=int, metavar='COUNT', help='count the rounds of chains of COUNT words, by the model')
     given = arguments.parse_args()
     if given.model:
         counted(given.model)
         return
-    measured(programs_of(given), max(1, given.repeats))
+    measured(programs_of(given), given.repeats)
 
 
 if __name__ == '__main__':

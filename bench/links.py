@@ -12,26 +12,25 @@ the same. All calls are made in turn, in an order that changes. A time is the pr
 the R. A ratio above 1 says that the other linker took longer, or held more. Memory is the most that a process held, as GNU
 time tells it.
 """
-import argparse
 import filecmp
 import os
-import random
-import shutil
-import struct
 import sys
 import tempfile
 
-from run import Call, milliseconds, processor_name, table
+sys.path.insert(0, os.path.join(os.path.dirname(os.path.abspath(__file__)), os.pardir, 'scripts'))
 
-sys.path.insert(0, os.path.join(os.path.dirname(os.path.abspath(__file__)), os.pardir, 'fuzz'))
-
-from made_objects import A0, A1, A7, ECALL, NOP, RA, T0, T1, ZERO, addi, auipc, branch, jal, jalr, lui, lw, sw
-from object_items import (BRANCH, CALL, HI20, JAL, LO12_I, LO12_S, PCREL_HI20, PCREL_LO12_I, PCREL_LO12_S, R_32, RELAX)
-from written_object import DATA_FLAGS, FUNCTION_TYPE, LOCAL, PROGBITS, Written
+from zcld_tools import programs
+from zcld_tools.elf import (BRANCH, CALL, DATA_FLAGS, FUNCTION_TYPE, HI20, JAL, LO12_I, LO12_S, LOCAL, PCREL_HI20,
+                            PCREL_LO12_I, PCREL_LO12_S, PROGBITS, RELAX, R_32)
+from zcld_tools.files import read, write_list
+from zcld_tools.images import DATA_AT, TEXT_AT, text_of
+from zcld_tools.instructions import A0, A1, EXIT_WORDS, NOP, RA, T0, T1, ZERO, addi, auipc, branch, jal, jalr, lui, lw, sw
+from zcld_tools.measured import Call, Runs, milliseconds, table, words_of_bench
+from zcld_tools.objects import Written, object_with
 
 # Who is asked: this program, an earlier one, and other linkers.
 NOW, BEFORE = 'zcld', 'before'
-LINKERS = {'GNU ld': ('riscv64-unknown-elf-ld', 'riscv32-unknown-elf-ld', 'riscv64-linux-gnu-ld'), 'LLD': ('ld.lld',)}
+LINKERS = {'GNU ld': programs.GNU_LINKERS, 'LLD': programs.LLVM_LINKERS}
 # Of each list: how many objects, the words of code and of tables of each, and whether there are hints for relaxation.
 LISTS = ((16, 256, 3072, False), (16, 4080, 64, False), (128, 504, 64, False), (256, 252, 64, False), (256, 252, 64, True))
 # A piece of a function: this many words, and one relocation for nearly each of them.
@@ -50,7 +49,7 @@ class Object:
             self.made.symbol(b'_start', home=self.text)
         for k in range((words - 3) // PIECE):
             self.add_piece(k)
-        self.text.words(addi(A0, ZERO, 0), addi(A7, ZERO, 93), ECALL)
+        self.text.words(addi(A0, ZERO), *EXIT_WORDS)
         self.text.words(*[NOP] * (words - len(self.text.content) // 4))
         held = self.made.section(b'.data', PROGBITS, DATA_FLAGS)
         held.words(*range(NUMBERS))
@@ -119,9 +118,7 @@ def made_list(count, words, table_words, hints):
 
 def chain():
     """The most code that there may be: branches of which each leads over the next 126, and the last one farther."""
-    made = Written()
-    text = made.section(b'.text')
-    made.symbol(b'_start', home=text)
+    made, text = object_with()
     count = 0x10000 - 1 - 400
     text.words(*[branch(0, A0, ZERO, 4 * 127)] * (count - 1), branch(0, A0, ZERO, 4 * 200), *[NOP] * 400)
     return made.bytes(), len(text.content)
@@ -129,23 +126,24 @@ def chain():
 
 def linkers():
     """The linkers that are installed, with the words before those of a call."""
-    found = {name: next(filter(None, map(shutil.which, paths)), None) for name, paths in LINKERS.items()}
-    return {name: [path, '-m', 'elf32lriscv', '-Ttext=0x10000', '-Tdata=0x100000'] for name, path in found.items() if path}
+    found = {name: programs.found(*names) for name, names in LINKERS.items()}
+    where = f'-Ttext={TEXT_AT:#x}', f'-Tdata={DATA_AT:#x}'
+    return {name: [path, *programs.FORMAT, *where] for name, path in found.items() if path}
 
 
 class Listed:
     """A list that is linked: what it has, and the calls and the small images, by who is asked."""
 
-    def __init__(self, what, paths, base, programs, others):
+    def __init__(self, what, paths, base, mine, others):
         self.what, self.plain, self.small, self.images = what, {}, {}, {}
-        for name, program in programs.items():
+        for name, program in mine.items():
             out, self.images[name] = f'{base}.{name}.plain', f'{base}.{name}.zc'
-            self.plain[name] = Call([program, 'plain', '--out', out, *paths], 0)
-            self.small[name] = Call([program, 'zc', '--out', self.images[name], '--cert', f'{base}.{name}.cert', *paths], 0)
+            self.plain[name] = Call([program, 'plain', '--out', out, *paths])
+            self.small[name] = Call([program, 'zc', '--out', self.images[name], '--cert', f'{base}.{name}.cert', *paths])
         for name, words in others.items():
             out, self.images[name] = f'{base}.{name[-2:]}', f'{base}.{name[-2:]}.relaxed'
-            self.plain[name] = Call([*words, '--no-relax', '-o', out, *paths], 0)
-            self.small[name] = Call([*words, '-o', self.images[name], *paths], 0)
+            self.plain[name] = Call([*words, '--no-relax', '-o', out, *paths])
+            self.small[name] = Call([*words, '-o', self.images[name], *paths])
         self.same = [(f'{base}.{NOW}.{kind}', f'{base}.{BEFORE}.{kind}') for kind in ('plain', 'zc', 'cert')]
 
     def calls(self):
@@ -158,29 +156,22 @@ class Listed:
                 sys.exit(f'{self.what[0]}: {os.path.basename(now)} isn\'t {os.path.basename(before)}')
 
 
-def lists_of(programs, others, folder):
+def lists_of(mine, others, folder):
     """The lists, and the chain, which no other linker makes smaller."""
     made = [(made_list(*row), f'{row[0]} objects' + (', with hints' if row[3] else ''), others) for row in LISTS]
     data, code = chain()
     made.append((([data], code, 0), 'a chain of branches', {}))
     lists = []
     for number, ((files, code, relocs), what, beside) in enumerate(made):
-        paths = [os.path.join(folder, f'{number}_{i}.o') for i in range(len(files))]
-        for path, data in zip(paths, files):
-            with open(path, 'wb') as file:
-                file.write(data)
+        paths = write_list(folder, files, f'{number}_{{}}.o')
         base = os.path.join(folder, str(number))
-        lists.append(Listed((what, code, relocs, sum(map(len, files))), paths, base, programs, beside))
+        lists.append(Listed((what, code, relocs, sum(map(len, files))), paths, base, mine, beside))
     return lists
 
 
 def text_size(path):
-    """The bytes of code of an image: those of its segments that may be executed."""
-    with open(path, 'rb') as file:
-        data = file.read()
-    start, size, count = struct.unpack_from('<I', data, 28)[0], *struct.unpack_from('<2H', data, 42)
-    headers = [struct.unpack_from('<8I', data, start + size * k) for k in range(count)]
-    return sum(header[4] for header in headers if header[0] == 1 and header[6] & 1)
+    """The bytes of code of an image."""
+    return len(text_of(read(path)))
 
 
 def ratio(other, mine):
@@ -201,11 +192,10 @@ def heads_of(name, text=()):
 
 def report(lists, names, kind):
     """A table of the calls of one kind: this program's, and beside them those of others."""
-    timer, text = shutil.which('time'), ['text'] if kind == 'small' else []
-    rows = []
+    text, rows = ['text'] if kind == 'small' else [], []
     for it in lists:
         calls = getattr(it, kind)
-        peaks, cells = {name: call.peak(timer) for name, call in calls.items()}, [*it.what]
+        peaks, cells = {name: call.peak() for name, call in calls.items()}, [*it.what]
         for name in (NOW, *names):
             if name in calls:
                 cells += compared(calls, name, peaks) + [text_size(it.images[name])] * len(text)
@@ -218,38 +208,29 @@ def report(lists, names, kind):
 
 def programs_of(given):
     """The programs that the words name, by who is asked."""
-    programs = {NOW: given.program, **({BEFORE: given.before} if given.before else {})}
-    for path in programs.values():
-        if not os.access(path, os.X_OK):
-            sys.exit(f'{path} is no program: `make` builds it')
-    return {name: os.path.abspath(path) for name, path in programs.items()}
+    return {who: programs.built(path) for who, path in ((NOW, given.program), (BEFORE, given.before)) if path}
+
+
+def words_with_before(description, repeats):
+    """The words of a bench that measures an earlier program too."""
+    arguments = words_of_bench(description, repeats)
+    arguments.add_argument('--before', help='an earlier program of zcld, to be measured beside this one')
+    return arguments
 
 
 def main():
-    arguments = argparse.ArgumentParser(description='Measures `plain` and `zc` on lists of objects with many relocations.')
-    arguments.add_argument('program', nargs='?', default=os.path.join('build', 'zcld'))
-    arguments.add_argument('--before', help='an earlier program of zcld, to be measured beside this one')
-    arguments.add_argument('--repeats', type=int, default=40)
-    given = arguments.parse_args()
-    programs = programs_of(given)
-    load, others = os.getloadavg()[0], linkers()
+    given = words_with_before('Measures `plain` and `zc` on lists of objects with many relocations.', 40).parse_args()
+    mine, others = programs_of(given), linkers()
     with tempfile.TemporaryDirectory() as folder:
-        lists = lists_of(programs, others, folder)
-        in_turn = [call for it in lists for call in it.calls()]
-        order = random.Random(1)
-        for _ in range(max(1, given.repeats)):
-            order.shuffle(in_turn)
-            for call in in_turn:
-                call.make()
+        lists = lists_of(mine, others, folder)
+        runs = Runs((call for it in lists for call in it.calls()), given.repeats)
         for it in lists if given.before else ():
             it.compare()
-        print(f'Processor: {processor_name()}, {os.cpu_count()} of them.')
-        print(f'Load over one minute: {load:.1f} before, {os.getloadavg()[0]:.1f} after. '
-              f'Each call was made {given.repeats} times.')
+        runs.say()
         print('Times are the processor\'s milliseconds for a whole process, the least of all calls. Memory is the most that a '
               'process held. Text is in bytes.')
-        names = [*list(programs)[1:], *others]
-        told = [f'{name} ({programs[name] if name in programs else os.path.basename(others[name][0])})' for name in names]
+        names = [*list(mine)[1:], *others]
+        told = [f'{name} ({mine[name] if name in mine else os.path.basename(others[name][0])})' for name in names]
         print(f'Beside `plain` and `zc` stand {", ".join(told) or "none"}.')
         report(lists, names, 'plain')
         report(lists, names, 'small')

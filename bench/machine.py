@@ -11,118 +11,74 @@ Instructions of the processor for a commit or step come from `perf stat` if the 
 too, if these are installed; their start-up is in their figures. Beside each rate stands which part it is of that of
 `qemu-riscv32` on the image of the same loop.
 """
-import argparse
 import os
 import re
 import shutil
-import struct
 import subprocess
 import sys
 import tempfile
 
-from objects import CODE, DATA as HELD, NOBITS, PROGBITS, Made
-from run import Call, SPENT, processor_name, table
+sys.path.insert(0, os.path.join(os.path.dirname(os.path.abspath(__file__)), os.pardir, 'scripts'))
 
-TEXT = 0x10000
-DATA = 0x100000
-PAGE = 4096
-
-ZERO, RA, SP, COUNT, BASE, A0, A7 = 0, 1, 2, 5, 8, 10, 17
+from run import SPENT
+from zcld_tools.elf import DATA_FLAGS, NOBITS
+from zcld_tools.files import write
+from zcld_tools.images import DATA_AT, PAGE, TEXT_AT, image_in_pages
+from zcld_tools.instructions import (A0, EXIT_WORDS, RA, RET, S0, SP, T0, ZERO, addi, branch, constant, immediate, jal,
+                                     load, lui, of_format_r, store, words_of)
+from zcld_tools.measured import Call, processor_name, table, words_of_bench
+from zcld_tools.objects import object_with
+from zcld_tools.programs import built, found
 
 QEMU = 'qemu-riscv32'
+# The register that counts the turns of a loop, and the one that has the address of data.
+COUNT, BASE = T0, S0
+BNE = 1
 
 # The commits of a run that callgrind follows.
 FOLLOWED = 100_000
 
-
-def word_i(opcode, funct3, rd, rs1, imm):
-    return (imm & 0xFFF) << 20 | rs1 << 15 | funct3 << 12 | rd << 7 | opcode
-
-
-def word_r(funct7, funct3, rd, rs1, rs2):
-    return funct7 << 25 | rs2 << 20 | rs1 << 15 | funct3 << 12 | rd << 7 | 0x33
-
-
-def word_s(funct3, rs2, rs1, imm):
-    return (imm >> 5 & 0x7F) << 25 | rs2 << 20 | rs1 << 15 | funct3 << 12 | (imm & 0x1F) << 7 | 0x23
-
-
-def addi(rd, rs1, imm):
-    return word_i(0x13, 0, rd, rs1, imm)
-
-
-def lui(rd, imm):
-    return imm << 12 | rd << 7 | 0x37
-
-
-def jal(rd, distance):
-    return ((distance >> 20 & 1) << 31 | (distance >> 1 & 0x3FF) << 21 | (distance >> 11 & 1) << 20
-            | (distance >> 12 & 0xFF) << 12 | rd << 7 | 0x6F)
-
-
-def bne(rs1, rs2, distance):
-    return ((distance >> 12 & 1) << 31 | (distance >> 5 & 0x3F) << 25 | rs2 << 20 | rs1 << 15 | 1 << 12
-            | (distance >> 1 & 0xF) << 8 | (distance >> 11 & 1) << 7 | 0x63)
-
-
-def ret():
-    return word_i(0x67, 0, ZERO, RA, 0)
-
-
 ARITHMETIC = [
-    word_r(0, 0, 6, 6, 7),             # add x6,x6,x7
-    word_r(0, 4, 7, 7, 6),             # xor x7,x7,x6
-    word_i(0x13, 1, 11, 6, 3),         # slli x11,x6,3
-    word_r(0, 3, 9, 7, 11),            # sltu x9,x7,x11
-    word_r(0x20, 0, 12, 9, 6),         # sub x12,x9,x6
-    word_r(1, 0, 13, 12, 6),           # mul x13,x12,x6
+    of_format_r(0, 0, 6, 6, 7),     # add x6,x6,x7
+    of_format_r(0, 4, 7, 7, 6),     # xor x7,x7,x6
+    immediate(1, 11, 6, 3),         # slli x11,x6,3
+    of_format_r(0, 3, 9, 7, 11),    # sltu x9,x7,x11
+    of_format_r(0x20, 0, 12, 9, 6), # sub x12,x9,x6
+    of_format_r(1, 0, 13, 12, 6),   # mul x13,x12,x6
 ]
 
 ACCESSES = [
-    word_i(0x03, 2, 6, BASE, 0),       # lw x6,0(x8)
+    load(2, 6, BASE, 0),            # lw x6,0(x8)
     addi(6, 6, 1),
-    word_s(2, 6, BASE, 0),             # sw x6,0(x8)
-    word_i(0x03, 5, 7, BASE, 2),       # lhu x7,2(x8)
-    word_s(1, 6, BASE, 8),             # sh x6,8(x8)
-    word_i(0x03, 0, 9, BASE, 5),       # lb x9,5(x8)
-    word_s(0, 6, BASE, 4),             # sb x6,4(x8)
-    word_i(0x03, 2, 11, SP, -4),       # lw x11,-4(sp)
-    word_s(2, 6, SP, -4),              # sw x6,-4(sp)
+    store(2, 6, BASE, 0),           # sw x6,0(x8)
+    load(5, 7, BASE, 2),            # lhu x7,2(x8)
+    store(1, 6, BASE, 8),           # sh x6,8(x8)
+    load(0, 9, BASE, 5),            # lb x9,5(x8)
+    store(0, 6, BASE, 4),           # sb x6,4(x8)
+    load(2, 11, SP, -4),            # lw x11,-4(sp)
+    store(2, 6, SP, -4),            # sw x6,-4(sp)
 ]
 
 # The function stands before the loop: it keeps ra on the stack and calls one that only counts.
-COUNTS = [addi(A0, A0, 1), ret()]
-CALLED = [addi(SP, SP, -16), word_s(2, RA, SP, 12), jal(RA, -16), word_i(0x03, 2, RA, SP, 12), addi(SP, SP, 16), ret()]
+COUNTS = [addi(A0, A0, 1), RET]
+CALLED = [addi(SP, SP, -16), store(2, RA, SP, 12), jal(RA, -16), load(2, RA, SP, 12), addi(SP, SP, 16), RET]
 
 
 def looped(body, each, commits, before=()):
-    """A program that makes the body so often that there are about so many commits, then exits with 0."""
-    start = [addi(6, ZERO, 1), addi(7, ZERO, 2), addi(A0, ZERO, 0), lui(BASE, DATA >> 12), *count(commits // (each + 2))]
+    """A program that makes the body so often that there are about so many commits, then exits with 0; and its entry."""
+    start = [addi(6, ZERO, 1), addi(7, ZERO, 2), addi(A0, ZERO), lui(BASE, DATA_AT >> 12),
+             *constant(COUNT, commits // (each + 2))]
     loop = [*body(4 * (len(before) + len(start))), addi(COUNT, COUNT, -1)]
-    loop.append(bne(COUNT, ZERO, -4 * len(loop)))
-    words = [*before, *start, *loop, addi(A0, ZERO, 0), addi(A7, ZERO, 93), 0x73]
-    return struct.pack(f'<{len(words)}I', *words), TEXT + 4 * len(before)
-
-
-def count(times):
-    low = (times & 0xFFF ^ 0x800) - 0x800
-    return [lui(COUNT, (times - low) >> 12), addi(COUNT, COUNT, low)]
-
-
-def image(text, entry):
-    """An executable with the code and 4,096 zeroed bytes of data (System V gABI, "Program Header")."""
-    header = struct.pack('<16sHHIIIIIHHHHHH', b'\x7fELF\1\1\1', 2, 243, 1, entry, 52, 0, 0, 52, 32, 2, 40, 0, 0)
-    segments = (struct.pack('<8I', 1, PAGE, TEXT, TEXT, len(text), len(text), 5, PAGE)
-                + struct.pack('<8I', 1, 0, DATA, DATA, 0, PAGE, 6, PAGE))
-    return (header + segments).ljust(PAGE, b'\0') + text
+    loop.append(branch(BNE, COUNT, ZERO, -4 * len(loop)))
+    return words_of(*before, *start, *loop, addi(A0, ZERO), *EXIT_WORDS), TEXT_AT + 4 * len(before)
 
 
 def object_of(text, entry):
-    """An object with the code, whose `_start` is the entry, and with 4,096 zeroed bytes of data."""
-    made = Made()
-    code = made.add(b'.text', PROGBITS, CODE, text)
-    made.add(b'.bss', NOBITS, HELD, b'', PAGE)
-    made.name('_start', code, entry - TEXT)
+    """An object with the code, whose `_start` is the entry, and with a page of zeroed data."""
+    made, code = object_with()
+    code.content += text
+    made.symbols[0].value = entry - TEXT_AT
+    made.section(b'.bss', NOBITS, DATA_FLAGS, size=PAGE)
     return made.bytes()
 
 
@@ -179,7 +135,7 @@ def per_commit(program, command, file, commits, folder):
 def others(file):
     """The least processor time of the image on other machines that are installed, by their names."""
     calls = {QEMU: [QEMU, file], 'spike': ['spike', '--isa=rv32im', 'pk', file]}
-    return {name: least([shutil.which(name), *words[1:]], 0, 3) for name, words in calls.items() if shutil.which(name)}
+    return {name: least([found(name), *words[1:]], 0, 3) for name, words in calls.items() if found(name)}
 
 
 def part_of(took, other):
@@ -195,22 +151,17 @@ def least(words, status, repeats):
 
 
 def main():
-    arguments = argparse.ArgumentParser(description='Measures how fast `run` makes commits, and `trace` steps.')
-    arguments.add_argument('program', nargs='?', default=os.path.join('build', 'zcld'))
-    arguments.add_argument('--repeats', type=int, default=5)
+    arguments = words_of_bench('Measures how fast `run` makes commits, and `trace` steps.', 5)
     arguments.add_argument('--commits', type=int, default=10_000_000)
     given = arguments.parse_args()
-    program = os.path.abspath(given.program)
-    if not os.access(program, os.X_OK):
-        sys.exit(f'{given.program} is no program: `make` builds it')
+    program = built(given.program)
     print(f'Processor: {processor_name()}, load {os.getloadavg()[0]:.1f}.')
     rows, parts = [], {}
     with tempfile.TemporaryDirectory() as folder:
         for name, (text, entry) in programs(given.commits).items():
-            for command, data in (('run', image(text, entry)), ('trace', object_of(text, entry))):
+            for command, data in (('run', image_in_pages(text, PAGE, entry)), ('trace', object_of(text, entry))):
                 file = os.path.join(folder, f'{name.replace(" ", "-")}.{command}')
-                with open(file, 'wb') as made:
-                    made.write(data)
+                write(file, data)
                 os.chmod(file, 0o755)
                 if command == 'run':
                     other = others(file)

@@ -15,20 +15,22 @@ does so with lists of objects by chance (`made_objects.py`) that have no fault.
 import argparse
 import os
 import random
-import shutil
 import struct
-import subprocess
 import sys
 import tempfile
 
-from made_objects import made_list
-from object_data import ABSENT, DATA_AT, STACK_TOP, TEXT_AT, class_of
-from object_faults import Object
-from object_items import BRANCH, CALLS, JAL, NONE, first_fault
-from plain_link import Plain
+sys.path.insert(0, os.path.join(os.path.dirname(os.path.abspath(__file__)), os.pardir, 'scripts'))
 
-LINKERS = ('riscv64-unknown-elf-ld', 'riscv32-unknown-elf-ld', 'riscv64-linux-gnu-ld', 'ld.lld')
-MERGED = 0x30
+from made_objects import made_list
+from object_data import ABSENT, class_of
+from object_faults import Object
+from object_items import CALLS, first_fault
+from plain_link import Plain
+from zcld_tools import programs
+from zcld_tools.elf import BRANCH, JAL, MERGE, NONE, STRINGS
+from zcld_tools.files import read, read_all, write, write_list
+from zcld_tools.images import DATA_AT, STACK_HIGH, TEXT_AT
+
 
 
 class Differs(Exception):
@@ -36,7 +38,7 @@ class Differs(Exception):
 
 
 def linker():
-    return next(filter(None, map(shutil.which, LINKERS)), None)
+    return programs.found(*programs.GNU_LINKERS, *programs.LLVM_LINKERS)
 
 
 def inputs(objects, paths, wanted):
@@ -49,7 +51,7 @@ def inputs(objects, paths, wanted):
 
 def script(objects, paths, commons):
     """A linker's script that lays code and data out as the plain link does."""
-    lines = ['ENTRY(_start)', f'__stack_top = {STACK_TOP:#x};', 'SECTIONS {', f'.text {TEXT_AT:#x} : {{ . = ALIGN(4);',
+    lines = ['ENTRY(_start)', f'__stack_top = {STACK_HIGH:#x};', 'SECTIONS {', f'.text {TEXT_AT:#x} : {{ . = ALIGN(4);',
              *inputs(objects, paths, lambda read, k, _: read.is_code(k)), '}', f'.data {DATA_AT:#x} : {{']
     for kind in range(5):
         lines.append('. = ALIGN(16);')
@@ -65,7 +67,7 @@ def copied(data, i, symbols):
     """The object without what GNU ld alone does."""
     read, changed = symbols.objects[i], bytearray(data)
     for k, section in enumerate(read.sections):
-        struct.pack_into('<I', changed, read.table + 40 * k + 8, section.flags & ~MERGED)
+        struct.pack_into('<I', changed, read.table + 40 * k + 8, section.flags & ~(MERGE | STRINGS))
         for at in range(section.at, section.at + section.size, 12) if section in read.kept_relas() else ():
             _, info, addend = struct.unpack_from('<IIi', data, at)
             if info & 255 in (BRANCH, JAL, *CALLS) and symbols.resolve(i, info >> 8, addend)[0] == ABSENT:
@@ -77,18 +79,14 @@ def linked_file(program, files, symbols):
     """The file that another linker writes."""
     with tempfile.TemporaryDirectory() as folder:
         order, out = (os.path.join(folder, name) for name in ('script', 'out'))
-        paths = [os.path.join(folder, f'{i}.o') for i in range(len(files))]
-        for i, (path, data) in enumerate(zip(paths, files)):
-            with open(path, 'wb') as file:
-                file.write(copied(data, i, symbols))
-        with open(order, 'w', encoding='utf-8') as file:
-            file.write(script(symbols.objects, paths, symbols.names.common))
-        done = subprocess.run([program, '-m', 'elf32lriscv', '--no-relax', '--allow-multiple-definition', '-o', out, *paths,
-                               '-T', order], capture_output=True, check=False)
-        if done.returncode:
-            raise Differs(done.stderr.decode()[:500])
-        with open(out, 'rb') as file:
-            return file.read()
+        paths = write_list(folder, [copied(data, i, symbols) for i, data in enumerate(files)])
+        write(order, script(symbols.objects, paths, symbols.names.common).encode())
+        try:
+            programs.told([program, *programs.FORMAT, '--no-relax', '--allow-multiple-definition', '-o', out, *paths, '-T',
+                           order])
+        except programs.Failed as why:
+            raise Differs(str(why)) from None
+        return read(out)
 
 
 def linked(program, files, symbols):
@@ -140,12 +138,8 @@ def main():
     if program is None:
         sys.exit('there is no linker for RISC-V')
     if given.files:
-        files = []
-        for path in given.files:
-            with open(path, 'rb') as file:
-                files.append(file.read())
         try:
-            print('the same {} bytes of code, and {} of data'.format(*compare(program, files)))
+            print('the same {} bytes of code, and {} of data'.format(*compare(program, read_all(given.files))))
         except Differs as why:
             sys.exit(str(why))
     return compare_made(program, given.seed, given.count) if given.count else 0

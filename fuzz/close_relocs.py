@@ -1,12 +1,12 @@
 """Makes objects by chance whose relocations lie close together: fields that overlap, and fields that just don't."""
-from made_objects import A0, A1, NOP, RA, T0, addi, auipc, branch, jal, jalr, lui, sw
-from object_items import BRANCH, CALL, HI20, JAL, LO12_I, LO12_S, OF_TWO_BYTES, R_32, RELAX
-from plain_examples import EXIT, GOT_HI20, object_with
-from written_object import DATA_FLAGS, PROGBITS, Reloc
+from object_items import OF_TWO_BYTES
+from zcld_tools.elf import BRANCH, CALL, DATA_FLAGS, GOT_HI20, HI20, JAL, LO12_I, LO12_S, PROGBITS, RELAX, R_32
+from zcld_tools.instructions import A0, A1, CALL_WORDS, EXIT_WORDS, NOP, RA, T0, addi, branch, jal, lui, sw
+from zcld_tools.objects import Reloc, object_with
 
 # Types, each with words of its kind.
 FITTING = ((R_32, (NOP,)), (HI20, (lui(T0),)), (LO12_I, (addi(T0, T0),)), (LO12_S, (sw(T0, T0),)), (JAL, (jal(RA),)),
-           (BRANCH, (branch(0, A0, A1),)), (CALL, (auipc(RA), jalr(RA, RA))))
+           (BRANCH, (branch(0, A0, A1),)), (CALL, CALL_WORDS))
 # Types of entries that are put in between: most often one with a field of 2 bytes.
 BETWEEN = (*OF_TWO_BYTES, *OF_TWO_BYTES, *OF_TWO_BYTES, R_32, RELAX, GOT_HI20)
 
@@ -26,5 +26,5 @@ def close_relocs(rng):
         for _ in range(rng.choice((1, 1, 2))):
             entry = Reloc(rng.randrange(-2, len(section.content) + 2), rng.choice(BETWEEN), None, 0)
             section.relocs.insert(rng.randrange(len(section.relocs) + 1), entry)
-    text.words(*EXIT)
+    text.words(*EXIT_WORDS)
     return made.bytes()

@@ -2,11 +2,13 @@
 
 Each program goes on forward from its start to its exit, so that it ends. A branch that leads back is never taken.
 """
-from made_objects import A0, ECALL, RA, T0, T1, ZERO, addi, auipc, branch, jal, jalr
-from object_items import ALIGN, BRANCH, CALL, JAL
-from written_object import LOCAL, Written
+from zc_examples import XORI
+from zcld_tools.elf import ALIGN, BRANCH, CALL, JAL, LOCAL
+from zcld_tools.instructions import A0, A1, A4, EXIT_WORDS, RA, T0, T1, ZERO, addi, auipc, branch, jal, jalr, of_format_r
+from zcld_tools.objects import Written
 
-XORI = 0x05D54513
+# `xor a1,a1,a0` and `sub a0,a0,a1`.
+OPERATIONS = of_format_r(0, 4, A1, A1, A0), of_format_r(0x20, 0, A0, A0, A1)
 # How many items back or forth a branch or jump leads: near, at the ends of what the forms reach, and beyond.
 STEPS = (1, 3, 30, 62, 63, 64, 126, 127, 128, 129, 500, 510, 511, 512, 513, 600, 680, 750)
 FAR_STEPS = (*STEPS, 900, 1000, 1020, 1022, 1023, 1024, 1100)
@@ -62,14 +64,14 @@ class Section:
         elif kind == 4:
             self.section.reloc(BRANCH, self.back(), 0, (branch(1, ZERO, ZERO),))
         elif kind == 5:
-            self.section.reloc(BRANCH, self.back(), 0, (branch(1, 14, 14),))
+            self.section.reloc(BRANCH, self.back(), 0, (branch(1, A4, A4),))
         elif kind == 6 and rng.random() < 0.3:
             bytes_asked = rng.choice((4, 12, 28, 60))
             self.section.reloc(ALIGN, None, bytes_asked, [0xFFFFFFFF] * (bytes_asked // 4))
         elif kind < 20:
             self.section.words(addi(A0, A0, rng.choice((1, 31, 100))))
         else:
-            self.section.words(rng.choice((XORI, addi(T0, ZERO, 7), 0x00A5C5B3, 0x40B50533)))
+            self.section.words(rng.choice((XORI, addi(T0, ZERO, 7), *OPERATIONS)))
 
     def add_edge(self):
         """Adds a branch that reaches just so as code is written, over a padding that may take more bytes once code is smaller."""
@@ -96,7 +98,7 @@ class Section:
             symbol.value = at
         self.waiting = []
         if way_on is None:
-            self.section.words(addi(17, ZERO, 93), ECALL)
+            self.section.words(*EXIT_WORDS)
         else:
             self.section.reloc(CALL, way_on, 0, (auipc(T1), jalr(ZERO, T1)))
 
@@ -111,7 +113,7 @@ def far_list(rng):
         read.symbol(b'part%d' % number if number else b'_start', home=section.section)
         if number == 0:
             section.start()
-            section.section.words(addi(A0, ZERO, 1), addi(T0, ZERO, 2), addi(11, ZERO, 3), addi(14, ZERO, 4))
+            section.section.words(addi(A0, ZERO, 1), addi(T0, ZERO, 2), addi(A1, ZERO, 3), addi(A4, ZERO, 4))
         section.start()
         section.section.words(XORI)
         for _ in range(rng.choice((20, 200, 700, 1300))):

@@ -27,21 +27,30 @@ import collections
 import os
 import random
 import re
-import resource
 import struct
-import subprocess
 import sys
 import tempfile
 import time
+
+sys.path.insert(0, os.path.join(os.path.dirname(os.path.abspath(__file__)), os.pardir, 'scripts'))
 
 from made_objects import made_list
 from object_faults import NAMES as FAULTS, object_fault, told
 from object_items import first_fault
 from plain_link import plain as plain_of
-from symbolic_machine import trace as trace_of
+from symbolic_machine import NAMES as WHYS, trace as trace_of
 from zc_link import zc as zc_of
+from zcld_tools import TOP, programs
+from zcld_tools.elf import (ABS, ALIGN, CODE_FLAGS, COMMON, CONSTANT_FLAGS, DATA_FLAGS, HEADER, HI20, INFO_LINK, INIT_ARRAY,
+                            MERGE, NOBITS, NONE, PCREL_HI20, PROGBITS, RELA, RELAX, RELOCATABLE, RVC_JUMP, R_32, STRINGS,
+                            STRTAB, SYMTAB, UNDEF, Part, file_header, laid, relocation_entry, section_headers, symbol_entry)
+from zcld_tools.files import files_in, random_bytes, read, write, write_list
+from zcld_tools.instructions import (A0, A1, A2, A7, EBREAK, ECALL, EXIT_WORDS, OPCODE_AUIPC, OPCODE_FENCE,
+                                     OPCODE_IMMEDIATE, OPCODE_LUI, OPCODE_REGISTER, RA, READ_CALL, RET, SP, T0, WRITE_CALL,
+                                     ZERO, addi, branch, jal, load, store, words_of)
+from zcld_tools.objects import Strings
+from zcld_tools.programs import CERTIFICATE, Failed as Wrong
 
-TIME_OUT = 20
 STEPS = '2000'
 # As many commits as an image may need for these steps.
 COMMITS = str(64 * int(STEPS) + 3)
@@ -49,11 +58,8 @@ MIB = 1 << 20
 MOST_MEMORY = 2048 * MIB
 OBJECT_LIMIT = 4 * MIB
 IMAGE_LIMIT = 8 * MIB
-CERTIFICATE = b'zcld certificate 1\nprice 0 0 0\nnet 0\nend\n'
 
 REASONS = (None, 'Illegal', 'BadAccess', 'Misaligned', 'Break', 'UnknownCall')
-WHYS = (None, 'AddressUnknown', 'ConditionUnknown', 'TargetUnknown', 'ArgumentUnknown', 'BadAddress', 'Misaligned',
-        'StackPointer', 'NoInstruction', 'UnknownCall')
 
 # For each outcome: its line, the status, and the commands that have it.
 OUTCOMES = {
@@ -87,84 +93,75 @@ SYMBOL_FIELDS = [(0, 4), (4, 4), (8, 4), (12, 1), (13, 1), (14, 2)]
 RELOC_FIELDS = [(0, 4), (4, 4), (8, 4)]
 
 
-class Wrong(Exception):
-    """A check that failed."""
-
-
 # ---- code
-
-
-def addi(to, source, value):
-    return (value & 0xFFF) << 20 | source << 15 | to << 7 | 0x13
-
-
-ECALL = 0x73
-EXIT = (addi(17, 0, 93), ECALL)
 
 
 def call_words(rng):
     """A read or a write, of bytes of the stack."""
     size = rng.choice((0, 1, 4, 5, 16))
-    given = rng.choice((63, 63, 64))
-    return (addi(17, 0, given), addi(10, 0, rng.choice((0, 1, 1, 2)) if given == 64 else 0),
-            addi(11, 2, rng.choice((0, 0, 4, -4, -16, 16))), addi(12, rng.choice((0, 0, 0, 10)), size), ECALL)
+    given = rng.choice((READ_CALL, READ_CALL, WRITE_CALL))
+    return (addi(A7, ZERO, given), addi(A0, ZERO, rng.choice((0, 1, 1, 2)) if given == WRITE_CALL else 0),
+            addi(A1, SP, rng.choice((0, 0, 4, -4, -16, 16))), addi(A2, rng.choice((ZERO, ZERO, ZERO, A0)), size), ECALL)
 
 
 def straight_words(rng):
     """Code of `addi` and `ecall` in which an exit is likely, and sometimes isn't the end."""
     count = rng.choice((0, 1, 2, rng.randrange(40), rng.randrange(40), rng.randrange(1500)))
     few = rng.random() < 0.7
-    words = [addi(2, 2, -16)] if rng.random() < 0.5 else []
+    words = [addi(SP, SP, -16)] if rng.random() < 0.5 else []
     for _ in range(count):
-        to = rng.choice((0, 5, 6, 10, 10, 17)) if few else rng.randrange(32)
+        to = rng.choice((ZERO, T0, 6, A0, A0, A7)) if few else rng.randrange(32)
         source = rng.choice((0, 0, 0, to)) if few else rng.randrange(32)
         value = rng.choice((-2048, -33, -32, -1, 0, 1, 31, 32, 93, 2047, rng.randrange(-2048, 2048)))
         words.append(addi(to, source, value))
     for _ in range(rng.choice((0, 0, 1, 2, 5))):
         words += call_words(rng)
     if rng.random() < 0.9:
-        words += [addi(10, 0, rng.choice((0, 3, 117, 118, 119, 127, 255, 256, -1, 2047)))] * rng.randrange(2)
-        words += EXIT
+        words += [addi(A0, ZERO, rng.choice((0, 3, 117, 118, 119, 127, 255, 256, -1, 2047)))] * rng.randrange(2)
+        words += EXIT_WORDS
     return words
 
 
 # The opcodes with a register that is written, as 7-bit opcode and, if it decides, funct3 and funct7.
-OPS = ([(0x13, f3, None) for f3 in (0, 2, 3, 4, 6, 7)] + [(0x13, 1, 0), (0x13, 5, 0), (0x13, 5, 32)]
-       + [(0x33, f3, 0) for f3 in range(8)] + [(0x33, 0, 32), (0x33, 5, 32)] + [(0x33, f3, 1) for f3 in range(8)]
-       + [(0x37, None, None), (0x17, None, None), (0x0F, 0, None)])
+OPS = ([(OPCODE_IMMEDIATE, f3, None) for f3 in (0, 2, 3, 4, 6, 7)]
+       + [(OPCODE_IMMEDIATE, f3, f7) for f3, f7 in ((1, 0), (5, 0), (5, 32))]
+       + [(OPCODE_REGISTER, f3, 0) for f3 in range(8)] + [(OPCODE_REGISTER, 0, 32), (OPCODE_REGISTER, 5, 32)]
+       + [(OPCODE_REGISTER, f3, 1) for f3 in range(8)]
+       + [(OPCODE_LUI, None, None), (OPCODE_AUIPC, None, None), (OPCODE_FENCE, 0, None)])
 
 
 def any_word(rng):
     """A word of RV32IM, in few registers, near the stack pointer, with short ways to go; sometimes any word."""
-    to, first, second = (rng.choice((0, 5, 10, 10, 11, 12, 17)) for _ in range(3))
+    to, first, second = (rng.choice((ZERO, T0, A0, A0, A1, A2, A7)) for _ in range(3))
     near = rng.choice((0, 4, 8, 12, rng.randrange(-8, 20))) & 0xFFF
     which = rng.randrange(20)
     if which < 11:
         opcode, f3, f7 = rng.choice(OPS)
         word = rng.getrandbits(32) if rng.random() < 0.3 else near << 20
-        word = word & ~0x01F00000 | second << 20 if opcode == 0x33 else word
+        word = word & ~0x01F00000 | second << 20 if opcode == OPCODE_REGISTER else word
         word = word & ~0xFE000000 | f7 << 25 if f7 is not None else word
         f3 = rng.randrange(8) if f3 is None else f3
         return word & 0xFFF00000 | first << 15 | f3 << 12 | to << 7 | opcode
     if which < 13:
-        return near << 20 | 2 << 15 | rng.choice((0, 1, 2, 4, 5)) << 12 | to << 7 | 0x03
+        return load(rng.choice((0, 1, 2, 4, 5)), to, SP, near)
     if which < 15:
-        return near >> 5 << 25 | second << 20 | 2 << 15 | rng.randrange(3) << 12 | (near & 31) << 7 | 0x23
+        return store(rng.randrange(3), second, SP, near)
     if which < 18:
-        return (rng.choice((2, 4, 6)) << 8 | second << 20 | first << 15 | rng.choice((0, 1, 4, 5, 6, 7)) << 12 | 0x63
-                | rng.choice((0, 0, 0, 0xFE000080)))
+        distance = 2 * rng.choice((2, 4, 6))
+        return branch(rng.choice((0, 1, 4, 5, 6, 7)), first, second, distance + rng.choice((0, 0, 0, -32)))
     if which < 19:
-        return rng.choice((8, 12, -4, 6)) << 20 & 0x7FE00000 | rng.choice((0, 1)) << 7 | 0x6F
-    return rng.choice((0x00008067, ECALL, 0x00100073, rng.getrandbits(32)))
+        distance = rng.choice((8, 12, 2044, 6))
+        return jal(rng.choice((ZERO, RA)), distance)
+    return rng.choice((RET, ECALL, EBREAK, rng.getrandbits(32)))
 
 
 def any_words(rng):
     """Code of RV32IM."""
-    words = [addi(2, 2, -32), *(addi(to, 0, rng.randrange(-40, 40)) for to in (5, 10, 11, 12, 17))]
+    words = [addi(SP, SP, -32), *(addi(to, ZERO, rng.randrange(-40, 40)) for to in (T0, A0, A1, A2, A7))]
     words += [any_word(rng) for _ in range(rng.choice((3, 10, 10, 100)))]
     for _ in range(rng.choice((0, 0, 1))):
         words += call_words(rng)
-    return words + [*EXIT]
+    return words + [*EXIT_WORDS]
 
 
 # ---- objects
@@ -172,72 +169,68 @@ def any_words(rng):
 SECTION_NAMES = (b'.text', b'.text.second', b'.data', b'.data.second', b'.sdata', b'.sdata.second', b'.bss', b'.sbss',
                  b'.sbss.second', b'.rodata', b'.init_array', b'.eh_frame', b'.comment', b'.rela', b'.symtab', b'.names')
 SYMBOL_NAMES = (b'', b'_start', b'table', b'main', b'buffer', b'_end', b'_starts')
-NONE, HI20, RELAX, ALIGN, RVC_JUMP = 0, 26, 51, 43, 45
 
 
 def names_of(names):
-    """A table of strings, and where each name stands in it."""
-    table, places = b'\0', {}
+    """A table of strings with these names."""
+    table = Strings()
     for name in names:
-        places[name] = len(table) if name else 0
-        table += name + b'\0' if name else b''
-    return table, places
+        table.add(name)
+    return table
 
 
-NAMES_OF_SECTIONS, SECTION_AT = names_of(SECTION_NAMES)
-NAMES_OF_SYMBOLS, SYMBOL_AT = names_of(SYMBOL_NAMES)
+NAMES_OF_SECTIONS, NAMES_OF_SYMBOLS = names_of(SECTION_NAMES), names_of(SYMBOL_NAMES)
+AT_EH_FRAME = NAMES_OF_SECTIONS.add(b'.eh_frame')
 
 
-class Part:
-    """A section: its name, type, flags, content, size and alignment, and what it is linked to."""
-
-    def __init__(self, name, kind, flags, content, size=None, align=1, link=0, info=0, entry=0):
-        self.name, self.kind, self.flags, self.content, self.align = name, kind, flags, content, align
-        self.size, self.link, self.info, self.entry = len(content) if size is None else size, link, info, entry
+def part_of(name, *how, **more):
+    """A section of this name."""
+    return Part(NAMES_OF_SECTIONS.add(name), *how, **more)
 
 
 def code_part(rng, is_straight):
     words = (straight_words if is_straight else any_words)(rng)
     align = rng.choice((0, 1, 2, 4, 4, 4, 16) if rng.random() < 0.1 else (0, 1, 2, 4, 4, 4))
-    return Part(rng.choice((b'.text', b'.text', b'.text.second')), 1, 6, struct.pack(f'<{len(words)}I', *words), align=align)
+    return part_of(rng.choice((b'.text', b'.text', b'.text.second')), PROGBITS, CODE_FLAGS, words_of(*words), align=align)
 
 
 def data_part(rng):
-    content = rng.choice((b'', b'hi\n', rng.randbytes(rng.choice((1, 4, 7, 64)))))
+    content = rng.choice((b'', b'hi\n', random_bytes(rng, rng.choice((1, 4, 7, 64)))))
     align = rng.choice((0, 1, 1, 2, 4, 4, 8, 16, 64, 4096))
     name, kind, flags = rng.choice((
-        (b'.data', 1, 3), (b'.data.second', 1, 3), (b'.sdata', 1, 3), (b'.sdata.second', 1, 3), (b'.rodata', 1, 2),
-        (b'.init_array', 14, 3), (b'.data', 1, 0x13), (b'.bss', 8, 3), (b'.sbss', 8, 3), (b'.sbss.second', 8, 3),
-        (b'.sbss', 8, 2), (b'.eh_frame', 1, 2), (b'.eh_frame', 1, 6), (b'.comment', 1, 0x30)))
-    if kind == 8:
-        return Part(name, kind, flags, b'', size=rng.choice((0, 1, 4, 100, 5000)), align=align)
-    return Part(name, kind, flags, content, align=align)
+        (b'.data', PROGBITS, DATA_FLAGS), (b'.data.second', PROGBITS, DATA_FLAGS), (b'.sdata', PROGBITS, DATA_FLAGS),
+        (b'.sdata.second', PROGBITS, DATA_FLAGS), (b'.rodata', PROGBITS, CONSTANT_FLAGS),
+        (b'.init_array', INIT_ARRAY, DATA_FLAGS), (b'.data', PROGBITS, DATA_FLAGS | MERGE), (b'.bss', NOBITS, DATA_FLAGS),
+        (b'.sbss', NOBITS, DATA_FLAGS), (b'.sbss.second', NOBITS, DATA_FLAGS), (b'.sbss', NOBITS, CONSTANT_FLAGS),
+        (b'.eh_frame', PROGBITS, CONSTANT_FLAGS), (b'.eh_frame', PROGBITS, CODE_FLAGS), (b'.comment', PROGBITS, MERGE | STRINGS)))
+    if kind == NOBITS:
+        return part_of(name, kind, flags, size=rng.choice((0, 1, 4, 100, 5000)), align=align)
+    return part_of(name, kind, flags, content, align=align)
 
 
 def symbols(rng, parts, is_first):
     """A table of symbols that are taken, with symbol 0; of the first object `_start` is most likely global code."""
     rows = [(b'', 0, 0, 0, 0)]
     if is_first and rng.random() < 0.95:
-        code = [i for i, part in enumerate(parts) if part.flags == 6 and part.size and part.name != b'.eh_frame']
+        code = [i for i, part in enumerate(parts) if part.flags == CODE_FLAGS and part.length() and part.name != AT_EH_FRAME]
         home = rng.choice(code) if code and rng.random() < 0.97 else rng.randrange(len(parts))
-        size = parts[home].size
+        size = parts[home].length()
         value = rng.choice((0, 0, 0, 0, 0, 0, 4, size, 2)) if rng.random() < 0.2 else 0
         rows.append((b'_start', min(value, size), 0, rng.choice((1, 1, 1, 2)) << 4, home))
     for _ in range(rng.choice((0, 1, 2, 9))):
-        home = rng.choice((rng.randrange(1, len(parts)) if len(parts) > 1 else 0, 0, 0xFFF1, 0xFFF2))
-        value = {0: 0, 0xFFF1: rng.getrandbits(32), 0xFFF2: rng.choice((0, 1, 4, 64, 4096))}.get(home)
+        home = rng.choice((rng.randrange(1, len(parts)) if len(parts) > 1 else 0, UNDEF, ABS, COMMON))
+        value = {UNDEF: 0, ABS: rng.getrandbits(32), COMMON: rng.choice((0, 1, 4, 64, 4096))}.get(home)
         if value is None:
-            value = rng.choice((0, parts[home].size))
-        bind = rng.choice((1, 2) if home == 0 else (0, 0, 1, 2, 2, 2))
-        name = rng.choice(SYMBOL_NAMES if home != 0xFFF2 and rng.random() < 0.2 else (b'table', b'main', b'buffer', b'_end'))
+            value = rng.choice((0, parts[home].length()))
+        bind = rng.choice((1, 2) if home == UNDEF else (0, 0, 1, 2, 2, 2))
+        name = rng.choice(SYMBOL_NAMES if home != COMMON and rng.random() < 0.2 else (b'table', b'main', b'buffer', b'_end'))
         rows.append((name, value, rng.randrange(9), bind << 4 | rng.randrange(5), home))
-    return b''.join(struct.pack('<IIIBBH', SYMBOL_AT[name], value, size, info, 0, home)
-                    for name, value, size, info, home in rows)
+    return b''.join(symbol_entry(NAMES_OF_SYMBOLS.add(name), *row) for name, *row in rows)
 
 
 def made_object(rng, is_straight=True, is_first=True):
     """An object of code, with sections beside it that a compiler might add."""
-    parts = [Part(b'', 0, 0, b'', align=0)]
+    parts = [Part()]
     wanted = [code_part] * rng.choice((1, 1, 1, 2, 3) if is_first else (0, 1, 2))
     wanted += [data_part] * rng.choice((0, 0, 1, 3, 6, 60))
     if not is_first or rng.random() < 0.5:
@@ -246,24 +239,19 @@ def made_object(rng, is_straight=True, is_first=True):
     table = symbols(rng, parts, is_first)
     given = len(parts)
     for _ in range(rng.choice((0, 0, 0, 1, 2)) if given > 1 else 0):
-        kind = rng.choice((NONE, RELAX)) if rng.random() < 0.8 else rng.choice((HI20, 1, ALIGN, 23, RVC_JUMP))
-        entries = b''.join(struct.pack('<3I', 4 * k, rng.randrange(len(table) // 16) << 8 | kind, 0)
+        kind = rng.choice((NONE, RELAX)) if rng.random() < 0.8 else rng.choice((HI20, R_32, ALIGN, PCREL_HI20, RVC_JUMP))
+        entries = b''.join(relocation_entry(4 * k, rng.randrange(len(table) // 16), kind, 0)
                            for k in range(rng.choice((1, 1, 3))))
         about = rng.randrange(1, given)
         if all(part.info != about for part in parts):
-            parts.append(Part(b'.rela', 4, 0x40, entries, align=4, link=-1, info=about, entry=12))
-    parts.append(Part(b'.symtab', 2, 0, table, align=4, link=len(parts) + 2, entry=16))
-    for part in parts:
-        part.link = len(parts) - 1 if part.link == -1 else part.link
-    parts += (Part(b'.names', 3, 0, NAMES_OF_SECTIONS), Part(b'.names', 3, 0, NAMES_OF_SYMBOLS))
-    content, headers = bytes(rng.choice((0, 0, 4, 12))), b''
-    for part in parts:
-        headers += struct.pack('<10I', SECTION_AT.get(part.name, 0), part.kind, part.flags, 0, 52 + len(content), part.size,
-                               part.link, part.info, part.align, part.entry)
-        content += part.content + bytes(-len(part.content) % 4)
-    header = struct.pack('<16sHHIIIIIHHHHHH', b'\x7fELF\1\1\1', 1, 243, 1, 0, 0, 52 + len(content),
-                         rng.choice((0, 0, 0x10)), 52, 0, 0, 40, len(parts), len(parts) - 2)
-    return header + content + headers
+            parts.append(part_of(b'.rela', RELA, INFO_LINK, entries, align=4, info=about, entry=12))
+    parts = [part._replace(link=len(parts)) if part.kind == RELA else part for part in parts]
+    parts += (part_of(b'.symtab', SYMTAB, 0, table, align=4, link=len(parts) + 2, entry=16),
+              *(part_of(b'.names', STRTAB, 0, names.bytes, align=1) for names in (NAMES_OF_SECTIONS, NAMES_OF_SYMBOLS)))
+    start = HEADER + rng.choice((0, 0, 4, 12))
+    content, offsets = laid(parts[1:], start)
+    header = file_header(RELOCATABLE, start + len(content), len(parts), len(parts) - 2, flags=rng.choice((0, 0, 0x10)))
+    return header.ljust(start, b'\0') + content + section_headers(parts[1:], offsets)
 
 
 # ---- mutations
@@ -309,7 +297,7 @@ def entry_field(rng, data):
     base, count = struct.unpack_from('<I', data, 32)[0], struct.unpack_from('<H', data, 48)[0]
     headers = [struct.unpack_from('<10I', data, base + 40 * i) for i in range(count)]
     tables = [(at, size, fields) for _, kind, _, _, at, size, _, _, _, _ in headers
-              for wanted, fields in ((2, SYMBOL_FIELDS), (4, RELOC_FIELDS)) if kind == wanted and size]
+              for wanted, fields in ((SYMTAB, SYMBOL_FIELDS), (RELA, RELOC_FIELDS)) if kind == wanted and size]
     if tables:
         at, size, fields = rng.choice(tables)
         length = sum(width for _, width in fields)
@@ -324,8 +312,8 @@ def program_field(rng, data):
 
 def change_word(rng, data):
     at = rng.choice((52, 116)) + 4 * rng.randrange(4)
-    put(data, at, 4, rng.choice((addi(rng.randrange(32), rng.choice((0, rng.randrange(32))), rng.getrandbits(12)), 0x73,
-                                 0x00100073, 0, 0xFFFFFFFF, 0x9002, rng.getrandbits(32))))
+    put(data, at, 4, rng.choice((addi(rng.randrange(32), rng.choice((0, rng.randrange(32))), rng.getrandbits(12)), ECALL,
+                                 EBREAK, 0, 0xFFFFFFFF, 0x9002, rng.getrandbits(32))))
 
 
 def part(rng, data):
@@ -339,7 +327,7 @@ def truncate(rng, data):
 
 def insert(rng, data):
     at, count = part(rng, data)[0], rng.choice((1, 2, 4, 40, 300))
-    data[at:at] = rng.choice((bytes(count), rng.randbytes(count), b'\xff' * count))
+    data[at:at] = rng.choice((bytes(count), random_bytes(rng, count), b'\xff' * count))
 
 
 def remove(rng, data):
@@ -422,38 +410,23 @@ class Program:
 
     def ended(self, words, memory, given=b''):
         """The call's end, where the process may have so much memory."""
-        def limit():
-            resource.setrlimit(resource.RLIMIT_AS, (memory, memory))
-
         begun = time.monotonic()
         try:
-            return subprocess.run([self.path, *words], input=given, capture_output=True, timeout=TIME_OUT, check=False,
-                                  preexec_fn=limit)
-        except subprocess.TimeoutExpired:
-            raise Wrong(f'{words[0]}: no end after {TIME_OUT} s') from None
+            return programs.run([self.path, *words], given, programs.in_memory(memory))
         finally:
             self.slowest = max(self.slowest, time.monotonic() - begun)
 
     def least(self):
         """The least memory with which the system can start the program at all, with 64 KiB to spare."""
         for memory in range(MIB, MOST_MEMORY, MIB // 16):
-            if self.ended(('run',), memory).returncode == 120:
+            if self.ended(('run',), memory).status == 120:
                 return memory + MIB // 16
         raise Wrong('the program does not start')
 
     def call(self, command, *words, memory=MOST_MEMORY, given=b''):
-        process = self.ended((command, *words), memory, given)
-        ended = Ended(command, process.returncode, process.stdout, process.stderr)
+        ended = Ended(command, *self.ended((command, *words), memory, given))
         self.counts[command, ended.told()] += 1
         return ended
-
-
-def files_in(folder):
-    found = {}
-    for name in os.listdir(folder):
-        with open(os.path.join(folder, name), 'rb') as file:
-            found[name] = file.read()
-    return found
 
 
 class Case:
@@ -479,7 +452,7 @@ class Case:
                               + (None,) * 45)
         self.rng = rng
         self.stale = rng.random() < 0.5
-        self.given = rng.choice((b'', b'input', rng.randbytes(rng.randrange(40))))
+        self.given = rng.choice((b'', b'input', random_bytes(rng, rng.randrange(40))))
 
     def take_linked(self, rng):
         """A list of objects with relocations."""
@@ -496,14 +469,10 @@ class Case:
             self.how.append(start)
 
     def check(self, program, folder):
-        names = [os.path.join(folder, f'file{i}') for i in range(len(self.files))]
+        names = write_list(folder, self.files)
         place = {name: os.path.join(folder, name) for name in ('out', 'cert', 'plain')}
-        for name, data in zip(names, self.files):
-            with open(name, 'wb') as file:
-                file.write(data)
         for name in place if self.stale else ():
-            with open(place[name], 'wb') as file:
-                file.write(b'what was there')
+            write(place[name], b'what was there')
         if self.odd == 'words':
             self.check_words(program, folder, names, place)
             return
@@ -629,18 +598,13 @@ def linked_example(program, example):
         out = os.path.join(folder, 'out')
         if program.call('zc', '--out', out, '--cert', os.path.join(folder, 'cert'), example).name != 'done':
             raise Wrong('the example is not linked')
-        with open(out, 'rb') as file:
-            return file.read()
+        return read(out)
 
 
 def keep(folder, seed, number, files):
     """Writes the files of a case, and gives the names of the first few."""
     os.makedirs(folder, exist_ok=True)
-    paths = [os.path.join(folder, f'seed-{seed}-case-{number}-{i}') for i in range(len(files))]
-    for path, data in zip(paths, files):
-        with open(path, 'wb') as file:
-            file.write(data)
-    return ' '.join(paths[:6])
+    return ' '.join(write_list(folder, files, f'seed-{seed}-case-{number}-{{}}')[:6])
 
 
 def fuzz(program, given, example, image):
@@ -664,20 +628,18 @@ def fuzz(program, given, example, image):
 
 def main():
     arguments = argparse.ArgumentParser(description='Hands the program bad and odd files, and checks how calls end.')
-    arguments.add_argument('program', nargs='?', default=os.path.join('build', 'zcld'))
+    arguments.add_argument('program', nargs='?', default=programs.BUILT)
     arguments.add_argument('--seed', type=int, default=1)
     arguments.add_argument('--count', type=int, default=1000)
     arguments.add_argument('--seconds', type=float, default=60)
     arguments.add_argument('--only', type=int, help='one case, by its number')
     arguments.add_argument('--keep', default=os.path.join('build', 'fuzz'))
     given = arguments.parse_args()
-    program = Program(os.path.abspath(given.program))
-    example = os.path.join(os.path.dirname(__file__), os.pardir, 'examples', 'exit3.o')
-    with open(example, 'rb') as file:
-        data = file.read()
+    program = Program(programs.built(given.program))
+    example = os.path.join(TOP, 'examples', 'exit3.o')
     image = linked_example(program, example)
     begun = time.monotonic()
-    made, wrong = fuzz(program, given, data, image)
+    made, wrong = fuzz(program, given, read(example), image)
     calls = sum(count for (command, _), count in program.counts.items() if command in ('zc', 'trace', 'run'))
     print(f'seed {given.seed}: {made} cases, {calls} calls in {time.monotonic() - begun:.0f} s, '
           f'the longest {program.slowest * 1000:.0f} ms')

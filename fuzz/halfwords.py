@@ -5,14 +5,16 @@ Compressed Instructions"; RISC-V Zc specification 1.0, "Zcb").
 
 says the short form of each word. It knows nothing of the program, so that both can be compared.
 """
+import os
 import sys
 
-OPS, LOADS, STORES, IMMEDIATE, BRANCHES = 0x33, 0x03, 0x23, 0x13, 0x63
+sys.path.insert(0, os.path.join(os.path.dirname(os.path.abspath(__file__)), os.pardir, 'scripts'))
+
+from zcld_tools.instructions import (EBREAK, OPCODE_BRANCH, OPCODE_IMMEDIATE, OPCODE_JAL, OPCODE_JALR, OPCODE_LOAD,
+                                     OPCODE_LUI, OPCODE_REGISTER, OPCODE_STORE, branch_distance, jal_distance, low_part,
+                                     signed)
+
 COMMUTE = {(0, 0), (0, 4), (0, 6), (0, 7), (1, 0)}
-
-
-def signed(value, bits):
-    return value - (1 << bits) if value >> bits - 1 & 1 else value
 
 
 class Instruction:
@@ -21,14 +23,11 @@ class Instruction:
     def __init__(self, word):
         self.word, self.opcode, self.f3, self.f7 = word, word & 127, word >> 12 & 7, word >> 25
         self.rd, self.first, self.second = word >> 7 & 31, word >> 15 & 31, word >> 20 & 31
-        self.low = signed(word >> 20, 12)
-        self.stored = signed(self.f7 << 5 | self.rd, 12)
-        self.distance = signed(word >> 31 << 12 | (word >> 7 & 1) << 11 | (word >> 25 & 63) << 5 | (word >> 8 & 15) << 1, 13)
-        self.jump = signed(word >> 31 << 20 | (word >> 12 & 255) << 12 | (word >> 20 & 1) << 11 | (word >> 21 & 1023) << 1, 21)
-        if self.opcode == OPS and (self.f7, self.f3) in COMMUTE or self.opcode == BRANCHES and self.f3 < 2:
+        self.low, self.distance, self.jump = low_part(word), branch_distance(word), jal_distance(word)
+        if self.opcode == OPCODE_REGISTER and (self.f7, self.f3) in COMMUTE or self.opcode == OPCODE_BRANCH and self.f3 < 2:
             self.first, self.second = max(self.first, self.second), min(self.first, self.second)
-        if self.opcode == OPS and (self.f7, self.f3) == (0, 0) and self.second == 0:
-            self.opcode, self.low = IMMEDIATE, 0
+        if self.opcode == OPCODE_REGISTER and (self.f7, self.f3) == (0, 0) and self.second == 0:
+            self.opcode, self.low = OPCODE_IMMEDIATE, 0
 
 
 def bits(value, *places):
@@ -123,7 +122,7 @@ def of_load(i):
 
 
 def of_store(i):
-    offset, base, source = i.stored, i.first, i.second
+    offset, base, source = i.low, i.first, i.second
     if is_small(source, base):
         if i.f3 == 2 and is_offset(offset, 124, 4):
             return half(0, 6, bits(offset, 4, 3) << 3 | base - 8, bits(offset, 2, 6) << 3 | source - 8, bits(offset, 5))
@@ -163,11 +162,11 @@ def of_upper(i):
 
 def short_form(word):
     """The halfword that does what a word of RV32IM does, or none. It is no hint."""
-    if word == 0x00100073:
+    if word == EBREAK:
         return 0x9002
     i = Instruction(word)
-    kinds = {IMMEDIATE: of_immediate, OPS: of_registers, LOADS: of_load, STORES: of_store, 0x6F: of_jump, BRANCHES: of_branch,
-             0x67: of_register_jump, 0x37: of_upper}
+    kinds = {OPCODE_IMMEDIATE: of_immediate, OPCODE_REGISTER: of_registers, OPCODE_LOAD: of_load, OPCODE_STORE: of_store,
+             OPCODE_JAL: of_jump, OPCODE_BRANCH: of_branch, OPCODE_JALR: of_register_jump, OPCODE_LUI: of_upper}
     return kinds[i.opcode](i) if i.opcode in kinds else None
 
 

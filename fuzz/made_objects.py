@@ -5,72 +5,24 @@ way. An odd list has something in it that is no fault of the objects' form, but 
 """
 import struct
 
-from object_items import (ALIGN, BRANCH, CALL, CALL_PLT, HI20, JAL, LO12_I, LO12_S, NONE, OF_TWO_BYTES, PCREL_HI20,
-                          PCREL_LO12_I, PCREL_LO12_S, R_32, RELAX)
-from written_object import (ABS, COMMON, CONSTANT_FLAGS, DATA_FLAGS, DATA_TYPE, FUNCTION_TYPE, GLOBAL, LOCAL, NOBITS,
-                            PROGBITS, SECTION_TYPE, WEAK, Reloc, Written)
+from object_faults import LINKER_NAMES
+from object_items import OF_TWO_BYTES
+from zcld_tools.elf import (ABS, ADD32, ALIGN, ALLOC, BRANCH, CALL, CALL_PLT, CODE_FLAGS, COMMON, CONSTANT_FLAGS,
+                            DATA_FLAGS, DATA_TYPE, FUNCTION_TYPE, GLOBAL, GOT_HI20, HI20, INIT_ARRAY, JAL, LO12_I, LO12_S,
+                            LOCAL, NOBITS, NONE, PCREL_HI20, PCREL_LO12_I, PCREL_LO12_S, PROGBITS, RELAX, RVC_BRANCH, R_32,
+                            SECTION_TYPE, SUB32, WEAK)
+from zcld_tools.instructions import (A0, A1, A2, A7, CALL_WORDS, ECALL, EXIT_WORDS, NOP, RA, READ_CALL, RET, S0, S1, SP, T0,
+                                     T1, T2, T3, WRITE_CALL, ZERO, add, addi, auipc, branch, immediate, is_store, jal, jalr,
+                                     load, lui, lw, of_format_r, store, sw)
+from zcld_tools.objects import Reloc, Written
 
-ZERO, RA, SP, T0, T1, T2, S0, SUM, A0, A1, A2, A7, T3 = 0, 1, 2, 5, 6, 7, 8, 9, 10, 11, 12, 17, 28
-ECALL, NOP = 0x73, 0x13
-ADD32, SUB32 = 35, 39
-
-
-def of_format_r(f7, f3, to, first, second):
-    """An operation on registers."""
-    return f7 << 25 | second << 20 | first << 15 | f3 << 12 | to << 7 | 0x33
-
-
-def of_format_i(opcode, f3, to, source, value=0):
-    return (value & 0xFFF) << 20 | source << 15 | f3 << 12 | to << 7 | opcode
-
-
-def addi(to, source, value=0):
-    return of_format_i(0x13, 0, to, source, value)
-
-
-def lw(to, base, offset=0):
-    return of_format_i(0x03, 2, to, base, offset)
-
-
-def store(f3, source, base, offset=0):
-    return (offset >> 5 & 127) << 25 | source << 20 | base << 15 | f3 << 12 | (offset & 31) << 7 | 0x23
-
-
-def sw(source, base, offset=0):
-    return store(2, source, base, offset)
-
-
-def jalr(to, base, offset=0):
-    return of_format_i(0x67, 0, to, base, offset)
-
-
-def add(to, first, second):
-    return of_format_r(0, 0, to, first, second)
-
-
-def lui(to):
-    return to << 7 | 0x37
-
-
-def auipc(to):
-    return to << 7 | 0x17
-
-
-def jal(to, distance=0):
-    return ((distance >> 20 & 1) << 31 | (distance >> 1 & 1023) << 21 | (distance >> 11 & 1) << 20
-            | (distance >> 12 & 255) << 12 | to << 7 | 0x6F)
-
-
-def branch(f3, first, second, distance=0):
-    return ((distance >> 12 & 1) << 31 | (distance >> 5 & 63) << 25 | second << 20 | first << 15 | f3 << 12
-            | (distance >> 1 & 15) << 8 | (distance >> 11 & 1) << 7 | 0x63)
-
+# The register in which a program adds up what it comes to.
+SUM = S1
 
 # ---- data
 
 DATA_SECTIONS = ((b'.data', PROGBITS, DATA_FLAGS), (b'.sdata', PROGBITS, DATA_FLAGS), (b'.rodata', PROGBITS, CONSTANT_FLAGS),
-                 (b'.bss', NOBITS, DATA_FLAGS), (b'.sbss', NOBITS, DATA_FLAGS), (b'.init_array', 14, DATA_FLAGS))
-LINKED_NAMES = (b'__global_pointer$', b'__bss_start', b'_end', b'__stack_top')
+                 (b'.bss', NOBITS, DATA_FLAGS), (b'.sbss', NOBITS, DATA_FLAGS), (b'.init_array', INIT_ARRAY, DATA_FLAGS))
 WORDS = 8
 
 
@@ -157,7 +109,7 @@ class Program:
                 continue
             held.append(None)
             symbol = (self.number_symbol(read)[0] if which == 4 else self.named(read, b'missing', bind=WEAK) if which == 5 else
-                      None if which == 6 else self.named(read, rng.choice(LINKED_NAMES)))
+                      None if which == 6 else self.named(read, rng.choice(LINKER_NAMES)))
             section.reloc(R_32, symbol, rng.choice((0, 0, 4, -4, 0x12345)), (0,))
         self.tables.append((name, held))
 
@@ -193,11 +145,11 @@ class Function:
     def pair(self, to, symbol, addend, last):
         """An upper part, absolute or from the program counter, and a last word with the lower part."""
         section = self.section
-        is_store = last & 0x7F == 0x23
+        lower = (LO12_S, PCREL_LO12_S) if is_store(last) else (LO12_I, PCREL_LO12_I)
         if self.rng.random() < 0.5:
             section.reloc(HI20, symbol, addend, (lui(to),))
             self.relax()
-            section.reloc(LO12_S if is_store else LO12_I, symbol, addend, (last,))
+            section.reloc(lower[0], symbol, addend, (last,))
             self.relax()
         else:
             label = self.label()
@@ -205,7 +157,7 @@ class Function:
             self.relax()
             if self.rng.random() < 0.3:
                 section.words(addi(SUM, SUM, 1))
-            section.reloc(PCREL_LO12_S if is_store else PCREL_LO12_I, label, 0, (last,))
+            section.reloc(lower[1], label, 0, (last,))
             self.relax()
 
     # the ways to call
@@ -217,7 +169,7 @@ class Function:
         symbol = self.program.named(self.read, self.program.functions[self.rng.choice(later)])
         which = self.rng.randrange(6)
         if which < 2:
-            self.section.reloc(self.rng.choice((CALL, CALL_PLT)), symbol, 0, (auipc(RA), jalr(RA, RA)))
+            self.section.reloc(self.rng.choice((CALL, CALL_PLT)), symbol, 0, CALL_WORDS)
         elif which == 2:
             self.section.reloc(JAL, symbol, 0, (jal(RA),))
         elif which == 3:
@@ -242,7 +194,7 @@ class Function:
         self.section.reloc(LO12_I, symbol, 0, (addi(T0, T0),))
         end = self.label()
         self.section.reloc(BRANCH, end, 0, (branch(0, T0, ZERO),))
-        self.section.reloc(CALL, symbol, 0, (auipc(RA), jalr(RA, RA)))
+        self.section.reloc(CALL, symbol, 0, CALL_WORDS)
         self.section.reloc(JAL, symbol, 0, (jal(RA),))
         self.section.reloc(BRANCH, symbol, 0, (branch(1, T0, T1),))
         self.place(end)
@@ -251,12 +203,12 @@ class Function:
 
     def work(self):
         value = self.rng.randrange(-2048, 2048)
-        self.section.words(self.rng.choice((addi(SUM, SUM, value), of_format_i(0x13, 4, SUM, SUM, value),
-                                            of_format_i(0x13, 1, SUM, SUM, 1), of_format_i(0x13, 3, T0, SUM, value))))
+        self.section.words(self.rng.choice((addi(SUM, SUM, value), immediate(4, SUM, SUM, value),
+                                            immediate(1, SUM, SUM, 1), immediate(3, T0, SUM, value))))
 
     def load_number(self):
         symbol, addend = self.program.number_symbol(self.read)
-        self.pair(T0, symbol, addend, self.rng.choice((lw(T1, T0), of_format_i(0x03, 4, T1, T0))))
+        self.pair(T0, symbol, addend, self.rng.choice((lw(T1, T0), load(4, T1, T0))))
         self.section.words(add(SUM, SUM, T1))
 
     def store_number(self):
@@ -265,7 +217,7 @@ class Function:
             self.pair(T0, symbol, addend, sw(SUM, T0))
 
     def take_address(self):
-        names = [*LINKED_NAMES, b'missing', b'absolute']
+        names = [*LINKER_NAMES, b'missing', b'absolute']
         name = self.rng.choice(names)
         symbol = self.program.named(self.read, name, **({'bind': WEAK} if name == b'missing' else {}))
         self.pair(T0, symbol, self.rng.choice((0, 0, 0x7FF, 0x800, -0x801)), addi(T1, T0))
@@ -274,13 +226,13 @@ class Function:
     def write_number(self):
         symbol, addend = self.program.number_symbol(self.read)
         self.pair(A1, symbol, addend, addi(A1, A1))
-        self.section.words(addi(A0, ZERO, self.rng.choice((1, 2))), addi(A2, ZERO, 4), addi(A7, ZERO, 64), ECALL)
+        self.section.words(addi(A0, ZERO, self.rng.choice((1, 2))), addi(A2, ZERO, 4), addi(A7, ZERO, WRITE_CALL), ECALL)
 
     def read_input(self):
         if any(it[2] and it[0] in (None, self.read) for it in self.program.numbers):
             symbol, _ = self.program.number_symbol(self.read, must_change=True)
             self.pair(A1, symbol, 0, addi(A1, A1))
-            self.section.words(addi(A0, ZERO, 0), addi(A2, ZERO, 8), addi(A7, ZERO, 63), ECALL, add(SUM, SUM, A0))
+            self.section.words(addi(A0, ZERO, 0), addi(A2, ZERO, 8), addi(A7, ZERO, READ_CALL), ECALL, add(SUM, SUM, A0))
 
     def skip(self):
         """A branch over words, with a relocation or without; the condition is one of numbers or of the address of code."""
@@ -322,7 +274,7 @@ class Function:
         """Whether an address of code is 0, as numbers."""
         self.take_function(T0)
         copy = self.rng.choice((addi(T1, T0), add(T1, T0, ZERO), add(T1, ZERO, T0)))
-        is_zero, is_not_zero = of_format_i(0x13, 3, T2, T1, 1), T1 << 20 | 3 << 12 | T2 << 7 | 0x33
+        is_zero, is_not_zero = immediate(3, T2, T1, 1), of_format_r(0, 3, T2, ZERO, T1)
         self.section.words(copy, is_zero, add(SUM, SUM, T2), is_not_zero, add(SUM, SUM, T2))
 
     def keep_address(self):
@@ -332,7 +284,7 @@ class Function:
         self.section.words(addi(SP, SP, -16), sw(T0, SP, 4))
         if self.rng.random() < 0.5:
             for k in range(4):
-                self.section.words(of_format_i(0x03, 4, T1, SP, 4 + k), T1 << 20 | SP << 15 | (8 + k) << 7 | 0x23)
+                self.section.words(load(4, T1, SP, 4 + k), store(0, T1, SP, 8 + k))
             self.section.words(lw(T1, SP, 8))
         else:
             self.section.words(lw(T1, SP, 4))
@@ -402,7 +354,7 @@ class Function:
             last = rng.choice((addi(T1, T0), lw(T1, T0), jalr(RA, T0), sw(T1, T0)))
             section.reloc(HI20, function, 0, (lui(rng.choice((T0, T0, T1, SP))),))
             section.words(*rng.choice(((), (addi(T0, T0),), (addi(T0, T0, 4),), (add(T0, ZERO, T1),))))
-            section.reloc(LO12_S if last & 0x7F == 0x23 else LO12_I, other, 0, (last,))
+            section.reloc(LO12_S if is_store(last) else LO12_I, other, 0, (last,))
         elif which == 1:
             label = self.label()
             section.reloc(PCREL_HI20, other, 0, (auipc(T0),))
@@ -413,7 +365,7 @@ class Function:
             section.reloc(CALL, function, 0, (auipc(temporary), jalr(to, temporary)))
         elif which == 3:
             self.take_function(T0)
-            by_halves = (addi(SP, SP, -16), sw(T0, SP), of_format_i(3, 1, T1, SP), addi(SP, SP, 16))
+            by_halves = (addi(SP, SP, -16), sw(T0, SP), load(1, T1, SP), addi(SP, SP, 16))
             section.words(*rng.choice((by_halves, (sw(T0, SP, -4), lw(T1, SP, -4)), (auipc(T1),), (addi(SP, T0),),
                                        (add(T1, T0, T0),))))
         else:
@@ -421,7 +373,7 @@ class Function:
         section.words(*rng.choice((
             (), (), (add(SUM, SUM, T1),), (jalr(RA, T1),), (jalr(RA, T1, 4),), (branch(0, T1, ZERO, 8), NOP),
             (branch(1, T1, T0, 8), NOP), (branch(4, T1, T0, 8), NOP), (addi(A7, T1), ECALL),
-            (of_format_i(0x13, 3, T1, T1, 1), add(SUM, SUM, T1)))))
+            (immediate(3, T1, T1, 1), add(SUM, SUM, T1)))))
 
     def body(self, count):
         ways = (self.work, self.load_number, self.store_number, self.take_address, self.write_number, self.read_input,
@@ -437,13 +389,13 @@ class Function:
     def make(self):
         self.section.words(addi(SP, SP, -16), sw(RA, SP, 12), sw(S0, SP, 8))
         self.body(self.rng.choice((1, 3, 6)))
-        self.section.words(lw(RA, SP, 12), lw(S0, SP, 8), addi(SP, SP, 16), jalr(ZERO, RA))
+        self.section.words(lw(RA, SP, 12), lw(S0, SP, 8), addi(SP, SP, 16), RET)
 
 
 def add_start(program):
     """`_start`, which calls functions, writes the sum and exits."""
     read, rng = program.objects[0], program.rng
-    section = program.new_section(read, b'.text', PROGBITS, 6)
+    section = program.new_section(read, b'.text', PROGBITS, CODE_FLAGS)
     if rng.random() < 0.3:
         section.words(NOP, NOP)
     read.symbol(b'_start', home=section, value=len(section.content), bind=rng.choice((GLOBAL, GLOBAL, WEAK)))
@@ -451,8 +403,8 @@ def add_start(program):
     section.words(addi(SUM, ZERO, rng.randrange(2048)))
     made.body(rng.choice((2, 5)))
     made.call()
-    section.words(addi(SP, SP, -16), sw(SUM, SP), addi(A0, ZERO, 1), addi(A1, SP), addi(A2, ZERO, 4), addi(A7, ZERO, 64), ECALL,
-                  addi(A0, SUM), addi(A7, ZERO, 93), ECALL)
+    section.words(addi(SP, SP, -16), sw(SUM, SP), addi(A0, ZERO, 1), addi(A1, SP), addi(A2, ZERO, 4),
+                  addi(A7, ZERO, WRITE_CALL), ECALL, addi(A0, SUM), *EXIT_WORDS)
 
 
 def add_functions(program):
@@ -460,7 +412,7 @@ def add_functions(program):
     for index, (name, home) in enumerate(zip(program.functions, program.homes)):
         read = program.objects[home]
         align = program.rng.choice((1, 2, 4, 4, 4, 16, 256))
-        section = shared.get(home) or program.new_section(read, b'.text', PROGBITS, 6, align=align)
+        section = shared.get(home) or program.new_section(read, b'.text', PROGBITS, CODE_FLAGS, align=align)
         if program.rng.random() < 0.5:
             shared[home] = section
         start = len(section.content)
@@ -496,8 +448,8 @@ def odd_reloc(program, read, section, reloc):
     rng = program.rng
     which = rng.randrange(10)
     if which == 0:
-        reloc.kind = rng.choice((NONE, R_32, 2, BRANCH, JAL, CALL, CALL_PLT, 20, PCREL_HI20, PCREL_LO12_I, PCREL_LO12_S, HI20,
-                                 LO12_I, LO12_S, 35, 39, ALIGN, *OF_TWO_BYTES, RELAX, 57, 192, 255))
+        reloc.kind = rng.choice((NONE, R_32, 2, BRANCH, JAL, CALL, CALL_PLT, GOT_HI20, PCREL_HI20, PCREL_LO12_I, PCREL_LO12_S,
+                                 HI20, LO12_I, LO12_S, ADD32, SUB32, ALIGN, *OF_TWO_BYTES, RELAX, 57, 192, 255))
     elif which == 1:
         reloc.offset += rng.choice((-8, -4, -2, -1, 1, 2, 4, 8, 4096))
     elif which == 2:
@@ -521,7 +473,8 @@ def odd_reloc(program, read, section, reloc):
         short = Reloc(reloc.offset + rng.randrange(-3, 10), rng.choice(OF_TWO_BYTES), reloc.symbol, 0)
         section.relocs.insert(rng.randrange(len(section.relocs) + 1), short)
     else:
-        section.relocs.append(Reloc(reloc.offset + rng.choice((-4, 0, 4)), rng.choice((R_32, ALIGN, CALL, RELAX, 44, 99)),
+        section.relocs.append(Reloc(reloc.offset + rng.choice((-4, 0, 4)),
+                                    rng.choice((R_32, ALIGN, CALL, RELAX, RVC_BRANCH, 99)),
                                     rng.choice((None, *read.symbols)), rng.choice((0, 4, 8, 12, 300))))
 
 
@@ -548,7 +501,7 @@ def odd_section(program):
     section = rng.choice(rng.choice([read for read in program.objects if read.sections]).sections)
     which = rng.randrange(5)
     if which == 0:
-        section.flags &= ~2
+        section.flags &= ~ALLOC
     elif which == 1:
         del section.content[max(0, len(section.content) - 4 * rng.randrange(1, 4)):]
     elif which == 2:
@@ -563,7 +516,7 @@ def odd_branch(program):
     """A branch as far as it reaches or a bit farther, forwards or backwards."""
     rng = program.rng
     read = rng.choice(program.objects)
-    section = rng.choice([it for it in read.sections if it.flags == 6] or [None])
+    section = rng.choice([it for it in read.sections if it.flags == CODE_FLAGS] or [None])
     if section is None:
         return
     count = rng.choice((1022, 1023, 1024))

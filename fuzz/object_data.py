@@ -1,10 +1,9 @@
 """Where data lies, and what symbols are, of objects without a fault of symbols (docs/FORMATS.md; RISC-V ELF psABI)."""
-from object_faults import ABS, COMMON, NOBITS, UNDEF, WRITE
+from zcld_tools.elf import ABS, COMMON, GLOBAL, NOBITS, UNDEF, WEAK, WRITE
+from zcld_tools.images import DATA_AT, STACK_HIGH
 
-TEXT_AT, DATA_AT, STACK_TOP = 0x10000, 0x100000, 0x10000000
 READ_ONLY, DATA, SMALL_DATA, SMALL_ZERO, ZERO = range(5)
 CODE, NUMBER, ABSENT, NOWHERE = 'code', 'number', 'absent', 'nowhere'
-GLOBAL, WEAK = 1, 2
 
 
 def aligned(at, align):
@@ -71,7 +70,7 @@ class Data:
             at += size
         self.end = at
         self.linker = {b'__global_pointer$': starts[SMALL_DATA] + 0x800, b'__bss_start': starts[SMALL_ZERO], b'_end': at,
-                       b'__stack_top': STACK_TOP}
+                       b'__stack_top': STACK_HIGH}
         self.bytes = bytearray(self.file_end - DATA_AT)
         for start, part in content:
             self.bytes[start:start + len(part)] = part

@@ -4,16 +4,15 @@
 """
 import struct
 
+from zcld_tools.elf import (ABS, ALIGN, ALLOC, COMMON, COMPRESSED, EXECINSTR, GROUP, INIT_ARRAY, MAGIC, NOBITS, NULL,
+                            PROGBITS, REL, RELA, RELOCATABLE, RISCV, STRTAB, SYMTAB, SYMTAB_SHNDX, TLS, UNDEF, WRITE)
+
 NAMES = (None, 'NotElf', 'Truncated', 'Flags', 'SectionKind', 'Alignment', 'CodeSize', 'BadName', 'BadSymbol',
          'Duplicate', 'Undefined', 'RelocKind', 'RelocPlace', 'LoPair', 'BadTarget', 'Range', 'NoEntry', 'TooLarge')
 
 LINKER_NAMES = (b'__global_pointer$', b'__bss_start', b'_end', b'__stack_top')
-RELOC_NONE, ALIGN, RELAX = 0, 43, 51
-
-NULL, PROGBITS, SYMTAB, STRTAB, RELA, NOBITS, REL, GROUP, SYMTAB_SHNDX = 0, 1, 2, 3, 4, 8, 9, 17, 18
-MEMORY = (PROGBITS, NOBITS, 14, 15, 16)
-WRITE, ALLOC, EXECINSTR, TLS, COMPRESSED = 1, 2, 4, 0x400, 0x800
-UNDEF, ABS, COMMON = 0, 0xFFF1, 0xFFF2
+# The types of sections that may lie in memory: these, and the arrays of functions that end and begin a program.
+MEMORY = (PROGBITS, NOBITS, INIT_ARRAY, INIT_ARRAY + 1, INIT_ARRAY + 2)
 
 
 class Section:
@@ -131,7 +130,7 @@ class Object:
 
 
 def not_elf(data):
-    return (len(data) < 52 or data[:7] != b'\x7fELF\1\1\1' or struct.unpack_from('<2H', data, 16) != (1, 243)
+    return (len(data) < 52 or data[:7] != MAGIC or struct.unpack_from('<2H', data, 16) != (RELOCATABLE, RISCV)
             or struct.unpack_from('<2H', data, 46)[1] != 0 and struct.unpack_from('<H', data, 46)[0] != 40)
 
 

@@ -4,15 +4,21 @@
 
 lists the items of the files, or says their first fault. It knows nothing of the program, so that both can be compared.
 """
+import os
 import struct
 import sys
 
-from object_data import ABSENT, CODE, NOWHERE, NUMBER, TEXT_AT, Symbols, aligned
-from object_faults import RELA, Object, gather_fault, told
+sys.path.insert(0, os.path.join(os.path.dirname(os.path.abspath(__file__)), os.pardir, 'scripts'))
 
-NONE, R_32, BRANCH, JAL, CALL, CALL_PLT, ALIGN, RELAX = 0, 1, 16, 17, 18, 19, 43, 51
-PCREL_HI20, PCREL_LO12_I, PCREL_LO12_S, HI20, LO12_I, LO12_S = 23, 24, 25, 26, 27, 28
-RVC_BRANCH, RVC_JUMP = 44, 45
+from object_data import ABSENT, CODE, NOWHERE, NUMBER, Symbols, aligned
+from object_faults import Object, gather_fault, told
+from zcld_tools.elf import (ALIGN, BRANCH, CALL, CALL_PLT, HI20, JAL, LO12_I, LO12_S, NOBITS, NONE, PCREL_HI20,
+                            PCREL_LO12_I, PCREL_LO12_S, RELA, RELAX, RVC_BRANCH, RVC_JUMP, R_32)
+from zcld_tools.files import read_all
+from zcld_tools.images import DATA_AT, TEXT_AT
+from zcld_tools.instructions import (EBREAK, ECALL, OPCODE_FENCE, OPCODE_IMMEDIATE, OPCODE_LOAD, OPCODE_REGISTER,
+                                     branch_distance, is_auipc, is_branch, is_jal, is_jalr, is_lui, is_store, jal_distance)
+
 WITHOUT_FIELD = (NONE, RELAX)
 CALLS, LOW_OF_PAIR = (CALL, CALL_PLT), (PCREL_LO12_I, PCREL_LO12_S)
 # These change instructions of 2 bytes, which no object may have: an entry of such a type is a fault, but its field counts.
@@ -25,56 +31,21 @@ KIND_FAULT, PLACE_FAULT, PAIR_FAULT, TARGET_FAULT, RANGE_FAULT, ENTRY_FAULT = 11
 # ---- words (RISC-V unprivileged manual, "RV32I")
 
 
-def signed(value, bits):
-    return value - (1 << bits) if value >> bits - 1 & 1 else value
-
-
-def is_branch(word):
-    return word & 0x7F == 0x63 and word >> 12 & 7 not in (2, 3)
-
-
-def is_jal(word):
-    return word & 0x7F == 0x6F
-
-
-def is_jalr(word):
-    return word & 0x707F == 0x67
-
-
-def is_lui(word):
-    return word & 0x7F == 0x37
-
-
-def is_auipc(word):
-    return word & 0x7F == 0x17
-
-
 def takes_low_i(word):
     """addi, a load, or jalr."""
-    return word & 0x707F == 0x13 or word & 0x7F == 0x03 and word >> 12 & 7 in (0, 1, 2, 4, 5) or is_jalr(word)
-
-
-def is_store(word):
-    return word & 0x7F == 0x23 and word >> 12 & 7 <= 2
-
-
-def branch_distance(word):
-    return signed(word >> 31 << 12 | (word >> 7 & 1) << 11 | (word >> 25 & 63) << 5 | (word >> 8 & 15) << 1, 13)
-
-
-def jal_distance(word):
-    return signed(word >> 31 << 20 | (word >> 12 & 255) << 12 | (word >> 20 & 1) << 11 | (word >> 21 & 1023) << 1, 21)
+    return (word & 0x707F == OPCODE_IMMEDIATE or word & 0x7F == OPCODE_LOAD and word >> 12 & 7 in (0, 1, 2, 4, 5)
+            or is_jalr(word))
 
 
 def is_known(word):
     """A word of RV32IM that an item is made of: all but `csrrw`."""
     opcode, f3, f7 = word & 0x7F, word >> 12 & 7, word >> 25
-    if opcode == 0x13:
+    if opcode == OPCODE_IMMEDIATE:
         return f3 not in (1, 5) or f7 == 0 or f3 == 5 and f7 == 0x20
-    if opcode == 0x33:
+    if opcode == OPCODE_REGISTER:
         return f7 in (0, 1) or f7 == 0x20 and f3 in (0, 5)
     return (is_branch(word) or is_jal(word) or takes_low_i(word) or is_lui(word) or is_auipc(word) or is_store(word)
-            or word & 0x707F == 0x0F or word in (0x00000073, 0x00100073))
+            or word & 0x707F == OPCODE_FENCE or word in (ECALL, EBREAK))
 
 
 KINDS = {BRANCH: is_branch, JAL: is_jal, PCREL_HI20: is_auipc, HI20: is_lui, PCREL_LO12_I: takes_low_i, LO12_I: takes_low_i,
@@ -228,6 +199,17 @@ class Code:
             return Item('Raw', words)
         return Item('Op' if is_known(word) else 'Raw', words)
 
+    # data
+
+    def addresses_in_data(self):
+        """Each word of data that names something: where it stands from the start of data on, and what it names."""
+        for (i, k), part in self.parts.items():
+            if not part.is_code and part.section.kind != NOBITS:
+                start = self.symbols.data.sections[i, k] - DATA_AT
+                for entry in part.entries:
+                    if entry.kind == R_32:
+                        yield start + entry.offset, self.symbols.resolve(i, entry.symbol, entry.addend)
+
     # the plain layout
 
     def plain_layout(self):
@@ -277,15 +259,17 @@ def first_fault(files):
     return gather_fault(files) or Code([Object(data) for data in files]).fault()
 
 
-def main():
-    files = []
-    for path in sys.argv[1:]:
-        with open(path, 'rb') as file:
-            files.append(file.read())
+def without_fault(paths):
+    """The bytes of files. If they have a fault, this script ends with its line."""
+    files = read_all(paths)
     found = first_fault(files)
     if found:
         sys.exit(told(found).decode('latin-1'))
-    code = Code([Object(data) for data in files])
+    return files
+
+
+def main():
+    code = Code([Object(data) for data in without_fault(sys.argv[1:])])
     addresses, _ = code.plain_layout()
     for place in code.places():
         item = code.item(place)

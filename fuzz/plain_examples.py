@@ -1,22 +1,11 @@
 """Small lists of objects with relocations, and what a plain link makes of them or refuses (RISC-V ELF psABI, "Relocations")."""
-from made_objects import (A0, A1, A2, A7, ECALL, NOP, RA, SP, T0, ZERO, add, addi, auipc, branch, jal, jalr, lui, lw, sw)
-from object_items import (ALIGN, BRANCH, CALL, CALL_PLT, HI20, JAL, LO12_I, LO12_S, OF_TWO_BYTES, PCREL_HI20, PCREL_LO12_I,
-                          PCREL_LO12_S, R_32, RELAX)
-from written_object import ABS, COMMON, CONSTANT_FLAGS, DATA_FLAGS, LOCAL, NOBITS, PROGBITS, WEAK, Written
-
-GOT_HI20, ADD32, SUB32 = 20, 35, 39
-EXIT = (addi(A7, ZERO, 93), ECALL)
-CALL_WORDS = (auipc(RA), jalr(RA, RA))
-
-
-def object_with(*words, name=b'_start'):
-    """An object of code in `.text`, with a global name where it begins; its section and the symbol."""
-    made = Written()
-    text = made.section(b'.text')
-    text.words(*words)
-    made.symbol(name, home=text)
-    return made, text
-
+from object_items import OF_TWO_BYTES
+from zcld_tools.elf import (ABS, ADD32, ALIGN, BRANCH, CALL, CALL_PLT, COMMON, CONSTANT_FLAGS, DATA_FLAGS, GOT_HI20, HI20,
+                            JAL, LO12_I, LO12_S, LOCAL, NOBITS, PCREL_HI20, PCREL_LO12_I, PCREL_LO12_S, PROGBITS, RELAX,
+                            R_32, SUB32, WEAK)
+from zcld_tools.instructions import (A0, A1, A2, A7, CALL_WORDS, ECALL, EXIT_WORDS, NOP, RA, READ_CALL, RET, SP, T0,
+                                     WRITE_CALL, ZERO, add, addi, auipc, branch, immediate, jal, jalr, lui, lw, sw)
+from zcld_tools.objects import Written, object_with
 
 # ---- programs
 
@@ -25,15 +14,15 @@ def hello():
     """A function in another object writes `hi`, and the exit has the status 0."""
     start, text = object_with()
     text.reloc(CALL, start.symbol(b'main'), 0, CALL_WORDS)
-    text.words(*EXIT)
+    text.words(*EXIT_WORDS)
     main, text = object_with(addi(SP, SP, -16), sw(RA, SP, 12), addi(A0, ZERO, 1), name=b'main')
     message = main.section(b'.rodata', PROGBITS, CONSTANT_FLAGS, align=1)
     message.content += b'hi\n'
     symbol = main.symbol(b'msg', home=message, bind=LOCAL)
     text.reloc(HI20, symbol, 0, (lui(A1),))
     text.reloc(LO12_I, symbol, 0, (addi(A1, A1),))
-    text.words(addi(A2, ZERO, 3), addi(A7, ZERO, 64), ECALL, addi(A0, ZERO, 0), lw(RA, SP, 12), addi(SP, SP, 16),
-               jalr(ZERO, RA))
+    text.words(addi(A2, ZERO, 3), addi(A7, ZERO, WRITE_CALL), ECALL, addi(A0, ZERO, 0), lw(RA, SP, 12), addi(SP, SP, 16),
+               RET)
     return [start.bytes(), main.bytes()]
 
 
@@ -42,8 +31,8 @@ def echo():
     made, text = object_with(addi(A0, ZERO, 0))
     buffer = made.section(b'.bss', NOBITS, DATA_FLAGS, size=4)
     text.reloc(HI20, made.symbol(b'buffer', home=buffer, bind=LOCAL), 0, (lui(A1),))
-    text.words(addi(A2, ZERO, 4), addi(A7, ZERO, 63), ECALL, addi(A2, A0), addi(A0, ZERO, 1), addi(A7, ZERO, 64), ECALL,
-               addi(A0, ZERO, 0), *EXIT)
+    text.words(addi(A2, ZERO, 4), addi(A7, ZERO, READ_CALL), ECALL, addi(A2, A0), addi(A0, ZERO, 1), addi(A7, ZERO, WRITE_CALL),
+               ECALL, addi(A0, ZERO, 0), *EXIT_WORDS)
     return [made.bytes()]
 
 
@@ -51,7 +40,7 @@ def jump_table():
     """An exit with 7, 1,100 words that are never reached, and 20 jumps to the exit, of which the first is `_start`."""
     made = Written()
     text = made.section(b'.text')
-    text.words(addi(A0, ZERO, 7), *EXIT, *[0x05D54513] * 1100)
+    text.words(addi(A0, ZERO, 7), *EXIT_WORDS, *[0x05D54513] * 1100)
     made.symbol(b'_start', home=text, value=len(text.content))
     for _ in range(20):
         text.words(jal(ZERO, -len(text.content)))
@@ -69,7 +58,7 @@ def linker_names():
     data = made.section(b'.data', PROGBITS, DATA_FLAGS)
     text.reloc(HI20, made.symbol(b'words', home=data, bind=LOCAL), 0, (lui(A1),))
     text.reloc(LO12_I, made.symbols[-1], 0, (addi(A1, A1),))
-    text.words(addi(A2, ZERO, 20), addi(A0, ZERO, 1), addi(A7, ZERO, 64), ECALL, addi(A0, ZERO, 0), *EXIT)
+    text.words(addi(A2, ZERO, 20), addi(A0, ZERO, 1), addi(A7, ZERO, WRITE_CALL), ECALL, addi(A0, ZERO, 0), *EXIT_WORDS)
     rows = ((b'__global_pointer$', 0, 0x100840), (b'__bss_start', 0, 0x100050), (b'_end', 0, 0x100099),
             (b'__stack_top', 0, 0x10000000), (b'_end', 7, 0x1000A0))
     for name, addend, _ in rows:
@@ -94,8 +83,8 @@ def calls_of_sum():
     for _ in range(2):
         text.words(addi(A0, ZERO, 0))
         text.reloc(CALL, called, 0, CALL_WORDS)
-    text.words(*EXIT)
-    made.symbol(b'elsewhere', home=text, value=text.words(addi(A0, A0, 30), jalr(ZERO, RA)))
+    text.words(*EXIT_WORDS)
+    made.symbol(b'elsewhere', home=text, value=text.words(addi(A0, A0, 30), RET))
     return made.bytes()
 
 
@@ -118,7 +107,7 @@ def refused_data(kind, offset=0, size=8):
 
 def data_with(size, *rows):
     """An object with relocations of data: the offset and the type."""
-    made, _ = object_with(*EXIT)
+    made, _ = object_with(*EXIT_WORDS)
     data = made.section(b'.data', PROGBITS, DATA_FLAGS)
     data.content += bytes(size)
     for offset, kind in rows:
@@ -232,7 +221,7 @@ def of_place():
         ('lui for a branch', refused_one(BRANCH, (lui(T0),))), ('a branch for jal', refused_one(JAL, (BEQ,))),
         ('auipc for HI20', refused_one(HI20, (auipc(T0),))), ('lui for PCREL_HI20', refused_one(PCREL_HI20, (lui(T0),))),
         ('a store for LO12_I', refused_one(LO12_I, (sw(T0, T0),))), ('a load for LO12_S', refused_one(LO12_S, (lw(T0, T0),))),
-        ('xori for LO12_I', refused_one(LO12_I, (0x0002C293,))),
+        ('xori for LO12_I', refused_one(LO12_I, (immediate(4, T0, T0),))),
         ('lui for PCREL_LO12_I', with_relocs((auipc(T0), lui(T0)), (0, PCREL_HI20, 0, 0), (4, PCREL_LO12_I, 0, 0))),
         ('addi for PCREL_LO12_S', with_relocs(PAIR, (0, PCREL_HI20, 0, 0), (4, PCREL_LO12_S, 0, 0))),
         ('a call of two nops', refused_one(CALL)), ('a call with another base', refused_one(CALL_PLT, OTHER_BASE)),
@@ -282,15 +271,16 @@ def of_entry():
     """NoEntry."""
     data = refused_data(R_32)
     data.symbols[0].home = data.sections[1]
-    return [('no name', other(object_with(*EXIT)[0])), ('data', data), ('a number', start_at(object_with(*EXIT)[0], 0, ABS)),
-            ('the end', start_at(object_with(*EXIT)[0], 8)), ('in a word', start_at(object_with(*EXIT)[0], 2)),
+    ends = [object_with(*EXIT_WORDS)[0] for _ in range(4)]
+    return [('no name', other(ends[0])), ('data', data), ('a number', start_at(ends[1], 0, ABS)),
+            ('the end', start_at(ends[2], 8)), ('in a word', start_at(ends[3], 2)),
             ('in a call', start_at(with_relocs((*CALL_WORDS, NOP), (0, CALL, 8, 0)), 4))]
 
 
 def in_order():
     """Lists with several faults, and the line of the first."""
     kind, place, target = refused_one(GOT_HI20), refused_one(BRANCH), refused_one(HI20, (lui(T0),), value=2)
-    missing, _ = object_with(*EXIT, name=b'g')
+    missing, _ = object_with(*EXIT_WORDS, name=b'g')
     missing.sections[0].reloc(R_32, missing.symbol(b'nothing'))
     missing.sections[0].relocs[-1].offset = 0
     return [
@@ -306,14 +296,14 @@ def in_order():
         ('a place before a pair', [refused_one(PCREL_LO12_I, (lui(T0),), value=2, addend=4)], '0 12 RelocPlace'),
         ('sections in their order', [of_two_sections()], '0 14 BadTarget'),
         ('objects in their order', [target, other(refused_one(GOT_HI20))], '0 14 BadTarget'),
-        ('the second object', [object_with(*EXIT)[0], other(refused_one(GOT_HI20))], '1 11 RelocKind'),
+        ('the second object', [object_with(*EXIT_WORDS)[0], other(refused_one(GOT_HI20))], '1 11 RelocKind'),
         ('a name without definition before a type', [kind, missing], '1 10 Undefined nothing'),
         ('two definitions before a type', [kind, place], '1 9 Duplicate _start'),
         ('a bad symbol before a type', [kind, other(refused_one(R_32, value=100))], '1 8 BadSymbol'),
         ('a type before no entry', [other(refused_one(GOT_HI20))], '0 11 RelocKind'),
         ('no entry before a far branch', [other(far(1023))], '0 16 NoEntry'),
         ('a target before a far branch', [far(1023), other(refused_one(HI20, (lui(T0),), value=2))], '1 14 BadTarget'),
-        ('a far branch of the second object', [object_with(*EXIT)[0], other(far(1023))], '1 15 Range'),
+        ('a far branch of the second object', [object_with(*EXIT_WORDS)[0], other(far(1023))], '1 15 Range'),
     ]
 
 
@@ -339,7 +329,7 @@ def absent():
         text.reloc(kind, symbol, 0, words)
     text.reloc(HI20, symbol, 0, (lui(A0),))
     text.reloc(LO12_I, symbol, 5, (addi(A0, A0),))
-    text.words(*EXIT)
+    text.words(*EXIT_WORDS)
     return made
 
 
@@ -351,7 +341,7 @@ def words():
     held = made.symbol(b'held', home=data, bind=LOCAL)
     for symbol, addend in ((None, 7), (held, 4), (made.symbols[0], 0), (made.symbols[0], 32)):
         text.reloc(R_32, symbol, addend, (0xFFFFFFFF,))
-    text.words(addi(A0, ZERO, 6), *EXIT)
+    text.words(addi(A0, ZERO, 6), *EXIT_WORDS)
     return made
 
 
@@ -360,7 +350,7 @@ def padded():
     made, text = object_with(NOP, addi(T0, ZERO, 3), addi(T0, T0, -1))
     text.align = 64
     text.reloc(ALIGN, None, 60, [0xFFFFFFFF] * 15)
-    text.words(branch(1, T0, ZERO, -64), addi(A0, ZERO, 9), *EXIT)
+    text.words(branch(1, T0, ZERO, -64), addi(A0, ZERO, 9), *EXIT_WORDS)
     return made
 
 
@@ -378,8 +368,8 @@ def names():
         text.words(add(A0, A0, T0))
     text.reloc(HI20, first.symbols[3], 0, (lui(T0),))
     text.reloc(LO12_I, first.symbols[3], 0, (lw(T0, T0),))
-    text.words(add(A0, A0, T0), *EXIT)
-    second, _ = object_with(*EXIT, name=b'other')
+    text.words(add(A0, A0, T0), *EXIT_WORDS)
+    second, _ = object_with(*EXIT_WORDS, name=b'other')
     second.symbol(b'strong', home=ABS, value=9)
     second.symbol(b'strong', home=ABS, value=30, bind=LOCAL)
     second.symbol(b'weak', home=ABS, value=70, bind=WEAK)
@@ -390,7 +380,7 @@ def names():
 
 def hints():
     """RELAX anywhere, also out of the section."""
-    made, text = object_with(addi(A0, ZERO, 4), *EXIT)
+    made, text = object_with(addi(A0, ZERO, 4), *EXIT_WORDS)
     for offset in (0, 1, 1000):
         text.reloc(RELAX, made.symbols[0], 99)
         text.relocs[-1].offset = offset
@@ -404,12 +394,3 @@ def accepted():
             ('a weak name without definition', [absent().bytes()], 5), ('a padding', [padded().bytes()], 9),
             ('words of code', [words().bytes()], 6), ('hints', [hints().bytes()], 4),
             ('names', [made.bytes() for made in names()], 33)]
-
-
-def main():
-    for what, _, line in refusals():
-        print(f'{what}: {line}')
-
-
-if __name__ == '__main__':
-    main()

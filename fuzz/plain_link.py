@@ -5,43 +5,18 @@
 writes the image of the files under OUT, or says their first fault. It knows nothing of the program, so that both can be
 compared.
 """
+import os
 import struct
 import sys
 
-from object_data import CODE, DATA_AT, TEXT_AT
-from object_faults import NOBITS, Object, told
-from object_items import R_32, Code, first_fault, is_store
-from written_image import image_bytes
+sys.path.insert(0, os.path.join(os.path.dirname(os.path.abspath(__file__)), os.pardir, 'scripts'))
 
-NOP = 0x00000013
-
-
-# ---- words (RISC-V unprivileged manual, "Immediate Encoding Variants"; RISC-V ELF psABI, "Relocations")
-
-
-def with_high(word, value):
-    """The upper 20 bits of what is left once the lower 12 are taken as a signed number."""
-    return word & 0xFFF | (value + 0x800 & 0xFFFFF000)
-
-
-def with_low(word, value):
-    """The lower 12 bits, of a store or of what has them in one piece."""
-    if is_store(word):
-        return word & 0x01FFF07F | (value >> 5 & 127) << 25 | (value & 31) << 7
-    return word & 0x000FFFFF | (value & 0xFFF) << 20
-
-
-def with_branch(word, distance):
-    return (word & 0x01FFF07F | (distance >> 12 & 1) << 31 | (distance >> 5 & 63) << 25 | (distance >> 1 & 15) << 8
-            | (distance >> 11 & 1) << 7)
-
-
-def with_jump(word, distance):
-    return (word & 0xFFF | (distance >> 20 & 1) << 31 | (distance >> 1 & 1023) << 21 | (distance >> 11 & 1) << 20
-            | (distance >> 12 & 255) << 12)
-
-
-# ---- text and data
+from object_data import CODE
+from object_faults import Object
+from object_items import Code, without_fault
+from zcld_tools.files import write
+from zcld_tools.images import TEXT_AT, image_bytes
+from zcld_tools.instructions import NOP, with_branch, with_high, with_jump, with_low, words_of
 
 
 class Plain:
@@ -93,7 +68,7 @@ class Plain:
             words = [with_high(item.words[0], distance), with_low(item.words[1], distance)]
         else:
             words = [self.word(place, item)]
-        return struct.pack(f'<{len(words)}I', *words)
+        return words_of(*words)
 
     def text(self):
         """The bytes of the text, with zeros between sections."""
@@ -105,15 +80,9 @@ class Plain:
 
     def data(self):
         """The bytes of data in the file, with each word that names something."""
-        symbols = self.code.symbols
-        data = bytearray(symbols.data.bytes)
-        for (i, k), part in self.code.parts.items():
-            if not part.is_code and part.section.kind != NOBITS:
-                start = symbols.data.sections[i, k] - DATA_AT
-                for entry in part.entries:
-                    if entry.kind == R_32:
-                        value = self.value(symbols.resolve(i, entry.symbol, entry.addend))
-                        struct.pack_into('<I', data, start + entry.offset, value & 0xFFFFFFFF)
+        data = bytearray(self.code.symbols.data.bytes)
+        for at, target in self.code.addresses_in_data():
+            struct.pack_into('<I', data, at, self.value(target) & 0xFFFFFFFF)
         return bytes(data)
 
     def image(self):
@@ -128,19 +97,12 @@ def plain(files):
     return made.image(), made.end - TEXT_AT
 
 
-def main():
-    files = []
-    for path in sys.argv[2:]:
-        with open(path, 'rb') as file:
-            files.append(file.read())
-    found = first_fault(files)
-    if found:
-        sys.exit(told(found).decode('latin-1'))
-    image, length = plain(files)
-    with open(sys.argv[1], 'wb') as out:
-        out.write(image)
-    print('plain text', length)
+def write_link(name, link):
+    """Writes the image that a link makes of files, under a name, and says how long its text is."""
+    image, length = link(without_fault(sys.argv[2:]))
+    write(sys.argv[1], image)
+    print(name, 'text', length)
 
 
 if __name__ == '__main__':
-    main()
+    write_link('plain', plain)

@@ -7,14 +7,20 @@ be compared. A byte is a number, a part of an address of code, or undefined; a w
 part of one), or four bytes.
 """
 import argparse
+import os
 import sys
 
-from object_data import CODE, DATA_AT
-from object_faults import NOBITS, Object, told
-from object_items import R_32, Code, first_fault, is_jalr, is_store, signed
+sys.path.insert(0, os.path.join(os.path.dirname(os.path.abspath(__file__)), os.pardir, 'scripts'))
 
-STACK_LOW, STACK_HIGH = 0x0FF00000, 0x10000000
-SP, A0, A1, A2, A7 = 2, 10, 11, 12, 17
+from object_data import CODE
+from object_faults import Object, told
+from object_items import Code, first_fault
+from zcld_tools.files import read_all
+from zcld_tools.images import DATA_AT, STACK_HIGH, STACK_LOW
+from zcld_tools.instructions import (A0, A1, A2, A7, EBREAK, ECALL, EXIT_CALL, OPCODE_AUIPC, OPCODE_FENCE, OPCODE_IMMEDIATE,
+                                     OPCODE_LOAD, OPCODE_LUI, OPCODE_STORE, READ_CALL, SP, WRITE_CALL, is_jalr, low_part,
+                                     signed)
+
 MASK = 0xFFFFFFFF
 UNDEFINED = 'undefined'
 # Words that are no numbers: the address of a place, and upper parts of the address of a place, or from a place on.
@@ -105,13 +111,8 @@ class Machine:
         """The bytes of data at the start, with the addresses that relocations put there."""
         symbols = self.code.symbols
         data = list(symbols.data.bytes) + [0] * (symbols.data.end - symbols.data.file_end)
-        for (i, k), part in self.code.parts.items():
-            if not part.is_code and part.section.kind != NOBITS:
-                start = symbols.data.sections[i, k] - DATA_AT
-                for entry in part.entries:
-                    if entry.kind == R_32:
-                        word = self.word_for(symbols.resolve(i, entry.symbol, entry.addend))
-                        data[start + entry.offset:start + entry.offset + 4] = bytes_of(word)
+        for at, target in self.code.addresses_in_data():
+            data[at:at + 4] = bytes_of(self.word_for(target))
         return data
 
     def word_for(self, target):
@@ -231,8 +232,7 @@ class Machine:
         """The immediate of an item, or none, and the sum that it names in place of that."""
         word = item.words[0]
         if item.kind == 'Op':
-            value = signed(word >> 20, 12) if not is_store(word) else signed(word >> 25 << 5 | word >> 7 & 31, 12)
-            return value, None
+            return low_part(word), None
         if item.kind == 'Lo' and item.target[0] != CODE:
             return signed(item.target[1] & 0xFFF, 12), None
         base = self.registers[word >> 15 & 31]
@@ -254,19 +254,19 @@ class Machine:
     def operate(self, item, after):
         word = item.words[0]
         opcode, f3, to = word & 0x7F, word >> 12 & 7, word >> 7 & 31
-        if word == 0x73:
+        if word == ECALL:
             return self.environment(after)
-        if word == 0x00100073:
+        if word == EBREAK:
             raise Stuck(NO_INSTRUCTION)
-        if opcode == 0x03:
+        if opcode == OPCODE_LOAD:
             self.set(to, self.loaded(self.address(self.sum(item), 1 << f3 % 4), f3), after)
-        elif opcode == 0x23:
+        elif opcode == OPCODE_STORE:
             self.keep(item, 1 << f3, after)
         elif is_jalr(word):
             self.jump_by_register(item, to, after)
         else:
             result = self.result(item, opcode, f3)
-            self.set(0 if opcode == 0x0F else to, result, after)
+            self.set(0 if opcode == OPCODE_FENCE else to, result, after)
         return None
 
     def loaded(self, at, f3):
@@ -292,12 +292,12 @@ class Machine:
     def result(self, item, opcode, f3):
         """The word that an operation gives."""
         word = item.words[0]
-        if opcode == 0x37:
+        if opcode == OPCODE_LUI:
             return word & 0xFFFFF000
-        if opcode == 0x17 or opcode == 0x0F:
+        if opcode in (OPCODE_AUIPC, OPCODE_FENCE):
             return NOTHING
         first, second = self.registers[word >> 15 & 31], self.registers[word >> 20 & 31]
-        if opcode == 0x13:
+        if opcode == OPCODE_IMMEDIATE:
             if f3 == 0:
                 return self.sum(item)
             value = signed(word >> 20, 12)
@@ -322,19 +322,19 @@ class Machine:
         which, first, at, size = (self.registers[register] for register in (A7, A0, A1, A2))
         if not isinstance(which, int):
             raise Stuck(ARGUMENT)
-        if which == 93:
+        if which == EXIT_CALL:
             if not isinstance(first, int):
                 raise Stuck(ARGUMENT)
             return first & 255
-        if which not in (63, 64):
+        if which not in (READ_CALL, WRITE_CALL):
             raise Stuck(UNKNOWN_CALL)
         if not all(isinstance(word, int) for word in (first, size)) or size and not isinstance(at, int):
             raise Stuck(ARGUMENT)
-        if first not in ((0,) if which == 63 else (1, 2)):
+        if first not in ((0,) if which == READ_CALL else (1, 2)):
             raise Stuck(UNKNOWN_CALL)
         if size and not self.is_memory(at, size):
             raise Stuck(BAD_ADDRESS)
-        count = self.read(at, size) if which == 63 else self.write(first, at, size)
+        count = self.read(at, size) if which == READ_CALL else self.write(first, at, size)
         self.set(A0, count, after)
         return None
 
@@ -374,10 +374,7 @@ def main():
     arguments.add_argument('files', nargs='+')
     arguments.add_argument('--steps', type=int, default=10_000_000)
     given = arguments.parse_args()
-    files = []
-    for path in given.files:
-        with open(path, 'rb') as file:
-            files.append(file.read())
+    files = read_all(given.files)
     found = first_fault(files)
     out, err, line = (b'', b'', told(found)) if found else trace(files, sys.stdin.buffer.read(), given.steps)
     sys.stdout.buffer.write(out)

@@ -1,12 +1,12 @@
 """Small objects for `zc` whose branches and jumps lie at the ends of what their forms reach, and what becomes of them (RISC-V
 unprivileged manual, "Control Transfer Instructions", of RV32I and of the C extension)."""
-from made_objects import A0, A1, ECALL, NOP, RA, T0, ZERO, addi, auipc, branch, jal, jalr, lui, lw
-from object_items import ALIGN, BRANCH, CALL, HI20, JAL, LO12_I, PCREL_HI20, PCREL_LO12_I
-from plain_examples import object_with
-from written_object import LOCAL
+from zcld_tools.elf import ABS, ALIGN, BRANCH, CALL, HI20, LO12_I, LOCAL, PCREL_HI20, PCREL_LO12_I
+from zcld_tools.instructions import (A0, A1, CALL_WORDS, ECALL, EXIT_WORDS, NOP, RET, T0, ZERO, addi, auipc, branch,
+                                     immediate, jal, jalr, lui, lw)
+from zcld_tools.objects import object_with
 
-XORI = 0x05D54513
-TEXT_AT = 0x10000
+# `xori a0,a0,93`, which has no short form.
+XORI = immediate(4, A0, A0, 93)
 
 
 def over(word, count):
@@ -44,7 +44,7 @@ def short_nop():
     made, text = object_with(NOP)
     text.align = 8
     text.reloc(ALIGN, None, 4, (0xFFFFFFFF,))
-    text.words(addi(A0, ZERO, 7), addi(17, ZERO, 93), ECALL)
+    text.words(addi(A0, ZERO, 7), *EXIT_WORDS)
     return made
 
 
@@ -53,17 +53,17 @@ def calls():
     made, text = object_with()
     near = made.symbol(b'near', home=text, value=24 + 8, bind=LOCAL)
     far = made.symbol(b'far', home=text, value=24 + 12 + 4 * 1200, bind=LOCAL)
-    text.reloc(CALL, near, 0, (auipc(RA), jalr(RA, RA)))
+    text.reloc(CALL, near, 0, CALL_WORDS)
     text.reloc(CALL, near, 0, (auipc(T0), jalr(T0, T0)))
-    text.reloc(CALL, far, 0, (auipc(RA), jalr(RA, RA)))
-    text.words(ECALL, ECALL, jalr(ZERO, RA), *[XORI] * 1200, jalr(ZERO, RA))
+    text.reloc(CALL, far, 0, CALL_WORDS)
+    text.words(ECALL, ECALL, RET, *[XORI] * 1200, RET)
     return made
 
 
 def parts():
     """Upper and lower parts of a number that has short forms, of data, and of code, by its address and by the way there."""
     made, text = object_with()
-    small = made.symbol(b'small', home=0xFFF1, value=0x3004)
+    small = made.symbol(b'small', home=ABS, value=0x3004)
     here = made.symbols[0]
     text.reloc(HI20, small, 0, (lui(A0),))
     text.reloc(LO12_I, small, 0, (addi(A0, A0),))
@@ -73,7 +73,7 @@ def parts():
     high = made.symbol(b'high', home=text, value=len(text.content), bind=LOCAL)
     text.reloc(PCREL_HI20, here, 0, (auipc(A0),))
     text.reloc(PCREL_LO12_I, high, 0, (addi(A0, A0),))
-    text.words(addi(A0, ZERO, 5), addi(17, ZERO, 93), ECALL)
+    text.words(addi(A0, ZERO, 5), *EXIT_WORDS)
     return made
 
 

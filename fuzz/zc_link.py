@@ -5,14 +5,18 @@
 writes the image of the files under OUT, or says their first fault. It knows nothing of the program, so that both can be
 compared.
 """
+import os
 import struct
 import sys
 
+sys.path.insert(0, os.path.join(os.path.dirname(os.path.abspath(__file__)), os.pardir, 'scripts'))
+
 from halfwords import short_form
-from object_data import CODE, TEXT_AT, aligned
-from object_faults import Object, told
-from object_items import first_fault
-from plain_link import NOP, Plain, with_branch, with_high, with_jump, with_low
+from object_data import CODE, aligned
+from object_faults import Object
+from plain_link import Plain, write_link
+from zcld_tools.images import COMPRESSED, TEXT_AT
+from zcld_tools.instructions import NOP, OPCODE_JAL, with_branch, with_high, with_jump, with_low, words_of
 
 SHORT_NOP = 0x0001
 # How far the forms of two and four bytes reach, back and forth; the longest form always does.
@@ -22,7 +26,7 @@ REACHES = {'Branch': {2: (-256, 254), 4: (-4096, 4094)}, 'Jump': {2: (-2048, 204
 class Zc(Plain):
     """The link of code without a fault that makes it smaller."""
 
-    flags = 1
+    flags = COMPRESSED
 
     def __init__(self, objects):
         self.sizes, self.rounds = {}, 0
@@ -52,7 +56,7 @@ class Zc(Plain):
 
     def call_word(self, item, distance):
         """A call as one `jal`."""
-        return with_jump(0x6F | item.words[1] & 0xF80, distance)
+        return with_jump(OPCODE_JAL | item.words[1] & 0xF80, distance)
 
     # layout
 
@@ -92,15 +96,15 @@ class Zc(Plain):
     def item_bytes(self, place, item):
         if item.kind == 'Align':
             size = -self.addresses[place] % item.target
-            return struct.pack('<H', SHORT_NOP) * (size % 4 // 2) + struct.pack('<I', NOP) * (size // 4)
+            return struct.pack('<H', SHORT_NOP) * (size % 4 // 2) + words_of(NOP) * (size // 4)
         size = self.sizes[place]
         if item.kind == 'RawPair':
-            return struct.pack('<2I', *item.words)
+            return words_of(*item.words)
         if item.kind == 'Branch' and size == 8:
             over = with_branch(item.words[0] ^ 1 << 12, 8)
-            return struct.pack('<2I', over, with_jump(0x6F, self.distance(place, item.target) - 4))
+            return words_of(over, with_jump(OPCODE_JAL, self.distance(place, item.target) - 4))
         word = self.call_word(item, self.distance(place, item.target)) if item.kind == 'Call' else self.word(place, item)
-        return struct.pack('<H', short_form(word)) if size == 2 else struct.pack('<I', word)
+        return struct.pack('<H', short_form(word)) if size == 2 else words_of(word)
 
 
 def zc(files):
@@ -109,19 +113,5 @@ def zc(files):
     return made.image(), made.end - TEXT_AT
 
 
-def main():
-    files = []
-    for path in sys.argv[2:]:
-        with open(path, 'rb') as file:
-            files.append(file.read())
-    found = first_fault(files)
-    if found:
-        sys.exit(told(found).decode('latin-1'))
-    image, length = zc(files)
-    with open(sys.argv[1], 'wb') as out:
-        out.write(image)
-    print('zc text', length)
-
-
 if __name__ == '__main__':
-    main()
+    write_link('zc', zc)

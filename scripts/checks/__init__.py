@@ -6,5 +6,6 @@ system calls. The models that the program is compared with are those of fuzz/.
 import os
 import sys
 
-TOP = os.path.dirname(os.path.dirname(os.path.dirname(os.path.abspath(__file__))))
+from zcld_tools import TOP
+
 sys.path.insert(0, os.path.join(TOP, 'fuzz'))

@@ -3,12 +3,15 @@ import random
 
 from close_relocs import close_relocs
 from far_lists import far_list
-from made_objects import A0, RA, SP, ZERO, addi, branch, jal, jalr, lui, made_list, of_format_i, of_format_r, store, sw
+from made_objects import made_list
 from object_faults import told
 from object_items import first_fault
+from zcld_tools.files import random_bytes
+from zcld_tools.instructions import (A0, RA, READ_CALL, RET, SP, WRITE_CALL, ZERO, addi, branch, immediate, jal, load, lui,
+                                     of_format_r, store, sw, words_of)
 
 from checks.machines import CONDITIONS, LOADS, REGISTER_OPERATIONS, SHIFTS, STORES
-from checks.made_files import EXIT, OLD, READ, WRITE, call_of_stack, image_of, object_of, words_of
+from checks.made_files import EXIT, OLD, call_of_stack, image_of, object_of
 
 WORKED, COUNTER = range(5, 16), 16
 
@@ -22,10 +25,10 @@ def random_word(rng):
     if kind == 2:
         f3 = rng.randrange(8)
         value = rng.randrange(32) | (rng.choice((0, 0x400)) if f3 == 5 else 0) if f3 in SHIFTS else rng.randrange(4096)
-        return of_format_i(0x13, f3, to, first, value)
+        return immediate(f3, to, first, value)
     if kind == 3:
         f3 = rng.choice(LOADS)
-        return of_format_i(0x03, f3, to, SP, rng.randrange(64) & -(1 << f3 % 4))
+        return load(f3, to, SP, rng.randrange(64) & -(1 << f3 % 4))
     f3 = rng.choice(STORES)
     return store(f3, second, SP, rng.randrange(64) & -(1 << f3))
 
@@ -41,7 +44,7 @@ def random_part(rng):
         return [addi(COUNTER, ZERO, rng.randrange(1, 10)), *words, addi(COUNTER, COUNTER, -1),
                 branch(1, COUNTER, ZERO, -4 * len(words) - 4)]
     if kind == 2:
-        return [jal(RA, 8), jal(ZERO, 4 * len(words) + 8), *words, jalr(ZERO, RA)]
+        return [jal(RA, 8), jal(ZERO, 4 * len(words) + 8), *words, RET]
     return words
 
 
@@ -49,23 +52,23 @@ def random_code(rng):
     """A program that reads 16 bytes, works on registers and on 64 bytes of the stack, writes these, and exits."""
     words = [addi(SP, SP, -64)]
     for register in WORKED:
-        words += [rng.randrange(1 << 20) << 12 | lui(register), addi(register, register, rng.randrange(4096))]
+        words += [lui(register, rng.randrange(1 << 20)), addi(register, register, rng.randrange(4096))]
     words += [sw(rng.choice(WORKED), SP, 4 * k) for k in range(16)]
-    words += call_of_stack(READ, 0, 16, 16)
+    words += call_of_stack(READ_CALL, 0, 16, 16)
     words += [addi(register, register, 1) for register in WORKED]
     for _ in range(rng.randrange(5, 25)):
         words += random_part(rng)
     words += [sw(register, SP, 4 * k) for k, register in enumerate(WORKED)]
-    words += call_of_stack(WRITE, rng.choice((1, 2)), 64)
+    words += call_of_stack(WRITE_CALL, rng.choice((1, 2)), 64)
     # the status is a byte of what was written
-    return words_of(*words, of_format_i(0x03, 4, A0, SP, 20)) + EXIT
+    return words_of(*words, load(4, A0, SP, 20)) + EXIT
 
 
 def random_programs(group):
     """200 programs by chance, which end alike as objects and as images"""
     for number in range(200):
         rng = random.Random(number)
-        code, given = random_code(rng), rng.randbytes(rng.randrange(20))
+        code, given = random_code(rng), random_bytes(rng, rng.randrange(20))
         folder = group.folder(program=object_of(code), image=image_of(code))
         traced, ran = (folder.run((command, '--steps', '100000', name), given)
                        for command, name in (('trace', 'program'), ('run', 'image')))

@@ -2,8 +2,8 @@
 import os
 
 import plain_examples
+from zcld_tools import TOP, files
 
-from checks import TOP
 from checks.harness import runs_of
 
 EXAMPLES = os.path.join(TOP, 'examples')
@@ -13,8 +13,7 @@ STATUSES = {'monitor': 2, 'events': 0, 'numbers': 42}
 
 def read(*names):
     """The bytes of a file below examples/."""
-    with open(os.path.join(EXAMPLES, *names), 'rb') as file:
-        return file.read()
+    return files.read(os.path.join(EXAMPLES, *names))
 
 
 def objects_of(program, compiler):
@@ -27,13 +26,13 @@ def c_programs(group):
     for program, status in STATUSES.items():
         given = read(program, 'input') if os.path.exists(os.path.join(EXAMPLES, program, 'input')) else b''
         for compiler in COMPILERS:
-            what, files, out = f'{program} by {compiler}', objects_of(program, compiler), read(program, 'output')
-            folder, names = group.linked_plainly(what, files)
+            what, objects, out = f'{program} by {compiler}', objects_of(program, compiler), read(program, 'output')
+            folder, names = group.linked_plainly(what, objects)
             group.both_exit(what, folder, names, status, out, given)
-            folder = group.linked_small(f'{what}, zc', files)
+            folder = group.linked_small(f'{what}, zc', objects)
             group.exits(f'{what}, made smaller', folder.run(('run', 'out'), given), status, out)
     for compiler in COMPILERS:
-        what, files = f'sections by {compiler}', [plain_examples.calls_of_sum(), read(f'sections-{compiler}.o')]
-        plainly, names = group.linked_plainly(what, files)
-        for machine, ended in runs_of(plainly, group.linked_small(f'{what}, zc', files), names):
+        what, objects = f'sections by {compiler}', [plain_examples.calls_of_sum(), read(f'sections-{compiler}.o')]
+        plainly, names = group.linked_plainly(what, objects)
+        for machine, ended in runs_of(plainly, group.linked_small(f'{what}, zc', objects), names):
             group.exits(f'{what}: {machine}', ended, 40)

@@ -3,10 +3,10 @@ import os
 
 import plain_examples
 from changed_files import WORD, changed, changed_images, changed_objects
-from made_objects import A0, ECALL, NOP, SP, ZERO, addi, branch, jalr, lw
+from zcld_tools.instructions import A0, EBREAK, ECALL, NOP, SP, ZERO, addi, branch, jalr, lw, words_of
 
 from checks.made_files import (LARGE, LARGE_IMAGE, MIB, OLD, OTHER, OTHER_TEXT, SHORT_SIZES, THREE, THREE_IMAGE, THREE_TEXT,
-                               exit_code, image_of, image_of_several, long_code, object_of, words_of)
+                               exit_code, image_of, image_of_several, long_code, object_of)
 
 LATER = object_of(words_of(ECALL), b'later')
 
@@ -77,7 +77,6 @@ run --steps 000000000000000000003 image
 run --steps 1000000001 image
 trace --steps 1000000001 object'''
 
-EBREAK = 0x00100073
 # Code that comes to its end, and code that is stuck at once: at a load, a branch and a jump by what isn't known, and at a stack
 # pointer that moves up, or isn't known.
 STUCK = ((NOP,), (lw(A0, A0),), (branch(0, A0, ZERO, 8), NOP, NOP), (jalr(ZERO, A0),), (addi(SP, SP, 16),), (addi(SP, A0),))

@@ -7,39 +7,19 @@ import signal
 import stat
 import subprocess
 import threading
-from typing import NamedTuple
 
 from plain_link import plain as plain_of
 from zc_link import zc as zc_of
+from zcld_tools import files, programs
+from zcld_tools.programs import CERTIFICATE, limit
 
-from checks.made_files import CERTIFICATE, OLD, THREE, THREE_IMAGE
+from checks.made_files import OLD, THREE, THREE_IMAGE
 
-TIME_OUT = 20
 LINK = ('zc', '--out', 'out', '--cert', 'cert')
-
-
-class Failed(Exception):
-    """A check that failed."""
 
 
 class Skipped(Exception):
     """What this machine can't do."""
-
-
-class Ended(NamedTuple):
-    """How a process ended, with what it wrote."""
-
-    status: int
-    out: bytes
-    err: bytes
-
-    def __repr__(self):
-        # a check shows it as it does the three that it is compared with
-        return repr(tuple(self))
-
-
-def limit(which, size):
-    resource.setrlimit(which, (size, size))
 
 
 @contextlib.contextmanager
@@ -66,21 +46,16 @@ class Folder:
     # files
 
     def write(self, name, data):
-        with open(self.path(name), 'wb') as file:
-            file.write(data)
+        files.write(self.path(name), data)
 
-    def write_list(self, files):
+    def write_list(self, objects):
         """Writes the files of a list, and gives their names."""
-        names = [f'file{i}' for i in range(len(files))]
-        for name, data in zip(names, files):
-            self.write(name, data)
-        return names
+        return [os.path.basename(path) for path in files.write_list(self.place, objects)]
 
     def read(self, name):
         """The bytes under a name, or none."""
         try:
-            with open(self.path(name), 'rb') as file:
-                return file.read()
+            return files.read(self.path(name))
         except FileNotFoundError:
             return None
 
@@ -94,11 +69,11 @@ class Folder:
         """The names of the program's hidden files."""
         return [it for it in os.listdir(self.place) if it.startswith('.zcld')]
 
-    def pipes(self, **files):
+    def pipes(self, **given):
         """Named pipes that give these files. Each is opened once the one before it was read."""
-        for name in files:
+        for name in given:
             os.mkfifo(self.path(name))
-        threading.Thread(target=lambda: [self.write(*it) for it in files.items()], daemon=True).start()
+        threading.Thread(target=lambda: [self.write(*it) for it in given.items()], daemon=True).start()
 
     def device(self, name, number):
         """A device that a wrong program may replace: a node of its own for root, whom nothing stops, and else the system's."""
@@ -119,19 +94,10 @@ class Folder:
 
     # runs
 
-    def run(self, words, given=subprocess.DEVNULL, first=None, before=(), stdout=subprocess.PIPE, stderr=subprocess.PIPE,
-            restore_signals=True):
+    def run(self, words, given=subprocess.DEVNULL, first=None, before=(), **how):
         """Runs the program on words. `given` is its input, `first` is called in the new process, and `before` are words before
         the program's."""
-        how = {'input': given} if isinstance(given, bytes) else {'stdin': given}
-        try:
-            ended = subprocess.run([*before, self.program, *words], cwd=self.place, stdout=stdout, stderr=stderr, check=False,
-                                   timeout=TIME_OUT, preexec_fn=first, restore_signals=restore_signals, **how)
-        except subprocess.TimeoutExpired:
-            raise Failed(f'{words}: no end after {TIME_OUT} s') from None
-        except BrokenPipeError:
-            raise Failed(f'{words}: the input was not taken') from None
-        return Ended(ended.returncode, ended.stdout or b'', ended.stderr or b'')
+        return programs.run([*before, self.program, *words], given, first, cwd=self.place, **how)
 
     def run_with_limit(self, words, size, **how):
         """As `run`, with files of at most so many bytes: a longer write is refused, and no signal comes."""
@@ -156,12 +122,12 @@ class Group:
     def __init__(self, program, room):
         self.program, self.room, self.count, self.folders, self.failed, self.skipped = program, room, 0, 0, [], []
 
-    def folder(self, **files):
+    def folder(self, **given):
         """A new folder, with the object and files that were there."""
         self.folders += 1
         folder = Folder(self.program, os.path.join(self.room, str(self.folders)))
         os.mkdir(folder.place)
-        for name, data in {'object': THREE, **files}.items():
+        for name, data in {'object': THREE, **given}.items():
             folder.write(name, data)
         return folder
 
@@ -199,9 +165,9 @@ class Group:
         self.same(f'{what}: OUT', folder.read(out), image)
         self.same(f'{what}: CERT', folder.read(cert), CERTIFICATE)
 
-    def plain_done(self, what, ended, folder, files, out='out'):
+    def plain_done(self, what, ended, folder, objects, out='out'):
         """A plain link: the image under OUT, and the text's length."""
-        image, length = plain_of(files)
+        image, length = plain_of(objects)
         self.same(what, ended, (0, b'plain text %d\n' % length, b''))
         self.same(f'{what}: OUT', folder.read(out), image)
 
@@ -220,17 +186,17 @@ class Group:
 
     # links of lists
 
-    def linked_plainly(self, what, files):
+    def linked_plainly(self, what, objects):
         """A folder with the plain image of a list under OUT, and the names of its files."""
         folder = self.folder()
-        names = folder.write_list(files)
-        self.plain_done(what, folder.plain(*names), folder, files)
+        names = folder.write_list(objects)
+        self.plain_done(what, folder.plain(*names), folder, objects)
         return folder, names
 
-    def linked_small(self, what, files):
+    def linked_small(self, what, objects):
         """A folder with the image that `zc` makes of a list under OUT."""
         folder = self.folder()
-        self.done(what, folder.link(*folder.write_list(files)), folder, image=zc_of(files)[0])
+        self.done(what, folder.link(*folder.write_list(objects)), folder, image=zc_of(objects)[0])
         return folder
 
 

@@ -1,16 +1,18 @@
 """Images, byte for byte, and that they do what their objects do."""
 import os
 import shutil
-import struct
 
 import plain_examples
 import zc_examples
 from plain_link import plain as plain_of
 from zc_link import zc as zc_of
+from zcld_tools import TOP
+from zcld_tools.images import text_of
+from zcld_tools.instructions import words_of
+from zcld_tools.programs import CERTIFICATE
 
-from checks import TOP
 from checks.harness import runs_of
-from checks.made_files import CERTIFICATE, LARGE, LARGE_IMAGE, THREE, THREE_IMAGE, image_of, long_code, object_of
+from checks.made_files import LARGE, LARGE_IMAGE, THREE, THREE_IMAGE, image_of, long_code, object_of
 
 
 def stored_run(group):
@@ -59,7 +61,7 @@ def plain_images(group):
 def linker_names(group):
     """what the linker's names stand for"""
     files, words = plain_examples.linker_names()
-    out = struct.pack(f'<{len(words)}I', *words)
+    out = words_of(*words)
     plainly, names = group.linked_plainly('plain', files)
     for what, ended in runs_of(plainly, group.linked_small('zc', files), names):
         group.exits(f'{what}: the words', ended, 0, out)
@@ -81,9 +83,3 @@ def zc_images(group):
         folder = group.linked_small(what, files)
         if status is not None:
             group.exits(f'{what}, run', folder.run(('run', 'out')), status)
-
-
-def text_of(image):
-    """The bytes of an image's text: those of its first segment."""
-    at, size = struct.unpack_from('<I8xI', image, 56)
-    return image[at:at + size]

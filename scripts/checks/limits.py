@@ -4,15 +4,11 @@ import resource
 import signal
 
 from plain_link import plain as plain_of
+from zcld_tools.programs import in_memory, limit
 
 from checks import strace
-from checks.harness import LINK, Skipped, limit
+from checks.harness import LINK, Skipped
 from checks.made_files import LARGE, LARGE_IMAGE, MIB, OLD, THREE, THREE_IMAGE
-
-
-def in_memory(size):
-    """What leaves a process so much memory."""
-    return functools.partial(limit, resource.RLIMIT_AS, size)
 
 
 def memories(folder):

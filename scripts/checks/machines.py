@@ -1,13 +1,12 @@
 """What instructions, accesses and calls do in both machines, at the edges (RISC-V unprivileged manual, "RV32I" and "M")."""
-from made_objects import (A0, A1, A2, A7, ECALL, SP, T0, T1, T2, ZERO, addi, branch, lui, lw, of_format_i, of_format_r, store,
-                          sw)
-from object_data import DATA_AT, TEXT_AT
-from object_items import signed
-from plain_examples import object_with
-from symbolic_machine import STACK_HIGH, STACK_LOW, computed, holds
-from written_object import COMMON, DATA_FLAGS
+from symbolic_machine import MASK, computed, holds
+from zcld_tools.elf import COMMON, DATA_FLAGS
+from zcld_tools.images import DATA_AT, STACK_HIGH, STACK_LOW, TEXT_AT
+from zcld_tools.instructions import (A0, A1, A2, A7, ECALL, EXIT_CALL, READ_CALL, SP, T0, T1, T2, WRITE_CALL, ZERO, addi,
+                                     branch, constant, immediate, load, lw, of_format_r, signed, store, sw, words_of)
+from zcld_tools.objects import object_with
 
-from checks.made_files import EXIT, READ, WRITE, call_of_stack, exit_code, image_of, object_of, words_of
+from checks.made_files import EXIT, call_of_stack, exit_code, image_of, object_of
 
 # By funct7 and funct3, and by funct3.
 REGISTER_OPERATIONS = [(0, f3) for f3 in range(8)] + [(0x20, 0), (0x20, 5)] + [(1, f3) for f3 in range(8)]
@@ -16,16 +15,9 @@ SHIFTS, LOADS, STORES, CONDITIONS = (1, 5), (0, 1, 2, 4, 5), (0, 1, 2), (0, 1, 4
 EDGES = (0, 1, 2, 31, 0x7FFF_FFFF, 0x8000_0000, 0x8000_0001, 0xFFFF_FFFF)
 IMMEDIATES = (0, 1, 2047, -2048, -1)
 AMOUNTS = (0, 1, 31)
-MASK = 0xFFFF_FFFF
 
 
 # ---- what instructions compute: the parts of a program, each of which leaves a word in t2, and these words
-
-
-def constant(to, value):
-    """lui and addi, which give a register a word."""
-    low = value & 0xFFF
-    return [value - signed(low, 12) & 0xFFFF_F000 | lui(to), addi(to, to, low)]
 
 
 def shown(parts):
@@ -33,7 +25,7 @@ def shown(parts):
     words = [addi(SP, SP, -1024)]
     for k, part in enumerate(parts):
         words += [*part, sw(T2, SP, 4 * k)]
-    return words_of(*words, *call_of_stack(WRITE, 1, 4 * len(parts))) + exit_code(3)
+    return words_of(*words, *call_of_stack(WRITE_CALL, 1, 4 * len(parts))) + exit_code(3)
 
 
 def of_two(what):
@@ -49,7 +41,7 @@ def register_operation(f7, f3):
 
 def immediate_operation(f7, f3):
     pairs = [(a, b) for a in EDGES for b in (AMOUNTS if f3 in SHIFTS else IMMEDIATES)]
-    parts = [[*constant(T0, a), of_format_i(0x13, f3, T2, T0, f7 << 5 | b & 0xFFF)] for a, b in pairs]
+    parts = [[*constant(T0, a), immediate(f3, T2, T0, f7 << 5 | b & 0xFFF)] for a, b in pairs]
     return parts, [computed(f7, f3, a, b & MASK) for a, b in pairs]
 
 
@@ -58,10 +50,10 @@ def condition(f3):
     return parts, [int(holds(f3, a, b)) for a, b in pairs]
 
 
-def load(f3):
+def loaded(f3):
     size, word = 1 << f3 % 4, bytes((0x80, 0x7F, 0xFF, 0x01))
     values = [int.from_bytes(word[at:at + size], 'little') for at in range(0, 4, size)]
-    parts = [[*constant(T0, int.from_bytes(word, 'little')), sw(T0, SP, 1020), of_format_i(0x03, f3, T2, SP, 1020 + at)]
+    parts = [[*constant(T0, int.from_bytes(word, 'little')), sw(T0, SP, 1020), load(f3, T2, SP, 1020 + at)]
              for at in range(0, 4, size)]
     return parts, [signed(value, 8 * size) & MASK if f3 < 4 else value for value in values]
 
@@ -78,9 +70,9 @@ def kept(f3):
 def instructions(group):
     """each instruction with operands at the edges, in both machines"""
     cases = {f'operation {key}': register_operation(*key) for key in REGISTER_OPERATIONS}
-    cases |= {f'with an immediate {key}': immediate_operation(*key) for key in IMMEDIATE_OPERATIONS}
-    cases |= {f'branch {f3}': condition(f3) for f3 in CONDITIONS}
-    cases |= {f'load {f3}': load(f3) for f3 in LOADS} | {f'store {f3}': kept(f3) for f3 in STORES}
+    cases.update({f'with an immediate {key}': immediate_operation(*key) for key in IMMEDIATE_OPERATIONS})
+    cases.update({f'branch {f3}': condition(f3) for f3 in CONDITIONS})
+    cases.update({f'load {f3}': loaded(f3) for f3 in LOADS}, **{f'store {f3}': kept(f3) for f3 in STORES})
     for what, (parts, values) in cases.items():
         code = shown(parts)
         folder = group.folder(program=object_of(code), image=image_of(code))
@@ -104,9 +96,9 @@ def ends_of(size):
     rows = {TEXT_AT: 'nowhere'}
     for low, high in (DATA, STACK):
         last = low + (high - low - size) // size * size
-        rows |= {low - size: 'nowhere', low: 'there', last: 'there', last + size: 'nowhere'}
+        rows.update({low - size: 'nowhere', low: 'there', last: 'there', last + size: 'nowhere'})
     odd = [start + k for start in (0, DATA[0], STACK[0], STACK[1] - size) for k in range(1, size)]
-    return rows | {address: 'misaligned' for address in odd}
+    return {**rows, **{address: 'misaligned' for address in odd}}
 
 
 def at_the_ends(*words):
@@ -133,17 +125,17 @@ def accesses(group):
     for f3 in LOADS:
         for address, how in ends_of(1 << f3 % 4).items():
             before = (*constant(T0, address), addi(A0, ZERO, 7))
-            check_end(group, f'load {f3} of {address:08x}', how, 7, before, of_format_i(0x03, f3, T2, T0))
+            check_end(group, f'load {f3} of {address:08x}', how, 7, before, load(f3, T2, T0))
             if f3 in STORES:
                 # the status is what was stored
-                words = store(f3, A0, T0), of_format_i(0x03, f3, A0, T0)
+                words = store(f3, A0, T0), load(f3, A0, T0)
                 check_end(group, f'store {f3} at {address:08x}', how, 7, before, *words)
 
 
 def other_calls(group):
     """calls of numbers and descriptors that a machine has or hasn't, of which it looks at the buffer last"""
-    rows = ((READ, 0, True), (READ, 1, False), (READ, 2, False), (READ, -1, False), (WRITE, 1, True), (WRITE, 2, True),
-            (WRITE, 0, False), (WRITE, 3, False), (WRITE, -1, False), (62, 0, False), (94, 0, False))
+    rows = (*((READ_CALL, it, it == 0) for it in (0, 1, 2, -1)), *((WRITE_CALL, it, it in (1, 2)) for it in (1, 2, 0, 3, -1)),
+            (READ_CALL - 1, 0, False), (EXIT_CALL + 1, 0, False))
     for number, descriptor, has in rows:
         for at, length, is_there in ((STACK[0], 0, True), (0, 0, True), (0, 1, False)):
             how = 'unknown' if not has else 'there' if is_there else 'nowhere'

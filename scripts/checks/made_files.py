@@ -1,26 +1,16 @@
 """Small objects and images, as docs/FORMATS.md has them, and what a link of them leaves."""
-import struct
-
-import plain_examples
-from made_objects import A0, A1, A2, A7, ECALL, SP, T0, ZERO, addi, branch, jal
-from object_data import TEXT_AT
-from written_image import image_bytes
+from zcld_tools.images import COMPRESSED, TEXT_AT, image_bytes
+from zcld_tools.instructions import (A0, A1, A2, A7, ECALL, EXIT_WORDS, READ_CALL, SP, T0, WRITE_CALL, ZERO, addi, branch,
+                                     jal, words_of)
+from zcld_tools.objects import object_with
 
 MIB = 1 << 20
-CERTIFICATE = b'zcld certificate 1\nprice 0 0 0\nnet 0\nend\n'
 OLD = b'what was there'
-# The flag of an image that may have short forms, and the numbers of calls.
-COMPRESSED = 1
-READ, WRITE = 63, 64
-
-
-def words_of(*words):
-    return struct.pack(f'<{len(words)}I', *words)
 
 
 def object_of(code, name=b'_start'):
     """An object whose code is in section 1, with a global symbol where it begins."""
-    made, text = plain_examples.object_with(name=name)
+    made, text = object_with(name=name)
     text.content += code
     return made.bytes()
 
@@ -42,7 +32,7 @@ def image_of_several(texts, sizes, entry):
 
 # ---- programs that exit
 
-EXIT = words_of(*plain_examples.EXIT)
+EXIT = words_of(*EXIT_WORDS)
 
 
 def exit_code(status):
@@ -70,12 +60,12 @@ def call_of_stack(number, descriptor, size, offset=0):
     return addi(A0, ZERO, descriptor), addi(A1, SP, offset), addi(A2, ZERO, size), addi(A7, ZERO, number), ECALL
 
 
-READ_WORDS = call_of_stack(READ, 0, 1024)
+READ_WORDS = call_of_stack(READ_CALL, 0, 1024)
 
 
 def write_words(stream):
     """A write of as many bytes as were read."""
-    return addi(A2, A0), addi(A0, ZERO, stream), addi(A7, ZERO, WRITE), ECALL
+    return addi(A2, A0), addi(A0, ZERO, stream), addi(A7, ZERO, WRITE_CALL), ECALL
 
 
 # In a loop: the whole input is copied to standard output, and then the exit has the status 0.

@@ -8,9 +8,10 @@ import threading
 import time
 
 from plain_link import plain as plain_of
+from zcld_tools.programs import CERTIFICATE, TIME_OUT, limit
 
-from checks.harness import TIME_OUT, Folder, Skipped, broken_pipe, limit
-from checks.made_files import CERTIFICATE, LARGE, LARGE_IMAGE, OLD, THREE, THREE_IMAGE
+from checks.harness import Folder, Skipped, broken_pipe
+from checks.made_files import LARGE, LARGE_IMAGE, OLD, THREE, THREE_IMAGE
 
 NOBODY = 65534
 # Names under which no file can be put.

@@ -2,7 +2,8 @@
 import os
 import re
 import shutil
-import subprocess
+
+from zcld_tools import programs
 
 from checks.harness import Skipped
 
@@ -20,7 +21,7 @@ def need():
     """Skips the group where no fault can be given."""
     if not is_there():
         raise Skipped('there is no strace')
-    if subprocess.run(('strace', '-qq', '-o', '/dev/null', 'true'), check=False, stderr=subprocess.DEVNULL).returncode:
+    if programs.run(('strace', '-qq', '-o', '/dev/null', 'true')).status:
         raise Skipped('strace may trace nothing here')
 
 

@@ -1,36 +1,31 @@
 """The symbols that scripts/symbols gives to images, against what the objects, the images and other programs say."""
 import os
 import re
-import shutil
 import struct
-import subprocess
 import sys
 
 import against_ld
 from halfwords import short_form
-from made_objects import A0, RA, ZERO, addi, jalr
-from object_data import DATA_AT, TEXT_AT, Symbols
+from object_data import Symbols
 from object_faults import LINKER_NAMES, Object
-from object_items import CALL, R_32, is_branch
-from plain_examples import CALL_WORDS, EXIT, object_with
-from written_object import (ABS, COMMON, CONSTANT_FLAGS, DATA_FLAGS, DATA_TYPE, FUNCTION_TYPE, GLOBAL, LOCAL, NOBITS, PROGBITS,
-                            WEAK)
+from zcld_tools import TOP, programs
+from zcld_tools.elf import (ABS, CALL, COMMON, CONSTANT_FLAGS, DATA_FLAGS, DATA_TYPE, FILE_TYPE, FUNCTION_TYPE, GLOBAL,
+                            LOCAL, NOBITS, PROGBITS, R_32, SECTION_TYPE, WEAK)
+from zcld_tools.images import DATA_AT, TEXT_AT, segments
+from zcld_tools.instructions import A0, CALL_WORDS, EXIT_WORDS, RET, ZERO, addi, is_branch
+from zcld_tools.objects import object_with
+from zcld_tools.programs import Failed
 
-from checks import TOP
 from checks.c_programs import COMPILERS, STATUSES, objects_of, read
-from checks.harness import TIME_OUT, Ended, Failed, Skipped
+from checks.harness import Skipped
 
 SCRIPT = os.path.join(TOP, 'scripts/symbols')
-PREFIXES = ('riscv64-unknown-elf-', 'riscv32-unknown-elf-')
 ODD_NAME = 'it\'s "odd" \\ @name'
-RET = jalr(ZERO, RA)
 
 
 def run(folder, *words, **how):
     """Runs the script in a folder."""
-    ended = subprocess.run([sys.executable, SCRIPT, *words], cwd=folder.place, stdin=subprocess.DEVNULL, capture_output=True,
-                           check=False, timeout=TIME_OUT, **how)
-    return Ended(ended.returncode, ended.stdout, ended.stderr)
+    return programs.run([sys.executable, SCRIPT, *words], cwd=folder.place, **how)
 
 
 def listed(ended):
@@ -60,7 +55,7 @@ def by_hand():
     first, text = object_with(addi(A0, ZERO, 3))
     first.symbols[0].kind = FUNCTION_TYPE
     text.reloc(CALL, first.symbol(b'called', home=text, value=12, bind=WEAK, kind=FUNCTION_TYPE), 0, CALL_WORDS)
-    text.words(*EXIT)
+    text.words(*EXIT_WORDS)
     for name, value in ((b'.Lcall', 4), (b'$x', 0), (b'middle', 8), (b'the_end', 20), (b'same', 12)):
         first.symbol(name, home=text, value=value, bind=LOCAL)
     data = first.section(b'.data', PROGBITS, DATA_FLAGS)
@@ -150,15 +145,16 @@ def sources(files):
     """The symbols of kept sections, but labels and mapping symbols. The monitor has no name twice."""
     for part in map(Object, files):
         for row in part.named_symbols():
-            is_shown = row[1] and not row[1].startswith((b'.L', b'$')) and part.symbols[row[0]][3] & 15 not in (3, 4)
+            is_named = row[1] and not row[1].startswith((b'.L', b'$'))
+            is_shown = is_named and part.symbols[row[0]][3] & 15 not in (SECTION_TYPE, FILE_TYPE)
             if row[5] < part.count and part.kept[row[5]] and is_shown:
                 yield Source(part, row)
 
 
-def segment(image, number):
-    """The bytes of a segment of an image."""
-    at, size = struct.unpack_from('<I8xI', image, 56 + 32 * number)
-    return image[at:at + size]
+def contents(image):
+    """The bytes of an image's text and of its data."""
+    text, data = segments(image)
+    return text.content, data.content
 
 
 def begins_with(text, at, source):
@@ -190,7 +186,7 @@ def check_monitor(group, what, folder, files, names):
     table, wanted = listed(ended), list(sources(files))
     group.same(f'{what}: names', sorted(table), sorted(source.name for source in wanted))
     group.same(f'{what}: _start', table.get('_start', (None,))[0], struct.unpack_from('<I', image, 24)[0])
-    text, data, pointers = segment(image, 0), segment(image, 1), 0
+    (text, data), pointers = contents(image), 0
     for source in filter(lambda it: it.name in table, wanted):
         at = table[source.name][0]
         if source.is_code:
@@ -216,18 +212,15 @@ def listed_symbols(group):
 
 def tools():
     """The prefix of the names of objcopy, nm and objdump."""
-    for prefix in PREFIXES:
-        if all(shutil.which(prefix + name) for name in ('objcopy', 'nm', 'objdump')):
+    for prefix in programs.PREFIXES:
+        if all(programs.found(prefix + name) for name in ('objcopy', 'nm', 'objdump')):
             return prefix
     raise Skipped('there is no objcopy, nm and objdump for RISC-V')
 
 
 def told(folder, *words):
     """The lines of another program."""
-    ended = subprocess.run(words, cwd=folder.place, capture_output=True, check=False, timeout=TIME_OUT)
-    if ended.returncode:
-        raise Failed(f'{words}: {ended.stderr.decode()[:200]}')
-    return ended.stdout.decode().splitlines()
+    return programs.told(words, cwd=folder.place).splitlines()
 
 
 def check_copy(group, prefix, what, folder, files):
@@ -239,7 +232,7 @@ def check_copy(group, prefix, what, folder, files):
     image, copy = folder.read('out'), folder.read('copy')
     if copy is None:
         raise Failed(f'{what}: no copy')
-    group.same(f'{what}: the segments', [segment(copy, k) for k in (0, 1)], [segment(image, k) for k in (0, 1)])
+    group.same(f'{what}: the segments', contents(copy), contents(image))
     found = [line.split(' ', 2) for line in told(folder, f'{prefix}nm', '-n', 'copy')]
     shown = [(address, name) for address, _, name in printed if '=' not in name]
     group.same(f'{what}: nm', sorted((address, name) for address, _, name in found), sorted(shown))

@@ -1,7 +1,9 @@
 """Faults at each system call of a run."""
+from zcld_tools.programs import CERTIFICATE
+
 from checks import strace
 from checks.harness import LINK
-from checks.made_files import CERTIFICATE, OLD, THREE_IMAGE
+from checks.made_files import OLD, THREE_IMAGE
 
 # Calls for memory, which are refused for want of it alone, and calls that a signal may interrupt.
 MEMORY = ('mmap', 'munmap', 'brk', 'mremap', 'madvise', 'mprotect')

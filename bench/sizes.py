@@ -1,0 +1,220 @@
+#!/usr/bin/env python3
+"""Compares how long the text of programs is, as `zcld` links them and as others do.
+
+    bench/sizes.py [--zlib FOLDER] [PROGRAM]        PROGRAM is build/zcld if none is given
+
+The programs are those in examples/, and two larger ones in bench/sizes/: `library`, with what it needs of picolibc and libgcc,
+which Debian has for RV32IM and for RV32IMAC; and `pack`, over the sources of zlib in FOLDER, as `apt-get source zlib` gives
+them. Each is compiled with -Os by GCC and by Clang, with hints for relaxation and each function in a section of its own: for
+RV32IM, and with compressed code (C, Zcb, Zcmp) as far as the compiler has it. `zcld` and the others link the same objects of
+RV32IM, and the others compressed ones too. GNU ld and LLD relax, but where a column says otherwise. With `gc` they leave out
+the sections that nothing needs; for `zcld` GNU ld does that before, in a link that keeps relocations (`ld -r --gc-sections`).
+GNU ld and LLD put constants behind the text, and in the column of far constants where `zcld` puts them.
+
+A figure is the bytes of all sections of code. What isn't installed is left out, and what a linker says of objects that it
+doesn't take is printed. Each image that `zcld` makes is run, and must do what its objects do.
+"""
+import os
+import sys
+import tempfile
+from typing import NamedTuple
+
+sys.path.insert(0, os.path.join(os.path.dirname(os.path.abspath(__file__)), os.pardir, 'scripts'))
+sys.path.insert(0, os.path.join(os.path.dirname(os.path.abspath(__file__)), os.pardir, 'fuzz'))
+
+from object_faults import Object
+from zcld_tools import TOP, programs
+from zcld_tools.elf import ALLOC, EXECINSTR
+from zcld_tools.files import read
+from zcld_tools.images import DATA_AT, STACK_HIGH, TEXT_AT
+from zcld_tools.measured import table, words_of_bench
+from zcld_tools.programs import Failed, told
+
+EXAMPLES, LARGER = (os.path.join(TOP, *it) for it in (('examples',), ('bench', 'sizes')))
+FIRMWARE = os.path.join(EXAMPLES, 'firmware')
+PLAIN, COMPRESSED, ZCB, ZCMP = 'rv32im', 'rv32imc', 'rv32imc_zcb', 'rv32im_zca_zcb_zcmp'
+USUAL = ('-Os', '-mabi=ilp32', '-ffreestanding', '-fno-pic', '-ffunction-sections', '-fdata-sections', '-w')
+# What each compiler is called, of which the first that is installed is taken, and its own words. GCC would make a call of
+# memset of the loop in memset.
+COMPILERS = {'GCC': (('riscv64-unknown-elf-gcc',), ('-fno-tree-loop-distribute-patterns',)),
+             'Clang': (('clang-19', 'clang'), ('--target=riscv32-unknown-elf',))}
+LINKERS = {'ld': programs.GNU_LINKERS, 'LLD': ('ld.lld-19', 'ld.lld')}
+# What both linkers are told of the memory. LLD uses gp if it is told so, and GNU ld by itself.
+MEMORY = (f'-Ttext={TEXT_AT:#x}', f'-Tdata={DATA_AT:#x}', f'--defsym=__stack_top={STACK_HIGH:#x}')
+WORDS = {'ld': (), 'LLD': ('--relax-gp',)}
+ZLIB = [name + '.c' for name in ('adler32', 'crc32', 'deflate', 'inffast', 'inflate', 'inftrees', 'trees', 'zutil')]
+# Where Debian has picolibc, and for which targets GCC's libraries are made.
+PICOLIBC, MULTILIBS = '/usr/lib/picolibc/riscv64-unknown-elf/lib', {PLAIN: 'rv32im', COMPRESSED: 'rv32imac'}
+INPUT = b''.join(b'%d.%de%d\n' % (k * 7919 % 211, k, k % 5 - 2) for k in range(1, 20))
+
+
+class Listed(NamedTuple):
+    """A program: its name, its C files, the words for the compiler, whether it needs picolibc, and the input of its run."""
+
+    name: str
+    sources: list
+    words: tuple = ()
+    has_library: bool = False
+    given: bytes = b''
+
+
+def listed(zlib):
+    """The programs."""
+    for name in ('monitor', 'events', 'numbers'):
+        folder = os.path.join(EXAMPLES, name)
+        sources = sorted(os.path.join(folder, it) for it in os.listdir(folder) if it.endswith('.c'))
+        path = os.path.join(folder, 'input')
+        yield Listed(name, sources, (f'-I{FIRMWARE}',), given=read(path) if os.path.exists(path) else b'')
+    yield Listed('library', [os.path.join(LARGER, 'library.c')], ('--specs=picolibc.specs',), True, INPUT)
+    if zlib:
+        sources = [os.path.join(LARGER, 'pack.c'), *(os.path.join(zlib, it) for it in ZLIB)]
+        yield Listed('pack', sources, ('-DZ_SOLO', f'-I{zlib}'), given=read(os.path.abspath(__file__)))
+
+
+# ---- objects
+
+
+class Compiler:
+    """A compiler: its name, its command, and its version."""
+
+    def __init__(self, name):
+        self.name, (commands, self.words) = name, COMPILERS[name]
+        self.command = programs.found(*commands)
+
+    def version(self):
+        return told([self.command, '--version']).splitlines()[0]
+
+    def compiled(self, program, target, folder):
+        """The objects of a program, with its start. With what it needs of a library they are merged into one."""
+        os.makedirs(folder)
+        paths = []
+        support = [] if program.has_library else [os.path.join(FIRMWARE, 'support.c')]
+        for source in (os.path.join(FIRMWARE, 'start.s'), *support, *program.sources):
+            paths.append(os.path.join(folder, os.path.basename(source)[:-2] + '.o'))
+            told([self.command, *self.words, *USUAL, f'-march={target}', *program.words, '-c', source, '-o', paths[-1]])
+        if program.has_library:
+            merge(os.path.join(folder, 'merged.o'), *paths, *self.libraries(target))
+            return [os.path.join(folder, 'merged.o')]
+        return paths
+
+    def libraries(self, target):
+        """The archives of picolibc and of GCC."""
+        of_gcc = told([self.command, f'-march={MULTILIBS[target]}', '-mabi=ilp32', '-print-libgcc-file-name']).strip()
+        files = [os.path.join(PICOLIBC, MULTILIBS[target], 'ilp32', name) for name in ('libc.a', 'libm.a')]
+        return ['--start-group', *files, of_gcc, '--end-group']
+
+    def has(self, program, target):
+        """Whether it can make these objects: picolibc is installed for GCC, and without Zcb."""
+        if program.has_library and (self.name != 'GCC' or target not in MULTILIBS or not os.path.isdir(PICOLIBC)):
+            return False
+        words = [self.command, *self.words, f'-march={target}', '-mabi=ilp32', '-c', '-x', 'c', os.devnull, '-o', os.devnull]
+        return programs.run(words).status == 0
+
+
+# ---- links
+
+
+def merge(out, *words):
+    """Merges objects by GNU ld, which keeps their relocations."""
+    told([programs.found(*programs.GNU_LINKERS), *programs.FORMAT, '-r', '-e', '_start', '-o', out, *words])
+
+
+def code_size(path):
+    """The bytes of all sections of code."""
+    wanted = ALLOC | EXECINSTR
+    return sum(section.size for section in Object(read(path)).sections if section.flags & wanted == wanted)
+
+
+class Links:
+    """Links of the objects of one program and one compiler."""
+
+    def __init__(self, program, zcld, folder):
+        self.program, self.zcld, self.folder, self.said = program, zcld, folder, []
+
+    def path(self, name):
+        return os.path.join(self.folder, name)
+
+    def other(self, linker, objects, *words):
+        """The text that another linker makes of objects, or none if it isn't there or doesn't take them."""
+        command = programs.found(*LINKERS[linker])
+        if command is None:
+            return None
+        try:
+            told([command, *programs.FORMAT, *MEMORY, *WORDS[linker], *words, '-o', self.path('other'), *objects])
+        except Failed as why:
+            self.said.append(f'{self.program.name}, {linker} {" ".join(words)}: {str(why)[-300:]}')
+            return None
+        return code_size(self.path('other'))
+
+    def gathered(self, objects):
+        """The objects as one, without the sections that nothing needs."""
+        merge(self.path('gathered.o'), '--gc-sections', *objects)
+        return [self.path('gathered.o')]
+
+    def by_zcld(self, link, paths):
+        """The text that `plain` or `zc` makes of objects, whose image does what they do."""
+        out = self.path(link)
+        told([self.zcld, link, '--out', out, *(['--cert', self.path('cert')] if link == 'zc' else []), *paths])
+        ran, traced = (programs.run([self.zcld, words, '--steps', '1000000000', *files], self.program.given)
+                       for words, files in (('run', [out]), ('trace', paths)))
+        if ran != traced or not ran.err.startswith(b'exited '):
+            raise Failed(f'{self.program.name}: run ends with {ran}, and trace with {traced}')
+        return code_size(out)
+
+    def figure(self, objects, linker, *words):
+        """The text of a column."""
+        if objects is None:
+            return None
+        if linker not in LINKERS:
+            return self.by_zcld(linker, self.gathered(objects) if words else objects)
+        return self.other(linker, objects, *words)
+
+
+# The columns of both tables: the head, who links, the objects' target, and words. Those of `zc` are for the `ld -r` before it.
+GC, FAR = '--gc-sections', (f'--section-start=.rodata={DATA_AT:#x}', f'-Tdata={DATA_AT + 0x80000:#x}')
+SAME = (('`plain`', 'plain', PLAIN), ('`zc`', 'zc', PLAIN), ('GNU ld, no relaxation', 'ld', PLAIN, '--no-relax'),
+        ('GNU ld', 'ld', PLAIN), ('LLD', 'LLD', PLAIN), ('gc, `zc`', 'zc', PLAIN, GC), ('gc, GNU ld', 'ld', PLAIN, GC),
+        ('gc, LLD', 'LLD', PLAIN, GC))
+TODAY = (('`zc`', 'zc', PLAIN), ('C: GNU ld', 'ld', COMPRESSED), ('C: LLD', 'LLD', COMPRESSED), ('gc, `zc`', 'zc', PLAIN, GC),
+         ('gc, C: GNU ld', 'ld', COMPRESSED, GC), ('gc, C: the same, far constants', 'ld', COMPRESSED, GC, *FAR),
+         ('gc, C: LLD', 'LLD', COMPRESSED, GC), ('gc, Zcb: LLD', 'LLD', ZCB, GC), ('gc, Zcb and Zcmp: LLD', 'LLD', ZCMP, GC))
+
+
+def measured(zcld, zlib, room):
+    """The rows of both tables, and what linkers said of objects that they didn't take."""
+    same, today, said = [], [], []
+    for compiler in filter(lambda it: it.command, map(Compiler, COMPILERS)):
+        for program in listed(zlib):
+            targets = [it for it in (PLAIN, COMPRESSED, ZCB, ZCMP) if compiler.has(program, it)]
+            if targets:
+                folder = os.path.join(room, f'{compiler.name}-{program.name}')
+                objects = {it: compiler.compiled(program, it, os.path.join(folder, it)) for it in targets}
+                links = Links(program, zcld, folder)
+                for rows, columns in ((same, SAME), (today, TODAY)):
+                    found = [links.figure(objects.get(target), linker, *words) for _, linker, target, *words in columns]
+                    rows.append([program.name, compiler.name, *(f'{it:,}' if it else '' for it in found)])
+                said += links.said
+    return same, today, said
+
+
+def show(same, today, said):
+    for columns, rows in ((SAME, same), (TODAY, today)):
+        table(['Program', 'Compiler', *(head for head, *_ in columns)], rows, left=2)
+    for line in said:
+        print(f'\n{line}')
+
+
+def main():
+    words = words_of_bench('Compares how long the text of programs is, as `zcld` links them and as others do.', 1)
+    words.add_argument('--zlib', help='the folder of the sources of zlib')
+    given = words.parse_args()
+    for compiler in filter(lambda it: it.command, map(Compiler, COMPILERS)):
+        print(compiler.version())
+    for linker in filter(None, (programs.found(*names) for names in LINKERS.values())):
+        print(told([linker, '--version']).splitlines()[0])
+    with tempfile.TemporaryDirectory() as room:
+        show(*measured(programs.built(given.program), given.zlib and os.path.abspath(given.zlib), room))
+
+
+if __name__ == '__main__':
+    main()

@@ -1,0 +1,73 @@
+"""Writes images, as docs/FORMATS.md has them, and reads the segments of executables (System V gABI, "ELF Header")."""
+import struct
+from typing import NamedTuple
+
+from zcld_tools.elf import (CODE_FLAGS, DATA_FLAGS, EXECUTABLE, EXECUTE, HEADER, LOAD, NOBITS, PROGBITS, PROGRAM_HEADER,
+                            READABLE, STRTAB, WRITABLE, Part, file_header, laid, section_headers)
+
+TEXT_AT, DATA_AT, STACK_LOW, STACK_HIGH = 0x10000, 0x100000, 0x0FF00000, 0x10000000
+# The name of each section of an image, and the flag of an image that may have short forms.
+NAMES = b'\0.text\0.data\0.bss\0.zcld.places\0.shstrtab\0'
+PLACES, COMPRESSED = b'.zcld.places', 1
+PAGE = 4096
+
+
+def name_at(name):
+    """Where the name of an image's section stands."""
+    return NAMES.index(b'\0' + name + b'\0') + 1
+
+
+def load_header(part, at, zero, flags, align):
+    """The header of a segment that has the content of a part, and so many zeros after it."""
+    size = len(part.content)
+    return struct.pack('<8I', LOAD, at, part.address, part.address, size, size + zero, flags, align)
+
+
+def executable(parts, zero, entry, flags=0, *, names=None, step=4):
+    """A file whose first two parts are its text and its data, with so many zeros after the data. The parts are its sections
+    too, if there is one of names, by its index."""
+    start = HEADER + 2 * PROGRAM_HEADER
+    content, offsets = laid(parts, start, step)
+    loads = (load_header(parts[0], offsets[0], 0, READABLE | EXECUTE, step)
+             + load_header(parts[1], offsets[1], zero, READABLE | WRITABLE, step))
+    at, count, headers = 0, 0, b''
+    if names is not None:
+        at, count, headers = start + len(content), len(parts) + 1, section_headers(parts, offsets)
+    return file_header(EXECUTABLE, at, count, names or 0, entry=entry, flags=flags, segments=2) + loads + content + headers
+
+
+def image_bytes(text, places, data, zero, start, flags):
+    """The image of these bytes and places, and of so many zeros after the data."""
+    listed = b''.join(struct.pack('<HHII', *place, address) for place, address in sorted(places.items()))
+    parts = [Part(name_at(b'.text'), PROGBITS, CODE_FLAGS, text, align=4, address=TEXT_AT),
+             Part(name_at(b'.data'), PROGBITS, DATA_FLAGS, data, align=4, address=DATA_AT),
+             Part(name_at(b'.bss'), NOBITS, DATA_FLAGS, b'', zero, 4, address=DATA_AT + len(data)),
+             Part(name_at(PLACES), PROGBITS, 0, listed, align=4), Part(name_at(b'.shstrtab'), STRTAB, 0, NAMES, align=1)]
+    return executable(parts, zero, start, flags, names=len(parts))
+
+
+def image_in_pages(text, zero, start):
+    """An executable of a text and so many zeroed bytes of data, without sections, which other machines map by pages."""
+    return executable([Part(content=text, address=TEXT_AT), Part(address=DATA_AT)], zero, start, step=PAGE)
+
+
+class Segment(NamedTuple):
+    """A segment that is loaded: its flags, its address, its bytes in the file, and its size in memory."""
+
+    flags: int
+    address: int
+    content: bytes
+    size: int
+
+
+def segments(data):
+    """The segments of an executable that are loaded, in their order."""
+    start, (size, count) = struct.unpack_from('<I', data, 28)[0], struct.unpack_from('<2H', data, 42)
+    headers = [struct.unpack_from('<8I', data, start + size * k) for k in range(count)]
+    return [Segment(flags, address, data[at:at + length], memory)
+            for kind, at, address, _, length, memory, flags, _ in headers if kind == LOAD]
+
+
+def text_of(data):
+    """The bytes of an executable's code: those of its segments that may be executed."""
+    return b''.join(segment.content for segment in segments(data) if segment.flags & EXECUTE)
