@@ -1,4 +1,5 @@
 # make          proves, compiles and links the program: build/zcld
+# make try      links and runs the monitor, or OBJECTS, with a program that isn't proved, in a minute or two
 # make example  links a monitor of several C files as it is and makes it smaller, shows the start of its code and its sizes, and
 #               gives its commands to both images and to the objects; and makes examples/exit3.o smaller, shows that, and runs it
 # make check    runs the gate: every proof, must-fail edit, test and program, and then the program that this built over real
@@ -7,21 +8,27 @@
 # make clean    removes what these made
 
 RT ?= rt
+export RT
 PREFIX ?= /usr/local
 OBJDUMP ?= riscv64-unknown-elf-objdump
 EXAMPLE := $(CURDIR)/examples/exit3.o
 MONITOR := $(sort $(wildcard examples/firmware/gcc/*.o examples/monitor/gcc/*.o))
 SOURCES := crates.txt $(shell find crates -path '*/out' -prune -o -type f \( -name '*.rt' -o -name '*.antt' \) -print)
 
-.PHONY: all example check install clean
+.PHONY: all try example check install clean
 
 all: build/zcld
 
-# A program is built by running it once: here it links the example.
+# The libraries below the program are proved first, several at once. A program is built by running it once: here it links the
+# example.
 build/zcld: $(SOURCES)
 	mkdir -p build
+	scripts/prove_libraries
 	cd crates/zcld && $(RT) run -- zc --out $(CURDIR)/build/exit3.elf --cert $(CURDIR)/build/exit3.cert $(EXAMPLE)
 	install -m 755 crates/zcld/out/zcld build/zcld
+
+try:
+	scripts/try_unproved $(OBJECTS)
 
 example: build/zcld
 	@echo "a monitor of several C files, linked as it is, and made smaller:"
