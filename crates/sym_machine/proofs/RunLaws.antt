@@ -1,24 +1,26 @@
 -- Runs of the symbolic machine, one step at a time.
-use Rattle.std.proofs.Common.{◌≡◌, ℕ, zero, suc, ◌+◌, ◌<◌, List, [], ◌∷◌, ◌++◌, length, take, Some, None, Ok, Err, refl, ap, sym, ◌∙◌, arith}
+use Rattle.std.proofs.Common.{◌≡◌, ℕ, zero, suc, ◌+◌, ◌<◌, List, [], ◌∷◌, ◌++◌, Some, None, Ok, Err, refl, ap, sym, ◌∙◌, arith}
 use Rattle.std.proofs.lemmas.List.{append-nil}
 use Rattle.std.proofs.lemmas.List.Concat.{flat_map-append}
 use Rattle.zc_base.specs.declared.place.Place.{Place}
 use Rattle.rv_decode.specs.Memory.{extents_of}
 use Rattle.rv_decode.specs.Run.{iterate, ◌>>=◌}
 use Rattle.rv_decode.specs.State.{Event, Exit, Read, Write}
-use Rattle.rv_decode.specs.EventBytes.{err_of, out_of, piece_of}
+use Rattle.rv_decode.specs.EventBytes.{bytes_to, written_to}
 use Rattle.rv_decode.proofs.RunLaws.{bind_ok, iterate-add, iterate-one}
-use Rattle.zc_outside.specs.Desk.{Desk, Wrote}
+use Rattle.zc_outside.specs.Course.{EndsAfter, EndsEarly, WrotePart, WroteTo}
+use Rattle.zc_outside.specs.Desk.{Desk, WriteCause, Wrote}
+use Rattle.zc_outside.specs.declared.console.ConsoleFault.{ConsoleFault}
 use Rattle.zc_outside.proofs.Desk.{Wrote-append, Wrote-none}
 use Rattle.sym_machine.specs.declared.run.TraceEnd.TheVariants as end
 use Rattle.sym_machine.specs.declared.why.Why.{Why}
-use Rattle.sym_machine.specs.Change.{Change, Does, Goes, Stops, place_does}
+use Rattle.sym_machine.specs.Change.{Change, Does, Goes, Stops, item_does}
 use Rattle.sym_machine.specs.Kept.{IsOf}
 use Rattle.sym_machine.specs.Program.{Program}
-use Rattle.sym_machine.specs.Run.{plain, plain_turn, recorded}
-use Rattle.sym_machine.specs.RunEnd.{Course, Traced, TracedTo, TracedToRefusal}
+use Rattle.sym_machine.specs.Run.{plain_turn, program_after, recorded}
+use Rattle.sym_machine.specs.RunEnd.{Traced, plain_course}
 use Rattle.sym_machine.specs.State.{PlainCore, PlainState, first_plain}
-use Rattle.sym_machine.specs.Step.{PlainStep, Went, Stuck, after_change, ends, made, plain_step}
+use Rattle.sym_machine.specs.Step.{PlainStep, Went, Stuck, after_change, ends, applied, plain_step}
 use Rattle.sym_machine.proofs.StepLaws.{Ended, ended, extents-step, step_past_exit, step_running}
 
 -- ---- a turn, taken apart
@@ -35,7 +37,7 @@ recorded_stuck why r r' h = absurd cc
 -- what stands at the place makes a change, the step ends, and the change's events are added
 pub record Stepped (p : Program) (r r' : PlainState) : Type 0 where
   pub change : Change
-  pub does : place_does p (p.item r.core.place) r.core (p.next r.core.place) ≡ Goes change
+  pub does : item_does p (p.item r.core.place) r.core (p.next r.core.place) ≡ Goes change
   pub end : Ended p.map (after_change change r.core) r'.core
   pub events : r'.events ≡ r.events ++ change.events
 
@@ -44,7 +46,7 @@ unfolding plain_turn
 stepped p r r' running h = by_item (does r) refl (ap (λ t. recorded t r) (sym (step_running p r.core running)) ∙ h)
   where
     does : PlainState → Does
-    does r = place_does p (p.item r.core.place) r.core (p.next r.core.place)
+    does r = item_does p (p.item r.core.place) r.core (p.next r.core.place)
 
     by_end : (c : Change) (t : PlainStep) → does r ≡ Goes c → ends p.map (after_change c r.core) c.events ≡ t → recorded t r ≡ Ok r' → Stepped p r r'
     by_end c (Went s events) is end g =
@@ -53,7 +55,7 @@ stepped p r r' running h = by_item (does r) refl (ap (λ t. recorded t r) (sym (
         record { change = c; does = is; end = q.0; events = left.1 ∙ ap (λ l. r.events ++ l) q.1 }
     by_end c (Stuck why) is end g = recorded_stuck why r r' g
 
-    by_item : (d : Does) → does r ≡ d → recorded (made p.map r.core d) r ≡ Ok r' → Stepped p r r'
+    by_item : (d : Does) → does r ≡ d → recorded (applied p.map r.core d) r ≡ Ok r' → Stepped p r r'
     by_item (Stops why) is g = recorded_stuck why r r' g
     by_item (Goes c) is g = by_end c (ends p.map (after_change c r.core) c.events) is refl g
 
@@ -86,39 +88,43 @@ unfolding plain_turn
 stuck_turn p s before why stuck = ap (λ t. recorded t (record { core = s; events = before })) stuck
 
 -- one more step
-plain_more : (p : Program) (input : List ℕ) (n : ℕ) (s s' : PlainState) → plain p input n ≡ Ok s → plain_turn p s ≡ Ok s' → plain p input (n + 1) ≡ Ok s'
-unfolding plain
+plain_more : (p : Program) (input : List ℕ) (n : ℕ) (s s' : PlainState) → program_after p input n ≡ Ok s → plain_turn p s ≡ Ok s' → program_after p input (n + 1) ≡ Ok s'
+unfolding program_after
 plain_more p input n s s' before turn =
     iterate-add (plain_turn p) n 1 (record { core = first_plain p input; events = [] })
     ∙ ap (λ r. r >>= iterate (plain_turn p) 1) before ∙ iterate-one (plain_turn p) s s' turn
 
+-- one that isn't made
+plain_stuck : (p : Program) (input : List ℕ) (n : ℕ) (s : PlainState) (stop : Place × Why) → program_after p input n ≡ Ok s → plain_turn p s ≡ Err stop → program_after p input (n + 1) ≡ Err stop
+unfolding program_after
+plain_stuck p input n s stop before turn =
+    iterate-add (plain_turn p) n 1 (record { core = first_plain p input; events = [] })
+    ∙ ap (λ r. r >>= iterate (plain_turn p) 1) before ∙ ap (λ r. r >>= iterate (plain_turn p) 0) turn
+
 -- ---- what events write
 
 -- one event more
-out_more : (events : List Event) (e : Event) → out_of (events ++ e ∷ []) ≡ out_of events ++ out_of (e ∷ [])
-out_more events e = flat_map-append (piece_of 1) events (e ∷ [])
+written_to-more : (stream : ℕ) (events : List Event) (e : Event) → written_to stream (events ++ e ∷ []) ≡ written_to stream events ++ bytes_to stream e
+written_to-more stream events e = flat_map-append (bytes_to stream) events (e ∷ []) ∙ ap (λ xs. written_to stream events ++ xs) (append-nil (bytes_to stream e))
 
-err_more : (events : List Event) (e : Event) → err_of (events ++ e ∷ []) ≡ err_of events ++ err_of (e ∷ [])
-err_more events e = flat_map-append (piece_of 2) events (e ∷ [])
-
-wrote_more : (events : List Event) (e : Event) (a b c : Desk) → Wrote (out_of events) (err_of events) a b → Wrote (out_of (e ∷ [])) (err_of (e ∷ [])) b c
-    → Wrote (out_of (events ++ e ∷ [])) (err_of (events ++ e ∷ [])) a c
+wrote_more : (events : List Event) (e : Event) (a b c : Desk) → Wrote (written_to 1 events) (written_to 2 events) a b → Wrote (bytes_to 1 e) (bytes_to 2 e) b c
+    → Wrote (written_to 1 (events ++ e ∷ [])) (written_to 2 (events ++ e ∷ [])) a c
 wrote_more events e a b c first second =
-    rw (out_more events e, err_more events e) (Wrote-append first second)
+    rw (written_to-more 1 events e, written_to-more 2 events e) (Wrote-append first second)
 
 -- ---- runs
 
 -- the run has come to this state, after so many steps, and has written what its events write
-pub record Came (run : Course) (count : ℕ) (s : PlainCore) (before now : Desk) : Type 0 where
+pub record Came (p : Program) (input : List ℕ) (count : ℕ) (s : PlainCore) (before now : Desk) : Type 0 where
   pub events : List Event
-  pub so_far : plain run.program run.input count ≡ Ok (record { core = s; events = events })
+  pub so_far : program_after p input count ≡ Ok (record { core = s; events = events })
   pub running : s.exit ≡ None
-  pub of : IsOf run.program s
-  pub wrote : Wrote (out_of events) (err_of events) before now
+  pub of : IsOf p s
+  pub wrote : Wrote (written_to 1 events) (written_to 2 events) before now
 
-pub came_first : (p : Program) (input : List ℕ) (steps : ℕ) (s : PlainCore) (desk : Desk) → s ≡ first_plain p input → Came (record { program = p; input = input; steps = steps }) 0 s desk desk
-unfolding plain
-came_first p input steps s desk is = record {
+pub came_first : (p : Program) (input : List ℕ) (s : PlainCore) (desk : Desk) → s ≡ first_plain p input → Came p input 0 s desk desk
+unfolding program_after
+came_first p input s desk is = record {
   events = [];
   so_far = ap (λ t. Ok (record { core = t; events = [] })) (sym is);
   running = ap (λ (t : PlainCore). t.exit) is;
@@ -126,89 +132,84 @@ came_first p input steps s desk is = record {
   wrote = Wrote-none desk;
 }
 
-module _ (run : Course) (count : ℕ) (s : PlainCore) (before now : Desk) (came : Came run count s before now) where
+module _ (p : Program) (input : List ℕ) (count : ℕ) (s : PlainCore) (before now : Desk) (came : Came p input count s before now) where
   -- a step with one event
-  more : (s' : PlainCore) (e : Event) → plain_step run.program s ≡ Went s' (e ∷ []) → plain run.program run.input (count + 1) ≡ Ok (record { core = s'; events = came.events ++ e ∷ [] })
+  more : (s' : PlainCore) (e : Event) → plain_step p s ≡ Went s' (e ∷ []) → program_after p input (count + 1) ≡ Ok (record { core = s'; events = came.events ++ e ∷ [] })
   more s' e went =
-      plain_more run.program run.input count (record { core = s; events = came.events }) (record { core = s'; events = came.events ++ e ∷ [] }) came.so_far (went_turn run.program s s' came.events (e ∷ []) went)
+      plain_more p input count (record { core = s; events = came.events }) (record { core = s'; events = came.events ++ e ∷ [] }) came.so_far (went_turn p s s' came.events (e ∷ []) went)
 
   -- a step without an event
-  pub came_done : (s' : PlainCore) → s'.exit ≡ None → plain_step run.program s ≡ Went s' [] → Came run (count + 1) s' before now
+  pub came_done : (s' : PlainCore) → s'.exit ≡ None → plain_step p s ≡ Went s' [] → Came p input (count + 1) s' before now
   came_done s' running went = record {
     events = came.events;
-    so_far = plain_more run.program run.input count (record { core = s; events = came.events }) (record { core = s'; events = came.events }) came.so_far
-        (went_turn run.program s s' came.events [] went ∙ ap (λ l. Ok (record { core = s'; events = l })) (append-nil came.events));
+    so_far = plain_more p input count (record { core = s; events = came.events }) (record { core = s'; events = came.events }) came.so_far
+        (went_turn p s s' came.events [] went ∙ ap (λ l. Ok (record { core = s'; events = l })) (append-nil came.events));
     running = running;
-    of = extents-step run.program s s' [] went ∙ came.of;
+    of = extents-step p s s' [] went ∙ came.of;
     wrote = came.wrote;
   }
 
   -- a read writes nothing
-  pub came_read : (s' : PlainCore) (bytes : List ℕ) → s'.exit ≡ None → plain_step run.program s ≡ Went s' (Read bytes ∷ []) → Came run (count + 1) s' before now
+  pub came_read : (s' : PlainCore) (bytes : List ℕ) → s'.exit ≡ None → plain_step p s ≡ Went s' (Read bytes ∷ []) → Came p input (count + 1) s' before now
   came_read s' bytes running went = record {
     events = came.events ++ Read bytes ∷ [];
     so_far = more s' (Read bytes) went;
     running = running;
-    of = extents-step run.program s s' (Read bytes ∷ []) went ∙ came.of;
+    of = extents-step p s s' (Read bytes ∷ []) went ∙ came.of;
     wrote = wrote_more came.events (Read bytes) before now now came.wrote (Wrote-none now);
   }
 
   -- a write that the console made
-  pub came_wrote : (s' : PlainCore) (fd : ℕ) (bytes : List ℕ) (after : Desk) → s'.exit ≡ None → plain_step run.program s ≡ Went s' (Write fd bytes ∷ [])
-      → Wrote (out_of (Write fd bytes ∷ [])) (err_of (Write fd bytes ∷ [])) now after → Came run (count + 1) s' before after
+  pub came_wrote : (s' : PlainCore) (fd : ℕ) (bytes : List ℕ) (after : Desk) → s'.exit ≡ None → plain_step p s ≡ Went s' (Write fd bytes ∷ [])
+      → WroteTo fd bytes now after → Came p input (count + 1) s' before after
   came_wrote s' fd bytes after running went wrote = record {
     events = came.events ++ Write fd bytes ∷ [];
     so_far = more s' (Write fd bytes) went;
     running = running;
-    of = extents-step run.program s s' (Write fd bytes ∷ []) went ∙ came.of;
+    of = extents-step p s s' (Write fd bytes ∷ []) went ∙ came.of;
     wrote = wrote_more came.events (Write fd bytes) before now after came.wrote wrote;
   }
 
-  -- one that it refused
-  pub refused : (s' : PlainCore) (fd : ℕ) (bytes : List ℕ) (after : Desk) → plain_step run.program s ≡ Went s' (Write fd bytes ∷ []) → count < run.steps
-      → (n : ℕ) → n < length bytes → Wrote (out_of (Write fd (take n bytes) ∷ [])) (err_of (Write fd (take n bytes) ∷ [])) now after → TracedToRefusal run before after
-  refused s' fd bytes after went within n part wrote = record {
-    count = count + 1;
-    within = omega arith;
-    last = record { core = s'; events = came.events ++ Write fd bytes ∷ [] };
-    state = more s' (Write fd bytes) went;
-    wrote = record {
-      earlier = came.events;
-      stream = fd;
-      bytes = bytes;
-      count = n;
-      last = refl;
-      part = part;
-      shown = came.events ++ Write fd (take n bytes) ∷ [];
-      cut_short = refl;
-      wrote = wrote_more came.events (Write fd (take n bytes)) before now after came.wrote wrote;
-    };
-  }
+  module _ (steps : ℕ) where
+    -- so far
+    abbrev pub traced : EndsAfter (plain_course p input steps) count before now
+    traced = record { last = record { core = s; events = came.events }; state = came.so_far; running = came.running; wrote = came.wrote }
 
-  -- the exit
-  pub exited : (s' : PlainCore) (status : ℕ) → s'.exit ≡ Some status → plain_step run.program s ≡ Went s' (Exit status ∷ []) → count < run.steps
-      → Traced run (end.Exited status) before now
-  exited s' status exit went within = record {
-    count = count + 1;
-    within = omega arith;
-    last = record { core = s'; events = came.events ++ Exit status ∷ [] };
-    state = more s' (Exit status) went;
-    exit = exit;
-    wrote = wrote_more came.events (Exit status) before now now came.wrote (Wrote-none now);
-  }
+    module _ (within : count < steps) where
+      abbrev early : EndsEarly (plain_course p input steps) before now
+      early = record { count = count; within = within; made = traced }
 
-  -- a step that is stuck
-  pub stuck : (place : Place) (why : Why) → place ≡ s.place → plain_step run.program s ≡ Stuck why → count < run.steps → Traced run (end.Stuck place why) before now
-  stuck place why at is within = record {
-    count = count;
-    within = within;
-    last = record { core = s; events = came.events };
-    state = came.so_far;
-    running = came.running;
-    stuck = stuck_turn run.program s came.events why is ∙ ap (λ q. Err (q, why)) (sym at);
-    wrote = came.wrote;
-  }
+      -- a write that the console refused
+      pub refused : (s' : PlainCore) (fd : ℕ) (bytes : List ℕ) (after : Desk) (fault : ConsoleFault) → plain_step p s ≡ Went s' (Write fd bytes ∷ [])
+          → WrotePart fd bytes now after → WriteCause before after fault → Traced (plain_course p input steps) (end.Console fault) before after
+      refused s' fd bytes after fault went part cause = record {
+        between = now;
+        early = early;
+        next = record { core = s'; events = came.events ++ Write fd bytes ∷ [] };
+        state = more s' (Write fd bytes) went;
+        stream = fd;
+        bytes = bytes;
+        write = λ stream. written_to-more stream came.events (Write fd bytes);
+        wrote = part;
+        cause = cause;
+      }
 
-  -- so far
-  pub traced : TracedTo run count before now
-  traced = record { last = record { core = s; events = came.events }; state = came.so_far; running = came.running; wrote = came.wrote }
+      -- the exit
+      pub exited : (s' : PlainCore) (status : ℕ) → s'.exit ≡ Some status → plain_step p s ≡ Went s' (Exit status ∷ [])
+          → Traced (plain_course p input steps) (end.Exited status) before now
+      exited s' status exit went = record {
+        count = count + 1;
+        within = omega arith;
+        last = record { core = s'; events = came.events ++ Exit status ∷ [] };
+        state = more s' (Exit status) went;
+        exit = exit;
+        wrote = wrote_more came.events (Exit status) before now now came.wrote (Wrote-none now);
+      }
+
+      -- a step that is stuck
+      pub stuck : (place : Place) (why : Why) → place ≡ s.place → plain_step p s ≡ Stuck why → Traced (plain_course p input steps) (end.Stuck place why) before now
+      stuck place why at is = record {
+        early = early;
+        next = plain_stuck p input count (record { core = s; events = came.events }) (place, why) came.so_far
+            (stuck_turn p s came.events why is ∙ ap (λ q. Err (q, why)) (sym at));
+      }

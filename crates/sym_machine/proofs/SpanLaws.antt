@@ -8,7 +8,7 @@ use Rattle.rv_decode.proofs.MemoryLaws.{untouched}
 use Rattle.sym_machine.specs.declared.span.Span.TheVariants as span
 use Rattle.sym_machine.specs.declared.word.SymByte.{SymByte}
 use Rattle.sym_machine.specs.declared.word.SymByte.TheVariants.{Undef}
-use Rattle.sym_machine.specs.Kept.{IsChanged, IsKept, IsSpan, IsWritten, Kept, regions_of, word_at}
+use Rattle.sym_machine.specs.Kept.{AreCellsWritten, IsChanged, IsKept, IsSpan, Kept, regions_of, sym_word_at}
 use Rattle.sym_machine.proofs.MemoryLaws.{byte_in_stack, changed_kept, reaches_is, written_in, written_more}
 
 -- what holds anyway holds if there is something
@@ -49,7 +49,7 @@ module _ {m k : Kept} (view : m ≡ k) (is : IsKept m) (a n i : ℕ) (at : IsSpa
 -- four of them
 pub stack_word : {m k : Kept} → m ≡ k → IsKept m → (a i : ℕ) → IsSpan k a 4 (span.Stack i) → {b0 b1 b2 b3 : SymByte}
     → b0 ≡ get_or m.above (i - 1) b0 → b1 ≡ get_or m.above (i - 2) b1 → b2 ≡ get_or m.above (i - 3) b2 → b3 ≡ get_or m.above (i - 4) b3
-    → word_at (regions_of k) a ≡ record { b0 = b0; b1 = b1; b2 = b2; b3 = b3 }
+    → sym_word_at (regions_of k) a ≡ record { b0 = b0; b1 = b1; b2 = b2; b3 = b3 }
 stack_word view is a i at r0 r1 r2 r3 = sym (λ j. record {
   b0 = stack_byte view is a 4 i at a (i - 1) r0 (omega arith) (omega (arith, at)) j;
   b1 = stack_byte view is a 4 i at (a + 1) (i - 2) r1 (omega arith) (omega (arith, at)) j;
@@ -74,7 +74,7 @@ module _ (at : ℕ → ℕ) (a n p : ℕ) (given : ℕ → SymByte) (b : SymByte
 -- what was stored in data, or in the stack, of memory as a function has it: cells were given and written over
 module _ {m k : Kept} (view : m ≡ k) (is : IsKept m) (a i : ℕ) (bytes given cells : List SymByte) (count : length cells ≡ length given) where
   pub stored_data : a ≡ k.map.data_low + i → i + length bytes ≤ length k.bytes → given ≡ m.bytes
-      → ((low : ℕ) → a ≡ low + i → IsWritten (λ j. low + j) a bytes given cells)
+      → ((low : ℕ) → a ≡ low + i → AreCellsWritten (λ j. low + j) a bytes given cells)
       → {items : List SymByte} → (length cells ≡ length m.bytes → items ≡ cells)
       → IsChanged (written a (length bytes) (λ l. get_or bytes l Undef)) k (record { map = m.map; bytes = items; above = m.above })
   stored_data at fits same each {items = items} back =
@@ -85,11 +85,11 @@ module _ {m k : Kept} (view : m ≡ k) (is : IsKept m) (a i : ℕ) (bytes given 
       subst (λ (s : Kept). IsChanged f s (record { map = m.map; bytes = items; above = m.above })) view
       (subst (λ (l : List SymByte). IsChanged f m (record { map = m.map; bytes = l; above = m.above })) (sym (back long))
       (changed_kept m f cells m.above is long refl
-      (subst (λ (l : List SymByte). IsWritten (λ j. m.map.data_low + j) a bytes l cells) same (each m.map.data_low here))
+      (subst (λ (l : List SymByte). AreCellsWritten (λ j. m.map.data_low + j) a bytes l cells) same (each m.map.data_low here))
       (λ j d lt. sym (untouched a (length bytes) (λ l. get_or bytes l Undef) (m.map.stack_high - 1 - j) (get_or m.above j d) (λ l h. omega (arith, here, inside, is.apart, is.within, lt, h))))))
 
   pub stored_stack : a + i ≡ k.map.stack_high → i ≤ length k.above → given ≡ m.above
-      → ((top : ℕ) → a + i ≡ top → length given ≤ top → IsWritten (λ j. top - 1 - j) a bytes given cells)
+      → ((top : ℕ) → a + i ≡ top → length given ≤ top → AreCellsWritten (λ j. top - 1 - j) a bytes given cells)
       → {items : List SymByte} → (length cells ≡ length m.above → items ≡ cells)
       → IsChanged (written a (length bytes) (λ l. get_or bytes l Undef)) k (record { map = m.map; bytes = m.bytes; above = items })
   stored_stack at fits same each {items = items} back =
@@ -102,4 +102,4 @@ module _ {m k : Kept} (view : m ≡ k) (is : IsKept m) (a i : ℕ) (bytes given 
       (subst (λ (l : List SymByte). IsChanged f m (record { map = m.map; bytes = m.bytes; above = l })) (sym (back long))
       (changed_kept m f m.bytes cells is refl long
       (λ j d lt. sym (untouched a (length bytes) (λ l. get_or bytes l Undef) (m.map.data_low + j) (get_or m.bytes j d) (λ l h. omega (arith, here, inside, is.apart, is.within, lt, l))))
-      (subst (λ (l : List SymByte). IsWritten (λ j. m.map.stack_high - 1 - j) a bytes l cells) same (each m.map.stack_high here high))))
+      (subst (λ (l : List SymByte). AreCellsWritten (λ j. m.map.stack_high - 1 - j) a bytes l cells) same (each m.map.stack_high here high))))

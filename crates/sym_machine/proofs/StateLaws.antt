@@ -17,11 +17,11 @@ use Rattle.sym_machine.specs.declared.word.SymByte.{SymByte}
 use Rattle.sym_machine.specs.declared.word.SymByte.TheVariants.{Num, Undef}
 use Rattle.sym_machine.specs.declared.word.SymWord.{SymWord}
 use Rattle.sym_machine.specs.Answer.{StepAnswers}
-use Rattle.sym_machine.specs.Change.{Change, Goes, Stops, call_to, exit_does, gives, onward, place_does, puts, read_does}
+use Rattle.sym_machine.specs.Change.{Change, Goes, Stops, call_to, exit_does, sets, continues, item_does, puts, read_does}
 use Rattle.sym_machine.specs.Kept.{IsChanged, IsKept, IsWorking, Kept, above_only, kept_from, regions_of, stack_cells, word_of, words_of}
-use Rattle.sym_machine.specs.Program.{Program, first_memory}
+use Rattle.sym_machine.specs.Program.{Program, start_memory}
 use Rattle.sym_machine.specs.State.{PlainCore, reg_of}
-use Rattle.sym_machine.specs.Step.{Stuck, Went, after_change, ends, made, plain_step, undefined_below}
+use Rattle.sym_machine.specs.Step.{Stuck, Went, after_change, ends, applied, plain_step, undefined_below}
 use Rattle.sym_machine.specs.Words.{code_word, number_of, number_word, undef_word}
 use Rattle.rv_decode.proofs.MemoryLaws.{get_or_blank, length_blank}
 use Rattle.rv_decode.proofs.RegisterLaws.{length-set_reg}
@@ -69,7 +69,7 @@ core_of place R k input exit = record { place = place; regs = words_of R; memory
 
 -- what a call does but for register 0 as its first one
 abbrev pub calls : ℕ → ℕ → Place → Place → Change
-calls rd temp next to = record (onward to) { writes = (temp, undef_word) ∷ (rd, code_word next) ∷ [] }
+calls rd temp next to = record (continues to) { writes = (temp, undef_word) ∷ (rd, code_word next) ∷ [] }
 
 pub call_goes : (rd temp : ℕ) (to next : Place) → temp ≢ 0 → call_to rd temp to next ≡ Goes (calls rd temp next to)
 call_goes rd temp to next some = cond-false (eqb temp 0) (Stops TargetUnknown) (Goes (calls rd temp next to)) (ne_eqb temp 0 some)
@@ -98,32 +98,32 @@ module _ (k : Kept) (R : List Held) (is : IsWorking (words_of R) k) (place to : 
   abbrev core : PlainCore
   core = core_of place R k input exit
 
-  pub goes_on : StepAnswers (made k.map (core_of place R k input exit) (Goes (onward to))) answer.Done (core_of place R k input exit) (core_of to R k input exit)
+  pub goes_on : StepAnswers (applied k.map (core_of place R k input exit) (Goes (continues to))) answer.Done (core_of place R k input exit) (core_of to R k input exit)
   goes_on = (
     running,
     running,
-    kept_ends k is.kept (after_change (onward to) core) [] is.sp refl ∙ ap (λ e. Went (core_of to R k input e) []) (sym running),
+    kept_ends k is.kept (after_change (continues to) core) [] is.sp refl ∙ ap (λ e. Went (core_of to R k input e) []) (sym running),
   )
 
   -- a register but register 0 and sp is set, with these events
   set_ends : (r : ℕ) (w : Held) (events : List Event) → r ≢ 0 → r ≢ 2
-      → ends k.map (after_change (gives r (word_of w) to) core) events ≡ Went (core_of to (set R r w) k input exit) events
+      → ends k.map (after_change (sets r (word_of w) to) core) events ≡ Went (core_of to (set R r w) k input exit) events
   set_ends r w events some other =
-      let s = after_change (gives r (word_of w) to) core in
+      let s = after_change (sets r (word_of w) to) core in
       let words = words_set R r w some in
       kept_ends k is.kept s events (ap (λ l. number_of (get_or l 2 undef_word)) (sym words) ∙ (working_set R k k r w is is.kept refl some other).sp) refl
       ∙ (λ j. Went (record { place = to; regs = sym words j; memory = regions_of k; input = input; exit = sym running j }) events)
 
   pub gives_on : (r : ℕ) (w : Held) → r ≢ 0 → r ≢ 2
-      → StepAnswers (made k.map (core_of place R k input exit) (Goes (gives r (word_of w) to))) answer.Done (core_of place R k input exit) (core_of to (set R r w) k input exit)
+      → StepAnswers (applied k.map (core_of place R k input exit) (Goes (sets r (word_of w) to))) answer.Done (core_of place R k input exit) (core_of to (set R r w) k input exit)
   gives_on r w some other = (running, running, set_ends r w [] some other)
 
   -- sp is set to a number within the stack
   pub gives_sp : (w : Held) (sp : ℕ) (k' : Kept) → number_of (word_of w) ≡ Some sp → k.map.stack_low ≤ sp → sp ≤ k.map.stack_high
       → regions_of k' ≡ changed (undefined_below k.map sp) (regions_of k)
-      → StepAnswers (made k.map (core_of place R k input exit) (Goes (gives 2 (word_of w) to))) answer.Done (core_of place R k input exit) (core_of to (set R 2 w) k' input exit)
+      → StepAnswers (applied k.map (core_of place R k input exit) (Goes (sets 2 (word_of w) to))) answer.Done (core_of place R k input exit) (core_of to (set R 2 w) k' input exit)
   gives_sp w sp k' number low high regions =
-      let s = after_change (gives 2 (word_of w) to) core in
+      let s = after_change (sets 2 (word_of w) to) core in
       let set = get_or-set_same (words_of R) 2 (word_of w) undef_word (omega (arith, is.registers_are.count)) in (
         running,
         running,
@@ -133,7 +133,7 @@ module _ (k : Kept) (R : List Held) (is : IsWorking (words_of R) k) (place to : 
 
   -- a register isn't known any more, and then another one gets a word; neither is sp
   pub calls_on : (t r : ℕ) (next : Place) → t ≢ 0 → t ≢ 2 → r ≢ 0 → r ≢ 2
-      → StepAnswers (made k.map (core_of place R k input exit) (Goes (calls r t next to))) answer.Done (core_of place R k input exit) (core_of to (set (set R t forgotten) r (held.Code next)) k input exit)
+      → StepAnswers (applied k.map (core_of place R k input exit) (Goes (calls r t next to))) answer.Done (core_of place R k input exit) (core_of to (set (set R t forgotten) r (held.Code next)) k input exit)
   calls_on t r next some other link apart =
       let R' = set R t forgotten in
       let is' = working_set R k k t forgotten is is.kept refl some other in
@@ -148,7 +148,7 @@ module _ (k : Kept) (R : List Held) (is : IsWorking (words_of R) k) (place to : 
 
   -- the same if the other one is register 0, which stays
   pub calls_off : (t : ℕ) (next : Place) → t ≢ 0 → t ≢ 2
-      → StepAnswers (made k.map (core_of place R k input exit) (Goes (calls 0 t next to))) answer.Done (core_of place R k input exit) (core_of to (set R t forgotten) k input exit)
+      → StepAnswers (applied k.map (core_of place R k input exit) (Goes (calls 0 t next to))) answer.Done (core_of place R k input exit) (core_of to (set R t forgotten) k input exit)
   calls_off t next some other =
       let words = words_set R t forgotten some in
       let s = after_change (calls 0 t next to) core in (
@@ -160,7 +160,7 @@ module _ (k : Kept) (R : List Held) (is : IsWorking (words_of R) k) (place to : 
 
   -- bytes are written
   pub puts_on : (a : ℕ) (bytes : List SymByte) (k' : Kept) → IsChanged (written a (length bytes) (λ i. slice_index_or bytes i Undef)) k k'
-      → StepAnswers (made k.map (core_of place R k input exit) (Goes (puts a bytes to))) answer.Done (core_of place R k input exit) (core_of to R k' input exit)
+      → StepAnswers (applied k.map (core_of place R k input exit) (Goes (puts a bytes to))) answer.Done (core_of place R k input exit) (core_of to R k' input exit)
   puts_on a bytes k' new = (
     running,
     running,
@@ -171,13 +171,13 @@ module _ (k : Kept) (R : List Held) (is : IsWorking (words_of R) k) (place to : 
   -- input is read
   pub reads_on : (c : Arguments) (n : ℕ) (k' : Kept) → n ≡ min c.len (length input)
       → IsChanged (written c.at (length (map Num (take n input))) (λ i. slice_index_or (map Num (take n input)) i Undef)) k k'
-      → StepAnswers (made k.map (core_of place R k input exit) (read_does (core_of place R k input exit) to c)) (answer.Read n) (core_of place R k input exit) (core_of to (set R 10 (held.Number n)) k' (drop n input) exit)
+      → StepAnswers (applied k.map (core_of place R k input exit) (read_does (core_of place R k input exit) to c)) (answer.Read n) (core_of place R k input exit) (core_of to (set R 10 (held.Number n)) k' (drop n input) exit)
   reads_on c n k' count new =
       let change : Change = record { place = to; writes = (10, number_word n) ∷ []; stores = (c.at, map Num (take n input)) ∷ []; taken = n; exit = None; events = Read (take n input) ∷ [] } in
       let s = after_change change core in
       let words = words_set R 10 (held.Number n) (λ e. omega (arith, e)) in
       let sp = ap (λ l. number_of (get_or l 2 undef_word)) (sym words) ∙ (working_set R k k 10 (held.Number n) is is.kept refl (λ e. omega (arith, e)) (λ e. omega (arith, e))).sp in
-      subst (λ (m : ℕ). StepAnswers (made k.map (core_of place R k input exit) (Goes (record { place = to; writes = (10, number_word m) ∷ []; stores = (c.at, map Num (take m input)) ∷ []; taken = m; exit = None; events = Read (take m input) ∷ [] }))) (answer.Read n) (core_of place R k input exit) (core_of to (set R 10 (held.Number n)) k' (drop n input) exit))
+      subst (λ (m : ℕ). StepAnswers (applied k.map (core_of place R k input exit) (Goes (record { place = to; writes = (10, number_word m) ∷ []; stores = (c.at, map Num (take m input)) ∷ []; taken = m; exit = None; events = Read (take m input) ∷ [] }))) (answer.Read n) (core_of place R k input exit) (core_of to (set R 10 (held.Number n)) k' (drop n input) exit))
       count (
         omega (arith, count),
         (
@@ -190,11 +190,11 @@ module _ (k : Kept) (R : List Held) (is : IsWorking (words_of R) k) (place to : 
 
   -- bytes are written out
   pub writes_on : (c : Arguments) (bytes : List ℕ)
-      → made k.map (core_of place R k input exit) (Goes (record (gives 10 (number_word c.len) to) { events = Write c.a0 bytes ∷ [] })) ≡ Went (core_of to (set R 10 (held.Number c.len)) k input exit) (Write c.a0 bytes ∷ [])
+      → applied k.map (core_of place R k input exit) (Goes (record (sets 10 (number_word c.len) to) { events = Write c.a0 bytes ∷ [] })) ≡ Went (core_of to (set R 10 (held.Number c.len)) k input exit) (Write c.a0 bytes ∷ [])
   writes_on c bytes = set_ends 10 (held.Number c.len) (Write c.a0 bytes ∷ []) (λ e. omega (arith, e)) (λ e. omega (arith, e))
 
   -- the program exits
-  pub exits : (a0 : ℕ) → StepAnswers (made k.map (core_of place R k input exit) (exit_does (Some a0) place)) (answer.Exited (a0 % 256)) (core_of place R k input exit) (core_of place R k input (Some (a0 % 256)))
+  pub exits : (a0 : ℕ) → StepAnswers (applied k.map (core_of place R k input exit) (exit_does (Some a0) place)) (answer.Exited (a0 % 256)) (core_of place R k input exit) (core_of place R k input (Some (a0 % 256)))
   exits a0 =
       let s = core_of place R k input (Some (a0 % 256)) in
       inl (running, refl, kept_ends k is.kept s (Exit (a0 % 256) ∷ []) is.sp refl)
@@ -202,28 +202,28 @@ module _ (k : Kept) (R : List Held) (is : IsWorking (words_of R) k) (place to : 
 -- ---- sp that isn't allowed
 
 module _ (map : MemMap) (s : PlainCore) (many : 2 < length s.regs) (w : SymWord) (to : Place) where
-  sp_is : reg_of (after_change (gives 2 w to) s) 2 ≡ w
+  sp_is : reg_of (after_change (sets 2 w to) s) 2 ≡ w
   sp_is = get_or-set_same s.regs 2 w undef_word many
 
   -- no number
-  pub sp_unknown : number_of w ≡ None → made map s (Goes (gives 2 w to)) ≡ Stuck StackPointer
-  sp_unknown none = ends_unknown map (after_change (gives 2 w to) s) [] (ap number_of sp_is ∙ none)
+  pub sp_unknown : number_of w ≡ None → applied map s (Goes (sets 2 w to)) ≡ Stuck StackPointer
+  sp_unknown none = ends_unknown map (after_change (sets 2 w to) s) [] (ap number_of sp_is ∙ none)
 
   -- a number that isn't in the stack
-  pub sp_outside : (sp : ℕ) → number_of w ≡ Some sp → (nat_le map.stack_low sp && nat_le sp map.stack_high) ≡ false → made map s (Goes (gives 2 w to)) ≡ Stuck StackPointer
-  sp_outside sp is out = ends_outside map sp (after_change (gives 2 w to) s) [] (ap number_of sp_is ∙ is) out
+  pub sp_outside : (sp : ℕ) → number_of w ≡ Some sp → (nat_le map.stack_low sp && nat_le sp map.stack_high) ≡ false → applied map s (Goes (sets 2 w to)) ≡ Stuck StackPointer
+  sp_outside sp is out = ends_outside map sp (after_change (sets 2 w to) s) [] (ap number_of sp_is ∙ is) out
 
 -- a call after which sp is no number, since it gets the next place's address or isn't known
 module _ (map : MemMap) (s : PlainCore) (many : 2 < length s.regs) (to next : Place) where
   -- the link register is sp
-  pub call_links_sp : (temp : ℕ) → made map s (Goes (calls 2 temp next to)) ≡ Stuck StackPointer
+  pub call_links_sp : (temp : ℕ) → applied map s (Goes (calls 2 temp next to)) ≡ Stuck StackPointer
   call_links_sp temp =
       let regs = set_reg s.regs temp undef_word in
       ends_unknown map (after_change (calls 2 temp next to) s) []
       (ap number_of (get_or-set_same regs 2 (code_word next) undef_word (omega (arith, length-set_reg s.regs temp undef_word, many))))
 
   -- the first register is
-  pub call_forgets_sp : (rd : ℕ) → rd ≢ 2 → made map s (Goes (calls rd 2 next to)) ≡ Stuck StackPointer
+  pub call_forgets_sp : (rd : ℕ) → rd ≢ 2 → applied map s (Goes (calls rd 2 next to)) ≡ Stuck StackPointer
   call_forgets_sp rd apart = ends_unknown map (after_change (calls rd 2 next to) s) [] (⊎_elim none linked (eqb_tells rd 0))
     where
       regs : List SymWord
@@ -248,7 +248,7 @@ second (a ∷ []) = a
 second [] = record { kind = Stack; at = 0; size = 0 }
 
 -- memory that lies where a program's does has its stack where the program has it
-module _ (k : Kept) (is : IsKept k) (p : Program) (of : extents_of (regions_of k) ≡ extents_of (first_memory p)) where
+module _ (k : Kept) (is : IsKept k) (p : Program) (of : extents_of (regions_of k) ≡ extents_of (start_memory p)) where
   low_is : k.map.stack_low ≡ p.map.stack_low
   low_is = ap (λ es. (second es).at) of
 
@@ -258,8 +258,8 @@ module _ (k : Kept) (is : IsKept k) (p : Program) (of : extents_of (regions_of k
       omega (arith, is.stack, low_is, sizes)
 
   -- so a step is the program's
-  pub step_of : (s : PlainCore) → s.exit ≡ None → plain_step p s ≡ made k.map s (place_does p (p.item s.place) s (p.next s.place))
-  step_of s running = step_running p s running ∙ made_by p.map k.map s (place_does p (p.item s.place) s (p.next s.place)) (sym low_is) (sym high_is)
+  pub step_of : (s : PlainCore) → s.exit ≡ None → plain_step p s ≡ applied k.map s (item_does p (p.item s.place) s (p.next s.place))
+  step_of s running = step_running p s running ∙ made_by p.map k.map s (item_does p (p.item s.place) s (p.next s.place)) (sym low_is) (sym high_is)
 
 -- a stack that nothing was written to
 pub bare_stack : (map : MemMap) → stack_cells map [] ≡ blank (map.stack_high - map.stack_low) Undef

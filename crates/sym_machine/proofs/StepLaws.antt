@@ -1,6 +1,8 @@
 -- A step of the symbolic machine: it begins by the exit's status, and when it ends, sp is a number within the stack and the
 -- bytes below it become undefined (Ended).
 use Rattle.std.proofs.Common.{◌≡◌, ℕ, ◌≤◌, List, [], ◌∷◌, length, Option, Some, None, Result, Ok, Err, Bool, true, false, cond, refl, sym, ap, ◌∙◌, ⊎_elim, leb, ltb, slice_index_or}
+use Rattle.std.specs.List.{fold}
+use Rattle.std.specs.Option.{option_map_or}
 use Rattle.std.specs.Prelude.{◌&&◌}
 use Rattle.std.specs.declared.alloc.AllocError.{AllocError}
 use Rattle.std.proofs.lemmas.Bool.{and_from, and_parts, cond-true, cond-false, le-leb, leb-true}
@@ -14,11 +16,11 @@ use Rattle.sym_machine.specs.declared.why.Why.TheVariants.{StackPointer}
 use Rattle.sym_machine.specs.declared.word.SymByte.{SymByte}
 use Rattle.sym_machine.specs.declared.word.SymByte.TheVariants.{Undef}
 use Rattle.sym_machine.specs.Answer.{Makes}
-use Rattle.sym_machine.specs.Change.{Does, Goes, Stops, place_does}
+use Rattle.sym_machine.specs.Change.{Does, Goes, Stops, item_does}
 use Rattle.sym_machine.specs.Kept.{IsOf}
 use Rattle.sym_machine.specs.Program.{Program}
 use Rattle.sym_machine.specs.State.{PlainCore, reg_of}
-use Rattle.sym_machine.specs.Step.{Went, Stuck, after_change, ends, ends_at, made, plain_step, step_from, undefined_below, with_stores}
+use Rattle.sym_machine.specs.Step.{PlainStep, Went, Stuck, after_change, ends, applied, plain_step, undefined_below}
 use Rattle.sym_machine.specs.Words.{number_of}
 
 -- ---- the beginning
@@ -26,14 +28,21 @@ use Rattle.sym_machine.specs.Words.{number_of}
 -- after the exit the state stays
 pub step_past_exit : (p : Program) (s : PlainCore) (status : ℕ) → s.exit ≡ Some status → plain_step p s ≡ Went s []
 unfolding plain_step
-step_past_exit p s status exited = ap (λ e. step_from e p s) exited
+step_past_exit p s status exited = ap (λ e. option_map_or (λ _. Went s []) e (applied p.map s (item_does p (p.item s.place) s (p.next s.place)))) exited
 
 -- before it, a step makes what stands at the place
-pub step_running : (p : Program) (s : PlainCore) → s.exit ≡ None → plain_step p s ≡ made p.map s (place_does p (p.item s.place) s (p.next s.place))
+pub step_running : (p : Program) (s : PlainCore) → s.exit ≡ None → plain_step p s ≡ applied p.map s (item_does p (p.item s.place) s (p.next s.place))
 unfolding plain_step
-step_running p s running = ap (λ e. step_from e p s) running
+step_running p s running = ap (λ e. option_map_or (λ _. Went s []) e (applied p.map s (item_does p (p.item s.place) s (p.next s.place)))) running
 
 -- ---- the end
+
+-- the end by sp
+abbrev ends_at : Option ℕ → MemMap → PlainCore → List Event → PlainStep
+ends_at o map s events = option_map_or (λ sp.
+    cond (leb map.stack_low sp && leb sp map.stack_high)
+    (Went (record s { memory = changed (undefined_below map sp) s.memory }) events)
+    (Stuck StackPointer)) o (Stuck StackPointer)
 
 -- the state after the bytes below this sp have become undefined
 abbrev pub settled : MemMap → ℕ → PlainCore → PlainCore
@@ -82,7 +91,7 @@ unfolding ends
 ends_unknown map s events is = ap (λ o. ends_at o map s events) is
 
 -- only where the stack lies plays a part
-pub made_by : (m n : MemMap) (s : PlainCore) (d : Does) → m.stack_low ≡ n.stack_low → m.stack_high ≡ n.stack_high → made m s d ≡ made n s d
+pub made_by : (m n : MemMap) (s : PlainCore) (d : Does) → m.stack_low ≡ n.stack_low → m.stack_high ≡ n.stack_high → applied m s d ≡ applied n s d
 unfolding ends
 made_by m n s (Stops why) low high = refl
 made_by m n s (Goes c) low high = by (number_of (reg_of (after_change c s) 2))
@@ -96,13 +105,17 @@ made_by m n s (Goes c) low high = by (number_of (reg_of (after_change c s) 2))
 
 -- ---- where memory lies
 
+-- bytes go to memory, one list after another
+abbrev with_stores : List (ℕ × List SymByte) → List (Region SymByte) → List (Region SymByte)
+with_stores ws memory = fold (λ memory w. changed (written w.0 (length w.1) (λ i. slice_index_or w.1 i Undef)) memory) memory ws
+
 extents-with_stores : (ws : List (ℕ × List SymByte)) (memory : List (Region SymByte)) → extents_of (with_stores ws memory) ≡ extents_of memory
 extents-with_stores [] memory = refl
 extents-with_stores (w ∷ ws) memory =
     let f = written w.0 (length w.1) (λ i. slice_index_or w.1 i Undef) in
     extents-with_stores ws (changed f memory) ∙ extents-changed f memory
 
-extents-made : (map : MemMap) (s s' : PlainCore) (d : Does) (events : List Event) → made map s d ≡ Went s' events → extents_of s'.memory ≡ extents_of s.memory
+extents-made : (map : MemMap) (s s' : PlainCore) (d : Does) (events : List Event) → applied map s d ≡ Went s' events → extents_of s'.memory ≡ extents_of s.memory
 extents-made map s s' (Stops why) events h = absurd cc
 extents-made map s s' (Goes c) events h =
     let end = (ended map (after_change c s) s' c.events events h).0 in
@@ -115,7 +128,7 @@ pub extents-step : (p : Program) (s s' : PlainCore) (events : List Event) → pl
 extents-step p s s' events h = by s.exit refl
   where
     by : (e : Option ℕ) → s.exit ≡ e → extents_of s'.memory ≡ extents_of s.memory
-    by None is = extents-made p.map s s' (place_does p (p.item s.place) s (p.next s.place)) events (sym (step_running p s is) ∙ h)
+    by None is = extents-made p.map s s' (item_does p (p.item s.place) s (p.next s.place)) events (sym (step_running p s is) ∙ h)
     by (Some status) is =
         let same : Went s [] ≡ Went s' events = sym (step_past_exit p s status is) ∙ h in
         ap (λ (t : PlainCore). extents_of t.memory) (let e : s' ≡ s = cc in e)

@@ -1,5 +1,6 @@
 -- Words of numbers: each is its number again, and what operations make of numbers are numbers.
 use Rattle.std.proofs.Common.{◌≡◌, ℕ, ℤ, pos, negsuc, ◌+◌, ◌*◌, ◌%◌, ◌^◌, ◌<◌, Bool, true, false, cond, eqb, Some, None, sym, ap, ◌∙◌, ⊎_elim, arith}
+use Rattle.std.specs.Option.{option_map_or}
 use Rattle.std.proofs.lemmas.Bool.{cond-false, cond-true}
 use Rattle.std.proofs.lemmas.Bool.Decides.{eqb_tells}
 use Rattle.rv_decode.specs.Bits.{add32}
@@ -10,7 +11,7 @@ use Rattle.rv_decode.specs.declared.instr.ImmOp.TheVariants.{Addi, Slti, Sltiu, 
 use Rattle.rv_decode.specs.declared.instr.RegOp.{RegOp}
 use Rattle.rv_decode.specs.declared.instr.RegOp.TheVariants.{Add, Sub, Sll, Slt, Sltu, Xor, Srl, Sra, Or, And, Mul, Mulh, Mulhsu, Mulhu, Div, Divu, Rem, Remu}
 use Rattle.sym_machine.specs.State.{PlainCore, reg_of}
-use Rattle.sym_machine.specs.Words.{code_or, imm_numeric, imm_word, is_one, number_of, number_word, numeric, numeric2, reg_numeric, reg_word, sum_word}
+use Rattle.sym_machine.specs.Words.{code_or, imm_numeric, imm_word, is_one, number_of, number_word, numeric, reg_numeric, reg_word, sum_word, undef_word}
 
 -- four bytes of a number make it up
 pub bytes_make : (n : ℕ) → n < 2 ^ 32 → byte_of n 0 + 256 * byte_of n 1 + 65536 * byte_of n 2 + 16777216 * byte_of n 3 ≡ n
@@ -55,7 +56,7 @@ zeros s r a lt is z =
 
 module _ (a b : ℕ) (below_a : a < 2 ^ 32) (below_b : b < 2 ^ 32) where
   both : (op : RegOp) → reg_numeric op (number_word a) (number_word b) ≡ number_word (reg_result op a b)
-  both op = λ j. numeric2 (number_back a below_a j) (number_back b below_b j) (reg_result op)
+  both op = λ j. option_map_or (λ m. option_map_or (λ n. number_word (reg_result op m n)) (number_back b below_b j) undef_word) (number_back a below_a j) undef_word
 
   -- an operation on two registers, of which register 0 holds 0
   number_reg : (op : RegOp) (first second : ℕ) → (first ≡ 0 → a ≡ 0) → (second ≡ 0 → b ≡ 0) → reg_word op first second (number_word a) (number_word b) ≡ number_word (reg_result op a b)

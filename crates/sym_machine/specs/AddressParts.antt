@@ -1,6 +1,7 @@
 -- Words that relocations give: a target's word, its upper part, and the sum of an upper and a lower part
 -- (RISC-V ELF psABI, "Absolute Addresses" and "PC-Relative Symbol Addresses").
 use Rattle.std.specs.Prelude.{◌*◌, ◌^◌, if◌then◌else◌, List, [], ◌∷◌, Option, Some, None}
+use Rattle.std.specs.Option.{option_map_or}
 use Rattle.zc_base.specs.declared.place.Place.{Place}
 use Rattle.psabi_sym.specs.declared.target.Target.{Target}
 use Rattle.psabi_sym.specs.declared.target.Target.TheVariants as target
@@ -24,10 +25,6 @@ target_word target.Nowhere = undef_word
 -- a word's bytes, the lowest first
 abbrev pub bytes_of : SymWord → List SymByte
 bytes_of w = w.b0 ∷ w.b1 ∷ w.b2 ∷ w.b3 ∷ []
-
--- the bytes of a word of data that holds a target
-abbrev pub target_bytes : Target → List SymByte
-target_bytes t = bytes_of (target_word t)
 
 -- ---- absolute addresses
 
@@ -64,12 +61,7 @@ pc_target (Some (Word t)) = None
 pc_target (Some (Raw word)) = None
 pc_target (Some (RawPair first second)) = None
 
--- its word
-abbrev pub way_word : Option Target → SymWord
-way_word None = undef_word
-way_word (Some t) = target_word t
-
--- the sum of a base's word and the lower part that goes with the `auipc` at a place, by what its relocation resolves to: that, if
--- the base is what the `auipc` gives
+-- the sum of a base's word and the lower part that goes with the `auipc` at a place, by what its relocation resolves to: the word of
+-- that, if the base is what the `auipc` gives
 abbrev pub pc_low_sum : Place → Option Target → SymWord → SymWord
-pc_low_sum q t base = if is_value (value.PcHi q) base then way_word t else undef_word
+pc_low_sum q t base = if is_value (value.PcHi q) base then option_map_or target_word t undef_word else undef_word

@@ -1,5 +1,6 @@
 -- What an item does: a change, or the cause for which the machine is stuck.
 use Rattle.std.specs.Prelude.{ℕ, zero, suc, ◌+◌, ◌%◌, Bool, ◌==◌, ◌||◌, min, if◌then◌else◌, List, [], ◌∷◌, length, map, take, Option, Some, None}
+use Rattle.std.specs.Option.{option_map_or}
 use Rattle.zc_base.specs.declared.place.Place.{Place}
 use Rattle.rv_decode.specs.declared.instr.Instr.{Instr}
 use Rattle.rv_decode.specs.declared.instr.Instr.TheVariants.{Upper, Jal, Jalr, Load, Store, WithImm, WithReg, Fence, Ecall, Ebreak, Csrrw}
@@ -28,7 +29,7 @@ use Rattle.sym_machine.specs.AddressParts.{bytes_of, high_word, low_sum, pc_low_
 use Rattle.sym_machine.specs.Conditions.{condition}
 use Rattle.sym_machine.specs.Program.{Program}
 use Rattle.sym_machine.specs.State.{PlainCore, cell_of, reg_of}
-use Rattle.sym_machine.specs.Words.{code_of, code_word, imm_word, number_of, number_word, reg_word, signed_byte, signed_half, sum_word, undef_word, upper_word, value_word, zero_byte, zero_half}
+use Rattle.sym_machine.specs.Words.{byte_word, code_of, code_word, half_word, imm_word, number_of, number_word, reg_word, sign_of, sum_word, undef_word, upper_word, value_word}
 
 -- a change of state: the next place, words for registers in their order, bytes for memory from addresses on, how many
 -- bytes of input are taken, the exit's status, and the events
@@ -45,12 +46,12 @@ pub data Does : Type 0 where
   Stops : Why → Does
 
 -- nothing but a next place
-abbrev pub onward : Place → Change
-onward q = record { place = q; writes = []; stores = []; taken = 0; exit = None; events = [] }
+abbrev pub continues : Place → Change
+continues q = record { place = q; writes = []; stores = []; taken = 0; exit = None; events = [] }
 
 -- a word for a register, and then a place
-abbrev pub gives : ℕ → SymWord → Place → Change
-gives rd w q = record (onward q) { writes = (rd, w) ∷ [] }
+abbrev pub sets : ℕ → SymWord → Place → Change
+sets rd w q = record (continues q) { writes = (rd, w) ∷ [] }
 
 -- ---- memory
 
@@ -59,21 +60,21 @@ abbrev pub in_memory : PlainCore → ℕ → ℕ → Bool
 in_memory s a n = lies_in is_data (extents_of s.memory) a n
 
 -- an access of n bytes, by its address: its alignment is looked at before its place
-abbrev pub reaching : ℕ → Option ℕ → PlainCore → (ℕ → Does) → Does
-reaching n None s go = Stops AddressUnknown
-reaching n (Some a) s go = if a % n == 0 then (if in_memory s a n then go a else Stops BadAddress) else Stops Misaligned
+abbrev pub accessing : ℕ → Option ℕ → PlainCore → (ℕ → Does) → Does
+accessing n None s go = Stops AddressUnknown
+accessing n (Some a) s go = if a % n == 0 then (if in_memory s a n then go a else Stops BadAddress) else Stops Misaligned
 
 -- what a load gives: its bytes are copied, and those above are signs or zeros
 abbrev pub load_word : LoadOp → PlainCore → ℕ → SymWord
-load_word Lb s a = signed_byte (cell_of s a)
-load_word Lh s a = signed_half (cell_of s a) (cell_of s (a + 1))
+load_word Lb s a = byte_word (cell_of s a) (sign_of (cell_of s a))
+load_word Lh s a = half_word (cell_of s a) (cell_of s (a + 1)) (sign_of (cell_of s (a + 1)))
 load_word Lw s a = record { b0 = cell_of s a; b1 = cell_of s (a + 1); b2 = cell_of s (a + 2); b3 = cell_of s (a + 3) }
-load_word Lbu s a = zero_byte (cell_of s a)
-load_word Lhu s a = zero_half (cell_of s a) (cell_of s (a + 1))
+load_word Lbu s a = byte_word (cell_of s a) (Num 0)
+load_word Lhu s a = half_word (cell_of s a) (cell_of s (a + 1)) (Num 0)
 
 -- a load, by its address
 abbrev pub load_does : LoadOp → ℕ → Option ℕ → PlainCore → Place → Does
-load_does op rd address s next = reaching (load_width op) address s (λ a. Goes (gives rd (load_word op s a) next))
+load_does op rd address s next = accessing (load_width op) address s (λ a. Goes (sets rd (load_word op s a) next))
 
 -- what a store writes: the low bytes of a word
 abbrev pub stored_bytes : StoreOp → SymWord → List SymByte
@@ -83,30 +84,30 @@ stored_bytes Sw w = bytes_of w
 
 -- bytes for memory from an address on, and then a place
 abbrev pub puts : ℕ → List SymByte → Place → Change
-puts a bytes q = record (onward q) { stores = (a, bytes) ∷ [] }
+puts a bytes q = record (continues q) { stores = (a, bytes) ∷ [] }
 
 -- a store of a word, by its address
 abbrev pub store_does : StoreOp → SymWord → Option ℕ → PlainCore → Place → Does
-store_does op w address s next = reaching (store_width op) address s (λ a. Goes (puts a (stored_bytes op w) next))
+store_does op w address s next = accessing (store_width op) address s (λ a. Goes (puts a (stored_bytes op w) next))
 
 -- ---- jumps and branches
 
 -- a jump, if it goes to a place in code, with the next place's address in a register
 abbrev pub jump_does : Option Place → ℕ → Place → Does
 jump_does None rd next = Stops TargetUnknown
-jump_does (Some q) rd next = Goes (gives rd (code_word next) q)
+jump_does (Some q) rd next = Goes (sets rd (code_word next) q)
 
 -- a branch, by its condition
 abbrev pub branch_does : Option Bool → Place → Place → Does
 branch_does None to next = Stops ConditionUnknown
-branch_does (Some taken) to next = Goes (onward (if taken then to else next))
+branch_does (Some taken) to next = Goes (continues (if taken then to else next))
 
 -- ---- environment calls
 
 -- the exit, with the low byte of a0; the place stays
 abbrev pub exit_does : Option ℕ → Place → Does
 exit_does None at = Stops ArgumentUnknown
-exit_does (Some a0) at = Goes (record (onward at) { exit = Some (a0 % 256); events = Exit (a0 % 256) ∷ [] })
+exit_does (Some a0) at = Goes (record (continues at) { exit = Some (a0 % 256); events = Exit (a0 % 256) ∷ [] })
 
 -- what a call with a buffer uses, by a0, a1 and a2, if all of it is known; of no bytes a1 isn't looked at
 abbrev pub arguments_of : Option ℕ → Option ℕ → Option ℕ → Option Arguments
@@ -119,28 +120,21 @@ arguments_of (Some a0) (Some at) (Some len) = Some (record { a0 = a0; at = at; l
 abbrev pub is_buffer : PlainCore → Arguments → Bool
 is_buffer s c = c.len == 0 || in_memory s c.at c.len
 
--- a call with a buffer; a0 says whether there is such a call
-abbrev pub buffered : (ℕ → Bool) → Option Arguments → PlainCore → (Arguments → Does) → Does
-buffered known None s go = Stops ArgumentUnknown
-buffered known (Some c) s go = if known c.a0 then (if is_buffer s c then go c else Stops BadAddress) else Stops UnknownCall
-
--- the same by the registers
+-- a call with a buffer, by the registers; a0 says whether there is such a call
 abbrev pub with_buffer : (ℕ → Bool) → PlainCore → (Arguments → Does) → Does
 with_buffer known s go =
-    buffered known (arguments_of (number_of (reg_of s 10)) (number_of (reg_of s 11)) (number_of (reg_of s 12))) s go
-
--- how many bytes are read
-abbrev pub read_count : PlainCore → Arguments → ℕ
-read_count s c = min c.len (length s.input)
+    option_map_or (λ c. if known c.a0 then (if is_buffer s c then go c else Stops BadAddress) else Stops UnknownCall)
+    (arguments_of (number_of (reg_of s 10)) (number_of (reg_of s 11)) (number_of (reg_of s 12))) (Stops ArgumentUnknown)
 
 -- the first bytes of the input go to the buffer, and their number to a0
 abbrev pub read_does : PlainCore → Place → Arguments → Does
 read_does s next c =
-    let bytes = take (read_count s c) s.input in
-    Goes (record (onward next) {
-      writes = (10, number_word (read_count s c)) ∷ [];
+    let count = min c.len (length s.input) in
+    let bytes = take count s.input in
+    Goes (record (continues next) {
+      writes = (10, number_word count) ∷ [];
       stores = (c.at, map Num bytes) ∷ [];
-      taken = read_count s c;
+      taken = count;
       events = Read bytes ∷ [];
     })
 
@@ -156,28 +150,22 @@ abbrev pub numbers_at : List (Region SymByte) → ℕ → ℕ → Option (List �
 numbers_at memory a zero = Some []
 numbers_at memory a (suc n) = then_number (cell_at Undef memory a) (numbers_at memory (suc a) n)
 
--- bytes go out, if they are numbers, and their number goes to a0
-abbrev pub output_does : Option (List ℕ) → Place → Arguments → Does
-output_does None next c = Stops ArgumentUnknown
-output_does (Some bytes) next c = Goes (record (gives 10 (number_word c.len) next) { events = Write c.a0 bytes ∷ [] })
-
--- a write of the buffer's bytes
+-- the buffer's bytes go out, if they are numbers, and their number goes to a0
 abbrev pub write_does : PlainCore → Place → Arguments → Does
-write_does s next c = output_does (numbers_at s.memory c.at c.len) next c
+write_does s next c =
+    option_map_or (λ bytes. Goes (record (sets 10 (number_word c.len) next) { events = Write c.a0 bytes ∷ [] }))
+    (numbers_at s.memory c.at c.len) (Stops ArgumentUnknown)
 
--- a0 says that a read is from the input, and a write to the output (1) or to the output for errors (2)
-abbrev pub is_input : ℕ → Bool
-is_input a0 = a0 == 0
-
+-- a write goes to the output (1) or to the output for errors (2)
 abbrev pub is_output : ℕ → Bool
 is_output a0 = a0 == 1 || a0 == 2
 
--- a call, by a7: 93 is the exit, 63 reads, and 64 writes
+-- a call, by a7: 93 is the exit, 63 reads from stream 0, by a0, and 64 writes
 abbrev pub call_does : Option ℕ → PlainCore → Place → Does
 call_does None s next = Stops ArgumentUnknown
 call_does (Some a7) s next =
     if a7 == 93 then exit_does (number_of (reg_of s 10)) s.place else
-    (if a7 == 63 then with_buffer is_input s (read_does s next) else
+    (if a7 == 63 then with_buffer (λ a0. a0 == 0) s (read_does s next) else
     (if a7 == 64 then with_buffer is_output s (write_does s next) else
     Stops UnknownCall))
 
@@ -185,7 +173,7 @@ call_does (Some a7) s next =
 
 -- of the operations with an immediate, `addi` alone is a sum
 abbrev pub addi_does : ImmOp → ℕ → SymWord → Place → Does
-addi_does Addi rd w next = Goes (gives rd w next)
+addi_does Addi rd w next = Goes (sets rd w next)
 addi_does Slti rd w next = Stops NoInstruction
 addi_does Sltiu rd w next = Stops NoInstruction
 addi_does Xori rd w next = Stops NoInstruction
@@ -227,25 +215,25 @@ base_of (Csrrw rd source) = 0
 
 -- an instruction without relocation, by its format, with the place after it; a branch or a `jal` is an item of its own
 abbrev pub op_does : Instr → PlainCore → Place → Does
-op_does (Upper op rd imm) s next = Goes (gives rd (upper_word op imm) next)
+op_does (Upper op rd imm) s next = Goes (sets rd (upper_word op imm) next)
 op_does (Jal rd distance) s next = Stops NoInstruction
 op_does (Jalr rd base imm) s next = by_sum (Jalr rd base imm) (sum_word (reg_of s base) imm) s next
 op_does (instr.Branch op first second distance) s next = Stops NoInstruction
 op_does (Load op rd base imm) s next = by_sum (Load op rd base imm) (sum_word (reg_of s base) imm) s next
 op_does (Store op source base imm) s next = by_sum (Store op source base imm) (sum_word (reg_of s base) imm) s next
-op_does (WithImm op rd first imm) s next = Goes (gives rd (imm_word op (reg_of s first) imm) next)
-op_does (WithReg op rd first second) s next = Goes (gives rd (reg_word op first second (reg_of s first) (reg_of s second)) next)
-op_does (Fence rest) s next = Goes (onward next)
+op_does (WithImm op rd first imm) s next = Goes (sets rd (imm_word op (reg_of s first) imm) next)
+op_does (WithReg op rd first second) s next = Goes (sets rd (reg_word op first second (reg_of s first) (reg_of s second)) next)
+op_does (Fence rest) s next = Goes (continues next)
 op_does Ecall s next = call_does (number_of (reg_of s 17)) s next
 op_does Ebreak s next = Stops NoInstruction
 op_does (Csrrw rd source) s next = Stops NoInstruction
 
 -- the upper part of an address for a register: a `lui` or an `auipc`, as the relocation asks
 abbrev pub upper_does : UpperOp → Instr → SymWord → Place → Does
-upper_does Lui (Upper Lui rd imm) w next = Goes (gives rd w next)
+upper_does Lui (Upper Lui rd imm) w next = Goes (sets rd w next)
 upper_does Lui (Upper Auipc rd imm) w next = Stops NoInstruction
 upper_does Auipc (Upper Lui rd imm) w next = Stops NoInstruction
-upper_does Auipc (Upper Auipc rd imm) w next = Goes (gives rd w next)
+upper_does Auipc (Upper Auipc rd imm) w next = Goes (sets rd w next)
 upper_does op (Jal rd distance) w next = Stops NoInstruction
 upper_does op (Jalr rd base imm) w next = Stops NoInstruction
 upper_does op (instr.Branch kind first second distance) w next = Stops NoInstruction
@@ -263,24 +251,20 @@ upper_does op (Csrrw rd source) w next = Stops NoInstruction
 abbrev pub call_to : ℕ → ℕ → Place → Place → Does
 call_to rd temp to next =
     if temp == 0 then Stops TargetUnknown
-    else Goes (record (onward to) { writes = (temp, undef_word) ∷ (rd, code_word next) ∷ [] })
+    else Goes (record (continues to) { writes = (temp, undef_word) ∷ (rd, code_word next) ∷ [] })
 
--- an item, with the place after it
-abbrev pub item_does : Program → Item → PlainCore → Place → Does
-item_does p (Op i) s next = op_does i s next
-item_does p (Hi i t) s next = upper_does Lui i (high_word t) next
-item_does p (Lo i t) s next = by_sum i (low_sum t (reg_of s (base_of i))) s next
-item_does p (PcHi i t) s next = upper_does Auipc i (value_word (value.PcHi s.place)) next
-item_does p (PcLo i q) s next = by_sum i (pc_low_sum q (pc_target (p.item q)) (reg_of s (base_of i))) s next
-item_does p (Branch op first second to) s next = branch_does (condition p op (reg_of s first) (reg_of s second)) to next
-item_does p (Jump rd to) s next = jump_does (Some to) rd next
-item_does p (Call rd temp to) s next = call_to rd temp to next
-item_does p (Align bytes) s next = Goes (onward next)
-item_does p (Word t) s next = Stops NoInstruction
-item_does p (Raw word) s next = Stops NoInstruction
-item_does p (RawPair first second) s next = Stops TargetUnknown
-
--- what stands at a place; the end of a section has no item
-abbrev pub place_does : Program → Option Item → PlainCore → Place → Does
-place_does p None s next = Stops NoInstruction
-place_does p (Some i) s next = item_does p i s next
+-- what stands at a place, with the place after it; the end of a section has no item
+abbrev pub item_does : Program → Option Item → PlainCore → Place → Does
+item_does p None s next = Stops NoInstruction
+item_does p (Some (Op i)) s next = op_does i s next
+item_does p (Some (Hi i t)) s next = upper_does Lui i (high_word t) next
+item_does p (Some (Lo i t)) s next = by_sum i (low_sum t (reg_of s (base_of i))) s next
+item_does p (Some (PcHi i t)) s next = upper_does Auipc i (value_word (value.PcHi s.place)) next
+item_does p (Some (PcLo i q)) s next = by_sum i (pc_low_sum q (pc_target (p.item q)) (reg_of s (base_of i))) s next
+item_does p (Some (Branch op first second to)) s next = branch_does (condition p op (reg_of s first) (reg_of s second)) to next
+item_does p (Some (Jump rd to)) s next = jump_does (Some to) rd next
+item_does p (Some (Call rd temp to)) s next = call_to rd temp to next
+item_does p (Some (Align bytes)) s next = Goes (continues next)
+item_does p (Some (Word t)) s next = Stops NoInstruction
+item_does p (Some (Raw word)) s next = Stops NoInstruction
+item_does p (Some (RawPair first second)) s next = Stops TargetUnknown

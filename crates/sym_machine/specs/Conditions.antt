@@ -1,8 +1,7 @@
 -- Whether a branch is taken, if that is known.
 use Rattle.std.specs.Prelude.{ℕ, Bool, true, false, not, ◌&&◌, ◌==◌, if◌then◌else◌, Option, Some, None}
-use Rattle.std.specs.Option.{option_map}
+use Rattle.std.specs.Option.{option_map, option_map_or}
 use Rattle.zc_base.specs.Places.{same_place}
-use Rattle.zc_base.specs.declared.place.Place.{Place}
 use Rattle.rv_decode.specs.declared.instr.BranchOp.{BranchOp}
 use Rattle.rv_decode.specs.declared.instr.BranchOp.TheVariants.{Beq, Bne, Blt, Bge, Bltu, Bgeu}
 use Rattle.rv_decode.specs.Results.{is_taken}
@@ -14,14 +13,9 @@ use Rattle.sym_machine.specs.declared.word.SymWord.{SymWord}
 use Rattle.sym_machine.specs.Program.{Program}
 use Rattle.sym_machine.specs.Words.{code_of, number_of}
 
--- what a word is known to be, by its number, and by the place whose address it is
-abbrev pub known_as : Option ℕ → Option Place → Known
-known_as (Some n) q = Number n
-known_as None (Some q) = Code q
-known_as None None = Unknown
-
+-- what a word is known to be: a number, or else the address of a place, or else neither
 abbrev pub known_of : SymWord → Known
-known_of w = known_as (number_of w) (code_of w)
+known_of w = option_map_or Number (number_of w) (option_map_or Code (code_of w) Unknown)
 
 -- whether what stands at a place takes up room in every image: the end of a section doesn't, and padding may not
 abbrev pub is_solid : Option Item → Bool
@@ -39,18 +33,14 @@ is_solid (Some (Word t)) = true
 is_solid (Some (Raw word)) = true
 is_solid (Some (RawPair first second)) = true
 
--- whether the addresses of two places are equal; of two places that have room of their own they aren't
-abbrev pub equal_places : Program → Place → Place → Option Bool
-equal_places p q r =
-    if same_place q r then Some true else (if is_solid (p.item q) && is_solid (p.item r) then Some false else None)
-
--- whether two words are equal; no code address is 0
+-- whether two words are equal; no code address is 0, and two places that have room of their own have two addresses
 abbrev pub equal_words : Program → Known → Known → Option Bool
 equal_words p (Number m) (Number n) = Some (m == n)
 equal_words p (Number m) (Code q) = if m == 0 then Some false else None
 equal_words p (Number m) Unknown = None
 equal_words p (Code q) (Number n) = if n == 0 then Some false else None
-equal_words p (Code q) (Code r) = equal_places p q r
+equal_words p (Code q) (Code r) =
+    if same_place q r then Some true else (if is_solid (p.item q) && is_solid (p.item r) then Some false else None)
 equal_words p (Code q) Unknown = None
 equal_words p Unknown (Number n) = None
 equal_words p Unknown (Code q) = None

@@ -10,7 +10,7 @@ use Rattle.sym_machine.specs.declared.span.Span.TheVariants as span
 use Rattle.sym_machine.specs.declared.word.SymByte.{SymByte}
 use Rattle.sym_machine.specs.declared.word.SymByte.TheVariants.{Undef}
 use Rattle.sym_machine.specs.declared.word.SymWord.{SymWord}
-use Rattle.sym_machine.specs.Program.{Program, first_memory}
+use Rattle.sym_machine.specs.Program.{Program, start_memory}
 use Rattle.sym_machine.specs.State.{IsRegisters, PlainCore}
 use Rattle.sym_machine.specs.Step.{undefined_below}
 use Rattle.sym_machine.specs.Words.{code_word, number_of, number_word, undef_word}
@@ -75,13 +75,13 @@ IsSpan k a n (span.Stack i) = (a + i ≡ k.map.stack_high) × (n ≤ i) × (i �
 IsSpan k a n span.Elsewhere = k ≡ k
 
 -- the word of the four bytes from an address on
-abbrev pub word_at : List (Region SymByte) → ℕ → SymWord
-word_at memory a =
+abbrev pub sym_word_at : List (Region SymByte) → ℕ → SymWord
+sym_word_at memory a =
     record { b0 = cell_at Undef memory a; b1 = cell_at Undef memory (a + 1); b2 = cell_at Undef memory (a + 2); b3 = cell_at Undef memory (a + 3) }
 
 -- cells after these bytes were written from an address on, by the address of each cell
-abbrev pub IsWritten : (ℕ → ℕ) → ℕ → List SymByte → List SymByte → List SymByte → Type 0
-IsWritten at a bytes old new =
+abbrev pub AreCellsWritten : (ℕ → ℕ) → ℕ → List SymByte → List SymByte → List SymByte → Type 0
+AreCellsWritten at a bytes old new =
     (j : ℕ) (d : SymByte) → j < length old → slice_index_or new j d ≡ written a (length bytes) (λ i. slice_index_or bytes i Undef) (at j) (slice_index_or old j d)
 
 -- ---- states
@@ -99,4 +99,4 @@ pub record IsWorking (registers : List SymWord) (memory : Kept) : Type 0 where
 
 -- a state of this program: its memory lies where the program's does
 abbrev pub IsOf : Program → PlainCore → Type 0
-IsOf p s = extents_of s.memory ≡ extents_of (first_memory p)
+IsOf p s = extents_of s.memory ≡ extents_of (start_memory p)

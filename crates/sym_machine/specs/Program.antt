@@ -17,12 +17,12 @@ pub record Program : Type 0 where
   pub bytes : List SymByte
 
 -- the address after the data's last byte
-abbrev pub data_end : Program → ℕ
-data_end p = p.map.data_low + length p.bytes
+abbrev pub data_high : Program → ℕ
+data_high p = p.map.data_low + length p.bytes
 
 -- memory at the start: the data, and a stack that nothing was written to
-abbrev pub first_memory : Program → List (Region SymByte)
-first_memory p =
+abbrev pub start_memory : Program → List (Region SymByte)
+start_memory p =
     record { kind = Data; at = p.map.data_low; cells = p.bytes }
     ∷ record { kind = Stack; at = p.map.stack_low; cells = blank (p.map.stack_high - p.map.stack_low) Undef }
     ∷ []

@@ -17,5 +17,5 @@ unfoldable pub plain_turn : Program → PlainState → Result PlainState (Place 
 plain_turn p r = recorded (plain_step p r.core) r
 
 -- the state after n steps, or where and why the machine is stuck before
-unfoldable pub plain : Program → List ℕ → ℕ → Result PlainState (Place × Why)
-plain p input n = iterate (plain_turn p) n (record { core = first_plain p input; events = [] })
+unfoldable pub program_after : Program → List ℕ → ℕ → Result PlainState (Place × Why)
+program_after p input n = iterate (plain_turn p) n (record { core = first_plain p input; events = [] })

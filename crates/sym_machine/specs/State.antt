@@ -7,7 +7,7 @@ use Rattle.sym_machine.specs.declared.word.SymByte.{SymByte}
 use Rattle.sym_machine.specs.declared.word.SymByte.TheVariants.{Undef}
 use Rattle.sym_machine.specs.declared.word.SymWord.{SymWord}
 use Rattle.sym_machine.specs.Words.{undef_word, number_word}
-use Rattle.sym_machine.specs.Program.{Program, first_memory}
+use Rattle.sym_machine.specs.Program.{Program, start_memory}
 
 -- what the machine itself keeps: the place of the next item, 32 registers, the bytes of data and stack, the input
 -- that is left, and the exit's status
@@ -46,7 +46,7 @@ abbrev pub first_plain : Program → List ℕ → PlainCore
 first_plain p input = record {
   place = p.entry;
   regs = start_regs (number_word 0) (number_word p.map.stack_high) undef_word;
-  memory = first_memory p;
+  memory = start_memory p;
   input = input;
   exit = None;
 }

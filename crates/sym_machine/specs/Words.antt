@@ -1,5 +1,6 @@
 -- Words of abstract bytes: which number or value a word is, and what operations make of words.
 use Rattle.std.specs.Prelude.{ℕ, ℤ, pos, negsuc, ◌+◌, ◌*◌, Bool, false, ◌&&◌, ◌==◌, nat_lt, if◌then◌else◌, Option, Some, None}
+use Rattle.std.specs.Option.{option_map_or}
 use Rattle.zc_base.specs.Places.{same_place}
 use Rattle.zc_base.specs.declared.place.Place.{Place}
 use Rattle.rv_decode.specs.declared.instr.UpperOp.{UpperOp}
@@ -87,19 +88,7 @@ abbrev pub numeric : Option ℕ → (ℕ → ℕ) → SymWord
 numeric None f = undef_word
 numeric (Some n) f = number_word (f n)
 
--- the same of two numbers
-abbrev pub numeric2 : Option ℕ → Option ℕ → (ℕ → ℕ → ℕ) → SymWord
-numeric2 None None f = undef_word
-numeric2 None (Some b) f = undef_word
-numeric2 (Some a) None f = undef_word
-numeric2 (Some a) (Some b) f = number_word (f a b)
-
--- whether an immediate is 0
-abbrev pub is_zero : ℤ → Bool
-is_zero (pos n) = n == 0
-is_zero (negsuc n) = false
-
--- and whether it is 1
+-- whether an immediate is 1
 abbrev pub is_one : ℤ → Bool
 is_one (pos n) = n == 1
 is_one (negsuc n) = false
@@ -111,7 +100,8 @@ code_or (Some q) n w = number_word n
 
 -- a sum with an immediate; with 0 it copies the word, whatever the word is
 abbrev pub sum_word : SymWord → ℤ → SymWord
-sum_word w imm = if is_zero imm then w else numeric (number_of w) (λ n. add32 n imm)
+sum_word w (pos m) = if m == 0 then w else numeric (number_of w) (λ n. add32 n (pos m))
+sum_word w (negsuc m) = numeric (number_of w) (λ n. add32 n (negsuc m))
 
 -- an operation on a register's word and an immediate, if the word is a number
 abbrev pub imm_numeric : ImmOp → SymWord → ℤ → SymWord
@@ -131,7 +121,7 @@ imm_word Srai w imm = imm_numeric Srai w imm
 
 -- an operation on the words of two registers, if both are numbers
 abbrev pub reg_numeric : RegOp → SymWord → SymWord → SymWord
-reg_numeric op a b = numeric2 (number_of a) (number_of b) (reg_result op)
+reg_numeric op a b = option_map_or (λ m. option_map_or (λ n. number_word (reg_result op m n)) (number_of b) undef_word) (number_of a) undef_word
 
 -- the operations on two registers, by the registers' numbers and their words; a sum with register 0 copies the other word,
 -- and register 0 is below each code address
@@ -168,15 +158,9 @@ sign_of (Num b) = Num (if nat_lt b 128 then 0 else 255)
 sign_of (Part v i) = Undef
 sign_of Undef = Undef
 
--- a byte, or two, with their sign above, or with zeros
-abbrev pub signed_byte : SymByte → SymWord
-signed_byte b = record { b0 = b; b1 = sign_of b; b2 = sign_of b; b3 = sign_of b }
+-- a byte, or two, with this one above
+abbrev pub byte_word : SymByte → SymByte → SymWord
+byte_word b above = record { b0 = b; b1 = above; b2 = above; b3 = above }
 
-abbrev pub signed_half : SymByte → SymByte → SymWord
-signed_half low high = record { b0 = low; b1 = high; b2 = sign_of high; b3 = sign_of high }
-
-abbrev pub zero_byte : SymByte → SymWord
-zero_byte b = record { b0 = b; b1 = Num 0; b2 = Num 0; b3 = Num 0 }
-
-abbrev pub zero_half : SymByte → SymByte → SymWord
-zero_half low high = record { b0 = low; b1 = high; b2 = Num 0; b3 = Num 0 }
+abbrev pub half_word : SymByte → SymByte → SymByte → SymWord
+half_word low high above = record { b0 = low; b1 = high; b2 = above; b3 = above }

@@ -3,7 +3,7 @@
 ghost use Rattle.std.specs.Prelude.{◌≡◌, ◌≤◌, ◌<◌, ◌+◌, ◌-◌, ℕ, List, IfOk, MatchOption, None, Some, length, map, slice_index_or};
 ghost use Rattle.rv_decode.specs.Memory.{Region, cell_at};
 ghost use Rattle.sym_machine.specs.Change.{numbers_at};
-ghost use Rattle.sym_machine.specs.Kept.{IsWritten};
+ghost use Rattle.sym_machine.specs.Kept.{AreCellsWritten};
 ghost use Rattle.sym_machine.specs.declared.word.SymByte.{SymByte};
 ghost use Rattle.sym_machine.specs.declared.word.SymByte.TheVariants.{Num, Undef};
 
@@ -15,7 +15,8 @@ use std::alloc::{AllocError, Global};
 pub fn write_up(cells: &mut [SymByte], start: usize, numbers: &[u8])
     requires { start + length numbers.now ≤ length cells.old }
     ensures len { length cells.new ≡ length cells.old }
-    ensures each { (a low : ℕ) → a ≡ low + start → IsWritten (λ j. low + j) a (map Num numbers.now) cells.old cells.new }
+    ensures each { (a low : ℕ) → a ≡ low + start → AreCellsWritten (λ j. low + j) a
+        (map Num numbers.now) cells.old cells.new }
 {
     for k in 0..numbers.len() {
         cells[start + k] = SymByte::Num(numbers[k]);
@@ -28,7 +29,8 @@ pub fn write_down(cells: &mut [SymByte], end: usize, numbers: &[u8])
     requires low { length numbers.now ≤ end }
     requires high { end ≤ length cells.old }
     ensures len { length cells.new ≡ length cells.old }
-    ensures each { (a top : ℕ) → a + end ≡ top → length cells.old ≤ top → IsWritten (λ j. top - 1 - j) a (map Num numbers.now) cells.old cells.new }
+    ensures each { (a top : ℕ) → a + end ≡ top → length cells.old ≤ top
+        → AreCellsWritten (λ j. top - 1 - j) a (map Num numbers.now) cells.old cells.new }
 {
     for k in 0..numbers.len() {
         cells[end - 1 - k] = SymByte::Num(numbers[k]);
@@ -40,7 +42,7 @@ pub fn write_down(cells: &mut [SymByte], end: usize, numbers: &[u8])
 pub fn copy_up(cells: &mut [SymByte], start: usize, bytes: &[SymByte])
     requires { start + length bytes.now ≤ length cells.old }
     ensures len { length cells.new ≡ length cells.old }
-    ensures each { (a low : ℕ) → a ≡ low + start → IsWritten (λ j. low + j) a bytes.now cells.old cells.new }
+    ensures each { (a low : ℕ) → a ≡ low + start → AreCellsWritten (λ j. low + j) a bytes.now cells.old cells.new }
 {
     for k in 0..bytes.len() {
         cells[start + k] = bytes[k];
@@ -53,7 +55,8 @@ pub fn copy_down(cells: &mut [SymByte], end: usize, bytes: &[SymByte])
     requires low { length bytes.now ≤ end }
     requires high { end ≤ length cells.old }
     ensures len { length cells.new ≡ length cells.old }
-    ensures each { (a top : ℕ) → a + end ≡ top → length cells.old ≤ top → IsWritten (λ j. top - 1 - j) a bytes.now cells.old cells.new }
+    ensures each { (a top : ℕ) → a + end ≡ top → length cells.old ≤ top
+        → AreCellsWritten (λ j. top - 1 - j) a bytes.now cells.old cells.new }
 {
     for k in 0..bytes.len() {
         cells[end - 1 - k] = bytes[k];
@@ -68,7 +71,8 @@ pub fn numbers_up(
     n: usize,
 ) -> Result<Option<Vec<u8>>, AllocError>
     requires { start + n ≤ length cells.now }
-    ensures { IfOk result (λ found. (memory : List (Region SymByte)) (a : ℕ) → ((k : ℕ) → k < n → cell_at Undef memory (a + k) ≡ slice_index_or cells.now (start + k) Undef) → MatchOption found
+    ensures { IfOk result (λ found. (memory : List (Region SymByte)) (a : ℕ) → ((k : ℕ) → k < n
+        → cell_at Undef memory (a + k) ≡ slice_index_or cells.now (start + k) Undef) → MatchOption found
         (numbers_at memory a n ≡ None)
         (λ bytes. numbers_at memory a n ≡ Some bytes.items)) }
 {
@@ -91,7 +95,8 @@ pub fn numbers_down(
 ) -> Result<Option<Vec<u8>>, AllocError>
     requires low { n ≤ end }
     requires high { end ≤ length cells.now }
-    ensures { IfOk result (λ found. (memory : List (Region SymByte)) (a : ℕ) → ((k : ℕ) → k < n → cell_at Undef memory (a + k) ≡ slice_index_or cells.now (end - 1 - k) Undef) → MatchOption found
+    ensures { IfOk result (λ found. (memory : List (Region SymByte)) (a : ℕ) → ((k : ℕ) → k < n
+        → cell_at Undef memory (a + k) ≡ slice_index_or cells.now (end - 1 - k) Undef) → MatchOption found
         (numbers_at memory a n ≡ None)
         (λ bytes. numbers_at memory a n ≡ Some bytes.items)) }
 {

@@ -6,7 +6,8 @@ ghost use Rattle.psabi_sym.specs.Contents.{overlaid};
 ghost use Rattle.psabi_sym.specs.Inputs.{parsed};
 ghost use Rattle.block_cut.specs.DataWords.{data_words};
 ghost use Rattle.sym_machine.specs.AddressParts as parts;
-ghost use Rattle.sym_machine.specs.Objects.{data_bytes, unfilled_bytes, with_word};
+ghost use Rattle.sym_machine.specs.AddressParts.{bytes_of};
+ghost use Rattle.sym_machine.specs.Objects.{data_bytes, unfilled_bytes, with_target_word};
 
 use crate::address_parts::target_word;
 use crate::word::SymByte;
@@ -44,7 +45,7 @@ fn unfilled(alloc: Global, objects: &Objects) -> Result<Vec<SymByte>, AllocError
 
 // Puts the words of data over bytes.
 fn fill(cut: &Cut, bytes: &mut [SymByte])
-    ensures { bytes.new ≡ fold (with_word (parsed cut.now)) bytes.old (data_words (parsed cut.now)) }
+    ensures { bytes.new ≡ fold (with_target_word (parsed cut.now)) bytes.old (data_words (parsed cut.now)) }
 {
     let low = cut.objects().map().data_low;
     for word in cut.data_words() {
@@ -58,7 +59,7 @@ fn fill(cut: &Cut, bytes: &mut [SymByte])
 
 // The bytes of a word that holds a target.
 fn target_bytes(target: Target) -> [SymByte; 4]
-    ensures { result ≡ parts.target_bytes target }
+    ensures { result ≡ bytes_of (parts.target_word target) }
 {
     let word = target_word(target).bytes();
     [word.b0, word.b1, word.b2, word.b3]

@@ -2,8 +2,7 @@
 
 ghost use Rattle.std.specs.Prelude.{◌≡◌};
 ghost use Rattle.sym_machine.specs.Kept.{word_of};
-ghost use Rattle.sym_machine.specs.Words as words;
-ghost use Rattle.sym_machine.specs.Words.{code_of, is_value, number_of, number_word, sign_of, value_word};
+ghost use Rattle.sym_machine.specs.Words.{byte_word, code_of, half_word, is_value, number_of, number_word, sign_of, value_word};
 ghost use Rattle.sym_machine.specs.declared.word.SymByte.TheVariants.{Num};
 
 use crate::word::{SymByte, SymWord, Value};
@@ -48,7 +47,7 @@ impl Held {
 
     /// The word of a byte with its sign above.
     pub fn of_signed_byte(byte: SymByte) -> Held
-        ensures { word_of result ≡ words.signed_byte byte }
+        ensures { word_of result ≡ byte_word byte (sign_of byte) }
     {
         let sign = byte.sign();
         Held::of_bytes(SymWord {
@@ -61,7 +60,7 @@ impl Held {
 
     /// The word of two bytes with their sign above.
     pub fn of_signed_half(low: SymByte, high: SymByte) -> Held
-        ensures { word_of result ≡ words.signed_half low high }
+        ensures { word_of result ≡ half_word low high (sign_of high) }
     {
         let sign = high.sign();
         Held::of_bytes(SymWord {
@@ -74,7 +73,7 @@ impl Held {
 
     /// The word of a byte with zeros above.
     pub fn of_byte(byte: SymByte) -> Held
-        ensures { word_of result ≡ words.zero_byte byte }
+        ensures { word_of result ≡ byte_word byte (Num 0) }
     {
         Held::of_bytes(SymWord {
             b0: byte,
@@ -86,7 +85,7 @@ impl Held {
 
     /// The word of two bytes with zeros above.
     pub fn of_half(low: SymByte, high: SymByte) -> Held
-        ensures { word_of result ≡ words.zero_half low high }
+        ensures { word_of result ≡ half_word low high (Num 0) }
     {
         Held::of_bytes(SymWord {
             b0: low,
@@ -162,7 +161,7 @@ fn sign(byte: u8) -> u8
 
 /// The number of a byte with its sign above.
 pub fn signed_byte(byte: u8) -> u32
-    ensures { number_word result ≡ words.signed_byte (Num byte) }
+    ensures { number_word result ≡ byte_word (Num byte) (sign_of (Num byte)) }
 {
     let above = sign(byte);
     u32::from_le_bytes([byte, above, above, above])
@@ -170,7 +169,7 @@ pub fn signed_byte(byte: u8) -> u32
 
 /// The number of two bytes with their sign above.
 pub fn signed_half(low: u8, high: u8) -> u32
-    ensures { number_word result ≡ words.signed_half (Num low) (Num high) }
+    ensures { number_word result ≡ half_word (Num low) (Num high) (sign_of (Num high)) }
 {
     let above = sign(high);
     u32::from_le_bytes([low, high, above, above])
@@ -178,14 +177,14 @@ pub fn signed_half(low: u8, high: u8) -> u32
 
 /// The number of a byte with zeros above.
 pub fn zero_byte(byte: u8) -> u32
-    ensures { number_word result ≡ words.zero_byte (Num byte) }
+    ensures { number_word result ≡ byte_word (Num byte) (Num 0) }
 {
     u32::from_le_bytes([byte, 0, 0, 0])
 }
 
 /// The number of two bytes with zeros above.
 pub fn zero_half(low: u8, high: u8) -> u32
-    ensures { number_word result ≡ words.zero_half (Num low) (Num high) }
+    ensures { number_word result ≡ half_word (Num low) (Num high) (Num 0) }
 {
     u32::from_le_bytes([low, high, 0, 0])
 }

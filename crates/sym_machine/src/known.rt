@@ -3,7 +3,8 @@
 ghost use Rattle.std.specs.Prelude.{◌≡◌, ◌==◌, false, if◌then◌else◌};
 ghost use Rattle.psabi_sym.specs.Inputs.{parsed};
 ghost use Rattle.sym_machine.specs.Conditions as conditions;
-ghost use Rattle.sym_machine.specs.Conditions.{equal_places, equal_words, is_solid, known_of, numeric_condition};
+ghost use Rattle.sym_machine.specs.Conditions.{equal_words, is_solid, known_of, numeric_condition};
+ghost use Rattle.sym_machine.specs.declared.known.Known.TheVariants.{Code};
 ghost use Rattle.sym_machine.specs.Kept.{word_of};
 ghost use Rattle.sym_machine.specs.Objects.{program_of};
 
@@ -59,7 +60,7 @@ fn is_solid(cut: &Cut, q: Place) -> bool
 
 // Whether the addresses of two places are equal.
 fn equal_places(cut: &Cut, q: Place, r: Place) -> Option<bool>
-    ensures { result ≡ equal_places (program_of (parsed cut.now)) q r }
+    ensures { result ≡ equal_words (program_of (parsed cut.now)) (Code q) (Code r) }
 {
     if same_place(q, r) {
         return Some(true);

@@ -18,13 +18,13 @@ use zc_base::mem_map::MemMap;
 /// The bytes of data, and those of the stack from an address up: all below it are undefined, and take
 /// no room. The stack's bytes stand from its end downwards.
 #[derive(Drop)]
-pub struct Memory {
+pub struct SymMemory {
     map: MemMap,
     bytes: Vec<SymByte>,
     above: Vec<SymByte>,
 }
 
-impl Model for Memory {
+impl Model for SymMemory {
     ghost use Rattle.sym_machine.specs.Kept.{IsKept, Kept};
 
     ghost Value = { Kept };
@@ -34,14 +34,14 @@ impl Model for Memory {
     ghost invariant = { λ m. IsKept (record { map = m.map; bytes = m.bytes.items; above = m.above.items }) };
 }
 
-impl Memory {
+impl SymMemory {
     /// Memory with these bytes of data, and a stack that nothing was written to.
-    pub fn new(alloc: Global, map: MemMap, bytes: Vec<SymByte>) -> Memory
+    pub fn new(alloc: Global, map: MemMap, bytes: Vec<SymByte>) -> SymMemory
         requires stack { map.stack_low < map.stack_high }
         requires apart { map.data_low + length bytes.items ≤ map.stack_low }
         ensures { result ≡ record { map = map; bytes = bytes.items; above = [] } }
     {
-        Memory {
+        SymMemory {
             map,
             bytes,
             above: Vec::new(alloc),
@@ -114,7 +114,8 @@ impl Memory {
         ensures kept { OnOk result (IsKept self.new) }
         ensures map { OnOk result (self.new.map ≡ self.old.map) }
         ensures from { OnOk result (kept_from self.new ≡ sp) }
-        ensures regions { OnOk result (regions_of self.new ≡ changed (undefined_below self.old.map sp) (regions_of self.old)) }
+        ensures regions { OnOk result (regions_of self.new ≡ changed (undefined_below self.old.map sp)
+            (regions_of self.old)) }
         ensures err { OnErr result (self.new ≡ self.old) }
     {
         let count = (self.map.stack_high - sp) as usize;

@@ -1,14 +1,13 @@
 // Runs of the symbolic machine.
 
-ghost use Rattle.std.specs.Prelude.{◌≡◌, ◌∷◌, [], true, OnOk, OnErr, IfErr};
+ghost use Rattle.std.specs.Prelude.{◌≡◌, true, OnOk, OnErr, IfErr};
 ghost use Rattle.psabi_sym.specs.Inputs.{parsed};
-ghost use Rattle.rv_decode.specs.State.{Write};
-ghost use Rattle.rv_decode.specs.EventBytes.{err_of, out_of};
 ghost use Rattle.sym_machine.specs.Change.{is_output};
 ghost use Rattle.sym_machine.specs.Objects.{program_of};
-ghost use Rattle.sym_machine.specs.RunEnd.{Course, IfConsole, Traced, WrotePart};
+ghost use Rattle.sym_machine.specs.RunEnd.{Traced, plain_course};
 ghost use Rattle.sym_machine.specs.State.{first_plain};
-ghost use Rattle.zc_outside.specs.Desk.{OnlyWrites, WriteCause, Wrote};
+ghost use Rattle.zc_outside.specs.Course.{WrotePart, WroteTo};
+ghost use Rattle.zc_outside.specs.Desk.{OnlyWrites, WriteCause};
 
 use crate::answer::SymStep;
 use crate::sym::Sym;
@@ -32,9 +31,8 @@ pub enum TraceEnd {
 /// goes to the console, each write in one piece.
 pub fn run<C: Console>(sym: &mut Sym, cut: &Cut, steps: u64, console: &mut C) -> TraceEnd
     requires start { sym.old ≡ first_plain (program_of (parsed cut.now)) sym.old.input }
-    ensures ran { let course : Course = record { program = program_of (parsed cut.now); input = sym.old.input; steps = steps } in
-        Traced course result (C.shown console.old) (C.shown console.new) }
-    ensures cause { IfConsole result (WriteCause (C.shown console.old) (C.shown console.new)) }
+    ensures ran { Traced (plain_course (program_of (parsed cut.now)) sym.old.input steps) result
+        (C.shown console.old) (C.shown console.new) }
     ensures writes { OnlyWrites (C.shown console.old) (C.shown console.new) }
 {
     for _turn in 0..steps {
@@ -58,7 +56,7 @@ pub fn run<C: Console>(sym: &mut Sym, cut: &Cut, steps: u64, console: &mut C) ->
 // Writes bytes to the stream with a number.
 fn write_to<C: Console>(console: &mut C, fd: u8, bytes: &[u8]) -> Result<(), ConsoleFault>
     requires { is_output fd ≡ true }
-    ensures ok { OnOk result (Wrote (out_of (Write fd bytes.now ∷ [])) (err_of (Write fd bytes.now ∷ [])) (C.shown console.old) (C.shown console.new)) }
+    ensures ok { OnOk result (WroteTo fd bytes.now (C.shown console.old) (C.shown console.new)) }
     ensures err { OnErr result (WrotePart fd bytes.now (C.shown console.old) (C.shown console.new)) }
     ensures cause { IfErr result (WriteCause (C.shown console.old) (C.shown console.new)) }
     ensures writes { OnlyWrites (C.shown console.old) (C.shown console.new) }

@@ -23,7 +23,7 @@ mod uppers;
 use crate::answer::SymStep;
 use crate::first_data::first_data;
 use crate::held::{Held, signed_byte, signed_half, zero_byte, zero_half};
-use crate::memory::Memory;
+use crate::memory::SymMemory;
 use crate::why::Why;
 use block_cut::cut::Cut;
 use rv_decode::instr::LoadOp;
@@ -38,7 +38,7 @@ use zc_base::reg::Reg;
 pub struct State {
     place: Place,
     registers: [Held; 32],
-    memory: Memory,
+    memory: SymMemory,
     input: Vec<u8>,
     taken: usize,
     exit: Option<u8>,
@@ -80,7 +80,7 @@ impl State {
         Ok(State {
             place: cut.entry(),
             registers,
-            memory: Memory::new(alloc, map, data),
+            memory: SymMemory::new(alloc, map, data),
             input,
             taken: 0,
             exit: None,

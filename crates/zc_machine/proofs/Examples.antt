@@ -9,7 +9,7 @@ use Rattle.interrupt_plan.specs.Plan.{Entry}
 use Rattle.zc_machine.specs.declared.reason.Reason.{Reason}
 use Rattle.zc_machine.specs.declared.reason.Reason.TheVariants.{Illegal}
 use Rattle.zc_machine.specs.Step.{zc_step}
-use Rattle.zc_machine.specs.Interrupt.{cut}
+use Rattle.zc_machine.specs.Interrupt.{interrupted}
 use Rattle.zc_machine.specs.Run.{zc_turn, zc_after}
 use Rattle.zc_machine.specs.Load.{first_core}
 
@@ -46,14 +46,14 @@ at_work : ZcCore
 at_work = record (loaded three 10) { regs = 0 ∷ 0 ∷ 0x30008 ∷ [] }
 
 -- an interrupt writes below sp, and not at sp, nor in code
-written_below : byte_in (cut (record { done = []; dirt = (0x30007, 0xEE) ∷ [] }) at_work) 0x30007 ≡ 0xEE
+written_below : byte_in (interrupted (record { done = []; dirt = (0x30007, 0xEE) ∷ [] }) at_work) 0x30007 ≡ 0xEE
 unfolding at_work loaded three first_core blank
 written_below = refl
 
-not_at_sp : byte_in (cut (record { done = []; dirt = (0x30008, 0xEE) ∷ [] }) at_work) 0x30008 ≡ 0
+not_at_sp : byte_in (interrupted (record { done = []; dirt = (0x30008, 0xEE) ∷ [] }) at_work) 0x30008 ≡ 0
 unfolding at_work loaded three first_core blank
 not_at_sp = refl
 
-not_in_code : byte_in (cut (record { done = []; dirt = (0x10000, 0xEE) ∷ [] }) at_work) 0x10000 ≡ 0x0D
+not_in_code : byte_in (interrupted (record { done = []; dirt = (0x10000, 0xEE) ∷ [] }) at_work) 0x10000 ≡ 0x0D
 unfolding at_work loaded three first_core blank
 not_in_code = refl

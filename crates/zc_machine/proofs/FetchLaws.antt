@@ -12,7 +12,7 @@ use Rattle.zc_decode.specs.declared.short.Short.{Short}
 use Rattle.zc_decode.specs.declared.short.Short.TheVariants.{Base}
 use Rattle.zc_decode.specs.Halfwords.{decoded16}
 use Rattle.zc_machine.specs.declared.reason.Reason.TheVariants.{BadAccess}
-use Rattle.zc_machine.specs.Fetch.{Found, Missing, found, fetched_half, fetched_word, fetched_at}
+use Rattle.zc_machine.specs.Fetch.{Found, Missing, found, fetched_word, fetched_at}
 
 -- two machines with one text: their regions lie alike, and their bytes of code are the same
 pub record SameText (y z : ZcCore) : Type 0 where
@@ -45,12 +45,12 @@ module _ (y z : ZcCore) (same : SameText y z) where
       either false h = refl
 
   pub fetched_same : (a : ℕ) → fetched_at z a ≡ fetched_at y a
-  fetched_same a = ap (λ es. cond (lies_in is_text es a 2) (cond (eqb (field (half_at z a) 0 2) 3) (fetched_word z a) (fetched_half z a)) (Missing BadAccess)) same.extents ∙ either (lies_in is_text (extents_of y.memory) a 2) refl
+  fetched_same a = ap (λ es. cond (lies_in is_text es a 2) (cond (eqb (field (half_at z a) 0 2) 3) (fetched_word z a) (found (decoded16 (half_at z a)) 2)) (Missing BadAccess)) same.extents ∙ either (lies_in is_text (extents_of y.memory) a 2) refl
     where
-      half : half_at z a ≡ half_at y a → cond (eqb (field (half_at z a) 0 2) 3) (fetched_word z a) (fetched_half z a) ≡ cond (eqb (field (half_at y a) 0 2) 3) (fetched_word y a) (fetched_half y a)
+      half : half_at z a ≡ half_at y a → cond (eqb (field (half_at z a) 0 2) 3) (fetched_word z a) (found (decoded16 (half_at z a)) 2) ≡ cond (eqb (field (half_at y a) 0 2) 3) (fetched_word y a) (found (decoded16 (half_at y a)) 2)
       half e = rw (fetched_word_same a, e) refl
 
-      either : (b : Bool) → lies_in is_text (extents_of y.memory) a 2 ≡ b → cond b (cond (eqb (field (half_at z a) 0 2) 3) (fetched_word z a) (fetched_half z a)) (Missing BadAccess) ≡ cond b (cond (eqb (field (half_at y a) 0 2) 3) (fetched_word y a) (fetched_half y a)) (Missing BadAccess)
+      either : (b : Bool) → lies_in is_text (extents_of y.memory) a 2 ≡ b → cond b (cond (eqb (field (half_at z a) 0 2) 3) (fetched_word z a) (found (decoded16 (half_at z a)) 2)) (Missing BadAccess) ≡ cond b (cond (eqb (field (half_at y a) 0 2) 3) (fetched_word y a) (found (decoded16 (half_at y a)) 2)) (Missing BadAccess)
       either true h = half (half_same a h)
       either false h = refl
 

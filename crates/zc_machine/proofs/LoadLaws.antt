@@ -5,9 +5,9 @@ use Rattle.std.proofs.lemmas.Bool.{and_parts, and_from, leb-true, le-leb, or_cas
 use Rattle.std.proofs.lemmas.List.{get_or_append_left}
 use Rattle.zc_base.specs.declared.mem_map.MemMap.{MemMap}
 use Rattle.elf32_read.specs.Segments.{SegmentData}
-use Rattle.rv_decode.specs.Memory.{Text, Data, blank, cell_at, extent_of, extents_of, is_stack, is_text, lies_in, spans}
+use Rattle.rv_decode.specs.Memory.{Stack, Text, Data, blank, cell_at, extent_of, extents_of, is_stack, is_text, lies_in, spans}
 use Rattle.rv_decode.proofs.MemoryLaws.{length_blank}
-use Rattle.zc_machine.specs.Load.{first_memory, region_of, stack_region}
+use Rattle.zc_machine.specs.Load.{first_memory, region_of}
 
 -- no segment is the stack
 segment_no_stack : (s : SegmentData) (a n : ℕ) → (is_stack (region_of s).kind && spans (extent_of (region_of s)) a n) ≡ false
@@ -27,7 +27,7 @@ stack_bounds [] m a n some h = ⊎_elim
     let size = length_blank {X = ℕ} (m.stack_high - m.stack_low) 0 in
     (low, omega arith))
     (λ none. absurd cc)
-    (or_cases (spans (extent_of (stack_region m)) a n) false h)
+    (or_cases (spans (record { kind = Stack; at = m.stack_low; size = length (blank (m.stack_high - m.stack_low) 0) }) a n) false h)
 stack_bounds (s ∷ ss) m a n some h = ⊎_elim
     (λ here. absurd (let no = segment_no_stack s a n in cc))
     (λ rest. stack_bounds ss m a n some rest)

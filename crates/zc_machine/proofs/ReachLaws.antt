@@ -12,7 +12,7 @@ use Rattle.rv_decode.specs.declared.instr.LoadOp.TheVariants.{Lb, Lh, Lw, Lbu, L
 use Rattle.zc_decode.specs.Halfwords.{decoded16}
 use Rattle.zc_decode.specs.declared.short.Short.TheVariants.{Base}
 use Rattle.zc_machine.specs.Cells.{first_byte, first_half, first_word, half_spells, instruction, loaded, word_spells}
-use Rattle.zc_machine.specs.Fetch.{Fetched, Missing, fetched_at, fetched_half, fetched_word, found}
+use Rattle.zc_machine.specs.Fetch.{Fetched, Missing, fetched_at, fetched_word, found}
 use Rattle.zc_machine.specs.Memory.{Reaches}
 use Rattle.zc_machine.specs.Region.{allowed}
 use Rattle.zc_machine.specs.declared.reason.Reason.TheVariants.{BadAccess}
@@ -83,6 +83,6 @@ module _ (z : ZcCore) (a : ℕ) (cells : List ℕ) (reach : Reaches access.Fetch
     where
       either :
           (b : Bool) → half_spells (cond b (Some (half_at z a)) None) cells
-          ≡ cond b (cond (eqb (field (half_at z a) 0 2) 3) (fetched_word z a) (fetched_half z a)) (Missing BadAccess)
+          ≡ cond b (cond (eqb (field (half_at z a) 0 2) 3) (fetched_word z a) (found (decoded16 (half_at z a)) 2)) (Missing BadAccess)
       either true = ap (λ (f : Fetched). cond (eqb (field (half_at z a) 0 2) 3) f (found (decoded16 (half_at z a)) 2)) word_fetched
       either false = refl

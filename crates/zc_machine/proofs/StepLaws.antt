@@ -1,4 +1,5 @@
 -- What each kind of step shows of the state that it is made in.
+use Rattle.std.specs.Option.{option_map_or}
 use Rattle.std.specs.Prelude.{◌&&◌, ◌||◌}
 use Rattle.std.proofs.Common.{◌≡◌, ℕ, ◌+◌, ◌%◌, ◌⊎◌, inl, inr, ⊎_elim, Bool, true, false, cond, eqb, Option, Some, None, refl, subst, arith}
 use Rattle.std.proofs.lemmas.Bool.{and_parts, eqb-true, or_cases}
@@ -18,7 +19,7 @@ use Rattle.zc_machine.specs.declared.answer.EnvCall.{EnvCall}
 use Rattle.zc_machine.specs.declared.answer.EnvCall.TheVariants.{Exit, Read, Write}
 use Rattle.zc_machine.specs.Buffer.{InMemory}
 use Rattle.zc_machine.specs.Fetch.{Fetched, Found, Missing, fetched_at}
-use Rattle.zc_machine.specs.Step.{ZcStep, Committed, Wants, Ended, Stopped, buffered, called, effect_step, made, step_from, zc_step}
+use Rattle.zc_machine.specs.Step.{ZcStep, Committed, Wants, Ended, Stopped, buffered, called, effect_step, made, zc_step}
 
 -- what holds of an access that is made, and of each stop, holds of an access
 pub access_step : (P : ZcStep → Type 0) (z : ZcCore) (n a : ℕ) (go : Effect) → P (effect_step go z) → ((reason : Reason) → P (Stopped reason)) → P (effect_step (reaching n a z go) z)
@@ -98,7 +99,7 @@ module _ (z : ZcCore) where
   made_shows (Found s size) = short_shows s size
   made_shows (Missing reason) = tt
 
-  from_shows : (x : Option ℕ) → z.exit ≡ x → Shows z (step_from x z)
+  from_shows : (x : Option ℕ) → z.exit ≡ x → Shows z (option_map_or Ended x (made (fetched_at z z.pc) z))
   from_shows None e = made_shows (fetched_at z z.pc)
   from_shows (Some status) e = e
 

@@ -21,10 +21,6 @@ abbrev pub found : Option Short → ℕ → Fetched
 found None size = Missing Illegal
 found (Some s) size = Found s size
 
--- an instruction of two bytes
-abbrev pub fetched_half : ZcCore → ℕ → Fetched
-fetched_half z a = found (decoded16 (half_at z a)) 2
-
 -- an instruction of four bytes, which must lie in text too
 abbrev pub fetched_word : ZcCore → ℕ → Fetched
 fetched_word z a =
@@ -32,9 +28,9 @@ fetched_word z a =
     then found (option_map Base (decoded (word_at z a))) 4
     else Missing BadAccess
 
--- what stands at an address of code: a halfword, or a word if its low two bits are 11
+-- what stands at an address of code: an instruction of two bytes, or of four if its low two bits are 11
 abbrev pub fetched_at : ZcCore → ℕ → Fetched
 fetched_at z a =
     if lies_in is_text (extents_of z.memory) a 2
-    then (if field (half_at z a) 0 2 == 0b11 then fetched_word z a else fetched_half z a)
+    then (if field (half_at z a) 0 2 == 0b11 then fetched_word z a else found (decoded16 (half_at z a)) 2)
     else Missing BadAccess

@@ -1,7 +1,7 @@
 -- What an interrupt does: it comes between the accesses of a push or pop, which then starts again, and it may write
 -- below the stack pointer (Zc 1.0, chapter "Zcmp", "PUSH/POP Fault handling").
 use Rattle.std.specs.Prelude.{ℕ, Bool, ◌&&◌, nat_lt, if◌then◌else◌, List, [], ◌∷◌}
-use Rattle.interrupt_plan.specs.Plan.{Cut}
+use Rattle.interrupt_plan.specs.Plan.{Interrupt}
 use Rattle.rv_decode.specs.Memory.{changed, extents_of, is_stack, lies_in, written}
 use Rattle.rv_decode.specs.State.{ZcCore, reg_in}
 
@@ -19,10 +19,10 @@ all_dirtied [] z = z
 all_dirtied (d ∷ ds) z = all_dirtied ds (dirtied d z)
 
 -- one interrupt; no push or pop is an instruction here yet, so there are no accesses of one
-abbrev pub cut : Cut → ZcCore → ZcCore
-cut c z = all_dirtied c.dirt z
+abbrev pub interrupted : Interrupt → ZcCore → ZcCore
+interrupted c z = all_dirtied c.dirt z
 
 -- interrupts, one after another
-abbrev pub all_cuts : List Cut → ZcCore → ZcCore
-all_cuts [] z = z
-all_cuts (c ∷ cs) z = all_cuts cs (cut c z)
+abbrev pub all_interrupted : List Interrupt → ZcCore → ZcCore
+all_interrupted [] z = z
+all_interrupted (c ∷ cs) z = all_interrupted cs (interrupted c z)

@@ -9,7 +9,6 @@ pub mod Buffer
 pub mod Interrupt
 pub mod Cursor
 pub mod Run
-pub mod Output
 pub mod RunEnd
 pub mod Load
 pub use Rattle.elf32_read.specs.Header

@@ -9,13 +9,10 @@ use Rattle.rv_decode.specs.State.{ZcCore, start_regs}
 abbrev pub region_of : SegmentData → Region ℕ
 region_of s = record { kind = (if s.code then Text else Data); at = s.at; cells = s.bytes ++ blank (s.size - length s.bytes) 0 }
 
--- the stack, of zeros
-abbrev pub stack_region : MemMap → Region ℕ
-stack_region m = record { kind = Stack; at = m.stack_low; cells = blank (m.stack_high - m.stack_low) 0 }
-
--- the segments, and the stack
+-- the segments, and the stack, of zeros
 abbrev pub first_memory : List SegmentData → MemMap → List (Region ℕ)
-first_memory segments m = map region_of segments ++ stack_region m ∷ []
+first_memory segments m =
+    map region_of segments ++ record { kind = Stack; at = m.stack_low; cells = blank (m.stack_high - m.stack_low) 0 } ∷ []
 
 -- the state at the start: sp is the stack's end, and the other registers are 0
 unfoldable pub first_core : ℕ → List SegmentData → MemMap → ZcCore

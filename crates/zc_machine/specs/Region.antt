@@ -7,10 +7,10 @@ use Rattle.zc_machine.specs.declared.region.RegionKind.{RegionKind}
 use Rattle.zc_machine.specs.declared.region.RegionKind.TheVariants as region
 
 -- a region's kind in the definitions
-abbrev pub kind_of : RegionKind → Kind
-kind_of region.Text = Text
-kind_of region.Data = Data
-kind_of region.Stack = Stack
+abbrev pub kind_of_region : RegionKind → Kind
+kind_of_region region.Text = Text
+kind_of_region region.Data = Data
+kind_of_region region.Stack = Stack
 
 -- an instruction is fetched from code, data are loaded and stored in data and stack, and an interrupt writes to the stack
 abbrev pub allowed : Access → Kind → Bool

@@ -1,5 +1,6 @@
 -- One step of the machine.
-use Rattle.std.specs.Prelude.{ℕ, ◌%◌, ◌==◌, ◌&&◌, ◌||◌, if◌then◌else◌, Option, Some, None}
+use Rattle.std.specs.Prelude.{ℕ, ◌%◌, ◌==◌, ◌&&◌, ◌||◌, if◌then◌else◌}
+use Rattle.std.specs.Option.{option_map_or}
 use Rattle.rv_decode.specs.Memory.{extents_of, is_data, lies_in}
 use Rattle.rv_decode.specs.State.{ZcCore, reg_in}
 use Rattle.rv_decode.specs.Effect as act
@@ -46,11 +47,6 @@ abbrev pub made : Fetched → ZcCore → ZcStep
 made (Found s size) z = effect_step (short_effect s size z) z
 made (Missing reason) z = Stopped reason
 
--- one step, by the exit's status; after the exit nothing changes
-abbrev pub step_from : Option ℕ → ZcCore → ZcStep
-step_from None z = made (fetched_at z z.pc) z
-step_from (Some status) z = Ended status
-
--- one step
+-- one step; after the exit nothing changes
 unfoldable pub zc_step : ZcCore → ZcStep
-zc_step z = step_from z.exit z
+zc_step z = option_map_or Ended z.exit (made (fetched_at z z.pc) z)

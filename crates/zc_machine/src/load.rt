@@ -3,9 +3,9 @@
 ghost use Rattle.std.specs.Prelude.{◌≡◌, ◌-◌, ◌++◌, IfOk, if◌then◌else◌, length};
 ghost use Rattle.elf32_read.specs.Segment.{segment_data};
 ghost use Rattle.elf32_read.specs.Segments.{segments_of};
-ghost use Rattle.rv_decode.specs.Memory.{Text, Data, blank};
-ghost use Rattle.zc_machine.specs.Load.{first_memory, region_of, stack_region};
-ghost use Rattle.zc_machine.specs.Region.{kind_of};
+ghost use Rattle.rv_decode.specs.Memory.{Stack, Text, Data, blank};
+ghost use Rattle.zc_machine.specs.Load.{first_memory, region_of};
+ghost use Rattle.zc_machine.specs.Region.{kind_of_region};
 
 use crate::region::{Region, RegionKind};
 use elf32_read::image::Image;
@@ -34,7 +34,8 @@ fn segment_region(alloc: Global, segment: &Segment) -> Result<Region, AllocError
 }
 
 fn stack(alloc: Global, map: &MemMap) -> Result<Region, AllocError>
-    ensures { IfOk result (λ region. region ≡ stack_region map.now) }
+    ensures { IfOk result (λ region. region
+        ≡ record { kind = Stack; at = map.now.stack_low; cells = blank (map.now.stack_high - map.now.stack_low) 0 }) }
 {
     let size = map.stack_high.saturating_sub(map.stack_low);
     let cells = padded(alloc, &[], size)?;
@@ -42,7 +43,7 @@ fn stack(alloc: Global, map: &MemMap) -> Result<Region, AllocError>
 }
 
 fn kind_for(code: bool) -> RegionKind
-    ensures { kind_of result ≡ (if code then Text else Data) }
+    ensures { kind_of_region result ≡ (if code then Text else Data) }
 {
     if code {
         RegionKind::Text

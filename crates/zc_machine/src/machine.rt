@@ -2,7 +2,7 @@
 
 ghost use Rattle.std.specs.Prelude.{◌≡◌, ◌<◌, ◌+◌, ◌-◌, ◌^◌, IfOk};
 ghost use Rattle.zc_base.specs.MemMap.{IsMap};
-ghost use Rattle.elf32_read.specs.Header.{entry_of};
+ghost use Rattle.elf32_read.specs.Header.{entry_address};
 ghost use Rattle.elf32_read.specs.Segments.{segments_of};
 ghost use Rattle.rv_decode.specs.Bits.{add32};
 ghost use Rattle.rv_decode.specs.Effect.{after, effect, gives, onward};
@@ -68,7 +68,8 @@ impl Machine {
     #[tactic(auto, unfolding(crate::specs::Load::first_core))]
     pub fn load(alloc: Global, image: &Image) -> Result<Machine, AllocError>
         requires { IsMap image.now.1 }
-        ensures { IfOk result (λ machine. machine ≡ first_core (entry_of image.now.0) (segments_of image.now.0) image.now.1) }
+        ensures { IfOk result (λ machine. machine ≡ first_core (entry_address image.now.0)
+            (segments_of image.now.0) image.now.1) }
     {
         let map = image.map();
         let memory = Memory::new(first_regions(alloc, image)?);

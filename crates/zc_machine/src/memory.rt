@@ -45,7 +45,8 @@ impl Memory {
     /// Writes bytes from an address on, if an access may reach them, and says whether it may.
     pub fn write(&mut self, access: Access, address: u32, bytes: &[u8]) -> bool
         ensures reached { result ≡ lies_in (allowed access) (extents_of self.old) address (length bytes.now) }
-        ensures after { self.new ≡ (if result then changed (written address (length bytes.now) (slice_index bytes.now)) self.old else self.old) }
+        ensures after { self.new ≡ (if result then changed (written address (length bytes.now)
+            (slice_index bytes.now)) self.old else self.old) }
     {
         write(self.regions.as_mut_slice(), access, address, bytes)
     }
@@ -66,7 +67,8 @@ fn reach(regions: &[Region], access: Access, address: u32) -> &[u8]
 fn write(regions: &mut [Region], access: Access, address: u32, bytes: &[u8]) -> bool
     requires { AreApart (extents_of regions.old) }
     ensures reached { result ≡ lies_in (allowed access) (extents_of regions.old) address (length bytes.now) }
-    ensures after { regions.new ≡ (if result then changed (written address (length bytes.now) (slice_index bytes.now)) regions.old else regions.old) }
+    ensures after { regions.new ≡ (if result then changed (written address (length bytes.now)
+        (slice_index bytes.now)) regions.old else regions.old) }
 {
     for region in regions.iter_mut() {
         if region.holds(access, address, bytes.len()) {

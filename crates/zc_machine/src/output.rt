@@ -2,7 +2,7 @@
 
 ghost use Rattle.std.specs.Prelude.{◌≡◌, ◌<◌, ◌⊎◌, IfErr, OnErr, OnOk, length};
 ghost use Rattle.zc_machine.specs.Buffer.{InMemory, bytes_at};
-ghost use Rattle.zc_machine.specs.Output.{WrotePart, WroteTo};
+ghost use Rattle.zc_outside.specs.Course.{WrotePart, WroteTo};
 ghost use Rattle.zc_outside.specs.Desk.{OnlyWrites, WriteCause};
 
 use crate::machine::Machine;
@@ -19,7 +19,8 @@ pub fn write<C: Console>(
     requires stream { (fd ≡ 1) ⊎ (fd ≡ 2) }
     requires memory { InMemory machine.now at len }
     ensures ok { OnOk result (WroteTo fd (bytes_at machine.now at len) (C.shown console.old) (C.shown console.new)) }
-    ensures err { OnErr result (WrotePart fd (bytes_at machine.now at len) (C.shown console.old) (C.shown console.new)) }
+    ensures err { OnErr result (WrotePart fd (bytes_at machine.now at len) (C.shown console.old)
+        (C.shown console.new)) }
     ensures cause { IfErr result (WriteCause (C.shown console.old) (C.shown console.new)) }
     ensures writes { OnlyWrites (C.shown console.old) (C.shown console.new) }
 {

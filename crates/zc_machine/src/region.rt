@@ -2,7 +2,7 @@
 
 ghost use Rattle.std.specs.Prelude.{◌≡◌, ◌+◌, ◌-◌, ◌≤◌, ◌&&◌, true, drop, length, slice_index};
 ghost use Rattle.rv_decode.specs.Memory.{cells_changed, extent_of, spans, written};
-ghost use Rattle.zc_machine.specs.Region.{allowed, kind_of};
+ghost use Rattle.zc_machine.specs.Region.{allowed, kind_of_region};
 
 use std::marker::Model;
 
@@ -26,7 +26,7 @@ pub enum Access {
 impl RegionKind {
     // Whether an access may reach such a region.
     fn allows(self, access: Access) -> bool
-        ensures { result ≡ allowed access (kind_of self) }
+        ensures { result ≡ allowed access (kind_of_region self) }
     {
         match access {
             Access::Fetch => match self {
@@ -56,17 +56,17 @@ pub struct Region {
 impl Model for Region {
     ghost use Rattle.std.specs.Prelude.{ℕ};
     ghost use Rattle.rv_decode.specs.Memory.{Region as RegionOf};
-    ghost use Rattle.zc_machine.specs.Region.{kind_of};
+    ghost use Rattle.zc_machine.specs.Region.{kind_of_region};
 
     ghost Value = { RegionOf ℕ };
 
-    ghost view = { λ r. record { kind = kind_of r.kind; at = r.at; cells = r.cells.items } };
+    ghost view = { λ r. record { kind = kind_of_region r.kind; at = r.at; cells = r.cells.items } };
 }
 
 impl Region {
     /// The region with these cells.
     pub fn new(kind: RegionKind, at: u32, cells: Vec<u8>) -> Region
-        ensures { result ≡ record { kind = kind_of kind; at = at; cells = cells.items } }
+        ensures { result ≡ record { kind = kind_of_region kind; at = at; cells = cells.items } }
     {
         Region { kind, at, cells }
     }
@@ -106,7 +106,10 @@ impl Region {
     /// Writes bytes from an address on.
     pub fn write(&mut self, address: u32, bytes: &[u8])
         requires { spans (extent_of self.old) address (length bytes.now) ≡ true }
-        ensures { self.new ≡ record self.old { cells = cells_changed (written address (length bytes.now) (slice_index bytes.now)) self.old.at self.old.cells } }
+        ensures { self.new ≡ record self.old {
+          cells = cells_changed (written address (length bytes.now)
+              (slice_index bytes.now)) self.old.at self.old.cells;
+        } }
     {
         write_cells(self.cells.as_mut_slice(), self.at, address, bytes);
     }

@@ -1,11 +1,11 @@
 // Runs of the machine.
 
 ghost use Rattle.std.specs.Prelude.{◌≡◌, ◌+◌, None};
-ghost use Rattle.interrupt_plan.specs.Plan.{cuts_at};
+ghost use Rattle.interrupt_plan.specs.Plan.{interrupts_at};
 ghost use Rattle.zc_machine.specs.Cursor.{IsAt};
-ghost use Rattle.zc_machine.specs.Interrupt.{all_cuts};
-ghost use Rattle.zc_machine.specs.RunEnd.{Course, IfConsole, Ran};
-ghost use Rattle.zc_outside.specs.Desk.{OnlyWrites, WriteCause};
+ghost use Rattle.zc_machine.specs.Interrupt.{all_interrupted};
+ghost use Rattle.zc_machine.specs.RunEnd.{Ran, zc_course};
+ghost use Rattle.zc_outside.specs.Desk.{OnlyWrites};
 
 use crate::answer::{EnvCall, Step};
 use crate::machine::Machine;
@@ -36,9 +36,8 @@ pub fn run<C: Console>(
 ) -> RunEnd
     requires running { machine.old.exit ≡ None }
     requires start { machine.old.commits ≡ 0 }
-    ensures ran { let course : Course = record { first = machine.old; input = input.now; plan = plan.now; steps = steps } in
-        Ran course result machine.new (C.shown console.old) (C.shown console.new) }
-    ensures cause { IfConsole result (WriteCause (C.shown console.old) (C.shown console.new)) }
+    ensures ran { Ran plan.now (zc_course machine.old input.now plan.now steps) result machine.new
+        (C.shown console.old) (C.shown console.new) }
     ensures writes { OnlyWrites (C.shown console.old) (C.shown console.new) }
 {
     let mut next = 0;
@@ -73,7 +72,7 @@ pub fn run<C: Console>(
 // of the first one after them.
 fn interrupt(machine: &mut Machine, plan: &Plan, mut next: u32) -> u32
     requires { IsAt plan.now next machine.old.commits }
-    ensures made { machine.new ≡ all_cuts (cuts_at plan.now machine.old.commits) machine.old }
+    ensures made { machine.new ≡ all_interrupted (interrupts_at plan.now machine.old.commits) machine.old }
     ensures reached { IsAt plan.now result (machine.old.commits + 1) }
 {
     let count = plan.cut_count();

@@ -1,7 +1,9 @@
 -- Takes from a console, and writes to it, after one another.
-use Rattle.std.proofs.Common.{ℕ, List, [], ◌++◌, arith}
-use Rattle.zc_outside.proofs.Kept.{KeepsBytes-refl, KeepsBytes-trans, Adds-none, Adds-Adds}
-use Rattle.zc_outside.specs.Desk.{Desk, OnlyTakes, OnlyWrites, Wrote}
+use Rattle.std.proofs.Common.{ℕ, List, [], ◌++◌, sym, subst, IsTrue, arith}
+use Rattle.zc_outside.proofs.Kept.{KeepsBytes-refl, KeepsBytes-trans, Adds-none, Adds-Adds, Rose-earlier}
+use Rattle.zc_outside.specs.Desk.{Desk, OnlyTakes, OnlyWrites, WriteCause, Wrote}
+use Rattle.zc_outside.specs.declared.console.ConsoleFault.{ConsoleFault}
+use Rattle.zc_outside.specs.declared.console.ConsoleFault.TheVariants.{Failed, OutOfMemory}
 
 -- no take
 pub OnlyTakes-refl : (s : Desk) → OnlyTakes s s
@@ -18,6 +20,13 @@ OnlyWrites-refl s = grind (arith, KeepsBytes-refl)
 -- one write after another
 pub OnlyWrites-trans : {a b c : Desk} → OnlyWrites a b → OnlyWrites b c → OnlyWrites a c
 OnlyWrites-trans first second = grind (arith, KeepsBytes-trans)
+
+-- what a refused write shows, it shows of all writes up to it
+pub WriteCause-after : (a b c : Desk) (fault : ConsoleFault) → OnlyWrites a b → WriteCause b c fault → WriteCause a c fault
+WriteCause-after a b c Failed first cause =
+    (Rose-earlier a.write_faults b.write_faults c.write_faults first.writes cause.0, λ sure. cause.1 (subst IsTrue (sym first.sure) sure))
+WriteCause-after a b c OutOfMemory first cause =
+    Rose-earlier a.write_memory_faults b.write_memory_faults c.write_memory_faults first.write_memory cause
 
 -- nothing was written
 pub Wrote-none : (s : Desk) → Wrote [] [] s s

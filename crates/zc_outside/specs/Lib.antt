@@ -5,6 +5,7 @@ pub mod Trouble
 pub mod StoreTrouble
 pub mod Shelf
 pub mod Desk
+pub mod Course
 pub mod World
 pub mod Wanted
 pub mod MemConsole

@@ -50,6 +50,6 @@ after_write c (byte ∷ piece) (Err Failed) = record c { calls = next_call c.cal
 after_write c (byte ∷ piece) (Err OutOfMemory) = record c { calls = next_call c.calls; write_memory_faults = more c.write_memory_faults 1 }
 
 -- what a write adds: the whole piece, or nothing
-abbrev pub written : {A : Type 0} → List ℕ → Result A ConsoleFault → List ℕ
-written piece (Ok done) = piece
-written piece (Err fault) = []
+abbrev pub appended : {A : Type 0} → List ℕ → Result A ConsoleFault → List ℕ
+appended piece (Ok done) = piece
+appended piece (Err fault) = []

@@ -7,19 +7,19 @@ use std::alloc::{AllocError, Global};
 
 /// Calls that are numbered from 0, and the numbers of those that fail.
 #[derive(Drop)]
-pub struct Calls {
+pub struct NumberedCalls {
     failing: Vec<u32>,
     made: u32,
 }
 
-impl Calls {
+impl NumberedCalls {
     /// No call so far, and those with these numbers will fail.
-    pub fn new(alloc: Global, failing: &[u32]) -> Result<Calls, AllocError>
+    pub fn new(alloc: Global, failing: &[u32]) -> Result<NumberedCalls, AllocError>
         ensures failing { IfOk result (λ c. c.failing.items ≡ failing.now) }
         ensures none { IfOk result (λ c. c.made ≡ 0) }
     {
         let failing = Vec::from_slice(alloc, failing)?;
-        Ok(Calls { failing, made: 0 })
+        Ok(NumberedCalls { failing, made: 0 })
     }
 
     /// Counts a call, and says whether it fails. The count stays at its last value.

@@ -1,6 +1,6 @@
 // A store over the system's files.
 
-ghost use Rattle.std.specs.Prelude.{◌≡◌, false, ◌≤◌, ◌<◌, ◌+◌, ◌^◌, ◌++◌, ℕ, List, None, IfOk, IfSome, OnOk, MatchOption, length, vec_len, vec_capacity};
+ghost use Rattle.std.specs.Prelude.{◌≡◌, false, ◌≤◌, ◌<◌, ◌+◌, ◌^◌, ◌++◌, [], ℕ, List, None, IfOk, IfSome, OnOk, MatchOption, length, vec_len, vec_capacity};
 ghost use Rattle.std.specs.Io.KnownBytes.{Consumes, IsAtEnd};
 
 use crate::file_write::put_file;
@@ -9,6 +9,7 @@ use crate::store::{Store, StoreFault};
 use crate::transfer::read_some;
 use crate::trouble::Trouble;
 use std::alloc::{AllocError, Global};
+use std::fs::OpenFile;
 use std::io::Read;
 use std::rt::{Files, Process};
 use std::{fs, process};
@@ -56,12 +57,15 @@ impl<R: Files + AllocGlobal> Store for DiskStore<R> {
       sure = false;
     } };
 
-    /// Takes at most `limit + 1` bytes of the file, in small pieces, and asks for no length, so that
-    /// a pipe or a device is read as a file is.
+    /// Takes at most `limit + 1` bytes of the file, in small pieces. A regular file's length says no
+    /// more than how much room is made at first, so a pipe or a device is read as a file is.
     fn get(&mut self, alloc: Global, name: &str, limit: u32) -> Result<Vec<u8>, StoreFault> {
         let most = limit as usize + 1;
         let read = match fs::open(&self.rt, name) {
-            Ok(mut file) => read_below(alloc, &mut file, &mut self.buf, most),
+            Ok(mut file) => match room_for(alloc, &file, most) {
+                Ok(room) => read_below(room, &mut file, &mut self.buf, most),
+                Err(trouble) => Err(trouble),
+            },
             Err(fault) => Err(Trouble::from(fault)),
         };
         match read {
@@ -87,20 +91,32 @@ impl<R: Files + AllocGlobal> Store for DiskStore<R> {
     }
 }
 
-// All bytes that a reader has left, or none if these are `most` or more. They come through a buffer.
+// No bytes yet, with room for those of a regular file, or for `most` if it has more.
+fn room_for<F: OpenFile>(alloc: Global, file: &F, most: usize) -> Result<Vec<u8>, Trouble>
+    ensures { IfOk result (λ bytes. bytes.items ≡ []) }
+{
+    let known = file.metadata()?;
+    if known.is_file() {
+        return Ok(Vec::with_capacity(alloc, known.len().min(most as u64) as usize)?);
+    }
+    Ok(Vec::new(alloc))
+}
+
+// All bytes that a reader has left, or none if these are `most` or more. They come through a buffer into a list that
+// is empty so far.
 fn read_below<F: Read>(
-    alloc: Global,
+    mut bytes: Vec<u8>,
     file: &mut F,
     buf: &mut [u8; PIECE],
     most: usize,
 ) -> Result<Option<Vec<u8>>, Trouble>
+    requires empty { bytes.items ≡ [] }
     requires some { 0 < most }
     requires fits { most < 2 ^ 33 }
     ensures within { IfOk result (λ read. IfSome read (λ v. vec_len v < most)) }
     ensures bytes { IfSome (F.remaining file.old) (λ left. IfOk result (λ read.
         MatchOption read (most ≤ length left) (λ v. v.items ≡ left))) }
 {
-    let mut bytes = Vec::new(alloc);
     while bytes.len() < most {
         if read_piece(file, buf, &mut bytes, most)? == 0 {
             return Ok(Some(bytes));

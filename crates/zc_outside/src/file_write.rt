@@ -1,6 +1,6 @@
 // Writing under a name: over what is there, by a new file if that is a regular file or nothing.
 
-use crate::links::{is_named, target_of};
+use crate::links::{is_named, link_target};
 use crate::new_file::{replace, sync};
 use crate::placed::{FileId, Placed, forget, has_another_name};
 use crate::transfer::write_whole;
@@ -48,7 +48,7 @@ fn write_file<R: Files + AllocGlobal>(
         Ok(there) if there.is_file() => write_over(rt, id, placed, name, bytes, &there),
         Ok(_) => write_in_place(rt, name, bytes),
         Err(fault) if fault.kind() == ErrorKind::NotFound => {
-            let target = target_of(rt, name)?;
+            let target = link_target(rt, name)?;
             Ok(Some(replace(rt, id, target.as_str(), bytes, None)?))
         }
         Err(fault) => Err(Trouble::from(fault)),
@@ -68,7 +68,7 @@ fn write_over<R: Files + AllocGlobal>(
     if has_another_name(placed, name, file) {
         return Err(Trouble::System);
     }
-    let target = target_of(rt, name)?;
+    let target = link_target(rt, name)?;
     // A link of the system's own may lead to a file without a name, as that of an open file that was
     // removed.
     if !is_named(rt, target.as_str(), file)? {

@@ -11,7 +11,7 @@ use std::rt::Files;
 const LINKS: u32 = 40;
 
 /// The name at the end of the symbolic links that begin at a name. Nothing need be there.
-pub fn target_of<R: Files + AllocGlobal>(rt: &R, name: &str) -> Result<String, Trouble> {
+pub fn link_target<R: Files + AllocGlobal>(rt: &R, name: &str) -> Result<String, Trouble> {
     let mut target = String::from_str(rt.alloc(), name)?;
     for _ in 0..LINKS {
         match fs::read_link(rt, target.as_str()) {

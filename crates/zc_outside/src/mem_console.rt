@@ -2,9 +2,9 @@
 
 ghost use Rattle.std.specs.Prelude.{◌≡◌, ◌≢◌, ◌≤◌, ◌+◌, ◌-◌, ◌^◌, ◌↔◌, ◌++◌, min, [], Some, Err, length, take, drop, Contains, IfOk, IfErr, IsOk, IsErr, OnOk, OnErr, IsErrOf};
 ghost use Rattle.zc_outside.specs.Calls.{more, next_call};
-ghost use Rattle.zc_outside.specs.MemConsole.{after_take, after_write, desk_of, written};
+ghost use Rattle.zc_outside.specs.MemConsole.{after_take, after_write, appended, desk_of};
 
-use crate::calls::Calls;
+use crate::calls::NumberedCalls;
 use crate::console::{Console, ConsoleFault};
 use std::alloc::{AllocError, Global};
 use std::marker::Model;
@@ -20,7 +20,7 @@ pub struct MemConsole {
     at: usize,
     out: Vec<u8>,
     err: Vec<u8>,
-    calls: Calls,
+    calls: NumberedCalls,
     read_faults: u64,
     write_faults: u64,
     write_memory_faults: u64,
@@ -64,7 +64,7 @@ impl MemConsole {
         }) }
     {
         let input = Vec::from_slice(alloc, input)?;
-        let calls = Calls::new(alloc, fails)?;
+        let calls = NumberedCalls::new(alloc, fails)?;
         Ok(MemConsole {
             input,
             at: 0,
@@ -149,7 +149,7 @@ impl Console for MemConsole {
         ensures failed { IsErrOf result ConsoleFault.Failed ↔
             ((bytes.now ≢ []) × Contains self.old.fails self.old.calls) }
         ensures after { self.new ≡
-            record (after_write self.old bytes.now result) { out = self.old.out ++ written bytes.now result } }
+            record (after_write self.old bytes.now result) { out = self.old.out ++ appended bytes.now result } }
     {
         if bytes.is_empty() {
             return Ok(());
@@ -164,7 +164,7 @@ impl Console for MemConsole {
         ensures failed { IsErrOf result ConsoleFault.Failed ↔
             ((bytes.now ≢ []) × Contains self.old.fails self.old.calls) }
         ensures after { self.new ≡
-            record (after_write self.old bytes.now result) { err = self.old.err ++ written bytes.now result } }
+            record (after_write self.old bytes.now result) { err = self.old.err ++ appended bytes.now result } }
     {
         if bytes.is_empty() {
             return Ok(());

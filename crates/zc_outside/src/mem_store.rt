@@ -5,7 +5,7 @@ ghost use Rattle.std.specs.Option.{option_copied};
 ghost use Rattle.zc_outside.specs.MemStore.{after_get, after_put, file_in, shelf_of, with_file};
 ghost use Rattle.zc_outside.specs.Shelf.{GetCause, PutCause};
 
-use crate::calls::Calls;
+use crate::calls::NumberedCalls;
 use crate::store::{Store, StoreFault};
 use std::alloc::{AllocError, Global};
 use std::collections::BTreeMap;
@@ -19,7 +19,7 @@ use std::marker::Model;
 pub struct MemStore {
     alloc: Global,
     files: BTreeMap<String, Vec<u8>>,
-    calls: Calls,
+    calls: NumberedCalls,
     read_faults: u64,
     long_files: u64,
     write_faults: u64,
@@ -53,7 +53,7 @@ impl MemStore {
           write_faults = 0;
         }) }
     {
-        let calls = Calls::new(alloc, fails)?;
+        let calls = NumberedCalls::new(alloc, fails)?;
         Ok(MemStore {
             alloc,
             files: BTreeMap::new(alloc),

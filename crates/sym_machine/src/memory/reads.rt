@@ -3,17 +3,17 @@
 ghost use Rattle.std.specs.Prelude.{◌≡◌, ◌+◌, ◌<◌, ◌^◌, IfOk, IfSome, MatchOption, None, Some, true};
 ghost use Rattle.rv_decode.specs.Memory.{cell_at, extents_of, is_data, lies_in};
 ghost use Rattle.sym_machine.specs.Change.{numbers_at};
-ghost use Rattle.sym_machine.specs.Kept.{regions_of, word_at};
+ghost use Rattle.sym_machine.specs.Kept.{regions_of, sym_word_at};
 ghost use Rattle.sym_machine.specs.Words.{number_word};
 ghost use Rattle.sym_machine.specs.declared.word.SymByte.TheVariants.{Num, Undef};
 
-use super::Memory;
+use super::SymMemory;
 use crate::cells::{numbers_down, numbers_up};
 use crate::span::Span;
 use crate::word::{SymByte, SymWord};
 use std::alloc::{AllocError, Global};
 
-impl Memory {
+impl SymMemory {
     /// The number at an address, if it is kept and is one.
     #[inline(always)]
     pub fn number_at(&self, a: u32) -> Option<u8>
@@ -45,7 +45,7 @@ impl Memory {
     #[inline(always)]
     pub fn word_at(&self, a: u32) -> Option<u32>
         ensures there { IfSome result (λ _. lies_in is_data (extents_of (regions_of self.now)) a 4 ≡ true) }
-        ensures value { IfSome result (λ n. number_word n ≡ word_at (regions_of self.now) a) }
+        ensures value { IfSome result (λ n. number_word n ≡ sym_word_at (regions_of self.now) a) }
     {
         match self.span(a, 4) {
             Span::Data(i) => word_of(
@@ -80,7 +80,7 @@ impl Memory {
     /// The word of the four bytes from an address on.
     #[inline(always)]
     pub fn word(&self, a: u32) -> SymWord
-        ensures { result ≡ word_at (regions_of self.now) a }
+        ensures { result ≡ sym_word_at (regions_of self.now) a }
     {
         match self.span(a, 4) {
             Span::Data(i) => SymWord {
@@ -102,7 +102,7 @@ impl Memory {
     // The same byte by byte, as at a region's edge, or where not all bytes are kept.
     fn gathered(&self, a: u64) -> SymWord
         requires { a < 2 ^ 32 }
-        ensures { result ≡ word_at (regions_of self.now) a }
+        ensures { result ≡ sym_word_at (regions_of self.now) a }
     {
         SymWord {
             b0: self.byte(a),

@@ -6,17 +6,19 @@ ghost use Rattle.rv_decode.specs.Memory.{extents_of, is_data, lies_in, written};
 ghost use Rattle.sym_machine.specs.Kept.{IsChanged, regions_of};
 ghost use Rattle.sym_machine.specs.declared.word.SymByte.TheVariants.{Num, Undef};
 
-use super::Memory;
+use super::SymMemory;
 use crate::cells::{copy_down, copy_up, write_down, write_up};
 use crate::span::Span;
 use crate::word::SymByte;
 
-impl Memory {
+impl SymMemory {
     /// Writes numbers from an address on if all of their places are kept, and else changes nothing.
     #[inline(always)]
     pub fn store(&mut self, a: u32, numbers: &[u8]) -> bool
-        ensures there { OnTrue result (lies_in is_data (extents_of (regions_of self.old)) a (length numbers.now) ≡ true) }
-        ensures done { OnTrue result (IsChanged (written a (length (map Num numbers.now)) (λ i. slice_index_or (map Num numbers.now) i Undef)) self.old self.new) }
+        ensures there { OnTrue result (lies_in is_data (extents_of (regions_of self.old)) a (length numbers.now)
+            ≡ true) }
+        ensures done { OnTrue result (IsChanged (written a (length (map Num numbers.now)) (λ i. slice_index_or
+            (map Num numbers.now) i Undef)) self.old self.new) }
         ensures same { OnFalse result (self.new ≡ self.old) }
     {
         match self.span(a, numbers.len()) {
@@ -56,7 +58,8 @@ impl Memory {
 
     /// Writes numbers from an address on, each if it is kept.
     pub fn write_numbers(&mut self, a: u32, numbers: &[u8])
-        ensures { IsChanged (written a (length (map Num numbers.now)) (λ i. slice_index_or (map Num numbers.now) i Undef)) self.old self.new }
+        ensures { IsChanged (written a (length (map Num numbers.now)) (λ i. slice_index_or
+            (map Num numbers.now) i Undef)) self.old self.new }
     {
         if !self.store(a, numbers) {
             self.put_each_number(a, numbers);
@@ -65,7 +68,8 @@ impl Memory {
 
     // The same byte by byte.
     fn put_each_number(&mut self, a: u32, numbers: &[u8])
-        ensures { IsChanged (written a (length (map Num numbers.now)) (λ i. slice_index_or (map Num numbers.now) i Undef)) self.old self.new }
+        ensures { IsChanged (written a (length (map Num numbers.now)) (λ i. slice_index_or
+            (map Num numbers.now) i Undef)) self.old self.new }
     {
         let _ = &self.map;
         for i in 0..numbers.len() {

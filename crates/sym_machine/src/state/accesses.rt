@@ -3,9 +3,9 @@
 ghost use Rattle.std.specs.Prelude.{◌≡◌, ◌==◌, ◌<◌, ◌≤◌, ◌%◌, ℕ, None};
 ghost use Rattle.rv_decode.specs.Effect as effects;
 ghost use Rattle.sym_machine.specs.Answer.{Makes, reached};
-ghost use Rattle.sym_machine.specs.Change.{Does, load_does, reaching, store_does};
+ghost use Rattle.sym_machine.specs.Change.{Does, load_does, accessing, store_does};
 ghost use Rattle.sym_machine.specs.State.{reg_of};
-ghost use Rattle.sym_machine.specs.Step.{made};
+ghost use Rattle.sym_machine.specs.Step.{applied};
 
 use super::State;
 use crate::answer::SymStep;
@@ -25,7 +25,8 @@ impl State {
         next: Place,
     ) -> Result<SymStep, AllocError>
         requires { self.old.core.exit ≡ None }
-        ensures { Makes result (made self.old.map self.old.core (load_does op rd address self.old.core next)) self.old.core self.new.core }
+        ensures { Makes result (applied self.old.map self.old.core (load_does op rd address self.old.core next))
+            self.old.core self.new.core }
     {
         match self.reach(load_width(op), address) {
             Ok(a) => {
@@ -45,7 +46,8 @@ impl State {
         next: Place,
     ) -> Result<SymStep, AllocError>
         requires { self.old.core.exit ≡ None }
-        ensures { Makes result (made self.old.map self.old.core (store_does op (reg_of self.old.core source) address self.old.core next)) self.old.core self.new.core }
+        ensures { Makes result (applied self.old.map self.old.core (store_does op
+            (reg_of self.old.core source) address self.old.core next)) self.old.core self.new.core }
     {
         match self.reach(store_width(op), address) {
             Ok(a) => {
@@ -60,7 +62,7 @@ impl State {
     // The address of an access of so many bytes, or why it can't be made.
     fn reach(&self, n: u32, address: Option<u32>) -> Result<u32, Why>
         requires { 0 < n }
-        ensures { (go : ℕ → Does) → reaching n address self.now.core go ≡ reached result go }
+        ensures { (go : ℕ → Does) → accessing n address self.now.core go ≡ reached result go }
     {
         let Some(a) = address else {
             return Err(Why::AddressUnknown);

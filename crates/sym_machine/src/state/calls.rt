@@ -1,10 +1,10 @@
 // Environment calls.
 
-ghost use Rattle.std.specs.Prelude.{◌≡◌, None};
+ghost use Rattle.std.specs.Prelude.{◌≡◌, ◌==◌, None};
 ghost use Rattle.sym_machine.specs.Answer.{Makes, StepAnswers};
-ghost use Rattle.sym_machine.specs.Change.{arguments_of, call_does, exit_does, is_buffer, is_input, is_output, read_does, with_buffer, write_does};
+ghost use Rattle.sym_machine.specs.Change.{arguments_of, call_does, exit_does, is_buffer, is_output, read_does, with_buffer, write_does};
 ghost use Rattle.sym_machine.specs.State.{reg_of};
-ghost use Rattle.sym_machine.specs.Step.{made};
+ghost use Rattle.sym_machine.specs.Step.{applied};
 ghost use Rattle.sym_machine.specs.Words.{number_of};
 
 use super::State;
@@ -27,7 +27,8 @@ impl State {
     // The call that a7 says, with the place after it.
     pub(super) fn step_call(&mut self, next: Place) -> Result<SymStep, AllocError>
         requires { self.old.core.exit ≡ None }
-        ensures { Makes result (made self.old.map self.old.core (call_does (number_of (reg_of self.old.core 17)) self.old.core next)) self.old.core self.new.core }
+        ensures { Makes result (applied self.old.map self.old.core (call_does (number_of
+            (reg_of self.old.core 17)) self.old.core next)) self.old.core self.new.core }
     {
         match self.number_in(A7) {
             Some(93) => Ok(self.call_exit()),
@@ -41,7 +42,8 @@ impl State {
     // The exit.
     fn call_exit(&mut self) -> SymStep
         requires { self.old.core.exit ≡ None }
-        ensures { StepAnswers (made self.old.map self.old.core (exit_does (number_of (reg_of self.old.core 10)) self.old.core.place)) result self.old.core self.new.core }
+        ensures { StepAnswers (applied self.old.map self.old.core (exit_does (number_of
+            (reg_of self.old.core 10)) self.old.core.place)) result self.old.core self.new.core }
     {
         match self.number_in(A0) {
             Some(a0) => self.end(a0),
@@ -51,7 +53,8 @@ impl State {
 
     // What a call with a buffer uses, if all of it is known.
     fn arguments(&self) -> Option<Arguments>
-        ensures { result ≡ arguments_of (number_of (reg_of self.now.core 10)) (number_of (reg_of self.now.core 11)) (number_of (reg_of self.now.core 12)) }
+        ensures { result ≡ arguments_of (number_of (reg_of self.now.core 10)) (number_of (reg_of self.now.core 11))
+            (number_of (reg_of self.now.core 12)) }
     {
         let a0 = self.number_in(A0)?;
         let len = self.number_in(A2)?;
@@ -72,7 +75,8 @@ impl State {
     // A read.
     fn call_read(&mut self, next: Place) -> SymStep
         requires { self.old.core.exit ≡ None }
-        ensures { StepAnswers (made self.old.map self.old.core (with_buffer is_input self.old.core (read_does self.old.core next))) result self.old.core self.new.core }
+        ensures { StepAnswers (applied self.old.map self.old.core (with_buffer (λ a0. a0 == 0) self.old.core
+            (read_does self.old.core next))) result self.old.core self.new.core }
     {
         let Some(arguments) = self.arguments() else {
             return self.stuck(Why::ArgumentUnknown);
@@ -89,7 +93,8 @@ impl State {
     // A write.
     fn call_write(&mut self, next: Place) -> Result<SymStep, AllocError>
         requires { self.old.core.exit ≡ None }
-        ensures { Makes result (made self.old.map self.old.core (with_buffer is_output self.old.core (write_does self.old.core next))) self.old.core self.new.core }
+        ensures { Makes result (applied self.old.map self.old.core (with_buffer is_output self.old.core
+            (write_does self.old.core next))) self.old.core self.new.core }
     {
         let Some(arguments) = self.arguments() else {
             return Ok(self.stuck(Why::ArgumentUnknown));

@@ -1,12 +1,13 @@
 // How a step ends. Each end is a change of a state that hasn't exited.
 
-ghost use Rattle.std.specs.Prelude.{◌≡◌, ◌≢◌, [], length, map, None, Some, true};
+ghost use Rattle.std.specs.Prelude.{◌≡◌, ◌≢◌, [], ◌∷◌, length, map, None, Some, true};
 ghost use Rattle.std.specs.Bool.{OnFalse, OnTrue};
 ghost use Rattle.sym_machine.specs.declared.word.SymByte.TheVariants.{Num};
+ghost use Rattle.rv_decode.specs.State.{Write};
 ghost use Rattle.sym_machine.specs.Answer.{Makes, RunsOn, StepAnswers};
-ghost use Rattle.sym_machine.specs.Change.{Goes, Stops, call_to, exit_does, gives, in_memory, is_output, onward, output_does, puts, read_does};
+ghost use Rattle.sym_machine.specs.Change.{Goes, Stops, call_to, exit_does, sets, in_memory, is_output, continues, puts, read_does};
 ghost use Rattle.sym_machine.specs.Kept.{word_of};
-ghost use Rattle.sym_machine.specs.Step.{made};
+ghost use Rattle.sym_machine.specs.Step.{applied};
 ghost use Rattle.sym_machine.specs.Words.{code_word, number_word};
 
 use super::State;
@@ -25,7 +26,7 @@ impl State {
     // A step that is stuck.
     pub(super) fn stuck(&self, why: Why) -> SymStep
         requires { self.now.core.exit ≡ None }
-        ensures { StepAnswers (made self.now.map self.now.core (Stops why)) result self.now.core self.now.core }
+        ensures { StepAnswers (applied self.now.map self.now.core (Stops why)) result self.now.core self.now.core }
     {
         SymStep::Stuck(self.place, why)
     }
@@ -33,7 +34,8 @@ impl State {
     // Goes on to a place.
     pub(super) fn go(&mut self, to: Place) -> SymStep
         requires { self.old.core.exit ≡ None }
-        ensures { StepAnswers (made self.old.map self.old.core (Goes (onward to))) result self.old.core self.new.core }
+        ensures { StepAnswers (applied self.old.map self.old.core (Goes
+            (continues to))) result self.old.core self.new.core }
     {
         self.pass(to);
         SymStep::Done
@@ -42,7 +44,7 @@ impl State {
     // The same, with nothing to answer.
     pub(super) fn pass(&mut self, to: Place)
         requires { self.old.core.exit ≡ None }
-        ensures { RunsOn (made self.old.map self.old.core (Goes (onward to))) [] self.old.core self.new.core }
+        ensures { RunsOn (applied self.old.map self.old.core (Goes (continues to))) [] self.old.core self.new.core }
     {
         self.place = to;
     }
@@ -53,7 +55,8 @@ impl State {
         requires running { self.old.core.exit ≡ None }
         requires some { rd ≢ 0 }
         requires other { rd ≢ 2 }
-        ensures { RunsOn (made self.old.map self.old.core (Goes (gives rd (word_of word) to))) [] self.old.core self.new.core }
+        ensures { RunsOn (applied self.old.map self.old.core (Goes (sets rd
+            (word_of word) to))) [] self.old.core self.new.core }
     {
         self.registers[rd.number() as usize] = word;
         self.place = to;
@@ -63,7 +66,8 @@ impl State {
     // can't have the number.
     pub(super) fn give_number(&mut self, rd: Reg, n: u32, to: Place) -> bool
         requires { self.old.core.exit ≡ None }
-        ensures made { OnTrue result (RunsOn (made self.old.map self.old.core (Goes (gives rd (number_word n) to))) [] self.old.core self.new.core) }
+        ensures made { OnTrue result (RunsOn (applied self.old.map self.old.core (Goes (sets rd
+            (number_word n) to))) [] self.old.core self.new.core) }
         ensures same { OnFalse result (self.new ≡ self.old) }
     {
         match rd.number() {
@@ -80,7 +84,8 @@ impl State {
     // no room for the bytes from it up.
     fn move_sp(&mut self, sp: u32, to: Place) -> bool
         requires { self.old.core.exit ≡ None }
-        ensures made { OnTrue result (RunsOn (made self.old.map self.old.core (Goes (gives 2 (number_word sp) to))) [] self.old.core self.new.core) }
+        ensures made { OnTrue result (RunsOn (applied self.old.map self.old.core (Goes (sets 2
+            (number_word sp) to))) [] self.old.core self.new.core) }
         ensures same { OnFalse result (self.new ≡ self.old) }
     {
         let _ = &self.registers;
@@ -100,7 +105,8 @@ impl State {
     // Jumps to a place, with the next place's address in a register; not if that is sp.
     pub(super) fn link(&mut self, rd: Reg, to: Place, next: Place) -> bool
         requires { self.old.core.exit ≡ None }
-        ensures made { OnTrue result (RunsOn (made self.old.map self.old.core (Goes (gives rd (code_word next) to))) [] self.old.core self.new.core) }
+        ensures made { OnTrue result (RunsOn (applied self.old.map self.old.core (Goes (sets rd
+            (code_word next) to))) [] self.old.core self.new.core) }
         ensures same { OnFalse result (self.new ≡ self.old) }
     {
         match rd.number() {
@@ -119,7 +125,8 @@ impl State {
     // Gives a word to a register, and goes on to a place.
     pub(super) fn give(&mut self, rd: Reg, word: &Held, to: Place) -> Result<SymStep, AllocError>
         requires { self.old.core.exit ≡ None }
-        ensures { Makes result (made self.old.map self.old.core (Goes (gives rd (word_of word.now) to))) self.old.core self.new.core }
+        ensures { Makes result (applied self.old.map self.old.core (Goes (sets rd
+            (word_of word.now) to))) self.old.core self.new.core }
     {
         match rd.number() {
             0 => Ok(self.go(to)),
@@ -134,7 +141,8 @@ impl State {
     // Gives a word to sp, if it is a number within the stack, and goes on to a place.
     fn give_sp(&mut self, word: &Held, to: Place) -> Result<SymStep, AllocError>
         requires { self.old.core.exit ≡ None }
-        ensures { Makes result (made self.old.map self.old.core (Goes (gives 2 (word_of word.now) to))) self.old.core self.new.core }
+        ensures { Makes result (applied self.old.map self.old.core (Goes (sets 2
+            (word_of word.now) to))) self.old.core self.new.core }
     {
         let _ = &self.registers;
         let Some(sp) = word.number() else {
@@ -153,7 +161,8 @@ impl State {
     // place's address. Register 0 takes no part of an address, and sp stays a number.
     pub(super) fn call(&mut self, rd: Reg, temp: Reg, to: Place, next: Place) -> SymStep
         requires { self.old.core.exit ≡ None }
-        ensures { StepAnswers (made self.old.map self.old.core (call_to rd temp to next)) result self.old.core self.new.core }
+        ensures { StepAnswers (applied self.old.map self.old.core (call_to rd temp to next)) result self.old.core
+            self.new.core }
     {
         let _ = &self.registers;
         let (link, part) = (rd.number() as usize, temp.number() as usize);
@@ -174,7 +183,8 @@ impl State {
     // Writes bytes to memory from an address on, and goes on to a place.
     pub(super) fn put(&mut self, a: u32, bytes: &[SymByte], to: Place) -> SymStep
         requires { self.old.core.exit ≡ None }
-        ensures { StepAnswers (made self.old.map self.old.core (Goes (puts a bytes.now to))) result self.old.core self.new.core }
+        ensures { StepAnswers (applied self.old.map self.old.core (Goes
+            (puts a bytes.now to))) result self.old.core self.new.core }
     {
         self.memory.write(a, bytes);
         self.place = to;
@@ -185,7 +195,8 @@ impl State {
     pub(super) fn put_numbers(&mut self, a: u32, numbers: &[u8], to: Place) -> bool
         requires { self.old.core.exit ≡ None }
         ensures there { OnTrue result (in_memory self.old.core a (length numbers.now) ≡ true) }
-        ensures made { OnTrue result (RunsOn (made self.old.map self.old.core (Goes (puts a (map Num numbers.now) to))) [] self.old.core self.new.core) }
+        ensures made { OnTrue result (RunsOn (applied self.old.map self.old.core (Goes (puts a
+            (map Num numbers.now) to))) [] self.old.core self.new.core) }
         ensures same { OnFalse result (self.new ≡ self.old) }
     {
         if !self.memory.store(a, numbers) {
@@ -198,7 +209,8 @@ impl State {
     // Reads as much of the input as there is and as goes into a buffer, and goes on to a place.
     pub(super) fn read(&mut self, arguments: Arguments, to: Place) -> SymStep
         requires { self.old.core.exit ≡ None }
-        ensures { StepAnswers (made self.old.map self.old.core (read_does self.old.core to arguments)) result self.old.core self.new.core }
+        ensures { StepAnswers (applied self.old.map self.old.core (read_does self.old.core to arguments)) result
+            self.old.core self.new.core }
     {
         let left = &self.input[self.taken..];
         let count = left.len().min(arguments.len as usize);
@@ -215,7 +227,9 @@ impl State {
     pub(super) fn write(&mut self, arguments: Arguments, bytes: Vec<u8>, to: Place) -> SymStep
         requires running { self.old.core.exit ≡ None }
         requires stream { is_output arguments.a0 ≡ true }
-        ensures { StepAnswers (made self.old.map self.old.core (output_does (Some bytes.items) to arguments)) result self.old.core self.new.core }
+        ensures { StepAnswers (applied self.old.map self.old.core (Goes (record (sets 10
+            (number_word arguments.len) to) { events = Write arguments.a0 bytes.items ∷ [] }))) result self.old.core
+            self.new.core }
     {
         self.registers[A0] = Held::Number(arguments.len);
         self.place = to;
@@ -228,7 +242,8 @@ impl State {
     // Exits with the low byte of a number.
     pub(super) fn end(&mut self, a0: u32) -> SymStep
         requires { self.old.core.exit ≡ None }
-        ensures { StepAnswers (made self.old.map self.old.core (exit_does (Some a0) self.old.core.place)) result self.old.core self.new.core }
+        ensures { StepAnswers (applied self.old.map self.old.core (exit_does
+            (Some a0) self.old.core.place)) result self.old.core self.new.core }
     {
         let status = (a0 % 256) as u8;
         self.exit = Some(status);

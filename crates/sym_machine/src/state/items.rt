@@ -1,13 +1,11 @@
 // Steps by what stands at a place.
 
-ghost use Rattle.std.specs.Prelude.{◌≡◌, None};
+ghost use Rattle.std.specs.Prelude.{◌≡◌, None, Some};
 ghost use Rattle.psabi_sym.specs.Inputs.{parsed};
 ghost use Rattle.sym_machine.specs.Answer.{Makes};
-ghost use Rattle.sym_machine.specs.Words as words;
-ghost use Rattle.sym_machine.specs.Change.{Goes, gives, item_does, op_does};
+ghost use Rattle.sym_machine.specs.Change.{item_does, op_does};
 ghost use Rattle.sym_machine.specs.Objects.{program_of};
-ghost use Rattle.sym_machine.specs.State.{reg_of};
-ghost use Rattle.sym_machine.specs.Step.{made};
+ghost use Rattle.sym_machine.specs.Step.{applied};
 
 use super::State;
 use crate::answer::SymStep;
@@ -16,10 +14,9 @@ use crate::results::{imm_word, reg_word};
 use crate::why::Why;
 use block_cut::cut::Cut;
 use block_cut::item::Item;
-use rv_decode::instr::{ImmOp, Instr, RegOp};
+use rv_decode::instr::Instr;
 use std::alloc::AllocError;
 use zc_base::place::Place;
-use zc_base::reg::Reg;
 
 impl State {
     // The step of an item, with the place after it.
@@ -31,7 +28,7 @@ impl State {
     ) -> Result<SymStep, AllocError>
         requires { self.old.core.exit ≡ None }
         ensures { Makes result
-            (made self.old.map self.old.core (item_does (program_of (parsed cut.now)) item.now self.old.core next))
+            (applied self.old.map self.old.core (item_does (program_of (parsed cut.now)) (Some item.now) self.old.core next))
             self.old.core self.new.core }
     {
         match item {
@@ -60,7 +57,7 @@ impl State {
     // An instruction without relocation.
     fn step_op(&mut self, instr: &Instr, next: Place) -> Result<SymStep, AllocError>
         requires { self.old.core.exit ≡ None }
-        ensures { Makes result (made self.old.map self.old.core (op_does instr.now self.old.core next)) self.old.core
+        ensures { Makes result (applied self.old.map self.old.core (op_does instr.now self.old.core next)) self.old.core
             self.new.core }
     {
         match instr {
@@ -68,59 +65,25 @@ impl State {
             Instr::Jalr { base, imm, .. }
             | Instr::Load { base, imm, .. }
             | Instr::Store { base, imm, .. } => self.step_from(instr, *base, *imm, next),
-            Instr::WithImm { op, rd, first, imm } => self.step_imm(*op, *rd, *first, *imm, next),
+            Instr::WithImm { op, rd, first, imm } => {
+                let word = imm_word(*op, self.register(*first), *imm);
+                self.give(*rd, &word, next)
+            }
             Instr::WithReg {
                 op,
                 rd,
                 first,
                 second,
-            } => self.step_reg(*op, *rd, *first, *second, next),
+            } => {
+                let (a, b) = (self.register(*first), self.register(*second));
+                let word = reg_word(*op, *first, *second, a, b);
+                self.give(*rd, &word, next)
+            }
             Instr::Fence { .. } => Ok(self.go(next)),
             Instr::Ecall => self.step_call(next),
             Instr::Jal { .. } | Instr::Branch { .. } | Instr::Ebreak | Instr::Csrrw { .. } => {
                 Ok(self.stuck(Why::NoInstruction))
             }
         }
-    }
-
-    // An operation on a register and an immediate.
-    fn step_imm(
-        &mut self,
-        op: ImmOp,
-        rd: Reg,
-        first: Reg,
-        imm: i32,
-        next: Place,
-    ) -> Result<SymStep, AllocError>
-        requires { self.old.core.exit ≡ None }
-        ensures { Makes result (made self.old.map self.old.core
-            (Goes (gives rd (words.imm_word op (reg_of self.old.core first) imm) next))) self.old.core self.new.core }
-    {
-        let word = imm_word(op, self.register(first), imm);
-        self.give(rd, &word, next)
-    }
-
-    // An operation on two registers.
-    fn step_reg(
-        &mut self,
-        op: RegOp,
-        rd: Reg,
-        first: Reg,
-        second: Reg,
-        next: Place,
-    ) -> Result<SymStep, AllocError>
-        requires { self.old.core.exit ≡ None }
-        ensures { Makes result (made self.old.map self.old.core (Goes (gives rd
-            (words.reg_word op first second (reg_of self.old.core first) (reg_of self.old.core second)) next)))
-            self.old.core self.new.core }
-    {
-        let word = reg_word(
-            op,
-            first,
-            second,
-            self.register(first),
-            self.register(second),
-        );
-        self.give(rd, &word, next)
     }
 }

@@ -3,7 +3,7 @@
 ghost use Rattle.std.specs.Prelude.{◌≡◌, None};
 ghost use Rattle.sym_machine.specs.Answer.{Makes, StepAnswers};
 ghost use Rattle.sym_machine.specs.Change.{branch_does, jump_does};
-ghost use Rattle.sym_machine.specs.Step.{made};
+ghost use Rattle.sym_machine.specs.Step.{applied};
 
 use super::State;
 use crate::answer::SymStep;
@@ -22,7 +22,7 @@ impl State {
         next: Place,
     ) -> Result<SymStep, AllocError>
         requires { self.old.core.exit ≡ None }
-        ensures { Makes result (made self.old.map self.old.core (jump_does to rd next)) self.old.core self.new.core }
+        ensures { Makes result (applied self.old.map self.old.core (jump_does to rd next)) self.old.core self.new.core }
     {
         match to {
             Some(to) => self.give(rd, &Held::Code(next), to),
@@ -33,7 +33,8 @@ impl State {
     // A branch, by its condition.
     pub(super) fn branch(&mut self, taken: Option<bool>, to: Place, next: Place) -> SymStep
         requires { self.old.core.exit ≡ None }
-        ensures { StepAnswers (made self.old.map self.old.core (branch_does taken to next)) result self.old.core self.new.core }
+        ensures { StepAnswers (applied self.old.map self.old.core (branch_does taken to next)) result self.old.core
+            self.new.core }
     {
         match taken {
             Some(true) => self.go(to),

@@ -1,16 +1,17 @@
 // The quick way beside `step_item`: steps by numbers alone, and jumps to places that are known. They are
 // made in place, and copy no word of bytes. All else changes nothing here, and `step_item` makes it.
 
-ghost use Rattle.std.specs.Prelude.{◌≡◌, ◌<◌, ◌^◌, ◌%◌, [], None, Some, IfSome};
+ghost use Rattle.std.specs.Prelude.{◌≡◌, ℕ, ◌<◌, ◌^◌, ◌%◌, [], None, Some, IfSome};
 ghost use Rattle.std.specs.Bool.{OnFalse, OnTrue};
-ghost use Rattle.rv_decode.specs.declared.instr.Instr.TheVariants.{Jalr, Load, Store, WithImm, WithReg};
+ghost use Rattle.rv_decode.specs.declared.instr.Instr.TheVariants.{Jalr, Load, Store};
 ghost use Rattle.sym_machine.specs.Answer.{RunsOn};
-ghost use Rattle.sym_machine.specs.Change.{branch_does, item_does, op_does};
+ghost use Rattle.sym_machine.specs.Change.{Goes, item_does, op_does, sets};
 ghost use Rattle.sym_machine.specs.Conditions.{condition};
 ghost use Rattle.sym_machine.specs.Program.{Program};
 ghost use Rattle.sym_machine.specs.State.{reg_of};
-ghost use Rattle.sym_machine.specs.Step.{made};
-ghost use Rattle.sym_machine.specs.Words.{code_word, number_of, number_word, sum_word};
+ghost use Rattle.sym_machine.specs.Step.{applied};
+ghost use Rattle.sym_machine.specs.Words.{code_word, imm_word, number_of, number_word, reg_word, sum_word};
+ghost use Rattle.zc_base.specs.declared.place.Place.{Place};
 
 use super::State;
 use super::accesses::{is_multiple, load_width, store_width};
@@ -27,7 +28,7 @@ impl State {
     pub(super) fn quick_item(&mut self, item: &Item, next: Place) -> bool
         requires { self.old.core.exit ≡ None }
         ensures made { OnTrue result ((p : Program) → RunsOn
-            (made self.old.map self.old.core (item_does p item.now self.old.core next)) [] self.old.core
+            (applied self.old.map self.old.core (item_does p (Some item.now) self.old.core next)) [] self.old.core
             self.new.core) }
         ensures same { OnFalse result (self.new ≡ self.old) }
     {
@@ -38,7 +39,13 @@ impl State {
                 first,
                 second,
                 to,
-            } => self.quick_compare(*op, *first, *second, *to, next),
+            } => match self.quick_compare(*op, *first, *second) {
+                Some(taken) => {
+                    self.pass(if taken { *to } else { next });
+                    true
+                }
+                None => false,
+            },
             Item::Jump { rd, to } => self.link(*rd, *to, next),
             Item::Hi(..)
             | Item::Lo(..)
@@ -55,20 +62,29 @@ impl State {
     // The same of an instruction without relocation.
     fn quick_op(&mut self, instr: &Instr, next: Place) -> bool
         requires { self.old.core.exit ≡ None }
-        ensures made { OnTrue result (RunsOn (made self.old.map self.old.core (op_does instr.now self.old.core next))
+        ensures made { OnTrue result (RunsOn (applied self.old.map self.old.core (op_does instr.now self.old.core next))
             [] self.old.core self.new.core) }
         ensures same { OnFalse result (self.new ≡ self.old) }
     {
         match instr {
-            Instr::WithImm { op, rd, first, imm } => self.quick_imm(*op, *rd, *first, *imm, next),
+            Instr::WithImm { op, rd, first, imm } => match self.quick_imm(*op, *first, *imm) {
+                Some(n) => self.give_number(*rd, n, next),
+                None => false,
+            },
             Instr::WithReg {
                 op,
                 rd,
                 first,
                 second,
-            } => self.quick_reg(*op, *rd, *first, *second, next),
+            } => match self.quick_reg(*op, *first, *second) {
+                Some(n) => self.give_number(*rd, n, next),
+                None => false,
+            },
             Instr::Jalr { rd, base, imm } => self.quick_return(*rd, *base, *imm, next),
-            Instr::Load { op, rd, base, imm } => self.quick_load(*op, *rd, *base, *imm, next),
+            Instr::Load { op, rd, base, imm } => match self.quick_load(*op, *base, *imm) {
+                Some(n) => self.give_number(*rd, n, next),
+                None => false,
+            },
             Instr::Store {
                 op,
                 source,
@@ -106,36 +122,25 @@ impl State {
         }
     }
 
-    // An operation on a register and an immediate.
-    fn quick_imm(&mut self, op: ImmOp, rd: Reg, first: Reg, imm: i32, next: Place) -> bool
-        requires { self.old.core.exit ≡ None }
-        ensures made { OnTrue result (RunsOn (made self.old.map self.old.core (op_does (WithImm op rd first imm)
-            self.old.core next)) [] self.old.core self.new.core) }
-        ensures same { OnFalse result (self.new ≡ self.old) }
+    // The number that an operation on a register and an immediate gives, if it is known.
+    fn quick_imm(&self, op: ImmOp, first: Reg, imm: i32) -> Option<u32>
+        ensures { IfSome result (λ n. number_word n ≡ imm_word op (reg_of self.now.core first) imm) }
     {
-        match self.plain(first) {
-            Some(n) => self.give_number(rd, imm_result(op, n, imm), next),
-            None => false,
-        }
+        Some(imm_result(op, self.plain(first)?, imm))
     }
 
-    // An operation on two registers.
-    fn quick_reg(&mut self, op: RegOp, rd: Reg, first: Reg, second: Reg, next: Place) -> bool
-        requires { self.old.core.exit ≡ None }
-        ensures made { OnTrue result (RunsOn (made self.old.map self.old.core (op_does (WithReg op rd first second)
-            self.old.core next)) [] self.old.core self.new.core) }
-        ensures same { OnFalse result (self.new ≡ self.old) }
+    // The same of an operation on two registers.
+    fn quick_reg(&self, op: RegOp, first: Reg, second: Reg) -> Option<u32>
+        ensures { IfSome result (λ n. number_word n
+            ≡ reg_word op first second (reg_of self.now.core first) (reg_of self.now.core second)) }
     {
-        match (self.plain(first), self.plain(second)) {
-            (Some(a), Some(b)) => self.give_number(rd, reg_result(op, a, b), next),
-            _ => false,
-        }
+        Some(reg_result(op, self.plain(first)?, self.plain(second)?))
     }
 
     // A `jalr` to the place whose address a register holds.
     fn quick_return(&mut self, rd: Reg, base: Reg, imm: i32, next: Place) -> bool
         requires { self.old.core.exit ≡ None }
-        ensures made { OnTrue result (RunsOn (made self.old.map self.old.core (op_does (Jalr rd base imm)
+        ensures made { OnTrue result (RunsOn (applied self.old.map self.old.core (op_does (Jalr rd base imm)
             self.old.core next)) [] self.old.core self.new.core) }
         ensures same { OnFalse result (self.new ≡ self.old) }
     {
@@ -148,28 +153,12 @@ impl State {
         }
     }
 
-    // Goes on to a place if a condition on two registers holds, and else to the next one.
-    fn quick_compare(
-        &mut self,
-        op: BranchOp,
-        first: Reg,
-        second: Reg,
-        to: Place,
-        next: Place,
-    ) -> bool
-        requires { self.old.core.exit ≡ None }
-        ensures made { OnTrue result ((p : Program) → RunsOn
-            (made self.old.map self.old.core (branch_does (condition p op (reg_of self.old.core first) (reg_of
-            self.old.core second)) to next)) [] self.old.core self.new.core) }
-        ensures same { OnFalse result (self.new ≡ self.old) }
+    // Whether a condition on two registers holds, if it is known.
+    fn quick_compare(&self, op: BranchOp, first: Reg, second: Reg) -> Option<bool>
+        ensures { (p : Program) → IfSome result (λ holds.
+            condition p op (reg_of self.now.core first) (reg_of self.now.core second) ≡ Some holds) }
     {
-        match (self.plain(first), self.plain(second)) {
-            (Some(a), Some(b)) => {
-                self.pass(if is_taken(op, a, b) { to } else { next });
-                true
-            }
-            _ => false,
-        }
+        Some(is_taken(op, self.plain(first)?, self.plain(second)?))
     }
 
     // The address of an access by a register and an immediate, if it is known and is a multiple of the
@@ -183,26 +172,18 @@ impl State {
         if is_multiple(a, width) { Some(a) } else { None }
     }
 
-    // A load.
-    fn quick_load(&mut self, op: LoadOp, rd: Reg, base: Reg, imm: i32, next: Place) -> bool
-        requires { self.old.core.exit ≡ None }
-        ensures made { OnTrue result (RunsOn (made self.old.map self.old.core (op_does (Load op rd base imm)
-            self.old.core next)) [] self.old.core self.new.core) }
-        ensures same { OnFalse result (self.new ≡ self.old) }
+    // The number that a load gives, if it is known.
+    fn quick_load(&self, op: LoadOp, base: Reg, imm: i32) -> Option<u32>
+        ensures { (rd : ℕ) (next : Place) → IfSome result (λ n.
+            op_does (Load op rd base imm) self.now.core next ≡ Goes (sets rd (number_word n) next)) }
     {
-        let Some(a) = self.quick_address(base, imm, load_width(op)) else {
-            return false;
-        };
-        match self.loaded_number(op, a) {
-            Some(n) => self.give_number(rd, n, next),
-            None => false,
-        }
+        self.loaded_number(op, self.quick_address(base, imm, load_width(op))?)
     }
 
     // A store.
     fn quick_store(&mut self, op: StoreOp, source: Reg, base: Reg, imm: i32, next: Place) -> bool
         requires { self.old.core.exit ≡ None }
-        ensures made { OnTrue result (RunsOn (made self.old.map self.old.core (op_does (Store op source base imm)
+        ensures made { OnTrue result (RunsOn (applied self.old.map self.old.core (op_does (Store op source base imm)
             self.old.core next)) [] self.old.core self.new.core) }
         ensures same { OnFalse result (self.new ≡ self.old) }
     {

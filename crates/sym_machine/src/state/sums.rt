@@ -10,7 +10,7 @@ ghost use Rattle.sym_machine.specs.Change.{base_of, by_sum};
 ghost use Rattle.sym_machine.specs.Kept.{word_of};
 ghost use Rattle.sym_machine.specs.Objects.{program_of};
 ghost use Rattle.sym_machine.specs.State.{reg_of};
-ghost use Rattle.sym_machine.specs.Step.{made};
+ghost use Rattle.sym_machine.specs.Step.{applied};
 
 use super::State;
 use crate::address_parts::{low_sum, pc_low_sum};
@@ -35,7 +35,8 @@ impl State {
         next: Place,
     ) -> Result<SymStep, AllocError>
         requires { self.old.core.exit ≡ None }
-        ensures { Makes result (made self.old.map self.old.core (by_sum instr.now (words.sum_word (reg_of self.old.core base) imm) self.old.core next)) self.old.core self.new.core }
+        ensures { Makes result (applied self.old.map self.old.core (by_sum instr.now (words.sum_word
+            (reg_of self.old.core base) imm) self.old.core next)) self.old.core self.new.core }
     {
         let word = sum(self.register(base), imm);
         self.step_sum(instr, &word, next)
@@ -49,7 +50,8 @@ impl State {
         next: Place,
     ) -> Result<SymStep, AllocError>
         requires { self.old.core.exit ≡ None }
-        ensures { Makes result (made self.old.map self.old.core (by_sum instr.now (parts.low_sum target (reg_of self.old.core (base_of instr.now))) self.old.core next)) self.old.core self.new.core }
+        ensures { Makes result (applied self.old.map self.old.core (by_sum instr.now (parts.low_sum target
+            (reg_of self.old.core (base_of instr.now))) self.old.core next)) self.old.core self.new.core }
     {
         let word = low_sum(target, &self.base(instr));
         self.step_sum(instr, &word, next)
@@ -64,7 +66,9 @@ impl State {
         next: Place,
     ) -> Result<SymStep, AllocError>
         requires { self.old.core.exit ≡ None }
-        ensures { Makes result (made self.old.map self.old.core (by_sum instr.now (parts.pc_low_sum q (parts.pc_target ((program_of (parsed cut.now)).item q)) (reg_of self.old.core (base_of instr.now))) self.old.core next)) self.old.core self.new.core }
+        ensures { Makes result (applied self.old.map self.old.core (by_sum instr.now (parts.pc_low_sum q
+            (parts.pc_target ((program_of (parsed cut.now)).item q)) (reg_of self.old.core
+            (base_of instr.now))) self.old.core next)) self.old.core self.new.core }
     {
         let word = pc_low_sum(cut, q, &self.base(instr));
         self.step_sum(instr, &word, next)
@@ -86,7 +90,8 @@ impl State {
     // Such an instruction by the word of its sum.
     fn step_sum(&mut self, instr: &Instr, word: &Held, next: Place) -> Result<SymStep, AllocError>
         requires { self.old.core.exit ≡ None }
-        ensures { Makes result (made self.old.map self.old.core (by_sum instr.now (word_of word.now) self.old.core next)) self.old.core self.new.core }
+        ensures { Makes result (applied self.old.map self.old.core (by_sum instr.now
+            (word_of word.now) self.old.core next)) self.old.core self.new.core }
     {
         match instr {
             Instr::Jalr { rd, .. } => self.jump(word.code(), *rd, next),

@@ -7,9 +7,9 @@ ghost use Rattle.sym_machine.specs.AddressParts as parts;
 ghost use Rattle.sym_machine.specs.Words as words;
 ghost use Rattle.sym_machine.specs.Words.{value_word};
 ghost use Rattle.sym_machine.specs.declared.word.Value.TheVariants.{PcHi};
-ghost use Rattle.sym_machine.specs.Change.{Goes, gives, upper_does};
+ghost use Rattle.sym_machine.specs.Change.{Goes, sets, upper_does};
 ghost use Rattle.sym_machine.specs.Kept.{word_of};
-ghost use Rattle.sym_machine.specs.Step.{made};
+ghost use Rattle.sym_machine.specs.Step.{applied};
 
 use super::State;
 use crate::address_parts::high_word;
@@ -34,7 +34,8 @@ impl State {
         next: Place,
     ) -> Result<SymStep, AllocError>
         requires { self.old.core.exit ≡ None }
-        ensures { Makes result (made self.old.map self.old.core (Goes (gives rd (words.upper_word op imm) next))) self.old.core self.new.core }
+        ensures { Makes result (applied self.old.map self.old.core (Goes (sets rd
+            (words.upper_word op imm) next))) self.old.core self.new.core }
     {
         self.give(rd, &upper_word(op, imm), next)
     }
@@ -47,7 +48,8 @@ impl State {
         next: Place,
     ) -> Result<SymStep, AllocError>
         requires { self.old.core.exit ≡ None }
-        ensures { Makes result (made self.old.map self.old.core (upper_does Lui instr.now (parts.high_word target) next)) self.old.core self.new.core }
+        ensures { Makes result (applied self.old.map self.old.core (upper_does Lui instr.now
+            (parts.high_word target) next)) self.old.core self.new.core }
     {
         self.step_upper(UpperOp::Lui, instr, &high_word(target), next)
     }
@@ -55,7 +57,8 @@ impl State {
     // An `auipc` whose immediate is the upper part of the way to a target.
     pub(super) fn step_pc_hi(&mut self, instr: &Instr, next: Place) -> Result<SymStep, AllocError>
         requires { self.old.core.exit ≡ None }
-        ensures { Makes result (made self.old.map self.old.core (upper_does Auipc instr.now (value_word (PcHi self.old.core.place)) next)) self.old.core self.new.core }
+        ensures { Makes result (applied self.old.map self.old.core (upper_does Auipc instr.now (value_word
+            (PcHi self.old.core.place)) next)) self.old.core self.new.core }
     {
         let word = Held::of_value(Value::PcHi(self.place()));
         self.step_upper(UpperOp::Auipc, instr, &word, next)
@@ -70,7 +73,8 @@ impl State {
         next: Place,
     ) -> Result<SymStep, AllocError>
         requires { self.old.core.exit ≡ None }
-        ensures { Makes result (made self.old.map self.old.core (upper_does op instr.now (word_of word.now) next)) self.old.core self.new.core }
+        ensures { Makes result (applied self.old.map self.old.core (upper_does op instr.now
+            (word_of word.now) next)) self.old.core self.new.core }
     {
         let Instr::Upper { op: own, rd, .. } = instr else {
             return Ok(self.stuck(Why::NoInstruction));

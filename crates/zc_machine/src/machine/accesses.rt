@@ -51,7 +51,8 @@ impl Machine {
 // Writes the low bytes of a word, if they lie in memory for data, and says whether they do.
 fn put(memory: &mut Memory, op: StoreOp, a: u32, word: u32) -> bool
     ensures reached { result ≡ lies_in is_data (extents_of memory.old) a (store_width op) }
-    ensures after { memory.new ≡ (if result then changed (written a (store_width op) (byte_of word)) memory.old else memory.old) }
+    ensures after { memory.new ≡ (if result then changed (written a (store_width op)
+        (byte_of word)) memory.old else memory.old) }
 {
     let bytes = word.to_le_bytes();
     match op {

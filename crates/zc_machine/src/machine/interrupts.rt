@@ -1,7 +1,7 @@
 // Interrupts.
 
 ghost use Rattle.std.specs.Prelude.{◌≡◌};
-ghost use Rattle.zc_machine.specs.Interrupt.{cut, dirtied};
+ghost use Rattle.zc_machine.specs.Interrupt.{dirtied, interrupted};
 
 use super::Machine;
 use crate::region::Access;
@@ -10,7 +10,7 @@ impl Machine {
     /// Makes an interrupt before the next commit: `dirt` is the bytes that it writes, by address. No
     /// instruction here has several accesses yet, so there are no `done` ones to make.
     pub fn cut(&mut self, done: &[u8], dirt: &[(u32, u8)])
-        ensures { self.new ≡ cut (record { done = done.now; dirt = dirt.now }) self.old }
+        ensures { self.new ≡ interrupted (record { done = done.now; dirt = dirt.now }) self.old }
     {
         for (a, b) in dirt {
             self.dirty(*a, *b);

@@ -2,9 +2,9 @@ use Rattle.std.specs.Prelude.{◌≡◌, take}
 use Rattle.std.specs.List.{fold}
 use Rattle.psabi_sym.specs.Inputs.{parsed}
 use Rattle.block_cut.specs.DataWords.{data_words}
-use Rattle.sym_machine.specs.Objects.{with_word}
+use Rattle.sym_machine.specs.Objects.{with_target_word}
 use Rattle.sym_machine.proofs.first_data.fill.Given as goal
 
 abbrev pub invariant-loop-word : goal.invariant-loop-word
 invariant-loop-word l = let inputs = parsed l.cut in
-    l.bytes ≡ fold (with_word inputs) l.fn.bytes (take l.word-index (data_words inputs))
+    l.bytes ≡ fold (with_target_word inputs) l.fn.bytes (take l.word-index (data_words inputs))

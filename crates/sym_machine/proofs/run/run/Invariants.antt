@@ -6,6 +6,6 @@ use Rattle.sym_machine.proofs.run.run.Given as goal
 
 abbrev pub invariant-loop-turn : goal.invariant-loop-turn
 invariant-loop-turn g l = let shown = g.C.Console.shown in record {
-  came : Came (record { program = program_of (parsed l.cut); input = l.fn.sym.input; steps = l.steps }) l._turn l.sym (shown l.fn.console) (shown l.console);
+  came : Came (program_of (parsed l.cut)) l.fn.sym.input l._turn l.sym (shown l.fn.console) (shown l.console);
   writes : OnlyWrites (shown l.fn.console) (shown l.console);
 }

@@ -4,9 +4,9 @@ use Rattle.rv_decode.specs.Memory.{extents_of, is_data, lies_in}
 use Rattle.rv_decode.proofs.MemoryLaws.{lies_inside}
 use Rattle.rv_decode.specs.State.{ZcCore}
 use Rattle.zc_machine.specs.Buffer.{InMemory, IsPiece, bytes_at}
-use Rattle.zc_machine.specs.Output.{WrotePart, WroteTo}
+use Rattle.zc_outside.specs.Course.{WrotePart, WroteTo}
 use Rattle.zc_machine.proofs.BufferLaws.{bytes_at-piece, bytes_at-rest}
-use Rattle.zc_machine.proofs.OutputLaws.{WrotePart-append, WroteTo-WrotePart, WroteTo-append}
+use Rattle.zc_outside.proofs.Course.{WrotePart-append, WroteTo-WrotePart, WroteTo-append}
 use Rattle.zc_machine.proofs.output.write.Goals as goal
 use Rattle.zc_outside.specs.Desk.{Desk}
 use Rattle.zc_outside.proofs.Desk.{OnlyWrites-trans}

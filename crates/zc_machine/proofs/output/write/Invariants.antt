@@ -1,6 +1,6 @@
 use Rattle.std.proofs.Common.{◌+◌, ◌-◌, ◌^◌, ◌<◌, ◌≤◌}
 use Rattle.zc_machine.specs.Buffer.{bytes_at}
-use Rattle.zc_machine.specs.Output.{WroteTo}
+use Rattle.zc_outside.specs.Course.{WroteTo}
 use Rattle.zc_machine.proofs.output.write.Given as goal
 use Rattle.zc_outside.specs.Desk.{OnlyWrites}
 

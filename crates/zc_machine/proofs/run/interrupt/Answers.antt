@@ -1,10 +1,10 @@
 use Rattle.std.proofs.Common.{◌≡◌, ◌≢◌, ℕ, ◌+◌, ◌<◌, ◌≤◌, List, length, get_or, drop, Some, refl, sym, ap, ◌∙◌, arith, below_more}
 use Rattle.std.specs.List.{slice_get}
 use Rattle.std.proofs.lemmas.Option.{get_or_from_slice_get}
-use Rattle.interrupt_plan.specs.Plan.{Entry, cuts_at}
+use Rattle.interrupt_plan.specs.Plan.{Entry, interrupts_at}
 use Rattle.interrupt_plan.specs.Order.{IsInOrder}
-use Rattle.interrupt_plan.proofs.PlanLaws.{cuts_at-drop, cuts_at-later, cuts_at-more}
-use Rattle.zc_machine.specs.Interrupt.{all_cuts, all_dirtied, cut}
+use Rattle.interrupt_plan.proofs.PlanLaws.{interrupts_at-drop, interrupts_at-later, interrupts_at-more}
+use Rattle.zc_machine.specs.Interrupt.{all_dirtied, all_interrupted, interrupted}
 use Rattle.zc_machine.proofs.CutLaws.{cut_keeps}
 use Rattle.zc_machine.proofs.run.interrupt.Goals as goal
 
@@ -27,7 +27,7 @@ loop-next-init c =
       commits = refl;
       past = λ j d lt. let q = at.past j d lt in omega arith;
       ahead = at.ahead;
-      made = sym (ap (λ cs. all_cuts cs z) (cuts_at-drop c.args.next c.args.plan.now z.commits at.within at.past));
+      made = sym (ap (λ cs. all_interrupted cs z) (interrupts_at-drop c.args.next c.args.plan.now z.commits at.within at.past));
     }
 
 pub loop-next-preserved : goal.loop-next-preserved
@@ -41,7 +41,7 @@ loop-next-preserved c =
     let in_plan : next < length plan = omega arith in
     let here : (d : Entry) → get_or plan next d ≡ e = λ d. get_or_from_slice_get plan next e d c.cut-cut.ensures in
     let now : e.at ≡ z.commits = sym (ap (λ (x : Entry). x.at) c.cut.view_is) ∙ c.if-cut-commits.false ∙ c.commits.ensures in
-    let cut_now : z' ≡ cut e.cut z = c.cut-in-loop-next.ensures ∙ ap (λ ds. all_dirtied ds z) (c.as_slice-in-loop-next.ensures.value ∙ ap (λ (x : Entry). x.cut.dirt) c.cut.view_is) in
+    let cut_now : z' ≡ interrupted e.cut z = c.cut-in-loop-next.ensures ∙ ap (λ ds. all_dirtied ds z) (c.as_slice-in-loop-next.ensures.value ∙ ap (λ (x : Entry). x.cut.dirt) c.cut.view_is) in
     let stays : z'.commits ≡ z.commits = ap (λ y. y.commits) cut_now ∙ (cut_keeps e.cut z).commits in
     let rest = drop (next + 1) plan in
     record {
@@ -50,9 +50,9 @@ loop-next-preserved c =
       past = λ j d lt. below_more (λ j. (d : Entry) → (get_or plan j d).at ≤ z'.commits) next (λ j lt d. let q = kept.past j d lt in omega arith) (λ d. let at = ap (λ (x : Entry). x.at) (here d) in omega arith) j lt d;
       ahead = λ j d low lt. let q = kept.ahead j d (omega arith) lt in omega arith;
       made =
-          ap (λ k. all_cuts (cuts_at rest k) z') stays
-          ∙ ap (all_cuts (cuts_at rest z.commits)) cut_now
-          ∙ sym (ap (λ cs. all_cuts cs z) (cuts_at-more next plan e z.commits in_plan (here e) now))
+          ap (λ k. all_interrupted (interrupts_at rest k) z') stays
+          ∙ ap (all_interrupted (interrupts_at rest z.commits)) cut_now
+          ∙ sym (ap (λ cs. all_interrupted cs z) (interrupts_at-more next plan e z.commits in_plan (here e) now))
           ∙ kept.made;
     }
 
@@ -67,7 +67,7 @@ returns-then-cut-commits c =
     let later = all_later plan next z.commits e c.cut_count-count.ensures.in_order c.cut-cut.ensures (kept.ahead next e (omega arith) (omega arith)) other in
     let same = kept.commits in
     record {
-      made = sym (ap (λ cs. all_cuts cs z) (cuts_at-later next plan z.commits later)) ∙ kept.made;
+      made = sym (ap (λ cs. all_interrupted cs z) (interrupts_at-later next plan z.commits later)) ∙ kept.made;
       reached = record {
         within = kept.within;
         past = λ j d lt. let q = kept.past j d lt in omega arith;

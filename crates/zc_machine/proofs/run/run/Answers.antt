@@ -5,8 +5,7 @@ use Rattle.zc_machine.specs.declared.answer.EnvCall.TheVariants.{Exit, Read, Wri
 use Rattle.zc_machine.specs.Answer.{core_after, exited, has_read, has_written}
 use Rattle.zc_machine.specs.Buffer.{InMemory, bytes_at}
 use Rattle.zc_machine.specs.Cursor.{IsAt}
-use Rattle.zc_machine.specs.Output.{WrotePart, WroteTo}
-use Rattle.zc_machine.specs.RunEnd.{Course}
+use Rattle.zc_outside.specs.Course.{WrotePart, WroteTo}
 use Rattle.zc_machine.specs.Step.{Stopped, zc_step}
 use Rattle.zc_machine.proofs.RunLaws.{Came-start, commits_kept, committed_next, exit_ran, none_ended, read_next, refused_ran, spent_ran, stop_ran, stopped_step, wanted, write_next}
 use Rattle.zc_machine.proofs.StepLaws.{write_shows}
@@ -15,11 +14,10 @@ use Rattle.zc_machine.proofs.run.run.Goals as goal
 pub loop-left-init : goal.loop-left-init
 loop-left-init g c =
     let start = c.requires.start in
-    let run : Course = record { first = c.args.machine.now; input = c.args.input.now; plan = c.args.plan.now; steps = c.args.steps } in
     record {
       within = omega arith;
       at = record { within = omega arith; past = λ j d lt. absurd (omega arith); ahead = λ j d low lt. omega arith };
-      came = Came-start run _ c.requires.running start;
+      came = Came-start c.args.machine.now c.args.input.now c.args.plan.now _ c.requires.running start;
     }
 
 pub step-requires : goal.step-requires
@@ -93,7 +91,7 @@ returns-in-Err-clause-ran g c =
     let now = g.C.Console.shown c.loop-left.console in
     let after = g.C.Console.shown c.write.new.console in
     let part = subst (λ (y : ZcCore). WrotePart w.fd (bytes_at y w.at w.len) now after) asks.stays c.in-Err.ensures.err in
-    refused_ran c.loop-left.invariant.came c.interrupt-next.new.machine c.interrupt-next.ensures.made c.step.new.self (omega arith) w.fd w.at w.len c.in-Err.fault after asks.wants part
+    refused_ran c.loop-left.invariant.came c.interrupt-next.new.machine c.interrupt-next.ensures.made c.step.new.self c.args.steps (omega arith) w.fd w.at w.len c.in-Err.fault after asks.wants part c.in-Err.ensures.cause
 
 pub answer_write-requires-clause-room : goal.answer_write-requires-clause-room
 answer_write-requires-clause-room g c =
@@ -136,7 +134,7 @@ pub returns-in-Wants-Exit-clause-ran : goal.returns-in-Wants-Exit-clause-ran
 returns-in-Wants-Exit-clause-ran g c =
     let w = c.in-Wants-Exit in
     let asks = wanted c.interrupt-next.new.machine c.step.new.self (Exit w.status) (cc w.ensures.answer) c.step.ensures.state in
-    exit_ran c.loop-left.invariant.came c.interrupt-next.new.machine c.interrupt-next.ensures.made c.answer_exit.new.self (omega arith) w.status asks.wants
+    exit_ran c.loop-left.invariant.came c.interrupt-next.new.machine c.interrupt-next.ensures.made c.answer_exit.new.self c.args.steps (omega arith) w.status asks.wants
     (c.answer_exit.ensures w.status (ap zc_step asks.stays ∙ asks.wants) ∙ ap (exited w.status) asks.stays)
 
 pub returns-in-Ended-clause-ran : goal.returns-in-Ended-clause-ran
@@ -146,9 +144,9 @@ pub returns-in-Stopped-clause-ran : goal.returns-in-Stopped-clause-ran
 returns-in-Stopped-clause-ran g c =
     let z' = c.interrupt-next.new.machine in
     let stops : zc_step z' ≡ Stopped c.in-Stopped.reason = stopped_step (zc_step z') c.in-Stopped.reason c.in-Stopped.ensures.answer in
-    stop_ran c.loop-left.invariant.came z' c.interrupt-next.ensures.made c.step.new.self (omega arith) c.in-Stopped.reason stops (c.in-Stopped.ensures.state ∙ ap (λ s. core_after s z') stops)
+    stop_ran c.loop-left.invariant.came z' c.interrupt-next.ensures.made c.step.new.self c.args.steps (omega arith) c.in-Stopped.reason stops (c.in-Stopped.ensures.state ∙ ap (λ s. core_after s z') stops)
 
 pub returns-clause-ran : goal.returns-clause-ran
 returns-clause-ran g c =
     let kept = c.loop-left.invariant in
-    spent_ran (record { first = c.args.machine.now; input = c.args.input.now; plan = c.args.plan.now; steps = c.args.steps }) _ _ _ _ kept.came (omega arith)
+    spent_ran c.args.machine.now c.args.input.now c.args.plan.now c.args.steps _ _ _ _ kept.came (omega arith)

@@ -8,7 +8,7 @@ invariant-loop-left g l = record {
   within : l.machine.commits ≤ l.steps;
   at : IsAt l.plan l.next l.machine.commits;
   came :
-      Came (record { first = l.initial.machine; input = l.input; plan = l.plan; steps = l.steps }) l.machine l.left
+      Came l.initial.machine l.input l.plan l.machine l.left
       (g.C.Console.shown l.initial.console) (g.C.Console.shown l.console);
 }
 

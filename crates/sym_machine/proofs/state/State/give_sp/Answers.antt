@@ -5,9 +5,9 @@ use Rattle.std.proofs.lemmas.Bool.{and_parts, leb-true}
 use Rattle.zc_base.specs.declared.mem_map.MemMap.{MemMap}
 use Rattle.sym_machine.specs.declared.answer.SymStep.TheVariants as answer
 use Rattle.sym_machine.specs.Answer.{StepAnswers}
-use Rattle.sym_machine.specs.Change.{Goes, gives}
+use Rattle.sym_machine.specs.Change.{Goes, sets}
 use Rattle.sym_machine.specs.Kept.{Working, word_of}
-use Rattle.sym_machine.specs.Step.{PlainStep, made}
+use Rattle.sym_machine.specs.Step.{PlainStep, applied}
 use Rattle.sym_machine.proofs.StateLaws.{core_of, gives_sp, sp_outside, sp_unknown, working_sp}
 use Rattle.sym_machine.proofs.state.State.give_sp.Goals as goal
 
@@ -40,5 +40,5 @@ returns c =
     let has = and_parts (leb i.memory.map.stack_low sp) (leb sp i.memory.map.stack_high) (sym c.has_sp.ensures ∙ c.if-not-has_sp.false) in
     let low = leb-true i.memory.map.stack_low sp has.0 in
     let high = leb-true sp i.memory.map.stack_high has.1 in
-    subst (λ (w : Working). StepAnswers (made w.map w.core (Goes (gives 2 (word_of c.args.word.now) c.args.to))) answer.Done w.core (core_of c.args.to (set i.registers 2 c.args.word.now) c.settle.new.self input i.exit)) c.self.view_is
+    subst (λ (w : Working). StepAnswers (applied w.map w.core (Goes (sets 2 (word_of c.args.word.now) c.args.to))) answer.Done w.core (core_of c.args.to (set i.registers 2 c.args.word.now) c.settle.new.self input i.exit)) c.self.view_is
     (gives_sp i.memory i.registers c.self.invariant.0 i.place c.args.to input i.exit running c.args.word.now sp c.settle.new.self (sym c.number.ensures ∙ c.in-Some.is) low high c.in_ok-settle.ensures.regions)

@@ -3,9 +3,9 @@ use Rattle.std.proofs.Common.{◌≡◌, [], None, ap, sym, ◌∙◌, drop, sub
 use Rattle.std.proofs.lemmas.Bool.{and_parts, leb-true}
 use Rattle.sym_machine.specs.declared.held.Held.TheVariants as held
 use Rattle.sym_machine.specs.Answer.{RunsOn}
-use Rattle.sym_machine.specs.Change.{Goes, gives}
+use Rattle.sym_machine.specs.Change.{Goes, sets}
 use Rattle.sym_machine.specs.Kept.{Working}
-use Rattle.sym_machine.specs.Step.{made}
+use Rattle.sym_machine.specs.Step.{applied}
 use Rattle.sym_machine.specs.Words.{number_word}
 use Rattle.sym_machine.proofs.StateLaws.{core_of, gives_sp, working_sp}
 use Rattle.sym_machine.proofs.WordLaws.{number_back}
@@ -25,5 +25,5 @@ returns-in-Ok-clause-made c =
     let has = and_parts (leb i.memory.map.stack_low sp) (leb sp i.memory.map.stack_high) (sym c.has_sp.ensures ∙ c.if-not-has_sp.false) in
     let low = leb-true i.memory.map.stack_low sp has.0 in
     let high = leb-true sp i.memory.map.stack_high has.1 in
-    subst (λ (w : Working). RunsOn (made w.map w.core (Goes (gives 2 (number_word sp) c.args.to))) [] w.core (core_of c.args.to (set i.registers 2 (held.Number sp)) c.settle.new.self input i.exit)) c.self.view_is
+    subst (λ (w : Working). RunsOn (applied w.map w.core (Goes (sets 2 (number_word sp) c.args.to))) [] w.core (core_of c.args.to (set i.registers 2 (held.Number sp)) c.settle.new.self input i.exit)) c.self.view_is
     (gives_sp i.memory i.registers c.self.invariant.0 i.place c.args.to input i.exit running (held.Number sp) sp c.settle.new.self (number_back sp (omega arith)) low high c.in-Ok.ensures.regions)

@@ -8,7 +8,7 @@ use Rattle.sym_machine.specs.declared.word.SymByte.TheVariants.{Num, Undef}
 use Rattle.sym_machine.specs.Answer.{StepAnswers}
 use Rattle.sym_machine.specs.Change.{read_does}
 use Rattle.sym_machine.specs.Kept.{IsChanged, Working}
-use Rattle.sym_machine.specs.Step.{made}
+use Rattle.sym_machine.specs.Step.{applied}
 use Rattle.sym_machine.proofs.StateLaws.{core_of, reads_on, working_set}
 use Rattle.sym_machine.proofs.state.State.read.Goals as goal
 
@@ -35,6 +35,6 @@ returns c =
     let new : IsChanged (written call.at (length (map Num (take n input))) (λ j. slice_index_or (map Num (take n input)) j Undef)) i.memory c.write_numbers.new.self =
     subst (λ (l : List ℕ). IsChanged (written call.at (length (map Num (take n l))) (λ j. slice_index_or (map Num (take n l)) j Undef)) i.memory c.write_numbers.new.self) left c.write_numbers.ensures in
     let rest : drop n input ≡ drop (i.taken + n) i.input.items = drop-drop n i.taken i.input.items in
-    subst (λ (w : Working). StepAnswers (made w.map w.core (read_does w.core c.args.to call)) (answer.Read n) w.core (core_of c.args.to (set i.registers 10 (held.Number n)) c.write_numbers.new.self (drop (i.taken + n) i.input.items) i.exit)) c.self.view_is
-    (subst (λ (l : List ℕ). StepAnswers (made i.memory.map (core_of i.place i.registers i.memory input i.exit) (read_does (core_of i.place i.registers i.memory input i.exit) c.args.to call)) (answer.Read n) (core_of i.place i.registers i.memory input i.exit) (core_of c.args.to (set i.registers 10 (held.Number n)) c.write_numbers.new.self l i.exit)) rest
+    subst (λ (w : Working). StepAnswers (applied w.map w.core (read_does w.core c.args.to call)) (answer.Read n) w.core (core_of c.args.to (set i.registers 10 (held.Number n)) c.write_numbers.new.self (drop (i.taken + n) i.input.items) i.exit)) c.self.view_is
+    (subst (λ (l : List ℕ). StepAnswers (applied i.memory.map (core_of i.place i.registers i.memory input i.exit) (read_does (core_of i.place i.registers i.memory input i.exit) c.args.to call)) (answer.Read n) (core_of i.place i.registers i.memory input i.exit) (core_of c.args.to (set i.registers 10 (held.Number n)) c.write_numbers.new.self l i.exit)) rest
     (reads_on i.memory i.registers c.self.invariant.0 i.place c.args.to input i.exit running call n c.write_numbers.new.self count new))

@@ -1,8 +1,8 @@
 use Rattle.std.proofs.Common.{◌≡◌, ℕ, [], None, ap, sym, ◌∙◌, drop, subst, refl, set}
 use Rattle.sym_machine.specs.Answer.{RunsOn}
-use Rattle.sym_machine.specs.Change.{Goes, gives}
+use Rattle.sym_machine.specs.Change.{Goes, sets}
 use Rattle.sym_machine.specs.Kept.{Working, word_of}
-use Rattle.sym_machine.specs.Step.{made}
+use Rattle.sym_machine.specs.Step.{applied}
 use Rattle.sym_machine.proofs.StateLaws.{core_of, gives_on, working_set}
 use Rattle.sym_machine.proofs.state.State.set_register.Goals as goal
 
@@ -22,6 +22,6 @@ returns c =
     let same = sym c.number.ensures.value in
     let before = core_of i.place i.registers i.memory input i.exit in
     let after = core_of c.args.to (set i.registers r c.args.word) i.memory input i.exit in
-    subst (λ (w : Working). RunsOn (made w.map w.core (Goes (gives c.args.rd (word_of c.args.word) c.args.to))) [] w.core after) c.self.view_is
-    (subst (λ (n : ℕ). RunsOn (made i.memory.map before (Goes (gives n (word_of c.args.word) c.args.to))) [] before after) c.number.ensures.value
+    subst (λ (w : Working). RunsOn (applied w.map w.core (Goes (sets c.args.rd (word_of c.args.word) c.args.to))) [] w.core after) c.self.view_is
+    (subst (λ (n : ℕ). RunsOn (applied i.memory.map before (Goes (sets n (word_of c.args.word) c.args.to))) [] before after) c.number.ensures.value
     (gives_on i.memory i.registers c.self.invariant.0 i.place c.args.to input i.exit running r c.args.word (λ e. c.requires.some (same ∙ e)) (λ e. c.requires.other (same ∙ e))))

@@ -1,9 +1,9 @@
 use Rattle.std.proofs.Common.{◌≡◌, ◌∷◌, [], None, ap, ◌∙◌, drop, subst, refl, set, arith}
 use Rattle.rv_decode.specs.State.{Write}
 use Rattle.sym_machine.specs.declared.held.Held.TheVariants as held
-use Rattle.sym_machine.specs.Change.{Goes, gives}
+use Rattle.sym_machine.specs.Change.{Goes, sets}
 use Rattle.sym_machine.specs.Kept.{Working}
-use Rattle.sym_machine.specs.Step.{Went, made}
+use Rattle.sym_machine.specs.Step.{Went, applied}
 use Rattle.sym_machine.specs.Words.{number_word}
 use Rattle.sym_machine.proofs.StateLaws.{core_of, working_set, writes_on}
 use Rattle.sym_machine.proofs.state.State.write.Goals as goal
@@ -26,7 +26,7 @@ returns c =
       (
         c.requires.running,
         running,
-        subst (λ (w : Working). made w.map w.core (Goes (record (gives 10 (number_word call.len) c.args.to) { events = event ∷ [] })) ≡ Went after (event ∷ [])) c.self.view_is
+        subst (λ (w : Working). applied w.map w.core (Goes (record (sets 10 (number_word call.len) c.args.to) { events = event ∷ [] })) ≡ Went after (event ∷ [])) c.self.view_is
             (writes_on i.memory i.registers c.self.invariant.0 i.place c.args.to input i.exit running call c.args.bytes.items),
       ),
     )

@@ -1,0 +1,70 @@
+-- Runs of a machine that writes to a console: how they end, and what they have then written.
+use Rattle.std.specs.Prelude.{◌≡◌, ℕ, ◌+◌, ◌<◌, ◌≤◌, ◌==◌, if◌then◌else◌, List, [], ◌++◌, length, take, Option, Some, None, Result, Ok, Err}
+use Rattle.zc_outside.specs.Desk.{Desk, WriteCause, Wrote}
+use Rattle.zc_outside.specs.declared.console.ConsoleFault.{ConsoleFault}
+
+-- a run: the state after so many steps, or what stopped the machine before; of a state, the exit's status and the bytes that were
+-- written so far to the stream with a number (1 is the output, 2 the output for errors); and how many steps it may make
+pub record Course (State Stop : Type 0) : Type 0 where
+  pub after : ℕ → Result State Stop
+  pub exit : State → Option ℕ
+  pub written : State → ℕ → List ℕ
+  pub steps : ℕ
+
+-- ---- one write
+
+-- what bytes for a stream are on the stream with this number
+abbrev pub sent : ℕ → List ℕ → ℕ → List ℕ
+sent stream bytes number = if stream == number then bytes else []
+
+-- these bytes stand on the stream, and nothing on the other
+abbrev pub WroteTo : ℕ → List ℕ → Desk → Desk → Type 0
+WroteTo stream bytes before after = Wrote (sent stream bytes 1) (sent stream bytes 2) before after
+
+-- the first of them do, and not all
+pub record WrotePart (stream : ℕ) (bytes : List ℕ) (before after : Desk) : Type 0 where
+  pub count : ℕ
+  pub part : count < length bytes
+  pub wrote : WroteTo stream (take count bytes) before after
+
+-- ---- ends
+
+-- the program exited with this status within the steps, and all that it wrote stands
+pub record EndsWithExit {State Stop : Type 0} (run : Course State Stop) (status : ℕ) (before after : Desk) : Type 0 where
+  pub count : ℕ
+  pub within : count ≤ run.steps
+  pub last : State
+  pub state : run.after count ≡ Ok last
+  pub exit : run.exit last ≡ Some status
+  pub wrote : Wrote (run.written last 1) (run.written last 2) before after
+
+-- so many steps were made, after which the program hasn't exited, and all that it wrote stands
+pub record EndsAfter {State Stop : Type 0} (run : Course State Stop) (count : ℕ) (before after : Desk) : Type 0 where
+  pub last : State
+  pub state : run.after count ≡ Ok last
+  pub running : run.exit last ≡ None
+  pub wrote : Wrote (run.written last 1) (run.written last 2) before after
+
+-- the same after fewer steps than the run may make
+pub record EndsEarly {State Stop : Type 0} (run : Course State Stop) (before after : Desk) : Type 0 where
+  pub count : ℕ
+  pub within : count < run.steps
+  pub made : EndsAfter run count before after
+
+-- the same, and the next step stops the machine
+pub record EndsWithStop {State Stop : Type 0} (run : Course State Stop) (stop : Stop) (before after : Desk) : Type 0 where
+  pub early : EndsEarly run before after
+  pub next : run.after (early.count + 1) ≡ Err stop
+
+-- the next step is a write that the console refused: all that was written before stands, and of its bytes the first ones, but not
+-- all
+pub record EndsWithRefusal {State Stop : Type 0} (run : Course State Stop) (fault : ConsoleFault) (before after : Desk) : Type 0 where
+  pub between : Desk
+  pub early : EndsEarly run before between
+  pub next : State
+  pub state : run.after (early.count + 1) ≡ Ok next
+  pub stream : ℕ
+  pub bytes : List ℕ
+  pub write : (number : ℕ) → run.written next number ≡ run.written early.made.last number ++ sent stream bytes number
+  pub wrote : WrotePart stream bytes between after
+  pub cause : WriteCause before after fault
