@@ -4,7 +4,7 @@
 use crate::rows::{cut, expect, word};
 use psabi_reloc::kind::RelocKind;
 use psabi_reloc::parts::{hi20, lo12};
-use psabi_reloc::put::{put_branch, put_call, put_hi20, put_jal, put_lo12_i, put_lo12_s};
+use psabi_reloc::put::{put_call, put_hi20, put_lo12_i, put_lo12_s};
 use psabi_reloc::reaches::{branch_reaches, jal_reaches, short_branch_reaches, short_jump_reaches};
 use rv_decode::decode::decode;
 use std::alloc::Global;
@@ -147,26 +147,14 @@ fn each_reaches_as_far_as_its_bits(rt: HostRuntime) -> Result<(), Fail> {
     expect(&rt, "reaches", REACHES)
 }
 
-// A branch or a jump with a distance that it reaches.
-fn with_distance(call: &str, word: u32, distance: i32) -> Option<u32> {
-    if call == "put_branch" && branch_reaches(distance) {
-        Some(put_branch(word, distance))
-    } else if call == "put_jal" && jal_reaches(distance) {
-        Some(put_jal(word, distance))
-    } else {
-        None
-    }
-}
-
-/// A word with an immediate in it: a part of an address in hexadecimal digits, or a distance.
+/// A word with a part of an address in it.
 pub fn put(alloc: Global, call: &str, given: &str) -> Result<String, Fail> {
     let (digits, x) = cut(given);
-    let old = word(digits)?;
+    let (old, x) = (word(digits)?, word(x)?);
     let new = match call {
-        "put_hi20" => put_hi20(old, word(x)?),
-        "put_lo12_i" => put_lo12_i(old, word(x)?),
-        "put_lo12_s" => put_lo12_s(old, word(x)?),
-        _ => with_distance(call, old, x.parse::<i32>()?).ok_or("no call, or out of reach")?,
+        "put_hi20" => put_hi20(old, x),
+        "put_lo12_i" => put_lo12_i(old, x),
+        _ => put_lo12_s(old, x),
     };
     Ok(format!(in alloc; "{new:08X}")?)
 }
@@ -212,27 +200,6 @@ fn words_get_the_parts_of_an_address(rt: HostRuntime) -> Result<(), Fail> {
     expect(&rt, "put_lo12_s", STORES)
 }
 
-// `beq a0, a1`, `bgeu t6, zero` and `bne s0, s1`, at the farthest distances and where the parts meet.
-const BRANCHES: &str = "00B50063 4094 = 7EB50FE3
-7EB50FE3 -4096 = 80B50063
-80B50063 0 = 00B50063
-FE0FFFE3 2048 = 000FF0E3
-000FF0E3 -2 = FE0FFFE3
-04941063 -2048 = 809410E3
-809410E3 30 = 00941F63
-00941F63 32 = 02941063
-02941063 64 = 04941063";
-
-// `jal ra` and `jal zero`.
-const JUMPS: &str = "000000EF 1048574 = 7FFFF0EF
-7FFFF0EF -1048576 = 800000EF
-800000EF 0 = 000000EF
-FFFFF06F 2048 = 0010006F
-0010006F -2048 = 801FF06F
-801FF06F 4096 = 0000106F
-0000106F 2046 = 7FE0006F
-7FE0006F -2 = FFFFF06F";
-
 // `auipc t1` with `jalr ra, (t1)`, and `auipc t0` with `jalr zero, (t0)`.
 const CALLS: &str = "00000317 000300E7 2048 = 00001317 800300E7
 00001317 800300E7 -2 = 00000317 FFE300E7
@@ -242,8 +209,6 @@ FFFFF317 7FE300E7 -2147483648 = 80000317 000300E7
 12345297 06728067 2147481600 = 80000297 80028067";
 
 #[test]
-fn branches_jumps_and_calls_get_their_distance(rt: HostRuntime) -> Result<(), Fail> {
-    expect(&rt, "put_branch", BRANCHES)?;
-    expect(&rt, "put_jal", JUMPS)?;
+fn calls_get_their_distance(rt: HostRuntime) -> Result<(), Fail> {
     expect(&rt, "put_call", CALLS)
 }

@@ -1,11 +1,9 @@
 -- Types of relocations: which bytes each changes, and in which instructions (RISC-V ELF psABI, "Relocations").
-use Rattle.std.specs.Prelude.{ℕ, ℤ, pos, negsuc, Bool, true, false, ◌&&◌, ◌==◌, if◌then◌else◌, Option, Some, None}
+use Rattle.std.specs.Prelude.{ℕ, ℤ, pos, negsuc, Bool, true, false, ◌==◌, if◌then◌else◌, Option, Some, None}
 use Rattle.rv_decode.specs.declared.instr.Instr.{Instr}
-use Rattle.rv_decode.specs.declared.instr.Instr.TheVariants.{Upper, Jal, Jalr, Load, Store, WithImm, WithReg, Fence, Ecall, Ebreak, Csrrw}
+use Rattle.rv_decode.specs.declared.instr.Instr.TheVariants.{Upper, Jal, Jalr, Load, Store, WithImm}
 use Rattle.rv_decode.specs.declared.instr.Instr.TheVariants as instr
-use Rattle.rv_decode.specs.declared.instr.ImmOp.{ImmOp}
-use Rattle.rv_decode.specs.declared.instr.ImmOp.TheVariants.{Addi, Slti, Sltiu, Xori, Ori, Andi, Slli, Srli, Srai}
-use Rattle.rv_decode.specs.declared.instr.UpperOp.{UpperOp}
+use Rattle.rv_decode.specs.declared.instr.ImmOp.TheVariants.{Addi}
 use Rattle.rv_decode.specs.declared.instr.UpperOp.TheVariants.{Lui, Auipc}
 use Rattle.psabi_reloc.specs.declared.kind.RelocKind.{RelocKind}
 use Rattle.psabi_reloc.specs.declared.kind.RelocKind.TheVariants.{Ignored, Word, Branch, Jal as JalKind, Call, PcrelHi20, PcrelLo12I, PcrelLo12S, Hi20, Lo12I, Lo12S, RvcBranch, RvcJump, Align}
@@ -57,46 +55,17 @@ field_length (Some Align) addend = padding_length addend
 
 -- ---- instructions
 
--- `auipc`, and `lui`
-abbrev pub is_auipc_op : UpperOp → Bool
-is_auipc_op Lui = false
-is_auipc_op Auipc = true
-
-abbrev pub is_lui_op : UpperOp → Bool
-is_lui_op Lui = true
-is_lui_op Auipc = false
-
 abbrev pub is_auipc : Option Instr → Bool
-is_auipc (Some (Upper op rd imm)) = is_auipc_op op
+is_auipc (Some (Upper Auipc rd imm)) = true
 is_auipc other = false
 
 abbrev pub is_lui : Option Instr → Bool
-is_lui (Some (Upper op rd imm)) = is_lui_op op
+is_lui (Some (Upper Lui rd imm)) = true
 is_lui other = false
-
-abbrev pub is_branch : Option Instr → Bool
-is_branch (Some (instr.Branch op first second distance)) = true
-is_branch other = false
-
-abbrev pub is_jal : Option Instr → Bool
-is_jal (Some (Jal rd distance)) = true
-is_jal other = false
-
--- `addi`
-abbrev pub is_addi_op : ImmOp → Bool
-is_addi_op Addi = true
-is_addi_op Slti = false
-is_addi_op Sltiu = false
-is_addi_op Xori = false
-is_addi_op Ori = false
-is_addi_op Andi = false
-is_addi_op Slli = false
-is_addi_op Srli = false
-is_addi_op Srai = false
 
 -- `addi`, a load or `jalr`, whose immediate is added to a register
 abbrev pub is_sum : Option Instr → Bool
-is_sum (Some (WithImm op rd first imm)) = is_addi_op op
+is_sum (Some (WithImm Addi rd first imm)) = true
 is_sum (Some (Load op rd base imm)) = true
 is_sum (Some (Jalr rd base imm)) = true
 is_sum other = false
@@ -105,22 +74,17 @@ abbrev pub is_store : Option Instr → Bool
 is_store (Some (Store op source base imm)) = true
 is_store other = false
 
--- a `jalr` whose base is this register
-abbrev pub is_jalr_by : ℕ → Option Instr → Bool
-is_jalr_by temp (Some (Jalr rd base imm)) = base == temp
-is_jalr_by temp other = false
-
 -- an `auipc`, and a `jalr` whose base is its register
 abbrev pub is_call : Option Instr → Option Instr → Bool
-is_call (Some (Upper op temp imm)) second = is_auipc_op op && is_jalr_by temp second
-is_call other second = false
+is_call (Some (Upper Auipc temp upper)) (Some (Jalr rd base lower)) = base == temp
+is_call first second = false
 
--- the instructions at a relocation are of its kind; the second counts for a call alone
+-- the instructions at a relocation are of its kind: a branch, a jump, and so on; the second counts for a call alone
 abbrev pub fits : RelocKind → Option Instr → Option Instr → Bool
 fits Ignored first second = true
 fits Word first second = true
-fits Branch first second = is_branch first
-fits JalKind first second = is_jal first
+fits Branch (Some (instr.Branch op left right distance)) second = true
+fits JalKind (Some (Jal rd distance)) second = true
 fits Call first second = is_call first second
 fits PcrelHi20 first second = is_auipc first
 fits PcrelLo12I first second = is_sum first
@@ -128,6 +92,7 @@ fits PcrelLo12S first second = is_store first
 fits Hi20 first second = is_lui first
 fits Lo12I first second = is_sum first
 fits Lo12S first second = is_store first
-fits RvcBranch first second = is_branch first
-fits RvcJump first second = is_jal first
+fits RvcBranch (Some (instr.Branch op left right distance)) second = true
+fits RvcJump (Some (Jal rd distance)) second = true
 fits Align first second = true
+fits kind first second = false

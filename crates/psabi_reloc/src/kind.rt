@@ -3,9 +3,7 @@
 ghost use Rattle.std.specs.Prelude.{◌≡◌, Some};
 ghost use Rattle.psabi_reloc.specs.Kinds.{field_length, fits, kind_of};
 
-use crate::spelled::{
-    spells_auipc, spells_branch, spells_call, spells_jal, spells_lui, spells_store, spells_sum,
-};
+use crate::spelled::{spells_auipc, spells_call, spells_lui, spells_store, spells_sum};
 use rv_decode::instr::Instr;
 
 /// What a relocation asks for (RISC-V ELF psABI, "Relocations").
@@ -92,8 +90,8 @@ impl RelocKind {
     {
         match self {
             RelocKind::Ignored | RelocKind::Word | RelocKind::Align => true,
-            RelocKind::Branch | RelocKind::RvcBranch => spells_branch(first),
-            RelocKind::Jal | RelocKind::RvcJump => spells_jal(first),
+            RelocKind::Branch | RelocKind::RvcBranch => matches!(first, Some(Instr::Branch { .. })),
+            RelocKind::Jal | RelocKind::RvcJump => matches!(first, Some(Instr::Jal { .. })),
             RelocKind::Call => spells_call(first, second),
             RelocKind::PcrelHi20 => spells_auipc(first),
             RelocKind::Hi20 => spells_lui(first),

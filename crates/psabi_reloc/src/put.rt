@@ -1,13 +1,12 @@
 // Immediates that are put into words of code.
 
 ghost use Rattle.std.specs.Prelude.{◌≡◌, ◌<◌, ◌^◌, ◌||◌, true, Some, slice_index, ℕ, ℤ};
-ghost use Rattle.psabi_reloc.specs.Kinds.{is_auipc, is_branch, is_jal, is_lui, is_store, is_sum};
+ghost use Rattle.psabi_reloc.specs.Kinds.{is_auipc, is_lui, is_store, is_sum};
 ghost use Rattle.psabi_reloc.specs.Parts.{hi20_of, lo12_of};
-ghost use Rattle.psabi_reloc.specs.Patched.{with_distance, with_imm, with_upper};
-ghost use Rattle.psabi_reloc.specs.Reaches.{branch_reach, jal_reach};
+ghost use Rattle.psabi_reloc.specs.Patched.{with_imm, with_upper};
 ghost use Rattle.rv_decode.specs.Bits.{as_word, field};
 ghost use Rattle.rv_decode.specs.Decode.{decoded};
-ghost use Rattle.rv_decode.specs.Formats.{imm_b_of, imm_i_of, imm_j_of, imm_s_of, imm_u_of};
+ghost use Rattle.rv_decode.specs.Formats.{imm_i_of, imm_s_of, imm_u_of};
 ghost use Rattle.rv_decode.specs.declared.instr.Instr.{Instr};
 ghost use Rattle.rv_decode.specs.declared.instr.Instr.TheVariants.{Upper, Jalr};
 ghost use Rattle.rv_decode.specs.declared.instr.UpperOp.TheVariants.{Auipc};
@@ -46,35 +45,6 @@ pub fn put_lo12_s(word: u32, x: u32) -> u32
     with_seven_and_five(word, field_at(x, 5, 7), field_at(x, 0, 5))
 }
 
-/// The branch with this distance.
-pub fn put_branch(word: u32, distance: i32) -> u32
-    requires { branch_reach distance ≡ true }
-    ensures part { imm_b_of result ≡ distance }
-    ensures opcode { field result 0 7 ≡ field word 0 7 }
-    ensures middle { field result 12 13 ≡ field word 12 13 }
-    ensures decodes { (i : Instr) → decoded word ≡ Some i → is_branch (Some i) ≡ true
-        → decoded result ≡ Some (with_distance i distance) }
-{
-    let bits = distance.cast_unsigned();
-    let seven = field_at(bits, 12, 1) << 6 | field_at(bits, 5, 6);
-    let five = field_at(bits, 1, 4) << 1 | field_at(bits, 11, 1);
-    with_seven_and_five(word, seven, five)
-}
-
-/// The `jal` with this distance.
-pub fn put_jal(word: u32, distance: i32) -> u32
-    requires { jal_reach distance ≡ true }
-    ensures part { imm_j_of result ≡ distance }
-    ensures rest { field result 0 12 ≡ field word 0 12 }
-    ensures decodes { (i : Instr) → decoded word ≡ Some i → is_jal (Some i) ≡ true
-        → decoded result ≡ Some (with_distance i distance) }
-{
-    let bits = distance.cast_unsigned();
-    let low = field_at(bits, 11, 1) << 8 | field_at(bits, 12, 8);
-    let twenty = field_at(bits, 20, 1) << 19 | (field_at(bits, 1, 10) << 9 | low);
-    with_upper_twenty(word, twenty)
-}
-
 /// The `auipc` and `jalr` of a call with this distance.
 pub fn put_call(words: [u32; 2], distance: i32) -> [u32; 2]
     ensures upper_part { imm_u_of (slice_index result 0) ≡ hi20_of (as_word distance) }
@@ -91,7 +61,7 @@ pub fn put_call(words: [u32; 2], distance: i32) -> [u32; 2]
     [put_hi20(upper, x), put_lo12_i(lower, x)]
 }
 
-// The word with these upper bits: the immediate of the U and J formats.
+// The word with these upper bits: the immediate of the U format.
 fn with_upper_twenty(word: u32, twenty: u32) -> u32
     requires { twenty < 2 ^ 20 }
     ensures part { field result 12 20 ≡ twenty }
@@ -109,7 +79,7 @@ fn with_upper_twelve(word: u32, twelve: u32) -> u32
     twelve << 20 | field_at(word, 0, 20)
 }
 
-// The word with these upper bits, and these above the opcode: the immediate of the S and B formats.
+// The word with these upper bits, and these above the opcode: the immediate of the S format.
 fn with_seven_and_five(word: u32, seven: u32, five: u32) -> u32
     requires seven { seven < 2 ^ 7 }
     requires five { five < 2 ^ 5 }

@@ -1,7 +1,9 @@
 // What the words at a relocation spell.
 
-ghost use Rattle.std.specs.Prelude.{◌≡◌, Some};
-ghost use Rattle.psabi_reloc.specs.Kinds.{is_auipc, is_branch, is_call, is_jal, is_jalr_by, is_lui, is_store, is_sum};
+ghost use Rattle.std.specs.Prelude.{◌≡◌, Some, ℕ};
+ghost use Rattle.psabi_reloc.specs.Kinds.{is_auipc, is_call, is_lui, is_store, is_sum};
+ghost use Rattle.rv_decode.specs.declared.instr.Instr.TheVariants.{Upper};
+ghost use Rattle.rv_decode.specs.declared.instr.UpperOp.TheVariants.{Auipc};
 
 use rv_decode::instr::{ImmOp, Instr, UpperOp};
 use zc_base::reg::Reg;
@@ -26,20 +28,6 @@ pub fn spells_lui(spelled: Option<Instr>) -> bool
     }
 }
 
-/// Whether a conditional branch is spelled.
-pub fn spells_branch(spelled: Option<Instr>) -> bool
-    ensures { result ≡ is_branch spelled }
-{
-    matches!(spelled, Some(Instr::Branch { .. }))
-}
-
-/// Whether a `jal` is spelled.
-pub fn spells_jal(spelled: Option<Instr>) -> bool
-    ensures { result ≡ is_jal spelled }
-{
-    matches!(spelled, Some(Instr::Jal { .. }))
-}
-
 /// Whether an `addi`, a load or a `jalr` is spelled.
 pub fn spells_sum(spelled: Option<Instr>) -> bool
     ensures { result ≡ is_sum spelled }
@@ -60,7 +48,7 @@ pub fn spells_store(spelled: Option<Instr>) -> bool
 
 // Whether this is a `jalr` whose base is this register.
 fn is_jalr(i: &Instr, temp: Reg) -> bool
-    ensures { result ≡ is_jalr_by temp (Some i.now) }
+    ensures { (imm : ℕ) → result ≡ is_call (Some (Upper Auipc temp imm)) (Some i.now) }
 {
     match i {
         Instr::Jalr { base, .. } => base.number() == temp.number(),

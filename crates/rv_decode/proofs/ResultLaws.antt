@@ -1,7 +1,7 @@
 -- Results are words, and products of words that are read in two's complement.
 use Rattle.std.proofs.Common.{◌≡◌, ℕ, suc, ◌-◌, ◌%◌, Bool, cond, eqb, ltb, ◌*◌, ◌/◌, ◌^◌, ◌<◌, ◌≤◌, ap, ap₂, ◌∙◌, arith, ℤ, pos, negsuc, ◌*ℤ◌}
 use Rattle.std.specs.Prelude.{FitsSigned, int_div, int_rem, unsigned_abs}
-use Rattle.std.specs.Int.{w32, w64, cast_signed, cast_unsigned}
+use Rattle.std.specs.Int.{w32, w64, cast_signed, cast_unsigned, int_shr}
 use Rattle.std.specs.Int.Signed.{mag}
 use Rattle.std.proofs.lemmas.Int.{fits_signed_mul, of_z-to_z, to_z-of_z}
 use Rattle.std.proofs.Math.Facts.{sfits_to_z}
@@ -9,7 +9,7 @@ use Rattle.std.proofs.Math.Nat.{div-le_self, mod-le, mod-lt, mul-le-mul}
 use Rattle.std.proofs.lemmas.Bool.{cond_both}
 use Rattle.std.proofs.lemmas.Nat.{and_le_l, or_lt, xor_lt}
 use Rattle.rv_decode.specs.Bits.{as_signed, as_word}
-use Rattle.rv_decode.specs.Results.{imm_result, is_less, reg_result, upper_half, upper_result}
+use Rattle.rv_decode.specs.Results.{imm_result, is_less, reg_result, upper_result}
 use Rattle.rv_decode.specs.declared.instr.UpperOp.{UpperOp}
 use Rattle.rv_decode.specs.declared.instr.UpperOp.TheVariants.{Lui, Auipc}
 use Rattle.rv_decode.specs.declared.instr.ImmOp.{ImmOp}
@@ -18,7 +18,7 @@ use Rattle.rv_decode.specs.declared.instr.RegOp.{RegOp}
 use Rattle.rv_decode.specs.declared.instr.RegOp.TheVariants.{Add, Sub, Sll, Slt, Sltu, Xor, Srl, Sra, Or, And, Mul, Mulh, Mulhsu, Mulhu, Div, Divu, Rem, Remu}
 
 -- the upper half of a product of 64 bits is that of its bits
-pub upper_half-bits : (z : ℤ) → mag z < 2 ^ 63 → cast_unsigned w64 (cast_signed w64 (cast_unsigned w64 z)) / 2 ^ 32 ≡ upper_half z
+pub upper_half-bits : (z : ℤ) → mag z < 2 ^ 63 → cast_unsigned w64 (cast_signed w64 (cast_unsigned w64 z)) / 2 ^ 32 ≡ as_word (int_shr z 32)
 upper_half-bits (pos n) fits = ap (λ m. m / 2 ^ 32) (of_z-to_z w64 n (omega arith)) ∙ omega (arith, fits)
 upper_half-bits (negsuc n) fits = ap (λ m. m / 2 ^ 32) (of_z-to_z w64 (2 ^ 64 - suc n) (omega arith)) ∙ omega (arith, fits)
 

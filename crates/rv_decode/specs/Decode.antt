@@ -1,10 +1,9 @@
 -- The table of words (RISC-V unprivileged manual, "RV32/64G Instruction Set Listings"): RV32I, M, and of Zicsr the one
 -- instruction that sets the table base register jvt (Zc 1.0, "Zcmt"). Each operation is a line, in the manual's order.
-use Rattle.std.specs.Prelude.{ℕ, pos, ◌+◌, ◌*◌, List, [], ◌∷◌, Option, Some, None, ◌==◌, ◌&&◌, if◌then◌else◌}
-use Rattle.std.specs.Option.{option_and_then, option_map, option_or}
+use Rattle.std.specs.Prelude.{ℕ, pos, ◌+◌, ◌*◌, ◌^◌, List, [], ◌∷◌, Option, Some, None, ◌==◌, ◌&&◌, if◌then◌else◌}
+use Rattle.std.specs.Option.{option_flatten, option_map, option_or}
 use Rattle.rv_decode.specs.declared.instr.Instr.{Instr}
 use Rattle.rv_decode.specs.declared.instr.Instr.TheVariants.{Upper, Jal, Jalr, Branch, Load, Store, WithImm, WithReg, Fence, Ecall, Ebreak, Csrrw}
-use Rattle.rv_decode.specs.declared.instr.UpperOp.{UpperOp}
 use Rattle.rv_decode.specs.declared.instr.UpperOp.TheVariants.{Lui, Auipc}
 use Rattle.rv_decode.specs.declared.instr.BranchOp.{BranchOp}
 use Rattle.rv_decode.specs.declared.instr.BranchOp.TheVariants.{Beq, Bne, Blt, Bge, Bltu, Bgeu}
@@ -16,7 +15,8 @@ use Rattle.rv_decode.specs.declared.instr.ImmOp.{ImmOp}
 use Rattle.rv_decode.specs.declared.instr.ImmOp.TheVariants.{Addi, Slti, Sltiu, Xori, Ori, Andi, Slli, Srli, Srai}
 use Rattle.rv_decode.specs.declared.instr.RegOp.{RegOp}
 use Rattle.rv_decode.specs.declared.instr.RegOp.TheVariants.{Add, Sub, Sll, Slt, Sltu, Xor, Srl, Sra, Or, And, Mul, Mulh, Mulhsu, Mulhu, Div, Divu, Rem, Remu}
-use Rattle.rv_decode.specs.Formats.{opcode_of, rd_of, funct3_of, rs1_of, rs2_of, funct7_of, shamt_of, csr_of, fence_rest_of, imm_i_of, imm_s_of, imm_b_of, imm_u_of, imm_j_of}
+use Rattle.rv_decode.specs.Bits.{field}
+use Rattle.rv_decode.specs.Formats.{opcode_of, rd_of, funct3_of, rs1_of, rs2_of, imm_i_of, imm_s_of, imm_b_of, imm_u_of, imm_j_of}
 
 -- what stands in the row with this number
 abbrev pub row_of : {A : Type 0} → List (ℕ × A) → ℕ → Option A
@@ -65,10 +65,10 @@ imm_ops =
     (0b111, Andi) ∷
     []
 
--- ---- operations by funct7 and funct3, read as one number of ten bits
+-- ---- operations by funct7 (bits 31 to 25) and funct3, read as one number of ten bits
 
 abbrev pub funct_of : ℕ → ℕ
-funct_of word = funct7_of word * 8 + funct3_of word
+funct_of word = field word 25 7 * 8 + funct3_of word
 
 -- OP-IMM, with a shift's amount
 abbrev pub shift_ops : List (ℕ × ImmOp)
@@ -103,59 +103,35 @@ reg_ops =
 
 -- ---- instructions, by opcode
 
-abbrev pub upper_of : UpperOp → ℕ → Option Instr
-upper_of op word = Some (Upper op (rd_of word) (imm_u_of word))
-
-abbrev pub jal_of : ℕ → Option Instr
-jal_of word = Some (Jal (rd_of word) (imm_j_of word))
-
-abbrev pub jalr_of : ℕ → Option Instr
-jalr_of word = if funct3_of word == 0b000 then Some (Jalr (rd_of word) (rs1_of word) (imm_i_of word)) else None
-
-abbrev pub branch_of : ℕ → Option Instr
-branch_of word = option_map (λ op. Branch op (rs1_of word) (rs2_of word) (imm_b_of word)) (row_of branch_ops (funct3_of word))
-
-abbrev pub load_of : ℕ → Option Instr
-load_of word = option_map (λ op. Load op (rd_of word) (rs1_of word) (imm_i_of word)) (row_of load_ops (funct3_of word))
-
-abbrev pub store_of : ℕ → Option Instr
-store_of word = option_map (λ op. Store op (rs2_of word) (rs1_of word) (imm_s_of word)) (row_of store_ops (funct3_of word))
-
--- an operation with an immediate of the I format, or else one with a shift's amount
+-- an operation with an immediate of the I format, or else one with a shift's amount, which stands where rs2 does
 abbrev pub with_imm_of : ℕ → Option Instr
 with_imm_of word = option_or
     (option_map (λ op. WithImm op (rd_of word) (rs1_of word) (imm_i_of word)) (row_of imm_ops (funct3_of word)))
-    (option_map (λ op. WithImm op (rd_of word) (rs1_of word) (pos (shamt_of word))) (row_of shift_ops (funct_of word)))
+    (option_map (λ op. WithImm op (rd_of word) (rs1_of word) (pos (rs2_of word))) (row_of shift_ops (funct_of word)))
 
-abbrev pub with_reg_of : ℕ → Option Instr
-with_reg_of word = option_map (λ op. WithReg op (rd_of word) (rs1_of word) (rs2_of word)) (row_of reg_ops (funct_of word))
-
-abbrev pub fence_of : ℕ → Option Instr
-fence_of word = if funct3_of word == 0b000 then Some (Fence (fence_rest_of word)) else None
-
--- ECALL and EBREAK are whole words; of CSRRW only the one on jvt (0x017) is here
+-- ECALL and EBREAK are whole words; of CSRRW only the one on jvt (bits 31 to 20 are 0x017) is here
 abbrev pub system_of : ℕ → Option Instr
 system_of word =
     if word == 0x00000073 then Some Ecall else
     (if word == 0x00100073 then Some Ebreak else
-    (if funct3_of word == 0b001 && csr_of word == 0x017 then Some (Csrrw (rd_of word) (rs1_of word)) else None))
+    (if funct3_of word == 0b001 && field word 20 12 == 0x017 then Some (Csrrw (rd_of word) (rs1_of word)) else None))
 
--- the opcodes, each with what its words spell
-abbrev pub opcodes : List (ℕ × (ℕ → Option Instr))
-opcodes =
-    (0b0110111, upper_of Lui) ∷
-    (0b0010111, upper_of Auipc) ∷
-    (0b1101111, jal_of) ∷
-    (0b1100111, jalr_of) ∷
-    (0b1100011, branch_of) ∷
-    (0b0000011, load_of) ∷
-    (0b0100011, store_of) ∷
-    (0b0010011, with_imm_of) ∷
-    (0b0110011, with_reg_of) ∷
-    (0b0001111, fence_of) ∷
-    (0b1110011, system_of) ∷
+-- the opcodes, each with what a word spells that has it; a fence keeps its bits 31 to 15 and 11 to 7, as one number
+abbrev pub opcodes : ℕ → List (ℕ × Option Instr)
+opcodes word =
+    (0b0110111, Some (Upper Lui (rd_of word) (imm_u_of word))) ∷
+    (0b0010111, Some (Upper Auipc (rd_of word) (imm_u_of word))) ∷
+    (0b1101111, Some (Jal (rd_of word) (imm_j_of word))) ∷
+    (0b1100111, if funct3_of word == 0b000 then Some (Jalr (rd_of word) (rs1_of word) (imm_i_of word)) else None) ∷
+    (0b1100011, option_map (λ op. Branch op (rs1_of word) (rs2_of word) (imm_b_of word)) (row_of branch_ops (funct3_of word))) ∷
+    (0b0000011, option_map (λ op. Load op (rd_of word) (rs1_of word) (imm_i_of word)) (row_of load_ops (funct3_of word))) ∷
+    (0b0100011, option_map (λ op. Store op (rs2_of word) (rs1_of word) (imm_s_of word)) (row_of store_ops (funct3_of word))) ∷
+    (0b0010011, with_imm_of word) ∷
+    (0b0110011, option_map (λ op. WithReg op (rd_of word) (rs1_of word) (rs2_of word)) (row_of reg_ops (funct_of word))) ∷
+    (0b0001111, if funct3_of word == 0b000 then Some (Fence (field word 15 17 * 2 ^ 5 + field word 7 5)) else None) ∷
+    (0b1110011, system_of word) ∷
     []
 
 -- the instruction that a word spells; none outside the table
 unfoldable pub decoded : ℕ → Option Instr
-decoded word = option_and_then (λ spell. spell word) (row_of opcodes (opcode_of word))
+decoded word = option_flatten (row_of (opcodes word) (opcode_of word))

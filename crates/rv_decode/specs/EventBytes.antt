@@ -4,13 +4,13 @@ use Rattle.std.specs.List.{flat_map}
 use Rattle.rv_decode.specs.State.{Event, Write}
 
 -- what an event writes to the stream with this number
-abbrev pub piece_of : ℕ → Event → List ℕ
-piece_of stream (Write fd bytes) = if fd == stream then bytes else []
-piece_of stream other = []
+abbrev pub bytes_to : ℕ → Event → List ℕ
+bytes_to stream (Write fd bytes) = if fd == stream then bytes else []
+bytes_to stream other = []
 
 -- the bytes that events write to a stream, in order
 abbrev pub written_to : ℕ → List Event → List ℕ
-written_to stream events = flat_map (piece_of stream) events
+written_to stream events = flat_map (bytes_to stream) events
 
 -- standard output has the number 1
 abbrev pub out_of : List Event → List ℕ

@@ -22,22 +22,6 @@ rs1_of word = field word 15 5
 abbrev pub rs2_of : ℕ → ℕ
 rs2_of word = field word 20 5
 
--- which of the operations that share a funct3: bits 31 to 25
-abbrev pub funct7_of : ℕ → ℕ
-funct7_of word = field word 25 7
-
--- a shift's amount: bits 24 to 20
-abbrev pub shamt_of : ℕ → ℕ
-shamt_of word = field word 20 5
-
--- a control and status register: bits 31 to 20
-abbrev pub csr_of : ℕ → ℕ
-csr_of word = field word 20 12
-
--- what a fence has beside its opcode and funct3: bits 31 to 15 and 11 to 7, as one number
-abbrev pub fence_rest_of : ℕ → ℕ
-fence_rest_of word = field word 15 17 * 2 ^ 5 + field word 7 5
-
 -- ---- immediates
 
 -- I: bits 31 to 20

@@ -17,10 +17,6 @@ use Rattle.rv_decode.specs.declared.instr.RegOp.TheVariants.{Add, Sub, Sll, Slt,
 abbrev pub is_less : ℕ → ℕ → Bool
 is_less a b = int_lt (as_signed a) (as_signed b)
 
--- the upper 32 bits of a product
-abbrev pub upper_half : ℤ → ℕ
-upper_half product = as_word (int_shr product 32)
-
 -- the operations on two registers: sums wrap, and a shift takes the low five bits of its amount. A quotient by 0 has all bits
 -- set, and the remainder is the dividend; -2^31 / -1 is 2^31, whose word is that of -2^31 again
 abbrev pub reg_result : RegOp → ℕ → ℕ → ℕ
@@ -35,8 +31,8 @@ reg_result Sra a b = as_word (int_shr (as_signed a) (b % 32))
 reg_result Or a b = bit_or a b
 reg_result And a b = bit_and a b
 reg_result Mul a b = a * b % 2 ^ 32
-reg_result Mulh a b = upper_half (as_signed a *ℤ as_signed b)
-reg_result Mulhsu a b = upper_half (as_signed a *ℤ pos b)
+reg_result Mulh a b = as_word (int_shr (as_signed a *ℤ as_signed b) 32)
+reg_result Mulhsu a b = as_word (int_shr (as_signed a *ℤ pos b) 32)
 reg_result Mulhu a b = a * b / 2 ^ 32
 reg_result Div a b = if b == 0 then 2 ^ 32 - 1 else as_word (int_div (as_signed a) (as_signed b))
 reg_result Divu a b = if b == 0 then 2 ^ 32 - 1 else a / b

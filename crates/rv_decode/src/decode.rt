@@ -1,7 +1,8 @@
 // The instruction that a word spells.
 
 ghost use Rattle.std.specs.Prelude.{◌≡◌};
-ghost use Rattle.rv_decode.specs.Decode.{branch_of, decoded, fence_of, jal_of, jalr_of, load_of, store_of, system_of, upper_of, with_imm_of, with_reg_of};
+ghost use Rattle.rv_decode.specs.Decode.{decoded, opcodes, row_of, system_of, with_imm_of};
+ghost use Rattle.rv_decode.specs.Formats.{imm_u_of, rd_of};
 
 use crate::bits::{field_at, register_at};
 use crate::formats::{funct, imm_b, imm_i, imm_j, imm_s};
@@ -33,7 +34,7 @@ pub fn decode(word: u32) -> Option<Instr>
 }
 
 fn upper(op: UpperOp, word: u32) -> Instr
-    ensures { Some result ≡ upper_of op word }
+    ensures { result ≡ Instr.Upper op (rd_of word) (imm_u_of word) }
 {
     Instr::Upper {
         op,
@@ -43,7 +44,7 @@ fn upper(op: UpperOp, word: u32) -> Instr
 }
 
 fn jal(word: u32) -> Instr
-    ensures { Some result ≡ jal_of word }
+    ensures { row_of (opcodes word) 0b1101111 ≡ Some (Some result) }
 {
     Instr::Jal {
         rd: register_at(word, 7),
@@ -52,7 +53,7 @@ fn jal(word: u32) -> Instr
 }
 
 fn jalr(word: u32) -> Option<Instr>
-    ensures { result ≡ jalr_of word }
+    ensures { row_of (opcodes word) 0b1100111 ≡ Some result }
 {
     match field_at(word, 12, 3) {
         0b000 => Some(Instr::Jalr {
@@ -65,7 +66,7 @@ fn jalr(word: u32) -> Option<Instr>
 }
 
 fn branch(word: u32) -> Option<Instr>
-    ensures { result ≡ branch_of word }
+    ensures { row_of (opcodes word) 0b1100011 ≡ Some result }
 {
     Some(Instr::Branch {
         op: branch_op(field_at(word, 12, 3))?,
@@ -76,7 +77,7 @@ fn branch(word: u32) -> Option<Instr>
 }
 
 fn load(word: u32) -> Option<Instr>
-    ensures { result ≡ load_of word }
+    ensures { row_of (opcodes word) 0b0000011 ≡ Some result }
 {
     Some(Instr::Load {
         op: load_op(field_at(word, 12, 3))?,
@@ -87,7 +88,7 @@ fn load(word: u32) -> Option<Instr>
 }
 
 fn store(word: u32) -> Option<Instr>
-    ensures { result ≡ store_of word }
+    ensures { row_of (opcodes word) 0b0100011 ≡ Some result }
 {
     Some(Instr::Store {
         op: store_op(field_at(word, 12, 3))?,
@@ -112,7 +113,7 @@ fn with_imm(word: u32) -> Option<Instr>
 }
 
 fn with_reg(word: u32) -> Option<Instr>
-    ensures { result ≡ with_reg_of word }
+    ensures { row_of (opcodes word) 0b0110011 ≡ Some result }
 {
     Some(Instr::WithReg {
         op: reg_op(funct(word))?,
@@ -123,7 +124,7 @@ fn with_reg(word: u32) -> Option<Instr>
 }
 
 fn fence(word: u32) -> Option<Instr>
-    ensures { result ≡ fence_of word }
+    ensures { row_of (opcodes word) 0b0001111 ≡ Some result }
 {
     match field_at(word, 12, 3) {
         0b000 => Some(Instr::Fence {

@@ -1,6 +1,8 @@
 // What instructions compute of words.
 
 ghost use Rattle.std.specs.Prelude.{◌≡◌, ℤ};
+ghost use Rattle.std.specs.Int.{int_shr};
+ghost use Rattle.rv_decode.specs.Bits.{as_word};
 ghost use Rattle.rv_decode.specs.Results as results;
 
 use crate::instr::{BranchOp, ImmOp, RegOp, UpperOp};
@@ -40,7 +42,7 @@ fn is_less(a: u32, b: u32) -> bool
 
 // The upper 32 bits of a product.
 fn upper_half(product: i64) -> u32
-    ensures { result ≡ results.upper_half product }
+    ensures { result ≡ as_word (int_shr product 32) }
 {
     (product.cast_unsigned() >> 32) as u32
 }

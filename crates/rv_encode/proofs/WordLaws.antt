@@ -11,9 +11,9 @@ use Rattle.rv_decode.specs.Formats.{funct3_of, imm_b_of, opcode_of, rd_of, rs1_o
 use Rattle.rv_decode.specs.Immediates.{ImmInRange, IsAmount}
 use Rattle.rv_decode.proofs.DecodeLaws.{OfBranch, OfReg, OfShift, format-decoded}
 use Rattle.rv_decode.proofs.RowLaws.{row_found}
-use Rattle.rv_encode.specs.Words.{branch_five_of, branch_seven_of, twelve_of, word_of}
+use Rattle.rv_encode.specs.Words.{branch_five_of, branch_seven_of, fields_word, twelve_of}
 
-module _ (seven rs2 rs1 funct3 low opcode word : ℕ) (is : word ≡ word_of (twelve_of seven rs2) rs1 funct3 low opcode) (seven_bits : seven < 2 ^ 7) (second : rs2 < 2 ^ 5) (first : rs1 < 2 ^ 5) (three : funct3 < 2 ^ 3) (five : low < 2 ^ 5) (opcodes : opcode < 2 ^ 7) where
+module _ (seven rs2 rs1 funct3 low opcode word : ℕ) (is : word ≡ fields_word (twelve_of seven rs2) rs1 funct3 low opcode) (seven_bits : seven < 2 ^ 7) (second : rs2 < 2 ^ 5) (first : rs1 < 2 ^ 5) (three : funct3 < 2 ^ 3) (five : low < 2 ^ 5) (opcodes : opcode < 2 ^ 7) where
   pub opcode_is : opcode_of word ≡ opcode
   opcode_is = omega (arith, is, opcodes)
 
@@ -35,7 +35,7 @@ module _ (seven rs2 rs1 funct3 low opcode word : ℕ) (is : word ≡ word_of (tw
 pub branch_spelled :
     (op : BranchOp) (rs1 rs2 funct3 bits word : ℕ) (distance : ℤ) → rs1 < 2 ^ 5 → rs2 < 2 ^ 5 → funct3 < 2 ^ 3 → row_of branch_ops funct3 ≡ Some op
     → bits < 2 ^ 13 → bits % 2 ≡ 0 → signed 13 bits ≡ distance
-    → word ≡ word_of (twelve_of (branch_seven_of bits) rs2) rs1 funct3 (branch_five_of bits) 0b1100011
+    → word ≡ fields_word (twelve_of (branch_seven_of bits) rs2) rs1 funct3 (branch_five_of bits) 0b1100011
     → decoded word ≡ Some (Branch op rs1 rs2 distance)
 branch_spelled op rs1 rs2 funct3 bits word distance first second three row fits even value is =
     let seven : branch_seven_of bits < 2 ^ 7 = omega arith in
@@ -52,7 +52,7 @@ branch_spelled op rs1 rs2 funct3 bits word distance first second three row fits 
     format-decoded word (Branch op rs1 rs2 distance) (OfBranch op p (ap (row_of branch_ops) f ∙ row) (λ i. Branch op (sym a i) (sym b i) (sym d i)))
 
 -- the ten bits of an operation, in their places
-funct_is : (funct rs2 rs1 low opcode word : ℕ) → word ≡ word_of (twelve_of (field funct 3 7) rs2) rs1 (field funct 0 3) low opcode → funct < 2 ^ 10 → rs2 < 2 ^ 5 → rs1 < 2 ^ 5 → low < 2 ^ 5 → opcode < 2 ^ 7 → funct_of word ≡ funct
+funct_is : (funct rs2 rs1 low opcode word : ℕ) → word ≡ fields_word (twelve_of (field funct 3 7) rs2) rs1 (field funct 0 3) low opcode → funct < 2 ^ 10 → rs2 < 2 ^ 5 → rs1 < 2 ^ 5 → low < 2 ^ 5 → opcode < 2 ^ 7 → funct_of word ≡ funct
 funct_is funct rs2 rs1 low opcode word is ten second first five small =
     let three : field funct 0 3 < 2 ^ 3 = omega arith in
     let seven : field funct 3 7 < 2 ^ 7 = omega arith in
@@ -61,7 +61,7 @@ funct_is funct rs2 rs1 low opcode word is ten second first five small =
     omega (arith, f, high, ten)
 
 pub reg_spelled : (op : RegOp) (rd rs1 rs2 funct word : ℕ) → rd < 2 ^ 5 → rs1 < 2 ^ 5 → rs2 < 2 ^ 5 → funct < 2 ^ 10 → row_of reg_ops funct ≡ Some op
-    → word ≡ word_of (twelve_of (field funct 3 7) rs2) rs1 (field funct 0 3) rd 0b0110011 → decoded word ≡ Some (WithReg op rd rs1 rs2)
+    → word ≡ fields_word (twelve_of (field funct 3 7) rs2) rs1 (field funct 0 3) rd 0b0110011 → decoded word ≡ Some (WithReg op rd rs1 rs2)
 reg_spelled op rd rs1 rs2 funct word result first second ten row is =
     let three : field funct 0 3 < 2 ^ 3 = omega arith in
     let seven : field funct 3 7 < 2 ^ 7 = omega arith in
@@ -86,7 +86,7 @@ amount_is (pos n) lt = refl
 amount_is (negsuc n) none = absurd none
 
 pub shift_spelled : (op : ImmOp) (rd rs1 funct word : ℕ) (imm : ℤ) → rd < 2 ^ 5 → rs1 < 2 ^ 5 → IsAmount imm → funct < 2 ^ 10 → row_of shift_ops funct ≡ Some op
-    → word ≡ word_of (twelve_of (field funct 3 7) (unsigned_abs imm)) rs1 (field funct 0 3) rd 0b0010011 → decoded word ≡ Some (WithImm op rd rs1 imm)
+    → word ≡ fields_word (twelve_of (field funct 3 7) (unsigned_abs imm)) rs1 (field funct 0 3) rd 0b0010011 → decoded word ≡ Some (WithImm op rd rs1 imm)
 shift_spelled op rd rs1 funct word imm result first amount ten row is =
     let second = amount_below imm amount in
     let three : field funct 0 3 < 2 ^ 3 = omega arith in

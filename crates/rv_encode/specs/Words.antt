@@ -3,12 +3,12 @@ use Rattle.std.specs.Prelude.{ℕ, ◌+◌, ◌*◌, ◌^◌}
 use Rattle.rv_decode.specs.Bits.{field}
 
 -- R, I, S and B: twelve bits, rs1, funct3, five bits, and the opcode
-abbrev pub word_of : ℕ → ℕ → ℕ → ℕ → ℕ → ℕ
-word_of high rs1 funct3 low opcode = high * 2 ^ 20 + rs1 * 2 ^ 15 + funct3 * 2 ^ 12 + low * 2 ^ 7 + opcode
+abbrev pub fields_word : ℕ → ℕ → ℕ → ℕ → ℕ → ℕ
+fields_word high rs1 funct3 low opcode = high * 2 ^ 20 + rs1 * 2 ^ 15 + funct3 * 2 ^ 12 + low * 2 ^ 7 + opcode
 
--- U and J: twenty bits, rd, and the opcode
+-- U and J: twenty bits, five bits, and the opcode
 abbrev pub upper_word_of : ℕ → ℕ → ℕ → ℕ
-upper_word_of upper rd opcode = upper * 2 ^ 12 + rd * 2 ^ 7 + opcode
+upper_word_of upper low opcode = upper * 2 ^ 12 + low * 2 ^ 7 + opcode
 
 -- seven bits, and then five: the upper twelve of R, S and B
 abbrev pub twelve_of : ℕ → ℕ → ℕ

@@ -68,7 +68,7 @@ fn upper(op: UpperOp, rd: Reg, imm: u32) -> u32
         UpperOp::Lui => 0b011_0111,
         UpperOp::Auipc => 0b001_0111,
     };
-    upper_word(imm, rd, opcode)
+    upper_word(imm, number(rd), opcode)
 }
 
 fn jal(rd: Reg, distance: i32) -> u32
@@ -76,7 +76,7 @@ fn jal(rd: Reg, distance: i32) -> u32
     requires even { IsEven distance }
     ensures { decoded result ≡ Some (Instr.Jal rd distance) }
 {
-    upper_word(jump_twenty(bits_of(21, distance)), rd, 0b110_1111)
+    upper_word(jump_twenty(bits_of(21, distance)), number(rd), 0b110_1111)
 }
 
 fn jalr(rd: Reg, base: Reg, imm: i32) -> u32
@@ -157,5 +157,5 @@ fn fence(rest: u32) -> u32
     requires { rest < 2 ^ 22 }
     ensures { decoded result ≡ Some (Instr.Fence rest) }
 {
-    rest >> 5 << 15 | (field_at(rest, 0, 5) << 7 | 0b000_1111)
+    upper_word(rest >> 5 << 3, field_at(rest, 0, 5), 0b000_1111)
 }

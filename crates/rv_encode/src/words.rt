@@ -2,7 +2,7 @@
 
 ghost use Rattle.std.specs.Prelude.{◌≡◌, ◌<◌, ◌%◌, ◌^◌};
 ghost use Rattle.rv_decode.specs.Bits.{FitsIn, IsEven, signed};
-ghost use Rattle.rv_encode.specs.Words.{branch_five_of, branch_seven_of, jump_twenty_of, twelve_of, upper_word_of, word_of};
+ghost use Rattle.rv_encode.specs.Words.{branch_five_of, branch_seven_of, fields_word, jump_twenty_of, twelve_of, upper_word_of};
 
 use rv_decode::bits::field_at;
 use zc_base::reg::Reg;
@@ -14,20 +14,21 @@ pub fn word(high: u32, first: Reg, funct3: u32, low: u32, opcode: u32) -> u32
     requires funct3 { funct3 < 2 ^ 3 }
     requires low { low < 2 ^ 5 }
     requires opcode { opcode < 2 ^ 7 }
-    ensures { result ≡ word_of high first funct3 low opcode }
+    ensures { result ≡ fields_word high first funct3 low opcode }
 {
     let first = u32::from(first.number());
     high << 20 | (first << 15 | (funct3 << 12 | (low << 7 | opcode)))
 }
 
-/// The word of the formats U and J: `upper` is its upper twenty bits.
-pub fn upper_word(upper: u32, rd: Reg, opcode: u32) -> u32
+/// The word of the formats U and J: `upper` is its upper twenty bits, and `low` the five above the
+/// opcode.
+pub fn upper_word(upper: u32, low: u32, opcode: u32) -> u32
     requires upper { upper < 2 ^ 20 }
+    requires low { low < 2 ^ 5 }
     requires opcode { opcode < 2 ^ 7 }
-    ensures { result ≡ upper_word_of upper rd opcode }
+    ensures { result ≡ upper_word_of upper low opcode }
 {
-    let rd = u32::from(rd.number());
-    upper << 12 | (rd << 7 | opcode)
+    upper << 12 | (low << 7 | opcode)
 }
 
 /// Seven bits, and then five.

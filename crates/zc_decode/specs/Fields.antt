@@ -10,12 +10,12 @@ group_of half = field half 13 3 * 4 + field half 0 2
 -- ---- registers
 
 -- the register of bits 11 to 7: rd, and rs1
-abbrev pub rd_of : ℕ → ℕ
-rd_of half = field half 7 5
+abbrev pub c_rd_of : ℕ → ℕ
+c_rd_of half = field half 7 5
 
 -- the register of bits 6 to 2: rs2
-abbrev pub rs2_of : ℕ → ℕ
-rs2_of half = field half 2 5
+abbrev pub c_rs2_of : ℕ → ℕ
+c_rs2_of half = field half 2 5
 
 -- the register of bits 9 to 7, one of x8 to x15: rs1', and rd' if it is a source too
 abbrev pub high_reg_of : ℕ → ℕ
@@ -58,11 +58,8 @@ swsp_of half = field half 7 2 * 2 ^ 6 + field half 9 4 * 2 ^ 2
 -- ---- immediates with a sign
 
 -- six bits: imm[5] is bit 12, imm[4:0] bits 6 to 2
-abbrev pub ci_bits_of : ℕ → ℕ
-ci_bits_of half = field half 12 1 * 2 ^ 5 + field half 2 5
-
 abbrev pub imm_ci_of : ℕ → ℤ
-imm_ci_of half = signed 6 (ci_bits_of half)
+imm_ci_of half = signed 6 (field half 12 1 * 2 ^ 5 + field half 2 5)
 
 -- c.addi16sp: imm[9] is bit 12, imm[4] bit 6, imm[6] bit 5, imm[8:7] bits 4 to 3, imm[5] bit 2
 abbrev pub addi16sp_of : ℕ → ℤ
@@ -75,13 +72,13 @@ lui_of half = field half 12 1 * (2 ^ 20 - 2 ^ 5) + field half 2 5
 
 -- c.j and c.jal, an even number: imm[11] is bit 12, imm[4] bit 11, imm[9:8] bits 10 to 9, imm[10] bit 8, imm[6] bit 7,
 -- imm[7] bit 6, imm[3:1] bits 5 to 3, imm[5] bit 2
-abbrev pub jump_of : ℕ → ℤ
-jump_of half =
+abbrev pub cj_offset_of : ℕ → ℤ
+cj_offset_of half =
     signed 12 (field half 12 1 * 2 ^ 11 + field half 8 1 * 2 ^ 10 + field half 9 2 * 2 ^ 8 + field half 6 1 * 2 ^ 7
     + field half 7 1 * 2 ^ 6 + field half 2 1 * 2 ^ 5 + field half 11 1 * 2 ^ 4 + field half 3 3 * 2)
 
 -- c.beqz and c.bnez, an even number: imm[8] is bit 12, imm[4:3] bits 11 to 10, imm[7:6] bits 6 to 5, imm[2:1] bits 4 to 3,
 -- imm[5] bit 2
-abbrev pub branch_of : ℕ → ℤ
-branch_of half =
+abbrev pub cb_offset_of : ℕ → ℤ
+cb_offset_of half =
     signed 9 (field half 12 1 * 2 ^ 8 + field half 5 2 * 2 ^ 6 + field half 2 1 * 2 ^ 5 + field half 10 2 * 2 ^ 3 + field half 3 2 * 2)

@@ -1,6 +1,7 @@
 -- The halfwords that are hints, and the numbers of the rows (RISC-V unprivileged manual, "HINT Instructions" of the C extension).
-use Rattle.std.specs.Prelude.{ℕ, Bool, false, not, ◌==◌, ◌||◌}
-use Rattle.zc_decode.specs.Fields.{amount_of, ci_bits_of, rd_of}
+use Rattle.std.specs.Prelude.{ℕ, pos, Bool, false, not, ◌==◌, ◌||◌}
+use Rattle.std.specs.Ordering.{int_eq}
+use Rattle.zc_decode.specs.Fields.{amount_of, c_rd_of, imm_ci_of}
 use Rattle.zc_decode.specs.declared.form.Form.{Form}
 use Rattle.zc_decode.specs.declared.form.Form.TheVariants.{CAddi4spn, CLw, CSw, CLbu, CLhu, CLh, CSb, CSh, CNop, CAddi, CJal, CLi, CAddi16sp, CLui, CSrli, CSrai, CAndi, CSub, CXor, COr, CAnd, CMul, CZextB, CNot, CJ, CBeqz, CBnez, CSlli, CLwsp, CJr, CMv, CEbreak, CJalr, CAdd, CSwsp}
 
@@ -14,12 +15,12 @@ is_hint CLhu half = false
 is_hint CLh half = false
 is_hint CSb half = false
 is_hint CSh half = false
-is_hint CNop half = not (ci_bits_of half == 0)
-is_hint CAddi half = ci_bits_of half == 0
+is_hint CNop half = not (int_eq (imm_ci_of half) (pos 0))
+is_hint CAddi half = int_eq (imm_ci_of half) (pos 0)
 is_hint CJal half = false
-is_hint CLi half = rd_of half == 0
+is_hint CLi half = c_rd_of half == 0
 is_hint CAddi16sp half = false
-is_hint CLui half = rd_of half == 0
+is_hint CLui half = c_rd_of half == 0
 is_hint CSrli half = amount_of half == 0
 is_hint CSrai half = amount_of half == 0
 is_hint CAndi half = false
@@ -33,13 +34,13 @@ is_hint CNot half = false
 is_hint CJ half = false
 is_hint CBeqz half = false
 is_hint CBnez half = false
-is_hint CSlli half = rd_of half == 0 || amount_of half == 0
+is_hint CSlli half = c_rd_of half == 0 || amount_of half == 0
 is_hint CLwsp half = false
 is_hint CJr half = false
-is_hint CMv half = rd_of half == 0
+is_hint CMv half = c_rd_of half == 0
 is_hint CEbreak half = false
 is_hint CJalr half = false
-is_hint CAdd half = rd_of half == 0
+is_hint CAdd half = c_rd_of half == 0
 is_hint CSwsp half = false
 
 -- the number of a row in the tables' order

@@ -1,7 +1,7 @@
 // The fields of halfwords.
 
 ghost use Rattle.std.specs.Prelude.{◌≡◌, ◌<◌, pos};
-ghost use Rattle.zc_decode.specs.Fields.{addi16sp_of, addi4spn_of, amount_of, branch_of, byte_offset_of, group_of, half_offset_of, high_reg_of, imm_ci_of, jump_of, low_reg_of, lui_of, lwsp_of, swsp_of, word_offset_of};
+ghost use Rattle.zc_decode.specs.Fields.{addi16sp_of, addi4spn_of, amount_of, cb_offset_of, byte_offset_of, group_of, half_offset_of, high_reg_of, imm_ci_of, cj_offset_of, low_reg_of, lui_of, lwsp_of, swsp_of, word_offset_of};
 
 use rv_decode::bits::{field_at, signed_of};
 use zc_base::reg::Reg;
@@ -111,8 +111,8 @@ pub fn lui(half: u32) -> u32
 }
 
 /// The distance of c.j and c.jal.
-pub fn jump(half: u32) -> i32
-    ensures { result ≡ jump_of half }
+pub fn cj_offset(half: u32) -> i32
+    ensures { result ≡ cj_offset_of half }
 {
     let low = field_at(half, 11, 1) << 4 | field_at(half, 3, 3) << 1;
     let middle = field_at(half, 6, 1) << 2 | (field_at(half, 7, 1) << 1 | field_at(half, 2, 1));
@@ -121,8 +121,8 @@ pub fn jump(half: u32) -> i32
 }
 
 /// The distance of c.beqz and c.bnez.
-pub fn branch(half: u32) -> i32
-    ensures { result ≡ branch_of half }
+pub fn cb_offset(half: u32) -> i32
+    ensures { result ≡ cb_offset_of half }
 {
     let low = field_at(half, 10, 2) << 3 | field_at(half, 3, 2) << 1;
     let top = field_at(half, 12, 1) << 3 | (field_at(half, 5, 2) << 1 | field_at(half, 2, 1));

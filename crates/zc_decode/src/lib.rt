@@ -3,8 +3,8 @@
 #![tactic(auto)]
 
 pub mod decode16;
-mod expand;
 mod fields;
 pub mod form;
 mod rows;
 pub mod short;
+mod spell;

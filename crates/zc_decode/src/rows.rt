@@ -1,8 +1,9 @@
 // The row of a halfword.
 
 ghost use Rattle.std.specs.Prelude.{◌≡◌};
+ghost use Rattle.rv_decode.specs.Decode.{row_of};
 ghost use Rattle.zc_decode.specs.Rows as rows;
-ghost use Rattle.zc_decode.specs.Rows.{addi_row, form_of, jump_row, lui_row, operation_row, register_row, zcb_memory_row, zcb_unary_row};
+ghost use Rattle.zc_decode.specs.Rows.{form_of, groups, jump_row, operations, register_rows};
 
 use crate::fields::{addi4spn, group_at, lui};
 use crate::form::Form;
@@ -43,7 +44,7 @@ fn unless(reserved: bool, form: Form) -> Option<Form>
 
 // Zcb's loads and stores.
 fn zcb_memory(half: u32) -> Option<Form>
-    ensures { result ≡ zcb_memory_row half }
+    ensures { row_of (groups half) 0b100_00 ≡ Some result }
 {
     match field_at(half, 10, 3) << 1 | field_at(half, 6, 1) {
         0b000_0 | 0b000_1 => Some(Form::CLbu),
@@ -56,7 +57,7 @@ fn zcb_memory(half: u32) -> Option<Form>
 }
 
 fn addi(half: u32) -> Form
-    ensures { Some result ≡ addi_row half }
+    ensures { row_of (groups half) 0b000_01 ≡ Some (Some result) }
 {
     if field_at(half, 7, 5) == 0 {
         Form::CNop
@@ -66,7 +67,7 @@ fn addi(half: u32) -> Form
 }
 
 fn lui_or_addi16sp(half: u32) -> Option<Form>
-    ensures { result ≡ lui_row half }
+    ensures { row_of (groups half) 0b011_01 ≡ Some result }
 {
     if lui(half) == 0 {
         None
@@ -79,7 +80,7 @@ fn lui_or_addi16sp(half: u32) -> Option<Form>
 
 // Operations on registers of x8 to x15.
 fn operation(half: u32) -> Option<Form>
-    ensures { result ≡ operation_row half }
+    ensures { row_of (groups half) 0b100_01 ≡ Some result }
 {
     match field_at(half, 10, 2) {
         0b00 => unless(field_at(half, 12, 1) == 1, Form::CSrli),
@@ -91,7 +92,7 @@ fn operation(half: u32) -> Option<Form>
 
 // Operations on two registers, and Zcb's on one.
 fn on_registers(half: u32) -> Option<Form>
-    ensures { result ≡ register_row half }
+    ensures { row_of (operations half) 0b11 ≡ Some result }
 {
     match field_at(half, 12, 1) << 2 | field_at(half, 5, 2) {
         0b0_00 => Some(Form::CSub),
@@ -106,7 +107,7 @@ fn on_registers(half: u32) -> Option<Form>
 
 // Zcb's operations on one register.
 fn zcb_unary(half: u32) -> Option<Form>
-    ensures { result ≡ zcb_unary_row half }
+    ensures { row_of (register_rows half) 0b1_11 ≡ Some result }
 {
     match field_at(half, 2, 3) {
         0b000 => Some(Form::CZextB),

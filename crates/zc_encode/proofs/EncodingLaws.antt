@@ -1,7 +1,7 @@
 -- The halfword that is found for an instruction is the first that spells it: what is found is of a row, and spells it; and each
 -- halfword that spells it is found, or one of an earlier row is.
 use Rattle.std.proofs.Common.{◌≡◌, ℕ, ◌<◌, ◌≤◌, Option, Some, None, Bool, true, false, refl, sym, ap, ◌∙◌, subst, ⊎_elim, inl, inr, arith, eqb, ltb, cond, ℤ, pos}
-use Rattle.std.specs.Prelude.{◌⊎◌}
+use Rattle.std.specs.Prelude.{◌⊎◌, ◌||◌}
 use Rattle.std.proofs.lemmas.Bool.{eqb-true, false≢true, ltb-true, ltb-false, or_cases}
 use Rattle.rv_decode.specs.declared.instr.Instr.{Instr}
 use Rattle.rv_decode.specs.declared.instr.Instr.TheVariants.{Upper, Jal, Jalr, Branch, Load, Store, WithImm, WithReg, Fence, Ecall, Ebreak, Csrrw}
@@ -12,7 +12,6 @@ use Rattle.rv_decode.specs.declared.instr.RegOp.{RegOp}
 use Rattle.rv_decode.specs.declared.instr.RegOp.TheVariants.{Add, Sub, Sll, Slt, Sltu, Xor, Srl, Sra, Or, And, Mul, Mulh, Mulhsu, Mulhu, Div, Divu, Rem, Remu}
 use Rattle.rv_decode.specs.Normal.{greater_branch, greater_first, normal_branch, normal_of, normal_reg, normal_sum}
 use Rattle.rv_decode.specs.Registers.{HasRegisters}
-use Rattle.zc_decode.specs.Halfwords.{expansion}
 use Rattle.zc_decode.specs.Hints.{is_hint, row_number}
 use Rattle.zc_decode.specs.Rows.{form_of}
 use Rattle.zc_decode.specs.declared.form.Form.{Form}
@@ -24,7 +23,7 @@ use Rattle.zc_encode.proofs.ImmRows.{upper_row, with_imm_row}
 use Rattle.zc_encode.proofs.JumpRows.{branch_row, jal_row, jalr_row}
 use Rattle.zc_encode.proofs.MemoryRows.{load_row, store_row}
 use Rattle.zc_encode.proofs.RegRows.{InOrder, with_reg_row}
-use Rattle.zc_encode.proofs.RoundTrips.{comes_back, each_comes_back, is_earlier, is_found}
+use Rattle.zc_encode.proofs.RoundTrips.{comes_back, each_comes_back, is_earlier, is_found, is_found_for}
 use Rattle.zc_encode.proofs.RowFits.{InRow}
 
 -- ---- what is found spells the instruction
@@ -136,14 +135,11 @@ found form half (Some k) h = (k, refl, ⊎_elim (λ e. inl (sym (eqb-true k half
     earlier None is e = absurd cc
     earlier (Some other) is e = (other, is, ltb-true (row_number other) (row_number form) e)
 
-spelled : (form : Form) (half : ℕ) (i : Instr) → Spells form half (Base i) → Found form half (half_for (normal_of i))
-spelled form half i s =
+spells_found : (form : Form) (half : ℕ) (i : Instr) → Spells form half (Base i) → Found form half (half_for (normal_of i))
+spells_found form half i s =
     let back : comes_back half (Some form) ≡ true = sym (ap (comes_back half) s.row) ∙ each_comes_back half s.small in
-    let same : normal_of (expansion form half) ≡ normal_of i = base s.same in
-    subst (λ j. Found form half (half_for j)) same (found form half _ (⊎_elim (λ hint. absurd (false≢true (sym s.no_hint ∙ hint))) (λ e. e) (or_cases (is_hint form half) _ back)))
-  where
-    base : {j k : Instr} → Base j ≡ Base k → j ≡ k
-    base e = cc
+    let again = sym (ap (λ t. is_hint form half || is_found_for form half t) s.same) ∙ back in
+    found form half _ (⊎_elim (λ hint. absurd (false≢true (sym s.no_hint ∙ hint))) (λ e. e) (or_cases (is_hint form half) _ again))
 
 -- ---- both
 
@@ -153,9 +149,9 @@ first_of i half registers is =
     let row = in_row.1 in
     record {
       form = in_row.0;
-      spells = record { small = row.small; row = row.row; no_hint = row.no_hint; same = ap Base row.is };
+      spells = record { small = row.small; row = row.row; no_hint = row.no_hint; same = row.is };
       first = λ other k s.
-          let f = spelled other k i s in
+          let f = spells_found other k i s in
           let same : f.0 ≡ half = some (sym f.1 ∙ is) in
           ⊎_elim (λ e. inl (e ∙ same)) (λ e. inr (earlier in_row.0 e.0 other (sym (row.row) ∙ ap form_of (sym same) ∙ e.1) e.2)) f.2;
     }
@@ -170,7 +166,7 @@ first_of i half registers is =
         form_is a b e = cc
 
 pub encoding : (i : Instr) (o : Option ℕ) → HasRegisters (normal_of i) → half_for (normal_of i) ≡ o → IsEncoding (Base i) o
-encoding i None registers is = λ form half s. let f = spelled form half i s in absurd (none (sym is ∙ f.1))
+encoding i None registers is = λ form half s. let f = spells_found form half i s in absurd (none (sym is ∙ f.1))
   where
     none : {k : ℕ} → None ≡ Some k → ⊥
     none e = cc

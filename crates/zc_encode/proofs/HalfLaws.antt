@@ -1,7 +1,7 @@
 -- The fields of a halfword that is made of fields: each is what was put there.
 use Rattle.std.proofs.Common.{◌≡◌, ℕ, ◌+◌, ◌-◌, ◌*◌, ◌%◌, ◌^◌, ◌<◌, ◌≤◌, ◌∙◌, arith}
 use Rattle.rv_decode.specs.Bits.{field}
-use Rattle.zc_decode.specs.Fields.{addi4spn_of, byte_offset_of, ci_bits_of, group_of, half_offset_of, high_reg_of, low_reg_of, lwsp_of, swsp_of, word_offset_of}
+use Rattle.zc_decode.specs.Fields.{addi4spn_of, byte_offset_of, group_of, half_offset_of, high_reg_of, low_reg_of, lwsp_of, swsp_of, word_offset_of}
 use Rattle.zc_encode.specs.Halves.{half_of}
 
 pub record Fields (group bit upper lower half : ℕ) : Type 0 where
@@ -45,7 +45,7 @@ module _ (n half : ℕ) where
   pub addi4spn_is : (r : ℕ) → n < 1024 → n % 4 ≡ 0 → r < 8 → field half 12 1 ≡ field n 5 1 → field half 7 5 ≡ field n 4 1 * 16 + field n 6 4 → field half 2 5 ≡ field n 2 1 * 16 + field n 3 1 * 8 + r → addi4spn_of half ≡ n
   addi4spn_is r lt whole lr bit upper lower = omega (arith, lt, whole, lr, bit, upper, lower)
 
-  pub ci_bits_is : n < 64 → field half 12 1 ≡ field n 5 1 → field half 2 5 ≡ field n 0 5 → ci_bits_of half ≡ n
+  pub ci_bits_is : n < 64 → field half 12 1 ≡ field n 5 1 → field half 2 5 ≡ field n 0 5 → field half 12 1 * 2 ^ 5 + field half 2 5 ≡ n
   ci_bits_is lt bit lower = omega (arith, lt, bit, lower)
 
   pub addi16sp_is : n < 1024 → n % 16 ≡ 0 → field half 12 1 ≡ field n 9 1 → field half 2 5 ≡ field n 4 1 * 16 + field n 6 1 * 8 + field n 7 2 * 2 + field n 5 1 → field half 12 1 * 2 ^ 9 + field half 3 2 * 2 ^ 7 + field half 5 1 * 2 ^ 6 + field half 2 1 * 2 ^ 5 + field half 6 1 * 2 ^ 4 ≡ n

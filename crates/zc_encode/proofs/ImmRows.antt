@@ -2,7 +2,7 @@
 use Rattle.std.proofs.Common.{◌≡◌, ℕ, ◌+◌, ◌-◌, ◌*◌, ◌/◌, ◌%◌, ◌^◌, ◌<◌, ◌≤◌, Some, true, false, cond, refl, sym, ap, ◌∙◌, ⊎_elim, arith, ℤ, pos, negsuc, eqb, ltb, leb}
 use Rattle.std.specs.Prelude.{◌&&◌, not}
 use Rattle.std.specs.Ordering.{int_eq}
-use Rattle.std.proofs.lemmas.Bool.{and_parts, cond-false, eqb-false, eqb-true, false≢true, leb-true, ltb-true, ne_eqb, not-true, or_cases, or_from}
+use Rattle.std.proofs.lemmas.Bool.{and_parts, cond-false, eqb-false, eqb-true, leb-true, ltb-true, ne_eqb, not-true, or_cases, or_from}
 use Rattle.rv_decode.specs.declared.instr.Instr.TheVariants.{Upper, WithImm}
 use Rattle.rv_decode.specs.declared.instr.UpperOp.{UpperOp}
 use Rattle.rv_decode.specs.declared.instr.UpperOp.TheVariants.{Auipc, Lui}
@@ -10,11 +10,12 @@ use Rattle.rv_decode.specs.declared.instr.ImmOp.{ImmOp}
 use Rattle.rv_decode.specs.declared.instr.ImmOp.TheVariants.{Addi, Slti, Sltiu, Xori, Ori, Andi, Slli, Srli, Srai}
 use Rattle.rv_decode.specs.Bits.{as_word, field, signed}
 use Rattle.rv_decode.specs.Decode.{row_of}
-use Rattle.zc_decode.specs.Fields.{addi16sp_of, addi4spn_of, amount_of, ci_bits_of, group_of, high_reg_of, imm_ci_of, low_reg_of, lui_of, rd_of, rs2_of}
-use Rattle.zc_decode.specs.Rows.{addi_row, always, form_of, jump_row, lui_row, unless, zcb_unary, zcb_unary_row}
+use Rattle.zc_decode.specs.Fields.{addi16sp_of, addi4spn_of, amount_of, group_of, high_reg_of, imm_ci_of, low_reg_of, lui_of, c_rd_of, c_rs2_of}
+use Rattle.zc_decode.specs.Rows.{form_of, unless, zcb_unary}
 use Rattle.zc_decode.specs.declared.form.Form.TheVariants.{CAdd, CAddi, CAddi16sp, CAddi4spn, CAndi, CLi, CLui, CMv, CNop, CNot, CSlli, CSrai, CSrli, CZextB}
+use Rattle.zc_decode.specs.declared.short.Short.TheVariants.{Base}
 use Rattle.zc_decode.proofs.FormLaws.{form_in_group, form_in_operations, form_in_registers}
-use Rattle.zc_encode.specs.Halves.{addi16sp_half, addi4spn_half, addi_half, andi_half, half_of, has_bits, is_amount, is_lui, is_offset, is_popular, is_signed, li_half, low_bits, mv_half, nop_half, right_half, six_half, slli_half, sum_half, unary_half, upper_half, with_imm_half}
+use Rattle.zc_encode.specs.Halves.{addi16sp_half, addi4spn_half, addi_half, andi_half, half_of, has_bits, is_amount, is_c_lui_imm, is_offset, is_popular, is_signed, li_half, low_bits, lui_half, mv_half, nop_half, right_half, six_half, slli_half, sum_half, unary_half, with_imm_half}
 use Rattle.zc_encode.proofs.HalfLaws.{Fields, addi16sp_is, addi4spn_is, ci_bits_is, fields_of, high_is, low_is}
 use Rattle.zc_encode.proofs.NumberLaws.{amount, and_four, and_three, int_is, offset, popular, signed_ten, six_is, when_some}
 use Rattle.zc_encode.proofs.RowFits.{InRow, Row, either_of}
@@ -39,13 +40,12 @@ addi4spn_row rd first half imm h =
           small = f.small;
           row = form_in_group half 0b000_00 _ f.in_group refl ∙ ap (λ k. unless (eqb k 0) CAddi4spn) v ∙ ap (λ b. unless b CAddi4spn) some;
           no_hint = refl;
-          is = λ i. WithImm Addi (r i) (sym sp i) (m i);
+          is = λ i. Base (WithImm Addi (r i) (sym sp i) (m i));
         }
 
 -- a halfword with a signed immediate of six bits
 record Six (group upper n half : ℕ) (imm : ℤ) : Type 0 where
   fields : Fields group (field n 5 1) upper (field n 0 5) half
-  bits : ci_bits_of half ≡ n
   value : imm_ci_of half ≡ imm
 
 six : (group upper half : ℕ) (imm : ℤ) → group < 32 → upper < 32 → has_bits 6 imm ≡ true → half ≡ six_half group upper imm → Six group upper (low_bits 6 imm) half imm
@@ -54,8 +54,7 @@ six group upper half imm five lt fits is = built (low_bits 6 imm) (omega arith) 
     built : (n : ℕ) → n < 64 → half ≡ half_of group (field n 5 1) upper (field n 0 5) → signed 6 n ≡ imm → Six group upper n half imm
     built n small is value =
         let f = fields_of group (field n 5 1) upper (field n 0 5) half is five (omega arith) lt (omega arith) in
-        let b : ci_bits_of half ≡ n = ci_bits_is n half small f.twelfth f.below in
-        record { fields = f; bits = b; value = ap (signed 6) b ∙ value }
+        record { fields = f; value = ap (signed 6) (ci_bits_is n half small f.twelfth f.below) ∙ value }
 
 nop_row : (rd first half : ℕ) (imm : ℤ) → nop_half rd first imm ≡ Some half → Row CNop half (WithImm Addi rd first imm)
 nop_row rd first half imm h =
@@ -67,9 +66,9 @@ nop_row rd first half imm h =
     let m : imm_ci_of half ≡ imm = s.value ∙ sym (int_is imm (pos 0) tests.2) in
     record {
       small = s.fields.small;
-      row = form_in_group half 0b000_01 addi_row s.fields.in_group refl ∙ ap (λ k. cond (eqb k 0) (Some CNop) (Some CAddi)) s.fields.above;
-      no_hint = ap (λ k. not (eqb k 0)) s.bits;
-      is = λ i. WithImm Addi (r i) (source i) (m i);
+      row = form_in_group half 0b000_01 _ s.fields.in_group refl ∙ ap (λ k. Some (cond (eqb k 0) CNop CAddi)) s.fields.above;
+      no_hint = ap (λ z. not (int_eq z (pos 0))) s.value;
+      is = λ i. Base (WithImm Addi (r i) (source i) (m i));
     }
 
 addi_row_is : (rd first half : ℕ) (imm : ℤ) → rd < 32 → addi_half rd first imm ≡ Some half → Row CAddi half (WithImm Addi rd first imm)
@@ -77,17 +76,14 @@ addi_row_is rd first half imm small h =
     let t = when_some (eqb first rd && (not (eqb rd 0) && (has_bits 6 imm && not (int_eq imm (pos 0))))) (six_half 0b000_01 rd imm) half h in
     let tests = and_four (eqb first rd) (not (eqb rd 0)) (has_bits 6 imm) (not (int_eq imm (pos 0))) t.0 in
     let s = six 0b000_01 rd half imm (omega arith) small tests.2 t.1 in
-    let some : eqb (rd_of half) 0 ≡ false = ap (λ k. eqb k 0) s.fields.above ∙ not-true (eqb rd 0) tests.1 in
-    let source : rd_of half ≡ first = s.fields.above ∙ sym (eqb-true first rd tests.0) in
+    let some : eqb (c_rd_of half) 0 ≡ false = ap (λ k. eqb k 0) s.fields.above ∙ not-true (eqb rd 0) tests.1 in
+    let source : c_rd_of half ≡ first = s.fields.above ∙ sym (eqb-true first rd tests.0) in
     record {
       small = s.fields.small;
-      row = form_in_group half 0b000_01 addi_row s.fields.in_group refl ∙ ap (λ b. cond b (Some CNop) (Some CAddi)) some;
-      no_hint = ne_eqb (ci_bits_of half) 0 (λ e. other imm (not-true (int_eq imm (pos 0)) tests.3) (sym s.value ∙ ap (signed 6) e));
-      is = λ i. WithImm Addi (s.fields.above i) (source i) (s.value i);
+      row = form_in_group half 0b000_01 _ s.fields.in_group refl ∙ ap (λ b. Some (cond b CNop CAddi)) some;
+      no_hint = ap (λ z. int_eq z (pos 0)) s.value ∙ not-true (int_eq imm (pos 0)) tests.3;
+      is = λ i. Base (WithImm Addi (s.fields.above i) (source i) (s.value i));
     }
-  where
-    other : (z : ℤ) → int_eq z (pos 0) ≡ false → z ≡ pos 0 → ⊥
-    other z differs e = false≢true (sym differs ∙ ap (λ y. int_eq y (pos 0)) e)
 
 li_row : (rd first half : ℕ) (imm : ℤ) → rd < 32 → li_half rd first imm ≡ Some half → Row CLi half (WithImm Addi rd first imm)
 li_row rd first half imm small h =
@@ -97,9 +93,9 @@ li_row rd first half imm small h =
     let source : 0 ≡ first = sym (eqb-true first 0 tests.0) in
     record {
       small = s.fields.small;
-      row = form_in_group half 0b010_01 (always CLi) s.fields.in_group refl;
+      row = form_in_group half 0b010_01 (Some CLi) s.fields.in_group refl;
       no_hint = ap (λ k. eqb k 0) s.fields.above ∙ not-true (eqb rd 0) tests.1;
-      is = λ i. WithImm Addi (s.fields.above i) (source i) (s.value i);
+      is = λ i. Base (WithImm Addi (s.fields.above i) (source i) (s.value i));
     }
 
 addi16sp_row : (rd first half : ℕ) (imm : ℤ) → addi16sp_half rd first imm ≡ Some half → Row CAddi16sp half (WithImm Addi rd first imm)
@@ -118,9 +114,9 @@ addi16sp_row rd first half imm h =
         let m : addi16sp_of half ≡ imm = ap (signed 10) bits ∙ value in
         record {
           small = f.small;
-          row = form_in_group half 0b011_01 lui_row f.in_group refl ∙ ap (λ b. unless b (cond (eqb (rd_of half) 2) CAddi16sp CLui)) nonzero ∙ ap (λ k. Some (cond (eqb k 2) CAddi16sp CLui)) f.above;
+          row = form_in_group half 0b011_01 _ f.in_group refl ∙ ap (λ b. unless b (cond (eqb (c_rd_of half) 2) CAddi16sp CLui)) nonzero ∙ ap (λ k. Some (cond (eqb k 2) CAddi16sp CLui)) f.above;
           no_hint = refl;
-          is = λ i. WithImm Addi (sym sp i) (sym source i) (m i);
+          is = λ i. Base (WithImm Addi (sym sp i) (sym source i) (m i));
         }
 
 mv_row : (rd first half : ℕ) (imm : ℤ) → rd < 32 → first < 32 → mv_half rd first imm ≡ Some half → Row CMv half (WithImm Addi rd first imm)
@@ -128,13 +124,13 @@ mv_row rd first half imm small source h =
     let t = when_some (int_eq imm (pos 0) && (not (eqb rd 0) && not (eqb first 0))) (half_of 0b100_10 0 rd first) half h in
     let tests = and_three (int_eq imm (pos 0)) (not (eqb rd 0)) (not (eqb first 0)) t.0 in
     let f = fields_of 0b100_10 0 rd first half t.1 (omega arith) (omega arith) small source in
-    let some : eqb (rs2_of half) 0 ≡ false = ap (λ k. eqb k 0) f.below ∙ not-true (eqb first 0) tests.2 in
+    let some : eqb (c_rs2_of half) 0 ≡ false = ap (λ k. eqb k 0) f.below ∙ not-true (eqb first 0) tests.2 in
     let m : pos 0 ≡ imm = sym (int_is imm (pos 0) tests.0) in
     record {
       small = f.small;
-      row = form_in_group half 0b100_10 jump_row f.in_group refl ∙ cond-false (eqb (rs2_of half) 0) _ _ some ∙ ap (λ k. cond (eqb k 0) (Some CMv) (Some CAdd)) f.twelfth;
+      row = form_in_group half 0b100_10 _ f.in_group refl ∙ cond-false (eqb (c_rs2_of half) 0) _ _ some ∙ ap (λ k. cond (eqb k 0) (Some CMv) (Some CAdd)) f.twelfth;
       no_hint = ap (λ k. eqb k 0) f.above ∙ not-true (eqb rd 0) tests.1;
-      is = cond-false (eqb (rs2_of half) 0) _ _ some ∙ (λ i. WithImm Addi (f.above i) (f.below i) (m i));
+      is = ap Base (cond-false (eqb (c_rs2_of half) 0) _ _ some ∙ (λ i. WithImm Addi (f.above i) (f.below i) (m i)));
     }
 
 sum_row : (rd first half : ℕ) (imm : ℤ) → rd < 32 → first < 32 → sum_half rd first imm ≡ Some half → InRow half (WithImm Addi rd first imm)
@@ -183,7 +179,7 @@ srli_row rd first half imm h =
       small = s.small;
       row = form_in_operations half 0b00 _ s.in_group s.which_is refl ∙ ap (λ k. unless (eqb k 1) CSrli) s.twelfth;
       no_hint = ap (λ k. eqb k 0) s.below ∙ q.3;
-      is = λ i. WithImm Srli (s.high i) (source i) (m i);
+      is = λ i. Base (WithImm Srli (s.high i) (source i) (m i));
     }
 
 srai_row : (rd first half : ℕ) (imm : ℤ) → right_half 0b01 rd first imm ≡ Some half → Row CSrai half (WithImm Srai rd first imm)
@@ -196,7 +192,7 @@ srai_row rd first half imm h =
       small = s.small;
       row = form_in_operations half 0b01 _ s.in_group s.which_is refl ∙ ap (λ k. unless (eqb k 1) CSrai) s.twelfth;
       no_hint = ap (λ k. eqb k 0) s.below ∙ q.3;
-      is = λ i. WithImm Srai (s.high i) (source i) (m i);
+      is = λ i. Base (WithImm Srai (s.high i) (source i) (m i));
     }
 
 slli_row : (rd first half : ℕ) (imm : ℤ) → rd < 32 → slli_half rd first imm ≡ Some half → Row CSlli half (WithImm Slli rd first imm)
@@ -205,15 +201,15 @@ slli_row rd first half imm small h =
     let tests = and_three (eqb first rd) (not (eqb rd 0)) (is_amount imm) t.0 in
     let a = amount imm tests.2 in
     let f = fields_of 0b000_10 0 rd (as_word imm) half t.1 (omega arith) (omega arith) small a.below in
-    let source : rd_of half ≡ first = f.above ∙ sym (eqb-true first rd tests.0) in
+    let source : c_rd_of half ≡ first = f.above ∙ sym (eqb-true first rd tests.0) in
     let m : pos (amount_of half) ≡ imm = ap pos f.below ∙ a.value in
-    let no_rd : eqb (rd_of half) 0 ≡ false = ap (λ k. eqb k 0) f.above ∙ not-true (eqb rd 0) tests.1 in
+    let no_rd : eqb (c_rd_of half) 0 ≡ false = ap (λ k. eqb k 0) f.above ∙ not-true (eqb rd 0) tests.1 in
     let no_amount : eqb (amount_of half) 0 ≡ false = ap (λ k. eqb k 0) f.below ∙ a.some in
     record {
       small = f.small;
       row = form_in_group half 0b000_10 _ f.in_group refl ∙ ap (λ k. unless (eqb k 1) CSlli) f.twelfth;
-      no_hint = or_from (eqb (rd_of half) 0) (eqb (amount_of half) 0) no_rd no_amount;
-      is = λ i. WithImm Slli (f.above i) (source i) (m i);
+      no_hint = or_from (eqb (c_rd_of half) 0) (eqb (amount_of half) 0) no_rd no_amount;
+      is = λ i. Base (WithImm Slli (f.above i) (source i) (m i));
     }
 
 -- ---- c.andi, c.zext.b and c.not
@@ -228,9 +224,9 @@ andi_row rd first half imm h =
     let source : high_reg_of half ≡ first = r ∙ sym (eqb-true first rd tests.0) in
     record {
       small = s.fields.small;
-      row = form_in_operations half 0b10 (always CAndi) s.fields.in_group (omega (arith, s.fields.above, p)) refl;
+      row = form_in_operations half 0b10 (Some CAndi) s.fields.in_group (omega (arith, s.fields.above, p)) refl;
       no_hint = refl;
-      is = λ i. WithImm Andi (r i) (source i) (s.value i);
+      is = λ i. Base (WithImm Andi (r i) (source i) (s.value i));
     }
 
 record Unary (which rd half : ℕ) : Type 0 where
@@ -249,7 +245,7 @@ unary wanted which rd first half imm lt three h =
     let last : field half 2 3 ≡ which % 8 = omega (arith, f.below) in (
       record {
         small = f.small;
-        row = form_in_registers half 0b1_11 zcb_unary_row f.in_group operation registers refl ∙ ap (row_of zcb_unary) last;
+        row = form_in_registers half 0b1_11 _ f.in_group operation registers refl ∙ ap (row_of zcb_unary) last;
         high = high_is half rd 0b11 p.0 p.1 f.above;
       },
       sym (eqb-true first rd tests.0),
@@ -260,13 +256,13 @@ zext_row : (rd first half : ℕ) (imm : ℤ) → unary_half (pos 255) 0b11000 rd
 zext_row rd first half imm h =
     let q = unary (pos 255) 0b11000 rd first half imm (omega arith) refl h in
     let source : high_reg_of half ≡ first = q.0.high ∙ q.1 in
-    record { small = q.0.small; row = q.0.row; no_hint = refl; is = λ i. WithImm Andi (q.0.high i) (source i) (q.2 i) }
+    record { small = q.0.small; row = q.0.row; no_hint = refl; is = λ i. Base (WithImm Andi (q.0.high i) (source i) (q.2 i)) }
 
 not_row : (rd first half : ℕ) (imm : ℤ) → unary_half (negsuc 0) 0b11101 rd first imm ≡ Some half → Row CNot half (WithImm Xori rd first imm)
 not_row rd first half imm h =
     let q = unary (negsuc 0) 0b11101 rd first half imm (omega arith) refl h in
     let source : high_reg_of half ≡ first = q.0.high ∙ q.1 in
-    record { small = q.0.small; row = q.0.row; no_hint = refl; is = λ i. WithImm Xori (q.0.high i) (source i) (q.2 i) }
+    record { small = q.0.small; row = q.0.row; no_hint = refl; is = λ i. Base (WithImm Xori (q.0.high i) (source i) (q.2 i)) }
 
 -- ---- all of them
 
@@ -286,7 +282,7 @@ with_imm_row Srai rd first half imm small source h = (CSrai, srai_row rd first h
 
 -- ---- c.lui
 
-lui_value : (imm half : ℕ) → is_lui imm ≡ true → field half 12 1 ≡ field imm 5 1 → field half 2 5 ≡ field imm 0 5 → (lui_of half ≡ imm) × (0 < imm)
+lui_value : (imm half : ℕ) → is_c_lui_imm imm ≡ true → field half 12 1 ≡ field imm 5 1 → field half 2 5 ≡ field imm 0 5 → (lui_of half ≡ imm) × (0 < imm)
 lui_value imm half fits bit lower = ⊎_elim low high (or_cases (ltb 0 imm && ltb imm 32) (leb (2 ^ 20 - 32) imm && ltb imm (2 ^ 20)) fits)
   where
     low : (ltb 0 imm && ltb imm 32) ≡ true → (lui_of half ≡ imm) × (0 < imm)
@@ -303,21 +299,21 @@ lui_value imm half fits bit lower = ⊎_elim low high (or_cases (ltb 0 imm && lt
         let most = ltb-true imm (2 ^ 20) p.1 in
         (omega (arith, least, most, bit, lower), omega (arith, least))
 
-lui_row_is : (rd imm half : ℕ) → rd < 32 → upper_half Lui rd imm ≡ Some half → Row CLui half (Upper Lui rd imm)
+lui_row_is : (rd imm half : ℕ) → rd < 32 → lui_half Lui rd imm ≡ Some half → Row CLui half (Upper Lui rd imm)
 lui_row_is rd imm half small h =
-    let t = when_some (not (eqb rd 0) && (not (eqb rd 2) && is_lui imm)) (half_of 0b011_01 (field imm 5 1) rd (field imm 0 5)) half h in
-    let tests = and_three (not (eqb rd 0)) (not (eqb rd 2)) (is_lui imm) t.0 in
+    let t = when_some (not (eqb rd 0) && (not (eqb rd 2) && is_c_lui_imm imm)) (half_of 0b011_01 (field imm 5 1) rd (field imm 0 5)) half h in
+    let tests = and_three (not (eqb rd 0)) (not (eqb rd 2)) (is_c_lui_imm imm) t.0 in
     let f = fields_of 0b011_01 (field imm 5 1) rd (field imm 0 5) half t.1 (omega arith) (omega arith) small (omega arith) in
     let v = lui_value imm half tests.2 f.twelfth f.below in
     let some : eqb (lui_of half) 0 ≡ false = ne_eqb (lui_of half) 0 (λ e. omega (arith, v, e)) in
-    let not_sp : eqb (rd_of half) 2 ≡ false = ap (λ k. eqb k 2) f.above ∙ not-true (eqb rd 2) tests.1 in
+    let not_sp : eqb (c_rd_of half) 2 ≡ false = ap (λ k. eqb k 2) f.above ∙ not-true (eqb rd 2) tests.1 in
     record {
       small = f.small;
-      row = form_in_group half 0b011_01 lui_row f.in_group refl ∙ ap (λ b. unless b (cond (eqb (rd_of half) 2) CAddi16sp CLui)) some ∙ ap (λ b. Some (cond b CAddi16sp CLui)) not_sp;
+      row = form_in_group half 0b011_01 _ f.in_group refl ∙ ap (λ b. unless b (cond (eqb (c_rd_of half) 2) CAddi16sp CLui)) some ∙ ap (λ b. Some (cond b CAddi16sp CLui)) not_sp;
       no_hint = ap (λ k. eqb k 0) f.above ∙ not-true (eqb rd 0) tests.0;
-      is = λ i. Upper Lui (f.above i) (v.0 i);
+      is = λ i. Base (Upper Lui (f.above i) (v.0 i));
     }
 
-pub upper_row : (op : UpperOp) (rd imm half : ℕ) → rd < 32 → upper_half op rd imm ≡ Some half → InRow half (Upper op rd imm)
+pub upper_row : (op : UpperOp) (rd imm half : ℕ) → rd < 32 → lui_half op rd imm ≡ Some half → InRow half (Upper op rd imm)
 upper_row Lui rd imm half small h = (CLui, lui_row_is rd imm half small h)
 upper_row Auipc rd imm half small h = absurd cc

@@ -7,11 +7,12 @@ use Rattle.rv_decode.specs.declared.instr.Instr.TheVariants.{Branch, Jal, Jalr}
 use Rattle.rv_decode.specs.declared.instr.BranchOp.{BranchOp}
 use Rattle.rv_decode.specs.declared.instr.BranchOp.TheVariants.{Beq, Bne, Blt, Bge, Bltu, Bgeu}
 use Rattle.rv_decode.specs.Bits.{field, signed}
-use Rattle.zc_decode.specs.Fields.{branch_of, group_of, high_reg_of, jump_of, rd_of, rs2_of}
-use Rattle.zc_decode.specs.Rows.{always, jump_row, unless}
+use Rattle.zc_decode.specs.Fields.{cb_offset_of, group_of, high_reg_of, cj_offset_of, c_rd_of, c_rs2_of}
+use Rattle.zc_decode.specs.Rows.{unless}
 use Rattle.zc_decode.specs.declared.form.Form.TheVariants.{CBeqz, CBnez, CEbreak, CJ, CJal, CJalr, CJr}
+use Rattle.zc_decode.specs.declared.short.Short.TheVariants.{Base}
 use Rattle.zc_decode.proofs.FormLaws.{form_in_group}
-use Rattle.zc_encode.specs.Halves.{branch_half, half_of, is_popular, is_signed, jal_half, jalr_half, jump_half, low_bits, zero_half}
+use Rattle.zc_encode.specs.Halves.{beqz_half, branch_half, half_of, is_popular, is_signed, jal_half, jalr_half, jump_half, low_bits}
 use Rattle.zc_encode.proofs.HalfLaws.{branch_is, fields_of, high_is, jump_is}
 use Rattle.zc_encode.proofs.NumberLaws.{and_three, bit_cases, int_is, popular, signed_nine, signed_twelve, when_some}
 use Rattle.zc_encode.proofs.RowFits.{InRow, Row}
@@ -21,7 +22,7 @@ use Rattle.zc_encode.proofs.RowFits.{InRow, Row}
 record Jump (group half : ℕ) (distance : ℤ) : Type 0 where
   small : half < 2 ^ 16
   in_group : group_of half ≡ group
-  value : jump_of half ≡ distance
+  value : cj_offset_of half ≡ distance
 
 jump : (group half : ℕ) (distance : ℤ) → group < 32 → jump_half group distance ≡ Some half → Jump group half distance
 jump group half distance five h =
@@ -42,11 +43,11 @@ jal_row rd half distance h = by_tests (eqb rd 1) (eqb rd 0) refl refl h
     by_tests true b is _ g =
         let j = jump 0b001_01 half distance (omega arith) g in
         let r : 1 ≡ rd = sym (eqb-true rd 1 is) in
-        (CJal, record { small = j.small; row = form_in_group half 0b001_01 (always CJal) j.in_group refl; no_hint = refl; is = λ i. Jal (r i) (j.value i) })
+        (CJal, record { small = j.small; row = form_in_group half 0b001_01 (Some CJal) j.in_group refl; no_hint = refl; is = λ i. Base (Jal (r i) (j.value i)) })
     by_tests false true _ is g =
         let j = jump 0b101_01 half distance (omega arith) g in
         let r : 0 ≡ rd = sym (eqb-true rd 0 is) in
-        (CJ, record { small = j.small; row = form_in_group half 0b101_01 (always CJ) j.in_group refl; no_hint = refl; is = λ i. Jal (r i) (j.value i) })
+        (CJ, record { small = j.small; row = form_in_group half 0b101_01 (Some CJ) j.in_group refl; no_hint = refl; is = λ i. Base (Jal (r i) (j.value i)) })
     by_tests false false _ _ g = absurd cc
 
 -- ---- c.jr and c.jalr
@@ -57,25 +58,25 @@ jalr_row rd base half imm small h =
     let tests = and_three (ltb rd 2) (not (eqb base 0)) (int_eq imm (pos 0)) t.0 in
     let two = ltb-true rd 2 tests.0 in
     let f = fields_of 0b100_10 rd base 0 half t.1 (omega arith) two small (omega arith) in
-    let some : eqb (rd_of half) 0 ≡ false = ap (λ k. eqb k 0) f.above ∙ not-true (eqb base 0) tests.1 in
-    let none : eqb (rs2_of half) 0 ≡ true = ap (λ k. eqb k 0) f.below in
+    let some : eqb (c_rd_of half) 0 ≡ false = ap (λ k. eqb k 0) f.above ∙ not-true (eqb base 0) tests.1 in
+    let none : eqb (c_rs2_of half) 0 ≡ true = ap (λ k. eqb k 0) f.below in
     let m : pos 0 ≡ imm = sym (int_is imm (pos 0) tests.2) in
-    let group = form_in_group half 0b100_10 jump_row f.in_group refl ∙ cond-true (eqb (rs2_of half) 0) _ _ none in
+    let group = form_in_group half 0b100_10 _ f.in_group refl ∙ cond-true (eqb (c_rs2_of half) 0) _ _ none in
     ⊎_elim (λ e. (
       CJr,
       record {
         small = f.small;
-        row = group ∙ ap (λ k. cond (eqb k 0) (unless (eqb (rd_of half) 0) CJr) (cond (eqb (rd_of half) 0) (Some CEbreak) (Some CJalr))) (f.twelfth ∙ e) ∙ ap (λ b. unless b CJr) some;
+        row = group ∙ ap (λ k. cond (eqb k 0) (unless (eqb (c_rd_of half) 0) CJr) (cond (eqb (c_rd_of half) 0) (Some CEbreak) (Some CJalr))) (f.twelfth ∙ e) ∙ ap (λ b. unless b CJr) some;
         no_hint = refl;
-        is = λ i. Jalr (sym e i) (f.above i) (m i);
+        is = λ i. Base (Jalr (sym e i) (f.above i) (m i));
       },
     )) (λ e. (
       CJalr,
       record {
         small = f.small;
-        row = group ∙ ap (λ k. cond (eqb k 0) (unless (eqb (rd_of half) 0) CJr) (cond (eqb (rd_of half) 0) (Some CEbreak) (Some CJalr))) (f.twelfth ∙ e) ∙ ap (λ b. cond b (Some CEbreak) (Some CJalr)) some;
+        row = group ∙ ap (λ k. cond (eqb k 0) (unless (eqb (c_rd_of half) 0) CJr) (cond (eqb (c_rd_of half) 0) (Some CEbreak) (Some CJalr))) (f.twelfth ∙ e) ∙ ap (λ b. cond b (Some CEbreak) (Some CJalr)) some;
         no_hint = refl;
-        is = λ i. Jalr (sym e i) (f.above i) (m i);
+        is = λ i. Base (Jalr (sym e i) (f.above i) (m i));
       },
     )) (bit_cases rd two)
 
@@ -86,9 +87,9 @@ record OnZero (group first second half : ℕ) (distance : ℤ) : Type 0 where
   in_group : group_of half ≡ group
   high : high_reg_of half ≡ first
   none : 0 ≡ second
-  value : branch_of half ≡ distance
+  value : cb_offset_of half ≡ distance
 
-on_zero : (group first second half : ℕ) (distance : ℤ) → group < 32 → zero_half group first second distance ≡ Some half → OnZero group first second half distance
+on_zero : (group first second half : ℕ) (distance : ℤ) → group < 32 → beqz_half group first second distance ≡ Some half → OnZero group first second half distance
 on_zero group first second half distance five h =
     let n = low_bits 9 distance in
     let t = when_some (eqb second 0 && (is_popular first && is_signed 9 2 distance)) (half_of group (field n 8 1) (field n 3 2 * 8 + (first - 8)) (field n 6 2 * 8 + field n 1 2 * 2 + field n 5 1)) half h in
@@ -107,15 +108,15 @@ on_zero group first second half distance five h =
           value = ap (signed 9) (branch_is n half (first - 8) lt whole (omega (arith, p)) f.twelfth f.above f.below) ∙ value;
         }
 
-beq_row : (first second half : ℕ) (distance : ℤ) → zero_half 0b110_01 first second distance ≡ Some half → Row CBeqz half (Branch Beq first second distance)
+beq_row : (first second half : ℕ) (distance : ℤ) → beqz_half 0b110_01 first second distance ≡ Some half → Row CBeqz half (Branch Beq first second distance)
 beq_row first second half distance h =
     let z = on_zero 0b110_01 first second half distance (omega arith) h in
-    record { small = z.small; row = form_in_group half 0b110_01 (always CBeqz) z.in_group refl; no_hint = refl; is = cond-false (ltb (high_reg_of half) 0) _ _ (le-ltb (high_reg_of half) 0 (omega arith)) ∙ (λ i. Branch Beq (z.high i) (z.none i) (z.value i)) }
+    record { small = z.small; row = form_in_group half 0b110_01 (Some CBeqz) z.in_group refl; no_hint = refl; is = ap Base (cond-false (ltb (high_reg_of half) 0) _ _ (le-ltb (high_reg_of half) 0 (omega arith)) ∙ (λ i. Branch Beq (z.high i) (z.none i) (z.value i))) }
 
-bne_row : (first second half : ℕ) (distance : ℤ) → zero_half 0b111_01 first second distance ≡ Some half → Row CBnez half (Branch Bne first second distance)
+bne_row : (first second half : ℕ) (distance : ℤ) → beqz_half 0b111_01 first second distance ≡ Some half → Row CBnez half (Branch Bne first second distance)
 bne_row first second half distance h =
     let z = on_zero 0b111_01 first second half distance (omega arith) h in
-    record { small = z.small; row = form_in_group half 0b111_01 (always CBnez) z.in_group refl; no_hint = refl; is = cond-false (ltb (high_reg_of half) 0) _ _ (le-ltb (high_reg_of half) 0 (omega arith)) ∙ (λ i. Branch Bne (z.high i) (z.none i) (z.value i)) }
+    record { small = z.small; row = form_in_group half 0b111_01 (Some CBnez) z.in_group refl; no_hint = refl; is = ap Base (cond-false (ltb (high_reg_of half) 0) _ _ (le-ltb (high_reg_of half) 0 (omega arith)) ∙ (λ i. Branch Bne (z.high i) (z.none i) (z.value i))) }
 
 pub branch_row : (op : BranchOp) (first second half : ℕ) (distance : ℤ) → branch_half op first second distance ≡ Some half → InRow half (Branch op first second distance)
 branch_row Beq first second half distance h = (CBeqz, beq_row first second half distance h)

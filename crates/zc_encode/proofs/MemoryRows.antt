@@ -9,9 +9,10 @@ use Rattle.rv_decode.specs.declared.instr.StoreOp.{StoreOp}
 use Rattle.rv_decode.specs.declared.instr.StoreOp.TheVariants.{Sb, Sh, Sw}
 use Rattle.rv_decode.specs.Bits.{as_word, field}
 use Rattle.rv_decode.specs.Decode.{row_of}
-use Rattle.zc_decode.specs.Fields.{byte_offset_of, group_of, half_offset_of, high_reg_of, low_reg_of, lwsp_of, rd_of, swsp_of, word_offset_of}
-use Rattle.zc_decode.specs.Rows.{always, unless, zcb_memory, zcb_memory_row}
+use Rattle.zc_decode.specs.Fields.{byte_offset_of, group_of, half_offset_of, high_reg_of, low_reg_of, lwsp_of, c_rd_of, swsp_of, word_offset_of}
+use Rattle.zc_decode.specs.Rows.{unless, zcb_memory}
 use Rattle.zc_decode.specs.declared.form.Form.TheVariants.{CLbu, CLh, CLhu, CLw, CLwsp, CSb, CSh, CSw, CSwsp}
+use Rattle.zc_decode.specs.declared.short.Short.TheVariants.{Base}
 use Rattle.zc_decode.proofs.FormLaws.{form_in_group}
 use Rattle.zc_encode.specs.Halves.{byte_half, half_half, half_of, is_offset, is_popular, load_half, lwsp_half, store_half, swsp_half, word_half}
 use Rattle.zc_encode.proofs.HalfLaws.{byte_offset_is, fields_of, half_offset_is, high_is, low_is, lwsp_is, swsp_is, word_offset_is}
@@ -52,12 +53,12 @@ word_access group r base half imm five h =
 lw_row : (rd base half : ℕ) (imm : ℤ) → word_half 0b010_00 rd base imm ≡ Some half → Row CLw half (Load Lw rd base imm)
 lw_row rd base half imm h =
     let a = word_access 0b010_00 rd base half imm (omega arith) h in
-    record { small = a.small; row = form_in_group half 0b010_00 (always CLw) a.in_group refl; no_hint = refl; is = λ i. Load Lw (a.low i) (a.high i) (a.value i) }
+    record { small = a.small; row = form_in_group half 0b010_00 (Some CLw) a.in_group refl; no_hint = refl; is = λ i. Base (Load Lw (a.low i) (a.high i) (a.value i)) }
 
 sw_row : (source base half : ℕ) (imm : ℤ) → word_half 0b110_00 source base imm ≡ Some half → Row CSw half (Store Sw source base imm)
 sw_row source base half imm h =
     let a = word_access 0b110_00 source base half imm (omega arith) h in
-    record { small = a.small; row = form_in_group half 0b110_00 (always CSw) a.in_group refl; no_hint = refl; is = λ i. Store Sw (a.low i) (a.high i) (a.value i) }
+    record { small = a.small; row = form_in_group half 0b110_00 (Some CSw) a.in_group refl; no_hint = refl; is = λ i. Base (Store Sw (a.low i) (a.high i) (a.value i)) }
 
 -- ---- c.lbu and c.sb
 
@@ -96,14 +97,14 @@ lbu_row rd base half imm h =
     let b = byte_access 0b00 rd base half imm (omega arith) h in
     let a = b.access in
     let found : row_of zcb_memory (0b00 * 2 + b.bit) ≡ Some CLbu = ⊎_elim (λ e. ap (λ k. row_of zcb_memory (0b00 * 2 + k)) e) (λ e. ap (λ k. row_of zcb_memory (0b00 * 2 + k)) e) b.one in
-    record { small = a.small; row = form_in_group half 0b100_00 zcb_memory_row a.in_group refl ∙ ap (row_of zcb_memory) b.row ∙ found; no_hint = refl; is = λ i. Load Lbu (a.low i) (a.high i) (a.value i) }
+    record { small = a.small; row = form_in_group half 0b100_00 _ a.in_group refl ∙ ap (row_of zcb_memory) b.row ∙ found; no_hint = refl; is = λ i. Base (Load Lbu (a.low i) (a.high i) (a.value i)) }
 
 sb_row : (source base half : ℕ) (imm : ℤ) → byte_half 0b10 source base imm ≡ Some half → Row CSb half (Store Sb source base imm)
 sb_row source base half imm h =
     let b = byte_access 0b10 source base half imm (omega arith) h in
     let a = b.access in
     let found : row_of zcb_memory (0b10 * 2 + b.bit) ≡ Some CSb = ⊎_elim (λ e. ap (λ k. row_of zcb_memory (0b10 * 2 + k)) e) (λ e. ap (λ k. row_of zcb_memory (0b10 * 2 + k)) e) b.one in
-    record { small = a.small; row = form_in_group half 0b100_00 zcb_memory_row a.in_group refl ∙ ap (row_of zcb_memory) b.row ∙ found; no_hint = refl; is = λ i. Store Sb (a.low i) (a.high i) (a.value i) }
+    record { small = a.small; row = form_in_group half 0b100_00 _ a.in_group refl ∙ ap (row_of zcb_memory) b.row ∙ found; no_hint = refl; is = λ i. Base (Store Sb (a.low i) (a.high i) (a.value i)) }
 
 -- ---- c.lhu, c.lh and c.sh
 
@@ -137,19 +138,19 @@ lhu_row : (rd base half : ℕ) (imm : ℤ) → half_half 0b01 0 rd base imm ≡ 
 lhu_row rd base half imm h =
     let b = half_access 0b01 0 rd base half imm (omega arith) (omega arith) h in
     let a = b.access in
-    record { small = a.small; row = form_in_group half 0b100_00 zcb_memory_row a.in_group refl ∙ ap (row_of zcb_memory) b.row; no_hint = refl; is = λ i. Load Lhu (a.low i) (a.high i) (a.value i) }
+    record { small = a.small; row = form_in_group half 0b100_00 _ a.in_group refl ∙ ap (row_of zcb_memory) b.row; no_hint = refl; is = λ i. Base (Load Lhu (a.low i) (a.high i) (a.value i)) }
 
 lh_row : (rd base half : ℕ) (imm : ℤ) → half_half 0b01 1 rd base imm ≡ Some half → Row CLh half (Load Lh rd base imm)
 lh_row rd base half imm h =
     let b = half_access 0b01 1 rd base half imm (omega arith) (omega arith) h in
     let a = b.access in
-    record { small = a.small; row = form_in_group half 0b100_00 zcb_memory_row a.in_group refl ∙ ap (row_of zcb_memory) b.row; no_hint = refl; is = λ i. Load Lh (a.low i) (a.high i) (a.value i) }
+    record { small = a.small; row = form_in_group half 0b100_00 _ a.in_group refl ∙ ap (row_of zcb_memory) b.row; no_hint = refl; is = λ i. Base (Load Lh (a.low i) (a.high i) (a.value i)) }
 
 sh_row : (source base half : ℕ) (imm : ℤ) → half_half 0b11 0 source base imm ≡ Some half → Row CSh half (Store Sh source base imm)
 sh_row source base half imm h =
     let b = half_access 0b11 0 source base half imm (omega arith) (omega arith) h in
     let a = b.access in
-    record { small = a.small; row = form_in_group half 0b100_00 zcb_memory_row a.in_group refl ∙ ap (row_of zcb_memory) b.row; no_hint = refl; is = λ i. Store Sh (a.low i) (a.high i) (a.value i) }
+    record { small = a.small; row = form_in_group half 0b100_00 _ a.in_group refl ∙ ap (row_of zcb_memory) b.row; no_hint = refl; is = λ i. Base (Store Sh (a.low i) (a.high i) (a.value i)) }
 
 -- ---- c.lwsp and c.swsp
 
@@ -161,13 +162,13 @@ lwsp_row rd base half imm h small =
     let o = offset 256 4 imm (omega arith) tests.2 in
     let f = fields_of 0b010_10 (field n 5 1) rd (field n 2 3 * 4 + field n 6 2) half t.1 (omega arith) (omega arith) small (omega arith) in
     let is_base : 2 ≡ base = sym (eqb-true base 2 tests.0) in
-    let some : eqb (rd_of half) 0 ≡ false = ap (λ r. eqb r 0) f.above ∙ not-true (eqb rd 0) tests.1 in
+    let some : eqb (c_rd_of half) 0 ≡ false = ap (λ r. eqb r 0) f.above ∙ not-true (eqb rd 0) tests.1 in
     let value : pos (lwsp_of half) ≡ imm = ap pos (lwsp_is n half o.below o.whole f.twelfth f.below) ∙ o.value in
     record {
       small = f.small;
       row = form_in_group half 0b010_10 _ f.in_group refl ∙ ap (λ b. unless b CLwsp) some;
       no_hint = refl;
-      is = λ i. Load Lw (f.above i) (is_base i) (value i);
+      is = λ i. Base (Load Lw (f.above i) (is_base i) (value i));
     }
 
 swsp_row : (source base half : ℕ) (imm : ℤ) → swsp_half source base imm ≡ Some half → source < 32 → Row CSwsp half (Store Sw source base imm)
@@ -179,7 +180,7 @@ swsp_row source base half imm h small =
     let f = fields_of 0b110_10 (field n 5 1) (field n 2 3 * 4 + field n 6 2) source half t.1 (omega arith) (omega arith) (omega arith) small in
     let is_base : 2 ≡ base = sym (eqb-true base 2 tests.0) in
     let value : pos (swsp_of half) ≡ imm = ap pos (swsp_is n half o.below o.whole f.twelfth f.above) ∙ o.value in
-    record { small = f.small; row = form_in_group half 0b110_10 (always CSwsp) f.in_group refl; no_hint = refl; is = λ i. Store Sw (f.below i) (is_base i) (value i) }
+    record { small = f.small; row = form_in_group half 0b110_10 (Some CSwsp) f.in_group refl; no_hint = refl; is = λ i. Base (Store Sw (f.below i) (is_base i) (value i)) }
 
 -- ---- all of them
 

@@ -8,9 +8,9 @@ use Rattle.rv_decode.specs.declared.instr.RegOp.{RegOp}
 use Rattle.rv_decode.specs.declared.instr.RegOp.TheVariants.{Add, Sub, Sll, Slt, Sltu, Xor, Srl, Sra, Or, And, Mul, Mulh, Mulhsu, Mulhu, Div, Divu, Rem, Remu}
 use Rattle.rv_decode.specs.Bits.{field}
 use Rattle.rv_decode.specs.Normal.{greater_first}
-use Rattle.zc_decode.specs.Fields.{group_of, high_reg_of, low_reg_of, rd_of, rs2_of}
-use Rattle.zc_decode.specs.Rows.{always, jump_row}
+use Rattle.zc_decode.specs.Fields.{group_of, high_reg_of, low_reg_of, c_rd_of, c_rs2_of}
 use Rattle.zc_decode.specs.declared.form.Form.TheVariants.{CAdd, CAnd, CMul, CMv, COr, CSub, CXor}
+use Rattle.zc_decode.specs.declared.short.Short.TheVariants.{Base}
 use Rattle.zc_decode.proofs.FormLaws.{form_in_group, form_in_registers}
 use Rattle.zc_encode.specs.Halves.{add_half, either_half, half_of, is_popular, pair_half, plus_half, with_reg_half}
 use Rattle.zc_encode.proofs.HalfLaws.{fields_of, high_is, low_is}
@@ -70,32 +70,32 @@ sub_row rd first second half h = by_test (eqb first rd) refl h
     by_test true is g =
         let p = pair 0 0b00 rd second half (omega arith) (omega arith) g in
         let source : high_reg_of half ≡ first = p.high ∙ sym (eqb-true first rd is) in
-        record { small = p.small; row = form_in_registers half 0b0_00 (always CSub) p.in_group p.operation p.row refl; no_hint = refl; is = λ i. WithReg Sub (p.high i) (source i) (p.low i) }
+        record { small = p.small; row = form_in_registers half 0b0_00 (Some CSub) p.in_group p.operation p.row refl; no_hint = refl; is = λ i. Base (WithReg Sub (p.high i) (source i) (p.low i)) }
     by_test false _ g = absurd cc
 
 xor_row : (rd first second half : ℕ) → second ≤ first → with_reg_half Xor rd first second ≡ Some half → Row CXor half (WithReg Xor rd first second)
 xor_row rd first second half le h =
     let e = either Xor 0 0b01 rd first second half (omega arith) (omega arith) le h in
     let p = e.pair in
-    record { small = p.small; row = form_in_registers half 0b0_01 (always CXor) p.in_group p.operation p.row refl; no_hint = refl; is = (λ i. greater_first Xor (p.high i) (p.high i) (p.low i)) ∙ e.same }
+    record { small = p.small; row = form_in_registers half 0b0_01 (Some CXor) p.in_group p.operation p.row refl; no_hint = refl; is = ap Base ((λ i. greater_first Xor (p.high i) (p.high i) (p.low i)) ∙ e.same) }
 
 or_row : (rd first second half : ℕ) → second ≤ first → with_reg_half Or rd first second ≡ Some half → Row COr half (WithReg Or rd first second)
 or_row rd first second half le h =
     let e = either Or 0 0b10 rd first second half (omega arith) (omega arith) le h in
     let p = e.pair in
-    record { small = p.small; row = form_in_registers half 0b0_10 (always COr) p.in_group p.operation p.row refl; no_hint = refl; is = (λ i. greater_first Or (p.high i) (p.high i) (p.low i)) ∙ e.same }
+    record { small = p.small; row = form_in_registers half 0b0_10 (Some COr) p.in_group p.operation p.row refl; no_hint = refl; is = ap Base ((λ i. greater_first Or (p.high i) (p.high i) (p.low i)) ∙ e.same) }
 
 and_row : (rd first second half : ℕ) → second ≤ first → with_reg_half And rd first second ≡ Some half → Row CAnd half (WithReg And rd first second)
 and_row rd first second half le h =
     let e = either And 0 0b11 rd first second half (omega arith) (omega arith) le h in
     let p = e.pair in
-    record { small = p.small; row = form_in_registers half 0b0_11 (always CAnd) p.in_group p.operation p.row refl; no_hint = refl; is = (λ i. greater_first And (p.high i) (p.high i) (p.low i)) ∙ e.same }
+    record { small = p.small; row = form_in_registers half 0b0_11 (Some CAnd) p.in_group p.operation p.row refl; no_hint = refl; is = ap Base ((λ i. greater_first And (p.high i) (p.high i) (p.low i)) ∙ e.same) }
 
 mul_row : (rd first second half : ℕ) → second ≤ first → with_reg_half Mul rd first second ≡ Some half → Row CMul half (WithReg Mul rd first second)
 mul_row rd first second half le h =
     let e = either Mul 1 0b10 rd first second half (omega arith) (omega arith) le h in
     let p = e.pair in
-    record { small = p.small; row = form_in_registers half 0b1_10 (always CMul) p.in_group p.operation p.row refl; no_hint = refl; is = (λ i. greater_first Mul (p.high i) (p.high i) (p.low i)) ∙ e.same }
+    record { small = p.small; row = form_in_registers half 0b1_10 (Some CMul) p.in_group p.operation p.row refl; no_hint = refl; is = ap Base ((λ i. greater_first Mul (p.high i) (p.high i) (p.low i)) ∙ e.same) }
 
 -- ---- c.add
 
@@ -105,13 +105,13 @@ plus_row rd second half i small source h same =
     let t = when_some (not (eqb rd 0) && not (eqb second 0)) (half_of 0b100_10 1 rd second) half h in
     let tests = and_parts (not (eqb rd 0)) (not (eqb second 0)) t.0 in
     let f = fields_of 0b100_10 1 rd second half t.1 (omega arith) (omega arith) small source in
-    let some : eqb (rs2_of half) 0 ≡ false = ap (λ k. eqb k 0) f.below ∙ not-true (eqb second 0) tests.1 in
-    let target : eqb (rd_of half) 0 ≡ false = ap (λ k. eqb k 0) f.above ∙ not-true (eqb rd 0) tests.0 in
+    let some : eqb (c_rs2_of half) 0 ≡ false = ap (λ k. eqb k 0) f.below ∙ not-true (eqb second 0) tests.1 in
+    let target : eqb (c_rd_of half) 0 ≡ false = ap (λ k. eqb k 0) f.above ∙ not-true (eqb rd 0) tests.0 in
     record {
       small = f.small;
-      row = form_in_group half 0b100_10 jump_row f.in_group refl ∙ cond-false (eqb (rs2_of half) 0) _ _ some ∙ ap (λ k. cond (eqb k 0) (Some CMv) (Some CAdd)) f.twelfth;
+      row = form_in_group half 0b100_10 _ f.in_group refl ∙ cond-false (eqb (c_rs2_of half) 0) _ _ some ∙ ap (λ k. cond (eqb k 0) (Some CMv) (Some CAdd)) f.twelfth;
       no_hint = target;
-      is = cond-false (eqb (rs2_of half) 0) _ _ some ∙ cond-false (eqb (rd_of half) 0) _ _ target ∙ (λ k. greater_first Add (f.above k) (f.above k) (f.below k)) ∙ same;
+      is = ap Base (cond-false (eqb (c_rs2_of half) 0) _ _ some ∙ cond-false (eqb (c_rd_of half) 0) _ _ target ∙ (λ k. greater_first Add (f.above k) (f.above k) (f.below k)) ∙ same);
     }
 
 add_row : (rd first second half : ℕ) → rd < 32 → first < 32 → second ≤ first → add_half rd first second ≡ Some half → Row CAdd half (WithReg Add rd first second)

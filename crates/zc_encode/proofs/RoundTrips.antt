@@ -1,16 +1,18 @@
--- Each halfword of the tables that is no hint is found again by its expansion, or one of an earlier row is. This is computed, 256
+-- Each halfword of the tables that is no hint is found again by what it spells, or one of an earlier row is. This is computed, 256
 -- halfwords at a time, for each group that has a row.
 use Rattle.std.proofs.Common.{◌≡◌, ℕ, zero, suc, ◌+◌, ◌*◌, ◌/◌, ◌%◌, ◌^◌, ◌<◌, Option, Some, None, Bool, true, false, refl, sym, ap, ◌∙◌, arith, eqb, ltb}
 use Rattle.std.specs.Prelude.{◌||◌}
-use Rattle.std.specs.Option.{option_and_then}
+use Rattle.std.specs.Option.{option_flatten}
 use Rattle.std.proofs.lemmas.Bool.{agree_below, agree_below_at}
 use Rattle.rv_decode.specs.Decode.{row_of}
-use Rattle.rv_decode.specs.Normal.{normal_of}
 use Rattle.zc_decode.specs.Fields.{group_of}
-use Rattle.zc_decode.specs.Halfwords.{expansion}
+use Rattle.zc_decode.specs.Halfwords.{spelled}
 use Rattle.zc_decode.specs.Hints.{is_hint, row_number}
 use Rattle.zc_decode.specs.Rows.{form_of, groups}
 use Rattle.zc_decode.specs.declared.form.Form.{Form}
+use Rattle.zc_decode.specs.declared.short.Short.{Short}
+use Rattle.zc_decode.specs.declared.short.Short.TheVariants.{Base}
+use Rattle.zc_encode.specs.Encoding.{normal_short}
 use Rattle.zc_encode.specs.Halves.{half_for}
 
 -- whether a halfword is of an earlier row
@@ -23,10 +25,15 @@ abbrev pub is_found : Form → ℕ → Option ℕ → Bool
 is_found form half None = false
 is_found form half (Some k) = eqb k half || is_earlier form (form_of k)
 
+-- the same for what it spells, in normal form
+abbrev pub is_found_for : Form → ℕ → Short → Bool
+is_found_for form half (Base i) = is_found form half (half_for i)
+is_found_for form half other = false
+
 -- whether a halfword with this row comes back
 abbrev pub comes_back : ℕ → Option Form → Bool
 comes_back half None = true
-comes_back half (Some form) = is_hint form half || is_found form half (half_for (normal_of (expansion form half)))
+comes_back half (Some form) = is_hint form half || is_found_for form half (normal_short (spelled form half))
 
 -- the same for a number, which the match computes once
 tried : (ℕ → Option Form) → ℕ → Bool
@@ -44,29 +51,34 @@ half_at group high low = group / 4 * 8192 + (high * 256 + low) * 4 + group % 4
 page : ℕ → (ℕ → Option Form) → ℕ → Bool
 page group row high = agree_below (λ low. tried row (half_at group high low)) yes 256
 
--- whether those of a group come back; if no row is of the group, there are none
-all_come_back : ℕ → Option (ℕ → Option Form) → Bool
-all_come_back group None = true
-all_come_back group (Some row) = agree_below (page group row) yes 8
+-- the row of a halfword of a group
+row_in : ℕ → ℕ → Option Form
+row_in group half = option_flatten (row_of (groups half) group)
 
-in_groups : agree_below (λ group. all_come_back group (row_of groups group)) yes 32 ≡ true
-unfolding form_of tried half_at page all_come_back yes
+-- whether those of a group come back
+all_come_back : ℕ → Bool
+all_come_back group = agree_below (page group (row_in group)) yes 8
+
+in_groups : agree_below all_come_back yes 32 ≡ true
+unfolding form_of tried half_at page row_in all_come_back yes
 in_groups = refl
 
 pub each_comes_back : (half : ℕ) → half < 2 ^ 16 → comes_back half (form_of half) ≡ true
-unfolding form_of tried half_at page all_come_back yes
-each_comes_back half small = in_row (row_of groups (group_of half)) (agree_below_at (λ group. all_come_back group (row_of groups group)) yes 32 (group_of half) in_groups (omega arith))
+unfolding form_of tried half_at page row_in all_come_back yes
+each_comes_back half small = same half ∙ sym (ap (tried row) whole) ∙ here
   where
+    row : ℕ → Option Form
+    row = row_in (group_of half)
+
     whole : half_at (group_of half) (half / 1024 % 8) (half / 4 % 256) ≡ half
     whole = omega arith
 
-    same : (row : ℕ → Option Form) (n : ℕ) → comes_back n (row n) ≡ tried row n
-    same row zero = refl
-    same row (suc n) = refl
+    same : (n : ℕ) → comes_back n (row n) ≡ tried row n
+    same zero = refl
+    same (suc n) = refl
 
-    in_row : (o : Option (ℕ → Option Form)) → all_come_back (group_of half) o ≡ true → comes_back half (option_and_then (λ row. row half) o) ≡ true
-    in_row None h = refl
-    in_row (Some row) h =
-        let on_page = agree_below_at (page (group_of half) row) yes 8 (half / 1024 % 8) h (omega arith) in
-        let here = agree_below_at (λ low. tried row (half_at (group_of half) (half / 1024 % 8) low)) yes 256 (half / 4 % 256) on_page (omega arith) in
-        same row half ∙ sym (ap (tried row) whole) ∙ here
+    on_page : page (group_of half) row (half / 1024 % 8) ≡ true
+    on_page = agree_below_at (page (group_of half) row) yes 8 (half / 1024 % 8) (agree_below_at all_come_back yes 32 (group_of half) in_groups (omega arith)) (omega arith)
+
+    here : tried row (half_at (group_of half) (half / 1024 % 8) (half / 4 % 256)) ≡ true
+    here = agree_below_at (λ low. tried row (half_at (group_of half) (half / 1024 % 8) low)) yes 256 (half / 4 % 256) on_page (omega arith)

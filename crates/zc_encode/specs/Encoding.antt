@@ -1,7 +1,7 @@
 -- Which halfword stands for an instruction: that of the first row of the tables which has one with the same normal form.
 use Rattle.std.specs.Prelude.{◌≡◌, ℕ, ◌<◌, ◌^◌, ◌⊎◌, Option, Some, None, false}
 use Rattle.rv_decode.specs.Normal.{normal_of}
-use Rattle.zc_decode.specs.Halfwords.{expansion}
+use Rattle.zc_decode.specs.Halfwords.{spelled}
 use Rattle.zc_decode.specs.Hints.{is_hint, row_number}
 use Rattle.zc_decode.specs.Rows.{form_of}
 use Rattle.zc_decode.specs.declared.form.Form.{Form}
@@ -24,7 +24,7 @@ pub record Spells (form : Form) (half : ℕ) (s : Short) : Type 0 where
   pub small : half < 2 ^ 16
   pub row : form_of half ≡ Some form
   pub no_hint : is_hint form half ≡ false
-  pub same : normal_short (Base (expansion form half)) ≡ normal_short s
+  pub same : normal_short (spelled form half) ≡ normal_short s
 
 -- a halfword that spells it, while every other one that does is of a later row
 pub record IsFirst (half : ℕ) (s : Short) : Type 0 where

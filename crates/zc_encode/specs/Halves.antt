@@ -226,12 +226,12 @@ with_reg_half Remu rd first second = None
 -- ---- upper immediates, jumps and branches
 
 -- the 20 bits of c.lui: six bits with a sign, and not 0
-abbrev pub is_lui : ℕ → Bool
-is_lui imm = (nat_lt 0 imm && nat_lt imm 32) || (nat_le (2 ^ 20 - 32) imm && nat_lt imm (2 ^ 20))
+abbrev pub is_c_lui_imm : ℕ → Bool
+is_c_lui_imm imm = (nat_lt 0 imm && nat_lt imm 32) || (nat_le (2 ^ 20 - 32) imm && nat_lt imm (2 ^ 20))
 
-abbrev pub upper_half : UpperOp → ℕ → ℕ → Option ℕ
-upper_half Lui rd imm = when (not (rd == 0) && (not (rd == 2) && is_lui imm)) (half_of 0b011_01 (field imm 5 1) rd (field imm 0 5))
-upper_half Auipc rd imm = None
+abbrev pub lui_half : UpperOp → ℕ → ℕ → Option ℕ
+lui_half Lui rd imm = when (not (rd == 0) && (not (rd == 2) && is_c_lui_imm imm)) (half_of 0b011_01 (field imm 5 1) rd (field imm 0 5))
+lui_half Auipc rd imm = None
 
 -- c.j and c.jal
 abbrev pub jump_half : ℕ → ℤ → Option ℕ
@@ -251,15 +251,15 @@ abbrev pub jalr_half : ℕ → ℕ → ℤ → Option ℕ
 jalr_half rd base imm = when (nat_lt rd 2 && (not (base == 0) && int_eq imm (pos 0))) (half_of 0b100_10 rd base 0)
 
 -- c.beqz and c.bnez
-abbrev pub zero_half : ℕ → ℕ → ℕ → ℤ → Option ℕ
-zero_half group first second distance =
+abbrev pub beqz_half : ℕ → ℕ → ℕ → ℤ → Option ℕ
+beqz_half group first second distance =
     let n = low_bits 9 distance in
     when (second == 0 && (is_popular first && is_signed 9 2 distance))
     (half_of group (field n 8 1) (field n 3 2 * 8 + (first - 8)) (field n 6 2 * 8 + field n 1 2 * 2 + field n 5 1))
 
 abbrev pub branch_half : BranchOp → ℕ → ℕ → ℤ → Option ℕ
-branch_half Beq first second distance = zero_half 0b110_01 first second distance
-branch_half Bne first second distance = zero_half 0b111_01 first second distance
+branch_half Beq first second distance = beqz_half 0b110_01 first second distance
+branch_half Bne first second distance = beqz_half 0b111_01 first second distance
 branch_half Blt first second distance = None
 branch_half Bge first second distance = None
 branch_half Bltu first second distance = None
@@ -269,7 +269,7 @@ branch_half Bgeu first second distance = None
 
 -- the halfword of the first row that an instruction in normal form has
 abbrev pub half_for : Instr → Option ℕ
-half_for (Upper op rd imm) = upper_half op rd imm
+half_for (Upper op rd imm) = lui_half op rd imm
 half_for (Jal rd distance) = jal_half rd distance
 half_for (Jalr rd base imm) = jalr_half rd base imm
 half_for (Branch op first second distance) = branch_half op first second distance

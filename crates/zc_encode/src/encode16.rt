@@ -7,7 +7,7 @@ ghost use Rattle.zc_encode.specs.Halves.{encoded16, half_for};
 
 use crate::jumps::{branch, jal, jalr};
 use crate::memory::{load, store};
-use crate::with_imm::{upper, with_imm};
+use crate::with_imm::{upper, with_imm_half};
 use crate::with_reg::with_reg;
 use rv_decode::instr::Instr;
 use rv_decode::normal::normal;
@@ -53,7 +53,7 @@ fn encode(i: Instr) -> Option<u16>
             base,
             imm,
         } => store(op, source, base, imm),
-        Instr::WithImm { op, rd, first, imm } => with_imm(op, rd, first, imm),
+        Instr::WithImm { op, rd, first, imm } => with_imm_half(op, rd, first, imm),
         Instr::WithReg {
             op,
             rd,

@@ -1,7 +1,7 @@
 // The halfwords of jumps and branches.
 
 ghost use Rattle.std.specs.Prelude.{◌≡◌, ◌<◌, ◌^◌};
-ghost use Rattle.zc_encode.specs.Halves.{branch_half, jal_half, jalr_half, jump_half, zero_half};
+ghost use Rattle.zc_encode.specs.Halves.{beqz_half, branch_half, jal_half, jalr_half, jump_half};
 
 use crate::fields::{half, is_popular, is_signed, low_bits, number};
 use rv_decode::bits::field_at;
@@ -64,7 +64,7 @@ pub fn branch(op: BranchOp, first: Reg, second: Reg, distance: i32) -> Option<u1
 // c.beqz and c.bnez
 fn on_zero(group: u32, first: Reg, second: Reg, distance: i32) -> Option<u16>
     requires { group < 2 ^ 5 }
-    ensures { result ≡ zero_half group first second distance }
+    ensures { result ≡ beqz_half group first second distance }
 {
     if number(second) == 0 && is_popular(first) && is_signed(9, 2, distance) {
         let n = low_bits(9, distance);

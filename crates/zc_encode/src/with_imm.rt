@@ -1,7 +1,7 @@
 // The halfwords of operations with an immediate, and of upper immediates.
 
 ghost use Rattle.std.specs.Prelude.{◌≡◌, ◌<◌, ◌^◌};
-ghost use Rattle.zc_encode.specs.Halves.{addi16sp_half, addi4spn_half, addi_half, andi_half, li_half, mv_half, nop_half, right_half, six_half, slli_half, sum_half, unary_half, upper_half, with_imm_half};
+ghost use Rattle.zc_encode.specs.Halves.{addi16sp_half, addi4spn_half, addi_half, andi_half, li_half, lui_half, mv_half, nop_half, right_half, six_half, slli_half, sum_half, unary_half, with_imm_half};
 
 use crate::fields::{
     half, has_bits, is_amount, is_offset, is_popular, is_signed, low_bits, number, word,
@@ -11,7 +11,7 @@ use rv_decode::instr::{ImmOp, UpperOp};
 use zc_base::reg::Reg;
 
 /// The halfword of an operation with an immediate, if it has one.
-pub fn with_imm(op: ImmOp, rd: Reg, first: Reg, imm: i32) -> Option<u16>
+pub fn with_imm_half(op: ImmOp, rd: Reg, first: Reg, imm: i32) -> Option<u16>
     ensures { result ≡ with_imm_half op rd first imm }
 {
     match op {
@@ -29,7 +29,7 @@ pub fn with_imm(op: ImmOp, rd: Reg, first: Reg, imm: i32) -> Option<u16>
 
 /// The halfword of an upper immediate, if it has one.
 pub fn upper(op: UpperOp, rd: Reg, imm: u32) -> Option<u16>
-    ensures { result ≡ upper_half op rd imm }
+    ensures { result ≡ lui_half op rd imm }
 {
     match op {
         UpperOp::Lui => lui(rd, imm),
@@ -38,7 +38,7 @@ pub fn upper(op: UpperOp, rd: Reg, imm: u32) -> Option<u16>
 }
 
 fn lui(rd: Reg, imm: u32) -> Option<u16>
-    ensures { result ≡ upper_half UpperOp.Lui rd imm }
+    ensures { result ≡ lui_half UpperOp.Lui rd imm }
 {
     let is_six_bits = 0 < imm && imm < 32 || 0xF_FFE0 <= imm && imm < 0x10_0000;
     if number(rd) != 0 && number(rd) != 2 && is_six_bits {

@@ -11,7 +11,7 @@ use Rattle.rv_decode.specs.Normal.{greater_branch, normal_branch}
 use Rattle.rv_decode.proofs.BitLaws.{signed-even}
 use Rattle.psabi_reloc.specs.Reaches.{is_even_of, short_branch_reach, short_jump_reach}
 use Rattle.zc_decode.specs.declared.short.Short.TheVariants.{Base}
-use Rattle.zc_encode.specs.Halves.{encoded16, half_for, has_bits, is_popular, is_signed, jump_half, low_bits, zero_half}
+use Rattle.zc_encode.specs.Halves.{beqz_half, encoded16, half_for, has_bits, is_popular, is_signed, jump_half, low_bits}
 use Rattle.zc_encode.proofs.NumberLaws.{SignedOf, and_three, signed_nine, signed_twelve, when_some}
 use Rattle.psabi_reloc.specs.Patched.{with_distance}
 use Rattle.zca_zcb_pass.specs.Forms.{IsBranch, IsJump}
@@ -25,7 +25,7 @@ signed_reaches : (bits : ℕ) (z : ℤ) → 2 ^ bits % 2 ≡ 0 → low_bits bits
 signed_reaches bits z whole below s h =
     even_of bits z (and_parts (has_bits bits z) (eqb (low_bits bits z % 2) 0) h).0 (subst IsEven s.value (signed-even bits (low_bits bits z) whole below s.whole))
 
-zero_reaches : (group first second half : ℕ) (distance : ℤ) → zero_half group first second distance ≡ Some half → short_branch_reach distance ≡ true
+zero_reaches : (group first second half : ℕ) (distance : ℤ) → beqz_half group first second distance ≡ Some half → short_branch_reach distance ≡ true
 zero_reaches group first second half distance h =
     let t = when_some (eqb second 0 && (is_popular first && is_signed 9 2 distance)) _ half h in
     let fits = (and_three (eqb second 0) (is_popular first) (is_signed 9 2 distance) t.0).2 in
@@ -38,7 +38,7 @@ jump_half_reaches group half distance h =
 
 -- ---- branches
 
-greater_reaches : (op : BranchOp) (group first second half : ℕ) (distance : ℤ) → ((a b : ℕ) → half_for (Branch op a b distance) ≡ zero_half group a b distance) → half_for (greater_branch op first second distance) ≡ Some half → short_branch_reach distance ≡ true
+greater_reaches : (op : BranchOp) (group first second half : ℕ) (distance : ℤ) → ((a b : ℕ) → half_for (Branch op a b distance) ≡ beqz_half group a b distance) → half_for (greater_branch op first second distance) ≡ Some half → short_branch_reach distance ≡ true
 greater_reaches op group first second half distance is h = either (ltb first second) h
   where
     either : (t : Bool) → half_for (cond t (Branch op second first distance) (Branch op first second distance)) ≡ Some half → short_branch_reach distance ≡ true
@@ -53,21 +53,6 @@ normal_reaches Bge first second half distance h = absurd cc
 normal_reaches Bltu first second half distance h = absurd cc
 normal_reaches Bgeu first second half distance h = absurd cc
 
-pub branch_reaches : (i : Instr) (distance : ℤ) (o : Option ℕ) → o ≡ encoded16 (Base (with_distance i distance)) → IsBranch i → IfSome o (λ _. short_branch_reach distance ≡ true)
-branch_reaches i distance None is branch = tt
-branch_reaches (Branch op first second old) distance (Some half) is branch = normal_reaches op first second half distance (sym is)
-branch_reaches (Upper op rd imm) distance (Some half) is branch = absurd branch
-branch_reaches (Jal rd old) distance (Some half) is branch = absurd branch
-branch_reaches (Jalr rd base imm) distance (Some half) is branch = absurd branch
-branch_reaches (Load op rd base imm) distance (Some half) is branch = absurd branch
-branch_reaches (Store op source base imm) distance (Some half) is branch = absurd branch
-branch_reaches (WithImm op rd first imm) distance (Some half) is branch = absurd branch
-branch_reaches (WithReg op rd first second) distance (Some half) is branch = absurd branch
-branch_reaches (Fence rest) distance (Some half) is branch = absurd branch
-branch_reaches Ecall distance (Some half) is branch = absurd branch
-branch_reaches Ebreak distance (Some half) is branch = absurd branch
-branch_reaches (Csrrw rd source) distance (Some half) is branch = absurd branch
-
 -- ---- jumps
 
 jal_reaches : (rd half : ℕ) (distance : ℤ) → half_for (Jal rd distance) ≡ Some half → short_jump_reach distance ≡ true
@@ -78,17 +63,28 @@ jal_reaches rd half distance h = by_tests (eqb rd 1) (eqb rd 0) h
     by_tests false true g = jump_half_reaches 0b101_01 half distance g
     by_tests false false g = absurd cc
 
+-- ---- instructions
+
+-- an instruction that has a halfword at a distance reaches so far
+reaches : (i : Instr) (distance : ℤ) (half : ℕ) → encoded16 (Base (with_distance i distance)) ≡ Some half
+    → (IsBranch i → short_branch_reach distance ≡ true) × (IsJump i → short_jump_reach distance ≡ true)
+reaches (Branch op first second old) distance half is = (λ _. normal_reaches op first second half distance is, λ jump. absurd jump)
+reaches (Jal rd old) distance half is = (λ branch. absurd branch, λ _. jal_reaches rd half distance is)
+reaches (Upper op rd imm) distance half is = (λ branch. absurd branch, λ jump. absurd jump)
+reaches (Jalr rd base imm) distance half is = (λ branch. absurd branch, λ jump. absurd jump)
+reaches (Load op rd base imm) distance half is = (λ branch. absurd branch, λ jump. absurd jump)
+reaches (Store op source base imm) distance half is = (λ branch. absurd branch, λ jump. absurd jump)
+reaches (WithImm op rd first imm) distance half is = (λ branch. absurd branch, λ jump. absurd jump)
+reaches (WithReg op rd first second) distance half is = (λ branch. absurd branch, λ jump. absurd jump)
+reaches (Fence rest) distance half is = (λ branch. absurd branch, λ jump. absurd jump)
+reaches Ecall distance half is = (λ branch. absurd branch, λ jump. absurd jump)
+reaches Ebreak distance half is = (λ branch. absurd branch, λ jump. absurd jump)
+reaches (Csrrw rd source) distance half is = (λ branch. absurd branch, λ jump. absurd jump)
+
+pub branch_reaches : (i : Instr) (distance : ℤ) (o : Option ℕ) → o ≡ encoded16 (Base (with_distance i distance)) → IsBranch i → IfSome o (λ _. short_branch_reach distance ≡ true)
+branch_reaches i distance None is branch = tt
+branch_reaches i distance (Some half) is branch = (reaches i distance half (sym is)).0 branch
+
 pub jump_reaches : (i : Instr) (distance : ℤ) (o : Option ℕ) → o ≡ encoded16 (Base (with_distance i distance)) → IsJump i → IfSome o (λ _. short_jump_reach distance ≡ true)
 jump_reaches i distance None is jump = tt
-jump_reaches (Jal rd old) distance (Some half) is jump = jal_reaches rd half distance (sym is)
-jump_reaches (Branch op first second old) distance (Some half) is jump = absurd jump
-jump_reaches (Upper op rd imm) distance (Some half) is jump = absurd jump
-jump_reaches (Jalr rd base imm) distance (Some half) is jump = absurd jump
-jump_reaches (Load op rd base imm) distance (Some half) is jump = absurd jump
-jump_reaches (Store op source base imm) distance (Some half) is jump = absurd jump
-jump_reaches (WithImm op rd first imm) distance (Some half) is jump = absurd jump
-jump_reaches (WithReg op rd first second) distance (Some half) is jump = absurd jump
-jump_reaches (Fence rest) distance (Some half) is jump = absurd jump
-jump_reaches Ecall distance (Some half) is jump = absurd jump
-jump_reaches Ebreak distance (Some half) is jump = absurd jump
-jump_reaches (Csrrw rd source) distance (Some half) is jump = absurd jump
+jump_reaches i distance (Some half) is jump = (reaches i distance half (sym is)).1 jump

@@ -31,7 +31,8 @@ pub fn long_branch(i: Instr, distance: i32) -> [u32; 2]
 
 // The branch of the opposite condition over eight bytes.
 fn over(op: BranchOp, first: Reg, second: Reg) -> u32
-    ensures { (other : BranchOp) × IsOpposite op other × (decoded result ≡ Some (Instr.Branch other first second (pos 8))) }
+    ensures { (other : BranchOp) × IsOpposite op other
+        × (decoded result ≡ Some (Instr.Branch other first second (pos 8))) }
 {
     encode(Instr::Branch {
         op: opposite(op),

@@ -6,6 +6,7 @@ ghost use Rattle.psabi_reloc.specs.Reaches.{short_branch_reach, short_jump_reach
 ghost use Rattle.zca_zcb_pass.specs.Forms.{IsBranch, IsJump, ShortForm};
 ghost use Rattle.zc_encode.specs.Halves.{encoded16};
 
+use crate::patched::with_distance;
 use rv_decode::instr::Instr;
 use zc_decode::short::Short;
 use zc_encode::encode16::encode16;
@@ -25,7 +26,7 @@ pub fn short_branch(i: Instr, distance: i32) -> Option<u16>
     ensures form { ShortForm (with_distance i distance) result }
     ensures reach { IsBranch i → IfSome result (λ _. short_branch_reach distance ≡ true) }
 {
-    short_of(at_distance(i, distance))
+    short_of(with_distance(i, distance))
 }
 
 /// The short form of a jump at a distance, if it has one.
@@ -33,35 +34,5 @@ pub fn short_jump(i: Instr, distance: i32) -> Option<u16>
     ensures form { ShortForm (with_distance i distance) result }
     ensures reach { IsJump i → IfSome result (λ _. short_jump_reach distance ≡ true) }
 {
-    short_of(at_distance(i, distance))
-}
-
-// A branch or a jump with another distance; every other instruction stays.
-fn at_distance(i: Instr, distance: i32) -> Instr
-    ensures { result ≡ with_distance i distance }
-{
-    match i {
-        Instr::Branch {
-            op,
-            first,
-            second,
-            ..
-        } => Instr::Branch {
-            op,
-            first,
-            second,
-            distance,
-        },
-        Instr::Jal { rd, .. } => Instr::Jal { rd, distance },
-        Instr::Upper { .. }
-        | Instr::Jalr { .. }
-        | Instr::Load { .. }
-        | Instr::Store { .. }
-        | Instr::WithImm { .. }
-        | Instr::WithReg { .. }
-        | Instr::Fence { .. }
-        | Instr::Ecall
-        | Instr::Ebreak
-        | Instr::Csrrw { .. } => i,
-    }
+    short_of(with_distance(i, distance))
 }

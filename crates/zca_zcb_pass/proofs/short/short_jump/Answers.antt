@@ -10,4 +10,4 @@ use Rattle.zca_zcb_pass.proofs.short.short_jump.Goals as goal
 pub returns-clause-reach : goal.returns-clause-reach
 returns-clause-reach c =
     let same : _ ≡ c.args.distance = to_z-of_z w32 c.args.distance (record { sfits = c.ranges.distance.sfits }) in
-    jump_reaches c.args.i c.args.distance c.short_of.result (c.short_of.ensures.fields ∙ ap (λ j. encoded16 (Base j)) (c.at_distance.ensures ∙ ap (with_distance c.args.i) same))
+    jump_reaches c.args.i c.args.distance c.short_of.result (c.short_of.ensures.fields ∙ ap (λ j. encoded16 (Base j)) (c.with_distance.ensures ∙ ap (with_distance c.args.i) same))
