@@ -2,7 +2,8 @@
 use Rattle.std.proofs.Common.{◌≡◌, ℕ, ◌+◌, ◌<◌, ◌≤◌, List, [], ◌∷◌, ◌++◌, length, map, Bool, true, false, Option, Some, None, ap, ◌∙◌, arith}
 use Rattle.std.specs.Prelude.{filter}
 use Rattle.std.specs.List.{range_with_len}
-use Rattle.elf32_read.specs.Header.{Header, IsOnly, header_of, section_count}
+use Rattle.elf32_read.specs.Header.{IsOnly, header_of, section_count}
+use Rattle.elf32_read.specs.declared.header.SectionHeader.{SectionHeader}
 use Rattle.elf32_read.proofs.Filtered.{count_more, kept_length, kept_more, kept_same}
 
 -- among the first n values the one with this index passes, or none does
@@ -26,6 +27,6 @@ found_same p f n None before fails = kept_same p f n fails ∙ before
 found_same p f n (Some i) before fails = (omega (arith, before.0), kept_same p f n fails ∙ before.1)
 
 -- among all headers
-pub found_only : (p : Header → Bool) (bytes : List ℕ) (found : Option ℕ) → Found p (header_of bytes) (section_count bytes) found → IsOnly p bytes found
+pub found_only : (p : SectionHeader → Bool) (bytes : List ℕ) (found : Option ℕ) → Found p (header_of bytes) (section_count bytes) found → IsOnly p bytes found
 found_only p bytes None found = found
 found_only p bytes (Some i) found = found

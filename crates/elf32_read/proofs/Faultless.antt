@@ -9,14 +9,15 @@ use Rattle.std.proofs.lemmas.Bool.{eqb-true, leb-false, lt-ltb, ltb-false, ne_eq
 use Rattle.std.proofs.lemmas.List.{length-drop, length-take}
 use Rattle.std.proofs.lemmas.List.Folds.{list_any-append}
 use Rattle.std.proofs.lemmas.Option.{get_or_from_slice_get, slice_get_within}
-use Rattle.elf32_read.specs.Header.{Header, begins_as, content_of, header_of, headers_of, is_empty_kind, section_count, section_table}
+use Rattle.elf32_read.specs.Header.{begins_as, content_of, header_of, headers_of, is_empty_kind, section_count, section_table}
 use Rattle.elf32_read.specs.Kept.{has_flags, is_kept, is_kept_code}
 use Rattle.elf32_read.specs.Names.{has_end, is_name_at, is_unnamed_section, lacks_strings, section_names, strings_of}
-use Rattle.elf32_read.specs.Object.{IsWhole, counts_elsewhere, has_bad_alignment, has_bad_name, has_bad_symbol, has_cut_code, has_other_binding, has_other_flags, has_other_kind, has_other_symbols, has_second_symbol_table, has_too_many_sections, has_two_relas, has_unlinked_sections, is_bad_alignment, is_bad_common, is_bad_symbol, is_badly_aligned, is_compressed, is_cut_code, is_foreign_kind, is_homeless, is_kept_by_thread, is_kept_rela, is_kept_unknown, is_odd_code, is_odd_rela, is_odd_symbol_table, is_of_no_symbol, is_rela_of_none, is_too_long, is_undefined_local, is_unlinked, is_unnamed_symbol, lacks_headers, lacks_section_names, lacks_symbol_names, names_no_symbol, not_elf, object_fault, passes_end, passes_section, truncated}
+use Rattle.elf32_read.specs.Object.{IsWholeFile, counts_elsewhere, has_bad_alignment, has_bad_name, has_bad_symbol, has_cut_code, has_other_binding, has_other_flags, has_other_kind, has_other_symbols, has_second_symbol_table, has_too_many_sections, has_two_relas, has_unlinked_sections, is_bad_alignment, is_bad_common, is_bad_symbol, is_badly_aligned, is_compressed, is_cut_code, is_foreign_kind, is_homeless, is_kept_by_thread, is_kept_rela, is_kept_unknown, is_odd_code, is_odd_rela, is_odd_symbol_table, is_of_no_symbol, is_rela_of_none, is_too_long, is_undefined_local, is_unlinked, is_unnamed_symbol, lacks_section_names, lacks_symbol_names, names_no_symbol, not_elf, object_fault, passes_end, passes_section, truncated}
 use Rattle.elf32_read.specs.Parts.{is_kept_section, relocs_held, relocs_of, section_parts}
-use Rattle.elf32_read.specs.Relocs.{changes, relas_for}
+use Rattle.elf32_read.specs.Relocs.{relas_for}
 use Rattle.elf32_read.specs.Symbols.{symbol_content, symbol_count, symbol_entries, symbol_entry_of, symbol_names, symbol_table, symbol_tables}
 use Rattle.elf32_read.specs.declared.fault.Fault.TheVariants.{NotElf, Truncated, Flags, SectionKind, Alignment, CodeSize, BadName, BadSymbol, TooLarge}
+use Rattle.elf32_read.specs.declared.header.SectionHeader.{SectionHeader}
 use Rattle.elf32_read.specs.declared.reloc.Reloc.{Reloc}
 use Rattle.elf32_read.specs.declared.symbol_entry.SymbolEntry.{SymbolEntry}
 use Rattle.elf32_read.proofs.Decided.{first_no}
@@ -24,6 +25,7 @@ use Rattle.elf32_read.proofs.Dropped.{none_dropped_at}
 use Rattle.elf32_read.proofs.Listed.{none_at, none_listed}
 use Rattle.elf32_read.proofs.Marks.{for_is_rela}
 use Rattle.elf32_read.proofs.Strings.{is_named}
+use Rattle.elf32_read.proofs.Tests.{changes}
 
 -- none of the faults of an object
 pub record NoFault (bytes : List ℕ) : Type 0 where
@@ -65,9 +67,9 @@ no_fault bytes h =
     }
 
 -- the headers and the contents of a file that isn't truncated lie in it
-pub whole : (bytes : List ℕ) → 52 ≤ length bytes → truncated bytes ≡ false → IsWhole bytes
+pub whole : (bytes : List ℕ) → 52 ≤ length bytes → truncated bytes ≡ false → IsWholeFile bytes
 whole bytes long h =
-    let parts = or_parts (lacks_headers bytes) (list_any (passes_end bytes) (headers_of bytes)) h in
+    let parts = or_parts (ltb (length bytes) (section_table bytes + 40 * section_count bytes)) (list_any (passes_end bytes) (headers_of bytes)) h in
     record {
       long = long;
       headers = ltb-false (length bytes) (section_table bytes + 40 * section_count bytes) parts.0;
@@ -78,7 +80,7 @@ whole bytes long h =
 pub long : (bytes : List ℕ) → not_elf bytes ≡ false → 52 ≤ length bytes
 long bytes h = ltb-false (length bytes) 52 (or_parts (ltb (length bytes) 52) _ (or_parts (ltb (length bytes) 52 || not (begins_as 1 bytes)) _ h).0).0
 
-pub faultless_whole : (bytes : List ℕ) → object_fault bytes ≡ None → IsWhole bytes
+pub faultless_whole : (bytes : List ℕ) → object_fault bytes ≡ None → IsWholeFile bytes
 faultless_whole bytes h = let none = no_fault bytes h in whole bytes (long bytes none.elf) none.whole
 
 -- no section is of a kind that is never linked
@@ -101,7 +103,7 @@ linked bytes h =
     }
 
 -- a section's content is no longer than the file
-pub content_short : (bytes : List ℕ) (header : Header) → length (content_of bytes header) ≤ length bytes
+pub content_short : (bytes : List ℕ) (header : SectionHeader) → length (content_of bytes header) ≤ length bytes
 content_short bytes header = by (is_empty_kind header.kind)
   where
     by : (b : Bool) → length (cond b [] (take header.size (drop header.offset bytes))) ≤ length bytes
@@ -114,7 +116,7 @@ few_symbols bytes h =
     let short = ltb-false 0x40_0000 (length bytes) (no_fault bytes h).short in
     omega (arith, short, by (symbol_table bytes))
   where
-    by : (table : Option Header) → length (option_map_or (content_of bytes) table []) ≤ length bytes
+    by : (table : Option SectionHeader) → length (option_map_or (content_of bytes) table []) ≤ length bytes
     by None = omega arith
     by (Some header) = content_short bytes header
 
@@ -128,17 +130,17 @@ few_names bytes h =
     strings_short i true = omega arith
     strings_short i false = content_short bytes (header_of bytes i)
 
-    by : (table : Option Header) → length (option_map_or (λ header. strings_of bytes header.link) table []) ≤ length bytes
+    by : (table : Option SectionHeader) → length (option_map_or (λ header. strings_of bytes header.link) table []) ≤ length bytes
     by None = omega arith
     by (Some header) = strings_short header.link (lacks_strings bytes header.link)
 
 -- a section with content has it in the file
-pub content_within : (bytes : List ℕ) (header : Header) → passes_end bytes header ≡ false → header.kind ≢ 0 → header.kind ≢ 8 → header.offset + header.size ≤ length bytes
+pub content_within : (bytes : List ℕ) (header : SectionHeader) → passes_end bytes header ≡ false → header.kind ≢ 0 → header.kind ≢ 8 → header.offset + header.size ≤ length bytes
 content_within bytes header e not_null not_nobits =
     ltb-false (length bytes) (header.offset + header.size) (rw (ne_eqb header.kind 0 not_null, ne_eqb header.kind 8 not_nobits) at e)
 
 -- a section with content has all of it
-pub content_whole : (bytes : List ℕ) (header : Header) → passes_end bytes header ≡ false → header.kind ≢ 0 → header.kind ≢ 8 → length (content_of bytes header) ≡ header.size
+pub content_whole : (bytes : List ℕ) (header : SectionHeader) → passes_end bytes header ≡ false → header.kind ≢ 0 → header.kind ≢ 8 → length (content_of bytes header) ≡ header.size
 content_whole bytes header e not_null not_nobits =
     let within = content_within bytes header e not_null not_nobits in
     let some : is_empty_kind header.kind ≡ false = or_from (eqb header.kind 0) (eqb header.kind 8) (ne_eqb header.kind 0 not_null) (ne_eqb header.kind 8 not_nobits) in
@@ -166,21 +168,21 @@ is_alignment most align good = by (eqb align 0) refl good
         record { low = ltb-false most align parts.1; power = λ some. not-false (is_power_of_two align) parts.0 }
 
 -- a kept section is of a kind that lies in memory, isn't a thread's own or compressed, and has an alignment
-pub record IsKept (header : Header) : Type 0 where
+pub record IsKept (header : SectionHeader) : Type 0 where
   pub kind : is_memory_kind header.kind ≡ true
   pub shared : has_flags 0x400 header.flags ≡ false
   pub plain : has_flags 0x800 header.flags ≡ false
   pub aligned : IsAlignment 4096 header.align
 
 -- kept code is PROGBITS that the program can't write to, has whole words, and an alignment of at most 256
-pub record IsKeptCode (header : Header) : Type 0 where
+pub record IsKeptCode (header : SectionHeader) : Type 0 where
   pub kind : header.kind ≡ 1
   pub constant : has_flags 1 header.flags ≡ false
   pub words : header.size % 4 ≡ 0
   pub aligned : IsAlignment 256 header.align
 
 -- the causes for which a section is never linked, one by one
-record NoCause (bytes : List ℕ) (h : Header) : Type 0 where
+record NoCause (bytes : List ℕ) (h : SectionHeader) : Type 0 where
   pub foreign : is_foreign_kind h ≡ false
   pub compressed : is_compressed h ≡ false
   pub symbols : is_odd_symbol_table h ≡ false
@@ -191,7 +193,7 @@ record NoCause (bytes : List ℕ) (h : Header) : Type 0 where
   pub other : has_other_symbols bytes h ≡ false
   pub none : is_rela_of_none bytes h ≡ false
 
-no_cause : (bytes : List ℕ) (h : Header) → is_unlinked bytes h ≡ false → NoCause bytes h
+no_cause : (bytes : List ℕ) (h : SectionHeader) → is_unlinked bytes h ≡ false → NoCause bytes h
 no_cause bytes h good =
     let two = is_foreign_kind h || is_compressed h in
     let four = two || is_odd_symbol_table h || is_kept_by_thread bytes h in
@@ -336,7 +338,7 @@ module _ (bytes : List ℕ) (read : object_fault bytes ≡ None) where
   -- ---- relocations
 
   -- none of a kept section's relocations names a symbol that isn't there
-  none_held : (i : ℕ) → i < section_count bytes → is_kept bytes (header_of bytes i) ≡ true → (hs : List Header) → list_any (is_of_no_symbol bytes) hs ≡ false → list_any (names_no_symbol bytes) (flat_map (relocs_held bytes) (filter (changes i) hs)) ≡ false
+  none_held : (i : ℕ) → i < section_count bytes → is_kept bytes (header_of bytes i) ≡ true → (hs : List SectionHeader) → list_any (is_of_no_symbol bytes) hs ≡ false → list_any (names_no_symbol bytes) (flat_map (relocs_held bytes) (filter (changes i) hs)) ≡ false
   none_held i lt kept [] none = refl
   none_held i lt kept (h ∷ hs) none =
       let parts = or_parts (is_of_no_symbol bytes h) (list_any (is_of_no_symbol bytes) hs) none in

@@ -2,12 +2,13 @@
 use Rattle.std.proofs.Common.{◌≡◌, ℕ, ◌+◌, ◌*◌, ◌/◌, ◌<◌, ◌≤◌, List, length, Some, sym, ap, ◌∙◌, arith}
 use Rattle.std.specs.Prelude.{slice_get}
 use Rattle.std.proofs.lemmas.List.FromFn.{length-map-range_with_len}
-use Rattle.elf32_read.specs.Header.{Header, content_of, header_of}
+use Rattle.elf32_read.specs.Header.{content_of, header_of}
 use Rattle.elf32_read.specs.Relocs.{reloc_at, relocs_in}
+use Rattle.elf32_read.specs.declared.header.SectionHeader.{SectionHeader}
 use Rattle.elf32_read.proofs.Listed.{slice_get-listed}
 
 -- the content that was read is that of the section
-pub is_content : (inside bytes : List ℕ) (i : ℕ) (header : Header) (content : List ℕ) → inside ≡ bytes → header ≡ header_of inside i → content ≡ content_of inside header
+pub is_content : (inside bytes : List ℕ) (i : ℕ) (header : SectionHeader) (content : List ℕ) → inside ≡ bytes → header ≡ header_of inside i → content ≡ content_of inside header
     → content ≡ content_of bytes (header_of bytes i)
 is_content inside bytes i header content same is read =
     read ∙ ap (content_of inside) is ∙ ap (λ b. content_of b (header_of b i)) same

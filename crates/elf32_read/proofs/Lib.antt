@@ -13,3 +13,4 @@ pub mod RelaTable
 pub mod Named
 pub mod PartsLaws
 pub mod Strings
+pub mod Tests

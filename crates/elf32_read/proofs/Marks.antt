@@ -4,12 +4,13 @@ use Rattle.std.specs.Prelude.{◌&&◌, filter, nat_lt}
 use Rattle.std.specs.List.{range_with_len}
 use Rattle.std.proofs.lemmas.Bool.{and_parts, eqb-true, false_from_ne_true, le-ltb, lt-ltb, ltb-true}
 use Rattle.std.proofs.lemmas.List.{get_or-set_other, get_or-set_same, length-set}
-use Rattle.elf32_read.specs.Header.{Header, header_of, section_count}
+use Rattle.elf32_read.specs.Header.{header_of, section_count}
 use Rattle.elf32_read.specs.Kept.{is_kept}
 use Rattle.elf32_read.specs.Object.{has_two_relas, is_changed_twice, is_kept_rela}
-use Rattle.elf32_read.specs.Relocs.{changes}
+use Rattle.elf32_read.specs.declared.header.SectionHeader.{SectionHeader}
 use Rattle.elf32_read.proofs.Filtered.{count_more, count_same, kept_length}
 use Rattle.elf32_read.proofs.Listed.{no_index, some_in_range}
+use Rattle.elf32_read.proofs.Tests.{changes}
 
 -- how many of the first n sections are a RELA for this one
 abbrev pub relas_until : List ℕ → ℕ → ℕ → ℕ
@@ -22,12 +23,12 @@ pub record AreMarked (bytes : List ℕ) (marks : List Bool) (n : ℕ) : Type 0 w
 
 module _ (bytes : List ℕ) where
   -- a RELA for a kept section, by its parts
-  pub record IsFor (h : Header) (k : ℕ) : Type 0 where
+  pub record IsFor (h : SectionHeader) (k : ℕ) : Type 0 where
     pub within : k < section_count bytes
     pub kept : is_kept bytes (header_of bytes k) ≡ true
     pub changes : changes k h ≡ true
 
-  pub rela_is_for : (h : Header) → is_kept_rela bytes h ≡ true → IsFor h h.info
+  pub rela_is_for : (h : SectionHeader) → is_kept_rela bytes h ≡ true → IsFor h h.info
   rela_is_for h rela =
       let both = and_parts (eqb h.kind 4 && ltb h.info (section_count bytes)) (is_kept bytes (header_of bytes h.info)) rela in
       let parts = and_parts (eqb h.kind 4) (ltb h.info (section_count bytes)) both.0 in
@@ -38,7 +39,7 @@ module _ (bytes : List ℕ) where
       }
 
   -- what changes a kept section is a RELA for a kept section
-  pub for_is_rela : (h : Header) (k : ℕ) → IsFor h k → is_kept_rela bytes h ≡ true
+  pub for_is_rela : (h : SectionHeader) (k : ℕ) → IsFor h k → is_kept_rela bytes h ≡ true
   for_is_rela h k for =
       let parts = and_parts (eqb h.kind 4) (eqb h.info k) for.changes in
       let same : h.info ≡ k = eqb-true h.info k parts.1 in
@@ -48,7 +49,7 @@ module _ (bytes : List ℕ) where
       ∙ ap (λ n. is_kept bytes (header_of bytes n)) same ∙ for.kept
 
   -- a section that is no such RELA
-  pub marked_same : (marks : List Bool) (n : ℕ) (h : Header) → h ≡ header_of bytes n → AreMarked bytes marks n → is_kept_rela bytes h ≡ false → AreMarked bytes marks (n + 1)
+  pub marked_same : (marks : List Bool) (n : ℕ) (h : SectionHeader) → h ≡ header_of bytes n → AreMarked bytes marks n → is_kept_rela bytes h ≡ false → AreMarked bytes marks (n + 1)
   marked_same marks n h is before other = record { room = before.room; each = each }
     where
       each : (k : ℕ) → k < section_count bytes → is_kept bytes (header_of bytes k) ≡ true → relas_until bytes k (n + 1) ≡ cond (get_or marks k false) 1 0
@@ -57,7 +58,7 @@ module _ (bytes : List ℕ) where
           count_same (changes k) (header_of bytes) n (sym (ap (changes k) is) ∙ not_for) ∙ before.each k lt kept
 
   -- the first one for its section
-  pub marked_more : (marks : List Bool) (n : ℕ) (h : Header) → h ≡ header_of bytes n → AreMarked bytes marks n → is_kept_rela bytes h ≡ true → get_or marks h.info false ≡ false → AreMarked bytes (set marks h.info true) (n + 1)
+  pub marked_more : (marks : List Bool) (n : ℕ) (h : SectionHeader) → h ≡ header_of bytes n → AreMarked bytes marks n → is_kept_rela bytes h ≡ true → get_or marks h.info false ≡ false → AreMarked bytes (set marks h.info true) (n + 1)
   marked_more marks n h is before rela new =
       record { room = omega (arith, before.room, length-set marks h.info true); each = λ k lt kept. by k lt kept (eqb k h.info) refl }
     where
@@ -78,7 +79,7 @@ module _ (bytes : List ℕ) where
           ∙ sym (ap (λ b. cond b 1 0) (get_or-set_other marks h.info k true false other))
 
   -- a second one
-  pub marked_twice : (marks : List Bool) (n : ℕ) (h : Header) → h ≡ header_of bytes n → n < section_count bytes → AreMarked bytes marks n → is_kept_rela bytes h ≡ true → get_or marks h.info false ≡ true → has_two_relas bytes ≡ true
+  pub marked_twice : (marks : List Bool) (n : ℕ) (h : SectionHeader) → h ≡ header_of bytes n → n < section_count bytes → AreMarked bytes marks n → is_kept_rela bytes h ≡ true → get_or marks h.info false ≡ true → has_two_relas bytes ≡ true
   marked_twice marks n h is inside before rela marked =
       let for = rela_is_for h rela in
       let count = section_count bytes in

@@ -4,15 +4,17 @@ use Rattle.std.specs.Prelude.{◌&&◌, nat_lt, replicate}
 use Rattle.std.specs.List.{flat_map}
 use Rattle.std.proofs.lemmas.Bool.{and_parts, cases_Bool, cases_eq, eqb-true, false_from_ne_true, ltb-false}
 use Rattle.std.proofs.lemmas.List.{append-nil, get_or-replicate, get_or-set_other, get_or-set_same, length-replicate, length-set}
-use Rattle.elf32_read.specs.Header.{Header, IsOnly, header_of, section_count}
+use Rattle.elf32_read.specs.Header.{IsOnly, header_of, section_count}
 use Rattle.elf32_read.specs.Kept.{is_kept}
 use Rattle.elf32_read.specs.Object.{has_two_relas, is_changed_twice, is_kept_rela}
 use Rattle.elf32_read.specs.Parts.{relocs_held}
 use Rattle.elf32_read.specs.Relas.{IsRelaOf}
-use Rattle.elf32_read.specs.Relocs.{changes, relas_for}
+use Rattle.elf32_read.specs.Relocs.{relas_for}
+use Rattle.elf32_read.specs.declared.header.SectionHeader.{SectionHeader}
 use Rattle.elf32_read.proofs.Alone.{Found, found_more, found_only, found_same}
 use Rattle.elf32_read.proofs.Listed.{none_in_range}
 use Rattle.elf32_read.proofs.Marks.{for_is_rela, rela_is_for}
+use Rattle.elf32_read.proofs.Tests.{changes}
 
 -- of the first n sections, the table has the one that is a RELA for each kept section, and nothing for a dropped one
 pub record AreFound (bytes : List ℕ) (table : List (Option ℕ)) (n : ℕ) : Type 0 where
@@ -35,7 +37,7 @@ module _ (bytes : List ℕ) (once : has_two_relas bytes ≡ false) where
   }
 
   -- a section that is no RELA for a kept one
-  pub found_next_same : (table : List (Option ℕ)) (n : ℕ) (h : Header) → h ≡ header_of bytes n → AreFound bytes table n → is_kept_rela bytes h ≡ false → AreFound bytes table (n + 1)
+  pub found_next_same : (table : List (Option ℕ)) (n : ℕ) (h : SectionHeader) → h ≡ header_of bytes n → AreFound bytes table n → is_kept_rela bytes h ≡ false → AreFound bytes table (n + 1)
   found_next_same table n h is before other = record {
     room = before.room;
     kept = λ s within kept.
@@ -45,7 +47,7 @@ module _ (bytes : List ℕ) (once : has_two_relas bytes ≡ false) where
   }
 
   -- one that is
-  pub found_next : (table : List (Option ℕ)) (n : ℕ) (h : Header) → h ≡ header_of bytes n → n < section_count bytes → AreFound bytes table n → is_kept_rela bytes h ≡ true
+  pub found_next : (table : List (Option ℕ)) (n : ℕ) (h : SectionHeader) → h ≡ header_of bytes n → n < section_count bytes → AreFound bytes table n → is_kept_rela bytes h ≡ true
       → AreFound bytes (set table h.info (Some n)) (n + 1)
   found_next table n h is inside before rela = record {
     room = length-set table h.info (Some n) ∙ before.room;

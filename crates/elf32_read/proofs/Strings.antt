@@ -6,7 +6,7 @@ use Rattle.std.specs.List.{list_any, prefix_len, starts_with, take_while}
 use Rattle.std.proofs.lemmas.Bool.{cases_eq, cases_lt, eqb-true, ne_eqb, or_parts}
 use Rattle.std.proofs.lemmas.List.{drop_all, length-drop, take_all}
 use Rattle.std.proofs.lemmas.List.Sums.{prefix_len_is, take_while-cons}
-use Rattle.elf32_read.specs.Names.{has_end, has_zero, is_name_at, name_at}
+use Rattle.elf32_read.specs.Names.{has_end, is_name_at, name_at}
 
 -- a test of two numbers doesn't ask for their order
 eqb_flip : (a b : ℕ) → eqb a b ≡ eqb b a
@@ -62,13 +62,13 @@ named (x ∷ xs) name ends whole = by (eqb x 0) refl name whole (named xs)
         ∙ (λ j. eqb_flip x c j && rest j)
 
 -- the bytes before the first zero begin with these, of which none is zero, exactly if the table does
-pub begun : (rest start : List ℕ) → has_zero start ≡ false → starts_with nat_eq (take_while (λ byte. not (byte == 0)) rest) start ≡ starts_with nat_eq rest start
+pub begun : (rest start : List ℕ) → list_any (λ byte. byte == 0) start ≡ false → starts_with nat_eq (take_while (λ byte. not (byte == 0)) rest) start ≡ starts_with nat_eq rest start
 begun [] start whole = refl
 begun (x ∷ xs) [] whole = refl
 begun (x ∷ xs) (c ∷ cs) whole = by (eqb x 0) refl (begun xs cs first.1)
   where
-    first : (eqb c 0 ≡ false) × (has_zero cs ≡ false)
-    first = or_parts (eqb c 0) (has_zero cs) whole
+    first : (eqb c 0 ≡ false) × (list_any (λ byte. byte == 0) cs ≡ false)
+    first = or_parts (eqb c 0) (list_any (λ byte. byte == 0) cs) whole
 
     more : ℕ → Bool
     more byte = not (byte == 0)

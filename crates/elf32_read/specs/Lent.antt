@@ -1,7 +1,6 @@
 -- Sections and symbols, as the code lends them.
 use Rattle.std.specs.Prelude.{◌≡◌, not, true, ◌==◌}
-use Rattle.std.specs.List.{take_while}
-use Rattle.elf32_read.specs.Names.{has_zero}
+use Rattle.std.specs.List.{list_any, take_while}
 use Rattle.elf32_read.specs.Parts.{SectionParts, SymbolParts}
 use Rattle.elf32_read.specs.declared.section.Section.{Section}
 use Rattle.elf32_read.specs.declared.section_entry.SectionEntry.{SectionEntry}
@@ -18,7 +17,7 @@ pub record IsSection (section : Section) (parts : SectionParts) : Type 0 where
 
 -- the section is this one; the table of names from where its own begins is lent in place of the name
 pub record IsSectionEntry (entry : SectionEntry) (parts : SectionParts) : Type 0 where
-  pub ends : has_zero entry.names.now ≡ true
+  pub ends : list_any (λ byte. byte == 0) entry.names.now ≡ true
   pub name : take_while (λ byte. not (byte == 0)) entry.names.now ≡ parts.name
   pub kind : entry.kind ≡ parts.kind
   pub flags : entry.flags.bits ≡ parts.flags

@@ -1,15 +1,12 @@
 -- Names in tables of strings (System V gABI, "String Table"): each begins at an offset, and the next zero ends it.
 use Rattle.std.specs.Prelude.{ℕ, Bool, not, ◌||◌, ◌==◌, nat_eq, nat_le, if◌then◌else◌, List, [], ◌∷◌, ◌++◌, drop}
 use Rattle.std.specs.List.{list_any, starts_with, take_while}
-use Rattle.elf32_read.specs.Header.{Header, content_of, header_of, name_section, section_count}
-
--- one of the bytes is zero
-abbrev pub has_zero : List ℕ → Bool
-has_zero bytes = list_any (λ byte. byte == 0) bytes
+use Rattle.elf32_read.specs.Header.{content_of, header_of, name_section, section_count}
+use Rattle.elf32_read.specs.declared.header.SectionHeader.{SectionHeader}
 
 -- from this offset on, the table has a zero
 abbrev pub has_end : List ℕ → ℕ → Bool
-has_end table at = has_zero (drop at table)
+has_end table at = list_any (λ byte. byte == 0) (drop at table)
 
 -- the name that begins at this offset
 abbrev pub name_at : List ℕ → ℕ → List ℕ
@@ -32,5 +29,5 @@ abbrev pub section_names : List ℕ → List ℕ
 section_names bytes = strings_of bytes (name_section bytes)
 
 -- the section's name has no end
-abbrev pub is_unnamed_section : List ℕ → Header → Bool
+abbrev pub is_unnamed_section : List ℕ → SectionHeader → Bool
 is_unnamed_section bytes h = not (has_end (section_names bytes) h.name)

@@ -3,7 +3,7 @@
 use Rattle.std.specs.Prelude.{◌≡◌, ◌≤◌, ◌<◌, ◌+◌, ◌*◌, ◌%◌, Bool, false, not, ◌&&◌, ◌||◌, ◌==◌, nat_lt, nat_le, if◌then◌else◌, List, ℕ, [], ◌∷◌, length, drop, Option, None}
 use Rattle.std.specs.Int.{is_power_of_two}
 use Rattle.std.specs.List.{list_any, range_with_len}
-use Rattle.elf32_read.specs.Header.{Header, begins_as, content_of, file_flags, have_other_size, header_of, headers_of, is_empty_kind, name_section, section_count, section_header_size, section_table}
+use Rattle.elf32_read.specs.Header.{begins_as, content_of, file_flags, has_other_section_headers, header_of, headers_of, is_empty_kind, name_section, section_count, section_table}
 use Rattle.elf32_read.specs.Kept.{has_flags, is_kept, is_kept_code}
 use Rattle.elf32_read.specs.Names.{has_end, is_unnamed_section, lacks_strings}
 use Rattle.elf32_read.specs.Relocs.{relas_for, relocs_in}
@@ -11,6 +11,7 @@ use Rattle.elf32_read.specs.Rows.{first_of}
 use Rattle.elf32_read.specs.Symbols.{IsSymbolSection, symbol_content, symbol_count, symbol_entries, symbol_names, symbol_tables}
 use Rattle.elf32_read.specs.declared.fault.Fault.{Fault}
 use Rattle.elf32_read.specs.declared.fault.Fault.TheVariants.{NotElf, Truncated, Flags, SectionKind, Alignment, CodeSize, BadName, BadSymbol, TooLarge}
+use Rattle.elf32_read.specs.declared.header.SectionHeader.{SectionHeader}
 use Rattle.elf32_read.specs.declared.reloc.Reloc.{Reloc}
 use Rattle.elf32_read.specs.declared.symbol_entry.SymbolEntry.{SymbolEntry}
 
@@ -23,27 +24,22 @@ is_too_long bytes = nat_lt 0x40_0000 (length bytes)
 -- shorter than its header, not a relocatable RISC-V file (type 1), or with sections whose headers
 -- do not have 40 bytes
 abbrev pub not_elf : List ℕ → Bool
-not_elf bytes =
-    nat_lt (length bytes) 52 || not (begins_as 1 bytes) || have_other_size 40 (section_count bytes) (section_header_size bytes)
+not_elf bytes = nat_lt (length bytes) 52 || not (begins_as 1 bytes) || has_other_section_headers bytes
 
 -- more than 4,096 sections
 abbrev pub has_too_many_sections : List ℕ → Bool
 has_too_many_sections bytes = nat_lt 4096 (section_count bytes)
 
--- the section headers pass the end of the file
-abbrev pub lacks_headers : List ℕ → Bool
-lacks_headers bytes = nat_lt (length bytes) (section_table bytes + 40 * section_count bytes)
-
 -- a section's content passes the end of the file
-abbrev pub passes_end : List ℕ → Header → Bool
+abbrev pub passes_end : List ℕ → SectionHeader → Bool
 passes_end bytes header = not (is_empty_kind header.kind) && nat_lt (length bytes) (header.offset + header.size)
 
--- the file ends before its section headers do, or before the content of a section does
+-- the section headers, or the content of a section, pass the end of the file
 abbrev pub truncated : List ℕ → Bool
-truncated bytes = lacks_headers bytes || list_any (passes_end bytes) (headers_of bytes)
+truncated bytes = nat_lt (length bytes) (section_table bytes + 40 * section_count bytes) || list_any (passes_end bytes) (headers_of bytes)
 
 -- the headers and the contents lie in the file
-pub record IsWhole (bytes : List ℕ) : Type 0 where
+pub record IsWholeFile (bytes : List ℕ) : Type 0 where
   pub long : 52 ≤ length bytes
   pub headers : section_table bytes + 40 * section_count bytes ≤ length bytes
   pub contents : (i : ℕ) → i < section_count bytes → passes_end bytes (header_of bytes i) ≡ false
@@ -59,11 +55,11 @@ abbrev pub counts_elsewhere : List ℕ → Bool
 counts_elsewhere bytes = section_count bytes == 0 && not (section_table bytes == 0)
 
 -- REL (9), GROUP (17), or SYMTAB_SHNDX (18)
-abbrev pub is_foreign_kind : Header → Bool
+abbrev pub is_foreign_kind : SectionHeader → Bool
 is_foreign_kind h = h.kind == 9 || h.kind == 17 || h.kind == 18
 
 -- COMPRESSED (0x800)
-abbrev pub is_compressed : Header → Bool
+abbrev pub is_compressed : SectionHeader → Bool
 is_compressed h = has_flags 0x800 h.flags
 
 -- there is a second SYMTAB (2)
@@ -71,28 +67,28 @@ abbrev pub has_second_symbol_table : List ℕ → Bool
 has_second_symbol_table bytes = nat_lt 1 (length (symbol_tables bytes))
 
 -- a SYMTAB whose entries don't have 16 bytes, or with a part of one at its end
-abbrev pub is_odd_symbol_table : Header → Bool
+abbrev pub is_odd_symbol_table : SectionHeader → Bool
 is_odd_symbol_table h = h.kind == 2 && (not (h.entry_size == 16) || not (h.size % 16 == 0))
 
 -- kept, and each thread has one of its own: TLS (0x400)
-abbrev pub is_kept_by_thread : List ℕ → Header → Bool
+abbrev pub is_kept_by_thread : List ℕ → SectionHeader → Bool
 is_kept_by_thread bytes h = is_kept bytes h && has_flags 0x400 h.flags
 
 -- kept, and none of PROGBITS (1), NOBITS (8), INIT_ARRAY (14), FINI_ARRAY (15) and PREINIT_ARRAY (16)
-abbrev pub is_kept_unknown : List ℕ → Header → Bool
+abbrev pub is_kept_unknown : List ℕ → SectionHeader → Bool
 is_kept_unknown bytes h =
     is_kept bytes h && not (h.kind == 1 || h.kind == 8 || h.kind == 14 || h.kind == 15 || h.kind == 16)
 
 -- code that the program may write to, WRITE (1), or that isn't PROGBITS
-abbrev pub is_odd_code : List ℕ → Header → Bool
+abbrev pub is_odd_code : List ℕ → SectionHeader → Bool
 is_odd_code bytes h = is_kept_code bytes h && (has_flags 1 h.flags || not (h.kind == 1))
 
 -- a RELA (4) for a section that is kept
-abbrev pub is_kept_rela : List ℕ → Header → Bool
+abbrev pub is_kept_rela : List ℕ → SectionHeader → Bool
 is_kept_rela bytes h = h.kind == 4 && nat_lt h.info (section_count bytes) && is_kept bytes (header_of bytes h.info)
 
 -- one whose entries don't have 12 bytes, or with a part of one at its end
-abbrev pub is_odd_rela : List ℕ → Header → Bool
+abbrev pub is_odd_rela : List ℕ → SectionHeader → Bool
 is_odd_rela bytes h = is_kept_rela bytes h && (not (h.entry_size == 12) || not (h.size % 12 == 0))
 
 -- the section with this index is none, or no SYMTAB
@@ -100,7 +96,7 @@ abbrev pub lacks_symbols : List ℕ → ℕ → Bool
 lacks_symbols bytes i = nat_le (section_count bytes) i || not ((header_of bytes i).kind == 2)
 
 -- one whose symbols aren't those of the SYMTAB: sh_link names it
-abbrev pub has_other_symbols : List ℕ → Header → Bool
+abbrev pub has_other_symbols : List ℕ → SectionHeader → Bool
 has_other_symbols bytes h = is_kept_rela bytes h && lacks_symbols bytes h.link
 
 -- a kept section with two RELA
@@ -112,11 +108,11 @@ abbrev pub has_two_relas : List ℕ → Bool
 has_two_relas bytes = list_any (is_changed_twice bytes) (range_with_len 0 (section_count bytes))
 
 -- a RELA for a section that isn't there
-abbrev pub is_rela_of_none : List ℕ → Header → Bool
+abbrev pub is_rela_of_none : List ℕ → SectionHeader → Bool
 is_rela_of_none bytes h = h.kind == 4 && nat_le (section_count bytes) h.info
 
 -- a section for one of these causes that are its own
-abbrev pub is_unlinked : List ℕ → Header → Bool
+abbrev pub is_unlinked : List ℕ → SectionHeader → Bool
 is_unlinked bytes h =
     is_foreign_kind h || is_compressed h || is_odd_symbol_table h || is_kept_by_thread bytes h || is_kept_unknown bytes h
     || is_odd_code bytes h || is_odd_rela bytes h || has_other_symbols bytes h || is_rela_of_none bytes h
@@ -133,7 +129,7 @@ abbrev pub is_bad_alignment : ℕ → ℕ → Bool
 is_bad_alignment most align = not (align == 0) && (not (is_power_of_two align) || nat_lt most align)
 
 -- a kept section: code is aligned to 256 bytes at most, data to 4,096
-abbrev pub is_badly_aligned : List ℕ → Header → Bool
+abbrev pub is_badly_aligned : List ℕ → SectionHeader → Bool
 is_badly_aligned bytes h = is_kept bytes h && is_bad_alignment (if has_flags 4 h.flags then 256 else 4096) h.align
 
 -- a common symbol (SHN_COMMON, 0xFFF2), whose value is its alignment
@@ -146,7 +142,7 @@ has_bad_alignment bytes =
     list_any (is_badly_aligned bytes) (headers_of bytes) || list_any is_bad_common (drop 1 (symbol_entries bytes))
 
 -- code that ends inside a word
-abbrev pub is_cut_code : List ℕ → Header → Bool
+abbrev pub is_cut_code : List ℕ → SectionHeader → Bool
 is_cut_code bytes h = is_kept_code bytes h && not (h.size % 4 == 0)
 
 -- some section is such code
@@ -164,7 +160,7 @@ abbrev pub is_unnamed_symbol : List ℕ → SymbolEntry → Bool
 is_unnamed_symbol bytes e = not (has_end (symbol_names bytes) e.name)
 
 -- a SYMTAB without a table of names
-abbrev pub lacks_symbol_names : List ℕ → Header → Bool
+abbrev pub lacks_symbol_names : List ℕ → SectionHeader → Bool
 lacks_symbol_names bytes h = lacks_strings bytes h.link
 
 -- there are sections or symbols without a table of their names, or one whose name has no end
@@ -209,7 +205,7 @@ abbrev pub names_no_symbol : List ℕ → Reloc → Bool
 names_no_symbol bytes r = nat_le (symbol_count bytes) r.symbol
 
 -- a kept section is changed by such a relocation
-abbrev pub is_of_no_symbol : List ℕ → Header → Bool
+abbrev pub is_of_no_symbol : List ℕ → SectionHeader → Bool
 is_of_no_symbol bytes h = is_kept_rela bytes h && list_any (names_no_symbol bytes) (relocs_in (content_of bytes h))
 
 -- a symbol other than 0 is bad, or a relocation that counts names none
@@ -227,7 +223,7 @@ object_fault bytes = first_of (
     ∷ (has_cut_code bytes, CodeSize) ∷ (has_bad_name bytes, BadName) ∷ (has_bad_symbol bytes, BadSymbol) ∷ [])
 
 -- an object without a fault, with the section of its symbols, their entries and their names
-pub record IsRead (bytes : List ℕ) (section : Option ℕ) (entries names : List ℕ) : Type 0 where
+pub record IsReadObject (bytes : List ℕ) (section : Option ℕ) (entries names : List ℕ) : Type 0 where
   pub faultless : object_fault bytes ≡ None
   pub section_read : IsSymbolSection bytes section
   pub entries_read : entries ≡ symbol_content bytes

@@ -3,11 +3,12 @@
 use Rattle.std.specs.Prelude.{ℕ, Bool, not, ◌&&◌, nat_eq, if◌then◌else◌, List, [], map, codes}
 use Rattle.std.specs.Cmp.Lexicographic.{pointwise}
 use Rattle.std.specs.List.{flat_map, range_with_len}
-use Rattle.elf32_read.specs.Header.{Header, content_of, file_flags, header_of, section_count}
+use Rattle.elf32_read.specs.Header.{content_of, file_flags, header_of, section_count}
 use Rattle.elf32_read.specs.Kept.{has_flags, is_kept}
 use Rattle.elf32_read.specs.Names.{name_at, section_names}
 use Rattle.elf32_read.specs.Relocs.{relas_for, relocs_in}
 use Rattle.elf32_read.specs.Symbols.{symbol_entries, symbol_names}
+use Rattle.elf32_read.specs.declared.header.SectionHeader.{SectionHeader}
 use Rattle.elf32_read.specs.declared.reloc.Reloc.{Reloc}
 use Rattle.elf32_read.specs.declared.symbol_entry.SymbolEntry.{SymbolEntry}
 
@@ -48,22 +49,18 @@ is_kept_section s = has_flags 2 s.flags && not (pointwise nat_eq s.name (codes "
 abbrev pub is_code_section : SectionParts → Bool
 is_code_section s = is_kept_section s && has_flags 4 s.flags
 
--- an object with these flags is compressed, so its code may have instructions of 2 bytes: RVC (1) is among them (RISC-V ELF
--- psABI, "File Header")
-abbrev pub is_compressed : ℕ → Bool
-is_compressed flags = has_flags 1 flags
-
 -- ---- what a file reads as
 
 -- the relocations that a section holds
-abbrev pub relocs_held : List ℕ → Header → List Reloc
+abbrev pub relocs_held : List ℕ → SectionHeader → List Reloc
 relocs_held file h = relocs_in (content_of file h)
 
 -- the relocations of a section; a section that is dropped has none
 abbrev pub relocs_of : List ℕ → ℕ → List Reloc
 relocs_of file i = if is_kept file (header_of file i) then flat_map (relocs_held file) (relas_for file i) else []
 
--- a section by its index
+-- a section by its index; its object is compressed, so that code may have instructions of 2 bytes, if RVC (1) is among e_flags
+-- (RISC-V ELF psABI, "File Header")
 abbrev pub section_parts : List ℕ → ℕ → SectionParts
 section_parts file i = let h = header_of file i in record {
   name = name_at (section_names file) h.name;
@@ -73,7 +70,7 @@ section_parts file i = let h = header_of file i in record {
   size = h.size;
   bytes = content_of file h;
   relocs = relocs_of file i;
-  compressed = is_compressed (file_flags file);
+  compressed = has_flags 1 (file_flags file);
 }
 
 -- the symbol of an entry

@@ -5,16 +5,13 @@ use Rattle.zc_base.specs.Fields.{half_in, word_in}
 use Rattle.zc_base.specs.declared.mem_map.MemMap.{MemMap}
 use Rattle.zc_base.specs.declared.place.Place.{Place}
 use Rattle.zc_base.specs.Places.{is_before}
-use Rattle.elf32_read.specs.Header.{Header, content_of, headers_of}
+use Rattle.elf32_read.specs.Header.{content_of, headers_of}
 use Rattle.elf32_read.specs.Names.{is_name_at, section_names}
+use Rattle.elf32_read.specs.declared.header.SectionHeader.{SectionHeader}
 
--- the section is named .zcld.places
-abbrev pub holds_places : List ℕ → Header → Bool
-holds_places bytes header = is_name_at (codes ".zcld.places") (section_names bytes) header.name
-
--- the sections with places, in order
-unfoldable pub places_sections : List ℕ → List Header
-places_sections bytes = filter (holds_places bytes) (headers_of bytes)
+-- the sections named .zcld.places, in order
+unfoldable pub places_sections : List ℕ → List SectionHeader
+places_sections bytes = filter (λ header. is_name_at (codes ".zcld.places") (section_names bytes) header.name) (headers_of bytes)
 
 -- an entry: a half for the object, a half for the section, a word for the offset, and a word for
 -- the address
@@ -27,8 +24,8 @@ abbrev pub entries_of : List ℕ → List (Place × ℕ)
 entries_of content = map (entry_at content) (range_with_len 0 (length content / 12))
 
 -- the places that the image lists, each with its address: none without the section
-abbrev pub places_of : List ℕ → List (Place × ℕ)
-places_of bytes = flat_map (λ header. entries_of (content_of bytes header)) (places_sections bytes)
+abbrev pub place_list : List ℕ → List (Place × ℕ)
+place_list bytes = flat_map (λ header. entries_of (content_of bytes header)) (places_sections bytes)
 
 -- each place comes before the next
 abbrev pub is_ascending : List (Place × ℕ) → Bool

@@ -1,27 +1,24 @@
 -- The symbols of an object (System V gABI, "Symbol Table").
-use Rattle.std.specs.Prelude.{ℕ, Bool, ◌+◌, ◌*◌, ◌/◌, ◌%◌, ◌==◌, List, [], length, map, filter, slice_index, slice_get, Option}
+use Rattle.std.specs.Prelude.{ℕ, ◌+◌, ◌*◌, ◌/◌, ◌%◌, ◌==◌, List, [], length, map, filter, slice_index, slice_get, Option}
 use Rattle.std.specs.List.{range_with_len}
 use Rattle.std.specs.Option.{option_map_or}
 use Rattle.zc_base.specs.Fields.{half_in, word_in}
-use Rattle.elf32_read.specs.Header.{Header, IsOnly, content_of, headers_of}
+use Rattle.elf32_read.specs.Header.{IsOnly, content_of, headers_of}
 use Rattle.elf32_read.specs.Names.{strings_of}
+use Rattle.elf32_read.specs.declared.header.SectionHeader.{SectionHeader}
 use Rattle.elf32_read.specs.declared.symbol_entry.SymbolEntry.{SymbolEntry}
 
--- the section has symbols, SYMTAB (2)
-abbrev pub has_symbols : Header → Bool
-has_symbols h = h.kind == 2
-
--- all such sections, in order
-abbrev pub symbol_tables : List ℕ → List Header
-symbol_tables bytes = filter has_symbols (headers_of bytes)
+-- the sections with symbols, SYMTAB (2), in order
+abbrev pub symbol_tables : List ℕ → List SectionHeader
+symbol_tables bytes = filter (λ h. h.kind == 2) (headers_of bytes)
 
 -- the one that is read
-abbrev pub symbol_table : List ℕ → Option Header
+abbrev pub symbol_table : List ℕ → Option SectionHeader
 symbol_table bytes = slice_get (symbol_tables bytes) 0
 
 -- its index, if there is one
 abbrev pub IsSymbolSection : List ℕ → Option ℕ → Type 0
-IsSymbolSection bytes i = IsOnly has_symbols bytes i
+IsSymbolSection bytes i = IsOnly (λ h. h.kind == 2) bytes i
 
 -- its entries, as they stand in the file
 abbrev pub symbol_content : List ℕ → List ℕ

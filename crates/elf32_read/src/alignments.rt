@@ -9,8 +9,9 @@ ghost use Rattle.elf32_read.specs.Symbols.{entries_in, symbol_content};
 use crate::header::SectionHeader;
 use crate::section_flags::SectionFlags;
 use crate::sections::Sections;
+use crate::symbol::COMMON;
 use crate::symbol_entry::SymbolEntry;
-use crate::symbols::{COMMON, SYMBOL_SIZE, symbol_entry};
+use crate::symbols::{SYMBOL_SIZE, symbol_entry};
 
 const MOST_OF_CODE: u32 = 256;
 

@@ -1,10 +1,9 @@
 // Whether what a file's headers name lies in the file.
 
-ghost use Rattle.std.specs.Prelude.{◌≡◌, ◌≤◌, ◌+◌, ◌*◌, ◌&&◌, ◌==◌, length};
+ghost use Rattle.std.specs.Prelude.{◌≡◌, ◌≤◌, ◌+◌, ◌*◌, ◌&&◌, ◌==◌, length, nat_lt};
 ghost use Rattle.std.specs.List.{list_any};
 ghost use Rattle.elf32_read.specs.Header.{header_of, headers_of, program_count, program_header_of, program_table, section_count, section_table};
-ghost use Rattle.elf32_read.specs.Image.{lacks_program_headers, load_passes_end};
-ghost use Rattle.elf32_read.specs.Object.{lacks_headers, passes_end, truncated};
+ghost use Rattle.elf32_read.specs.Object.{passes_end, truncated};
 ghost use Rattle.elf32_read.specs.Segments.{loads_of};
 
 use crate::header::{
@@ -15,7 +14,7 @@ use crate::header::{
 // Whether the section headers pass the end.
 fn lacks_headers(bytes: &[u8]) -> bool
     requires { 52 ≤ length bytes.now }
-    ensures { result ≡ lacks_headers bytes.now }
+    ensures { result ≡ nat_lt (length bytes.now) (section_table bytes.now + 40 * section_count bytes.now) }
 {
     bytes.len() < section_table(bytes) as usize + 40 * section_count(bytes) as usize
 }
@@ -23,7 +22,7 @@ fn lacks_headers(bytes: &[u8]) -> bool
 /// Whether the program headers pass the end.
 pub fn lacks_program_headers(bytes: &[u8]) -> bool
     requires { 52 ≤ length bytes.now }
-    ensures { result ≡ lacks_program_headers bytes.now }
+    ensures { result ≡ nat_lt (length bytes.now) (program_table bytes.now + 32 * program_count bytes.now) }
 {
     bytes.len() < program_table(bytes) as usize + 32 * program_count(bytes) as usize
 }
@@ -66,7 +65,7 @@ fn is_load_truncated(bytes: &[u8], i: u32) -> bool
     requires start { 52 ≤ length bytes.now }
     requires within { program_table bytes.now + 32 * i + 32 ≤ length bytes.now }
     ensures { let header = program_header_of bytes.now i in
-        result ≡ (header.kind == 1 && load_passes_end bytes.now header) }
+        result ≡ (header.kind == 1 && nat_lt (length bytes.now) (header.offset + header.file_size)) }
 {
     let header = program_header(bytes, i);
     header.kind == LOAD && bytes.len() < header.offset as usize + header.file_size as usize
@@ -77,7 +76,8 @@ fn is_load_truncated(bytes: &[u8], i: u32) -> bool
 pub fn has_truncated_load(bytes: &[u8]) -> bool
     requires start { 52 ≤ length bytes.now }
     requires within { program_table bytes.now + 32 * program_count bytes.now ≤ length bytes.now }
-    ensures { result ≡ list_any (load_passes_end bytes.now) (loads_of bytes.now) }
+    ensures { result
+        ≡ list_any (λ header. nat_lt (length bytes.now) (header.offset + header.file_size)) (loads_of bytes.now) }
 {
     for i in 0..u32::from(program_count(bytes)) {
         if is_load_truncated(bytes, i) {

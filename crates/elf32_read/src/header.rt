@@ -2,12 +2,26 @@
 // Header").
 
 ghost use Rattle.std.specs.Prelude.{◌≡◌, ◌≢◌, ◌≤◌, ◌+◌, ◌*◌, length};
+ghost use Rattle.zc_base.specs.Fields.{half_in};
 ghost use Rattle.elf32_read.specs.Kept.{has_flags};
-ghost use Rattle.elf32_read.specs.Header.{begins_as, content_of, entry_of, file_flags, have_other_size, header_of, is_empty_kind, name_section, program_count, program_header_of, program_header_size, program_table, section_count, section_header_size, section_table};
+ghost use Rattle.elf32_read.specs.Header.{begins_as, content_of, entry_address, file_flags, has_other_section_headers, header_of, is_empty_kind, name_section, program_count, program_header_of, program_table, section_count, section_table};
 
 use crate::section_flags::SectionFlags;
 use bitflags::Flags;
 use zc_base::fields::{u16_at, u32_at};
+
+/// Types of files, e_type.
+pub const RELOCATABLE: u16 = 1;
+
+pub const EXECUTABLE: u16 = 2;
+
+/// The machine of a file, e_machine.
+pub const RISC_V: u16 = 243;
+
+/// Flags of a file, e_flags (RISC-V ELF psABI, "File Header").
+pub const RVC: u32 = 0x1;
+
+pub const TSO: u32 = 0x10;
 
 /// The kind of a program header that loads a segment, PT_LOAD.
 pub const LOAD: u32 = 1;
@@ -86,13 +100,13 @@ pub fn begins_as(file_type: u16, bytes: &[u8]) -> bool
         && bytes[5] == 1
         && bytes[6] == 1
         && u16_at(bytes, 16) == file_type
-        && u16_at(bytes, 18) == 243
+        && u16_at(bytes, 18) == RISC_V
 }
 
 /// The address at which the program starts, e_entry.
-pub fn entry_of(bytes: &[u8]) -> u32
+pub fn entry_address(bytes: &[u8]) -> u32
     requires { 52 ≤ length bytes.now }
-    ensures { result ≡ entry_of bytes.now }
+    ensures { result ≡ entry_address bytes.now }
 {
     u32_at(bytes, 24)
 }
@@ -124,7 +138,7 @@ pub fn file_flags(bytes: &[u8]) -> u32
 /// The bytes of a program header, e_phentsize.
 pub fn program_header_size(bytes: &[u8]) -> u16
     requires { 52 ≤ length bytes.now }
-    ensures { result ≡ program_header_size bytes.now }
+    ensures { result ≡ half_in bytes.now 42 }
 {
     u16_at(bytes, 42)
 }
@@ -140,7 +154,7 @@ pub fn program_count(bytes: &[u8]) -> u16
 /// The bytes of a section header, e_shentsize.
 pub fn section_header_size(bytes: &[u8]) -> u16
     requires { 52 ≤ length bytes.now }
-    ensures { result ≡ section_header_size bytes.now }
+    ensures { result ≡ half_in bytes.now 46 }
 {
     u16_at(bytes, 46)
 }
@@ -164,8 +178,7 @@ pub fn name_section(bytes: &[u8]) -> u16
 /// Whether there are section headers, but not of 40 bytes.
 pub fn has_other_section_headers(bytes: &[u8]) -> bool
     requires { 52 ≤ length bytes.now }
-    ensures { result
-        ≡ have_other_size 40 (section_count bytes.now) (section_header_size bytes.now) }
+    ensures { result ≡ has_other_section_headers bytes.now }
 {
     section_count(bytes) != 0 && section_header_size(bytes) != 40
 }

@@ -1,17 +1,17 @@
 // Images.
 
-ghost use Rattle.std.specs.Prelude.{◌≡◌, ℕ, ◌≤◌, ◌<◌, List, length, slice_get, None, Some, MatchResult, false};
+ghost use Rattle.std.specs.Prelude.{◌≡◌, ℕ, ◌≤◌, ◌<◌, ◌+◌, List, length, slice_get, None, Some, MatchResult};
 ghost use Rattle.zc_base.specs.declared.mem_map.MemMap.{MemMap};
-ghost use Rattle.elf32_read.specs.Header.{entry_of};
-ghost use Rattle.elf32_read.specs.Image.{image_fault, image_truncated, load_passes_end, not_image, IsRead};
-ghost use Rattle.elf32_read.specs.Places.{places_of};
+ghost use Rattle.elf32_read.specs.Header.{entry_address};
+ghost use Rattle.elf32_read.specs.Image.{image_fault, image_truncated, not_image, IsReadImage};
+ghost use Rattle.elf32_read.specs.Places.{place_list};
 ghost use Rattle.elf32_read.specs.Segment.{segment_data};
 ghost use Rattle.elf32_read.specs.Segments.{segment_of, segments_of};
 
 use crate::bounds::{has_truncated_load, is_truncated, lacks_program_headers};
 use crate::header::{
-    ProgramHeader, begins_as, entry_of, file_flags, has_other_section_headers, program_count,
-    program_header_size,
+    EXECUTABLE, ProgramHeader, begins_as, entry_address, file_flags, has_other_section_headers,
+    program_count, program_header_size,
 };
 use crate::image_fault::ImageFault;
 use crate::loads::{Loads, loads_in};
@@ -22,8 +22,6 @@ use crate::segments::{has_bad_segments, is_code};
 use std::marker::Model;
 use zc_base::mem_map::MemMap;
 use zc_base::place::Place;
-
-const EXECUTABLE: u16 = 2;
 
 const MOST_BYTES: usize = 0x80_0000;
 
@@ -46,7 +44,7 @@ fn is_truncated_image(bytes: &[u8]) -> bool
 
 // The segment that a program header loads.
 fn segment_at<'a>(bytes: &'a [u8], header: &ProgramHeader) -> Segment<'a>
-    requires { load_passes_end bytes.now header.now ≡ false }
+    requires { header.now.offset + header.now.file_size ≤ length bytes.now }
     ensures { segment_data result ≡ segment_of bytes.entry.now header.now }
 {
     let start = header.offset as usize;
@@ -72,7 +70,7 @@ impl<'a> Model for Image<'a> {
 
     ghost view = { λ image. (image.bytes.now, image.map) };
 
-    ghost invariant = { λ image. IsRead image.bytes.now image.map image.loads image.entries.now };
+    ghost invariant = { λ image. IsReadImage image.bytes.now image.map image.loads image.entries.now };
 }
 
 impl<'a> Image<'a> {
@@ -118,9 +116,9 @@ impl<'a> Image<'a> {
 
     /// The address at which the program starts.
     pub fn entry(&self) -> u32
-        ensures { result ≡ entry_of self.now.0 }
+        ensures { result ≡ entry_address self.now.0 }
     {
-        entry_of(self.bytes)
+        entry_address(self.bytes)
     }
 
     /// How many segments there are.
@@ -141,15 +139,15 @@ impl<'a> Image<'a> {
 
     /// How many places it lists.
     pub fn place_count(&self) -> u32
-        ensures { result ≡ length (places_of self.now.0) }
+        ensures { result ≡ length (place_list self.now.0) }
     {
         (self.entries.len() / ENTRY_SIZE) as u32
     }
 
     /// A place and its address, by its index, in ascending order of the places.
     pub fn place(&self, i: u32) -> (Place, u32)
-        requires { i < length (places_of self.now.0) }
-        ensures { slice_get (places_of self.now.0) i ≡ Some result }
+        requires { i < length (place_list self.now.0) }
+        ensures { slice_get (place_list self.now.0) i ≡ Some result }
     {
         entry(self.entries, i as usize)
     }

@@ -19,17 +19,18 @@ pub fn is_name_at(ended: &[u8], table: &[u8], at: u32) -> bool
     names_from(table, at).starts_with(ended)
 }
 
-/// Where the last name ends: an offset has a zero at it or after it exactly if it is below.
+/// Where the last name ends: an offset has a zero at it or after it exactly if it is below. It looks
+/// at no byte before that zero.
 pub fn names_end(names: &[u8]) -> usize
     ensures { (k : ℕ) → has_end names.now k ≡ nat_lt k result }
 {
-    let mut end = 0;
-    for (i, byte) in names.iter().enumerate() {
-        if *byte == 0 {
-            end = i + 1;
+    for i in 0..names.len() {
+        let end = names.len() - i;
+        if names[end - 1] == 0 {
+            return end;
         }
     }
-    end
+    0
 }
 
 /// The name that begins at an offset of a table. It looks at each byte of the name.

@@ -2,16 +2,19 @@
 
 ghost use Rattle.std.specs.Prelude.{◌≡◌, ◌≤◌, ◌<◌, List, ℕ, [], length, replicate, slice_get, slice_index_or, None, Some, MatchOption, MatchResult};
 ghost use Rattle.elf32_read.specs.Header.{file_flags, header_of, section_count};
+ghost use Rattle.elf32_read.specs.Kept.{has_flags};
 ghost use Rattle.elf32_read.specs.Lent.{IsSection, IsSectionEntry, IsSymbol};
-ghost use Rattle.elf32_read.specs.Object.{has_other_flags, not_elf, object_fault, IsRead};
-ghost use Rattle.elf32_read.specs.Parts.{is_compressed, relocs_held, relocs_of, section_parts, symbol_parts};
+ghost use Rattle.elf32_read.specs.Object.{has_other_flags, not_elf, object_fault, IsReadObject};
+ghost use Rattle.elf32_read.specs.Parts.{relocs_held, relocs_of, section_parts, symbol_parts};
 ghost use Rattle.elf32_read.specs.Relas.{IsRelaOf};
 ghost use Rattle.elf32_read.specs.Symbols.{symbol_count, symbol_entry_of, symbol_names, IsSymbolSection};
 
 use crate::alignments::{has_bad_alignment, has_cut_code};
 use crate::bounds::is_truncated;
 use crate::fault::Fault;
-use crate::header::{begins_as, file_flags, has_other_section_headers, section_count};
+use crate::header::{
+    RELOCATABLE, RVC, TSO, begins_as, file_flags, has_other_section_headers, section_count,
+};
 use crate::kinds::has_unlinked_sections;
 use crate::names::{name_at, names_from};
 use crate::rela_table::fill_relas;
@@ -30,13 +33,7 @@ use crate::symbols::{
 use crate::unnamed::has_bad_name;
 use std::marker::Model;
 
-const RELOCATABLE: u16 = 1;
-
 const MOST_BYTES: usize = 0x40_0000;
-
-const RVC: u32 = 0x1;
-
-const TSO: u32 = 0x10;
 
 fn is_no_object(bytes: &[u8]) -> bool
     ensures { result ≡ not_elf bytes.now }
@@ -65,7 +62,7 @@ impl<'a> Model for Object<'a> {
     ghost view = { λ object. object.sections };
 
     ghost invariant = { λ object.
-        IsRead object.sections object.symbol_section object.symbols.entries.now object.symbols.names.now };
+        IsReadObject object.sections object.symbol_section object.symbols.entries.now object.symbols.names.now };
 }
 
 impl<'a> Object<'a> {
@@ -152,7 +149,7 @@ impl<'a> Object<'a> {
 
     /// Whether its code may have instructions of 2 bytes: RVC is among its flags.
     pub fn is_compressed(&self) -> bool
-        ensures { result ≡ is_compressed (file_flags self.now) }
+        ensures { result ≡ has_flags 1 (file_flags self.now) }
     {
         self.flags() & RVC == RVC
     }

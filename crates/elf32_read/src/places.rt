@@ -1,12 +1,13 @@
 // The places that an image lists.
 
-ghost use Rattle.std.specs.Prelude.{◌≡◌, ◌≤◌, ◌<◌, ◌+◌, ◌*◌, true, false, length, MatchResult};
+ghost use Rattle.std.specs.Prelude.{◌≡◌, ◌≤◌, ◌<◌, ◌+◌, ◌*◌, ◌%◌, ◌||◌, ◌==◌, codes, not, true, false, length, MatchResult};
 ghost use Rattle.std.specs.List.{list_any};
 ghost use Rattle.std.specs.Option.{option_to_list};
-ghost use Rattle.elf32_read.specs.Header.{content_of};
-ghost use Rattle.elf32_read.specs.Image.{bad_names, bad_places, is_bad_list, is_bad_section};
+ghost use Rattle.elf32_read.specs.Header.{content_of, headers_of, is_empty_kind, name_section};
+ghost use Rattle.elf32_read.specs.Image.{bad_places, is_bad_section};
+ghost use Rattle.elf32_read.specs.Names.{is_name_at, is_unnamed_section, lacks_strings, section_names};
 ghost use Rattle.elf32_read.specs.Object.{passes_end};
-ghost use Rattle.elf32_read.specs.Places.{entries_of, entry_at, holds_places, is_ascending, is_outside, places_of, places_sections};
+ghost use Rattle.elf32_read.specs.Places.{entries_of, entry_at, is_ascending, is_outside, place_list, places_sections};
 ghost use Rattle.elf32_read.specs.declared.image_fault.ImageFault.TheVariants.{BadPlaces};
 ghost use Rattle.zc_base.specs.Places.{is_before};
 
@@ -78,20 +79,22 @@ fn has_outside(map: &MemMap, entries: &[u8]) -> bool
 
 // Whether there is no table of the sections' names, or a name in it has no end.
 fn has_bad_names(sections: &Sections) -> bool
-    ensures { result ≡ bad_names sections.now }
+    ensures { result ≡ (lacks_strings sections.now (name_section sections.now)
+        || list_any (is_unnamed_section sections.now) (headers_of sections.now)) }
 {
     sections.lacks_strings(u32::from(name_section(sections.bytes())))
         || has_unnamed_section(sections)
 }
 
 fn holds_places(sections: &Sections, header: &SectionHeader) -> bool
-    ensures { result ≡ holds_places sections.now header.now }
+    ensures { result
+        ≡ is_name_at (codes ".zcld.places") (section_names sections.now) header.now.name }
 {
     is_name_at(NAME, sections.names(), header.name)
 }
 
 fn is_bad_list(header: &SectionHeader) -> bool
-    ensures { result ≡ is_bad_list header.now }
+    ensures { result ≡ (is_empty_kind header.now.kind || not (header.now.size % 12 == 0)) }
 {
     is_without_content(header.kind) || header.size as usize % ENTRY_SIZE != 0
 }
@@ -146,7 +149,7 @@ pub fn places_in<'a>(sections: &Sections<'a>, map: &MemMap) -> Result<&'a [u8], 
     ensures { MatchResult result
         (λ list. (bad_places sections.now map.now ≡ false)
         × (length list.now ≤ length sections.now)
-        × (entries_of list.now ≡ places_of sections.now))
+        × (entries_of list.now ≡ place_list sections.now))
         (λ fault. (fault ≡ BadPlaces) × (bad_places sections.now map.now ≡ true)) }
 {
     if sections.count() == 0 {

@@ -1,11 +1,11 @@
 // The relocations of an object.
 
-ghost use Rattle.std.specs.Prelude.{◌≡◌, ◌≤◌, ◌<◌, ◌+◌, ◌*◌, nat_le, [], false, length, MatchOption};
+ghost use Rattle.std.specs.Prelude.{◌≡◌, ◌≤◌, ◌<◌, ◌+◌, ◌*◌, ◌&&◌, ◌==◌, nat_le, [], false, length, MatchOption};
 ghost use Rattle.std.specs.List.{list_any};
 ghost use Rattle.elf32_read.specs.Header.{header_of, section_count};
 ghost use Rattle.elf32_read.specs.Object.{has_two_relas, is_changed_twice, is_kept_rela};
 ghost use Rattle.elf32_read.specs.Parts.{relocs_held, relocs_of};
-ghost use Rattle.elf32_read.specs.Relocs.{changes, reloc_at, relocs_in};
+ghost use Rattle.elf32_read.specs.Relocs.{reloc_at, relocs_in};
 
 use crate::header::{RELA, SectionHeader};
 use crate::reloc::Reloc;
@@ -77,7 +77,8 @@ pub fn has_symbol_from(count: usize, content: &[u8]) -> bool
 // Whether a section has the relocations of the section with this index.
 fn changes(sections: &Sections, rela: u32, section: u32) -> bool
     requires { rela < section_count sections.now }
-    ensures { result ≡ changes section (header_of sections.now rela) }
+    ensures { let header = header_of sections.now rela in
+        result ≡ (header.kind == 4 && header.info == section) }
 {
     let header = sections.header(rela);
     header.kind == RELA && header.info == section

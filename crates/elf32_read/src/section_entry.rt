@@ -1,10 +1,9 @@
 // Sections, without their names.
 
-ghost use Rattle.std.specs.Prelude.{◌≡◌, ◌++◌, ◌∷◌, [], List, ℕ, false, nat_eq};
+ghost use Rattle.std.specs.Prelude.{◌≡◌, ◌==◌, ◌++◌, ◌∷◌, [], List, ℕ, false, nat_eq};
 ghost use Rattle.std.specs.Cmp.Lexicographic.{pointwise};
-ghost use Rattle.std.specs.List.{starts_with};
+ghost use Rattle.std.specs.List.{list_any, starts_with};
 ghost use Rattle.elf32_read.specs.Lent.{IsSectionEntry};
-ghost use Rattle.elf32_read.specs.Names.{has_zero};
 ghost use Rattle.elf32_read.specs.Parts.{SectionParts};
 
 use crate::section_flags::SectionFlags;
@@ -29,7 +28,8 @@ impl<'a> SectionEntry<'a> {
     /// bytes than are given.
     pub fn is_named(&self, ended: &[u8]) -> bool
         ensures { (parts : SectionParts) (name : List ℕ) → IsSectionEntry self.now parts
-            → has_zero name ≡ false → ended.now ≡ name ++ 0 ∷ [] → result ≡ pointwise nat_eq parts.name name }
+            → list_any (λ byte. byte == 0) name ≡ false → ended.now ≡ name ++ 0 ∷ []
+            → result ≡ pointwise nat_eq parts.name name }
     {
         self.names.starts_with(ended)
     }
@@ -37,7 +37,8 @@ impl<'a> SectionEntry<'a> {
     /// Whether the section's name begins with bytes, of which none is zero. It looks at no more bytes
     /// than are given.
     pub fn name_starts_with(&self, start: &[u8]) -> bool
-        ensures { (parts : SectionParts) → IsSectionEntry self.now parts → has_zero start.now ≡ false
+        ensures { (parts : SectionParts) → IsSectionEntry self.now parts
+            → list_any (λ byte. byte == 0) start.now ≡ false
             → result ≡ starts_with nat_eq parts.name start.now }
     {
         self.names.starts_with(start)

@@ -4,7 +4,7 @@ ghost use Rattle.std.specs.Prelude.{◌≡◌, ◌≢◌, ◌≤◌, ◌<◌, �
 ghost use Rattle.elf32_read.specs.Header.{content_of, header_of, section_count};
 ghost use Rattle.elf32_read.specs.Kept.{is_kept, is_kept_code};
 ghost use Rattle.elf32_read.specs.Names.{lacks_strings, section_names, strings_of};
-ghost use Rattle.elf32_read.specs.Object.{passes_end, truncated, IsWhole};
+ghost use Rattle.elf32_read.specs.Object.{passes_end, truncated, IsWholeFile};
 
 use crate::header::{STRTAB, SectionHeader, content, name_section, section_count, section_header};
 use crate::names::is_name_at;
@@ -17,7 +17,7 @@ const EH_FRAME: &[u8; 10] = b".eh_frame\0";
 
 // Whether a section is none, or no table of strings.
 fn lacks_strings(bytes: &[u8], i: u32) -> bool
-    requires { IsWhole bytes.now }
+    requires { IsWholeFile bytes.now }
     ensures { result ≡ lacks_strings bytes.now i }
 {
     u32::from(section_count(bytes)) <= i || section_header(bytes, i).kind != STRTAB
@@ -25,7 +25,7 @@ fn lacks_strings(bytes: &[u8], i: u32) -> bool
 
 // The strings of a section, none if it is no table of strings.
 fn strings(bytes: &[u8], i: u32) -> &[u8]
-    requires { IsWhole bytes.now }
+    requires { IsWholeFile bytes.now }
     ensures { result.now ≡ strings_of bytes.entry.now i }
 {
     if lacks_strings(bytes, i) {
@@ -49,7 +49,7 @@ impl<'a> Model for Sections<'a> {
     ghost view = { λ sections. sections.bytes.now };
 
     ghost invariant = { λ sections.
-        IsWhole sections.bytes.now × (sections.names.now ≡ section_names sections.bytes.now) };
+        IsWholeFile sections.bytes.now × (sections.names.now ≡ section_names sections.bytes.now) };
 }
 
 impl<'a> Sections<'a> {

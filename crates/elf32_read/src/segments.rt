@@ -3,9 +3,9 @@
 ghost use Rattle.std.specs.Prelude.{◌≡◌, ◌≤◌, ◌+◌, length};
 ghost use Rattle.std.specs.List.{list_any};
 ghost use Rattle.elf32_read.specs.Image.{bad_segments, is_bad_load, some_overlap};
-ghost use Rattle.elf32_read.specs.Segments.{is_code, is_entry_of, is_in_place, loads_of, overlap};
+ghost use Rattle.elf32_read.specs.Segments.{is_code, is_entry_of, is_in_place, loads_of, overlap_in_memory};
 
-use crate::header::{ProgramHeader, entry_of};
+use crate::header::{ProgramHeader, entry_address};
 use zc_base::mem_map::MemMap;
 
 const EXECUTE: u32 = 1;
@@ -54,17 +54,17 @@ fn has_bad_load(map: &MemMap, loads: &[ProgramHeader]) -> bool
     loads.iter().any(|header| is_bad_load(map, header))
 }
 
-fn overlap(first: &ProgramHeader, second: &ProgramHeader) -> bool
-    ensures { result ≡ overlap first.now second.now }
+fn overlap_in_memory(first: &ProgramHeader, second: &ProgramHeader) -> bool
+    ensures { result ≡ overlap_in_memory first.now second.now }
 {
     let low = u64::from(first.address.max(second.address));
     low < memory_end(first).min(memory_end(second))
 }
 
 fn overlaps_one(header: &ProgramHeader, others: &[ProgramHeader]) -> bool
-    ensures { result ≡ list_any (overlap header.now) others.now }
+    ensures { result ≡ list_any (overlap_in_memory header.now) others.now }
 {
-    others.iter().any(|other| overlap(header, other))
+    others.iter().any(|other| overlap_in_memory(header, other))
 }
 
 fn has_overlap(loads: &[ProgramHeader]) -> bool
@@ -100,6 +100,6 @@ pub fn has_bad_segments(bytes: &[u8], map: &MemMap, loads: &[ProgramHeader]) -> 
     requires most { length loads.now ≤ 16 }
     ensures { result ≡ bad_segments bytes.now map.now }
 {
-    let entry = entry_of(bytes);
+    let entry = entry_address(bytes);
     has_bad_load(map, loads) || has_overlap(loads) || entry % 2 == 1 || !is_in_code(entry, loads)
 }

@@ -1,5 +1,19 @@
 // Symbols.
 
+/// Bindings of symbols, the upper half of st_info.
+pub const LOCAL: u8 = 0;
+
+pub const GLOBAL: u8 = 1;
+
+pub const WEAK: u8 = 2;
+
+/// Homes of symbols that are in no section, st_shndx: undefined, a number, and one that shares with others what it has room for.
+pub const UNDEF: u16 = 0;
+
+pub const ABS: u16 = 0xFFF1;
+
+pub const COMMON: u16 = 0xFFF2;
+
 /// A symbol of an object (System V gABI, "Symbol Table").
 ///
 /// `name` is without the zero that ends it, `bind` and `kind` are the two halves of st_info, and `home` is st_shndx: the index

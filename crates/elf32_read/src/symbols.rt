@@ -9,26 +9,16 @@ ghost use Rattle.elf32_read.specs.Symbols.{entries_in, symbol_content, symbol_en
 use crate::header::{SYMTAB, SectionHeader};
 use crate::relas::{has_symbol_from, is_kept_rela};
 use crate::sections::Sections;
+use crate::symbol::{ABS, COMMON, LOCAL, UNDEF, WEAK};
 use crate::symbol_entry::SymbolEntry;
 use zc_base::fields::{u16_at, u32_at};
 
 /// The bytes of a symbol's entry.
 pub const SYMBOL_SIZE: u32 = 16;
 
-const LOCAL: u8 = 0;
-
-const WEAK: u8 = 2;
-
 const TLS: u8 = 6;
 
 const GNU_IFUNC: u8 = 10;
-
-const UNDEF: u16 = 0;
-
-const ABS: u16 = 0xFFF1;
-
-/// The home of symbols that share what they have room for.
-pub const COMMON: u16 = 0xFFF2;
 
 /// The entries of the symbols, and the table of their names; both are empty if there are no symbols.
 #[derive(Clone, Copy)]
@@ -123,7 +113,7 @@ fn passes_section(sections: &Sections, entry: &SymbolEntry) -> bool
         return false;
     }
     let header = sections.header(home);
-    sections.is_kept(&header) && header.size < entry.value
+    header.size < entry.value && sections.is_kept(&header)
 }
 
 fn is_bad_symbol(sections: &Sections, entry: &SymbolEntry) -> bool

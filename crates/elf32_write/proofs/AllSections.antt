@@ -7,11 +7,11 @@ use Rattle.std.proofs.lemmas.List.Elements.{All-append, All-cons, All-filter, Al
 use Rattle.elf32_read.specs.Header.{header_of, headers_of, section_count}
 use Rattle.elf32_read.specs.Parts.{ObjectParts, SectionParts, SymbolParts}
 use Rattle.elf32_write.specs.Image.{pad, padded}
-use Rattle.elf32_write.specs.Entries.{symbol_names}
-use Rattle.elf32_write.specs.FileSections.{FileSection, added_sections, file_sections, given_section, given_sections, names_section, rela_section, rela_sections, relocated, section_names, symtab_index, symtab_section}
+use Rattle.elf32_write.specs.Entries.{strtab_names}
+use Rattle.elf32_write.specs.FileSections.{FileSection, added_sections, file_sections, given_section, given_sections, rela_section, rela_sections, relocated, shstrtab_names, strtab_section, symtab_index, symtab_section}
 use Rattle.elf32_write.specs.ObjectFile.{contents, object_bytes}
 use Rattle.elf32_write.specs.Ranges.{IsSectionSized}
-use Rattle.elf32_write.specs.SectionTable.{HasRoom}
+use Rattle.elf32_write.specs.SectionTable.{ContentsFit}
 use Rattle.elf32_write.specs.Writable.{IsWritableSection}
 use Rattle.elf32_write.proofs.FileHeaderBack.{HasWords, all_of, header_listed}
 use Rattle.elf32_write.proofs.SectionsBack.{IsComplete, Shows, is_kept_file, null_shown}
@@ -22,14 +22,14 @@ use Rattle.elf32_write.proofs.Zipped.{zip_get}
 -- ---- sections by their kinds
 
 -- what holds of each kind of section that is added holds of each
-pub all_added : (P : FileSection → Type 0) (xs : List SectionParts) (ys : List SymbolParts) → All (λ e. P (rela_section (symtab_index xs) e)) (relocated xs) → P (symtab_section (symtab_index xs) ys) → ((name : List ℕ) (names : List (List ℕ)) → (name ≡ codes ".strtab") ⊎ (name ≡ codes ".shstrtab") → P (names_section name names)) → All P (added_sections xs ys)
+pub all_added : (P : FileSection → Type 0) (xs : List SectionParts) (ys : List SymbolParts) → All (λ e. P (rela_section (symtab_index xs) e)) (relocated xs) → P (symtab_section (symtab_index xs) ys) → ((name : List ℕ) (names : List (List ℕ)) → (name ≡ codes ".strtab") ⊎ (name ≡ codes ".shstrtab") → P (strtab_section name names)) → All P (added_sections xs ys)
 unfolding added_sections
 all_added P xs ys relas symtab names =
-    let last = symtab_section (symtab_index xs) ys ∷ names_section (codes ".strtab") (symbol_names ys) ∷ names_section (codes ".shstrtab") (section_names xs) ∷ [] in
+    let last = symtab_section (symtab_index xs) ys ∷ strtab_section (codes ".strtab") (strtab_names ys) ∷ strtab_section (codes ".shstrtab") (shstrtab_names xs) ∷ [] in
     All-append P (rela_sections xs) last (All-map P (rela_section (symtab_index xs)) (relocated xs) relas)
-    (All-cons P (symtab_section (symtab_index xs) ys) (names_section (codes ".strtab") (symbol_names ys) ∷ names_section (codes ".shstrtab") (section_names xs) ∷ []) symtab
-    (All-cons P (names_section (codes ".strtab") (symbol_names ys)) (names_section (codes ".shstrtab") (section_names xs) ∷ []) (names (codes ".strtab") (symbol_names ys) (inl refl))
-    (All-cons P (names_section (codes ".shstrtab") (section_names xs)) [] (names (codes ".shstrtab") (section_names xs) (inr refl)) (All-nil P))))
+    (All-cons P (symtab_section (symtab_index xs) ys) (strtab_section (codes ".strtab") (strtab_names ys) ∷ strtab_section (codes ".shstrtab") (shstrtab_names xs) ∷ []) symtab
+    (All-cons P (strtab_section (codes ".strtab") (strtab_names ys)) (strtab_section (codes ".shstrtab") (shstrtab_names xs) ∷ []) (names (codes ".strtab") (strtab_names ys) (inl refl))
+    (All-cons P (strtab_section (codes ".shstrtab") (shstrtab_names xs)) [] (names (codes ".shstrtab") (shstrtab_names xs) (inr refl)) (All-nil P))))
 
 pub all_sections : (P : FileSection → Type 0) (xs : List SectionParts) (ys : List SymbolParts) → All (λ s. P (given_section s)) xs → All P (added_sections xs ys) → All P (file_sections xs ys)
 unfolding file_sections
@@ -96,7 +96,7 @@ content_small bound (s ∷ rest) small =
     let here = length-append s.content (replicate (pad (length s.content)) 0) in
     All-cons (λ s. length s.content < bound) s rest (omega (arith, small, both, here)) (content_small bound rest (omega (arith, small, both)))
 
-pub sections_words : (parts : ObjectParts) → HasRoom (all_of parts) → length (all_of parts) < 2 ^ 16 → All IsSectionSized parts.sections → All HasWords (all_of parts)
+pub sections_words : (parts : ObjectParts) → ContentsFit (all_of parts) → length (all_of parts) < 2 ^ 16 → All IsSectionSized parts.sections → All HasWords (all_of parts)
 sections_words parts room few sized =
     let xs = parts.sections in
     let ys = parts.symbols in

@@ -15,3 +15,8 @@ padded_appended (Ok value) start bytes one both count same e f =
     let zeros : take count (0 ∷ 0 ∷ 0 ∷ []) ≡ replicate (pad (length bytes)) 0 = ap (λ n. take n (0 ∷ 0 ∷ 0 ∷ [])) same ∙ take-replicate {X = ℕ} (pad (length bytes)) 3 0 few in
     appended start bytes (replicate (pad (length bytes)) 0) one both e (f ∙ ap (λ l. one ++ l) zeros)
 padded_appended (Err error) start bytes one both count same e f = tt
+
+-- the bytes of an array that was filled first
+pub filled_appended : {T E : Type 0} (result : Result T E) (start filled bytes both : List ℕ) → filled ≡ bytes → both ≡ (if is_ok result then start ++ filled else start) → OnOk result (both ≡ start ++ bytes)
+filled_appended (Ok value) start filled bytes both same e = e ∙ ap (λ l. start ++ l) same
+filled_appended (Err error) start filled bytes both same e = tt

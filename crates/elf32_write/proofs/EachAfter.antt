@@ -6,9 +6,9 @@ use Rattle.std.proofs.lemmas.List.Concat.{flat_map-append}
 use Rattle.elf32_write.specs.Image.{padded}
 use Rattle.elf32_write.specs.NameTable.{name_bytes, name_start, name_table}
 use Rattle.elf32_write.specs.EachAfter.{each_after}
-use Rattle.elf32_write.specs.FileSections.{FileSection, names_of}
-use Rattle.elf32_write.specs.ObjectFile.{contents, headers_for, section_header}
-use Rattle.elf32_write.specs.SectionTable.{Holds}
+use Rattle.elf32_write.specs.FileSections.{FileSection, names_of_sections}
+use Rattle.elf32_write.specs.ObjectFile.{contents, headers_for, written_header}
+use Rattle.elf32_write.specs.SectionTable.{HoldsSections}
 use Rattle.elf32_write.specs.declared.section_table.SectionTable.{SectionTable}
 
 -- of two lists, the second after the first
@@ -30,16 +30,16 @@ name_table_push names name =
     ap (λ l. 0 ∷ l) (flat_map-append name_bytes names (name ∷ []) ∙ ap (λ l. flat_map name_bytes names ++ l) one)
 
 -- a table of sections with one more, which has its header
-pub holds_more : (before : List FileSection) (s : FileSection) (old new : SectionTable) (name offset : ℕ) → Holds before old → new.contents.items ≡ old.contents.items ++ padded s.content → new.names.items ≡ old.names.items ++ name_bytes s.name → new.headers.items ≡ old.headers.items ++ record { name = name; kind = s.kind; flags = s.flags; address = 0; offset = offset; size = s.size; link = s.link; info = s.info; align = s.align; entry_size = s.entry_size } ∷ [] → name ≡ name_start (length old.names.items) s.name → offset ≡ 52 + length old.contents.items → Holds (before ++ s ∷ []) new
+pub holds_more : (before : List FileSection) (s : FileSection) (old new : SectionTable) (name offset : ℕ) → HoldsSections before old → new.contents.items ≡ old.contents.items ++ padded s.content → new.names.items ≡ old.names.items ++ name_bytes s.name → new.headers.items ≡ old.headers.items ++ record { name = name; kind = s.kind; flags = s.flags; address = 0; offset = offset; size = s.size; link = s.link; info = s.info; align = s.align; entry_size = s.entry_size } ∷ [] → name ≡ name_start (length old.names.items) s.name → offset ≡ 52 + length old.contents.items → HoldsSections (before ++ s ∷ []) new
 holds_more before s old new name offset held contents_new names_new headers_new named placed =
-    let start : name ≡ name_start (length (name_table (names_of before))) s.name = named ∙ ap (λ l. name_start (length l) s.name) held.names_held in
+    let start : name ≡ name_start (length (name_table (names_of_sections before))) s.name = named ∙ ap (λ l. name_start (length l) s.name) held.names_held in
     let at : offset ≡ 52 + length (contents before) = placed ∙ ap (λ l. 52 + length l) held.contents_held in
-    let header : (record { name = name; kind = s.kind; flags = s.flags; address = 0; offset = offset; size = s.size; link = s.link; info = s.info; align = s.align; entry_size = s.entry_size }) ≡ section_header before s =
+    let header : (record { name = name; kind = s.kind; flags = s.flags; address = 0; offset = offset; size = s.size; link = s.link; info = s.info; align = s.align; entry_size = s.entry_size }) ≡ written_header before s =
     λ i. record { name = start i; kind = s.kind; flags = s.flags; address = 0; offset = at i; size = s.size; link = s.link; info = s.info; align = s.align; entry_size = s.entry_size } in
     let names = map-append (λ (b : FileSection). b.name) before (s ∷ []) in
     let last : contents (s ∷ []) ≡ padded s.content = append-nil (padded s.content) in
     record {
       contents_held = contents_new ∙ ap (λ l. l ++ padded s.content) held.contents_held ∙ ap (λ l. contents before ++ l) (sym last) ∙ sym (flat_map-append (λ b. padded b.content) before (s ∷ []));
-      names_held = names_new ∙ ap (λ l. l ++ name_bytes s.name) held.names_held ∙ sym (name_table_push (names_of before) s.name) ∙ ap name_table (sym names);
-      headers_held = headers_new ∙ (λ i. held.headers_held i ++ header i ∷ []) ∙ sym (ap (λ l. (headers_for []) ++ l) (each_after_push section_header before s));
+      names_held = names_new ∙ ap (λ l. l ++ name_bytes s.name) held.names_held ∙ sym (name_table_push (names_of_sections before) s.name) ∙ ap name_table (sym names);
+      headers_held = headers_new ∙ (λ i. held.headers_held i ++ header i ∷ []) ∙ sym (ap (λ l. (headers_for []) ++ l) (each_after_push written_header before s));
     }

@@ -6,14 +6,15 @@ use Rattle.std.proofs.lemmas.List.{get_or_at}
 use Rattle.std.proofs.lemmas.List.Elements.{All-cons, All-head, All-nil, All-tail}
 use Rattle.std.proofs.lemmas.List.FromFn.{get_or-map-range_with_len}
 use Rattle.zc_base.specs.Fields.{half_in, word_in}
-use Rattle.elf32_read.specs.Header.{Header, begins_as, file_flags, header_of, headers_of, name_section, section_count, section_header_size, section_table}
+use Rattle.elf32_read.specs.Header.{begins_as, file_flags, header_of, headers_of, name_section, section_count, section_table}
 use Rattle.elf32_read.specs.Parts.{ObjectParts}
+use Rattle.elf32_read.specs.declared.header.SectionHeader.{SectionHeader}
 use Rattle.elf32_write.specs.Image.{null_section, section_bytes}
 use Rattle.elf32_write.specs.NameTable.{name_start, name_table}
 use Rattle.elf32_write.specs.EachAfter.{each_after}
-use Rattle.elf32_write.specs.FileSections.{FileSection, file_sections, names_of}
-use Rattle.elf32_write.specs.ObjectFile.{contents, headers_for, headers_offset, object_bytes, object_header, section_header, section_total}
-use Rattle.elf32_write.specs.SectionTable.{HasRoom}
+use Rattle.elf32_write.specs.FileSections.{FileSection, file_sections, names_of_sections}
+use Rattle.elf32_write.specs.ObjectFile.{contents, headers_for, headers_offset, object_bytes, object_header, section_total, written_header}
+use Rattle.elf32_write.specs.SectionTable.{ContentsFit}
 use Rattle.elf32_write.proofs.After.{half_of_bytes, word_of_bytes}
 use Rattle.elf32_write.proofs.EachAfter.{each_after-append}
 use Rattle.elf32_write.proofs.HeadersBack.{IsHeader, headers_back}
@@ -50,7 +51,7 @@ pub magic_back : (parts : ObjectParts) → begins_as 1 (object_bytes parts) ≡ 
 unfolding object_bytes object_header half_in word_in
 magic_back parts = refl
 
-pub header_size_back : (parts : ObjectParts) → section_header_size (object_bytes parts) ≡ 40
+pub header_size_back : (parts : ObjectParts) → half_in (object_bytes parts) 46 ≡ 40
 unfolding object_bytes object_header half_in
 header_size_back parts = refl
 
@@ -76,12 +77,12 @@ split_front parts =
     let headers = flat_map section_bytes (headers_for (all_of parts)) in
     sym (append_assoc header (contents (all_of parts)) headers) ∙ ap (λ l. (header ++ contents (all_of parts)) ++ l) (sym (append-nil headers))
 
-length-section_bytes : (headers : List Header) → length (flat_map section_bytes headers) ≡ 40 * length headers
+length-section_bytes : (headers : List SectionHeader) → length (flat_map section_bytes headers) ≡ 40 * length headers
 length-section_bytes [] = refl
 length-section_bytes (h ∷ headers) = let rest = length-section_bytes headers in omega (arith, rest)
 
 pub length-headers_for : (sections : List FileSection) → length (headers_for sections) ≡ 1 + length sections
-length-headers_for sections = omega (arith, length-each_after section_header [] sections)
+length-headers_for sections = omega (arith, length-each_after written_header [] sections)
 
 pub length-object_bytes : (parts : ObjectParts) → length (object_bytes parts) ≡ headers_offset parts + 40 * section_total parts
 length-object_bytes parts =
@@ -105,15 +106,15 @@ pub start_within : (end : ℕ) (name : List ℕ) → name_start end name ≤ end
 start_within end [] = omega arith
 start_within end (byte ∷ bytes) = omega arith
 
-words_after : (all before rest : List FileSection) → HasRoom all → all ≡ before ++ rest → All HasWords rest → All IsHeader (each_after section_header before rest)
+words_after : (all before rest : List FileSection) → ContentsFit all → all ≡ before ++ rest → All HasWords rest → All IsHeader (each_after written_header before rest)
 words_after all before [] room e words = All-nil IsHeader
 words_after all before (s ∷ rest) room e words =
     let here = room_within before (s ∷ rest) all e room in
     let w = All-head HasWords s rest words in
-    let start = start_within (length (name_table (names_of before))) s.name in
+    let start = start_within (length (name_table (names_of_sections before))) s.name in
     let next : all ≡ (before ++ s ∷ []) ++ rest = e ∙ sym (append_assoc before (s ∷ []) rest) in
     let more = words_after all (before ++ s ∷ []) rest room next (All-tail HasWords s rest words) in
-    All-cons IsHeader (section_header before s) (each_after section_header (before ++ s ∷ []) rest)
+    All-cons IsHeader (written_header before s) (each_after written_header (before ++ s ∷ []) rest)
     (record {
       name = omega (arith, start, here.names_fit);
       kind = w.kind;
@@ -128,13 +129,13 @@ words_after all before (s ∷ rest) room e words =
     })
     more
 
-header_words : (all : List FileSection) → HasRoom all → All HasWords all → All IsHeader (headers_for all)
+header_words : (all : List FileSection) → ContentsFit all → All HasWords all → All IsHeader (headers_for all)
 header_words all room words =
-    All-cons IsHeader null_section (each_after section_header [] all)
+    All-cons IsHeader null_section (each_after written_header [] all)
     (record { name = omega arith; kind = omega arith; flags = omega arith; address = omega arith; offset = omega arith; size = omega arith; link = omega arith; info = omega arith; align = omega arith; entry_size = omega arith })
     (words_after all [] all room refl words)
 
-pub listed_back : (parts : ObjectParts) → IsSmall parts → HasRoom (all_of parts) → All HasWords (all_of parts) → headers_of (object_bytes parts) ≡ headers_for (all_of parts)
+pub listed_back : (parts : ObjectParts) → IsSmall parts → ContentsFit (all_of parts) → All HasWords (all_of parts) → headers_of (object_bytes parts) ≡ headers_for (all_of parts)
 listed_back parts small room words =
     let bytes = object_bytes parts in
     let all = all_of parts in
@@ -144,18 +145,18 @@ listed_back parts small room words =
     ∙ headers_back bytes (front parts) (headers_for all) [] (split_front parts) start (header_words all room words)
 
 -- a header by its index is one of the list
-pub header_listed : (bytes : List ℕ) (i : ℕ) (d : Header) → i < section_count bytes → header_of bytes i ≡ get_or (headers_of bytes) i d
+pub header_listed : (bytes : List ℕ) (i : ℕ) (d : SectionHeader) → i < section_count bytes → header_of bytes i ≡ get_or (headers_of bytes) i d
 header_listed bytes i d lt = sym (get_or-map-range_with_len (header_of bytes) 0 (section_count bytes) i i d lt (omega arith))
 
 -- the header of a section, by those before it
-pub header_back : (parts : ObjectParts) → IsSmall parts → headers_of (object_bytes parts) ≡ headers_for (all_of parts) → (before : List FileSection) (s : FileSection) (rest : List FileSection) → all_of parts ≡ before ++ s ∷ rest → header_of (object_bytes parts) (1 + length before) ≡ section_header before s
+pub header_back : (parts : ObjectParts) → IsSmall parts → headers_of (object_bytes parts) ≡ headers_for (all_of parts) → (before : List FileSection) (s : FileSection) (rest : List FileSection) → all_of parts ≡ before ++ s ∷ rest → header_of (object_bytes parts) (1 + length before) ≡ written_header before s
 header_back parts small listed before s rest e =
-    let d = section_header before s in
+    let d = written_header before s in
     let many = ap length e ∙ length-append before (s ∷ rest) in
     let lt : 1 + length before < section_count (object_bytes parts) = omega (arith, count_back parts small, many) in
-    let cut : headers_for (all_of parts) ≡ headers_for before ++ d ∷ each_after section_header (before ++ s ∷ []) rest =
-    ap headers_for e ∙ ap (λ l. null_section ∷ l) (each_after-append section_header [] before (s ∷ rest)) in
+    let cut : headers_for (all_of parts) ≡ headers_for before ++ d ∷ each_after written_header (before ++ s ∷ []) rest =
+    ap headers_for e ∙ ap (λ l. null_section ∷ l) (each_after-append written_header [] before (s ∷ rest)) in
     let place = length-headers_for before in
     header_listed (object_bytes parts) (1 + length before) d lt
     ∙ ap (λ l. get_or l (1 + length before) d) (listed ∙ cut)
-    ∙ get_or_at (headers_for before) d (each_after section_header (before ++ s ∷ []) rest) d (1 + length before) place
+    ∙ get_or_at (headers_for before) d (each_after written_header (before ++ s ∷ []) rest) d (1 + length before) place

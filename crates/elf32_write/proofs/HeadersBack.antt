@@ -5,9 +5,10 @@ use Rattle.std.specs.List.{flat_map, range_with_len}
 use Rattle.std.proofs.lemmas.List.{append-nil}
 use Rattle.zc_base.specs.Fields.{half_in, word_in, word_bytes}
 use Rattle.zc_base.specs.declared.place.Place.{Place}
-use Rattle.elf32_read.specs.Header.{Header, section_table, program_table, header_of, program_header_of}
+use Rattle.elf32_read.specs.Header.{section_table, program_table, header_of, program_header_of}
 use Rattle.elf32_read.specs.declared.header.ProgramHeader.{ProgramHeader}
 use Rattle.elf32_read.specs.Places.{entry_at}
+use Rattle.elf32_read.specs.declared.header.SectionHeader.{SectionHeader}
 use Rattle.elf32_write.specs.Image.{section_bytes, segment_bytes, place_bytes}
 use Rattle.elf32_write.specs.Loadable.{IsEntry}
 use Rattle.elf32_write.proofs.After.{word_of_bytes, half_of_bytes, word_in-append, half_in-append, rows_back}
@@ -24,7 +25,7 @@ first_word_back front row v small e =
     ap (word_in (front ++ row)) z ∙ word_back front row 0 v small e
 
 -- each of a section header's numbers has room in a word
-pub record IsHeader (header : Header) : Type 0 where
+pub record IsHeader (header : SectionHeader) : Type 0 where
   pub name : header.name < 2 ^ 32
   pub kind : header.kind < 2 ^ 32
   pub flags : header.flags < 2 ^ 32
@@ -37,7 +38,7 @@ pub record IsHeader (header : Header) : Type 0 where
   pub entry_size : header.entry_size < 2 ^ 32
 
 -- the section header that ten words give
-header_at : List ℕ → ℕ → Header
+header_at : List ℕ → ℕ → SectionHeader
 header_at bytes at = record {
   name = word_in bytes at;
   kind = word_in bytes (at + 4);
@@ -51,7 +52,7 @@ header_at bytes at = record {
   entry_size = word_in bytes (at + 36);
 }
 
-header_back : (front rest : List ℕ) (header : Header) → IsHeader header → header_at (front ++ (section_bytes header ++ rest)) (length front) ≡ header
+header_back : (front rest : List ℕ) (header : SectionHeader) → IsHeader header → header_at (front ++ (section_bytes header ++ rest)) (length front) ≡ header
 unfolding header_at word_in
 header_back front rest header h =
     let row = section_bytes header ++ rest in
@@ -79,7 +80,7 @@ header_back front rest header h =
     }
 
 -- section headers read back
-pub headers_back : (bytes front : List ℕ) (headers : List Header) (rest : List ℕ) → bytes ≡ front ++ (flat_map section_bytes headers ++ rest) → section_table bytes ≡ length front → All IsHeader headers → map (header_of bytes) (range_with_len 0 (length headers)) ≡ headers
+pub headers_back : (bytes front : List ℕ) (headers : List SectionHeader) (rest : List ℕ) → bytes ≡ front ++ (flat_map section_bytes headers ++ rest) → section_table bytes ≡ length front → All IsHeader headers → map (header_of bytes) (range_with_len 0 (length headers)) ≡ headers
 unfolding header_of header_at
 headers_back bytes front headers rest e start small =
     let at : ℕ → ℕ = λ i. section_table bytes + 40 * i in

@@ -1,7 +1,7 @@
 -- An image reads back. The file is cut into what stands before the section headers and these; from
 -- there the headers read back as they were written, and with them each test of the reader computes.
 use Rattle.std.proofs.Common.{◌≡◌, ℕ, ◌+◌, ◌*◌, ◌/◌, ◌%◌, ◌^◌, ◌<◌, ◌≤◌, List, [], ◌∷◌, ◌++◌, length, get_or, map, take, drop, lit<, refl, sym, ap, ◌∙◌, arith, append_assoc, length-append, inl, inr, true, false, not}
-use Rattle.std.specs.Prelude.{All, Bool, codes, cond, replicate, filter, ◌==◌, nat_lt, nat_le, min, max, None}
+use Rattle.std.specs.Prelude.{All, Bool, codes, cond, replicate, filter, ◌==◌, ◌&&◌, nat_lt, nat_le, min, max, None}
 use Rattle.std.specs.List.{flat_map, range_with_len, list_any}
 use Rattle.std.proofs.lemmas.List.{length-replicate, append-nil}
 use Rattle.std.proofs.lemmas.Bool.{cases_lt, le-ltb, le-leb, lt-leb, ne_eqb, or_from, or_left, and_from, and_right}
@@ -9,15 +9,17 @@ use Rattle.std.proofs.lemmas.List.Elements.{All-from_recursion}
 use Rattle.zc_base.specs.Fields.{half_in, word_in}
 use Rattle.zc_base.specs.declared.mem_map.MemMap.{MemMap}
 use Rattle.zc_base.specs.declared.place.Place.{Place}
-use Rattle.elf32_read.specs.Header.{Header, begins_as, entry_of, file_flags, program_table, section_table, program_count, program_header_size, section_count, section_header_size, name_section, header_of, headers_of, program_header_of, program_headers_of, content_of, have_other_size}
-use Rattle.elf32_read.specs.Image.{too_large, are_known_flags, not_image, lacks_program_headers, load_passes_end, image_truncated, is_bad_load, some_overlap, bad_segments, is_bad_list, is_bad_section, bad_places, image_fault}
+use Rattle.elf32_read.specs.Header.{begins_as, content_of, entry_address, file_flags, has_other_section_headers, header_of, headers_of, name_section, program_count, program_header_of, program_table, section_count, section_table}
+use Rattle.elf32_read.specs.Image.{are_known_flags, bad_places, bad_segments, image_fault, image_truncated, is_bad_load, is_bad_section, not_image, some_overlap}
 use Rattle.elf32_read.specs.Names.{has_end, is_name_at, is_unnamed_section, lacks_strings, section_names}
-use Rattle.elf32_read.specs.Object.{lacks_headers, passes_end}
-use Rattle.elf32_read.specs.Places.{places_sections, entry_at, entries_of, places_of, is_ascending, is_outside}
-use Rattle.elf32_read.specs.Segments.{loads_of, overlap, is_entry_of, segment_of}
+use Rattle.elf32_read.specs.Object.{passes_end}
+use Rattle.elf32_read.specs.Places.{places_sections, entry_at, entries_of, place_list, is_ascending, is_outside}
+use Rattle.elf32_read.specs.Segments.{is_entry_of, loads_of, overlap_in_memory, segment_of}
 use Rattle.elf32_read.specs.Rows.{first_of}
+use Rattle.elf32_read.specs.declared.header.SectionHeader.{SectionHeader}
 use Rattle.elf32_read.specs.declared.image_fault.ImageFault.TheVariants.{NotElf, Truncated, BadSegment, BadPlaces, TooLarge}
-use Rattle.elf32_write.specs.Image.{pad, padded, padded_length, file_header, program_headers, place_bytes, names, section_headers, sections_of, places_section, names_section, text_segment, data_segment, data_offset, places_offset, names_offset, sections_offset, image_bytes, Fits}
+use Rattle.elf32_read.proofs.Tests.{load_passes_end}
+use Rattle.elf32_write.specs.Image.{pad, padded, padded_length, file_header, program_headers, place_bytes, shstrtab_content, section_headers, sections_of, places_section, shstrtab_header, text_segment, data_segment, data_offset, places_offset, names_offset, sections_offset, image_bytes, NumbersFit}
 use Rattle.elf32_write.specs.Loadable.{IsEntry, IsLoadable, ReadsBack}
 use Rattle.elf32_write.specs.Parts.{Parts}
 use Rattle.elf32_write.proofs.After.{part_between, word_of_bytes}
@@ -38,7 +40,7 @@ before_names : Parts → List ℕ
 before_names parts = before_places parts ++ flat_map place_bytes parts.places
 
 before_sections : Parts → List ℕ
-before_sections parts = before_names parts ++ padded names
+before_sections parts = before_names parts ++ padded shstrtab_content
 
 split_sections : (parts : Parts) → image_bytes parts ≡ before_sections parts ++ section_headers parts
 unfolding image_bytes before_sections before_names before_places before_data before_text
@@ -73,7 +75,7 @@ length-before_names parts = omega (arith, length-append (before_places parts) (f
 
 length-before_sections : (parts : Parts) → length (before_sections parts) ≡ sections_offset parts
 unfolding before_sections
-length-before_sections parts = omega (arith, length-append (before_names parts) (padded names), length-before_names parts)
+length-before_sections parts = omega (arith, length-append (before_names parts) (padded shstrtab_content), length-before_names parts)
 
 pub length-image_bytes : (parts : Parts) → length (image_bytes parts) ≡ sections_offset parts + 240
 unfolding section_headers
@@ -82,7 +84,7 @@ length-image_bytes parts =
 
 -- ---- the file's header
 
-entry_back : (parts : Parts) → parts.entry < 2 ^ 32 → entry_of (image_bytes parts) ≡ parts.entry
+entry_back : (parts : Parts) → parts.entry < 2 ^ 32 → entry_address (image_bytes parts) ≡ parts.entry
 unfolding image_bytes file_header word_in
 entry_back parts small = word_of_bytes parts.entry small
 
@@ -131,7 +133,7 @@ record Words (parts : Parts) : Type 0 where
   pub names_start : names_offset parts < 2 ^ 32
   pub sections_start : sections_offset parts < 2 ^ 32
 
-words : (parts : Parts) (memory : MemMap) → Fits parts → IsLoadable parts memory → Words parts
+words : (parts : Parts) (memory : MemMap) → NumbersFit parts → IsLoadable parts memory → Words parts
 words parts memory fits loadable = record {
   text_at = omega (arith, loadable.words, loadable.text);
   text = omega (arith, fits.file);
@@ -193,13 +195,13 @@ sections_back parts w =
 
 rest_of_file : Parts → List ℕ
 rest_of_file parts =
-    padded parts.text ++ (padded parts.data_bytes ++ (flat_map place_bytes parts.places ++ (padded names ++ section_headers parts)))
+    padded parts.text ++ (padded parts.data_bytes ++ (flat_map place_bytes parts.places ++ (padded shstrtab_content ++ section_headers parts)))
 
 split_segments : (parts : Parts) → image_bytes parts ≡ file_header parts ++ (program_headers parts ++ rest_of_file parts)
 unfolding image_bytes rest_of_file
 split_segments parts = simp append_assoc
 
-segments_headers_back : (parts : Parts) → Words parts → program_headers_of (image_bytes parts) ≡ text_segment parts ∷ data_segment parts ∷ []
+segments_headers_back : (parts : Parts) → Words parts → map (program_header_of (image_bytes parts)) (range_with_len 0 (program_count (image_bytes parts))) ≡ text_segment parts ∷ data_segment parts ∷ []
 unfolding program_headers
 segments_headers_back parts w =
     let bytes = image_bytes parts in
@@ -216,19 +218,19 @@ loads_back parts w = ap (λ headers. filter (λ header. header.kind == 1) header
 zeros_after : List ℕ → List ℕ
 zeros_after bytes = replicate (pad (length bytes)) 0
 
-split_text : (parts : Parts) → image_bytes parts ≡ before_text parts ++ (parts.text ++ (zeros_after parts.text ++ (padded parts.data_bytes ++ (flat_map place_bytes parts.places ++ (padded names ++ section_headers parts)))))
+split_text : (parts : Parts) → image_bytes parts ≡ before_text parts ++ (parts.text ++ (zeros_after parts.text ++ (padded parts.data_bytes ++ (flat_map place_bytes parts.places ++ (padded shstrtab_content ++ section_headers parts)))))
 unfolding image_bytes before_text zeros_after
 split_text parts = simp append_assoc
 
-split_data : (parts : Parts) → image_bytes parts ≡ before_data parts ++ (parts.data_bytes ++ (zeros_after parts.data_bytes ++ (flat_map place_bytes parts.places ++ (padded names ++ section_headers parts))))
+split_data : (parts : Parts) → image_bytes parts ≡ before_data parts ++ (parts.data_bytes ++ (zeros_after parts.data_bytes ++ (flat_map place_bytes parts.places ++ (padded shstrtab_content ++ section_headers parts))))
 unfolding image_bytes before_data before_text zeros_after
 split_data parts = simp append_assoc
 
-split_places : (parts : Parts) → image_bytes parts ≡ before_places parts ++ (flat_map place_bytes parts.places ++ (padded names ++ section_headers parts))
+split_places : (parts : Parts) → image_bytes parts ≡ before_places parts ++ (flat_map place_bytes parts.places ++ (padded shstrtab_content ++ section_headers parts))
 unfolding image_bytes before_places before_data before_text
 split_places parts = simp append_assoc
 
-split_names : (parts : Parts) → image_bytes parts ≡ before_names parts ++ (names ++ (0 ∷ 0 ∷ 0 ∷ [] ++ section_headers parts))
+split_names : (parts : Parts) → image_bytes parts ≡ before_names parts ++ (shstrtab_content ++ (0 ∷ 0 ∷ 0 ∷ [] ++ section_headers parts))
 unfolding image_bytes before_names before_places before_data before_text
 split_names parts = simp append_assoc
 
@@ -241,19 +243,19 @@ data_back parts = part_between (image_bytes parts) (before_data parts) parts.dat
 places_bytes_back : (parts : Parts) → content_of (image_bytes parts) (places_section parts) ≡ flat_map place_bytes parts.places
 places_bytes_back parts = part_between (image_bytes parts) (before_places parts) (flat_map place_bytes parts.places) _ (places_offset parts) (12 * length parts.places) (split_places parts) (sym (length-before_places parts)) (sym (length-places parts.places))
 
-names_back : (parts : Parts) → content_of (image_bytes parts) (names_section parts) ≡ names
-names_back parts = part_between (image_bytes parts) (before_names parts) names _ (names_offset parts) 41 (split_names parts) (sym (length-before_names parts)) refl
+names_back : (parts : Parts) → content_of (image_bytes parts) (shstrtab_header parts) ≡ shstrtab_content
+names_back parts = part_between (image_bytes parts) (before_names parts) shstrtab_content _ (names_offset parts) 41 (split_names parts) (sym (length-before_names parts)) refl
 
 -- ---- no fault
 
-not_too_large : (parts : Parts) → sections_offset parts + 240 ≤ 0x80_0000 → too_large (image_bytes parts) ≡ false
+not_too_large : (parts : Parts) → sections_offset parts + 240 ≤ 0x80_0000 → nat_lt 0x80_0000 (length (image_bytes parts)) ≡ false
 not_too_large parts small = le-ltb 0x80_0000 (length (image_bytes parts)) (omega (arith, small, length-image_bytes parts))
 
-segments_sized : (parts : Parts) → have_other_size 32 (program_count (image_bytes parts)) (program_header_size (image_bytes parts)) ≡ false
+segments_sized : (parts : Parts) → (not (program_count (image_bytes parts) == 0) && not (half_in (image_bytes parts) 42 == 32)) ≡ false
 unfolding image_bytes file_header half_in
 segments_sized parts = refl
 
-sections_sized : (parts : Parts) → have_other_size 40 (section_count (image_bytes parts)) (section_header_size (image_bytes parts)) ≡ false
+sections_sized : (parts : Parts) → has_other_section_headers (image_bytes parts) ≡ false
 unfolding image_bytes file_header half_in
 sections_sized parts = refl
 
@@ -269,14 +271,14 @@ is_whole : (parts : Parts) → Words parts → image_truncated (image_bytes part
 is_whole parts w =
     let bytes = image_bytes parts in
     let long = length-image_bytes parts in
-    let programs : lacks_program_headers bytes ≡ false = le-ltb (length bytes) (program_table bytes + 32 * program_count bytes) (omega (arith, long, program_table_back parts, program_count_back parts)) in
-    let headers : lacks_headers bytes ≡ false = le-ltb (length bytes) (section_table bytes + 40 * section_count bytes) (omega (arith, long, section_table_back parts w.sections_start, section_count_back parts)) in
+    let programs = le-ltb (length bytes) (program_table bytes + 32 * program_count bytes) (omega (arith, long, program_table_back parts, program_count_back parts)) in
+    let headers = le-ltb (length bytes) (section_table bytes + 40 * section_count bytes) (omega (arith, long, section_table_back parts w.sections_start, section_count_back parts)) in
     let text : load_passes_end bytes (text_segment parts) ≡ false = le-ltb (length bytes) (116 + length parts.text) (omega (arith, long)) in
     let data_part : load_passes_end bytes (data_segment parts) ≡ false = le-ltb (length bytes) (data_offset parts + length parts.data_bytes) (omega (arith, long)) in
     let loads : list_any (load_passes_end bytes) (loads_of bytes) ≡ false =
     ap (list_any (load_passes_end bytes)) (loads_back parts w) ∙ or_from _ _ text (or_from _ _ data_part refl) in
     let places : passes_end bytes (places_section parts) ≡ false = le-ltb (length bytes) (places_offset parts + 12 * length parts.places) (omega (arith, long)) in
-    let named : passes_end bytes (names_section parts) ≡ false = le-ltb (length bytes) (names_offset parts + 41) (omega (arith, long)) in
+    let named : passes_end bytes (shstrtab_header parts) ≡ false = le-ltb (length bytes) (names_offset parts + 41) (omega (arith, long)) in
     let sections : list_any (passes_end bytes) (headers_of bytes) ≡ false =
     ap (list_any (passes_end bytes)) (sections_back parts w) ∙ or_from _ _ text (or_from _ _ data_part (or_from _ _ places (or_from _ _ named refl))) in
     or_from _ _ (or_from _ _ programs (or_from _ _ headers sections)) loads
@@ -296,18 +298,18 @@ has_good_segments parts memory w loadable =
     let data_high : nat_le (parts.data_at + (length parts.data_bytes + parts.zero)) (memory.data_low + 0x40_0000) ≡ true = le-leb (parts.data_at + (length parts.data_bytes + parts.zero)) (memory.data_low + 0x40_0000) (omega (arith, loadable.data_memory, loadable.data_at)) in
     let data_part : is_bad_load memory (data_segment parts) ≡ false = or_from _ _ (or_from _ _ data_size refl) (ap not (and_from _ _ data_start data_high)) in
     let good : list_any (is_bad_load memory) (loads_of bytes) ≡ false = ap (list_any (is_bad_load memory)) (loads_back parts w) ∙ or_from _ _ text (or_from _ _ data_part refl) in
-    let apart : overlap (text_segment parts) (data_segment parts) ≡ false =
+    let apart : overlap_in_memory (text_segment parts) (data_segment parts) ≡ false =
     le-ltb (max parts.text_at parts.data_at) (min (parts.text_at + length parts.text) (parts.data_at + (length parts.data_bytes + parts.zero))) (omega (arith, loadable.text)) in
     let separate : some_overlap (loads_of bytes) ≡ false = ap some_overlap (loads_back parts w) ∙ or_from _ _ (or_from _ _ apart refl) refl in
-    let even : (entry_of bytes % 2 == 1) ≡ false = ne_eqb (entry_of bytes % 2) 1 (λ odd. omega (arith, odd, entry, loadable.entry_even)) in
-    let entry_low : nat_le parts.text_at (entry_of bytes) ≡ true = le-leb parts.text_at (entry_of bytes) (omega (arith, entry, loadable.entry_low)) in
-    let entry_high : nat_le (entry_of bytes) (parts.text_at + length parts.text) ≡ true = le-leb (entry_of bytes) (parts.text_at + length parts.text) (omega (arith, entry, loadable.entry_high)) in
-    let entered : not (list_any (is_entry_of (entry_of bytes)) (loads_of bytes)) ≡ false =
-    ap (λ l. not (list_any (is_entry_of (entry_of bytes)) l)) (loads_back parts w) ∙ ap not (or_left _ _ (and_from _ _ (and_from true _ refl entry_low) entry_high)) in
+    let even : (entry_address bytes % 2 == 1) ≡ false = ne_eqb (entry_address bytes % 2) 1 (λ odd. omega (arith, odd, entry, loadable.entry_even)) in
+    let entry_low : nat_le parts.text_at (entry_address bytes) ≡ true = le-leb parts.text_at (entry_address bytes) (omega (arith, entry, loadable.entry_low)) in
+    let entry_high : nat_le (entry_address bytes) (parts.text_at + length parts.text) ≡ true = le-leb (entry_address bytes) (parts.text_at + length parts.text) (omega (arith, entry, loadable.entry_high)) in
+    let entered : not (list_any (is_entry_of (entry_address bytes)) (loads_of bytes)) ≡ false =
+    ap (λ l. not (list_any (is_entry_of (entry_address bytes)) l)) (loads_back parts w) ∙ ap not (or_left _ _ (and_from _ _ (and_from true _ refl entry_low) entry_high)) in
     or_from _ _ (or_from _ _ (or_from _ _ (or_from _ _ some good) separate) even) entered
 
 -- section 5 holds the names
-names_header_back : (parts : Parts) → Words parts → header_of (image_bytes parts) (name_section (image_bytes parts)) ≡ names_section parts
+names_header_back : (parts : Parts) → Words parts → header_of (image_bytes parts) (name_section (image_bytes parts)) ≡ shstrtab_header parts
 names_header_back parts w =
     let bytes = image_bytes parts in
     let listed : map (header_of bytes) (range_with_len 0 6) ≡ sections_of parts =
@@ -320,7 +322,7 @@ has_strings parts w =
     let index : nat_le (section_count bytes) (name_section bytes) ≡ false = lt-leb (section_count bytes) (name_section bytes) (omega (arith, section_count_back parts, name_section_back parts)) in
     or_from _ _ index (ap (λ header. not (header.kind == 3)) (names_header_back parts w))
 
-section_names_back : (parts : Parts) → Words parts → section_names (image_bytes parts) ≡ names
+section_names_back : (parts : Parts) → Words parts → section_names (image_bytes parts) ≡ shstrtab_content
 section_names_back parts w =
     let bytes = image_bytes parts in
     ap (λ b. cond b [] (content_of bytes (header_of bytes (name_section bytes)))) (has_strings parts w)
@@ -329,9 +331,9 @@ section_names_back parts w =
 places_sections_back : (parts : Parts) → Words parts → places_sections (image_bytes parts) ≡ places_section parts ∷ []
 unfolding places_sections
 places_sections_back parts w =
-    let named : List ℕ → Header → Bool = λ table header. is_name_at (codes ".zcld.places") table header.name in
+    let named : List ℕ → SectionHeader → Bool = λ table header. is_name_at (codes ".zcld.places") table header.name in
     ap (λ l. filter (named l) (headers_of (image_bytes parts))) (section_names_back parts w)
-    ∙ ap (filter (named names)) (sections_back parts w)
+    ∙ ap (filter (named shstrtab_content)) (sections_back parts w)
 
 entries_of_back : (parts : Parts) → All IsEntry parts.places → entries_of (content_of (image_bytes parts) (places_section parts)) ≡ parts.places
 entries_of_back parts small =
@@ -341,7 +343,7 @@ entries_of_back parts small =
     ∙ ap (λ n. map (entry_at content) (range_with_len 0 n)) count
     ∙ entries_back parts.places small
 
-places_back : (parts : Parts) → Words parts → All IsEntry parts.places → places_of (image_bytes parts) ≡ parts.places
+places_back : (parts : Parts) → Words parts → All IsEntry parts.places → place_list (image_bytes parts) ≡ parts.places
 places_back parts w small =
     let bytes = image_bytes parts in
     ap (flat_map (λ header. entries_of (content_of bytes header))) (places_sections_back parts w)
@@ -351,14 +353,14 @@ places_back parts w small =
 has_good_places : (parts : Parts) (memory : MemMap) → Words parts → IsLoadable parts memory → bad_places (image_bytes parts) memory ≡ false
 has_good_places parts memory w loadable =
     let bytes = image_bytes parts in
-    let unnamed : List ℕ → Header → Bool = λ table header. not (has_end table header.name) in
+    let unnamed : List ℕ → SectionHeader → Bool = λ table header. not (has_end table header.name) in
     let named : list_any (is_unnamed_section bytes) (headers_of bytes) ≡ false =
-    ap (λ l. list_any (unnamed l) (headers_of bytes)) (section_names_back parts w) ∙ ap (list_any (unnamed names)) (sections_back parts w) in
+    ap (λ l. list_any (unnamed l) (headers_of bytes)) (section_names_back parts w) ∙ ap (list_any (unnamed shstrtab_content)) (sections_back parts w) in
     let once : nat_lt 1 (length (places_sections bytes)) ≡ false = ap (λ l. nat_lt 1 (length l)) (places_sections_back parts w) in
     let content = content_of bytes (places_section parts) in
     let listed : entries_of content ≡ parts.places = entries_of_back parts loadable.entries in
     let rest : (12 * length parts.places) % 12 ≡ 0 = omega arith in
-    let whole : is_bad_list (places_section parts) ≡ false = ap (λ n. not (n == 0)) rest in
+    let whole = ap (λ n. not (n == 0)) rest in
     let ascending : not (is_ascending (entries_of content)) ≡ false = ap (λ l. not (is_ascending l)) listed ∙ ap not loadable.ascending in
     let inside : list_any (is_outside memory) (entries_of content) ≡ false = ap (list_any (is_outside memory)) listed ∙ loadable.inside in
     let good : list_any (is_bad_section bytes memory) (places_sections bytes) ≡ false =
@@ -387,7 +389,7 @@ faultless parts memory w loadable =
     λ i. first_of ((large i, TooLarge) ∷ (image i, NotElf) ∷ (whole i, Truncated) ∷ (segments_good i, BadSegment) ∷ (places_good i, BadPlaces) ∷ [])
 
 -- The file reads back.
-pub image_back : (parts : Parts) (memory : MemMap) → Fits parts → IsLoadable parts memory → ReadsBack parts memory (image_bytes parts)
+pub image_back : (parts : Parts) (memory : MemMap) → NumbersFit parts → IsLoadable parts memory → ReadsBack parts memory (image_bytes parts)
 image_back parts memory fits loadable =
     let w = words parts memory fits loadable in
     let bytes = image_bytes parts in

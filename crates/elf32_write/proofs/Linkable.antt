@@ -5,14 +5,15 @@ use Rattle.std.specs.List.{flat_map, list_any}
 use Rattle.std.proofs.lemmas.Bool.{and_left, and_parts, and_right, eq-eqb, lt-leb, not-true, or_from, or_parts}
 use Rattle.std.proofs.lemmas.List.Elements.{All-weaker}
 use Rattle.std.proofs.lemmas.List.Folds.{list_any_none}
-use Rattle.elf32_read.specs.Header.{Header, header_of, section_count}
+use Rattle.elf32_read.specs.Header.{header_of, section_count}
 use Rattle.elf32_read.specs.Kept.{has_flags, is_kept}
 use Rattle.elf32_read.specs.Object.{is_bad_alignment, is_badly_aligned, is_cut_code, is_of_no_symbol, is_unlinked, lacks_symbols, names_no_symbol}
 use Rattle.elf32_read.specs.Parts.{SectionParts, SymbolParts, is_code_section, is_kept_section}
 use Rattle.elf32_read.specs.Relocs.{relocs_in}
 use Rattle.elf32_read.specs.Symbols.{symbol_count}
-use Rattle.elf32_write.specs.Entries.{reloc_bytes, symbol_bytes, symbol_entries}
-use Rattle.elf32_write.specs.FileSections.{FileSection, given_section, names_section, rela_section, symtab_section}
+use Rattle.elf32_read.specs.declared.header.SectionHeader.{SectionHeader}
+use Rattle.elf32_write.specs.Entries.{reloc_bytes, symbol_bytes, written_entries}
+use Rattle.elf32_write.specs.FileSections.{FileSection, given_section, rela_section, strtab_section, symtab_section}
 use Rattle.elf32_write.specs.Writable.{IsWritableSection, can_be_kept}
 use Rattle.elf32_write.proofs.RelocsBack.{IsReloc, length-reloc_bytes, relocs_back}
 use Rattle.elf32_write.proofs.SectionsBack.{Shows, is_kept_file, kept_back}
@@ -44,10 +45,10 @@ pub record IsLinkable (file : List ℕ) (s : FileSection) : Type 0 where
 
 -- ---- the tests
 
-counted_back : (file : List ℕ) (h : Header) (s : FileSection) → Shows file h s → (h.kind == 4 && nat_lt h.info (section_count file) && is_kept file (header_of file h.info)) ≡ is_counted file s
+counted_back : (file : List ℕ) (h : SectionHeader) (s : FileSection) → Shows file h s → (h.kind == 4 && nat_lt h.info (section_count file) && is_kept file (header_of file h.info)) ≡ is_counted file s
 counted_back file h s r = λ i. r.kind i == 4 && nat_lt (r.info i) (section_count file) && is_kept file (header_of file (r.info i))
 
-pub not_unlinked : (file : List ℕ) (h : Header) (s : FileSection) → Shows file h s → IsLinkable file s → is_unlinked file h ≡ false
+pub not_unlinked : (file : List ℕ) (h : SectionHeader) (s : FileSection) → Shows file h s → IsLinkable file s → is_unlinked file h ≡ false
 not_unlinked file h s r g =
     let kept = kept_back file h s r in
     let counted = counted_back file h s r in
@@ -62,17 +63,17 @@ not_unlinked file h s r g =
     let listed = (λ i. r.kind i == 4 && nat_le (section_count file) (r.info i)) ∙ g.listed in
     or_from _ _ (or_from _ _ (or_from _ _ (or_from _ _ (or_from _ _ (or_from _ _ (or_from _ _ (or_from _ _ foreign plain) table) shared) known) code) odd) linked) listed
 
-pub not_badly_aligned : (file : List ℕ) (h : Header) (s : FileSection) → Shows file h s → IsLinkable file s → is_badly_aligned file h ≡ false
+pub not_badly_aligned : (file : List ℕ) (h : SectionHeader) (s : FileSection) → Shows file h s → IsLinkable file s → is_badly_aligned file h ≡ false
 not_badly_aligned file h s r g =
     let kept = kept_back file h s r in
     (λ i. kept i && is_bad_alignment (if has_flags 4 (r.flags i) then 256 else 4096) (r.align i)) ∙ g.aligned
 
-pub not_cut : (file : List ℕ) (h : Header) (s : FileSection) → Shows file h s → IsLinkable file s → is_cut_code file h ≡ false
+pub not_cut : (file : List ℕ) (h : SectionHeader) (s : FileSection) → Shows file h s → IsLinkable file s → is_cut_code file h ≡ false
 not_cut file h s r g =
     let kept = kept_back file h s r in
     (λ i. kept i && has_flags 4 (r.flags i) && not (r.size i % 4 == 0)) ∙ g.cut
 
-pub not_of_no_symbol : (file : List ℕ) (h : Header) (s : FileSection) → Shows file h s → IsLinkable file s → is_of_no_symbol file h ≡ false
+pub not_of_no_symbol : (file : List ℕ) (h : SectionHeader) (s : FileSection) → Shows file h s → IsLinkable file s → is_of_no_symbol file h ≡ false
 not_of_no_symbol file h s r g =
     let counted = counted_back file h s r in
     (λ i. counted i && list_any (names_no_symbol file) (relocs_in (r.content i))) ∙ g.symbols
@@ -132,7 +133,7 @@ rela_linkable file count symtab e counted found inside w rows =
 
 pub symtab_linkable : (file : List ℕ) (symtab : ℕ) (ys : List SymbolParts) → IsLinkable file (symtab_section symtab ys)
 symtab_linkable file symtab ys =
-    let content : List ℕ = flat_map symbol_bytes (symbol_entries ys) in
+    let content : List ℕ = flat_map symbol_bytes (written_entries ys) in
     let whole : length content % 16 ≡ 0 = omega (arith, length-symbols ys) in
     record {
       foreign = refl;
@@ -149,5 +150,5 @@ symtab_linkable file symtab ys =
       symbols = refl;
     }
 
-pub names_linkable : (file : List ℕ) (name : List ℕ) (names : List (List ℕ)) → IsLinkable file (names_section name names)
+pub names_linkable : (file : List ℕ) (name : List ℕ) (names : List (List ℕ)) → IsLinkable file (strtab_section name names)
 names_linkable file name names = record { foreign = refl; plain = refl; table = refl; shared = refl; known = refl; code = refl; aligned = refl; cut = refl; odd = refl; linked = refl; listed = refl; symbols = refl }

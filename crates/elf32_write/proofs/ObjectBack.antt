@@ -9,11 +9,11 @@ use Rattle.std.proofs.lemmas.List.Elements.{All-cons, All-map, All-weaker}
 use Rattle.std.proofs.lemmas.List.Folds.{list_any_none}
 use Rattle.std.proofs.lemmas.Option.{slice_get-get_or}
 use Rattle.std.proofs.lemmas.List.FromFn.{fill_by_all, length-map-range_with_len}
-use Rattle.elf32_read.specs.Header.{have_other_size, header_of, headers_of, section_count, section_header_size, section_table, file_flags}
-use Rattle.elf32_read.specs.Kept.{is_kept}
+use Rattle.elf32_read.specs.Header.{file_flags, has_other_section_headers, header_of, headers_of, section_count, section_table}
+use Rattle.elf32_read.specs.Kept.{has_flags, is_kept}
 use Rattle.elf32_read.specs.Names.{has_end, is_unnamed_section, name_at}
 use Rattle.elf32_read.specs.Object.{counts_elsewhere, has_bad_alignment, has_bad_name, has_bad_symbol, has_cut_code, has_other_flags, has_second_symbol_table, has_too_many_sections, has_two_relas, has_unlinked_sections, is_bad_alignment, is_bad_common, is_bad_symbol, is_badly_aligned, is_changed_twice, is_cut_code, is_of_no_symbol, is_too_long, is_unlinked, is_unnamed_symbol, lacks_section_names, lacks_symbol_names, lacks_symbols, not_elf, object_fault, passes_end, passes_section, truncated}
-use Rattle.elf32_read.specs.Parts.{ObjectParts, SectionParts, SymbolParts, is_kept_section, object_parts, relocs_held, relocs_of, section_parts, symbol_parts, is_compressed}
+use Rattle.elf32_read.specs.Parts.{ObjectParts, SectionParts, SymbolParts, is_kept_section, object_parts, relocs_held, relocs_of, section_parts, symbol_parts}
 use Rattle.elf32_read.specs.Relocs.{relas_for}
 use Rattle.elf32_read.specs.Rows.{first_of}
 use Rattle.elf32_read.specs.Symbols.{entries_in, symbol_count, symbol_entries as entries_of, symbol_names as symbol_names_in, symbol_tables}
@@ -22,18 +22,18 @@ use Rattle.elf32_read.specs.declared.reloc.Reloc.{Reloc}
 use Rattle.elf32_read.specs.declared.symbol_entry.SymbolEntry.{SymbolEntry}
 use Rattle.elf32_write.specs.NameTable.{name_table}
 use Rattle.elf32_write.specs.EachAfter.{each_after}
-use Rattle.elf32_write.specs.Entries.{null_symbol, symbol_entries, symbol_entry, symbol_names}
+use Rattle.elf32_write.specs.Entries.{null_symbol, strtab_names, written_entries, written_entry}
 use Rattle.elf32_write.specs.FileSections.{FileSection, added_sections, given_section, rela_section, relocated, symtab_index, symtab_section}
 use Rattle.elf32_write.specs.ObjectFile.{headers_for, object_bytes, section_total}
 use Rattle.elf32_write.specs.Ranges.{IsPartsSized}
-use Rattle.elf32_write.specs.Writable.{IsObjectOf, is_name, IsWithin, IsWritable, IsWritableSection, IsWritableSymbol, added_part, added_parts, can_be_given, null_part, null_symbol_part}
+use Rattle.elf32_write.specs.Writable.{IsObjectOf, is_name, LiesInSection, IsWritable, IsWritableSection, IsWritableSymbol, added_part, added_parts, can_be_given, null_part, null_symbol_part}
 use Rattle.elf32_write.specs.SectionTable.{with_relas}
 use Rattle.elf32_write.proofs.AllSections.{IsNumbered, added_at, added_dropped, all_added, all_relocated, all_sections, given_at, length-added, sections_whole, sections_words, shows_at}
 use Rattle.elf32_write.proofs.FileHeaderBack.{IsSmall, all_of, count_back, flags_back, header_back, header_size_back, length-object_bytes, listed_back, magic_back, table_back}
 use Rattle.elf32_write.proofs.Linkable.{IsLinkable, given_linkable, implied, names_linkable, not_badly_aligned, not_cut, not_of_no_symbol, not_unlinked, rela_linkable, symtab_linkable}
 use Rattle.elf32_write.proofs.RelocsBack.{IsReloc, one_table, relocs_of_given}
 use Rattle.elf32_write.proofs.SectionsBack.{Shows, kept_back, names_found, null_shown, shows_all}
-use Rattle.elf32_write.proofs.Stages.{length-file_sections, length-symbols, room_symbol_names}
+use Rattle.elf32_write.proofs.Stages.{length-file_sections, length-symbols, room_strtab_names}
 use Rattle.elf32_write.proofs.SymbolsBack.{ShowsSymbol, entries_back, length-with_relas, links_back, split_symtab, symbol_content_back, symbol_names_back, symbol_read, symbol_tables_back, symbols_shown}
 use Rattle.elf32_write.proofs.WritableRoom.{symbols_within, writable_info, writable_room}
 use Rattle.elf32_write.proofs.Zipped.{none_counted, zip_map, zip_none}
@@ -49,9 +49,9 @@ record IsBack (parts : ObjectParts) : Type 0 where
   pub tables : length (symbol_tables (object_bytes parts)) ≡ 1
   pub linked : list_any (lacks_symbol_names (object_bytes parts)) (symbol_tables (object_bytes parts)) ≡ false
   pub symbols : symbol_count (object_bytes parts) ≡ 1 + length parts.symbols
-  pub entries : entries_of (object_bytes parts) ≡ symbol_entries parts.symbols
-  pub shown_symbols : AllZip (ShowsSymbol (symbol_names_in (object_bytes parts))) (each_after symbol_entry [] parts.symbols) parts.symbols
-  pub names : symbol_names_in (object_bytes parts) ≡ name_table (symbol_names parts.symbols)
+  pub entries : entries_of (object_bytes parts) ≡ written_entries parts.symbols
+  pub shown_symbols : AllZip (ShowsSymbol (symbol_names_in (object_bytes parts))) (each_after written_entry [] parts.symbols) parts.symbols
+  pub names : symbol_names_in (object_bytes parts) ≡ name_table (strtab_names parts.symbols)
   pub relocs : All (λ s. All IsReloc s.relocs) parts.sections
 
 known_flags : (flags : ℕ) → (flags == 0 || flags == 0x10) ≡ true → flags < 2 ^ 32
@@ -105,7 +105,7 @@ back parts w sized =
       tables = ap length (symbol_tables_back parts listed kinds);
       linked = ap (list_any (lacks_symbol_names bytes)) (symbol_tables_back parts listed kinds) ∙ or_from _ _ (links_back parts small listed) refl;
       symbols = omega (arith, ap length content, length-symbols ys);
-      entries = ap entries_in content ∙ entries_back ys (room_symbol_names xs ys room) sized.symbols_sized (writable_info parts w) homes;
+      entries = ap entries_in content ∙ entries_back ys (room_strtab_names xs ys room) sized.symbols_sized (writable_info parts w) homes;
       shown_symbols = symbols_shown (symbol_names_in bytes) [] ys names named;
       names = names;
       relocs = λ k d lt. λ j e inside. record { sized = sized.relocs_sized k d lt j e inside; symbol = (let s = (w.sections k d lt).relocs j e inside in omega (arith, s, few)) };
@@ -146,7 +146,7 @@ is_elf : (parts : ObjectParts) → IsBack parts → not_elf (object_bytes parts)
 is_elf parts b =
     let bytes = object_bytes parts in
     let long = le-ltb (length bytes) 52 (omega (arith, length-object_bytes parts)) in
-    let sized : have_other_size 40 (section_count bytes) (section_header_size bytes) ≡ false = and_right (not (section_count bytes == 0)) _ (ap (λ n. not (n == 40)) (header_size_back parts)) in
+    let sized : has_other_section_headers bytes ≡ false = and_right (not (section_count bytes == 0)) _ (ap (λ n. not (n == 40)) (header_size_back parts)) in
     or_from _ _ (or_from _ _ long (ap not (magic_back parts))) sized
 
 not_too_many : (parts : ObjectParts) → IsBack parts → has_too_many_sections (object_bytes parts) ≡ false
@@ -176,14 +176,14 @@ has_known_flags parts b =
     ap (λ flags. not (flags == 0) && not (flags == 0x10)) (flags_back parts b.small) ∙ both parts.flags b.writable.flags
 
 -- no object that is written is compressed
-is_plain : (parts : ObjectParts) → IsBack parts → is_compressed (file_flags (object_bytes parts)) ≡ false
+is_plain : (parts : ObjectParts) → IsBack parts → has_flags 1 (file_flags (object_bytes parts)) ≡ false
 is_plain parts b =
-    let both : (flags : ℕ) → (flags == 0 || flags == 0x10) ≡ true → is_compressed flags ≡ false =
+    let both : (flags : ℕ) → (flags == 0 || flags == 0x10) ≡ true → has_flags 1 flags ≡ false =
     λ flags known. elim (or_cases (flags == 0) (flags == 0x10) known) [
-      | inl e ↦ ap is_compressed (eqb-true flags 0 e)
-      | inr e ↦ ap is_compressed (eqb-true flags 0x10 e)
+      | inl e ↦ ap (has_flags 1) (eqb-true flags 0 e)
+      | inr e ↦ ap (has_flags 1) (eqb-true flags 0x10 e)
     ] in
-    ap is_compressed (flags_back parts b.small) ∙ both parts.flags b.writable.flags
+    ap (has_flags 1) (flags_back parts b.small) ∙ both parts.flags b.writable.flags
 
 -- ---- no fault: the sections
 
@@ -261,7 +261,7 @@ none_of_symbols : (parts : ObjectParts) → IsBack parts → (p : SymbolEntry �
 none_of_symbols parts b p fails =
     let bytes = object_bytes parts in
     ap (λ l. list_any p (drop 1 l)) b.entries
-    ∙ zip_none (ShowsSymbol (symbol_names_in bytes)) (IsWritableSymbol parts) p fails (each_after symbol_entry [] parts.symbols) parts.symbols b.shown_symbols b.writable.symbols
+    ∙ zip_none (ShowsSymbol (symbol_names_in bytes)) (IsWritableSymbol parts) p fails (each_after written_entry [] parts.symbols) parts.symbols b.shown_symbols b.writable.symbols
 
 is_aligned : (parts : ObjectParts) → IsBack parts → has_bad_alignment (object_bytes parts) ≡ false
 is_aligned parts b =
@@ -278,12 +278,12 @@ is_named parts b =
     let table : lacks_section_names bytes ≡ false = and_right (not (section_count bytes == 0)) _ (names_found parts b.small b.listed) in
     let sections = zip_none (Shows bytes) always (is_unnamed_section bytes) (λ h s r a. ap not r.named.ended) (headers_of bytes) (null_shown ∷ all_of parts) b.shown (all_always (null_shown ∷ all_of parts)) in
     let null : is_unnamed_symbol bytes null_symbol ≡ false = ap (λ l. not (has_end l 0)) b.names in
-    let rest = zip_none (ShowsSymbol names) (IsWritableSymbol parts) (is_unnamed_symbol bytes) (λ e s r w. ap not r.named.ended) (each_after symbol_entry [] parts.symbols) parts.symbols b.shown_symbols b.writable.symbols in
+    let rest = zip_none (ShowsSymbol names) (IsWritableSymbol parts) (is_unnamed_symbol bytes) (λ e s r w. ap not r.named.ended) (each_after written_entry [] parts.symbols) parts.symbols b.shown_symbols b.writable.symbols in
     let symbols = ap (list_any (is_unnamed_symbol bytes)) b.entries ∙ or_from _ _ null rest in
     or_from _ _ (or_from _ _ (or_from _ _ table b.linked) sections) symbols
 
 -- a value lies in the section that its symbol is in
-value_within : (parts : ObjectParts) → IsBack parts → (s : SymbolParts) (home : ℕ) → home < section_count (object_bytes parts) → IfSome (slice_get (null_part ∷ parts.sections) home) (IsWithin s) → (is_kept (object_bytes parts) (header_of (object_bytes parts) home) && nat_lt (header_of (object_bytes parts) home).size s.value) ≡ false
+value_within : (parts : ObjectParts) → IsBack parts → (s : SymbolParts) (home : ℕ) → home < section_count (object_bytes parts) → IfSome (slice_get (null_part ∷ parts.sections) home) (LiesInSection s) → (is_kept (object_bytes parts) (header_of (object_bytes parts) home) && nat_lt (header_of (object_bytes parts) home).size s.value) ≡ false
 value_within parts b s zero lt within = and_left (is_kept (object_bytes parts) (header_of (object_bytes parts) 0)) _ (null_dropped parts b)
 value_within parts b s (suc j) lt within =
     let bytes = object_bytes parts in
@@ -294,7 +294,7 @@ value_within parts b s (suc j) lt within =
           let home = get_or xs j null_part in
           let shown = given_shown parts b j null_part given in
           let found = slice_get-get_or xs j null_part given in
-          let held : IsWithin s home = subst (λ o. IfSome o (IsWithin s)) found within in
+          let held : LiesInSection s home = subst (λ o. IfSome o (LiesInSection s)) found within in
           (λ i. kept_back bytes h (given_section home) shown i && nat_lt (shown.size i) s.value)
           ∙ implied (is_kept_section home) (nat_lt home.size s.value) (λ kept. le-ltb home.size s.value (held kept))
       | inr added ↦ and_left (is_kept bytes h) _ (dropped_at parts b j added lt)
@@ -382,7 +382,7 @@ given_relocs parts b j lt =
 part_of : FileSection → List Reloc → SectionParts
 part_of s relocs = record { name = s.name; kind = s.kind; flags = s.flags; align = s.align; size = s.size; bytes = s.content; relocs = relocs; compressed = false }
 
-part_read : (file : List ℕ) → is_compressed (file_flags file) ≡ false → (k : ℕ) (s : FileSection) (relocs : List Reloc) → Shows file (header_of file k) s → relocs_of file k ≡ relocs → section_parts file k ≡ part_of s relocs
+part_read : (file : List ℕ) → has_flags 1 (file_flags file) ≡ false → (k : ℕ) (s : FileSection) (relocs : List Reloc) → Shows file (header_of file k) s → relocs_of file k ≡ relocs → section_parts file k ≡ part_of s relocs
 unfolding part_of
 part_read file plain k s relocs r changed =
     λ i. record { name = r.named.read i; kind = r.kind i; flags = r.flags i; align = r.align i; size = r.size i; bytes = r.content i; relocs = changed i; compressed = plain i }
@@ -428,7 +428,7 @@ unfolding object_parts
 symbols_read parts b =
     let bytes = object_bytes parts in
     let null : symbol_parts bytes null_symbol ≡ null_symbol_part = ap (λ l. record { name = name_at l 0; value = 0; size = 0; bind = 0; kind = 0; home = 0 }) b.names in
-    let rest = zip_map (ShowsSymbol (symbol_names_in bytes)) (symbol_parts bytes) (symbol_read bytes) (each_after symbol_entry [] parts.symbols) parts.symbols b.shown_symbols in
+    let rest = zip_map (ShowsSymbol (symbol_names_in bytes)) (symbol_parts bytes) (symbol_read bytes) (each_after written_entry [] parts.symbols) parts.symbols b.shown_symbols in
     ap (map (symbol_parts bytes)) b.entries ∙ (λ i. null i ∷ rest i)
 
 flags_read : (parts : ObjectParts) → IsBack parts → (object_parts (object_bytes parts)).flags ≡ parts.flags

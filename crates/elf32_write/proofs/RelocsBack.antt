@@ -12,8 +12,9 @@ use Rattle.std.proofs.lemmas.List.Folds.{list_any_none}
 use Rattle.zc_base.specs.Fields.{word_in}
 use Rattle.elf32_read.specs.Header.{headers_of}
 use Rattle.elf32_read.specs.Parts.{SectionParts, SymbolParts, relocs_held}
-use Rattle.elf32_read.specs.Relocs.{changes, reloc_at, relas_for, relocs_in}
+use Rattle.elf32_read.specs.Relocs.{reloc_at, relas_for, relocs_in}
 use Rattle.elf32_read.specs.declared.reloc.Reloc.{Reloc}
+use Rattle.elf32_read.proofs.Tests.{changes}
 use Rattle.elf32_write.specs.Entries.{reloc_bytes}
 use Rattle.elf32_write.specs.FileSections.{FileSection, file_sections, given_section, given_sections, rela_section, rela_sections, relocated, symtab_index, symtab_section}
 use Rattle.elf32_write.specs.Ranges.{IsRelocSized}

@@ -5,9 +5,9 @@ use Rattle.std.proofs.lemmas.List.Concat.{flat_map-append}
 use Rattle.elf32_write.specs.Image.{pad, padded}
 use Rattle.elf32_write.specs.NameTable.{name_table}
 use Rattle.elf32_read.specs.Parts.{SectionParts}
-use Rattle.elf32_write.specs.FileSections.{FileSection, given_section, names_of, rela_section, relocated}
+use Rattle.elf32_write.specs.FileSections.{FileSection, given_section, names_of_sections, rela_section, relocated}
 use Rattle.elf32_write.specs.ObjectFile.{contents}
-use Rattle.elf32_write.specs.SectionTable.{HasOffsets, HasRoom, Holds}
+use Rattle.elf32_write.specs.SectionTable.{ContentsFit, HasOffsets, HoldsSections}
 use Rattle.elf32_write.specs.declared.section_table.SectionTable.{SectionTable}
 use Rattle.elf32_write.proofs.Relocated.{relocated_more, relocated_split}
 use Rattle.elf32_write.proofs.SymbolsMore.{name_table_within}
@@ -15,16 +15,16 @@ use Rattle.elf32_write.proofs.SymbolsMore.{name_table_within}
 pub contents_within : (xs ys : List FileSection) → length (contents (xs ++ ys)) ≡ length (contents xs) + length (contents ys)
 contents_within xs ys = ap length (flat_map-append (λ s. padded s.content) xs ys) ∙ length-append (contents xs) (contents ys)
 
-pub room_within : (xs ys all : List FileSection) → all ≡ xs ++ ys → HasRoom all → HasRoom xs
+pub room_within : (xs ys all : List FileSection) → all ≡ xs ++ ys → ContentsFit all → ContentsFit xs
 room_within xs ys all e room =
-    let names : names_of all ≡ names_of xs ++ names_of ys = ap names_of e ∙ map-append (λ (s : FileSection). s.name) xs ys in
+    let names : names_of_sections all ≡ names_of_sections xs ++ names_of_sections ys = ap names_of_sections e ∙ map-append (λ (s : FileSection). s.name) xs ys in
     record {
       contents_fit = omega (arith, room.contents_fit, contents_within xs ys, ap (λ l. length (contents l)) e);
-      names_fit = omega (arith, room.names_fit, name_table_within (names_of xs) (names_of ys), ap (λ l. length (name_table l)) names);
+      names_fit = omega (arith, room.names_fit, name_table_within (names_of_sections xs) (names_of_sections ys), ap (λ l. length (name_table l)) names);
     }
 
 -- a table of sections with room takes offsets that have room in a word
-pub room_offsets : (sections : List FileSection) (table : SectionTable) → Holds sections table → HasRoom sections → HasOffsets 0 table
+pub room_offsets : (sections : List FileSection) (table : SectionTable) → HoldsSections sections table → ContentsFit sections → HasOffsets 0 table
 room_offsets sections table held room = record {
   contents_end = omega (arith, room.contents_fit, ap length held.contents_held);
   names_end = omega (arith, room.names_fit, ap length held.names_held);
@@ -38,17 +38,17 @@ length-last xs s =
     omega (arith, contents_within xs (s ∷ []), one, whole)
 
 -- the content of the last has room
-pub room_last : (xs : List FileSection) (s : FileSection) → HasRoom (xs ++ s ∷ []) → length s.content < 2 ^ 32
+pub room_last : (xs : List FileSection) (s : FileSection) → ContentsFit (xs ++ s ∷ []) → length s.content < 2 ^ 32
 room_last xs s room = omega (arith, room.contents_fit, length-last xs s)
 
 -- the given sections up to an index
-pub room_given : (xs : List SectionParts) (i : ℕ) → HasRoom (map given_section xs) → HasRoom (map given_section (take i xs))
+pub room_given : (xs : List SectionParts) (i : ℕ) → ContentsFit (map given_section xs) → ContentsFit (map given_section (take i xs))
 room_given xs i room =
     let cut = ap (map given_section) (sym (take-append-drop i xs)) ∙ map-append given_section (take i xs) (drop i xs) in
     room_within (map given_section (take i xs)) (map given_section (drop i xs)) (map given_section xs) cut room
 
 -- the relocations of the sections up to an index
-pub room_relas : (symtab : ℕ) (before : List FileSection) (xs : List SectionParts) (i : ℕ) → HasRoom (before ++ map (rela_section symtab) (relocated xs)) → HasRoom (before ++ map (rela_section symtab) (relocated (take i xs)))
+pub room_relas : (symtab : ℕ) (before : List FileSection) (xs : List SectionParts) (i : ℕ) → ContentsFit (before ++ map (rela_section symtab) (relocated xs)) → ContentsFit (before ++ map (rela_section symtab) (relocated (take i xs)))
 room_relas symtab before xs i room =
     let split = relocated_split xs i in
     let front = map (rela_section symtab) (relocated (take i xs)) in

@@ -7,16 +7,17 @@ use Rattle.std.proofs.lemmas.Bool.{le-ltb, lt-leb, or_from}
 use Rattle.std.proofs.lemmas.List.{map-append}
 use Rattle.std.proofs.lemmas.List.Concat.{flat_map-append}
 use Rattle.std.proofs.lemmas.List.Elements.{All-head, All-tail}
-use Rattle.elf32_read.specs.Header.{Header, content_of, header_of, headers_of, is_empty_kind, name_section, section_count}
+use Rattle.elf32_read.specs.Header.{content_of, header_of, headers_of, is_empty_kind, name_section, section_count}
 use Rattle.elf32_read.specs.Kept.{has_flags, is_kept}
 use Rattle.elf32_read.specs.Names.{lacks_strings, section_names as names_in}
 use Rattle.elf32_read.specs.Object.{passes_end}
 use Rattle.elf32_read.specs.Parts.{ObjectParts}
+use Rattle.elf32_read.specs.declared.header.SectionHeader.{SectionHeader}
 use Rattle.elf32_write.specs.Image.{pad, padded, section_bytes}
 use Rattle.elf32_write.specs.NameTable.{name_table}
 use Rattle.elf32_write.specs.EachAfter.{each_after}
-use Rattle.elf32_write.specs.FileSections.{FileSection, names_of, names_section, section_names}
-use Rattle.elf32_write.specs.ObjectFile.{contents, headers_for, headers_offset, object_bytes, object_header, section_header, section_total}
+use Rattle.elf32_write.specs.FileSections.{FileSection, names_of_sections, shstrtab_names, strtab_section}
+use Rattle.elf32_write.specs.ObjectFile.{contents, headers_for, headers_offset, object_bytes, object_header, section_total, written_header}
 use Rattle.elf32_write.specs.Writable.{is_name}
 use Rattle.elf32_write.specs.SectionTable.{with_names}
 use Rattle.elf32_write.proofs.After.{part_between}
@@ -50,7 +51,7 @@ split_content parts before s rest e =
     ∙ sym (append_assoc header (contents before) (s.content ++ (zeros ++ (contents rest ++ headers))))
 
 -- the content of a section is what its header says
-pub content_back : (parts : ObjectParts) (before : List FileSection) (s : FileSection) (rest : List FileSection) → all_of parts ≡ before ++ s ∷ rest → IsSized s → content_of (object_bytes parts) (section_header before s) ≡ s.content
+pub content_back : (parts : ObjectParts) (before : List FileSection) (s : FileSection) (rest : List FileSection) → all_of parts ≡ before ++ s ∷ rest → IsSized s → content_of (object_bytes parts) (written_header before s) ≡ s.content
 content_back parts before s rest e sized =
     let header = object_header (headers_offset parts) parts.flags (section_total parts) in
     let start : 52 + length (contents before) ≡ length (header ++ contents before) = omega (arith, length-append header (contents before), length-object_header (headers_offset parts) parts.flags (section_total parts)) in
@@ -63,7 +64,7 @@ content_back parts before s rest e sized =
     both (is_empty_kind s.kind) refl
 
 -- which lies in the file
-content_within : (parts : ObjectParts) (before : List FileSection) (s : FileSection) (rest : List FileSection) → all_of parts ≡ before ++ s ∷ rest → IsSized s → passes_end (object_bytes parts) (section_header before s) ≡ false
+content_within : (parts : ObjectParts) (before : List FileSection) (s : FileSection) (rest : List FileSection) → all_of parts ≡ before ++ s ∷ rest → IsSized s → passes_end (object_bytes parts) (written_header before s) ≡ false
 content_within parts before s rest e sized =
     let offset = 52 + length (contents before) in
     let test = nat_lt (length (object_bytes parts)) (offset + s.size) in
@@ -81,12 +82,12 @@ content_within parts before s rest e sized =
 -- ---- names
 
 -- e_shstrndx is the index of the last section
-last_header : (parts : ObjectParts) → IsSmall parts → headers_of (object_bytes parts) ≡ headers_for (all_of parts) → header_of (object_bytes parts) (name_section (object_bytes parts)) ≡ section_header (with_names parts.sections parts.symbols) (names_section (codes ".shstrtab") (section_names parts.sections))
+last_header : (parts : ObjectParts) → IsSmall parts → headers_of (object_bytes parts) ≡ headers_for (all_of parts) → header_of (object_bytes parts) (name_section (object_bytes parts)) ≡ written_header (with_names parts.sections parts.symbols) (strtab_section (codes ".shstrtab") (shstrtab_names parts.sections))
 last_header parts small listed =
     let bytes = object_bytes parts in
     let xs = parts.sections in
     let ys = parts.symbols in
-    let own : FileSection = names_section (codes ".shstrtab") (section_names xs) in
+    let own : FileSection = strtab_section (codes ".shstrtab") (shstrtab_names xs) in
     let split = sym (stages xs ys) in
     let many = ap length split ∙ length-append (with_names xs ys) (own ∷ []) in
     let index : name_section bytes ≡ 1 + length (with_names xs ys) = omega (arith, name_section_back parts small, many) in
@@ -100,12 +101,12 @@ names_found parts small listed =
     or_from _ _ there (ap (λ h. not (nat_eq h.kind 3)) (last_header parts small listed))
 
 -- the names of all sections
-pub names_back : (parts : ObjectParts) → IsSmall parts → headers_of (object_bytes parts) ≡ headers_for (all_of parts) → names_in (object_bytes parts) ≡ name_table (names_of (all_of parts))
+pub names_back : (parts : ObjectParts) → IsSmall parts → headers_of (object_bytes parts) ≡ headers_for (all_of parts) → names_in (object_bytes parts) ≡ name_table (names_of_sections (all_of parts))
 names_back parts small listed =
     let bytes = object_bytes parts in
     let xs = parts.sections in
     let ys = parts.symbols in
-    let own : FileSection = names_section (codes ".shstrtab") (section_names xs) in
+    let own : FileSection = strtab_section (codes ".shstrtab") (shstrtab_names xs) in
     let sized : IsSized own = record { full = λ _. refl; empty = λ h. absurd cc } in
     ap (λ b. if b then [] else content_of bytes (header_of bytes (name_section bytes))) (names_found parts small listed)
     ∙ ap (content_of bytes) (last_header parts small listed)
@@ -115,7 +116,7 @@ names_back parts small listed =
 -- ---- what headers show
 
 -- the section that a header reads as
-pub record Shows (file : List ℕ) (h : Header) (s : FileSection) : Type 0 where
+pub record Shows (file : List ℕ) (h : SectionHeader) (s : FileSection) : Type 0 where
   pub kind : h.kind ≡ s.kind
   pub flags : h.flags ≡ s.flags
   pub size : h.size ≡ s.size
@@ -137,23 +138,23 @@ abbrev pub null_shown : FileSection
 null_shown = record { name = []; kind = 0; flags = 0; size = 0; link = 0; info = 0; align = 0; entry_size = 0; content = [] }
 
 -- a header that is made of a section, with a name and an offset
-made : ℕ → ℕ → FileSection → Header
+made : ℕ → ℕ → FileSection → SectionHeader
 made name offset s = record { name = name; kind = s.kind; flags = s.flags; address = 0; offset = offset; size = s.size; link = s.link; info = s.info; align = s.align; entry_size = s.entry_size }
 
 made_shows : (file : List ℕ) (name offset : ℕ) (s : FileSection) → content_of file (made name offset s) ≡ s.content → Stands s.name (names_in file) name → passes_end file (made name offset s) ≡ false → Shows file (made name offset s) s
 unfolding made
 made_shows file name offset s content named within = record { kind = refl; flags = refl; size = refl; link = refl; info = refl; align = refl; entry_size = refl; content = content; named = named; within = within }
 
-shows_after : (parts : ObjectParts) → names_in (object_bytes parts) ≡ name_table (names_of (all_of parts)) → (before rest : List FileSection) → all_of parts ≡ before ++ rest → All IsComplete rest → AllZip (Shows (object_bytes parts)) (each_after section_header before rest) rest
+shows_after : (parts : ObjectParts) → names_in (object_bytes parts) ≡ name_table (names_of_sections (all_of parts)) → (before rest : List FileSection) → all_of parts ≡ before ++ rest → All IsComplete rest → AllZip (Shows (object_bytes parts)) (each_after written_header before rest) rest
 unfolding made
 shows_after parts named before [] e whole = tt
 shows_after parts named before (s ∷ rest) e whole =
     let bytes = object_bytes parts in
     let w = All-head IsComplete s rest whole in
-    let names : names_in bytes ≡ name_table (names_of before ++ s.name ∷ names_of rest) = named ∙ ap (λ l. name_table (names_of l)) e ∙ ap name_table (map-append (λ (b : FileSection). b.name) before (s ∷ rest)) in
+    let names : names_in bytes ≡ name_table (names_of_sections before ++ s.name ∷ names_of_sections rest) = named ∙ ap (λ l. name_table (names_of_sections l)) e ∙ ap name_table (map-append (λ (b : FileSection). b.name) before (s ∷ rest)) in
     let next : all_of parts ≡ (before ++ s ∷ []) ++ rest = e ∙ sym (append_assoc before (s ∷ []) rest) in (
-      made_shows bytes (section_header before s).name (section_header before s).offset s (content_back parts before s rest e w.sized)
-          (name_back (names_of before) s.name (names_of rest) (names_in bytes) names w.name) (content_within parts before s rest e w.sized),
+      made_shows bytes (written_header before s).name (written_header before s).offset s (content_back parts before s rest e w.sized)
+          (name_back (names_of_sections before) s.name (names_of_sections rest) (names_in bytes) names w.name) (content_within parts before s rest e w.sized),
       shows_after parts named (before ++ s ∷ []) rest next (All-tail IsComplete s rest whole),
     )
 
@@ -161,7 +162,7 @@ pub shows_all : (parts : ObjectParts) → IsSmall parts → headers_of (object_b
 unfolding made
 shows_all parts small listed whole =
     let named = names_back parts small listed in (
-      made_shows (object_bytes parts) 0 0 null_shown refl (name_back [] [] (names_of (all_of parts)) (names_in (object_bytes parts)) named refl) refl,
+      made_shows (object_bytes parts) 0 0 null_shown refl (name_back [] [] (names_of_sections (all_of parts)) (names_in (object_bytes parts)) named refl) refl,
       shows_after parts named [] (all_of parts) refl whole,
     )
 
@@ -171,7 +172,7 @@ shows_all parts small listed whole =
 abbrev pub is_kept_file : FileSection → Bool
 is_kept_file s = has_flags 2 s.flags && not (pointwise nat_eq s.name (codes ".eh_frame"))
 
-pub kept_back : (file : List ℕ) (h : Header) (s : FileSection) → Shows file h s → is_kept file h ≡ is_kept_file s
+pub kept_back : (file : List ℕ) (h : SectionHeader) (s : FileSection) → Shows file h s → is_kept file h ≡ is_kept_file s
 kept_back file h s shown =
     let known = shown.named.known (codes ".eh_frame") refl in
     λ i. has_flags 2 (shown.flags i) && not (known i)

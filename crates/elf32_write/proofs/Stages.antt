@@ -7,49 +7,49 @@ use Rattle.elf32_read.specs.Parts.{SectionParts, SymbolParts}
 use Rattle.elf32_read.specs.declared.symbol_entry.SymbolEntry.{SymbolEntry}
 use Rattle.elf32_write.specs.NameTable.{name_bytes, name_table}
 use Rattle.elf32_write.specs.EachAfter.{each_after}
-use Rattle.elf32_write.specs.Entries.{symbol_bytes, symbol_entries, symbol_entry, symbol_names}
-use Rattle.elf32_write.specs.FileSections.{FileSection, added_sections, file_sections, given_section, given_sections, names_of, names_section, rela_section, rela_sections, relocated, section_names, symtab_index, symtab_section}
-use Rattle.elf32_write.specs.SectionTable.{HasOffsets, HasRoom, Holds, with_names, with_relas, with_symbols}
+use Rattle.elf32_write.specs.Entries.{strtab_names, symbol_bytes, written_entries, written_entry}
+use Rattle.elf32_write.specs.FileSections.{FileSection, added_sections, file_sections, given_section, given_sections, names_of_sections, rela_section, rela_sections, relocated, shstrtab_names, strtab_section, symtab_index, symtab_section}
+use Rattle.elf32_write.specs.SectionTable.{ContentsFit, HasOffsets, HoldsSections, with_names, with_relas, with_symbols}
 use Rattle.elf32_write.specs.declared.section_table.SectionTable.{SectionTable}
 use Rattle.elf32_write.proofs.EachAfter.{name_table_push}
 use Rattle.elf32_write.proofs.Room.{room_last, room_offsets, room_within}
 
 -- the last section has the names of those before it and its own
-pub names_so_far : (xs : List SectionParts) (ys : List SymbolParts) → names_of (with_names xs ys) ++ codes ".shstrtab" ∷ [] ≡ section_names xs
+pub names_so_far : (xs : List SectionParts) (ys : List SymbolParts) → names_of_sections (with_names xs ys) ++ codes ".shstrtab" ∷ [] ≡ shstrtab_names xs
 unfolding with_names with_symbols with_relas
 names_so_far xs ys =
     let s : FileSection = symtab_section (symtab_index xs) ys in
-    let t : FileSection = names_section (codes ".strtab") (symbol_names ys) in
+    let t : FileSection = strtab_section (codes ".strtab") (strtab_names ys) in
     let name : FileSection → List ℕ = λ b. b.name in
     let front = given_sections xs ++ rela_sections xs in
     ap (λ l. l ++ codes ".shstrtab" ∷ []) (map-append name (front ++ s ∷ []) (t ∷ []) ∙ ap (λ l. l ++ codes ".strtab" ∷ []) (map-append name front (s ∷ [])))
-    ∙ ap (λ l. l ++ codes ".shstrtab" ∷ []) (append_assoc (names_of front) (codes ".symtab" ∷ []) (codes ".strtab" ∷ []))
-    ∙ append_assoc (names_of front) (codes ".symtab" ∷ codes ".strtab" ∷ []) (codes ".shstrtab" ∷ [])
+    ∙ ap (λ l. l ++ codes ".shstrtab" ∷ []) (append_assoc (names_of_sections front) (codes ".symtab" ∷ []) (codes ".strtab" ∷ []))
+    ∙ append_assoc (names_of_sections front) (codes ".symtab" ∷ codes ".strtab" ∷ []) (codes ".shstrtab" ∷ [])
 
 -- all sections, by stages
-pub stages : (xs : List SectionParts) (ys : List SymbolParts) → with_names xs ys ++ names_section (codes ".shstrtab") (section_names xs) ∷ [] ≡ file_sections xs ys
+pub stages : (xs : List SectionParts) (ys : List SymbolParts) → with_names xs ys ++ strtab_section (codes ".shstrtab") (shstrtab_names xs) ∷ [] ≡ file_sections xs ys
 unfolding with_names with_symbols with_relas file_sections added_sections
 stages xs ys =
     let s : FileSection = symtab_section (symtab_index xs) ys in
-    let t : FileSection = names_section (codes ".strtab") (symbol_names ys) in
-    let u : FileSection = names_section (codes ".shstrtab") (section_names xs) in
+    let t : FileSection = strtab_section (codes ".strtab") (strtab_names ys) in
+    let u : FileSection = strtab_section (codes ".shstrtab") (shstrtab_names xs) in
     let front = given_sections xs ++ rela_sections xs in
     ap (λ l. l ++ u ∷ []) (append_assoc front (s ∷ []) (t ∷ []))
     ∙ append_assoc front (s ∷ t ∷ []) (u ∷ [])
     ∙ append_assoc (given_sections xs) (rela_sections xs) (s ∷ t ∷ u ∷ [])
 
-pub room_names_stage : (xs : List SectionParts) (ys : List SymbolParts) → HasRoom (file_sections xs ys) → HasRoom (with_names xs ys)
-room_names_stage xs ys room = room_within (with_names xs ys) (names_section (codes ".shstrtab") (section_names xs) ∷ []) (file_sections xs ys) (sym (stages xs ys)) room
+pub room_names_stage : (xs : List SectionParts) (ys : List SymbolParts) → ContentsFit (file_sections xs ys) → ContentsFit (with_names xs ys)
+room_names_stage xs ys room = room_within (with_names xs ys) (strtab_section (codes ".shstrtab") (shstrtab_names xs) ∷ []) (file_sections xs ys) (sym (stages xs ys)) room
 
-pub room_symbols_stage : (xs : List SectionParts) (ys : List SymbolParts) → HasRoom (file_sections xs ys) → HasRoom (with_symbols xs ys)
+pub room_symbols_stage : (xs : List SectionParts) (ys : List SymbolParts) → ContentsFit (file_sections xs ys) → ContentsFit (with_symbols xs ys)
 unfolding with_names
-room_symbols_stage xs ys room = room_within (with_symbols xs ys) (names_section (codes ".strtab") (symbol_names ys) ∷ []) (with_names xs ys) refl (room_names_stage xs ys room)
+room_symbols_stage xs ys room = room_within (with_symbols xs ys) (strtab_section (codes ".strtab") (strtab_names ys) ∷ []) (with_names xs ys) refl (room_names_stage xs ys room)
 
-pub room_relas_stage : (xs : List SectionParts) (ys : List SymbolParts) → HasRoom (file_sections xs ys) → HasRoom (with_relas xs)
+pub room_relas_stage : (xs : List SectionParts) (ys : List SymbolParts) → ContentsFit (file_sections xs ys) → ContentsFit (with_relas xs)
 unfolding with_symbols
 room_relas_stage xs ys room = room_within (with_relas xs) (symtab_section (symtab_index xs) ys ∷ []) (with_symbols xs ys) refl (room_symbols_stage xs ys room)
 
-pub room_given_stage : (xs : List SectionParts) (ys : List SymbolParts) → HasRoom (file_sections xs ys) → HasRoom (given_sections xs)
+pub room_given_stage : (xs : List SectionParts) (ys : List SymbolParts) → ContentsFit (file_sections xs ys) → ContentsFit (given_sections xs)
 unfolding with_relas
 room_given_stage xs ys room = room_within (given_sections xs) (rela_sections xs) (with_relas xs) refl (room_relas_stage xs ys room)
 
@@ -57,29 +57,29 @@ room_given_stage xs ys room = room_within (given_sections xs) (rela_sections xs)
 pub length-file_sections : (xs : List SectionParts) (ys : List SymbolParts) → length (file_sections xs ys) ≡ length xs + length (relocated xs) + 3
 unfolding file_sections added_sections
 length-file_sections xs ys =
-    let added : List FileSection = rela_sections xs ++ symtab_section (symtab_index xs) ys ∷ names_section (codes ".strtab") (symbol_names ys) ∷ names_section (codes ".shstrtab") (section_names xs) ∷ [] in
+    let added : List FileSection = rela_sections xs ++ symtab_section (symtab_index xs) ys ∷ strtab_section (codes ".strtab") (strtab_names ys) ∷ strtab_section (codes ".shstrtab") (shstrtab_names xs) ∷ [] in
     let whole = length-append (given_sections xs) added in
-    let three = length-append (rela_sections xs) (symtab_section (symtab_index xs) ys ∷ names_section (codes ".strtab") (symbol_names ys) ∷ names_section (codes ".shstrtab") (section_names xs) ∷ []) in
+    let three = length-append (rela_sections xs) (symtab_section (symtab_index xs) ys ∷ strtab_section (codes ".strtab") (strtab_names ys) ∷ strtab_section (codes ".shstrtab") (shstrtab_names xs) ∷ []) in
     let given : length (given_sections xs) ≡ length xs = length-map xs given_section in
     let relas : length (rela_sections xs) ≡ length (relocated xs) = length-map (relocated xs) (rela_section (symtab_index xs)) in
     omega (arith, whole, three, given, relas)
 
 -- the symbols have room, and so have their names
-pub room_symbols : (xs : List SectionParts) (ys : List SymbolParts) → HasRoom (file_sections xs ys) → length (flat_map symbol_bytes (symbol_entries ys)) < 2 ^ 32
+pub room_symbols : (xs : List SectionParts) (ys : List SymbolParts) → ContentsFit (file_sections xs ys) → length (flat_map symbol_bytes (written_entries ys)) < 2 ^ 32
 unfolding with_symbols
 room_symbols xs ys room = room_last (with_relas xs) (symtab_section (symtab_index xs) ys) (room_symbols_stage xs ys room)
 
-pub room_symbol_names : (xs : List SectionParts) (ys : List SymbolParts) → HasRoom (file_sections xs ys) → length (name_table (symbol_names ys)) < 2 ^ 32
+pub room_strtab_names : (xs : List SectionParts) (ys : List SymbolParts) → ContentsFit (file_sections xs ys) → length (name_table (strtab_names ys)) < 2 ^ 32
 unfolding with_names
-room_symbol_names xs ys room = room_last (with_symbols xs ys) (names_section (codes ".strtab") (symbol_names ys)) (room_names_stage xs ys room)
+room_strtab_names xs ys room = room_last (with_symbols xs ys) (strtab_section (codes ".strtab") (strtab_names ys)) (room_names_stage xs ys room)
 
 -- the last section has room as well
-pub room_last_section : (xs : List SectionParts) (ys : List SymbolParts) (table : SectionTable) → Holds (with_names xs ys) table → HasRoom (file_sections xs ys) → HasOffsets 10 table
+pub room_last_section : (xs : List SectionParts) (ys : List SymbolParts) (table : SectionTable) → HoldsSections (with_names xs ys) table → ContentsFit (file_sections xs ys) → HasOffsets 10 table
 room_last_section xs ys table held room =
-    let own : FileSection = names_section (codes ".shstrtab") (section_names xs) in
-    let front = names_of (with_names xs ys) in
-    let names : names_of (file_sections xs ys) ≡ front ++ codes ".shstrtab" ∷ [] =
-    ap names_of (sym (stages xs ys)) ∙ map-append (λ (b : FileSection). b.name) (with_names xs ys) (own ∷ []) in
+    let own : FileSection = strtab_section (codes ".shstrtab") (shstrtab_names xs) in
+    let front = names_of_sections (with_names xs ys) in
+    let names : names_of_sections (file_sections xs ys) ≡ front ++ codes ".shstrtab" ∷ [] =
+    ap names_of_sections (sym (stages xs ys)) ∙ map-append (λ (b : FileSection). b.name) (with_names xs ys) (own ∷ []) in
     let longer = ap length (ap name_table names ∙ name_table_push front (codes ".shstrtab")) ∙ length-append (name_table front) (name_bytes (codes ".shstrtab")) in
     record {
       contents_end = (room_offsets (with_names xs ys) table held (room_names_stage xs ys room)).contents_end;
@@ -95,5 +95,5 @@ pub length-each_after : {X Y : Type 0} (f : List X → X → Y) (before xs : Lis
 length-each_after f before [] = refl
 length-each_after f before (x ∷ xs) = ap (λ n. suc n) (length-each_after f (before ++ x ∷ []) xs)
 
-pub length-symbols : (ys : List SymbolParts) → length (flat_map symbol_bytes (symbol_entries ys)) ≡ 16 * (1 + length ys)
-length-symbols ys = omega (arith, length-symbol_bytes (symbol_entries ys), length-each_after symbol_entry [] ys)
+pub length-symbols : (ys : List SymbolParts) → length (flat_map symbol_bytes (written_entries ys)) ≡ 16 * (1 + length ys)
+length-symbols ys = omega (arith, length-symbol_bytes (written_entries ys), length-each_after written_entry [] ys)

@@ -11,14 +11,15 @@ use Rattle.zc_base.specs.Fields.{half_in, word_in}
 use Rattle.elf32_read.specs.Header.{content_of, header_of, headers_of, section_count}
 use Rattle.elf32_read.specs.Names.{lacks_strings, strings_of}
 use Rattle.elf32_read.specs.Parts.{ObjectParts, SectionParts, SymbolParts, symbol_parts}
-use Rattle.elf32_read.specs.Symbols.{entries_in, has_symbols, symbol_content, symbol_entry_at, symbol_names as names_in, symbol_tables}
+use Rattle.elf32_read.specs.Symbols.{entries_in, symbol_content, symbol_entry_at, symbol_names as names_in, symbol_tables}
 use Rattle.elf32_read.specs.declared.symbol_entry.SymbolEntry.{SymbolEntry}
+use Rattle.elf32_read.proofs.Tests.{has_symbols}
 use Rattle.elf32_write.specs.Image.{null_section}
 use Rattle.elf32_write.specs.NameTable.{name_table}
 use Rattle.elf32_write.specs.EachAfter.{each_after}
-use Rattle.elf32_write.specs.Entries.{HasInfo, null_symbol, symbol_bytes, symbol_entries, symbol_entry, symbol_names}
-use Rattle.elf32_write.specs.FileSections.{FileSection, added_sections, file_sections, given_section, given_sections, names_section, rela_section, rela_sections, relocated, section_names, symtab_index, symtab_section}
-use Rattle.elf32_write.specs.ObjectFile.{headers_for, object_bytes, section_header}
+use Rattle.elf32_write.specs.Entries.{HasInfo, null_symbol, strtab_names, symbol_bytes, written_entries, written_entry}
+use Rattle.elf32_write.specs.FileSections.{FileSection, added_sections, file_sections, given_section, given_sections, rela_section, rela_sections, relocated, shstrtab_names, strtab_section, symtab_index, symtab_section}
+use Rattle.elf32_write.specs.ObjectFile.{headers_for, object_bytes, written_header}
 use Rattle.elf32_write.specs.Ranges.{IsSymbolSized}
 use Rattle.elf32_write.specs.Writable.{is_name}
 use Rattle.elf32_write.specs.SectionTable.{with_relas, with_symbols}
@@ -35,10 +36,10 @@ use Rattle.elf32_write.proofs.Zipped.{none_kept}
 -- ---- where the sections of symbols stand
 
 unfoldable pub strtab : List SymbolParts → FileSection
-strtab ys = names_section (codes ".strtab") (symbol_names ys)
+strtab ys = strtab_section (codes ".strtab") (strtab_names ys)
 
 unfoldable pub shstrtab : List SectionParts → FileSection
-shstrtab xs = names_section (codes ".shstrtab") (section_names xs)
+shstrtab xs = strtab_section (codes ".shstrtab") (shstrtab_names xs)
 
 pub split_symtab : (xs : List SectionParts) (ys : List SymbolParts) → file_sections xs ys ≡ with_relas xs ++ symtab_section (symtab_index xs) ys ∷ strtab ys ∷ shstrtab xs ∷ []
 unfolding file_sections added_sections with_relas strtab shstrtab
@@ -59,7 +60,7 @@ length-with_symbols xs ys = omega (arith, length-with_relas xs ys, length-append
 
 -- ---- the table of symbols
 
-kinds_after : (before xs : List FileSection) → list_any has_symbols (each_after section_header before xs) ≡ list_any (λ s. nat_eq s.kind 2) xs
+kinds_after : (before xs : List FileSection) → list_any has_symbols (each_after written_header before xs) ≡ list_any (λ s. nat_eq s.kind 2) xs
 kinds_after before [] = refl
 kinds_after before (x ∷ xs) = ap (λ b. nat_eq x.kind 2 || b) (kinds_after (before ++ x ∷ []) xs)
 
@@ -72,22 +73,22 @@ no_symbols_before xs kinds =
     (All-append P (given_sections xs) (rela_sections xs) (All-map P given_section xs kinds)
     (All-map P (rela_section (symtab_index xs)) (relocated xs) (λ k d lt. refl)))
 
-pub symbol_tables_back : (parts : ObjectParts) → headers_of (object_bytes parts) ≡ headers_for (all_of parts) → All (λ s. nat_eq s.kind 2 ≡ false) parts.sections → symbol_tables (object_bytes parts) ≡ section_header (with_relas parts.sections) (symtab_section (symtab_index parts.sections) parts.symbols) ∷ []
+pub symbol_tables_back : (parts : ObjectParts) → headers_of (object_bytes parts) ≡ headers_for (all_of parts) → All (λ s. nat_eq s.kind 2 ≡ false) parts.sections → symbol_tables (object_bytes parts) ≡ written_header (with_relas parts.sections) (symtab_section (symtab_index parts.sections) parts.symbols) ∷ []
 unfolding strtab shstrtab
 symbol_tables_back parts listed kinds =
     let xs = parts.sections in
     let ys = parts.symbols in
     let s : FileSection = symtab_section (symtab_index xs) ys in
     let before = headers_for (with_relas xs) in
-    let rest = each_after section_header (with_relas xs) (s ∷ strtab ys ∷ shstrtab xs ∷ []) in
+    let rest = each_after written_header (with_relas xs) (s ∷ strtab ys ∷ shstrtab xs ∷ []) in
     let cut : headers_for (all_of parts) ≡ before ++ rest =
-    ap headers_for (split_symtab xs ys) ∙ ap (λ l. null_section ∷ l) (each_after-append section_header [] (with_relas xs) (s ∷ strtab ys ∷ shstrtab xs ∷ [])) in
+    ap headers_for (split_symtab xs ys) ∙ ap (λ l. null_section ∷ l) (each_after-append written_header [] (with_relas xs) (s ∷ strtab ys ∷ shstrtab xs ∷ [])) in
     let none : list_any has_symbols before ≡ false = kinds_after [] (with_relas xs) ∙ no_symbols_before xs kinds in
     ap (filter has_symbols) (listed ∙ cut) ∙ filter-append has_symbols before rest ∙ ap (λ l. l ++ filter has_symbols rest) (none_kept has_symbols before none)
 
 -- ---- names
 
-strtab_header : (parts : ObjectParts) → IsSmall parts → headers_of (object_bytes parts) ≡ headers_for (all_of parts) → header_of (object_bytes parts) (symtab_index parts.sections + 1) ≡ section_header (with_symbols parts.sections parts.symbols) (strtab parts.symbols)
+strtab_header : (parts : ObjectParts) → IsSmall parts → headers_of (object_bytes parts) ≡ headers_for (all_of parts) → header_of (object_bytes parts) (symtab_index parts.sections + 1) ≡ written_header (with_symbols parts.sections parts.symbols) (strtab parts.symbols)
 strtab_header parts small listed =
     let xs = parts.sections in
     let ys = parts.symbols in
@@ -103,7 +104,7 @@ links_back parts small listed =
     let there : nat_le (section_count bytes) index ≡ false = lt-leb (section_count bytes) index (omega (arith, count_back parts small, length-file_sections parts.sections parts.symbols)) in
     or_from _ _ there (ap (λ h. not (nat_eq h.kind 3)) (strtab_header parts small listed))
 
-strings_back : (parts : ObjectParts) → IsSmall parts → headers_of (object_bytes parts) ≡ headers_for (all_of parts) → strings_of (object_bytes parts) (symtab_index parts.sections + 1) ≡ name_table (symbol_names parts.symbols)
+strings_back : (parts : ObjectParts) → IsSmall parts → headers_of (object_bytes parts) ≡ headers_for (all_of parts) → strings_of (object_bytes parts) (symtab_index parts.sections + 1) ≡ name_table (strtab_names parts.symbols)
 unfolding strtab
 strings_back parts small listed =
     let xs = parts.sections in
@@ -114,14 +115,14 @@ strings_back parts small listed =
     ∙ ap (content_of bytes) (strtab_header parts small listed)
     ∙ content_back parts (with_symbols xs ys) (strtab ys) (shstrtab xs ∷ []) (split_strtab xs ys) sized
 
-pub symbol_names_back : (parts : ObjectParts) → IsSmall parts → headers_of (object_bytes parts) ≡ headers_for (all_of parts) → All (λ s. nat_eq s.kind 2 ≡ false) parts.sections → names_in (object_bytes parts) ≡ name_table (symbol_names parts.symbols)
+pub symbol_names_back : (parts : ObjectParts) → IsSmall parts → headers_of (object_bytes parts) ≡ headers_for (all_of parts) → All (λ s. nat_eq s.kind 2 ≡ false) parts.sections → names_in (object_bytes parts) ≡ name_table (strtab_names parts.symbols)
 symbol_names_back parts small listed kinds =
     ap (λ l. option_map_or (λ h. strings_of (object_bytes parts) h.link) (slice_get l 0) []) (symbol_tables_back parts listed kinds)
     ∙ strings_back parts small listed
 
 -- ---- entries
 
-pub symbol_content_back : (parts : ObjectParts) → headers_of (object_bytes parts) ≡ headers_for (all_of parts) → All (λ s. nat_eq s.kind 2 ≡ false) parts.sections → symbol_content (object_bytes parts) ≡ flat_map symbol_bytes (symbol_entries parts.symbols)
+pub symbol_content_back : (parts : ObjectParts) → headers_of (object_bytes parts) ≡ headers_for (all_of parts) → All (λ s. nat_eq s.kind 2 ≡ false) parts.sections → symbol_content (object_bytes parts) ≡ flat_map symbol_bytes (written_entries parts.symbols)
 symbol_content_back parts listed kinds =
     let xs = parts.sections in
     let ys = parts.symbols in
@@ -163,17 +164,17 @@ entry_back front rest e h =
     let home = half_in-append front row (length front + 14) 14 refl ∙ half_of_bytes e.home h.home in
     λ i. record { name = name i; value = value i; size = size i; bind = bind i; kind = kind i; home = home i }
 
-entries_after : (before ys : List SymbolParts) → length (name_table (symbol_names (before ++ ys))) < 2 ^ 32 → All IsSymbolSized ys → All HasInfo ys → All (λ s. s.home < 2 ^ 16) ys → All IsEntry (each_after symbol_entry before ys)
+entries_after : (before ys : List SymbolParts) → length (name_table (strtab_names (before ++ ys))) < 2 ^ 32 → All IsSymbolSized ys → All HasInfo ys → All (λ s. s.home < 2 ^ 16) ys → All IsEntry (each_after written_entry before ys)
 entries_after before [] room sized info homes = All-nil IsEntry
 entries_after before (s ∷ ys) room sized info homes =
     let w = All-head IsSymbolSized s ys sized in
     let i = All-head HasInfo s ys info in
     let joined = append_assoc before (s ∷ []) ys in
-    let cut : symbol_names (before ++ s ∷ ys) ≡ symbol_names before ++ symbol_names (s ∷ ys) = map-append (λ (b : SymbolParts). b.name) before (s ∷ ys) in
-    let start = start_within (length (name_table (symbol_names before))) s.name in
-    let within = name_table_within (symbol_names before) (symbol_names (s ∷ ys)) in
-    let more = entries_after (before ++ s ∷ []) ys (omega (arith, room, ap (λ l. length (name_table (symbol_names l))) joined)) (All-tail IsSymbolSized s ys sized) (All-tail HasInfo s ys info) (All-tail (λ s. s.home < 2 ^ 16) s ys homes) in
-    All-cons IsEntry (symbol_entry before s) (each_after symbol_entry (before ++ s ∷ []) ys)
+    let cut : strtab_names (before ++ s ∷ ys) ≡ strtab_names before ++ strtab_names (s ∷ ys) = map-append (λ (b : SymbolParts). b.name) before (s ∷ ys) in
+    let start = start_within (length (name_table (strtab_names before))) s.name in
+    let within = name_table_within (strtab_names before) (strtab_names (s ∷ ys)) in
+    let more = entries_after (before ++ s ∷ []) ys (omega (arith, room, ap (λ l. length (name_table (strtab_names l))) joined)) (All-tail IsSymbolSized s ys sized) (All-tail HasInfo s ys info) (All-tail (λ s. s.home < 2 ^ 16) s ys homes) in
+    All-cons IsEntry (written_entry before s) (each_after written_entry (before ++ s ∷ []) ys)
     (record {
       name = omega (arith, room, start, within, ap (λ l. length (name_table l)) cut);
       value = w.value;
@@ -184,15 +185,15 @@ entries_after before (s ∷ ys) room sized info homes =
     })
     more
 
-pub entries_back : (ys : List SymbolParts) → length (name_table (symbol_names ys)) < 2 ^ 32 → All IsSymbolSized ys → All HasInfo ys → All (λ s. s.home < 2 ^ 16) ys → entries_in (flat_map symbol_bytes (symbol_entries ys)) ≡ symbol_entries ys
+pub entries_back : (ys : List SymbolParts) → length (name_table (strtab_names ys)) < 2 ^ 32 → All IsSymbolSized ys → All HasInfo ys → All (λ s. s.home < 2 ^ 16) ys → entries_in (flat_map symbol_bytes (written_entries ys)) ≡ written_entries ys
 unfolding symbol_entry_at entry_in
 entries_back ys room sized info homes =
-    let entries = symbol_entries ys in
+    let entries = written_entries ys in
     let content = flat_map symbol_bytes entries in
     let at : ℕ → ℕ = λ i. 16 * i in
     let null : IsEntry null_symbol = record { name = omega arith; value = omega arith; size = omega arith; bind = omega arith; kind = omega arith; home = omega arith } in
-    let rows = All-cons IsEntry null_symbol (each_after symbol_entry [] ys) null (entries_after [] ys room sized info homes) in
-    let count : length content / 16 ≡ length entries = omega (arith, length-symbols ys, length-each_after symbol_entry [] ys) in
+    let rows = All-cons IsEntry null_symbol (each_after written_entry [] ys) null (entries_after [] ys room sized info homes) in
+    let count : length content / 16 ≡ length entries = omega (arith, length-symbols ys, length-each_after written_entry [] ys) in
     ap (λ n. map (symbol_entry_at content) (range_with_len 0 n)) count
     ∙ rows_back entry_in symbol_bytes 16 IsEntry at entry_back (λ _. refl) (λ k. omega arith) content [] entries [] 0 (sym (append-nil content)) refl rows
 
@@ -207,18 +208,18 @@ pub record ShowsSymbol (names : List ℕ) (e : SymbolEntry) (s : SymbolParts) : 
   pub home : e.home ≡ s.home
   pub named : Stands s.name names e.name
 
-pub symbols_shown : (names : List ℕ) (before ys : List SymbolParts) → names ≡ name_table (symbol_names (before ++ ys)) → All (λ s. is_name s.name ≡ true) ys → AllZip (ShowsSymbol names) (each_after symbol_entry before ys) ys
+pub symbols_shown : (names : List ℕ) (before ys : List SymbolParts) → names ≡ name_table (strtab_names (before ++ ys)) → All (λ s. is_name s.name ≡ true) ys → AllZip (ShowsSymbol names) (each_after written_entry before ys) ys
 symbols_shown names before [] e named = tt
 symbols_shown names before (s ∷ ys) e named =
     let cut = e ∙ ap name_table (map-append (λ (b : SymbolParts). b.name) before (s ∷ ys)) in
-    let next = e ∙ ap (λ l. name_table (symbol_names l)) (sym (append_assoc before (s ∷ []) ys)) in (
+    let next = e ∙ ap (λ l. name_table (strtab_names l)) (sym (append_assoc before (s ∷ []) ys)) in (
       record {
         value = refl;
         size = refl;
         bind = refl;
         kind = refl;
         home = refl;
-        named = name_back (symbol_names before) s.name (symbol_names ys) names cut (All-head (λ s. is_name s.name ≡ true) s ys named);
+        named = name_back (strtab_names before) s.name (strtab_names ys) names cut (All-head (λ s. is_name s.name ≡ true) s ys named);
       },
       symbols_shown names (before ++ s ∷ []) ys next (All-tail (λ s. is_name s.name ≡ true) s ys named),
     )

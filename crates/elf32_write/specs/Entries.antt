@@ -14,13 +14,13 @@ abbrev pub reloc_bytes : Reloc → List ℕ
 reloc_bytes r = flat_map word_bytes (r.offset ∷ (256 * r.symbol + r.kind) ∷ cast_unsigned w32 r.addend ∷ [])
 
 -- the names of symbols
-abbrev pub symbol_names : List SymbolParts → List (List ℕ)
-symbol_names symbols = map (λ s. s.name) symbols
+abbrev pub strtab_names : List SymbolParts → List (List ℕ)
+strtab_names symbols = map (λ s. s.name) symbols
 
 -- the entry of a symbol, by the symbols before it
-abbrev pub symbol_entry : List SymbolParts → SymbolParts → SymbolEntry
-symbol_entry before s = record {
-  name = name_start (length (name_table (symbol_names before))) s.name;
+abbrev pub written_entry : List SymbolParts → SymbolParts → SymbolEntry
+written_entry before s = record {
+  name = name_start (length (name_table (strtab_names before))) s.name;
   value = s.value;
   size = s.size;
   bind = s.bind;
@@ -43,8 +43,8 @@ abbrev pub null_symbol : SymbolEntry
 null_symbol = record { name = 0; value = 0; size = 0; bind = 0; kind = 0; home = 0 }
 
 -- all entries: symbol 0, and then the given symbols
-abbrev pub symbol_entries : List SymbolParts → List SymbolEntry
-symbol_entries symbols = null_symbol ∷ each_after symbol_entry [] symbols
+abbrev pub written_entries : List SymbolParts → List SymbolEntry
+written_entries symbols = null_symbol ∷ each_after written_entry [] symbols
 
 -- the index after the last local symbol, STB_LOCAL (0), which symbol 0 counts as
 abbrev pub after_locals : List SymbolParts → ℕ

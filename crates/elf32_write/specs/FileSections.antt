@@ -2,7 +2,7 @@
 use Rattle.std.specs.Prelude.{ℕ, ◌+◌, nat_lt, List, [], ◌∷◌, ◌++◌, length, map, filter, codes}
 use Rattle.std.specs.List.{enumerate_from, flat_map}
 use Rattle.elf32_read.specs.Parts.{SectionParts, SymbolParts}
-use Rattle.elf32_write.specs.Entries.{after_locals, reloc_bytes, symbol_bytes, symbol_entries, symbol_names}
+use Rattle.elf32_write.specs.Entries.{after_locals, reloc_bytes, strtab_names, symbol_bytes, written_entries}
 use Rattle.elf32_write.specs.NameTable.{name_table}
 
 -- a section of the file: its name, its content, and what its header has beside where these lie
@@ -36,15 +36,15 @@ rela_section symtab e = let content = flat_map reloc_bytes e.1.relocs in record 
 
 -- .symtab, with its index: SYMTAB (2), whose sh_link is the index of .strtab, the next
 abbrev pub symtab_section : ℕ → List SymbolParts → FileSection
-symtab_section symtab symbols = let content = flat_map symbol_bytes (symbol_entries symbols) in record { name = codes ".symtab"; kind = 2; flags = 0; size = length content; link = symtab + 1; info = after_locals symbols; align = 4; entry_size = 16; content = content }
+symtab_section symtab symbols = let content = flat_map symbol_bytes (written_entries symbols) in record { name = codes ".symtab"; kind = 2; flags = 0; size = length content; link = symtab + 1; info = after_locals symbols; align = 4; entry_size = 16; content = content }
 
 -- a table of names: STRTAB (3)
-abbrev pub names_section : List ℕ → List (List ℕ) → FileSection
-names_section name names = let content = name_table names in record { name = name; kind = 3; flags = 0; size = length content; link = 0; info = 0; align = 1; entry_size = 0; content = content }
+abbrev pub strtab_section : List ℕ → List (List ℕ) → FileSection
+strtab_section name names = let content = name_table names in record { name = name; kind = 3; flags = 0; size = length content; link = 0; info = 0; align = 1; entry_size = 0; content = content }
 
 -- the names of these sections
-abbrev pub names_of : List FileSection → List (List ℕ)
-names_of sections = map (λ s. s.name) sections
+abbrev pub names_of_sections : List FileSection → List (List ℕ)
+names_of_sections sections = map (λ s. s.name) sections
 
 -- the given sections, in order
 abbrev pub given_sections : List SectionParts → List FileSection
@@ -55,17 +55,17 @@ abbrev pub rela_sections : List SectionParts → List FileSection
 rela_sections sections = map (rela_section (symtab_index sections)) (relocated sections)
 
 -- the names of all sections, in order
-abbrev pub section_names : List SectionParts → List (List ℕ)
-section_names sections =
-    names_of (given_sections sections ++ rela_sections sections) ++ codes ".symtab" ∷ codes ".strtab" ∷ codes ".shstrtab" ∷ []
+abbrev pub shstrtab_names : List SectionParts → List (List ℕ)
+shstrtab_names sections =
+    names_of_sections (given_sections sections ++ rela_sections sections) ++ codes ".symtab" ∷ codes ".strtab" ∷ codes ".shstrtab" ∷ []
 
 -- the sections that are added: relocations, symbols, and names
 unfoldable pub added_sections : List SectionParts → List SymbolParts → List FileSection
 added_sections sections symbols =
     rela_sections sections
     ++ symtab_section (symtab_index sections) symbols
-    ∷ names_section (codes ".strtab") (symbol_names symbols)
-    ∷ names_section (codes ".shstrtab") (section_names sections) ∷ []
+    ∷ strtab_section (codes ".strtab") (strtab_names symbols)
+    ∷ strtab_section (codes ".shstrtab") (shstrtab_names sections) ∷ []
 
 -- all sections but section 0, in order
 unfoldable pub file_sections : List SectionParts → List SymbolParts → List FileSection

@@ -1,11 +1,11 @@
--- The bytes of an image: an executable file of class 32 (System V gABI, "ELF Header", "Sections" and
--- "Program Header"), its parts one after the other, each padded with zeros to a multiple of 4.
+-- The bytes of an image: an executable file of class 32 (System V gABI, "ELF SectionHeader", "Sections" and
+-- "Program SectionHeader"), its parts one after the other, each padded with zeros to a multiple of 4.
 use Rattle.std.specs.Prelude.{ℕ, ◌+◌, ◌*◌, ◌-◌, ◌%◌, ◌^◌, ◌<◌, List, [], ◌∷◌, ◌++◌, length, codes, replicate}
 use Rattle.std.specs.List.{flat_map}
 use Rattle.zc_base.specs.Fields.{half_bytes, word_bytes}
 use Rattle.zc_base.specs.declared.place.Place.{Place}
-use Rattle.elf32_read.specs.Header.{Header}
 use Rattle.elf32_read.specs.declared.header.ProgramHeader.{ProgramHeader}
+use Rattle.elf32_read.specs.declared.header.SectionHeader.{SectionHeader}
 use Rattle.elf32_write.specs.Parts.{Parts}
 
 -- how many zeros make a length a multiple of 4
@@ -41,7 +41,7 @@ abbrev pub sections_offset : Parts → ℕ
 sections_offset parts = names_offset parts + 44
 
 -- every number of the file has room in its word
-pub record Fits (parts : Parts) : Type 0 where
+pub record NumbersFit (parts : Parts) : Type 0 where
   pub file : sections_offset parts < 2 ^ 32
   pub data_memory : length parts.data_bytes + parts.zero < 2 ^ 32
   pub data_end : parts.data_at + length parts.data_bytes < 2 ^ 32
@@ -81,43 +81,43 @@ place_bytes entry =
     half_bytes entry.0.object ++ half_bytes entry.0.section ++ word_bytes entry.0.offset ++ word_bytes entry.1
 
 -- the names of the sections, each ended by a zero, after the empty name
-abbrev pub names : List ℕ
-names =
+abbrev pub shstrtab_content : List ℕ
+shstrtab_content =
     0 ∷ [] ++ codes ".text" ++ 0 ∷ [] ++ codes ".data" ++ 0 ∷ [] ++ codes ".bss" ++ 0 ∷ [] ++ codes ".zcld.places" ++ 0 ∷ [] ++ codes ".shstrtab" ++ 0 ∷ []
 
 -- section 0: NULL
-abbrev pub null_section : Header
+abbrev pub null_section : SectionHeader
 null_section = record { name = 0; kind = 0; flags = 0; address = 0; offset = 0; size = 0; link = 0; info = 0; align = 0; entry_size = 0 }
 
 -- section 1, .text: PROGBITS, with ALLOC and EXECINSTR
-abbrev pub text_section : Parts → Header
+abbrev pub text_section : Parts → SectionHeader
 text_section parts = record { name = 1; kind = 1; flags = 6; address = parts.text_at; offset = text_offset; size = length parts.text; link = 0; info = 0; align = 4; entry_size = 0 }
 
 -- section 2, .data: PROGBITS, with WRITE and ALLOC
-abbrev pub data_section : Parts → Header
+abbrev pub data_section : Parts → SectionHeader
 data_section parts = record { name = 7; kind = 1; flags = 3; address = parts.data_at; offset = data_offset parts; size = length parts.data_bytes; link = 0; info = 0; align = 4; entry_size = 0 }
 
 -- section 3, .bss: NOBITS, with WRITE and ALLOC, where the data's file bytes end
-abbrev pub bss_section : Parts → Header
+abbrev pub bss_section : Parts → SectionHeader
 bss_section parts = record { name = 13; kind = 8; flags = 3; address = parts.data_at + length parts.data_bytes; offset = data_offset parts + length parts.data_bytes; size = parts.zero; link = 0; info = 0; align = 4; entry_size = 0 }
 
 -- section 4, .zcld.places: PROGBITS, no part of the program's memory
-abbrev pub places_section : Parts → Header
+abbrev pub places_section : Parts → SectionHeader
 places_section parts = record { name = 18; kind = 1; flags = 0; address = 0; offset = places_offset parts; size = 12 * length parts.places; link = 0; info = 0; align = 4; entry_size = 0 }
 
 -- section 5, .shstrtab: STRTAB, the names
-abbrev pub names_section : Parts → Header
-names_section parts = record { name = 31; kind = 3; flags = 0; address = 0; offset = names_offset parts; size = length names; link = 0; info = 0; align = 1; entry_size = 0 }
+abbrev pub shstrtab_header : Parts → SectionHeader
+shstrtab_header parts = record { name = 31; kind = 3; flags = 0; address = 0; offset = names_offset parts; size = length shstrtab_content; link = 0; info = 0; align = 1; entry_size = 0 }
 
 -- the ten words of a section header
-abbrev pub section_bytes : Header → List ℕ
+abbrev pub section_bytes : SectionHeader → List ℕ
 section_bytes header =
     flat_map word_bytes (header.name ∷ header.kind ∷ header.flags ∷ header.address ∷ header.offset ∷ header.size ∷ header.link ∷ header.info ∷ header.align ∷ header.entry_size ∷ [])
 
 -- the sections, in order
-abbrev pub sections_of : Parts → List Header
+abbrev pub sections_of : Parts → List SectionHeader
 sections_of parts =
-    null_section ∷ text_section parts ∷ data_section parts ∷ bss_section parts ∷ places_section parts ∷ names_section parts ∷ []
+    null_section ∷ text_section parts ∷ data_section parts ∷ bss_section parts ∷ places_section parts ∷ shstrtab_header parts ∷ []
 
 -- the section headers
 unfoldable pub section_headers : Parts → List ℕ
@@ -126,4 +126,4 @@ section_headers parts = flat_map section_bytes (sections_of parts)
 -- the file
 unfoldable pub image_bytes : Parts → List ℕ
 image_bytes parts =
-    file_header parts ++ program_headers parts ++ padded parts.text ++ padded parts.data_bytes ++ flat_map place_bytes parts.places ++ padded names ++ section_headers parts
+    file_header parts ++ program_headers parts ++ padded parts.text ++ padded parts.data_bytes ++ flat_map place_bytes parts.places ++ padded shstrtab_content ++ section_headers parts

@@ -3,9 +3,9 @@ use Rattle.std.specs.Prelude.{◌≡◌, ℕ, ◌+◌, ◌%◌, ◌^◌, ◌<◌
 use Rattle.std.specs.List.{list_any}
 use Rattle.zc_base.specs.declared.mem_map.MemMap.{MemMap}
 use Rattle.zc_base.specs.declared.place.Place.{Place}
-use Rattle.elf32_read.specs.Header.{entry_of, file_flags}
+use Rattle.elf32_read.specs.Header.{entry_address, file_flags}
 use Rattle.elf32_read.specs.Image.{are_known_flags, image_fault}
-use Rattle.elf32_read.specs.Places.{is_ascending, is_outside, places_of}
+use Rattle.elf32_read.specs.Places.{is_ascending, is_outside, place_list}
 use Rattle.elf32_read.specs.Segments.{SegmentData, segments_of}
 use Rattle.elf32_write.specs.Image.{sections_offset}
 use Rattle.elf32_write.specs.Parts.{Parts}
@@ -44,7 +44,7 @@ segments parts =
 -- under this memory map the file is an image without a fault, of these parts
 pub record ReadsBack (parts : Parts) (memory : MemMap) (file : List ℕ) : Type 0 where
   pub faultless : image_fault file memory ≡ None
-  pub entry : entry_of file ≡ parts.entry
+  pub entry : entry_address file ≡ parts.entry
   pub flags : file_flags file ≡ parts.flags
   pub segments_back : segments_of file ≡ segments parts
-  pub places : places_of file ≡ parts.places
+  pub places : place_list file ≡ parts.places

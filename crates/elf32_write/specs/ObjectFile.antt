@@ -1,12 +1,12 @@
--- The bytes of an object: a relocatable file of class 32 (System V gABI, "ELF Header" and "Sections"). After the file's header
+-- The bytes of an object: a relocatable file of class 32 (System V gABI, "ELF SectionHeader" and "Sections"). After the file's header
 -- stand the contents of the sections, each padded with zeros to a multiple of 4, and then the section headers.
 use Rattle.std.specs.Prelude.{ℕ, ◌+◌, ◌*◌, ◌-◌, List, [], ◌∷◌, ◌++◌, length}
 use Rattle.std.specs.List.{flat_map}
 use Rattle.zc_base.specs.Fields.{half_bytes, word_bytes}
-use Rattle.elf32_read.specs.Header.{Header}
 use Rattle.elf32_read.specs.Parts.{ObjectParts}
+use Rattle.elf32_read.specs.declared.header.SectionHeader.{SectionHeader}
 use Rattle.elf32_write.specs.EachAfter.{each_after}
-use Rattle.elf32_write.specs.FileSections.{FileSection, file_sections, names_of}
+use Rattle.elf32_write.specs.FileSections.{FileSection, file_sections, names_of_sections}
 use Rattle.elf32_write.specs.Image.{identification, null_section, padded, section_bytes}
 use Rattle.elf32_write.specs.NameTable.{name_start, name_table}
 
@@ -15,9 +15,9 @@ abbrev pub contents : List FileSection → List ℕ
 contents sections = flat_map (λ s. padded s.content) sections
 
 -- the header of a section, by the sections before it
-abbrev pub section_header : List FileSection → FileSection → Header
-section_header before s = record {
-  name = name_start (length (name_table (names_of before))) s.name;
+abbrev pub written_header : List FileSection → FileSection → SectionHeader
+written_header before s = record {
+  name = name_start (length (name_table (names_of_sections before))) s.name;
   kind = s.kind;
   flags = s.flags;
   address = 0;
@@ -30,8 +30,8 @@ section_header before s = record {
 }
 
 -- the headers of section 0 and of these
-abbrev pub headers_for : List FileSection → List Header
-headers_for sections = null_section ∷ each_after section_header [] sections
+abbrev pub headers_for : List FileSection → List SectionHeader
+headers_for sections = null_section ∷ each_after written_header [] sections
 
 -- the file's header: e_ident; e_type 1 (relocatable), e_machine 243 (RISC-V), e_version 1, e_entry, e_phoff, e_shoff,
 -- e_flags, e_ehsize, e_phentsize, e_phnum, e_shentsize, e_shnum, e_shstrndx

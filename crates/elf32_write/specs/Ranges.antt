@@ -1,13 +1,13 @@
 -- Numbers of an object's parts that have room in their fields.
 use Rattle.std.specs.Prelude.{◌^◌, ◌<◌, List, All, FitsSigned}
 use Rattle.std.specs.Int.{w32}
-use Rattle.elf32_read.specs.Header.{Header}
 use Rattle.elf32_read.specs.Parts.{SectionParts, SymbolParts}
+use Rattle.elf32_read.specs.declared.header.SectionHeader.{SectionHeader}
 use Rattle.elf32_read.specs.declared.reloc.Reloc.{Reloc}
 use Rattle.elf32_read.specs.declared.symbol_entry.SymbolEntry.{SymbolEntry}
 
 -- a header's numbers that are given have room in words
-pub record IsHeaderSized (h : Header) : Type 0 where
+pub record IsHeaderSized (h : SectionHeader) : Type 0 where
   pub kind : h.kind < 2 ^ 32
   pub flags : h.flags < 2 ^ 32
   pub align : h.align < 2 ^ 32

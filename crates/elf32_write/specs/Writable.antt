@@ -62,8 +62,8 @@ abbrev pub has_home : ObjectParts → SymbolParts → Bool
 has_home parts s = nat_lt s.home (section_total parts) || s.home == 0xFFF1 || s.home == 0xFFF2
 
 -- not past the end of the section that it is in, if that is kept
-abbrev pub IsWithin : SymbolParts → SectionParts → Type 0
-IsWithin s home = is_kept_section home ≡ true → s.value ≤ home.size
+abbrev pub LiesInSection : SymbolParts → SectionParts → Type 0
+LiesInSection s home = is_kept_section home ≡ true → s.value ≤ home.size
 
 -- a symbol: local (0), global (1) or weak (2), and defined if it is local; of a type but TLS (6) and GNU_IFUNC (10); if it is
 -- common, its value is its alignment
@@ -75,7 +75,7 @@ pub record IsWritableSymbol (parts : ObjectParts) (s : SymbolParts) : Type 0 whe
   pub local : (s.bind == 0 && s.home == 0) ≡ false
   pub home : has_home parts s ≡ true
   pub common : s.home ≡ 0xFFF2 → is_bad_alignment 4096 s.value ≡ false
-  pub within : IfSome (slice_get (null_part ∷ parts.sections) s.home) (IsWithin s)
+  pub within : IfSome (slice_get (null_part ∷ parts.sections) s.home) (LiesInSection s)
 
 -- ---- the whole
 

@@ -1,7 +1,7 @@
 // The file's header and the program headers of an image.
 
 ghost use Rattle.std.specs.Prelude.{◌≡◌, ◌++◌, OnOk};
-ghost use Rattle.elf32_write.specs.Image.{data_segment, file_header, program_headers, section_headers, segment_bytes, text_segment, Fits};
+ghost use Rattle.elf32_write.specs.Image.{data_segment, file_header, program_headers, section_headers, segment_bytes, text_segment, NumbersFit};
 ghost use Rattle.elf32_write.specs.Offsets.{AreOffsetsOf};
 
 use crate::fields::{push_halves, push_words};
@@ -10,15 +10,11 @@ use crate::offsets::{Offsets, TEXT_OFFSET};
 use crate::section_header::{
     NULL, bss_header, data_header, names_header, places_header, push_headers, text_header,
 };
+use elf32_read::header::{EXECUTABLE, RISC_V};
 use std::alloc::AllocError;
 
 /// How the file begins, e_ident.
 pub const IDENTIFICATION: [u8; 16] = [0x7F, b'E', b'L', b'F', 1, 1, 1, 0, 0, 0, 0, 0, 0, 0, 0, 0];
-
-const EXECUTABLE: u16 = 2;
-
-/// The machine of the file, e_machine.
-pub const RISC_V: u16 = 243;
 
 const READ_EXECUTE: u32 = 5;
 
@@ -41,7 +37,7 @@ pub fn push_file_header(
 
 // Appends the program header of the text.
 fn push_text_segment(out: &mut Vec<u8>, parts: &ImageParts) -> Result<(), AllocError>
-    requires { Fits parts.now }
+    requires { NumbersFit parts.now }
     ensures { OnOk result
         (out.new.items ≡ out.old.items ++ segment_bytes (text_segment parts.now)) }
 {
@@ -56,7 +52,7 @@ fn push_data_segment(
     parts: &ImageParts,
     offsets: &Offsets,
 ) -> Result<(), AllocError>
-    requires fits { Fits parts.now }
+    requires fits { NumbersFit parts.now }
     requires offsets { AreOffsetsOf parts.now offsets.now }
     ensures { OnOk result
         (out.new.items ≡ out.old.items ++ segment_bytes (data_segment parts.now)) }
@@ -85,7 +81,7 @@ pub fn push_program_headers(
     parts: &ImageParts,
     offsets: &Offsets,
 ) -> Result<(), AllocError>
-    requires fits { Fits parts.now }
+    requires fits { NumbersFit parts.now }
     requires offsets { AreOffsetsOf parts.now offsets.now }
     ensures { OnOk result (out.new.items ≡ out.old.items ++ program_headers parts.now) }
 {
@@ -99,7 +95,7 @@ pub fn push_section_headers(
     parts: &ImageParts,
     offsets: &Offsets,
 ) -> Result<(), AllocError>
-    requires fits { Fits parts.now }
+    requires fits { NumbersFit parts.now }
     requires offsets { AreOffsetsOf parts.now offsets.now }
     ensures { OnOk result (out.new.items ≡ out.old.items ++ section_headers parts.now) }
 {

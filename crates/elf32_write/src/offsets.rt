@@ -1,6 +1,6 @@
 // Where the parts of an image begin in its file.
 
-ghost use Rattle.elf32_write.specs.Image.{Fits};
+ghost use Rattle.elf32_write.specs.Image.{NumbersFit};
 ghost use Rattle.elf32_write.specs.Offsets.{AreOffsetsOf};
 
 use crate::fields::padded_len;
@@ -23,7 +23,7 @@ pub struct Offsets {
 
 /// The offsets in the file of an image with these parts.
 pub fn offsets_of(parts: &ImageParts) -> Offsets
-    requires { Fits parts.now }
+    requires { NumbersFit parts.now }
     ensures { AreOffsetsOf parts.now result }
 {
     let data = TEXT_OFFSET as usize + padded_len(parts.text.len());

@@ -2,22 +2,15 @@
 
 ghost use Rattle.std.specs.Prelude.{◌≡◌, ◌++◌, OnOk};
 ghost use Rattle.std.specs.List.{flat_map};
-ghost use Rattle.elf32_write.specs.Image.{bss_section, data_section, names_section, places_section, section_bytes, text_section, Fits};
+ghost use Rattle.elf32_write.specs.Image.{bss_section, data_section, shstrtab_header, places_section, section_bytes, text_section, NumbersFit};
 ghost use Rattle.elf32_write.specs.Offsets.{AreOffsetsOf};
 
 use crate::fields::push_words;
 use crate::image_parts::ImageParts;
 use crate::offsets::{NAMES, Offsets, TEXT_OFFSET};
-use elf32_read::header::SectionHeader;
+use elf32_read::header::{NOBITS, PROGBITS, STRTAB, SectionHeader};
 use elf32_read::section_flags::SectionFlags;
 use std::alloc::AllocError;
-
-const PROGBITS: u32 = 1;
-
-/// The kind of a section with names, SHT_STRTAB.
-pub const STRTAB: u32 = 3;
-
-const NOBITS: u32 = 8;
 
 /// The header of section 0.
 pub const NULL: SectionHeader = SectionHeader {
@@ -35,7 +28,7 @@ pub const NULL: SectionHeader = SectionHeader {
 
 /// The header of the text.
 pub fn text_header(parts: &ImageParts) -> SectionHeader
-    requires { Fits parts.now }
+    requires { NumbersFit parts.now }
     ensures { result ≡ text_section parts.now }
 {
     SectionHeader {
@@ -52,7 +45,7 @@ pub fn text_header(parts: &ImageParts) -> SectionHeader
 
 /// The header of the data.
 pub fn data_header(parts: &ImageParts, offsets: &Offsets) -> SectionHeader
-    requires fits { Fits parts.now }
+    requires fits { NumbersFit parts.now }
     requires offsets { AreOffsetsOf parts.now offsets.now }
     ensures { result ≡ data_section parts.now }
 {
@@ -70,7 +63,7 @@ pub fn data_header(parts: &ImageParts, offsets: &Offsets) -> SectionHeader
 
 /// The header of the zeros after the data.
 pub fn bss_header(parts: &ImageParts, offsets: &Offsets) -> SectionHeader
-    requires fits { Fits parts.now }
+    requires fits { NumbersFit parts.now }
     requires offsets { AreOffsetsOf parts.now offsets.now }
     ensures { result ≡ bss_section parts.now }
 {
@@ -89,7 +82,7 @@ pub fn bss_header(parts: &ImageParts, offsets: &Offsets) -> SectionHeader
 
 /// The header of the places.
 pub fn places_header(parts: &ImageParts, offsets: &Offsets) -> SectionHeader
-    requires fits { Fits parts.now }
+    requires fits { NumbersFit parts.now }
     requires offsets { AreOffsetsOf parts.now offsets.now }
     ensures { result ≡ places_section parts.now }
 {
@@ -108,7 +101,7 @@ pub fn places_header(parts: &ImageParts, offsets: &Offsets) -> SectionHeader
 /// The header of the sections' names.
 pub fn names_header(parts: &ImageParts, offsets: &Offsets) -> SectionHeader
     requires { AreOffsetsOf parts.now offsets.now }
-    ensures { result ≡ names_section parts.now }
+    ensures { result ≡ shstrtab_header parts.now }
 {
     SectionHeader {
         name: 31,

@@ -5,22 +5,27 @@ ghost use Rattle.std.specs.List.{flat_map};
 ghost use Rattle.elf32_write.specs.Entries.{reloc_bytes};
 ghost use Rattle.elf32_write.specs.FileSections.{FileSection, given_sections, rela_section, relocated};
 ghost use Rattle.elf32_write.specs.Ranges.{IsHeaderSized, IsRelocSized, IsSectionSized};
-ghost use Rattle.elf32_write.specs.SectionTable.{HasOffsets, HasRoom, Holds, file_section, last_section};
+ghost use Rattle.elf32_write.specs.SectionTable.{ContentsFit, HasOffsets, HoldsSections, file_section, last_section};
 
 use crate::fields::push_padded;
 use crate::name_table::push_name;
 use crate::object_parts::PartSection;
 use crate::relocs::reloc_table;
-use crate::section_header::{NULL, STRTAB};
-use elf32_read::header::SectionHeader;
+use crate::section_header::NULL;
+use elf32_read::header::{RELA, STRTAB, SectionHeader};
 use std::alloc::{AllocError, Global};
-
-const RELA: u32 = 4;
 
 const INFO_LINK: u32 = 0x40;
 
 /// Where the contents of the sections begin: after the header of the file.
 pub const CONTENTS_OFFSET: u32 = 52;
+
+// A section that has relocations, with its index.
+#[derive(Clone, Copy)]
+struct RelocatedSection<'a> {
+    index: u32,
+    section: &'a PartSection,
+}
 
 /// The sections that are written so far: their contents, each padded, their names, and their headers with that of section 0.
 #[derive(Drop)]
@@ -33,7 +38,7 @@ pub struct SectionTable {
 impl SectionTable {
     /// Section 0 alone.
     pub fn new(alloc: Global) -> Result<SectionTable, AllocError>
-        ensures { IfOk result (λ table. Holds [] table) }
+        ensures { IfOk result (λ table. HoldsSections [] table) }
     {
         let mut names = Vec::new(alloc);
         names.push(0)?;
@@ -55,8 +60,8 @@ impl SectionTable {
     ) -> Result<(), AllocError>
         requires room { HasOffsets 0 self.old }
         requires address { header.address ≡ 0 }
-        ensures held { (before : List FileSection) → Holds before self.old →
-            OnOk result (Holds (before ++ file_section name.now header content.now ∷ []) self.new) }
+        ensures held { (before : List FileSection) → HoldsSections before self.old →
+            OnOk result (HoldsSections (before ++ file_section name.now header content.now ∷ []) self.new) }
         // By the types of its numbers.
         ensures sized { IsHeaderSized header }
     {
@@ -73,8 +78,8 @@ impl SectionTable {
     /// Adds .shstrtab, the names of all sections with its own.
     pub fn add_names(&mut self) -> Result<(), AllocError>
         requires { HasOffsets 10 self.old }
-        ensures { (before : List FileSection) → Holds before self.old →
-            OnOk result (Holds (before ++ last_section before ∷ []) self.new) }
+        ensures { (before : List FileSection) → HoldsSections before self.old →
+            OnOk result (HoldsSections (before ++ last_section before ∷ []) self.new) }
     {
         let name = push_name(&mut self.names, b".shstrtab")?;
         let offset = CONTENTS_OFFSET + self.contents.len() as u32;
@@ -91,9 +96,9 @@ impl SectionTable {
 
     /// Adds given sections, after section 0.
     pub fn add_given(&mut self, sections: &[PartSection]) -> Result<(), AllocError>
-        requires held { Holds [] self.old }
-        requires room { HasRoom (given_sections sections.now) }
-        ensures held { OnOk result (Holds (given_sections sections.now) self.new) }
+        requires held { HoldsSections [] self.old }
+        requires room { ContentsFit (given_sections sections.now) }
+        ensures held { OnOk result (HoldsSections (given_sections sections.now) self.new) }
         ensures sized { OnOk result (All IsSectionSized sections.now) }
     {
         for section in sections {
@@ -109,21 +114,22 @@ impl SectionTable {
         Ok(())
     }
 
-    // Adds the relocations of a section with an index, over the symbols of the section with the other.
+    // Adds the relocations of a section, over the symbols of the section with an index.
     fn add_rela(
         &mut self,
         alloc: Global,
-        section: &PartSection,
-        index: u32,
+        relocated: RelocatedSection<'_>,
         symtab: u32,
     ) -> Result<(), AllocError>
-        requires symbols { All (λ r. r.symbol < 2 ^ 24) section.now.relocs }
+        requires symbols { All (λ r. r.symbol < 2 ^ 24) relocated.section.now.relocs }
         requires room { HasOffsets 0 self.old }
-        requires size { length (flat_map reloc_bytes section.now.relocs) < 2 ^ 32 }
-        ensures held { (before : List FileSection) → Holds before self.old →
-            OnOk result (Holds (before ++ rela_section symtab (index, section.now) ∷ []) self.new) }
-        ensures sized { OnOk result (All IsRelocSized section.now.relocs) }
+        requires size { length (flat_map reloc_bytes relocated.section.now.relocs) < 2 ^ 32 }
+        ensures held { (before : List FileSection) → HoldsSections before self.old →
+            OnOk result (HoldsSections
+            (before ++ rela_section symtab (relocated.entry.index, relocated.entry.section.now) ∷ []) self.new) }
+        ensures sized { OnOk result (All IsRelocSized relocated.entry.section.now.relocs) }
     {
+        let RelocatedSection { index, section } = relocated;
         let table = reloc_table(alloc, &section.relocs)?;
         let mut name = Vec::from_slice(alloc, b".rela")?;
         name.extend_from_slice(&section.name)?;
@@ -147,19 +153,23 @@ impl SectionTable {
         sections: &[PartSection],
         symtab: u32,
     ) -> Result<(), AllocError>
-        requires held { Holds (given_sections sections.now) self.old }
+        requires held { HoldsSections (given_sections sections.now) self.old }
         requires count { length sections.now < 2 ^ 16 }
         requires symbols { All (λ s. All (λ r. r.symbol < 2 ^ 24) s.relocs) sections.now }
-        requires room { HasRoom
+        requires room { ContentsFit
             (given_sections sections.now ++ map (rela_section symtab) (relocated sections.now)) }
-        ensures held { OnOk result (Holds
+        ensures held { OnOk result (HoldsSections
             (given_sections sections.now ++ map (rela_section symtab) (relocated sections.now)) self.new) }
         ensures sized { OnOk result (All (λ s. All IsRelocSized s.relocs) sections.now) }
     {
         for i in 0..sections.len() {
             let section = &sections[i];
             if !section.relocs.is_empty() {
-                self.add_rela(alloc, section, i as u32 + 1, symtab)?;
+                let relocated = RelocatedSection {
+                    index: i as u32 + 1,
+                    section,
+                };
+                self.add_rela(alloc, relocated, symtab)?;
             }
         }
         Ok(())

@@ -3,16 +3,15 @@
 ghost use Rattle.std.specs.Prelude.{◌≡◌, ◌^◌, ◌<◌, ◌≤◌, ◌+◌, ◌++◌, ◌∷◌, [], length, All, IfOk, OnOk};
 ghost use Rattle.std.specs.List.{flat_map};
 ghost use Rattle.elf32_write.specs.NameTable.{name_table};
-ghost use Rattle.elf32_write.specs.Entries.{HasInfo, after_locals, symbol_bytes, symbol_entries, symbol_names};
+ghost use Rattle.elf32_write.specs.Entries.{HasInfo, after_locals, strtab_names, symbol_bytes, written_entries};
 ghost use Rattle.elf32_write.specs.Ranges.{IsEntrySized, IsSymbolSized};
 
 use crate::fields::{push_half, push_words};
 use crate::name_table::push_name;
 use crate::object_parts::PartSymbol;
+use elf32_read::symbol::LOCAL;
 use elf32_read::symbol_entry::SymbolEntry;
 use std::alloc::{AllocError, Global};
-
-const LOCAL: u8 = 0;
 
 // Symbol 0.
 const NULL: SymbolEntry = SymbolEntry {
@@ -26,7 +25,7 @@ const NULL: SymbolEntry = SymbolEntry {
 
 /// The entries of a symbol table, and the table of their names.
 #[derive(Drop)]
-pub struct SymbolTable {
+pub struct WrittenSymbols {
     pub entries: Vec<u8>,
     pub names: Vec<u8>,
 }
@@ -45,11 +44,11 @@ fn push_symbol(out: &mut Vec<u8>, symbol: SymbolEntry) -> Result<(), AllocError>
 }
 
 /// The table of symbol 0 and of these symbols.
-pub fn symbol_table(alloc: Global, symbols: &[PartSymbol]) -> Result<SymbolTable, AllocError>
+pub fn symbol_table(alloc: Global, symbols: &[PartSymbol]) -> Result<WrittenSymbols, AllocError>
     requires info { All HasInfo symbols.now }
-    requires names { length (name_table (symbol_names symbols.now)) < 2 ^ 32 }
-    ensures entries { IfOk result (λ table. table.entries.items ≡ flat_map symbol_bytes (symbol_entries symbols.now)) }
-    ensures names { IfOk result (λ table. table.names.items ≡ name_table (symbol_names symbols.now)) }
+    requires names { length (name_table (strtab_names symbols.now)) < 2 ^ 32 }
+    ensures entries { IfOk result (λ table. table.entries.items ≡ flat_map symbol_bytes (written_entries symbols.now)) }
+    ensures names { IfOk result (λ table. table.names.items ≡ name_table (strtab_names symbols.now)) }
     ensures sized { OnOk result (All IsSymbolSized symbols.now) }
 {
     let mut names = Vec::new(alloc);
@@ -70,7 +69,7 @@ pub fn symbol_table(alloc: Global, symbols: &[PartSymbol]) -> Result<SymbolTable
             },
         )?;
     }
-    Ok(SymbolTable { entries, names })
+    Ok(WrittenSymbols { entries, names })
 }
 
 /// The index after the last local symbol.

@@ -4,21 +4,17 @@ ghost use Rattle.std.specs.Prelude.{◌≡◌, ◌<◌, ◌++◌, IfOk, OnOk};
 ghost use Rattle.elf32_write.specs.FileSections.{file_sections};
 ghost use Rattle.elf32_write.specs.ObjectFile.{object_bytes, object_header};
 ghost use Rattle.elf32_write.specs.Ranges.{IsPartsSized};
-ghost use Rattle.elf32_write.specs.SectionTable.{Holds, PartsFit, with_names};
+ghost use Rattle.elf32_write.specs.SectionTable.{HoldsSections, PartsFit, with_names};
 ghost use Rattle.elf32_write.specs.Writable.{IsObjectOf, IsWritable};
 
 use crate::fields::{push_halves, push_words};
-use crate::headers::{IDENTIFICATION, RISC_V};
+use crate::headers::IDENTIFICATION;
 use crate::object_parts::{ObjectParts, PartSection, PartSymbol};
-use crate::section_header::{NULL, STRTAB, push_headers};
+use crate::section_header::{NULL, push_headers};
 use crate::section_table::{CONTENTS_OFFSET, SectionTable, relocated_count};
 use crate::symbol_table::{after_locals, symbol_table};
-use elf32_read::header::SectionHeader;
+use elf32_read::header::{RELOCATABLE, RISC_V, STRTAB, SYMTAB, SectionHeader};
 use std::alloc::{AllocError, Global};
-
-const RELOCATABLE: u16 = 1;
-
-const SYMTAB: u32 = 2;
 
 // Appends the file's header: where the section headers begin, e_flags, and how many sections there are.
 #[tactic(auto, unfolding(crate::specs::ObjectFile::object_header))]
@@ -44,7 +40,7 @@ fn sections_before_names(
     symbols: &[PartSymbol],
 ) -> Result<SectionTable, AllocError>
     requires { PartsFit sections.now symbols.now }
-    ensures held { IfOk result (λ table. Holds (with_names sections.now symbols.now) table) }
+    ensures held { IfOk result (λ table. HoldsSections (with_names sections.now symbols.now) table) }
     ensures sized { OnOk result (IsPartsSized sections.now symbols.now) }
 {
     let symtab = 1 + sections.len() as u32 + relocated_count(sections) as u32;
@@ -79,7 +75,7 @@ fn sections_of(
     symbols: &[PartSymbol],
 ) -> Result<SectionTable, AllocError>
     requires { PartsFit sections.now symbols.now }
-    ensures held { IfOk result (λ table. Holds (file_sections sections.now symbols.now) table) }
+    ensures held { IfOk result (λ table. HoldsSections (file_sections sections.now symbols.now) table) }
     ensures sized { OnOk result (IsPartsSized sections.now symbols.now) }
 {
     let mut table = sections_before_names(alloc, sections, symbols)?;

@@ -3,8 +3,8 @@ use Rattle.std.specs.Prelude.{filter}
 use Rattle.std.specs.List.{range_with_len}
 use Rattle.std.proofs.lemmas.Bool.{lt-ltb, ne_eqb}
 use Rattle.elf32_read.specs.Header.{header_of, section_count}
-use Rattle.elf32_read.specs.Symbols.{has_symbols}
 use Rattle.elf32_read.proofs.Filtered.{count_more, count_same, kept_length}
+use Rattle.elf32_read.proofs.Tests.{has_symbols}
 use Rattle.elf32_read.proofs.kinds.has_second_symbol_table.Goals as goal
 use Rattle.elf32_read.proofs.kinds.has_second_symbol_table.Goals.{then-header-eq-SYMTAB+else-found, else-header-eq-SYMTAB}
 

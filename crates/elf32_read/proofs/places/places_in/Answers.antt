@@ -3,7 +3,8 @@ use Rattle.std.specs.Prelude.{filter, not, ◌==◌}
 use Rattle.std.specs.List.{flat_map, range_with_len}
 use Rattle.std.proofs.lemmas.Bool.{and_left}
 use Rattle.elf32_read.specs.Header.{content_of, header_of, section_count}
-use Rattle.elf32_read.specs.Places.{entries_of, holds_places, places_sections}
+use Rattle.elf32_read.specs.Places.{entries_of, places_sections}
+use Rattle.elf32_read.proofs.Tests.{holds_places}
 use Rattle.elf32_read.proofs.places.places_in.Goals as goal
 
 -- no section

@@ -4,9 +4,10 @@ use Rattle.std.specs.List.{list_any, range_with_len}
 use Rattle.std.specs.Option.{option_to_list}
 use Rattle.elf32_read.specs.Header.{section_count, header_of}
 use Rattle.elf32_read.specs.Object.{passes_end}
-use Rattle.elf32_read.specs.Places.{holds_places, places_sections}
+use Rattle.elf32_read.specs.Places.{places_sections}
 use Rattle.elf32_read.proofs.Filtered.{count_more, kept_more, kept_same, kept_length}
 use Rattle.elf32_read.proofs.Named.{length-option_to_list, option_to_list-none}
+use Rattle.elf32_read.proofs.Tests.{holds_places}
 use Rattle.elf32_read.proofs.places.places_section.Goals as goal
 use Rattle.elf32_read.proofs.places.places_section.Goals.{then-holds_places+else-is_some, else-holds_places}
 

@@ -4,7 +4,7 @@ use Rattle.std.specs.Option.{option_to_list}
 use Rattle.std.specs.List.{list_any, range_with_len}
 use Rattle.elf32_read.specs.Header.{header_of}
 use Rattle.elf32_read.specs.Object.{passes_end}
-use Rattle.elf32_read.specs.Places.{holds_places}
+use Rattle.elf32_read.proofs.Tests.{holds_places}
 use Rattle.elf32_read.proofs.places.places_section.Given as goal
 
 abbrev pub invariant-loop-i : goal.invariant-loop-i

@@ -6,8 +6,9 @@ use Rattle.std.proofs.lemmas.List.{append-nil}
 use Rattle.elf32_read.specs.Header.{IsOnly, header_of, section_count}
 use Rattle.elf32_read.specs.Kept.{is_kept}
 use Rattle.elf32_read.specs.Parts.{relocs_held, relocs_of}
-use Rattle.elf32_read.specs.Relocs.{changes, relas_for}
+use Rattle.elf32_read.specs.Relocs.{relas_for}
 use Rattle.elf32_read.proofs.Alone.{Found, found_more, found_only, found_same}
+use Rattle.elf32_read.proofs.Tests.{changes}
 use Rattle.elf32_read.proofs.relas.rela_for.Goals as goal
 use Rattle.elf32_read.proofs.relas.rela_for.Goals.{then-changes, else-changes}
 

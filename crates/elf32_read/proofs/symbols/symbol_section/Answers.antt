@@ -1,8 +1,9 @@
 use Rattle.std.proofs.Common.{◌≡◌, ◌+◌, length, sym, ap, subst, ◌∙◌, arith, eq-eqb}
 use Rattle.std.proofs.lemmas.Bool.{ltb-false, ne_eqb}
 use Rattle.elf32_read.specs.Header.{header_of, section_count}
-use Rattle.elf32_read.specs.Symbols.{has_symbols, symbol_tables}
+use Rattle.elf32_read.specs.Symbols.{symbol_tables}
 use Rattle.elf32_read.proofs.Alone.{Found, found_more, found_only, found_same}
+use Rattle.elf32_read.proofs.Tests.{has_symbols}
 use Rattle.elf32_read.proofs.symbols.symbol_section.Goals as goal
 use Rattle.elf32_read.proofs.symbols.symbol_section.Goals.{then-header-eq-SYMTAB, else-header-eq-SYMTAB}
 

@@ -1,5 +1,5 @@
 use Rattle.elf32_read.specs.Header.{header_of}
-use Rattle.elf32_read.specs.Symbols.{has_symbols}
+use Rattle.elf32_read.proofs.Tests.{has_symbols}
 use Rattle.elf32_read.proofs.Alone.{Found}
 use Rattle.elf32_read.proofs.symbols.symbol_section.Given as goal
 

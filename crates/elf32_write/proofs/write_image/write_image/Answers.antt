@@ -1,7 +1,7 @@
 -- The file is the definition's bytes, which read back.
 use Rattle.std.proofs.Common.{◌≡◌, ◌++◌, List, ℕ, sym, ap, ◌∙◌, subst}
 use Rattle.std.specs.List.{flat_map}
-use Rattle.elf32_write.specs.Image.{file_header, program_headers, padded, place_bytes, names, section_headers, image_bytes}
+use Rattle.elf32_write.specs.Image.{file_header, program_headers, padded, place_bytes, shstrtab_content, section_headers, image_bytes}
 use Rattle.elf32_write.specs.Loadable.{ReadsBack}
 use Rattle.elf32_write.proofs.ImageBack.{image_back}
 use Rattle.elf32_write.proofs.write_image.write_image.Goals as goal
@@ -18,7 +18,7 @@ returns-clause-reads_back c = λ memory loadable.
     let text = c.in_ok-push_padded.ensures ∙ (λ i. programs i ++ padded (text_is i)) in
     let data_part = c.in_ok-push_padded-2.ensures ∙ (λ i. text i ++ padded (data_is i)) in
     let places = c.in_ok-push_places.ensures ∙ (λ i. data_part i ++ flat_map place_bytes (places_are i)) in
-    let named = c.in_ok-push_padded-3.ensures ∙ (λ i. places i ++ padded names) in
+    let named = c.in_ok-push_padded-3.ensures ∙ (λ i. places i ++ padded shstrtab_content) in
     let written : c.push_section_headers.new.out.items ≡ image_bytes parts = c.in_ok-push_section_headers.ensures ∙ (λ i. named i ++ section_headers parts) in
     let IsRead : List ℕ → Type 0 = λ file. ReadsBack parts memory file in
     subst IsRead (sym written) (image_back parts memory c.requires loadable)

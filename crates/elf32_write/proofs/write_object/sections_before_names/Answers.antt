@@ -2,13 +2,13 @@
 use Rattle.std.proofs.Common.{◌≡◌, ℕ, ◌+◌, ◌++◌, [], ◌∷◌, List, length, map, codes, sym, ap, ◌∙◌, arith, rules}
 use Rattle.std.specs.List.{flat_map}
 use Rattle.elf32_read.specs.Parts.{SectionParts, SymbolParts}
-use Rattle.elf32_write.specs.Entries.{after_locals, symbol_bytes, symbol_entries, symbol_names}
-use Rattle.elf32_write.specs.FileSections.{FileSection, given_sections, names_section, rela_section, relocated, symtab_index, symtab_section}
+use Rattle.elf32_write.specs.Entries.{after_locals, strtab_names, symbol_bytes, written_entries}
+use Rattle.elf32_write.specs.FileSections.{FileSection, given_sections, rela_section, relocated, strtab_section, symtab_index, symtab_section}
 use Rattle.elf32_write.specs.NameTable.{name_table}
-use Rattle.elf32_write.specs.SectionTable.{Holds, with_names, with_relas, with_symbols}
+use Rattle.elf32_write.specs.SectionTable.{HoldsSections, with_names, with_relas, with_symbols}
 use Rattle.elf32_write.specs.declared.section_table.SectionTable.{SectionTable}
 use Rattle.elf32_write.proofs.Room.{room_offsets}
-use Rattle.elf32_write.proofs.Stages.{length-file_sections, length-symbols, room_given_stage, room_relas_stage, room_symbol_names, room_symbols, room_symbols_stage}
+use Rattle.elf32_write.proofs.Stages.{length-file_sections, length-symbols, room_given_stage, room_relas_stage, room_strtab_names, room_symbols, room_symbols_stage}
 use Rattle.elf32_write.proofs.write_object.sections_before_names.Goals as goal
 
 pub overflow_cast-symtab : goal.overflow_cast-symtab
@@ -34,7 +34,7 @@ unfolding with_relas
 add_relas-requires-clause-room c = rw c.relocated_count.ensures.count (room_relas_stage c.args.sections.now c.args.symbols.now c.requires.room)
 
 pub symbol_table-requires-clause-names : goal.symbol_table-requires-clause-names
-symbol_table-requires-clause-names c = room_symbol_names c.args.sections.now c.args.symbols.now c.requires.room
+symbol_table-requires-clause-names c = room_strtab_names c.args.sections.now c.args.symbols.now c.requires.room
 
 pub overflow_cast-symtab_header : goal.overflow_cast-symtab_header
 overflow_cast-symtab_header c =
@@ -50,12 +50,12 @@ overflow_cast-symtab_header-2 c =
 
 -- ---- the stages
 
-relas_held : (xs : List SectionParts) (count : ℕ) (table : SectionTable) → count ≡ length (relocated xs) → Holds (given_sections xs ++ map (rela_section (1 + length xs + count)) (relocated xs)) table → Holds (with_relas xs) table
+relas_held : (xs : List SectionParts) (count : ℕ) (table : SectionTable) → count ≡ length (relocated xs) → HoldsSections (given_sections xs ++ map (rela_section (1 + length xs + count)) (relocated xs)) table → HoldsSections (with_relas xs) table
 unfolding with_relas
 relas_held xs count table e held = rw (sym e) held
 
 -- the symbols, with a header whose numbers are theirs
-symbols_held : (xs : List SectionParts) (ys : List SymbolParts) (count size info : ℕ) (content : List ℕ) (table : SectionTable) → count ≡ length (relocated xs) → size ≡ length content → info ≡ after_locals ys → content ≡ flat_map symbol_bytes (symbol_entries ys) → Holds (with_relas xs ++ record { name = codes ".symtab"; kind = 2; flags = 0; size = size; link = 1 + length xs + count + 1; info = info; align = 4; entry_size = 16; content = content } ∷ []) table → Holds (with_symbols xs ys) table
+symbols_held : (xs : List SectionParts) (ys : List SymbolParts) (count size info : ℕ) (content : List ℕ) (table : SectionTable) → count ≡ length (relocated xs) → size ≡ length content → info ≡ after_locals ys → content ≡ flat_map symbol_bytes (written_entries ys) → HoldsSections (with_relas xs ++ record { name = codes ".symtab"; kind = 2; flags = 0; size = size; link = 1 + length xs + count + 1; info = info; align = 4; entry_size = 16; content = content } ∷ []) table → HoldsSections (with_symbols xs ys) table
 unfolding with_symbols
 symbols_held xs ys count size info content table counted sized last whole held =
     let section : (record { name = codes ".symtab"; kind = 2; flags = 0; size = size; link = 1 + length xs + count + 1; info = info; align = 4; entry_size = 16; content = content }) ≡ symtab_section (symtab_index xs) ys =
@@ -63,9 +63,9 @@ symbols_held xs ys count size info content table counted sized last whole held =
     rw (sym section) held
 
 -- a table of names, with a header whose size is its own
-names_held : (before : List FileSection) (name : List ℕ) (names : List (List ℕ)) (size : ℕ) (content : List ℕ) (table : SectionTable) → size ≡ length content → content ≡ name_table names → Holds (before ++ record { name = name; kind = 3; flags = 0; size = size; link = 0; info = 0; align = 1; entry_size = 0; content = content } ∷ []) table → Holds (before ++ names_section name names ∷ []) table
+names_held : (before : List FileSection) (name : List ℕ) (names : List (List ℕ)) (size : ℕ) (content : List ℕ) (table : SectionTable) → size ≡ length content → content ≡ name_table names → HoldsSections (before ++ record { name = name; kind = 3; flags = 0; size = size; link = 0; info = 0; align = 1; entry_size = 0; content = content } ∷ []) table → HoldsSections (before ++ strtab_section name names ∷ []) table
 names_held before name names size content table sized whole held =
-    let section : (record { name = name; kind = 3; flags = 0; size = size; link = 0; info = 0; align = 1; entry_size = 0; content = content }) ≡ names_section name names =
+    let section : (record { name = name; kind = 3; flags = 0; size = size; link = 0; info = 0; align = 1; entry_size = 0; content = content }) ≡ strtab_section name names =
     λ i. record { name = name; kind = 3; flags = 0; size = (sized ∙ ap length whole) i; link = 0; info = 0; align = 1; entry_size = 0; content = whole i } in
     rw (sym section) held
 
@@ -77,7 +77,7 @@ add-requires-clause-room c =
 pub overflow_cast-strtab_header : goal.overflow_cast-strtab_header
 overflow_cast-strtab_header c =
     let long : c.len-2.result ≡ length c.in_ok-written.written.names.items = search rules in
-    omega (arith, long, ap length c.in_ok-written.ensures.names, room_symbol_names c.args.sections.now c.args.symbols.now c.requires.room)
+    omega (arith, long, ap length c.in_ok-written.ensures.names, room_strtab_names c.args.sections.now c.args.symbols.now c.requires.room)
 
 pub add-requires-2-clause-room : goal.add-requires-2-clause-room
 add-requires-2-clause-room c =
@@ -100,4 +100,4 @@ returns-clause-held c =
     let symbols = symbols_held xs ys c.relocated_count.result c.len.result c.after_locals.result c.deref.result.now _ c.relocated_count.ensures.count long c.after_locals.ensures.index content (c.in_ok-add.ensures.held (with_relas xs) relas) in
     let content-2 = c.deref-2.ensures.value ∙ c.in_ok-written.ensures.names in
     let long-2 : c.len-2.result ≡ length c.deref-2.result.now = search rules in
-    names_held (with_symbols xs ys) (codes ".strtab") (symbol_names ys) c.len-2.result c.deref-2.result.now _ long-2 content-2 (c.in_ok-add-2.ensures.held (with_symbols xs ys) symbols)
+    names_held (with_symbols xs ys) (codes ".strtab") (strtab_names ys) c.len-2.result c.deref-2.result.now _ long-2 content-2 (c.in_ok-add-2.ensures.held (with_symbols xs ys) symbols)

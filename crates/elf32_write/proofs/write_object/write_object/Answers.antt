@@ -3,9 +3,9 @@ use Rattle.std.specs.List.{flat_map}
 use Rattle.elf32_read.specs.Parts.{ObjectParts, SectionParts, SymbolParts}
 use Rattle.elf32_write.specs.Image.{section_bytes}
 use Rattle.elf32_write.specs.FileSections.{file_sections}
-use Rattle.elf32_write.specs.ObjectFile.{contents, headers_for, headers_offset, object_bytes, object_header, section_header, section_total}
+use Rattle.elf32_write.specs.ObjectFile.{contents, headers_for, headers_offset, object_bytes, object_header, section_total, written_header}
 use Rattle.elf32_write.specs.Ranges.{IsPartsSized}
-use Rattle.elf32_write.specs.SectionTable.{Holds}
+use Rattle.elf32_write.specs.SectionTable.{HoldsSections}
 use Rattle.elf32_write.specs.Writable.{IsObjectOf}
 use Rattle.elf32_write.proofs.ObjectBack.{object_back}
 use Rattle.elf32_write.specs.declared.section_table.SectionTable.{SectionTable}
@@ -14,7 +14,7 @@ use Rattle.elf32_write.proofs.WritableRoom.{writable_fits}
 use Rattle.elf32_write.proofs.write_object.write_object.Goals as goal
 
 -- the table holds the sections of the parts
-table_held : (parts : ObjectParts) (sections : List SectionParts) (symbols : List SymbolParts) (table : SectionTable) → sections ≡ parts.sections → symbols ≡ parts.symbols → Holds (file_sections sections symbols) table → Holds (file_sections parts.sections parts.symbols) table
+table_held : (parts : ObjectParts) (sections : List SectionParts) (symbols : List SymbolParts) (table : SectionTable) → sections ≡ parts.sections → symbols ≡ parts.symbols → HoldsSections (file_sections sections symbols) table → HoldsSections (file_sections parts.sections parts.symbols) table
 table_held parts sections symbols table e f held = rw (sym e, sym f) held
 
 parts_sized : (parts : ObjectParts) (sections : List SectionParts) (symbols : List SymbolParts) → sections ≡ parts.sections → symbols ≡ parts.symbols → IsPartsSized sections symbols → IsPartsSized parts.sections parts.symbols
@@ -33,7 +33,7 @@ overflow_cast-len c =
     let symbols = c.deref-2.ensures.value ∙ ap (λ q. q.symbols) c.parts.view_is in
     let held = table_held p _ _ c.in_ok-table.table sections symbols c.in_ok-table.ensures.held in
     let long : c.len-3.result ≡ length c.in_ok-table.table.headers.items = search rules in
-    omega (arith, long, ap length held.headers_held, length-each_after section_header [] (file_sections p.sections p.symbols), c.requires.count)
+    omega (arith, long, ap length held.headers_held, length-each_after written_header [] (file_sections p.sections p.symbols), c.requires.count)
 
 pub returns-clause-bytes : goal.returns-clause-bytes
 unfolding object_bytes
@@ -46,7 +46,7 @@ returns-clause-bytes c =
     let long : c.len.result ≡ length c.in_ok-table.table.contents.items = search rules in
     let offset : 52 + c.len.result ≡ headers_offset p = omega (arith, long, ap length held.contents_held) in
     let many : c.len-3.result ≡ length c.in_ok-table.table.headers.items = search rules in
-    let count : c.len-3.result ≡ section_total p = omega (arith, many, ap length held.headers_held, length-each_after section_header [] all) in
+    let count : c.len-3.result ≡ section_total p = omega (arith, many, ap length held.headers_held, length-each_after written_header [] all) in
     let flags = ap (λ q. q.flags) c.parts.view_is in
     let contents_are = c.deref-3.ensures.value ∙ held.contents_held in
     let headers_are = c.deref-4.ensures.value ∙ held.headers_held in

@@ -2,17 +2,17 @@
 use Rattle.std.proofs.Common.{◌≡◌, ℕ, ◌<◌, List, [], ◌∷◌, false, codes, refl, sym, ◌∙◌, lit<, lit≤, arith, subst, pos, negsuc}
 use Rattle.std.specs.Int.Count.{ones}
 use Rattle.std.proofs.lemmas.List.Elements.{All-from_recursion}
-use Rattle.elf32_read.specs.Header.{Header}
 use Rattle.elf32_read.specs.Parts.{ObjectParts, SectionParts, SymbolParts}
+use Rattle.elf32_read.specs.declared.header.SectionHeader.{SectionHeader}
 use Rattle.elf32_read.specs.declared.reloc.Reloc.{Reloc}
 use Rattle.elf32_write.specs.FileSections.{added_sections, file_sections}
 use Rattle.elf32_write.specs.Writable.{IsWritable, IsWritableSection, IsWritableSymbol}
 use Rattle.object_tests.proofs.written.mixed.Goals as goal
 
-given : List ℕ → List ℕ → List Reloc → Header → SectionParts
+given : List ℕ → List ℕ → List Reloc → SectionHeader → SectionParts
 given name bytes relocs h = record { name = name; kind = h.kind; flags = h.flags; align = h.align; size = h.size; bytes = bytes; relocs = relocs; compressed = false }
 
-header : ℕ → ℕ → ℕ → ℕ → Header
+header : ℕ → ℕ → ℕ → ℕ → SectionHeader
 header kind flags align size = record { name = 0; kind = kind; flags = flags; address = 0; offset = 0; size = size; link = 0; info = 0; align = align; entry_size = 0 }
 
 code : List ℕ

@@ -2,5 +2,5 @@ use Rattle.std.proofs.Common.{arith}
 use Rattle.elf32_read.proofs.FaultlessImage.{faultless_whole_image}
 use Rattle.elf32_read.proofs.image.Image.entry.Goals as goal
 
-pub entry_of-requires : goal.entry_of-requires
-entry_of-requires c = let whole = faultless_whole_image _ _ c.self.invariant.faultless in omega (arith, whole.long)
+pub entry_address-requires : goal.entry_address-requires
+entry_address-requires c = let whole = faultless_whole_image _ _ c.self.invariant.faultless in omega (arith, whole.long)

@@ -1,5 +1,5 @@
 use Rattle.std.proofs.Common.{length, sym, ap, ◌∙◌, arith}
-use Rattle.elf32_read.specs.Places.{places_of}
+use Rattle.elf32_read.specs.Places.{place_list}
 use Rattle.elf32_read.proofs.Entries.{length-entries_of}
 use Rattle.elf32_read.proofs.FaultlessImage.{faultless_whole_image}
 use Rattle.elf32_read.proofs.image.Image.place_count.Goals as goal
@@ -9,4 +9,4 @@ overflow_cast-result c = let whole = faultless_whole_image _ _ c.self.invariant.
 
 pub returns : goal.returns
 returns c =
-    sym (length-entries_of c.self.inside.entries.now) ∙ ap length c.self.invariant.places_read ∙ ap (λ value. length (places_of value.0)) c.self.view_is
+    sym (length-entries_of c.self.inside.entries.now) ∙ ap length c.self.invariant.places_read ∙ ap (λ value. length (place_list value.0)) c.self.view_is

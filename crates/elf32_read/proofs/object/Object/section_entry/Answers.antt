@@ -1,8 +1,8 @@
 use Rattle.std.proofs.Common.{◌≡◌, ◌∙◌, ap, sym, drop, not}
 use Rattle.std.specs.Prelude.{◌==◌}
-use Rattle.std.specs.List.{take_while}
+use Rattle.std.specs.List.{list_any, take_while}
 use Rattle.elf32_read.specs.Header.{header_of}
-use Rattle.elf32_read.specs.Names.{has_zero, section_names}
+use Rattle.elf32_read.specs.Names.{section_names}
 use Rattle.elf32_read.specs.Object.{object_fault}
 use Rattle.elf32_read.proofs.Faultless.{section_named}
 use Rattle.elf32_read.proofs.Held.{is_content}
@@ -18,7 +18,7 @@ returns c =
     let names : c.names_from.result.now ≡ drop h.name (section_names bytes) =
     c.names_from.ensures ∙ (λ j. drop (header j).name ((c.names.ensures ∙ ap section_names c.self.view_is) j)) in
     record {
-      ends = ap has_zero names ∙ section_named bytes (ap object_fault (sym c.self.view_is) ∙ c.self.invariant.faultless) i c.requires;
+      ends = ap (list_any (λ byte. byte == 0)) names ∙ section_named bytes (ap object_fault (sym c.self.view_is) ∙ c.self.invariant.faultless) i c.requires;
       name = ap (take_while (λ byte. not (byte == 0))) names;
       kind = ap (λ x. x.kind) header;
       flags = ap (λ x. x.flags) header;

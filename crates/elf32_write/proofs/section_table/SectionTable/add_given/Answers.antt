@@ -3,7 +3,7 @@ use Rattle.std.proofs.lemmas.List.{map_push}
 use Rattle.elf32_read.specs.Parts.{SectionParts}
 use Rattle.elf32_write.specs.FileSections.{given_section}
 use Rattle.elf32_write.specs.Ranges.{IsHeaderSized, IsSectionSized}
-use Rattle.elf32_write.specs.SectionTable.{Holds, file_section}
+use Rattle.elf32_write.specs.SectionTable.{HoldsSections, file_section}
 use Rattle.elf32_write.proofs.SymbolsMore.{all_more, taken}
 use Rattle.elf32_write.proofs.Room.{room_given, room_offsets}
 use Rattle.elf32_write.proofs.section_table.SectionTable.add_given.Goals as goal
@@ -36,4 +36,4 @@ loop-section-preserved c =
     λ i. let v = c.section.view_is i in record { name = name i; kind = v.kind; flags = v.flags; size = v.size; link = 0; info = 0; align = v.align; entry_size = 0; content = bytes i } in
     let all = ap (λ t. map given_section (take index xs) ++ t ∷ []) section ∙ sym (ap (map given_section) (taken xs index s c.loop-section-test.true c.section-item.is) ∙ map_push given_section (take index xs) s) in
     let sized = section_sized inside.kind inside.flags inside.align inside.size s (ap (λ v. v.kind) c.section.view_is) (ap (λ v. v.flags) c.section.view_is) (ap (λ v. v.align) c.section.view_is) (ap (λ v. v.size) c.section.view_is) c.in_ok-add.ensures.sized in
-    (subst (λ l. Holds l c.add.new.self) all held, all_more IsSectionSized xs index s c.loop-section-test.true c.section-item.is c.loop-section.invariant.1 sized)
+    (subst (λ l. HoldsSections l c.add.new.self) all held, all_more IsSectionSized xs index s c.loop-section-test.true c.section-item.is c.loop-section.invariant.1 sized)

@@ -2,7 +2,7 @@ use Rattle.std.proofs.Common.{◌≡◌, ◌+◌, ◌∷◌, [], ◌++◌, ◌�
 use Rattle.std.proofs.lemmas.Result.{on_ok_weaker}
 use Rattle.elf32_write.specs.Image.{padded}
 use Rattle.elf32_write.specs.NameTable.{name_bytes}
-use Rattle.elf32_write.specs.FileSections.{names_of}
+use Rattle.elf32_write.specs.FileSections.{names_of_sections}
 use Rattle.elf32_write.specs.SectionTable.{last_section}
 use Rattle.elf32_write.proofs.EachAfter.{holds_more, name_table_push}
 use Rattle.elf32_write.proofs.section_table.SectionTable.add_names.Goals as goal
@@ -14,7 +14,7 @@ returns c = λ before held.
     let section = last_section before in
     let offset : 52 + c.len.result ≡ 52 + length old.contents.items = search rules in
     let names : c.push_name.new.table.items ≡ section.content =
-    c.in_ok-name.ensures.table ∙ ap (λ l. l ++ name_bytes own) held.names_held ∙ sym (name_table_push (names_of before) own) in
+    c.in_ok-name.ensures.table ∙ ap (λ l. l ++ name_bytes own) held.names_held ∙ sym (name_table_push (names_of_sections before) own) in
     let long : c.len-2.result ≡ length c.push_name.new.table.items = search rules in
     let size : c.len-2.result ≡ section.size = long ∙ ap length names in
     let headers = c.in_ok-push.ensures.items

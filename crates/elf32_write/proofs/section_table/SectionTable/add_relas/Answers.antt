@@ -5,7 +5,7 @@ use Rattle.std.proofs.lemmas.List.Elements.{All-nil}
 use Rattle.elf32_read.specs.Parts.{SectionParts}
 use Rattle.elf32_write.specs.FileSections.{given_section, rela_section, relocated}
 use Rattle.elf32_write.specs.Ranges.{IsRelocSized}
-use Rattle.elf32_write.specs.SectionTable.{HasRoom}
+use Rattle.elf32_write.specs.SectionTable.{ContentsFit}
 use Rattle.elf32_write.proofs.Relocated.{relocated_more}
 use Rattle.elf32_write.proofs.SymbolsMore.{all_more}
 use Rattle.elf32_write.proofs.Room.{relas_more, room_last, room_offsets, room_relas}
@@ -27,8 +27,8 @@ add_rela-requires-clause-size c =
     let s = c.index-sections-i.result in
     let some : nat_lt 0 (length s.relocs) ≡ true = search rules in
     let more = relas_more symtab before xs index s c.loop-i-test.true c.index-sections-i.is some in
-    let room : HasRoom ((before ++ map (rela_section symtab) (relocated (take index xs))) ++ rela_section symtab (1 + index, s) ∷ []) =
-    subst HasRoom more (room_relas symtab before xs (index + 1) c.requires.room) in
+    let room : ContentsFit ((before ++ map (rela_section symtab) (relocated (take index xs))) ++ rela_section symtab (1 + index, s) ∷ []) =
+    subst ContentsFit more (room_relas symtab before xs (index + 1) c.requires.room) in
     room_last (before ++ map (rela_section symtab) (relocated (take index xs))) (rela_section symtab (1 + index, s)) room
 
 pub loop-i-preserved : goal.loop-i-preserved
