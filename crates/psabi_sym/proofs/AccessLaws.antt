@@ -1,9 +1,10 @@
 -- What look-ups find in the tables of gathered objects.
-use Rattle.std.proofs.Common.{◌≡◌, ℕ, zero, suc, ◌+◌, ◌<◌, ◌≢◌, true, false, List, [], length, slice_get, get_or, map, refl, sym, ap, ◌∙◌, arith, Option, Some, None, subst, IsSome, cond, eqb, ℤ, ◌%◌, ◌/◌, ◌*◌, ◌^◌}
+use Rattle.std.proofs.Common.{◌≡◌, ℕ, zero, suc, ◌+◌, ◌<◌, ◌≢◌, true, false, List, [], length, slice_get, get_or, map, refl, sym, ap, ◌∙◌, arith, Option, Some, None, subst, IsSome, cond, eqb, ℤ, w32, ◌%◌, ◌/◌, ◌*◌, ◌^◌}
 use Rattle.std.proofs.Math.Nat.{add-mul-mod_self_left, mod-add-div}
 use Rattle.std.proofs.lemmas.Bool.{false≢true, ne_eqb}
 use Rattle.std.proofs.lemmas.List.{get_or-map, length-map}
 use Rattle.std.proofs.lemmas.Option.{slice_get-get_or}
+use Rattle.std.specs.Int.{cast_unsigned}
 use Rattle.elf32_read.specs.Parts.{SectionParts, SymbolParts, object_parts}
 use Rattle.psabi_sym.specs.declared.data_class.DataClass.{DataClass}
 use Rattle.psabi_sym.specs.declared.definitions.Definitions.{Definitions}
@@ -11,22 +12,22 @@ use Rattle.psabi_sym.specs.declared.meaning.Meaning.TheVariants.{Symbol, Number,
 use Rattle.psabi_sym.specs.declared.section_row.SectionRole.{SectionRole}
 use Rattle.psabi_sym.specs.declared.section_row.SectionRole.TheVariants.{Code, InClass, Dropped}
 use Rattle.psabi_sym.specs.declared.section_row.SectionRow.{SectionRow}
-use Rattle.psabi_sym.specs.declared.sections.Sections.{Sections}
+use Rattle.psabi_sym.specs.declared.sections.SectionRows.{SectionRows}
 use Rattle.psabi_sym.specs.declared.symbol_row.SymbolRow.{SymbolRow}
 use Rattle.psabi_sym.specs.declared.symbols.Symbols.{Symbols}
 use Rattle.psabi_sym.specs.Data.{address_in, role_address, role_of}
-use Rattle.psabi_sym.specs.Gathered.{IsGathered}
+use Rattle.psabi_sym.specs.Invariants.Gathered.{IsGathered}
 use Rattle.std.specs.Option.{option_map_or}
 use Rattle.psabi_sym.specs.Inputs.{Inputs, ParsedInputs, parsed}
-use Rattle.psabi_sym.specs.Listed.{ListedSection, ListedSymbol, all_sections, all_symbols, section_at, symbol_at}
-use Rattle.psabi_sym.specs.Meanings.{meaning_row}
+use Rattle.psabi_sym.specs.Indexed.{IndexedSection, IndexedSymbol, all_sections, all_symbols, section_at, symbol_at}
+use Rattle.psabi_sym.specs.Invariants.Meanings.{meaning_row}
 use Rattle.psabi_sym.specs.Names.{goes_by_name}
 use Rattle.psabi_sym.specs.Places.{place_in}
-use Rattle.psabi_sym.specs.Resolve.{Definition, home_target, name_definition, number_target, resolved, section_target, symbol_target, word_of}
+use Rattle.psabi_sym.specs.Resolve.{Definition, home_target, name_definition, number_target, resolved, role_target, symbol_target}
 use Rattle.psabi_sym.specs.Resolve.Definition.{InObject, AtNumber}
 use Rattle.psabi_sym.specs.declared.target.Target.{Target}
 use Rattle.psabi_sym.specs.declared.target.Target.TheVariants.{Nowhere, Number as TargetNumber}
-use Rattle.psabi_sym.specs.Rows.{ArePlaced, name_number, section_row, symbol_number, symbol_row}
+use Rattle.psabi_sym.specs.Invariants.Rows.{ArePlaced, name_number, section_row, symbol_number, symbol_row}
 use Rattle.psabi_sym.proofs.NumberLaws.{symbol_number_is}
 use Rattle.psabi_sym.proofs.FoundLaws.{IsFoundSection, IsFoundSymbol, section_found, section_none, symbol_found, symbol_none}
 use Rattle.psabi_sym.proofs.SectionNumbers.{IsOfFile, of_file}
@@ -37,20 +38,20 @@ some_none h = false≢true h
 
 -- the row of the section with a number, and the section's file
 pub record IsNumberedRow (files : List (List ℕ)) (k : ℕ) (row : SectionRow) : Type 0 where
-  pub listed : ListedSection
+  pub listed : IndexedSection
   pub at : slice_get (all_sections (map object_parts files)) k ≡ Some listed
   pub row_is : row ≡ section_row listed
   pub of : IsOfFile files listed
 
 -- what a look-up past the end would give
-no_listed : ListedSection
+no_listed : IndexedSection
 no_listed = record {
   object = 0;
   index = 0;
   section = record { name = []; kind = 0; flags = 0; align = 0; size = 0; bytes = []; relocs = []; compressed = false };
 }
 
-module _ {inputs : Inputs} {sections : Sections} {symbols : Symbols} {definitions : Definitions} (gathered : IsGathered inputs sections symbols definitions) where
+module _ {inputs : Inputs} {sections : SectionRows} {symbols : Symbols} {definitions : Definitions} (gathered : IsGathered inputs sections symbols definitions) where
   -- ---- sections
 
   pub no_section_there : (starts : List ℕ) (o i n : ℕ) (r : Option ℕ) → starts ≡ sections.starts.items → n ≡ i → r ≡ place_in starts o n → r ≡ None → section_at (parsed inputs).objects o i ≡ None
@@ -113,11 +114,11 @@ module _ {inputs : Inputs} {sections : Sections} {symbols : Symbols} {definition
   symbol_found_there starts o n k r is place some = symbol_found (parsed inputs).objects starts o n k (is ∙ gathered.indexed.symbols_begin) (sym place ∙ some)
 
   module _ {o n k : ℕ} (found : IsFoundSymbol (parsed inputs).objects o n k) where
-    abbrev listed : ListedSymbol
+    abbrev listed : IndexedSymbol
     listed = record { object = o; index = n + 1; symbol = found.symbol }
 
     -- it stands among all symbols
-    all_is : (d : ListedSymbol) → (k < length (all_symbols (parsed inputs).objects)) × (get_or (all_symbols (parsed inputs).objects) k d ≡ listed)
+    all_is : (d : IndexedSymbol) → (k < length (all_symbols (parsed inputs).objects)) × (get_or (all_symbols (parsed inputs).objects) k d ≡ listed)
     all_is d =
         let there = symbol_there (parsed inputs).objects o n found.object found.symbol d found.at found.is in
         (omega (arith, found.place, there.0), ap (λ j. get_or (all_symbols (parsed inputs).objects) j d) found.place ∙ there.1)
@@ -155,6 +156,10 @@ resolved_at o zero addend symbol same past is = absurd (omega arith)
 resolved_at {here} o (suc s) addend symbol same past is =
     ap (λ v. resolved (parsed v) o (suc s) addend) (sym same) ∙ ap (λ x. option_map_or (λ y. symbol_target (parsed here) o y addend) x Nowhere) is
 
+-- where a section of an object leads
+abbrev pub section_target : ParsedInputs → ℕ → ℕ → ℕ → ℤ → SectionParts → Target
+section_target inputs o i value addend section = role_target inputs o i value addend section (role_of section)
+
 -- a symbol with a home by its home and value alone
 abbrev pub home_value_target : ParsedInputs → ℕ → ℕ → ℕ → ℤ → Target
 home_value_target inputs o home value addend =
@@ -172,7 +177,7 @@ home_section inputs o home value addend section ne is =
     (λ j. cond (ne_eqb home 0xFFF1 ne j) (number_target value addend) (option_map_or (section_target inputs o home value addend) (is j) Nowhere))
 
 -- what a name stands for, by its meaning
-pub symbol_meaning : (names : List (List ℕ)) (o : Option Definition) (row : SymbolRow) → Symbol row ≡ meaning_row names o → (l : ListedSymbol) × (o ≡ Some (InObject l)) × (row ≡ symbol_row names l)
+pub symbol_meaning : (names : List (List ℕ)) (o : Option Definition) (row : SymbolRow) → Symbol row ≡ meaning_row names o → (l : IndexedSymbol) × (o ≡ Some (InObject l)) × (row ≡ symbol_row names l)
 symbol_meaning names None row is = absurd cc
 symbol_meaning names (Some (InObject l)) row is = (l, refl, cc)
 symbol_meaning names (Some (AtNumber n)) row is = absurd cc
@@ -190,6 +195,6 @@ nothing_meaning names (Some (AtNumber n)) is = absurd cc
 -- a number modulo 2^32 before an addend
 pub number_wrapped : (n : ℕ) (addend : ℤ) → number_target (n % 2 ^ 32) addend ≡ number_target n addend
 number_wrapped n addend =
-    let w = word_of addend in
+    let w = cast_unsigned w32 addend in
     let parts : n + w ≡ n % 4294967296 + w + 4294967296 * (n / 4294967296) = omega (arith, mod-add-div n 4294967296) in
     ap (λ k. TargetNumber k) (sym (ap (λ k. k % 4294967296) parts ∙ add-mul-mod_self_left (n % 4294967296 + w) 4294967296 (n / 4294967296)))

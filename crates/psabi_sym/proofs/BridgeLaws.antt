@@ -1,6 +1,6 @@
 -- From rows to sections and symbols: what tables by rows have is what the definitions say.
 use Rattle.std.proofs.Common.{◌≡◌, ℕ, suc, ◌+◌, ◌<◌, Bool, true, false, cond, eqb, not, ◌&&◌, List, [], ◌∷◌, length, get_or, map, max, refl, sym, ap, ◌∙◌, arith, filter, Option, Some, None, is_none, All}
-use Rattle.std.specs.List.{find}
+use Rattle.std.specs.List.{find, fold}
 use Rattle.std.specs.Option.{option_map, option_map_or}
 use Rattle.std.proofs.lemmas.Bool.{and_parts}
 use Rattle.std.proofs.lemmas.List.Elements.{All-cons, All-filter, All-head, All-nil, All-tail}
@@ -8,12 +8,12 @@ use Rattle.elf32_read.specs.Parts.{ObjectParts, SymbolParts}
 use Rattle.psabi_sym.specs.declared.data_class.DataClass.{DataClass}
 use Rattle.psabi_sym.specs.declared.symbol_row.SymbolRow.{SymbolRow}
 use Rattle.psabi_sym.specs.Blocks.{aligned_up, end_from, placed_from}
-use Rattle.psabi_sym.specs.Data.{blocks_in, common_block, commons_placed, greatest, has_class, is_of_class, listed_block, section_block}
+use Rattle.psabi_sym.specs.Data.{blocks_in, common_block, commons_placed, has_class, is_of_class, section_block}
 use Rattle.psabi_sym.specs.Faults.{is_second, same_symbol}
-use Rattle.psabi_sym.specs.Listed.{ListedSection, ListedSymbol, all_symbols}
+use Rattle.psabi_sym.specs.Indexed.{IndexedSection, IndexedSymbol, all_symbols}
 use Rattle.psabi_sym.specs.Names.{commons_of, first_definition, firsts, goes_by_name, is_common, is_definition, same_name, strong_definition}
-use Rattle.psabi_sym.specs.Numbered.{HaveNumbers}
-use Rattle.psabi_sym.specs.Rows.{first_row, first_rows, name_number, placed_rows, row_address_of, row_is_second, row_block, row_blocks, row_common_block, row_defines, row_is_common, row_room, row_takes_room, section_row, symbol_number, symbol_row}
+use Rattle.psabi_sym.specs.Invariants.Numbered.{HaveNumbers}
+use Rattle.psabi_sym.specs.Invariants.Rows.{first_row, first_rows, name_number, placed_rows, row_address_of, row_is_second, row_block, row_blocks, row_common_block, row_defines, row_is_common, row_room, row_takes_room, section_row, symbol_number, symbol_row}
 use Rattle.psabi_sym.proofs.NumberLaws.{common_goes, definition_goes, number_same, same_is, symbol_number_is}
 
 -- ---- lists
@@ -44,7 +44,7 @@ map-same f g (x ∷ xs) same = λ j. All-head (λ y. f y ≡ g y) x xs same j �
 
 -- ---- sections
 
-pub row_blocks_are : (class : DataClass) (sections : List ListedSection) → row_blocks class (map section_row sections) ≡ blocks_in class sections
+pub row_blocks_are : (class : DataClass) (sections : List IndexedSection) → row_blocks class (map section_row sections) ≡ blocks_in class sections
 row_blocks_are class [] = refl
 row_blocks_are class (s ∷ ss) = by (is_of_class class s) (row_blocks_are class ss)
   where
@@ -57,7 +57,7 @@ row_blocks_are class (s ∷ ss) = by (is_of_class class s) (row_blocks_are class
 -- ---- symbols
 
 -- firsts keep what each symbol has
-All-firsts : (P : ListedSymbol → Type 0) (ls : List ListedSymbol) → All P ls → All P (firsts ls)
+All-firsts : (P : IndexedSymbol → Type 0) (ls : List IndexedSymbol) → All P ls → All P (firsts ls)
 All-firsts P [] all = all
 All-firsts P (l ∷ ls) all =
     All-cons P l _ (All-head P l ls all) (All-filter (λ m. not (same_name m.symbol.name l.symbol.name)) P (firsts ls) (All-firsts P ls (All-tail P l ls all)))
@@ -68,7 +68,7 @@ pub record HasNumber (names : List (List ℕ)) (s : SymbolParts) : Type 0 where
   pub within : name_number names s.name < length names
 
 -- a test of a name by number, of symbols that go by their names
-named_and : (names : List (List ℕ)) (b : Bool) (name : List ℕ) (l : ListedSymbol) → (b ≡ true → goes_by_name l.symbol ≡ true) → name_number names name < length names
+named_and : (names : List (List ℕ)) (b : Bool) (name : List ℕ) (l : IndexedSymbol) → (b ≡ true → goes_by_name l.symbol ≡ true) → name_number names name < length names
     → (b && eqb (symbol_number names l.symbol) (name_number names name)) ≡ (b && same_name l.symbol.name name)
 named_and names true name l goes there = ap (λ n. eqb n (name_number names name)) (symbol_number_is names l.symbol (goes refl)) ∙ number_same names l.symbol.name name there
 named_and names false name l goes there = refl
@@ -87,24 +87,25 @@ module _ (names : List (List ℕ)) (objects : List ObjectParts) (numbered : Have
       named_and names (is_definition bind l.symbol) name l (definition_goes bind l.symbol other) there)
 
   -- the room of a name
-  pub common_block_is : (name : List ℕ) → name_number names name < length names
-      → row_common_block (map (symbol_row names) (all_symbols objects)) (name_number names name) ≡ common_block objects name
-  common_block_is name there =
+  pub common_block_is : (m : IndexedSymbol) → name_number names m.symbol.name < length names
+      → row_common_block (map (symbol_row names) (all_symbols objects)) (name_number names m.symbol.name) ≡ common_block objects m
+  common_block_is m there =
+      let name = m.symbol.name in
       let same = filter-map (symbol_row names) (λ r. row_is_common r && eqb r.name (name_number names name)) (λ l. is_common l.symbol && same_name l.symbol.name name) (all_symbols objects)
       (λ k d within.
       let l = get_or (all_symbols objects) k d in
       named_and names (is_common l.symbol) name l (common_goes l.symbol) there) in
       λ j. record {
-        align = (ap (λ rs. greatest (map (λ r. max 1 r.value) rs)) same ∙ ap greatest (map-map (λ r. max 1 r.value) (symbol_row names) (commons_of objects name))) j;
-        size = (ap (λ rs. greatest (map (λ r. r.size) rs)) same ∙ ap greatest (map-map (λ r. r.size) (symbol_row names) (commons_of objects name))) j;
+        align = (ap (λ rs. fold max 0 (map (λ r. max 1 r.value) rs)) same ∙ ap (fold max 0) (map-map (λ r. max 1 r.value) (symbol_row names) (commons_of objects name))) j;
+        size = (ap (λ rs. fold max 0 (map (λ r. r.size) rs)) same ∙ ap (fold max 0) (map-map (λ r. r.size) (symbol_row names) (commons_of objects name))) j;
       }
 
-  is_none-map : (o : Option ListedSymbol) → is_none (option_map (symbol_row names) o) ≡ is_none o
+  is_none-map : (o : Option IndexedSymbol) → is_none (option_map (symbol_row names) o) ≡ is_none o
   is_none-map None = refl
   is_none-map (Some l) = refl
 
   -- the firsts of each name
-  firsts_are : (ls : List ListedSymbol) → All (λ l. HasNumber names l.symbol) ls → first_rows (map (symbol_row names) ls) ≡ map (symbol_row names) (firsts ls)
+  firsts_are : (ls : List IndexedSymbol) → All (λ l. HasNumber names l.symbol) ls → first_rows (map (symbol_row names) ls) ≡ map (symbol_row names) (firsts ls)
   firsts_are [] all = refl
   firsts_are (l ∷ ls) all =
       let here = All-head (λ m. HasNumber names m.symbol) l ls all in
@@ -118,10 +119,10 @@ module _ (names : List (List ℕ)) (objects : List ObjectParts) (numbered : Have
       ∙ number_same names m.symbol.name l.symbol.name here.within)))
 
   -- what takes room has a number
-  taking_numbered : (ls : List ListedSymbol) → HaveNumbers names ls → All (λ l. HasNumber names l.symbol) (filter (λ l. is_common l.symbol && is_none (strong_definition objects l.symbol.name)) ls)
-  taking_numbered [] all = All-nil (λ (l : ListedSymbol). HasNumber names l.symbol)
+  taking_numbered : (ls : List IndexedSymbol) → HaveNumbers names ls → All (λ l. HasNumber names l.symbol) (filter (λ l. is_common l.symbol && is_none (strong_definition objects l.symbol.name)) ls)
+  taking_numbered [] all = All-nil (λ (l : IndexedSymbol). HasNumber names l.symbol)
   taking_numbered (l ∷ ls) all =
-      let P = λ (m : ListedSymbol). goes_by_name m.symbol ≡ true → name_number names m.symbol.name < length names in
+      let P = λ (m : IndexedSymbol). goes_by_name m.symbol ≡ true → name_number names m.symbol.name < length names in
       by (is_common l.symbol && is_none (strong_definition objects l.symbol.name)) refl (All-head P l ls all) (taking_numbered ls (All-tail P l ls all))
     where
       by : (b : Bool) → (is_common l.symbol && is_none (strong_definition objects l.symbol.name)) ≡ b → (goes_by_name l.symbol ≡ true → name_number names l.symbol.name < length names)
@@ -140,7 +141,7 @@ module _ (names : List (List ℕ)) (objects : List ObjectParts) (numbered : Have
       (λ k d within. row_takes (get_or (all_symbols objects) k d) (is_common (get_or (all_symbols objects) k d).symbol) refl (numbered k d within)))
       ∙ firsts_are (filter (λ l. is_common l.symbol && is_none (strong_definition objects l.symbol.name)) (all_symbols objects)) (taking_numbered (all_symbols objects) numbered)
     where
-      row_takes : (l : ListedSymbol) (b : Bool) → is_common l.symbol ≡ b → (goes_by_name l.symbol ≡ true → name_number names l.symbol.name < length names)
+      row_takes : (l : IndexedSymbol) (b : Bool) → is_common l.symbol ≡ b → (goes_by_name l.symbol ≡ true → name_number names l.symbol.name < length names)
           → (is_common l.symbol && is_none (first_row 1 (map (symbol_row names) (all_symbols objects)) (symbol_number names l.symbol))) ≡ (is_common l.symbol && is_none (strong_definition objects l.symbol.name))
       row_takes l true is there =
           let goes = common_goes l.symbol is in
@@ -150,26 +151,26 @@ module _ (names : List (List ℕ)) (objects : List ObjectParts) (numbered : Have
       row_takes l false is there = (λ j. is j && is_none (first_row 1 (map (symbol_row names) (all_symbols objects)) (symbol_number names l.symbol))) ∙ (λ j. sym is j && is_none (strong_definition objects l.symbol.name))
 
   -- the room of a symbol's name
-  room_is : (l : ListedSymbol) → HasNumber names l.symbol → row_room (map (symbol_row names) (all_symbols objects)) (symbol_row names l) ≡ listed_block objects l
-  room_is l here = ap (row_common_block (map (symbol_row names) (all_symbols objects))) (symbol_number_is names l.symbol here.goes) ∙ common_block_is l.symbol.name here.within
+  room_is : (l : IndexedSymbol) → HasNumber names l.symbol → row_room (map (symbol_row names) (all_symbols objects)) (symbol_row names l) ≡ common_block objects l
+  room_is l here = ap (row_common_block (map (symbol_row names) (all_symbols objects))) (symbol_number_is names l.symbol here.goes) ∙ common_block_is l here.within
 
   -- where all that is placed ends
-  ends_are : (ls : List ListedSymbol) → All (λ l. HasNumber names l.symbol) ls
-      → map (row_room (map (symbol_row names) (all_symbols objects))) (map (symbol_row names) ls) ≡ map (listed_block objects) ls
+  ends_are : (ls : List IndexedSymbol) → All (λ l. HasNumber names l.symbol) ls
+      → map (row_room (map (symbol_row names) (all_symbols objects))) (map (symbol_row names) ls) ≡ map (common_block objects) ls
   ends_are ls all =
       map-map (row_room (map (symbol_row names) (all_symbols objects))) (symbol_row names) ls
-      ∙ map-same (λ l. row_room (map (symbol_row names) (all_symbols objects)) (symbol_row names l)) (listed_block objects) ls
+      ∙ map-same (λ l. row_room (map (symbol_row names) (all_symbols objects)) (symbol_row names l)) (common_block objects) ls
       (λ k d within. room_is (get_or ls k d) (all k d within))
 
   -- the address of a name among what is placed
-  address_is : (start : ℕ) (name : List ℕ) → name_number names name < length names → (ls : List ListedSymbol) → All (λ l. HasNumber names l.symbol) ls
+  address_is : (start : ℕ) (name : List ℕ) → name_number names name < length names → (ls : List IndexedSymbol) → All (λ l. HasNumber names l.symbol) ls
       → row_address_of (placed_from (row_room (map (symbol_row names) (all_symbols objects))) start (map (symbol_row names) ls)) (name_number names name)
-      ≡ option_map (λ e. e.1) (find (λ e. same_name e.0.symbol.name name) (placed_from (listed_block objects) start ls))
+      ≡ option_map (λ e. e.1) (find (λ e. same_name e.0.symbol.name name) (placed_from (common_block objects) start ls))
   address_is start name there [] all = refl
   address_is start name there (l ∷ ls) all =
       let room = row_room (map (symbol_row names) (all_symbols objects)) in
       let here = All-head (λ m. HasNumber names m.symbol) l ls all in
-      let b = listed_block objects l in
+      let b = common_block objects l in
       let begin = aligned_up b.align start in
       ap (λ c. row_address_of ((symbol_row names l, aligned_up c.align start) ∷ placed_from room (aligned_up c.align start + c.size) (map (symbol_row names) ls)) (name_number names name)) (room_is l here)
       ∙ ap (λ t. option_map {T = SymbolRow × ℕ} (λ e. e.1) (cond t (Some (symbol_row names l, begin)) (find (λ e. eqb e.0.name (name_number names name)) (placed_from room (begin + b.size) (map (symbol_row names) ls))))) (ap (λ n. eqb n (name_number names name)) (symbol_number_is names l.symbol here.goes) ∙ number_same names l.symbol.name name there)
@@ -177,9 +178,9 @@ module _ (names : List (List ℕ)) (objects : List ObjectParts) (numbered : Have
     where
       by : (t : Bool) (begin next : ℕ)
           → row_address_of (placed_from (row_room (map (symbol_row names) (all_symbols objects))) next (map (symbol_row names) ls)) (name_number names name)
-          ≡ option_map (λ e. e.1) (find (λ e. same_name e.0.symbol.name name) (placed_from (listed_block objects) next ls))
+          ≡ option_map (λ e. e.1) (find (λ e. same_name e.0.symbol.name name) (placed_from (common_block objects) next ls))
           → option_map {T = SymbolRow × ℕ} (λ e. e.1) (cond t (Some (symbol_row names l, begin)) (find (λ e. eqb e.0.name (name_number names name)) (placed_from (row_room (map (symbol_row names) (all_symbols objects))) next (map (symbol_row names) ls))))
-          ≡ option_map {T = ListedSymbol × ℕ} (λ e. e.1) (cond t (Some (l, begin)) (find (λ e. same_name e.0.symbol.name name) (placed_from (listed_block objects) next ls)))
+          ≡ option_map {T = IndexedSymbol × ℕ} (λ e. e.1) (cond t (Some (l, begin)) (find (λ e. same_name e.0.symbol.name name) (placed_from (common_block objects) next ls)))
       by true begin next rest = refl
       by false begin next rest = rest
 
@@ -192,22 +193,22 @@ module _ (names : List (List ℕ)) (objects : List ObjectParts) (numbered : Have
   -- a name that is common, and where all end
   pub common_is : (start : ℕ) (name : List ℕ) → name_number names name < length names
       → row_address_of (placed_from (row_room (map (symbol_row names) (all_symbols objects))) start (placed_rows (map (symbol_row names) (all_symbols objects)) (map (symbol_row names) (all_symbols objects)))) (name_number names name)
-      ≡ option_map (λ e. e.1) (find (λ e. same_name e.0.symbol.name name) (placed_from (listed_block objects) start (commons_placed objects)))
+      ≡ option_map (λ e. e.1) (find (λ e. same_name e.0.symbol.name name) (placed_from (common_block objects) start (commons_placed objects)))
   common_is start name there =
       ap (λ rs. row_address_of (placed_from (row_room (map (symbol_row names) (all_symbols objects))) start rs) (name_number names name)) placed_are
       ∙ address_is start name there (commons_placed objects) placed_numbered
 
   pub commons_end : (start : ℕ)
       → end_from start (map (row_room (map (symbol_row names) (all_symbols objects))) (placed_rows (map (symbol_row names) (all_symbols objects)) (map (symbol_row names) (all_symbols objects))))
-      ≡ end_from start (map (listed_block objects) (commons_placed objects))
+      ≡ end_from start (map (common_block objects) (commons_placed objects))
   commons_end start = ap (λ rs. end_from start (map (row_room (map (symbol_row names) (all_symbols objects))) rs)) placed_are ∙ ap (end_from start) (ends_are (commons_placed objects) placed_numbered)
 
   -- a second strong definition
-  pub second_is : (l : ListedSymbol) → (goes_by_name l.symbol ≡ true → name_number names l.symbol.name < length names)
+  pub second_is : (l : IndexedSymbol) → (goes_by_name l.symbol ≡ true → name_number names l.symbol.name < length names)
       → row_is_second (map (symbol_row names) (all_symbols objects)) (symbol_row names l) ≡ is_second objects l
   second_is l there = by (is_definition 1 l.symbol) refl
     where
-      first_is : (o : Option ListedSymbol)
+      first_is : (o : Option IndexedSymbol)
           → option_map_or (λ first. not (eqb first.object l.object && eqb first.index l.index)) (option_map (symbol_row names) o) false ≡ option_map_or (λ first. not (same_symbol first l)) o false
       first_is None = refl
       first_is (Some first) = refl
@@ -230,7 +231,7 @@ module _ (names : List (List ℕ)) (objects : List ObjectParts) (numbered : Have
       (λ k d within. second_is (get_or (all_symbols objects) k d) (numbered k d within)))
       ∙ by (find (is_second objects) (all_symbols objects))
     where
-      by : (o : Option ListedSymbol) → option_map {U = ℕ × ℕ} (λ r. (r.object, r.index)) (option_map (symbol_row names) o) ≡ option_map (λ l. (l.object, l.index)) o
+      by : (o : Option IndexedSymbol) → option_map {U = ℕ × ℕ} (λ r. (r.object, r.index)) (option_map (symbol_row names) o) ≡ option_map (λ l. (l.object, l.index)) o
       by None = refl
       by (Some l) = refl
 

@@ -12,8 +12,7 @@ use Rattle.std.proofs.lemmas.List.Sums.{sum_by-cons, sum_by_push}
 use Rattle.psabi_sym.specs.declared.block.Block.{Block}
 use Rattle.psabi_sym.specs.declared.symbol_row.SymbolRow.{SymbolRow}
 use Rattle.psabi_sym.specs.Blocks.{aligned_up, end_from, placed_from, room_of, room_of_all}
-use Rattle.psabi_sym.specs.Data.{greatest}
-use Rattle.psabi_sym.specs.Rows.{common_rows, first_row, first_rows, placed_rows, row_address_of, row_common_block, row_common_room, row_is_common, row_room, row_takes_room}
+use Rattle.psabi_sym.specs.Invariants.Rows.{common_rows, first_row, first_rows, placed_rows, row_address_of, row_common_block, row_common_room, row_is_common, row_room, row_takes_room}
 use Rattle.psabi_sym.proofs.Tables.{or_none, table_at, table_step}
 use Rattle.psabi_sym.proofs.BlockLaws.{end_from_fits, end_from_push, placed_from_push}
 
@@ -223,7 +222,7 @@ pub block_room : (rows : List SymbolRow) (k : ℕ) → 0 < length (common_rows r
 block_room rows k some = by (common_rows rows k) some (common_rows_room rows k)
   where
     by : (same : List SymbolRow) → 0 < length same → sum_by (λ r. r.size + max 1 r.value) same ≡ room_of_name rows k
-        → greatest (map (λ r. r.size) same) + max 1 (greatest (map (λ r. max 1 r.value) same)) ≤ room_of_name rows k
+        → fold max 0 (map (λ r. r.size) same) + max 1 (fold max 0 (map (λ r. max 1 r.value) same)) ≤ room_of_name rows k
     by [] few h = absurd (omega arith)
     by (r ∷ rs) few h =
         omega (arith, (greatest_sum (λ s. s.size) 0 (r ∷ rs)).0, (greatest_sum (λ s. max 1 s.value) 0 (r ∷ rs)).0, (greatest_sum (λ s. max 1 s.value) (max 0 (max 1 r.value)) rs).1, sum_both (λ s. s.size) (λ s. max 1 s.value) (r ∷ rs), h)

@@ -9,16 +9,16 @@ use Rattle.psabi_sym.specs.declared.data_class.DataClass.{DataClass}
 use Rattle.psabi_sym.specs.declared.data_class.DataClass.TheVariants.{ReadOnly, Data, SmallData, SmallZero, Zero, Common}
 use Rattle.psabi_sym.specs.declared.definitions.Definitions.{Definitions}
 use Rattle.psabi_sym.specs.declared.section_row.SectionRole.TheVariants.{Code, InClass, Dropped}
-use Rattle.psabi_sym.specs.declared.sections.Sections.{Sections}
+use Rattle.psabi_sym.specs.declared.sections.SectionRows.{SectionRows}
 use Rattle.psabi_sym.specs.declared.symbols.Symbols.{Symbols}
 use Rattle.psabi_sym.specs.Blocks.{aligned_up, end_from}
 use Rattle.psabi_sym.specs.Classes.{classes_before}
 use Rattle.psabi_sym.specs.Contents.{data_contents, overlaid, with_content}
 use Rattle.psabi_sym.specs.Data.{address_in, blocks_in, blocks_of, class_end, class_start, data_address, data_end, data_file_end, end_after, role_address, role_of}
-use Rattle.psabi_sym.specs.Gathered.{IsGathered}
+use Rattle.psabi_sym.specs.Invariants.Gathered.{IsGathered}
 use Rattle.psabi_sym.specs.Inputs.{Inputs, ParsedInputs, parsed}
-use Rattle.psabi_sym.specs.Listed.{ListedSection, all_sections, all_symbols, section_at, sections_before}
-use Rattle.psabi_sym.specs.Rows.{placed_rows, row_end, row_room, section_row, symbol_row}
+use Rattle.psabi_sym.specs.Indexed.{IndexedSection, all_sections, all_symbols, section_at, sections_before}
+use Rattle.psabi_sym.specs.Invariants.Rows.{placed_rows, row_end, row_room, section_row, symbol_row}
 use Rattle.psabi_sym.proofs.BlockLaws.{aligned_up-lt, end_from_fits}
 use Rattle.psabi_sym.proofs.CommonLaws.{placed_room}
 use Rattle.psabi_sym.proofs.DefinedLaws.{class_end_common, common_start_is, rooms_fit}
@@ -69,7 +69,7 @@ module _ (inputs : ParsedInputs) where
 -- ---- nor far above it
 
 -- data have 4 MiB at most
-pub data_end-most : (inputs : Inputs) (sections : Sections) (symbols : Symbols) (definitions : Definitions) → IsGathered inputs sections symbols definitions
+pub data_end-most : (inputs : Inputs) (sections : SectionRows) (symbols : Symbols) (definitions : Definitions) → IsGathered inputs sections symbols definitions
     → data_end (parsed inputs) ≤ inputs.map.data_low + 0x40_0000
 data_end-most inputs sections symbols definitions gathered =
     let objects = (parsed inputs).objects in
@@ -113,7 +113,7 @@ length-overlaid at new old =
       length-drop (at + length new) old,
     )
 
-length-with_content : (inputs : ParsedInputs) (bytes : List ℕ) (l : ListedSection) → length (with_content inputs bytes l) ≡ length bytes
+length-with_content : (inputs : ParsedInputs) (bytes : List ℕ) (l : IndexedSection) → length (with_content inputs bytes l) ≡ length bytes
 length-with_content inputs bytes l = by (eqb l.section.kind 8) (data_address inputs l.object l.index)
   where
     by : (b : Bool) (o : Option ℕ) → length (cond b bytes (option_map_or (λ at. overlaid (at - inputs.map.data_low) l.section.bytes bytes) o bytes)) ≡ length bytes
@@ -127,7 +127,7 @@ length-data_contents inputs =
     let zeros = replicate (data_file_end inputs - inputs.map.data_low) 0 in
     all zeros (all_sections inputs.objects) ∙ length-replicate (data_file_end inputs - inputs.map.data_low) 0
   where
-    all : (bytes : List ℕ) (ls : List ListedSection) → length (fold (with_content inputs) bytes ls) ≡ length bytes
+    all : (bytes : List ℕ) (ls : List IndexedSection) → length (fold (with_content inputs) bytes ls) ≡ length bytes
     all bytes [] = refl
     all bytes (l ∷ ls) = all (with_content inputs bytes l) ls ∙ length-with_content inputs bytes l
 
@@ -148,7 +148,7 @@ module _ (inputs : ParsedInputs) (o i : ℕ) (s : SectionParts) (at : section_at
   pub none_of_dropped : role_of s ≡ Dropped → data_address inputs o i ≡ None
   none_of_dropped role = found ∙ ap (role_address inputs o i s) role
 
-  here : ListedSection
+  here : IndexedSection
   here = record { object = o; index = i; section = s }
 
   -- its content, if it is data, and else nothing

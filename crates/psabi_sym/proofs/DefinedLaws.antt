@@ -20,13 +20,13 @@ use Rattle.psabi_sym.specs.Blocks.{aligned_up, end_from, placed_from}
 use Rattle.psabi_sym.specs.Data.{class_end, class_start, common_address, role_of}
 use Rattle.psabi_sym.specs.Faults.{are_too_large, common_room, data_room, is_missing, is_used, object_data, room_in_data, sum_fault, sums_of}
 use Rattle.psabi_sym.specs.Inputs.{ParsedInputs}
-use Rattle.psabi_sym.specs.Listed.{ListedSection, ListedSymbol, all_sections, all_symbols, sections_in, symbols_in}
-use Rattle.psabi_sym.specs.Meanings.{is_nothing, meaning_at, meaning_of, meaning_row, row_is_missing}
+use Rattle.psabi_sym.specs.Indexed.{IndexedSection, IndexedSymbol, all_sections, all_symbols, sections_in, symbols_in}
+use Rattle.psabi_sym.specs.Invariants.Meanings.{is_nothing, meaning_at, meaning_of, meaning_row, row_is_missing}
 use Rattle.psabi_sym.specs.Names.{goes_by_name, strong_definition, weak_definition}
-use Rattle.psabi_sym.specs.Numbered.{HaveNumbers}
-use Rattle.psabi_sym.specs.Resolve.{Definition, linker_number, linker_numbers, linker_value, name_definition}
+use Rattle.psabi_sym.specs.Invariants.Numbered.{HaveNumbers}
+use Rattle.psabi_sym.specs.Resolve.{Definition, linker_number, linker_numbers, name_definition}
 use Rattle.psabi_sym.specs.Resolve.Definition.{InObject, AtNumber}
-use Rattle.psabi_sym.specs.Rows.{first_row, name_number, placed_rows, role_room, row_address_of, row_blocks, row_common_room, row_data_room, row_room, row_start, section_row, symbol_number, symbol_row}
+use Rattle.psabi_sym.specs.Invariants.Rows.{first_row, name_number, placed_rows, role_room, row_address_of, row_blocks, row_common_room, row_data_room, row_room, row_start, section_row, symbol_number, symbol_row}
 use Rattle.psabi_sym.proofs.BridgeLaws.{common_is, commons_end, find-map, first_row_is, number_at, row_blocks_are}
 use Rattle.psabi_sym.proofs.NumberLaws.{bound_goes, symbol_number_is}
 use Rattle.psabi_sym.proofs.Tables.{table_at}
@@ -58,7 +58,7 @@ module _ (inputs : ParsedInputs) where
 -- ---- names
 
 -- what a name is, by cases
-meaning_is : (names : List (List ℕ)) (strong weak : Option ListedSymbol) (common linker : Option ℕ)
+meaning_is : (names : List (List ℕ)) (strong weak : Option IndexedSymbol) (common linker : Option ℕ)
     → meaning_of (option_map (symbol_row names) strong) common (option_map (symbol_row names) weak) linker
     ≡ meaning_row names (option_or (option_map InObject strong) (option_or (option_map AtNumber common) (option_or (option_map InObject weak) (option_map AtNumber linker))))
 meaning_is names (Some s) weak common linker = refl
@@ -88,9 +88,9 @@ module _ (names : List (List ℕ)) (inputs : ParsedInputs) (numbered : HaveNumbe
       let s = table_at (first_row 1 rows) strong (length names) k None strongs there ∙ first_row_is names inputs.objects numbered 1 name refl there in
       let w = table_at (first_row 2 rows) weak (length names) k None weaks there ∙ first_row_is names inputs.objects numbered 2 name refl there in
       let c = table_at (row_address_of (placed_from (row_room rows) (class_start inputs Common) (placed_rows rows rows))) commons (length names) k None placed there ∙ common_is names inputs.objects numbered (class_start inputs Common) name there in
-      let l : linker_number numbers (get_or names k []) ≡ linker_value inputs name = λ j. linker_number (number j) (number_at names name [] there j) in
+      let l : linker_number numbers (get_or names k []) ≡ linker_number (linker_numbers inputs) name = λ j. linker_number (number j) (number_at names name [] there j) in
       (λ j. meaning_of (s j) (c j) (w j) (l j))
-      ∙ meaning_is names (strong_definition inputs.objects name) (weak_definition inputs.objects name) _ (linker_value inputs name)
+      ∙ meaning_is names (strong_definition inputs.objects name) (weak_definition inputs.objects name) _ (linker_number (linker_numbers inputs) name)
 
   -- what is missing
   pub undefined_is : (meanings : List Meaning)
@@ -98,14 +98,14 @@ module _ (names : List (List ℕ)) (inputs : ParsedInputs) (numbered : HaveNumbe
       → option_map {U = ℕ × ℕ} (λ e. (e.0.object, e.0.index)) (find (row_is_missing meanings) (zip (map (symbol_row names) (all_symbols inputs.objects)) (map (is_used inputs.objects) (all_symbols inputs.objects))))
       ≡ option_map (λ l. (l.object, l.index)) (find (is_missing inputs) (all_symbols inputs.objects))
   undefined_is meanings each =
-      let both : ListedSymbol → SymbolRow × Bool = λ l. (symbol_row names l, is_used inputs.objects l) in
+      let both : IndexedSymbol → SymbolRow × Bool = λ l. (symbol_row names l, is_used inputs.objects l) in
       ap (λ zs. option_map {T = SymbolRow × Bool} {U = ℕ × ℕ} (λ e. (e.0.object, e.0.index)) (find (row_is_missing meanings) zs)) (zip-map (all_symbols inputs.objects))
       ∙ ap (option_map {T = SymbolRow × Bool} {U = ℕ × ℕ} (λ e. (e.0.object, e.0.index)))
       (find-map both (row_is_missing meanings) (is_missing inputs) (all_symbols inputs.objects)
       (λ k d within. missing (get_or (all_symbols inputs.objects) k d) (eqb (get_or (all_symbols inputs.objects) k d).symbol.bind 1) refl (each k d within)))
       ∙ by (find (is_missing inputs) (all_symbols inputs.objects))
     where
-      missing : (l : ListedSymbol) (b : Bool) → eqb l.symbol.bind 1 ≡ b
+      missing : (l : IndexedSymbol) (b : Bool) → eqb l.symbol.bind 1 ≡ b
           → (goes_by_name l.symbol ≡ true → get_or meanings (name_number names l.symbol.name) Nothing ≡ meaning_row names (name_definition inputs l.symbol.name))
           → row_is_missing meanings (symbol_row names l, is_used inputs.objects l) ≡ is_missing inputs l
       missing l true global meant =
@@ -117,11 +117,11 @@ module _ (names : List (List ℕ)) (inputs : ParsedInputs) (numbered : HaveNumbe
           (λ j. other j && eqb l.symbol.home 0 && is_used inputs.objects l && is_nothing (get_or meanings (symbol_number names l.symbol) Nothing))
           ∙ (λ j. sym other j && eqb l.symbol.home 0 && is_used inputs.objects l && is_none (name_definition inputs l.symbol.name))
 
-      zip-map : (ls : List ListedSymbol) → zip (map (symbol_row names) ls) (map (is_used inputs.objects) ls) ≡ map (λ l. (symbol_row names l, is_used inputs.objects l)) ls
+      zip-map : (ls : List IndexedSymbol) → zip (map (symbol_row names) ls) (map (is_used inputs.objects) ls) ≡ map (λ l. (symbol_row names l, is_used inputs.objects l)) ls
       zip-map [] = refl
       zip-map (l ∷ ls) = ap (λ t. (symbol_row names l, is_used inputs.objects l) ∷ t) (zip-map ls)
 
-      by : (o : Option ListedSymbol) → option_map {T = SymbolRow × Bool} {U = ℕ × ℕ} (λ e. (e.0.object, e.0.index)) (option_map (λ l. (symbol_row names l, is_used inputs.objects l)) o) ≡ option_map (λ l. (l.object, l.index)) o
+      by : (o : Option IndexedSymbol) → option_map {T = SymbolRow × Bool} {U = ℕ × ℕ} (λ e. (e.0.object, e.0.index)) (option_map (λ l. (symbol_row names l, is_used inputs.objects l)) o) ≡ option_map (λ l. (l.object, l.index)) o
       by None = refl
       by (Some l) = refl
 
@@ -134,21 +134,21 @@ section_room_is s (InClass class) = refl
 section_room_is s Dropped = refl
 
 sum_sections : (o n : ℕ) (ss : List SectionParts)
-    → sum_by {X = ListedSection} (λ l. data_room l.section) (map (λ s. record { object = o; index = s.0; section = s.1 }) (enumerate_from n ss)) ≡ sum_by data_room ss
+    → sum_by {X = IndexedSection} (λ l. data_room l.section) (map (λ s. record { object = o; index = s.0; section = s.1 }) (enumerate_from n ss)) ≡ sum_by data_room ss
 sum_sections o n [] = refl
 sum_sections o n (s ∷ ss) =
     sum_by-cons (λ l. data_room l.section) (record { object = o; index = n; section = s }) (map (λ t. record { object = o; index = t.0; section = t.1 }) (enumerate_from (n + 1) ss))
     ∙ ap (λ k. data_room s + k) (sum_sections o (n + 1) ss) ∙ sym (sum_by-cons data_room s ss)
 
 sum_symbols : (o n : ℕ) (ss : List SymbolParts)
-    → sum_by {X = ListedSymbol} (λ l. common_room l.symbol) (map (λ s. record { object = o; index = s.0; symbol = s.1 }) (enumerate_from n ss)) ≡ sum_by common_room ss
+    → sum_by {X = IndexedSymbol} (λ l. common_room l.symbol) (map (λ s. record { object = o; index = s.0; symbol = s.1 }) (enumerate_from n ss)) ≡ sum_by common_room ss
 sum_symbols o n [] = refl
 sum_symbols o n (s ∷ ss) =
     sum_by-cons (λ l. common_room l.symbol) (record { object = o; index = n; symbol = s }) (map (λ t. record { object = o; index = t.0; symbol = t.1 }) (enumerate_from (n + 1) ss))
     ∙ ap (λ k. common_room s + k) (sum_symbols o (n + 1) ss) ∙ sym (sum_by-cons common_room s ss)
 
 sum_first : (o : ℕ) (ss : List SymbolParts)
-    → sum_by {X = ListedSymbol} (λ l. common_room l.symbol) (map (λ s. record { object = o; index = s.0; symbol = s.1 }) (drop 1 (enumerate_from 0 ss))) ≡ sum_by common_room (drop 1 ss)
+    → sum_by {X = IndexedSymbol} (λ l. common_room l.symbol) (map (λ s. record { object = o; index = s.0; symbol = s.1 }) (drop 1 (enumerate_from 0 ss))) ≡ sum_by common_room (drop 1 ss)
 sum_first o [] = refl
 sum_first o (s ∷ ss) = sum_symbols o (0 + 1) ss
 
@@ -177,7 +177,7 @@ row_sums objects names =
     + fold-map (λ a r. a + row_common_room r) (symbol_row names) 0 (flat_map symbols_in (enumerate_from 0 objects)) j)
     ∙ sum_objects 0 objects
   where
-    rooms : (ls : List ListedSection) → sum_by (λ l. row_data_room (section_row l)) ls ≡ sum_by (λ l. data_room l.section) ls
+    rooms : (ls : List IndexedSection) → sum_by (λ l. row_data_room (section_row l)) ls ≡ sum_by (λ l. data_room l.section) ls
     rooms [] = refl
     rooms (l ∷ ls) =
         omega (arith, sum_by-cons (λ m. row_data_room (section_row m)) l ls, sum_by-cons (λ m. data_room m.section) l ls, section_room_is l.section (role_of l.section), rooms ls)

@@ -6,7 +6,7 @@ use Rattle.std.proofs.lemmas.List.Concat.{flat_map-append, get_or-flat_map}
 use Rattle.std.proofs.lemmas.List.FromFn.{get_or-enumerate_from, length-enumerate_from}
 use Rattle.std.proofs.lemmas.Option.{get_or_from_slice_get, slice_get_within}
 use Rattle.elf32_read.specs.Parts.{ObjectParts}
-use Rattle.psabi_sym.specs.Listed.{all_sections, all_symbols, sections_in, symbols_in}
+use Rattle.psabi_sym.specs.Indexed.{all_sections, all_symbols, sections_in, symbols_in}
 
 -- numbering goes on
 enumerate_push : {X : Type 0} (n : ℕ) (xs : List X) (x : X) → enumerate_from n (xs ++ x ∷ []) ≡ enumerate_from n xs ++ (n + length xs, x) ∷ []

@@ -4,9 +4,9 @@ use Rattle.std.specs.List.{range_with_len}
 use Rattle.std.specs.Option.{option_and_then}
 use Rattle.std.proofs.lemmas.Option.{slice_get-get_or, slice_get_past}
 use Rattle.elf32_read.specs.Parts.{ObjectParts, SectionParts, SymbolParts}
-use Rattle.psabi_sym.specs.Listed.{section_at, sections_in, symbol_at, symbols_in}
+use Rattle.psabi_sym.specs.Indexed.{section_at, sections_in, symbol_at, symbols_in}
 use Rattle.psabi_sym.specs.Places.{place_in}
-use Rattle.psabi_sym.specs.Rows.{section_starts, symbol_starts}
+use Rattle.psabi_sym.specs.Invariants.Rows.{section_starts, symbol_starts}
 use Rattle.psabi_sym.proofs.PartLaws.{length-sections_in, length-symbols_in}
 use Rattle.psabi_sym.proofs.PlaceLaws.{place_cases, section_starts_are, symbol_starts_are}
 

@@ -6,7 +6,7 @@ use Rattle.std.proofs.lemmas.List.Folds.{position_or_len_push}
 use Rattle.std.proofs.lemmas.Slice.Eq.{bytes_eq-Decides}
 use Rattle.elf32_read.specs.Parts.{SymbolParts}
 use Rattle.psabi_sym.specs.Names.{goes_by_name, is_common, is_definition, same_name}
-use Rattle.psabi_sym.specs.Rows.{name_number, row_defines, row_goes_by_name, row_is_common, symbol_number, with_name}
+use Rattle.psabi_sym.specs.Invariants.Rows.{name_number, row_defines, row_goes_by_name, row_is_common, symbol_number, with_name}
 use Rattle.psabi_sym.specs.declared.symbol_row.SymbolRow.{SymbolRow}
 
 -- a name is itself

@@ -7,7 +7,7 @@ use Rattle.std.proofs.lemmas.Option.{slice_get-get_or}
 use Rattle.elf32_read.specs.Header.{section_count}
 use Rattle.elf32_read.specs.Parts.{ObjectParts, SectionParts, SymbolParts, object_parts, section_parts, symbol_parts}
 use Rattle.elf32_read.specs.Symbols.{symbol_content, symbol_count, symbol_entries, symbol_entry_at, symbol_entry_of}
-use Rattle.psabi_sym.specs.Listed.{ListedSection, ListedSymbol, sections_in, symbols_in}
+use Rattle.psabi_sym.specs.Indexed.{IndexedSection, IndexedSymbol, sections_in, symbols_in}
 
 module _ (file : List ℕ) where
   pub section_count_is : length (object_parts file).sections ≡ section_count file
@@ -48,18 +48,18 @@ module _ (o : ℕ) (object : ObjectParts) where
   pub length-symbols_in : length (symbols_in (o, object)) ≡ length object.symbols - 1
   length-symbols_in = length-map (drop 1 (enumerate_from 0 object.symbols)) _ ∙ length-drop 1 (enumerate_from 0 object.symbols) ∙ ap (λ n. n - 1) (length-enumerate_from 0 object.symbols)
 
-  pub section_listed : (i : ℕ) (d : SectionParts) (e : ListedSection) → i < length object.sections
+  pub section_listed : (i : ℕ) (d : SectionParts) (e : IndexedSection) → i < length object.sections
       → get_or (sections_in (o, object)) i e ≡ record { object = o; index = i; section = get_or object.sections i d }
   section_listed i d e within =
-      let f : ℕ × SectionParts → ListedSection = λ s. record { object = o; index = s.0; section = s.1 } in
+      let f : ℕ × SectionParts → IndexedSection = λ s. record { object = o; index = s.0; section = s.1 } in
       get_or-map f (enumerate_from 0 object.sections) i (0, d) e (omega (arith, within, length-enumerate_from 0 object.sections))
       ∙ ap f (get_or-enumerate_from 0 object.sections i (0, d) within)
       ∙ ap (λ n. record { object = o; index = n; section = get_or object.sections i d }) (omega arith)
 
-  pub symbol_listed : (i : ℕ) (d : SymbolParts) (e : ListedSymbol) → i + 1 < length object.symbols
+  pub symbol_listed : (i : ℕ) (d : SymbolParts) (e : IndexedSymbol) → i + 1 < length object.symbols
       → get_or (symbols_in (o, object)) i e ≡ record { object = o; index = i + 1; symbol = get_or object.symbols (i + 1) d }
   symbol_listed i d e within =
-      let f : ℕ × SymbolParts → ListedSymbol = λ s. record { object = o; index = s.0; symbol = s.1 } in
+      let f : ℕ × SymbolParts → IndexedSymbol = λ s. record { object = o; index = s.0; symbol = s.1 } in
       let all = enumerate_from 0 object.symbols in
       get_or-map f (drop 1 all) i (0, d) e (omega (arith, within, length-drop 1 all, length-enumerate_from 0 object.symbols))
       ∙ ap f (get_or-drop 1 all i (0, d) ∙ ap (λ n. get_or all n (0, d)) (omega arith) ∙ get_or-enumerate_from 0 object.symbols (i + 1) (0, d) within)

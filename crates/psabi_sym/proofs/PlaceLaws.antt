@@ -16,9 +16,9 @@ use Rattle.psabi_sym.specs.Blocks.{aligned_up, end_from}
 use Rattle.psabi_sym.specs.Classes.{same_class}
 use Rattle.psabi_sym.specs.Data.{address_in, blocks_in, class_of, class_start, is_code_role, is_of_kin, role_of}
 use Rattle.psabi_sym.specs.Inputs.{ParsedInputs}
-use Rattle.psabi_sym.specs.Listed.{ListedSection, ListedSymbol, all_sections, all_symbols, sections_before, sections_in, symbols_in}
+use Rattle.psabi_sym.specs.Indexed.{IndexedSection, IndexedSymbol, all_sections, all_symbols, sections_before, sections_in, symbols_in}
 use Rattle.psabi_sym.specs.Places.{place_in}
-use Rattle.psabi_sym.specs.Rows.{ArePlaced, row_blocks, row_start, section_row, section_starts, symbol_starts}
+use Rattle.psabi_sym.specs.Invariants.Rows.{ArePlaced, row_blocks, row_start, section_row, section_starts, symbol_starts}
 use Rattle.psabi_sym.proofs.BridgeLaws.{row_blocks_are}
 use Rattle.psabi_sym.proofs.FlatLaws.{flat_at, flat_before, flat_push}
 use Rattle.psabi_sym.proofs.PartLaws.{length-sections_in, length-symbols_in, section_listed, symbol_listed}
@@ -105,22 +105,22 @@ class_not_common s = by (eqb s.kind 8) (is_of_kin (codes ".sbss") s.name) (not (
 
 pub not_common : (s : SectionParts) (class : DataClass) → role_of s ≡ InClass class → same_class class Common ≡ false
 unfolding role_of
-not_common s class = by (not (is_kept_section s)) (has_flags 4 s.flags)
+not_common s class = by (is_code_section s) (is_kept_section s)
   where
-    by : (a b : Bool) → cond a Dropped (cond b Code (InClass (class_of s))) ≡ InClass class → same_class class Common ≡ false
-    by true b is = absurd cc
-    by false true is = absurd cc
-    by false false is = let same : class_of s ≡ class = cc in ap (λ c. same_class c Common) (sym same) ∙ class_not_common s
+    by : (code kept : Bool) → cond code Code (cond kept (InClass (class_of s)) Dropped) ≡ InClass class → same_class class Common ≡ false
+    by true kept is = absurd cc
+    by false true is = let same : class_of s ≡ class = cc in ap (λ c. same_class c Common) (sym same) ∙ class_not_common s
+    by false false is = absurd cc
 
 -- a section is code
 pub code_is : (s : SectionParts) → is_code_role (role_of s) ≡ is_code_section s
 unfolding role_of
-code_is s = by (is_kept_section s) (has_flags 4 s.flags)
+code_is s = by (is_code_section s) (is_kept_section s)
   where
-    by : (a b : Bool) → is_code_role (cond (not a) Dropped (cond b Code (InClass (class_of s)))) ≡ (a && b)
-    by true true = refl
-    by true false = refl
-    by false b = refl
+    by : (code kept : Bool) → is_code_role (cond code Code (cond kept (InClass (class_of s)) Dropped)) ≡ code
+    by true kept = refl
+    by false true = refl
+    by false false = refl
 
 -- ---- sections
 
@@ -140,7 +140,7 @@ module _ (objects : List ObjectParts) (o i : ℕ) (object : ObjectParts) (s : Se
   pub listed_there : slice_get (all_sections objects) (section_starts objects o + i) ≡ Some (record { object = o; index = i; section = s })
   unfolding all_sections
   listed_there =
-      let e : ListedSection = record { object = o; index = i; section = s } in
+      let e : IndexedSection = record { object = o; index = i; section = s } in
       slice_get-get_or (all_sections objects) (section_starts objects o + i) e place_listed
       ∙ ap Some (flat_at sections_in objects o i object e at listed ∙ section_listed o object i s e inside
       ∙ ap (λ x. record { object = o; index = i; section = x }) (get_or_from_slice_get object.sections i s s is))
@@ -177,7 +177,7 @@ module _ (inputs : ParsedInputs) where
     -- the row at its place
     pub row_there : (d : SectionRow) → get_or (map section_row (all_sections inputs.objects)) (section_starts inputs.objects o + i) d ≡ section_row (record { object = o; index = i; section = s })
     row_there d =
-        let e : ListedSection = record { object = o; index = i; section = s } in
+        let e : IndexedSection = record { object = o; index = i; section = s } in
         let k = section_starts inputs.objects o + i in
         get_or-map section_row (all_sections inputs.objects) k e d (place_listed inputs.objects o i object s at is)
         ∙ ap section_row (get_or_from_slice_get (all_sections inputs.objects) k e e (listed_there inputs.objects o i object s at is))
@@ -198,7 +198,7 @@ module _ (inputs : ParsedInputs) where
 -- ---- symbols
 
 -- the symbol at a place
-pub symbol_there : (objects : List ObjectParts) (o s : ℕ) (object : ObjectParts) (symbol : SymbolParts) (d : ListedSymbol)
+pub symbol_there : (objects : List ObjectParts) (o s : ℕ) (object : ObjectParts) (symbol : SymbolParts) (d : IndexedSymbol)
     → slice_get objects o ≡ Some object → slice_get object.symbols (s + 1) ≡ Some symbol
     → (symbol_starts objects o + s < length (all_symbols objects)) × (get_or (all_symbols objects) (symbol_starts objects o + s) d ≡ record { object = o; index = s + 1; symbol = symbol })
 unfolding all_symbols

@@ -13,7 +13,7 @@ use Rattle.psabi_sym.specs.Classes.{same_class}
 use Rattle.psabi_sym.specs.declared.data_class.DataClass.TheVariants.{ReadOnly, Data, SmallData, SmallZero, Zero, Common}
 use Rattle.psabi_sym.specs.declared.section_row.SectionRole.{SectionRole}
 use Rattle.psabi_sym.specs.declared.section_row.SectionRole.TheVariants.{Code, InClass, Dropped}
-use Rattle.psabi_sym.specs.Rows.{ArePlaced, role_room, row_address, row_block, row_blocks, row_data_room, row_end, row_start}
+use Rattle.psabi_sym.specs.Invariants.Rows.{ArePlaced, role_room, row_address, row_block, row_blocks, row_data_room, row_end, row_start}
 use Rattle.psabi_sym.proofs.BlockLaws.{aligned_up-lt, end_from_fits, end_from_push}
 
 -- the room that a row takes in a class

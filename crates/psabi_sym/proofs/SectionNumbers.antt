@@ -10,8 +10,8 @@ use Rattle.elf32_read.specs.Parts.{ObjectParts, SectionParts, object_parts, sect
 use Rattle.elf32_read.proofs.Faultless.{no_fault}
 use Rattle.psabi_sym.specs.Faults.{gather_fault}
 use Rattle.psabi_sym.specs.Inputs.{Inputs, parsed}
-use Rattle.psabi_sym.specs.Listed.{ListedSection, all_sections, section_at, sections_before, sections_in}
-use Rattle.psabi_sym.specs.Rows.{section_starts}
+use Rattle.psabi_sym.specs.Indexed.{IndexedSection, all_sections, section_at, sections_before, sections_in}
+use Rattle.psabi_sym.specs.Invariants.Rows.{section_starts}
 use Rattle.psabi_sym.proofs.Gathered.{few_gathered, readable}
 use Rattle.psabi_sym.proofs.PartLaws.{length-sections_in, section_count_is, section_got, section_listed}
 use Rattle.psabi_sym.proofs.PlaceLaws.{before_there, listed_there}
@@ -74,14 +74,14 @@ no_section : SectionParts
 no_section = record { name = []; kind = 0; flags = 0; align = 0; size = 0; bytes = []; relocs = []; compressed = false }
 
 -- a section with a number: its object, and where it stands in it
-pub record HasNumber (objects : List ObjectParts) (k : ℕ) (l : ListedSection) : Type 0 where
+pub record HasNumber (objects : List ObjectParts) (k : ℕ) (l : IndexedSection) : Type 0 where
   pub object : ObjectParts
   pub at : slice_get objects l.object ≡ Some object
   pub is : slice_get object.sections l.index ≡ Some l.section
   pub place : k ≡ section_starts objects l.object + l.index
 
 -- the section of an object with this index
-of_object : (o j : ℕ) (object : ObjectParts) (l : ListedSection) → slice_get (sections_in (o, object)) j ≡ Some l
+of_object : (o j : ℕ) (object : ObjectParts) (l : IndexedSection) → slice_get (sections_in (o, object)) j ≡ Some l
     → (l.object ≡ o) × (l.index ≡ j) × (slice_get object.sections j ≡ Some l.section)
 of_object o j object l is =
     let listed : j < length (sections_in (o, object)) = slice_get_within (sections_in (o, object)) j l is in
@@ -89,7 +89,7 @@ of_object o j object l is =
     let same : l ≡ record { object = o; index = j; section = get_or object.sections j no_section } = sym (get_or_from_slice_get (sections_in (o, object)) j l l is) ∙ section_listed o object j no_section l inside in
     (ap (λ m. m.object) same, ap (λ m. m.index) same, slice_get-get_or object.sections j no_section inside ∙ ap (λ m. Some m.section) (sym same))
 
-pub has_number : (objects : List ObjectParts) (k : ℕ) (l : ListedSection) → slice_get (all_sections objects) k ≡ Some l → HasNumber objects k l
+pub has_number : (objects : List ObjectParts) (k : ℕ) (l : IndexedSection) → slice_get (all_sections objects) k ≡ Some l → HasNumber objects k l
 unfolding all_sections
 has_number objects k l is =
     let there = from sections_in 0 objects k l is in
@@ -103,19 +103,19 @@ has_number objects k l is =
     }
 
 -- the section with a number is the one of its object with its index
-pub listed_at : (objects : List ObjectParts) (k : ℕ) (l : ListedSection) → slice_get (all_sections objects) k ≡ Some l → section_at objects l.object l.index ≡ Some l.section
+pub listed_at : (objects : List ObjectParts) (k : ℕ) (l : IndexedSection) → slice_get (all_sections objects) k ≡ Some l → section_at objects l.object l.index ≡ Some l.section
 listed_at objects k l is =
     let there = has_number objects k l is in
     ap (option_and_then (λ (object : ObjectParts). slice_get object.sections l.index)) there.at ∙ there.is
 
 -- before it stand those with smaller numbers
-pub before_number : (objects : List ObjectParts) (k : ℕ) (l : ListedSection) → slice_get (all_sections objects) k ≡ Some l → sections_before objects l.object l.index ≡ take k (all_sections objects)
+pub before_number : (objects : List ObjectParts) (k : ℕ) (l : IndexedSection) → slice_get (all_sections objects) k ≡ Some l → sections_before objects l.object l.index ≡ take k (all_sections objects)
 before_number objects k l is =
     let there = has_number objects k l is in
     sym (before_there objects l.object l.index there.object l.section there.at there.is) ∙ ap (λ n. take n (all_sections objects)) (sym there.place)
 
 -- two numbers with the same object and index are one
-pub same_number : (objects : List ObjectParts) (j k : ℕ) (l m : ListedSection) → slice_get (all_sections objects) j ≡ Some l → slice_get (all_sections objects) k ≡ Some m
+pub same_number : (objects : List ObjectParts) (j k : ℕ) (l m : IndexedSection) → slice_get (all_sections objects) j ≡ Some l → slice_get (all_sections objects) k ≡ Some m
     → l.object ≡ m.object → l.index ≡ m.index → j ≡ k
 same_number objects j k l m l_is m_is object index =
     (has_number objects j l l_is).place ∙ (λ i. section_starts objects (object i) + index i) ∙ sym (has_number objects k m m_is).place
@@ -133,13 +133,13 @@ number_of_section objects o i s is = by (slice_get objects o) refl is
 -- ---- sections of files
 
 -- a section of a file
-pub record IsOfFile (files : List (List ℕ)) (l : ListedSection) : Type 0 where
+pub record IsOfFile (files : List (List ℕ)) (l : IndexedSection) : Type 0 where
   pub file : List ℕ
   pub at : slice_get files l.object ≡ Some file
   pub within : l.index < section_count file
   pub is : l.section ≡ section_parts file l.index
 
-pub of_file : (files : List (List ℕ)) (k : ℕ) (l : ListedSection) → slice_get (all_sections (map object_parts files)) k ≡ Some l → IsOfFile files l
+pub of_file : (files : List (List ℕ)) (k : ℕ) (l : IndexedSection) → slice_get (all_sections (map object_parts files)) k ≡ Some l → IsOfFile files l
 of_file files k l is = by (slice_get files l.object) refl
   where
     there : HasNumber (map object_parts files) k l

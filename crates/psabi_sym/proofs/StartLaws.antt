@@ -8,14 +8,14 @@ use Rattle.std.proofs.lemmas.List.Sums.{position_or_len_is}
 use Rattle.std.proofs.lemmas.List.Elements.{All-head, All-tail}
 use Rattle.psabi_sym.specs.declared.data_class.DataClass.TheVariants.{Common}
 use Rattle.psabi_sym.specs.Blocks.{aligned_up, placed_from}
-use Rattle.psabi_sym.specs.Data.{class_start, common_address, commons_placed, listed_block}
+use Rattle.psabi_sym.specs.Data.{class_start, common_address, common_block, commons_placed}
 use Rattle.psabi_sym.specs.Inputs.{ParsedInputs}
-use Rattle.psabi_sym.specs.Listed.{ListedSymbol, all_symbols}
+use Rattle.psabi_sym.specs.Indexed.{IndexedSymbol, all_symbols}
 use Rattle.psabi_sym.specs.Names.{first_definition, goes_by_name, is_definition, same_name}
-use Rattle.psabi_sym.specs.Numbered.{HaveNumbers}
+use Rattle.psabi_sym.specs.Invariants.Numbered.{HaveNumbers}
 use Rattle.psabi_sym.specs.Resolve.{linker_number, linker_numbers, name_definition}
 use Rattle.psabi_sym.specs.Resolve.Definition.{InObject, AtNumber}
-use Rattle.psabi_sym.specs.Rows.{name_number}
+use Rattle.psabi_sym.specs.Invariants.Rows.{name_number}
 use Rattle.psabi_sym.specs.Start.{start_name}
 use Rattle.psabi_sym.proofs.BridgeLaws.{HasNumber, placed_numbered}
 use Rattle.psabi_sym.proofs.NumberLaws.{definition_goes, same_is, same_swap}
@@ -47,7 +47,7 @@ module _ (names : List (List ℕ)) (inputs : ParsedInputs)
     (numbered : HaveNumbers names (all_symbols inputs.objects))
     (none : length names ≤ name_number names start_name) where
   -- a symbol whose name has a number has another name
-  other : (l : ListedSymbol) → name_number names l.symbol.name < length names → same_name l.symbol.name start_name ≡ false
+  other : (l : IndexedSymbol) → name_number names l.symbol.name < length names → same_name l.symbol.name start_name ≡ false
   other l there = by (same_name l.symbol.name start_name) refl
     where
       by : (b : Bool) → same_name l.symbol.name start_name ≡ b → same_name l.symbol.name start_name ≡ false
@@ -59,18 +59,18 @@ module _ (names : List (List ℕ)) (inputs : ParsedInputs)
       find_none (λ l. is_definition bind l.symbol && same_name l.symbol.name start_name) (all_symbols inputs.objects)
       (λ k d within. by (get_or (all_symbols inputs.objects) k d) (is_definition bind (get_or (all_symbols inputs.objects) k d).symbol) refl (numbered k d within))
     where
-      by : (l : ListedSymbol) (b : Bool) → is_definition bind l.symbol ≡ b → (goes_by_name l.symbol ≡ true → name_number names l.symbol.name < length names)
+      by : (l : IndexedSymbol) (b : Bool) → is_definition bind l.symbol ≡ b → (goes_by_name l.symbol ≡ true → name_number names l.symbol.name < length names)
           → (is_definition bind l.symbol && same_name l.symbol.name start_name) ≡ false
       by l true is there = and_right (is_definition bind l.symbol) (same_name l.symbol.name start_name) (other l (there (definition_goes bind l.symbol bound is)))
       by l false is there = ap (λ b. b && same_name l.symbol.name start_name) is
 
-  no_common : (at : ℕ) (ls : List ListedSymbol) → All (λ l. HasNumber names l.symbol) ls
-      → find (λ e. same_name e.0.symbol.name start_name) (placed_from (listed_block inputs.objects) at ls) ≡ None
+  no_common : (at : ℕ) (ls : List IndexedSymbol) → All (λ l. HasNumber names l.symbol) ls
+      → find (λ e. same_name e.0.symbol.name start_name) (placed_from (common_block inputs.objects) at ls) ≡ None
   no_common at [] all = refl
   no_common at (l ∷ ls) all =
-      let b = listed_block inputs.objects l in
+      let b = common_block inputs.objects l in
       let begin = aligned_up b.align at in
-      ap (λ t. cond t (Some (l, begin)) (find (λ e. same_name e.0.symbol.name start_name) (placed_from (listed_block inputs.objects) (begin + b.size) ls)))
+      ap (λ t. cond t (Some (l, begin)) (find (λ e. same_name e.0.symbol.name start_name) (placed_from (common_block inputs.objects) (begin + b.size) ls)))
       (other l (All-head (λ m. HasNumber names m.symbol) l ls all).within)
       ∙ no_common (begin + b.size) ls (All-tail (λ m. HasNumber names m.symbol) l ls all)
 

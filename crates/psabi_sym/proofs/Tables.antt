@@ -1,5 +1,5 @@
 -- Tables by the number of a name: one more row changes the entry of its own name alone.
-use Rattle.std.proofs.Common.{◌≡◌, ℕ, ◌+◌, ◌<◌, ◌≢◌, Bool, true, false, cond, eqb, ◌&&◌, List, [], ◌∷◌, ◌++◌, length, get_or, set, take, max, refl, sym, ap, ◌∙◌, arith, map, inl, inr, Option, Some, None, replicate, get_or-set_same, get_or-set_other, length-set}
+use Rattle.std.proofs.Common.{◌≡◌, ℕ, ◌+◌, ◌<◌, ◌≢◌, Bool, true, false, cond, eqb, ◌&&◌, List, [], ◌∷◌, ◌++◌, length, get_or, set, take, max, refl, sym, ap, ◌∙◌, arith, map, inl, inr, Option, Some, None, replicate, get_or-set_same, get_or-set_other, length-set, fold}
 use Rattle.std.specs.List.{range_with_len}
 use Rattle.std.specs.Option.{option_or}
 use Rattle.std.proofs.lemmas.Bool.{cases_eq, eq-eqb, ne_eqb, and_right}
@@ -10,8 +10,7 @@ use Rattle.std.proofs.lemmas.Grind.{fold-append}
 use Rattle.std.proofs.lemmas.List.FromFn.{fill_by_all, get_or-map-range_with_len, length-map-range_with_len}
 use Rattle.psabi_sym.specs.declared.block.Block.{Block}
 use Rattle.psabi_sym.specs.declared.symbol_row.SymbolRow.{SymbolRow}
-use Rattle.psabi_sym.specs.Data.{greatest}
-use Rattle.psabi_sym.specs.Rows.{common_rows, first_of_both, first_row, grown_block, row_common_block, row_defines, row_is_common}
+use Rattle.psabi_sym.specs.Invariants.Rows.{common_rows, first_of_both, first_row, grown_block, row_common_block, row_defines, row_is_common}
 
 -- a table that is one value throughout
 pub table_start : {X : Type 0} (f : ℕ → X) (n : ℕ) (x : X) → ((k : ℕ) → f k ≡ x) → replicate n x ≡ map f (range_with_len 0 n)
@@ -80,12 +79,12 @@ first_row_same bind rows i d n within other =
 
 -- the room of common symbols
 abbrev block_of : List SymbolRow → Block
-block_of rows = record { align = greatest (map (λ r. max 1 r.value) rows); size = greatest (map (λ r. r.size) rows) }
+block_of rows = record { align = fold max 0 (map (λ r. max 1 r.value) rows); size = fold max 0 (map (λ r. r.size) rows) }
 
 block_of_push : (rows : List SymbolRow) (r : SymbolRow) → block_of (rows ++ r ∷ []) ≡ record { align = max (block_of rows).align (max 1 r.value); size = max (block_of rows).size r.size }
 block_of_push rows r = λ i. record {
-  align = (ap greatest (map_push (λ s. max 1 s.value) rows r) ∙ fold-append max 0 (map (λ s. max 1 s.value) rows) (max 1 r.value ∷ [])) i;
-  size = (ap greatest (map_push (λ s. s.size) rows r) ∙ fold-append max 0 (map (λ s. s.size) rows) (r.size ∷ [])) i;
+  align = (ap (fold max 0) (map_push (λ s. max 1 s.value) rows r) ∙ fold-append max 0 (map (λ s. max 1 s.value) rows) (max 1 r.value ∷ [])) i;
+  size = (ap (fold max 0) (map_push (λ s. s.size) rows r) ∙ fold-append max 0 (map (λ s. s.size) rows) (r.size ∷ [])) i;
 }
 
 -- the room of a name, with one more row

@@ -11,9 +11,9 @@ use Rattle.std.proofs.lemmas.List.{drop_all, get_or-append-add, get_or_append_le
 use Rattle.std.proofs.lemmas.List.Elements.{All-push}
 use Rattle.std.proofs.lemmas.List.Sums.{prefix_len-le-length, take_while-cons}
 use Rattle.elf32_read.specs.Names.{name_at}
-use Rattle.psabi_sym.specs.Keys.{AreBlocks, AreEnds, AreKeys, AreTails, Extends, IsAdded, IsEnd, IsKey, lent, tails_of}
+use Rattle.psabi_sym.specs.Invariants.Keys.{AreKeys, AreNameEnds, AreTails, AreTextBlocks, Extends, IsAdded, IsEnd, IsKey, lent, tails_of}
 use Rattle.psabi_sym.specs.Names.{same_name}
-use Rattle.psabi_sym.specs.Rows.{name_number, with_name}
+use Rattle.psabi_sym.specs.Invariants.Rows.{name_number, with_name}
 use Rattle.psabi_sym.specs.declared.key.Key.{Key}
 use Rattle.psabi_sym.specs.declared.name_ends.NameEnd.{NameEnd}
 use Rattle.psabi_sym.proofs.NumberLaws.{number_added, number_kept, same_is}
@@ -169,7 +169,7 @@ module _ (tails : List (List ℕ)) (x : ℕ) (name name' : List ℕ) (step : nam
       }
 
 -- a block is numbered
-module _ (keys keys' : List Key) (texts texts' : List (Bor (List ℕ))) (are : AreBlocks keys texts) (x : ℕ) (name name' : List ℕ) (step : name ≡ x ∷ name') (whole : length name % 64 ≡ 0) (n : ℕ) (is : IsAdded 1 (tails_of texts) (lent texts) (lent texts') keys' name n) where
+module _ (keys keys' : List Key) (texts texts' : List (Bor (List ℕ))) (are : AreTextBlocks keys texts) (x : ℕ) (name name' : List ℕ) (step : name ≡ x ∷ name') (whole : length name % 64 ≡ 0) (n : ℕ) (is : IsAdded 1 (tails_of texts) (lent texts) (lent texts') keys' name n) where
   grown : tails_of texts' ≡ with_name (tails_of texts) name
   grown = ap (λ l. [] ∷ l) is.texts_are ∙ subst (λ t. [] ∷ with_name (lent texts) t ≡ with_name (tails_of texts) t) (sym step) (by (list_any (same_name (x ∷ name')) (lent texts)))
     where
@@ -180,7 +180,7 @@ module _ (keys keys' : List Key) (texts texts' : List (Bor (List ℕ))) (are : A
   pub block_extends : Extends (tails_of texts) (tails_of texts')
   block_extends = subst (λ t. Extends (tails_of texts) t) (sym grown) (extends_with (tails_of texts) name)
 
-  pub block_added : AreBlocks keys' texts'
+  pub block_added : AreTextBlocks keys' texts'
   block_added = record {
     tails = subst AreTails (sym grown) (tails_more (tails_of texts) name are.tails whole);
     keys_are = keys_extend 1 (tails_of texts) (tails_of texts') block_extends keys' (lent texts') is.keys_are;
@@ -209,5 +209,5 @@ end_key tails name end is key text same part rest = record {
 }
 
 -- and lies in it
-pub ends_within : (texts : List (Bor (List ℕ))) (table : List ℕ) (ends : List NameEnd) → AreEnds texts table ends → (at : ℕ) (d : NameEnd) → at < length table → at + (get_or ends at d).length ≤ length table
+pub ends_within : (texts : List (Bor (List ℕ))) (table : List ℕ) (ends : List NameEnd) → AreNameEnds texts table ends → (at : ℕ) (d : NameEnd) → at < length table → at + (get_or ends at d).length ≤ length table
 ends_within texts table ends are at d inside = let within : at ≤ length table = omega (arith, inside) in omega (arith, name_within table at within, (are.each at d inside).length_is)

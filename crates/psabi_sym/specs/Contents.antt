@@ -4,7 +4,7 @@ use Rattle.std.specs.List.{fold}
 use Rattle.std.specs.Option.{option_map_or}
 use Rattle.psabi_sym.specs.Data.{data_address, data_file_end}
 use Rattle.psabi_sym.specs.Inputs.{ParsedInputs}
-use Rattle.psabi_sym.specs.Listed.{ListedSection, all_sections}
+use Rattle.psabi_sym.specs.Indexed.{IndexedSection, all_sections}
 
 -- a list with another over it, from an index on; what would stand past its end is left out, which never happens to data: its
 -- classes with content end where the list does
@@ -13,7 +13,7 @@ overlaid at new old = take at old ++ (take (length old - at) new ++ drop (at + l
 
 -- bytes from the map's start of data on, with the content of a section over those at its address; a section of NOBITS (8) has
 -- no content, and one that isn't data no address
-abbrev pub with_content : ParsedInputs → List ℕ → ListedSection → List ℕ
+abbrev pub with_content : ParsedInputs → List ℕ → IndexedSection → List ℕ
 with_content inputs bytes l =
     if l.section.kind == 8 then bytes
     else option_map_or (λ at. overlaid (at - inputs.map.data_low) l.section.bytes bytes) (data_address inputs l.object l.index) bytes

@@ -7,7 +7,7 @@ use Rattle.elf32_read.specs.Parts.{ObjectParts, SectionParts, is_code_section, i
 use Rattle.psabi_sym.specs.Blocks.{aligned_up, end_from, placed_from}
 use Rattle.psabi_sym.specs.Classes.{classes_before, same_class}
 use Rattle.psabi_sym.specs.Inputs.{ParsedInputs}
-use Rattle.psabi_sym.specs.Listed.{ListedSection, ListedSymbol, all_sections, all_symbols, section_at, sections_before}
+use Rattle.psabi_sym.specs.Indexed.{IndexedSection, IndexedSymbol, all_sections, all_symbols, section_at, sections_before}
 use Rattle.psabi_sym.specs.Names.{commons_of, firsts, is_common, same_name, strong_definition}
 use Rattle.psabi_sym.specs.declared.block.Block.{Block}
 use Rattle.psabi_sym.specs.declared.data_class.DataClass.{DataClass}
@@ -27,9 +27,9 @@ class_of s =
     if s.kind == 8 then (if is_of_kin (codes ".sbss") s.name then SmallZero else Zero)
     else (if not (has_flags 1 s.flags) then ReadOnly else (if is_of_kin (codes ".sdata") s.name then SmallData else Data))
 
--- what a section is: dropped if it isn't kept, and else code (EXECINSTR, 4) or data
+-- what a section is: code, or else data if it is kept, and dropped if it isn't
 unfoldable pub role_of : SectionParts → SectionRole
-role_of s = if not (is_kept_section s) then Dropped else (if has_flags 4 s.flags then Code else InClass (class_of s))
+role_of s = if is_code_section s then Code else (if is_kept_section s then InClass (class_of s) else Dropped)
 
 -- data of this class
 abbrev pub has_class : DataClass → SectionRole → Bool
@@ -44,42 +44,30 @@ is_code_role (InClass class) = false
 is_code_role Dropped = false
 
 -- a section is data of this class
-abbrev pub is_of_class : DataClass → ListedSection → Bool
+abbrev pub is_of_class : DataClass → IndexedSection → Bool
 is_of_class class l = has_class class (role_of l.section)
 
 -- ---- what takes room
 
--- the greatest number
-abbrev pub greatest : List ℕ → ℕ
-greatest numbers = fold max 0 numbers
-
 -- the room of a section
-abbrev pub section_block : ListedSection → Block
+abbrev pub section_block : IndexedSection → Block
 section_block l = record { align = l.section.align; size = l.section.size }
 
 -- what these sections of a class take, in order
-abbrev pub blocks_in : DataClass → List ListedSection → List Block
+abbrev pub blocks_in : DataClass → List IndexedSection → List Block
 blocks_in class sections = map section_block (filter (is_of_class class) sections)
 
 -- the common symbols that take room, the first of each name in order: no strong definition has its name
-unfoldable pub commons_placed : List ObjectParts → List ListedSymbol
+unfoldable pub commons_placed : List ObjectParts → List IndexedSymbol
 commons_placed objects =
     firsts (filter (λ l. is_common l.symbol && is_none (strong_definition objects l.symbol.name)) (all_symbols objects))
 
--- the room of a name: the greatest alignment, which is the value, and the greatest size of its common symbols
-abbrev pub common_block : List ObjectParts → List ℕ → Block
-common_block objects name = let same = commons_of objects name in record {
-  align = greatest (map (λ l. max 1 l.symbol.value) same);
-  size = greatest (map (λ l. l.symbol.size) same);
+-- the room of a symbol's name: the greatest alignment, which is the value, and the greatest size of the name's common symbols
+abbrev pub common_block : List ObjectParts → IndexedSymbol → Block
+common_block objects l = let same = commons_of objects l.symbol.name in record {
+  align = fold max 0 (map (λ m. max 1 m.symbol.value) same);
+  size = fold max 0 (map (λ m. m.symbol.size) same);
 }
-
--- the room of a symbol's name
-abbrev pub listed_block : List ObjectParts → ListedSymbol → Block
-listed_block objects l = common_block objects l.symbol.name
-
--- what the common symbols take, in order
-abbrev pub common_blocks : List ObjectParts → List Block
-common_blocks objects = map (listed_block objects) (commons_placed objects)
 
 -- all that a class has
 abbrev pub blocks_of : List ObjectParts → DataClass → List Block
@@ -88,7 +76,7 @@ blocks_of objects Data = blocks_in Data (all_sections objects)
 blocks_of objects SmallData = blocks_in SmallData (all_sections objects)
 blocks_of objects SmallZero = blocks_in SmallZero (all_sections objects)
 blocks_of objects Zero = blocks_in Zero (all_sections objects)
-blocks_of objects Common = common_blocks objects
+blocks_of objects Common = map (common_block objects) (commons_placed objects)
 
 -- ---- addresses
 
@@ -119,13 +107,11 @@ role_address inputs o i s Dropped = None
 unfoldable pub data_address : ParsedInputs → ℕ → ℕ → Option ℕ
 data_address inputs o i = option_and_then (λ s. role_address inputs o i s (role_of s)) (section_at inputs.objects o i)
 
--- the common symbols that take room, each with its address
-abbrev pub placed_commons : ParsedInputs → List (ListedSymbol × ℕ)
-placed_commons inputs = placed_from (listed_block inputs.objects) (class_start inputs Common) (commons_placed inputs.objects)
-
--- the address of a name that is common
+-- the address of a name that is common: that of the symbol of this name that takes room
 unfoldable pub common_address : ParsedInputs → List ℕ → Option ℕ
-common_address inputs name = option_map (λ e. e.1) (find (λ e. same_name e.0.symbol.name name) (placed_commons inputs))
+common_address inputs name =
+    let placed = placed_from (common_block inputs.objects) (class_start inputs Common) (commons_placed inputs.objects) in
+    option_map (λ e. e.1) (find (λ e. same_name e.0.symbol.name name) placed)
 
 -- a section is code, by its object's index and its own
 abbrev pub is_code_at : List ObjectParts → ℕ → ℕ → Bool

@@ -1,6 +1,6 @@
 -- Faults of objects, in the order in which they are looked for: too many objects, one that can't be read, sums that are too
 -- large, and names that are defined twice or not at all.
-use Rattle.std.specs.Prelude.{ℕ, zero, suc, ◌+◌, ℤ, pos, negsuc, Bool, false, not, ◌&&◌, ◌||◌, ◌==◌, nat_lt, max, if◌then◌else◌, is_none, List, [], ◌∷◌, length, drop, take, Option, Some, None, slice_get}
+use Rattle.std.specs.Prelude.{ℕ, zero, suc, ◌+◌, ◌≤◌, ℤ, pos, negsuc, Bool, false, not, ◌&&◌, ◌||◌, ◌==◌, nat_lt, max, if◌then◌else◌, is_none, List, [], ◌∷◌, length, drop, take, Option, Some, None, slice_get}
 use Rattle.std.specs.List.{find, list_any, range_with_len, sum_by}
 use Rattle.std.specs.Option.{option_map, option_map_or, option_or}
 use Rattle.elf32_read.specs.declared.fault.Fault.{Fault}
@@ -10,7 +10,7 @@ use Rattle.elf32_read.specs.Object.{object_fault}
 use Rattle.elf32_read.specs.Parts.{ObjectParts, SectionParts, SymbolParts, object_parts}
 use Rattle.psabi_sym.specs.Data.{role_of}
 use Rattle.psabi_sym.specs.Inputs.{Inputs, ParsedInputs, parsed}
-use Rattle.psabi_sym.specs.Listed.{ListedSymbol, all_symbols}
+use Rattle.psabi_sym.specs.Indexed.{IndexedSymbol, all_symbols}
 use Rattle.psabi_sym.specs.Names.{is_common, is_strong, strong_definition}
 use Rattle.psabi_sym.specs.Resolve.{name_definition}
 use Rattle.psabi_sym.specs.declared.section_row.SectionRole.{SectionRole}
@@ -88,6 +88,20 @@ sums_of files = record {
   data_room = sum_by (λ f. object_data (object_parts f)) files;
 }
 
+-- sums with one more file
+abbrev pub with_object : Sums → List ℕ → Sums
+with_object s file = record {
+  file_bytes = s.file_bytes + length file;
+  code_room = s.code_room + object_code (object_parts file);
+  data_room = s.data_room + object_data (object_parts file);
+}
+
+-- each of them is at most a number
+pub record AreWithin (most : ℕ) (s : Sums) : Type 0 where
+  pub file_bytes : s.file_bytes ≤ most
+  pub code_room : s.code_room ≤ most
+  pub data_room : s.data_room ≤ most
+
 -- the files have more than 32 MiB, or their code more than 256 KiB, or their data, with 16 bytes for each of six classes, more
 -- than 4 MiB
 abbrev pub are_too_large : Sums → Bool
@@ -101,11 +115,11 @@ sum_fault files =
 -- ---- names
 
 -- two symbols stand at one place
-abbrev pub same_symbol : ListedSymbol → ListedSymbol → Bool
+abbrev pub same_symbol : IndexedSymbol → IndexedSymbol → Bool
 same_symbol first second = first.object == second.object && first.index == second.index
 
 -- a strong definition of a name that an earlier symbol defines strongly
-abbrev pub is_second : List ObjectParts → ListedSymbol → Bool
+abbrev pub is_second : List ObjectParts → IndexedSymbol → Bool
 is_second objects l =
     is_strong l.symbol && option_map_or (λ first. not (same_symbol first l)) (strong_definition objects l.symbol.name) false
 
@@ -122,11 +136,11 @@ abbrev pub is_used_in : ObjectParts → ℕ → Bool
 is_used_in object symbol = list_any (λ s. names symbol s.relocs) object.sections
 
 -- the same of a symbol of one of the objects
-unfoldable pub is_used : List ObjectParts → ListedSymbol → Bool
+unfoldable pub is_used : List ObjectParts → IndexedSymbol → Bool
 is_used objects l = option_map_or (λ object. is_used_in object l.index) (slice_get objects l.object) false
 
 -- a global (1) symbol that is undefined (0), is used, and that nothing defines
-abbrev pub is_missing : ParsedInputs → ListedSymbol → Bool
+abbrev pub is_missing : ParsedInputs → IndexedSymbol → Bool
 is_missing inputs l =
     l.symbol.bind == 1 && l.symbol.home == 0 && is_used inputs.objects l && is_none (name_definition inputs l.symbol.name)
 
@@ -140,6 +154,10 @@ undefined_fault inputs = option_map (λ l. (l.object, Undefined l.index)) (find 
 abbrev pub first_some : {A : Type 0} → List (Option A) → Option A
 first_some [] = None
 first_some (o ∷ os) = option_or o (first_some os)
+
+-- the first fault of names
+abbrev pub name_fault : ParsedInputs → Option (ℕ × Fault)
+name_fault inputs = first_some (duplicate_fault inputs.objects ∷ undefined_fault inputs ∷ [])
 
 -- the first fault of inputs, with its object's index, or none
 unfoldable pub gather_fault : Inputs → Option (ℕ × Fault)

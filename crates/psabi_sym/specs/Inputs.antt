@@ -16,3 +16,7 @@ pub record ParsedInputs : Type 0 where
 -- what inputs without a fault read as; from here on their bytes play no part
 abbrev pub parsed : Inputs → ParsedInputs
 parsed inputs = record { objects = map object_parts inputs.files; map = inputs.map }
+
+-- the same by the files and the map
+abbrev pub read_from : List (List ℕ) → MemMap → ParsedInputs
+read_from files memory = parsed (record { files = files; map = memory })

@@ -3,7 +3,7 @@ use Rattle.std.specs.Prelude.{ℕ, Bool, not, ◌&&◌, ◌||◌, ◌==◌, nat_
 use Rattle.std.specs.Cmp.Lexicographic.{pointwise}
 use Rattle.std.specs.List.{find}
 use Rattle.elf32_read.specs.Parts.{ObjectParts, SymbolParts}
-use Rattle.psabi_sym.specs.Listed.{ListedSymbol, all_symbols}
+use Rattle.psabi_sym.specs.Indexed.{IndexedSymbol, all_symbols}
 
 -- the same bytes
 abbrev pub same_name : List ℕ → List ℕ → Bool
@@ -26,22 +26,22 @@ abbrev pub is_strong : SymbolParts → Bool
 is_strong s = is_definition 1 s
 
 -- the first definition of a name with this binding
-abbrev pub first_definition : ℕ → List ObjectParts → List ℕ → Option ListedSymbol
+abbrev pub first_definition : ℕ → List ObjectParts → List ℕ → Option IndexedSymbol
 first_definition bind objects name = find (λ l. is_definition bind l.symbol && same_name l.symbol.name name) (all_symbols objects)
 
 -- the first strong definition of a name
-abbrev pub strong_definition : List ObjectParts → List ℕ → Option ListedSymbol
+abbrev pub strong_definition : List ObjectParts → List ℕ → Option IndexedSymbol
 strong_definition objects name = first_definition 1 objects name
 
 -- the first weak (2) definition of a name
-abbrev pub weak_definition : List ObjectParts → List ℕ → Option ListedSymbol
+abbrev pub weak_definition : List ObjectParts → List ℕ → Option IndexedSymbol
 weak_definition objects name = first_definition 2 objects name
 
 -- the common symbols of a name
-abbrev pub commons_of : List ObjectParts → List ℕ → List ListedSymbol
+abbrev pub commons_of : List ObjectParts → List ℕ → List IndexedSymbol
 commons_of objects name = filter (λ l. is_common l.symbol && same_name l.symbol.name name) (all_symbols objects)
 
 -- of symbols, the first of each name
-abbrev pub firsts : List ListedSymbol → List ListedSymbol
+abbrev pub firsts : List IndexedSymbol → List IndexedSymbol
 firsts [] = []
 firsts (l ∷ ls) = l ∷ filter (λ m. not (same_name m.symbol.name l.symbol.name)) (firsts ls)

@@ -1,12 +1,12 @@
 -- What a symbol with an addend resolves to (System V gABI, "Symbol Table").
-use Rattle.std.specs.Prelude.{ℕ, zero, suc, ◌+◌, ◌%◌, ◌^◌, ℤ, pos, negsuc, ◌+ℤ◌, ◌==◌, nat_le, if◌then◌else◌, List, [], ◌∷◌, codes, Option, Some, None}
+use Rattle.std.specs.Prelude.{ℕ, zero, suc, ◌+◌, ◌%◌, ◌^◌, ℤ, pos, negsuc, ◌+ℤ◌, not, ◌||◌, ◌==◌, nat_le, if◌then◌else◌, List, [], ◌∷◌, codes, Option, Some, None}
 use Rattle.std.specs.Int.{w32, cast_unsigned}
 use Rattle.std.specs.List.{find}
 use Rattle.std.specs.Option.{option_map, option_map_or, option_or}
 use Rattle.elf32_read.specs.Parts.{SectionParts, SymbolParts}
 use Rattle.psabi_sym.specs.Data.{address_in, class_end, class_start, common_address, role_of}
 use Rattle.psabi_sym.specs.Inputs.{ParsedInputs}
-use Rattle.psabi_sym.specs.Listed.{ListedSymbol, section_at, symbol_at}
+use Rattle.psabi_sym.specs.Indexed.{IndexedSymbol, section_at, symbol_at}
 use Rattle.psabi_sym.specs.Names.{is_common, same_name, strong_definition, weak_definition}
 use Rattle.psabi_sym.specs.declared.data_class.DataClass.TheVariants.{SmallData, SmallZero, Common}
 use Rattle.psabi_sym.specs.declared.meaning.LinkerNumbers.{LinkerNumbers}
@@ -26,25 +26,18 @@ linker_numbers inputs = record {
   stack_top = inputs.map.stack_high;
 }
 
--- the names that stand for them, if no object defines them
-abbrev pub linker_names : LinkerNumbers → List (List ℕ × ℕ)
-linker_names numbers =
-    (codes "__global_pointer$", numbers.global_pointer) ∷ (codes "__bss_start", numbers.bss_start) ∷ (codes "_end", numbers.end)
-    ∷ (codes "__stack_top", numbers.stack_top) ∷ []
-
--- the number of such a name
+-- the number of a name that stands for one of them, if no object defines it
 unfoldable pub linker_number : LinkerNumbers → List ℕ → Option ℕ
-linker_number numbers name = option_map (λ e. e.1) (find (λ e. same_name name e.0) (linker_names numbers))
-
--- the value of such a name
-abbrev pub linker_value : ParsedInputs → List ℕ → Option ℕ
-linker_value inputs name = linker_number (linker_numbers inputs) name
+linker_number numbers name =
+    let named : List (List ℕ × ℕ) = (codes "__global_pointer$", numbers.global_pointer) ∷ (codes "__bss_start", numbers.bss_start)
+    ∷ (codes "_end", numbers.end) ∷ (codes "__stack_top", numbers.stack_top) ∷ [] in
+    option_map (λ e. e.1) (find (λ e. same_name name e.0) named)
 
 -- ---- what defines a name
 
 -- a symbol of an object, or a number of the linker's: an address of data, or a value
 pub data Definition : Type 0 where
-  InObject : ListedSymbol → Definition
+  InObject : IndexedSymbol → Definition
   AtNumber : ℕ → Definition
 
 -- a name is its strong definition, else common, else its first weak definition, else the linker's; none if nothing defines it
@@ -53,17 +46,13 @@ name_definition inputs name =
     option_or (option_map InObject (strong_definition inputs.objects name))
     (option_or (option_map AtNumber (common_address inputs name))
     (option_or (option_map InObject (weak_definition inputs.objects name))
-    (option_map AtNumber (linker_value inputs name))))
+    (option_map AtNumber (linker_number (linker_numbers inputs) name))))
 
 -- ---- where a definition leads
 
--- an addend as a word
-abbrev pub word_of : ℤ → ℕ
-word_of addend = cast_unsigned w32 addend
-
 -- a number and an addend, modulo 2^32
 abbrev pub number_target : ℕ → ℤ → Target
-number_target n addend = Number ((n + word_of addend) % 2 ^ 32)
+number_target n addend = Number ((n + cast_unsigned w32 addend) % 2 ^ 32)
 
 -- an offset in a section of this size, or its end; none outside
 abbrev pub offset_within : ℕ → ℤ → Option ℕ
@@ -81,14 +70,12 @@ role_target inputs o i value addend section role.Code = code_target o i section 
 role_target inputs o i value addend section (role.InClass class) = number_target (address_in inputs o i section class + value) addend
 role_target inputs o i value addend section role.Dropped = Nowhere
 
-abbrev pub section_target : ParsedInputs → ℕ → ℕ → ℕ → ℤ → SectionParts → Target
-section_target inputs o i value addend section = role_target inputs o i value addend section (role_of section)
-
 -- where a symbol with a home leads: a number by itself if it is ABS (0xFFF1)
 abbrev pub home_target : ParsedInputs → ℕ → SymbolParts → ℤ → Target
 home_target inputs o s addend =
     if s.home == 0xFFF1 then number_target s.value addend
-    else option_map_or (section_target inputs o s.home s.value addend) (section_at inputs.objects o s.home) Nowhere
+    else option_map_or (λ section. role_target inputs o s.home s.value addend section (role_of section))
+    (section_at inputs.objects o s.home) Nowhere
 
 -- where a definition leads
 abbrev pub definition_target : ParsedInputs → ℤ → Definition → Target
@@ -105,18 +92,14 @@ name_target inputs name = option_map_or (definition_target inputs (pos 0)) (name
 
 -- what nothing defines: a weak (2) symbol is absent, which is no error
 abbrev pub undefined_target : SymbolParts → ℤ → Target
-undefined_target s addend = if s.bind == 2 then Absent (word_of addend) else Nowhere
-
--- where a name leads
-abbrev pub named_target : ParsedInputs → SymbolParts → ℤ → Target
-named_target inputs s addend =
-    option_map_or (definition_target inputs addend) (name_definition inputs s.name) (undefined_target s addend)
+undefined_target s addend = if s.bind == 2 then Absent (cast_unsigned w32 addend) else Nowhere
 
 -- a symbol: a local one (0) that isn't common is its own definition, and all others go by their names
 abbrev pub symbol_target : ParsedInputs → ℕ → SymbolParts → ℤ → Target
 symbol_target inputs o s addend =
-    if is_common s then named_target inputs s addend
-    else (if s.bind == 0 then home_target inputs o s addend else named_target inputs s addend)
+    if is_common s || not (s.bind == 0)
+    then option_map_or (definition_target inputs addend) (name_definition inputs s.name) (undefined_target s addend)
+    else home_target inputs o s addend
 
 -- a symbol by its object's index and its own: symbol 0 is the number 0
 unfoldable pub resolved : ParsedInputs → ℕ → ℕ → ℤ → Target

@@ -1,7 +1,7 @@
 -- What the name stands for at which a program starts.
 use Rattle.std.specs.Prelude.{◌≡◌, ℕ, List, codes}
 use Rattle.psabi_sym.specs.Inputs.{ParsedInputs}
-use Rattle.psabi_sym.specs.Meanings.{meaning_row}
+use Rattle.psabi_sym.specs.Invariants.Meanings.{meaning_row}
 use Rattle.psabi_sym.specs.Resolve.{name_definition}
 use Rattle.psabi_sym.specs.declared.meaning.Meaning.{Meaning}
 

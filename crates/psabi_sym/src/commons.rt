@@ -3,15 +3,13 @@
 ghost use Rattle.std.specs.Prelude.{◌≡◌, ◌&&◌, ◌+◌, ◌^◌, ◌<◌, ℕ, All, IfOk, None, is_none, length, map, slice_index_or, true};
 ghost use Rattle.std.specs.List.{range_with_len, sum_by};
 ghost use Rattle.psabi_sym.specs.Blocks.{aligned_up, end_from, placed_from};
-ghost use Rattle.psabi_sym.specs.Rows.{first_row, placed_rows, row_address_of, row_common_block, row_common_room, row_is_common, row_room};
+ghost use Rattle.psabi_sym.specs.Invariants.Rows.{first_row, placed_rows, row_address_of, row_common_block, row_common_room, row_is_common, row_room};
 ghost use Rattle.psabi_sym.specs.declared.symbol_row.SymbolRow.{SymbolRow};
 
-use crate::block::Block;
-use crate::layout::aligned_up;
+use crate::layout::{CLASS_ALIGN, aligned_up};
+use crate::name_tables::common_blocks;
 use crate::symbol_row::SymbolRow;
 use std::alloc::{AllocError, Global};
-
-const CLASS_ALIGN: u32 = 16;
 
 /// Where common symbols lie: the address of each name that is common, by the name's number, and where
 /// the last of them ends.
@@ -32,26 +30,25 @@ fn takes_room(row: &SymbolRow, strong: &[Option<SymbolRow>], addresses: &[Option
     row.is_common() && strong[name].is_none() && addresses[name].is_none()
 }
 
-/// Places the common symbols one after another, from an address on, by the tables of the strong
-/// definitions and of the room of each name.
+/// Places the common symbols one after another, from an address on, by the table of the first strong
+/// definition of each name.
 pub fn place_commons(
     alloc: Global,
     rows: &[SymbolRow],
     strong: &[Option<SymbolRow>],
-    blocks: &[Block],
     from: u32,
 ) -> Result<Commons, AllocError>
-    requires named { All (λ r. row_is_common r ≡ true → r.name < length blocks.now) rows.now }
-    requires strong { strong.now ≡ map (first_row 1 rows.now) (range_with_len 0 (length blocks.now)) }
-    requires blocks { blocks.now ≡ map (row_common_block rows.now) (range_with_len 0 (length blocks.now)) }
+    requires named { All (λ r. row_is_common r ≡ true → r.name < length strong.now) rows.now }
+    requires strong { strong.now ≡ map (first_row 1 rows.now) (range_with_len 0 (length strong.now)) }
     requires room { from + 16 + sum_by row_common_room rows.now < 2 ^ 32 }
     ensures end { IfOk result (λ commons. commons.end
         ≡ end_from (aligned_up 16 from) (map (row_room rows.now) (placed_rows rows.now rows.now))) }
     ensures addresses { IfOk result (λ commons. commons.addresses.items
         ≡ map (row_address_of (placed_from (row_room rows.now) (aligned_up 16 from) (placed_rows rows.now rows.now)))
-        (range_with_len 0 (length blocks.now))) }
+        (range_with_len 0 (length strong.now))) }
 {
-    let mut addresses = vec![in alloc; None; blocks.len()]?;
+    let blocks = common_blocks(alloc, rows, strong.len())?;
+    let mut addresses = vec![in alloc; None; strong.len()]?;
     let mut at = aligned_up(CLASS_ALIGN, from);
     for row in rows {
         if takes_room(row, strong, &addresses) {

@@ -3,14 +3,13 @@
 ghost use Rattle.std.specs.Prelude.{◌≡◌, IfOk, Some};
 ghost use Rattle.psabi_sym.specs.Contents.{data_contents, overlaid, with_content};
 ghost use Rattle.psabi_sym.specs.Inputs.{parsed};
-ghost use Rattle.psabi_sym.specs.Listed.{section_at};
+ghost use Rattle.psabi_sym.specs.Indexed.{section_at};
 
 use crate::objects::Objects;
 use crate::section_ref::SectionRef;
 use crate::section_row::SectionRole;
+use elf32_read::header::NOBITS;
 use std::alloc::{AllocError, Global};
-
-const NOBITS: u32 = 8;
 
 impl Objects {
     /// The bytes of data that files hold, from the map's start of data to the end of small data. From

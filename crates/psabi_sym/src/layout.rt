@@ -3,8 +3,7 @@
 ghost use Rattle.std.specs.Prelude.{◌≡◌, IfOk, ◌+◌, ◌^◌, ◌<◌, ◌≤◌, ℕ, Some, length, max, slice_get, slice_index, take, if◌then◌else◌};
 ghost use Rattle.psabi_sym.specs.Blocks.{aligned_up, end_from, room_of_all};
 ghost use Rattle.psabi_sym.specs.Data.{has_class};
-ghost use Rattle.psabi_sym.specs.Rows.{row_address, row_blocks, row_data_room, row_end, row_start, ArePlaced};
-ghost use Rattle.psabi_sym.specs.declared.data_class.DataClass.TheVariants.{SmallData, SmallZero, Zero};
+ghost use Rattle.psabi_sym.specs.Invariants.Rows.{row_address, row_blocks, row_data_room, AreClassEnds, ArePlaced};
 ghost use Rattle.std.specs.List.{sum_by};
 ghost use Rattle.psabi_sym.specs.declared.section_row.SectionRow.{SectionRow};
 
@@ -12,7 +11,8 @@ use crate::data_class::DataClass;
 use crate::section_row::SectionRow;
 use std::alloc::{AllocError, Global};
 
-const CLASS_ALIGN: u32 = 16;
+/// What each class of data begins at a multiple of.
+pub const CLASS_ALIGN: u32 = 16;
 
 /// The address, rounded up to a multiple of the alignment, of which 0 counts as 1.
 #[tactic(auto, unfolding(crate::specs::Blocks::aligned_up))]
@@ -57,7 +57,7 @@ pub struct ClassEnds {
 
 /// Where the sections of data lie: the address of each, and where classes begin and end.
 #[derive(Drop)]
-pub struct Layout {
+pub struct DataLayout {
     pub addresses: Vec<u32>,
     pub ends: ClassEnds,
 }
@@ -68,12 +68,7 @@ pub fn place_classes(rows: &[SectionRow], low: u32, addresses: &mut [u32]) -> Cl
     requires same_length { length addresses.old ≡ length rows.now }
     requires room { low + 96 + sum_by row_data_room rows.now < 2 ^ 32 }
     ensures addresses { ArePlaced rows.now low addresses.new }
-    ensures small_data { result.small_data ≡ row_start rows.now low SmallData }
-    ensures file_end { result.file_end ≡ end_from (row_start rows.now low SmallData) (row_blocks SmallData rows.now) }
-    ensures small_zero { result.small_zero ≡ row_start rows.now low SmallZero }
-    ensures end { result.end ≡ end_from (row_start rows.now low Zero) (row_blocks Zero rows.now) }
-    ensures most { result.end ≤ low + 80 + sum_by row_data_room rows.now }
-    ensures small_data_most { result.small_data ≤ low + 96 + sum_by row_data_room rows.now }
+    ensures ends { AreClassEnds rows.now low result }
 {
     let read_only = place_class(rows, DataClass::ReadOnly, low, addresses);
     let data = place_class(rows, DataClass::Data, read_only, addresses);
@@ -89,19 +84,13 @@ pub fn place_classes(rows: &[SectionRow], low: u32, addresses: &mut [u32]) -> Cl
 }
 
 /// The address of each section from an address on, and where classes begin and end.
-pub fn lay_out(alloc: Global, rows: &[SectionRow], low: u32) -> Result<Layout, AllocError>
+pub fn lay_out(alloc: Global, rows: &[SectionRow], low: u32) -> Result<DataLayout, AllocError>
     requires { low + 96 + sum_by row_data_room rows.now < 2 ^ 32 }
     ensures addresses { IfOk result (λ layout. ArePlaced rows.now low layout.addresses.items) }
     ensures count { IfOk result (λ layout. length layout.addresses.items ≡ length rows.now) }
-    ensures small_data { IfOk result (λ layout. layout.ends.small_data ≡ row_start rows.now low SmallData) }
-    ensures file_end { IfOk result (λ layout. layout.ends.file_end
-        ≡ end_from (row_start rows.now low SmallData) (row_blocks SmallData rows.now)) }
-    ensures small_zero { IfOk result (λ layout. layout.ends.small_zero ≡ row_start rows.now low SmallZero) }
-    ensures end { IfOk result (λ layout. layout.ends.end ≡ end_from (row_start rows.now low Zero) (row_blocks Zero rows.now)) }
-    ensures most { IfOk result (λ layout. layout.ends.end ≤ low + 80 + sum_by row_data_room rows.now) }
-    ensures small_data_most { IfOk result (λ layout. layout.ends.small_data ≤ low + 96 + sum_by row_data_room rows.now) }
+    ensures ends { IfOk result (λ layout. AreClassEnds rows.now low layout.ends) }
 {
     let mut addresses = vec![in alloc; 0; rows.len()]?;
     let ends = place_classes(rows, low, &mut addresses);
-    Ok(Layout { addresses, ends })
+    Ok(DataLayout { addresses, ends })
 }

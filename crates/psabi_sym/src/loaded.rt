@@ -22,7 +22,7 @@ pub struct Loaded {
 
 impl Model for Loaded {
     ghost use Rattle.std.specs.Prelude.{List, ℕ};
-    ghost use Rattle.psabi_sym.specs.Loaded.{IsLoaded};
+    ghost use Rattle.psabi_sym.specs.Invariants.Loaded.{IsLoaded};
 
     ghost Value = { List ℕ };
 
@@ -84,4 +84,11 @@ impl Loaded {
             Some(rela) => object.relocs_held(rela),
         }
     }
+}
+
+/// An object with its index among those of a link.
+#[derive(Clone, Copy)]
+pub struct IndexedObject<'a> {
+    pub index: u16,
+    pub loaded: &'a Loaded,
 }

@@ -7,9 +7,8 @@ ghost use Rattle.elf32_read.specs.Parts.{SectionParts, SymbolParts};
 
 use crate::symbol_row::SymbolRow;
 use crate::target::Target;
+use elf32_read::symbol::WEAK;
 use zc_base::place::Place;
-
-const WEAK: u8 = 2;
 
 /// The place among all of what an object has at an index, by where each object's begin, with the end
 /// of all at last; none if there is no such object or index.

@@ -5,17 +5,14 @@ ghost use Rattle.std.specs.List.{find, range_with_len, zip};
 ghost use Rattle.std.specs.Option.{option_map, option_map_or};
 ghost use Rattle.psabi_sym.specs.declared.meaning.Meaning.{Meaning};
 ghost use Rattle.psabi_sym.specs.declared.meaning.Meaning.TheVariants.{Nothing};
-ghost use Rattle.psabi_sym.specs.Meanings.{meaning_at, meaning_of, row_is_missing};
+ghost use Rattle.psabi_sym.specs.Invariants.Meanings.{meaning_at, meaning_of, row_is_missing};
 ghost use Rattle.psabi_sym.specs.Resolve.{linker_number};
-ghost use Rattle.psabi_sym.specs.Rows.{first_row, row_defines, row_is_second};
+ghost use Rattle.psabi_sym.specs.Invariants.Rows.{first_row, row_defines, row_is_second};
 ghost use Rattle.psabi_sym.specs.declared.symbol_row.SymbolRow.{SymbolRow};
 
 use crate::symbol_row::SymbolRow;
+use elf32_read::symbol::{GLOBAL, UNDEF};
 use std::alloc::{AllocError, Global};
-
-const GLOBAL: u8 = 1;
-
-const UNDEFINED: u16 = 0;
 
 /// What a name stands for: a symbol that defines it, a number, which is an address of data or a value
 /// of the linker's, or nothing.
@@ -80,25 +77,32 @@ fn meaning_of(
     }
 }
 
+/// What defines each name, by the name's number: its first strong definition, its address if it is
+/// common, and its first weak definition.
+#[derive(Clone, Copy)]
+pub struct NameTables<'a> {
+    pub strong: &'a [Option<SymbolRow>],
+    pub commons: &'a [Option<u32>],
+    pub weak: &'a [Option<SymbolRow>],
+}
+
 /// What each name is, by tables with an entry for each name.
 pub fn meanings(
     alloc: Global,
     names: &[&[u8]],
-    strong: &[Option<SymbolRow>],
-    commons: &[Option<u32>],
-    weak: &[Option<SymbolRow>],
+    tables: &NameTables<'_>,
     numbers: &LinkerNumbers,
 ) -> Result<Vec<Meaning>, AllocError>
-    requires strong { length strong.now ≡ length names.now }
-    requires commons { length commons.now ≡ length names.now }
-    requires weak { length weak.now ≡ length names.now }
-    ensures { IfOk result (λ meanings. meanings.items
-        ≡ map (meaning_at (map (λ name. name.now) names.now) strong.now commons.now weak.now numbers.now) (range_with_len 0 (length names.now))) }
+    requires strong { length tables.now.strong.now ≡ length names.now }
+    requires commons { length tables.now.commons.now ≡ length names.now }
+    requires weak { length tables.now.weak.now ≡ length names.now }
+    ensures { IfOk result (λ meanings. meanings.items ≡ map (meaning_at (map (λ name. name.now) names.now)
+        tables.now.strong.now tables.now.commons.now tables.now.weak.now numbers.now) (range_with_len 0 (length names.now))) }
 {
     let mut meanings = Vec::with_capacity(alloc, names.len())?;
     for k in 0..names.len() {
         let linker = linker_number(numbers, names[k]);
-        meanings.push(meaning_of(strong[k], commons[k], weak[k], linker))?;
+        meanings.push(meaning_of(tables.strong[k], tables.commons[k], tables.weak[k], linker))?;
     }
     Ok(meanings)
 }
@@ -147,7 +151,7 @@ fn is_missing(row: &SymbolRow, used: bool, meanings: &[Meaning]) -> bool
     ensures { result ≡ row_is_missing meanings.now (row.now, used) }
 {
     row.bind == GLOBAL
-        && row.home == UNDEFINED
+        && row.home == UNDEF
         && used
         && matches!(meanings[row.name as usize], Meaning::Nothing)
 }
@@ -161,7 +165,8 @@ pub fn first_undefined(
 ) -> Option<(u32, u32)>
     requires same_length { length used.now ≡ length rows.now }
     requires named { All (λ r. (r.bind == 1) ≡ true → r.name < length meanings.now) rows.now }
-    ensures { result ≡ option_map (λ e. (e.0.object, e.0.index)) (find (row_is_missing meanings.now) (zip rows.now used.now)) }
+    ensures { result
+        ≡ option_map (λ e. (e.0.object, e.0.index)) (find (row_is_missing meanings.now) (zip rows.now used.now)) }
 {
     for (i, row) in rows.iter().enumerate() {
         if is_missing(row, used[i], meanings) {

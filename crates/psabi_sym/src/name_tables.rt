@@ -2,7 +2,7 @@
 
 ghost use Rattle.std.specs.Prelude.{◌≡◌, ◌<◌, ℕ, true, IfOk, map, All};
 ghost use Rattle.std.specs.List.{range_with_len};
-ghost use Rattle.psabi_sym.specs.Rows.{first_of_both, first_row, grown_block, no_block, row_common_block, row_defines, row_is_common};
+ghost use Rattle.psabi_sym.specs.Invariants.Rows.{first_of_both, first_row, grown_block, no_block, row_common_block, row_defines, row_is_common};
 ghost use Rattle.psabi_sym.specs.declared.symbol_row.SymbolRow.{SymbolRow};
 
 use crate::block::Block;

@@ -1,17 +1,16 @@
 // Objects with their names.
 
 ghost use Rattle.std.specs.Prelude.{◌≡◌, ◌+◌, ◌≤◌, [], ◌∷◌, IfErr, IfOk, None, length, map};
-ghost use Rattle.std.specs.List.{range_with_len};
 ghost use Rattle.zc_base.specs.MemMap.{IsMap};
 ghost use Rattle.elf32_read.specs.Parts.{object_parts};
-ghost use Rattle.psabi_sym.specs.Faults.{duplicate_fault, first_some, sum_fault, undefined_fault};
+ghost use Rattle.psabi_sym.specs.Faults.{name_fault, sum_fault};
+ghost use Rattle.psabi_sym.specs.Inputs.{read_from};
 ghost use Rattle.psabi_sym.specs.LinkFault.{IsRefusal};
-ghost use Rattle.psabi_sym.specs.Listed.{all_sections};
-ghost use Rattle.psabi_sym.specs.Rows.{section_row, symbol_starts};
-ghost use Rattle.psabi_sym.specs.Start.{IsStart};
-ghost use Rattle.psabi_sym.specs.Tables.{AreDefined};
+ghost use Rattle.psabi_sym.specs.Indexed.{all_sections};
+ghost use Rattle.psabi_sym.specs.Invariants.Rows.{section_row};
+ghost use Rattle.psabi_sym.specs.Invariants.Tables.{HasNameNumber};
 
-use crate::definitions::{Definitions, define};
+use crate::definitions::{Definitions, KeptRows, define};
 use crate::link_fault::LinkFault;
 use crate::loaded::Loaded;
 use crate::meaning::{first_duplicate, first_undefined};
@@ -21,10 +20,9 @@ use crate::section_row::SectionRow;
 use crate::symbols::Symbols;
 use crate::used::used_symbols;
 use elf32_read::fault::Fault;
+use elf32_read::symbol::GLOBAL;
 use std::alloc::Global;
 use zc_base::mem_map::MemMap;
-
-const GLOBAL: u8 = 1;
 
 /// The symbols of objects, and what sections and names are.
 #[derive(Drop)]
@@ -46,15 +44,8 @@ pub fn name_objects(
     requires is_map { IsMap memory.now }
     requires sums { sum_fault objects.now ≡ None }
     requires sections { sections.now ≡ map section_row (all_sections (map object_parts objects.now)) }
-    ensures defined { IfOk result (λ named. AreDefined (record { objects = map object_parts objects.now; map = memory.now })
-        sections.now named.definitions.addresses.items named.symbols.rows.items named.definitions.meanings.items named.definitions.file_end named.definitions.end) }
-    ensures start { IfOk result (λ named. IsStart (record { objects = map object_parts objects.now; map = memory.now }) named.definitions.start) }
-    ensures starts { IfOk result (λ named. named.symbols.starts.items
-        ≡ map (symbol_starts (map object_parts objects.now)) (range_with_len 0 (length objects.now + 1))) }
-    ensures none { IfOk result (λ named. first_some (duplicate_fault (map object_parts objects.now)
-        ∷ undefined_fault (record { objects = map object_parts objects.now; map = memory.now }) ∷ []) ≡ None) }
-    ensures err { IfErr result (IsRefusal (first_some (duplicate_fault (map object_parts objects.now)
-        ∷ undefined_fault (record { objects = map object_parts objects.now; map = memory.now }) ∷ []))) }
+    ensures named { IfOk result (HasNameNumber (read_from objects.now memory.now) sections.now) }
+    ensures err { IfErr result (IsRefusal (name_fault (read_from objects.now memory.now))) }
 {
     let mut names = Names::new(alloc);
     let symbols = Symbols::new(alloc, objects, &mut names)?;
@@ -66,15 +57,13 @@ pub fn name_objects(
             fault: Fault::Duplicate { symbol },
         });
     }
-    let definitions = define(
-        alloc,
-        objects,
-        memory,
+    let kept = KeptRows {
         sections,
-        &symbols.rows,
+        symbols: &symbols.rows,
         names,
-        &strong,
-    )?;
+        strong: &strong,
+    };
+    let definitions = define(alloc, objects, memory, &kept)?;
     let used = used_symbols(alloc, objects)?;
     if let Some((index, symbol)) = first_undefined(&symbols.rows, &used, &definitions.meanings) {
         return Err(LinkFault::Object {

@@ -2,10 +2,11 @@
 
 ghost use Rattle.std.specs.Prelude.{◌≡◌, ◌+◌, ◌^◌, ◌<◌, ◌≤◌, [], IfOk, OnOk, length};
 ghost use Rattle.elf32_read.specs.Names.{name_at};
-ghost use Rattle.psabi_sym.specs.Keys.{AreEnds, AreNames, lent, names_of};
-ghost use Rattle.psabi_sym.specs.Rows.{name_number, with_name};
+ghost use Rattle.psabi_sym.specs.Invariants.Keys.{AreLongEnds, AreNames, HaveAdded, HaveRead, lent, names_of};
+ghost use Rattle.psabi_sym.specs.Invariants.Rows.{name_number};
 
 use crate::name_ends::{NameEnd, name_ends, name_with_key};
+use crate::name_lengths::has_long_name;
 use crate::texts::Texts;
 use std::alloc::{AllocError, Global};
 
@@ -30,29 +31,29 @@ impl<'a> Names<'a> {
         }
     }
 
-    /// Reads a table of names. It looks at each byte twice.
+    /// Reads a table of names: the ends of those with a block of bytes or more, if there are such names.
+    /// It looks at each byte three times at most.
     pub fn read(&mut self, alloc: Global, table: &'a [u8]) -> Result<Vec<NameEnd>, AllocError>
         requires few { length table.now ≤ 0x40_0000 }
         requires room { length self.old.tails.texts.items ≤ 2 ^ 31 }
         requires are { AreNames self.old }
-        ensures are { OnOk result (AreNames self.new) }
-        ensures room { OnOk result (length self.new.tails.texts.items ≤ length self.old.tails.texts.items + length table.now) }
-        ensures names { OnOk result (names_of self.new ≡ names_of self.old) }
-        ensures ends { IfOk result (λ ends. AreEnds self.new.tails.texts.items table.now ends.items) }
+        ensures read { OnOk result (HaveRead self.old self.new (length table.now)) }
+        ensures ends { IfOk result (λ ends. AreLongEnds self.new.tails.texts.items table.now ends.items) }
     {
+        if !has_long_name(table) {
+            return Ok(Vec::new(alloc));
+        }
         let ends = name_ends(alloc, table, &mut self.tails)?;
         Ok(ends)
     }
 
     /// The number of the name that begins at an offset of a table that was read; it is new if it wasn't
-    /// seen before. It looks at less than a block of bytes.
+    /// seen before. It looks at no more than a block of bytes.
     pub fn number(&mut self, table: &'a [u8], ends: &[NameEnd], at: u32) -> Result<u32, AllocError>
         requires few { length (names_of self.old) + 1 < 2 ^ 32 }
         requires are { AreNames self.old }
-        requires ends { AreEnds self.old.tails.texts.items table.now ends.now }
-        ensures are { OnOk result (AreNames self.new) }
-        ensures tails { OnOk result (self.new.tails ≡ self.old.tails) }
-        ensures names { OnOk result (names_of self.new ≡ with_name (names_of self.old) (name_at table.now at)) }
+        requires ends { AreLongEnds self.old.tails.texts.items table.now ends.now }
+        ensures added { OnOk result (HaveAdded self.old self.new (name_at table.now at)) }
         ensures number { IfOk result (λ n. n ≡ name_number (names_of self.new) (name_at table.now at)) }
         ensures within { IfOk result (λ n. n < length (names_of self.new)) }
     {

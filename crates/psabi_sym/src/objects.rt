@@ -4,7 +4,7 @@ ghost use Rattle.std.specs.Prelude.{◌≡◌, ◌+◌, ◌≤◌, ◌<◌, List
 ghost use Rattle.zc_base.specs.MemMap.{IsMap};
 ghost use Rattle.psabi_sym.specs.Data.{data_address, data_end, data_file_end, is_code_at};
 ghost use Rattle.psabi_sym.specs.Resolve.{Definition, definition_target, home_target, name_target, resolved, undefined_target};
-ghost use Rattle.psabi_sym.specs.Meanings.{meaning_row};
+ghost use Rattle.psabi_sym.specs.Invariants.Meanings.{meaning_row};
 ghost use Rattle.std.specs.Option.{option_map_or};
 ghost use Rattle.elf32_read.specs.Header.{section_count};
 ghost use Rattle.elf32_read.specs.Parts.{SymbolParts};
@@ -12,8 +12,8 @@ ghost use Rattle.elf32_read.specs.Relas.{IsRelaOf};
 ghost use Rattle.psabi_sym.specs.Faults.{fault_from, gather_fault};
 ghost use Rattle.psabi_sym.specs.Inputs.{Inputs, parsed};
 ghost use Rattle.psabi_sym.specs.LinkFault.{IsRefusal};
-ghost use Rattle.psabi_sym.specs.Listed.{IsSectionNumber, ListedSection, all_sections};
-ghost use Rattle.psabi_sym.specs.Rows.{section_row};
+ghost use Rattle.psabi_sym.specs.Indexed.{IndexedSection, IsSectionNumber, all_sections};
+ghost use Rattle.psabi_sym.specs.Invariants.Rows.{section_row};
 ghost use Rattle.psabi_sym.specs.Objects.{contents_of};
 ghost use Rattle.psabi_sym.specs.Start.{start_name};
 
@@ -25,22 +25,19 @@ use crate::meaning::Meaning;
 use crate::named::name_objects;
 use crate::section_ref::SectionRef;
 use crate::section_row::{SectionRole, SectionRow};
-use crate::sections::Sections;
+use crate::sections::SectionRows;
 use crate::sums::first_too_large;
 use crate::symbol_row::SymbolRow;
 use crate::symbols::Symbols;
 use crate::target::Target;
 use elf32_read::fault::Fault;
 use elf32_read::object::Object;
+use elf32_read::symbol::{ABS, LOCAL};
 use std::alloc::{AllocError, Global};
 use std::marker::Model;
 use zc_base::mem_map::MemMap;
 
 const MOST_OBJECTS: usize = 256;
-
-const LOCAL: u8 = 0;
-
-const ABS: u16 = 0xFFF1;
 
 /// The objects of a link, in their order, and the memory map. They have no fault of their own, and
 /// none between them.
@@ -48,13 +45,13 @@ const ABS: u16 = 0xFFF1;
 pub struct Objects {
     objects: Vec<Loaded>,
     map: MemMap,
-    sections: Sections,
+    sections: SectionRows,
     symbols: Symbols,
     definitions: Definitions,
 }
 
 impl Model for Objects {
-    ghost use Rattle.psabi_sym.specs.Gathered.{IsGathered};
+    ghost use Rattle.psabi_sym.specs.Invariants.Gathered.{IsGathered};
     ghost use Rattle.psabi_sym.specs.Inputs.{Inputs};
 
     ghost Value = { Inputs };
@@ -101,7 +98,7 @@ impl Objects {
                 fault: Fault::TooLarge,
             });
         }
-        let sections = Sections::new(alloc, &objects)?;
+        let sections = SectionRows::new(alloc, &objects)?;
         match name_objects(alloc, &objects, &map, &sections.rows) {
             Err(fault) => Err(fault),
             Ok(named) => Ok(Objects {
@@ -155,7 +152,7 @@ impl Objects {
     /// What a link keeps of a section, by its number among all: it looks at no header of the file.
     pub fn section_row(&self, k: u32) -> SectionRow
         requires { k < length (all_sections (parsed self.now).objects) }
-        ensures { (l : ListedSection) × (slice_get (all_sections (parsed self.now).objects) k ≡ Some l)
+        ensures { (l : IndexedSection) × (slice_get (all_sections (parsed self.now).objects) k ≡ Some l)
             × (result ≡ section_row l) }
     {
         self.sections.rows[k as usize]
@@ -254,8 +251,8 @@ impl Objects {
 
     // Where a name leads, by what it stands for and the binding of the symbol that has it.
     fn meaning_target(&self, meaning: Meaning, bind: u8, addend: i32) -> Target
-        ensures { (names : List (List ℕ)) (o : Option Definition) (s : SymbolParts) → meaning ≡ meaning_row names o → s.bind ≡ bind
-            → result ≡ option_map_or (definition_target (parsed self.now) addend) o (undefined_target s addend) }
+        ensures { (names : List (List ℕ)) (o : Option Definition) (s : SymbolParts) → meaning ≡ meaning_row names o
+            → s.bind ≡ bind → result ≡ option_map_or (definition_target (parsed self.now) addend) o (undefined_target s addend) }
     {
         match meaning {
             Meaning::Symbol(row) => self.home_target(&row, addend),
@@ -265,6 +262,7 @@ impl Objects {
     }
 
     /// What a symbol with an addend resolves to, by its object's index and its own.
+    #[inline(always)]
     pub fn resolve(&self, object: u16, symbol: u32, addend: i32) -> Target
         ensures { result ≡ resolved (parsed self.now) object symbol addend }
     {

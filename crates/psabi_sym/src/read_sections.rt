@@ -5,18 +5,17 @@ ghost use Rattle.elf32_read.specs.Header.{section_count};
 ghost use Rattle.elf32_read.specs.Parts.{object_parts, section_parts, SectionParts, is_kept_section};
 ghost use Rattle.elf32_read.specs.Lent.{IsSectionEntry};
 ghost use Rattle.psabi_sym.specs.Data.{class_of, is_of_kin, role_of};
-ghost use Rattle.psabi_sym.specs.Listed.{sections_in};
-ghost use Rattle.psabi_sym.specs.Rows.{section_row};
+ghost use Rattle.psabi_sym.specs.Indexed.{sections_in};
+ghost use Rattle.psabi_sym.specs.Invariants.Rows.{section_row};
 
 use crate::data_class::DataClass;
-use crate::loaded::Loaded;
+use crate::loaded::IndexedObject;
 use crate::section_row::{SectionRole, SectionRow};
 use bitflags::Flags;
+use elf32_read::header::NOBITS;
 use elf32_read::section_entry::SectionEntry;
 use elf32_read::section_flags::SectionFlags;
 use std::alloc::{AllocError, Global};
-
-const NOBITS: u32 = 8;
 
 // The section is kept: it has ALLOC, and isn't the table for unwinding the stack.
 fn is_kept(section: &SectionEntry) -> bool
@@ -75,21 +74,18 @@ pub fn role_of(section: &SectionEntry) -> SectionRole
 }
 
 /// Adds the sections of an object to rows. It looks at few bytes of their names.
-pub fn add_sections(
-    loaded: &Loaded,
-    object_index: u16,
-    rows: &mut Vec<SectionRow>,
-) -> Result<(), AllocError>
+pub fn add_sections(object: IndexedObject<'_>, rows: &mut Vec<SectionRow>) -> Result<(), AllocError>
     ensures added { OnOk result (rows.new.items
-        ≡ rows.old.items ++ map section_row (sections_in (object_index, object_parts loaded.now))) }
+        ≡ rows.old.items ++ map section_row (sections_in (object.entry.index, object_parts object.entry.loaded.now))) }
     ensures few { OnOk result (vec_len rows.new ≤ vec_len rows.old + 4096) }
 {
+    let IndexedObject { index, loaded } = object;
     let object = loaded.object();
     for i in 0..object.section_count() {
         let section = object.section_entry(i);
         let role = role_of(&section);
         rows.push(SectionRow {
-            object: object_index,
+            object: index,
             index: i as u16,
             role,
             align: section.align,

@@ -3,22 +3,19 @@
 ghost use Rattle.std.specs.Prelude.{◌≡◌, ◌+◌, ◌++◌, ◌^◌, ◌<◌, ◌≤◌, List, ℕ, true, length, vec_len, IfOk, OnOk};
 ghost use Rattle.elf32_read.specs.Parts.{object_parts, symbol_parts};
 ghost use Rattle.elf32_read.specs.Symbols.{symbol_names};
-ghost use Rattle.psabi_sym.specs.Keys.{AreEnds, AreNames, names_of};
-ghost use Rattle.psabi_sym.specs.Listed.{ListedSymbol, symbols_in};
+ghost use Rattle.psabi_sym.specs.Invariants.Keys.{AreLongEnds, AreNames, names_of};
+ghost use Rattle.psabi_sym.specs.Indexed.{IndexedSymbol, symbols_in};
 ghost use Rattle.psabi_sym.specs.Names.{goes_by_name};
-ghost use Rattle.psabi_sym.specs.Numbered.{IsNumbered};
-ghost use Rattle.psabi_sym.specs.Rows.{symbol_number, with_symbol};
+ghost use Rattle.psabi_sym.specs.Invariants.Numbered.{IsNumbered};
+ghost use Rattle.psabi_sym.specs.Invariants.Rows.{symbol_number, with_symbol};
 
-use crate::loaded::Loaded;
+use crate::loaded::IndexedObject;
 use crate::name_ends::NameEnd;
 use crate::names::Names;
 use crate::symbol_row::SymbolRow;
+use elf32_read::symbol::{COMMON, LOCAL};
 use elf32_read::symbol_entry::SymbolEntry;
 use std::alloc::{AllocError, Global};
-
-const LOCAL: u8 = 0;
-
-const COMMON: u16 = 0xFFF2;
 
 // The symbol goes by its name: it is common or not local.
 fn goes_by_name(entry: &SymbolEntry) -> bool
@@ -36,7 +33,7 @@ fn number_name<'a>(
     entry: &SymbolEntry,
 ) -> Result<u32, AllocError>
     requires few { length (names_of names.old) + 1 < 2 ^ 32 }
-    requires are { AreNames names.old × AreEnds names.old.tails.texts.items table.now ends.now }
+    requires are { AreNames names.old × AreLongEnds names.old.tails.texts.items table.now ends.now }
     ensures are { OnOk result (AreNames names.new × (names.new.tails ≡ names.old.tails)) }
     ensures names { (file : List ℕ) → table.now ≡ symbol_names file
         → OnOk result (names_of names.new ≡ with_symbol (names_of names.old) (symbol_parts file entry.now)) }
@@ -55,20 +52,21 @@ fn number_name<'a>(
 /// Adds the symbols of an object to rows, but for symbol 0, and to names those that symbols go by.
 pub fn add_symbols<'a>(
     alloc: Global,
-    loaded: &'a Loaded,
-    index: u16,
+    object: IndexedObject<'a>,
     names: &mut Names<'a>,
     rows: &mut Vec<SymbolRow>,
 ) -> Result<(), AllocError>
     requires few { length (names_of names.old) ≤ 2 ^ 31 }
     requires room { length names.old.tails.texts.items ≤ 2 ^ 31 }
     requires are { AreNames names.old }
-    ensures are { OnOk result (AreNames names.new) }
-    ensures room { OnOk result (length names.new.tails.texts.items ≤ length names.old.tails.texts.items + 0x40_0000) }
-    ensures numbered { (listed : List ListedSymbol) → IsNumbered (names_of names.old) listed rows.old.items
-        → OnOk result (IsNumbered (names_of names.new) (listed ++ symbols_in (index, object_parts loaded.entry.now)) rows.new.items) }
+    ensures are { OnOk result (AreNames names.new
+        × (length names.new.tails.texts.items ≤ length names.old.tails.texts.items + 0x40_0000)) }
+    ensures numbered { (listed : List IndexedSymbol) → IsNumbered (names_of names.old) listed rows.old.items
+        → OnOk result (IsNumbered (names_of names.new)
+        (listed ++ symbols_in (object.entry.index, object_parts object.entry.loaded.now)) rows.new.items) }
     ensures few { OnOk result (vec_len rows.new ≤ vec_len rows.old + 0x4_0000) }
 {
+    let IndexedObject { index, loaded } = object;
     let object = loaded.object();
     let table = object.symbol_names();
     let ends = names.read(alloc, table)?;

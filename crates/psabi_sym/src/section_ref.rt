@@ -26,10 +26,10 @@ pub struct SectionRef<'a> {
 impl<'a> Model for SectionRef<'a> {
     ghost use Rattle.std.specs.Prelude.{◌≡◌};
     ghost use Rattle.psabi_sym.specs.Data.{role_of};
-    ghost use Rattle.psabi_sym.specs.Listed.{ListedSection};
+    ghost use Rattle.psabi_sym.specs.Indexed.{IndexedSection};
     ghost use Rattle.psabi_sym.specs.SectionRef.{lent_section};
 
-    ghost Value = { ListedSection };
+    ghost Value = { IndexedSection };
 
     ghost view = { λ s.
         record { object = s.object; index = s.index; section = lent_section s.entry s.relocs s.compressed } };

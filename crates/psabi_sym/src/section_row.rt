@@ -45,7 +45,7 @@ impl SectionRow {
         ensures { result ≡ has_class class self.now.role }
     {
         match self.role {
-            SectionRole::InClass(own) => own.is(class),
+            SectionRole::InClass(own) => own == class,
             SectionRole::Code | SectionRole::Dropped => false,
         }
     }

@@ -1,7 +1,7 @@
 // Where a program starts.
 
 ghost use Rattle.std.specs.Prelude.{◌≡◌, length, map, slice_index_or};
-ghost use Rattle.psabi_sym.specs.Rows.{name_number};
+ghost use Rattle.psabi_sym.specs.Invariants.Rows.{name_number};
 ghost use Rattle.psabi_sym.specs.Start.{start_name};
 ghost use Rattle.psabi_sym.specs.declared.meaning.Meaning.TheVariants.{Nothing};
 

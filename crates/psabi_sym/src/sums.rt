@@ -4,13 +4,15 @@ ghost use Rattle.std.specs.Prelude.{◌≡◌, ◌≤◌, ◌<◌, ◌+◌, ◌*
 ghost use Rattle.std.specs.List.{find, range_with_len, sum_by};
 ghost use Rattle.elf32_read.specs.Header.{header_of, section_count};
 ghost use Rattle.elf32_read.specs.Parts.{object_parts, relocs_held, relocs_of, section_parts, symbol_parts};
-ghost use Rattle.psabi_sym.specs.Faults.{align_room, are_too_large, code_room, common_room, data_room, object_code, object_data, power_above, reloc_room, sums_of};
+ghost use Rattle.psabi_sym.specs.Faults.{align_room, are_too_large, code_room, common_room, data_room, object_code, reloc_room, sums_of, AreWithin, with_object};
 
 use crate::loaded::Loaded;
+use crate::padding::power_above;
 use crate::read_sections::role_of;
 use crate::section_row::SectionRole;
 use elf32_read::reloc::Reloc;
 use elf32_read::relocs::Relocs;
+use elf32_read::symbol::COMMON;
 use elf32_read::symbol_entry::SymbolEntry;
 
 const MOST_BYTES: u64 = 0x200_0000;
@@ -24,31 +26,12 @@ const CLASS_GAPS: u64 = 96;
 
 const ALIGN: u8 = 43;
 
-const COMMON: u16 = 0xFFF2;
-
 /// How many bytes the files of objects have, and the room that they may take in code and in data.
 #[derive(Clone, Copy)]
 pub struct Sums {
     pub file_bytes: u64,
     pub code_room: u64,
     pub data_room: u64,
-}
-
-// The least power of two above a number from 1 to 255.
-fn power_above(n: u32) -> u32
-    ensures value { result ≡ power_above n }
-    ensures most { result ≤ 256 }
-{
-    match n {
-        0..=1 => 2,
-        2..=3 => 4,
-        4..=7 => 8,
-        8..=15 => 16,
-        16..=31 => 32,
-        32..=63 => 64,
-        64..=127 => 128,
-        _ => 256,
-    }
 }
 
 // The room that an ALIGN with this addend may take.
@@ -59,7 +42,7 @@ fn align_room(addend: i32) -> u32
     if addend < 1 || 255 < addend {
         return 256;
     }
-    power_above(addend as u32)
+    power_above(addend as u16)
 }
 
 // The room that a relocation may take in code.
@@ -152,15 +135,9 @@ fn commons_room(loaded: &Loaded) -> u64
 impl Sums {
     // The sums with one more object.
     fn with(self, loaded: &Loaded) -> Sums
-        requires few_bytes { self.file_bytes ≤ 2 ^ 62 }
-        requires little_code { self.code_room ≤ 2 ^ 62 }
-        requires little_data { self.data_room ≤ 2 ^ 62 }
-        ensures file_bytes { result.file_bytes ≡ self.file_bytes + length loaded.now }
-        ensures code { result.code_room ≡ self.code_room + object_code (object_parts loaded.now) }
-        ensures data_is { result.data_room ≡ self.data_room + object_data (object_parts loaded.now) }
-        ensures few_bytes { result.file_bytes ≤ self.file_bytes + 2 ^ 54 }
-        ensures little_code { result.code_room ≤ self.code_room + 2 ^ 54 }
-        ensures little_data { result.data_room ≤ self.data_room + 2 ^ 54 }
+        requires { AreWithin (2 ^ 62) self }
+        ensures value { result ≡ with_object self loaded.now }
+        ensures most { (most : ℕ) → AreWithin most self → AreWithin (most + 2 ^ 54) result }
     {
         let room = sections_room(loaded);
         Sums {
@@ -184,7 +161,8 @@ impl Sums {
 /// The first object with which a sum is too large.
 pub fn first_too_large(objects: &[Loaded]) -> Option<u32>
     requires { length objects.now ≤ 256 }
-    ensures { result ≡ find (λ i. are_too_large (sums_of (take (i + 1) objects.now))) (range_with_len 0 (length objects.now)) }
+    ensures { result
+        ≡ find (λ i. are_too_large (sums_of (take (i + 1) objects.now))) (range_with_len 0 (length objects.now)) }
 {
     let mut sums = Sums {
         file_bytes: 0,

@@ -1,11 +1,9 @@
 // Symbols, as a link keeps them.
 
 ghost use Rattle.std.specs.Prelude.{◌≡◌};
-ghost use Rattle.psabi_sym.specs.Rows.{row_defines, row_is_common};
+ghost use Rattle.psabi_sym.specs.Invariants.Rows.{row_defines, row_is_common};
 
-const UNDEFINED: u16 = 0;
-
-const COMMON: u16 = 0xFFF2;
+use elf32_read::symbol::{COMMON, UNDEF};
 
 /// What a link keeps of a symbol: its object's index and its own, the number of its name, and the
 /// fields of its entry but for the type (System V gABI, "Symbol Table"). The number is 0, and says
@@ -26,7 +24,7 @@ impl SymbolRow {
     pub fn defines(&self, bind: u8) -> bool
         ensures { result ≡ row_defines bind self.now }
     {
-        self.bind == bind && self.home != UNDEFINED && self.home != COMMON
+        self.bind == bind && self.home != UNDEF && self.home != COMMON
     }
 
     /// Whether it is common.

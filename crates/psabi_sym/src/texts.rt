@@ -1,7 +1,7 @@
 // Texts that are numbered by their keys.
 
 ghost use Rattle.std.specs.Prelude.{◌≡◌, List, ℕ, [], IfOk};
-ghost use Rattle.psabi_sym.specs.Keys.{AreKeys, AreTails, IsAdded, IsKey, lent};
+ghost use Rattle.psabi_sym.specs.Invariants.Keys.{AreKeys, AreTails, IsAdded, IsKey, lent};
 
 use crate::key::Key;
 use indexmap::IndexSet;

@@ -5,7 +5,7 @@ ghost use Rattle.std.specs.List.{enumerate_from, list_any};
 ghost use Rattle.elf32_read.specs.Header.{header_of, section_count};
 ghost use Rattle.elf32_read.specs.Parts.{object_parts, relocs_held, relocs_of};
 ghost use Rattle.psabi_sym.specs.Faults.{is_used, is_used_in, names};
-ghost use Rattle.psabi_sym.specs.Listed.{all_symbols};
+ghost use Rattle.psabi_sym.specs.Indexed.{all_symbols};
 
 use crate::loaded::Loaded;
 use elf32_read::relocs::Relocs;

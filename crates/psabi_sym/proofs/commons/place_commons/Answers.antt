@@ -1,27 +1,23 @@
 use Rattle.std.proofs.Common.{rules, ◌≡◌, ◌<◌, refl, sym, ap, ◌∙◌, [], None, arith, length, get_or, map, ◌+◌, set, Some}
 use Rattle.std.specs.List.{range_with_len}
-use Rattle.psabi_sym.specs.declared.block.Block.{Block}
 use Rattle.psabi_sym.specs.declared.symbol_row.SymbolRow.{SymbolRow}
 use Rattle.psabi_sym.specs.Blocks.{aligned_up, end_from, placed_from}
-use Rattle.psabi_sym.specs.Rows.{placed_rows, row_address_of, row_common_block, row_room}
+use Rattle.psabi_sym.specs.Invariants.Rows.{placed_rows, row_address_of, row_common_block, row_room}
 use Rattle.psabi_sym.proofs.CommonLaws.{end_next, next_by_tables, next_common, next_fits, stays, table_next}
 use Rattle.psabi_sym.proofs.Tables.{table_at, table_start}
-use Rattle.psabi_sym.proofs.commons.place_commons.Goals as goal
 use Rattle.psabi_sym.proofs.commons.place_commons.Goals.{then-takes_room, else-takes_room}
+use Rattle.psabi_sym.proofs.commons.place_commons.Goals as goal
 
 -- what reads past the end would give
 abbrev row0 : SymbolRow
 row0 = record { object = 0; home = 0; index = 0; name = 0; value = 0; size = 0; bind = 0 }
-
-abbrev block0 : Block
-block0 = record { align = 0; size = 0 }
 
 pub loop-row-init : goal.loop-row-init
 unfolding placed_rows
 loop-row-init c = record {
   end = c.aligned_up-at.ensures.value;
   addresses = c.in_ok-addresses.ensures.items_if_clones_equal (λ y h. search rules)
-      ∙ table_start (row_address_of []) (length c.args.blocks.now) None (λ k. refl);
+      ∙ table_start (row_address_of []) (length c.args.strong.now) None (λ k. refl);
 }
 
 pub aligned_up-at-requires-then-takes_room : goal.aligned_up-at-requires-then-takes_room
@@ -29,11 +25,11 @@ aligned_up-at-requires-then-takes_room c =
     let rows = c.args.rows.now in
     let i = c.loop-row.row-index in
     let start = aligned_up 16 c.args.from in
-    let n = length c.args.blocks.now in
+    let n = length c.args.strong.now in
     let r = get_or rows i row0 in
     let is = next_by_tables rows start i n row0 c.args.strong.now c.deref.result.now c.takes_room.result c.takes_room.ensures c.requires.strong (c.deref.ensures.value ∙ c.loop-row.invariant.addresses) (c.requires.named i row0 (omega arith)) ∙ c.if-takes_room.true in
     let named : r.name < n = c.requires.named i row0 (omega arith) (next_common rows start i r is) in
-    let block : get_or c.args.blocks.now r.name block0 ≡ row_room rows r = table_at (row_common_block rows) c.args.blocks.now n r.name block0 c.requires.blocks named in
+    let block : c.index-block.result.now ≡ row_room rows r = c.index-block.ensures ∙ table_at (row_common_block rows) c.in_ok-blocks.blocks.items n r.name c.index-block.result.now c.in_ok-blocks.ensures named in
     let fits = next_fits rows start i row0 (omega arith) is in
     omega (arith, fits, ap (λ b. b.align) block)
 
@@ -42,11 +38,11 @@ overflow_add-at c =
     let rows = c.args.rows.now in
     let i = c.loop-row.row-index in
     let start = aligned_up 16 c.args.from in
-    let n = length c.args.blocks.now in
+    let n = length c.args.strong.now in
     let r = get_or rows i row0 in
     let is = next_by_tables rows start i n row0 c.args.strong.now c.deref.result.now c.takes_room.result c.takes_room.ensures c.requires.strong (c.deref.ensures.value ∙ c.loop-row.invariant.addresses) (c.requires.named i row0 (omega arith)) ∙ c.if-takes_room.true in
     let named : r.name < n = c.requires.named i row0 (omega arith) (next_common rows start i r is) in
-    let block : get_or c.args.blocks.now r.name block0 ≡ row_room rows r = table_at (row_common_block rows) c.args.blocks.now n r.name block0 c.requires.blocks named in
+    let block : c.index-block.result.now ≡ row_room rows r = c.index-block.ensures ∙ table_at (row_common_block rows) c.in_ok-blocks.blocks.items n r.name c.index-block.result.now c.in_ok-blocks.ensures named in
     let fits = next_fits rows start i row0 (omega arith) is in
     omega (arith, fits, ap (λ b. b.align) block, ap (λ b. b.size) block)
 
@@ -55,7 +51,7 @@ loop-row-preserved c =
     let rows = c.args.rows.now in
     let i = c.loop-row.row-index in
     let start = aligned_up 16 c.args.from in
-    let n = length c.args.blocks.now in
+    let n = length c.args.strong.now in
     let r = get_or rows i row0 in
     let within : i < length rows = omega arith in
     let tests = next_by_tables rows start i n row0 c.args.strong.now c.deref.result.now c.takes_room.result c.takes_room.ensures c.requires.strong (c.deref.ensures.value ∙ c.loop-row.invariant.addresses) (c.requires.named i row0 within) in
@@ -63,7 +59,7 @@ loop-row-preserved c =
       | then-takes_room w ↦
           let is = tests ∙ w.if-takes_room.true in
           let named : r.name < n = c.requires.named i row0 within (next_common rows start i r is) in
-          let block : get_or c.args.blocks.now r.name block0 ≡ row_room rows r = table_at (row_common_block rows) c.args.blocks.now n r.name block0 c.requires.blocks named in
+          let block : w.index-block.result.now ≡ row_room rows r = w.index-block.ensures ∙ table_at (row_common_block rows) c.in_ok-blocks.blocks.items n r.name w.index-block.result.now c.in_ok-blocks.ensures named in
           let value = w.aligned_up-at-then-takes_room.ensures.value ∙ (λ j. aligned_up (block j).align (c.loop-row.invariant.end j)) in
           record {
             end = w.at-is ∙ (λ j. value j + (block j).size) ∙ sym (end_next rows start i row0 within is);

@@ -10,29 +10,29 @@ use Rattle.psabi_sym.specs.declared.symbol_row.SymbolRow.{SymbolRow}
 use Rattle.psabi_sym.specs.Blocks.{aligned_up, end_from, placed_from}
 use Rattle.psabi_sym.specs.Data.{class_end, class_start}
 use Rattle.psabi_sym.specs.Inputs.{ParsedInputs}
-use Rattle.psabi_sym.specs.Listed.{all_symbols}
-use Rattle.psabi_sym.specs.Meanings.{meaning_at, meaning_row}
+use Rattle.psabi_sym.specs.Indexed.{all_symbols}
+use Rattle.psabi_sym.specs.Invariants.Meanings.{meaning_at, meaning_row}
 use Rattle.psabi_sym.specs.Resolve.{linker_numbers, name_definition}
-use Rattle.psabi_sym.specs.Rows.{first_row, name_number, placed_rows, row_address_of, row_blocks, row_common_block, row_common_room, row_data_room, row_defines, row_is_common, row_room, row_start, symbol_row}
+use Rattle.psabi_sym.specs.Invariants.Rows.{first_row, name_number, placed_rows, row_address_of, row_blocks, row_common_block, row_common_room, row_data_room, row_defines, row_is_common, row_room, row_start, symbol_row}
 use Rattle.psabi_sym.specs.Start.{start_name}
 use Rattle.psabi_sym.proofs.DefinedLaws.{class_end_common, common_start_is, file_end_is, meaning_at_is, rooms_fit, small_data_is, small_zero_is}
 use Rattle.psabi_sym.proofs.NumberLaws.{common_row_goes, definition_row_goes}
 use Rattle.psabi_sym.proofs.NumberedLaws.{named_rows}
 use Rattle.psabi_sym.proofs.StartLaws.{no_start}
 use Rattle.psabi_sym.proofs.Tables.{table_at, table_count}
+use Rattle.psabi_sym.proofs.definitions.define.Goals.{After-start_meaning-start, In_ok-weak}
 use Rattle.psabi_sym.proofs.definitions.define.Goals as goal
-use Rattle.psabi_sym.proofs.definitions.define.Goals.{After-start_meaning-start, In_ok-blocks}
 
 -- there are as many names as are borrowed
 names_count : (names : List (Bor (List ℕ))) → length (map (λ name. name.now) names) ≡ length names
 names_count names = length-map names (λ (name : Bor (List ℕ)). name.now)
 
 -- addresses have room for all data, and for the numbers of the linker's names
-room : (c : In_ok-blocks) → c.args.memory.now.data_low + 0x1000 + sum_by row_data_room c.args.sections.now + sum_by row_common_room c.args.symbols.now < 2 ^ 32
+room : (c : In_ok-weak) → c.args.memory.now.data_low + 0x1000 + sum_by row_data_room c.args.kept.now.sections.now + sum_by row_common_room c.args.kept.now.symbols.now < 2 ^ 32
 room c =
     omega (
       arith,
-      rooms_fit c.args.objects.now (map (λ (name : Bor (List ℕ)). name.now) c.args.names.now) c.requires.sums,
+      rooms_fit c.args.objects.now (map (λ (name : Bor (List ℕ)). name.now) c.args.kept.now.names.now) c.requires.sums,
       ap (sum_by row_data_room) c.requires.sections,
       ap (sum_by row_common_room) c.requires.symbols.rows_are,
       c.requires.is_map.data_room,
@@ -45,25 +45,25 @@ module _ (c : After-start_meaning-start) where
   inputs = record { objects = map object_parts c.args.objects.now; map = c.args.memory.now }
 
   abbrev names : List (List ℕ)
-  names = map (λ (name : Bor (List ℕ)). name.now) c.args.names.now
+  names = map (λ (name : Bor (List ℕ)). name.now) c.args.kept.now.names.now
 
   abbrev rows : List SymbolRow
   rows = map (symbol_row names) (all_symbols inputs.objects)
 
   small_data : c.in_ok-layout.layout.ends.small_data ≡ class_start inputs SmallData
-  small_data = c.in_ok-layout.ensures.small_data ∙ ap (λ r. row_start r c.args.memory.now.data_low SmallData) c.requires.sections ∙ small_data_is inputs
+  small_data = c.in_ok-layout.ensures.ends.small_data ∙ ap (λ r. row_start r c.args.memory.now.data_low SmallData) c.requires.sections ∙ small_data_is inputs
 
   small_zero : c.in_ok-layout.layout.ends.small_zero ≡ class_start inputs SmallZero
-  small_zero = c.in_ok-layout.ensures.small_zero ∙ ap (λ r. row_start r c.args.memory.now.data_low SmallZero) c.requires.sections ∙ small_zero_is inputs
+  small_zero = c.in_ok-layout.ensures.ends.small_zero ∙ ap (λ r. row_start r c.args.memory.now.data_low SmallZero) c.requires.sections ∙ small_zero_is inputs
 
   file_end : c.in_ok-layout.layout.ends.file_end ≡ class_end inputs SmallData
   file_end =
-      c.in_ok-layout.ensures.file_end ∙ ap (λ r. end_from (row_start r c.args.memory.now.data_low SmallData) (row_blocks SmallData r)) c.requires.sections
+      c.in_ok-layout.ensures.ends.file_end ∙ ap (λ r. end_from (row_start r c.args.memory.now.data_low SmallData) (row_blocks SmallData r)) c.requires.sections
       ∙ file_end_is inputs
 
   commons_start : aligned_up 16 c.in_ok-layout.layout.ends.end ≡ class_start inputs Common
   commons_start =
-      ap (aligned_up 16) (c.in_ok-layout.ensures.end ∙ ap (λ r. end_from (row_start r c.args.memory.now.data_low Zero) (row_blocks Zero r)) c.requires.sections)
+      ap (aligned_up 16) (c.in_ok-layout.ensures.ends.end ∙ ap (λ r. end_from (row_start r c.args.memory.now.data_low Zero) (row_blocks Zero r)) c.requires.sections)
       ∙ common_start_is inputs
 
   end : c.in_ok-commons.commons.end ≡ class_end inputs Common
@@ -84,29 +84,29 @@ module _ (c : After-start_meaning-start) where
   numbers_are : numbers ≡ linker_numbers inputs
   numbers_are = λ j. record { global_pointer = small_data j + 2048; bss_start = small_zero j; end = end j; stack_top = c.args.memory.now.stack_high }
 
-  strong_are : c.args.strong.now ≡ map (first_row 1 rows) (range_with_len 0 (length names))
-  strong_are = c.requires.strong ∙ (λ j. map (first_row 1 (c.requires.symbols.rows_are j)) (range_with_len 0 (sym (names_count c.args.names.now) j)))
+  strong_are : c.args.kept.now.strong.now ≡ map (first_row 1 rows) (range_with_len 0 (length names))
+  strong_are = c.requires.strong ∙ (λ j. map (first_row 1 (c.requires.symbols.rows_are j)) (range_with_len 0 (sym (names_count c.args.kept.now.names.now) j)))
 
-  weak_are : c.deref-3.result.now ≡ map (first_row 2 rows) (range_with_len 0 (length names))
+  weak_are : c.deref-2.result.now ≡ map (first_row 2 rows) (range_with_len 0 (length names))
   weak_are =
-      c.deref-3.ensures.value ∙ c.in_ok-weak.ensures
-      ∙ (λ j. map (first_row 2 (c.requires.symbols.rows_are j)) (range_with_len 0 (sym (names_count c.args.names.now) j)))
+      c.deref-2.ensures.value ∙ c.in_ok-weak.ensures
+      ∙ (λ j. map (first_row 2 (c.requires.symbols.rows_are j)) (range_with_len 0 (sym (names_count c.args.kept.now.names.now) j)))
 
-  commons_are : c.deref-2.result.now ≡ map (row_address_of (placed_from (row_room rows) (class_start inputs Common) (placed_rows rows rows))) (range_with_len 0 (length names))
+  commons_are : c.deref.result.now ≡ map (row_address_of (placed_from (row_room rows) (class_start inputs Common) (placed_rows rows rows))) (range_with_len 0 (length names))
   commons_are =
-      c.deref-2.ensures.value ∙ c.in_ok-commons.ensures.addresses
+      c.deref.ensures.value ∙ c.in_ok-commons.ensures.addresses
       ∙ (λ j. let r = c.requires.symbols.rows_are j in
-      map (row_address_of (placed_from (row_room r) (commons_start j) (placed_rows r r))) (range_with_len 0 ((table_count _ (c.deref.ensures.value ∙ c.in_ok-blocks.ensures) ∙ sym (names_count c.args.names.now)) j)))
+      map (row_address_of (placed_from (row_room r) (commons_start j) (placed_rows r r))) (range_with_len 0 ((table_count _ c.requires.strong ∙ sym (names_count c.args.kept.now.names.now)) j)))
 
   meanings_count : length c.in_ok-meanings.meanings.items ≡ length names
-  meanings_count = table_count _ c.in_ok-meanings.ensures ∙ sym (names_count c.args.names.now)
+  meanings_count = table_count _ c.in_ok-meanings.ensures ∙ sym (names_count c.args.kept.now.names.now)
 
   -- what a name with a number stands for
   meant : (name : List ℕ) → name_number names name < length names → get_or c.in_ok-meanings.meanings.items (name_number names name) Nothing ≡ meaning_row names (name_definition inputs name)
   meant name there =
-      table_at (meaning_at names c.args.strong.now c.deref-2.result.now c.deref-3.result.now numbers) c.in_ok-meanings.meanings.items (length c.args.names.now) (name_number names name) Nothing c.in_ok-meanings.ensures
-      (omega (arith, there, names_count c.args.names.now))
-      ∙ meaning_at_is names inputs c.requires.symbols.numbered c.args.strong.now c.deref-3.result.now c.deref-2.result.now numbers name there strong_are weak_are commons_are numbers_are
+      table_at (meaning_at names c.args.kept.now.strong.now c.deref.result.now c.deref-2.result.now numbers) c.in_ok-meanings.meanings.items (length c.args.kept.now.names.now) (name_number names name) Nothing c.in_ok-meanings.ensures
+      (omega (arith, there, names_count c.args.kept.now.names.now))
+      ∙ meaning_at_is names inputs c.requires.symbols.numbered c.args.kept.now.strong.now c.deref-2.result.now c.deref.result.now numbers name there strong_are weak_are commons_are numbers_are
 
   -- and `_start`, which may have none
   start_meant : get_or c.in_ok-meanings.meanings.items (name_number names start_name) Nothing ≡ meaning_row names (name_definition inputs start_name)
@@ -118,66 +118,55 @@ module _ (c : After-start_meaning-start) where
   ]
 
 pub first_definitions-requires : goal.first_definitions-requires
-first_definitions-requires c = named_rows (row_defines 2) (definition_row_goes 2 refl) c.requires.symbols refl (names_count c.args.names.now)
-
-pub common_blocks-requires : goal.common_blocks-requires
-common_blocks-requires c = named_rows row_is_common common_row_goes c.requires.symbols refl (names_count c.args.names.now)
+first_definitions-requires c = named_rows (row_defines 2) (definition_row_goes 2 refl) c.requires.symbols refl (names_count c.args.kept.now.names.now)
 
 pub lay_out-requires : goal.lay_out-requires
-lay_out-requires c = omega (arith, room (goal.at.lay_out-requires c).In_ok-blocks)
+lay_out-requires c = omega (arith, room (goal.at.lay_out-requires c).In_ok-weak)
 
 pub place_commons-requires-clause-named : goal.place_commons-requires-clause-named
 place_commons-requires-clause-named c =
-    named_rows row_is_common common_row_goes c.requires.symbols refl (names_count c.args.names.now ∙ sym (table_count _ (c.deref.ensures.value ∙ c.in_ok-blocks.ensures)))
+    named_rows row_is_common common_row_goes c.requires.symbols refl (names_count c.args.kept.now.names.now ∙ sym (table_count _ c.requires.strong))
 
 pub place_commons-requires-clause-strong : goal.place_commons-requires-clause-strong
 place_commons-requires-clause-strong c =
-    c.requires.strong ∙ ap (λ n. map (first_row 1 c.args.symbols.now) (range_with_len 0 n)) (sym (table_count _ (c.deref.ensures.value ∙ c.in_ok-blocks.ensures)))
-
-pub place_commons-requires-clause-blocks : goal.place_commons-requires-clause-blocks
-place_commons-requires-clause-blocks c =
-    c.deref.ensures.value ∙ c.in_ok-blocks.ensures
-    ∙ ap (λ n. map (row_common_block c.args.symbols.now) (range_with_len 0 n)) (sym (table_count _ (c.deref.ensures.value ∙ c.in_ok-blocks.ensures)))
+    c.requires.strong ∙ ap (λ n. map (first_row 1 c.args.kept.now.symbols.now) (range_with_len 0 n)) (sym (table_count _ c.requires.strong))
 
 pub place_commons-requires-clause-room : goal.place_commons-requires-clause-room
-place_commons-requires-clause-room c = omega (arith, room (goal.at.place_commons-requires-clause-room c).In_ok-blocks, c.in_ok-layout.ensures.most)
+place_commons-requires-clause-room c = omega (arith, room (goal.at.place_commons-requires-clause-room c).In_ok-weak, c.in_ok-layout.ensures.ends.most)
 
 pub overflow_add-numbers : goal.overflow_add-numbers
-overflow_add-numbers c = omega (arith, room (goal.at.overflow_add-numbers c).In_ok-blocks, c.in_ok-layout.ensures.small_data_most)
+overflow_add-numbers c = omega (arith, room (goal.at.overflow_add-numbers c).In_ok-weak, c.in_ok-layout.ensures.ends.small_data_most)
 
 pub meanings-requires-clause-strong : goal.meanings-requires-clause-strong
 meanings-requires-clause-strong c = table_count _ c.requires.strong
 
 pub meanings-requires-clause-commons : goal.meanings-requires-clause-commons
 meanings-requires-clause-commons c =
-    table_count _ (c.deref-2.ensures.value ∙ c.in_ok-commons.ensures.addresses) ∙ table_count _ (c.deref.ensures.value ∙ c.in_ok-blocks.ensures)
+    table_count _ (c.deref.ensures.value ∙ c.in_ok-commons.ensures.addresses) ∙ table_count _ c.requires.strong
 
 pub meanings-requires-clause-weak : goal.meanings-requires-clause-weak
-meanings-requires-clause-weak c = table_count _ (c.deref-3.ensures.value ∙ c.in_ok-weak.ensures)
-
-pub returns-clause-tables : goal.returns-clause-tables
-returns-clause-tables c =
-    let a = (goal.at.returns-clause-tables c).After-start_meaning-start in
-    record {
-      placed = c.in_ok-layout.ensures.addresses;
-      count = c.in_ok-layout.ensures.count;
-      named = record {
-        names = names a;
-        numbered = c.requires.symbols;
-        count = meanings_count a;
-        meant = λ k d within goes. meant a (get_or (all_symbols (inputs a).objects) k d).symbol.name (c.requires.symbols.numbered k d within goes);
-      };
-      file_end_is = file_end a;
-      end_is = end a;
-    }
+meanings-requires-clause-weak c = table_count _ (c.deref-2.ensures.value ∙ c.in_ok-weak.ensures)
 
 pub start_meaning-start-requires : goal.start_meaning-start-requires
-start_meaning-start-requires c = table_count _ (c.deref-4.ensures.value ∙ c.in_ok-meanings.ensures)
+start_meaning-start-requires c = table_count _ (c.deref-3.ensures.value ∙ c.in_ok-meanings.ensures)
 
-pub returns-clause-start : goal.returns-clause-start
-returns-clause-start c =
-    let a = (goal.at.returns-clause-start c).After-start_meaning-start in
-    record {
-      names = names a;
-      start_is = c.start_meaning-start.ensures ∙ ap (λ l. get_or l (name_number (names a) start_name) Nothing) c.deref-4.ensures.value ∙ start_meant a;
-    }
+pub returns : goal.returns
+returns c =
+    let a = (goal.at.returns c).After-start_meaning-start in (
+      record {
+        placed = c.in_ok-layout.ensures.addresses;
+        count = c.in_ok-layout.ensures.count;
+        named = record {
+          names = names a;
+          numbered = c.requires.symbols;
+          count = meanings_count a;
+          meant = λ k d within goes. meant a (get_or (all_symbols (inputs a).objects) k d).symbol.name (c.requires.symbols.numbered k d within goes);
+        };
+        file_end_is = file_end a;
+        end_is = end a;
+      },
+      record {
+        names = names a;
+        start_is = c.start_meaning-start.ensures ∙ ap (λ l. get_or l (name_number (names a) start_name) Nothing) c.deref-3.ensures.value ∙ start_meant a;
+      },
+    )

@@ -3,7 +3,7 @@ use Rattle.std.proofs.lemmas.Bool.{cases_eq}
 use Rattle.std.proofs.lemmas.Option.{get_or_from_slice_get, slice_get_within}
 use Rattle.psabi_sym.specs.Blocks.{aligned_up}
 use Rattle.psabi_sym.specs.Data.{has_class}
-use Rattle.psabi_sym.specs.Rows.{row_address}
+use Rattle.psabi_sym.specs.Invariants.Rows.{row_address}
 use Rattle.psabi_sym.specs.declared.section_row.SectionRow.{SectionRow}
 use Rattle.psabi_sym.specs.declared.section_row.SectionRole.TheVariants.{Code}
 use Rattle.psabi_sym.proofs.RowLaws.{end_more, end_same, fits_here}

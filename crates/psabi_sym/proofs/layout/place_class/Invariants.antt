@@ -1,7 +1,7 @@
 use Rattle.std.proofs.Common.{◌≡◌, ℕ, ◌<◌, ◌≤◌, Some, slice_get, slice_index, take, if◌then◌else◌}
 use Rattle.psabi_sym.specs.Blocks.{aligned_up, end_from}
 use Rattle.psabi_sym.specs.Data.{has_class}
-use Rattle.psabi_sym.specs.Rows.{row_address, row_blocks}
+use Rattle.psabi_sym.specs.Invariants.Rows.{row_address, row_blocks}
 use Rattle.psabi_sym.specs.declared.section_row.SectionRow.{SectionRow}
 use Rattle.psabi_sym.proofs.layout.place_class.Given as goal
 

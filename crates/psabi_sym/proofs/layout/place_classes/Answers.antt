@@ -1,6 +1,7 @@
 use Rattle.std.proofs.Common.{◌≡◌, arith, ap, subst, ◌∙◌}
 use Rattle.psabi_sym.specs.declared.data_class.DataClass.TheVariants.{ReadOnly, Data, SmallData, SmallZero, Zero}
-use Rattle.psabi_sym.specs.Rows.{row_end}
+use Rattle.psabi_sym.specs.Blocks.{aligned_up}
+use Rattle.psabi_sym.specs.Invariants.Rows.{row_end}
 use Rattle.psabi_sym.proofs.RowLaws.{IsTable, class_rooms, placed_all, row_end-le}
 use Rattle.psabi_sym.proofs.layout.place_classes.Goals as goal
 
@@ -25,11 +26,22 @@ aligned_up-requires c = omega (arith, class_rooms c.args.rows.now, row_end-le c.
 pub aligned_up-requires-2 : goal.aligned_up-requires-2
 aligned_up-requires-2 c = omega (arith, class_rooms c.args.rows.now, row_end-le c.args.rows.now c.args.low ReadOnly, row_end-le c.args.rows.now c.place_class-read_only.result Data, row_end-le c.args.rows.now c.place_class-data.result SmallData, row_end-le c.args.rows.now c.place_class-file_end.result SmallZero, row_end-le c.args.rows.now c.place_class-small_zero_end.result Zero, c.place_class-read_only.ensures.end, c.place_class-data.ensures.end, c.place_class-file_end.ensures.end, c.place_class-small_zero_end.ensures.end, c.place_class-end.ensures.end)
 
-pub returns-clause-most : goal.returns-clause-most
-returns-clause-most c = omega (arith, class_rooms c.args.rows.now, row_end-le c.args.rows.now c.args.low ReadOnly, row_end-le c.args.rows.now c.place_class-read_only.result Data, row_end-le c.args.rows.now c.place_class-data.result SmallData, row_end-le c.args.rows.now c.place_class-file_end.result SmallZero, row_end-le c.args.rows.now c.place_class-small_zero_end.result Zero, c.place_class-read_only.ensures.end, c.place_class-data.ensures.end, c.place_class-file_end.ensures.end, c.place_class-small_zero_end.ensures.end, c.place_class-end.ensures.end)
-
-pub returns-clause-small_data_most : goal.returns-clause-small_data_most
-returns-clause-small_data_most c = omega (arith, class_rooms c.args.rows.now, row_end-le c.args.rows.now c.args.low ReadOnly, row_end-le c.args.rows.now c.place_class-read_only.result Data, row_end-le c.args.rows.now c.place_class-data.result SmallData, row_end-le c.args.rows.now c.place_class-file_end.result SmallZero, row_end-le c.args.rows.now c.place_class-small_zero_end.result Zero, c.place_class-read_only.ensures.end, c.place_class-data.ensures.end, c.place_class-file_end.ensures.end, c.place_class-small_zero_end.ensures.end, c.place_class-end.ensures.end, c.aligned_up.ensures.most)
+pub returns-clause-ends : goal.returns-clause-ends
+returns-clause-ends c =
+    let rows = c.args.rows.now in
+    let low = c.args.low in
+    let e1 : c.place_class-read_only.result ≡ row_end rows low ReadOnly = c.place_class-read_only.ensures.end in
+    let e2 : c.place_class-data.result ≡ row_end rows (row_end rows low ReadOnly) Data = c.place_class-data.ensures.end ∙ ap (λ n. row_end rows n Data) e1 in
+    let e3 : c.place_class-file_end.result ≡ row_end rows (row_end rows (row_end rows low ReadOnly) Data) SmallData = c.place_class-file_end.ensures.end ∙ ap (λ n. row_end rows n SmallData) e2 in
+    let e4 : c.place_class-small_zero_end.result ≡ row_end rows (row_end rows (row_end rows (row_end rows low ReadOnly) Data) SmallData) SmallZero = c.place_class-small_zero_end.ensures.end ∙ ap (λ n. row_end rows n SmallZero) e3 in
+    record {
+      small_data = c.aligned_up.ensures.value ∙ ap (aligned_up 16) e2;
+      file_end = e3;
+      small_zero = c.aligned_up-2.ensures.value ∙ ap (aligned_up 16) e3;
+      end = c.place_class-end.ensures.end ∙ ap (λ n. row_end rows n Zero) e4;
+      most = omega (arith, class_rooms c.args.rows.now, row_end-le c.args.rows.now c.args.low ReadOnly, row_end-le c.args.rows.now c.place_class-read_only.result Data, row_end-le c.args.rows.now c.place_class-data.result SmallData, row_end-le c.args.rows.now c.place_class-file_end.result SmallZero, row_end-le c.args.rows.now c.place_class-small_zero_end.result Zero, c.place_class-read_only.ensures.end, c.place_class-data.ensures.end, c.place_class-file_end.ensures.end, c.place_class-small_zero_end.ensures.end, c.place_class-end.ensures.end);
+      small_data_most = omega (arith, class_rooms c.args.rows.now, row_end-le c.args.rows.now c.args.low ReadOnly, row_end-le c.args.rows.now c.place_class-read_only.result Data, row_end-le c.args.rows.now c.place_class-data.result SmallData, row_end-le c.args.rows.now c.place_class-file_end.result SmallZero, row_end-le c.args.rows.now c.place_class-small_zero_end.result Zero, c.place_class-read_only.ensures.end, c.place_class-data.ensures.end, c.place_class-file_end.ensures.end, c.place_class-small_zero_end.ensures.end, c.place_class-end.ensures.end, c.aligned_up.ensures.most);
+    }
 
 pub returns-clause-addresses : goal.returns-clause-addresses
 returns-clause-addresses c =

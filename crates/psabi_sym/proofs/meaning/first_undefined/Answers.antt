@@ -2,7 +2,7 @@ use Rattle.std.proofs.Common.{◌≡◌, ◌+◌, ◌<◌, ℕ, Bool, true, fals
 use Rattle.std.specs.List.{find, zip}
 use Rattle.std.specs.Option.{option_map}
 use Rattle.std.proofs.lemmas.List.{drop_more}
-use Rattle.psabi_sym.specs.Meanings.{row_is_missing}
+use Rattle.psabi_sym.specs.Invariants.Meanings.{row_is_missing}
 use Rattle.psabi_sym.specs.declared.symbol_row.SymbolRow.{SymbolRow}
 use Rattle.psabi_sym.proofs.meaning.first_undefined.Goals as goal
 

@@ -1,6 +1,6 @@
 use Rattle.std.proofs.Common.{◌≡◌, ◌&&◌, true, false, None, eqb, not, length, sym, ◌∙◌}
 use Rattle.std.specs.Option.{option_map_or}
-use Rattle.psabi_sym.specs.Rows.{first_row, row_defines}
+use Rattle.psabi_sym.specs.Invariants.Rows.{first_row, row_defines}
 use Rattle.psabi_sym.proofs.Tables.{table_at}
 use Rattle.psabi_sym.proofs.meaning.is_second.Goals as goal
 

@@ -1,7 +1,7 @@
 use Rattle.std.proofs.Common.{◌%◌, List, Bor, refl, subst, ◌≡◌, ◌≤◌, ◌+◌, ◌-◌, ℕ, length, get_or, take, drop, ap, arith}
 use Rattle.std.proofs.lemmas.List.{length-map, length-take}
 use Rattle.elf32_read.specs.Names.{name_at}
-use Rattle.psabi_sym.specs.Keys.{IsAdded, lent, tails_of}
+use Rattle.psabi_sym.specs.Invariants.Keys.{IsAdded, lent, tails_of}
 use Rattle.psabi_sym.proofs.NumberLaws.{length-with_name}
 use Rattle.psabi_sym.proofs.TailLaws.{block_added, block_end, block_extends, block_key, end_more, name_slice, name_step}
 use Rattle.psabi_sym.proofs.name_ends.end_before.Goals as goal
@@ -10,14 +10,14 @@ pub returns-then-length-ne0-clause-end : goal.returns-then-length-ne0-clause-end
 returns-then-length-ne0-clause-end c =
     let table = c.args.table.now in
     end_more (tails_of c.args.tails.now.texts.items) (get_or table c.args.at 0) (name_at table c.args.at) (name_at table (c.args.at + 1))
-    (name_step table c.args.at c.requires.at c.if-table-at-eq0.false) c.args.next c.requires.next c.if-length-ne0.true
+    (name_step table c.args.at c.requires.inside.0 c.if-table-at-eq0.false) c.args.next c.requires.next c.if-length-ne0.true
 
 pub slice_bounds-key-end : goal.slice_bounds-key-end
 slice_bounds-key-end c =
     let table = c.args.table.now in
     let n = c.args.next.length + 1 in
     let part = take (c.args.at + n - c.args.at) (drop c.args.at table) in
-    let longer : n ≡ length (name_at table c.args.at) = omega (arith, ap length (name_step table c.args.at c.requires.at c.if-table-at-eq0.false), c.requires.next.length_is) in
+    let longer : n ≡ length (name_at table c.args.at) = omega (arith, ap length (name_step table c.args.at c.requires.inside.0 c.if-table-at-eq0.false), c.requires.next.length_is) in
     omega (arith, c.if-length-ne0.false, longer, ap length (name_slice table c.args.at n longer), length-take 64 part)
 
 -- the name has a number
@@ -28,7 +28,7 @@ named c =
     let name = name_at table at in
     let old = c.args.tails.now in
     let tails = tails_of old.texts.items in
-    let step = name_step table at c.requires.at c.if-table-at-eq0.false in
+    let step = name_step table at c.requires.inside.0 c.if-table-at-eq0.false in
     let slice = name_slice table at (c.args.next.length + 1) (omega (arith, ap length step, c.requires.next.length_is)) in
     subst (λ t. IsAdded 1 tails (lent old.texts.items) (lent c.number.new.self.texts.items) c.number.new.self.keys.keys t c.in_ok-number.field-0) slice
     (c.in_ok-number.ensures 1 tails c.requires.tails.tails
@@ -37,7 +37,7 @@ named c =
 
 -- it has whole blocks
 whole : (c : goal.In_ok-number) → length (name_at c.args.table.now c.args.at) % 64 ≡ 0
-whole c = omega (arith, ap length (name_step c.args.table.now c.args.at c.requires.at c.if-table-at-eq0.false), c.requires.next.length_is, c.if-length-ne0.false)
+whole c = omega (arith, ap length (name_step c.args.table.now c.args.at c.requires.inside.0 c.if-table-at-eq0.false), c.requires.next.length_is, c.if-length-ne0.false)
 
 -- there is one tail more at most
 more : (c : goal.In_ok-number) → length c.number.new.self.texts.items ≤ length c.args.tails.now.texts.items + 1
@@ -51,24 +51,19 @@ overflow_cast-number c = omega (arith, (named c).within, length-map c.number.new
 pub overflow_add-result : goal.overflow_add-result
 overflow_add-result c = omega (arith, (named c).within, length-map c.number.new.self.texts.items (λ (x : Bor (List ℕ)). x.now), more c, c.requires.room)
 
-pub returns-clause-room : goal.returns-clause-room
-returns-clause-room c = more c
-
-pub returns-clause-tails : goal.returns-clause-tails
-returns-clause-tails c =
+pub returns-clause-grown : goal.returns-clause-grown
+returns-clause-grown c =
     let old = c.args.tails.now in
-    block_added old.keys.keys c.number.new.self.keys.keys old.texts.items c.number.new.self.texts.items c.requires.tails _ _ _
-    (name_step c.args.table.now c.args.at c.requires.at c.if-table-at-eq0.false) (whole c) c.in_ok-number.field-0 (named c)
-
-pub returns-clause-more : goal.returns-clause-more
-returns-clause-more c =
-    let old = c.args.tails.now in
-    block_extends old.keys.keys c.number.new.self.keys.keys old.texts.items c.number.new.self.texts.items c.requires.tails _ _ _
-    (name_step c.args.table.now c.args.at c.requires.at c.if-table-at-eq0.false) (whole c) c.in_ok-number.field-0 (named c)
+    let step = name_step c.args.table.now c.args.at c.requires.inside.0 c.if-table-at-eq0.false in
+    record {
+      are = block_added old.keys.keys c.number.new.self.keys.keys old.texts.items c.number.new.self.texts.items c.requires.tails _ _ _ step (whole c) c.in_ok-number.field-0 (named c);
+      more = block_extends old.keys.keys c.number.new.self.keys.keys old.texts.items c.number.new.self.texts.items c.requires.tails _ _ _ step (whole c) c.in_ok-number.field-0 (named c);
+      room = more c;
+    }
 
 pub returns-clause-end : goal.returns-clause-end
 returns-clause-end c =
     let old = c.args.tails.now in
-    let step = name_step c.args.table.now c.args.at c.requires.at c.if-table-at-eq0.false in
+    let step = name_step c.args.table.now c.args.at c.requires.inside.0 c.if-table-at-eq0.false in
     block_end old.keys.keys c.number.new.self.keys.keys old.texts.items c.number.new.self.texts.items c.requires.tails _ _ _
     step (whole c) c.in_ok-number.field-0 (named c) (c.args.next.length + 1) (omega (arith, ap length step, c.requires.next.length_is))

@@ -1,12 +1,12 @@
 use Rattle.std.proofs.Common.{◌≡◌, ◌+◌, ◌-◌, ◌<◌, ◌≤◌, ℕ, length, get_or}
 use Rattle.elf32_read.specs.Names.{name_at}
-use Rattle.psabi_sym.specs.Keys.{AreBlocks, Extends, IsEnd, tails_of}
+use Rattle.psabi_sym.specs.Invariants.Keys.{AreTextBlocks, Extends, IsEnd, tails_of}
 use Rattle.psabi_sym.specs.declared.name_ends.NameEnd.{NameEnd}
 use Rattle.psabi_sym.proofs.name_ends.name_ends.Given as goal
 
 abbrev pub invariant-loop-k : goal.invariant-loop-k
 invariant-loop-k l = record {
-  are : AreBlocks l.tails.keys.keys l.tails.texts.items;
+  are : AreTextBlocks l.tails.keys.keys l.tails.texts.items;
   more : Extends (tails_of l.fn.tails.texts.items) (tails_of l.tails.texts.items);
   room : length l.tails.texts.items ≤ length l.fn.tails.texts.items + l.k;
   count : length l.ends.items ≡ length l.table;

@@ -1,5 +1,5 @@
 use Rattle.std.proofs.Common.{rules, refl, ◌∙◌, []}
-use Rattle.psabi_sym.specs.Rows.{no_block, row_common_block}
+use Rattle.psabi_sym.specs.Invariants.Rows.{no_block, row_common_block}
 use Rattle.psabi_sym.proofs.Tables.{table_start}
 use Rattle.psabi_sym.proofs.name_tables.common_blocks.Goals as goal
 

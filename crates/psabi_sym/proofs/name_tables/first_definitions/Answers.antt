@@ -1,5 +1,5 @@
 use Rattle.std.proofs.Common.{rules, [], None, refl, ◌∙◌}
-use Rattle.psabi_sym.specs.Rows.{first_row}
+use Rattle.psabi_sym.specs.Invariants.Rows.{first_row}
 use Rattle.psabi_sym.proofs.Tables.{table_start}
 use Rattle.psabi_sym.proofs.name_tables.first_definitions.Goals as goal
 

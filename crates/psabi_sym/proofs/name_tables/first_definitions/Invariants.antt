@@ -1,6 +1,6 @@
 use Rattle.std.proofs.Common.{◌≡◌, take, map}
 use Rattle.std.specs.List.{range_with_len}
-use Rattle.psabi_sym.specs.Rows.{first_row}
+use Rattle.psabi_sym.specs.Invariants.Rows.{first_row}
 use Rattle.psabi_sym.proofs.name_tables.first_definitions.Given as goal
 
 abbrev pub invariant-loop-row : goal.invariant-loop-row

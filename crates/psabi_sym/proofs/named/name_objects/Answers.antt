@@ -1,4 +1,4 @@
-use Rattle.std.proofs.Common.{◌≡◌, ℕ, List, Bool, Bor, None, Option, eqb, length, map, refl, ap, sym, ◌∙◌}
+use Rattle.std.proofs.Common.{rules, ◌+◌, ◌≡◌, ℕ, List, Bool, Bor, None, Option, eqb, length, map, refl, ap, sym, ◌∙◌}
 use Rattle.std.specs.List.{find, range_with_len, zip}
 use Rattle.std.specs.Option.{option_map, option_or}
 use Rattle.std.proofs.lemmas.List.{length-map}
@@ -7,12 +7,12 @@ use Rattle.elf32_read.specs.declared.fault.Fault.TheVariants.{Duplicate, Undefin
 use Rattle.elf32_read.specs.Parts.{ObjectParts, object_parts}
 use Rattle.psabi_sym.specs.Faults.{duplicate_fault, is_missing, is_second, is_used, undefined_fault}
 use Rattle.psabi_sym.specs.Inputs.{ParsedInputs}
-use Rattle.psabi_sym.specs.Keys.{names_of}
-use Rattle.psabi_sym.specs.Listed.{all_symbols}
-use Rattle.psabi_sym.specs.Meanings.{row_is_missing}
-use Rattle.psabi_sym.specs.Numbered.{IsNumbered}
-use Rattle.psabi_sym.specs.Rows.{first_row, row_defines, row_is_second}
-use Rattle.psabi_sym.specs.Tables.{AreNamed}
+use Rattle.psabi_sym.specs.Invariants.Keys.{names_of}
+use Rattle.psabi_sym.specs.Indexed.{all_symbols}
+use Rattle.psabi_sym.specs.Invariants.Meanings.{row_is_missing}
+use Rattle.psabi_sym.specs.Invariants.Numbered.{IsNumbered}
+use Rattle.psabi_sym.specs.Invariants.Rows.{first_row, row_defines, row_is_second, symbol_starts}
+use Rattle.psabi_sym.specs.Invariants.Tables.{AreNamed}
 use Rattle.psabi_sym.specs.declared.meaning.Meaning.{Meaning}
 use Rattle.psabi_sym.specs.declared.symbol_row.SymbolRow.{SymbolRow}
 use Rattle.psabi_sym.proofs.BridgeLaws.{duplicate_is}
@@ -70,19 +70,25 @@ returns-in-Some-clause-err c =
 
 pub first_undefined-requires-clause-named : goal.first_undefined-requires-clause-named
 first_undefined-requires-clause-named c =
-    let own = c.in_ok-definitions.ensures.tables.named in
+    let own = c.in_ok-definitions.ensures.0.named in
     named_rows (λ r. eqb r.bind 1) global_row_goes own.numbered (c.deref-6.ensures.value ∙ sym c.deref-4.ensures.value) (sym (ap length c.deref-8.ensures.value ∙ own.count))
 
 pub returns-in-Some-first_undefined-clause-err : goal.returns-in-Some-first_undefined-clause-err
 returns-in-Some-first_undefined-clause-err c =
     let none = duplicate (map object_parts c.args.objects.now) c.in_ok-symbols.ensures.rows c.deref-2.ensures.value c.first_duplicate.ensures c.in_default.is in
-    let fault = undefined c.in_ok-definitions.ensures.tables.named (c.deref-6.ensures.value ∙ sym c.deref-4.ensures.value) c.deref-8.ensures.value (c.deref-7.ensures.value ∙ c.in_ok-used.ensures) c.first_undefined.ensures
+    let fault = undefined c.in_ok-definitions.ensures.0.named (c.deref-6.ensures.value ∙ sym c.deref-4.ensures.value) c.deref-8.ensures.value (c.deref-7.ensures.value ∙ c.in_ok-used.ensures) c.first_undefined.ensures
     c.in-Some-first_undefined.is in
     (λ j. option_or (none j) (option_or (fault j) None))
 
-pub returns-clause-none : goal.returns-clause-none
-returns-clause-none c =
-    let none = duplicate (map object_parts c.args.objects.now) c.in_ok-symbols.ensures.rows c.deref-2.ensures.value c.first_duplicate.ensures c.in_default.is in
-    let also = undefined c.in_ok-definitions.ensures.tables.named (c.deref-6.ensures.value ∙ sym c.deref-4.ensures.value) c.deref-8.ensures.value (c.deref-7.ensures.value ∙ c.in_ok-used.ensures) c.first_undefined.ensures
+pub returns-clause-named : goal.returns-clause-named
+returns-clause-named c =
+    let all = map object_parts c.args.objects.now in
+    let none = duplicate all c.in_ok-symbols.ensures.rows c.deref-2.ensures.value c.first_duplicate.ensures c.in_default.is in
+    let also = undefined c.in_ok-definitions.ensures.0.named (c.deref-6.ensures.value ∙ sym c.deref-4.ensures.value) c.deref-8.ensures.value (c.deref-7.ensures.value ∙ c.in_ok-used.ensures) c.first_undefined.ensures
     c.in_default-first_undefined.is in
-    (λ j. option_or (none j) (option_or (also j) None))
+    record {
+      defined = search rules;
+      start = c.in_ok-definitions.ensures.1;
+      starts = c.in_ok-symbols.ensures.starts ∙ ap (λ n. map (symbol_starts all) (range_with_len 0 (n + 1))) (sym (length-map c.args.objects.now object_parts));
+      faultless = λ j. option_or (none j) (option_or (also j) None);
+    }

@@ -2,16 +2,16 @@ use Rattle.std.proofs.Common.{◌≡◌, ◌++◌, ◌<◌, [], ◌∷◌, lengt
 use Rattle.std.proofs.lemmas.List.{map_more, take_all}
 use Rattle.elf32_read.specs.Header.{section_count}
 use Rattle.elf32_read.specs.Parts.{object_parts, section_parts}
-use Rattle.psabi_sym.specs.Listed.{ListedSection, sections_in}
-use Rattle.psabi_sym.specs.Rows.{section_row}
+use Rattle.psabi_sym.specs.Indexed.{IndexedSection, sections_in}
+use Rattle.psabi_sym.specs.Invariants.Rows.{section_row}
 use Rattle.psabi_sym.specs.declared.section_row.SectionRow.{SectionRow}
 use Rattle.psabi_sym.proofs.PartLaws.{length-sections_in, section_count_is, section_is, section_listed}
 use Rattle.psabi_sym.proofs.read_sections.add_sections.Goals as goal
 
 pub loop-i-preserved : goal.loop-i-preserved
 loop-i-preserved c =
-    let file = c.args.loaded.now in
-    let o = c.args.object_index in
+    let file = c.args.object.loaded.now in
+    let o = c.args.object.index in
     let i = c.loop-i.i in
     let read = c.object-object.result in
     let same : read ≡ file = c.object-object.ensures.object in
@@ -19,7 +19,7 @@ loop-i-preserved c =
     let is = c.section_entry-section.ensures in
     let within : i < section_count file = omega (arith, ap section_count same, c.section_count-i-end.ensures.count) in
     let all = sections_in (o, object_parts file) in
-    let here : ListedSection = record { object = o; index = i; section = parts } in
+    let here : IndexedSection = record { object = o; index = i; section = parts } in
     let inside : i < length all = omega (arith, within, length-sections_in o (object_parts file), section_count_is file) in
     let listed : get_or all i here ≡ here =
     section_listed o (object_parts file) i parts here (omega (arith, within, section_count_is file))
@@ -37,8 +37,8 @@ loop-i-preserved c =
 
 pub returns-clause-added : goal.returns-clause-added
 returns-clause-added c =
-    let file = c.args.loaded.now in
-    let all = sections_in (c.args.object_index, object_parts file) in
+    let file = c.args.object.loaded.now in
+    let all = sections_in (c.args.object.index, object_parts file) in
     c.loop-i.invariant.added
     ∙ ap (λ t. c.args.rows.now.items ++ map section_row t)
-    (take_all c.loop-i.i all (omega (arith, length-sections_in c.args.object_index (object_parts file), section_count_is file, c.section_count-i-end.ensures.count, ap section_count c.object-object.ensures.object)))
+    (take_all c.loop-i.i all (omega (arith, length-sections_in c.args.object.index (object_parts file), section_count_is file, c.section_count-i-end.ensures.count, ap section_count c.object-object.ensures.object)))

@@ -1,9 +1,9 @@
 use Rattle.std.proofs.Common.{◌≡◌, true, cond, ap, sym, ◌∙◌}
 use Rattle.elf32_read.specs.Names.{name_at}
 use Rattle.elf32_read.specs.Parts.{symbol_parts}
-use Rattle.psabi_sym.specs.Keys.{names_of}
+use Rattle.psabi_sym.specs.Invariants.Keys.{names_of}
 use Rattle.psabi_sym.specs.Names.{goes_by_name}
-use Rattle.psabi_sym.specs.Rows.{name_number, with_name}
+use Rattle.psabi_sym.specs.Invariants.Rows.{name_number, with_name}
 use Rattle.psabi_sym.proofs.NumberLaws.{symbol_number_is}
 use Rattle.psabi_sym.proofs.read_symbols.number_name.Goals as goal
 
@@ -29,7 +29,7 @@ pub returns-clause-names : goal.returns-clause-names
 returns-clause-names c = λ file table.
     let names = names_of c.args.names.now in
     let goes = sym c.if-not-goes_by_name.false ∙ c.goes_by_name.ensures file in
-    c.in_ok-number.ensures.names ∙ ap (λ t. with_name names (name_at t c.args.entry.now.name)) table
+    c.in_ok-number.ensures.added.names ∙ ap (λ t. with_name names (name_at t c.args.entry.now.name)) table
     ∙ (λ j. cond (goes j) (with_name names (symbol_parts file c.args.entry.now).name) names)
 
 pub returns-clause-number : goal.returns-clause-number

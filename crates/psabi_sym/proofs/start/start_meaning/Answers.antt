@@ -1,7 +1,7 @@
 use Rattle.std.proofs.Common.{[], get_or, map, below_more, sym, ap, ◌∙◌, arith}
 use Rattle.std.proofs.lemmas.List.{get_or_default, get_or_past}
 use Rattle.psabi_sym.specs.Names.{same_name}
-use Rattle.psabi_sym.specs.Rows.{name_number}
+use Rattle.psabi_sym.specs.Invariants.Rows.{name_number}
 use Rattle.psabi_sym.specs.Start.{start_name}
 use Rattle.psabi_sym.specs.declared.meaning.Meaning.TheVariants.{Nothing, Symbol}
 use Rattle.psabi_sym.proofs.StartLaws.{borrowed_test, first_seen}

@@ -3,7 +3,7 @@ use Rattle.std.proofs.lemmas.List.{get_or-map, take_rest, length-map, map-append
 use Rattle.std.proofs.lemmas.Option.{slice_get-get_or}
 use Rattle.elf32_read.specs.Parts.{object_parts}
 use Rattle.psabi_sym.specs.Faults.{is_used}
-use Rattle.psabi_sym.specs.Listed.{all_symbols, symbols_in}
+use Rattle.psabi_sym.specs.Indexed.{all_symbols, symbols_in}
 use Rattle.psabi_sym.proofs.FlatLaws.{length-parsed, parsed_more, symbols_push}
 use Rattle.psabi_sym.proofs.UsedLaws.{drop_first, used_in}
 use Rattle.psabi_sym.proofs.used.used_symbols.Goals as goal

@@ -1,7 +1,7 @@
 use Rattle.std.proofs.Common.{◌≡◌, map, take}
 use Rattle.elf32_read.specs.Parts.{object_parts}
 use Rattle.psabi_sym.specs.Faults.{is_used}
-use Rattle.psabi_sym.specs.Listed.{all_symbols}
+use Rattle.psabi_sym.specs.Indexed.{all_symbols}
 use Rattle.psabi_sym.proofs.used.used_symbols.Given as goal
 
 abbrev pub invariant-loop-object : goal.invariant-loop-object

@@ -1,6 +1,6 @@
-use Rattle.std.proofs.Common.{ap, ◌∙◌}
-use Rattle.psabi_sym.specs.Keys.{IsAdded, lent, names_of, tails_of}
-use Rattle.psabi_sym.specs.Rows.{name_number, with_name}
+use Rattle.std.proofs.Common.{refl, ap, ◌∙◌}
+use Rattle.psabi_sym.specs.Invariants.Keys.{IsAdded, lent, names_of, tails_of}
+use Rattle.psabi_sym.specs.Invariants.Rows.{name_number, with_name}
 use Rattle.psabi_sym.proofs.names.Names.number.Goals as goal
 
 pub name_with_key-requires : goal.name_with_key-requires
@@ -12,8 +12,12 @@ added c =
     let tails = tails_of c.args.self.now.tails.texts.items in
     c.in_ok-number.ensures 0 tails c.requires.are.tails.tails (c.name_with_key.ensures.key c.args.self.now.tails.texts.items c.requires.ends) c.requires.are.keys_are
 
-pub returns-clause-names : goal.returns-clause-names
-returns-clause-names c = (added c).texts_are ∙ ap (with_name (names_of c.args.self.now)) c.name_with_key.ensures.name
+pub returns-clause-added : goal.returns-clause-added
+returns-clause-added c = record {
+  are = record { tails = c.requires.are.tails; keys_are = (added c).keys_are };
+  names = (added c).texts_are ∙ ap (with_name (names_of c.args.self.now)) c.name_with_key.ensures.name;
+  tails = refl;
+}
 
 pub returns-clause-number : goal.returns-clause-number
 returns-clause-number c = (added c).number_is ∙ ap (name_number (lent c.number.new.self.texts.items)) c.name_with_key.ensures.name

@@ -4,7 +4,7 @@ use Rattle.std.proofs.lemmas.List.{get_or_read}
 use Rattle.elf32_read.specs.Parts.{SectionParts}
 use Rattle.psabi_sym.specs.Data.{data_address, role_address, role_of}
 use Rattle.psabi_sym.specs.Inputs.{Inputs, parsed}
-use Rattle.psabi_sym.specs.Listed.{section_at}
+use Rattle.psabi_sym.specs.Indexed.{section_at}
 use Rattle.psabi_sym.proofs.AccessLaws.{address_inside, data_address_is, no_section_there, section_there, some_none}
 use Rattle.psabi_sym.proofs.FoundLaws.{IsFoundSection}
 use Rattle.psabi_sym.proofs.objects.Objects.data_address.Goals as goal

@@ -7,7 +7,7 @@ use Rattle.std.proofs.lemmas.Option.{get_or_from_slice_get, slice_get_within}
 use Rattle.psabi_sym.specs.Contents.{data_contents, with_content}
 use Rattle.psabi_sym.specs.Data.{data_file_end}
 use Rattle.psabi_sym.specs.Inputs.{parsed}
-use Rattle.psabi_sym.specs.Listed.{all_sections}
+use Rattle.psabi_sym.specs.Indexed.{all_sections}
 use Rattle.psabi_sym.proofs.ContentLaws.{data_low-le}
 use Rattle.psabi_sym.proofs.SectionNumbers.{listed_at}
 use Rattle.psabi_sym.proofs.objects.Objects.data_contents.Goals as goal

@@ -3,7 +3,7 @@ use Rattle.std.specs.List.{fold}
 use Rattle.psabi_sym.specs.Contents.{with_content}
 use Rattle.psabi_sym.specs.Data.{data_file_end}
 use Rattle.psabi_sym.specs.Inputs.{parsed}
-use Rattle.psabi_sym.specs.Listed.{all_sections}
+use Rattle.psabi_sym.specs.Indexed.{all_sections}
 use Rattle.psabi_sym.proofs.objects.Objects.data_contents.Given as goal
 
 abbrev pub invariant-loop-k : goal.invariant-loop-k

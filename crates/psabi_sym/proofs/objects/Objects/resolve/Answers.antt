@@ -1,21 +1,27 @@
 use Rattle.std.proofs.Common.{◌≡◌, ◌≢◌, ◌⊎◌, ℕ, Bool, List, ◌-◌, ◌<◌, ap, sym, cond, eqb, w32, ◌∙◌, arith, inl, inr, true, false, get_or, length}
+use Rattle.std.specs.Prelude.{◌||◌, not, ℤ}
 use Rattle.std.specs.Option.{option_map_or}
 use Rattle.std.proofs.lemmas.Bool.{eq-eqb, ne_eqb}
 use Rattle.std.proofs.lemmas.Int.{to_z-of_z}
 use Rattle.std.proofs.lemmas.List.{get_or_read}
 use Rattle.elf32_read.specs.Parts.{SymbolParts}
 use Rattle.psabi_sym.specs.declared.meaning.Meaning.TheVariants.{Nothing}
-use Rattle.psabi_sym.specs.Inputs.{Inputs, parsed}
-use Rattle.psabi_sym.specs.Listed.{symbol_at}
+use Rattle.psabi_sym.specs.declared.target.Target.{Target}
+use Rattle.psabi_sym.specs.Inputs.{Inputs, ParsedInputs, parsed}
+use Rattle.psabi_sym.specs.Indexed.{symbol_at}
 use Rattle.psabi_sym.specs.Names.{goes_by_name, is_common}
-use Rattle.psabi_sym.specs.Resolve.{definition_target, home_target, name_definition, named_target, number_target, resolved, symbol_target, undefined_target}
-use Rattle.psabi_sym.specs.Rows.{row_is_common, symbol_row}
+use Rattle.psabi_sym.specs.Resolve.{definition_target, home_target, name_definition, number_target, resolved, symbol_target, undefined_target}
+use Rattle.psabi_sym.specs.Invariants.Rows.{row_is_common, symbol_row}
 use Rattle.psabi_sym.specs.declared.symbol_row.SymbolRow.{SymbolRow}
 use Rattle.psabi_sym.proofs.AccessLaws.{meaning_is, no_symbol_there, number_inside, resolved_at, symbol_found_there, symbol_inside, symbol_is}
 use Rattle.psabi_sym.proofs.FoundLaws.{IsFoundSymbol}
 use Rattle.psabi_sym.proofs.NumberLaws.{bound_goes, common_goes}
 use Rattle.psabi_sym.proofs.objects.Objects.resolve.Goals as goal
 use Rattle.psabi_sym.proofs.objects.Objects.resolve.Goals.{In-Some}
+
+-- where a name leads
+abbrev named_target : ParsedInputs → SymbolParts → ℤ → Target
+named_target inputs s addend = option_map_or (definition_target inputs addend) (name_definition inputs s.name) (undefined_target s addend)
 
 abbrev here : In-Some → Inputs
 here c = record { files = c.self.inside.objects.items; map = c.self.inside.map }
@@ -60,7 +66,7 @@ returns-then-row-eq-LOCAL c =
     let local : eqb s.bind 0 ≡ true = eq-eqb s.bind 0 (ap (λ r. r.bind) (sym row) ∙ c.if-row-eq-LOCAL.true) in
     c.home_target.ensures s (ap (λ r. r.home) (sym row)) (ap (λ r. r.value) (sym row))
     ∙ (λ j. home_target (parsed (sym c.self.view_is j)) (row j).object s (to_z-of_z w32 c.args.addend c.ranges.addend j))
-    ∙ sym (target a ∙ (λ j. cond (common j) (named_target p s c.args.addend) (cond (local j) (home_target p c.args.object s c.args.addend) (named_target p s c.args.addend))))
+    ∙ sym (target a ∙ (λ j. cond (common j || not (local j)) (named_target p s c.args.addend) (home_target p c.args.object s c.args.addend)))
 
 pub overflow_cast-row : goal.overflow_cast-row
 overflow_cast-row c =
@@ -87,15 +93,8 @@ returns c =
     let meaning = get_or_read meanings c.index.result.now.name c.index-meaning.result.now inside c.index-meaning.ensures Nothing
     ∙ ap (λ r. get_or meanings r.name Nothing) row ∙ meaning_is c.self.invariant (found a) named_is in
     let bind = ap (λ r. r.bind) (sym row) in
-    let named : symbol_target p c.args.object s c.args.addend ≡ named_target p s c.args.addend = elim c.else-not-is_common.either [
-      | inl both ↦
-          let common : is_common s ≡ false = ap row_is_common (sym row) ∙ sym c.is_common.ensures ∙ both.0 in
-          let local : eqb s.bind 0 ≡ false = ne_eqb s.bind 0 (λ e. both.1 (sym bind ∙ e)) in
-          (λ j. cond (common j) (named_target p s c.args.addend) (cond (local j) (home_target p c.args.object s c.args.addend) (named_target p s c.args.addend)))
-      | inr held ↦
-          let common : is_common s ≡ true = ap row_is_common (sym row) ∙ sym c.is_common.ensures ∙ held in
-          ap (λ b. cond b (named_target p s c.args.addend) (cond (eqb s.bind 0) (home_target p c.args.object s c.args.addend) (named_target p s c.args.addend))) common
-    ] in
+    let named : symbol_target p c.args.object s c.args.addend ≡ named_target p s c.args.addend =
+    ap (λ b. cond b (named_target p s c.args.addend) (home_target p c.args.object s c.args.addend)) named_is in
     c.meaning_target.ensures names (name_definition p s.name) s meaning bind
     ∙ (λ j. option_map_or (definition_target (parsed (sym c.self.view_is j)) (to_z-of_z w32 c.args.addend c.ranges.addend j)) (name_definition p s.name) (undefined_target s (to_z-of_z w32 c.args.addend c.ranges.addend j)))
     ∙ sym (target a ∙ named)

@@ -4,7 +4,7 @@ use Rattle.elf32_read.specs.Header.{section_count}
 use Rattle.elf32_read.specs.Parts.{section_parts}
 use Rattle.psabi_sym.specs.Data.{role_of}
 use Rattle.psabi_sym.specs.Inputs.{Inputs, parsed}
-use Rattle.psabi_sym.specs.Listed.{all_sections}
+use Rattle.psabi_sym.specs.Indexed.{all_sections}
 use Rattle.psabi_sym.specs.declared.section_row.SectionRow.{SectionRow}
 use Rattle.psabi_sym.proofs.AccessLaws.{IsNumberedRow, numbered_row}
 use Rattle.psabi_sym.proofs.objects.Objects.section.Goals as goal

@@ -1,8 +1,8 @@
 use Rattle.std.proofs.Common.{◌≡◌, length, ap, ◌∙◌, arith}
 use Rattle.std.proofs.lemmas.List.{length-map}
 use Rattle.psabi_sym.specs.Inputs.{Inputs, parsed}
-use Rattle.psabi_sym.specs.Listed.{all_sections}
-use Rattle.psabi_sym.specs.Rows.{section_row}
+use Rattle.psabi_sym.specs.Indexed.{all_sections}
+use Rattle.psabi_sym.specs.Invariants.Rows.{section_row}
 use Rattle.psabi_sym.proofs.SectionNumbers.{few_sections}
 use Rattle.psabi_sym.proofs.objects.Objects.section_count.Goals as goal
 

@@ -1,6 +1,6 @@
 use Rattle.std.proofs.Common.{ap, ◌∙◌, arith, subst, None, Some, slice_get}
 use Rattle.psabi_sym.specs.Inputs.{Inputs, parsed}
-use Rattle.psabi_sym.specs.Listed.{IsSectionNumber, all_sections}
+use Rattle.psabi_sym.specs.Indexed.{IsSectionNumber, all_sections}
 use Rattle.psabi_sym.proofs.AccessLaws.{no_section_there, section_there}
 use Rattle.psabi_sym.proofs.FoundLaws.{IsFoundSection}
 use Rattle.psabi_sym.proofs.PlaceLaws.{listed_there, place_listed}

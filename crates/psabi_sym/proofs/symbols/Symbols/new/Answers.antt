@@ -4,11 +4,11 @@ use Rattle.std.proofs.lemmas.List.{length-map}
 use Rattle.std.proofs.lemmas.List.Elements.{All-nil}
 use Rattle.std.proofs.lemmas.List.FromFn.{map-range_with_len_more}
 use Rattle.elf32_read.specs.Parts.{object_parts}
-use Rattle.psabi_sym.specs.Keys.{names_of}
-use Rattle.psabi_sym.specs.Listed.{ListedSymbol, all_symbols, symbols_in}
+use Rattle.psabi_sym.specs.Invariants.Keys.{names_of}
+use Rattle.psabi_sym.specs.Indexed.{IndexedSymbol, all_symbols, symbols_in}
 use Rattle.psabi_sym.specs.Names.{goes_by_name}
-use Rattle.psabi_sym.specs.Numbered.{IsNumbered}
-use Rattle.psabi_sym.specs.Rows.{name_number, symbol_row, symbol_starts}
+use Rattle.psabi_sym.specs.Invariants.Numbered.{IsNumbered}
+use Rattle.psabi_sym.specs.Invariants.Rows.{name_number, symbol_row, symbol_starts}
 use Rattle.psabi_sym.proofs.FlatLaws.{length-parsed, parsed_more, symbols_push}
 use Rattle.psabi_sym.proofs.symbols.Symbols.new.Goals as goal
 
@@ -18,12 +18,12 @@ loop-i-init c = record {
   are = c.requires.are;
   room = omega (arith, ap length c.requires.tails);
   rows = record {
-    rows_are = c.new-rows.ensures.items;
-    numbered = All-nil (λ (l : ListedSymbol). goes_by_name l.symbol ≡ true → name_number (names_of c.args.names.now) l.symbol.name < length (names_of c.args.names.now));
+    rows_are = c.in_ok-rows.ensures.items;
+    numbered = All-nil (λ (l : IndexedSymbol). goes_by_name l.symbol ≡ true → name_number (names_of c.args.names.now) l.symbol.name < length (names_of c.args.names.now));
     few = omega (arith, ap length c.requires.unnamed);
   };
-  starts = c.new-starts.ensures.items;
-  few = omega arith;
+  starts = c.in_ok-starts.ensures.items;
+  few = omega (arith, c.in_ok-rows.ensures.len);
 }
 
 pub loop-i-preserved : goal.loop-i-preserved
@@ -39,8 +39,8 @@ loop-i-preserved c =
     let before = c.loop-i.invariant.rows in
     let count : length rows.items ≡ symbol_starts all i = ap length before.rows_are ∙ length-map (all_symbols (take i all)) (symbol_row (names_of c.loop-i.names)) in
     record {
-      are = c.in_ok-add_symbols.ensures.are;
-      room = omega (arith, c.in_ok-add_symbols.ensures.room, c.loop-i.invariant.room);
+      are = c.in_ok-add_symbols.ensures.are.0;
+      room = omega (arith, c.in_ok-add_symbols.ensures.are.1, c.loop-i.invariant.room);
       rows =
           subst (λ l. IsNumbered (names_of c.add_symbols.new.names) l c.add_symbols.new.rows.items)
           (ap (λ n. all_symbols (take i all) ++ symbols_in (n, object)) (sym index) ∙ sym (symbols_push (take i all) object) ∙ ap all_symbols (sym more))

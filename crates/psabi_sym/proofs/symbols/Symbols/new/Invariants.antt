@@ -1,10 +1,10 @@
 use Rattle.std.proofs.Common.{◌≡◌, ◌≤◌, ◌*◌, length, map, take, vec_len}
 use Rattle.std.specs.List.{range_with_len}
 use Rattle.elf32_read.specs.Parts.{object_parts}
-use Rattle.psabi_sym.specs.Keys.{AreNames, names_of}
-use Rattle.psabi_sym.specs.Listed.{all_symbols}
-use Rattle.psabi_sym.specs.Numbered.{IsNumbered}
-use Rattle.psabi_sym.specs.Rows.{symbol_starts}
+use Rattle.psabi_sym.specs.Invariants.Keys.{AreNames, names_of}
+use Rattle.psabi_sym.specs.Indexed.{all_symbols}
+use Rattle.psabi_sym.specs.Invariants.Numbered.{IsNumbered}
+use Rattle.psabi_sym.specs.Invariants.Rows.{symbol_starts}
 use Rattle.psabi_sym.proofs.symbols.Symbols.new.Given as goal
 
 abbrev pub invariant-loop-i : goal.invariant-loop-i

@@ -1,6 +1,6 @@
 use Rattle.std.proofs.Common.{◌≡◌, ℕ, List, [], ◌∷◌, ◌++◌, Bor, refl, cond, ap, sym, ◌∙◌}
 use Rattle.std.proofs.lemmas.List.{map_push}
-use Rattle.psabi_sym.specs.Keys.{lent}
+use Rattle.psabi_sym.specs.Invariants.Keys.{lent}
 use Rattle.psabi_sym.proofs.KeyLaws.{text_added}
 use Rattle.psabi_sym.proofs.texts.Texts.number.Goals as goal
 

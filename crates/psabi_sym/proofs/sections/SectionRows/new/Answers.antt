@@ -3,14 +3,14 @@ use Rattle.std.specs.List.{range_with_len}
 use Rattle.std.proofs.lemmas.List.{length-map, map-append}
 use Rattle.std.proofs.lemmas.List.FromFn.{map-range_with_len_more}
 use Rattle.elf32_read.specs.Parts.{object_parts}
-use Rattle.psabi_sym.specs.Listed.{all_sections, sections_in}
-use Rattle.psabi_sym.specs.Rows.{section_row, section_starts}
+use Rattle.psabi_sym.specs.Indexed.{all_sections, sections_in}
+use Rattle.psabi_sym.specs.Invariants.Rows.{section_row, section_starts}
 use Rattle.psabi_sym.proofs.FlatLaws.{length-parsed, parsed_more, sections_push}
-use Rattle.psabi_sym.proofs.sections.Sections.new.Goals as goal
+use Rattle.psabi_sym.proofs.sections.SectionRows.new.Goals as goal
 
 pub loop-i-init : goal.loop-i-init
 unfolding all_sections
-loop-i-init c = record { rows = c.new-rows.ensures.items; starts = c.new-starts.ensures.items; few = omega arith }
+loop-i-init c = record { rows = c.new-rows.ensures.items; starts = c.in_ok-starts.ensures.items; few = omega arith }
 
 pub loop-i-preserved : goal.loop-i-preserved
 loop-i-preserved c =

@@ -1,17 +1,20 @@
 -- The tables of a link: what stands beside the files for look-ups in constant time.
-use Rattle.std.specs.Prelude.{◌≡◌, ◌+◌, ℕ, true, List, length, map, slice_index_or, All}
+use Rattle.std.specs.Prelude.{◌≡◌, ◌+◌, ℕ, None, true, List, length, map, slice_index_or, All}
 use Rattle.std.specs.List.{range_with_len}
 use Rattle.psabi_sym.specs.Data.{class_end}
+use Rattle.psabi_sym.specs.Faults.{name_fault}
 use Rattle.psabi_sym.specs.Inputs.{ParsedInputs}
-use Rattle.psabi_sym.specs.Listed.{all_sections, all_symbols}
-use Rattle.psabi_sym.specs.Meanings.{meaning_row}
+use Rattle.psabi_sym.specs.Indexed.{all_sections, all_symbols}
+use Rattle.psabi_sym.specs.Invariants.Meanings.{meaning_row}
 use Rattle.psabi_sym.specs.Names.{goes_by_name}
-use Rattle.psabi_sym.specs.Numbered.{IsNumbered}
+use Rattle.psabi_sym.specs.Invariants.Numbered.{IsNumbered}
 use Rattle.psabi_sym.specs.Resolve.{name_definition}
-use Rattle.psabi_sym.specs.Rows.{ArePlaced, name_number, section_row, section_starts, symbol_starts}
+use Rattle.psabi_sym.specs.Start.{IsStart}
+use Rattle.psabi_sym.specs.Invariants.Rows.{ArePlaced, name_number, section_row, section_starts, symbol_starts}
 use Rattle.psabi_sym.specs.declared.data_class.DataClass.TheVariants.{SmallData, Common}
 use Rattle.psabi_sym.specs.declared.meaning.Meaning.{Meaning}
 use Rattle.psabi_sym.specs.declared.meaning.Meaning.TheVariants.{Nothing}
+use Rattle.psabi_sym.specs.declared.named.Named.{Named}
 use Rattle.psabi_sym.specs.declared.section_row.SectionRow.{SectionRow}
 use Rattle.psabi_sym.specs.declared.symbol_row.SymbolRow.{SymbolRow}
 
@@ -30,6 +33,13 @@ pub record AreDefined (inputs : ParsedInputs) (sections : List SectionRow) (addr
   pub named : AreNamed inputs symbols meanings
   pub file_end_is : file_end ≡ class_end inputs SmallData
   pub end_is : end ≡ class_end inputs Common
+
+-- symbols and definitions are those of inputs whose names have no fault
+pub record HasNameNumber (inputs : ParsedInputs) (sections : List SectionRow) (named : Named) : Type 0 where
+  pub defined : AreDefined inputs sections named.definitions.addresses.items named.symbols.rows.items named.definitions.meanings.items named.definitions.file_end named.definitions.end
+  pub start : IsStart inputs named.definitions.start
+  pub starts : named.symbols.starts.items ≡ map (symbol_starts inputs.objects) (range_with_len 0 (length inputs.objects + 1))
+  pub faultless : name_fault inputs ≡ None
 
 -- the rows of all sections and symbols, with where each object's begin
 pub record AreIndexed (inputs : ParsedInputs) (sections : List SectionRow) (section_places symbol_places : List ℕ) : Type 0 where

@@ -1,16 +1,17 @@
 -- Sections and symbols as a link keeps them: what it asks of them later, with a number for each name.
-use Rattle.std.specs.Prelude.{◌≡◌, false, slice_get, slice_index, ℕ, Bool, not, ◌&&◌, ◌||◌, ◌==◌, max, List, [], ◌∷◌, ◌++◌, filter, length, map, take, if◌then◌else◌, is_none, ◌+◌, Option, Some, None}
-use Rattle.std.specs.List.{find, fold, list_any, position_or_len}
+use Rattle.std.specs.Prelude.{◌≡◌, ◌≤◌, false, slice_get, slice_index, ℕ, Bool, not, ◌&&◌, ◌||◌, ◌==◌, max, List, [], ◌∷◌, ◌++◌, filter, length, map, take, if◌then◌else◌, is_none, ◌+◌, Option, Some, None}
+use Rattle.std.specs.List.{find, fold, list_any, position_or_len, sum_by}
 use Rattle.std.specs.Option.{option_map, option_map_or, option_or}
 use Rattle.elf32_read.specs.Parts.{ObjectParts, SymbolParts}
 use Rattle.psabi_sym.specs.Blocks.{aligned_up, end_from, room_of}
 use Rattle.psabi_sym.specs.Classes.{classes_before, same_class}
-use Rattle.psabi_sym.specs.Data.{greatest, has_class, role_of}
-use Rattle.psabi_sym.specs.Listed.{ListedSection, ListedSymbol, all_sections, all_symbols}
+use Rattle.psabi_sym.specs.Data.{has_class, role_of}
+use Rattle.psabi_sym.specs.Indexed.{IndexedSection, IndexedSymbol, all_sections, all_symbols}
 use Rattle.psabi_sym.specs.Names.{goes_by_name, same_name}
 use Rattle.psabi_sym.specs.declared.block.Block.{Block}
 use Rattle.psabi_sym.specs.declared.data_class.DataClass.{DataClass}
-use Rattle.psabi_sym.specs.declared.data_class.DataClass.TheVariants.{Common}
+use Rattle.psabi_sym.specs.declared.data_class.DataClass.TheVariants.{SmallData, SmallZero, Zero, Common}
+use Rattle.psabi_sym.specs.declared.layout.ClassEnds.{ClassEnds}
 use Rattle.psabi_sym.specs.declared.section_row.SectionRole.{SectionRole}
 use Rattle.psabi_sym.specs.declared.section_row.SectionRole.TheVariants.{Code, InClass, Dropped}
 use Rattle.psabi_sym.specs.declared.section_row.SectionRow.{SectionRow}
@@ -19,7 +20,7 @@ use Rattle.psabi_sym.specs.declared.symbol_row.SymbolRow.{SymbolRow}
 -- ---- sections
 
 -- the row of a section
-abbrev pub section_row : ListedSection → SectionRow
+abbrev pub section_row : IndexedSection → SectionRow
 section_row l = record {
   object = l.object;
   index = l.index;
@@ -71,6 +72,15 @@ role_room Dropped room = 0
 abbrev pub row_data_room : SectionRow → ℕ
 row_data_room r = role_room r.role (room_of (row_block r))
 
+-- where classes begin and end, by rows, if data begins at an address, and how far that is at most
+pub record AreClassEnds (rows : List SectionRow) (low : ℕ) (ends : ClassEnds) : Type 0 where
+  pub small_data : ends.small_data ≡ row_start rows low SmallData
+  pub file_end : ends.file_end ≡ end_from (row_start rows low SmallData) (row_blocks SmallData rows)
+  pub small_zero : ends.small_zero ≡ row_start rows low SmallZero
+  pub end : ends.end ≡ end_from (row_start rows low Zero) (row_blocks Zero rows)
+  pub most : ends.end ≤ low + 80 + sum_by row_data_room rows
+  pub small_data_most : ends.small_data ≤ low + 96 + sum_by row_data_room rows
+
 -- ---- symbols
 
 -- the number of a name among names: the place where it was first seen, or how many there are
@@ -90,7 +100,7 @@ abbrev pub symbol_number : List (List ℕ) → SymbolParts → ℕ
 symbol_number names s = if goes_by_name s then name_number names s.name else 0
 
 -- the row of a symbol
-abbrev pub symbol_row : List (List ℕ) → ListedSymbol → SymbolRow
+abbrev pub symbol_row : List (List ℕ) → IndexedSymbol → SymbolRow
 symbol_row names l = record {
   object = l.object;
   home = l.symbol.home;
@@ -128,8 +138,8 @@ common_rows rows name = filter (λ r. row_is_common r && r.name == name) rows
 -- the room of the name with this number
 abbrev pub row_common_block : List SymbolRow → ℕ → Block
 row_common_block rows name = let same = common_rows rows name in record {
-  align = greatest (map (λ r. max 1 r.value) same);
-  size = greatest (map (λ r. r.size) same);
+  align = fold max 0 (map (λ r. max 1 r.value) same);
+  size = fold max 0 (map (λ r. r.size) same);
 }
 
 -- the room of no common symbol, and of one more symbol

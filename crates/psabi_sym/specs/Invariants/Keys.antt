@@ -1,12 +1,13 @@
 -- Names that are told apart by a part of a bounded length and the number of the rest, so that names that end alike aren't read
 -- whole.
 use Rattle.std.specs.Borrow.{Bor}
-use Rattle.std.specs.Prelude.{◌≡◌, ◌/◌, ◌%◌, ◌<◌, ◌≤◌, ℕ, List, [], ◌∷◌, ◌++◌, length, map, drop, All, slice_index_or}
+use Rattle.std.specs.Prelude.{◌≡◌, ◌+◌, ◌/◌, ◌%◌, ◌<◌, ◌≤◌, ℕ, List, [], ◌∷◌, ◌++◌, length, map, drop, All, slice_index_or}
 use Rattle.elf32_read.specs.Names.{name_at}
-use Rattle.psabi_sym.specs.Rows.{name_number, with_name}
+use Rattle.psabi_sym.specs.Invariants.Rows.{name_number, with_name}
 use Rattle.psabi_sym.specs.declared.key.Key.{Key}
 use Rattle.psabi_sym.specs.declared.name_ends.NameEnd.{NameEnd}
 use Rattle.psabi_sym.specs.declared.names.Names.{Names}
+use Rattle.psabi_sym.specs.declared.texts.Texts.{Texts}
 
 -- what is lent
 abbrev pub lent : List (Bor (List ℕ)) → List (List ℕ)
@@ -41,7 +42,7 @@ pub record IsAdded (blocks : ℕ) (tails before after : List (List ℕ)) (keys :
 abbrev pub tails_of : List (Bor (List ℕ)) → List (List ℕ)
 tails_of texts = [] ∷ lent texts
 
-pub record AreBlocks (keys : List Key) (texts : List (Bor (List ℕ))) : Type 0 where
+pub record AreTextBlocks (keys : List Key) (texts : List (Bor (List ℕ))) : Type 0 where
   pub tails : AreTails (tails_of texts)
   pub keys_are : AreKeys 1 (tails_of texts) keys (lent texts)
 
@@ -50,6 +51,12 @@ pub record Extends (before after : List (List ℕ)) : Type 0 where
   pub longer : length before ≤ length after
   pub kept : (k : ℕ) → k < length before → slice_index_or after k [] ≡ slice_index_or before k []
 
+-- tails with more of them, at most so many
+pub record HaveMoreTexts (before after : Texts) (most : ℕ) : Type 0 where
+  pub are : AreTextBlocks after.keys.keys after.texts.items
+  pub more : Extends (tails_of before.texts.items) (tails_of after.texts.items)
+  pub room : length after.texts.items ≤ length before.texts.items + most
+
 -- how long a name is, and the number of its longest tail
 pub record IsEnd (tails : List (List ℕ)) (name : List ℕ) (end : NameEnd) : Type 0 where
   pub length_is : end.length ≡ length name
@@ -57,9 +64,14 @@ pub record IsEnd (tails : List (List ℕ)) (name : List ℕ) (end : NameEnd) : T
   pub tail_is : slice_index_or tails end.tail [] ≡ drop (end.length % 64) name
 
 -- the ends of the names that begin at each byte of a table
-pub record AreEnds (texts : List (Bor (List ℕ))) (table : List ℕ) (ends : List NameEnd) : Type 0 where
+pub record AreNameEnds (texts : List (Bor (List ℕ))) (table : List ℕ) (ends : List NameEnd) : Type 0 where
   pub count : length ends ≡ length table
   pub each : (k : ℕ) (d : NameEnd) → k < length table → IsEnd (tails_of texts) (name_at table k) (slice_index_or ends k d)
+
+-- the ends of those names that have a block or more; a table without such names may have no ends
+pub record AreLongEnds (texts : List (Bor (List ℕ))) (table : List ℕ) (ends : List NameEnd) : Type 0 where
+  pub each : (k : ℕ) (d : NameEnd) → k < length table → 64 ≤ length (name_at table k)
+      → (k < length ends) × IsEnd (tails_of texts) (name_at table k) (slice_index_or ends k d)
 
 -- names that were numbered, in the order of their numbers
 abbrev pub names_of : Names → List (List ℕ)
@@ -67,5 +79,17 @@ names_of names = lent names.names.texts.items
 
 -- they have keys of less than a block and a tail
 pub record AreNames (names : Names) : Type 0 where
-  pub tails : AreBlocks names.tails.keys.keys names.tails.texts.items
+  pub tails : AreTextBlocks names.tails.keys.keys names.tails.texts.items
   pub keys_are : AreKeys 0 (tails_of names.tails.texts.items) names.names.keys.keys (names_of names)
+
+-- the same names, over at most so many tails more
+pub record HaveRead (before after : Names) (most : ℕ) : Type 0 where
+  pub are : AreNames after
+  pub names : names_of after ≡ names_of before
+  pub room : length after.tails.texts.items ≤ length before.tails.texts.items + most
+
+-- names with one more, if it is new, over the same tails
+pub record HaveAdded (before after : Names) (name : List ℕ) : Type 0 where
+  pub are : AreNames after
+  pub names : names_of after ≡ with_name (names_of before) name
+  pub tails : after.tails ≡ before.tails

@@ -2,7 +2,7 @@
 use Rattle.std.specs.Prelude.{ℕ, Bool, true, false, ◌&&◌, ◌==◌, List, [], slice_index_or, Option, Some, None}
 use Rattle.psabi_sym.specs.Resolve.{Definition, linker_number}
 use Rattle.psabi_sym.specs.Resolve.Definition.{InObject, AtNumber}
-use Rattle.psabi_sym.specs.Rows.{symbol_row}
+use Rattle.psabi_sym.specs.Invariants.Rows.{symbol_row}
 use Rattle.psabi_sym.specs.declared.meaning.LinkerNumbers.{LinkerNumbers}
 use Rattle.psabi_sym.specs.declared.meaning.Meaning.{Meaning}
 use Rattle.psabi_sym.specs.declared.meaning.Meaning.TheVariants.{Symbol, Number, Nothing}

@@ -1,9 +1,9 @@
 use Rattle.std.proofs.Common.{◌≡◌, ◌≤◌, ◌*◌, map, take, vec_len}
 use Rattle.std.specs.List.{range_with_len}
 use Rattle.elf32_read.specs.Parts.{object_parts}
-use Rattle.psabi_sym.specs.Listed.{all_sections}
-use Rattle.psabi_sym.specs.Rows.{section_row, section_starts}
-use Rattle.psabi_sym.proofs.sections.Sections.new.Given as goal
+use Rattle.psabi_sym.specs.Indexed.{all_sections}
+use Rattle.psabi_sym.specs.Invariants.Rows.{section_row, section_starts}
+use Rattle.psabi_sym.proofs.sections.SectionRows.new.Given as goal
 
 abbrev pub invariant-loop-i : goal.invariant-loop-i
 invariant-loop-i l = let all = map object_parts l.objects in record {
