@@ -7,7 +7,7 @@ use Rattle.std.proofs.lemmas.List.Elements.{Contains-push_cases}
 use Rattle.std.proofs.lemmas.List.Sums.{length-filter, sum_by-cons, sum_by_push}
 use Rattle.std.proofs.lemmas.Option.{get_or_from_slice_get, slice_get_within}
 use Rattle.elf32_read.specs.declared.reloc.Reloc.{Reloc}
-use Rattle.block_cut.specs.Fields.{AreApart}
+use Rattle.block_cut.specs.Invariants.Fields.{AreFieldsApart}
 use Rattle.block_cut.specs.Relocs.{field_end, field_of, overlaps_another, overlap}
 
 -- what stands at an index is one of a list's elements
@@ -23,8 +23,8 @@ none_over s (r ∷ rs) out =
     sum_by-cons (λ t. cond (overlap s t) 1 0) r rs ∙ (λ j. cond (here j) 1 0 + rest j)
 
 -- one more, which overlaps none of those before it, nor they it
-apart_push : (rs : List Reloc) (s : Reloc) (m n : ℕ) → AreApart m rs → m ≤ n → (0 < field_of s → field_end s ≤ n)
-    → ((r : Reloc) → Contains rs r → min (field_end r) (field_end s) ≤ max r.offset s.offset) → AreApart n (rs ++ s ∷ [])
+apart_push : (rs : List Reloc) (s : Reloc) (m n : ℕ) → AreFieldsApart m rs → m ≤ n → (0 < field_of s → field_end s ≤ n)
+    → ((r : Reloc) → Contains rs r → min (field_end r) (field_end s) ≤ max r.offset s.offset) → AreFieldsApart n (rs ++ s ∷ [])
 apart_push rs s m n are le ends past = record {
   alone = λ r held. all r ∙ elim (Contains-push_cases rs s r held) [
     | inl old ↦
@@ -51,13 +51,13 @@ apart_push rs s m n are le ends past = record {
     under r held = le-ltb (max s.offset r.offset) (min (field_end s) (field_end r)) (omega (arith, past r held))
 
 -- one that begins where those before it have ended
-pub apart_next : (rs : List Reloc) (s : Reloc) (m : ℕ) → AreApart m rs → m ≤ s.offset → AreApart (field_end s) (rs ++ s ∷ [])
+pub apart_next : (rs : List Reloc) (s : Reloc) (m : ℕ) → AreFieldsApart m rs → m ≤ s.offset → AreFieldsApart (field_end s) (rs ++ s ∷ [])
 apart_next rs s m are begins = apart_push rs s m (field_end s) are (omega (arith, begins)) (λ some. omega arith) (λ r held. elim (cases_lt 0 (field_of r)) [
   | inl some ↦ omega (arith, are.before r held some, begins)
   | inr none ↦ omega (arith, none)
 ])
 
 -- one without bytes
-pub apart_same : (rs : List Reloc) (s : Reloc) (before : Option ℕ) → IfSome before (λ n. AreApart n rs) → field_of s ≡ 0 → IfSome before (λ n. AreApart n (rs ++ s ∷ []))
+pub apart_same : (rs : List Reloc) (s : Reloc) (before : Option ℕ) → IfSome before (λ n. AreFieldsApart n rs) → field_of s ≡ 0 → IfSome before (λ n. AreFieldsApart n (rs ++ s ∷ []))
 apart_same rs s None are none = are
 apart_same rs s (Some n) are none = apart_push rs s n n are (omega arith) (λ some. absurd (omega (arith, some, none))) (λ r held. omega (arith, none))

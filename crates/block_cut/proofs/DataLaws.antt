@@ -4,7 +4,7 @@ use Rattle.std.proofs.Common.{◌≡◌, ℕ, ◌+◌, ◌≤◌, List, [], ◌�
 use Rattle.std.specs.Prelude.{All, ◌&&◌, ◌||◌, nat_lt}
 use Rattle.std.specs.List.{flat_map, fold}
 use Rattle.std.specs.Option.{option_map, option_map_or, option_or}
-use Rattle.std.proofs.lemmas.Bool.{eq-eqb, ltb-false, or_parts}
+use Rattle.std.proofs.lemmas.Bool.{ltb-false, or_parts}
 use Rattle.std.proofs.lemmas.Grind.{flat_map-append}
 use Rattle.std.proofs.lemmas.List.{append-nil, map-append}
 use Rattle.std.proofs.lemmas.List.Elements.{All-filter, All-map, filter-append}
@@ -21,7 +21,7 @@ use Rattle.psabi_sym.specs.Blocks.{aligned_up, end_from}
 use Rattle.psabi_sym.specs.Data.{address_in, blocks_in, blocks_of, class_end, class_start, data_address, data_end, end_after, is_of_class, has_class, role_of, section_block}
 use Rattle.psabi_sym.specs.Classes.{classes_before, same_class}
 use Rattle.psabi_sym.specs.Inputs.{ParsedInputs}
-use Rattle.psabi_sym.specs.Listed.{ListedSection, all_sections, section_at, sections_before}
+use Rattle.psabi_sym.specs.Indexed.{IndexedSection, all_sections, section_at, sections_before}
 use Rattle.psabi_sym.specs.declared.block.Block.{Block}
 use Rattle.psabi_sym.specs.declared.data_class.DataClass.{DataClass}
 use Rattle.psabi_sym.specs.declared.data_class.DataClass.TheVariants.{ReadOnly, Data, SmallData, SmallZero, Zero, Common}
@@ -56,6 +56,14 @@ end_from-append at (b ∷ bs) cs = end_from-append (aligned_up b.align at + b.si
 ends-ge : (objects : List ObjectParts) (at : ℕ) (cs : List DataClass) → at ≤ fold (end_after objects) at cs
 ends-ge objects at [] = omega arith
 ends-ge objects at (c ∷ cs) = omega (arith, aligned_up-ge 16 at, end_from-ge (aligned_up 16 at) (blocks_of objects c), ends-ge objects (end_after objects at c) cs)
+
+same_as_itself : (class : DataClass) → same_class class class ≡ true
+same_as_itself ReadOnly = refl
+same_as_itself Data = refl
+same_as_itself SmallData = refl
+same_as_itself SmallZero = refl
+same_as_itself Zero = refl
+same_as_itself Common = refl
 
 -- the classes after one, before the common symbols
 abbrev later : DataClass → List DataClass
@@ -107,7 +115,7 @@ module _ (inputs : ParsedInputs) (o i : ℕ) (s : SectionParts) (found : section
   unfolding class_end
   in_class class role =
       let cut = cut_at inputs.objects o i s found in
-      let own : is_of_class class (listed o i s) ≡ true = ap (has_class class) role ∙ eq-eqb _ _ refl in
+      let own : is_of_class class (listed o i s) ≡ true = ap (has_class class) role ∙ same_as_itself class in
       let start = class_start inputs class in
       let before = blocks_in class (sections_before inputs.objects o i) in
       let rest = blocks_in class cut.rest in
@@ -176,14 +184,14 @@ module _ (inputs : ParsedInputs) (o i : ℕ) (s : SectionParts) (found : section
 -- ---- the words of a section
 
 -- a section of data that a file holds begins at an address
-pub record IsHeld (inputs : ParsedInputs) (l : ListedSection) (at : ℕ) : Type 0 where
+pub record IsHeld (inputs : ParsedInputs) (l : IndexedSection) (at : ℕ) : Type 0 where
   pub class : DataClass
   pub role : role_of l.section ≡ InClass class
   pub address : data_address inputs l.object l.index ≡ Some at
   pub at_is : at ≡ address_in inputs l.object l.index l.section class
   pub held : eqb l.section.kind 8 ≡ false
 
-module _ (inputs : ParsedInputs) (l : ListedSection) where
+module _ (inputs : ParsedInputs) (l : IndexedSection) where
   pub held_is : section_at inputs.objects l.object l.index ≡ Some l.section → (at : ℕ) → held_address inputs l ≡ Some at → IsHeld inputs l at
   held_is found at is = by (eqb l.section.kind 8) refl is
     where
@@ -256,7 +264,7 @@ module _ (inputs : ParsedInputs) (l : ListedSection) where
 -- ---- one section after another
 
 -- those of one section more
-pub words_next : (inputs : ParsedInputs) (k : ℕ) (l : ListedSection) → slice_get (all_sections inputs.objects) k ≡ Some l
+pub words_next : (inputs : ParsedInputs) (k : ℕ) (l : IndexedSection) → slice_get (all_sections inputs.objects) k ≡ Some l
     → flat_map (words_in inputs) (take (k + 1) (all_sections inputs.objects)) ≡ flat_map (words_in inputs) (take k (all_sections inputs.objects)) ++ words_in inputs l
 words_next inputs k l at =
     ap (flat_map (words_in inputs)) (take_next (all_sections inputs.objects) k l at)

@@ -15,7 +15,7 @@ use Rattle.std.proofs.lemmas.List.Sums.{length-filter, sum_by-cons}
 use Rattle.elf32_read.specs.declared.reloc.Reloc.{Reloc}
 use Rattle.block_cut.specs.declared.fields.FieldEnds.{FieldEnds}
 use Rattle.block_cut.specs.declared.fields.Fields.{Fields}
-use Rattle.block_cut.specs.Fields.{AreEnds, AreFields, IsSortedOf, ends_of, has_field, is_upper, starts_of, uppers_of}
+use Rattle.block_cut.specs.Invariants.Fields.{AreEnds, AreFields, IsSortedOf, ends_of, has_field, is_upper, starts_of, uppers_of}
 use Rattle.block_cut.specs.Relocs.{field_end, field_of, overlaps_another, overlap}
 
 -- ---- counts

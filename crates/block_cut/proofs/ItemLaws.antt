@@ -18,7 +18,7 @@ use Rattle.rv_decode.specs.declared.instr.Instr.{Instr}
 use Rattle.rv_decode.specs.declared.instr.Instr.TheVariants as instr
 use Rattle.block_cut.specs.declared.item.Item.{Item}
 use Rattle.block_cut.specs.declared.item.Item.TheVariants.{Branch, Jump, Align}
-use Rattle.block_cut.specs.Items.{call_item, code_at, instr_item, item_at, item_from, item_in, item_of, item_under, known_item, of_instr, raw_in, raw_pair, reloc_item, size_on, starts_on, target_away, target_of, to_place, transfer_item}
+use Rattle.block_cut.specs.Items.{call_item, code_at, instr_item, item_at, item_in, item_under, known_item, of_instr, raw_in, raw_pair, size_on, spelled_item, starts_on, target_away, target_of, to_place, transfer_item}
 use Rattle.block_cut.specs.PlainLayout.{after_item, padding_of}
 use Rattle.block_cut.specs.CodeSizes.{own_size, code_step}
 use Rattle.block_cut.specs.Relocs.{field_of, fits_at, instr_in, is_bad_kind, is_filling, is_ignored, is_padding, reloc_on}
@@ -39,7 +39,7 @@ pub item_found : (inputs : ParsedInputs) (q : Place) (i : Item) → item_at inpu
 unfolding item_at
 item_found inputs q i is = by (code_at inputs.objects q) refl is
   where
-    by : (o : Option SectionParts) → code_at inputs.objects q ≡ o → option_and_then (item_from inputs q) o ≡ Some i → IsItemAt inputs q i
+    by : (o : Option SectionParts) → code_at inputs.objects q ≡ o → option_and_then (λ s. cond (starts_on s q.offset) (Some (item_in inputs s q)) None) o ≡ Some i → IsItemAt inputs q i
     by None at is = absurd cc
     by (Some s) at is = starts (starts_on s q.offset) refl is
       where
@@ -50,15 +50,15 @@ item_found inputs q i is = by (code_at inputs.objects q) refl is
 -- and the other way round
 pub item_there : (inputs : ParsedInputs) (q : Place) (s : SectionParts) → code_at inputs.objects q ≡ Some s → starts_on s q.offset ≡ true → item_at inputs q ≡ Some (item_in inputs s q)
 unfolding item_at
-item_there inputs q s at start = ap (option_and_then (item_from inputs q)) at ∙ ap (λ b. cond b (Some (item_in inputs s q)) None) start
+item_there inputs q s at start = ap (option_and_then (λ s. cond (starts_on s q.offset) (Some (item_in inputs s q)) None)) at ∙ ap (λ b. cond b (Some (item_in inputs s q)) None) start
 
 pub item_at-code : (inputs : ParsedInputs) (q : Place) (s : SectionParts) → code_at inputs.objects q ≡ Some s → item_at inputs q ≡ cond (starts_on s q.offset) (Some (item_in inputs s q)) None
 unfolding item_at
-item_at-code inputs q s at = ap (option_and_then (item_from inputs q)) at
+item_at-code inputs q s at = ap (option_and_then (λ s. cond (starts_on s q.offset) (Some (item_in inputs s q)) None)) at
 
 pub item_at-none : (inputs : ParsedInputs) (q : Place) → code_at inputs.objects q ≡ None → item_at inputs q ≡ None
 unfolding item_at
-item_at-none inputs q at = ap (option_and_then (item_from inputs q)) at
+item_at-none inputs q at = ap (option_and_then (λ s. cond (starts_on s q.offset) (Some (item_in inputs s q)) None)) at
 
 -- ---- padding
 
@@ -142,7 +142,7 @@ pub after_plain : (a n : ℕ) (i : Item) → padding_of i ≡ None → after_ite
 after_plain a n i is = ap (λ o. option_map_or (λ bytes. aligned_up (power_above bytes) a) o (a + n)) is
 
 -- what has no relocation isn't padding
-own_plain : (objects : List ObjectParts) (q : Place) (size : ℕ) (bytes : List ℕ) → padding_of (item_of objects q size bytes) ≡ None
+own_plain : (objects : List ObjectParts) (q : Place) (size : ℕ) (bytes : List ℕ) → padding_of (spelled_item objects q (instr_in size bytes q.offset) (raw_in size bytes q.offset)) ≡ None
 own_plain objects q size bytes = by (instr_in size bytes q.offset)
   where
     raw : Item
@@ -166,7 +166,7 @@ own_plain objects q size bytes = by (instr_in size bytes q.offset)
     of instr.Ebreak = refl
     of (instr.Csrrw rd source) = refl
 
-    by : (o : Option Instr) → padding_of (Rattle.block_cut.specs.Items.spelled objects q o raw) ≡ None
+    by : (o : Option Instr) → padding_of (Rattle.block_cut.specs.Items.spelled_item objects q o raw) ≡ None
     by None = refl
     by (Some i) = of i
 
@@ -264,7 +264,7 @@ module _ (inputs : ParsedInputs) (s : SectionParts) (q : Place) (code : is_code_
           omega (arith, room, up, aligned_up-lt (power_above m) a, padding.above)
 
       by : (o : Option Reloc) → reloc_on s q.offset ≡ o → after_item a (option_map_or field_of o own) (item_under inputs q o (size_on s q.offset) s.bytes) ≤ a + option_map_or field_of o own + option_map_or reloc_room o 0
-      by None is = omega (arith, after_plain a own (item_of inputs.objects q (size_on s q.offset) s.bytes) (own_plain inputs.objects q (size_on s q.offset) s.bytes))
+      by None is = omega (arith, after_plain a own (spelled_item inputs.objects q (instr_in (size_on s q.offset) s.bytes q.offset) (raw_in (size_on s q.offset) s.bytes q.offset)) (own_plain inputs.objects q (size_on s q.offset) s.bytes))
       by (Some r) is =
           let sound = sound_at s q.offset r code is in
           of r _ (reloc_takes s (target_of inputs q.object r) s.bytes q.offset (kind_of r.kind) r.addend sound.asks sound.known sound.fits)

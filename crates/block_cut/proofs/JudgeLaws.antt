@@ -11,15 +11,15 @@ use Rattle.psabi_reloc.specs.declared.kind.RelocKind.{RelocKind}
 use Rattle.psabi_reloc.specs.declared.kind.RelocKind.TheVariants as kind
 use Rattle.psabi_sym.specs.Faults.{first_some}
 use Rattle.psabi_sym.specs.Inputs.{ParsedInputs}
-use Rattle.psabi_sym.specs.Listed.{ListedSection}
+use Rattle.psabi_sym.specs.Indexed.{IndexedSection}
 use Rattle.psabi_sym.specs.Resolve.{resolved}
-use Rattle.block_cut.specs.Faults.{has_bad_target, if_so, is_bad_target, is_nothing, is_pair_at, lacks_pcrel_hi, reloc_fault, section_fault}
+use Rattle.block_cut.specs.Faults.{has_bad_target, if_so, is_bad_target, is_pair_at, is_zero_addend, lacks_pcrel_hi, reloc_fault, section_fault}
 use Rattle.block_cut.specs.Items.{target_of}
 use Rattle.block_cut.specs.Relocs.{field_end, is_bad_kind, is_bad_place, is_placed, overlaps_another, is_ignored, is_pcrel_lo, is_transfer}
 use Rattle.block_cut.specs.Resolved.{asks, fault_of, resolved_fault, resolved_reloc, resolved_relocs}
 use Rattle.block_cut.specs.declared.resolved_reloc.RelocFault.TheVariants.{Kind, Place, Pair}
 
-module _ (inputs : ParsedInputs) (l : ListedSection) where
+module _ (inputs : ParsedInputs) (l : IndexedSection) where
   -- what asks for nothing has no fault
   ignored_none : (r : Reloc) → asks r ≡ false → reloc_fault inputs l r ≡ None
   ignored_none r nothing = by (kind_of r.kind) refl nothing
@@ -58,7 +58,7 @@ module _ (inputs : ParsedInputs) (l : ListedSection) where
           place = ap (λ k. not (is_ignored k) && rest) is
 
           lone : Bool
-          lone = not (is_nothing r.addend) || not (is_pair_at l (resolved inputs l.object r.symbol (pos 0)))
+          lone = not (is_zero_addend r.addend) || not (is_pair_at l (resolved inputs l.object r.symbol (pos 0)))
 
           pair : lacks_pcrel_hi inputs l r ≡ false
           pair = ap (λ k. is_pcrel_lo k && lone) is

@@ -14,13 +14,13 @@ use Rattle.elf32_read.specs.Parts.{ObjectParts, SectionParts, is_code_section, o
 use Rattle.elf32_read.specs.declared.reloc.Reloc.{Reloc}
 use Rattle.psabi_sym.specs.Faults.{gather_fault}
 use Rattle.psabi_sym.specs.Inputs.{Inputs, ParsedInputs, parsed}
-use Rattle.psabi_sym.specs.Listed.{IsSectionNumber, ListedSection, ListedSymbol, all_sections, all_symbols, section_at, symbols_in}
-use Rattle.psabi_sym.specs.Rows.{section_starts}
+use Rattle.psabi_sym.specs.Indexed.{IndexedSection, IndexedSymbol, IsSectionNumber, all_sections, all_symbols, section_at, symbols_in}
+use Rattle.psabi_sym.specs.Invariants.Rows.{section_starts}
 use Rattle.psabi_sym.proofs.FlatLaws.{length-parsed, parsed_more, symbols_push}
 use Rattle.psabi_sym.proofs.SectionNumbers.{has_number, listed_at, number_of_section}
 use Rattle.block_cut.specs.Items.{code_at, code_only, is_target_at, item_at, item_in, next_at, place_of, places_of, size_at, starts_in, starts_on, target_of, targets_in}
 use Rattle.block_cut.specs.Leaders.{ends_block, goes_to, is_leader_at, is_place, item_leads, reloc_leads, section_leads}
-use Rattle.block_cut.specs.Led.{Adds, has_place, is_led_to, is_marked, mark_at, mark_in, section_number}
+use Rattle.block_cut.specs.Invariants.Led.{AddsPlaces, has_place, is_led_to, is_marked, mark_at, mark_in, section_number}
 use Rattle.block_cut.specs.Places.{code_place, code_places}
 use Rattle.block_cut.specs.Resolved.{asks, resolved_reloc, resolved_relocs}
 use Rattle.block_cut.specs.declared.code_place.CodePlace.{CodePlace}
@@ -76,7 +76,7 @@ number_is objects q (Some k) is =
     ap (option_map (λ s. section_starts objects q.object + q.section)) is.1 ∙ ap Some (sym (has_number objects k (listed q.object q.section is.0) is.2).place)
 
 -- so a section's own number is that of its places
-pub number_listed : (objects : List ObjectParts) (k : ℕ) (l : ListedSection) → slice_get (all_sections objects) k ≡ Some l → section_number objects (place_of l 0) ≡ Some k
+pub number_listed : (objects : List ObjectParts) (k : ℕ) (l : IndexedSection) → slice_get (all_sections objects) k ≡ Some l → section_number objects (place_of l 0) ≡ Some k
 number_listed objects k l at = number_is objects (place_of l 0) (Some k) (l.section, listed_at objects k l at, at)
 
 -- the section with a number at a place
@@ -170,27 +170,27 @@ marked_more objects sections p k new marked even number within here q = by (eqb 
 
 module _ (objects : List ObjectParts) where
   -- none
-  pub adds_none : (leaders : Leaders) → Adds objects (λ q. false) leaders leaders
+  pub adds_none : (leaders : Leaders) → AddsPlaces objects (λ q. false) leaders leaders
   adds_none leaders q = sym (or_false (has_place objects leaders q))
 
   -- by a test that says the same
-  pub adds_same : (f g : Place → Bool) (old new : Leaders) → ((q : Place) → f q ≡ g q) → Adds objects f old new → Adds objects g old new
+  pub adds_same : (f g : Place → Bool) (old new : Leaders) → ((q : Place) → f q ≡ g q) → AddsPlaces objects f old new → AddsPlaces objects g old new
   adds_same f g old new same adds q = adds q ∙ ap (λ b. has_place objects old q || b) (same q)
 
   -- and then others
-  pub adds_more : (f g : Place → Bool) (old mid new : Leaders) → Adds objects f old mid → Adds objects g mid new → Adds objects (λ q. f q || g q) old new
+  pub adds_more : (f g : Place → Bool) (old mid new : Leaders) → AddsPlaces objects f old mid → AddsPlaces objects g mid new → AddsPlaces objects (λ q. f q || g q) old new
   adds_more f g old mid new first then q = then q ∙ ap (λ b. b || g q) (first q) ∙ or_assoc (has_place objects old q) (f q) (g q)
 
   -- those of one element more
   pub adds_next : {X : Type 0} (leads : Place → X → Bool) (xs : List X) (k : ℕ) (x : X) (old mid new : Leaders) → slice_get xs k ≡ Some x
-      → Adds objects (λ q. list_any (leads q) (take k xs)) old mid → Adds objects (λ q. leads q x) mid new → Adds objects (λ q. list_any (leads q) (take (k + 1) xs)) old new
+      → AddsPlaces objects (λ q. list_any (leads q) (take k xs)) old mid → AddsPlaces objects (λ q. leads q x) mid new → AddsPlaces objects (λ q. list_any (leads q) (take (k + 1) xs)) old new
   adds_next leads xs k x old mid new at first then =
       adds_same (λ q. list_any (leads q) (take k xs) || leads q x) (λ q. list_any (leads q) (take (k + 1) xs)) old new (λ q. sym (any_next (leads q) xs k x at))
       (adds_more (λ q. list_any (leads q) (take k xs)) (λ q. leads q x) old mid new first then)
 
   -- after the last there are all
   pub adds_all : {X : Type 0} (leads : Place → X → Bool) (xs : List X) (k : ℕ) (old new : Leaders) → length xs ≤ k
-      → Adds objects (λ q. list_any (leads q) (take k xs)) old new → Adds objects (λ q. list_any (leads q) xs) old new
+      → AddsPlaces objects (λ q. list_any (leads q) (take k xs)) old new → AddsPlaces objects (λ q. list_any (leads q) xs) old new
   adds_all leads xs k old new past = adds_same (λ q. list_any (leads q) (take k xs)) (λ q. list_any (leads q) xs) old new (λ q. ap (list_any (leads q)) (take_all k xs past))
 
 -- ---- items
@@ -205,10 +205,10 @@ pub item_leads_none : (inputs : ParsedInputs) (p : Place) → item_at inputs p �
 item_leads_none inputs p at q = ap (λ o. option_map_or (λ i. goes_to q i || (ends_block i && same_place (next_at inputs.objects p) q)) o false) at
 
 -- the offsets of a section's places; what isn't code has none
-abbrev pub offsets_of : ListedSection → List ℕ
+abbrev pub offsets_of : IndexedSection → List ℕ
 offsets_of l = cond (is_code_section l.section) (targets_in l.section) []
 
-pub places_are : (inputs : ParsedInputs) (l : ListedSection) → code_places inputs l ≡ map (code_place inputs l) (offsets_of l)
+pub places_are : (inputs : ParsedInputs) (l : IndexedSection) → code_places inputs l ≡ map (code_place inputs l) (offsets_of l)
 places_are inputs l = by (is_code_section l.section)
   where
     by : (b : Bool) → cond b (map (code_place inputs l) (targets_in l.section)) [] ≡ map (code_place inputs l) (cond b (targets_in l.section) [])
@@ -216,14 +216,14 @@ places_are inputs l = by (is_code_section l.section)
     by false = refl
 
 -- one of a section's places
-pub record IsPlaceGot (inputs : ParsedInputs) (l : ListedSection) (k : ℕ) (place : CodePlace) : Type 0 where
+pub record IsPlaceGot (inputs : ParsedInputs) (l : IndexedSection) (k : ℕ) (place : CodePlace) : Type 0 where
   pub n : ℕ
   pub at : slice_get (offsets_of l) k ≡ Some n
   pub held : Contains (offsets_of l) n
   pub is : place ≡ code_place inputs l n
   pub offset : place.offset ≡ n
 
-pub place_got : (inputs : ParsedInputs) (l : ListedSection) (places : List CodePlace) → places ≡ code_places inputs l → (k : ℕ) (place : CodePlace) → k < length places → place ≡ get_or places k place
+pub place_got : (inputs : ParsedInputs) (l : IndexedSection) (places : List CodePlace) → places ≡ code_places inputs l → (k : ℕ) (place : CodePlace) → k < length places → place ≡ get_or places k place
     → IsPlaceGot inputs l k place
 place_got inputs l places are k place within is =
     let all = are ∙ places_are inputs l in
@@ -234,7 +234,7 @@ place_got inputs l places are k place within is =
     let own : place ≡ code_place inputs l n = is ∙ get_or_from_slice_get places k (code_place inputs l n) place there in
     record { n = n; at = at; held = contains_at (offsets_of l) k n at; is = own; offset = ap (λ p. p.offset) own }
 
-module _ (inputs : Inputs) (l : ListedSection) (none : gather_fault inputs ≡ None) (found : section_at (parsed inputs).objects l.object l.index ≡ Some l.section) where
+module _ (inputs : Inputs) (l : IndexedSection) (none : gather_fault inputs ≡ None) (found : section_at (parsed inputs).objects l.object l.index ≡ Some l.section) where
   module _ (code : is_code_section l.section ≡ true) where
     -- no offset lies past the section's end
     offset_within : (n : ℕ) → Contains (targets_in l.section) n → n ≤ length l.section.bytes
@@ -284,7 +284,7 @@ module _ (inputs : Inputs) (l : ListedSection) (none : gather_fault inputs ≡ N
       by false code = refl
 
 -- relocations that are decided lead where all do
-pub relocs_lead : (inputs : ParsedInputs) (l : ListedSection) (q : Place) → list_any (λ d. is_place q d.target) (resolved_relocs inputs l) ≡ section_leads inputs q l
+pub relocs_lead : (inputs : ParsedInputs) (l : IndexedSection) (q : Place) → list_any (λ d. is_place q d.target) (resolved_relocs inputs l) ≡ section_leads inputs q l
 relocs_lead inputs l q = all l.section.relocs
   where
     all : (rs : List Reloc) → list_any (λ d. is_place q d.target) (map (resolved_reloc inputs l) (filter asks rs)) ≡ list_any (reloc_leads inputs q l.object) rs
@@ -299,11 +299,11 @@ relocs_lead inputs l q = all l.section.relocs
 -- ---- sections and symbols
 
 -- an item of a section leads to a place
-abbrev pub items_from : ParsedInputs → Place → ListedSection → Bool
+abbrev pub items_from : ParsedInputs → Place → IndexedSection → Bool
 items_from inputs q l = list_any (item_leads inputs q) (places_of l)
 
 -- a symbol of one object more
-pub symbols_more : (inputs : Inputs) (i : ℕ) (file : List ℕ) → slice_get inputs.files i ≡ Some file → (p : ListedSymbol → Bool)
+pub symbols_more : (inputs : Inputs) (i : ℕ) (file : List ℕ) → slice_get inputs.files i ≡ Some file → (p : IndexedSymbol → Bool)
     → list_any p (all_symbols (take (i + 1) (parsed inputs).objects)) ≡ (list_any p (all_symbols (take i (parsed inputs).objects)) || list_any p (symbols_in (i, object_parts file)))
 symbols_more inputs i file at p =
     let objects = (parsed inputs).objects in
@@ -314,7 +314,7 @@ symbols_more inputs i file at p =
     ∙ ap (λ n. list_any p (all_symbols (take i objects)) || list_any p (symbols_in (n, object_parts file))) (length-parsed object_parts inputs.files i (omega (arith, within)))
 
 -- no object has no symbols
-pub no_symbols : (objects : List ObjectParts) (p : ListedSymbol → Bool) → list_any p (all_symbols (take 0 objects)) ≡ false
+pub no_symbols : (objects : List ObjectParts) (p : IndexedSymbol → Bool) → list_any p (all_symbols (take 0 objects)) ≡ false
 unfolding all_symbols
 no_symbols objects p = refl
 

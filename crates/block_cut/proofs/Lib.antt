@@ -7,7 +7,9 @@ pub mod ItemLaws
 pub mod JudgeLaws
 pub mod LedLaws
 pub mod ListedLaws
-pub mod PlaceLaws
+pub mod NamelessFaults
+pub mod OrderLaws
+mod PlaceLaws
 pub mod PlaceOrder
 pub mod PlainLaws
 pub mod ReachLaws

@@ -5,7 +5,7 @@ use Rattle.std.specs.Option.{option_and_then, option_map_or}
 use Rattle.std.proofs.lemmas.List.{append-nil, drop_more, length-take-le, take-append-drop, take_all, take_more}
 use Rattle.std.proofs.lemmas.Option.{get_or_from_slice_get, slice_get_within}
 use Rattle.elf32_read.specs.Parts.{ObjectParts, SectionParts}
-use Rattle.psabi_sym.specs.Listed.{ListedSection, all_sections, section_at, sections_before, sections_in}
+use Rattle.psabi_sym.specs.Indexed.{IndexedSection, all_sections, section_at, sections_before, sections_in}
 use Rattle.psabi_sym.proofs.FlatLaws.{flat_at, flat_before, sections_push}
 use Rattle.psabi_sym.proofs.PartLaws.{length-sections_in, section_listed}
 use Rattle.psabi_sym.proofs.PlaceLaws.{begins_within}
@@ -42,7 +42,7 @@ take_split (x ∷ xs) (suc m) (suc n) le =
 -- ---- sections
 
 -- a section with its object's index and its own
-abbrev pub listed : ℕ → ℕ → SectionParts → ListedSection
+abbrev pub listed : ℕ → ℕ → SectionParts → IndexedSection
 listed o i s = record { object = o; index = i; section = s }
 
 -- a section is one of an object
@@ -103,7 +103,7 @@ before_end objects o past = before_first objects o ∙ ap all_sections (take_all
 
 -- all are those before a section, the section, and the rest
 pub record IsCutAt (objects : List ObjectParts) (o i : ℕ) (s : SectionParts) : Type 0 where
-  pub rest : List ListedSection
+  pub rest : List IndexedSection
   pub all_are : all_sections objects ≡ sections_before objects o i ++ listed o i s ∷ rest
 
 pub cut_at : (objects : List ObjectParts) (o i : ℕ) (s : SectionParts) → section_at objects o i ≡ Some s → IsCutAt objects o i s
@@ -127,7 +127,7 @@ cut_at objects o i s found =
 
 -- the sections before a later one are those before a section, the section, and some more
 pub record IsBetween (objects : List ObjectParts) (o i : ℕ) (s : SectionParts) (p j : ℕ) : Type 0 where
-  pub rest : List ListedSection
+  pub rest : List IndexedSection
   pub are : sections_before objects p j ≡ sections_before objects o i ++ listed o i s ∷ rest
 
 pub between : (objects : List ObjectParts) (o i : ℕ) (s : SectionParts) (p j : ℕ) (t : SectionParts) → section_at objects o i ≡ Some s → section_at objects p j ≡ Some t

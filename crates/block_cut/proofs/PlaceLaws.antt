@@ -8,7 +8,7 @@ use Rattle.std.specs.declared.cmp.Ordering.TheVariants.{Less, Equal, Greater}
 use Rattle.std.proofs.lemmas.Bool.{eq-eqb, eqb-false, eqb-true, ltb-true, ne_eqb}
 use Rattle.zc_base.specs.Places.{same_place}
 use Rattle.zc_base.specs.declared.place.Place.{Place}
-use Rattle.block_cut.specs.Led.{is_listed}
+use Rattle.block_cut.specs.Invariants.Led.{is_listed}
 
 -- the order of places
 abbrev pub place_cmp : Place → Place → Ordering

@@ -19,7 +19,7 @@ use Rattle.elf32_read.specs.Parts.{ObjectParts, SectionParts, is_code_section}
 use Rattle.psabi_sym.specs.Blocks.{aligned_up}
 use Rattle.psabi_sym.specs.Faults.{gather_fault, power_above}
 use Rattle.psabi_sym.specs.Inputs.{Inputs, ParsedInputs, parsed}
-use Rattle.psabi_sym.specs.Listed.{ListedSection, all_sections, section_at, sections_before}
+use Rattle.psabi_sym.specs.Indexed.{IndexedSection, all_sections, section_at, sections_before}
 use Rattle.block_cut.specs.declared.item.Item.{Item}
 use Rattle.block_cut.specs.declared.item.Item.TheVariants.{Align}
 use Rattle.block_cut.specs.Items.{code_at, is_end_at, is_start_at, is_target_at, item_at, item_in, next_at, place_of, size_at, size_on, starts_in, starts_on}
@@ -106,7 +106,7 @@ aligned_up-words align at words whole = elim (cases_eq align 0) [
 -- ---- addresses in a section
 
 -- two places of one section
-abbrev pub spot : Place → SectionParts → ListedSection
+abbrev pub spot : Place → SectionParts → IndexedSection
 spot q s = listed q.object q.section s
 
 module _ (inputs : ParsedInputs) (q : Place) (s : SectionParts) (code : is_code_section s ≡ true) (whole : IsWhole s) where
@@ -173,7 +173,7 @@ module _ (inputs : ParsedInputs) (q : Place) (s : SectionParts) (code : is_code_
 -- ---- all sections
 
 -- sections end at even addresses
-ends_words : (inputs : ParsedInputs) (a : ℕ) (ls : List ListedSection) → AreWhole ls → a % 2 ≡ 0 → fold (section_end inputs) a ls % 2 ≡ 0
+ends_words : (inputs : ParsedInputs) (a : ℕ) (ls : List IndexedSection) → AreWhole ls → a % 2 ≡ 0 → fold (section_end inputs) a ls % 2 ≡ 0
 ends_words inputs a [] whole words = words
 ends_words inputs a (l ∷ ls) whole words = ends_words inputs (section_end inputs a l) ls whole.1 (by (is_code_section l.section) refl)
   where
@@ -186,7 +186,7 @@ ends_words inputs a (l ∷ ls) whole words = ends_words inputs (section_end inpu
         ∙ starts_words inputs q s code (whole.0 code) (starts_in s) (λ m. ltb m (length s.bytes)) (section_begin a s) (λ k is. is) (aligned_up-words (max 4 s.align) a (whole.0 code).aligned words)
     by false other = ap (λ n. n % 2) (section_end-other inputs a l other) ∙ words
 
-pub whole_before : (first second : List ListedSection) → AreWhole (first ++ second) → AreWhole first
+pub whole_before : (first second : List IndexedSection) → AreWhole (first ++ second) → AreWhole first
 whole_before [] second whole = tt
 whole_before (l ∷ ls) second whole = (whole.0, whole_before ls second whole.1)
 

@@ -12,9 +12,9 @@ use Rattle.elf32_read.specs.Parts.{SectionParts, is_code_section}
 use Rattle.psabi_reloc.specs.Reaches.{branch_reach}
 use Rattle.psabi_sym.specs.Faults.{gather_fault}
 use Rattle.psabi_sym.specs.Inputs.{Inputs, ParsedInputs, parsed}
-use Rattle.psabi_sym.specs.Listed.{ListedSection, section_at}
+use Rattle.psabi_sym.specs.Indexed.{IndexedSection, section_at}
 use Rattle.rv_decode.specs.declared.instr.BranchOp.{BranchOp}
-use Rattle.block_cut.specs.Faults.{branch_target, distance_between, is_far, is_out_of_reach}
+use Rattle.block_cut.specs.Faults.{branch_place, distance_between, is_far, is_out_of_reach}
 use Rattle.block_cut.specs.Items.{item_at, item_in, place_of, places_of, starts_in, targets_in}
 use Rattle.block_cut.specs.Places.{code_place, code_places}
 use Rattle.block_cut.specs.PlainLayout.{plain_address}
@@ -31,7 +31,7 @@ use Rattle.block_cut.proofs.WordLaws.{code_here, end_other, found_next, or_none}
 -- a branch that doesn't reach, by the two addresses
 pub branch_there : (inputs : ParsedInputs) (q to : Place) (op : BranchOp) (first second : Reg) → item_at inputs q ≡ Some (Branch op first second to)
     → is_out_of_reach inputs q ≡ option_map_or (λ d. not (branch_reach d)) (distance_between (plain_address inputs q) (plain_address inputs to)) false
-branch_there inputs q to op first second at = ap (λ o. option_map_or (is_far inputs q) (option_and_then branch_target o) false) at
+branch_there inputs q to op first second at = ap (λ o. option_map_or (is_far inputs q) (option_and_then branch_place o) false) at
 
 -- an address is near the text's start
 pub in_range : (inputs : Inputs) → gather_fault inputs ≡ None → (q : Place) → IfSome (plain_address (parsed inputs) q) (λ a. (inputs.map.text ≤ a) × (a ≤ inputs.map.text + 0x4_0000))
@@ -53,11 +53,11 @@ find_through f p (x ∷ xs) = by (p (f x)) (find_through f p xs)
     by false rest = rest
 
 -- such a branch stands at a place of a section
-abbrev pub is_out_at : ParsedInputs → ListedSection → CodePlace → Bool
+abbrev pub is_out_at : ParsedInputs → IndexedSection → CodePlace → Bool
 is_out_at inputs l p = is_out_of_reach inputs (place_of l p.offset)
 
 -- the first of a section is the first of its places: none stands at its end
-pub first_on : (inputs : Inputs) (l : ListedSection) → gather_fault inputs ≡ None → section_at (parsed inputs).objects l.object l.index ≡ Some l.section
+pub first_on : (inputs : Inputs) (l : IndexedSection) → gather_fault inputs ≡ None → section_at (parsed inputs).objects l.object l.index ≡ Some l.section
     → find (is_out_of_reach (parsed inputs)) (places_of l) ≡ option_map (λ p. place_of l p.offset) (find (is_out_at (parsed inputs) l) (code_places (parsed inputs) l))
 first_on inputs l none found = by (is_code_section l.section) refl
   where
@@ -74,7 +74,7 @@ first_on inputs l none found = by (is_code_section l.section) refl
         let n = length s.bytes in
         let nothing : item_at (parsed inputs) (place_of l n) ≡ None =
         item_at-code (parsed inputs) (place_of l n) s (here.at n) ∙ ap (λ b. cond b (Some (item_in (parsed inputs) s (place_of l n))) None) (end_other s code here.whole) in
-        let reaches : out (place_of l n) ≡ false = ap (λ o. option_map_or (is_far (parsed inputs) (place_of l n)) (option_and_then branch_target o) false) nothing in
+        let reaches : out (place_of l n) ≡ false = ap (λ o. option_map_or (is_far (parsed inputs) (place_of l n)) (option_and_then branch_place o) false) nothing in
         let all : find (λ m. out (place_of l m)) (targets_in s) ≡ find (λ m. out (place_of l m)) (starts_in s) =
         find-append (λ m. out (place_of l m)) (starts_in s) (n ∷ []) ∙ ap (λ b. option_or (find (λ m. out (place_of l m)) (starts_in s)) (cond b (Some n) None)) reaches
         ∙ or_none (find (λ m. out (place_of l m)) (starts_in s)) in
@@ -87,7 +87,7 @@ first_on inputs l none found = by (is_code_section l.section) refl
     by false other = refl
 
 -- a place is what stands at its offset
-pub place_own : (inputs : ParsedInputs) (l : ListedSection) (k : ℕ) (p : CodePlace) → slice_get (code_places inputs l) k ≡ Some p → p ≡ code_place inputs l p.offset
+pub place_own : (inputs : ParsedInputs) (l : IndexedSection) (k : ℕ) (p : CodePlace) → slice_get (code_places inputs l) k ≡ Some p → p ≡ code_place inputs l p.offset
 place_own inputs l k p at = by (is_code_section l.section) at
   where
     named : (o : Option ℕ) → option_map (code_place inputs l) o ≡ Some p → p ≡ code_place inputs l p.offset
@@ -112,14 +112,14 @@ first_next p xs k x at none passes =
 -- ---- sections
 
 -- one more without such a place
-pub none_more : (p : Place → Bool) (sections : List ListedSection) (k : ℕ) (l : ListedSection) → slice_get sections k ≡ Some l → find p (flat_map places_of (take k sections)) ≡ None → find p (places_of l) ≡ None
+pub none_more : (p : Place → Bool) (sections : List IndexedSection) (k : ℕ) (l : IndexedSection) → slice_get sections k ≡ Some l → find p (flat_map places_of (take k sections)) ≡ None → find p (places_of l) ≡ None
     → find p (flat_map places_of (take (k + 1) sections)) ≡ None
 none_more p sections k l at before own =
     ap (λ ls. find p (flat_map places_of ls)) (take_next sections k l at) ∙ ap (find p) (flat_map-append places_of (take k sections) (l ∷ []))
     ∙ find-append p (flat_map places_of (take k sections)) (places_of l ++ []) ∙ (λ j. option_or (before j) (find p (append-nil (places_of l) j))) ∙ own
 
 -- the first of a section is the first of all, if there is none before
-pub first_of_all : (p : Place → Bool) (sections : List ListedSection) (k : ℕ) (l : ListedSection) (q : Place) → slice_get sections k ≡ Some l → find p (flat_map places_of (take k sections)) ≡ None → find p (places_of l) ≡ Some q
+pub first_of_all : (p : Place → Bool) (sections : List IndexedSection) (k : ℕ) (l : IndexedSection) (q : Place) → slice_get sections k ≡ Some l → find p (flat_map places_of (take k sections)) ≡ None → find p (places_of l) ≡ Some q
     → find p (flat_map places_of sections) ≡ Some q
 first_of_all p sections k l q at before own =
     let rest = flat_map places_of (drop (k + 1) sections) in

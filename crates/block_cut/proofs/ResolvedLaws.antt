@@ -11,7 +11,7 @@ use Rattle.psabi_reloc.specs.Kinds.{field_length, kind_of}
 use Rattle.psabi_reloc.specs.declared.kind.RelocKind.{RelocKind}
 use Rattle.psabi_reloc.specs.declared.kind.RelocKind.TheVariants.{Ignored, Word, Branch, Jal, Call, PcrelHi20, PcrelLo12I, PcrelLo12S, Hi20, Lo12I, Lo12S, RvcBranch, RvcJump, Align}
 use Rattle.psabi_sym.specs.Inputs.{ParsedInputs}
-use Rattle.psabi_sym.specs.Listed.{ListedSection}
+use Rattle.psabi_sym.specs.Indexed.{IndexedSection}
 use Rattle.psabi_sym.specs.declared.target.Target.{Target}
 use Rattle.psabi_sym.specs.declared.target.Target.TheVariants.{Code}
 use Rattle.block_cut.specs.Faults.{lacks_pcrel_hi}
@@ -27,7 +27,7 @@ use Rattle.block_cut.proofs.TakeLaws.{take_next}
 abbrev pub no_reloc : ResolvedReloc
 no_reloc = record { target = Code (record { object = 0; section = 0; offset = 0 }); offset = 0; size = 0; kind = None; fault = None }
 
-abbrev pub no_section : ListedSection
+abbrev pub no_section : IndexedSection
 no_section = record { object = 0; index = 0; section = record { name = []; kind = 0; flags = 0; align = 0; size = 0; bytes = []; relocs = []; compressed = false } }
 
 -- ---- which one stands at an offset
@@ -55,7 +55,7 @@ right_is false false true = refl
 right_is false false false = refl
 
 -- the one at an offset of a section, resolved
-pub resolved_on : (inputs : ParsedInputs) (l : ListedSection) (n : ℕ) → find (is_right_at n) (resolved_relocs inputs l) ≡ option_map (resolved_reloc inputs l) (reloc_on l.section n)
+pub resolved_on : (inputs : ParsedInputs) (l : IndexedSection) (n : ℕ) → find (is_right_at n) (resolved_relocs inputs l) ≡ option_map (resolved_reloc inputs l) (reloc_on l.section n)
 unfolding reloc_on
 resolved_on inputs l n = find_kept (resolved_reloc inputs l) asks (is_right_at n) (λ r. is_sound l.section r && r.offset == n) same l.section.relocs
   where
@@ -89,12 +89,12 @@ field_tells (Some RvcJump) addend t bytes n = refl
 field_tells (Some Align) addend t bytes n = refl
 
 -- the one at an offset of code, resolved: where it stands, how many bytes it changes, and which item it says
-pub record IsResolvedAt (inputs : ParsedInputs) (l : ListedSection) (n : ℕ) (r : Reloc) : Type 0 where
+pub record IsResolvedAt (inputs : ParsedInputs) (l : IndexedSection) (n : ℕ) (r : Reloc) : Type 0 where
   pub at : (resolved_reloc inputs l r).offset ≡ n
   pub size : (resolved_reloc inputs l r).size ≡ field_of r
   pub item : (bytes : List ℕ) (m : ℕ) → resolved_item (resolved_reloc inputs l r) bytes m ≡ known_item (kind_of r.kind) r.addend (target_of inputs l.object r) bytes m
 
-pub resolved_at : (inputs : ParsedInputs) (l : ListedSection) (n : ℕ) (r : Reloc) → is_code_section l.section ≡ true → reloc_on l.section n ≡ Some r → IsResolvedAt inputs l n r
+pub resolved_at : (inputs : ParsedInputs) (l : IndexedSection) (n : ℕ) (r : Reloc) → is_code_section l.section ≡ true → reloc_on l.section n ≡ Some r → IsResolvedAt inputs l n r
 resolved_at inputs l n r code found =
     let is : IsSoundAt l.section n r = sound_at l.section n r code found in
     let short : field_of r ≤ 255 = is.field.short in

@@ -19,7 +19,7 @@ use Rattle.psabi_sym.specs.Blocks.{aligned_up}
 use Rattle.psabi_sym.specs.Data.{is_code_role, role_of}
 use Rattle.psabi_sym.specs.Faults.{are_too_large, code_room, gather_fault, object_code, power_above, reloc_room, room_in_code, sum_fault, sums_of}
 use Rattle.psabi_sym.specs.Inputs.{Inputs, ParsedInputs, parsed}
-use Rattle.psabi_sym.specs.Listed.{ListedSection, all_sections, section_at, sections_in}
+use Rattle.psabi_sym.specs.Indexed.{IndexedSection, all_sections, section_at, sections_in}
 use Rattle.psabi_sym.specs.declared.section_row.SectionRole.{SectionRole}
 use Rattle.psabi_sym.specs.declared.section_row.SectionRole.TheVariants.{Code, InClass, Dropped}
 use Rattle.psabi_sym.proofs.BlockLaws.{aligned_up-lt}
@@ -68,7 +68,7 @@ code_fits (f ∷ fs) none =
     mapped (Some i) h = absurd cc
 
 sum_sections : (o n : ℕ) (ss : List SectionParts)
-    → sum_by {X = ListedSection} (λ l. code_room l.section) (map (λ s. record { object = o; index = s.0; section = s.1 }) (enumerate_from n ss)) ≡ sum_by code_room ss
+    → sum_by {X = IndexedSection} (λ l. code_room l.section) (map (λ s. record { object = o; index = s.0; section = s.1 }) (enumerate_from n ss)) ≡ sum_by code_room ss
 sum_sections o n [] = refl
 sum_sections o n (s ∷ ss) =
     sum_by-cons (λ l. code_room l.section) (listed o n s) (map (λ t. record { object = o; index = t.0; section = t.1 }) (enumerate_from (n + 1) ss))
@@ -81,7 +81,7 @@ sum_objects n (o ∷ os) =
     ∙ (λ j. sum_sections n 0 o.sections j + sum_objects (n + 1) os j) ∙ sym (sum_by-cons object_code o os)
 
 -- the room of all sections
-abbrev pub rooms : List ListedSection → ℕ
+abbrev pub rooms : List IndexedSection → ℕ
 rooms sections = sum_by (λ l. code_room l.section) sections
 
 -- is little
@@ -177,7 +177,7 @@ module _ (s : SectionParts) (code : is_code_section s ≡ true) (whole : IsWhole
   pub items_fit : (inputs : ParsedInputs) (o i a : ℕ) → after_starts inputs (listed o i s) a (starts_in s) ≤ a + length s.bytes + sum_by reloc_room s.relocs
   items_fit inputs o i a = omega (arith, all a, rooms_fit)
     where
-      l : ListedSection
+      l : IndexedSection
       l = listed o i s
 
       all : (a : ℕ) → after_starts inputs (listed o i s) a (starts_in s) + 0 ≤ a + length s.bytes + sum_by (room_at s) (starts_in s)
@@ -198,26 +198,26 @@ after_item-ge a n i = by (padding_of i)
     by None = omega arith
     by (Some bytes) = aligned_up-ge (power_above bytes) a
 
-pub after_starts-ge : (inputs : ParsedInputs) (l : ListedSection) (a : ℕ) (ns : List ℕ) → a ≤ after_starts inputs l a ns
+pub after_starts-ge : (inputs : ParsedInputs) (l : IndexedSection) (a : ℕ) (ns : List ℕ) → a ≤ after_starts inputs l a ns
 after_starts-ge inputs l a [] = omega arith
 after_starts-ge inputs l a (n ∷ ns) =
     omega (arith, after_item-ge a (size_on l.section n) (item_in inputs l.section (place_of l n)), after_starts-ge inputs l (after_start inputs l a n) ns)
 
 -- the items of a section of code are those of its starts
-pub items_in-code : (inputs : ParsedInputs) (l : ListedSection) → is_code_section l.section ≡ true → items_in inputs l ≡ map (λ m. item_in inputs l.section (place_of l m)) (starts_in l.section)
+pub items_in-code : (inputs : ParsedInputs) (l : IndexedSection) → is_code_section l.section ≡ true → items_in inputs l ≡ map (λ m. item_in inputs l.section (place_of l m)) (starts_in l.section)
 items_in-code inputs l code =
     ap (λ b. map (item_in inputs l.section) (cond b (map (place_of l) (starts_in l.section)) [])) code ∙ map-map (item_in inputs l.section) (place_of l) (starts_in l.section)
 
-pub items_in-other : (inputs : ParsedInputs) (l : ListedSection) → is_code_section l.section ≡ false → items_in inputs l ≡ []
+pub items_in-other : (inputs : ParsedInputs) (l : IndexedSection) → is_code_section l.section ≡ false → items_in inputs l ≡ []
 items_in-other inputs l other = ap (λ b. map (item_in inputs l.section) (cond b (map (place_of l) (starts_in l.section)) [])) other
 
-pub section_end-code : (inputs : ParsedInputs) (a : ℕ) (l : ListedSection) → is_code_section l.section ≡ true → section_end inputs a l ≡ after_starts inputs l (section_begin a l.section) (starts_in l.section)
+pub section_end-code : (inputs : ParsedInputs) (a : ℕ) (l : IndexedSection) → is_code_section l.section ≡ true → section_end inputs a l ≡ after_starts inputs l (section_begin a l.section) (starts_in l.section)
 section_end-code inputs a l code = ap (λ b. cond b (after_starts inputs l (section_begin a l.section) (starts_in l.section)) a) code
 
-pub section_end-other : (inputs : ParsedInputs) (a : ℕ) (l : ListedSection) → is_code_section l.section ≡ false → section_end inputs a l ≡ a
+pub section_end-other : (inputs : ParsedInputs) (a : ℕ) (l : IndexedSection) → is_code_section l.section ≡ false → section_end inputs a l ≡ a
 section_end-other inputs a l other = ap (λ b. cond b (after_starts inputs l (section_begin a l.section) (starts_in l.section)) a) other
 
-pub section_end-ge : (inputs : ParsedInputs) (a : ℕ) (l : ListedSection) → a ≤ section_end inputs a l
+pub section_end-ge : (inputs : ParsedInputs) (a : ℕ) (l : IndexedSection) → a ≤ section_end inputs a l
 section_end-ge inputs a l = by (is_code_section l.section) refl
   where
     by : (b : Bool) → is_code_section l.section ≡ b → a ≤ section_end inputs a l
@@ -225,18 +225,18 @@ section_end-ge inputs a l = by (is_code_section l.section) refl
         omega (arith, section_end-code inputs a l code, aligned_up-ge (max 4 l.section.align) a, after_starts-ge inputs l (section_begin a l.section) (starts_in l.section))
     by false other = omega (arith, section_end-other inputs a l other)
 
-pub ends-ge : (inputs : ParsedInputs) (a : ℕ) (ls : List ListedSection) → a ≤ fold (section_end inputs) a ls
+pub ends-ge : (inputs : ParsedInputs) (a : ℕ) (ls : List IndexedSection) → a ≤ fold (section_end inputs) a ls
 ends-ge inputs a [] = omega arith
 ends-ge inputs a (l ∷ ls) = omega (arith, section_end-ge inputs a l, ends-ge inputs (section_end inputs a l) ls)
 
 -- ---- all sections
 
 -- code among sections is whole
-abbrev pub AreWhole : List ListedSection → Type 0
+abbrev pub AreWhole : List IndexedSection → Type 0
 AreWhole [] = Unit {0}
 AreWhole (l ∷ ls) = (is_code_section l.section ≡ true → IsWhole l.section) × AreWhole ls
 
-are_whole-append : (first second : List ListedSection) → AreWhole first → AreWhole second → AreWhole (first ++ second)
+are_whole-append : (first second : List IndexedSection) → AreWhole first → AreWhole second → AreWhole (first ++ second)
 are_whole-append [] second one two = two
 are_whole-append (l ∷ ls) second one two = (one.0, are_whole-append ls second one.1 two)
 
@@ -261,7 +261,7 @@ module _ (inputs : Inputs) (none : gather_fault inputs ≡ None) where
   all_whole = whole_objects 0 (parsed inputs).objects (λ i o is. ap (slice_get (parsed inputs).objects) (omega arith) ∙ is)
 
 -- a section ends within its room
-section_end_fits : (inputs : ParsedInputs) (a : ℕ) (l : ListedSection) → (is_code_section l.section ≡ true → IsWhole l.section) → section_end inputs a l ≤ a + code_room l.section
+section_end_fits : (inputs : ParsedInputs) (a : ℕ) (l : IndexedSection) → (is_code_section l.section ≡ true → IsWhole l.section) → section_end inputs a l ≤ a + code_room l.section
 section_end_fits inputs a l whole = by (is_code_section l.section) refl
   where
     by : (b : Bool) → is_code_section l.section ≡ b → section_end inputs a l ≤ a + code_room l.section
@@ -278,10 +278,10 @@ section_end_fits inputs a l whole = by (is_code_section l.section) refl
         )
     by false other = omega (arith, section_end-other inputs a l other)
 
-ends_fit : (inputs : ParsedInputs) (a : ℕ) (ls : List ListedSection) → AreWhole ls → fold (section_end inputs) a ls ≤ a + rooms ls
+ends_fit : (inputs : ParsedInputs) (a : ℕ) (ls : List IndexedSection) → AreWhole ls → fold (section_end inputs) a ls ≤ a + rooms ls
 ends_fit inputs a [] whole = omega arith
 ends_fit inputs a (l ∷ ls) whole =
-    omega (arith, section_end_fits inputs a l whole.0, ends_fit inputs (section_end inputs a l) ls whole.1, sum_by-cons (λ (m : ListedSection). code_room m.section) l ls)
+    omega (arith, section_end_fits inputs a l whole.0, ends_fit inputs (section_end inputs a l) ls whole.1, sum_by-cons (λ (m : IndexedSection). code_room m.section) l ls)
 
 -- all code ends near the start of the text
 pub plain_end-fits : (inputs : Inputs) → gather_fault inputs ≡ None → plain_end (parsed inputs) ≤ inputs.map.text + 0x4_0000

@@ -9,11 +9,11 @@ use Rattle.std.proofs.lemmas.Option.{slice_get-get_or, slice_get_within}
 use Rattle.elf32_read.specs.Parts.{is_code_section}
 use Rattle.elf32_read.specs.declared.reloc.Reloc.{Reloc}
 use Rattle.psabi_sym.specs.Inputs.{ParsedInputs}
-use Rattle.psabi_sym.specs.Listed.{ListedSection}
-use Rattle.block_cut.specs.Items.{item_in, item_of, item_under, place_of, size_on}
+use Rattle.psabi_sym.specs.Indexed.{IndexedSection}
+use Rattle.block_cut.specs.Items.{item_in, item_under, place_of, size_on}
 use Rattle.block_cut.specs.Relocs.{field_of, reloc_on}
 use Rattle.block_cut.specs.Resolved.{is_right, is_right_at, resolved_item, resolved_reloc, resolved_relocs}
-use Rattle.block_cut.specs.SectionText.{IsRelocTable, numbered}
+use Rattle.block_cut.specs.Invariants.SectionText.{IsRelocTable, numbered}
 use Rattle.block_cut.specs.CodeSizes.{own_size}
 use Rattle.block_cut.specs.declared.resolved_reloc.ResolvedReloc.{ResolvedReloc}
 use Rattle.block_cut.proofs.ResolvedLaws.{resolved_at, resolved_on}
@@ -128,7 +128,7 @@ table_all relocs count k table past is = record {
 -- ---- what the relocation at an offset says
 
 -- how many bytes what stands there has
-pub sized_on : (inputs : ParsedInputs) (l : ListedSection) (n : ℕ) → is_code_section l.section ≡ true → option_map_or (λ d. d.size) (find (is_right_at n) (resolved_relocs inputs l)) 4 ≡ size_on l.section n
+pub sized_on : (inputs : ParsedInputs) (l : IndexedSection) (n : ℕ) → is_code_section l.section ≡ true → option_map_or (λ d. d.size) (find (is_right_at n) (resolved_relocs inputs l)) 4 ≡ size_on l.section n
 sized_on inputs l n code = ap (λ o. option_map_or (λ (d : ResolvedReloc). d.size) o 4) (resolved_on inputs l n) ∙ by (reloc_on l.section n) refl
   where
     by : (o : Option Reloc) → reloc_on l.section n ≡ o → option_map_or (λ (d : ResolvedReloc). d.size) (option_map (resolved_reloc inputs l) o) 4 ≡ option_map_or field_of o (own_size l.section.compressed l.section.bytes n)
@@ -136,7 +136,7 @@ sized_on inputs l n code = ap (λ o. option_map_or (λ (d : ResolvedReloc). d.si
     by (Some r) at = (resolved_at inputs l n r code at).size
 
 -- which item stands there with it
-pub item_with : (inputs : ParsedInputs) (l : ListedSection) (n : ℕ) (d : ResolvedReloc) → is_code_section l.section ≡ true → find (is_right_at n) (resolved_relocs inputs l) ≡ Some d
+pub item_with : (inputs : ParsedInputs) (l : IndexedSection) (n : ℕ) (d : ResolvedReloc) → is_code_section l.section ≡ true → find (is_right_at n) (resolved_relocs inputs l) ≡ Some d
     → resolved_item d l.section.bytes n ≡ item_in inputs l.section (place_of l n)
 item_with inputs l n d code found = by (reloc_on l.section n) refl (sym (resolved_on inputs l n) ∙ found)
   where
@@ -148,10 +148,10 @@ item_with inputs l n d code found = by (reloc_on l.section n) refl (sym (resolve
         ∙ ap (λ o. item_under inputs (place_of l n) o (size_on l.section n) l.section.bytes) (sym at)
 
 -- and without one
-pub item_without : (inputs : ParsedInputs) (l : ListedSection) (n : ℕ) → find (is_right_at n) (resolved_relocs inputs l) ≡ None
-    → item_of inputs.objects (place_of l n) (size_on l.section n) l.section.bytes ≡ item_in inputs l.section (place_of l n)
+pub item_without : (inputs : ParsedInputs) (l : IndexedSection) (n : ℕ) → find (is_right_at n) (resolved_relocs inputs l) ≡ None
+    → item_under inputs (place_of l n) None (size_on l.section n) l.section.bytes ≡ item_in inputs l.section (place_of l n)
 item_without inputs l n found = by (reloc_on l.section n) refl (sym (resolved_on inputs l n) ∙ found)
   where
-    by : (o : Option Reloc) → reloc_on l.section n ≡ o → option_map (resolved_reloc inputs l) o ≡ None → item_of inputs.objects (place_of l n) (size_on l.section n) l.section.bytes ≡ item_in inputs l.section (place_of l n)
+    by : (o : Option Reloc) → reloc_on l.section n ≡ o → option_map (resolved_reloc inputs l) o ≡ None → item_under inputs (place_of l n) None (size_on l.section n) l.section.bytes ≡ item_in inputs l.section (place_of l n)
     by None at is = ap (λ o. item_under inputs (place_of l n) o (size_on l.section n) l.section.bytes) (sym at)
     by (Some r) at is = absurd cc

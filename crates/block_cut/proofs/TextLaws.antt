@@ -16,16 +16,16 @@ use Rattle.psabi_reloc.specs.Kinds.{field_length, kind_of}
 use Rattle.psabi_reloc.specs.declared.kind.RelocKind.TheVariants.{Call}
 use Rattle.psabi_sym.specs.Faults.{code_room, gather_fault}
 use Rattle.psabi_sym.specs.Inputs.{Inputs, ParsedInputs, parsed}
-use Rattle.psabi_sym.specs.Listed.{ListedSection, all_sections, section_at, sections_before}
+use Rattle.psabi_sym.specs.Indexed.{IndexedSection, all_sections, section_at, sections_before}
 use Rattle.psabi_sym.proofs.SectionNumbers.{before_number, has_number, listed_at}
-use Rattle.block_cut.specs.CodeSection.{IsCodeSection}
+use Rattle.block_cut.specs.Invariants.CodeSection.{IsCodeSection}
 use Rattle.block_cut.specs.Items.{code_at, code_only, index_on, is_target_at, item_in, items_in, place_of, size_at, size_on, starts_in, starts_on, targets_in}
 use Rattle.block_cut.specs.Places.{IsPlaceNumber, code_place, code_places}
 use Rattle.block_cut.specs.PlainLayout.{address_on, after_item, after_start, after_starts, plain_address, plain_end_of, plain_start, section_end, starts_before}
 use Rattle.block_cut.specs.Relocs.{field_of, reloc_on}
 use Rattle.block_cut.specs.Resolved.{asks, is_right_at, resolved_reloc, resolved_relocs}
-use Rattle.block_cut.specs.SectionText.{HasRoom, SectionTables, by_halfword, number_on, numbered, numbers_in, section_tables}
-use Rattle.block_cut.specs.CodeTables.{IsCodeSpan}
+use Rattle.block_cut.specs.Invariants.SectionText.{HasRoom, SectionTables, by_halfword, number_on, numbered, numbers_in, section_tables}
+use Rattle.block_cut.specs.Invariants.CodeTables.{IsCodeSpan}
 use Rattle.block_cut.specs.Whole.{IsWhole}
 use Rattle.block_cut.specs.declared.code_place.CodePlace.{CodePlace}
 use Rattle.block_cut.specs.declared.code_section.CodeSection.{CodeSection}
@@ -45,7 +45,7 @@ use Rattle.block_cut.proofs.WordLaws.{IsCodeHere, before_other, before_start, co
 -- ---- the relocation at a halfword
 
 -- the one that the table of a section of code has
-pub reloc_found : (inputs : Inputs) (l : ListedSection) (section : CodeSection) (n : ℕ) (reloc : Option ResolvedReloc) → IsCodeSection inputs l section → n % 2 ≡ 0 → n ≤ length l.section.bytes
+pub reloc_found : (inputs : Inputs) (l : IndexedSection) (section : CodeSection) (n : ℕ) (reloc : Option ResolvedReloc) → IsCodeSection inputs l section → n % 2 ≡ 0 → n ≤ length l.section.bytes
     → reloc ≡ numbered section.relocs.now (get_or section.table.now (n / 2) 0) → find (is_right_at n) (resolved_relocs (parsed inputs) l) ≡ reloc
 reloc_found inputs l section n reloc is words inside got =
     let even : 2 * (n / 2) ≡ n = omega (arith, words) in
@@ -53,7 +53,7 @@ reloc_found inputs l section n reloc is words inside got =
     ∙ sym (is.table_is.each (n / 2) (omega (arith, inside))) ∙ sym got
 
 -- an item has room where one starts, by that relocation
-pub room_there : (inputs : Inputs) (l : ListedSection) (section : CodeSection) (n : ℕ) (reloc : Option ResolvedReloc) → IsCodeSection inputs l section → IsWhole l.section → starts_on l.section n ≡ true
+pub room_there : (inputs : Inputs) (l : IndexedSection) (section : CodeSection) (n : ℕ) (reloc : Option ResolvedReloc) → IsCodeSection inputs l section → IsWhole l.section → starts_on l.section n ≡ true
     → reloc ≡ numbered section.relocs.now (get_or section.table.now (n / 2) 0) → HasRoom section.content n reloc
 room_there inputs l section n reloc is whole start got =
     let s = l.section in
@@ -73,7 +73,7 @@ room_there inputs l section n reloc is whole start got =
         omega (arith, (sound_at l.section n r is.code at).inside, eight, whole.bytes, ap length is.content_is)
 
 -- relocations that ask for something are no more than all
-pub resolved_few : (inputs : ParsedInputs) (l : ListedSection) → length (resolved_relocs inputs l) ≤ length l.section.relocs
+pub resolved_few : (inputs : ParsedInputs) (l : IndexedSection) → length (resolved_relocs inputs l) ≤ length l.section.relocs
 resolved_few inputs l = omega (arith, length-map (filter asks l.section.relocs) (resolved_reloc inputs l), few l.section.relocs)
   where
     few : (rs : List Reloc) → length (filter asks rs) ≤ length rs
@@ -110,7 +110,7 @@ abbrev pub targets_before : SectionParts → ℕ → List ℕ
 targets_before s n = filter (λ m. ltb m n) (targets_in s)
 
 -- after so many halfwords of a section
-pub record IsSoFar (inputs : ParsedInputs) (l : ListedSection) (k : ℕ) (places : List CodePlace) (address : ℕ) : Type 0 where
+pub record IsSoFar (inputs : ParsedInputs) (l : IndexedSection) (k : ℕ) (places : List CodePlace) (address : ℕ) : Type 0 where
   pub places_are : places ≡ map (code_place inputs l) (targets_before l.section (2 * k))
   pub address_is : address ≡ after_starts inputs l (plain_start inputs l.object l.index l.section) (starts_before l.section (2 * k))
 
@@ -127,7 +127,7 @@ module _ (s : SectionParts) where
       filter-append (λ m. ltb m n) (starts_in s) (length s.bytes ∷ [])
       ∙ ap (λ b. starts_before s n ++ cond b (length s.bytes ∷ []) []) (lt-ltb (length s.bytes) n lt)
 
-module _ (inputs : Inputs) (none : gather_fault inputs ≡ None) (l : ListedSection) (here : IsCodeHere inputs l.object l.index l.section) where
+module _ (inputs : Inputs) (none : gather_fault inputs ≡ None) (l : IndexedSection) (here : IsCodeHere inputs l.object l.index l.section) where
   abbrev given : ParsedInputs
   given = parsed inputs
 
@@ -256,12 +256,12 @@ module _ (inputs : Inputs) (none : gather_fault inputs ≡ None) (l : ListedSect
 -- ---- look-ups
 
 -- what the number at an offset of a section says: where its place is
-pub record IsNumberOf (inputs : Inputs) (l : ListedSection) (n number : ℕ) : Type 0 where
+pub record IsNumberOf (inputs : Inputs) (l : IndexedSection) (n number : ℕ) : Type 0 where
   pub none : number ≡ 0 → is_target_at (parsed inputs).objects (place_of l n) ≡ false
   pub some : number ≢ 0 → (is_target_at (parsed inputs).objects (place_of l n) ≡ true) × (slice_get (code_places (parsed inputs) l) (number - 1) ≡ Some (code_place (parsed inputs) l n))
   pub index : number ≢ 0 → number - 1 ≡ index_on l.section n
 
-pub by_number : (inputs : Inputs) (l : ListedSection) (n number : ℕ) (numbers : List ℕ) → gather_fault inputs ≡ None → section_at (parsed inputs).objects l.object l.index ≡ Some l.section
+pub by_number : (inputs : Inputs) (l : IndexedSection) (n number : ℕ) (numbers : List ℕ) → gather_fault inputs ≡ None → section_at (parsed inputs).objects l.object l.index ≡ Some l.section
     → numbers ≡ numbers_in l.section → ((s : SectionParts) → is_code_section s ≡ true → IsWhole s → numbers ≡ by_halfword (number_on s) s → number ≡ number_on s n) → (numbers ≡ [] → number ≡ 0)
     → IsNumberOf inputs l n number
 by_number inputs l n number numbers none found are value empty = by (is_code_section l.section) refl
@@ -292,16 +292,16 @@ by_number inputs l n number numbers none found are value empty = by (is_code_sec
         record { none = λ e. target_nowhere objects (place_of l n) nowhere; some = λ ne. absurd (ne zero_is); index = λ ne. absurd (ne zero_is) }
 
 -- what is kept of a section, one by one
-pub record AreTables (inputs : ParsedInputs) (l : ListedSection) (t : SectionTables) : Type 0 where
+pub record AreTables (inputs : ParsedInputs) (l : IndexedSection) (t : SectionTables) : Type 0 where
   pub numbers : t.numbers ≡ numbers_in l.section
   pub places : t.places ≡ code_places inputs l
 
-pub tables_of : (inputs : ParsedInputs) (l : ListedSection) (t : SectionTables) → t ≡ section_tables inputs l → AreTables inputs l t
+pub tables_of : (inputs : ParsedInputs) (l : IndexedSection) (t : SectionTables) → t ≡ section_tables inputs l → AreTables inputs l t
 unfolding section_tables
 tables_of inputs l t is = record { numbers = ap (λ x. x.numbers) is; places = ap (λ x. x.places) is }
 
 -- those of the section with a number
-pub kept_at : (inputs : ParsedInputs) (sections : List SectionTables) (k : ℕ) (l : ListedSection) (d : SectionTables) → sections ≡ map (section_tables inputs) (all_sections inputs.objects) → slice_get (all_sections inputs.objects) k ≡ Some l
+pub kept_at : (inputs : ParsedInputs) (sections : List SectionTables) (k : ℕ) (l : IndexedSection) (d : SectionTables) → sections ≡ map (section_tables inputs) (all_sections inputs.objects) → slice_get (all_sections inputs.objects) k ≡ Some l
     → get_or sections k d ≡ section_tables inputs l
 kept_at inputs sections k l d are at =
     ap (λ ts. get_or ts k d) are
@@ -332,7 +332,7 @@ starts_few s code whole =
     along s code whole (λ n xs. 2 * length xs + n ≤ length s.bytes) (omega arith) (λ n xs lt words st above rest. omega (arith, st.some)) in
     omega arith
 
-items_few : (inputs : ParsedInputs) (ls : List ListedSection) → AreWhole ls → 2 * length (flat_map (items_in inputs) ls) ≤ rooms ls
+items_few : (inputs : ParsedInputs) (ls : List IndexedSection) → AreWhole ls → 2 * length (flat_map (items_in inputs) ls) ≤ rooms ls
 items_few inputs [] whole = omega arith
 items_few inputs (l ∷ ls) whole = by (is_code_section l.section) refl (items_few inputs ls whole.1)
   where
@@ -348,7 +348,7 @@ items_few inputs (l ∷ ls) whole = by (is_code_section l.section) refl (items_f
           code_room_is l.section code,
           (whole.0 code).bytes,
           rest,
-          sum_by-cons (λ (m : ListedSection). code_room m.section) l ls,
+          sum_by-cons (λ (m : IndexedSection). code_room m.section) l ls,
         )
     by false other rest =
         omega (
@@ -356,11 +356,11 @@ items_few inputs (l ∷ ls) whole = by (is_code_section l.section) refl (items_f
           length-append (items_in inputs l) (flat_map (items_in inputs) ls),
           ap length (items_in-other inputs l other),
           rest,
-          sum_by-cons (λ (m : ListedSection). code_room m.section) l ls,
+          sum_by-cons (λ (m : IndexedSection). code_room m.section) l ls,
         )
 
-module _ (inputs : Inputs) (none : gather_fault inputs ≡ None) (k : ℕ) (l : ListedSection) (at : slice_get (all_sections (parsed inputs).objects) k ≡ Some l) where
-  abbrev front : List ListedSection
+module _ (inputs : Inputs) (none : gather_fault inputs ≡ None) (k : ℕ) (l : IndexedSection) (at : slice_get (all_sections (parsed inputs).objects) k ≡ Some l) where
+  abbrev front : List IndexedSection
   front = take k (all_sections (parsed inputs).objects)
 
   section_found : section_at (parsed inputs).objects l.object l.index ≡ Some l.section
@@ -384,7 +384,7 @@ module _ (inputs : Inputs) (none : gather_fault inputs ≡ None) (k : ℕ) (l : 
         items_few (parsed inputs) front whole,
         rooms_few inputs none,
         ap rooms (sym all),
-        sum_by-append (λ (m : ListedSection). code_room m.section) front (drop k (all_sections (parsed inputs).objects)),
+        sum_by-append (λ (m : IndexedSection). code_room m.section) front (drop k (all_sections (parsed inputs).objects)),
         ap length are,
         few (is_code_section l.section) refl,
       )

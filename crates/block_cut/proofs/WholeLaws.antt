@@ -15,7 +15,7 @@ use Rattle.elf32_read.proofs.Listed.{none_in_range}
 use Rattle.elf32_read.proofs.Faultless.{IsAlignment, content_short, content_whole, faultless_whole, is_kept_section-parts, kept_code, no_fault}
 use Rattle.psabi_sym.specs.Faults.{gather_fault}
 use Rattle.psabi_sym.specs.Inputs.{Inputs, parsed}
-use Rattle.psabi_sym.specs.Listed.{section_at}
+use Rattle.psabi_sym.specs.Indexed.{section_at}
 use Rattle.psabi_sym.proofs.Gathered.{readable}
 use Rattle.psabi_sym.proofs.PartLaws.{section_count_is, section_got}
 use Rattle.block_cut.specs.Items.{code_at, code_only}

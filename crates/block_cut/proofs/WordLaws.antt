@@ -13,11 +13,11 @@ use Rattle.elf32_read.specs.Parts.{ObjectParts, SectionParts, is_code_section}
 use Rattle.elf32_read.proofs.Listed.{slice_get-listed}
 use Rattle.psabi_sym.specs.Faults.{gather_fault}
 use Rattle.psabi_sym.specs.Inputs.{Inputs, ParsedInputs, parsed}
-use Rattle.psabi_sym.specs.Listed.{section_at}
-use Rattle.block_cut.specs.Cut.{place_at}
+use Rattle.psabi_sym.specs.Indexed.{section_at}
+use Rattle.block_cut.specs.Invariants.Cut.{place_at}
 use Rattle.block_cut.specs.Items.{code_at, code_only, is_target_at, item_at, item_in, size_on, starts_in, starts_on, targets_in}
 use Rattle.block_cut.specs.PlainLayout.{address_on, plain_address, starts_before}
-use Rattle.block_cut.specs.SectionText.{by_halfword, number_on}
+use Rattle.block_cut.specs.Invariants.SectionText.{by_halfword, number_on}
 use Rattle.block_cut.specs.CodeSizes.{code_step}
 use Rattle.block_cut.specs.Whole.{IsWhole}
 use Rattle.block_cut.proofs.ItemLaws.{item_at-code, item_at-none}

@@ -5,7 +5,7 @@ use Rattle.std.specs.Option.{option_map_or}
 use Rattle.elf32_read.specs.declared.reloc.Reloc.{Reloc}
 use Rattle.psabi_sym.specs.Data.{data_address}
 use Rattle.psabi_sym.specs.Inputs.{ParsedInputs}
-use Rattle.psabi_sym.specs.Listed.{ListedSection, all_sections}
+use Rattle.psabi_sym.specs.Indexed.{IndexedSection, all_sections}
 use Rattle.psabi_reloc.specs.Kinds.{kind_of}
 use Rattle.block_cut.specs.Items.{target_of}
 use Rattle.block_cut.specs.Relocs.{is_word}
@@ -13,11 +13,11 @@ use Rattle.block_cut.specs.declared.data_word.DataWord.{DataWord}
 use Rattle.block_cut.specs.declared.resolved_reloc.ResolvedReloc.{ResolvedReloc}
 
 -- the word that a relocation fills in, in a section of data that begins at an address
-abbrev pub data_word : ParsedInputs → ListedSection → ℕ → Reloc → DataWord
+abbrev pub data_word : ParsedInputs → IndexedSection → ℕ → Reloc → DataWord
 data_word inputs l at r = record { at = at + r.offset; target = target_of inputs l.object r }
 
 -- those of a section, in the order of its relocations; code has none, and in NOBITS (8) nothing is filled in
-abbrev pub words_in : ParsedInputs → ListedSection → List DataWord
+abbrev pub words_in : ParsedInputs → IndexedSection → List DataWord
 words_in inputs l =
     if l.section.kind == 8 then []
     else option_map_or (λ at. map (data_word inputs l at) (filter (λ r. is_word (kind_of r.kind)) l.section.relocs)) (data_address inputs l.object l.index) []
@@ -29,7 +29,7 @@ data_words inputs = flat_map (words_in inputs) (all_sections inputs.objects)
 -- ---- by relocations that are decided
 
 -- the address of a section of data that a file holds
-abbrev pub held_address : ParsedInputs → ListedSection → Option ℕ
+abbrev pub held_address : ParsedInputs → IndexedSection → Option ℕ
 held_address inputs l = if l.section.kind == 8 then None else data_address inputs l.object l.index
 
 -- the word that one fills in, in a section of data that begins at an address

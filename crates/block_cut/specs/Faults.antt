@@ -9,7 +9,7 @@ use Rattle.elf32_read.specs.declared.fault.Fault.TheVariants.{RelocKind, RelocPl
 use Rattle.elf32_read.specs.declared.reloc.Reloc.{Reloc}
 use Rattle.psabi_sym.specs.Faults.{first_some, gather_fault}
 use Rattle.psabi_sym.specs.Inputs.{Inputs, ParsedInputs, parsed}
-use Rattle.psabi_sym.specs.Listed.{ListedSection, all_sections}
+use Rattle.psabi_sym.specs.Indexed.{IndexedSection, all_sections}
 use Rattle.psabi_sym.specs.Resolve.{resolved}
 use Rattle.psabi_sym.specs.declared.target.Target.{Target}
 use Rattle.psabi_sym.specs.declared.target.Target.TheVariants.{Code, Number, Absent, Nowhere}
@@ -24,21 +24,21 @@ use Rattle.block_cut.specs.declared.item.Item.TheVariants.{Branch}
 -- ---- relocations
 
 -- a lower part goes with an upper part that stands where its symbol is, in the same section
-abbrev pub is_pair_at : ListedSection → Target → Bool
+abbrev pub is_pair_at : IndexedSection → Target → Bool
 is_pair_at l (Code q) = (q.object == l.object) && ((q.section == l.index) && has_pcrel_hi_at l.section q.offset)
 is_pair_at l (Number n) = false
 is_pair_at l (Absent n) = false
 is_pair_at l Nowhere = false
 
 -- an addend of 0
-abbrev pub is_nothing : ℤ → Bool
-is_nothing (pos n) = n == 0
-is_nothing (negsuc n) = false
+abbrev pub is_zero_addend : ℤ → Bool
+is_zero_addend (pos n) = n == 0
+is_zero_addend (negsuc n) = false
 
 -- a lower part that doesn't
-abbrev pub lacks_pcrel_hi : ParsedInputs → ListedSection → Reloc → Bool
+abbrev pub lacks_pcrel_hi : ParsedInputs → IndexedSection → Reloc → Bool
 lacks_pcrel_hi inputs l r =
-    is_pcrel_lo (kind_of r.kind) && (not (is_nothing r.addend) || not (is_pair_at l (resolved inputs l.object r.symbol (pos 0))))
+    is_pcrel_lo (kind_of r.kind) && (not (is_zero_addend r.addend) || not (is_pair_at l (resolved inputs l.object r.symbol (pos 0))))
 
 -- code and data may lead to an item's start or to a section's end, and what makes an instruction go somewhere to no number
 abbrev pub is_bad_target : List ObjectParts → Bool → Target → Bool
@@ -48,7 +48,7 @@ is_bad_target objects transfers (Absent n) = false
 is_bad_target objects transfers Nowhere = true
 
 -- a relocation that leads nowhere
-abbrev pub has_bad_target : ParsedInputs → ListedSection → Reloc → Bool
+abbrev pub has_bad_target : ParsedInputs → IndexedSection → Reloc → Bool
 has_bad_target inputs l r = not (is_ignored (kind_of r.kind)) && is_bad_target inputs.objects (is_transfer (kind_of r.kind)) (target_of inputs l.object r)
 
 -- a fault, if it stands
@@ -57,7 +57,7 @@ if_so true fault = Some fault
 if_so false fault = None
 
 -- the first fault of a relocation
-abbrev pub reloc_fault : ParsedInputs → ListedSection → Reloc → Option Fault
+abbrev pub reloc_fault : ParsedInputs → IndexedSection → Reloc → Option Fault
 reloc_fault inputs l r = first_some (
     if_so (is_bad_kind l.section (kind_of r.kind)) (RelocKind l.index r.offset)
     ∷ if_so (is_bad_place l.section r) (RelocPlace l.index r.offset)
@@ -66,7 +66,7 @@ reloc_fault inputs l r = first_some (
     ∷ [])
 
 -- that of a section, in the order of its relocations, with its object's index
-abbrev pub section_fault : ParsedInputs → ListedSection → Option (ℕ × Fault)
+abbrev pub section_fault : ParsedInputs → IndexedSection → Option (ℕ × Fault)
 section_fault inputs l = option_map (λ fault. (l.object, fault)) (first_some (map (reloc_fault inputs l) l.section.relocs))
 
 -- the first of all relocations, by object, section and entry
@@ -92,9 +92,9 @@ abbrev pub plain_distance : ParsedInputs → Place → Place → Option ℤ
 plain_distance inputs q to = distance_between (plain_address inputs q) (plain_address inputs to)
 
 -- where a branch leads
-abbrev pub branch_target : Item → Option Place
-branch_target (Branch op first second to) = Some to
-branch_target item = None
+abbrev pub branch_place : Item → Option Place
+branch_place (Branch op first second to) = Some to
+branch_place item = None
 
 -- a branch at a place that doesn't reach so far
 abbrev pub is_far : ParsedInputs → Place → Place → Bool
@@ -102,7 +102,7 @@ is_far inputs q to = option_map_or (λ d. not (branch_reach d)) (plain_distance 
 
 -- a branch stands at a place that doesn't reach in the plain layout
 abbrev pub is_out_of_reach : ParsedInputs → Place → Bool
-is_out_of_reach inputs q = option_map_or (is_far inputs q) (option_and_then branch_target (item_at inputs q)) false
+is_out_of_reach inputs q = option_map_or (is_far inputs q) (option_and_then branch_place (item_at inputs q)) false
 
 -- the first such place
 unfoldable pub range_fault : ParsedInputs → Option (ℕ × Fault)

@@ -8,7 +8,7 @@ use Rattle.zc_base.specs.declared.place.Place.{Place}
 use Rattle.elf32_read.specs.Parts.{ObjectParts, SectionParts, is_code_section}
 use Rattle.elf32_read.specs.declared.reloc.Reloc.{Reloc}
 use Rattle.psabi_sym.specs.Inputs.{ParsedInputs}
-use Rattle.psabi_sym.specs.Listed.{ListedSection, all_sections, section_at}
+use Rattle.psabi_sym.specs.Indexed.{IndexedSection, all_sections, section_at}
 use Rattle.psabi_sym.specs.Resolve.{name_target, resolved}
 use Rattle.psabi_sym.specs.Start.{start_name}
 use Rattle.psabi_sym.specs.declared.target.Target.{Target}
@@ -122,13 +122,9 @@ instr_item objects q instr.Ebreak raw = Op instr.Ebreak
 instr_item objects q (instr.Csrrw rd source) raw = raw
 
 -- what stands at a place: its instruction's item, or else bytes that are copied unread
-abbrev pub spelled : List ObjectParts → Place → Option Instr → Item → Item
-spelled objects q None raw = raw
-spelled objects q (Some i) raw = instr_item objects q i raw
-
--- the item that so many bytes at a place are
-abbrev pub item_of : List ObjectParts → Place → ℕ → List ℕ → Item
-item_of objects q size bytes = spelled objects q (instr_in size bytes q.offset) (raw_in size bytes q.offset)
+abbrev pub spelled_item : List ObjectParts → Place → Option Instr → Item → Item
+spelled_item objects q None raw = raw
+spelled_item objects q (Some i) raw = instr_item objects q i raw
 
 -- ---- items with one
 
@@ -149,11 +145,6 @@ transfer_item (instr.Branch op first second distance) other to = Branch op first
 transfer_item (instr.Jal rd distance) other to = Jump rd to
 transfer_item i other to = other
 
--- a branch or jump to a target, of so many bytes
-abbrev pub transfer_in : ℕ → Target → List ℕ → ℕ → Item
-transfer_in size t bytes n =
-    of_instr (instr_in size bytes n) (raw_in size bytes n) (λ i. to_place t (transfer_item i (raw_in size bytes n)) (raw_in size bytes n))
-
 -- the call that an `auipc` and a `jalr` are
 abbrev pub call_item : Option Instr → Option Instr → Item → Place → Item
 call_item (Some (instr.Upper op temp upper)) (Some (instr.Jalr rd base lower)) other to = Call rd temp to
@@ -163,30 +154,28 @@ call_item first second other to = other
 abbrev pub raw_pair : List ℕ → ℕ → Item
 raw_pair bytes n = RawPair (word_in bytes n) (word_in bytes (n + 4))
 
--- what the bytes at an offset are with a relocation of this kind to this target
-abbrev pub reloc_item : RelocKind → ℤ → Target → List ℕ → ℕ → Item
-reloc_item kind.Ignored addend t bytes n = raw_in 4 bytes n
-reloc_item kind.Word addend t bytes n = Word t
-reloc_item kind.Branch addend t bytes n = transfer_in 4 t bytes n
-reloc_item kind.Jal addend t bytes n = transfer_in 4 t bytes n
-reloc_item kind.Call addend t bytes n =
-    to_place t (call_item (instr_in 4 bytes n) (instr_in 4 bytes (n + 4)) (raw_pair bytes n)) (raw_pair bytes n)
-reloc_item kind.PcrelHi20 addend t bytes n = of_instr (instr_in 4 bytes n) (raw_in 4 bytes n) (λ i. PcHi i t)
-reloc_item kind.PcrelLo12I addend t bytes n =
-    of_instr (instr_in 4 bytes n) (raw_in 4 bytes n) (λ i. to_place t (PcLo i) (raw_in 4 bytes n))
-reloc_item kind.PcrelLo12S addend t bytes n =
-    of_instr (instr_in 4 bytes n) (raw_in 4 bytes n) (λ i. to_place t (PcLo i) (raw_in 4 bytes n))
-reloc_item kind.Hi20 addend t bytes n = of_instr (instr_in 4 bytes n) (raw_in 4 bytes n) (λ i. Hi i t)
-reloc_item kind.Lo12I addend t bytes n = of_instr (instr_in 4 bytes n) (raw_in 4 bytes n) (λ i. Lo i t)
-reloc_item kind.Lo12S addend t bytes n = of_instr (instr_in 4 bytes n) (raw_in 4 bytes n) (λ i. Lo i t)
-reloc_item kind.RvcBranch addend t bytes n = raw_in 4 bytes n
-reloc_item kind.RvcJump addend t bytes n = raw_in 4 bytes n
-reloc_item kind.Align addend t bytes n = Align (padding_length addend)
-
--- the same by the kind's number; a kind that isn't known says nothing
+-- what the bytes at an offset are with a relocation of this kind to this target; a kind that isn't known says nothing
 abbrev pub known_item : Option RelocKind → ℤ → Target → List ℕ → ℕ → Item
 known_item None addend t bytes n = raw_in 4 bytes n
-known_item (Some k) addend t bytes n = reloc_item k addend t bytes n
+known_item (Some kind.Ignored) addend t bytes n = raw_in 4 bytes n
+known_item (Some kind.Word) addend t bytes n = Word t
+known_item (Some kind.Branch) addend t bytes n =
+    of_instr (instr_in 4 bytes n) (raw_in 4 bytes n) (λ i. to_place t (transfer_item i (raw_in 4 bytes n)) (raw_in 4 bytes n))
+known_item (Some kind.Jal) addend t bytes n =
+    of_instr (instr_in 4 bytes n) (raw_in 4 bytes n) (λ i. to_place t (transfer_item i (raw_in 4 bytes n)) (raw_in 4 bytes n))
+known_item (Some kind.Call) addend t bytes n =
+    to_place t (call_item (instr_in 4 bytes n) (instr_in 4 bytes (n + 4)) (raw_pair bytes n)) (raw_pair bytes n)
+known_item (Some kind.PcrelHi20) addend t bytes n = of_instr (instr_in 4 bytes n) (raw_in 4 bytes n) (λ i. PcHi i t)
+known_item (Some kind.PcrelLo12I) addend t bytes n =
+    of_instr (instr_in 4 bytes n) (raw_in 4 bytes n) (λ i. to_place t (PcLo i) (raw_in 4 bytes n))
+known_item (Some kind.PcrelLo12S) addend t bytes n =
+    of_instr (instr_in 4 bytes n) (raw_in 4 bytes n) (λ i. to_place t (PcLo i) (raw_in 4 bytes n))
+known_item (Some kind.Hi20) addend t bytes n = of_instr (instr_in 4 bytes n) (raw_in 4 bytes n) (λ i. Hi i t)
+known_item (Some kind.Lo12I) addend t bytes n = of_instr (instr_in 4 bytes n) (raw_in 4 bytes n) (λ i. Lo i t)
+known_item (Some kind.Lo12S) addend t bytes n = of_instr (instr_in 4 bytes n) (raw_in 4 bytes n) (λ i. Lo i t)
+known_item (Some kind.RvcBranch) addend t bytes n = raw_in 4 bytes n
+known_item (Some kind.RvcJump) addend t bytes n = raw_in 4 bytes n
+known_item (Some kind.Align) addend t bytes n = Align (padding_length addend)
 
 -- ---- items
 
@@ -196,29 +185,25 @@ target_of inputs o r = resolved inputs o r.symbol r.addend
 
 -- the item at a place with this relocation, by its bytes, of which it has so many if there is none
 abbrev pub item_under : ParsedInputs → Place → Option Reloc → ℕ → List ℕ → Item
-item_under inputs q None size bytes = item_of inputs.objects q size bytes
+item_under inputs q None size bytes = spelled_item inputs.objects q (instr_in size bytes q.offset) (raw_in size bytes q.offset)
 item_under inputs q (Some r) size bytes = known_item (kind_of r.kind) r.addend (target_of inputs q.object r) bytes q.offset
 
 -- the item that starts at a place of a section
 abbrev pub item_in : ParsedInputs → SectionParts → Place → Item
 item_in inputs s q = item_under inputs q (reloc_on s q.offset) (size_on s q.offset) s.bytes
 
--- the item at a place of a section, if one starts there
-abbrev pub item_from : ParsedInputs → Place → SectionParts → Option Item
-item_from inputs q s = if starts_on s q.offset then Some (item_in inputs s q) else None
-
 -- the item at a place; none if no item of code starts there
 unfoldable pub item_at : ParsedInputs → Place → Option Item
-item_at inputs q = option_and_then (item_from inputs q) (code_at inputs.objects q)
+item_at inputs q = option_and_then (λ s. if starts_on s q.offset then Some (item_in inputs s q) else None) (code_at inputs.objects q)
 
 -- ---- all items
 
 -- a place in a section
-abbrev pub place_of : ListedSection → ℕ → Place
+abbrev pub place_of : IndexedSection → ℕ → Place
 place_of l n = record { object = l.object; section = l.index; offset = n }
 
 -- the places of a section where items start, in order; what isn't code has none
-abbrev pub places_of : ListedSection → List Place
+abbrev pub places_of : IndexedSection → List Place
 places_of l = if is_code_section l.section then map (place_of l) (starts_in l.section) else []
 
 -- those of all code, by object, section and offset
@@ -230,7 +215,7 @@ abbrev pub targets_in : SectionParts → List ℕ
 targets_in s = starts_in s ++ length s.bytes ∷ []
 
 -- the places of a section that code may lead to; what isn't code has none
-abbrev pub targets_of : ListedSection → List Place
+abbrev pub targets_of : IndexedSection → List Place
 targets_of l = if is_code_section l.section then map (place_of l) (targets_in l.section) else []
 
 -- those of all code, by object, section and offset
@@ -238,7 +223,7 @@ abbrev pub all_targets : List ObjectParts → List Place
 all_targets objects = flat_map targets_of (all_sections objects)
 
 -- the items of a section, in order
-abbrev pub items_in : ParsedInputs → ListedSection → List Item
+abbrev pub items_in : ParsedInputs → IndexedSection → List Item
 items_in inputs l = map (item_in inputs l.section) (places_of l)
 
 -- the items of all code

@@ -7,7 +7,7 @@ use Rattle.zc_base.specs.declared.place.Place.{Place}
 use Rattle.elf32_read.specs.Parts.{ObjectParts, is_code_section}
 use Rattle.elf32_read.specs.declared.reloc.Reloc.{Reloc}
 use Rattle.psabi_sym.specs.Inputs.{ParsedInputs}
-use Rattle.psabi_sym.specs.Listed.{ListedSection, ListedSymbol, all_sections, all_symbols, section_at}
+use Rattle.psabi_sym.specs.Indexed.{IndexedSection, IndexedSymbol, all_sections, all_symbols, section_at}
 use Rattle.psabi_sym.specs.declared.target.Target.{Target}
 use Rattle.psabi_sym.specs.declared.target.Target.TheVariants.{Code, Number, Absent, Nowhere}
 use Rattle.psabi_reloc.specs.Kinds.{kind_of}
@@ -32,7 +32,7 @@ abbrev pub reloc_leads : ParsedInputs → Place → ℕ → Reloc → Bool
 reloc_leads inputs q o r = not (is_ignored (kind_of r.kind)) && is_place q (target_of inputs o r)
 
 -- one of a section does; what is dropped has none
-abbrev pub section_leads : ParsedInputs → Place → ListedSection → Bool
+abbrev pub section_leads : ParsedInputs → Place → IndexedSection → Bool
 section_leads inputs q l = list_any (reloc_leads inputs q l.object) l.section.relocs
 
 -- ---- items that lead somewhere
@@ -67,7 +67,7 @@ item_leads inputs q p =
 -- ---- symbols
 
 -- global (1) or weak (2), or a function (STT_FUNC, 2), and defined (SHN_UNDEF is 0) at this place of a section of code
-abbrev pub symbol_leads : List ObjectParts → Place → ListedSymbol → Bool
+abbrev pub symbol_leads : List ObjectParts → Place → IndexedSymbol → Bool
 symbol_leads objects q l =
     not (l.symbol.home == 0) && (l.symbol.bind == 1 || (l.symbol.bind == 2 || l.symbol.kind == 2))
     && (same_place (record { object = l.object; section = l.symbol.home; offset = l.symbol.value }) q

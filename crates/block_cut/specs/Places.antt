@@ -4,8 +4,8 @@ use Rattle.std.specs.Option.{unwrap_or}
 use Rattle.zc_base.specs.declared.place.Place.{Place}
 use Rattle.elf32_read.specs.Parts.{ObjectParts, SectionParts, is_code_section}
 use Rattle.psabi_sym.specs.Inputs.{ParsedInputs}
-use Rattle.psabi_sym.specs.Listed.{ListedSection}
-use Rattle.psabi_sym.specs.Rows.{section_starts}
+use Rattle.psabi_sym.specs.Indexed.{IndexedSection}
+use Rattle.psabi_sym.specs.Invariants.Rows.{section_starts}
 use Rattle.block_cut.specs.Items.{code_at, index_on, item_at, place_of, size_at, targets_in}
 use Rattle.block_cut.specs.PlainLayout.{plain_address}
 use Rattle.block_cut.specs.declared.code_place.CodePlace.{CodePlace}
@@ -21,11 +21,11 @@ place_there inputs q = record {
 }
 
 -- that at an offset of a section
-abbrev pub code_place : ParsedInputs → ListedSection → ℕ → CodePlace
+abbrev pub code_place : ParsedInputs → IndexedSection → ℕ → CodePlace
 code_place inputs l n = place_there inputs (place_of l n)
 
 -- those of a section; what isn't code has none
-abbrev pub code_places : ParsedInputs → ListedSection → List CodePlace
+abbrev pub code_places : ParsedInputs → IndexedSection → List CodePlace
 code_places inputs l = if is_code_section l.section then map (code_place inputs l) (targets_in l.section) else []
 
 -- ---- numbers

@@ -8,7 +8,7 @@ use Rattle.elf32_read.specs.Parts.{SectionParts, is_code_section}
 use Rattle.psabi_sym.specs.Blocks.{aligned_up}
 use Rattle.psabi_sym.specs.Faults.{power_above}
 use Rattle.psabi_sym.specs.Inputs.{ParsedInputs}
-use Rattle.psabi_sym.specs.Listed.{ListedSection, all_sections, sections_before}
+use Rattle.psabi_sym.specs.Indexed.{IndexedSection, all_sections, sections_before}
 use Rattle.block_cut.specs.Items.{all_items, code_at, is_target_at, place_of, size_on, starts_in, item_in}
 use Rattle.block_cut.specs.declared.item.Item.{Item}
 use Rattle.block_cut.specs.declared.item.Item.TheVariants.{Align}
@@ -25,11 +25,11 @@ abbrev pub after_item : ℕ → ℕ → Item → ℕ
 after_item a size item = option_map_or (λ bytes. aligned_up (power_above bytes) a) (padding_of item) (a + size)
 
 -- the address after the item that starts at an offset of a section
-abbrev pub after_start : ParsedInputs → ListedSection → ℕ → ℕ → ℕ
+abbrev pub after_start : ParsedInputs → IndexedSection → ℕ → ℕ → ℕ
 after_start inputs l a n = after_item a (size_on l.section n) (item_in inputs l.section (place_of l n))
 
 -- the address after the items that start at offsets, one after another from an address on
-abbrev pub after_starts : ParsedInputs → ListedSection → ℕ → List ℕ → ℕ
+abbrev pub after_starts : ParsedInputs → IndexedSection → ℕ → List ℕ → ℕ
 after_starts inputs l a ns = fold (after_start inputs l) a ns
 
 -- ---- sections
@@ -39,11 +39,11 @@ abbrev pub section_begin : ℕ → SectionParts → ℕ
 section_begin a s = aligned_up (max 4 s.align) a
 
 -- where it ends then; what isn't code takes no room
-abbrev pub section_end : ParsedInputs → ℕ → ListedSection → ℕ
+abbrev pub section_end : ParsedInputs → ℕ → IndexedSection → ℕ
 section_end inputs a l = if is_code_section l.section then after_starts inputs l (section_begin a l.section) (starts_in l.section) else a
 
 -- where the code of sections ends
-abbrev pub plain_end_of : ParsedInputs → List ListedSection → ℕ
+abbrev pub plain_end_of : ParsedInputs → List IndexedSection → ℕ
 plain_end_of inputs sections = fold (section_end inputs) inputs.map.text sections
 
 -- where a section of code begins: after those that stand before it
@@ -60,7 +60,7 @@ plain_end inputs = plain_end_of inputs (all_sections inputs.objects)
 abbrev pub starts_before : SectionParts → ℕ → List ℕ
 starts_before s n = filter (λ m. nat_lt m n) (starts_in s)
 
-abbrev pub items_before : ParsedInputs → ListedSection → ℕ → List Item
+abbrev pub items_before : ParsedInputs → IndexedSection → ℕ → List Item
 items_before inputs l n = map (λ m. item_in inputs l.section (place_of l m)) (starts_before l.section n)
 
 -- the address of a place in a section

@@ -78,7 +78,7 @@ abbrev pub is_filling : ℤ → Bool
 is_filling (pos n) = nat_lt 0 n && nat_lt n 256
 is_filling (negsuc n) = false
 
--- padding of so many bytes, in units
+-- padding of so many bytes, in whole steps
 abbrev pub is_padding : Bool → ℤ → Bool
 is_padding compressed (pos n) = nat_lt 0 n && (nat_lt n 256 && (n % code_step compressed == 0))
 is_padding compressed (negsuc n) = false
@@ -95,11 +95,11 @@ fits_at s n addend (Some RvcBranch) = true
 fits_at s n addend (Some RvcJump) = true
 fits_at s n addend (Some k) = fits k (instr_in 4 s.bytes n) (instr_in 4 s.bytes (n + 4))
 
--- in code a relocation changes whole units that are of its kind
+-- in code a relocation begins at a step, and changes what is of its kind
 abbrev pub is_placed : SectionParts → Reloc → Bool
 is_placed s r = not (is_code_section s) || ((r.offset % code_step s.compressed == 0) && fits_at s r.offset r.addend (kind_of r.kind))
 
--- a field that passes the section's end, isn't whole units of its kind, or that another changes as well
+-- a field that passes the section's end, isn't placed as its kind asks, or that another changes as well
 abbrev pub is_bad_place : SectionParts → Reloc → Bool
 is_bad_place s r =
     not (is_ignored (kind_of r.kind)) && (nat_lt s.size (field_end r) || (not (is_placed s r) || overlaps_another s.relocs r))

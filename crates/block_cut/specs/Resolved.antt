@@ -5,7 +5,7 @@ use Rattle.elf32_read.specs.declared.fault.Fault.{Fault}
 use Rattle.elf32_read.specs.declared.fault.Fault.TheVariants.{RelocKind, RelocPlace, LoPair, BadTarget}
 use Rattle.elf32_read.specs.declared.reloc.Reloc.{Reloc}
 use Rattle.psabi_sym.specs.Inputs.{ParsedInputs}
-use Rattle.psabi_sym.specs.Listed.{ListedSection}
+use Rattle.psabi_sym.specs.Indexed.{IndexedSection}
 use Rattle.psabi_reloc.specs.Kinds.{kind_of}
 use Rattle.block_cut.specs.Faults.{if_so, is_bad_target, lacks_pcrel_hi}
 use Rattle.block_cut.specs.Items.{known_item, target_of}
@@ -20,13 +20,13 @@ abbrev pub asks : Reloc → Bool
 asks r = not (is_ignored (kind_of r.kind))
 
 -- what is wrong with a relocation by itself
-abbrev pub own_fault : ParsedInputs → ListedSection → Reloc → Option RelocFault
+abbrev pub own_fault : ParsedInputs → IndexedSection → Reloc → Option RelocFault
 own_fault inputs l r =
     if is_bad_kind l.section (kind_of r.kind) then Some Kind
     else (if is_bad_place l.section r then Some Place else (if lacks_pcrel_hi inputs l r then Some Pair else None))
 
 -- a relocation of a section, decided
-abbrev pub resolved_reloc : ParsedInputs → ListedSection → Reloc → ResolvedReloc
+abbrev pub resolved_reloc : ParsedInputs → IndexedSection → Reloc → ResolvedReloc
 resolved_reloc inputs l r = record {
   target = target_of inputs l.object r;
   offset = r.offset;
@@ -36,11 +36,11 @@ resolved_reloc inputs l r = record {
 }
 
 -- those of a section that ask for something, in order
-abbrev pub resolved_relocs : ParsedInputs → ListedSection → List ResolvedReloc
+abbrev pub resolved_relocs : ParsedInputs → IndexedSection → List ResolvedReloc
 resolved_relocs inputs l = map (resolved_reloc inputs l) (filter asks l.section.relocs)
 
 -- those that are kept until all code is cut: what isn't code has none
-abbrev pub code_relocs : ParsedInputs → ListedSection → List ResolvedReloc
+abbrev pub code_relocs : ParsedInputs → IndexedSection → List ResolvedReloc
 code_relocs inputs l = if is_code_section l.section then resolved_relocs inputs l else []
 
 -- a fault by what is wrong at an offset of a section; another if nothing is

@@ -3,9 +3,9 @@
 ghost use Rattle.std.specs.Prelude.{◌≡◌, ◌≢◌, ◌*◌, ◌+◌, ◌/◌, ◌%◌, ◌<◌, ◌^◌, ◌||◌, ◌==◌, if◌then◌else◌, None, Some, length, slice_index_or, true};
 ghost use Rattle.psabi_sym.specs.Faults.{gather_fault};
 ghost use Rattle.psabi_sym.specs.Inputs.{parsed, Inputs};
-ghost use Rattle.psabi_sym.specs.Listed.{ListedSection};
-ghost use Rattle.block_cut.specs.SectionText.{numbered, HasRoom};
-ghost use Rattle.block_cut.specs.CodeSection.{IsCodeSection};
+ghost use Rattle.psabi_sym.specs.Indexed.{IndexedSection};
+ghost use Rattle.block_cut.specs.Invariants.SectionText.{numbered, HasRoom};
+ghost use Rattle.block_cut.specs.Invariants.CodeSection.{IsCodeSection};
 ghost use Rattle.block_cut.specs.Items.{item_in, place_of, size_on, starts_on};
 
 use crate::code_place::CodePlace;
@@ -34,7 +34,7 @@ impl<'a> CodeSection<'a> {
     fn item(&self, at: u32, reloc: Option<ResolvedReloc>) -> Item
         requires whole { at % 4 ≡ 0 }
         requires room { HasRoom self.now.content at reloc }
-        ensures { (inputs : Inputs) (l : ListedSection) → gather_fault inputs ≡ None → IsCodeSection inputs l self.now
+        ensures { (inputs : Inputs) (l : IndexedSection) → gather_fault inputs ≡ None → IsCodeSection inputs l self.now
             → reloc ≡ numbered self.now.relocs.now (slice_index_or self.now.table.now (at / 2) 0)
             → starts_on l.section at ≡ true → result ≡ item_in (parsed inputs) l.section (place_of l at) }
     {
@@ -60,7 +60,7 @@ impl<'a> CodeSection<'a> {
         requires room { at ≢ length self.now.content
             → HasRoom self.now.content at
             (numbered self.now.relocs.now (slice_index_or self.now.table.now (at / 2) 0)) }
-        ensures { (inputs : Inputs) (l : ListedSection) → gather_fault inputs ≡ None → IsCodeSection inputs l self.now
+        ensures { (inputs : Inputs) (l : IndexedSection) → gather_fault inputs ≡ None → IsCodeSection inputs l self.now
             → (starts_on l.section at || at == length l.section.bytes) ≡ true
             → result ≡ record {
               item = (if starts_on l.section at

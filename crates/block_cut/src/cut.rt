@@ -1,15 +1,14 @@
 // The objects with their code cut into items.
 
 ghost use Rattle.std.specs.Prelude.{◌≡◌, ◌<◌, ◌+◌, ◌^◌, None, Some, IfOk, IfErr, IfSome, MatchOption, false, true, length, slice_get};
-ghost use Rattle.std.specs.Option.{option_map};
 ghost use Rattle.psabi_sym.specs.Inputs.{parsed};
 ghost use Rattle.psabi_sym.specs.LinkFault.{IsRefusal};
-ghost use Rattle.psabi_sym.specs.Listed.{all_sections, ListedSection};
+ghost use Rattle.psabi_sym.specs.Indexed.{all_sections, IndexedSection};
 ghost use Rattle.block_cut.specs.DataWords.{data_words};
 ghost use Rattle.block_cut.specs.Faults.{first_fault};
-ghost use Rattle.block_cut.specs.Items.{entry_of, is_target_at, item_at, next_at, start_only};
+ghost use Rattle.block_cut.specs.Items.{entry_of, is_target_at, item_at, start_only};
 ghost use Rattle.block_cut.specs.Leaders.{is_leader_at};
-ghost use Rattle.block_cut.specs.CodeTables.{AreCodeTables};
+ghost use Rattle.block_cut.specs.Invariants.CodeTables.{AreCodeTables};
 ghost use Rattle.block_cut.specs.Places.{IsPlaceNumber, code_places, place_there};
 ghost use Rattle.block_cut.specs.PlainLayout.{plain_address, plain_counts};
 
@@ -43,7 +42,7 @@ pub struct Cut {
 
 impl Model for Cut {
     ghost use Rattle.psabi_sym.specs.Inputs.{Inputs};
-    ghost use Rattle.block_cut.specs.Cut.{IsCut};
+    ghost use Rattle.block_cut.specs.Invariants.Cut.{IsCut};
 
     ghost Value = { Inputs };
 
@@ -60,8 +59,8 @@ impl Cut {
         ensures faultless { IfOk result (λ _. first_fault objects ≡ None) }
         ensures err { IfErr result (λ fault. IsRefusal (first_fault objects) fault) }
     {
-        let (tables, relocs) = CodeTables::new(alloc, &objects)?;
-        let targets = match RelocTargets::find(alloc, &objects, &tables, relocs) {
+        let (tables, of_code) = CodeTables::new(alloc, &objects)?;
+        let targets = match RelocTargets::find(alloc, &objects, &tables, of_code) {
             Err(fault) => return Err(fault),
             Ok(targets) => targets,
         };
@@ -118,28 +117,6 @@ impl Cut {
         self.tables.item(&self.objects, p)
     }
 
-    /// The place after the item at a place, if one starts there.
-    pub fn next(&self, p: Place) -> Option<Place>
-        ensures { result ≡ option_map (λ _. next_at (parsed self.now).objects p) (item_at (parsed self.now) p) }
-    {
-        match self.item(p) {
-            None => None,
-            Some(item) => Some(self.next_after(p, &item)),
-        }
-    }
-
-    /// The place after an item that was found at a place.
-    pub fn next_after(&self, p: Place, item: &Item) -> Place
-        requires { item_at (parsed self.now) p ≡ Some item.now }
-        ensures { result ≡ next_at (parsed self.now).objects p }
-    {
-        let _ = item;
-        match self.tables.place(&self.objects, p) {
-            None => p,
-            Some(place) => after(p, place.size),
-        }
-    }
-
     /// The address in the plain layout of a place where an item starts or a section of code ends.
     pub fn plain_address(&self, p: Place) -> Option<u32>
         ensures { result ≡ plain_address (parsed self.now) p }
@@ -151,7 +128,7 @@ impl Cut {
     /// section ends; none if it isn't code.
     pub fn places(&self, section: u32) -> &[CodePlace]
         requires { section < length (all_sections (parsed self.now).objects) }
-        ensures { (l : ListedSection) → slice_get (all_sections (parsed self.now).objects) section ≡ Some l
+        ensures { (l : IndexedSection) → slice_get (all_sections (parsed self.now).objects) section ≡ Some l
             → result.now ≡ code_places (parsed self.now) l }
     {
         self.tables.places(section)
@@ -216,17 +193,5 @@ fn start_only(objects: &Objects, tables: &CodeTables, target: Target) -> Option<
     match tables.item(objects, p) {
         None => None,
         Some(_) => Some(p),
-    }
-}
-
-// The place so many bytes after another.
-fn after(p: Place, size: u8) -> Place
-    requires { p.offset + size < 2 ^ 32 }
-    ensures { result ≡ record p { offset = p.offset + size } }
-{
-    Place {
-        object: p.object,
-        section: p.section,
-        offset: p.offset + u32::from(size),
     }
 }

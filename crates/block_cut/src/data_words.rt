@@ -1,8 +1,9 @@
 // The words of data that hold addresses, read from the relocations.
 
-ghost use Rattle.std.specs.Prelude.{◌≡◌, ◌<◌, ◌+◌, ◌^◌, ◌++◌, None, Some, IfOk, All, filter, map, true};
+ghost use Rattle.std.specs.Prelude.{◌≡◌, false, ◌<◌, ◌+◌, ◌^◌, ◌++◌, None, Some, IfOk, All, filter, map, true};
+ghost use Rattle.elf32_read.specs.Parts.{is_code_section};
 ghost use Rattle.psabi_sym.specs.Inputs.{parsed};
-ghost use Rattle.psabi_sym.specs.Listed.{section_at};
+ghost use Rattle.psabi_sym.specs.Indexed.{section_at};
 ghost use Rattle.block_cut.specs.DataWords.{held_address, resolved_word, words_in};
 ghost use Rattle.block_cut.specs.Faults.{section_fault};
 ghost use Rattle.block_cut.specs.Relocs.{is_word};
@@ -11,12 +12,11 @@ ghost use Rattle.block_cut.specs.Resolved.{resolved_relocs};
 use crate::data_word::DataWord;
 use crate::kinds::is_word;
 use crate::resolved_reloc::ResolvedReloc;
+use elf32_read::header::NOBITS;
 use psabi_sym::objects::Objects;
 use psabi_sym::section_ref::SectionRef;
 use psabi_sym::section_row::SectionRole;
 use std::alloc::AllocError;
-
-const NOBITS: u32 = 8;
 
 // The address of a section, if it is data that a file holds.
 fn held_address(objects: &Objects, section: &SectionRef) -> Option<u32>
@@ -50,7 +50,7 @@ fn add_words(words: &mut Vec<DataWord>, at: u32, relocs: &[ResolvedReloc]) -> Re
     Ok(())
 }
 
-/// Adds the words of a section, by its relocations, of which none has a fault.
+/// Adds the words of a section, by its relocations if it is data, of which none has a fault.
 pub fn add_section_words(
     words: &mut Vec<DataWord>,
     objects: &Objects,
@@ -59,7 +59,8 @@ pub fn add_section_words(
 ) -> Result<(), AllocError>
     requires section { section_at (parsed objects.now).objects section.now.object section.now.index
         ≡ Some section.now.section }
-    requires relocs { relocs.now ≡ resolved_relocs (parsed objects.now) section.now }
+    requires relocs { is_code_section section.now.section ≡ false
+        → relocs.now ≡ resolved_relocs (parsed objects.now) section.now }
     requires faultless { section_fault (parsed objects.now) section.now ≡ None }
     ensures { IfOk result (λ _. words.new.items ≡ words.old.items ++ words_in (parsed objects.now) section.now) }
 {

@@ -1,14 +1,14 @@
 // The bytes that the relocations of a section change.
 
-ghost use Rattle.std.specs.Prelude.{◌≡◌, ◌<◌, ◌≤◌, ◌++◌, ◌∷◌, ◌==◌, ◌&&◌, ℕ, [], length, nat_lt, Contains, List, Some, IfOk, IfSome};
+ghost use Rattle.std.specs.Prelude.{◌≡◌, ◌<◌, ◌≤◌, ◌++◌, ◌∷◌, ◌==◌, ◌&&◌, ℕ, [], length, nat_lt, true, Contains, List, Some, IfOk, IfSome};
 ghost use Rattle.std.specs.List.{count_by, list_any};
 ghost use Rattle.std.specs.List.Sorted.{IsNonDecreasing};
 ghost use Rattle.elf32_read.specs.declared.reloc.Reloc.{Reloc};
 ghost use Rattle.psabi_reloc.specs.Kinds.{field_length, kind_of};
-ghost use Rattle.block_cut.specs.Fields.{AreApart, AreEnds, AreFields, HoldsEnds, HoldsFields, IsSortedOf};
+ghost use Rattle.block_cut.specs.Invariants.Fields.{AreEnds, AreFields, AreFieldsApart, HoldsEnds, HoldsFields, IsSortedOf};
 ghost use Rattle.block_cut.specs.Relocs.{field_end, field_of, overlaps_another, is_pcrel_hi};
 
-use crate::kinds::{is_ignored, is_pcrel_hi};
+use crate::kinds::is_pcrel_hi;
 use elf32_read::reloc::Reloc;
 use psabi_reloc::kind::RelocKind;
 use psabi_sym::section_ref::SectionRef;
@@ -24,13 +24,12 @@ pub struct FieldEnds {
 
 /// Where the upper parts of PC-relative pairs stand in a section, in ascending order, and where its fields
 /// begin and end. These aren't needed if each relocation's field begins where those before it have ended, as
-/// compilers write them: `end` is where the last one ends then. `asking` is how many relocations ask for something.
+/// compilers write them: `end` is where the last one ends then.
 #[derive(Drop)]
 pub struct Fields {
     pub uppers: Vec<u32>,
     pub end: Option<u64>,
     pub unordered: FieldEnds,
-    pub asking: usize,
 }
 
 /// How many bytes a relocation of this kind changes, with its addend.
@@ -67,6 +66,16 @@ fn sort(numbers: &mut Vec<u32>)
         return;
     }
     numbers.sort_unstable();
+}
+
+// Whether a number is the last of some.
+fn is_last(numbers: &[u32], number: u32) -> bool
+    ensures { result ≡ true → list_any (λ n. n == number) numbers.now ≡ true }
+{
+    match numbers.last() {
+        None => false,
+        Some(last) => *last == number,
+    }
 }
 
 impl FieldEnds {
@@ -130,8 +139,10 @@ impl FieldEnds {
 // Where the fields of relocations end with one more, if it begins where those before it have ended.
 fn end_with(before: Option<u64>, reloc: Reloc, kind: Option<RelocKind>) -> Option<u64>
     requires { kind ≡ kind_of reloc.kind }
-    ensures { (relocs : List Reloc) → IfSome before (λ n. AreApart n relocs)
-        → IfSome result (λ n. AreApart n (relocs ++ reloc ∷ [])) }
+    ensures apart { (relocs : List Reloc) → IfSome before (λ n. AreFieldsApart n relocs)
+        → IfSome result (λ n. AreFieldsApart n (relocs ++ reloc ∷ [])) }
+    ensures past { IfSome result (λ _.
+        (n : ℕ) × ((before ≡ Some n) × (0 < field_of reloc → n ≤ reloc.offset))) }
 {
     let start = u64::from(reloc.offset);
     let end = field_end(reloc, kind);
@@ -145,31 +156,29 @@ fn end_with(before: Option<u64>, reloc: Reloc, kind: Option<RelocKind>) -> Optio
 }
 
 impl Fields {
-    // Those of no relocations.
-    fn none(alloc: Global) -> Fields
-        ensures { HoldsFields [] result }
+    /// Those of no relocations.
+    pub fn none(alloc: Global) -> Fields
+        ensures holds { HoldsFields [] result }
+        ensures end { result.end ≡ Some 0 }
     {
         Fields {
             uppers: Vec::new(alloc),
             end: Some(0),
             unordered: FieldEnds::none(alloc),
-            asking: 0,
         }
     }
 
-    // Adds those of one more relocation, but where it begins and ends.
-    fn add(&mut self, reloc: Reloc) -> Result<(), AllocError>
+    /// Adds those of one more relocation, which is of this kind, but where it begins and ends.
+    #[inline(always)]
+    pub fn add(&mut self, reloc: Reloc, kind: Option<RelocKind>) -> Result<(), AllocError>
+        requires { kind ≡ kind_of reloc.kind }
         ensures { IfOk result (λ _. (relocs : List Reloc) → HoldsFields relocs self.old
             → HoldsFields (relocs ++ reloc ∷ []) self.new) }
     {
-        let kind = RelocKind::of(reloc.kind);
+        self.end = end_with(self.end, reloc, kind);
         if is_pcrel_hi(kind) {
             self.uppers.push(reloc.offset)?;
         }
-        if !is_ignored(kind) {
-            self.asking = self.asking.saturating_add(1);
-        }
-        self.end = end_with(self.end, reloc, kind);
         Ok(())
     }
 
@@ -179,7 +188,8 @@ impl Fields {
     {
         let mut fields = Fields::none(alloc);
         for k in 0..section.reloc_count() {
-            fields.add(section.reloc(k))?;
+            let reloc = section.reloc(k);
+            fields.add(reloc, RelocKind::of(reloc.kind))?;
         }
         Ok(fields)
     }
@@ -219,6 +229,9 @@ impl Fields {
         ensures { (relocs : List Reloc) → AreFields relocs self.now
             → result ≡ list_any (λ r. is_pcrel_hi (kind_of r.kind) && r.offset == offset) relocs }
     {
+        if is_last(&self.uppers, offset) {
+            return true;
+        }
         self.uppers.binary_search(&offset).is_ok()
     }
 }

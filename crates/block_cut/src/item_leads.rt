@@ -6,10 +6,10 @@ ghost use Rattle.std.specs.Option.{option_map_or};
 ghost use Rattle.psabi_sym.specs.Inputs.{parsed};
 ghost use Rattle.zc_base.specs.Places.{same_place};
 ghost use Rattle.zc_base.specs.declared.place.Place.{Place};
-ghost use Rattle.block_cut.specs.Home.{IsHome};
+ghost use Rattle.block_cut.specs.Invariants.Home.{IsHome};
 ghost use Rattle.block_cut.specs.Items.{place_of, places_of};
 ghost use Rattle.block_cut.specs.Leaders.{ends_block, goes_to, is_jalr, item_leads};
-ghost use Rattle.block_cut.specs.Led.{Adds};
+ghost use Rattle.block_cut.specs.Invariants.Led.{AddsPlaces};
 ghost use Rattle.block_cut.specs.Places.{code_place, code_places};
 
 use crate::code_place::CodePlace;
@@ -73,7 +73,7 @@ fn target_of(item: &Item) -> Option<Place>
 // Adds the place that an item goes to.
 fn add_target(leaders: &mut Leaders, home: &Home, item: &Item) -> Result<(), AllocError>
     requires { IsHome home.now }
-    ensures { IfOk result (λ _. Adds (parsed home.now.objects.now).objects (λ q. goes_to q item.now)
+    ensures { IfOk result (λ _. AddsPlaces (parsed home.now.objects.now).objects (λ q. goes_to q item.now)
         leaders.old leaders.new) }
 {
     let Some(to) = target_of(item) else {
@@ -90,7 +90,7 @@ fn add_target(leaders: &mut Leaders, home: &Home, item: &Item) -> Result<(), All
 // Adds the place after an item, if a basic block ends with it.
 fn add_next(leaders: &mut Leaders, home: &Home, offset: u32, item: &Item) -> Result<(), AllocError>
     requires { IsHome home.now }
-    ensures { IfOk result (λ _. Adds (parsed home.now.objects.now).objects
+    ensures { IfOk result (λ _. AddsPlaces (parsed home.now.objects.now).objects
         (λ q. ends_block item.now && same_place (place_of home.now.section.now offset) q) leaders.old leaders.new) }
 {
     if !ends_block(item) {
@@ -110,7 +110,7 @@ fn add_place(leaders: &mut Leaders, home: &Home, place: &CodePlace) -> Result<()
     requires home { IsHome home.now }
     requires room { place.now.offset + 256 < 2 ^ 32 }
     ensures { IfOk result (λ _. (n : ℕ) → place.now ≡ code_place (parsed home.now.objects.now) home.now.section.now n
-        → Adds (parsed home.now.objects.now).objects
+        → AddsPlaces (parsed home.now.objects.now).objects
         (λ q. item_leads (parsed home.now.objects.now) q (place_of home.now.section.now n)) leaders.old leaders.new) }
 {
     let Some(item) = &place.item else {
@@ -125,7 +125,7 @@ fn add_place(leaders: &mut Leaders, home: &Home, place: &CodePlace) -> Result<()
 pub fn add_items(leaders: &mut Leaders, home: &Home, places: &[CodePlace]) -> Result<(), AllocError>
     requires home { IsHome home.now }
     requires places { places.now ≡ code_places (parsed home.now.objects.now) home.now.section.now }
-    ensures { IfOk result (λ _. Adds (parsed home.now.objects.now).objects
+    ensures { IfOk result (λ _. AddsPlaces (parsed home.now.objects.now).objects
         (λ q. list_any (item_leads (parsed home.now.objects.now) q) (places_of home.now.section.now))
         leaders.old leaders.new) }
 {

@@ -3,7 +3,7 @@
 ghost use Rattle.std.specs.Prelude.{◌≡◌, map};
 ghost use Rattle.psabi_sym.specs.Faults.{first_some};
 ghost use Rattle.psabi_sym.specs.Inputs.{parsed};
-ghost use Rattle.block_cut.specs.CodeTables.{AreCodeTables};
+ghost use Rattle.block_cut.specs.Invariants.CodeTables.{AreCodeTables};
 ghost use Rattle.block_cut.specs.Faults.{is_bad_target};
 ghost use Rattle.block_cut.specs.Resolved.{resolved_fault};
 

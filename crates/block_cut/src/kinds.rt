@@ -67,13 +67,13 @@ pub fn is_rvc(kind: Option<RelocKind>) -> bool
 }
 
 /// What the starts and sizes of items are multiples of.
-pub const UNIT: u32 = 4;
+pub const STEP: u32 = 4;
 
-// Whether padding may have so many bytes: 1 to 255, in units.
+// Whether padding may have so many bytes: 1 to 255, in whole steps.
 fn is_padding(addend: i32) -> bool
     ensures { (compressed : Bool) → result ≡ is_padding compressed addend }
 {
-    0 < addend && addend < 256 && addend as u32 % UNIT == 0
+    0 < addend && addend < 256 && addend as u32 % STEP == 0
 }
 
 /// The instruction that the word at an offset spells; none if there is no whole word.
@@ -88,6 +88,7 @@ pub fn instr_at(bytes: &[u8], at: usize) -> Option<Instr>
 
 /// Whether the words that a relocation of this kind changes, which begin at a multiple of 4, are of its kind, or
 /// else its addend; by what each word of its section spells.
+#[inline(always)]
 pub fn fits_at(words: &[Option<Instr>], reloc: Reloc, kind: RelocKind) -> bool
     requires { reloc.offset % 4 ≡ 0 }
     ensures { (s : SectionParts) → words.now ≡ instrs_in s.bytes

@@ -5,7 +5,7 @@ ghost use Rattle.elf32_read.specs.Parts.{ObjectParts};
 ghost use Rattle.psabi_sym.specs.Inputs.{parsed};
 ghost use Rattle.zc_base.specs.Places.{same_place};
 ghost use Rattle.zc_base.specs.declared.place.Place.{Place};
-ghost use Rattle.block_cut.specs.Led.{has_place, is_marked, section_number, Adds};
+ghost use Rattle.block_cut.specs.Invariants.Led.{has_place, is_marked, section_number, AddsPlaces};
 
 use crate::marks::Marks;
 use psabi_sym::objects::Objects;
@@ -66,7 +66,7 @@ impl Leaders {
     /// elsewhere.
     pub fn add_in(&mut self, section: u32, p: Place) -> Result<(), AllocError>
         ensures { IfOk result (λ _. (objects : List ObjectParts) → section_number objects p ≡ Some section
-            → Adds objects (same_place p) self.old self.new) }
+            → AddsPlaces objects (same_place p) self.old self.new) }
     {
         if !self.mark(section, p) {
             self.others.insert(p)?;
@@ -76,7 +76,7 @@ impl Leaders {
 
     /// Adds a place, in as much time.
     pub fn add(&mut self, objects: &Objects, p: Place) -> Result<(), AllocError>
-        ensures { IfOk result (λ _. Adds (parsed objects.now).objects (same_place p) self.old self.new) }
+        ensures { IfOk result (λ _. AddsPlaces (parsed objects.now).objects (same_place p) self.old self.new) }
     {
         let Some(section) = objects.section_number(p.object, p.section) else {
             self.others.insert(p)?;

@@ -5,38 +5,35 @@ ghost use Rattle.std.specs.List.{list_any};
 ghost use Rattle.elf32_read.specs.Parts.{object_parts, symbol_parts};
 ghost use Rattle.psabi_sym.specs.Faults.{gather_fault};
 ghost use Rattle.psabi_sym.specs.Inputs.{parsed};
-ghost use Rattle.psabi_sym.specs.Listed.{ListedSection, ListedSymbol, all_sections, all_symbols, symbols_in};
+ghost use Rattle.psabi_sym.specs.Indexed.{IndexedSection, IndexedSymbol, all_sections, all_symbols, symbols_in};
 ghost use Rattle.zc_base.specs.Places.{same_place};
 ghost use Rattle.zc_base.specs.declared.place.Place.{Place};
-ghost use Rattle.block_cut.specs.CodeTables.{AreCodeTables};
+ghost use Rattle.block_cut.specs.Invariants.CodeTables.{AreCodeTables};
 ghost use Rattle.block_cut.specs.Items.{all_places, places_of};
 ghost use Rattle.block_cut.specs.Leaders.{is_place, item_leads, symbol_leads};
-ghost use Rattle.block_cut.specs.Led.{Adds};
+ghost use Rattle.block_cut.specs.Invariants.Led.{AddsPlaces};
 
 use crate::code_tables::CodeTables;
 use crate::item_leads::{Home, add_items};
 use crate::leaders::Leaders;
 use crate::resolved_reloc::ResolvedReloc;
 use elf32_read::object::Object;
+use elf32_read::symbol::{GLOBAL, WEAK};
 use elf32_read::symbol_entry::SymbolEntry;
 use psabi_sym::objects::Objects;
 use psabi_sym::target::Target;
 use std::alloc::AllocError;
 use zc_base::place::Place;
 
-const GLOBAL: u8 = 1;
-
-const WEAK: u8 = 2;
-
 const FUNC: u8 = 2;
 
-// Adds the place that a relocation leads to.
-fn add_reloc(
+/// Adds the place that a relocation leads to.
+pub fn add_reloc(
     leaders: &mut Leaders,
     objects: &Objects,
     reloc: &ResolvedReloc,
 ) -> Result<(), AllocError>
-    ensures { IfOk result (λ _. Adds (parsed objects.now).objects (λ q. is_place q reloc.now.target)
+    ensures { IfOk result (λ _. AddsPlaces (parsed objects.now).objects (λ q. is_place q reloc.now.target)
         leaders.old leaders.new) }
 {
     match reloc.target {
@@ -51,7 +48,8 @@ pub fn add_relocs(
     objects: &Objects,
     relocs: &[ResolvedReloc],
 ) -> Result<(), AllocError>
-    ensures { IfOk result (λ _. Adds (parsed objects.now).objects (λ q. list_any (λ d. is_place q d.target) relocs.now)
+    ensures { IfOk result (λ _. AddsPlaces (parsed objects.now).objects (λ q. list_any
+        (λ d. is_place q d.target) relocs.now)
         leaders.old leaders.new) }
 {
     for reloc in relocs {
@@ -70,8 +68,8 @@ fn add_section(
     requires gathered { gather_fault objects.now ≡ None }
     requires tables { AreCodeTables (parsed objects.now) tables.now }
     requires section { k < length (all_sections (parsed objects.now).objects) }
-    ensures { IfOk result (λ _. (l : ListedSection) → slice_get (all_sections (parsed objects.now).objects) k ≡ Some l
-        → Adds (parsed objects.now).objects (λ q. list_any (item_leads (parsed objects.now) q) (places_of l))
+    ensures { IfOk result (λ _. (l : IndexedSection) → slice_get (all_sections (parsed objects.now).objects) k ≡ Some l
+        → AddsPlaces (parsed objects.now).objects (λ q. list_any (item_leads (parsed objects.now) q) (places_of l))
         leaders.old leaders.new) }
 {
     let section = objects.section(k);
@@ -91,7 +89,7 @@ fn add_sections(
     tables: &CodeTables,
 ) -> Result<(), AllocError>
     requires { AreCodeTables (parsed objects.now) tables.now }
-    ensures { IfOk result (λ _. Adds (parsed objects.now).objects
+    ensures { IfOk result (λ _. AddsPlaces (parsed objects.now).objects
         (λ q. list_any (item_leads (parsed objects.now) q) (all_places (parsed objects.now).objects))
         leaders.old leaders.new) }
 {
@@ -103,7 +101,7 @@ fn add_sections(
 
 // Whether a basic block begins where a symbol of an object is defined, by its object's index.
 fn is_leader(objects: &Objects, o: u16, entry: &SymbolEntry) -> bool
-    ensures { (q : Place) (l : ListedSymbol) → l.object ≡ o → l.symbol.value ≡ entry.now.value
+    ensures { (q : Place) (l : IndexedSymbol) → l.object ≡ o → l.symbol.value ≡ entry.now.value
         → l.symbol.bind ≡ entry.now.bind → l.symbol.kind ≡ entry.now.kind → l.symbol.home ≡ entry.now.home
         → symbol_leads (parsed objects.now).objects q l
         ≡ (result && same_place (record { object = o; section = entry.now.home; offset = entry.now.value }) q) }
@@ -119,9 +117,9 @@ fn add_symbol(
     o: u16,
     entry: SymbolEntry,
 ) -> Result<(), AllocError>
-    ensures { IfOk result (λ _. (l : ListedSymbol) → l.object ≡ o → l.symbol.value ≡ entry.value
+    ensures { IfOk result (λ _. (l : IndexedSymbol) → l.object ≡ o → l.symbol.value ≡ entry.value
         → l.symbol.bind ≡ entry.bind → l.symbol.kind ≡ entry.kind → l.symbol.home ≡ entry.home
-        → Adds (parsed objects.now).objects (λ q. symbol_leads (parsed objects.now).objects q l)
+        → AddsPlaces (parsed objects.now).objects (λ q. symbol_leads (parsed objects.now).objects q l)
         leaders.old leaders.new) }
 {
     let place = Place {
@@ -142,7 +140,7 @@ fn add_object(
     o: u16,
     object: &Object,
 ) -> Result<(), AllocError>
-    ensures { IfOk result (λ _. Adds (parsed objects.now).objects
+    ensures { IfOk result (λ _. AddsPlaces (parsed objects.now).objects
         (λ q. list_any (symbol_leads (parsed objects.now).objects q) (symbols_in (o, object_parts object.now)))
         leaders.old leaders.new) }
 {
@@ -154,7 +152,7 @@ fn add_object(
 
 // Adds the places of all symbols, if they lead there.
 fn add_symbols(leaders: &mut Leaders, objects: &Objects) -> Result<(), AllocError>
-    ensures { IfOk result (λ _. Adds (parsed objects.now).objects
+    ensures { IfOk result (λ _. AddsPlaces (parsed objects.now).objects
         (λ q. list_any (symbol_leads (parsed objects.now).objects q) (all_symbols (parsed objects.now).objects))
         leaders.old leaders.new) }
 {
@@ -172,7 +170,7 @@ pub fn add_leads(
     tables: &CodeTables,
 ) -> Result<(), AllocError>
     requires { AreCodeTables (parsed objects.now) tables.now }
-    ensures { IfOk result (λ _. Adds (parsed objects.now).objects
+    ensures { IfOk result (λ _. AddsPlaces (parsed objects.now).objects
         (λ q. list_any (item_leads (parsed objects.now) q) (all_places (parsed objects.now).objects)
         || list_any (symbol_leads (parsed objects.now).objects q) (all_symbols (parsed objects.now).objects))
         leaders.old leaders.new) }

@@ -2,10 +2,10 @@
 #![tactic(auto)]
 
 pub mod code_place;
-mod code_relocs;
 mod code_section;
 mod code_span;
 mod code_tables;
+mod code_targets;
 mod content;
 pub mod cut;
 pub mod data_word;

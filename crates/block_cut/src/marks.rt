@@ -1,7 +1,7 @@
 // Marks at halfwords of code.
 
-ghost use Rattle.std.specs.Prelude.{◌≡◌, ◌&&◌, ◌||◌, ◌==◌, ℕ, false, IfOk};
-ghost use Rattle.block_cut.specs.Led.{mark_at};
+ghost use Rattle.std.specs.Prelude.{◌≡◌, ◌≢◌, slice_index_or, true, ◌&&◌, ◌||◌, ◌==◌, ℕ, false, IfOk};
+ghost use Rattle.block_cut.specs.Invariants.Led.{mark_at};
 
 use std::alloc::{AllocError, Global};
 use std::marker::Model;
@@ -18,6 +18,28 @@ impl Model for Marks {
     ghost Value = { List Bool };
 
     ghost view = { λ marks. marks.marks.items };
+}
+
+// Whether a halfword has a number other than 0.
+fn is_numbered(numbers: &[u32], k: usize) -> bool
+    ensures { result ≡ true → slice_index_or numbers.now k 0 ≢ 0 }
+{
+    match numbers.get(k) {
+        None => false,
+        Some(number) => *number != 0,
+    }
+}
+
+// Whether each halfword that is marked has a number other than 0.
+fn are_numbered(marks: &[bool], numbers: &[u32]) -> bool
+    ensures { result ≡ true → (k : ℕ) → mark_at marks.now k ≡ true → slice_index_or numbers.now k 0 ≢ 0 }
+{
+    for (k, mark) in marks.iter().enumerate() {
+        if *mark && !is_numbered(numbers, k) {
+            return false;
+        }
+    }
+    true
 }
 
 impl Marks {
@@ -39,6 +61,13 @@ impl Marks {
         }
         self.marks[k as usize] = true;
         true
+    }
+
+    /// Whether each halfword that is marked has a number other than 0.
+    pub fn are_numbered(&self, numbers: &[u32]) -> bool
+        ensures { result ≡ true → (k : ℕ) → mark_at self.now k ≡ true → slice_index_or numbers.now k 0 ≢ 0 }
+    {
+        are_numbered(&self.marks, numbers)
     }
 
     /// Whether a halfword is marked.

@@ -1,11 +1,11 @@
 // Addresses in the plain layout, one after another.
 
-ghost use Rattle.std.specs.Prelude.{◌≡◌, ◌+◌, ◌^◌, ◌<◌, ◌≤◌, max};
+ghost use Rattle.std.specs.Prelude.{◌≡◌, ◌+◌, ◌^◌, ◌<◌, max};
 ghost use Rattle.psabi_sym.specs.Blocks.{aligned_up};
-ghost use Rattle.psabi_sym.specs.Faults.{power_above};
 ghost use Rattle.block_cut.specs.PlainLayout.{after_item};
 
 use crate::item::Item;
+use psabi_sym::padding::power_above;
 
 const LEAST_ALIGN: u32 = 4;
 
@@ -17,23 +17,6 @@ pub fn begin_after(end: u32, align: u32) -> u32
     ensures { result ≡ aligned_up (max 4 align) end }
 {
     end.next_multiple_of(align.max(LEAST_ALIGN))
-}
-
-// The least power of two above a number of bytes of padding.
-fn power_above(bytes: u16) -> u32
-    ensures value { result ≡ power_above bytes }
-    ensures most { result ≤ 256 }
-{
-    match bytes {
-        0..=1 => 2,
-        2..=3 => 4,
-        4..=7 => 8,
-        8..=15 => 16,
-        16..=31 => 32,
-        32..=63 => 64,
-        64..=127 => 128,
-        _ => 256,
-    }
 }
 
 /// The address after an item at an address, by its bytes in its section.

@@ -6,9 +6,9 @@ ghost use Rattle.std.specs.Option.{option_map, option_map_or};
 ghost use Rattle.psabi_reloc.specs.Reaches.{branch_reach};
 ghost use Rattle.psabi_sym.specs.Faults.{gather_fault};
 ghost use Rattle.psabi_sym.specs.Inputs.{parsed};
-ghost use Rattle.psabi_sym.specs.Listed.{ListedSection, section_at};
+ghost use Rattle.psabi_sym.specs.Indexed.{IndexedSection, section_at};
 ghost use Rattle.zc_base.specs.declared.place.Place.{Place};
-ghost use Rattle.block_cut.specs.CodeTables.{AreCodeTables};
+ghost use Rattle.block_cut.specs.Invariants.CodeTables.{AreCodeTables};
 ghost use Rattle.block_cut.specs.Faults.{distance_between, is_out_of_reach};
 ghost use Rattle.block_cut.specs.Items.{all_places, place_of, places_of};
 ghost use Rattle.block_cut.specs.Places.{code_places, place_there};
@@ -52,7 +52,7 @@ fn is_out_of_reach(objects: &Objects, tables: &CodeTables, place: &CodePlace) ->
 fn first_offset(objects: &Objects, tables: &CodeTables, places: &[CodePlace]) -> Option<u32>
     requires faultless { gather_fault objects.now ≡ None }
     requires tables { AreCodeTables (parsed objects.now) tables.now }
-    ensures { (l : ListedSection) → section_at (parsed objects.now).objects l.object l.index ≡ Some l.section
+    ensures { (l : IndexedSection) → section_at (parsed objects.now).objects l.object l.index ≡ Some l.section
         → places.now ≡ code_places (parsed objects.now) l
         → option_map (place_of l) result ≡ find (is_out_of_reach (parsed objects.now)) (places_of l) }
 {

@@ -4,7 +4,7 @@ ghost use Rattle.std.specs.Prelude.{◌≡◌, ◌≤◌, ◌+◌, ◌%◌, leng
 ghost use Rattle.psabi_reloc.specs.declared.kind.RelocKind.TheVariants.{Call};
 ghost use Rattle.rv_decode.specs.Decode.{decoded};
 ghost use Rattle.zc_base.specs.Fields.{word_in};
-ghost use Rattle.block_cut.specs.SectionText.{HasRoom};
+ghost use Rattle.block_cut.specs.Invariants.SectionText.{HasRoom};
 ghost use Rattle.block_cut.specs.Items.{call_item, of_instr, raw_pair, to_place, transfer_item};
 ghost use Rattle.block_cut.specs.Resolved.{resolved_item};
 ghost use Rattle.block_cut.specs.declared.item.Item.TheVariants.{PcLo, Raw, RawPair};

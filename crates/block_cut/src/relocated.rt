@@ -1,20 +1,22 @@
 // Sections whose relocations are decided.
 
-ghost use Rattle.std.specs.Prelude.{◌≡◌, ◌+◌, ◌≤◌, Contains, Some, None, IfOk, false, if◌then◌else◌, length, nat_le, true};
+ghost use Rattle.std.specs.Prelude.{◌≡◌, ◌+◌, ◌≤◌, Contains, List, Some, None, IfOk, IfSome, false, if◌then◌else◌, length, nat_le, true};
 ghost use Rattle.elf32_read.specs.Parts.{is_code_section};
+ghost use Rattle.elf32_read.specs.declared.reloc.Reloc.{Reloc};
 ghost use Rattle.psabi_reloc.specs.Kinds.{kind_of};
 ghost use Rattle.psabi_sym.specs.Faults.{gather_fault};
 ghost use Rattle.psabi_sym.specs.Inputs.{parsed, Inputs};
-ghost use Rattle.psabi_sym.specs.Listed.{ListedSection, section_at};
+ghost use Rattle.psabi_sym.specs.Indexed.{IndexedSection, section_at};
 ghost use Rattle.block_cut.specs.Faults.{is_pair_at};
 ghost use Rattle.block_cut.specs.Items.{target_of};
-ghost use Rattle.block_cut.specs.Relocated.{IsRelocated};
+ghost use Rattle.block_cut.specs.Invariants.Fields.{AreFields};
+ghost use Rattle.block_cut.specs.Invariants.Relocated.{IsRelocated, with_relocs};
 ghost use Rattle.block_cut.specs.Relocs.{field_end, instr_in, is_bad_kind, is_bad_place, is_ignored, is_placed, has_pcrel_hi_at};
 ghost use Rattle.block_cut.specs.Resolved.{own_fault, resolved_reloc, resolved_relocs};
 ghost use Rattle.block_cut.specs.Instrs.{instrs_in};
 
 use crate::fields::{Fields, field_end, field_length};
-use crate::kinds::{UNIT, fits_at, instr_at, is_ignored, is_pcrel_lo, is_rvc, is_word};
+use crate::kinds::{STEP, fits_at, instr_at, is_ignored, is_pcrel_lo, is_rvc, is_word};
 use crate::resolved_reloc::{RelocFault, ResolvedReloc};
 use crate::section_words::instr_on;
 use elf32_read::reloc::Reloc;
@@ -39,31 +41,28 @@ pub struct Relocated<'a> {
 }
 
 impl<'a> Relocated<'a> {
-    // A section, by what its words spell if it is code.
-    fn new(
-        alloc: Global,
-        section: &SectionRef<'a>,
-        words: &'a [Option<Instr>],
-    ) -> Result<Relocated<'a>, AllocError>
+    // A section, by what its words spell if it is code, with the fields of some relocations.
+    fn new(section: &SectionRef<'a>, words: &'a [Option<Instr>], fields: Fields) -> Relocated<'a>
         requires words { is_code_section section.now.section ≡ true → words.now ≡ instrs_in section.now.section.bytes }
-        ensures { IfOk result (λ relocated. (inputs : Inputs) → gather_fault inputs ≡ None
+        ensures is { (inputs : Inputs) (relocs : List Reloc) → gather_fault inputs ≡ None
             → section_at (parsed inputs).objects section.now.object section.now.index ≡ Some section.now.section
-            → IsRelocated section.now relocated) }
+            → AreFields relocs fields → IsRelocated (with_relocs relocs section.now) result }
+        ensures fields { result.fields ≡ fields }
     {
-        Ok(Relocated {
+        Relocated {
             object: section.object(),
             index: section.index(),
             is_code: section.is_code(),
             size: section.size(),
             bytes: section.bytes(),
             words,
-            fields: Fields::new(alloc, section)?,
-        })
+            fields,
+        }
     }
 
     // Whether a relocation's kind isn't known, or can't stand in this section.
     fn is_bad_kind(&self, kind: Option<RelocKind>) -> bool
-        ensures { (l : ListedSection) → IsRelocated l self.now → result ≡ is_bad_kind l.section kind }
+        ensures { (l : IndexedSection) → IsRelocated l self.now → result ≡ is_bad_kind l.section kind }
     {
         match kind {
             None => true,
@@ -71,16 +70,17 @@ impl<'a> Relocated<'a> {
         }
     }
 
-    // Whether a relocation of this kind changes whole units that are of its kind, if this is code.
+    // Whether a relocation of this kind begins at a step and changes what is of its kind, if this is code.
+    #[inline(always)]
     fn is_placed(&self, reloc: Reloc, kind: Option<RelocKind>) -> bool
         requires { kind ≡ kind_of reloc.kind }
-        ensures { (l : ListedSection) → IsRelocated l self.now → field_end reloc ≤ l.section.size
+        ensures { (l : IndexedSection) → IsRelocated l self.now → field_end reloc ≤ l.section.size
             → result ≡ is_placed l.section reloc }
     {
         if !self.is_code {
             return true;
         }
-        if reloc.offset % UNIT != 0 {
+        if reloc.offset % STEP != 0 {
             return false;
         }
         match kind {
@@ -89,12 +89,13 @@ impl<'a> Relocated<'a> {
         }
     }
 
-    // Whether the field of one of its relocations, which is of this kind, passes the section's end, isn't whole units
+    // Whether the field of one of its relocations, which is of this kind, passes the section's end, isn't whole steps
     // of its kind, or is changed by another as well.
+    #[inline(always)]
     fn is_bad_place(&self, reloc: Reloc, kind: Option<RelocKind>) -> bool
         requires kind { kind ≡ kind_of reloc.kind }
         requires asks { is_ignored kind ≡ false }
-        ensures { (l : ListedSection) → IsRelocated l self.now → Contains l.section.relocs reloc
+        ensures { (l : IndexedSection) → IsRelocated l self.now → Contains l.section.relocs reloc
             → result ≡ is_bad_place l.section reloc }
     {
         u64::from(self.size) < field_end(reloc, kind)
@@ -104,7 +105,7 @@ impl<'a> Relocated<'a> {
 
     // What the bytes at an offset spell; nothing if there is no whole word.
     fn spelled_at(&self, offset: usize) -> Option<Instr>
-        ensures { (l : ListedSection) → IsRelocated l self.now
+        ensures { (l : IndexedSection) → IsRelocated l self.now
             → result
             ≡ (if nat_le (offset + 4) (length l.section.bytes) then instr_in 4 l.section.bytes offset else None) }
     {
@@ -116,7 +117,7 @@ impl<'a> Relocated<'a> {
 
     // Whether the upper part of a PC-relative pair stands at an offset: an `auipc` with its relocation.
     fn has_upper(&self, offset: u32) -> bool
-        ensures { (l : ListedSection) → IsRelocated l self.now → result ≡ has_pcrel_hi_at l.section offset }
+        ensures { (l : IndexedSection) → IsRelocated l self.now → result ≡ has_pcrel_hi_at l.section offset }
     {
         let spelled = self.spelled_at(offset as usize);
         RelocKind::PcrelHi20.fits(spelled, None) && self.fields.has_upper(offset)
@@ -124,7 +125,7 @@ impl<'a> Relocated<'a> {
 
     // Whether the upper part that a lower part of this section goes with stands at a target.
     fn is_pair(&self, target: Target) -> bool
-        ensures { (l : ListedSection) → IsRelocated l self.now → result ≡ is_pair_at l target }
+        ensures { (l : IndexedSection) → IsRelocated l self.now → result ≡ is_pair_at l target }
     {
         let Target::Code(q) = target else {
             return false;
@@ -134,10 +135,11 @@ impl<'a> Relocated<'a> {
 
     // What is wrong with one of its relocations by itself, which is of this kind and has this target. A lower part
     // with an addend has no upper part, so one that may have one leads to where its symbol is.
+    #[inline(always)]
     fn own_fault(&self, reloc: Reloc, kind: Option<RelocKind>, target: Target) -> Option<RelocFault>
         requires kind { kind ≡ kind_of reloc.kind }
         requires asks { is_ignored kind ≡ false }
-        ensures { (inputs : Inputs) (l : ListedSection) → IsRelocated l self.now → Contains l.section.relocs reloc
+        ensures { (inputs : Inputs) (l : IndexedSection) → IsRelocated l self.now → Contains l.section.relocs reloc
             → target ≡ target_of (parsed inputs) l.object reloc → result ≡ own_fault (parsed inputs) l reloc }
     {
         if self.is_bad_kind(kind) {
@@ -153,10 +155,11 @@ impl<'a> Relocated<'a> {
     }
 
     // One of its relocations, which is of this kind, decided.
+    #[inline(always)]
     fn resolve(&self, objects: &Objects, reloc: Reloc, kind: Option<RelocKind>) -> ResolvedReloc
         requires kind { kind ≡ kind_of reloc.kind }
         requires asks { is_ignored kind ≡ false }
-        ensures { (l : ListedSection) → IsRelocated l self.now → Contains l.section.relocs reloc
+        ensures { (l : IndexedSection) → IsRelocated l self.now → Contains l.section.relocs reloc
             → result ≡ resolved_reloc (parsed objects.now) l reloc }
     {
         let target = objects.resolve(self.object, reloc.symbol, reloc.addend);
@@ -170,8 +173,43 @@ impl<'a> Relocated<'a> {
     }
 }
 
+// The relocations of a section that ask for something, decided in one pass; none if one of them has a fault by itself,
+// begins before those before it have ended, or stands before its upper part.
+fn resolve_in_order(
+    alloc: Global,
+    objects: &Objects,
+    section: &SectionRef,
+    words: &[Option<Instr>],
+) -> Result<Option<Vec<ResolvedReloc>>, AllocError>
+    requires gathered { gather_fault objects.now ≡ None }
+    requires section { section_at (parsed objects.now).objects section.now.object section.now.index
+        ≡ Some section.now.section }
+    requires words { is_code_section section.now.section ≡ true → words.now ≡ instrs_in section.now.section.bytes }
+    ensures { IfOk result (λ o. IfSome o (λ relocs.
+        relocs.items ≡ resolved_relocs (parsed objects.now) section.now)) }
+{
+    let mut relocated = Relocated::new(section, words, Fields::none(alloc));
+    let mut relocs = Vec::with_capacity(alloc, section.reloc_count() as usize)?;
+    for k in 0..section.reloc_count() {
+        let reloc = section.reloc(k);
+        let kind = RelocKind::of(reloc.kind);
+        relocated.fields.add(reloc, kind)?;
+        if relocated.fields.end.is_none() {
+            return Ok(None);
+        }
+        if !is_ignored(kind) {
+            let resolved = relocated.resolve(objects, reloc, kind);
+            if resolved.fault.is_some() {
+                return Ok(None);
+            }
+            relocs.push(resolved)?;
+        }
+    }
+    Ok(Some(relocs))
+}
+
 /// The relocations of a section that ask for something, decided, in order; by what its words spell if it is code. It
-/// resolves each once, in logarithmic time.
+/// resolves each once, in logarithmic time, if they are in order and without a fault, and else twice at most.
 pub fn resolve_relocs(
     alloc: Global,
     objects: &Objects,
@@ -184,8 +222,11 @@ pub fn resolve_relocs(
     requires words { is_code_section section.now.section ≡ true → words.now ≡ instrs_in section.now.section.bytes }
     ensures { IfOk result (λ relocs. relocs.items ≡ resolved_relocs (parsed objects.now) section.now) }
 {
-    let relocated = Relocated::new(alloc, section, words)?;
-    let mut relocs = Vec::with_capacity(alloc, relocated.fields.asking)?;
+    if let Some(relocs) = resolve_in_order(alloc, objects, section, words)? {
+        return Ok(relocs);
+    }
+    let relocated = Relocated::new(section, words, Fields::new(alloc, section)?);
+    let mut relocs = Vec::with_capacity(alloc, section.reloc_count() as usize)?;
     for k in 0..section.reloc_count() {
         let reloc = section.reloc(k);
         let kind = RelocKind::of(reloc.kind);

@@ -1,18 +1,20 @@
 // What is kept of sections.
 
-ghost use Rattle.std.specs.Prelude.{◌≡◌, ◌&&◌, ◌==◌, ◌+◌, ◌^◌, ◌<◌, ℕ, IfOk, MatchOption, None, Some, false, true, length, slice_get};
+ghost use Rattle.std.specs.Prelude.{◌≡◌, ◌≢◌, slice_index_or, ◌&&◌, ◌==◌, ◌+◌, ◌^◌, ◌<◌, ℕ, IfOk, MatchOption, None, Some, false, true, length, slice_get};
 ghost use Rattle.elf32_read.specs.Parts.{is_code_section};
 ghost use Rattle.psabi_sym.specs.Faults.{gather_fault};
 ghost use Rattle.psabi_sym.specs.Inputs.{parsed, Inputs, ParsedInputs};
-ghost use Rattle.psabi_sym.specs.Listed.{section_at, ListedSection};
-ghost use Rattle.block_cut.specs.CutSection.{IsCutSection, IsSectionAfter};
-ghost use Rattle.block_cut.specs.SectionText.{section_tables};
+ghost use Rattle.psabi_sym.specs.Indexed.{section_at, IndexedSection};
+ghost use Rattle.block_cut.specs.Invariants.CutSection.{IsCutSection, IsSectionAfter};
+ghost use Rattle.block_cut.specs.Invariants.Led.{mark_at};
+ghost use Rattle.block_cut.specs.Invariants.SectionText.{section_tables};
 ghost use Rattle.block_cut.specs.Items.{index_on, is_target_at, place_of};
 ghost use Rattle.block_cut.specs.Places.{code_place};
 
 use crate::code_place::{CodePlace, address_after};
 use crate::code_section::CodeSection;
 use crate::content::Content;
+use crate::marks::Marks;
 use crate::plain_layout::begin_after;
 use crate::relocated::resolve_relocs;
 use crate::resolved_reloc::ResolvedReloc;
@@ -32,7 +34,7 @@ pub struct SectionText {
 }
 
 impl Model for SectionText {
-    ghost use Rattle.block_cut.specs.SectionText.{SectionTables};
+    ghost use Rattle.block_cut.specs.Invariants.SectionText.{SectionTables};
 
     ghost Value = { SectionTables };
 
@@ -49,7 +51,7 @@ pub struct CutSection {
 
 // A section that isn't code.
 fn data_section(alloc: Global) -> CutSection
-    ensures { (inputs : ParsedInputs) (l : ListedSection) → is_code_section l.section ≡ false
+    ensures { (inputs : ParsedInputs) (l : IndexedSection) → is_code_section l.section ≡ false
         → IsCutSection inputs l result }
 {
     CutSection {
@@ -130,7 +132,7 @@ impl SectionText {
 
     /// The place at an offset, if an item starts there or the section ends there. It takes constant time.
     pub fn place(&self, offset: u32) -> Option<&CodePlace>
-        ensures { (inputs : Inputs) (l : ListedSection) → gather_fault inputs ≡ None
+        ensures { (inputs : Inputs) (l : IndexedSection) → gather_fault inputs ≡ None
             → section_at (parsed inputs).objects l.object l.index ≡ Some l.section
             → self.now ≡ section_tables (parsed inputs) l
             → MatchOption result (is_target_at (parsed inputs).objects (place_of l offset) ≡ false)
@@ -144,9 +146,16 @@ impl SectionText {
         self.places.get(number as usize - 1)
     }
 
+    /// Whether an item starts or the section ends at each halfword that is marked.
+    pub fn has_marked(&self, marks: &Marks) -> bool
+        ensures { result ≡ true → (k : ℕ) → mark_at marks.now k ≡ true → slice_index_or self.now.numbers k 0 ≢ 0 }
+    {
+        marks.are_numbered(&self.numbers)
+    }
+
     /// How many of its items stand before an offset, if an item starts there or the section ends there.
     pub fn index(&self, offset: u32) -> Option<u32>
-        ensures { (inputs : Inputs) (l : ListedSection) → gather_fault inputs ≡ None
+        ensures { (inputs : Inputs) (l : IndexedSection) → gather_fault inputs ≡ None
             → section_at (parsed inputs).objects l.object l.index ≡ Some l.section
             → self.now ≡ section_tables (parsed inputs) l
             → MatchOption result (is_target_at (parsed inputs).objects (place_of l offset) ≡ false)

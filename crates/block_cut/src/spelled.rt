@@ -6,9 +6,9 @@ ghost use Rattle.psabi_sym.specs.Resolve.{offset_within};
 ghost use Rattle.rv_decode.specs.Decode.{decoded};
 ghost use Rattle.rv_decode.specs.Immediates.{InRange};
 ghost use Rattle.zc_base.specs.declared.place.Place.{Place};
-ghost use Rattle.block_cut.specs.SectionText.{by_halfword, number_on};
+ghost use Rattle.block_cut.specs.Invariants.SectionText.{by_halfword, number_on};
 ghost use Rattle.block_cut.specs.declared.item.Item.TheVariants.{Raw};
-ghost use Rattle.block_cut.specs.Items.{code_at, instr_item, spelled, target_away};
+ghost use Rattle.block_cut.specs.Items.{code_at, instr_item, spelled_item, target_away};
 ghost use Rattle.block_cut.specs.Whole.{IsWhole};
 
 use crate::item::Item;
@@ -86,7 +86,7 @@ fn instr_item(numbers: &[u32], q: Place, instr: Instr, word: u32) -> Item
 pub fn item_of(numbers: &[u32], q: Place, instr: Option<Instr>, word: u32) -> Item
     requires { instr ≡ decoded word }
     ensures { (objects : List ObjectParts) (s : SectionParts) → code_at objects q ≡ Some s → IsWhole s
-        → numbers.now ≡ by_halfword (number_on s) s → result ≡ spelled objects q instr (Raw word) }
+        → numbers.now ≡ by_halfword (number_on s) s → result ≡ spelled_item objects q instr (Raw word) }
 {
     match instr {
         None => Item::Raw(word),

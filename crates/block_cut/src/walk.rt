@@ -4,8 +4,8 @@ ghost use Rattle.std.specs.Prelude.{◌≡◌, ◌+◌, ◌-◌, ◌/◌, ◌<�
 ghost use Rattle.std.specs.Option.{option_map_or, unwrap_or};
 ghost use Rattle.elf32_read.specs.Parts.{SectionParts, is_code_section};
 ghost use Rattle.psabi_sym.specs.Inputs.{ParsedInputs};
-ghost use Rattle.psabi_sym.specs.Listed.{ListedSection};
-ghost use Rattle.block_cut.specs.SectionText.{by_halfword, number_on, numbered, IsRelocTable};
+ghost use Rattle.psabi_sym.specs.Indexed.{IndexedSection};
+ghost use Rattle.block_cut.specs.Invariants.SectionText.{by_halfword, number_on, numbered, IsRelocTable};
 ghost use Rattle.block_cut.specs.Resolved.{is_right, resolved_relocs};
 ghost use Rattle.block_cut.specs.Whole.{IsWhole};
 
@@ -102,7 +102,7 @@ pub fn place_numbers(
     table: &[u32],
 ) -> Result<Vec<u32>, AllocError>
     requires { length table.now < 2 ^ 31 }
-    ensures { IfOk result (λ numbers. (inputs : ParsedInputs) (l : ListedSection) → is_code_section l.section ≡ true
+    ensures { IfOk result (λ numbers. (inputs : ParsedInputs) (l : IndexedSection) → is_code_section l.section ≡ true
         → IsWhole l.section
         → relocs.now ≡ resolved_relocs inputs l → IsRelocTable relocs.now (length l.section.bytes / 2 + 1) table.now
         → numbers.items ≡ by_halfword (number_on l.section) l.section) }

@@ -3,6 +3,8 @@ use Rattle.std.specs.Prelude.{All}
 use Rattle.std.proofs.lemmas.List.{append-nil}
 use Rattle.psabi_sym.specs.Data.{data_end}
 use Rattle.psabi_sym.specs.Inputs.{parsed}
+use Rattle.psabi_sym.proofs.PlaceLaws.{code_is}
+use Rattle.psabi_sym.specs.Data.{is_code_role}
 use Rattle.block_cut.specs.DataWords.{resolved_word}
 use Rattle.block_cut.specs.Relocs.{is_word}
 use Rattle.block_cut.proofs.DataLaws.{held_is, words_held, words_low, words_unheld}
@@ -16,7 +18,7 @@ add_words-requires c =
     let held = held_is inputs l c.requires.section at (sym c.held_address.ensures ∙ c.in-Some.is) in
     let low = words_low inputs l c.requires.section c.requires.faultless at held in
     let all : All (λ d. is_word d.kind ≡ true → at + d.offset ≤ data_end inputs) c.args.relocs.now =
-    subst (All (λ d. is_word d.kind ≡ true → at + d.offset ≤ data_end inputs)) (sym c.requires.relocs) low in
+    subst (All (λ d. is_word d.kind ≡ true → at + d.offset ≤ data_end inputs)) (sym (c.requires.relocs (sym (code_is l.section) ∙ ap is_code_role held.role))) low in
     λ k d lt word. omega (arith, all k d lt word, c.data_end-end.ensures.value, c.data_end-end.type_inv)
 
 pub returns-in-None : goal.returns-in-None
@@ -30,5 +32,5 @@ returns-in_ok-add_words-in-Some c =
     let l = c.args.section.now in
     let held = held_is inputs l c.requires.section c.in-Some.at (sym c.held_address.ensures ∙ c.in-Some.is) in
     c.in_ok-add_words-in-Some.ensures
-    ∙ ap (λ ds. c.args.words.now.items ++ map (resolved_word c.in-Some.at) (filter (λ d. is_word d.kind) ds)) c.requires.relocs
+    ∙ ap (λ ds. c.args.words.now.items ++ map (resolved_word c.in-Some.at) (filter (λ d. is_word d.kind) ds)) (c.requires.relocs (sym (code_is l.section) ∙ ap is_code_role held.role))
     ∙ ap (λ ws. c.args.words.now.items ++ ws) (sym (words_held inputs l c.in-Some.at held))

@@ -4,7 +4,7 @@ use Rattle.zc_base.specs.declared.place.Place.{Place}
 use Rattle.psabi_sym.specs.Inputs.{parsed}
 use Rattle.block_cut.specs.Items.{place_of}
 use Rattle.block_cut.specs.Leaders.{ends_block}
-use Rattle.block_cut.specs.Led.{section_number}
+use Rattle.block_cut.specs.Invariants.Led.{section_number}
 use Rattle.block_cut.proofs.LedLaws.{adds_same}
 use Rattle.block_cut.proofs.item_leads.add_next.Goals as goal
 

@@ -1,6 +1,6 @@
 use Rattle.std.specs.List.{list_any}
 use Rattle.psabi_sym.specs.Inputs.{parsed}
-use Rattle.psabi_sym.specs.Listed.{all_symbols}
+use Rattle.psabi_sym.specs.Indexed.{all_symbols}
 use Rattle.block_cut.specs.Items.{all_places}
 use Rattle.block_cut.specs.Leaders.{item_leads, symbol_leads}
 use Rattle.block_cut.proofs.LedLaws.{adds_more}

@@ -5,7 +5,7 @@ use Rattle.std.proofs.lemmas.Option.{slice_get-get_or}
 use Rattle.elf32_read.specs.Parts.{object_parts, symbol_parts}
 use Rattle.elf32_read.specs.Symbols.{symbol_count, symbol_entry_of}
 use Rattle.psabi_sym.specs.Inputs.{parsed}
-use Rattle.psabi_sym.specs.Listed.{ListedSymbol, symbols_in}
+use Rattle.psabi_sym.specs.Indexed.{IndexedSymbol, symbols_in}
 use Rattle.psabi_sym.proofs.PartLaws.{length-symbols_in, symbol_count_is, symbol_is, symbol_listed}
 use Rattle.block_cut.specs.Leaders.{symbol_leads}
 use Rattle.block_cut.proofs.LedLaws.{adds_next, adds_none, adds_same}
@@ -24,7 +24,7 @@ loop-i-preserved c =
     let within : i < symbol_count file = omega arith in
     let parts = symbol_parts file (symbol_entry_of file i) in
     let all = symbols_in (o, object_parts file) in
-    let l : ListedSymbol = record { object = o; index = i; symbol = parts } in
+    let l : IndexedSymbol = record { object = o; index = i; symbol = parts } in
     let long : i < length (object_parts file).symbols = omega (arith, within, symbol_count_is file) in
     let listed_is : get_or all (i - 1) l ≡ l =
     symbol_listed o (object_parts file) (i - 1) parts l (omega (arith, first, long))

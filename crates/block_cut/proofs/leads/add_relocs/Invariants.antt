@@ -2,8 +2,8 @@ use Rattle.std.proofs.Common.{take}
 use Rattle.std.specs.List.{list_any}
 use Rattle.psabi_sym.specs.Inputs.{parsed}
 use Rattle.block_cut.specs.Leaders.{is_place}
-use Rattle.block_cut.specs.Led.{Adds}
+use Rattle.block_cut.specs.Invariants.Led.{AddsPlaces}
 use Rattle.block_cut.proofs.leads.add_relocs.Given as goal
 
 abbrev pub invariant-loop-reloc : goal.invariant-loop-reloc
-invariant-loop-reloc l = Adds (parsed l.objects).objects (λ q. list_any (λ d. is_place q d.target) (take l.reloc-index l.relocs)) l.fn.leaders l.leaders
+invariant-loop-reloc l = AddsPlaces (parsed l.objects).objects (λ q. list_any (λ d. is_place q d.target) (take l.reloc-index l.relocs)) l.fn.leaders l.leaders

@@ -1,7 +1,7 @@
 use Rattle.std.proofs.Common.{get_or, sym, arith}
 use Rattle.std.proofs.lemmas.Option.{slice_get-get_or}
 use Rattle.psabi_sym.specs.Inputs.{parsed}
-use Rattle.psabi_sym.specs.Listed.{all_sections}
+use Rattle.psabi_sym.specs.Indexed.{all_sections}
 use Rattle.block_cut.specs.Items.{places_of}
 use Rattle.block_cut.specs.Leaders.{item_leads}
 use Rattle.block_cut.proofs.LedLaws.{adds_all, adds_next, adds_none, adds_same, any_flat, items_from}

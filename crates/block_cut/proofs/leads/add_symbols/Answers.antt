@@ -3,7 +3,7 @@ use Rattle.std.specs.List.{list_any}
 use Rattle.std.proofs.lemmas.List.{length-map, take_all}
 use Rattle.elf32_read.specs.Parts.{object_parts}
 use Rattle.psabi_sym.specs.Inputs.{parsed}
-use Rattle.psabi_sym.specs.Listed.{all_symbols, symbols_in}
+use Rattle.psabi_sym.specs.Indexed.{all_symbols, symbols_in}
 use Rattle.block_cut.specs.Leaders.{symbol_leads}
 use Rattle.block_cut.proofs.LedLaws.{adds_more, adds_none, adds_same, no_symbols, symbols_more}
 use Rattle.block_cut.proofs.leads.add_symbols.Goals as goal

@@ -1,10 +1,10 @@
 use Rattle.std.proofs.Common.{◌≡◌, None, take}
 use Rattle.std.specs.List.{find}
 use Rattle.psabi_sym.specs.Inputs.{parsed}
-use Rattle.psabi_sym.specs.Listed.{ListedSection}
+use Rattle.psabi_sym.specs.Indexed.{IndexedSection}
 use Rattle.block_cut.specs.Places.{code_places}
 use Rattle.block_cut.proofs.ReachLaws.{is_out_at}
 use Rattle.block_cut.proofs.reach.first_offset.Given as goal
 
 abbrev pub invariant-loop-place : goal.invariant-loop-place
-invariant-loop-place l = (m : ListedSection) → l.places ≡ code_places (parsed l.objects) m → find (is_out_at (parsed l.objects) m) (take l.place-index l.places) ≡ None
+invariant-loop-place l = (m : IndexedSection) → l.places ≡ code_places (parsed l.objects) m → find (is_out_at (parsed l.objects) m) (take l.place-index l.places) ≡ None

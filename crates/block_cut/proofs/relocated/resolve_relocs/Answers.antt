@@ -19,7 +19,7 @@ loop-k-preserved c =
     elim c.if-not-is_ignored.branch [
       | then-not-is_ignored+in_ok-push w ↦
           let held = contains_at l.section.relocs k r at in
-          let own = w.resolve.ensures l (c.in_ok-relocated.ensures inputs c.requires.gathered c.requires.section) held in
+          let own = w.resolve.ensures l (c.new-relocated.ensures.is inputs l.section.relocs c.requires.gathered c.requires.section c.in_ok-new.ensures) held in
           ap (λ v. v.items) w.relocs-is ∙ w.in_ok-push.ensures.items ∙ (λ j. c.loop-k.invariant j ++ own j ∷ [])
           ∙ sym (kept_next f asks l.section.relocs k r at (asked ∙ ap not w.if-not-is_ignored.true))
       | else-not-is_ignored w ↦

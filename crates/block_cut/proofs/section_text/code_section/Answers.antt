@@ -3,7 +3,7 @@ use Rattle.std.proofs.Common.{◌≡◌, ◌++◌, ◌∷◌, [], ◌+◌, ◌*�
 use Rattle.psabi_sym.specs.Blocks.{aligned_up}
 use Rattle.psabi_sym.specs.Inputs.{parsed}
 use Rattle.block_cut.specs.Resolved.{resolved_relocs}
-use Rattle.block_cut.specs.SectionText.{IsRelocTable, by_halfword, number_on, section_tables}
+use Rattle.block_cut.specs.Invariants.SectionText.{IsRelocTable, by_halfword, number_on, section_tables}
 use Rattle.block_cut.proofs.TextLaws.{IsSoFar, address_fits, at_first, at_last, before_fits, none_more, one_more, resolved_few, room_there, target_start, target_word}
 use Rattle.block_cut.proofs.WordLaws.{code_here, halfword_count, number_got, number_other, number_target}
 use Rattle.block_cut.proofs.section_text.code_section.Goals.{then-number-ne0+in_ok-push, else-number-ne0}

@@ -1,5 +1,5 @@
 use Rattle.psabi_sym.specs.Inputs.{parsed}
-use Rattle.block_cut.specs.CodeSection.{IsCodeSection}
+use Rattle.block_cut.specs.Invariants.CodeSection.{IsCodeSection}
 use Rattle.block_cut.proofs.TextLaws.{IsSoFar}
 use Rattle.block_cut.proofs.section_text.code_section.Given as goal
 

@@ -1,7 +1,7 @@
 -- The number is in the table at an even offset inside; elsewhere nothing starts.
 use Rattle.std.proofs.Common.{◌≡◌, ◌*◌, ◌/◌, ◌<◌, length, get_or, sym, ap, ◌∙◌, arith}
 use Rattle.std.proofs.lemmas.Bool.{ltb-true}
-use Rattle.block_cut.specs.SectionText.{number_on}
+use Rattle.block_cut.specs.Invariants.SectionText.{number_on}
 use Rattle.block_cut.proofs.WordLaws.{halfword_count, halfword_got, number_none, other_odd, other_past}
 use Rattle.block_cut.proofs.walk.number_at.Goals as goal
 

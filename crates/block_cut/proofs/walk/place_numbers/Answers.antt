@@ -10,7 +10,7 @@ use Rattle.elf32_read.specs.Parts.{SectionParts, is_code_section}
 use Rattle.block_cut.specs.Items.{size_on, starts_on}
 use Rattle.block_cut.specs.PlainLayout.{starts_before}
 use Rattle.block_cut.specs.Resolved.{is_right_at, resolved_relocs}
-use Rattle.block_cut.specs.SectionText.{number_on}
+use Rattle.block_cut.specs.Invariants.SectionText.{number_on}
 use Rattle.block_cut.specs.Whole.{IsWhole}
 use Rattle.block_cut.specs.declared.resolved_reloc.ResolvedReloc.{ResolvedReloc}
 use Rattle.block_cut.proofs.StartLaws.{before_first_none}

@@ -2,10 +2,10 @@ use Rattle.std.proofs.Common.{◌≡◌, ◌*◌, ◌+◌, ◌/◌, ◌≤◌, t
 use Rattle.std.specs.List.{range_with_len}
 use Rattle.elf32_read.specs.Parts.{is_code_section}
 use Rattle.psabi_sym.specs.Inputs.{ParsedInputs}
-use Rattle.psabi_sym.specs.Listed.{ListedSection}
+use Rattle.psabi_sym.specs.Indexed.{IndexedSection}
 use Rattle.block_cut.specs.PlainLayout.{starts_before}
 use Rattle.block_cut.specs.Resolved.{resolved_relocs}
-use Rattle.block_cut.specs.SectionText.{IsRelocTable, number_on}
+use Rattle.block_cut.specs.Invariants.SectionText.{IsRelocTable, number_on}
 use Rattle.block_cut.specs.Whole.{IsWhole}
 use Rattle.block_cut.proofs.WordLaws.{IsNext}
 use Rattle.block_cut.proofs.walk.place_numbers.Given as goal
@@ -13,7 +13,7 @@ use Rattle.block_cut.proofs.walk.place_numbers.Given as goal
 abbrev pub invariant-loop-reloc : goal.invariant-loop-reloc
 invariant-loop-reloc l = record {
   most : l.before ≤ l.reloc-index;
-  each : (inputs : ParsedInputs) (m : ListedSection) → is_code_section m.section ≡ true → IsWhole m.section → l.relocs ≡ resolved_relocs inputs m → IsRelocTable l.relocs (length m.section.bytes / 2 + 1) l.table
+  each : (inputs : ParsedInputs) (m : IndexedSection) → is_code_section m.section ≡ true → IsWhole m.section → l.relocs ≡ resolved_relocs inputs m → IsRelocTable l.relocs (length m.section.bytes / 2 + 1) l.table
       → (l.numbers.items ≡ map (λ k. number_on m.section (2 * k)) (range_with_len 0 l.reloc-index))
       × (l.reloc-index ≤ length m.section.bytes / 2 → IsNext m.section (2 * l.reloc-index) (2 * l.reloc-index + l.left) × (l.before ≡ length (starts_before m.section (2 * l.reloc-index))));
 }

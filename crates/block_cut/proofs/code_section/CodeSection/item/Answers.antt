@@ -3,14 +3,14 @@ use Rattle.std.proofs.Common.{◌≡◌, ℕ, ◌/◌, Option, None, true, get_o
 use Rattle.std.specs.List.{find}
 use Rattle.psabi_sym.specs.Faults.{gather_fault}
 use Rattle.psabi_sym.specs.Inputs.{Inputs, parsed}
-use Rattle.psabi_sym.specs.Listed.{ListedSection}
+use Rattle.psabi_sym.specs.Indexed.{IndexedSection}
 use Rattle.rv_decode.specs.Decode.{decoded}
 use Rattle.zc_base.specs.Fields.{word_in}
 use Rattle.zc_base.specs.declared.place.Place.{Place}
-use Rattle.block_cut.specs.CodeSection.{IsCodeSection}
-use Rattle.block_cut.specs.Items.{code_at, place_of, spelled, starts_on}
+use Rattle.block_cut.specs.Invariants.CodeSection.{IsCodeSection}
+use Rattle.block_cut.specs.Items.{code_at, place_of, spelled_item, starts_on}
 use Rattle.block_cut.specs.Resolved.{is_right_at, resolved_item, resolved_relocs}
-use Rattle.block_cut.specs.SectionText.{numbered}
+use Rattle.block_cut.specs.Invariants.SectionText.{numbered}
 use Rattle.block_cut.specs.declared.item.Item.TheVariants.{Raw}
 use Rattle.block_cut.specs.declared.code_section.CodeSection.{CodeSection}
 use Rattle.block_cut.specs.declared.resolved_reloc.ResolvedReloc.{ResolvedReloc}
@@ -23,7 +23,7 @@ use Rattle.block_cut.proofs.WordLaws.{code_here}
 use Rattle.block_cut.proofs.code_section.CodeSection.item.Goals as goal
 
 -- the relocation that the table has at a start
-found : (inputs : Inputs) (l : ListedSection) (section : CodeSection) (n : ℕ) (reloc : Option ResolvedReloc) → gather_fault inputs ≡ None → IsCodeSection inputs l section → starts_on l.section n ≡ true
+found : (inputs : Inputs) (l : IndexedSection) (section : CodeSection) (n : ℕ) (reloc : Option ResolvedReloc) → gather_fault inputs ≡ None → IsCodeSection inputs l section → starts_on l.section n ≡ true
     → reloc ≡ numbered section.relocs.now (get_or section.table.now (n / 2) 0) → find (is_right_at n) (resolved_relocs (parsed inputs) l) ≡ reloc
 found inputs l section n reloc none is start got =
     let s = l.section in
@@ -46,5 +46,5 @@ returns-in-None c = λ inputs l none is got start.
     let instr : c.instr-instr.result ≡ decoded (word_in l.section.bytes n) = c.instr-instr.ensures ∙ ap (λ b. decoded (word_in b n)) is.content_is in
     let word : c.word.result ≡ word_in l.section.bytes n = c.word.ensures ∙ ap (λ b. word_in b n) is.content_is in
     c.item_of.ensures objects l.section (ap (code_at objects) same ∙ here.at n) here.whole is.numbers_are
-    ∙ (λ j. spelled objects (same j) (instr j) (Raw (word j)))
+    ∙ (λ j. spelled_item objects (same j) (instr j) (Raw (word j)))
     ∙ item_without (parsed inputs) l n (found inputs l c.args.self.now n c.args.reloc none is start got ∙ c.in-None.is)

@@ -1,10 +1,10 @@
 use Rattle.std.proofs.Common.{◌++◌, ◌∷◌, [], map, take, sym, ap, subst, ◌∙◌, arith}
 use Rattle.std.proofs.lemmas.List.{map-append}
 use Rattle.psabi_sym.specs.Inputs.{parsed}
-use Rattle.psabi_sym.specs.Listed.{all_sections}
+use Rattle.psabi_sym.specs.Indexed.{all_sections}
 use Rattle.psabi_sym.proofs.SectionNumbers.{listed_at}
-use Rattle.block_cut.specs.CodeRelocs.{AreCodeRelocs}
-use Rattle.block_cut.specs.SectionText.{section_tables}
+use Rattle.block_cut.specs.Invariants.CodeTargets.{AreCodeTargets}
+use Rattle.block_cut.specs.Invariants.SectionText.{section_tables}
 use Rattle.block_cut.proofs.TakeLaws.{take_next}
 use Rattle.block_cut.proofs.TextLaws.{count_fits, end_before, tables_of}
 use Rattle.block_cut.proofs.code_tables.CodeTables.new.Goals as goal
@@ -34,7 +34,7 @@ loop-k-preserved c =
     record {
       sections = c.in_ok-push.ensures.items ∙ (λ j. c.loop-k.invariant.sections j ++ c.in_ok-cut.ensures.text_is j ∷ [])
           ∙ sym (map-append (section_tables (parsed inputs)) (take k all) (l ∷ [])) ∙ ap (map (section_tables (parsed inputs))) (sym (take_next all k l c.section-section.ensures));
-      relocs = subst (λ ls. AreCodeRelocs (parsed inputs) ls c.add.new.self) (sym (take_next all k l c.section-section.ensures))
-          (c.in_ok-add.ensures (parsed inputs) (take k all) l (c.deref.ensures.value ∙ c.in_ok-cut.ensures.relocs_are) c.loop-k.invariant.relocs);
+      targets = subst (λ ls. AreCodeTargets (parsed inputs) ls c.add.new.self) (sym (take_next all k l c.section-section.ensures))
+          (c.in_ok-add.ensures (take k all) l (c.deref.ensures.value ∙ c.in_ok-cut.ensures.relocs_are) c.loop-k.invariant.targets);
       span = c.with-span.ensures inputs k l c.section_count-count.ensures.faultless c.section-section.ensures places c.loop-k.invariant.span;
     }

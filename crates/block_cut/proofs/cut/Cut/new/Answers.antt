@@ -4,7 +4,7 @@ use Rattle.std.specs.List.{list_any}
 use Rattle.elf32_read.specs.declared.fault.Fault.{Fault}
 use Rattle.elf32_read.specs.declared.fault.Fault.TheVariants.{Range}
 use Rattle.psabi_sym.specs.Inputs.{parsed}
-use Rattle.psabi_sym.specs.Listed.{all_symbols}
+use Rattle.psabi_sym.specs.Indexed.{all_symbols}
 use Rattle.block_cut.specs.Items.{all_places, entry_in, start_only}
 use Rattle.block_cut.specs.Leaders.{item_leads, symbol_leads}
 use Rattle.block_cut.proofs.DataLaws.{all_words}

@@ -1,6 +1,6 @@
 use Rattle.std.proofs.Common.{take, subst, sym, arith}
 use Rattle.std.proofs.lemmas.List.{take_all}
-use Rattle.block_cut.specs.Fields.{HoldsEnds}
+use Rattle.block_cut.specs.Invariants.Fields.{HoldsEnds}
 use Rattle.block_cut.proofs.TakeLaws.{take_next}
 use Rattle.block_cut.proofs.fields.FieldEnds.held.Goals as goal
 

@@ -1,5 +1,5 @@
 use Rattle.std.proofs.Common.{take}
-use Rattle.block_cut.specs.Fields.{HoldsEnds}
+use Rattle.block_cut.specs.Invariants.Fields.{HoldsEnds}
 use Rattle.block_cut.proofs.fields.FieldEnds.held.Given as goal
 
 abbrev pub invariant-loop-k : goal.invariant-loop-k

@@ -1,5 +1,5 @@
 use Rattle.std.proofs.Common.{take}
-use Rattle.block_cut.specs.Fields.{HoldsFields}
+use Rattle.block_cut.specs.Invariants.Fields.{HoldsFields}
 use Rattle.block_cut.proofs.fields.Fields.held.Given as goal
 
 abbrev pub invariant-loop-k : goal.invariant-loop-k

@@ -2,7 +2,7 @@ use Rattle.std.proofs.Common.{◌≡◌, ℕ, Vec, Global, List, None, is_some, 
 use Rattle.std.specs.Prelude.{IfSome}
 use Rattle.elf32_read.specs.declared.reloc.Reloc.{Reloc}
 use Rattle.block_cut.specs.declared.fields.Fields.{Fields}
-use Rattle.block_cut.specs.Fields.{AreApart, AreEnds, AreFields, HoldsFields, IsSortedOf}
+use Rattle.block_cut.specs.Invariants.Fields.{AreEnds, AreFields, AreFieldsApart, HoldsFields, IsSortedOf}
 use Rattle.block_cut.proofs.fields.Fields.new.Goals as goal
 use Rattle.block_cut.proofs.fields.Fields.new.Goals.{then-is_none+in_ok-fields-2, else-is_none}
 
@@ -10,7 +10,7 @@ made : (relocs : List Reloc) (held fields : Fields) (sorted : Vec ℕ Global) �
     → (fields.end ≡ None → AreEnds relocs fields.unordered) → IsSortedOf fields.uppers.items sorted.items → AreFields relocs (record fields { uppers = sorted })
 made relocs held fields sorted holds uppers end ends is = record {
   uppers = subst (λ l. IsSortedOf l sorted.items) (ap (λ v. v.items) uppers ∙ holds.uppers) is;
-  apart = subst (λ o. IfSome o (λ n. AreApart n relocs)) (sym end) holds.apart;
+  apart = subst (λ o. IfSome o (λ n. AreFieldsApart n relocs)) (sym end) holds.apart;
   ends = ends;
 }
 

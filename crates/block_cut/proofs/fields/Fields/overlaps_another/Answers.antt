@@ -1,10 +1,7 @@
-use Rattle.std.proofs.Common.{◌≡◌, ℕ, Option, None, Some, false, is_some, refl, arith}
+use Rattle.std.proofs.Common.{◌≡◌, false, is_some, arith}
 use Rattle.block_cut.proofs.FieldLaws.{crowded_none}
+use Rattle.block_cut.proofs.OrderLaws.{none_there}
 use Rattle.block_cut.proofs.fields.Fields.overlaps_another.Goals as goal
-
-none_there : (o : Option ℕ) → is_some o ≡ false → o ≡ None
-none_there None is = refl
-none_there (Some n) is = absurd cc
 
 pub returns-then-start-end : goal.returns-then-start-end
 returns-then-start-end c = λ relocs are held. crowded_none c.args.reloc relocs (omega (arith, c.from-start.ensures, c.field_end-end.ensures, c.if-start-end.true))

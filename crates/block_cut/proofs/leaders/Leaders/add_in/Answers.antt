@@ -1,6 +1,6 @@
 use Rattle.std.proofs.Common.{◌≡◌, ◌&&◌, ◌||◌, sym, ap, ◌∙◌}
 use Rattle.zc_base.specs.Places.{same_place}
-use Rattle.block_cut.specs.Led.{is_listed, is_marked}
+use Rattle.block_cut.specs.Invariants.Led.{is_listed, is_marked}
 use Rattle.block_cut.proofs.LedLaws.{or_assoc, or_false}
 use Rattle.block_cut.proofs.PlaceLaws.{put_in}
 use Rattle.block_cut.proofs.leaders.Leaders.add_in.Goals as goal

@@ -1,7 +1,7 @@
 use Rattle.std.proofs.Common.{◌/◌, [], Some, get_or, length, sym, ap, ◌∙◌, arith}
 use Rattle.std.proofs.lemmas.List.{get_or_past}
 use Rattle.psabi_sym.specs.Inputs.{parsed}
-use Rattle.block_cut.specs.Led.{mark_at}
+use Rattle.block_cut.specs.Invariants.Led.{mark_at}
 use Rattle.block_cut.proofs.LedLaws.{marked_at, number_is}
 use Rattle.block_cut.proofs.leaders.Leaders.is_marked.Goals as goal
 

@@ -1,6 +1,6 @@
 use Rattle.std.proofs.Common.{◌≡◌, ◌/◌, ◌<◌, ◌||◌, ◌&&◌, [], Some, eqb, get_or, length, sym, ap, ◌∙◌, arith}
 use Rattle.std.proofs.lemmas.Option.{get_or_from_slice_get, slice_get-get_or}
-use Rattle.block_cut.specs.Led.{mark_at}
+use Rattle.block_cut.specs.Invariants.Led.{mark_at}
 use Rattle.block_cut.proofs.LedLaws.{marked_more}
 use Rattle.block_cut.proofs.leaders.Leaders.mark.Goals as goal
 

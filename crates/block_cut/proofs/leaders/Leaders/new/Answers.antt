@@ -1,6 +1,6 @@
 use Rattle.std.proofs.Common.{◌||◌}
 use Rattle.psabi_sym.specs.Inputs.{parsed}
-use Rattle.block_cut.specs.Led.{is_listed}
+use Rattle.block_cut.specs.Invariants.Led.{is_listed}
 use Rattle.block_cut.proofs.LedLaws.{none_marked}
 use Rattle.block_cut.proofs.leaders.Leaders.new.Goals as goal
 

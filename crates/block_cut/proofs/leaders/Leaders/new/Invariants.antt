@@ -1,5 +1,5 @@
 use Rattle.std.proofs.Common.{◌≡◌, ℕ, false}
-use Rattle.block_cut.specs.Led.{mark_in}
+use Rattle.block_cut.specs.Invariants.Led.{mark_in}
 use Rattle.block_cut.proofs.leaders.Leaders.new.Given as goal
 
 abbrev pub invariant-loop-k : goal.invariant-loop-k

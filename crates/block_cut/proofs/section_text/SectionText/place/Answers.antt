@@ -3,7 +3,7 @@ use Rattle.std.proofs.Common.{◌≡◌, ◌≢◌, ◌<◌, ◌≤◌, ◌-◌,
 use Rattle.std.specs.List.{HoldsAt}
 use Rattle.std.proofs.lemmas.Option.{get_or_from_slice_get, slice_get_within}
 use Rattle.psabi_sym.specs.Inputs.{Inputs, parsed}
-use Rattle.psabi_sym.specs.Listed.{ListedSection}
+use Rattle.psabi_sym.specs.Indexed.{IndexedSection}
 use Rattle.block_cut.specs.Items.{is_target_at, place_of}
 use Rattle.block_cut.specs.Places.{code_place, code_places}
 use Rattle.block_cut.specs.declared.code_place.CodePlace.{CodePlace}
@@ -11,7 +11,7 @@ use Rattle.block_cut.proofs.TextLaws.{IsNumberOf, by_number, tables_of}
 use Rattle.block_cut.proofs.section_text.SectionText.place.Goals as goal
 
 -- what is found is the place with the number
-there : (inputs : Inputs) (l : ListedSection) (n number : ℕ) (places : List CodePlace) → IsNumberOf inputs l n number → number ≢ 0 → places ≡ code_places (parsed inputs) l
+there : (inputs : Inputs) (l : IndexedSection) (n number : ℕ) (places : List CodePlace) → IsNumberOf inputs l n number → number ≢ 0 → places ≡ code_places (parsed inputs) l
     → (o : Option (Bor CodePlace)) → MatchOption o (length places ≤ number - 1) (λ x. (number - 1 < length places) × HoldsAt (λ y. x.now ≡ y) places (number - 1))
     → MatchOption o (is_target_at (parsed inputs).objects (place_of l n) ≡ false) (λ x. (is_target_at (parsed inputs).objects (place_of l n) ≡ true) × (x.now ≡ code_place (parsed inputs) l n))
 there inputs l n number places is some are None past =

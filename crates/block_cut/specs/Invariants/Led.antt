@@ -6,8 +6,8 @@ use Rattle.zc_base.specs.Places.{same_place}
 use Rattle.zc_base.specs.declared.place.Place.{Place}
 use Rattle.elf32_read.specs.Parts.{ObjectParts}
 use Rattle.psabi_sym.specs.Inputs.{ParsedInputs}
-use Rattle.psabi_sym.specs.Listed.{all_sections, all_symbols, section_at}
-use Rattle.psabi_sym.specs.Rows.{section_starts}
+use Rattle.psabi_sym.specs.Indexed.{all_sections, all_symbols, section_at}
+use Rattle.psabi_sym.specs.Invariants.Rows.{section_starts}
 use Rattle.block_cut.specs.Items.{all_places}
 use Rattle.block_cut.specs.declared.leaders.Leaders.{Leaders}
 use Rattle.block_cut.specs.Leaders.{item_leads, section_leads, symbol_leads}
@@ -39,8 +39,8 @@ abbrev pub has_place : List ObjectParts → Leaders → Place → Bool
 has_place objects leaders q = is_marked objects leaders.sections.items q || is_listed leaders.others.keys q
 
 -- the places are the old ones, and those that pass a test
-abbrev pub Adds : List ObjectParts → (Place → Bool) → Leaders → Leaders → Type 0
-Adds objects test old new = (q : Place) → has_place objects new q ≡ (has_place objects old q || test q)
+abbrev pub AddsPlaces : List ObjectParts → (Place → Bool) → Leaders → Leaders → Type 0
+AddsPlaces objects test old new = (q : Place) → has_place objects new q ≡ (has_place objects old q || test q)
 
 -- ---- what leads to places
 

@@ -11,7 +11,7 @@ use Rattle.block_cut.specs.declared.fields.Fields.{Fields}
 abbrev pub has_field : Reloc → Bool
 has_field r = nat_lt 0 (field_of r)
 
--- a relocation is the upper part of a way
+-- a relocation is the upper part of a PC-relative pair
 abbrev pub is_upper : Reloc → Bool
 is_upper r = is_pcrel_hi (kind_of r.kind)
 
@@ -26,14 +26,15 @@ abbrev pub uppers_of : List Reloc → List ℕ
 uppers_of relocs = map (λ r. r.offset) (filter is_upper relocs)
 
 -- no two of the relocations change one byte, and none changes a byte from an offset on
-pub record AreApart (n : ℕ) (relocs : List Reloc) : Type 0 where
+pub record AreFieldsApart (n : ℕ) (relocs : List Reloc) : Type 0 where
   pub alone : (r : Reloc) → Contains relocs r → overlaps_another relocs r ≡ false
   pub before : (r : Reloc) → Contains relocs r → 0 < field_of r → field_end r ≤ n
 
 -- the fields as they come, but where they begin and end
 pub record HoldsFields (relocs : List Reloc) (fields : Fields) : Type 0 where
   pub uppers : fields.uppers.items ≡ uppers_of relocs
-  pub apart : IfSome fields.end (λ n. AreApart n relocs)
+  pub apart : IfSome fields.end (λ n. AreFieldsApart n relocs)
+  pub rise : IfSome fields.end (λ n. IsNonDecreasing fields.uppers.items)
 
 -- where they begin and end, as they come
 pub record HoldsEnds (relocs : List Reloc) (fields : FieldEnds) : Type 0 where
@@ -53,5 +54,5 @@ pub record AreEnds (relocs : List Reloc) (fields : FieldEnds) : Type 0 where
 -- the fields in ascending order; where they begin and end is kept unless no two overlap
 pub record AreFields (relocs : List Reloc) (fields : Fields) : Type 0 where
   pub uppers : IsSortedOf (uppers_of relocs) fields.uppers.items
-  pub apart : IfSome fields.end (λ n. AreApart n relocs)
+  pub apart : IfSome fields.end (λ n. AreFieldsApart n relocs)
   pub ends : fields.end ≡ None → AreEnds relocs fields.unordered

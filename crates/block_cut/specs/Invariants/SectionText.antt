@@ -3,7 +3,7 @@ use Rattle.std.specs.Prelude.{◌≡◌, ℕ, ◌+◌, ◌-◌, ◌*◌, ◌/◌
 use Rattle.std.specs.List.{find, range_with_len}
 use Rattle.elf32_read.specs.Parts.{SectionParts, is_code_section}
 use Rattle.psabi_sym.specs.Inputs.{ParsedInputs}
-use Rattle.psabi_sym.specs.Listed.{ListedSection}
+use Rattle.psabi_sym.specs.Indexed.{IndexedSection}
 use Rattle.psabi_reloc.specs.declared.kind.RelocKind.TheVariants.{Call}
 use Rattle.block_cut.specs.Items.{starts_on}
 use Rattle.block_cut.specs.Places.{code_places}
@@ -47,6 +47,10 @@ pub record SectionTables : Type 0 where
   pub numbers : List ℕ
   pub places : List CodePlace
 
+-- what stands for those of a section that isn't there
+abbrev pub no_tables : SectionTables
+no_tables = record { numbers = []; places = [] }
+
 -- the numbers of its places, and these
-unfoldable pub section_tables : ParsedInputs → ListedSection → SectionTables
+unfoldable pub section_tables : ParsedInputs → IndexedSection → SectionTables
 section_tables inputs l = record { numbers = numbers_in l.section; places = code_places inputs l }

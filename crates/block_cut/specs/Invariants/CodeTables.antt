@@ -2,15 +2,15 @@
 use Rattle.std.specs.Prelude.{◌≡◌, List, length, map}
 use Rattle.std.specs.List.{flat_map}
 use Rattle.psabi_sym.specs.Inputs.{ParsedInputs}
-use Rattle.psabi_sym.specs.Listed.{ListedSection, all_sections}
+use Rattle.psabi_sym.specs.Indexed.{IndexedSection, all_sections}
 use Rattle.block_cut.specs.Items.{items_in}
 use Rattle.block_cut.specs.PlainLayout.{plain_end_of}
-use Rattle.block_cut.specs.SectionText.{section_tables}
+use Rattle.block_cut.specs.Invariants.SectionText.{section_tables}
 use Rattle.block_cut.specs.declared.code_span.CodeSpan.{CodeSpan}
 use Rattle.block_cut.specs.declared.code_tables.CodeTables.{CodeTables}
 
 -- the code of sections ends here, and has so many items
-pub record IsCodeSpan (inputs : ParsedInputs) (sections : List ListedSection) (span : CodeSpan) : Type 0 where
+pub record IsCodeSpan (inputs : ParsedInputs) (sections : List IndexedSection) (span : CodeSpan) : Type 0 where
   pub end_is : span.end ≡ plain_end_of inputs sections
   pub count_is : span.count ≡ length (flat_map (items_in inputs) sections)
 

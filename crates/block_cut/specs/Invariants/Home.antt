@@ -2,9 +2,9 @@
 use Rattle.std.specs.Prelude.{◌≡◌, Some, None}
 use Rattle.psabi_sym.specs.Faults.{gather_fault}
 use Rattle.psabi_sym.specs.Inputs.{parsed}
-use Rattle.psabi_sym.specs.Listed.{section_at}
+use Rattle.psabi_sym.specs.Indexed.{section_at}
 use Rattle.block_cut.specs.Items.{place_of}
-use Rattle.block_cut.specs.Led.{section_number}
+use Rattle.block_cut.specs.Invariants.Led.{section_number}
 use Rattle.block_cut.specs.declared.item_leads.Home.{Home}
 
 -- it is one of objects without a fault between them, with its number among all

@@ -2,13 +2,13 @@
 use Rattle.std.specs.Prelude.{◌≡◌, ◌+◌, ◌/◌, true, length, Some}
 use Rattle.elf32_read.specs.Parts.{is_code_section}
 use Rattle.psabi_sym.specs.Inputs.{Inputs, parsed}
-use Rattle.psabi_sym.specs.Listed.{ListedSection, section_at}
-use Rattle.block_cut.specs.SectionText.{IsRelocTable, by_halfword, number_on}
+use Rattle.psabi_sym.specs.Indexed.{IndexedSection, section_at}
+use Rattle.block_cut.specs.Invariants.SectionText.{IsRelocTable, by_halfword, number_on}
 use Rattle.block_cut.specs.Resolved.{resolved_relocs}
 use Rattle.block_cut.specs.declared.code_section.CodeSection.{CodeSection}
 
 -- it is this section of code of the inputs
-pub record IsCodeSection (inputs : Inputs) (l : ListedSection) (section : CodeSection) : Type 0 where
+pub record IsCodeSection (inputs : Inputs) (l : IndexedSection) (section : CodeSection) : Type 0 where
   pub found : section_at (parsed inputs).objects l.object l.index ≡ Some l.section
   pub code : is_code_section l.section ≡ true
   pub object_is : section.object ≡ l.object

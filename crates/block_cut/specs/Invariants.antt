@@ -1,0 +1,12 @@
+-- What the tables of the code stand for. Only invariants and proofs name these; nothing that must be believed does.
+pub mod CodeSection
+pub mod CodeTables
+pub mod CodeTargets
+pub mod Cut
+pub mod CutSection
+pub mod Fields
+pub mod Home
+pub mod Led
+pub mod RelocTargets
+pub mod Relocated
+pub mod SectionText
