@@ -7,7 +7,7 @@ use Rattle.std.proofs.lemmas.List.{get_or_default}
 use Rattle.std.proofs.lemmas.List.Elements.{All-nil, All-cons, All-tail}
 use Rattle.std.proofs.lemmas.List.Sums.{sum_by-cons}
 use Rattle.shrink_layout.specs.declared.piece.Piece.{Piece}
-use Rattle.shrink_layout.specs.Forms.{IsForm, HasAlignment, IsEven, holds, longest, near_limit, target, width}
+use Rattle.shrink_layout.specs.Forms.{IsForm, HasAlignment, IsEvenPiece, holds, longest, near_limit, target, width}
 use Rattle.shrink_layout.specs.Layout.{addresses_of, holds_at, fit_from, all_fit, IsLayout}
 use Rattle.shrink_layout.specs.Least.{AreForms}
 use Rattle.shrink_layout.proofs.FormLaws.{even_after, width_most}
@@ -66,13 +66,13 @@ ascending at (p ∷ pieces) (size ∷ sizes) h (suc i) (suc j) le within = ascen
 -- ---- what they are
 
 -- addresses of even pieces are even
-pub even_address : (at : ℕ) (pieces : List Piece) (sizes : List ℕ) → All IsEven pieces → AreForms pieces sizes → at % 2 ≡ 0 → (k : ℕ) → slice_index (addresses_of at pieces sizes) k % 2 ≡ 0
+pub even_address : (at : ℕ) (pieces : List Piece) (sizes : List ℕ) → All IsEvenPiece pieces → AreForms pieces sizes → at % 2 ≡ 0 → (k : ℕ) → slice_index (addresses_of at pieces sizes) k % 2 ≡ 0
 even_address at [] sizes even h e zero = e
 even_address at [] sizes even h e (suc k) = refl
 even_address at (p ∷ pieces) [] even h e k = absurd h
 even_address at (p ∷ pieces) (size ∷ sizes) even h e zero = e
 even_address at (p ∷ pieces) (size ∷ sizes) even h e (suc k) =
-    even_address (at + width p size at) pieces sizes (All-tail IsEven p pieces even) h.1 (even_after p size at (even 0 p (omega arith)) h.0 e) k
+    even_address (at + width p size at) pieces sizes (All-tail IsEvenPiece p pieces even) h.1 (even_after p size at (even 0 p (omega arith)) h.0 e) k
 
 -- none is beyond what the pieces take at most
 pub address_most : (at : ℕ) (pieces : List Piece) (sizes : List ℕ) → All HasAlignment pieces → AreForms pieces sizes → All (λ a. a ≤ at + sum_by longest pieces) (addresses_of at pieces sizes)

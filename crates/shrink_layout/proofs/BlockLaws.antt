@@ -1,5 +1,5 @@
 -- Addresses step by step: where they rise, how far, and what stays the same if a block is only moved.
-use Rattle.std.proofs.Common.{◌≡◌, ℕ, zero, suc, pos, negsuc, ◌+◌, ◌-◌, ◌%◌, ◌/◌, ◌<◌, ◌≤◌, Bool, true, cond, eqb, List, [], ◌∷◌, length, All, drop, refl, sym, ap, ◌∙◌, subst, arith, inl, inr}
+use Rattle.std.proofs.Common.{◌≡◌, ℕ, zero, suc, pos, negsuc, ◌+◌, ◌-◌, ◌%◌, ◌/◌, ◌<◌, ◌≤◌, Bool, true, cond, eqb, List, [], ◌∷◌, length, set, get_or-set_same, get_or-set_other, All, drop, refl, sym, ap, ◌∙◌, subst, arith, inl, inr}
 use Rattle.std.specs.Prelude.{slice_index}
 use Rattle.std.specs.List.{sum_by}
 use Rattle.std.proofs.Math.Nat.{add-mod-mod, mod-mod_of_dvd}
@@ -8,7 +8,7 @@ use Rattle.std.proofs.lemmas.Nat.Gcd.{dvd_of_mod-eq-zero, dvd_trans, mod-eq-zero
 use Rattle.psabi_reloc.specs.Reaches.{branch_reach, short_branch_reach, short_jump_reach}
 use Rattle.shrink_layout.specs.declared.piece.Piece.{Piece}
 use Rattle.shrink_layout.specs.declared.piece.Piece.TheVariants.{Fixed, Align, Branch, Jump}
-use Rattle.shrink_layout.specs.Blocks.{AreTested, IsKept, IsMovedBy, IsSameStep, IsStep, IsStill, OthersFit, block_size, nth_piece}
+use Rattle.shrink_layout.specs.Invariants.Blocks.{AreTested, IsMovedBy, IsSameStep, IsStep, IsStill, IsUnchanged, OthersFit, block_size, nth_piece}
 use Rattle.shrink_layout.specs.Forms.{HasAlignment, distance, holds, longest, target, width}
 use Rattle.shrink_layout.specs.Layout.{addresses_of, holds_at}
 use Rattle.shrink_layout.specs.Least.{AreForms}
@@ -75,6 +75,42 @@ moved_through n m (Fixed size) e moved = tt
 moved_through n m (Align alignment) e moved = mod-eq-zero_of_dvd alignment (dvd_trans alignment (dvd_of_mod-eq-zero alignment moved) (dvd_of_mod-eq-zero n e))
 moved_through n m (Branch to short) e moved = tt
 moved_through n m (Jump to) e moved = tt
+
+-- the pieces before number k can be moved by a multiple of their block's number
+abbrev pub AreMovedTo : List Piece → List ℕ → ℕ → Type 0
+AreMovedTo pieces multiples k =
+    (j : ℕ) → j < k → 0 < slice_index multiples (j / block_size) → IsMovedBy (slice_index multiples (j / block_size)) (nth_piece pieces j)
+
+-- one more, with which the number of its block changes
+pub moved_more :
+    (pieces : List Piece) (old new : List ℕ) (k x : ℕ) → k / block_size < length old → new ≡ set old (k / block_size) x
+    → (0 < x → (0 < slice_index old (k / block_size)) × IsMovedBy x (nth_piece pieces k))
+    → (0 < x → (p : Piece) → IsMovedBy (slice_index old (k / block_size)) p → IsMovedBy x p) → AreMovedTo pieces old k → AreMovedTo pieces new (k + 1)
+moved_more pieces old new k x within is here before now = λ j lt some. elim (cases_lt (j / block_size) (k / block_size)) [
+  | inl less ↦
+      let same : slice_index new (j / block_size) ≡ slice_index old (j / block_size) =
+      ap (λ l. slice_index l (j / block_size)) is ∙ get_or-set_other old (k / block_size) (j / block_size) x 0 (λ e. omega (arith, e, less)) in
+      subst (λ n. IsMovedBy n (nth_piece pieces j)) (sym same) (now j (omega (arith, less)) (omega (arith, same, some)))
+  | inr least ↦
+      let block : j / block_size ≡ k / block_size = omega (arith, least, lt) in
+      let is_x : slice_index new (j / block_size) ≡ x = ap (slice_index new) block ∙ ap (λ l. slice_index l (k / block_size)) is ∙ get_or-set_same old (k / block_size) x 0 within in
+      let some_x : 0 < x = omega (arith, is_x, some) in
+      subst (λ n. IsMovedBy n (nth_piece pieces j)) (sym is_x) (elim (cases_lt j k) [
+        | inl done ↦
+            let in_block : slice_index old (k / block_size) ≡ slice_index old (j / block_size) = ap (slice_index old) (sym block) in
+            before some_x (nth_piece pieces j)
+            (subst (λ n. IsMovedBy n (nth_piece pieces j)) (sym in_block) (now j done (omega (arith, in_block, (here some_x).0))))
+        | inr new ↦ let e : k ≡ j = omega (arith, new, lt) in subst (λ m. IsMovedBy x (nth_piece pieces m)) e (here some_x).1
+      ])
+]
+
+-- one more that is no padding
+pub moved_still : (pieces : List Piece) (old new : List ℕ) (k : ℕ) → new ≡ old → ((n : ℕ) → IsMovedBy n (nth_piece pieces k)) → AreMovedTo pieces old k
+    → AreMovedTo pieces new (k + 1)
+moved_still pieces old new k is any now = subst (λ l. AreMovedTo pieces l (k + 1)) (sym is) (λ j lt some. elim (cases_lt j k) [
+  | inl done ↦ now j done some
+  | inr new ↦ let e : k ≡ j = omega (arith, new, lt) in subst (λ m. IsMovedBy (slice_index old (j / block_size)) (nth_piece pieces m)) e (any _)
+])
 
 -- addresses that were moved alike are still apart by such a multiple
 pub alike_on : (n here at x y d : ℕ) → here % n ≡ at % n → x ≡ d + here → y ≡ d + at → x % n ≡ y % n
@@ -155,7 +191,7 @@ pub others_fit : (pieces : List Piece) (sizes old new : List ℕ) (grown : List 
     → All (λ p. target p ≤ length pieces) pieces → length grown ≡ length pieces / block_size + 1 → length highs ≡ length grown → All (λ b. b < length grown) highs
     → AreTested old pieces sizes grown lows highs
     → ((b : ℕ) → b < length grown → slice_index changes b ≤ slice_index changes (b + 1))
-    → ((b : ℕ) → b < length grown → slice_index changes b ≡ slice_index changes (b + 1) → IsKept grown b)
+    → ((b : ℕ) → b < length grown → slice_index changes b ≡ slice_index changes (b + 1) → IsUnchanged grown b)
     → ((k : ℕ) → k < length pieces → slice_index changes (k / block_size) ≡ slice_index changes (k / block_size + 1) → IsSameStep old new k)
     → OthersFit new pieces sizes changes lows highs
 others_fit pieces sizes old new grown lows highs changes targets blocks high_blocks high tested ascend kept moved k lt still =
@@ -181,8 +217,8 @@ others_fit pieces sizes old new grown lows highs changes targets blocks high_blo
 
 -- where sizes were kept, addresses still follow one another
 pub kept_steps : (text : ℕ) (pieces : List Piece) (old new a : List ℕ) (grown : List Bool) → a ≡ addresses_of text pieces old → AreForms pieces old
-    → ((k : ℕ) → k < length pieces → IsKept grown (k / block_size) → slice_index new k ≡ slice_index old k)
-    → (k : ℕ) → k < length pieces → IsKept grown (k / block_size) → IsStep pieces new a k
+    → ((k : ℕ) → k < length pieces → IsUnchanged grown (k / block_size) → slice_index new k ≡ slice_index old k)
+    → (k : ℕ) → k < length pieces → IsUnchanged grown (k / block_size) → IsStep pieces new a k
 kept_steps text pieces old new a grown is h same k lt kept =
     let all = addresses_of text pieces old in
     let p = nth_piece pieces k in

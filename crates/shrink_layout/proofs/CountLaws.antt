@@ -9,7 +9,7 @@ use Rattle.zc_base.specs.declared.place.Place.{Place}
 use Rattle.elf32_read.specs.Parts.{ObjectParts, SectionParts, is_code_section}
 use Rattle.psabi_sym.specs.Faults.{gather_fault}
 use Rattle.psabi_sym.specs.Inputs.{Inputs, ParsedInputs, parsed}
-use Rattle.psabi_sym.specs.Listed.{ListedSection, all_sections, section_at, sections_before}
+use Rattle.psabi_sym.specs.Indexed.{IndexedSection, all_sections, section_at, sections_before}
 use Rattle.psabi_sym.proofs.SectionNumbers.{before_number, listed_at}
 use Rattle.block_cut.specs.Items.{index_on, item_in, place_of, places_of, size_on, starts_in, starts_on}
 use Rattle.block_cut.specs.CodeSizes.{code_step}
@@ -19,7 +19,7 @@ use Rattle.block_cut.specs.declared.item.Item.TheVariants as item
 use Rattle.block_cut.proofs.StartLaws.{Above, IsStep, above_filter, along, among_first, among_later, is_among}
 use Rattle.block_cut.proofs.WholeLaws.{inputs_whole}
 use Rattle.shrink_layout.specs.Counted.{count_from, is_long_piece, is_short_piece, pieces_with}
-use Rattle.shrink_layout.specs.Pieces.{is_short_jump, jump_piece, number_of, piece_at, piece_count, piece_of, pieces_in, pieces_of, section_alignment, section_pieces, unit_piece}
+use Rattle.shrink_layout.specs.Pieces.{is_short_jump, jump_piece, piece_at, piece_count, piece_number_at, piece_of, pieces_in, pieces_of, section_alignment, section_pieces, unit_piece}
 use Rattle.shrink_layout.specs.Settled.{is_long, is_sized, settled_sizes, units_with}
 use Rattle.shrink_layout.specs.Units.{CodeUnit, OneItem, unit_at}
 use Rattle.shrink_layout.specs.declared.piece.Piece.{Piece}
@@ -59,51 +59,26 @@ module _ (s : SectionParts) (code : is_code_section s ≡ true) (whole : IsWhole
 -- ---- tests
 
 module _ (objects : List ObjectParts) where
-  -- an item's piece is short if the item takes two bytes
-  pub short_item : (i : Item) (size : ℕ) → is_short_piece (piece_of objects i) size ≡ is_sized 2 size (OneItem i)
-  short_item (item.Op i) size = refl
-  short_item (item.Hi i t) size = refl
-  short_item (item.Lo i t) size = refl
-  short_item (item.PcHi i t) size = refl
-  short_item (item.PcLo i q) size = refl
-  short_item (item.Branch op first second to) size = refl
-  short_item (item.Jump rd to) size = by (is_short_jump rd)
-    where
-      by : (b : Bool) → is_short_piece (jump_piece objects to b) size ≡ eqb size 2
-      by true = refl
-      by false = refl
-  short_item (item.Call rd temp to) size = by (is_short_jump rd)
-    where
-      by : (b : Bool) → is_short_piece (jump_piece objects to b) size ≡ eqb size 2
-      by true = refl
-      by false = refl
-  short_item (item.Align bytes) size = refl
-  short_item (item.Word t) size = refl
-  short_item (item.Raw word) size = refl
-  short_item (item.RawPair first second) size = refl
+  -- so it is for the piece of a jump, whether it has a short form or not
+  jump_counts : (to : Place) (short : Bool) (size : ℕ) → (is_short_piece (jump_piece objects to short) size ≡ eqb size 2) × (is_long_piece (jump_piece objects to short) size ≡ false)
+  jump_counts to true size = (refl, refl)
+  jump_counts to false size = (refl, refl)
 
-  -- and long if it is a branch that takes eight
-  pub long_item : (i : Item) (size : ℕ) → is_long_piece (piece_of objects i) size ≡ is_long size (OneItem i)
-  long_item (item.Op i) size = refl
-  long_item (item.Hi i t) size = refl
-  long_item (item.Lo i t) size = refl
-  long_item (item.PcHi i t) size = refl
-  long_item (item.PcLo i q) size = refl
-  long_item (item.Branch op first second to) size = refl
-  long_item (item.Jump rd to) size = by (is_short_jump rd)
-    where
-      by : (b : Bool) → is_long_piece (jump_piece objects to b) size ≡ false
-      by true = refl
-      by false = refl
-  long_item (item.Call rd temp to) size = by (is_short_jump rd)
-    where
-      by : (b : Bool) → is_long_piece (jump_piece objects to b) size ≡ false
-      by true = refl
-      by false = refl
-  long_item (item.Align bytes) size = refl
-  long_item (item.Word t) size = refl
-  long_item (item.Raw word) size = refl
-  long_item (item.RawPair first second) size = refl
+  -- an item's piece is short if the item takes two bytes, and long if it is a branch that takes eight
+  pub item_counts :
+      (i : Item) (size : ℕ) → (is_short_piece (piece_of objects i) size ≡ is_sized 2 size (OneItem i)) × (is_long_piece (piece_of objects i) size ≡ is_long size (OneItem i))
+  item_counts (item.Op i) size = (refl, refl)
+  item_counts (item.Hi i t) size = (refl, refl)
+  item_counts (item.Lo i t) size = (refl, refl)
+  item_counts (item.PcHi i t) size = (refl, refl)
+  item_counts (item.PcLo i q) size = (refl, refl)
+  item_counts (item.Branch op first second to) size = (refl, refl)
+  item_counts (item.Jump rd to) size = jump_counts to (is_short_jump rd) size
+  item_counts (item.Call rd temp to) size = jump_counts to (is_short_jump rd) size
+  item_counts (item.Align bytes) size = (refl, refl)
+  item_counts (item.Word t) size = (refl, refl)
+  item_counts (item.Raw word) size = (refl, refl)
+  item_counts (item.RawPair first second) size = (refl, refl)
 
 -- ---- counts
 
@@ -134,14 +109,14 @@ module _
     (item : (i : Item) (size : ℕ) → of_piece (piece_of inputs.objects i) size ≡ of_unit size (OneItem i)) where
   -- whether the unit at a place passes
   abbrev passes : Place → Bool
-  passes q = option_map_or (of_unit (slice_index sizes (number_of inputs.objects q))) (unit_at inputs q) false
+  passes q = option_map_or (of_unit (slice_index sizes (piece_number_at inputs.objects q))) (unit_at inputs q) false
 
-  module _ (l : ListedSection) (here : section_at inputs.objects l.object l.index ≡ Some l.section) (code : is_code_section l.section ≡ true) where
+  module _ (l : IndexedSection) (here : section_at inputs.objects l.object l.index ≡ Some l.section) (code : is_code_section l.section ≡ true) where
     -- the number of the first place
     abbrev first : ℕ
     first = 1 + sum_by piece_count (sections_before inputs.objects l.object l.index) + 1
 
-    number_here : (n : ℕ) → starts_on l.section n ≡ true → number_of inputs.objects (place_of l n) ≡ first + index_on l.section n
+    number_here : (n : ℕ) → starts_on l.section n ≡ true → piece_number_at inputs.objects (place_of l n) ≡ first + index_on l.section n
     number_here n start =
         let target = item_target inputs (place_of l n) (item_in inputs l.section (place_of l n)) (held_start inputs l here code n start) in
         omega (arith, number-code inputs.objects (place_of l n) l.section target (there inputs l here code n))
@@ -154,7 +129,7 @@ module _
         let q = place_of l n in
         let start = are n (among_first n n ns refl) in
         let index : index_on l.section n ≡ a = ap (λ l. slice_index l 0) numbers in
-        let number : number_of inputs.objects q ≡ first + a = number_here n start ∙ ap (λ k. first + k) index in
+        let number : piece_number_at inputs.objects q ≡ first + a = number_here n start ∙ ap (λ k. first + k) index in
         let i = item_in inputs l.section q in
         let at = held_start inputs l here code n start in
         let one : of_piece (piece_at inputs q) (slice_index sizes (first + a)) ≡ passes q =
@@ -172,7 +147,7 @@ module _
         by false same = omega (arith, same)
 
   -- so of a section
-  section_counted : (l : ListedSection) → section_at inputs.objects l.object l.index ≡ Some l.section → (is_code_section l.section ≡ true → IsWhole l.section)
+  section_counted : (l : IndexedSection) → section_at inputs.objects l.object l.index ≡ Some l.section → (is_code_section l.section ≡ true → IsWhole l.section)
       → count_from of_piece sizes (1 + sum_by piece_count (sections_before inputs.objects l.object l.index)) (section_pieces inputs l) ≡ length (filter passes (places_of l))
   section_counted l here whole = by (is_code_section l.section) refl
     where
@@ -193,8 +168,8 @@ module _
       by false other = refl
 
   -- and of sections one after another
-  sections_counted : (k : ℕ) (ls : List ListedSection)
-      → ((j : ℕ) (l : ListedSection) → slice_get ls j ≡ Some l → count_from of_piece sizes (k + sum_by piece_count (take j ls)) (section_pieces inputs l) ≡ length (filter passes (places_of l)))
+  sections_counted : (k : ℕ) (ls : List IndexedSection)
+      → ((j : ℕ) (l : IndexedSection) → slice_get ls j ≡ Some l → count_from of_piece sizes (k + sum_by piece_count (take j ls)) (section_pieces inputs l) ≡ length (filter passes (places_of l)))
       → count_from of_piece sizes k (pieces_in inputs ls) ≡ length (filter passes (flat_map places_of ls))
   sections_counted k [] each = refl
   sections_counted k (l ∷ ls) each =

@@ -6,7 +6,7 @@ use Rattle.std.proofs.lemmas.Bool.{true≢false}
 use Rattle.std.proofs.lemmas.Bool.Decides.{nat_tests}
 use Rattle.shrink_layout.specs.declared.piece.Piece.{Piece}
 use Rattle.shrink_layout.specs.declared.piece.Piece.TheVariants.{Fixed, Align, Branch, Jump}
-use Rattle.shrink_layout.specs.Forms.{shortest, longer, longest, IsForm, holds, width, HasAlignment, IsEven}
+use Rattle.shrink_layout.specs.Forms.{shortest, longer, longest, IsForm, holds, width, HasAlignment, IsEvenPiece}
 use Rattle.shrink_layout.specs.Least.{IsTight}
 
 -- ---- the forms from the shortest on
@@ -73,7 +73,7 @@ slack_falls (Jump to) size f t h misses = grind (arith, nat_tests)
 -- ---- what is even
 
 -- forms of an even piece are even
-pub even_size : (p : Piece) (size : ℕ) → IsEven p → IsForm p size → size % 2 ≡ 0
+pub even_size : (p : Piece) (size : ℕ) → IsEvenPiece p → IsForm p size → size % 2 ≡ 0
 even_size (Fixed n) size e h = rw h e
 even_size (Align alignment) size e h = rw h refl
 even_size (Branch to true) size e h = elim h [ inl a ↦ rw a refl | inr b ↦ elim b [ inl a ↦ rw a refl | inr a ↦ rw a refl ] ]
@@ -91,14 +91,14 @@ even_padding at a even e =
     even_rest (a - at % a) a even (omega (arith, left))
 
 -- an even piece at an even address takes an even number of bytes
-pub even_width : (p : Piece) (size at : ℕ) → IsEven p → IsForm p size → at % 2 ≡ 0 → width p size at % 2 ≡ 0
+pub even_width : (p : Piece) (size at : ℕ) → IsEvenPiece p → IsForm p size → at % 2 ≡ 0 → width p size at % 2 ≡ 0
 even_width (Fixed n) size at e h even = even_size (Fixed n) size e h
 even_width (Align alignment) size at e h even = even_padding at alignment e even
 even_width (Branch to short) size at e h even = even_size (Branch to short) size e h
 even_width (Jump to) size at e h even = even_size (Jump to) size e h
 
 -- and the address after it is even
-pub even_after : (p : Piece) (size at : ℕ) → IsEven p → IsForm p size → at % 2 ≡ 0 → (at + width p size at) % 2 ≡ 0
+pub even_after : (p : Piece) (size at : ℕ) → IsEvenPiece p → IsForm p size → at % 2 ≡ 0 → (at + width p size at) % 2 ≡ 0
 even_after p size at e h even = omega (arith, even_width p size at e h even)
 
 -- a piece that isn't aligned above 2 takes its size at an even address

@@ -4,7 +4,7 @@ use Rattle.std.specs.Prelude.{slice_index}
 use Rattle.std.proofs.lemmas.Bool.{and_from, and_left, and_right}
 use Rattle.std.proofs.lemmas.List.{ext_get_or}
 use Rattle.shrink_layout.specs.declared.piece.Piece.{Piece}
-use Rattle.shrink_layout.specs.Blocks.{grown_size, nth_piece}
+use Rattle.shrink_layout.specs.Invariants.Blocks.{grown_size, nth_piece}
 use Rattle.shrink_layout.specs.Layout.{holds_at, fit_from, grown_from}
 
 -- there are as many as before

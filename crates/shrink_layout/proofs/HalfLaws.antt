@@ -2,12 +2,12 @@
 use Rattle.std.proofs.Common.{◌≡◌, ℕ, zero, suc, List, [], ◌∷◌, ◌++◌, length, Option, Some, None, slice_get, slice_index, refl, ap, subst, ◌∙◌, arith}
 use Rattle.psabi_sym.specs.Faults.{gather_fault}
 use Rattle.psabi_sym.specs.Inputs.{Inputs, parsed}
-use Rattle.psabi_sym.specs.Listed.{all_sections}
+use Rattle.psabi_sym.specs.Indexed.{all_sections}
 use Rattle.block_cut.specs.Items.{item_at}
 use Rattle.block_cut.specs.declared.item.Item.{Item}
 use Rattle.shrink_layout.specs.Halves.{IsHalfOf}
-use Rattle.shrink_layout.specs.Made.{AreHalvesOf, owners_in}
-use Rattle.shrink_layout.specs.Numbers.{AreHalves}
+use Rattle.shrink_layout.specs.Invariants.Made.{AreHalvesOf, owners_in}
+use Rattle.shrink_layout.specs.Invariants.Numbers.{AreHalves}
 use Rattle.shrink_layout.proofs.NumberLaws.{laid_there, length-laid_in, length-pieces_of}
 
 -- those of two lists

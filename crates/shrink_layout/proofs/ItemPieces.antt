@@ -4,7 +4,7 @@ use Rattle.std.specs.List.{flat_map}
 use Rattle.std.specs.Option.{option_and_then, option_map}
 use Rattle.elf32_read.specs.Parts.{SectionParts, is_code_section}
 use Rattle.psabi_sym.specs.Inputs.{ParsedInputs}
-use Rattle.psabi_sym.specs.Listed.{ListedSection, all_sections, section_at}
+use Rattle.psabi_sym.specs.Indexed.{IndexedSection, all_sections, section_at}
 use Rattle.psabi_sym.proofs.BridgeLaws.{map-map}
 use Rattle.psabi_sym.proofs.SectionNumbers.{listed_at}
 use Rattle.block_cut.specs.Items.{code_at, code_only, item_at, item_in, items_in, place_of, starts_in, starts_on}
@@ -28,7 +28,7 @@ module _ (inputs : ParsedInputs) where
   -- ---- a section
 
   -- its pieces by its items
-  abbrev pub item_pieces : ListedSection → List Piece
+  abbrev pub item_pieces : IndexedSection → List Piece
   item_pieces l = cond (is_code_section l.section) (Align (section_alignment l.section) ∷ map (piece_of inputs.objects) (items_in inputs l)) []
 
   -- the piece of the item at an offset
@@ -43,7 +43,7 @@ module _ (inputs : ParsedInputs) where
       ∙ ap (λ is. Align (section_alignment s) ∷ map (piece_of inputs.objects) is) (items_in-code inputs l code)
       ∙ ap (λ ps. Align (section_alignment s) ∷ ps) (map-map (piece_of inputs.objects) (λ m. item_in inputs s (place_of l m)) (starts_in s))
 
-  module _ (l : ListedSection) (here : section_at inputs.objects l.object l.index ≡ Some l.section) (code : is_code_section l.section ≡ true) where
+  module _ (l : IndexedSection) (here : section_at inputs.objects l.object l.index ≡ Some l.section) (code : is_code_section l.section ≡ true) where
     -- its places are in code
     pub there : (n : ℕ) → code_at inputs.objects (place_of l n) ≡ Some l.section
     there n = ap (option_and_then code_only) here ∙ ap (λ b. cond b (Some l.section) None) code
@@ -69,7 +69,7 @@ module _ (inputs : ParsedInputs) where
 
   -- ---- all sections
 
-  pub section_by_items : (l : ListedSection) → section_at inputs.objects l.object l.index ≡ Some l.section → section_pieces inputs l ≡ item_pieces l
+  pub section_by_items : (l : IndexedSection) → section_at inputs.objects l.object l.index ≡ Some l.section → section_pieces inputs l ≡ item_pieces l
   section_by_items l here = by (is_code_section l.section) refl
     where
       by : (b : Bool) → is_code_section l.section ≡ b
@@ -80,7 +80,7 @@ module _ (inputs : ParsedInputs) where
           (map-map (piece_at inputs) (place_of l) (starts_in l.section) ∙ section_has l here code (λ o. unit_piece inputs.objects (option_map OneItem o)))
       by false other = refl
 
-  abbrev pub item_pieces_in : List ListedSection → List Piece
+  abbrev pub item_pieces_in : List IndexedSection → List Piece
   item_pieces_in ls = flat_map item_pieces ls
 
   pub pieces_by_items : pieces_of inputs ≡ Fixed front_size ∷ item_pieces_in (all_sections inputs.objects)

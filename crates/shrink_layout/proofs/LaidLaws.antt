@@ -6,11 +6,11 @@ use Rattle.std.proofs.lemmas.List.{get_or_default}
 use Rattle.shrink_layout.specs.declared.blocks.Blocks.{Blocks}
 use Rattle.shrink_layout.specs.declared.piece.Piece.{Piece}
 use Rattle.shrink_layout.specs.declared.piece.Piece.TheVariants.{Fixed}
-use Rattle.shrink_layout.specs.Blocks.{AreMultiples, AreNear, CanBeTested, OthersFit, block_count, nth_piece}
+use Rattle.shrink_layout.specs.Invariants.Blocks.{AreMultiples, AreNear, CanBeTested, OthersFit, block_count, nth_piece}
 use Rattle.shrink_layout.specs.Forms.{shortest}
 use Rattle.shrink_layout.specs.Layout.{addresses_of, all_fit, fit_from, grown_from, holds_at, next_sizes}
 use Rattle.shrink_layout.specs.Least.{AreForms}
-use Rattle.shrink_layout.specs.Rounds.{AreBlocks, AreLaid, CanBeLaid, HaveGrown}
+use Rattle.shrink_layout.specs.Invariants.Rounds.{AreBlocks, AreLaid, CanBeLaid, HaveGrown}
 use Rattle.shrink_layout.proofs.AddressLaws.{first_address, fit_at, length_addresses, near_addresses}
 use Rattle.shrink_layout.proofs.BlockLaws.{addresses_by_steps, kept_steps, others_fit}
 use Rattle.shrink_layout.proofs.MoveLaws.{IsMovedOn}

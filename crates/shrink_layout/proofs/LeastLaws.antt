@@ -5,7 +5,7 @@ use Rattle.std.specs.Prelude.{slice_index}
 use Rattle.std.proofs.lemmas.List.Elements.{All-tail}
 use Rattle.std.proofs.lemmas.Bool.{and_parts, cases_lt, cases_order, true≢false}
 use Rattle.shrink_layout.specs.declared.piece.Piece.{Piece}
-use Rattle.shrink_layout.specs.Forms.{shortest, longer, IsEven, IsForm, width, target}
+use Rattle.shrink_layout.specs.Forms.{shortest, longer, IsEvenPiece, IsForm, width, target}
 use Rattle.shrink_layout.specs.Layout.{addresses_of, holds_at, fit_from, grown_from, Fits, round, IsLayout}
 use Rattle.shrink_layout.specs.Least.{AreForms, IsLeast, IsTight}
 use Rattle.shrink_layout.proofs.AddressLaws.{ascending, even_address, first_address}
@@ -29,7 +29,7 @@ below_at (r ∷ sizes) (s ∷ other) h (suc k) = below_at sizes other h.1 k
 -- ---- ways
 
 -- with smaller sizes it is no farther
-closer : (low high : ℕ) (pieces : List Piece) (sizes other : List ℕ) → All IsEven pieces → All IsTight pieces → low % 2 ≡ 0 → high % 2 ≡ 0
+closer : (low high : ℕ) (pieces : List Piece) (sizes other : List ℕ) → All IsEvenPiece pieces → All IsTight pieces → low % 2 ≡ 0 → high % 2 ≡ 0
     → AreForms pieces sizes → AreForms pieces other → Below sizes other → (i j : ℕ) → i ≤ j → j ≤ length pieces
     → slice_index (addresses_of low pieces sizes) j + slice_index (addresses_of high pieces other) i ≤ slice_index (addresses_of high pieces other) j + slice_index (addresses_of low pieces sizes) i
 closer low high [] sizes other even tight e e' h h' b zero zero le within = omega arith
@@ -41,7 +41,7 @@ closer low high (p ∷ pieces) (r ∷ sizes) (s ∷ other) even tight e e' h h' 
 closer low high (p ∷ pieces) (r ∷ sizes) (s ∷ other) even tight e e' h h' b zero (suc j) le within =
     let is_even = even 0 p (omega arith) in
     let is_tight = tight 0 p (omega arith) in
-    let rest = closer (low + width p r low) (high + width p s high) pieces sizes other (All-tail IsEven p pieces even) (All-tail IsTight p pieces tight) (even_after p r low is_even h.0 e) (even_after p s high is_even h'.0 e') h.1 h'.1 b.1 zero j (omega arith) (omega arith) in
+    let rest = closer (low + width p r low) (high + width p s high) pieces sizes other (All-tail IsEvenPiece p pieces even) (All-tail IsTight p pieces tight) (even_after p r low is_even h.0 e) (even_after p s high is_even h'.0 e') h.1 h'.1 b.1 zero j (omega arith) (omega arith) in
     let first = first_address (low + width p r low) pieces sizes in
     let first' = first_address (high + width p s high) pieces other in
     let w = tight_width p r low is_tight h.0 e in
@@ -50,10 +50,10 @@ closer low high (p ∷ pieces) (r ∷ sizes) (s ∷ other) even tight e e' h h' 
 closer low high (p ∷ pieces) (r ∷ sizes) (s ∷ other) even tight e e' h h' b (suc i) zero le within = absurd (omega arith)
 closer low high (p ∷ pieces) (r ∷ sizes) (s ∷ other) even tight e e' h h' b (suc i) (suc j) le within =
     let is_even = even 0 p (omega arith) in
-    closer (low + width p r low) (high + width p s high) pieces sizes other (All-tail IsEven p pieces even) (All-tail IsTight p pieces tight) (even_after p r low is_even h.0 e) (even_after p s high is_even h'.0 e') h.1 h'.1 b.1 i j (omega arith) (omega arith)
+    closer (low + width p r low) (high + width p s high) pieces sizes other (All-tail IsEvenPiece p pieces even) (All-tail IsTight p pieces tight) (even_after p r low is_even h.0 e) (even_after p s high is_even h'.0 e') h.1 h'.1 b.1 i j (omega arith) (omega arith)
 
 -- each way is nearer, in either direction
-nearer : (text : ℕ) (pieces : List Piece) (sizes other : List ℕ) → All IsEven pieces → All IsTight pieces → text % 2 ≡ 0
+nearer : (text : ℕ) (pieces : List Piece) (sizes other : List ℕ) → All IsEvenPiece pieces → All IsTight pieces → text % 2 ≡ 0
     → AreForms pieces sizes → AreForms pieces other → Below sizes other → (k t : ℕ) → k ≤ length pieces → t ≤ length pieces
     → Nearer (slice_index (addresses_of text pieces sizes) k) (slice_index (addresses_of text pieces sizes) t) (slice_index (addresses_of text pieces other) k) (slice_index (addresses_of text pieces other) t)
 nearer text pieces sizes other even tight e h h' b k t in_k in_t =
@@ -96,7 +96,7 @@ shortest_below (p ∷ pieces) [] h = absurd h
 shortest_below (p ∷ pieces) (s ∷ other) h = (shortest_least p s h.0, shortest_below pieces other h.1)
 
 -- no round passes a choice that fits
-pub round_below : (text : ℕ) (pieces : List Piece) (r : ℕ) (other : List ℕ) → text % 2 ≡ 0 → All IsEven pieces → All IsTight pieces → All (λ p. target p ≤ length pieces) pieces
+pub round_below : (text : ℕ) (pieces : List Piece) (r : ℕ) (other : List ℕ) → text % 2 ≡ 0 → All IsEvenPiece pieces → All IsTight pieces → All (λ p. target p ≤ length pieces) pieces
     → AreForms pieces other → Fits text pieces other → Below (round text pieces r) other
 round_below text pieces zero other e even tight targets h fits = shortest_below pieces other h
 round_below text pieces (suc r) other e even tight targets h fits =
@@ -105,7 +105,7 @@ round_below text pieces (suc r) other e even tight targets h fits =
     below_grown (addresses_of text pieces (round text pieces r)) (addresses_of text pieces other) (length pieces) 0 pieces (round text pieces r) other (even_address text pieces (round text pieces r) even forms e) (nearer text pieces (round text pieces r) other even tight e forms h so_far) (omega arith) targets forms h so_far fits
 
 -- so the first one that fits is the least
-pub least : (text : ℕ) (pieces : List Piece) (sizes : List ℕ) → text % 2 ≡ 0 → All IsEven pieces → All IsTight pieces → All (λ p. target p ≤ length pieces) pieces
+pub least : (text : ℕ) (pieces : List Piece) (sizes : List ℕ) → text % 2 ≡ 0 → All IsEvenPiece pieces → All IsTight pieces → All (λ p. target p ≤ length pieces) pieces
     → IsLayout text pieces sizes → IsLeast text pieces sizes
 least text pieces sizes e even tight targets is = record {
   fits = is.fits;

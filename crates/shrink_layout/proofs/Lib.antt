@@ -19,5 +19,6 @@ pub mod PlaceNumberLaws
 pub mod PremiseLaws
 pub mod RoundLaws
 pub mod SectionLaws
+pub mod ShortLaws
 pub mod SizesLaws
 pub mod TestLaws

@@ -4,7 +4,7 @@ use Rattle.std.specs.Prelude.{slice_index}
 use Rattle.std.specs.List.{sum_by}
 use Rattle.shrink_layout.specs.declared.piece.Piece.{Piece}
 use Rattle.std.proofs.lemmas.Bool.{cases_eq, cases_lt, true≢false}
-use Rattle.shrink_layout.specs.Blocks.{AreMultiples, AreNewIn, AreSteps, IsKept, IsMovedBy, IsSameStep, IsStep, block_count, block_size, nth_piece}
+use Rattle.shrink_layout.specs.Invariants.Blocks.{AreMultiples, AreNewIn, AreSteps, IsMovedBy, IsSameStep, IsStep, IsUnchanged, block_count, block_size, nth_piece}
 use Rattle.shrink_layout.specs.Forms.{HasAlignment, longest, width}
 use Rattle.shrink_layout.specs.Least.{AreForms}
 use Rattle.shrink_layout.proofs.BlockLaws.{alike_on, rises, same_width}
@@ -21,7 +21,7 @@ pub record IsMovedOn (pieces : List Piece) (sizes old addresses : List ℕ) (gro
   pub count_is : slice_index changes block ≡ count
   pub few : count ≤ block
   pub ascend : (b : ℕ) → b < block → slice_index changes b ≤ slice_index changes (b + 1)
-  pub kept : (b : ℕ) → b < block → slice_index changes b ≡ slice_index changes (b + 1) → IsKept grown b
+  pub kept : (b : ℕ) → b < block → slice_index changes b ≡ slice_index changes (b + 1) → IsUnchanged grown b
   pub moved : (k : ℕ) → k < n → slice_index changes (k / block_size) ≡ slice_index changes (k / block_size + 1) → IsSameStep old addresses k
 
 -- ---- one block
@@ -103,7 +103,7 @@ pub block_more : (pieces : List Piece) (sizes old a b : List ℕ) (grown : List 
     → IsMovedOn pieces sizes old a grown changes block n here count
     → length b ≡ length a → ((k : ℕ) → k ≤ n → slice_index b k ≡ slice_index a k) → ((k : ℕ) → end < k → slice_index b k ≡ slice_index a k)
     → ((k : ℕ) → n ≤ k → k < end → IsStep pieces sizes b k) → (changed ≡ false → (k : ℕ) → n ≤ k → k < end → IsSameStep (set a n here) b k)
-    → (changed ≡ false → IsKept grown block) → next ≡ slice_index a end
+    → (changed ≡ false → IsUnchanged grown block) → next ≡ slice_index a end
     → count ≤ count' → count' ≤ count + 1 → (count ≡ count' → changed ≡ false) → changes' ≡ set changes (block + 1) count'
     → IsMovedOn pieces sizes old b grown changes' (block + 1) end next count'
 block_more pieces sizes old a b grown changes changes' block n end here next count count' changed some h long in_grown is order within near full now same before after steps moved kept next_is ge le still written =
@@ -142,7 +142,7 @@ block_more pieces sizes old a b grown changes changes' block n end here next cou
             let at : j ≡ block = omega arith in
             let next_at : j + 1 ≡ block + 1 = omega arith in
             let unchanged : count ≡ count' = omega (arith, rest j (omega arith), ap (slice_index changes) at, ap (slice_index changes') next_at, here_now, now.count_is, same_count) in
-            subst (IsKept grown) (sym at) (kept (still unchanged))
+            subst (IsUnchanged grown) (sym at) (kept (still unchanged))
       ];
       moved = λ k lt same_count. elim (cases_lt k n) [
         | inl done ↦
@@ -192,12 +192,12 @@ module _ (pieces : List Piece) (sizes old a : List ℕ) (grown : List Bool) (cha
   now = subst (λ m. IsMovedOn pieces sizes old a grown changes block m here count) starts so_far
 
   -- if none of its pieces grew, its addresses followed one another before
-  pub stood : ((k : ℕ) → k < length pieces → IsKept grown (k / block_size) → IsStep pieces sizes old k) → IsKept grown block
+  pub stood : ((k : ℕ) → k < length pieces → IsUnchanged grown (k / block_size) → IsStep pieces sizes old k) → IsUnchanged grown block
       → AreSteps pieces sizes (set a first here) first end
   stood steps kept k ge lt =
       let in_pieces : k < length pieces = omega (arith, end_is, lt) in
       let at : block ≡ k / block_size = omega (arith, first_is, end_is, ge, lt) in
-      stood_before pieces sizes old a grown changes block first here count k long now ge in_pieces (steps k in_pieces (subst (IsKept grown) at kept))
+      stood_before pieces sizes old a grown changes block first here count k long now ge in_pieces (steps k in_pieces (subst (IsUnchanged grown) at kept))
 
   -- so it can be moved without a sum above 2^32
   pub can_shift : slice_index old 0 + sum_by longest pieces < 2 ^ 32 → AreSteps pieces sizes (set a first here) first end
@@ -208,7 +208,7 @@ module _ (pieces : List Piece) (sizes old a : List ℕ) (grown : List Bool) (cha
 
   -- what was made of its addresses is what the loop keeps
   next : (b : List ℕ) (count' : ℕ) (changed : Bool) → AreNewIn a b first end → AreSteps pieces sizes b first end
-      → (changed ≡ false → (k : ℕ) → first ≤ k → k < end → IsSameStep (set a first here) b k) → (changed ≡ false → IsKept grown block)
+      → (changed ≡ false → (k : ℕ) → first ≤ k → k < end → IsSameStep (set a first here) b k) → (changed ≡ false → IsUnchanged grown block)
       → count ≤ count' → count' ≤ count + 1 → (count ≡ count' → changed ≡ false)
       → IsMovedOn pieces sizes old b grown (set changes (block + 1) count') (block + 1) (min (length pieces) (block_size * (block + 1))) (slice_index a end) count'
   next b count' changed others steps moved kept least most still =
@@ -220,7 +220,7 @@ module _ (pieces : List Piece) (sizes old a : List ℕ) (grown : List Bool) (cha
 
   -- if it is moved, it doesn't count as changed
   pub shifted : (b multiples : List ℕ) → AreSteps pieces sizes (set a first here) first end → AreMultiples pieces multiples → 0 < slice_index multiples block
-      → here % slice_index multiples block ≡ slice_index a first % slice_index multiples block → IsKept grown block → AreNewIn a b first end
+      → here % slice_index multiples block ≡ slice_index a first % slice_index multiples block → IsUnchanged grown block → AreNewIn a b first end
       → ((k : ℕ) → first < k → k ≤ end → slice_index b k + here ≡ slice_index a k + slice_index a first)
       → IsMovedOn pieces sizes old b grown (set changes (block + 1) count) (block + 1) (min (length pieces) (block_size * (block + 1))) (slice_index a end) count
   shifted b multiples steps are positive alike kept others moved =

@@ -4,7 +4,7 @@ use Rattle.std.specs.List.{sum_by}
 use Rattle.std.proofs.lemmas.List.Sums.{sum_by-append, sum_by-cons}
 use Rattle.elf32_read.specs.Parts.{ObjectParts, SectionParts, is_code_section}
 use Rattle.psabi_sym.specs.Inputs.{ParsedInputs}
-use Rattle.psabi_sym.specs.Listed.{section_at, sections_before}
+use Rattle.psabi_sym.specs.Indexed.{section_at, sections_before}
 use Rattle.block_cut.specs.Items.{starts_in}
 use Rattle.block_cut.specs.Whole.{IsWhole}
 use Rattle.block_cut.proofs.ListedLaws.{before_more, listed}

@@ -15,7 +15,7 @@ use Rattle.zc_base.specs.declared.place.Place.{Place}
 use Rattle.elf32_read.specs.Parts.{ObjectParts, SectionParts, is_code_section}
 use Rattle.psabi_sym.specs.Faults.{gather_fault}
 use Rattle.psabi_sym.specs.Inputs.{Inputs, ParsedInputs, parsed}
-use Rattle.psabi_sym.specs.Listed.{ListedSection, all_sections, section_at, sections_before}
+use Rattle.psabi_sym.specs.Indexed.{IndexedSection, all_sections, section_at, sections_before}
 use Rattle.psabi_sym.proofs.BridgeLaws.{map-map}
 use Rattle.block_cut.specs.Items.{code_at, is_end_at, is_start_at, is_target_at, item_at, next_at, place_of, places_of, size_on, starts_in, starts_on}
 use Rattle.block_cut.specs.Whole.{IsWhole}
@@ -25,7 +25,7 @@ use Rattle.block_cut.proofs.ListedLaws.{cut_at, listed}
 use Rattle.block_cut.proofs.PlainLaws.{next_start}
 use Rattle.block_cut.proofs.StartLaws.{before_end_all, before_next_start, front, is_among, start_is, step}
 use Rattle.block_cut.proofs.WholeLaws.{code_is_section, code_whole}
-use Rattle.shrink_layout.specs.Pieces.{number_of, piece_at, piece_count, piece_of, pieces_before, pieces_of, section_alignment, unit_piece}
+use Rattle.shrink_layout.specs.Pieces.{piece_at, piece_count, piece_number_at, piece_of, pieces_before, pieces_of, section_alignment, unit_piece}
 use Rattle.shrink_layout.specs.Units.{OneItem, front_size}
 use Rattle.shrink_layout.specs.declared.piece.Piece.TheVariants.{Fixed, Align}
 
@@ -37,14 +37,14 @@ place_at o i n = record { object = o; section = i; offset = n }
 
 -- what there is for the padding of a section of code and for each of its items, as `pieces_in` has it for pieces
 module _ {X : Type 0} (pad : SectionParts → X) (f : Place → X) where
-  abbrev pub section_laid : ListedSection → List X
+  abbrev pub section_laid : IndexedSection → List X
   section_laid l = cond (is_code_section l.section) (pad l.section ∷ map f (places_of l)) []
 
-  abbrev pub laid_in : List ListedSection → List X
+  abbrev pub laid_in : List IndexedSection → List X
   laid_in ls = flat_map section_laid ls
 
   -- a section has so many
-  pub length-section_laid : (l : ListedSection) → length (section_laid l) ≡ piece_count l
+  pub length-section_laid : (l : IndexedSection) → length (section_laid l) ≡ piece_count l
   length-section_laid l = by (is_code_section l.section)
     where
       by : (b : Bool) → length (cond b (pad l.section ∷ map f (cond b (map (place_of l) (starts_in l.section)) [])) []) ≡ cond {A = ℕ} b (1 + length (starts_in l.section)) 0
@@ -52,7 +52,7 @@ module _ {X : Type 0} (pad : SectionParts → X) (f : Place → X) where
       by false = refl
 
   -- those of sections one after another
-  pub length-laid_in : (ls : List ListedSection) → length (laid_in ls) ≡ sum_by piece_count ls
+  pub length-laid_in : (ls : List IndexedSection) → length (laid_in ls) ≡ sum_by piece_count ls
   length-laid_in [] = refl
   length-laid_in (l ∷ ls) =
       omega (
@@ -145,11 +145,11 @@ starts_cut s code whole n start =
 
 -- that of a place where code may lead
 pub number-code : (objects : List ObjectParts) (q : Place) (s : SectionParts) → is_target_at objects q ≡ true → code_at objects q ≡ Some s
-    → number_of objects q ≡ pieces_before objects q.object q.section s q.offset
+    → piece_number_at objects q ≡ pieces_before objects q.object q.section s q.offset
 number-code objects q s target at = λ j. cond (target j) (option_map_or (λ t. pieces_before objects q.object q.section t q.offset) (at j) 0) 0
 
 -- that of a place where it may not
-pub number-nowhere : (objects : List ObjectParts) (q : Place) → is_target_at objects q ≡ false → number_of objects q ≡ 0
+pub number-nowhere : (objects : List ObjectParts) (q : Place) → is_target_at objects q ≡ false → piece_number_at objects q ≡ 0
 number-nowhere objects q other = ap (λ b. cond b (option_map_or (λ t. pieces_before objects q.object q.section t q.offset) (code_at objects q) 0) 0) other
 
 -- code may lead to an item
@@ -183,10 +183,10 @@ before_most inputs o i s n found code =
     )
 
 -- nor before a place
-pub number_most : (inputs : ParsedInputs) (q : Place) → number_of inputs.objects q ≤ length (pieces_of inputs)
+pub number_most : (inputs : ParsedInputs) (q : Place) → piece_number_at inputs.objects q ≤ length (pieces_of inputs)
 number_most inputs q = by (is_target_at inputs.objects q) refl (code_at inputs.objects q) refl
   where
-    by : (b : Bool) → is_target_at inputs.objects q ≡ b → (o : Option SectionParts) → code_at inputs.objects q ≡ o → number_of inputs.objects q ≤ length (pieces_of inputs)
+    by : (b : Bool) → is_target_at inputs.objects q ≡ b → (o : Option SectionParts) → code_at inputs.objects q ≡ o → piece_number_at inputs.objects q ≤ length (pieces_of inputs)
     by false other o at = omega (arith, number-nowhere inputs.objects q other)
     by true target None at =
         omega (arith, ap (λ o. cond (is_target_at inputs.objects q) (option_map_or (λ t. pieces_before inputs.objects q.object q.section t q.offset) o 0) 0) at, ap (λ b. cond {A = ℕ} b 0 0) target)
@@ -205,7 +205,7 @@ module _ (inputs : Inputs) (none : gather_fault inputs ≡ None) where
 
   -- what is laid for an item has its place's number
   pub laid_there : {X : Type 0} (first : X) (pad : SectionParts → X) (f : Place → X) (q : Place) (i : Item) → item_at given q ≡ Some i
-      → slice_get (first ∷ laid_in pad f (all_sections given.objects)) (number_of given.objects q) ≡ Some (f q)
+      → slice_get (first ∷ laid_in pad f (all_sections given.objects)) (piece_number_at given.objects q) ≡ Some (f q)
   laid_there {X = X} first pad f q i is =
       let found = item_found given q i is in
       let s = found.section in
@@ -221,7 +221,7 @@ module _ (inputs : Inputs) (none : gather_fault inputs ≡ None) where
       ap (λ xs. first ∷ xs) cut.are
       ∙ ap (λ l. (first ∷ own) ++ pad s ∷ l) (ap (λ l. l ++ cut.rest) items ∙ append_assoc (map g before) (g q.offset ∷ map g starts.rest) cut.rest)
       ∙ sym (append_assoc (first ∷ own) (pad s ∷ map g before) (g q.offset ∷ (map g starts.rest ++ cut.rest))) in
-      let number : number_of given.objects q ≡ length head =
+      let number : piece_number_at given.objects q ≡ length head =
       omega (
         arith,
         number-code given.objects q s (item_target given q i is) found.code,
@@ -232,15 +232,15 @@ module _ (inputs : Inputs) (none : gather_fault inputs ≡ None) where
       (λ j. slice_get (all j) (number j)) ∙ behind head (g q.offset) (map g starts.rest ++ cut.rest)
 
   -- so the piece of an item does
-  pub piece_there : (q : Place) (i : Item) → item_at given q ≡ Some i → slice_get (pieces_of given) (number_of given.objects q) ≡ Some (piece_of given.objects i)
+  pub piece_there : (q : Place) (i : Item) → item_at given q ≡ Some i → slice_get (pieces_of given) (piece_number_at given.objects q) ≡ Some (piece_of given.objects i)
   unfolding pieces_of
   piece_there q i is =
       laid_there (Fixed front_size) (λ s. Align (section_alignment s)) (piece_at given) q i is
       ∙ ap (λ x. Some (unit_piece given.objects (option_map OneItem x))) is
 
   -- and its number is below the number of pieces
-  pub number_below : (q : Place) (i : Item) → item_at given q ≡ Some i → number_of given.objects q < length (pieces_of given)
-  number_below q i is = slice_get_within (pieces_of given) (number_of given.objects q) (piece_of given.objects i) (piece_there q i is)
+  pub number_below : (q : Place) (i : Item) → item_at given q ≡ Some i → piece_number_at given.objects q < length (pieces_of given)
+  number_below q i is = slice_get_within (pieces_of given) (piece_number_at given.objects q) (piece_of given.objects i) (piece_there q i is)
 
   -- code may lead to what follows an item
   pub next_target : (q : Place) (i : Item) → item_at given q ≡ Some i → is_target_at given.objects (next_at given.objects q) ≡ true
@@ -255,7 +255,7 @@ module _ (inputs : Inputs) (none : gather_fault inputs ≡ None) where
       by (inr end) = ap (λ b. is_start_at given.objects (next_at given.objects q) || b) end ∙ or_true (is_start_at given.objects (next_at given.objects q))
 
   -- the place after it has the next one
-  pub number_next : (q : Place) (i : Item) → item_at given q ≡ Some i → number_of given.objects (next_at given.objects q) ≡ number_of given.objects q + 1
+  pub number_next : (q : Place) (i : Item) → item_at given q ≡ Some i → piece_number_at given.objects (next_at given.objects q) ≡ piece_number_at given.objects q + 1
   number_next q i is =
       let found = item_found given q i is in
       let s = found.section in
@@ -266,7 +266,7 @@ module _ (inputs : Inputs) (none : gather_fault inputs ≡ None) where
       let before = filter (λ m. ltb m q.offset) (starts_in s) in
       omega (
         arith,
-        ap (number_of given.objects) next,
+        ap (piece_number_at given.objects) next,
         number-code given.objects (place_at q.object q.section (q.offset + size_on s q.offset)) s (ap (is_target_at given.objects) (sym next) ∙ next_target q i is) found.code,
         number-code given.objects q s (item_target given q i is) found.code,
         ap length (before_next_start s two.1 whole q.offset found.start),

@@ -6,21 +6,21 @@ use Rattle.std.proofs.lemmas.Option.{slice_get_within}
 use Rattle.zc_base.specs.declared.place.Place.{Place}
 use Rattle.elf32_read.specs.Parts.{ObjectParts}
 use Rattle.psabi_sym.specs.Inputs.{Inputs, parsed}
-use Rattle.psabi_sym.specs.Listed.{all_sections}
+use Rattle.psabi_sym.specs.Indexed.{all_sections}
 use Rattle.psabi_sym.proofs.SectionNumbers.{before_number, has_number, number_of_section}
 use Rattle.block_cut.specs.Items.{is_target_at}
 use Rattle.block_cut.specs.Places.{IsPlaceNumber}
 use Rattle.block_cut.specs.declared.place_number.PlaceNumber.{PlaceNumber}
 use Rattle.block_cut.proofs.ListedLaws.{listed}
 use Rattle.block_cut.proofs.WholeLaws.{code_is_section}
-use Rattle.shrink_layout.specs.Numbers.{AreFirstNumbers, HasPlace, first_number}
-use Rattle.shrink_layout.specs.Pieces.{number_of, piece_count, pieces_of}
+use Rattle.shrink_layout.specs.Invariants.Numbers.{AreFirstNumbers, HasPlace, first_number}
+use Rattle.shrink_layout.specs.Pieces.{piece_count, piece_number_at, pieces_of}
 use Rattle.shrink_layout.proofs.NumberLaws.{number-code, number_most}
 
 -- a place's number is told by where it stands
 pub record IsToldBy (objects : List ObjectParts) (starts : List ℕ) (q : Place) (number : PlaceNumber) : Type 0 where
   pub within : number.section < length starts
-  pub is : slice_index starts number.section + number.index ≡ number_of objects q
+  pub is : slice_index starts number.section + number.index ≡ piece_number_at objects q
 
 module _ (objects : List ObjectParts) (starts : List ℕ) (are : AreFirstNumbers objects starts) where
   -- there is one for each section
@@ -55,7 +55,7 @@ module _ (objects : List ObjectParts) (starts : List ℕ) (are : AreFirstNumbers
 
 -- the number that is read for a place is the place's
 pub number_read : (objects : List ObjectParts) (starts read : List ℕ) (q : Place) (number : PlaceNumber) (k : ℕ) → AreFirstNumbers objects starts → read ≡ starts
-    → k ≡ slice_index read number.section + number.index → is_target_at objects q ≡ true → IsPlaceNumber objects q number → k ≡ number_of objects q
+    → k ≡ slice_index read number.section + number.index → is_target_at objects q ≡ true → IsPlaceNumber objects q number → k ≡ piece_number_at objects q
 number_read objects starts read q number k are same is target has =
     is ∙ ap (λ l. slice_index l number.section + number.index) same ∙ (piece_number_is objects starts are q number target has).is
 

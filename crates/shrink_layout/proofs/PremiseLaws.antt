@@ -12,7 +12,7 @@ use Rattle.elf32_read.specs.Parts.{ObjectParts, SectionParts, is_code_section}
 use Rattle.psabi_sym.specs.Blocks.{aligned_up}
 use Rattle.psabi_sym.specs.Faults.{code_room, gather_fault, power_above}
 use Rattle.psabi_sym.specs.Inputs.{Inputs, ParsedInputs, parsed}
-use Rattle.psabi_sym.specs.Listed.{ListedSection, all_sections}
+use Rattle.psabi_sym.specs.Indexed.{IndexedSection, all_sections}
 use Rattle.psabi_sym.specs.declared.target.Target.{Target}
 use Rattle.psabi_sym.specs.declared.target.Target.TheVariants.{Code, Number, Absent, Nowhere}
 use Rattle.zc_base.specs.declared.place.Place.{Place}
@@ -27,9 +27,9 @@ use Rattle.block_cut.specs.declared.item.Item.TheVariants as item
 use Rattle.block_cut.proofs.ItemLaws.{Takes, Bytes, Padding, item_takes}
 use Rattle.block_cut.proofs.RoomLaws.{AreWhole, all_whole, code_room_is, rooms, rooms_few}
 use Rattle.block_cut.proofs.StartLaws.{along}
-use Rattle.shrink_layout.specs.Forms.{HasAlignment, IsEven, longest, target}
+use Rattle.shrink_layout.specs.Forms.{HasAlignment, IsEvenPiece, longest, target}
 use Rattle.shrink_layout.specs.Least.{IsTight}
-use Rattle.shrink_layout.specs.Pieces.{is_align, is_aligned_code, is_short, is_short_branch, is_short_jump, is_unaligned, jump_piece, number_of, part_size, piece_of, pieces_of, section_alignment}
+use Rattle.shrink_layout.specs.Pieces.{is_align, is_aligned_code, is_short, is_short_branch, is_short_jump, is_unaligned, jump_piece, part_size, piece_number_at, piece_of, pieces_of, section_alignment}
 use Rattle.shrink_layout.specs.Units.{front_size}
 use Rattle.shrink_layout.specs.declared.piece.Piece.{Piece}
 use Rattle.shrink_layout.specs.declared.piece.Piece.TheVariants.{Fixed, Align, Branch, Jump}
@@ -95,7 +95,7 @@ module _ (inputs : ParsedInputs) where
   objects = inputs.objects
 
   -- P holds of the piece of an item if it holds of the sizes that there are, of branches and jumps to places, and of padding
-  piece_case : (i : Item) (P : Piece → Type 0) → P (Fixed 2) → P (Fixed 4) → P (Fixed 8) → ((q : Place) (b : Bool) → P (Branch (number_of objects q) b)) → ((q : Place) → P (Jump (number_of objects q)))
+  piece_case : (i : Item) (P : Piece → Type 0) → P (Fixed 2) → P (Fixed 4) → P (Fixed 8) → ((q : Place) (b : Bool) → P (Branch (piece_number_at objects q) b)) → ((q : Place) → P (Jump (piece_number_at objects q)))
       → ((bytes : ℕ) → i ≡ item.Align bytes → P (Align (power_above bytes))) → P (piece_of objects i)
   piece_case i P two four eight branch jump align = by i refl
     where
@@ -132,8 +132,8 @@ module _ (inputs : ParsedInputs) where
   item_aligned i = piece_case i HasAlignment tt tt tt (λ q b. tt) (λ q. tt) (λ bytes e. (power_is bytes).some)
 
   -- sizes and alignments of items are even
-  item_even : (i : Item) → IsEven (piece_of objects i)
-  item_even i = piece_case i IsEven refl refl refl (λ q b. tt) (λ q. tt) (λ bytes e. (power_is bytes).even)
+  item_even : (i : Item) → IsEvenPiece (piece_of objects i)
+  item_even i = piece_case i IsEvenPiece refl refl refl (λ q b. tt) (λ q. tt) (λ bytes e. (power_is bytes).even)
 
   -- a target is a piece, or the end
   item_leads : (i : Item) → target (piece_of objects i) ≤ length (pieces_of inputs)
@@ -171,7 +171,7 @@ module _ (inputs : ParsedInputs) where
           record { some = omega arith; even = omega (arith, whole.aligned); most = omega arith }
 
   -- P holds of each piece of sections if it holds of what pads them and of their items
-  each_piece : (P : Piece → Type 0) → ((s : SectionParts) → IsWhole s → P (Align (section_alignment s))) → ((i : Item) → P (piece_of objects i)) → (ls : List ListedSection) → AreWhole ls
+  each_piece : (P : Piece → Type 0) → ((s : SectionParts) → IsWhole s → P (Align (section_alignment s))) → ((i : Item) → P (piece_of objects i)) → (ls : List IndexedSection) → AreWhole ls
       → Each P (item_pieces_in inputs ls)
   each_piece P pads item [] whole = tt
   each_piece P pads item (l ∷ ls) whole =
@@ -187,7 +187,7 @@ module _ (inputs : ParsedInputs) where
   each_tight (i ∷ is) none = let two = or_parts (is_align i) (list_any is_align is) none in (item_tight i two.0, each_tight is two.1)
 
   -- so all pieces of sections are tight that aren't aligned either
-  sections_tight : (ls : List ListedSection) → list_any is_align (flat_map (items_in inputs) ls) ≡ false → list_any is_aligned_code ls ≡ false → Each IsTight (item_pieces_in inputs ls)
+  sections_tight : (ls : List IndexedSection) → list_any is_align (flat_map (items_in inputs) ls) ≡ false → list_any is_aligned_code ls ≡ false → Each IsTight (item_pieces_in inputs ls)
   sections_tight [] none low = tt
   sections_tight (l ∷ ls) none low =
       let items = or_parts (list_any is_align (items_in inputs l)) (list_any is_align (flat_map (items_in inputs) ls)) (sym (list_any-append is_align (items_in inputs l) (flat_map (items_in inputs) ls)) ∙ none) in
@@ -229,7 +229,7 @@ module _ (inputs : ParsedInputs) where
         omega arith
 
   -- the pieces of sections have twice their room, and are no more than the words of it
-  sections_longest : (ls : List ListedSection) → AreWhole ls → (sum_by longest (item_pieces_in inputs ls) ≤ 2 * rooms ls) × (4 * length (item_pieces_in inputs ls) ≤ rooms ls)
+  sections_longest : (ls : List IndexedSection) → AreWhole ls → (sum_by longest (item_pieces_in inputs ls) ≤ 2 * rooms ls) × (4 * length (item_pieces_in inputs ls) ≤ rooms ls)
   sections_longest [] whole = (omega arith, omega arith)
   sections_longest (l ∷ ls) whole = by (is_code_section l.section) refl (sections_longest ls whole.1)
     where
@@ -253,7 +253,7 @@ module _ (inputs : ParsedInputs) where
               items_longest l.object l.index s code (whole.0 code),
               room,
               (whole.0 code).bytes,
-              sum_by-cons (λ (m : ListedSection). code_room m.section) l ls,
+              sum_by-cons (λ (m : IndexedSection). code_room m.section) l ls,
               rest.0,
             ),
             omega (
@@ -264,7 +264,7 @@ module _ (inputs : ParsedInputs) where
               few,
               room,
               (whole.0 code).bytes,
-              sum_by-cons (λ (m : ListedSection). code_room m.section) l ls,
+              sum_by-cons (λ (m : IndexedSection). code_room m.section) l ls,
               rest.1,
             ),
           )
@@ -274,14 +274,14 @@ module _ (inputs : ParsedInputs) where
               arith,
               sum_by-append longest (item_pieces inputs l) (item_pieces_in inputs ls),
               ap (sum_by longest) own,
-              sum_by-cons (λ (m : ListedSection). code_room m.section) l ls,
+              sum_by-cons (λ (m : IndexedSection). code_room m.section) l ls,
               rest.0,
             ),
             omega (
               arith,
               length-append (item_pieces inputs l) (item_pieces_in inputs ls),
               ap length own,
-              sum_by-cons (λ (m : ListedSection). code_room m.section) l ls,
+              sum_by-cons (λ (m : IndexedSection). code_room m.section) l ls,
               rest.1,
             ),
           )
@@ -292,7 +292,7 @@ module _ (inputs : Inputs) (none : gather_fault inputs ≡ None) where
   abbrev given : ParsedInputs
   given = parsed inputs
 
-  abbrev sections : List ListedSection
+  abbrev sections : List IndexedSection
   sections = all_sections given.objects
 
   -- P holds of each piece if it holds of what stands in front, of what pads sections, and of items
@@ -306,8 +306,8 @@ module _ (inputs : Inputs) (none : gather_fault inputs ≡ None) where
   all_aligned = all_pieces HasAlignment tt (λ s whole. (padding_is given s whole).some) (item_aligned given)
 
   -- and all pieces are even
-  pub all_even : All IsEven (pieces_of given)
-  all_even = all_pieces IsEven refl (λ s whole. (padding_is given s whole).even) (item_even given)
+  pub all_even : All IsEvenPiece (pieces_of given)
+  all_even = all_pieces IsEvenPiece refl (λ s whole. (padding_is given s whole).even) (item_even given)
 
   -- targets are pieces, or the end
   pub targets : All (λ p. target p ≤ length (pieces_of given)) (pieces_of given)

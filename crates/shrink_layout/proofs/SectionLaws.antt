@@ -10,7 +10,7 @@ use Rattle.std.proofs.lemmas.Option.{get_or_from_slice_get, slice_get_within}
 use Rattle.elf32_read.specs.Parts.{ObjectParts, is_code_section}
 use Rattle.psabi_sym.specs.Faults.{gather_fault}
 use Rattle.psabi_sym.specs.Inputs.{Inputs, ParsedInputs, parsed}
-use Rattle.psabi_sym.specs.Listed.{ListedSection, all_sections, section_at}
+use Rattle.psabi_sym.specs.Indexed.{IndexedSection, all_sections, section_at}
 use Rattle.psabi_sym.proofs.BridgeLaws.{map-map}
 use Rattle.psabi_sym.proofs.SectionNumbers.{listed_at}
 use Rattle.block_cut.specs.Items.{item_at, item_in, items_in, place_of, starts_in, starts_on, targets_in}
@@ -22,7 +22,7 @@ use Rattle.block_cut.proofs.ItemLaws.{item_at-code}
 use Rattle.block_cut.proofs.RoomLaws.{items_in-code}
 use Rattle.block_cut.proofs.StartLaws.{among_first, among_later, is_among, start_is}
 use Rattle.block_cut.proofs.WholeLaws.{inputs_whole}
-use Rattle.shrink_layout.specs.Made.{items_held, section_owners, owners_in}
+use Rattle.shrink_layout.specs.Invariants.Made.{items_held, section_owners, owners_in}
 use Rattle.shrink_layout.specs.Pieces.{piece_count, piece_of, pieces_in, section_alignment, section_pieces}
 use Rattle.shrink_layout.specs.declared.piece.Piece.TheVariants.{Align}
 use Rattle.shrink_layout.proofs.ItemPieces.{held_start, section_by_items, section_has, there}
@@ -66,14 +66,14 @@ module _ (inputs : Inputs) (none : gather_fault inputs ≡ None) where
   abbrev objects : List ObjectParts
   objects = given.objects
 
-  abbrev all : List ListedSection
+  abbrev all : List IndexedSection
   all = all_sections objects
 
   -- numbers are small
   pub count_few : (k : ℕ) → sum_by piece_count (take k all) ≤ 0x1_0000
   count_few k = omega (arith, sum_front piece_count all k, length-pieces_of given, pieces_few inputs none)
 
-  module _ (k : ℕ) (l : ListedSection) (is : slice_get all k ≡ Some l) where
+  module _ (k : ℕ) (l : IndexedSection) (is : slice_get all k ≡ Some l) where
     here : section_at objects l.object l.index ≡ Some l.section
     here = listed_at objects k l is
 
@@ -191,7 +191,7 @@ pub record IsCounted (inputs : Inputs) (k : ℕ) (places : List CodePlace) : Typ
 
 pub places_counted :
     (inputs : Inputs) → gather_fault inputs ≡ None → (k : ℕ) → k < length (all_sections (parsed inputs).objects) → (places : List CodePlace)
-    → ((l : ListedSection) → slice_get (all_sections (parsed inputs).objects) k ≡ Some l → places ≡ code_places (parsed inputs) l) → IsCounted inputs k places
+    → ((l : IndexedSection) → slice_get (all_sections (parsed inputs).objects) k ≡ Some l → places ≡ code_places (parsed inputs) l) → IsCounted inputs k places
 places_counted inputs none k lt places are =
     let there = some_at (all_sections (parsed inputs).objects) k lt in
     let l = there.0 in

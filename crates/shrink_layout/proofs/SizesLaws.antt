@@ -3,10 +3,10 @@
 use Rattle.std.proofs.Common.{◌≡◌, ℕ, zero, suc, ◌+◌, ◌-◌, ◌*◌, ◌%◌, ◌<◌, ◌≤◌, All, true, false, List, [], ◌∷◌, length, refl, sym, ap, ◌∙◌, subst, arith, inl, inr}
 use Rattle.std.proofs.lemmas.Bool.{cases_Bool, cases_lt, true≢false}
 use Rattle.shrink_layout.specs.declared.piece.Piece.{Piece}
-use Rattle.shrink_layout.specs.Forms.{IsEven, target}
+use Rattle.shrink_layout.specs.Forms.{IsEvenPiece, target}
 use Rattle.shrink_layout.specs.Layout.{Fits, IsLayout, addresses_of, all_fit, next_sizes, round, sizes_of}
 use Rattle.shrink_layout.specs.Least.{AreForms, IsLeast, IsTight}
-use Rattle.shrink_layout.specs.Rounds.{LaidPieces, next_pieces, shortest_pieces}
+use Rattle.shrink_layout.specs.Invariants.Rounds.{LaidPieces, next_pieces, shortest_pieces}
 use Rattle.shrink_layout.proofs.AddressLaws.{layout_forms}
 use Rattle.shrink_layout.proofs.FormLaws.{slack_most}
 use Rattle.shrink_layout.proofs.LeastLaws.{least}
@@ -119,7 +119,7 @@ pub sizes_forms : (text : ℕ) (pieces : List Piece) → AreForms pieces (sizes_
 sizes_forms text pieces = layout_forms text pieces (sizes_of text pieces) (sizes_layout text pieces)
 
 -- if no piece is aligned above 2 bytes, they are the least
-pub sizes_least : (text : ℕ) (pieces : List Piece) → text % 2 ≡ 0 → All IsEven pieces → All IsTight pieces → All (λ p. target p ≤ length pieces) pieces
+pub sizes_least : (text : ℕ) (pieces : List Piece) → text % 2 ≡ 0 → All IsEvenPiece pieces → All IsTight pieces → All (λ p. target p ≤ length pieces) pieces
     → IsLeast text pieces (sizes_of text pieces)
 sizes_least text pieces e even tight targets = least text pieces (sizes_of text pieces) e even tight targets (sizes_layout text pieces)
 

@@ -4,7 +4,7 @@ use Rattle.std.specs.Prelude.{slice_index}
 use Rattle.std.proofs.lemmas.Bool.{cases_lt, cases_Bool, cond-true, cond-false, true≢false}
 use Rattle.std.proofs.lemmas.List.Elements.{All-set}
 use Rattle.shrink_layout.specs.declared.piece.Piece.{Piece}
-use Rattle.shrink_layout.specs.Blocks.{AreTested, HaveGrownIn, IsKept, IsNear, IsSpanned, IsStill, OthersFit, block_size, grown_size, nth_piece}
+use Rattle.shrink_layout.specs.Invariants.Blocks.{AreTested, HaveGrownIn, IsNear, IsSpanned, IsStill, IsUnchanged, OthersFit, block_size, grown_size, nth_piece}
 use Rattle.shrink_layout.specs.Forms.{holds, longer, target}
 use Rattle.shrink_layout.specs.Layout.{fit_from, grown_from, holds_at}
 use Rattle.shrink_layout.proofs.GrownLaws.{fit_is, fit_is_not, grown_is}
@@ -23,7 +23,7 @@ pub record AreGrown (a : List ℕ) (pieces : List Piece) (old sizes old_lows low
   pub done : (k : ℕ) → k < n → slice_index sizes k ≡ grown_size a k (nth_piece pieces k) (slice_index old k)
   pub fit : fitted ≡ true → (k : ℕ) → k < n → holds_at a k (nth_piece pieces k) (slice_index old k) ≡ true
   pub unfit : fitted ≡ false → (k : ℕ) × (k < length pieces) × (holds_at a k (nth_piece pieces k) (slice_index old k) ≡ false)
-  pub tested : (k : ℕ) → k < n → (IsKept grown (k / block_size) → holds_at a k (nth_piece pieces k) (slice_index old k) ≡ true)
+  pub tested : (k : ℕ) → k < n → (IsUnchanged grown (k / block_size) → holds_at a k (nth_piece pieces k) (slice_index old k) ≡ true)
       × IsNear (nth_piece pieces k) (slice_index sizes k) (k / block_size) (slice_index lows (k / block_size)) (slice_index highs (k / block_size))
 
 -- ---- one piece
@@ -160,7 +160,7 @@ pub block_grows : (a : List ℕ) (pieces : List Piece) (old sizes sizes' old_low
     → All (λ p. target p ≤ length pieces) pieces
     → block < length grown → n ≡ block_size * block → n' ≤ length pieces → n ≤ n' → n' ≤ n + block_size
     → AreGrown a pieces old sizes old_lows lows old_highs highs grown block n fitted → HaveGrownIn a pieces sizes sizes' n n' block_fitted low high
-    → ((b : ℕ) → (b ≡ block → ⊥) → get_or grown' b false ≡ get_or grown b false) → (IsKept grown' block → block_fitted ≡ true) → length grown' ≡ length grown
+    → ((b : ℕ) → (b ≡ block → ⊥) → get_or grown' b false ≡ get_or grown b false) → (IsUnchanged grown' block → block_fitted ≡ true) → length grown' ≡ length grown
     → lows' ≡ set lows block (low / block_size) → highs' ≡ set highs block (high / block_size) → (fitted' ≡ true → (fitted ≡ true) × (block_fitted ≡ true)) → (fitted' ≡ false → (fitted ≡ false) ⊎ (block_fitted ≡ false))
     → AreGrown a pieces old sizes' old_lows lows' old_highs highs' grown' (block + 1) n' fitted'
 block_grows a pieces old sizes sizes' old_lows lows lows' old_highs highs highs' grown grown' block n n' low high fitted fitted' block_fitted targets in_grown start within ge le now part others_grown kept_here long low_is high_is both either =
@@ -203,7 +203,7 @@ block_grows a pieces old sizes sizes' old_lows lows lows' old_highs highs highs'
         | inr new ↦
             let at : block ≡ k / block_size = omega (arith, start, new, lt, le) in
             let at' : k / block_size ≡ block = sym at in (
-              λ kept. ap (holds_at a k (nth_piece pieces k)) (sym (now.rest k new)) ∙ part.fit (kept_here (subst (IsKept grown') at' kept)) k new lt,
+              λ kept. ap (holds_at a k (nth_piece pieces k)) (sym (now.rest k new)) ∙ part.fit (kept_here (subst (IsUnchanged grown') at' kept)) k new lt,
               near_spanned (nth_piece pieces k) (slice_index sizes' k) (k / block_size) low high _ _ (ap (slice_index lows') at' ∙ low_here) (ap (slice_index highs') at' ∙ high_here) (omega (arith, part.low_most, start, at)) (omega (arith, part.high_least, start, at)) (part.spanned k new lt),
             )
       ];
@@ -226,7 +226,7 @@ all_tested a pieces old sizes old_lows lows old_highs highs grown block n fitted
 
 -- those of kept blocks are as before
 pub kept_sizes : (a : List ℕ) (pieces : List Piece) (old sizes old_lows lows old_highs highs : List ℕ) (grown : List Bool) (block n : ℕ) (fitted : Bool) → n ≡ length pieces
-    → AreGrown a pieces old sizes old_lows lows old_highs highs grown block n fitted → (k : ℕ) → k < length pieces → IsKept grown (k / block_size) → slice_index sizes k ≡ slice_index old k
+    → AreGrown a pieces old sizes old_lows lows old_highs highs grown block n fitted → (k : ℕ) → k < length pieces → IsUnchanged grown (k / block_size) → slice_index sizes k ≡ slice_index old k
 kept_sizes a pieces old sizes old_lows lows old_highs highs grown block n fitted all now k lt kept =
     kept_fits a pieces old sizes k (now.done k (omega (arith, all, lt))) ((now.tested k (omega (arith, all, lt))).0 kept)
 

@@ -20,7 +20,8 @@ is_long_piece (Jump to) size = false
 -- how many pieces meet a test, where the first one has a number among all, whose sizes these are
 abbrev pub count_from : (Piece → ℕ → Bool) → List ℕ → ℕ → List Piece → ℕ
 count_from test sizes k [] = 0
-count_from test sizes k (p ∷ pieces) = (if test p (slice_index sizes k) then 1 else 0) + count_from test sizes (k + 1) pieces
+count_from test sizes k (p ∷ pieces) =
+    (if test p (slice_index sizes k) then 1 else 0) + count_from test sizes (k + 1) pieces
 
 -- how many do behind the first, which stands in front of all code
 abbrev pub pieces_with : (Piece → ℕ → Bool) → List Piece → List ℕ → ℕ

@@ -79,8 +79,8 @@ HasAlignment (Branch to short) = Unit {0}
 HasAlignment (Jump to) = Unit {0}
 
 -- sizes and alignments are even, so that all addresses are
-abbrev pub IsEven : Piece → Type 0
-IsEven (Fixed size) = size % 2 ≡ 0
-IsEven (Align alignment) = alignment % 2 ≡ 0
-IsEven (Branch to short) = Unit {0}
-IsEven (Jump to) = Unit {0}
+abbrev pub IsEvenPiece : Piece → Type 0
+IsEvenPiece (Fixed size) = size % 2 ≡ 0
+IsEvenPiece (Align alignment) = alignment % 2 ≡ 0
+IsEvenPiece (Branch to short) = Unit {0}
+IsEvenPiece (Jump to) = Unit {0}

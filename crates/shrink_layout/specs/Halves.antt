@@ -26,6 +26,9 @@ fixed_instr (item.Hi i t) = fixed_part t (λ x. with_upper i (hi20_of x))
 fixed_instr (item.Lo i t) = fixed_part t (λ x. with_imm i (lo12_of x))
 fixed_instr other = None
 
--- the first halfword that does what the item's instruction does, if that is known before the layout; of other items nothing is said
+-- the first halfword that does what the item's instruction does, if that is known before the layout; of other items
+-- nothing is said
 abbrev pub IsHalfOf : Item → ℕ → Type 0
-IsHalfOf i half = (instr : Instr) → fixed_instr i ≡ Some instr → IsTrue (is_short instr) → (encoded16 (Base instr) ≡ Some half) × HasEffectOf instr half
+IsHalfOf i half =
+    (instr : Instr) → fixed_instr i ≡ Some instr → IsTrue (is_short instr)
+    → (encoded16 (Base instr) ≡ Some half) × HasEffectOf instr half

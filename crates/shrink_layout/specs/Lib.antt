@@ -1,12 +1,9 @@
-pub mod Blocks
+pub mod Invariants
 pub mod Forms
 pub mod Layout
 pub mod Least
-pub mod Numbers
 pub mod Pieces
-pub mod Rounds
 pub mod Settled
 pub mod Units
 pub mod Halves
-pub mod Made
 pub mod Counted

@@ -1,5 +1,5 @@
--- The pieces of code: the padding before each section of it, and its items, each with the forms that it has (RISC-V unprivileged
--- manual, "C Extension for Compressed Instructions"; RISC-V Zc specification 1.0, "Zcb").
+-- The pieces of code: the padding before each section of it, and its items, each with the forms that it has (RISC-V
+-- unprivileged manual, "C Extension for Compressed Instructions"; RISC-V Zc specification 1.0, "Zcb").
 use Rattle.std.specs.Prelude.{ℕ, pos, ◌+◌, Bool, true, false, nat_lt, nat_le, if◌then◌else◌, List, [], ◌∷◌, length, map, not, ◌&&◌, Option, Some, None}
 use Rattle.std.specs.List.{flat_map, list_any, sum_by}
 use Rattle.std.specs.Option.{is_some, option_map_or}
@@ -9,7 +9,7 @@ use Rattle.psabi_reloc.specs.Parts.{hi20_of, lo12_of}
 use Rattle.psabi_reloc.specs.Patched.{with_imm, with_upper}
 use Rattle.psabi_sym.specs.Faults.{power_above}
 use Rattle.psabi_sym.specs.Inputs.{ParsedInputs}
-use Rattle.psabi_sym.specs.Listed.{ListedSection, all_sections, sections_before}
+use Rattle.psabi_sym.specs.Indexed.{IndexedSection, all_sections, sections_before}
 use Rattle.psabi_sym.specs.declared.target.Target.{Target}
 use Rattle.psabi_sym.specs.declared.target.Target.TheVariants.{Code, Number, Absent, Nowhere}
 use Rattle.rv_decode.specs.declared.instr.BranchOp.{BranchOp}
@@ -27,18 +27,20 @@ use Rattle.shrink_layout.specs.declared.piece.Piece.TheVariants.{Fixed, Align, B
 -- ---- where places stand in the list
 
 -- a section's pieces: its padding and its items; what isn't code has none
-abbrev pub piece_count : ListedSection → ℕ
+abbrev pub piece_count : IndexedSection → ℕ
 piece_count l = if is_code_section l.section then 1 + length (starts_in l.section) else 0
 
--- how many pieces stand before an offset of a section, by its object's index and its own: what is in front of all code, the
--- sections before it, its padding, and the items before the offset
+-- how many pieces stand before an offset of a section, by its object's index and its own: what is in front of all
+-- code, the sections before it, its padding, and the items before the offset
 abbrev pub pieces_before : List ObjectParts → ℕ → ℕ → SectionParts → ℕ → ℕ
 pieces_before objects o i s n = 1 + sum_by piece_count (sections_before objects o i) + 1 + index_on s n
 
 -- how many stand before a place where an item starts or a section of code ends; 0 of any other
-abbrev pub number_of : List ObjectParts → Place → ℕ
-number_of objects q =
-    if is_target_at objects q then option_map_or (λ s. pieces_before objects q.object q.section s q.offset) (code_at objects q) 0 else 0
+abbrev pub piece_number_at : List ObjectParts → Place → ℕ
+piece_number_at objects q =
+    if is_target_at objects q
+    then option_map_or (λ s. pieces_before objects q.object q.section s q.offset) (code_at objects q) 0
+    else 0
 
 -- ---- forms
 
@@ -66,7 +68,7 @@ part_size Nowhere patched = 4
 
 -- the piece of a jump to a place, by whether it has a short form
 abbrev pub jump_piece : List ObjectParts → Place → Bool → Piece
-jump_piece objects to true = Jump (number_of objects to)
+jump_piece objects to true = Jump (piece_number_at objects to)
 jump_piece objects to false = Fixed 4
 
 -- the piece of an item; a call is one jump
@@ -76,7 +78,7 @@ piece_of objects (item.Hi i t) = Fixed (part_size t (λ x. with_upper i (hi20_of
 piece_of objects (item.Lo i t) = Fixed (part_size t (λ x. with_imm i (lo12_of x)))
 piece_of objects (item.PcHi i t) = Fixed 4
 piece_of objects (item.PcLo i q) = Fixed 4
-piece_of objects (item.Branch op first second to) = Branch (number_of objects to) (is_short_branch op first second)
+piece_of objects (item.Branch op first second to) = Branch (piece_number_at objects to) (is_short_branch op first second)
 piece_of objects (item.Jump rd to) = jump_piece objects to (is_short_jump rd)
 piece_of objects (item.Call rd temp to) = jump_piece objects to (is_short_jump rd)
 piece_of objects (item.Align bytes) = Align (power_above bytes)
@@ -95,17 +97,18 @@ piece_at inputs q = unit_piece inputs.objects (unit_at inputs q)
 
 -- ---- all pieces
 
--- the padding before a section: up to 4 its alignment is that of the instructions that it has, which may take 2 bytes now
+-- the padding before a section: up to 4 its alignment is that of the instructions that it has, which may take 2 bytes
+-- now
 abbrev pub section_alignment : SectionParts → ℕ
 section_alignment s = if nat_le s.align 4 then 2 else s.align
 
 -- a section's pieces
-abbrev pub section_pieces : ParsedInputs → ListedSection → List Piece
+abbrev pub section_pieces : ParsedInputs → IndexedSection → List Piece
 section_pieces inputs l =
     if is_code_section l.section then Align (section_alignment l.section) ∷ map (piece_at inputs) (places_of l) else []
 
 -- those of sections one after another
-abbrev pub pieces_in : ParsedInputs → List ListedSection → List Piece
+abbrev pub pieces_in : ParsedInputs → List IndexedSection → List Piece
 pieces_in inputs sections = flat_map (section_pieces inputs) sections
 
 -- those of all code, by object, section and offset, behind what stands in front
@@ -130,9 +133,10 @@ is_align (item.Raw word) = false
 is_align (item.RawPair first second) = false
 
 -- code that is aligned above 4 bytes
-abbrev pub is_aligned_code : ListedSection → Bool
+abbrev pub is_aligned_code : IndexedSection → Bool
 is_aligned_code l = is_code_section l.section && nat_lt 4 l.section.align
 
 -- nothing is aligned above 4 bytes: no item asks for padding, and no section of code for more
 abbrev pub is_unaligned : ParsedInputs → Bool
-is_unaligned inputs = not (list_any is_align (all_items inputs)) && not (list_any is_aligned_code (all_sections inputs.objects))
+is_unaligned inputs =
+    not (list_any is_align (all_items inputs)) && not (list_any is_aligned_code (all_sections inputs.objects))

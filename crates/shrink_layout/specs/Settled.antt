@@ -7,7 +7,7 @@ use Rattle.psabi_sym.specs.Inputs.{ParsedInputs}
 use Rattle.block_cut.specs.Items.{all_items, all_places, is_target_at}
 use Rattle.block_cut.specs.declared.item.Item.TheVariants as item
 use Rattle.shrink_layout.specs.Layout.{addresses_of, sizes_of}
-use Rattle.shrink_layout.specs.Pieces.{number_of, pieces_of}
+use Rattle.shrink_layout.specs.Pieces.{piece_number_at, pieces_of}
 use Rattle.shrink_layout.specs.Units.{CodeUnit, OneItem, unit_at}
 
 -- the sizes of the pieces
@@ -23,13 +23,15 @@ settled_addresses inputs = addresses_of inputs.map.text (pieces_of inputs) (sett
 -- the address of a place where an item starts or a section of code ends; none of another
 unfoldable pub settled_address : ParsedInputs → Place → Option ℕ
 settled_address inputs q =
-    if is_target_at inputs.objects q then Some (slice_index (settled_addresses inputs) (number_of inputs.objects q)) else None
+    if is_target_at inputs.objects q
+    then Some (slice_index (settled_addresses inputs) (piece_number_at inputs.objects q))
+    else None
 
 -- the bytes of what is written at a place
 abbrev pub settled_size : ParsedInputs → Place → Option ℕ
 settled_size inputs q =
-    option_map (λ u. slice_index (settled_addresses inputs) (number_of inputs.objects q + 1) - slice_index (settled_addresses inputs) (number_of inputs.objects q))
-    (unit_at inputs q)
+    option_map (λ u. slice_index (settled_addresses inputs) (piece_number_at inputs.objects q + 1)
+    - slice_index (settled_addresses inputs) (piece_number_at inputs.objects q)) (unit_at inputs q)
 
 -- where the text ends
 unfoldable pub settled_end : ParsedInputs → ℕ
@@ -50,7 +52,9 @@ is_long size _ = false
 -- how many places have a unit that meets a test, by its bytes
 abbrev pub units_with : ParsedInputs → (ℕ → CodeUnit → Bool) → ℕ
 units_with inputs test =
-    length (filter (λ q. option_map_or (test (slice_index (settled_sizes inputs) (number_of inputs.objects q))) (unit_at inputs q) false)
+    length (filter
+    (λ q. option_map_or (test (slice_index (settled_sizes inputs) (piece_number_at inputs.objects q))) (unit_at inputs q)
+    false)
     (all_places inputs.objects))
 
 -- the text's bytes, the items, those that take 2 bytes, and the branches that take 8

@@ -1,5 +1,5 @@
 -- What is written in one piece at a place of code: an item by itself, so far.
-use Rattle.std.specs.Prelude.{ℕ, Option}
+use Rattle.std.specs.Prelude.{ℕ, List, [], length, Option}
 use Rattle.std.specs.Option.{option_map}
 use Rattle.zc_base.specs.declared.place.Place.{Place}
 use Rattle.psabi_sym.specs.Inputs.{ParsedInputs}
@@ -18,5 +18,9 @@ abbrev pub unit_at : ParsedInputs → Place → Option CodeUnit
 unit_at inputs q = option_map OneItem (item_at inputs q)
 
 -- the bytes in front of the first section: none so far
+abbrev pub front_bytes : List ℕ
+front_bytes = []
+
+-- how many they are
 abbrev pub front_size : ℕ
-front_size = 0
+front_size = length front_bytes

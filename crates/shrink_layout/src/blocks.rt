@@ -1,9 +1,10 @@
 // What is kept of each block of pieces from round to round.
 
-ghost use Rattle.std.specs.Prelude.{◌≡◌, ℕ, ◌+◌, ◌*◌, ◌<◌, All, IfOk, List, length, min};
-ghost use Rattle.shrink_layout.specs.Blocks.{AreMultiples, IsMovedBy, OthersFit, block_count, block_size};
-ghost use Rattle.shrink_layout.specs.Rounds.{AreBlocks};
-ghost use Rattle.shrink_layout.specs.Forms.{HasAlignment};
+ghost use Rattle.std.specs.Prelude.{◌≡◌, ℕ, ◌+◌, ◌*◌, ◌<◌, IfOk, List, length, min};
+ghost use Rattle.shrink_layout.specs.Invariants.Blocks.{AreMultiples, IsMovedBy, OthersFit, block_count, block_size};
+ghost use Rattle.shrink_layout.specs.Invariants.Rounds.{AreBlocks};
+ghost use Rattle.shrink_layout.specs.declared.piece.Piece.{Piece};
+ghost use Rattle.shrink_layout.specs.declared.piece.Piece.TheVariants.{Align};
 
 use crate::piece::Piece;
 use std::alloc::{AllocError, Global};
@@ -13,20 +14,20 @@ pub const BLOCK: usize = 64;
 
 /// The pieces from one number up to another.
 #[derive(Clone, Copy)]
-pub struct Span {
+pub struct PieceSpan {
     pub first: usize,
     pub end: usize,
 }
 
-impl Span {
+impl PieceSpan {
     /// The pieces of a block.
-    pub fn of_block(pieces: &[Piece], block: usize) -> Span
+    pub fn of_block(pieces: &[Piece], block: usize) -> PieceSpan
         requires { block < block_count pieces.now }
         ensures first { result.first ≡ block * block_size }
         ensures end { result.end ≡ min (length pieces.now) (block * block_size + block_size) }
     {
         let first = block * BLOCK;
-        Span {
+        PieceSpan {
             first,
             end: pieces.len().min(first + BLOCK),
         }
@@ -50,49 +51,32 @@ pub struct Blocks {
     pub changes: Vec<usize>,
 }
 
-// A multiple of this number and of the alignment of a piece; 0 if neither is one of the other.
-fn multiple_with(multiple: u32, piece: Piece) -> u32
-    requires alignment { HasAlignment piece }
-    ensures piece { 0 < result → IsMovedBy result piece }
+/// A multiple of this number and of an alignment; 0 if neither is one of the other.
+pub fn multiple_with(multiple: u32, alignment: u32) -> u32
+    requires alignment { 0 < alignment }
+    ensures some { 0 < result → 0 < multiple }
+    ensures piece { 0 < result → IsMovedBy result (Align alignment) }
     ensures before { 0 < result → (p : _) → IsMovedBy multiple p → IsMovedBy result p }
 {
-    match piece {
-        Piece::Align { alignment } => {
-            if multiple % alignment == 0 {
-                multiple
-            } else if alignment % multiple == 0 {
-                alignment
-            } else {
-                0
-            }
-        }
-        Piece::Fixed { .. } | Piece::Branch { .. } | Piece::Jump { .. } => multiple,
+    if multiple % alignment == 0 {
+        multiple
+    } else if alignment % multiple == 0 {
+        alignment
+    } else {
+        0
     }
-}
-
-// For each block a number by a multiple of which it can be moved with the same paddings, or 0.
-fn multiples_of(alloc: Global, pieces: &[Piece]) -> Result<Vec<u32>, AllocError>
-    requires alignments { All HasAlignment pieces.now }
-    ensures blocks { IfOk result (λ v. length v.items ≡ block_count pieces.now) }
-    ensures moved { IfOk result (λ v. AreMultiples pieces.now v.items) }
-{
-    let mut multiples = vec![in alloc; 1; pieces.len() / BLOCK + 1]?;
-    for k in 0..pieces.len() {
-        let multiple = multiples[k / BLOCK];
-        multiples[k / BLOCK] = multiple_with(multiple, pieces[k]);
-    }
-    Ok(multiples)
 }
 
 impl Blocks {
-    /// The blocks before the first round. Near each one counts as changed, so that every piece is tested.
-    pub fn new(alloc: Global, pieces: &[Piece]) -> Result<Blocks, AllocError>
-        requires alignments { All HasAlignment pieces.now }
-        ensures blocks { IfOk result (AreBlocks pieces.now) }
-        ensures untested { IfOk result (λ b. (addresses sizes : List ℕ)
-            → OthersFit addresses pieces.now sizes b.changes.items b.lows.items b.highs.items) }
+    /// The blocks before the first round, by the multiples of each. Near each one counts as changed, so that every piece
+    /// is tested.
+    pub fn new(alloc: Global, multiples: Vec<u32>) -> Result<Blocks, AllocError>
+        ensures blocks { (pieces : List Piece) → length multiples.items ≡ block_count pieces
+            → AreMultiples pieces multiples.items → IfOk result (AreBlocks pieces) }
+        ensures untested { (pieces : List Piece) → length multiples.items ≡ block_count pieces
+            → IfOk result (λ b. (addresses sizes : List ℕ)
+            → OthersFit addresses pieces sizes b.changes.items b.lows.items b.highs.items) }
     {
-        let multiples = multiples_of(alloc, pieces)?;
         let count = multiples.len();
         let grown = vec![in alloc; false; count]?;
         let lows = vec![in alloc; 0; count]?;

@@ -5,13 +5,14 @@ ghost use Rattle.psabi_reloc.specs.Parts.{hi20_of, lo12_of};
 ghost use Rattle.psabi_reloc.specs.Patched.{with_imm, with_upper};
 ghost use Rattle.block_cut.specs.declared.item.Item.TheVariants as item;
 ghost use Rattle.shrink_layout.specs.Halves.{IsHalfOf};
-ghost use Rattle.shrink_layout.specs.Pieces.{instr_size, is_short, part_size};
+ghost use Rattle.shrink_layout.specs.Pieces.{instr_size, part_size};
 ghost use Rattle.shrink_layout.specs.declared.piece.Piece.TheVariants.{Fixed};
 
 use crate::piece::Piece;
 use psabi_reloc::parts::{hi20, lo12};
 use psabi_sym::target::Target;
 use rv_decode::instr::Instr;
+use zca_zcb_pass::patched::{with_imm, with_upper};
 use zca_zcb_pass::short::short_of;
 
 /// The piece of an item, and the halfword that does what the item does if that is known before the layout, else 0.
@@ -29,17 +30,10 @@ pub fn without_half(piece: Piece) -> ItemPiece
 }
 
 /// A piece of one size.
-pub fn fixed(size: u32) -> ItemPiece
+pub fn fixed(size: u8) -> ItemPiece
     ensures { result ≡ record { piece = Fixed size; half = 0 } }
 {
     without_half(Piece::Fixed { size })
-}
-
-/// Whether a halfword does what an instruction does.
-pub fn is_short(i: Instr) -> bool
-    ensures { result ≡ is_short i }
-{
-    short_of(i).is_some()
 }
 
 /// The piece of an instruction whose immediate doesn't depend on the layout.
@@ -53,56 +47,6 @@ pub fn instr_piece(i: Instr) -> ItemPiece
             piece: Piece::Fixed { size: 2 },
             half,
         },
-    }
-}
-
-// An instruction with these upper 20 bits.
-fn with_upper(i: Instr, imm: u32) -> Instr
-    ensures { result ≡ with_upper i imm }
-{
-    match i {
-        Instr::Upper { op, rd, .. } => Instr::Upper { op, rd, imm },
-        Instr::Jal { .. }
-        | Instr::Jalr { .. }
-        | Instr::Branch { .. }
-        | Instr::Load { .. }
-        | Instr::Store { .. }
-        | Instr::WithImm { .. }
-        | Instr::WithReg { .. }
-        | Instr::Fence { .. }
-        | Instr::Ecall
-        | Instr::Ebreak
-        | Instr::Csrrw { .. } => i,
-    }
-}
-
-// An instruction with this number to add to the base of a sum.
-fn with_imm(i: Instr, imm: i32) -> Instr
-    ensures { result ≡ with_imm i imm }
-{
-    match i {
-        Instr::Jalr { rd, base, .. } => Instr::Jalr { rd, base, imm },
-        Instr::Load { op, rd, base, .. } => Instr::Load { op, rd, base, imm },
-        Instr::Store {
-            op,
-            source,
-            base,
-            ..
-        } => Instr::Store {
-            op,
-            source,
-            base,
-            imm,
-        },
-        Instr::WithImm { op, rd, first, .. } => Instr::WithImm { op, rd, first, imm },
-        Instr::Upper { .. }
-        | Instr::Jal { .. }
-        | Instr::Branch { .. }
-        | Instr::WithReg { .. }
-        | Instr::Fence { .. }
-        | Instr::Ecall
-        | Instr::Ebreak
-        | Instr::Csrrw { .. } => i,
     }
 }
 

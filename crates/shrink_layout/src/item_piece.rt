@@ -1,50 +1,47 @@
 // The piece of an item.
 
-ghost use Rattle.std.specs.Prelude.{◌≡◌, None};
-ghost use Rattle.psabi_sym.specs.Faults.{gather_fault, power_above};
+ghost use Rattle.std.specs.Prelude.{◌≡◌, ◌&&◌, ◌==◌, None};
+ghost use Rattle.psabi_sym.specs.Faults.{gather_fault};
 ghost use Rattle.psabi_sym.specs.Inputs.{parsed};
 ghost use Rattle.shrink_layout.specs.Halves.{IsHalfOf};
-ghost use Rattle.shrink_layout.specs.Numbers.{AreFirstNumbers};
+ghost use Rattle.shrink_layout.specs.Invariants.Numbers.{AreFirstNumbers};
 ghost use Rattle.shrink_layout.specs.Pieces as pieces;
 ghost use Rattle.shrink_layout.specs.Pieces.{piece_of};
+ghost use Rattle.zc_encode.specs.Halves.{is_popular};
 
-use crate::instr_piece::{
-    ItemPiece, fixed, instr_piece, is_short, lower_piece, upper_piece, without_half,
-};
-use crate::numbers::number_of;
+use crate::instr_piece::{ItemPiece, fixed, instr_piece, lower_piece, upper_piece, without_half};
+use crate::numbers::piece_number_at;
 use crate::piece::Piece;
 use block_cut::cut::Cut;
 use block_cut::item::Item;
-use rv_decode::instr::{BranchOp, Instr};
+use psabi_sym::padding::power_above;
+use rv_decode::instr::BranchOp;
 use zc_base::place::Place;
 use zc_base::reg::Reg;
 
-// The least power of two above a number of bytes of padding.
-fn power_above(bytes: u16) -> u32
-    ensures { result ≡ power_above bytes }
+// Whether the second register is zero, and the first is one of x8 to x15.
+fn is_on_zero(first: Reg, second: Reg) -> bool
+    ensures { result ≡ (second == 0 && is_popular first) }
 {
-    match bytes {
-        0..=1 => 2,
-        2..=3 => 4,
-        4..=7 => 8,
-        8..=15 => 16,
-        16..=31 => 32,
-        32..=63 => 64,
-        64..=127 => 128,
-        _ => 256,
-    }
+    second.number() == 0 && (8..16).contains(&first.number())
 }
 
-// Whether a branch on two registers has a short form.
+// Whether a branch on two registers has a short form: `c.beqz` or `c.bnez`.
+#[tactic(auto, using(crate::proofs::ShortLaws::short_beq, crate::proofs::ShortLaws::short_bne))]
 fn is_short_branch(op: BranchOp, first: Reg, second: Reg) -> bool
     ensures { result ≡ pieces.is_short_branch op first second }
 {
-    is_short(Instr::Branch {
-        op,
-        first,
-        second,
-        distance: 0,
-    })
+    match op {
+        BranchOp::Beq | BranchOp::Bne => is_on_zero(first, second) || is_on_zero(second, first),
+        BranchOp::Blt | BranchOp::Bge | BranchOp::Bltu | BranchOp::Bgeu => false,
+    }
+}
+
+// Whether a `jal` with this link register has a short form: `c.jal` or `c.j`.
+fn is_short_jump(rd: Reg) -> bool
+    ensures { result ≡ pieces.is_short_jump rd }
+{
+    rd.number() < 2
 }
 
 // The piece of a `jal` to a place.
@@ -56,11 +53,11 @@ fn jump_piece(cut: &Cut, starts: &[u32], rd: Reg, to: Place) -> ItemPiece
       half = 0;
     } }
 {
-    if !is_short(Instr::Jal { rd, distance: 0 }) {
+    if !is_short_jump(rd) {
         return fixed(4);
     }
     without_half(Piece::Jump {
-        to: number_of(cut, starts, to),
+        to: piece_number_at(cut, starts, to),
     })
 }
 
@@ -81,7 +78,7 @@ pub fn item_piece(cut: &Cut, starts: &[u32], item: &Item) -> ItemPiece
             second,
             to,
         } => without_half(Piece::Branch {
-            to: number_of(cut, starts, *to),
+            to: piece_number_at(cut, starts, *to),
             short: is_short_branch(*op, *first, *second),
         }),
         Item::Jump { rd, to } | Item::Call { rd, to, .. } => jump_piece(cut, starts, *rd, *to),

@@ -2,7 +2,6 @@
 //! is taken.
 #![tactic(auto)]
 
-mod addresses;
 mod blocks;
 mod instr_piece;
 mod item_piece;
@@ -13,3 +12,4 @@ mod pieces;
 mod round;
 mod rounds;
 pub mod settled;
+mod shortest;

@@ -3,8 +3,8 @@
 ghost use Rattle.std.specs.Prelude.{◌≡◌, ◌<◌, ◌+◌, ◌^◌, None, IfOk, length, slice_index};
 ghost use Rattle.psabi_sym.specs.Faults.{gather_fault};
 ghost use Rattle.psabi_sym.specs.Inputs.{parsed};
-ghost use Rattle.shrink_layout.specs.Numbers.{AreFirstNumbers};
-ghost use Rattle.shrink_layout.specs.Pieces.{number_of};
+ghost use Rattle.shrink_layout.specs.Invariants.Numbers.{AreFirstNumbers};
+ghost use Rattle.shrink_layout.specs.Pieces.{piece_number_at};
 
 use block_cut::cut::Cut;
 use block_cut::place_number::PlaceNumber;
@@ -36,10 +36,10 @@ pub fn piece_number(starts: &[u32], number: PlaceNumber) -> u32
 }
 
 /// The number of a place where an item starts or a section of code ends; 0 of any other.
-pub fn number_of(cut: &Cut, starts: &[u32], p: Place) -> u32
+pub fn piece_number_at(cut: &Cut, starts: &[u32], p: Place) -> u32
     requires faultless { gather_fault cut.now ≡ None }
     requires starts { AreFirstNumbers (parsed cut.now).objects starts.now }
-    ensures { result ≡ number_of (parsed cut.now).objects p }
+    ensures { result ≡ piece_number_at (parsed cut.now).objects p }
 {
     match cut.number(p) {
         None => 0,

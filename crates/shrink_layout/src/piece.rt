@@ -17,7 +17,7 @@ use psabi_reloc::reaches::{branch_reaches, short_branch_reaches, short_jump_reac
 /// `to` counts the pieces before the target.
 #[derive(Clone, Copy)]
 pub enum Piece {
-    Fixed { size: u32 },
+    Fixed { size: u8 },
     Align { alignment: u32 },
     Branch { to: u32, short: bool },
     Jump { to: u32 },
@@ -25,7 +25,7 @@ pub enum Piece {
 
 impl Piece {
     /// The shortest form.
-    pub fn shortest(self) -> u32
+    pub fn shortest(self) -> u8
         ensures { result ≡ shortest self }
     {
         match self {
@@ -37,7 +37,7 @@ impl Piece {
     }
 
     /// The next longer form, if there is one, or else the same.
-    pub fn longer(self, size: u32) -> u32
+    pub fn longer(self, size: u8) -> u8
         ensures { result ≡ longer self size }
     {
         match self {
@@ -58,7 +58,7 @@ impl Piece {
     }
 
     /// Whether this form reaches from one address to another, which is less than 2 GiB away.
-    pub fn holds(self, size: u32, from: u32, to: u32) -> bool
+    pub fn holds(self, size: u8, from: u32, to: u32) -> bool
         ensures { from < to + near_limit → to < from + near_limit → result ≡ holds self size from to }
     {
         let distance = to.wrapping_sub(from).cast_signed();
@@ -72,7 +72,7 @@ impl Piece {
     }
 
     /// The bytes that a piece takes at an address: its size, or what its alignment needs.
-    pub fn width(self, size: u32, at: u32) -> u32
+    pub fn width(self, size: u8, at: u32) -> u32
         requires alignment { HasAlignment self }
         requires form { IsForm self size }
         ensures value { result ≡ width self size at }
@@ -80,7 +80,7 @@ impl Piece {
     {
         match self {
             Piece::Align { alignment } => (alignment - at % alignment) % alignment,
-            Piece::Fixed { .. } | Piece::Branch { .. } | Piece::Jump { .. } => size,
+            Piece::Fixed { .. } | Piece::Branch { .. } | Piece::Jump { .. } => u32::from(size),
         }
     }
 }

@@ -1,12 +1,12 @@
 // The pieces of all code.
 
-ghost use Rattle.std.specs.Prelude.{◌≡◌, ◌<◌, ◌+◌, ◌++◌, ◌∷◌, [], List, Option, None, Some, IfOk, if◌then◌else◌, length, map, nat_le};
+ghost use Rattle.std.specs.Prelude.{◌≡◌, ◌<◌, ◌+◌, ◌^◌, ◌++◌, ◌∷◌, [], List, Option, None, Some, IfOk, if◌then◌else◌, length, map, nat_le};
 ghost use Rattle.psabi_sym.specs.Faults.{gather_fault};
 ghost use Rattle.psabi_sym.specs.Inputs.{parsed};
-ghost use Rattle.psabi_sym.specs.Listed.{all_sections};
+ghost use Rattle.psabi_sym.specs.Indexed.{all_sections};
 ghost use Rattle.block_cut.specs.declared.item.Item.{Item};
-ghost use Rattle.shrink_layout.specs.Made.{AreHalvesOf, AreMade, items_held};
-ghost use Rattle.shrink_layout.specs.Numbers.{AreHalves, AreFirstNumbers};
+ghost use Rattle.shrink_layout.specs.Invariants.Made.{AreHalvesOf, AreMade, items_held};
+ghost use Rattle.shrink_layout.specs.Invariants.Numbers.{AreHalves, AreFirstNumbers};
 ghost use Rattle.shrink_layout.specs.Pieces.{piece_of, pieces_of};
 
 use crate::instr_piece::{ItemPiece, without_half};
@@ -84,6 +84,14 @@ fn add_section(cut: &Cut, starts: &[u32], section: u32, made: &mut Pieces) -> Re
     add_items(cut, starts, places, made)
 }
 
+/// How many pieces objects that are cut have at most: what stands in front of all code, the padding before each section,
+/// and the items.
+pub fn most_pieces(cut: &Cut) -> usize
+    ensures { result < 2 ^ 34 }
+{
+    1 + cut.objects().section_count() as usize + cut.counts().items as usize
+}
+
 /// The pieces of objects that are cut, by the numbers of their sections' first places. A jump may lead to a place that
 /// comes later, so all of these are known before the first piece is made.
 pub fn make_pieces(alloc: Global, cut: &Cut, starts: &[u32]) -> Result<Pieces, AllocError>
@@ -92,10 +100,12 @@ pub fn make_pieces(alloc: Global, cut: &Cut, starts: &[u32]) -> Result<Pieces, A
     ensures halves { IfOk result (λ made. AreHalves (parsed cut.now) made.halves.items) }
 {
     let sections = cut.objects().section_count();
-    let most = 1 + sections as usize + cut.counts().items as usize;
+    let most = most_pieces(cut);
+    // The halfwords are kept longer.
+    let halves = Vec::with_capacity(alloc, most)?;
     let mut made = Pieces {
         pieces: Vec::with_capacity(alloc, most)?,
-        halves: Vec::with_capacity(alloc, most)?,
+        halves,
     };
     // What stands in front of all code takes no bytes so far.
     made.push(without_half(Piece::Fixed { size: 0 }))?;

@@ -1,23 +1,23 @@
 // The layout of pieces: rounds, of which the first that fits is taken.
 
-ghost use Rattle.std.specs.Prelude.{◌≡◌, ◌%◌, All, IfOk, map};
-ghost use Rattle.shrink_layout.specs.Forms.{IsEven, shortest};
+ghost use Rattle.std.specs.Prelude.{◌≡◌, ◌%◌, All, IfOk};
+ghost use Rattle.shrink_layout.specs.Forms.{IsEvenPiece};
 ghost use Rattle.shrink_layout.specs.Layout.{IsLayout, addresses_of, all_fit, sizes_of};
 ghost use Rattle.shrink_layout.specs.Least.{IsLeast, IsTight};
-ghost use Rattle.shrink_layout.specs.Rounds.{CanBeLaid, next_pieces, shortest_pieces};
+ghost use Rattle.shrink_layout.specs.Invariants.Rounds.{CanBeLaid, next_pieces, shortest_pieces};
 
-use crate::addresses::fill;
 use crate::blocks::Blocks;
 use crate::moves::move_on;
 use crate::piece::Piece;
 use crate::round::grow;
+use crate::shortest::lay_shortest;
 use std::alloc::{AllocError, Global};
 use std::marker::Model;
 
 /// The size of each piece, and the address of each piece and of the end.
 #[derive(Drop)]
 pub struct PieceLayout {
-    pub sizes: Vec<u32>,
+    pub sizes: Vec<u8>,
     pub addresses: Vec<u32>,
 }
 
@@ -25,14 +25,14 @@ pub struct PieceLayout {
 #[derive(Drop)]
 struct Rounds<'a> {
     pieces: &'a [Piece],
-    sizes: Vec<u32>,
+    sizes: Vec<u8>,
     addresses: Vec<u32>,
     blocks: Blocks,
 }
 
 impl<'a> Model for Rounds<'a> {
     ghost use Rattle.std.specs.Prelude.{slice_index};
-    ghost use Rattle.shrink_layout.specs.Rounds.{AreLaid, LaidPieces};
+    ghost use Rattle.shrink_layout.specs.Invariants.Rounds.{AreLaid, LaidPieces};
 
     ghost Value = { LaidPieces };
 
@@ -45,27 +45,23 @@ impl<'a> Model for Rounds<'a> {
     ghost invariant = { λ r. AreLaid r.pieces.now r.sizes.items r.addresses.items r.blocks };
 }
 
-// The shortest form of each piece.
-fn shortest_sizes(alloc: Global, pieces: &[Piece]) -> Result<Vec<u32>, AllocError>
-    ensures { IfOk result (λ v. v.items ≡ map shortest pieces.now) }
-{
-    pieces.iter().map(|piece| piece.shortest()).collect(alloc)
-}
-
 impl<'a> Rounds<'a> {
-    // The shortest forms.
-    fn new(alloc: Global, text: u32, pieces: &'a [Piece]) -> Result<Rounds<'a>, AllocError>
+    // The shortest forms, with the addresses in place of what a vector holds.
+    fn new(
+        alloc: Global,
+        text: u32,
+        pieces: &'a [Piece],
+        addresses: Vec<u32>,
+    ) -> Result<Rounds<'a>, AllocError>
         requires { CanBeLaid text pieces.now }
         ensures { IfOk result (λ r. r ≡ shortest_pieces text pieces.now) }
     {
-        let sizes = shortest_sizes(alloc, pieces)?;
-        let mut addresses = Vec::new(alloc);
-        fill(&mut addresses, text, pieces, &sizes)?;
-        let blocks = Blocks::new(alloc, pieces)?;
+        let first = lay_shortest(alloc, text, pieces, addresses)?;
+        let blocks = Blocks::new(alloc, first.multiples)?;
         Ok(Rounds {
             pieces,
-            sizes,
-            addresses,
+            sizes: first.sizes,
+            addresses: first.addresses,
             blocks,
         })
     }
@@ -105,17 +101,22 @@ impl<'a> Rounds<'a> {
 }
 
 /// The layout of pieces from an address on: rounds, each of which gives the next longer form to the pieces that
-/// don't fit, until all do.
-pub fn settle_pieces(alloc: Global, text: u32, pieces: &[Piece]) -> Result<PieceLayout, AllocError>
+/// don't fit, until all do. The addresses take the place of what a vector holds.
+pub fn settle_pieces(
+    alloc: Global,
+    text: u32,
+    pieces: &[Piece],
+    addresses: Vec<u32>,
+) -> Result<PieceLayout, AllocError>
     requires { CanBeLaid text pieces.now }
     ensures layout { IfOk result (λ _. IsLayout text pieces.now (sizes_of text pieces.now)) }
     ensures sizes { IfOk result (λ r. r.sizes.items ≡ sizes_of text pieces.now) }
     ensures addresses { IfOk result
         (λ r. r.addresses.items ≡ addresses_of text pieces.now (sizes_of text pieces.now)) }
-    ensures least { text % 2 ≡ 0 → All IsEven pieces.now → All IsTight pieces.now
+    ensures least { text % 2 ≡ 0 → All IsEvenPiece pieces.now → All IsTight pieces.now
         → IfOk result (λ _. IsLeast text pieces.now (sizes_of text pieces.now)) }
 {
-    let mut rounds = Rounds::new(alloc, text, pieces)?;
+    let mut rounds = Rounds::new(alloc, text, pieces, addresses)?;
     loop {
         if rounds.next() {
             return Ok(rounds.layout());

@@ -9,14 +9,14 @@ ghost use Rattle.shrink_layout.specs.Counted.{is_long_piece, is_short_piece, pie
 ghost use Rattle.shrink_layout.specs.Halves.{IsHalfOf};
 ghost use Rattle.shrink_layout.specs.Layout.{IsLayout};
 ghost use Rattle.shrink_layout.specs.Least.{IsLeast};
-ghost use Rattle.shrink_layout.specs.Numbers.{HasPlace, IsSettled};
-ghost use Rattle.shrink_layout.specs.Pieces.{is_unaligned, pieces_of};
+ghost use Rattle.shrink_layout.specs.Invariants.Numbers.{HasPlace, IsSettled};
+ghost use Rattle.shrink_layout.specs.Pieces.{is_unaligned, piece_number_at, pieces_of};
 ghost use Rattle.shrink_layout.specs.Settled.{settled_address, settled_counts, settled_end, settled_size, settled_sizes};
 ghost use Rattle.zc_base.specs.declared.place.Place.{Place};
 
-use crate::numbers::{first_numbers, number_of, piece_number};
+use crate::numbers::{first_numbers, piece_number, piece_number_at};
 use crate::piece::Piece;
-use crate::pieces::make_pieces;
+use crate::pieces::{make_pieces, most_pieces};
 use crate::rounds::settle_pieces;
 use block_cut::cut::Cut;
 use block_cut::place_number::PlaceNumber;
@@ -39,7 +39,7 @@ pub struct Settled {
 
 // What is kept of a layout beside the objects.
 #[derive(Drop)]
-struct Kept {
+struct KeptLayout {
     starts: Vec<u32>,
     halves: Vec<u16>,
     addresses: Vec<u32>,
@@ -48,7 +48,7 @@ struct Kept {
 
 impl Model for Settled {
     ghost use Rattle.psabi_sym.specs.Inputs.{Inputs};
-    ghost use Rattle.shrink_layout.specs.Numbers.{IsSettled};
+    ghost use Rattle.shrink_layout.specs.Invariants.Numbers.{IsSettled};
 
     ghost Value = { Inputs };
 
@@ -59,7 +59,7 @@ impl Model for Settled {
 }
 
 // One for a piece that isn't padding and takes two bytes, and else none.
-fn short_of(piece: Piece, size: u32) -> u32
+fn short_of(piece: Piece, size: u8) -> u32
     ensures value { result ≡ (if is_short_piece piece size then 1 else 0) }
     ensures most { result ≤ 1 }
 {
@@ -72,7 +72,7 @@ fn short_of(piece: Piece, size: u32) -> u32
 }
 
 // One for a branch that takes eight bytes, and else none.
-fn long_of(piece: Piece, size: u32) -> u32
+fn long_of(piece: Piece, size: u8) -> u32
     ensures value { result ≡ (if is_long_piece piece size then 1 else 0) }
     ensures most { result ≤ 1 }
 {
@@ -84,7 +84,7 @@ fn long_of(piece: Piece, size: u32) -> u32
 
 // What a layout counts, by the text's bytes and the number of items. The first piece isn't counted, since it
 // stands in front of all code.
-fn count(text: u32, items: u32, pieces: &[Piece], sizes: &[u32]) -> Counts
+fn count(text: u32, items: u32, pieces: &[Piece], sizes: &[u8]) -> Counts
     requires same { length sizes.now ≡ length pieces.now }
     requires few { length pieces.now < 2 ^ 32 }
     ensures { result ≡ record {
@@ -117,20 +117,22 @@ fn count(text: u32, items: u32, pieces: &[Piece], sizes: &[u32]) -> Counts
 }
 
 // The layout of objects that are cut.
-fn lay_out(alloc: Global, cut: &Cut) -> Result<Kept, AllocError>
+fn lay_out(alloc: Global, cut: &Cut) -> Result<KeptLayout, AllocError>
     ensures settled { IfOk result
         (λ kept. IsSettled cut.now kept.starts.items kept.halves.items kept.addresses.items kept.counts) }
     ensures least { IsTrue (is_unaligned (parsed cut.now)) → IfOk result
         (λ _. IsLeast cut.now.map.text (pieces_of (parsed cut.now)) (settled_sizes (parsed cut.now))) }
 {
     let starts = first_numbers(alloc, cut)?;
+    // What is kept is allocated before the pieces, so that what they take is given back as a whole.
+    let addresses = Vec::with_capacity(alloc, most_pieces(cut) + 1)?;
     let made = make_pieces(alloc, cut, &starts)?;
     let text = cut.objects().map().text;
-    let rounds = settle_pieces(alloc, text, &made.pieces)?;
+    let rounds = settle_pieces(alloc, text, &made.pieces, addresses)?;
     let end = rounds.addresses[made.pieces.len()];
     let items = cut.counts().items;
     let counts = count(end - text, items, &made.pieces, &rounds.sizes);
-    Ok(Kept {
+    Ok(KeptLayout {
         starts,
         halves: made.halves,
         addresses: rounds.addresses,
@@ -174,7 +176,17 @@ impl Settled {
         ensures { (q : Place) → is_target_at (parsed self.now).objects q ≡ true
             → IsPlaceNumber (parsed self.now).objects q number → Some result ≡ settled_address (parsed self.now) q }
     {
-        self.addresses[piece_number(&self.starts, number) as usize]
+        self.addresses[self.piece_at(number)]
+    }
+
+    // The number of the piece at a place, by where the place stands among all.
+    fn piece_at(&self, number: PlaceNumber) -> usize
+        requires { HasPlace (parsed self.now).objects number }
+        ensures most { result ≤ length (pieces_of (parsed self.now)) }
+        ensures known { (q : Place) → is_target_at (parsed self.now).objects q ≡ true
+            → IsPlaceNumber (parsed self.now).objects q number → result ≡ piece_number_at (parsed self.now).objects q }
+    {
+        piece_number(&self.starts, number) as usize
     }
 
     /// The halfword of the item that starts at a place, by where the place stands among all, if that is known
@@ -184,7 +196,7 @@ impl Settled {
         ensures { (q : Place) (item : Item) → item_at (parsed self.now) q ≡ Some item
             → IsPlaceNumber (parsed self.now).objects q number → IsHalfOf item result }
     {
-        let k = piece_number(&self.starts, number) as usize;
+        let k = self.piece_at(number);
         // No piece stands at the end of all code.
         if k < self.halves.len() {
             self.halves[k]
@@ -201,7 +213,7 @@ impl Settled {
         if cut.item(p).is_none() {
             return None;
         }
-        let k = number_of(cut, &self.starts, p) as usize;
+        let k = piece_number_at(cut, &self.starts, p) as usize;
         Some(self.addresses[k + 1] - self.addresses[k])
     }
 

@@ -2,7 +2,7 @@ use Rattle.std.proofs.Common.{◌≡◌, ℕ, ◌+◌, ◌<◌, ◌≤◌, get_o
 use Rattle.std.specs.Prelude.{slice_index}
 use Rattle.std.proofs.lemmas.Bool.{cases_lt}
 use Rattle.shrink_layout.specs.declared.piece.Piece.TheVariants.{Fixed}
-use Rattle.shrink_layout.specs.Blocks.{IsStep, nth_piece}
+use Rattle.shrink_layout.specs.Invariants.Blocks.{IsStep, nth_piece}
 use Rattle.shrink_layout.specs.Forms.{width}
 use Rattle.shrink_layout.proofs.AddressLaws.{form_at}
 use Rattle.shrink_layout.proofs.AddressSteps.{room_step}

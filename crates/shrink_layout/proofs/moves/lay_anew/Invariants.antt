@@ -1,7 +1,7 @@
 use Rattle.std.proofs.Common.{◌≡◌, ℕ, ◌+◌, ◌<◌, ◌≤◌, drop, length}
 use Rattle.std.specs.Prelude.{slice_index}
 use Rattle.std.specs.List.{sum_by}
-use Rattle.shrink_layout.specs.Blocks.{IsStep}
+use Rattle.shrink_layout.specs.Invariants.Blocks.{IsStep}
 use Rattle.shrink_layout.specs.Forms.{longest}
 use Rattle.shrink_layout.proofs.moves.lay_anew.Given as goal
 

@@ -1,6 +1,6 @@
 use Rattle.std.proofs.Common.{◌≡◌, ◌+◌, ◌*◌, ◌<◌, List, ℕ, length, min, set, refl, sym, subst, arith}
 use Rattle.std.specs.Prelude.{slice_index}
-use Rattle.shrink_layout.specs.Blocks.{AreMultiples, IsKept, block_size}
+use Rattle.shrink_layout.specs.Invariants.Blocks.{AreMultiples, IsUnchanged, block_size}
 use Rattle.shrink_layout.proofs.LaidLaws.{moved_laid}
 use Rattle.shrink_layout.proofs.MoveLaws.{IsMovedOn, can_shift, laid_anew, shifted, stood}
 use Rattle.shrink_layout.proofs.moves.move_on.Goals as goal
@@ -17,7 +17,7 @@ shift-requires-clause-room c =
     let span = c.of_block-span in
     let count = before.blocks_are.grown_count in
     let in_grown : now.block < length grown = omega (arith, c.loop-block-test.true, c.len-block-end.ensures) in
-    let kept : IsKept grown now.block = subst (λ l. IsKept l now.block) now.invariant.grown_same (c.if-can_move.ensures.kept refl) in
+    let kept : IsUnchanged grown now.block = subst (λ l. IsUnchanged l now.block) now.invariant.grown_same (c.if-can_move.ensures.kept refl) in
     can_shift pieces sizes old now.addresses grown now.blocks.changes.items now.block span.result.first span.result.end now.here now.count before.can.alignments before.forms before.long count in_grown
     span.ensures.first span.ensures.end now.invariant.moved before.can.room
     (stood pieces sizes old now.addresses grown now.blocks.changes.items now.block span.result.first span.result.end now.here now.count before.can.alignments before.forms before.long count in_grown
@@ -43,7 +43,7 @@ loop-block-preserved c =
     let moved : IsMovedOn pieces sizes old c.if-can_move.addresses grown (set changes (now.block + 1) c.if-can_move.count) (now.block + 1) n next c.if-can_move.count = elim c.if-can_move.branch [
       | then-can_move w ↦
           let can = w.if-can_move.ensures in
-          let kept : IsKept grown now.block = subst (λ l. IsKept l now.block) is.grown_same (can.kept refl) in
+          let kept : IsUnchanged grown now.block = subst (λ l. IsUnchanged l now.block) is.grown_same (can.kept refl) in
           let steps = stood pieces sizes old now.addresses grown changes now.block first end now.here now.count before.can.alignments before.forms before.long count in_grown
           span.ensures.first span.ensures.end is.moved before.steps kept in
           let multiples = now.blocks.multiples.items in

@@ -4,8 +4,8 @@ use Rattle.std.specs.List.{range_with_len}
 use Rattle.std.proofs.lemmas.List.FromFn.{map-range_with_len_more}
 use Rattle.psabi_sym.specs.Faults.{gather_fault}
 use Rattle.psabi_sym.specs.Inputs.{parsed}
-use Rattle.psabi_sym.specs.Listed.{all_sections}
-use Rattle.shrink_layout.specs.Numbers.{first_number}
+use Rattle.psabi_sym.specs.Indexed.{all_sections}
+use Rattle.shrink_layout.specs.Invariants.Numbers.{first_number}
 use Rattle.shrink_layout.proofs.SectionLaws.{count_few, places_counted}
 use Rattle.shrink_layout.proofs.numbers.first_numbers.Goals as goal
 

@@ -1,8 +1,8 @@
 use Rattle.std.proofs.Common.{◌≡◌, map, take}
 use Rattle.std.specs.List.{range_with_len, sum_by}
 use Rattle.psabi_sym.specs.Inputs.{parsed}
-use Rattle.psabi_sym.specs.Listed.{all_sections}
-use Rattle.shrink_layout.specs.Numbers.{first_number}
+use Rattle.psabi_sym.specs.Indexed.{all_sections}
+use Rattle.shrink_layout.specs.Invariants.Numbers.{first_number}
 use Rattle.shrink_layout.specs.Pieces.{piece_count}
 use Rattle.shrink_layout.proofs.numbers.first_numbers.Given as goal
 

@@ -6,7 +6,7 @@ use Rattle.std.proofs.lemmas.Option.{slice_get-get_or}
 use Rattle.psabi_sym.specs.Inputs.{parsed}
 use Rattle.block_cut.specs.declared.code_place.CodePlace.{CodePlace}
 use Rattle.block_cut.specs.declared.item.Item.{Item}
-use Rattle.shrink_layout.specs.Made.{AreHalvesOf, items_held}
+use Rattle.shrink_layout.specs.Invariants.Made.{AreHalvesOf, items_held}
 use Rattle.shrink_layout.specs.Pieces.{piece_of}
 use Rattle.shrink_layout.proofs.HalfLaws.{halves-append}
 use Rattle.shrink_layout.proofs.SectionLaws.{held_next}

@@ -1,7 +1,7 @@
 use Rattle.std.proofs.Common.{◌≡◌, ◌++◌, List, Option, Some, map, take}
 use Rattle.psabi_sym.specs.Inputs.{parsed}
 use Rattle.block_cut.specs.declared.item.Item.{Item}
-use Rattle.shrink_layout.specs.Made.{AreHalvesOf, items_held}
+use Rattle.shrink_layout.specs.Invariants.Made.{AreHalvesOf, items_held}
 use Rattle.shrink_layout.specs.Pieces.{piece_of}
 use Rattle.shrink_layout.proofs.pieces.add_items.Given as goal
 

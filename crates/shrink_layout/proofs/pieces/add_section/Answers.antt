@@ -2,8 +2,8 @@
 -- (`some_next`, `owners_next`).
 use Rattle.std.proofs.Common.{◌≡◌, ◌∙◌, ◌∷◌, ◌++◌, [], Some, None, IfOk, Result, Ok, Err, length, map, take, cond, eqb, leb, ap, sym, subst}
 use Rattle.psabi_sym.specs.Inputs.{parsed}
-use Rattle.psabi_sym.specs.Listed.{all_sections}
-use Rattle.shrink_layout.specs.Made.{AreHalvesOf, items_held, owners_in}
+use Rattle.psabi_sym.specs.Indexed.{all_sections}
+use Rattle.shrink_layout.specs.Invariants.Made.{AreHalvesOf, items_held, owners_in}
 use Rattle.shrink_layout.specs.Pieces.{piece_of}
 use Rattle.shrink_layout.specs.Units.{front_size}
 use Rattle.shrink_layout.specs.declared.piece.Piece.TheVariants.{Fixed, Align}

@@ -2,8 +2,8 @@ use Rattle.std.proofs.Common.{◌≡◌, ◌∙◌, ◌∷◌, None, refl, ap, s
 use Rattle.std.proofs.lemmas.List.{take_all}
 use Rattle.psabi_sym.specs.Faults.{gather_fault}
 use Rattle.psabi_sym.specs.Inputs.{ParsedInputs, parsed}
-use Rattle.psabi_sym.specs.Listed.{all_sections}
-use Rattle.shrink_layout.specs.Made.{AreHalvesOf, owners_in}
+use Rattle.psabi_sym.specs.Indexed.{all_sections}
+use Rattle.shrink_layout.specs.Invariants.Made.{AreHalvesOf, owners_in}
 use Rattle.shrink_layout.specs.Pieces.{pieces_in, pieces_of}
 use Rattle.shrink_layout.specs.Units.{front_size}
 use Rattle.shrink_layout.specs.declared.piece.Piece.TheVariants.{Fixed}

@@ -1,5 +1,5 @@
 use Rattle.psabi_sym.specs.Inputs.{parsed}
-use Rattle.shrink_layout.specs.Made.{AreMade}
+use Rattle.shrink_layout.specs.Invariants.Made.{AreMade}
 use Rattle.shrink_layout.proofs.pieces.make_pieces.Given as goal
 
 abbrev pub invariant-loop-section : goal.invariant-loop-section

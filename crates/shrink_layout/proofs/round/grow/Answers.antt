@@ -2,7 +2,7 @@ use Rattle.std.proofs.Common.{◌≡◌, ℕ, ◌+◌, ◌*◌, ◌<◌, ◌⊎�
 use Rattle.std.specs.Prelude.{slice_index}
 use Rattle.std.proofs.lemmas.Bool.{and_parts, true≢false}
 use Rattle.shrink_layout.specs.declared.blocks.Blocks.{Blocks}
-use Rattle.shrink_layout.specs.Blocks.{HaveGrownIn, IsStill, OthersFit, block_size}
+use Rattle.shrink_layout.specs.Invariants.Blocks.{HaveGrownIn, IsStill, OthersFit, block_size}
 use Rattle.shrink_layout.proofs.LaidLaws.{are_next, have_grown, index_is, laid_testable, were_fit}
 use Rattle.shrink_layout.proofs.RoundLaws.{length_forms}
 use Rattle.shrink_layout.proofs.TestLaws.{AreGrown, block_grows, block_stays}

@@ -1,5 +1,5 @@
 use Rattle.std.proofs.Common.{◌≡◌, ◌*◌, length, min}
-use Rattle.shrink_layout.specs.Blocks.{block_size}
+use Rattle.shrink_layout.specs.Invariants.Blocks.{block_size}
 use Rattle.shrink_layout.proofs.TestLaws.{AreGrown}
 use Rattle.shrink_layout.proofs.round.grow.Given as goal
 

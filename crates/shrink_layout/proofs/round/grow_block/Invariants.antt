@@ -1,4 +1,4 @@
-use Rattle.shrink_layout.specs.Blocks.{HaveGrownIn}
+use Rattle.shrink_layout.specs.Invariants.Blocks.{HaveGrownIn}
 use Rattle.shrink_layout.proofs.round.grow_block.Given as goal
 
 abbrev pub invariant-loop-k : goal.invariant-loop-k

@@ -1,6 +1,6 @@
 use Rattle.std.proofs.Common.{◌<◌, sym, ap, ◌∙◌, subst}
 use Rattle.shrink_layout.specs.Layout.{addresses_of, sizes_of}
-use Rattle.shrink_layout.specs.Rounds.{LaidPieces}
+use Rattle.shrink_layout.specs.Invariants.Rounds.{LaidPieces}
 use Rattle.shrink_layout.proofs.RoundLaws.{slack_of}
 use Rattle.shrink_layout.proofs.SizesLaws.{AreOfRound, next_fits, next_less, next_of_round, shortest_of_round, sizes_layout, sizes_least}
 use Rattle.shrink_layout.proofs.rounds.settle_pieces.Goals as goal

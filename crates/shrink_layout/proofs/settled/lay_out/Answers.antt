@@ -3,7 +3,7 @@ use Rattle.std.proofs.Common.{◌≡◌, ℕ, ◌-◌, ◌≤◌, ◌%◌, All, 
 use Rattle.std.specs.List.{sum_by}
 use Rattle.psabi_sym.specs.Inputs.{parsed}
 use Rattle.shrink_layout.specs.Counted.{is_long_piece, is_short_piece, pieces_with}
-use Rattle.shrink_layout.specs.Forms.{HasAlignment, IsEven, longest, target}
+use Rattle.shrink_layout.specs.Forms.{HasAlignment, IsEvenPiece, longest, target}
 use Rattle.shrink_layout.specs.Layout.{addresses_of, sizes_of}
 use Rattle.shrink_layout.specs.Least.{IsLeast, IsTight}
 use Rattle.shrink_layout.specs.Pieces.{pieces_of}
@@ -90,6 +90,6 @@ returns-clause-least c = λ unaligned.
     let pieces = c.deref-2.ensures.value ∙ c.in_ok-made.ensures.pieces in
     let text = ap (λ m. m.text) c.map-text.ensures.value ∙ ap (λ x. x.map.text) c.objects.ensures.same in
     let even : c.map-text.result.text % 2 ≡ 0 = omega (arith, c.map-text.ensures.is_map.text_page) in
-    let given = c.in_ok-rounds.ensures.least even (subst (All IsEven) (sym pieces) (all_even c.args.cut.now none)) (subst (All IsTight) (sym pieces) (all_tight inputs unaligned)) in
+    let given = c.in_ok-rounds.ensures.least even (subst (All IsEvenPiece) (sym pieces) (all_even c.args.cut.now none)) (subst (All IsTight) (sym pieces) (all_tight inputs unaligned)) in
     subst (IsLeast inputs.map.text (pieces_of inputs)) (kept_sizes inputs)
     (subst₂ (λ (t : ℕ) (ps : List Piece). IsLeast t ps (sizes_of t ps)) text pieces given)

@@ -1,7 +1,7 @@
 use Rattle.std.proofs.Common.{◌≡◌, true, length, sym, ◌∙◌, subst, arith}
 use Rattle.std.specs.Prelude.{slice_index}
 use Rattle.shrink_layout.specs.Layout.{all_fit, next_sizes}
-use Rattle.shrink_layout.specs.Rounds.{AreLaid, HaveGrown}
+use Rattle.shrink_layout.specs.Invariants.Rounds.{AreLaid, HaveGrown}
 use Rattle.shrink_layout.proofs.LaidLaws.{fit_laid, written_is}
 use Rattle.shrink_layout.proofs.RoundLaws.{length_forms}
 use Rattle.shrink_layout.proofs.rounds.Rounds.next.Goals as goal

@@ -1,7 +1,7 @@
 use Rattle.std.proofs.Common.{◌+◌, ◌-◌, Some, is_some, slice_index, sym, ap, ◌∙◌, arith}
 use Rattle.psabi_sym.specs.Inputs.{parsed}
 use Rattle.block_cut.specs.Items.{item_at}
-use Rattle.shrink_layout.specs.Pieces.{number_of}
+use Rattle.shrink_layout.specs.Pieces.{piece_number_at}
 use Rattle.shrink_layout.specs.Settled.{settled_addresses, settled_size}
 use Rattle.shrink_layout.proofs.KeptLaws.{addresses_rise, below_by, kept_address, kept_long, size_by}
 use Rattle.shrink_layout.proofs.settled.Settled.size.Goals as goal
@@ -13,7 +13,7 @@ index-requires c =
     let q = c.args.p in
     let found = c.item.ensures.item ∙ ap (λ x. item_at (parsed x) q) c.cut-cut.ensures.same in
     let below = below_by own.planned is.faultless q (ap is_some (sym found) ∙ c.if-is_none.ensures) in
-    let number = c.number_of-k.ensures ∙ ap (λ x. number_of (parsed x).objects q) c.cut-cut.ensures.same in
+    let number = c.piece_number_at-k.ensures ∙ ap (λ x. piece_number_at (parsed x).objects q) c.cut-cut.ensures.same in
     omega (arith, number, below, own.addresses.ok, kept_long (parsed own.planned) own.addresses.items is.addresses_are)
 
 pub index-requires-2 : goal.index-requires-2
@@ -23,7 +23,7 @@ index-requires-2 c =
     let q = c.args.p in
     let found = c.item.ensures.item ∙ ap (λ x. item_at (parsed x) q) c.cut-cut.ensures.same in
     let below = below_by own.planned is.faultless q (ap is_some (sym found) ∙ c.if-is_none.ensures) in
-    let number = c.number_of-k.ensures ∙ ap (λ x. number_of (parsed x).objects q) c.cut-cut.ensures.same in
+    let number = c.piece_number_at-k.ensures ∙ ap (λ x. piece_number_at (parsed x).objects q) c.cut-cut.ensures.same in
     omega (arith, number, below, own.addresses.ok, kept_long (parsed own.planned) own.addresses.items is.addresses_are)
 
 pub overflow_sub-result : goal.overflow_sub-result
@@ -31,11 +31,11 @@ overflow_sub-result c =
     let own = c.self.inside in
     let is = c.self.invariant in
     let q = c.args.p in
-    let k = c.number_of-k.result in
+    let k = c.piece_number_at-k.result in
     let inputs = parsed own.planned in
     let found = c.item.ensures.item ∙ ap (λ x. item_at (parsed x) q) c.cut-cut.ensures.same in
     let below = below_by own.planned is.faultless q (ap is_some (sym found) ∙ c.if-is_none.ensures) in
-    let number = c.number_of-k.ensures ∙ ap (λ x. number_of (parsed x).objects q) c.cut-cut.ensures.same in
+    let number = c.piece_number_at-k.ensures ∙ ap (λ x. piece_number_at (parsed x).objects q) c.cut-cut.ensures.same in
     let first = c.index-2.ensures ∙ kept_address inputs own.addresses.items is.addresses_are k c.index-2.result.now (omega (arith, number, below)) in
     let second = c.index.ensures ∙ kept_address inputs own.addresses.items is.addresses_are (k + 1) c.index.result.now (omega (arith, number, below)) in
     omega (arith, first, second, addresses_rise inputs k (k + 1) (omega arith) (omega (arith, number, below)))
@@ -45,12 +45,12 @@ returns c =
     let own = c.self.inside in
     let is = c.self.invariant in
     let q = c.args.p in
-    let k = c.number_of-k.result in
+    let k = c.piece_number_at-k.result in
     let inputs = parsed own.planned in
     let found = c.item.ensures.item ∙ ap (λ x. item_at (parsed x) q) c.cut-cut.ensures.same in
     let some = ap is_some (sym found) ∙ c.if-is_none.ensures in
     let below = below_by own.planned is.faultless q some in
-    let number = c.number_of-k.ensures ∙ ap (λ x. number_of (parsed x).objects q) c.cut-cut.ensures.same in
+    let number = c.piece_number_at-k.ensures ∙ ap (λ x. piece_number_at (parsed x).objects q) c.cut-cut.ensures.same in
     let first = c.index-2.ensures ∙ kept_address inputs own.addresses.items is.addresses_are k c.index-2.result.now (omega (arith, number, below)) in
     let second = c.index.ensures ∙ kept_address inputs own.addresses.items is.addresses_are (k + 1) c.index.result.now (omega (arith, number, below)) in
     (λ j. Some (second j - first j))

@@ -6,13 +6,13 @@ use Rattle.zc_base.specs.declared.place.Place.{Place}
 use Rattle.elf32_read.specs.Parts.{ObjectParts}
 use Rattle.psabi_sym.specs.Faults.{gather_fault}
 use Rattle.psabi_sym.specs.Inputs.{Inputs, ParsedInputs, parsed}
-use Rattle.psabi_sym.specs.Listed.{all_sections}
+use Rattle.psabi_sym.specs.Indexed.{all_sections}
 use Rattle.block_cut.specs.Items.{is_target_at, item_at}
 use Rattle.block_cut.specs.Places.{IsPlaceNumber}
 use Rattle.block_cut.specs.declared.item.Item.{Item}
 use Rattle.block_cut.specs.declared.place_number.PlaceNumber.{PlaceNumber}
 use Rattle.shrink_layout.specs.Halves.{IsHalfOf}
-use Rattle.shrink_layout.specs.Pieces.{number_of, piece_count, pieces_of}
+use Rattle.shrink_layout.specs.Pieces.{piece_count, piece_number_at, pieces_of}
 use Rattle.shrink_layout.specs.Settled.{settled_addresses, settled_counts}
 
 -- ---- numbers
@@ -21,7 +21,8 @@ use Rattle.shrink_layout.specs.Settled.{settled_addresses, settled_counts}
 abbrev pub count_before : List ObjectParts → ℕ → ℕ
 count_before objects k = sum_by piece_count (take k (all_sections objects))
 
--- how many pieces stand before the first place of that section: what is in front of all code, the sections before it, and its padding
+-- how many pieces stand before the first place of that section: what is in front of all code, the sections before it,
+-- and its padding
 abbrev pub first_number : List ObjectParts → ℕ → ℕ
 first_number objects k = 1 + count_before objects k + 1
 
@@ -39,7 +40,8 @@ HasPlace objects number = (q : Place) × (is_target_at objects q ≡ true) × Is
 abbrev pub AreHalves : ParsedInputs → List ℕ → Type 0
 AreHalves inputs halves =
     (length halves ≡ length (pieces_of inputs))
-    × ((q : Place) (item : Item) → item_at inputs q ≡ Some item → IsHalfOf item (slice_index halves (number_of inputs.objects q)))
+    × ((q : Place) (item : Item) → item_at inputs q ≡ Some item
+    → IsHalfOf item (slice_index halves (piece_number_at inputs.objects q)))
 
 -- ---- the whole
 

@@ -3,7 +3,7 @@ use Rattle.std.specs.Prelude.{◌≡◌, ℕ, ◌+◌, ◌^◌, ◌/◌, ◌<◌
 use Rattle.std.specs.List.{sum_by}
 use Rattle.shrink_layout.specs.declared.blocks.Blocks.{Blocks}
 use Rattle.shrink_layout.specs.declared.piece.Piece.{Piece}
-use Rattle.shrink_layout.specs.Blocks.{AreMultiples, AreTested, IsKept, IsStep, OthersFit, block_count, block_size}
+use Rattle.shrink_layout.specs.Invariants.Blocks.{AreMultiples, AreTested, IsStep, IsUnchanged, OthersFit, block_count, block_size}
 use Rattle.shrink_layout.specs.Forms.{HasAlignment, longest, near_limit, shortest, target}
 use Rattle.shrink_layout.specs.Layout.{addresses_of, next_sizes}
 use Rattle.shrink_layout.specs.Least.{AreForms}
@@ -60,5 +60,5 @@ pub record HaveGrown (pieces : List Piece) (sizes addresses : List ℕ) (blocks 
   pub forms : AreForms pieces sizes
   pub long : length addresses ≡ length pieces + 1
   pub blocks_are : AreBlocks pieces blocks
-  pub steps : (k : ℕ) → k < length pieces → IsKept blocks.grown.items (k / block_size) → IsStep pieces sizes addresses k
+  pub steps : (k : ℕ) → k < length pieces → IsUnchanged blocks.grown.items (k / block_size) → IsStep pieces sizes addresses k
   pub tested : AreTested addresses pieces sizes blocks.grown.items blocks.lows.items blocks.highs.items

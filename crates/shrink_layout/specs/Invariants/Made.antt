@@ -4,7 +4,7 @@ use Rattle.std.specs.List.{flat_map}
 use Rattle.std.specs.Option.{option_to_list}
 use Rattle.elf32_read.specs.Parts.{is_code_section}
 use Rattle.psabi_sym.specs.Inputs.{ParsedInputs}
-use Rattle.psabi_sym.specs.Listed.{ListedSection, all_sections}
+use Rattle.psabi_sym.specs.Indexed.{IndexedSection, all_sections}
 use Rattle.block_cut.specs.Items.{item_at, places_of}
 use Rattle.block_cut.specs.declared.code_place.CodePlace.{CodePlace}
 use Rattle.block_cut.specs.declared.item.Item.{Item}
@@ -19,11 +19,11 @@ abbrev pub items_held : List CodePlace → List Item
 items_held places = flat_map (λ p. option_to_list p.item) places
 
 -- the item that each piece of a section belongs to; its padding belongs to none
-abbrev pub section_owners : ParsedInputs → ListedSection → List (Option Item)
+abbrev pub section_owners : ParsedInputs → IndexedSection → List (Option Item)
 section_owners inputs l = if is_code_section l.section then None ∷ map (item_at inputs) (places_of l) else []
 
 -- those of sections one after another
-abbrev pub owners_in : ParsedInputs → List ListedSection → List (Option Item)
+abbrev pub owners_in : ParsedInputs → List IndexedSection → List (Option Item)
 owners_in inputs sections = flat_map (section_owners inputs) sections
 
 -- a halfword for each: that of the item

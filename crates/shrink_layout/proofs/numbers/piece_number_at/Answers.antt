@@ -9,7 +9,7 @@ use Rattle.block_cut.specs.declared.place_number.PlaceNumber.{PlaceNumber}
 use Rattle.shrink_layout.proofs.NumberLaws.{number_most}
 use Rattle.shrink_layout.proofs.PlaceNumberLaws.{piece_number_is}
 use Rattle.shrink_layout.proofs.PremiseLaws.{pieces_few}
-use Rattle.shrink_layout.proofs.numbers.number_of.Goals as goal
+use Rattle.shrink_layout.proofs.numbers.piece_number_at.Goals as goal
 
 -- what is known of the number that was found
 known : (objects : List ObjectParts) (q : Place) (found : Option PlaceNumber) (number : PlaceNumber) → found ≡ Some number

@@ -2,7 +2,7 @@
 -- the addresses of a block as a whole where its pieces take as many bytes as before.
 use Rattle.std.specs.Prelude.{◌≡◌, ℕ, ◌+◌, ◌/◌, ◌%◌, ◌<◌, ◌≤◌, ◌^◌, ◌⊎◌, All, Bool, true, false, if◌then◌else◌, List, drop, length, slice_index, slice_index_or}
 use Rattle.std.specs.List.{sum_by}
-use Rattle.shrink_layout.specs.declared.blocks.Span.{Span}
+use Rattle.shrink_layout.specs.declared.blocks.PieceSpan.{PieceSpan}
 use Rattle.shrink_layout.specs.declared.piece.Piece.{Piece}
 use Rattle.shrink_layout.specs.declared.piece.Piece.TheVariants.{Fixed, Align, Branch, Jump}
 use Rattle.shrink_layout.specs.Forms.{HasAlignment, holds, longer, longest, near_limit, target, width}
@@ -22,7 +22,7 @@ abbrev pub nth_piece : List Piece → ℕ → Piece
 nth_piece pieces k = slice_index_or pieces k (Fixed 0)
 
 -- the numbers from one up to another are those of some of so many pieces
-abbrev pub IsWithin : Span → ℕ → Type 0
+abbrev pub IsWithin : PieceSpan → ℕ → Type 0
 IsWithin span count = (span.first ≤ span.end) × (span.end ≤ count)
 
 -- ---- addresses
@@ -70,8 +70,8 @@ AreMultiples pieces multiples =
     → IsMovedBy (slice_index multiples (k / block_size)) (nth_piece pieces k)
 
 -- no piece of the block grew
-abbrev pub IsKept : List Bool → ℕ → Type 0
-IsKept grown block = slice_index_or grown block false ≡ false
+abbrev pub IsUnchanged : List Bool → ℕ → Type 0
+IsUnchanged grown block = slice_index_or grown block false ≡ false
 
 -- ---- pieces that are tested
 
@@ -86,8 +86,8 @@ pub record CanBeTested (pieces : List Piece) (addresses : List ℕ) : Type 0 whe
   pub targets : All (λ p. target p ≤ length pieces) pieces
 
 -- whether the piece with number k reaches its target
-abbrev pub fits_at : List ℕ → List Piece → List ℕ → ℕ → Bool
-fits_at addresses pieces sizes k = holds_at addresses k (nth_piece pieces k) (slice_index sizes k)
+abbrev pub block_fits : List ℕ → List Piece → List ℕ → ℕ → Bool
+block_fits addresses pieces sizes k = holds_at addresses k (nth_piece pieces k) (slice_index sizes k)
 
 -- the form that a round gives to the piece with number k
 abbrev pub grown_size : List ℕ → ℕ → Piece → ℕ → ℕ
@@ -111,8 +111,8 @@ pub record HaveGrownIn (addresses : List ℕ) (pieces : List Piece) (old sizes :
   pub after : (k : ℕ) → end ≤ k → slice_index sizes k ≡ slice_index old k
   pub grown : (k : ℕ) → first ≤ k → k < end
       → slice_index sizes k ≡ grown_size addresses k (nth_piece pieces k) (slice_index old k)
-  pub fit : fitted ≡ true → (k : ℕ) → first ≤ k → k < end → fits_at addresses pieces old k ≡ true
-  pub unfit : fitted ≡ false → (k : ℕ) × (first ≤ k) × (k < end) × (fits_at addresses pieces old k ≡ false)
+  pub fit : fitted ≡ true → (k : ℕ) → first ≤ k → k < end → block_fits addresses pieces old k ≡ true
+  pub unfit : fitted ≡ false → (k : ℕ) × (first ≤ k) × (k < end) × (block_fits addresses pieces old k ≡ false)
   pub spanned : (k : ℕ) → first ≤ k → k < end → IsSpanned (nth_piece pieces k) (slice_index sizes k) low high
   pub low_most : low ≤ first
   pub high_least : first ≤ high
@@ -140,11 +140,11 @@ IsStill changes low high = slice_index changes low ≡ slice_index changes (high
 abbrev pub AreTested : List ℕ → List Piece → List ℕ → List Bool → List ℕ → List ℕ → Type 0
 AreTested addresses pieces sizes grown lows highs =
     (k : ℕ) → k < length pieces
-    → (IsKept grown (k / block_size) → fits_at addresses pieces sizes k ≡ true) × IsNearAt pieces sizes lows highs k
+    → (IsUnchanged grown (k / block_size) → block_fits addresses pieces sizes k ≡ true) × IsNearAt pieces sizes lows highs k
 
 -- before the next, those of blocks near which nothing changed do
 abbrev pub OthersFit : List ℕ → List Piece → List ℕ → List ℕ → List ℕ → List ℕ → Type 0
 OthersFit addresses pieces sizes changes lows highs =
     (k : ℕ) → k < length pieces
     → IsStill changes (slice_index lows (k / block_size)) (slice_index highs (k / block_size))
-    → (fits_at addresses pieces sizes k ≡ true) × IsNearAt pieces sizes lows highs k
+    → (block_fits addresses pieces sizes k ≡ true) × IsNearAt pieces sizes lows highs k
