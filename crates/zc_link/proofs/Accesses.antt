@@ -8,7 +8,7 @@ use Rattle.rv_decode.specs.declared.instr.LoadOp.TheVariants.{Lb, Lh, Lw, Lbu, L
 use Rattle.rv_decode.specs.declared.instr.StoreOp.{StoreOp}
 use Rattle.rv_decode.specs.declared.instr.StoreOp.TheVariants.{Sb, Sh, Sw}
 use Rattle.rv_decode.specs.Bits.{as_word}
-use Rattle.rv_decode.specs.Effect.{Effect, load_result, load_width, reaching as effect_reaching, store_width}
+use Rattle.rv_decode.specs.Effect.{Effect, load_result, load_width, reaching, store_width}
 use Rattle.rv_decode.specs.Memory.{byte_of, extents_of, is_data, lies_in, written}
 use Rattle.rv_decode.specs.State.{ZcCore, byte_in, half_at, word_at}
 use Rattle.sym_machine.specs.declared.why.Why.TheVariants.{BadAddress, Misaligned}
@@ -16,11 +16,11 @@ use Rattle.sym_machine.specs.declared.word.SymByte.{SymByte}
 use Rattle.sym_machine.specs.declared.word.SymByte.TheVariants.{Num, Part, Undef}
 use Rattle.sym_machine.specs.declared.word.SymWord.{SymWord}
 use Rattle.sym_machine.specs.declared.word.Value.{Value}
-use Rattle.sym_machine.specs.Change.{Change, Does, Goes, Stops, in_memory, load_word, reaching, stored_bytes}
+use Rattle.sym_machine.specs.Change.{Change, Does, Goes, Stops, in_memory, load_word, accessing, stored_bytes}
 use Rattle.sym_machine.specs.Program.{Program}
 use Rattle.sym_machine.specs.State.{PlainCore, cell_of}
-use Rattle.sym_machine.specs.Words.{number_of, sign_of, signed_byte, signed_half}
-use Rattle.zc_link.specs.Image.{Image, place_address}
+use Rattle.sym_machine.specs.Words.{byte_word, half_word, number_of, sign_of}
+use Rattle.zc_link.specs.Image.{Image}
 use Rattle.zc_link.specs.Room.{Room, SpansMemory}
 use Rattle.zc_link.specs.Sound.{NamesByte, NamesWord, Ready}
 use Rattle.zc_link.specs.Stands.{ByteStands, WordStands}
@@ -39,11 +39,11 @@ pub record Reached (p : Program) (n a : ℕ) (does : Does) (c : Change) : Type 0
 
 module _ {p : Program} {Named : Place → Type 0} {e : Image} {s : PlainCore} {z : ZcCore} (room : Room p e) (ready : Ready p Named e s z) where
   abbrev V : Value → Option ℕ
-  V = value_in p (place_address e)
+  V = value_in p e.address
 
   -- the program's access, by a word that stands for its address
   pub reached :
-      (n : ℕ) (w : SymWord) (a : ℕ) (go : ℕ → Does) (c : Change) → a < 2 ^ 32 → WordStands V w a → reaching n (number_of w) s go ≡ Goes c
+      (n : ℕ) (w : SymWord) (a : ℕ) (go : ℕ → Does) (c : Change) → a < 2 ^ 32 → WordStands V w a → accessing n (number_of w) s go ≡ Goes c
       → Reached p n a (go a) c
   reached n w a go c small stands h = known (number_of w) refl h
     where
@@ -56,12 +56,12 @@ module _ {p : Program} {Named : Place → Type 0} {e : Image} {s : PlainCore} {z
       tested m true false same aligned lies g = absurd cc
       tested m false y same aligned lies g = absurd cc
 
-      known : (o : Option ℕ) → number_of w ≡ o → reaching n o s go ≡ Goes c → Reached p n a (go a) c
+      known : (o : Option ℕ) → number_of w ≡ o → accessing n o s go ≡ Goes c → Reached p n a (go a) c
       known None is g = absurd cc
       known (Some m) is g = tested m (eqb (m % n) 0) (in_memory s m n) (number_is V w a m small stands is) refl refl g
 
   -- then the machine makes it
-  pub made_there : (n a : ℕ) (go : Effect) → 0 < n → a % n ≡ 0 → SpansMemory p a n → effect_reaching n a z go ≡ go
+  pub made_there : (n a : ℕ) (go : Effect) → 0 < n → a % n ≡ 0 → SpansMemory p a n → reaching n a z go ≡ go
   made_there n a go some aligned spans =
       cond-true (eqb (a % n) 0) _ _ (eq-eqb (a % n) 0 aligned)
       ∙ cond-true (lies_in is_data (extents_of z.memory) a n) _ _ (ap (λ es. lies_in is_data es a n) ready.extents ∙ room.reaches a n some spans)
@@ -90,7 +90,7 @@ module _ {p : Program} {Named : Place → Type 0} {e : Image} {s : PlainCore} {z
 
   byte_stands :
       (c : SymByte) (b : ℕ) (t : Bool) → ltb b 128 ≡ t → b < 256 → ByteStands V c b
-      → WordStands V (signed_byte c) (as_word (cond t (pos b) (negsuc (256 - b - 1))))
+      → WordStands V (byte_word c (sign_of c)) (as_word (cond t (pos b) (negsuc (256 - b - 1))))
   byte_stands c b true t lt h =
       let l = ltb-true b 128 t in
       let sign : ByteStands V (sign_of c) 0 = sign_stands c b 0 h (λ _. refl) (λ g. absurd (omega (arith, l, g))) in
@@ -112,7 +112,7 @@ module _ {p : Program} {Named : Place → Type 0} {e : Image} {s : PlainCore} {z
 
   half_stands :
       (c d : SymByte) (x y n : ℕ) (t : Bool) → n ≡ x + 256 * y → ltb n 32768 ≡ t → x < 256 → y < 256 → ByteStands V c x → ByteStands V d y
-      → WordStands V (signed_half c d) (as_word (cond t (pos n) (negsuc (65536 - n - 1))))
+      → WordStands V (half_word c d (sign_of d)) (as_word (cond t (pos n) (negsuc (65536 - n - 1))))
   half_stands c d x y n true is t lx ly hx hy =
       let l = ltb-true n 32768 t in
       let sign : ByteStands V (sign_of d) 0 = sign_stands d y 0 hy (λ _. refl) (λ g. absurd (omega (arith, l, g, is))) in
@@ -208,12 +208,12 @@ byte_below m i = below (m / 256 ^ i)
 module _ {p : Program} {e : Image} (room : Room p e) where
   -- what a store writes in both
   pub stored_agrees :
-      {Named : Place → Type 0} (op : StoreOp) (w : SymWord) (n a : ℕ) → SpansMemory p a (store_width op) → WordStands (value_in p (place_address e)) w n → NamesWord Named w
+      {Named : Place → Type 0} (op : StoreOp) (w : SymWord) (n a : ℕ) → SpansMemory p a (store_width op) → WordStands (value_in p e.address) w n → NamesWord Named w
       → Agrees p Named e (written a (length (stored_bytes op w)) (λ i. get_or (stored_bytes op w) i Undef)) (written a (store_width op) (byte_of n))
   stored_agrees {Named} Sb w n a spans st names =
       written_agrees room a 1 (λ i. get_or (stored_bytes Sb w) i Undef) (byte_of n) spans stands named (λ i _. byte_below n i)
     where
-      stands : (i : ℕ) → i < 1 → ByteStands (value_in p (place_address e)) (get_or (stored_bytes Sb w) i Undef) (byte_of n i)
+      stands : (i : ℕ) → i < 1 → ByteStands (value_in p e.address) (get_or (stored_bytes Sb w) i Undef) (byte_of n i)
       stands zero lt = st.b0
       stands (suc i) lt = absurd (omega (arith, lt))
 
@@ -223,7 +223,7 @@ module _ {p : Program} {e : Image} (room : Room p e) where
   stored_agrees {Named} Sh w n a spans st names =
       written_agrees room a 2 (λ i. get_or (stored_bytes Sh w) i Undef) (byte_of n) spans stands named (λ i _. byte_below n i)
     where
-      stands : (i : ℕ) → i < 2 → ByteStands (value_in p (place_address e)) (get_or (stored_bytes Sh w) i Undef) (byte_of n i)
+      stands : (i : ℕ) → i < 2 → ByteStands (value_in p e.address) (get_or (stored_bytes Sh w) i Undef) (byte_of n i)
       stands zero lt = st.b0
       stands (suc zero) lt = st.b1
       stands (suc (suc i)) lt = absurd (omega (arith, lt))
@@ -235,7 +235,7 @@ module _ {p : Program} {e : Image} (room : Room p e) where
   stored_agrees {Named} Sw w n a spans st names =
       written_agrees room a 4 (λ i. get_or (stored_bytes Sw w) i Undef) (byte_of n) spans stands named (λ i _. byte_below n i)
     where
-      stands : (i : ℕ) → i < 4 → ByteStands (value_in p (place_address e)) (get_or (stored_bytes Sw w) i Undef) (byte_of n i)
+      stands : (i : ℕ) → i < 4 → ByteStands (value_in p e.address) (get_or (stored_bytes Sw w) i Undef) (byte_of n i)
       stands zero lt = st.b0
       stands (suc zero) lt = st.b1
       stands (suc (suc zero)) lt = st.b2

@@ -2,31 +2,31 @@
 -- so the sum of an upper part and the lower part that goes with it stands for the address that the two are parts of.
 use Rattle.std.proofs.Common.{◌≡◌, ℕ, ◌*◌, ◌%◌, ◌^◌, ◌<◌, Option, Some, None, Bool, true, false, cond, refl, sym, ap, ◌∙◌, arith, eqb}
 use Rattle.std.specs.Prelude.{◌&&◌}
-use Rattle.std.specs.Option.{option_and_then, option_map}
+use Rattle.std.specs.Option.{option_and_then, option_map, option_map_or}
 use Rattle.std.proofs.lemmas.Bool.{and_parts, eqb-true}
 use Rattle.zc_base.specs.declared.place.Place.{Place}
 use Rattle.rv_decode.specs.Bits.{add32}
 use Rattle.rv_decode.specs.Memory.{byte_of}
 use Rattle.psabi_reloc.specs.Parts.{hi20_of, lo12_of}
 use Rattle.psabi_sym.specs.declared.target.Target.{Target}
-use Rattle.psabi_sym.specs.declared.target.Target.TheVariants as target
 use Rattle.sym_machine.specs.declared.word.Value.{Value}
 use Rattle.sym_machine.specs.declared.word.Value.TheVariants.{Code, AbsHi, PcHi}
 use Rattle.sym_machine.specs.declared.word.SymByte.{SymByte}
 use Rattle.sym_machine.specs.declared.word.SymByte.TheVariants.{Num, Part, Undef}
 use Rattle.sym_machine.specs.declared.word.SymWord.{SymWord}
-use Rattle.sym_machine.specs.AddressParts.{high_word, low_sum, pc_low_sum, pc_target, target_word, way_word}
+use Rattle.sym_machine.specs.AddressParts.{high_word, low_sum, pc_low_sum, pc_target, target_word}
 use Rattle.sym_machine.specs.Program.{Program}
 use Rattle.sym_machine.specs.Words.{code_from, code_of, code_word, is_part, is_value, number_word, same_value, undef_word, value_word}
-use Rattle.zc_link.specs.Image.{Image, place_address}
+use Rattle.zc_link.specs.Image.{Image}
 use Rattle.zc_link.specs.Leads.{NamesTarget}
 use Rattle.zc_link.specs.Room.{Room}
 use Rattle.zc_link.specs.Sound.{NamesWord}
 use Rattle.zc_link.specs.Stands.{ByteStands, WordStands}
-use Rattle.zc_link.specs.Values.{pc_upper, target_value, value_in, way}
-use Rattle.zc_link.proofs.PartLaws.{parts_sum, way_sum}
+use Rattle.zc_link.specs.Values.{target_value, value_in, way}
+use Rattle.zc_link.proofs.PartLaws.{parts_sum, way_sum, pc_upper}
 use Rattle.zc_link.proofs.PlaceLaws.{same_place-true}
 use Rattle.zc_link.proofs.Words.{number_names, number_stands, sum_names, sum_stands, undef_names, undef_stands}
+use Rattle.psabi_sym.specs.declared.target.Target.TheVariants as target
 
 -- ---- values
 
@@ -91,24 +91,24 @@ module _ (V : Value → Option ℕ) where
 
 module _ {p : Program} {e : Image} (room : Room p e) where
   abbrev V : Value → Option ℕ
-  V = value_in p (place_address e)
+  V = value_in p e.address
 
-  pub place_below : (q : Place) (x : ℕ) → place_address e q ≡ Some x → x < 2 ^ 32
+  pub place_below : (q : Place) (x : ℕ) → e.address q ≡ Some x → x < 2 ^ 32
   place_below q x h = (room.even q x h).2
 
   -- a word that is a place's address stands for it
-  pub code_is : (w : SymWord) (n : ℕ) (q : Place) → n < 2 ^ 32 → WordStands V w n → code_of w ≡ Some q → place_address e q ≡ Some n
+  pub code_is : (w : SymWord) (n : ℕ) (q : Place) → n < 2 ^ 32 → WordStands V w n → code_of w ≡ Some q → e.address q ≡ Some n
   code_is w n q small st h = by_first w.b0 h
     where
-      tested : (r : Place) (b : Bool) → is_value (Code r) w ≡ b → cond b (Some r) None ≡ Some q → place_address e q ≡ Some n
+      tested : (r : Place) (b : Bool) → is_value (Code r) w ≡ b → cond b (Some r) None ≡ Some q → e.address q ≡ Some n
       tested r true t g =
           let v = value_is V (Code r) w n small st t in
           let is : n ≡ v.0 = v.2 (place_below r v.0 v.1) in
           let who : r ≡ q = cc in
-          ap (place_address e) (sym who) ∙ v.1 ∙ ap Some (sym is)
+          ap e.address (sym who) ∙ v.1 ∙ ap Some (sym is)
       tested r false t g = absurd cc
 
-      by_first : (c : SymByte) → code_from c w ≡ Some q → place_address e q ≡ Some n
+      by_first : (c : SymByte) → code_from c w ≡ Some q → e.address q ≡ Some n
       by_first (Num k) g = absurd cc
       by_first Undef g = absurd cc
       by_first (Part (AbsHi r) j) g = absurd cc
@@ -119,12 +119,12 @@ module _ {p : Program} {e : Image} (room : Room p e) where
   pub code_above : (w : SymWord) (n : ℕ) (q : Place) → n < 2 ^ 32 → WordStands V w n → code_of w ≡ Some q → 0 < n
   code_above w n q small st h = (room.even q n (code_is w n q small st h)).1
 
-  pub code_stands : (q : Place) (x : ℕ) → place_address e q ≡ Some x → WordStands V (code_word q) x
+  pub code_stands : (q : Place) (x : ℕ) → e.address q ≡ Some x → WordStands V (code_word q) x
   code_stands q x h = value_stands V (Code q) x h
 
   -- ---- absolute addresses
 
-  pub target_stands : (t : Target) (x : ℕ) → target_value (place_address e) t ≡ Some x → WordStands V (target_word t) (x % 2 ^ 32)
+  pub target_stands : (t : Target) (x : ℕ) → target_value e.address t ≡ Some x → WordStands V (target_word t) (x % 2 ^ 32)
   target_stands (target.Code q) x h =
       let small = place_below q x h in
       let same : x % 2 ^ 32 ≡ x = omega (arith, small) in
@@ -134,7 +134,7 @@ module _ {p : Program} {e : Image} (room : Room p e) where
   target_stands target.Nowhere x h = absurd cc
 
   -- an upper part stands for that of the address
-  pub high_stands : (t : Target) (x : ℕ) → target_value (place_address e) t ≡ Some x → WordStands V (high_word t) (hi20_of x * 2 ^ 12)
+  pub high_stands : (t : Target) (x : ℕ) → target_value e.address t ≡ Some x → WordStands V (high_word t) (hi20_of x * 2 ^ 12)
   high_stands (target.Code q) x h = value_stands V (AbsHi q) (hi20_of x * 2 ^ 12) (ap (option_map (λ y. hi20_of y * 2 ^ 12)) h)
   high_stands (target.Number n) x h = let same : n ≡ x = cc in rw (sym same) (number_stands V (hi20_of n * 2 ^ 12))
   high_stands (target.Absent n) x h = let same : n ≡ x = cc in rw (sym same) (number_stands V (hi20_of n * 2 ^ 12))
@@ -142,14 +142,14 @@ module _ {p : Program} {e : Image} (room : Room p e) where
 
   -- the sum with the lower part stands for the machine's
   pub low_stands :
-      (t : Target) (base : SymWord) (n x : ℕ) → n < 2 ^ 32 → target_value (place_address e) t ≡ Some x → WordStands V base n
+      (t : Target) (base : SymWord) (n x : ℕ) → n < 2 ^ 32 → target_value e.address t ≡ Some x → WordStands V base n
       → WordStands V (low_sum t base) (add32 n (lo12_of x))
   low_stands (target.Code q) base n x small h st = tested (is_value (AbsHi q) base) refl
     where
       tested : (b : Bool) → is_value (AbsHi q) base ≡ b → WordStands V (cond b (code_word q) undef_word) (add32 n (lo12_of x))
       tested true g =
           let v = value_is V (AbsHi q) base n small st g in
-          let high : v.0 ≡ hi20_of x * 2 ^ 12 = some_same (option_map (λ y. hi20_of y * 2 ^ 12) (place_address e q)) (hi20_of x * 2 ^ 12) v.0 (ap (option_map (λ y. hi20_of y * 2 ^ 12)) h) v.1 in
+          let high : v.0 ≡ hi20_of x * 2 ^ 12 = some_same (option_map (λ y. hi20_of y * 2 ^ 12) (e.address q)) (hi20_of x * 2 ^ 12) v.0 (ap (option_map (λ y. hi20_of y * 2 ^ 12)) h) v.1 in
           let is : n ≡ hi20_of x * 2 ^ 12 = v.2 (omega (arith, high)) ∙ high in
           let low = place_below q x h in
           let sum : add32 n (lo12_of x) ≡ x = ap (λ y. add32 y (lo12_of x)) is ∙ parts_sum x ∙ omega (arith, low) in
@@ -163,25 +163,25 @@ module _ {p : Program} {e : Image} (room : Room p e) where
 
   -- what the `auipc` at a place gives
   way_value :
-      (q : Place) (t : Target) (a x : ℕ) → pc_target (p.item q) ≡ Some t → place_address e q ≡ Some a → target_value (place_address e) t ≡ Some x
+      (q : Place) (t : Target) (a x : ℕ) → pc_target (p.item q) ≡ Some t → e.address q ≡ Some a → target_value e.address t ≡ Some x
       → V (PcHi q) ≡ Some (pc_upper a x)
   way_value q t a x leads at h =
-      ap (option_and_then (λ b. option_map (pc_upper b) (option_and_then (target_value (place_address e)) (pc_target (p.item q))))) at
-      ∙ ap (λ o. option_map (pc_upper a) (option_and_then (target_value (place_address e)) o)) leads
+      ap (option_and_then (λ b. option_map (pc_upper b) (option_and_then (target_value e.address) (pc_target (p.item q))))) at
+      ∙ ap (λ o. option_map (pc_upper a) (option_and_then (target_value e.address) o)) leads
       ∙ ap (option_map (pc_upper a)) h
 
   pub way_stands :
-      (q : Place) (t : Target) (a x : ℕ) → pc_target (p.item q) ≡ Some t → place_address e q ≡ Some a → target_value (place_address e) t ≡ Some x
+      (q : Place) (t : Target) (a x : ℕ) → pc_target (p.item q) ≡ Some t → e.address q ≡ Some a → target_value e.address t ≡ Some x
       → WordStands V (value_word (PcHi q)) (pc_upper a x)
   way_stands q t a x leads at h = value_stands V (PcHi q) (pc_upper a x) (way_value q t a x leads at h)
 
   -- the sum with the lower part that goes with it
   pub pc_low_stands :
-      (q : Place) (t : Target) (a x : ℕ) (base : SymWord) (n : ℕ) → n < 2 ^ 32 → pc_target (p.item q) ≡ Some t → place_address e q ≡ Some a
-      → target_value (place_address e) t ≡ Some x → WordStands V base n → WordStands V (pc_low_sum q (pc_target (p.item q)) base) (add32 n (lo12_of (way a x)))
+      (q : Place) (t : Target) (a x : ℕ) (base : SymWord) (n : ℕ) → n < 2 ^ 32 → pc_target (p.item q) ≡ Some t → e.address q ≡ Some a
+      → target_value e.address t ≡ Some x → WordStands V base n → WordStands V (pc_low_sum q (pc_target (p.item q)) base) (add32 n (lo12_of (way a x)))
   pc_low_stands q t a x base n small leads at h st = tested (is_value (PcHi q) base) refl
     where
-      tested : (b : Bool) → is_value (PcHi q) base ≡ b → WordStands V (cond b (way_word (pc_target (p.item q))) undef_word) (add32 n (lo12_of (way a x)))
+      tested : (b : Bool) → is_value (PcHi q) base ≡ b → WordStands V (cond b (option_map_or target_word (pc_target (p.item q)) undef_word) undef_word) (add32 n (lo12_of (way a x)))
       tested true g =
           let v = value_is V (PcHi q) base n small st g in
           let upper : v.0 ≡ pc_upper a x = some_same (V (PcHi q)) (pc_upper a x) v.0 (way_value q t a x leads at h) v.1 in

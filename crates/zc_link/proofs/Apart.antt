@@ -1,29 +1,23 @@
 -- Interrupts and cells of data lie apart. An interrupt writes in the stack, a cell lies in data, and the stack begins at or after
--- data's end: so an interrupt does the same whatever data hold. And so do the commits of a piece of several instructions.
-use Rattle.std.proofs.Common.{◌≡◌, ◌≢◌, ℕ, suc, ◌+◌, ◌<◌, List, [], ◌∷◌, Bool, true, false, cond, refl, sym, ap, ap₂, ◌∙◌, subst, ⊎_elim, arith, ltb, leb}
+-- data's end: so an interrupt does the same whatever data hold. And so do the commits of a stretch of several instructions.
+use Rattle.std.proofs.Common.{◌≡◌, ◌≢◌, ℕ, suc, ◌+◌, ◌<◌, List, [], ◌∷◌, Bool, true, false, cond, refl, sym, ap, ap₂, ◌∙◌, arith, ltb, leb}
 use Rattle.std.specs.Prelude.{◌&&◌, ◌⊎◌}
-use Rattle.std.proofs.lemmas.Bool.{and_parts, leb-true, ltb-true}
+use Rattle.std.proofs.lemmas.Bool.{and_parts, cond_both, leb-true, ltb-true}
 use Rattle.zc_base.specs.declared.place.Place.{Place}
-use Rattle.rv_decode.specs.declared.instr.BranchOp.{BranchOp}
-use Rattle.rv_decode.specs.declared.instr.Instr.TheVariants.{Branch, Jal, Jalr, Upper}
-use Rattle.rv_decode.specs.declared.instr.UpperOp.TheVariants.{Auipc}
 use Rattle.rv_decode.specs.Memory.{Extent, Region, cells_changed, changed, extents_of, is_stack, lies_in, written}
 use Rattle.rv_decode.specs.State.{ZcCore, ZcState, reg_in}
 use Rattle.rv_decode.proofs.MemoryLaws.{extents-changed}
 use Rattle.sym_machine.specs.Program.{Program}
-use Rattle.sym_machine.specs.State.{PlainCore, PlainState}
+use Rattle.sym_machine.specs.State.{PlainState}
 use Rattle.zc_machine.specs.Interrupt.{all_dirtied, dirtied, is_free}
-use Rattle.zc_link.specs.Image.{Image, loaded}
+use Rattle.zc_link.specs.Image.{Image}
 use Rattle.zc_link.specs.Laid.{Laid}
-use Rattle.zc_link.specs.Pace.{AlignOf, Alone, CallOf, LongOf, Piece, commits_of, pace_of, span_of}
-use Rattle.zc_link.specs.Pieces.{LongLaid, PieceLaid}
-use Rattle.zc_link.specs.Simulates.{CommitsApart, Commits, Cuts, CutsApart, FromLoad, FromPair, OnWay, Pokes, Starts}
-use Rattle.zc_link.specs.Sound.{Alike}
-use Rattle.zc_link.proofs.Bare.{Bares, bare_apart, nops_bare, two_bare}
-use Rattle.zc_link.proofs.Cuts.{stack_within}
-use Rattle.zc_link.proofs.Extents.{SameExtents, dirtied_extents, on_way_extents}
-use Rattle.zc_link.proofs.Longs.{goes_over, known_taken}
-use Rattle.zc_link.proofs.Start.{no_lead}
+use Rattle.zc_link.specs.Pace.{Stretch, commits_of, pace_of, span_of}
+use Rattle.zc_link.specs.DataApart.{CommitsApart, CutsApart, FromLoad, FromPair, OnWay, Pokes, poked}
+use Rattle.zc_link.proofs.AtBase.{AtBase, base_fetched}
+use Rattle.zc_link.proofs.Bare.{bare_apart}
+use Rattle.zc_link.proofs.Cuts.{cut-base, stack_within}
+use Rattle.zc_link.proofs.OnWay.{lead_base, none_left, pair_bare, pair_base}
 
 -- ---- changes of different cells
 
@@ -57,6 +51,12 @@ module _ (a b : ℕ) where
   abbrev IsOutside : ZcCore → Type 0
   IsOutside y = (x : ℕ) → lies_in is_stack (extents_of y.memory) x 1 ≡ true → x ≢ a
 
+  -- an interrupt's writes leave the regions where they lie
+  dirtied_outside : (d : ℕ × ℕ) (y : ZcCore) → IsOutside y → IsOutside (dirtied d y)
+  dirtied_outside d y outside =
+      cond_both (is_free y d.0) (record y { memory = changed (written d.0 1 (λ i. d.1)) y.memory }) y IsOutside
+      (λ _. rw (extents-changed (written d.0 1 (λ i. d.1)) y.memory) outside) (λ _. outside)
+
   dirtied-with_cell : (d : ℕ × ℕ) (y : ZcCore) → IsOutside y → dirtied d (with_cell y) ≡ with_cell (dirtied d y)
   unfolding with_cell
   dirtied-with_cell d y outside =
@@ -76,61 +76,35 @@ module _ (a b : ℕ) where
   all_dirtied-with_cell : (ds : List (ℕ × ℕ)) (y : ZcCore) → IsOutside y → all_dirtied ds (with_cell y) ≡ with_cell (all_dirtied ds y)
   all_dirtied-with_cell [] y outside = refl
   all_dirtied-with_cell (d ∷ ds) y outside =
-      ap (all_dirtied ds) (dirtied-with_cell d y outside)
-      ∙ all_dirtied-with_cell ds (dirtied d y) (λ x h. outside x (ap (λ es. lies_in is_stack es x 1) (sym (dirtied_extents d y)) ∙ h))
+      ap (all_dirtied ds) (dirtied-with_cell d y outside) ∙ all_dirtied-with_cell ds (dirtied d y) (dirtied_outside d y outside)
 
 -- ---- on the way
 
-module _ {p : Program} {Named : Place → Type 0} {e : Image} {piece : Place → Piece} (laid : Laid p Named e piece) where
-  cuts_apart_from : {From : ℕ → ZcState → Type 0} → ((k : ℕ) (z : ZcState) → From k z → SameExtents (loaded e) z.core) → CutsApart p From
+module _ {p : Program} {Named : Place → Type 0} {e : Image} {stretch : Place → Stretch} (laid : Laid p Named e stretch) where
+  -- with the cell written, too, no push or pop stands at pc
+  cuts_apart_from : {From : ℕ → ZcState → Type 0} → ((k : ℕ) (z : ZcState) → OnWay p From (suc k) z → AtBase e z.core) → CutsApart p From
   unfolding with_cell
-  cuts_apart_from from k z way c is a b cell small = all_dirtied-with_cell a b c.dirt z.core (λ x h same.
-      let within = stack_within laid.room z.core (on_way_extents e from way) x h in
+  cuts_apart_from base k z way c is a b cell small =
+      let here = base k z way in
+      let there = base k (poked a b z) (Pokes k z a b cell small way) in
+      cut-base c (poked a b z).core there.instr there.at.size (base_fetched there)
+      ∙ all_dirtied-with_cell a b c.dirt z.core (λ x h same.
+      let within = stack_within laid.room z.core here.text.extents x h in
       let under = laid.room.under in
       let high = cell.high in
       omega (arith, within.0, same, under, high))
+      ∙ ap (with_cell a b) (sym (cut-base c z.core here.instr here.at.size (base_fetched here)))
 
-  pub cuts_apart : (r : PlainState) → CutsApart p (FromPair p Named e (pace_of p piece) r)
-  cuts_apart r = cuts_apart_from (λ k z from. from.sound.alike.extents)
+  pub cuts_apart : (r : PlainState) → CutsApart p (FromPair p Named e (pace_of p stretch) r)
+  cuts_apart r = cuts_apart_from (pair_base laid r)
 
   pub lead_cuts_apart : CutsApart p (FromLoad p e)
-  lead_cuts_apart = cuts_apart_from (λ k z from. rw from.loads refl)
-
-  -- a long branch of two commits is taken, so its first instruction goes on to the jump
-  long_bare :
-      (s : PlainCore) (y : ZcCore) (op : BranchOp) (first second : ℕ) → Alike p Named e s y → LongLaid p e s.place y.pc op first second
-      → 1 < commits_of p s (LongOf op first second) → Bares e (commits_of p s (LongOf op first second)) y.regs y.pc
-  long_bare s y op first second al long more =
-      let taken = known_taken p s op first second more in
-      subst (λ n. Bares e n y.regs y.pc) (sym taken.commits)
-      (two_bare e y.regs y.pc (Branch long.other first second long.over) (Jal 0 long.distance) tt (goes_over s y laid.room al long taken.is) tt long.at)
-
-  -- a piece of several instructions has none that looks at memory
-  piece_bare :
-      (s : PlainCore) (y : ZcCore) (x : Piece) → Alike p Named e s y → PieceLaid p e s.place y.pc x → (1 < span_of x) ⊎ (1 < commits_of p s x)
-      → Bares e (commits_of p s x) y.regs y.pc
-  piece_bare s y Alone al item more = ⊎_elim (λ steps. absurd (omega (arith, steps))) (λ commits. absurd (omega (arith, commits))) more
-  piece_bare s y (AlignOf count) al align more = nops_bare e count y.regs y.pc align.end align.nops
-  piece_bare s y CallOf al call more = two_bare e y.regs y.pc (Upper Auipc call.temp call.upper) (Jalr call.rd call.temp call.lower) tt tt tt call.at
-  piece_bare s y (LongOf op first second) al long more =
-      ⊎_elim (λ steps. absurd (omega (arith, steps))) (λ commits. long_bare s y op first second al long commits) more
+  lead_cuts_apart = cuts_apart_from (lead_base laid)
 
   pub commits_apart :
-      (r : PlainState) → (1 < span_of (piece r.core.place)) ⊎ (1 < commits_of p r.core (piece r.core.place))
-      → CommitsApart p (FromPair p Named e (pace_of p piece) r)
-  commits_apart r more = bare_apart laid.room (λ k z from. record {
-    going = from.sound.alike.going;
-    same = record { extents = from.sound.alike.extents; text = from.sound.alike.text };
-    bares = subst (λ n. Bares e n z.core.regs z.core.pc) (sym from.commits)
-        (piece_bare r.core z.core (piece r.core.place) from.sound.alike (laid.each r.core.place z.core.pc from.sound.place) more);
-  })
-
-  -- no commit comes before the start
-  none_left : {k : ℕ} {z : ZcState} → OnWay p (FromLoad p e) k z → k ≡ 0
-  none_left (Starts k z from) = from.commits ∙ no_lead laid
-  none_left (Cuts k z c is way) = none_left way
-  none_left (Pokes k z a b is small way) = none_left way
-  none_left (Commits k z z' way turn) = absurd (omega (arith, none_left way))
+      (r : PlainState) → (1 < span_of (stretch r.core.place)) ⊎ (1 < commits_of p r.core (stretch r.core.place))
+      → CommitsApart p (FromPair p Named e (pace_of p stretch) r)
+  commits_apart r more = bare_apart laid.room (pair_bare laid r more)
 
   pub lead_commits_apart : CommitsApart p (FromLoad p e)
-  lead_commits_apart k z z' way turn a b cell small = absurd (omega (arith, none_left way))
+  lead_commits_apart k z z' way turn a b cell small = absurd (omega (arith, none_left laid way))

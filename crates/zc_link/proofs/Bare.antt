@@ -1,28 +1,28 @@
--- Commits that don't look at memory: they do the same whatever data hold, and leave memory as it is. So do those of a piece of several
+-- Commits that don't look at memory: they do the same whatever data hold, and leave memory as it is. So do those of a stretch of several
 -- instructions, from the first to the last, whatever interrupts come and whatever cells of data are written between them.
-use Rattle.std.proofs.Common.{◌≡◌, ℕ, zero, suc, ◌+◌, ◌<◌, List, [], ◌∷◌, None, Ok, true, false, refl, sym, ap, ◌∙◌, subst, inl, arith, ltb, pos}
-use Rattle.std.proofs.lemmas.Bool.{and_parts, cond_both}
+use Rattle.std.specs.Option.{option_map_or}
+use Rattle.std.proofs.Common.{◌≡◌, ℕ, zero, suc, ◌+◌, ◌<◌, List, [], None, Ok, false, refl, sym, ap, ◌∙◌, subst, arith, pos}
 use Rattle.rv_decode.specs.declared.instr.Instr.{Instr}
 use Rattle.rv_decode.specs.declared.instr.Instr.TheVariants.{Upper, Jal, Jalr, Branch, Load, Store, WithImm, WithReg, Fence, Ecall, Ebreak, Csrrw}
 use Rattle.rv_decode.specs.declared.instr.ImmOp.TheVariants.{Addi}
 use Rattle.rv_decode.specs.Effect.{Commits, after, branch_target, effect}
-use Rattle.rv_decode.specs.Memory.{cell_at, changed, extents_of, is_data, is_stack, is_text, lies_in, written}
+use Rattle.rv_decode.specs.Memory.{cell_at, changed, extents_of, written}
 use Rattle.rv_decode.specs.Results.{is_taken}
-use Rattle.rv_decode.specs.State.{ZcCore, ZcState, byte_in, reg_in}
+use Rattle.rv_decode.specs.State.{ZcCore, ZcState}
 use Rattle.rv_decode.proofs.RegisterLaws.{reads}
-use Rattle.rv_decode.proofs.MemoryLaws.{cell-changed, extents-changed, is_covered, lies_covered, stack_is_data, untouched}
 use Rattle.sym_machine.specs.Program.{Program}
 use Rattle.zc_decode.specs.declared.short.Short.TheVariants.{Base}
 use Rattle.zc_machine.specs.Fetch.{Found, fetched_at}
-use Rattle.zc_machine.specs.Interrupt.{all_dirtied, dirtied, is_free}
+use Rattle.zc_machine.specs.Interrupt.{interrupted}
 use Rattle.zc_machine.specs.Run.{committed, zc_turn}
-use Rattle.zc_machine.specs.Step.{effect_step, made, step_from, zc_step}
+use Rattle.zc_machine.specs.Step.{Ended, effect_step, made, zc_step}
 use Rattle.zc_machine.proofs.FetchLaws.{SameText, fetched_same}
 use Rattle.zc_machine.proofs.TurnLaws.{zc_turn-running}
-use Rattle.zc_link.specs.Image.{Image, loaded}
-use Rattle.zc_link.specs.Pieces.{Nops, OneAt, TwoAt}
+use Rattle.zc_link.specs.Image.{Image, loaded_core}
+use Rattle.zc_link.specs.Stretches.{Nops, OneAt, TwoAt}
 use Rattle.zc_link.specs.Room.{Room}
-use Rattle.zc_link.specs.Simulates.{Commits as Turns, CommitsApart, Cuts, IsCell, OnWay, Pokes, Starts, poked}
+use Rattle.zc_link.specs.DataApart.{CommitsApart, Cuts, IsCell, OnWay, Pokes, Starts, Turns, poked}
+use Rattle.zc_link.proofs.AtBase.{AtBase, KeepsText, base_fetched, cut_kept, poked_kept}
 use Rattle.zc_link.proofs.Singles.{below_top}
 
 -- ---- instructions
@@ -105,59 +105,31 @@ two_bare e regs a i j bare on last at = (i, at.one, bare, λ _. (on, λ later. o
 -- a state from which so many are still to be committed
 pub record OnBare (e : Image) (k : ℕ) (z : ZcState) : Type 0 where
   pub going : z.core.exit ≡ None
-  pub same : SameText (loaded e) z.core
+  pub same : SameText (loaded_core e) z.core
   pub bares : Bares e k z.core.regs z.core.pc
 
--- ---- bytes of data and stack that are written
+-- an instruction that is no push or pop stands at pc
+abbrev bare_base : {e : Image} {k : ℕ} {z : ZcState} → OnBare e (suc k) z → AtBase e z.core
+bare_base on = record { text = on.same; instr = on.bares.0; at = on.bares.1 }
+
+-- if only memory outside the text changes, so many are still to be committed
+bare_kept : {e : Image} {k : ℕ} {z : ZcState} (y : ZcCore) → OnBare e k z → KeepsText e z.core y → OnBare e k (record z { core = y })
+bare_kept {e} {k} y on kept = record {
+  going = ap (λ x. x.exit) kept.rest ∙ on.going;
+  same = kept.text;
+  bares = subst (λ x. Bares e k x.regs x.pc) (sym kept.rest) on.bares;
+}
+
+-- ---- commits
 
 module _ {p : Program} {e : Image} (room : Room p e) where
-  written_text :
-      (x b : ℕ) (y : ZcCore) → lies_in is_data (extents_of (loaded e).memory) x 1 ≡ true → SameText (loaded e) y
-      → SameText (loaded e) (record y { memory = changed (written x 1 (λ _. b)) y.memory })
-  written_text x b y held_there same = record {
-    extents = extents-changed (written x 1 (λ _. b)) y.memory ∙ same.extents;
-    text = λ a text.
-        let held : is_covered (extents_of y.memory) a ≡ true = ap (λ es. is_covered es a) same.extents ∙ lies_covered is_text (extents_of (loaded e).memory) a text in
-        cell-changed (written x 1 (λ _. b)) y.memory a 0 held
-        ∙ untouched x 1 (λ _. b) a (byte_in y a) (λ low high. other a text (omega (arith, low, high)))
-        ∙ same.text a text;
-  }
-    where
-      other : (a : ℕ) → lies_in is_text (extents_of (loaded e).memory) a 1 ≡ true → a ≡ x → ⊥
-      other a text is =
-          let none = room.apart a text in
-          let some = ap (λ k. lies_in is_data (extents_of (loaded e).memory) k 1) is ∙ held_there in
-          cc
-
-  poked_bare : (k a b : ℕ) (z : ZcState) → IsCell p a → OnBare e k z → OnBare e k (poked a b z)
-  poked_bare k a b z cell on = record {
-    going = on.going;
-    same = written_text a b z.core (room.reaches a 1 (omega arith) (inl (cell.low, omega (arith, cell.high)))) on.same;
-    bares = on.bares;
-  }
-
-  dirtied_bare : (k : ℕ) (d : ℕ × ℕ) (z : ZcState) → OnBare e k z → OnBare e k (record z { core = dirtied d z.core })
-  dirtied_bare k d z on =
-      cond_both (is_free z.core d.0) (record z.core { memory = changed (written d.0 1 (λ i. d.1)) z.core.memory }) z.core (λ y. OnBare e k (record z { core = y }))
-      (λ free.
-      let stack = (and_parts (lies_in is_stack (extents_of z.core.memory) d.0 1) (ltb d.0 (reg_in z.core 2)) free).0 in
-      let held = ap (λ es. lies_in is_data es d.0 1) (sym on.same.extents) ∙ stack_is_data (extents_of z.core.memory) d.0 1 stack in
-      record { going = on.going; same = written_text d.0 d.1 z.core held on.same; bares = on.bares })
-      (λ _. on)
-
-  all_dirtied_bare : (k : ℕ) (ds : List (ℕ × ℕ)) (z : ZcState) → OnBare e k z → OnBare e k (record z { core = all_dirtied ds z.core })
-  all_dirtied_bare k [] z on = on
-  all_dirtied_bare k (d ∷ ds) z on = all_dirtied_bare k ds (record z { core = dirtied d z.core }) (dirtied_bare k d z on)
-
-  -- ---- commits
-
   -- what a turn without interrupts then is
   bare_turn : (i : Instr) (size : ℕ) (z : ZcState) (y : ZcCore) → z.core.exit ≡ None → fetched_at z.core z.core.pc ≡ Found (Base i) size → effect i size z.core ≡ Commits y
       → zc_turn [] z ≡ Ok (record z { core = y })
   unfolding zc_step
   bare_turn i size z y going here does =
       zc_turn-running [] z going
-      ∙ ap (λ o. committed (step_from o z.core) z) going
+      ∙ ap (λ o. committed (option_map_or Ended o (made (fetched_at z.core z.core.pc) z.core)) z) going
       ∙ ap (λ f. committed (made f z.core) z) here
       ∙ ap (λ x. committed (effect_step x z.core) z) does
 
@@ -171,7 +143,7 @@ module _ {p : Program} {e : Image} (room : Room p e) where
       let i = on.bares.0 in
       let at = on.bares.1 in
       let does = bare_effect i at.size z.core on.bares.2 in
-      let here = fetched_same (loaded e) z.core on.same z.core.pc ∙ at.here in
+      let here = base_fetched (bare_base on) in
       let is : record z { core = does.left } ≡ z' = (let both = sym (bare_turn i at.size z does.left on.going here does.commits) ∙ turn in cc) in
       subst (BareTurn k z) is (record {
         on = record {
@@ -183,8 +155,8 @@ module _ {p : Program} {e : Image} (room : Room p e) where
           bares = rest i z.core.regs k does.left.regs (on.bares.3) (λ more. does.pc more ∙ sym (below_top z.core.pc z.core.pc at.size refl at.small));
         };
         apart = λ a b cell.
-            let other = poked_bare (suc k) a b z cell on in
-            bare_turn i at.size (poked a b z) (with_byte a b does.left) other.going (fetched_same (loaded e) (poked a b z).core other.same z.core.pc ∙ at.here) (does.apart a b);
+            let other = (poked_kept room a b z cell on.same).text in
+            bare_turn i at.size (poked a b z) (with_byte a b does.left) on.going (fetched_same (loaded_core e) (poked a b z).core other z.core.pc ∙ at.here) (does.apart a b);
       })
     where
       rest :
@@ -198,9 +170,12 @@ module _ {p : Program} {e : Image} (room : Room p e) where
   module _ {From : ℕ → ZcState → Type 0} (from : (k : ℕ) (z : ZcState) → From k z → OnBare e k z) where
     on_way : {k : ℕ} {z : ZcState} → OnWay p From k z → OnBare e k z
     on_way (Starts k z is) = from k z is
-    on_way (Cuts k z c is way) = all_dirtied_bare (suc k) c.dirt z (on_way way)
-    on_way (Pokes k z a b is small way) = poked_bare (suc k) a b z is (on_way way)
+    on_way (Cuts k z c is way) = let on = on_way way in bare_kept (interrupted c z.core) on (cut_kept room c z.core (bare_base on))
+    on_way (Pokes k z a b is small way) = let on = on_way way in bare_kept (poked a b z).core on (poked_kept room a b z is on.same)
     on_way (Turns k z z' way turn) = (turned k z z' (on_way way) turn).on
+
+    pub bares_base : (k : ℕ) (z : ZcState) → OnWay p From (suc k) z → AtBase e z.core
+    bares_base k z way = bare_base (on_way way)
 
     pub bare_apart : CommitsApart p From
     bare_apart k z z' way turn a b cell small = (turned k z z' (on_way way) turn).apart a b cell

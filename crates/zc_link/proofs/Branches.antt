@@ -2,7 +2,7 @@
 -- places do.
 use Rattle.std.proofs.Common.{◌≡◌, ℕ, ◌^◌, ◌<◌, Option, Some, None, Bool, true, false, cond, refl, sym, ap, ◌∙◌, arith, eqb}
 use Rattle.std.specs.Prelude.{◌&&◌, not}
-use Rattle.std.specs.Option.{option_map}
+use Rattle.std.specs.Option.{option_map, option_map_or}
 use Rattle.std.proofs.lemmas.Bool.{and_parts, eqb-true, eq-eqb, ne_eqb}
 use Rattle.zc_base.specs.Places.{same_place}
 use Rattle.zc_base.specs.declared.place.Place.{Place}
@@ -13,10 +13,10 @@ use Rattle.sym_machine.specs.declared.known.Known.{Known}
 use Rattle.sym_machine.specs.declared.known.Known.TheVariants.{Number, Code, Unknown}
 use Rattle.sym_machine.specs.declared.word.SymWord.{SymWord}
 use Rattle.sym_machine.specs.declared.word.Value.{Value}
-use Rattle.sym_machine.specs.Conditions.{condition, equal_words, is_solid, known_as, known_of, numeric_condition}
+use Rattle.sym_machine.specs.Conditions.{condition, equal_words, is_solid, known_of, numeric_condition}
 use Rattle.sym_machine.specs.Program.{Program}
 use Rattle.sym_machine.specs.Words.{code_of, number_of}
-use Rattle.zc_link.specs.Image.{Image, place_address}
+use Rattle.zc_link.specs.Image.{Image}
 use Rattle.zc_link.specs.Room.{Room}
 use Rattle.zc_link.specs.Stands.{WordStands}
 use Rattle.zc_link.specs.Values.{value_in}
@@ -26,19 +26,19 @@ use Rattle.zc_link.proofs.Words.{number_is}
 
 module _ {p : Program} {e : Image} (room : Room p e) where
   abbrev V : Value → Option ℕ
-  V = value_in p (place_address e)
+  V = value_in p e.address
 
   -- ---- words that are known
 
   abbrev Knows : Known → ℕ → Type 0
   Knows (Number m) n = m ≡ n
-  Knows (Code q) n = place_address e q ≡ Some n
+  Knows (Code q) n = e.address q ≡ Some n
   Knows Unknown n = Unit {0}
 
   knows : (w : SymWord) (n : ℕ) → n < 2 ^ 32 → WordStands V w n → Knows (known_of w) n
   knows w n small h = by (number_of w) (code_of w) refl refl
     where
-      by : (o : Option ℕ) (u : Option Place) → number_of w ≡ o → code_of w ≡ u → Knows (known_as o u) n
+      by : (o : Option ℕ) (u : Option Place) → number_of w ≡ o → code_of w ≡ u → Knows (option_map_or Number o (option_map_or Code u Unknown)) n
       by (Some m) u is code = number_is V w n m small h is
       by None (Some q) is code = code_is room w n q small h code
       by None None is code = tt
@@ -46,7 +46,7 @@ module _ {p : Program} {e : Image} (room : Room p e) where
   -- ---- equal words
 
   -- 0 and an address of code
-  zero_or_code : (m k n : ℕ) (q : Place) (t : Bool) → m ≡ k → place_address e q ≡ Some n → cond (eqb m 0) (Some false) None ≡ Some t → (k ≡ n → ⊥) × (t ≡ false)
+  zero_or_code : (m k n : ℕ) (q : Place) (t : Bool) → m ≡ k → e.address q ≡ Some n → cond (eqb m 0) (Some false) None ≡ Some t → (k ≡ n → ⊥) × (t ≡ false)
   zero_or_code m k n q t is at h = tested (eqb m 0) refl h
     where
       tested : (x : Bool) → eqb m 0 ≡ x → cond x (Some false) None ≡ Some t → (k ≡ n → ⊥) × (t ≡ false)
@@ -58,7 +58,7 @@ module _ {p : Program} {e : Image} (room : Room p e) where
 
   -- two addresses of code
   places_equal :
-      (q r : Place) (m n : ℕ) (t : Bool) → place_address e q ≡ Some m → place_address e r ≡ Some n
+      (q r : Place) (m n : ℕ) (t : Bool) → e.address q ≡ Some m → e.address r ≡ Some n
       → cond (same_place q r) (Some true) (cond (is_solid (p.item q) && is_solid (p.item r)) (Some false) None) ≡ Some t → eqb m n ≡ t
   places_equal q r m n t at_q at_r h = tested (same_place q r) (is_solid (p.item q) && is_solid (p.item r)) refl refl h
     where
@@ -68,7 +68,7 @@ module _ {p : Program} {e : Image} (room : Room p e) where
       tested true y u v g =
           let same = same_place-true q r u in
           let is : true ≡ t = cc in
-          eq-eqb m n (some_same (place_address e q) n m (ap (place_address e) (sym same) ∙ at_r) at_q) ∙ is
+          eq-eqb m n (some_same (e.address q) n m (ap e.address (sym same) ∙ at_r) at_q) ∙ is
       tested false true u v g =
           let solid = and_parts (is_solid (p.item q)) (is_solid (p.item r)) v in
           let is : false ≡ t = cc in

@@ -11,10 +11,10 @@ use Rattle.rv_decode.proofs.MemoryLaws.{length_blank, untouched}
 use Rattle.sym_machine.specs.declared.word.SymByte.{SymByte}
 use Rattle.sym_machine.specs.declared.word.SymByte.TheVariants.{Num, Part, Undef}
 use Rattle.sym_machine.specs.Change.{numbers_at, then_number}
-use Rattle.sym_machine.specs.Program.{Program, first_memory}
+use Rattle.sym_machine.specs.Program.{Program, start_memory}
 use Rattle.sym_machine.specs.State.{PlainCore, cell_of}
 use Rattle.zc_machine.specs.Buffer.{bytes_at}
-use Rattle.zc_link.specs.Image.{Image, place_address}
+use Rattle.zc_link.specs.Image.{Image}
 use Rattle.zc_link.specs.Room.{Room, SpansMemory}
 use Rattle.zc_link.specs.Sound.{Ready}
 use Rattle.zc_link.specs.Stands.{ByteStands, IsMemory}
@@ -29,7 +29,7 @@ IsBuffer p at to len = (len ≡ 0) ⊎ ((at ≡ to) × SpansMemory p at len)
 -- ---- where it lies
 
 -- what lies in one of the program's regions spans memory
-buffer_spans : {p : Program} {e : Image} → Room p e → (a n : ℕ) → lies_in is_data (extents_of (first_memory p)) a n ≡ true → SpansMemory p a n
+buffer_spans : {p : Program} {e : Image} → Room p e → (a n : ℕ) → lies_in is_data (extents_of (start_memory p)) a n ≡ true → SpansMemory p a n
 buffer_spans {p} room a n h = ⊎_elim
     (λ d. inl (bounds data_extent d))
     (λ rest. ⊎_elim
@@ -53,7 +53,7 @@ buffer_spans {p} room a n h = ⊎_elim
     bounds : (x : Extent) → spans x a n ≡ true → (x.at ≤ a) × (a + n ≤ x.at + x.size)
     bounds x is = let q = and_parts (leb x.at a) (leb (a + n) (x.at + x.size)) is in (leb-true x.at a q.0, leb-true (a + n) (x.at + x.size) q.1)
 
-pub buffer_lies : {p : Program} {e : Image} → Room p e → (s : PlainCore) (a n : ℕ) → extents_of s.memory ≡ extents_of (first_memory p) → lies_in is_data (extents_of s.memory) a n ≡ true → SpansMemory p a n
+pub buffer_lies : {p : Program} {e : Image} → Room p e → (s : PlainCore) (a n : ℕ) → extents_of s.memory ≡ extents_of (start_memory p) → lies_in is_data (extents_of s.memory) a n ≡ true → SpansMemory p a n
 buffer_lies room s a n lies h = buffer_spans room a n (ap (λ es. lies_in is_data es a n) (sym lies) ∙ h)
 
 -- ---- reads
@@ -127,7 +127,7 @@ module _ {p : Program} {e : Image} (room : Room p e) where
     bytes_are (suc n) a bytes m h = by (cell_of s a) (numbers_at s.memory (suc a) n) refl refl (ready.memory a (m a (omega arith) (omega arith)))
         (λ more rest. bytes_are n (suc a) more (λ x l u. m x (omega (arith, l)) (omega (arith, u))) rest) h
       where
-        by : (c : SymByte) (o : Option (List ℕ)) → cell_of s a ≡ c → numbers_at s.memory (suc a) n ≡ o → ByteStands (value_in p (place_address e)) c (byte_in z a)
+        by : (c : SymByte) (o : Option (List ℕ)) → cell_of s a ≡ c → numbers_at s.memory (suc a) n ≡ o → ByteStands (value_in p e.address) c (byte_in z a)
             → ((more : List ℕ) → numbers_at s.memory (suc a) n ≡ Some more → more ≡ bytes_at z (suc a) n) → then_number c o ≡ Some bytes → bytes ≡ byte_in z a ∷ bytes_at z (suc a) n
         by (Num b) (Some more) is rest st each g =
             let same : b ∷ more ≡ bytes = cc in

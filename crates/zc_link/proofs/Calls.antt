@@ -4,17 +4,17 @@
 use Rattle.std.proofs.Common.{◌≡◌, ◌≢◌, ℕ, ◌+◌, ◌*◌, ◌/◌, ◌%◌, ◌^◌, List, [], ◌∷◌, length, Some, None, Ok, Bool, true, false, cond, refl, sym, ap, ◌∙◌, subst, arith, eqb, ⊎_elim}
 use Rattle.std.proofs.lemmas.Bool.{cases_eq, eqb-false}
 use Rattle.zc_base.specs.declared.place.Place.{Place}
-use Rattle.interrupt_plan.specs.Plan.{Cut}
+use Rattle.interrupt_plan.specs.Plan.{Interrupt}
 use Rattle.rv_decode.specs.declared.instr.Instr.TheVariants.{Jal, Jalr, Upper}
 use Rattle.rv_decode.specs.declared.instr.UpperOp.TheVariants.{Auipc}
 use Rattle.rv_decode.specs.Bits.{add32}
-use Rattle.rv_decode.specs.Effect.{after, onward as core_onward}
+use Rattle.rv_decode.specs.Effect.{after, onward}
 use Rattle.rv_decode.specs.Results.{upper_result}
 use Rattle.rv_decode.specs.State.{ZcCore, ZcState, reg_in, set_reg}
 use Rattle.rv_decode.proofs.RegisterLaws.{length-set_reg, reads, reads-set_reg_other, reads-set_reg_same}
 use Rattle.sym_machine.specs.declared.why.Why.TheVariants.{TargetUnknown}
 use Rattle.sym_machine.specs.declared.word.SymWord.{SymWord}
-use Rattle.sym_machine.specs.Change.{Change, Goes, Stops, call_to, onward, place_does}
+use Rattle.sym_machine.specs.Change.{Change, Goes, Stops, call_to, continues, item_does}
 use Rattle.sym_machine.specs.Program.{Program}
 use Rattle.sym_machine.specs.State.{PlainCore, PlainState}
 use Rattle.sym_machine.specs.Step.{after_change}
@@ -24,10 +24,10 @@ use Rattle.zc_decode.specs.declared.short.Short.TheVariants.{Base}
 use Rattle.zc_machine.specs.Fetch.{fetched_at}
 use Rattle.zc_machine.specs.Run.{zc_turns}
 use Rattle.zc_machine.proofs.TurnLaws.{zc_turns-more}
-use Rattle.zc_link.specs.Image.{Image, loaded, place_address}
-use Rattle.zc_link.specs.Pieces.{CallLaid, OneAt, ReachLaid}
+use Rattle.zc_link.specs.Image.{Image, loaded_core}
+use Rattle.zc_link.specs.Stretches.{CallLaid, OneAt, ReachLaid}
 use Rattle.zc_link.specs.Room.{Room}
-use Rattle.zc_link.specs.Simulates.{Comes}
+use Rattle.zc_link.specs.IsSimulation.{Comes}
 use Rattle.zc_link.specs.Sound.{Alike, Ready}
 use Rattle.zc_link.specs.Values.{value_in}
 use Rattle.zc_link.proofs.Addresses.{code_names, code_stands}
@@ -39,7 +39,7 @@ use Rattle.zc_link.proofs.Words.{undef_names, undef_stands}
 
 -- what a call changes
 abbrev call_change : ℕ → ℕ → Place → Place → Change
-call_change rd temp to next = record (onward to) { writes = (temp, undef_word) ∷ (rd, code_word next) ∷ [] }
+call_change rd temp to next = record (continues to) { writes = (temp, undef_word) ∷ (rd, code_word next) ∷ [] }
 
 record Called (rd temp : ℕ) (to next : Place) (c : Change) : Type 0 where
   some : temp ≢ 0
@@ -56,7 +56,7 @@ called rd temp to next c h = tested (eqb temp 0) refl h
 abbrev sp_word : List SymWord → SymWord
 sp_word regs = reads (number_word 0) undef_word regs 2
 
-module _ {p : Program} {Named : Place → Type 0} {e : Image} {r r' : PlainState} {cuts : ℕ → List Cut} {z : ZcState} (room : Room p e) (from : FromSound p Named e r r' cuts z) where
+module _ {p : Program} {Named : Place → Type 0} {e : Image} {r r' : PlainState} {cuts : ℕ → List Interrupt} {z : ZcState} (room : Room p e) (from : FromSound p Named e r r' cuts z) where
   -- ---- by one instruction
 
   pub jump_call_comes :
@@ -65,7 +65,7 @@ module _ {p : Program} {Named : Place → Type 0} {e : Image} {r r' : PlainState
   jump_call_comes rd temp to named laid h = single_comes room from laid.laid law
     where
       law :
-          (y : ZcCore) → y.pc ≡ z.core.pc → Alike p Named e r.core y → place_address e (p.next r.core.place) ≡ Some (after y laid.laid.at.size)
+          (y : ZcCore) → y.pc ≡ z.core.pc → Alike p Named e r.core y → e.address (p.next r.core.place) ≡ Some (after y laid.laid.at.size)
           → Moves p Named e (Jal rd laid.distance) laid.laid.at.size from.step.change r.core y
       law y at al listed =
           let next = p.next r.core.place in
@@ -74,7 +74,7 @@ module _ {p : Program} {Named : Place → Type 0} {e : Image} {r r' : PlainState
           let is = called rd temp to next from.step.change h in
           subst (λ c. Moves p Named e (Jal rd laid.distance) size c r.core y) is.change (record {
             made = record {
-              after = record (core_onward y size (set_reg y.regs rd link)) { pc = add32 y.pc laid.distance };
+              after = record (onward y size (set_reg y.regs rd link)) { pc = add32 y.pc laid.distance };
               commits = refl;
               ready = ready_moved (ready_set (ready_forgets al.ready temp) rd link (code_word next) (omega arith) (code_stands room next link listed) (code_names Named next named)) to _ _;
               quiet = record { events = refl; taken = refl };
@@ -114,7 +114,7 @@ module _ {p : Program} {Named : Place → Type 0} {e : Image} {r r' : PlainState
 
     -- the states after it, with the program's register forgotten
     abbrev between : ZcCore
-    between = core_onward first.now laid.at.one.size (set_reg first.now.regs laid.temp way_part)
+    between = onward first.now laid.at.one.size (set_reg first.now.regs laid.temp way_part)
 
     abbrev forgotten : PlainCore
     forgotten = record r.core { regs = set_reg r.core.regs laid.temp undef_word; exit = None }
@@ -130,7 +130,7 @@ module _ {p : Program} {Named : Place → Type 0} {e : Image} {r r' : PlainState
         let same : reg_in between 2 ≡ reg_in first.now 2 = reads-set_reg_other 0 0 first.now.regs laid.temp way_part 2 (λ x. not_sp (sym x)) in
         let al = first.alike in
         record {
-          ready = ready_moved (ready_set al.ready laid.temp way_part undef_word (omega arith) (undef_stands (value_in p (place_address e)) way_part) (undef_names Named)) r.core.place _ _;
+          ready = ready_moved (ready_set al.ready laid.temp way_part undef_word (omega arith) (undef_stands (value_in p e.address) way_part) (undef_names Named)) r.core.place _ _;
           sp = ap number_of same_word ∙ al.sp ∙ ap Some (sym same);
           low = rw same al.low;
           high = rw same al.high;
@@ -147,7 +147,7 @@ module _ {p : Program} {Named : Place → Type 0} {e : Image} {r r' : PlainState
     abbrev second_at : OneAt e between.pc (Base (Jalr laid.rd laid.temp laid.lower))
     second_at = record {
       size = laid.at.two.size;
-      here = ap (fetched_at (loaded e)) between_pc ∙ laid.at.two.here;
+      here = ap (fetched_at (loaded_core e)) between_pc ∙ laid.at.two.here;
       small = omega (arith, laid.at.two.small, between_pc);
     }
 
@@ -169,12 +169,12 @@ module _ {p : Program} {Named : Place → Type 0} {e : Image} {r r' : PlainState
         ∙ reads-set_reg_same 0 0 first.now.regs laid.temp way_part is.some (omega (arith, long, low))
 
     abbrev there : ZcCore
-    there = record (core_onward second.now laid.at.two.size (set_reg second.now.regs laid.rd link)) { pc = add32 (reg_in second.now laid.temp) laid.lower / 2 * 2 }
+    there = record (onward second.now laid.at.two.size (set_reg second.now.regs laid.rd link)) { pc = add32 (reg_in second.now laid.temp) laid.lower / 2 * 2 }
 
     runs : zc_turns cuts 2 z ≡ Ok (record z { core = there })
     runs = zc_turns-more cuts 1 z after_first (record z { core = there }) (zc_turns-one cuts z after_first first.turn) second.turn
 
-    reached : place_address e laid.to ≡ Some there.pc
+    reached : e.address laid.to ≡ Some there.pc
     reached = laid.reaches ∙ ap (λ x. Some (add32 x laid.lower / 2 * 2)) (ap (λ a. (a + laid.upper * 2 ^ 12) % 2 ^ 32) (sym first.pc) ∙ sym held)
 
     two_comes : Named (p.next r.core.place) → Comes p Named e cuts 2 z r'
@@ -185,9 +185,9 @@ module _ {p : Program} {Named : Place → Type 0} {e : Image} {r r' : PlainState
         (code_stands room next link (laid.next ∙ ap Some (sym link_is))) (code_names Named next named)) laid.to _ _ in
         comes_after from 2 there runs (subst (λ c. Ready p Named e (after_change c r.core) there) is.change ready)
         (subst IsQuiet is.change (record { events = refl; taken = refl }))
-        (ap (λ (c : Change). place_address e c.place) (sym is.change) ∙ reached)
+        (ap (λ (c : Change). e.address c.place) (sym is.change) ∙ reached)
 
   pub call_comes : (laid : CallLaid p e r.core.place z.core.pc) → Named (p.next r.core.place) → Comes p Named e cuts 2 z r'
   call_comes laid named =
-      let does = ap (λ o. place_does p o r.core (p.next r.core.place)) (sym laid.item) ∙ from.step.does in
+      let does = ap (λ o. item_does p o r.core (p.next r.core.place)) (sym laid.item) ∙ from.step.does in
       two_comes laid (called laid.rd laid.temp laid.to (p.next r.core.place) from.step.change does) named

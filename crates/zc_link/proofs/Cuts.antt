@@ -5,19 +5,26 @@ use Rattle.std.specs.Prelude.{◌⊎◌, ◌&&◌, All}
 use Rattle.std.proofs.lemmas.Bool.{and_parts, cases_Bool, cases_lt, cond_both, ltb-true}
 use Rattle.std.proofs.lemmas.List.Elements.{All-head, All-tail}
 use Rattle.zc_base.specs.declared.place.Place.{Place}
-use Rattle.interrupt_plan.specs.Plan.{Cut, IsCut}
+use Rattle.interrupt_plan.specs.Plan.{Interrupt, IsInterrupt}
+use Rattle.rv_decode.specs.declared.instr.Instr.{Instr}
 use Rattle.rv_decode.specs.Memory.{cell_at, changed, extents_of, is_stack, lies_in, written}
 use Rattle.rv_decode.specs.State.{ZcCore, byte_in, reg_in}
 use Rattle.rv_decode.proofs.MemoryLaws.{cell-changed, cell-uncovered, cell_kept, extents-changed, is_covered, untouched}
 use Rattle.sym_machine.specs.declared.word.SymByte.TheVariants.{Undef}
 use Rattle.sym_machine.specs.Program.{Program}
 use Rattle.sym_machine.specs.State.{PlainCore, cell_of}
-use Rattle.zc_machine.specs.Interrupt.{all_cuts, all_dirtied, cut, dirtied, is_free}
+use Rattle.zc_decode.specs.declared.short.Short.TheVariants.{Base}
+use Rattle.zc_machine.specs.Fetch.{Found, fetched_at}
+use Rattle.zc_machine.specs.Interrupt.{all_dirtied, all_interrupted, dirtied, interrupted, is_free}
 use Rattle.zc_machine.specs.Load.{first_core}
 use Rattle.zc_machine.proofs.LoadLaws.{stack_bounds}
-use Rattle.zc_link.specs.Image.{Image, loaded}
+use Rattle.zc_link.specs.Image.{Image, loaded_core}
 use Rattle.zc_link.specs.Room.{Room}
 use Rattle.zc_link.specs.Sound.{Alike}
+
+-- where no push or pop stands at pc, an interrupt only writes its bytes
+pub cut-base : (c : Interrupt) (z : ZcCore) (i : Instr) (size : ℕ) → fetched_at z z.pc ≡ Found (Base i) size → interrupted c z ≡ all_dirtied c.dirt z
+cut-base c z i size here = refl
 
 -- z is y, but for bytes from low to below n
 pub record Spoiled (low n : ℕ) (y z : ZcCore) : Type 0 where
@@ -31,10 +38,10 @@ unspoiled low n y are = record { rest = refl; extents = refl; bytes = λ a _. re
 
 -- interrupts, one after another, keep what each keeps
 pub all_cuts_kept :
-    (K : ZcCore → Type 0) → ((c : Cut) (z : ZcCore) → IsCut c → K z → K (cut c z)) → (cuts : List Cut) (z : ZcCore) → All IsCut cuts → K z
-    → K (all_cuts cuts z)
+    (K : ZcCore → Type 0) → ((c : Interrupt) (z : ZcCore) → IsInterrupt c → K z → K (interrupted c z)) → (cuts : List Interrupt) (z : ZcCore) → All IsInterrupt cuts → K z
+    → K (all_interrupted cuts z)
 all_cuts_kept K each [] z are kept = kept
-all_cuts_kept K each (c ∷ cs) z are kept = all_cuts_kept K each cs (cut c z) (All-tail IsCut c cs are) (each c z (All-head IsCut c cs are) kept)
+all_cuts_kept K each (c ∷ cs) z are kept = all_cuts_kept K each cs (interrupted c z) (All-tail IsInterrupt c cs are) (each c z (All-head IsInterrupt c cs are) kept)
 
 -- ---- the machine alone
 
@@ -89,7 +96,7 @@ module _ (low : ℕ) (y : ZcCore) (stack : (a : ℕ) → lies_in is_stack (exten
 module _ {p : Program} {e : Image} (room : Room p e) where
   -- the image's stack lies between the map's bounds
   pub stack_within :
-      (z : ZcCore) → extents_of z.memory ≡ extents_of (loaded e).memory → (a : ℕ) → lies_in is_stack (extents_of z.memory) a 1 ≡ true
+      (z : ZcCore) → extents_of z.memory ≡ extents_of (loaded_core e).memory → (a : ℕ) → lies_in is_stack (extents_of z.memory) a 1 ≡ true
       → (p.map.stack_low ≤ a) × (a < p.map.stack_high)
   unfolding first_core
   stack_within z extents a h =

@@ -4,7 +4,7 @@ use Rattle.std.proofs.Common.{◌≡◌, ℕ, zero, suc, ◌+◌, ◌<◌, ◌�
 use Rattle.std.specs.Option.{option_and_then}
 use Rattle.std.proofs.lemmas.Option.{slice_get_cases, slice_get_within}
 use Rattle.elf32_read.specs.Parts.{ObjectParts, SectionParts}
-use Rattle.psabi_sym.specs.Listed.{ListedSection, all_sections, section_at, sections_before}
+use Rattle.psabi_sym.specs.Indexed.{IndexedSection, all_sections, section_at, sections_before}
 use Rattle.block_cut.proofs.ListedLaws.{before_end, before_first, before_next}
 
 -- a list has an element at each place before its end
@@ -18,7 +18,7 @@ no_sections : all_sections [] ≡ []
 unfolding all_sections
 no_sections = refl
 
-module _ (objects : List ObjectParts) (P : List ListedSection → Type 0) (first : P [])
+module _ (objects : List ObjectParts) (P : List IndexedSection → Type 0) (first : P [])
     (more :
     (o i : ℕ) (s : SectionParts) → section_at objects o i ≡ Some s → P (sections_before objects o i)
     → P (sections_before objects o (i + 1))) where

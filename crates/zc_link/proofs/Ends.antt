@@ -13,7 +13,7 @@ use Rattle.sym_machine.specs.Program.{Program}
 use Rattle.sym_machine.specs.State.{PlainCore, cell_of, reg_of}
 use Rattle.sym_machine.specs.Step.{undefined_below}
 use Rattle.sym_machine.proofs.StepLaws.{Ended, settled}
-use Rattle.zc_link.specs.Image.{Image, place_address}
+use Rattle.zc_link.specs.Image.{Image}
 use Rattle.zc_link.specs.Sound.{Alike, NamesByte, Ready}
 use Rattle.zc_link.specs.Stands.{ByteStands, Stands}
 use Rattle.zc_link.specs.Values.{value_in}
@@ -53,7 +53,7 @@ ends_alike {p} {Named} {e} {s} {s'} {z} end ready = subst (λ x. Alike p Named e
     plain = record { count = ready.plain.count; input = ready.plain.input };
     core = ready.core;
     registers = ready.registers;
-    memory = λ a m. settled_holds (λ c. ByteStands (value_in p (place_address e)) c (byte_in z a)) p.map end.sp s a tt (ready.memory a m);
+    memory = λ a m. settled_holds (λ c. ByteStands (value_in p e.address) c (byte_in z a)) p.map end.sp s a tt (ready.memory a m);
     names = record {
       registers = ready.names.registers;
       memory = λ a m. settled_holds (NamesByte Named) p.map end.sp s a tt (ready.names.memory a m);
@@ -74,4 +74,4 @@ ends_alike {p} {Named} {e} {s} {s'} {z} end ready = subst (λ x. Alike p Named e
 })
   where
     same : end.sp ≡ reg_in z 2
-    same = number_is (value_in p (place_address e)) (reg_of s 2) (reg_in z 2) end.sp (ready.core.words 2) (ready.registers 2 (omega arith)) end.is
+    same = number_is (value_in p e.address) (reg_of s 2) (reg_in z 2) end.sp (ready.core.words 2) (ready.registers 2 (omega arith)) end.is

@@ -1,17 +1,18 @@
 -- Environment calls. The machine asks for the call whose number and arguments the program's words are, and its environment
 -- answers: a read fills the buffer and a write takes it, and both go on; after the exit the states are over.
-use Rattle.std.proofs.Common.{◌≡◌, ℕ, zero, suc, ◌+◌, ◌%◌, ◌^◌, ◌<◌, List, [], ◌∷◌, ◌++◌, length, map, take, drop, Option, Some, None, Ok, Bool, true, false, cond, refl, sym, ap, ◌∙◌, subst, inl, inr, arith, eqb}
+use Rattle.std.specs.Option.{option_map_or}
+use Rattle.std.proofs.Common.{◌≡◌, ℕ, zero, suc, ◌+◌, ◌%◌, ◌^◌, ◌<◌, List, [], ◌∷◌, ◌++◌, length, map, min, take, drop, Option, Some, None, Ok, Bool, true, false, cond, refl, sym, ap, ◌∙◌, subst, inl, inr, arith, eqb}
 use Rattle.std.specs.Prelude.{◌||◌, ◌⊎◌}
 use Rattle.std.proofs.lemmas.Bool.{cond-true, eq-eqb, eqb-true, or_left, or_right}
 use Rattle.zc_base.specs.declared.place.Place.{Place}
-use Rattle.interrupt_plan.specs.Plan.{Cut}
+use Rattle.interrupt_plan.specs.Plan.{Interrupt}
 use Rattle.rv_decode.specs.declared.instr.Instr.TheVariants.{Ecall}
 use Rattle.rv_decode.specs.Memory.{extents_of, is_data, lies_in}
 use Rattle.rv_decode.specs.State.{Event, Exit, Read, Write, ZcCore, ZcState, reg_in}
 use Rattle.sym_machine.specs.declared.arguments.Arguments.{Arguments}
-use Rattle.sym_machine.specs.declared.why.Why.TheVariants.{BadAddress, UnknownCall}
+use Rattle.sym_machine.specs.declared.why.Why.TheVariants.{ArgumentUnknown, BadAddress, UnknownCall}
 use Rattle.sym_machine.specs.declared.word.SymByte.TheVariants.{Num}
-use Rattle.sym_machine.specs.Change.{Change, Does, Goes, Stops, arguments_of, buffered, call_does, exit_does, gives, is_buffer, is_input, is_output, numbers_at, onward, output_does, read_count, read_does, with_buffer, write_does}
+use Rattle.sym_machine.specs.Change.{Change, Does, Goes, Stops, arguments_of, call_does, exit_does, sets, is_buffer, is_output, numbers_at, continues, read_does, with_buffer, write_does}
 use Rattle.sym_machine.specs.Program.{Program}
 use Rattle.sym_machine.specs.State.{PlainState, reg_of}
 use Rattle.sym_machine.specs.Step.{after_change}
@@ -22,10 +23,10 @@ use Rattle.zc_machine.specs.Answer.{has_read, has_written}
 use Rattle.zc_machine.specs.Buffer.{bytes_at}
 use Rattle.zc_machine.specs.Run.{answered, committed, zc_turn}
 use Rattle.zc_machine.specs.Step.{Wants, called, effect_step}
-use Rattle.zc_link.specs.Image.{Image, loaded, place_address}
-use Rattle.zc_link.specs.Pieces.{OpLaid}
+use Rattle.zc_link.specs.Image.{Image, loaded_core}
+use Rattle.zc_link.specs.Stretches.{OpLaid}
 use Rattle.zc_link.specs.Room.{Room}
-use Rattle.zc_link.specs.Simulates.{Comes}
+use Rattle.zc_link.specs.IsSimulation.{Comes}
 use Rattle.zc_link.specs.Sound.{Ready}
 use Rattle.zc_link.specs.Stands.{WordStands}
 use Rattle.zc_link.specs.Values.{value_in}
@@ -39,7 +40,7 @@ use Rattle.zc_link.proofs.Words.{number_is, number_names, number_stands}
 use Rattle.zc_link.proofs.Writes.{ready_changed}
 
 module _
-    {p : Program} {Named : Place → Type 0} {e : Image} {r r' : PlainState} {cuts : ℕ → List Cut} {z : ZcState} (room : Room p e) (from : FromSound p Named e r r' cuts z)
+    {p : Program} {Named : Place → Type 0} {e : Image} {r r' : PlainState} {cuts : ℕ → List Interrupt} {z : ZcState} (room : Room p e) (from : FromSound p Named e r r' cuts z)
     (laid : OpLaid p e r.core.place z.core.pc Ecall) where
   -- the state that asks
   w : AfterCuts p Named e laid.laid.here laid.laid.at.size r.core (cuts 0) z
@@ -49,17 +50,17 @@ module _
   asked : (c : EnvCall) → called w.now ≡ Wants c → zc_turn (cuts 0) z ≡ answered c (record z { core = w.now })
   asked c wants =
       w.turn
-      ∙ ap (λ x. committed (effect_step x w.now) (record z { core = w.now })) (laid.laid.same laid.laid.at.size w.now w.alike.core)
+      ∙ ap (λ x. committed (effect_step x w.now) (record z { core = w.now })) (laid.laid.same laid.laid.at.size w.now)
       ∙ ap (λ t. committed t (record z { core = w.now })) wants
 
   -- a register that is a number to the program holds it
   holds : (x n : ℕ) → x < 32 → number_of (reg_of r.core x) ≡ Some n → n ≡ reg_in w.now x
-  holds x n low is = number_is (value_in p (place_address e)) (reg_of r.core x) (reg_in w.now x) n (w.alike.core.words x) (w.alike.registers x low) is
+  holds x n low is = number_is (value_in p e.address) (reg_of r.core x) (reg_in w.now x) n (w.alike.core.words x) (w.alike.registers x low) is
 
   -- ---- the exit
 
   abbrev exit_change : ℕ → Change
-  exit_change status = record (onward r.core.place) { exit = Some status; events = Exit status ∷ [] }
+  exit_change status = record (continues r.core.place) { exit = Some status; events = Exit status ∷ [] }
 
   -- the answer to it ends both
   exit_over :
@@ -94,7 +95,7 @@ module _
   -- ---- calls that go on
 
   -- the place after the call is listed, four bytes on
-  next_listed : place_address e (p.next r.core.place) ≡ Some ((w.now.pc + 4) % 2 ^ 32)
+  next_listed : e.address (p.next r.core.place) ≡ Some ((w.now.pc + 4) % 2 ^ 32)
   next_listed =
       let four = laid.four refl in
       laid.laid.next ∙ ap Some (below_top z.core.pc w.now.pc laid.laid.at.size w.pc laid.laid.at.small ∙ ap (λ n. (w.now.pc + n) % 2 ^ 32) four)
@@ -113,7 +114,7 @@ module _
         together = inl record {
           alike = ends_alike end ready;
           input = ap (λ s. s.input) end.state ∙ left;
-          place = ap (λ s. place_address e s.place) end.state ∙ ap (place_address e) place ∙ next_listed ∙ ap Some (sym pc);
+          place = ap (λ s. e.address s.place) end.state ∙ ap e.address place ∙ next_listed ∙ ap Some (sym pc);
         };
         events = ap (λ l. l ++ event ∷ []) from.same ∙ sym (from.step.events ∙ ap (λ (x : Change). r.events ++ x.events) (sym made) ∙ ap (λ l. r.events ++ l) events);
       }
@@ -171,7 +172,7 @@ module _
 
       by_arguments :
           (o : Option Arguments) → arguments_of (number_of (reg_of r.core 10)) (number_of (reg_of r.core 11)) (number_of (reg_of r.core 12)) ≡ o
-          → buffered known o r.core go ≡ Goes from.step.change → HasBuffer known go
+          → option_map_or (λ c. cond (known c.a0) (cond (is_buffer r.core c) (go c) (Stops BadAddress)) (Stops UnknownCall)) o (Stops ArgumentUnknown) ≡ Goes from.step.change → HasBuffer known go
       by_arguments None is g = absurd cc
       by_arguments (Some c) is g = tested c (known c.a0) (is_buffer r.core c) (are_held _ _ _ c refl refl refl is) refl refl g
 
@@ -182,31 +183,31 @@ module _
   buffer_found at (suc n) (inr lies) =
       or_right (eqb (suc n) 0) _
       (ap (λ es. lies_in is_data es (reg_in w.now 11) (suc n)) w.alike.extents
-      ∙ ap (λ a. lies_in is_data (extents_of (loaded e).memory) a (suc n)) (sym lies.0)
+      ∙ ap (λ a. lies_in is_data (extents_of (loaded_core e).memory) a (suc n)) (sym lies.0)
       ∙ room.reaches at (suc n) (omega arith) lies.1)
 
   -- ---- reads
 
-  wants_read : (c : Arguments) → AreHeld c → reg_in w.now 17 ≡ 63 → is_input c.a0 ≡ true → IsBuffer p c.at (reg_in w.now 11) c.len → called w.now ≡ Wants (call.Read (reg_in w.now 11) c.len)
+  wants_read : (c : Arguments) → AreHeld c → reg_in w.now 17 ≡ 63 → eqb c.a0 0 ≡ true → IsBuffer p c.at (reg_in w.now 11) c.len → called w.now ≡ Wants (call.Read (reg_in w.now 11) c.len)
   wants_read c held a7 known buffer =
-      let input : is_input (reg_in w.now 10) ≡ true = ap is_input (sym held.a0) ∙ known in
+      let input : eqb (reg_in w.now 10) 0 ≡ true = ap (λ a0. eqb a0 0) (sym held.a0) ∙ known in
       let found = ap (λ n. eqb n 0 || lies_in is_data (extents_of w.now.memory) (reg_in w.now 11) n) (sym held.len) ∙ buffer_found c.at c.len buffer in
       rw (a7, input, found) (ap (λ n. Wants (call.Read (reg_in w.now 11) n)) (sym held.len))
 
-  read_comes : reg_in w.now 17 ≡ 63 → with_buffer is_input r.core (read_does r.core (p.next r.core.place)) ≡ Goes from.step.change → Comes p Named e cuts 1 z r'
+  read_comes : reg_in w.now 17 ≡ 63 → with_buffer (λ a0. eqb a0 0) r.core (read_does r.core (p.next r.core.place)) ≡ Goes from.step.change → Comes p Named e cuts 1 z r'
   read_comes a7 h =
-      let b = has_buffer is_input (read_does r.core (p.next r.core.place)) h in
+      let b = has_buffer (λ a0. eqb a0 0) (read_does r.core (p.next r.core.place)) h in
       let a = b.arguments in
       let s = r.core in
       let to : ℕ = reg_in w.now 11 in
-      let n = read_count s a in
+      let n = min a.len (length s.input) in
       let bytes = take n s.input in
       let t = taken_bytes a.len s.input z.input from.sound.input in
-      let c : Change = record (onward (p.next s.place)) { writes = (10, number_word n) ∷ []; stores = (a.at, map Num bytes) ∷ []; taken = n; events = Read bytes ∷ [] } in
+      let c : Change = record (continues (p.next s.place)) { writes = (10, number_word n) ∷ []; stores = (a.at, map Num bytes) ∷ []; taken = n; events = Read bytes ∷ [] } in
       let made : c ≡ from.step.change = (let d = b.does in cc) in
       let core = has_read bytes w.now in
       let low : n < 2 ^ 32 = omega (arith, w.alike.core.words 12, b.held.len) in
-      let number : WordStands (value_in p (place_address e)) (number_word n) (length bytes) = subst (WordStands (value_in p (place_address e)) (number_word n)) (sym t.count) (number_stands (value_in p (place_address e)) n) in
+      let number : WordStands (value_in p e.address) (number_word n) (length bytes) = subst (WordStands (value_in p e.address) (number_word n)) (sym t.count) (number_stands (value_in p e.address) n) in
       let ready = ready_moved (ready_fed (ready_set (ready_changed room _ _ (read_agrees room a.at to a.len bytes b.buffer t.short (t.are w.alike.plain.input)) w.alike.ready) 10 (length bytes) (number_word n) (omega (arith, low, t.count)) number (number_names Named n)) n) (p.next s.place) _ _ in
       answer_comes c (Read bytes) core (drop a.len z.input) made refl refl
       (asked (call.Read to a.len) (wants_read a b.held a7 b.is_known b.buffer) ∙ ap (λ l. Ok (record { core = has_read l w.now; input = drop a.len z.input; events = z.events ++ Read l ∷ [] })) (sym t.same))
@@ -226,11 +227,11 @@ module _
       by b.arguments b.held b.is_known b.buffer (numbers_at r.core.memory b.arguments.at b.arguments.len) refl b.does
     where
       by : (a : Arguments) → AreHeld a → is_output a.a0 ≡ true → IsBuffer p a.at (reg_in w.now 11) a.len → (o : Option (List ℕ)) → numbers_at r.core.memory a.at a.len ≡ o
-          → output_does o (p.next r.core.place) a ≡ Goes from.step.change → Comes p Named e cuts 1 z r'
+          → option_map_or (λ bytes. Goes (record (sets 10 (number_word a.len) (p.next r.core.place)) { events = Write a.a0 bytes ∷ [] })) o (Stops ArgumentUnknown) ≡ Goes from.step.change → Comes p Named e cuts 1 z r'
       by a held known buffer None is g = absurd cc
       by a held known buffer (Some bytes) is g =
-          let V = value_in p (place_address e) in
-          let c : Change = record (gives 10 (number_word a.len) (p.next r.core.place)) { events = Write a.a0 bytes ∷ [] } in
+          let V = value_in p e.address in
+          let c : Change = record (sets 10 (number_word a.len) (p.next r.core.place)) { events = Write a.a0 bytes ∷ [] } in
           let made : c ≡ from.step.change = cc in
           let same : bytes ≡ bytes_at w.now (reg_in w.now 11) a.len = numbers_are room w.alike.ready a.at (reg_in w.now 11) a.len bytes buffer is in
           let number : WordStands V (number_word a.len) (reg_in w.now 12) = subst (λ n. WordStands V (number_word n) (reg_in w.now 12)) (sym held.len) (number_stands V (reg_in w.now 12)) in
@@ -247,7 +248,7 @@ module _
       by_number :
           (a7 : ℕ) (x y v : Bool) → a7 ≡ reg_in w.now 17 → eqb a7 93 ≡ x → eqb a7 63 ≡ y → eqb a7 64 ≡ v
           → cond x (exit_does (number_of (reg_of r.core 10)) r.core.place)
-          (cond y (with_buffer is_input r.core (read_does r.core (p.next r.core.place)))
+          (cond y (with_buffer (λ a0. eqb a0 0) r.core (read_does r.core (p.next r.core.place)))
           (cond v (with_buffer is_output r.core (write_does r.core (p.next r.core.place))) (Stops UnknownCall))) ≡ Goes from.step.change → Comes p Named e cuts 1 z r'
       by_number a7 true y v is exit read write g = exit_comes (number_of (reg_of r.core 10)) refl (sym is ∙ eqb-true a7 93 exit) g
       by_number a7 false true v is exit read write g = read_comes (sym is ∙ eqb-true a7 63 read) g

@@ -13,7 +13,7 @@ use Rattle.elf32_read.specs.declared.reloc.Reloc.{Reloc}
 use Rattle.psabi_reloc.specs.Kinds.{kind_of}
 use Rattle.psabi_sym.specs.Faults.{first_some, gather_fault}
 use Rattle.psabi_sym.specs.Inputs.{Inputs, ParsedInputs, parsed}
-use Rattle.psabi_sym.specs.Listed.{ListedSection, section_at, sections_before}
+use Rattle.psabi_sym.specs.Indexed.{IndexedSection, section_at, sections_before}
 use Rattle.psabi_sym.specs.Resolve.{name_target}
 use Rattle.psabi_sym.specs.Start.{start_name}
 use Rattle.psabi_sym.specs.declared.target.Target.{Target}
@@ -85,13 +85,13 @@ all_none inputs none =
     record { gathered = one.0; relocs = two.0; entry = three.0; range = four.0 }
 
 -- a relocation without a fault isn't lonely or astray
-pub record IsGood (inputs : ParsedInputs) (l : ListedSection) (r : Reloc) : Type 0 where
+pub record IsGood (inputs : ParsedInputs) (l : IndexedSection) (r : Reloc) : Type 0 where
   pub known : is_bad_kind l.section (kind_of r.kind) ≡ false
   pub placed : is_bad_place l.section r ≡ false
   pub paired : lacks_pcrel_hi inputs l r ≡ false
   pub leads : has_bad_target inputs l r ≡ false
 
-pub good : (inputs : ParsedInputs) (l : ListedSection) (r : Reloc) → reloc_fault inputs l r ≡ None → IsGood inputs l r
+pub good : (inputs : ParsedInputs) (l : IndexedSection) (r : Reloc) → reloc_fault inputs l r ≡ None → IsGood inputs l r
 good inputs l r none =
     let n = r.offset in
     let one = neither (if_so (is_bad_kind l.section (kind_of r.kind)) (RelocKind l.index n)) _ none in
@@ -144,7 +144,7 @@ module _ (p : ParsedInputs) (A : Place → Option ℕ) (listed : (q : Place) →
   has_value (Absent n) transfers h = (n, refl)
   has_value Nowhere transfers h = absurd cc
 
-  pub reloc_value : (l : ListedSection) (r : Reloc) → is_ignored (kind_of r.kind) ≡ false → IsGood p l r → HasValue A (target_of p l.object r)
+  pub reloc_value : (l : IndexedSection) (r : Reloc) → is_ignored (kind_of r.kind) ≡ false → IsGood p l r → HasValue A (target_of p l.object r)
   reloc_value l r asks is =
       has_value (target_of p l.object r) (is_transfer (kind_of r.kind))
       (ap (λ b. not b && is_bad_target p.objects (is_transfer (kind_of r.kind)) (target_of p l.object r)) (sym asks) ∙ is.leads)

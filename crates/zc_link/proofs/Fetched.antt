@@ -1,13 +1,14 @@
 -- What is fetched from the text of an image: the instruction that a word spells, or one that has the effect of another, which a
 -- halfword is the short form of; and padding.
 use Rattle.std.proofs.Common.{◌≡◌, ◌≢◌, ℕ, zero, suc, pos, ◌+◌, ◌-◌, ◌*◌, ◌/◌, ◌%◌, ◌^◌, ◌<◌, ◌≤◌, inl, inr, List, [], ◌++◌, length, drop, Option, Some, None, Bool, true, false, cond, eqb, refl, sym, ap, ◌∙◌, subst, arith, get_or, length-append}
-use Rattle.std.specs.Option.{option_and_then, option_map}
+use Rattle.std.specs.Option.{option_flatten, option_map}
 use Rattle.std.proofs.lemmas.Bool.{eqb-false, eqb-true}
 use Rattle.std.proofs.lemmas.List.{get_or-append-add, get_or_append_left, get_or-drop, get_or-take, length-drop, length-take-le}
 use Rattle.zc_base.specs.Fields.{half_bytes, word_bytes}
 use Rattle.elf32_write.specs.Parts.{Parts}
 use Rattle.rv_decode.specs.Bits.{field}
 use Rattle.rv_decode.specs.Decode.{decoded, row_of}
+use Rattle.rv_decode.specs.Normal.{SameEffect}
 use Rattle.rv_decode.specs.State.{byte_in, half_at, word_at}
 use Rattle.rv_decode.specs.declared.instr.Instr.{Instr}
 use Rattle.rv_decode.specs.declared.instr.Instr.TheVariants as instr
@@ -16,38 +17,38 @@ use Rattle.rv_decode.proofs.DecodeLaws.{decoded-low_bits}
 use Rattle.rv_decode.proofs.RowLaws.{row_found}
 use Rattle.sym_machine.specs.Program.{Program}
 use Rattle.zc_decode.specs.Fields.{group_of}
-use Rattle.zc_decode.specs.Halfwords.{decoded16, expansion}
+use Rattle.zc_decode.specs.Halfwords.{decoded16, spelled}
 use Rattle.zc_decode.specs.Rows.{form_of, groups}
 use Rattle.zc_decode.specs.declared.form.Form.{Form}
 use Rattle.zc_decode.specs.declared.short.Short.{Short}
 use Rattle.zc_decode.specs.declared.short.Short.TheVariants.{Base}
 use Rattle.zc_machine.proofs.FetchLaws.{fetched_long, fetched_short}
 use Rattle.zc_link.specs.Copied.{bytes_from}
-use Rattle.zc_link.specs.Image.{Image, loaded}
+use Rattle.zc_link.specs.Image.{Image, loaded_core}
 use Rattle.zc_link.specs.Pace.{padding_commits}
-use Rattle.zc_link.specs.Pieces.{Nops, OneAt, SameEffect}
-use Rattle.zc_link.specs.Written.{IsSpelled, Spells, copies, nop, padding, short_nop}
+use Rattle.zc_link.specs.Stretches.{Nops, OneAt}
+use Rattle.zc_link.specs.Written.{IsSpelled, SpellsWord, copies, nop, padding, short_nop}
 use Rattle.zc_link.proofs.ImageMemory.{AreLaidOut, image_of, text_byte, text_lies}
 
 -- ---- halfwords
 
 -- a group of halfwords whose two low bits aren't both set
-IsShortGroup : ℕ → (ℕ → Option Form) → Type 0
+IsShortGroup : ℕ → Option Form → Type 0
 IsShortGroup n row = eqb (n % 4) 3 ≡ false
 
 -- what spells something as a halfword isn't the first half of a word
 pub short_low : (half : ℕ) (s : Short) → decoded16 half ≡ Some s → field half 0 2 ≢ 3
 unfolding decoded16 form_of IsShortGroup
-short_low half s is low = by (row_of groups (group_of half)) refl is
+short_low half s is low = by (row_of (groups half) (group_of half)) refl is
   where
     set : group_of half % 4 ≡ 3
     set = omega (arith, low)
 
-    by : (o : Option (ℕ → Option Form)) → row_of groups (group_of half) ≡ o → option_map (λ form. Base (expansion form half)) (option_and_then (λ (r : ℕ → Option Form). r half) o) ≡ Some s → ⊥
+    by : (o : Option (Option Form)) → row_of (groups half) (group_of half) ≡ o → option_map (λ form. spelled form half) (option_flatten o) ≡ Some s → ⊥
     by None found h = absurd cc
     by (Some row) found h =
         let other : eqb (group_of half % 4) 3 ≡ false =
-        row_found IsShortGroup groups (group_of half) row
+        row_found IsShortGroup (groups half) (group_of half) row
         (refl, (refl, (refl, (refl, (refl, (refl, (refl, (refl, (refl, (refl, (refl, (refl, (refl, (refl, (refl, (refl, tt)))))))))))))))) found in
         let same : eqb (group_of half % 4) 3 ≡ true = ap (λ n. eqb n 3) set in
         absurd (cc (other, same))
@@ -72,7 +73,7 @@ module _ (p : Program) (parts : Parts) (out : AreLaidOut p parts) where
   pub record StandAt (a : ℕ) (bytes : List ℕ) : Type 0 where
     pub low : p.map.text ≤ a
     pub high : a + length bytes ≤ p.map.text + length parts.text
-    pub each : (j : ℕ) → j < length bytes → byte_in (loaded e) (a + j) ≡ get_or bytes j 0
+    pub each : (j : ℕ) → j < length bytes → byte_in (loaded_core e) (a + j) ≡ get_or bytes j 0
 
   -- so do any bytes of the text
   pub stand_at : (a n : ℕ) → p.map.text ≤ a → a + n ≤ p.map.text + length parts.text → StandAt a (bytes_from parts.text (a - p.map.text) n)
@@ -103,11 +104,11 @@ module _ (p : Program) (parts : Parts) (out : AreLaidOut p parts) where
     high = omega (arith, st.high, length-append xs ys);
     each = λ j lt.
         let sum : a + length xs + j ≡ a + (length xs + j) = omega arith in
-        ap (byte_in (loaded e)) sum ∙ st.each (length xs + j) (omega (arith, lt, length-append xs ys)) ∙ get_or-append-add xs ys j 0;
+        ap (byte_in (loaded_core e)) sum ∙ st.each (length xs + j) (omega (arith, lt, length-append xs ys)) ∙ get_or-append-add xs ys j 0;
   }
 
   -- a word that spells an instruction is fetched
-  unfoldable pub one_at : (a : ℕ) (bytes : List ℕ) (i : Instr) → StandAt a bytes → Spells bytes i → OneAt e a (Base i)
+  unfoldable pub one_at : (a : ℕ) (bytes : List ℕ) (i : Instr) → StandAt a bytes → SpellsWord bytes i → OneAt e a (Base i)
   one_at a bytes i st sp =
       let w = sp.word in
       let four : length bytes ≡ 4 = ap length sp.are in
@@ -116,15 +117,15 @@ module _ (p : Program) (parts : Parts) (out : AreLaidOut p parts) where
       let high = st.high in
       let small = sp.small in
       let byte = λ (j : ℕ) (lt : j < 4). st.each j (omega (arith, lt, four)) ∙ ap (λ l. get_or l j 0) sp.are in
-      let b0 : byte_in (loaded e) a ≡ w % 256 = (let zero : a ≡ a + 0 = omega arith in ap (byte_in (loaded e)) zero ∙ byte 0 (omega arith)) in
-      let b1 : byte_in (loaded e) (a + 1) ≡ w / 256 % 256 = byte 1 (omega arith) in
-      let b2 : byte_in (loaded e) (a + 2) ≡ w / 65536 % 256 = byte 2 (omega arith) in
-      let b3 : byte_in (loaded e) (a + 3) ≡ w / 16777216 % 256 = byte 3 (omega arith) in
-      let word : word_at (loaded e) a ≡ w = omega (arith, b0, b1, b2, b3, small) in
-      let low : field (half_at (loaded e) a) 0 2 ≡ 3 = omega (arith, b0, b1, decoded-low_bits w i sp.spells) in
+      let b0 : byte_in (loaded_core e) a ≡ w % 256 = (let zero : a ≡ a + 0 = omega arith in ap (byte_in (loaded_core e)) zero ∙ byte 0 (omega arith)) in
+      let b1 : byte_in (loaded_core e) (a + 1) ≡ w / 256 % 256 = byte 1 (omega arith) in
+      let b2 : byte_in (loaded_core e) (a + 2) ≡ w / 65536 % 256 = byte 2 (omega arith) in
+      let b3 : byte_in (loaded_core e) (a + 3) ≡ w / 16777216 % 256 = byte 3 (omega arith) in
+      let word : word_at (loaded_core e) a ≡ w = omega (arith, b0, b1, b2, b3, small) in
+      let low : field (half_at (loaded_core e) a) 0 2 ≡ 3 = omega (arith, b0, b1, decoded-low_bits w i sp.spells) in
       record {
         size = 4;
-        here = fetched_long (loaded e) a w i (text_lies p parts out a 4 st.low (omega (arith, high, four))) word low sp.spells;
+        here = fetched_long (loaded_core e) a w i (text_lies p parts out a 4 st.low (omega (arith, high, four))) word low sp.spells;
         small = omega (arith, high, four, short, map.code, map.data_room, map.top);
       }
 
@@ -136,29 +137,29 @@ module _ (p : Program) (parts : Parts) (out : AreLaidOut p parts) where
       let short = out.short in
       let high = st.high in
       let byte = λ (j : ℕ) (lt : j < 2). st.each j (omega (arith, lt, two)) ∙ ap (λ l. get_or l j 0) are in
-      let b0 : byte_in (loaded e) a ≡ half % 256 = (let zero : a ≡ a + 0 = omega arith in ap (byte_in (loaded e)) zero ∙ byte 0 (omega arith)) in
-      let b1 : byte_in (loaded e) (a + 1) ≡ half / 256 % 256 = byte 1 (omega arith) in
-      let is : half_at (loaded e) a ≡ half = omega (arith, b0, b1, small) in
+      let b0 : byte_in (loaded_core e) a ≡ half % 256 = (let zero : a ≡ a + 0 = omega arith in ap (byte_in (loaded_core e)) zero ∙ byte 0 (omega arith)) in
+      let b1 : byte_in (loaded_core e) (a + 1) ≡ half / 256 % 256 = byte 1 (omega arith) in
+      let is : half_at (loaded_core e) a ≡ half = omega (arith, b0, b1, small) in
       record {
         size = 2;
-        here = fetched_short (loaded e) a half (Base i) (text_lies p parts out a 2 st.low (omega (arith, high, two))) is (short_low half (Base i) spells) spells;
+        here = fetched_short (loaded_core e) a half (Base i) (text_lies p parts out a 2 st.low (omega (arith, high, two))) is (short_low half (Base i) spells) spells;
         small = omega (arith, high, two, short, map.code, map.data_room, map.top);
       }
 
   -- n bytes that spell an instruction: it is fetched, or another with its effect
   pub record SpelledAt (a n : ℕ) (i : Instr) : Type 0 where
     pub here : Instr
-    pub same : SameEffect i here
+    pub same : SameEffect here i
     pub at : OneAt e a (Base here)
     pub long : at.size ≡ n
 
   -- so it is of bytes that stand there
   pub spelled_at : (a n : ℕ) (bytes : List ℕ) (i : Instr) → StandAt a bytes → IsSpelled n bytes i → SpelledAt a n i
   unfolding one_at half_at_address
-  spelled_at a n bytes i st (inl w) = record { here = i; same = λ size z core. refl; at = one_at a bytes i st w.1; long = sym w.0 }
+  spelled_at a n bytes i st (inl w) = record { here = i; same = λ size z. refl; at = one_at a bytes i st w.1; long = sym w.0 }
   spelled_at a n bytes i st (inr h) = record {
     here = h.1.same.0;
-    same = λ size z core. h.1.same.2 size z;
+    same = h.1.same.2;
     at = half_at_address a h.1.half bytes h.1.same.0 st h.1.small h.1.are h.1.same.1;
     long = sym h.0;
   }
@@ -170,7 +171,7 @@ module _ (p : Program) (parts : Parts) (out : AreLaidOut p parts) where
   unfolding one_at
   words_at zero a st = omega arith
   words_at (suc count) a st =
-      let does_nothing : Spells (word_bytes nop) (instr.WithImm Addi 0 0 (pos 0)) = record { word = nop; small = omega arith; are = refl; spells = nop_spells } in
+      let does_nothing : SpellsWord (word_bytes nop) (instr.WithImm Addi 0 0 (pos 0)) = record { word = nop; small = omega arith; are = refl; spells = nop_spells } in
       let first = one_at a (word_bytes nop) (instr.WithImm Addi 0 0 (pos 0)) (stand_first a (word_bytes nop) (copies nop count) st) does_nothing in
       let end : a + 4 + 4 * count ≡ a + 4 * suc count = omega arith in
       (first, subst (Nops e (a + 4) count) end (words_at count (a + 4) (stand_next a (word_bytes nop) (copies nop count) st)))

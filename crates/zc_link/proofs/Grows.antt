@@ -18,7 +18,7 @@ use Rattle.zc_link.specs.Copied.{bytes_from}
 use Rattle.zc_link.specs.ImageParts.{with_address}
 use Rattle.zc_link.specs.Standing.{WrittenHere}
 use Rattle.zc_link.specs.TextLayout.{TextLayout, behind, front_end}
-use Rattle.zc_link.specs.Written.{GapsAreZero, Holds, HoldsUnit, IsSoFar, UnitWritten}
+use Rattle.zc_link.specs.Written.{GapsAreZero, HoldsPlace, HoldsUnit, IsSoFar, UnitWritten}
 use Rattle.zc_link.proofs.Adds.{bytes_append, zeros_are}
 
 -- ---- bytes
@@ -52,7 +52,7 @@ module _ (L : TextLayout) where
   -- ---- what a text holds
 
   -- it keeps
-  holds_more : (text more : List ℕ) (e : Place × ℕ) → Holds L text e → Holds L (text ++ more) e
+  holds_more : (text more : List ℕ) (e : Place × ℕ) → HoldsPlace L text e → HoldsPlace L (text ++ more) e
   holds_more text more e holds u is =
       let h = holds u is in
       record {
@@ -66,14 +66,14 @@ module _ (L : TextLayout) where
             (sym (front_stays text more (e.1 - start) h.size (omega (arith, h.low, h.within)))) h.written;
       }
 
-  all_more : (text more : List ℕ) (places : List (Place × ℕ)) → All (Holds L text) places → All (Holds L (text ++ more)) places
-  all_more text more places all = All-weaker (Holds L text) (Holds L (text ++ more)) (λ e h. holds_more text more e h) places all
+  all_more : (text more : List ℕ) (places : List (Place × ℕ)) → All (HoldsPlace L text) places → All (HoldsPlace L (text ++ more)) places
+  all_more text more places all = All-weaker (HoldsPlace L text) (HoldsPlace L (text ++ more)) (λ e h. holds_more text more e h) places all
 
   -- what is added for an item it holds
   item_held :
       (s : SectionParts) (q : Place) (item : Item) (n : ℕ) (text bytes : List ℕ) → code_at p.objects q ≡ Some s → L.unit q ≡ Some (OneItem item)
       → L.address (behind L q) ≡ Some (start + length text + n) → front_end L ≤ start + length text
-      → WrittenHere L s.bytes q item (start + length text) n bytes → Holds L (text ++ bytes) (q, start + length text)
+      → WrittenHere L s.bytes q item (start + length text) n bytes → HoldsPlace L (text ++ bytes) (q, start + length text)
   item_held s q item n text bytes at is next low adds u is' =
       let same : OneItem item ≡ u = cc in
       let a = start + length text in
@@ -133,8 +133,8 @@ module _ (L : TextLayout) where
         listed = listed_more targets q a places before.listed address;
         ends = refl;
         front = begins_still L.front text bytes before.front;
-        holds = All-append (Holds L (text ++ bytes)) places ((q, a) ∷ []) (all_more text bytes places before.holds)
-            (All-cons (Holds L (text ++ bytes)) (q, a) [] (item_held s q item n text bytes at is next low adds) (All-nil (Holds L (text ++ bytes))));
+        holds = All-append (HoldsPlace L (text ++ bytes)) places ((q, a) ∷ []) (all_more text bytes places before.holds)
+            (All-cons (HoldsPlace L (text ++ bytes)) (q, a) [] (item_held s q item n text bytes at is next low adds) (All-nil (HoldsPlace L (text ++ bytes))));
         gaps = item_gaps q item text bytes is address (next ∙ ap (λ m. Some (start + length text + m)) (sym adds.long)) before.gaps;
         octets = bytes_append text bytes before.octets adds.octets;
       }
@@ -147,8 +147,8 @@ module _ (L : TextLayout) where
     listed = listed_more targets q end places before.listed address;
     ends = before.ends;
     front = before.front;
-    holds = All-append (Holds L text) places ((q, end) ∷ []) before.holds
-        (All-cons (Holds L text) (q, end) [] (λ u is. absurd (cc (none, is))) (All-nil (Holds L text)));
+    holds = All-append (HoldsPlace L text) places ((q, end) ∷ []) before.holds
+        (All-cons (HoldsPlace L text) (q, end) [] (λ u is. absurd (cc (none, is))) (All-nil (HoldsPlace L text)));
     gaps = before.gaps;
     octets = before.octets;
   }

@@ -18,7 +18,7 @@ use Rattle.psabi_reloc.specs.declared.kind.RelocKind.TheVariants as kind
 use Rattle.psabi_sym.specs.Contents.{data_contents, overlaid}
 use Rattle.psabi_sym.specs.Data.{data_end, data_file_end}
 use Rattle.psabi_sym.specs.Inputs.{Inputs, ParsedInputs, parsed}
-use Rattle.psabi_sym.specs.Listed.{all_sections, section_at, sections_before}
+use Rattle.psabi_sym.specs.Indexed.{all_sections, section_at, sections_before}
 use Rattle.psabi_sym.specs.declared.target.Target.{Target}
 use Rattle.psabi_sym.specs.declared.target.Target.TheVariants as target
 use Rattle.psabi_sym.proofs.ContentLaws.{length-data_contents, length-overlaid}
@@ -30,7 +30,7 @@ use Rattle.block_cut.specs.Relocs.{is_ignored, is_transfer, is_word}
 use Rattle.block_cut.proofs.ItemLaws.{item_there}
 use Rattle.block_cut.proofs.ListedLaws.{cut_at, listed}
 use Rattle.block_cut.specs.declared.data_word.DataWord.{DataWord}
-use Rattle.sym_machine.specs.AddressParts.{target_bytes}
+use Rattle.sym_machine.specs.AddressParts.{bytes_of, target_word}
 use Rattle.sym_machine.specs.Objects.{data_bytes, unfilled_bytes}
 use Rattle.sym_machine.specs.Objects as objects
 use Rattle.sym_machine.specs.declared.word.SymByte.{SymByte}
@@ -135,27 +135,27 @@ module _ (p : ParsedInputs) (A : Place → Option ℕ) (Named : Place → Type 0
   }
 
   -- those of a target
-  number_fine : (x n : ℕ) → x ≡ n → AreFine (target_bytes (target.Number n)) (word_bytes x)
+  number_fine : (x n : ℕ) → x ≡ n → AreFine (bytes_of (target_word (target.Number n))) (word_bytes x)
   number_fine x n same = record { same = refl; each = byte }
     where
-      byte : (k : ℕ) → k < 4 → Fine (get_or (target_bytes (target.Number n)) k Undef) (get_or (word_bytes x) k 0)
+      byte : (k : ℕ) → k < 4 → Fine (get_or (bytes_of (target_word (target.Number n))) k Undef) (get_or (word_bytes x) k 0)
       byte zero lt = (omega arith, tt)
       byte (suc zero) lt = (omega arith, tt)
       byte (suc (suc zero)) lt = (omega arith, tt)
       byte (suc (suc (suc zero))) lt = (omega arith, tt)
       byte (suc (suc (suc (suc k)))) lt = absurd (omega arith)
 
-  code_fine : (x : ℕ) (q : Place) → A q ≡ Some x → Named q → AreFine (target_bytes (target.Code q)) (word_bytes x)
+  code_fine : (x : ℕ) (q : Place) → A q ≡ Some x → Named q → AreFine (bytes_of (target_word (target.Code q))) (word_bytes x)
   code_fine x q at named = record { same = refl; each = byte }
     where
-      byte : (k : ℕ) → k < 4 → Fine (get_or (target_bytes (target.Code q)) k Undef) (get_or (word_bytes x) k 0)
+      byte : (k : ℕ) → k < 4 → Fine (get_or (bytes_of (target_word (target.Code q))) k Undef) (get_or (word_bytes x) k 0)
       byte zero lt = ((x, place q ∙ at, omega arith), named)
       byte (suc zero) lt = ((x, place q ∙ at, omega arith), named)
       byte (suc (suc zero)) lt = ((x, place q ∙ at, omega arith), named)
       byte (suc (suc (suc zero))) lt = ((x, place q ∙ at, omega arith), named)
       byte (suc (suc (suc (suc k)))) lt = absurd (omega arith)
 
-  target_fine : (t : Target) → HasValue A t → NamesTarget Named t → AreFine (target_bytes t) (word_bytes (unwrap_or (target_value A t) 0))
+  target_fine : (t : Target) → HasValue A t → NamesTarget Named t → AreFine (bytes_of (target_word t)) (word_bytes (unwrap_or (target_value A t) 0))
   target_fine (target.Code q) has named = code_fine (unwrap_or (A q) 0) q (has.1 ∙ ap Some (sym (ap (λ o. unwrap_or o 0) has.1))) named
   target_fine (target.Number n) has named = number_fine n n refl
   target_fine (target.Absent n) has named = number_fine n n refl
@@ -200,7 +200,7 @@ module _ (p : ParsedInputs) (A : Place → Option ℕ) (Named : Place → Type 0
     pub named : NamesTarget Named w.target
 
   filled_fine : (ws : List DataWord) (ss : List SymByte) (bs : List ℕ) → All IsFineWord ws → data_file_end p - p.map.data_low ≤ length bs → AreFine ss bs
-      → AreFine (fold (objects.with_word p) ss ws) (fold (with_data_word p A) bs ws)
+      → AreFine (fold (objects.with_target_word p) ss ws) (fold (with_data_word p A) bs ws)
   filled_fine [] ss bs fine size are = are
   filled_fine (w ∷ ws) ss bs fine size are =
       let here = All-head IsFineWord w ws fine in
@@ -208,8 +208,8 @@ module _ (p : ParsedInputs) (A : Place → Option ℕ) (Named : Place → Type 0
       let v = word_bytes (data_value A w) in
       let low = here.within.0 in
       let high = here.within.1 in
-      filled_fine ws (objects.with_word p ss w) (with_data_word p A bs w) (All-tail IsFineWord w ws fine) (omega (arith, size, length-overlaid at v bs))
-      (over_fine at ss (target_bytes w.target) bs v (omega (arith, low, high, size)) are (target_fine w.target here.has here.named))
+      filled_fine ws (objects.with_target_word p ss w) (with_data_word p A bs w) (All-tail IsFineWord w ws fine) (omega (arith, size, length-overlaid at v bs))
+      (over_fine at ss (bytes_of (target_word w.target)) bs v (omega (arith, low, high, size)) are (target_fine w.target here.has here.named))
 
 -- ---- the objects' words
 
@@ -277,7 +277,7 @@ module _ (inputs : Inputs) (none : first_fault inputs ≡ None) where
         let cs = data_contents p0 in
         let size = length-data_contents p0 in
         let whole : fold (with_data_word p0 A) cs (data_words p0) ++ zeros ≡ fold (with_data_word p0 A) (cs ++ zeros) (data_words p0) = filled_append p0 A (data_words p0) cs zeros (words_within inputs none) size in
-        subst (AreFine p0 A (IsNamed p0) V place (fold (objects.with_word p0) (unfilled_bytes p0) (data_words p0))) (sym whole)
+        subst (AreFine p0 A (IsNamed p0) V place (fold (objects.with_target_word p0) (unfilled_bytes p0) (data_words p0))) (sym whole)
         (filled_fine p0 A (IsNamed p0) V place (data_words p0) (map Num (cs ++ zeros)) (cs ++ zeros) words_fine (omega (arith, size, length-append cs zeros)) (numbers_fine p0 A (IsNamed p0) V place (cs ++ zeros)))
 
 -- ---- in the code

@@ -1,21 +1,21 @@
 -- The file of a layout's image: it reads back as the image of the text that was laid and the data, which is laid as a layout owes; so
 -- it does what the objects' program does. And what it copies is the objects'.
-use Rattle.std.proofs.Common.{◌≡◌, ℕ, ◌+◌, ◌-◌, ◌<◌, ◌≤◌, List, [], ◌∷◌, length, filter, replicate, Option, Some, None, true, zero, suc, refl, sym, ap, ◌∙◌, subst, arith, get_or, length-append}
+use Rattle.std.proofs.Common.{◌≡◌, ℕ, ◌+◌, ◌-◌, ◌<◌, ◌≤◌, List, [], ◌∷◌, length, filter, replicate, Option, Some, None, true, zero, suc, refl, sym, ap, ◌∙◌, subst, arith, get_or, length-append, cond}
 use Rattle.std.specs.Prelude.{All}
 use Rattle.std.proofs.lemmas.List.{length-replicate}
 use Rattle.zc_base.specs.declared.place.Place.{Place}
 use Rattle.elf32_read.specs.Image.{are_known_flags}
 use Rattle.elf32_read.specs.Parts.{SectionParts}
-use Rattle.elf32_read.specs.Places.{places_of}
+use Rattle.elf32_read.specs.Places.{place_list}
 use Rattle.elf32_read.specs.Segments.{SegmentData, segments_of}
-use Rattle.elf32_write.specs.Image.{Fits, image_bytes}
+use Rattle.elf32_write.specs.Image.{NumbersFit, image_bytes}
 use Rattle.elf32_write.specs.Loadable.{IsLoadable, ReadsBack}
 use Rattle.elf32_write.specs.Parts.{Parts}
 use Rattle.elf32_write.proofs.ImageBack.{image_back}
 use Rattle.psabi_sym.specs.Data.{data_end, data_file_end}
 use Rattle.psabi_sym.specs.Faults.{gather_fault}
 use Rattle.psabi_sym.specs.Inputs.{Inputs, ParsedInputs, parsed}
-use Rattle.psabi_sym.specs.Listed.{all_sections}
+use Rattle.psabi_sym.specs.Indexed.{all_sections}
 use Rattle.psabi_sym.proofs.ContentLaws.{data_file_end-le, data_low-le}
 use Rattle.rv_decode.specs.Memory.{cell_at}
 use Rattle.rv_decode.specs.State.{byte_in}
@@ -24,38 +24,39 @@ use Rattle.block_cut.specs.declared.item.Item.{Item}
 use Rattle.block_cut.specs.declared.item.Item.TheVariants.{Op, Hi, Lo, PcHi, PcLo, Branch, Jump, Call, Align, Word, Raw, RawPair}
 use Rattle.shrink_layout.specs.Units.{CodeUnit, OneItem}
 use Rattle.sym_machine.specs.Objects.{data_bytes, program_of}
-use Rattle.sym_machine.specs.Program.{Program, first_memory}
+use Rattle.sym_machine.specs.Program.{Program, start_memory}
 use Rattle.sym_machine.specs.declared.word.SymByte.TheVariants.{Undef}
 use Rattle.sym_machine.specs.declared.word.Value.{Value}
-use Rattle.sym_machine.specs.declared.word.Value.TheVariants as value
 use Rattle.zc_link.specs.Copied.{Copied, ItemCopied, bytes_from}
-use Rattle.zc_link.specs.Image.{Image, image_in, image_unless, loaded, place_address}
+use Rattle.zc_link.specs.Image.{Image, image_in, loaded_core}
 use Rattle.zc_link.specs.ImageParts.{image_data, listed_places, parts_of}
 use Rattle.zc_link.specs.Laid.{AtEntry, Laid}
 use Rattle.zc_link.specs.LaidOut.{HasForm, IsLaidOut, LiesAt, text_end}
 use Rattle.zc_link.specs.Links.{IsImageOf, Simulates, TextEndsAt}
-use Rattle.zc_link.specs.Places.{address_in}
+use Rattle.zc_link.specs.Places.{listed_address}
 use Rattle.zc_link.specs.Preserves.{Preserves}
 use Rattle.zc_link.specs.Room.{Room}
 use Rattle.zc_link.specs.Sound.{IsNamed, NamesByte}
 use Rattle.zc_link.specs.Standing.{IsReady}
 use Rattle.zc_link.specs.Stands.{ByteStands}
-use Rattle.zc_link.specs.TextLayout.{TextLayout, behind, piece_in}
+use Rattle.zc_link.specs.TextLayout.{TextLayout, behind, stretch_in}
 use Rattle.zc_link.specs.Values.{target_value, value_in}
-use Rattle.zc_link.specs.Written.{Holds, HoldsUnit, IsTextOf, IsWritten}
-use Rattle.zc_link.proofs.ImageMemory as memory
+use Rattle.zc_link.specs.Written.{HoldsPlace, HoldsUnit, IsTextOf, IsWritten}
 use Rattle.zc_link.proofs.ImageMemory.{AreLaidOut, image_of}
 use Rattle.zc_link.proofs.Induction.{quietly}
 use Rattle.zc_link.proofs.Adds.{AreBytes}
 use Rattle.zc_link.proofs.ImageData.{AreFine, data_fine, length-image_data}
 use Rattle.zc_link.proofs.Faultless.{all_none}
 use Rattle.zc_link.proofs.LaidLaws.{unit_there}
-use Rattle.zc_link.proofs.PiecesLaid.{ShowsLayout, distinct, each, even}
+use Rattle.zc_link.proofs.StretchesLaid.{ShowsLayout, distinct, each, even}
 use Rattle.zc_link.proofs.SizedPieces.{few}
 use Rattle.zc_link.proofs.Lookup.{found_holds, listed_placed, lookup}
 use Rattle.zc_link.proofs.ListedPlaces.{are_inside, ascends, entries, places_few}
 use Rattle.zc_link.proofs.ProgramLeads.{leads_faultless}
 use Rattle.zc_link.proofs.Simulation.{laid_preserves, simulates}
+use Rattle.std.specs.Option.{is_some}
+use Rattle.sym_machine.specs.declared.word.Value.TheVariants as value
+use Rattle.zc_link.proofs.ImageMemory as memory
 
 -- all data has 4 MiB at most
 abbrev pub HasDataRoom : ParsedInputs → Type 0
@@ -123,8 +124,8 @@ module _ (L : TextLayout) (ready : IsReady L.inputs) (lies : IsLaidOut L) (flags
   placed = listed_placed L lies.listed
 
   -- and the text holds what is written there
-  holds : All (Holds L text) (listed_places L)
-  holds = subst (All (Holds L text)) listed laid.holds
+  holds : All (HoldsPlace L text) (listed_places L)
+  holds = subst (All (HoldsPlace L text)) listed laid.holds
 
   -- the text ends where the layout's does
   ends : inputs.map.text + length text ≡ text_end L
@@ -164,7 +165,7 @@ module _ (L : TextLayout) (ready : IsReady L.inputs) (lies : IsLaidOut L) (flags
   e = image_of inputs.map parts
 
   -- the image lists the layout's addresses
-  listed_are : place_address e ≡ A
+  listed_are : e.address ≡ A
   listed_are = λ j q. lookup L lies.listed q j
 
   -- it is of the objects' program
@@ -176,7 +177,7 @@ module _ (L : TextLayout) (ready : IsReady L.inputs) (lies : IsLaidOut L) (flags
 
   -- a place's value is its address
   V : Value → Option ℕ
-  V = value_in program (place_address e)
+  V = value_in program e.address
 
   -- of code that is the layout's
   place_value : (q : Place) → V (value.Code q) ≡ A q
@@ -193,14 +194,14 @@ module _ (L : TextLayout) (ready : IsReady L.inputs) (lies : IsLaidOut L) (flags
   cell_within a low high = let same = fine.same in omega (arith, low, high, same)
 
   -- so memory begins as the program's
-  first : (a : ℕ) → ByteStands (value_in program (place_address e)) (cell_at Undef (first_memory program) a) (byte_in (loaded e) a)
+  first : (a : ℕ) → ByteStands (value_in program e.address) (cell_at Undef (start_memory program) a) (byte_in (loaded_core e) a)
   unfolding program_of V
-  first a = memory.first_cell program parts out (λ c. ByteStands (value_in program (place_address e)) c (byte_in (loaded e) a)) a
-      (λ low high. subst (ByteStands (value_in program (place_address e)) (get_or (data_bytes p3) (a - inputs.map.data_low) Undef)) (sym (memory.data_byte program parts out a low high))
+  first a = memory.first_cell program parts out (λ c. ByteStands (value_in program e.address) c (byte_in (loaded_core e) a)) a
+      (λ low high. subst (ByteStands (value_in program e.address) (get_or (data_bytes p3) (a - inputs.map.data_low) Undef)) (sym (memory.data_byte program parts out a low high))
       (fine.each (a - inputs.map.data_low) (cell_within a low high)).0) tt
 
   -- and names what the program may name
-  names : (a : ℕ) → NamesByte (IsNamed p3) (cell_at Undef (first_memory program) a)
+  names : (a : ℕ) → NamesByte (IsNamed p3) (cell_at Undef (start_memory program) a)
   unfolding program_of
   names a = memory.first_cell program parts out (NamesByte (IsNamed p3)) a (λ low high. (fine.each (a - inputs.map.data_low) (cell_within a low high)).1) tt
 
@@ -224,7 +225,7 @@ module _ (L : TextLayout) (ready : IsReady L.inputs) (lies : IsLaidOut L) (flags
       }
 
   -- all of it is laid
-  laid_out : Laid program (IsNamed p3) e (piece_in L)
+  laid_out : Laid program (IsNamed p3) e (stretch_in L)
   unfolding program_of
   laid_out = record {
     room = rooms;
@@ -240,7 +241,7 @@ module _ (L : TextLayout) (ready : IsReady L.inputs) (lies : IsLaidOut L) (flags
   -- ---- the file
 
   -- the parts fit in a file
-  pub fits : Fits parts
+  pub fits : NumbersFit parts
   fits =
       let few = places_few L none in
       let map = ready.is_map in
@@ -279,16 +280,20 @@ module _ (L : TextLayout) (ready : IsReady L.inputs) (lies : IsLaidOut L) (flags
   read : image_in (image_bytes parts) inputs.map ≡ Some e
   unfolding image_in
   read =
-      ap (λ fault. image_unless fault (image_bytes parts) inputs.map) back.faultless
-      ∙ (λ i. Some (record { entry = back.entry i; segments = back.segments_back i; places = back.places i; map = inputs.map }))
+      (λ i. cond (is_some (back.faultless i)) None (Some (record {
+        entry = back.entry i;
+        segments = back.segments_back i;
+        address = listed_address (back.places i);
+        map = inputs.map;
+      })))
 
   -- which does what the program does
   preserves : Preserves inputs (image_bytes parts)
-  preserves = laid_preserves inputs (image_bytes parts) (IsNamed p3) e (piece_in L) read laid_out
+  preserves = laid_preserves inputs (image_bytes parts) (IsNamed p3) e (stretch_in L) read laid_out
 
   -- step by step
   keeps : Simulates L (image_bytes parts)
-  keeps = record { image = e; read = read; simulates = simulates program (IsNamed p3) e (piece_in L) laid_out }
+  keeps = record { image = e; read = read; simulates = simulates program (IsNamed p3) e (stretch_in L) laid_out }
 
   abbrev text_part : SegmentData
   text_part = record { at = inputs.map.text; size = length text; code = true; bytes = text }
@@ -303,14 +308,14 @@ module _ (L : TextLayout) (ready : IsReady L.inputs) (lies : IsLaidOut L) (flags
     text = text_part;
     alone = sole;
     each = λ q a s item here at is.
-        let found : address_in (listed_places L) q ≡ Some a = ap (λ l. address_in l q) (sym back.places) ∙ here in
+        let found : listed_address (listed_places L) q ≡ Some a = ap (λ l. listed_address l q) (sym back.places) ∙ here in
         let listed_at : A q ≡ Some a = sym (λ j. listed_are j q) ∙ found in
         let there = unit_there L ready.is_map lies q item a is listed_at in
-        of q a s item there.0 at is (lies.each q a there.0 there.1 listed_at) (found_holds (Holds L text) (listed_places L) q a holds found there.0 there.1);
+        of q a s item there.0 at is (lies.each q a there.0 there.1 listed_at) (found_holds (HoldsPlace L text) (listed_places L) q a holds found there.0 there.1);
   }
     where
-      addresses : A ≡ address_in (places_of (image_bytes parts))
-      addresses = sym listed_are ∙ ap address_in (sym back.places)
+      addresses : A ≡ listed_address (place_list (image_bytes parts))
+      addresses = sym listed_are ∙ ap listed_address (sym back.places)
 
       size_same : (o : Option ℕ) (a m n : ℕ) → o ≡ Some (a + m) → o ≡ Some (a + n) → m ≡ n
       size_same o a m n one two = let same : a + m ≡ a + n = cc (sym one ∙ two) in omega (arith, same)
@@ -318,13 +323,13 @@ module _ (L : TextLayout) (ready : IsReady L.inputs) (lies : IsLaidOut L) (flags
       of :
           (q : Place) (a : ℕ) (s : SectionParts) (item : Item) (u : CodeUnit) → code_at p3.objects q ≡ Some s → item_at p3 q ≡ Some item
           → LiesAt L q a u → HoldsUnit L text (q, a) u
-          → ItemCopied (address_in (places_of (image_bytes parts))) (bytes_from s.bytes q.offset) (bytes_from text (a - inputs.map.text)) item
+          → ItemCopied (listed_address (place_list (image_bytes parts))) (bytes_from s.bytes q.offset) (bytes_from text (a - inputs.map.text)) item
       of q a s item (OneItem i) at is form h =
           let size : form.size ≡ h.size = size_same (A (behind L q)) a form.size h.size form.next h.next in
           let same : h.section ≡ s = cc (sym h.here ∙ at) in
           let one : i ≡ item = cc (sym form.is ∙ is) in
-          subst (ItemCopied (address_in (places_of (image_bytes parts))) (bytes_from s.bytes q.offset) (bytes_from text (a - inputs.map.text))) one
-          (copied_item A (address_in (places_of (image_bytes parts))) (item_at p3) (bytes_from s.bytes q.offset) (bytes_from text (a - inputs.map.text)) a h.size i addresses
+          subst (ItemCopied (listed_address (place_list (image_bytes parts))) (bytes_from s.bytes q.offset) (bytes_from text (a - inputs.map.text))) one
+          (copied_item A (listed_address (place_list (image_bytes parts))) (item_at p3) (bytes_from s.bytes q.offset) (bytes_from text (a - inputs.map.text)) a h.size i addresses
           (subst (λ n. HasForm A a n i) size form.form)
           (subst (λ t. IsWritten A (item_at p3) (bytes_from t.bytes q.offset) a h.size i (bytes_from text (a - inputs.map.text) h.size)) same h.written))
 
@@ -336,6 +341,6 @@ module _ (L : TextLayout) (ready : IsReady L.inputs) (lies : IsLaidOut L) (flags
     quietly = quietly inputs elf (subst (Preserves inputs) (sym written) preserves);
     simulates = subst (Simulates L) (sym written) keeps;
     copied = subst (Copied p3) (sym written) copied;
-    places = ap places_of written ∙ back.places;
+    places = ap place_list written ∙ back.places;
     text_end = subst (λ x. TextEndsAt inputs.map x (text_end L)) (sym written) (record { text = text_part; alone = sole; start = refl; end = ends });
   }

@@ -11,12 +11,13 @@ use Rattle.elf32_write.specs.Parts.{Parts}
 use Rattle.rv_decode.specs.Memory.{Data, Extent, Stack, Text, blank, cell_at, extents_of, is_data, is_text, lies_in, spans}
 use Rattle.rv_decode.specs.State.{byte_in}
 use Rattle.rv_decode.proofs.MemoryLaws.{get_or_blank, length_blank, spans_before}
-use Rattle.sym_machine.specs.Program.{Program, data_end, first_memory}
+use Rattle.sym_machine.specs.Program.{Program, data_high, start_memory}
 use Rattle.sym_machine.specs.declared.word.SymByte.{SymByte}
 use Rattle.sym_machine.specs.declared.word.SymByte.TheVariants.{Undef}
 use Rattle.zc_machine.specs.Load.{first_core}
 use Rattle.zc_machine.proofs.LoadLaws.{code_byte, code_lies}
-use Rattle.zc_link.specs.Image.{Image, loaded}
+use Rattle.zc_link.specs.Places.{listed_address}
+use Rattle.zc_link.specs.Image.{Image, loaded_core}
 use Rattle.zc_link.specs.Room.{SpansMemory}
 use Rattle.zc_link.proofs.Adds.{AreBytes, bytes_append}
 
@@ -40,7 +41,7 @@ pub record AreLaidOut (p : Program) (parts : Parts) : Type 0 where
 
 -- what an image with these parts holds
 abbrev pub image_of : MemMap → Parts → Image
-image_of map parts = record { entry = parts.entry; segments = segments parts; places = parts.places; map = map }
+image_of map parts = record { entry = parts.entry; segments = segments parts; address = listed_address parts.places; map = map }
 
 -- the bytes of data with the zeros after them
 abbrev pub data_cells : Parts → List ℕ
@@ -80,7 +81,7 @@ module _ (p : Program) (parts : Parts) (out : AreLaidOut p parts) where
   abbrev stack_extent : Extent
   stack_extent = record { kind = Stack; at = memory.stack_low; size = length (blank {X = ℕ} stack_size 0) }
 
-  stack_reaches : (a n : ℕ) → memory.stack_low ≤ a → a + n ≤ memory.stack_high → lies_in is_data (extents_of (loaded image).memory) a n ≡ true
+  stack_reaches : (a n : ℕ) → memory.stack_low ≤ a → a + n ≤ memory.stack_high → lies_in is_data (extents_of (loaded_core image).memory) a n ≡ true
   unfolding first_core
   stack_reaches a n low high =
       let size = length_blank {X = ℕ} stack_size 0 in
@@ -88,7 +89,7 @@ module _ (p : Program) (parts : Parts) (out : AreLaidOut p parts) where
       (or_left (spans stack_extent a n) false
       (and_from (leb memory.stack_low a) (leb (a + n) (memory.stack_low + length (blank {X = ℕ} stack_size 0))) (le-leb memory.stack_low a low) (le-leb (a + n) (memory.stack_low + length (blank {X = ℕ} stack_size 0)) (omega arith))))
 
-  data_reaches : (a n : ℕ) → memory.data_low ≤ a → a + n ≤ data_end p → lies_in is_data (extents_of (loaded image).memory) a n ≡ true
+  data_reaches : (a n : ℕ) → memory.data_low ≤ a → a + n ≤ data_high p → lies_in is_data (extents_of (loaded_core image).memory) a n ≡ true
   unfolding first_core
   data_reaches a n low high =
       let size = length-cells in
@@ -97,12 +98,12 @@ module _ (p : Program) (parts : Parts) (out : AreLaidOut p parts) where
       or_left (spans data_extent a n) _
       (and_from (leb parts.data_at a) (leb (a + n) (parts.data_at + length cells)) (le-leb parts.data_at a (omega (arith, low, at))) (le-leb (a + n) (parts.data_at + length cells) (omega (arith, high, size, known_size, at))))
 
-  pub reaches : (a n : ℕ) → 0 < n → SpansMemory p a n → lies_in is_data (extents_of (loaded image).memory) a n ≡ true
+  pub reaches : (a n : ℕ) → 0 < n → SpansMemory p a n → lies_in is_data (extents_of (loaded_core image).memory) a n ≡ true
   reaches a n some (inl d) = data_reaches a n d.0 d.1
   reaches a n some (inr d) = stack_reaches a n d.0 d.1
 
   -- an address of text lies below all data
-  pub text_apart : (a : ℕ) → lies_in is_text (extents_of (loaded image).memory) a 1 ≡ true → lies_in is_data (extents_of (loaded image).memory) a 1 ≡ false
+  pub text_apart : (a : ℕ) → lies_in is_text (extents_of (loaded_core image).memory) a 1 ≡ true → lies_in is_data (extents_of (loaded_core image).memory) a 1 ≡ false
   unfolding first_core
   text_apart a h =
       let map = out.is_map in
@@ -118,7 +119,7 @@ module _ (p : Program) (parts : Parts) (out : AreLaidOut p parts) where
 
   -- ---- how it begins
 
-  pub bytes : (a : ℕ) → byte_in (loaded image) a < 256
+  pub bytes : (a : ℕ) → byte_in (loaded_core image) a < 256
   unfolding first_core
   bytes a =
       let none : 0 < 256 = omega arith in
@@ -133,18 +134,18 @@ module _ (p : Program) (parts : Parts) (out : AreLaidOut p parts) where
   abbrev data_part : SegmentData
   data_part = record { at = parts.data_at; size = length parts.data_bytes + parts.zero; code = false; bytes = parts.data_bytes }
 
-  pub text_byte : (a : ℕ) → p.map.text ≤ a → a < p.map.text + length text → byte_in (loaded image) a ≡ get_or text (a - p.map.text) 0
+  pub text_byte : (a : ℕ) → p.map.text ≤ a → a < p.map.text + length text → byte_in (loaded_core image) a ≡ get_or text (a - p.map.text) 0
   unfolding first_core
   text_byte a low high =
       let at = out.text_at in
       code_byte text_part (data_part ∷ []) p.map refl a (omega (arith, low, at)) (omega (arith, high, at)) ∙ ap (λ n. get_or text (a - n) 0) at
 
-  pub text_lies : (a n : ℕ) → p.map.text ≤ a → a + n ≤ p.map.text + length text → lies_in is_text (extents_of (loaded image).memory) a n ≡ true
+  pub text_lies : (a n : ℕ) → p.map.text ≤ a → a + n ≤ p.map.text + length text → lies_in is_text (extents_of (loaded_core image).memory) a n ≡ true
   unfolding first_core
   text_lies a n low high = let at = out.text_at in code_lies text_part (data_part ∷ []) p.map refl a n (omega (arith, low, at)) (omega (arith, high, at))
 
   -- and a byte of data
-  pub data_byte : (a : ℕ) → memory.data_low ≤ a → a < data_end p → byte_in (loaded image) a ≡ get_or (data_cells parts) (a - memory.data_low) 0
+  pub data_byte : (a : ℕ) → memory.data_low ≤ a → a < data_high p → byte_in (loaded_core image) a ≡ get_or (data_cells parts) (a - memory.data_low) 0
   unfolding first_core
   data_byte a low high =
       let map = out.is_map in
@@ -171,7 +172,7 @@ module _ (p : Program) (parts : Parts) (out : AreLaidOut p parts) where
           by false h = refl
 
   -- what holds of the program's bytes of data, at their addresses, and of what isn't defined, holds of its first memory
-  pub first_cell : (P : SymByte → Type 0) (a : ℕ) → (memory.data_low ≤ a → a < data_end p → P (get_or p.bytes (a - memory.data_low) Undef)) → P Undef → P (cell_at Undef (first_memory p) a)
+  pub first_cell : (P : SymByte → Type 0) (a : ℕ) → (memory.data_low ≤ a → a < data_high p → P (get_or p.bytes (a - memory.data_low) Undef)) → P Undef → P (cell_at Undef (start_memory p) a)
   first_cell P a here undefined = by_data (spans program_data a 1) refl
     where
       program_data : Extent

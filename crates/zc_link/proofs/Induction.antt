@@ -1,40 +1,40 @@
 -- The induction over the number of steps: what keeps step with the program follows it under every plan. The number of commits is
--- taken from the program's run alone, before any plan is named. A run that ends inside a piece has made no commit of that piece,
+-- taken from the program's run alone, before any plan is named. A run that ends inside a stretch has made no commit of that stretch,
 -- so no interrupt of it either, and only the events are claimed.
 use Rattle.std.proofs.Common.{◌≡◌, ℕ, zero, suc, ◌+◌, ◌-◌, ◌*◌, ◌<◌, ◌≤◌, List, [], Bool, true, false, cond, Option, Some, None, Ok, refl, sym, ap, ◌∙◌, subst, inl, inr, ⊎_elim, arith, eqb}
 use Rattle.std.specs.Prelude.{◌⊎◌, IsSome}
 use Rattle.std.proofs.lemmas.Bool.{cases_lt, false≢true}
 use Rattle.std.proofs.lemmas.List.Elements.{All-nil}
 use Rattle.zc_base.specs.declared.place.Place.{Place}
-use Rattle.interrupt_plan.specs.Plan.{AreCuts, Cut, IsPlan, cuts_at}
-use Rattle.interrupt_plan.proofs.PlanLaws.{cuts_at-bytes}
+use Rattle.interrupt_plan.specs.Plan.{AreInterrupts, Interrupt, IsPlan, interrupts_at}
+use Rattle.interrupt_plan.proofs.PlanLaws.{interrupts_at-bytes}
 use Rattle.rv_decode.specs.Run.{◌>>=◌, iterate}
 use Rattle.rv_decode.specs.State.{ZcState}
 use Rattle.rv_decode.proofs.RunLaws.{bind_ok, iterate-add}
 use Rattle.psabi_sym.specs.Inputs.{Inputs, parsed}
 use Rattle.sym_machine.specs.Objects.{program_of}
 use Rattle.sym_machine.specs.Program.{Program}
-use Rattle.sym_machine.specs.Run.{plain, plain_turn}
+use Rattle.sym_machine.specs.Run.{plain_turn, program_after}
 use Rattle.sym_machine.specs.State.{PlainCore, PlainState, first_plain}
 use Rattle.sym_machine.proofs.RunLaws.{all_stay}
 use Rattle.zc_machine.specs.Run.{first_state, zc_after, zc_turns}
 use Rattle.zc_machine.proofs.TurnLaws.{zc_turns-add}
-use Rattle.zc_link.specs.Image.{Image, loaded, place_address}
+use Rattle.zc_link.specs.Image.{Image, loaded_core}
 use Rattle.zc_link.specs.Links.{Simulates}
 use Rattle.zc_link.specs.Preserves.{Follows, FollowsUnder, Preserves, PreservesQuietly}
-use Rattle.zc_link.specs.Pace.{Pace, pace_of}
-use Rattle.zc_link.specs.Simulates.{IsSimulation, lead_from, lead_of}
+use Rattle.zc_link.specs.Pace.{lead_from, lead_of, Pace, pace_of}
+use Rattle.zc_link.specs.IsSimulation.{IsSimulation}
 use Rattle.zc_link.specs.Sound.{IsNamed, Sound, Together}
 use Rattle.zc_link.specs.Stands.{Stands}
-use Rattle.zc_link.specs.TextLayout.{TextLayout, piece_in}
+use Rattle.zc_link.specs.TextLayout.{TextLayout, stretch_in}
 
 -- ---- what is known at the ends
 
-together_stands : (p : Program) (Named : Place → Type 0) (e : Image) (s : PlainCore) (z : ZcState) → Together p Named e s z → Stands p (place_address e) s z
+together_stands : (p : Program) (Named : Place → Type 0) (e : Image) (s : PlainCore) (z : ZcState) → Together p Named e s z → Stands p e.address s z
 together_stands p Named e s z (inl so) = record { registers = so.alike.registers; memory = so.alike.memory; input = so.input; place = λ _. so.place }
 together_stands p Named e s z (inr over) = over.stands
 
-sound_listed : (p : Program) (Named : Place → Type 0) (e : Image) (s : PlainCore) (z : ZcState) → Sound p Named e s z → IsSome (place_address e s.place)
+sound_listed : (p : Program) (Named : Place → Type 0) (e : Image) (s : PlainCore) (z : ZcState) → Sound p Named e s z → IsSome (e.address s.place)
 sound_listed p Named e s z so = rw so.place refl
 
 -- an image that starts at the program's start has no commits before it, and another three
@@ -50,7 +50,7 @@ lead_few (Some start) entry = either (eqb start entry)
 
 module _ (p : Program) (Named : Place → Type 0) (e : Image) (pace : Pace) (law : IsSimulation p Named e pace) where
   -- what m commits come to with these interrupts
-  record Ran (cuts : ℕ → List Cut) (m : ℕ) (r : PlainState) (z : ZcState) : Type 0 where
+  record Ran (cuts : ℕ → List Interrupt) (m : ℕ) (r : PlainState) (z : ZcState) : Type 0 where
     after : ZcState
     runs : zc_turns cuts m z ≡ Ok after
     follows : Follows p e r after
@@ -59,7 +59,7 @@ module _ (p : Program) (Named : Place → Type 0) (e : Image) (pace : Pace) (law
   abbrev Runs : ℕ → PlainState → PlainState → Type 0
   Runs n r r' =
       (m : ℕ) × (m ≤ 64 * n)
-      × ((cuts : ℕ → List Cut) → AreCuts cuts → (z : ZcState) → Together p Named e r.core z → z.events ≡ r.events → Ran cuts m r' z)
+      × ((cuts : ℕ → List Interrupt) → AreInterrupts cuts → (z : ZcState) → Together p Named e r.core z → z.events ≡ r.events → Ran cuts m r' z)
 
   -- no commit is made: the program has exited, or has made no step
   waits : (n : ℕ) (r r' : PlainState) → r'.core ≡ r.core → r'.events ≡ r.events → Runs n r r'
@@ -69,11 +69,11 @@ module _ (p : Program) (Named : Place → Type 0) (e : Image) (pace : Pace) (law
     λ cuts are z t same. record {
       after = z;
       runs = refl;
-      follows = record { events = same ∙ sym events; stands = λ _. subst (λ s. Stands p (place_address e) s z) (sym core) (together_stands p Named e r.core z t) };
+      follows = record { events = same ∙ sym events; stands = λ _. subst (λ s. Stands p e.address s z) (sym core) (together_stands p Named e r.core z t) };
     },
   )
 
-  -- nor if it is inside a piece
+  -- nor if it is inside a stretch
   is_inside : (n : ℕ) (r r' : PlainState) → r.core.exit ≡ None → 0 < n → n < pace.span r.core.place → iterate (plain_turn p) n r ≡ Ok r' → Runs n r r'
   is_inside n r r' running some within h = (
     0,
@@ -90,7 +90,7 @@ module _ (p : Program) (Named : Place → Type 0) (e : Image) (pace : Pace) (law
         t,
   )
     where
-      no_claim : (r' : PlainState) → place_address e r'.core.place ≡ None → r'.core.exit ≡ None → IsSome (place_address e r'.core.place) ⊎ IsSome r'.core.exit → ⊥
+      no_claim : (r' : PlainState) → e.address r'.core.place ≡ None → r'.core.exit ≡ None → IsSome (e.address r'.core.place) ⊎ IsSome r'.core.exit → ⊥
       no_claim r' unlisted running (inl listed) = false≢true (rw unlisted at listed)
       no_claim r' unlisted running (inr exited) = false≢true (rw running at exited)
 
@@ -105,7 +105,7 @@ module _ (p : Program) (Named : Place → Type 0) (e : Image) (pace : Pace) (law
         omega (arith, rest.1, few, sum),
         λ cuts are z t same. ⊎_elim
             (λ so.
-            let later : ℕ → List Cut = λ j. cuts (weight + j) in
+            let later : ℕ → List Interrupt = λ j. cuts (weight + j) in
             let a = law.step r r1 first cuts are z so same in
             let b = rest.2 later (λ j. are (weight + j)) a.after a.together a.events in
             record { after = b.after; runs = zc_turns-add cuts weight rest.0 z ∙ ap (λ x. x >>= zc_turns later rest.0) a.runs ∙ b.runs; follows = b.follows })
@@ -113,7 +113,7 @@ module _ (p : Program) (Named : Place → Type 0) (e : Image) (pace : Pace) (law
             t,
       )
 
-  -- by the exit, and by where the piece ends
+  -- by the exit, and by where the stretch ends
   some_steps :
       (n : ℕ) (r r' : PlainState) → 0 < n → iterate (plain_turn p) n r ≡ Ok r'
       → ((k : ℕ) (r1 : PlainState) → k < n → iterate (plain_turn p) k r1 ≡ Ok r' → Runs k r1 r') → Runs n r r'
@@ -140,20 +140,20 @@ module _ (p : Program) (Named : Place → Type 0) (e : Image) (pace : Pace) (law
   all_steps (suc fuel) (suc n) r r' within h = some_steps (suc n) r r' (omega arith) h (λ k r1 lt g. all_steps fuel k r1 r' (omega (arith, lt, within)) g)
 
   pub follows : FollowsUnder IsPlan p e
-  unfolding plain zc_after
+  unfolding program_after zc_after
   follows input n s bytes h =
       let lead = lead_of p e in
-      let short : lead ≤ 3 = lead_few (place_address e p.entry) e.entry in
+      let short : lead ≤ 3 = lead_few (e.address p.entry) e.entry in
       let all = all_steps n n (record { core = first_plain p input; events = [] }) s (omega arith) h in (
         lead + all.0,
         omega (arith, all.1, short),
         λ plan is_plan.
-            let cuts = cuts_at plan in
-            let are = cuts_at-bytes plan is_plan in
-            let later : ℕ → List Cut = λ j. cuts (lead + j) in
+            let cuts = interrupts_at plan in
+            let are = interrupts_at-bytes plan is_plan in
+            let later : ℕ → List Interrupt = λ j. cuts (lead + j) in
             let a = law.start input bytes cuts are in
             let b = all.2 later (λ j. are (lead + j)) a.after a.together a.events in
-            (b.after, zc_turns-add cuts lead all.0 (first_state (loaded e) input) ∙ ap (λ x. x >>= zc_turns later all.0) a.runs ∙ b.runs, b.follows),
+            (b.after, zc_turns-add cuts lead all.0 (first_state (loaded_core e) input) ∙ ap (λ x. x >>= zc_turns later all.0) a.runs ∙ b.runs, b.follows),
       )
 
 -- ---- files
@@ -165,7 +165,7 @@ preserves L elf steps =
     record {
       image = steps.image;
       read = steps.read;
-      follows = follows (program_of inputs) (IsNamed inputs) steps.image (pace_of (program_of inputs) (piece_in L)) steps.simulates;
+      follows = follows (program_of inputs) (IsNamed inputs) steps.image (pace_of (program_of inputs) (stretch_in L)) steps.simulates;
     }
 
 -- what holds under every plan holds without interrupts

@@ -13,19 +13,19 @@ use Rattle.rv_decode.specs.declared.instr.StoreOp.{StoreOp}
 use Rattle.rv_decode.specs.declared.instr.StoreOp.TheVariants.{Sb, Sh, Sw}
 use Rattle.rv_decode.specs.declared.instr.UpperOp.{UpperOp}
 use Rattle.rv_decode.specs.Bits.{add32}
-use Rattle.rv_decode.specs.Effect.{Commits, after, branch_target, effect, gives as effect_gives, jumps, load_result, load_width, onward as core_onward, store_width, stored}
+use Rattle.rv_decode.specs.Effect.{Commits, after, branch_target, effect, gives, jumps, load_result, load_width, onward, store_width, stored}
 use Rattle.rv_decode.specs.Results.{imm_result, reg_result, upper_result}
 use Rattle.rv_decode.specs.State.{ZcCore, reg_in, set_reg}
 use Rattle.rv_decode.proofs.ResultLaws.{imm_result-below, reg_result-below, upper_result-below}
 use Rattle.sym_machine.specs.declared.word.SymWord.{SymWord}
 use Rattle.sym_machine.specs.declared.word.Value.{Value}
-use Rattle.sym_machine.specs.Change.{Change, Goes, branch_does, gives, jump_does, load_does, load_word, onward, puts, store_does, stored_bytes}
+use Rattle.sym_machine.specs.Change.{Change, Goes, branch_does, sets, jump_does, load_does, load_word, continues, puts, store_does, stored_bytes}
 use Rattle.sym_machine.specs.Conditions.{condition}
 use Rattle.sym_machine.specs.Program.{Program}
 use Rattle.sym_machine.specs.State.{PlainCore, reg_of}
 use Rattle.sym_machine.specs.Step.{after_change}
 use Rattle.sym_machine.specs.Words.{code_of, code_word, imm_word, number_of, reg_word, upper_word}
-use Rattle.zc_link.specs.Image.{Image, place_address}
+use Rattle.zc_link.specs.Image.{Image}
 use Rattle.zc_link.specs.Room.{Room}
 use Rattle.zc_link.specs.Sound.{NamesWord, Ready}
 use Rattle.zc_link.specs.Stands.{WordStands}
@@ -60,13 +60,13 @@ pub record GoesOn (p : Program) (Named : Place → Type 0) (e : Image) (i : Inst
 -- or both go to a listed place
 pub record Moves (p : Program) (Named : Place → Type 0) (e : Image) (i : Instr) (size : ℕ) (c : Change) (s : PlainCore) (z : ZcCore) : Type 0 where
   pub made : Made p Named e i size c s z
-  pub place : place_address e c.place ≡ Some made.after.pc
+  pub place : e.address c.place ≡ Some made.after.pc
 
 -- what goes on moves, if the next place is listed
 pub moves_on :
     {p : Program} {Named : Place → Type 0} {e : Image} {i : Instr} {size : ℕ} {c : Change} {s : PlainCore} {next : Place} {z : ZcCore}
-    → place_address e next ≡ Some ((z.pc + size) % 2 ^ 32) → GoesOn p Named e i size c s next z → Moves p Named e i size c s z
-moves_on {e = e} listed goes = record { made = goes.made; place = ap (place_address e) goes.place ∙ listed ∙ ap Some (sym goes.pc) }
+    → e.address next ≡ Some ((z.pc + size) % 2 ^ 32) → GoesOn p Named e i size c s next z → Moves p Named e i size c s z
+moves_on {e = e} listed goes = record { made = goes.made; place = ap e.address goes.place ∙ listed ∙ ap Some (sym goes.pc) }
 
 -- ---- formats that go on
 
@@ -84,15 +84,15 @@ some_store Sw = omega arith
 
 module _ {p : Program} {Named : Place → Type 0} {e : Image} {s : PlainCore} {z : ZcCore} (room : Room p e) (ready : Ready p Named e s z) (size : ℕ) (c : Change) (next : Place) where
   abbrev V : Value → Option ℕ
-  V = value_in p (place_address e)
+  V = value_in p e.address
 
   -- a result that goes to a register
   pub register_goes :
-      (i : Instr) (rd v : ℕ) (w : SymWord) → effect i size z ≡ effect_gives v rd size z → v < 2 ^ 32
-      → WordStands V w v → NamesWord Named w → Goes (gives rd w next) ≡ Goes c → GoesOn p Named e i size c s next z
+      (i : Instr) (rd v : ℕ) (w : SymWord) → effect i size z ≡ gives v rd size z → v < 2 ^ 32
+      → WordStands V w v → NamesWord Named w → Goes (sets rd w next) ≡ Goes c → GoesOn p Named e i size c s next z
   register_goes i rd v w does small stands names h = subst (λ x. GoesOn p Named e i size x s next z) same (record {
     made = record {
-      after = core_onward z size (set_reg z.regs rd v);
+      after = onward z size (set_reg z.regs rd v);
       commits = does;
       ready = ready_moved (ready_set ready rd v w small stands names) next _ _;
       quiet = record { events = refl; taken = refl };
@@ -101,12 +101,12 @@ module _ {p : Program} {Named : Place → Type 0} {e : Image} {s : PlainCore} {z
     pc = refl;
   })
     where
-      same : gives rd w next ≡ c
+      same : sets rd w next ≡ c
       same = cc
 
   -- an operation on a register and an immediate
   pub imm_goes :
-      (op : ImmOp) (rd first : ℕ) (imm : ℤ) → first < 32 → Goes (gives rd (imm_word op (reg_of s first) imm) next) ≡ Goes c
+      (op : ImmOp) (rd first : ℕ) (imm : ℤ) → first < 32 → Goes (sets rd (imm_word op (reg_of s first) imm) next) ≡ Goes c
       → GoesOn p Named e (WithImm op rd first imm) size c s next z
   imm_goes op rd first imm low h =
       let n = reg_in z first in
@@ -117,7 +117,7 @@ module _ {p : Program} {Named : Place → Type 0} {e : Image} {s : PlainCore} {z
   -- an operation on two registers
   pub reg_goes :
       (op : RegOp) (rd first second : ℕ) → first < 32 → second < 32
-      → Goes (gives rd (reg_word op first second (reg_of s first) (reg_of s second)) next) ≡ Goes c → GoesOn p Named e (WithReg op rd first second) size c s next z
+      → Goes (sets rd (reg_word op first second (reg_of s first) (reg_of s second)) next) ≡ Goes c → GoesOn p Named e (WithReg op rd first second) size c s next z
   reg_goes op rd first second low_first low_second h =
       let m = reg_in z first in
       let n = reg_in z second in
@@ -128,16 +128,16 @@ module _ {p : Program} {Named : Place → Type 0} {e : Image} {s : PlainCore} {z
       (reg_names Named op first second (reg_of s first) (reg_of s second) (ready.names.registers first low_first) (ready.names.registers second low_second)) h
 
   -- an upper immediate
-  pub upper_goes : (op : UpperOp) (rd imm : ℕ) → Goes (gives rd (upper_word op imm) next) ≡ Goes c → GoesOn p Named e (Upper op rd imm) size c s next z
+  pub upper_goes : (op : UpperOp) (rd imm : ℕ) → Goes (sets rd (upper_word op imm) next) ≡ Goes c → GoesOn p Named e (Upper op rd imm) size c s next z
   upper_goes op rd imm h =
       register_goes (Upper op rd imm) rd (upper_result op z.pc imm) (upper_word op imm) refl (upper_result-below op z.pc imm) (upper_word_stands room op z.pc imm)
       (upper_names Named op imm) h
 
   -- a fence
-  pub fence_goes : (rest : ℕ) → Goes (onward next) ≡ Goes c → GoesOn p Named e (Fence rest) size c s next z
+  pub fence_goes : (rest : ℕ) → Goes (continues next) ≡ Goes c → GoesOn p Named e (Fence rest) size c s next z
   fence_goes rest h = subst (λ x. GoesOn p Named e (Fence rest) size x s next z) same (record {
     made = record {
-      after = core_onward z size z.regs;
+      after = onward z size z.regs;
       commits = refl;
       ready = ready_moved ready next _ _;
       quiet = record { events = refl; taken = refl };
@@ -146,7 +146,7 @@ module _ {p : Program} {Named : Place → Type 0} {e : Image} {s : PlainCore} {z
     pc = refl;
   })
     where
-      same : onward next ≡ c
+      same : continues next ≡ c
       same = cc
 
   -- a load, by the word of its sum
@@ -155,9 +155,9 @@ module _ {p : Program} {Named : Place → Type 0} {e : Image} {s : PlainCore} {z
       → load_does op rd (number_of w) s next ≡ Goes c → GoesOn p Named e (Load op rd base k) size c s next z
   load_goes op rd base k w stands h =
       let a = add32 (reg_in z base) k in
-      let ok = reached room ready (load_width op) w a (λ x. Goes (gives rd (load_word op s x) next)) c (omega arith) stands h in
+      let ok = reached room ready (load_width op) w a (λ x. Goes (sets rd (load_word op s x) next)) c (omega arith) stands h in
       register_goes (Load op rd base k) rd (load_result op z a) (load_word op s a)
-      (made_there room ready (load_width op) a (effect_gives (load_result op z a) rd size z) (some_load op) ok.aligned ok.spans)
+      (made_there room ready (load_width op) a (gives (load_result op z a) rd size z) (some_load op) ok.aligned ok.spans)
       (load_below room ready op a) (load_stands room ready op a ok.spans) (load_names room ready op a ok.spans) ok.goes
 
   -- a store
@@ -172,8 +172,8 @@ module _ {p : Program} {Named : Place → Type 0} {e : Image} {s : PlainCore} {z
       let same : puts a (stored_bytes op (reg_of s source)) next ≡ c = (let g = ok.goes in cc) in
       subst (λ x. GoesOn p Named e (Store op source base k) size x s next z) same (record {
         made = record {
-          after = core_onward (stored n a (reg_in z source) z) size z.regs;
-          commits = made_there room ready n a (Commits (core_onward (stored n a (reg_in z source) z) size z.regs)) (some_store op) ok.aligned ok.spans;
+          after = onward (stored n a (reg_in z source) z) size z.regs;
+          commits = made_there room ready n a (Commits (onward (stored n a (reg_in z source) z) size z.regs)) (some_store op) ok.aligned ok.spans;
           ready = ready_moved (ready_changed room _ _ agrees ready) next _ _;
           quiet = record { events = refl; taken = refl };
         };
@@ -183,14 +183,14 @@ module _ {p : Program} {Named : Place → Type 0} {e : Image} {s : PlainCore} {z
 
   -- ---- formats that go to a place
 
-  module _ (listed : place_address e next ≡ Some (after z size)) where
+  module _ (listed : e.address next ≡ Some (after z size)) where
     -- a jump to a place: a register gets the address of the next one
     pub jump_moves :
-        (i : Instr) (rd pc : ℕ) (to : Place) → Named next → effect i size z ≡ jumps pc rd size z → place_address e to ≡ Some pc
+        (i : Instr) (rd pc : ℕ) (to : Place) → Named next → effect i size z ≡ jumps pc rd size z → e.address to ≡ Some pc
         → jump_does (Some to) rd next ≡ Goes c → Moves p Named e i size c s z
     jump_moves i rd pc to named does at h = subst (λ x. Moves p Named e i size x s z) same (record {
       made = record {
-        after = record (core_onward z size (set_reg z.regs rd (after z size))) { pc = pc };
+        after = record (onward z size (set_reg z.regs rd (after z size))) { pc = pc };
         commits = does;
         ready = ready_moved (ready_set ready rd (after z size) (code_word next) (omega arith) (code_stands room next (after z size) listed) (code_names Named next named)) to _ _;
         quiet = record { events = refl; taken = refl };
@@ -198,7 +198,7 @@ module _ {p : Program} {Named : Place → Type 0} {e : Image} {s : PlainCore} {z
       place = at;
     })
       where
-        same : gives rd (code_word next) to ≡ c
+        same : sets rd (code_word next) to ≡ c
         same = cc
 
     -- `jalr`, by the word of its sum
@@ -218,11 +218,11 @@ module _ {p : Program} {Named : Place → Type 0} {e : Image} {s : PlainCore} {z
 
     -- a branch whose condition is known
     pub branch_moves :
-        (op : BranchOp) (first second : ℕ) (distance : ℤ) (to : Place) → first < 32 → second < 32 → place_address e to ≡ Some (add32 z.pc distance)
+        (op : BranchOp) (first second : ℕ) (distance : ℤ) (to : Place) → first < 32 → second < 32 → e.address to ≡ Some (add32 z.pc distance)
         → branch_does (condition p op (reg_of s first) (reg_of s second)) to next ≡ Goes c → Moves p Named e (Branch op first second distance) size c s z
     branch_moves op first second distance to low_first low_second at h = known (condition p op (reg_of s first) (reg_of s second)) refl h
       where
-        lands : (t : Bool) → place_address e (cond t to next) ≡ Some (branch_target t distance size z)
+        lands : (t : Bool) → e.address (cond t to next) ≡ Some (branch_target t distance size z)
         lands true = at
         lands false = listed
 
@@ -232,11 +232,11 @@ module _ {p : Program} {Named : Place → Type 0} {e : Image} {s : PlainCore} {z
             let taken =
             condition_is room op (reg_of s first) (reg_of s second) (reg_in z first) (reg_in z second) t (ready.core.words first) (ready.core.words second)
             (ready.registers first low_first) (ready.registers second low_second) is in
-            let same : onward (cond t to next) ≡ c = cc in
+            let same : continues (cond t to next) ≡ c = cc in
             subst (λ x. Moves p Named e (Branch op first second distance) size x s z) same (record {
               made = record {
-                after = record (core_onward z size z.regs) { pc = branch_target t distance size z };
-                commits = ap (λ b. Commits (record (core_onward z size z.regs) { pc = branch_target b distance size z })) taken;
+                after = record (onward z size z.regs) { pc = branch_target t distance size z };
+                commits = ap (λ b. Commits (record (onward z size z.regs) { pc = branch_target b distance size z })) taken;
                 ready = ready_moved ready (cond t to next) _ _;
                 quiet = record { events = refl; taken = refl };
               };

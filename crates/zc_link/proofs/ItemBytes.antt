@@ -27,7 +27,7 @@ use Rattle.zc_link.specs.LaidOut.{HasBranchSize, HasCallSize, HasForm}
 use Rattle.zc_link.specs.Standing.{HasOwnSize, ItemStands, SpellsCall, SpellsWay, StandsHere, WrittenHere, is_patched}
 use Rattle.zc_link.specs.TextLayout.{TextLayout}
 use Rattle.zc_link.specs.Values.{way}
-use Rattle.zc_link.specs.Written.{IsBranchSpelled, IsSpelled, IsWritten, Spells, padding}
+use Rattle.zc_link.specs.Written.{IsBranchSpelled, IsSpelled, IsWritten, SpellsWord, padding}
 use Rattle.zc_link.proofs.Adds.{AreBytes, bytes_append, drop_are, half_are, length-bytes_from, length-padding, padding_are, take_are, word_are}
 
 -- ---- bytes that spell
@@ -36,7 +36,7 @@ use Rattle.zc_link.proofs.Adds.{AreBytes, bytes_append, drop_are, half_are, leng
 abbrev pub AreSized : ℕ → List ℕ → Type 0
 AreSized n bytes = (length bytes ≡ n) × AreBytes bytes
 
-pub word_sized : (bytes : List ℕ) (i : Instr) → Spells bytes i → AreSized 4 bytes
+pub word_sized : (bytes : List ℕ) (i : Instr) → SpellsWord bytes i → AreSized 4 bytes
 word_sized bytes i s = (ap length s.are, subst AreBytes (sym s.are) (word_are s.word))
 
 spelled_sized : (n : ℕ) (bytes : List ℕ) (i : Instr) → IsSpelled n bytes i → AreSized n bytes
@@ -45,7 +45,7 @@ spelled_sized n bytes i (inr two) =
     subst (λ m. AreSized m bytes) (sym two.0) (ap length two.1.are, subst AreBytes (sym two.1.are) (half_are two.1.half))
 
 -- two words
-both_sized : (n : ℕ) (bytes first second : List ℕ) (i j : Instr) → n ≡ 8 → bytes ≡ first ++ second → Spells first i → Spells second j → AreSized n bytes
+both_sized : (n : ℕ) (bytes first second : List ℕ) (i j : Instr) → n ≡ 8 → bytes ≡ first ++ second → SpellsWord first i → SpellsWord second j → AreSized n bytes
 both_sized n bytes first second i j eight both one two =
     let left = word_sized first i one in
     let right = word_sized second j two in (
@@ -138,8 +138,8 @@ module _ (L : TextLayout) (code : List ℕ) (q : Place) (item : Item) (a n : ℕ
 
     -- as its two words
     pub call_written :
-        (bytes : List ℕ) → n ≡ 8 → Spells (take 4 bytes) (instr.Upper Auipc temp (hi20_of (way a call_stands.address)))
-        → Spells (drop 4 bytes) (instr.Jalr rd temp (lo12_of (way a call_stands.address))) → Here bytes
+        (bytes : List ℕ) → n ≡ 8 → SpellsWord (take 4 bytes) (instr.Upper Auipc temp (hi20_of (way a call_stands.address)))
+        → SpellsWord (drop 4 bytes) (instr.Jalr rd temp (lo12_of (way a call_stands.address))) → Here bytes
     call_written bytes eight upper lower =
         let both : bytes ≡ take 4 bytes ++ drop 4 bytes = sym (take-append-drop 4 bytes) in
         made bytes (both_sized n bytes (take 4 bytes) (drop 4 bytes) _ _ eight both upper lower)

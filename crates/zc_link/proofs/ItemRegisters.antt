@@ -16,7 +16,7 @@ use Rattle.rv_decode.specs.Registers.{HasRegisters}
 use Rattle.rv_decode.specs.declared.instr.Instr.{Instr}
 use Rattle.rv_decode.specs.declared.instr.Instr.TheVariants as instr
 use Rattle.rv_decode.proofs.DecodeLaws.{decoded-registers}
-use Rattle.block_cut.specs.Items.{call_item, item_at, item_under, known_item, of_instr, raw_in, raw_pair, size_on, spelled, target_away, target_of, to_place, transfer_item}
+use Rattle.block_cut.specs.Items.{call_item, item_at, item_under, known_item, of_instr, raw_in, raw_pair, size_on, spelled_item, target_away, target_of, to_place, transfer_item}
 use Rattle.block_cut.specs.Relocs.{instr_in, reloc_on}
 use Rattle.block_cut.specs.declared.item.Item.{Item}
 use Rattle.block_cut.specs.declared.item.Item.TheVariants.{Op, Hi, Lo, PcHi, PcLo, Branch, Jump, Call, Align, Word, Raw, RawPair}
@@ -72,7 +72,7 @@ imm_registers (instr.Csrrw rd source) z h = h
 -- what stands for itself, or is copied unread
 bare :
     (objects : List ObjectParts) (q : Place) (raw : Item) (d : Option Instr) → ItemRegisters raw → ((i : Instr) → d ≡ Some i → HasRegisters i)
-    → ItemRegisters (spelled objects q d raw)
+    → ItemRegisters (spelled_item objects q d raw)
 bare objects q raw None stays each = stays
 bare objects q raw (Some i) stays each = of i (each i refl)
   where
@@ -80,7 +80,7 @@ bare objects q raw (Some i) stays each = of i (each i refl)
     led f None is = stays
     led f (Some to) is = is to
 
-    of : (i : Instr) → HasRegisters i → ItemRegisters (spelled objects q (Some i) raw)
+    of : (i : Instr) → HasRegisters i → ItemRegisters (spelled_item objects q (Some i) raw)
     of (instr.Upper op rd imm) h = h
     of (instr.Jal rd distance) h = led (Jump rd) (target_away objects q distance) (λ to. h)
     of (instr.Jalr rd base imm) h = h

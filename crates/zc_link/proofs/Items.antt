@@ -2,7 +2,7 @@
 -- items the symbolic machine is stuck, or they are several instructions, so there is nothing to show.
 use Rattle.std.proofs.Common.{◌≡◌, ℕ, List, Option, Some, None, refl, sym, ap, ◌∙◌, subst, ℤ, ◌<◌}
 use Rattle.zc_base.specs.declared.place.Place.{Place}
-use Rattle.interrupt_plan.specs.Plan.{Cut}
+use Rattle.interrupt_plan.specs.Plan.{Interrupt}
 use Rattle.psabi_reloc.specs.Parts.{hi20_of}
 use Rattle.psabi_reloc.specs.Patched.{with_upper}
 use Rattle.psabi_sym.specs.declared.target.Target.{Target}
@@ -14,16 +14,16 @@ use Rattle.rv_decode.specs.State.{ZcCore, ZcState, reg_in}
 use Rattle.block_cut.specs.declared.item.Item.{Item}
 use Rattle.block_cut.specs.declared.item.Item.TheVariants.{Op, Hi, Lo, PcHi, PcLo, Branch, Jump, Call, Align, Word, Raw, RawPair}
 use Rattle.sym_machine.specs.AddressParts.{pc_target}
-use Rattle.sym_machine.specs.Change.{Goes, branch_does, jump_does, op_does, place_does}
+use Rattle.sym_machine.specs.Change.{Goes, branch_does, jump_does, op_does, item_does}
 use Rattle.sym_machine.specs.Conditions.{condition}
 use Rattle.sym_machine.specs.Program.{Program}
 use Rattle.sym_machine.specs.State.{PlainState, reg_of}
 use Rattle.sym_machine.specs.Words.{sum_word}
-use Rattle.zc_link.specs.Image.{Image, place_address}
+use Rattle.zc_link.specs.Image.{Image}
 use Rattle.zc_link.specs.Leads.{Leads, NamesTarget}
-use Rattle.zc_link.specs.Pieces.{AloneLaid, ItemLaid, OpLaid, PcHiLaid, ReachLaid}
+use Rattle.zc_link.specs.Stretches.{AloneLaid, ItemLaid, OpLaid, PcHiLaid, ReachLaid}
 use Rattle.zc_link.specs.Room.{Room}
-use Rattle.zc_link.specs.Simulates.{Comes}
+use Rattle.zc_link.specs.IsSimulation.{Comes}
 use Rattle.zc_link.specs.Sound.{Ready}
 use Rattle.zc_link.specs.Stands.{WordStands}
 use Rattle.zc_link.specs.Values.{value_in, way}
@@ -53,7 +53,7 @@ pc_named {p} {Named} leads q t h = by (p.item q) refl h
     by (Some (Raw word)) is g = absurd cc
     by (Some (RawPair first second)) is g = absurd cc
 
-module _ {p : Program} {Named : Place → Type 0} {e : Image} {r r' : PlainState} {cuts : ℕ → List Cut} {z : ZcState} (room : Room p e) (leads : Leads p Named) (from : FromSound p Named e r r' cuts z) where
+module _ {p : Program} {Named : Place → Type 0} {e : Image} {r r' : PlainState} {cuts : ℕ → List Interrupt} {z : ZcState} (room : Room p e) (leads : Leads p Named) (from : FromSound p Named e r r' cuts z) where
   -- an instruction that goes on
   goes_comes :
       {i : Instr} → (laid : AloneLaid p e r.core.place z.core.pc i)
@@ -63,9 +63,9 @@ module _ {p : Program} {Named : Place → Type 0} {e : Image} {r r' : PlainState
   -- the sum of a register and an immediate stands for the machine's
   base_sum :
       {y : ZcCore} (base : ℕ) (imm : ℤ) → Ready p Named e r.core y → base < 32
-      → WordStands (value_in p (place_address e)) (sum_word (reg_of r.core base) imm) (add32 (reg_in y base) imm)
+      → WordStands (value_in p e.address) (sum_word (reg_of r.core base) imm) (add32 (reg_in y base) imm)
   base_sum {y} base imm ready low =
-      sum_stands (value_in p (place_address e)) (reg_of r.core base) imm (reg_in y base) (ready.core.words base) (ready.registers base low)
+      sum_stands (value_in p e.address) (reg_of r.core base) imm (reg_in y base) (ready.core.words base) (ready.registers base low)
 
   -- ---- items without relocation
 
@@ -118,7 +118,7 @@ module _ {p : Program} {Named : Place → Type 0} {e : Image} {r r' : PlainState
   -- the upper part of the way from here
   pc_hi_comes :
       (i : Instr) (t : Target) → p.item r.core.place ≡ Some (PcHi i t) → PcHiLaid p e r.core.place z.core.pc i t
-      → place_does p (Some (PcHi i t)) r.core (p.next r.core.place) ≡ Goes from.step.change → Comes p Named e cuts 1 z r'
+      → item_does p (Some (PcHi i t)) r.core (p.next r.core.place) ≡ Goes from.step.change → Comes p Named e cuts 1 z r'
   pc_hi_comes i t item laid h = goes_comes laid.laid (λ y at ready.
       subst (λ a. GoesOn p Named e (with_upper i (hi20_of (way a laid.value))) laid.laid.at.size from.step.change r.core (p.next r.core.place) y) at
       (pc_hi_goes room ready laid.laid.at.size from.step.change (p.next r.core.place) i r.core.place t laid.value (ap pc_target item)
@@ -126,7 +126,7 @@ module _ {p : Program} {Named : Place → Type 0} {e : Image} {r r' : PlainState
 
   pub item_comes :
       (o : Option Item) → p.item r.core.place ≡ o → ItemLaid p e r.core.place z.core.pc o
-      → place_does p o r.core (p.next r.core.place) ≡ Goes from.step.change → Comes p Named e cuts 1 z r'
+      → item_does p o r.core (p.next r.core.place) ≡ Goes from.step.change → Comes p Named e cuts 1 z r'
   item_comes None item laid h = absurd cc
   item_comes (Some (Op i)) item laid h = op_comes i item laid h
   item_comes (Some (Hi i t)) item laid h = goes_comes laid.laid (λ y at ready. hi_goes room ready laid.laid.at.size from.step.change (p.next r.core.place) i t laid.value laid.is h)

@@ -20,9 +20,10 @@ pub mod Calls
 pub mod Longs
 pub mod Padding
 pub mod Items
-pub mod Pieces
-pub mod Extents
+pub mod Stretches
+pub mod AtBase
 pub mod Bare
+pub mod OnWay
 pub mod Apart
 pub mod Start
 pub mod Induction
@@ -53,7 +54,7 @@ pub mod Fetched
 pub mod Lookup
 pub mod ItemRegisters
 pub mod SizedPieces
-pub mod PiecesLaid
+pub mod StretchesLaid
 pub mod Within
 pub mod ImageData
 pub mod SectionOrder

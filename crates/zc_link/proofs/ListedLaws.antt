@@ -4,14 +4,14 @@ use Rattle.std.specs.Prelude.{All}
 use Rattle.std.specs.List.{enumerate_from, flat_map}
 use Rattle.std.proofs.lemmas.List.Elements.{All-append, All-cons, All-nil}
 use Rattle.elf32_read.specs.Parts.{ObjectParts, SectionParts}
-use Rattle.psabi_sym.specs.Listed.{ListedSection, all_sections, sections_in}
+use Rattle.psabi_sym.specs.Indexed.{IndexedSection, all_sections, sections_in}
 
 -- a section of an object, with its index
-abbrev pub listed_at : ℕ → ℕ × SectionParts → ListedSection
+abbrev pub listed_at : ℕ → ℕ × SectionParts → IndexedSection
 listed_at o s = record { object = o; index = s.0; section = s.1 }
 
 -- of an object's own
-own_listed : (P : ListedSection → Type 0) (o n : ℕ) (ss : List SectionParts) → ((k : ℕ) (s : SectionParts) → slice_get ss k ≡ Some s → P (listed_at o (n + k, s))) → All P (map (listed_at o) (enumerate_from n ss))
+own_listed : (P : IndexedSection → Type 0) (o n : ℕ) (ss : List SectionParts) → ((k : ℕ) (s : SectionParts) → slice_get ss k ≡ Some s → P (listed_at o (n + k, s))) → All P (map (listed_at o) (enumerate_from n ss))
 own_listed P o n [] each = All-nil P
 own_listed P o n (s ∷ ss) each =
     let here : n + 0 ≡ n = omega arith in
@@ -19,7 +19,7 @@ own_listed P o n (s ∷ ss) each =
     (own_listed P o (n + 1) ss (λ k t at. let e : n + suc k ≡ n + 1 + k = omega arith in subst (λ m. P (listed_at o (m, t))) e (each (suc k) t at)))
 
 -- and of objects that are numbered from here on
-each_listed : (P : ListedSection → Type 0) (n : ℕ) (objects : List ObjectParts)
+each_listed : (P : IndexedSection → Type 0) (n : ℕ) (objects : List ObjectParts)
     → ((k i : ℕ) (object : ObjectParts) (s : SectionParts) → slice_get objects k ≡ Some object → slice_get object.sections i ≡ Some s → P (listed_at (n + k) (0 + i, s)))
     → All P (flat_map sections_in (enumerate_from n objects))
 each_listed P n [] each = All-nil P
@@ -29,7 +29,7 @@ each_listed P n (o ∷ os) each =
     (own_listed P n 0 o.sections (λ i s is. subst (λ m. P (listed_at m (0 + i, s))) here (each 0 i o s refl is)))
     (each_listed P (n + 1) os (λ k i object s at is. let e : n + suc k ≡ n + 1 + k = omega arith in subst (λ m. P (listed_at m (0 + i, s))) e (each (suc k) i object s at is)))
 
-pub all_listed : (P : ListedSection → Type 0) (objects : List ObjectParts)
+pub all_listed : (P : IndexedSection → Type 0) (objects : List ObjectParts)
     → ((o i : ℕ) (object : ObjectParts) (s : SectionParts) → slice_get objects o ≡ Some object → slice_get object.sections i ≡ Some s → P (listed_at o (i, s)))
     → All P (all_sections objects)
 unfolding all_sections

@@ -19,7 +19,7 @@ use Rattle.elf32_write.specs.Loadable.{IsEntry}
 use Rattle.psabi_sym.specs.Data.{is_code_role, role_of}
 use Rattle.psabi_sym.specs.Faults.{code_room, gather_fault, reloc_room, room_in_code}
 use Rattle.psabi_sym.specs.Inputs.{ParsedInputs, parsed}
-use Rattle.psabi_sym.specs.Listed.{ListedSection, all_sections}
+use Rattle.psabi_sym.specs.Indexed.{IndexedSection, all_sections}
 use Rattle.psabi_sym.specs.declared.section_row.SectionRole.{SectionRole}
 use Rattle.psabi_sym.specs.declared.section_row.SectionRole.TheVariants.{Code, InClass, Dropped}
 use Rattle.psabi_sym.proofs.Gathered.{few_gathered, readable}
@@ -52,7 +52,7 @@ code_room_is : (s : SectionParts) → is_code_section s ≡ true → code_room s
 code_room_is s code = ap (room_in_code s) (code_role (role_of s) (code_is s ∙ code))
 
 -- so places are words apart
-targets_few : (ls : List ListedSection) → AreWhole ls → 4 * length (flat_map targets_of ls) ≤ rooms ls
+targets_few : (ls : List IndexedSection) → AreWhole ls → 4 * length (flat_map targets_of ls) ≤ rooms ls
 targets_few [] whole = omega arith
 targets_few (l ∷ ls) whole = by (is_code_section l.section) refl (targets_few ls whole.1)
   where
@@ -60,7 +60,7 @@ targets_few (l ∷ ls) whole = by (is_code_section l.section) refl (targets_few 
     s = l.section
 
     sum_is : rooms (l ∷ ls) ≡ code_room l.section + rooms ls
-    sum_is = sum_by-cons (λ (m : ListedSection). code_room m.section) l ls
+    sum_is = sum_by-cons (λ (m : IndexedSection). code_room m.section) l ls
 
     by : (b : Bool) → is_code_section l.section ≡ b → 4 * length (flat_map targets_of ls) ≤ rooms ls
         → 4 * length (cond b (map (place_of l) (starts_in l.section ++ length l.section.bytes ∷ [])) [] ++ flat_map targets_of ls) ≤ rooms (l ∷ ls)
@@ -165,7 +165,7 @@ section_up s code whole =
     (λ n xs lt words st above rest. (omega arith, up_less (n + 1) (n + size_on s n) (xs ++ length s.bytes ∷ []) (omega (arith, st.some)) rest))
 
 -- so its places come in order
-offset_before : (l : ListedSection) (m n : ℕ) → m < n → is_before (place_of l m) (place_of l n) ≡ true
+offset_before : (l : IndexedSection) (m n : ℕ) → m < n → is_before (place_of l m) (place_of l n) ≡ true
 offset_before l m n lt =
     or_right (nat_lt l.object l.object) _
     (and_from (eqb l.object l.object) _ (eq-eqb l.object l.object refl)
@@ -173,20 +173,20 @@ offset_before l m n lt =
     (and_from (eqb l.index l.index) _ (eq-eqb l.index l.index refl) (lt-ltb m n lt))))
 
 -- a place comes before those of offsets above
-up_after : (l : ListedSection) (n low : ℕ) (xs : List ℕ) → n < low → IsUp low xs → All (λ r. is_before (place_of l n) r ≡ true) (map (place_of l) xs)
+up_after : (l : IndexedSection) (n low : ℕ) (xs : List ℕ) → n < low → IsUp low xs → All (λ r. is_before (place_of l n) r ≡ true) (map (place_of l) xs)
 unfolding IsUp
 up_after l n low [] lt up = All-nil (λ r. is_before (place_of l n) r ≡ true)
 up_after l n low (x ∷ xs) lt up =
     All-cons (λ r. is_before (place_of l n) r ≡ true) (place_of l x) (map (place_of l) xs) (offset_before l n x (omega (arith, up.0))) (up_after l n (x + 1) xs (omega (arith, up.0)) up.1)
 
 -- places of offsets that go up come in order
-up_sorted : (l : ListedSection) (low : ℕ) (xs : List ℕ) → IsUp low xs → IsSorted (map (place_of l) xs)
+up_sorted : (l : IndexedSection) (low : ℕ) (xs : List ℕ) → IsUp low xs → IsSorted (map (place_of l) xs)
 unfolding IsUp IsSorted
 up_sorted l low [] up = tt
 up_sorted l low (x ∷ xs) up = (up_after l x (x + 1) xs (omega arith) up.1, up_sorted l (x + 1) xs up.1)
 
 -- what holds of each offset holds of all targets of a section
-each_target : (P : Place → Type 0) (l : ListedSection) → ((n : ℕ) → P (place_of l n)) → All P (targets_of l)
+each_target : (P : Place → Type 0) (l : IndexedSection) → ((n : ℕ) → P (place_of l n)) → All P (targets_of l)
 each_target P l each = by (is_code_section l.section)
   where
     mapped : (ns : List ℕ) → All P (map (place_of l) ns)
@@ -198,7 +198,7 @@ each_target P l each = by (is_code_section l.section)
     by false = All-nil P
 
 -- those of a section do
-section_sorted : (l : ListedSection) → (is_code_section l.section ≡ true → IsWhole l.section) → IsSorted (targets_of l)
+section_sorted : (l : IndexedSection) → (is_code_section l.section ≡ true → IsWhole l.section) → IsSorted (targets_of l)
 unfolding IsSorted
 section_sorted l whole = by (is_code_section l.section) refl
   where
@@ -207,14 +207,14 @@ section_sorted l whole = by (is_code_section l.section) refl
     by false other = tt
 
 -- places of sections, of which each comes before all after it
-sections_sorted : (ls : List ListedSection) → AreWhole ls → IsRising ls → IsSorted (flat_map targets_of ls)
+sections_sorted : (ls : List IndexedSection) → AreWhole ls → IsRising ls → IsSorted (flat_map targets_of ls)
 unfolding IsSorted
 sections_sorted [] whole up = tt
 sections_sorted (l ∷ ls) whole up =
     sorted_append (targets_of l) (flat_map targets_of ls) (section_sorted l whole.0) (sections_sorted ls whole.1 up.1)
     (each_target (λ x. All (λ y. is_before x y ≡ true) (flat_map targets_of ls)) l (λ n. later ls n up.0))
   where
-    later : (ms : List ListedSection) (n : ℕ) → All (IsBefore l) ms → All (λ y. is_before (place_of l n) y ≡ true) (flat_map targets_of ms)
+    later : (ms : List IndexedSection) (n : ℕ) → All (IsBefore l) ms → All (λ y. is_before (place_of l n) y ≡ true) (flat_map targets_of ms)
     later [] n all = All-nil (λ y. is_before (place_of l n) y ≡ true)
     later (m ∷ ms) n all =
         All-append (λ y. is_before (place_of l n) y ≡ true) (targets_of m) (flat_map targets_of ms)

@@ -3,16 +3,16 @@
 use Rattle.std.proofs.Common.{◌≡◌, ℕ, ◌+◌, ◌<◌, List, Option, Some, None, Ok, Bool, true, false, refl, sym, ap, ◌∙◌, subst, arith}
 use Rattle.std.specs.Prelude.{not}
 use Rattle.zc_base.specs.declared.place.Place.{Place}
-use Rattle.interrupt_plan.specs.Plan.{Cut}
+use Rattle.interrupt_plan.specs.Plan.{Interrupt}
 use Rattle.rv_decode.specs.declared.instr.BranchOp.{BranchOp}
 use Rattle.rv_decode.specs.declared.instr.Instr.{Instr}
 use Rattle.rv_decode.specs.declared.instr.Instr.TheVariants as instr
 use Rattle.rv_decode.specs.declared.instr.Instr.TheVariants.{Jal}
 use Rattle.rv_decode.specs.Bits.{add32}
-use Rattle.rv_decode.specs.Effect.{Commits, branch_target, onward as core_onward}
+use Rattle.rv_decode.specs.Effect.{Commits, branch_target, onward}
 use Rattle.rv_decode.specs.Results.{is_taken}
 use Rattle.rv_decode.specs.State.{ZcCore, ZcState, reg_in}
-use Rattle.sym_machine.specs.Change.{Change, Goes, branch_does, onward, place_does}
+use Rattle.sym_machine.specs.Change.{Change, Goes, branch_does, continues, item_does}
 use Rattle.sym_machine.specs.Conditions.{condition}
 use Rattle.sym_machine.specs.Program.{Program}
 use Rattle.sym_machine.specs.State.{PlainCore, PlainState, reg_of}
@@ -22,11 +22,11 @@ use Rattle.zc_machine.specs.Fetch.{fetched_at}
 use Rattle.zc_machine.specs.Run.{committed, zc_turn, zc_turns}
 use Rattle.zc_machine.specs.Step.{effect_step}
 use Rattle.zc_machine.proofs.TurnLaws.{zc_turns-more}
-use Rattle.zc_link.specs.Image.{Image, loaded, place_address}
+use Rattle.zc_link.specs.Image.{Image, loaded_core}
 use Rattle.zc_link.specs.Pace.{LongOf, commits_of, long_commits}
-use Rattle.zc_link.specs.Pieces.{LongLaid, OneAt}
+use Rattle.zc_link.specs.Stretches.{LongLaid, OneAt}
 use Rattle.zc_link.specs.Room.{Room}
-use Rattle.zc_link.specs.Simulates.{Comes}
+use Rattle.zc_link.specs.IsSimulation.{Comes}
 use Rattle.zc_link.specs.Sound.{Alike, Ready}
 use Rattle.zc_link.proofs.Branches.{condition_is}
 use Rattle.zc_link.proofs.Commits.{AfterCuts, after_cuts, zc_turns-one}
@@ -71,7 +71,7 @@ goes_over s y room al laid is = other_taken true room al.ready laid is
 -- ---- its commits
 
 module _
-    {p : Program} {Named : Place → Type 0} {e : Image} {r r' : PlainState} {cuts : ℕ → List Cut} {z : ZcState} {op : BranchOp} {one two : ℕ}
+    {p : Program} {Named : Place → Type 0} {e : Image} {r r' : PlainState} {cuts : ℕ → List Interrupt} {z : ZcState} {op : BranchOp} {one two : ℕ}
     (room : Room p e) (from : FromSound p Named e r r' cuts z) (laid : LongLaid p e r.core.place z.core.pc op one two) where
   -- whether it is taken
   abbrev taken : Option Bool
@@ -90,7 +90,7 @@ module _
 
   -- the state after it, by whether it is taken
   abbrev after_first : Bool → ZcCore
-  after_first t = record (core_onward first.now laid.at.one.size first.now.regs) { pc = branch_target t laid.over laid.at.one.size first.now }
+  after_first t = record (onward first.now laid.at.one.size first.now.regs) { pc = branch_target t laid.over laid.at.one.size first.now }
 
   first_turn : (t : Bool) → taken ≡ Some t → zc_turn (cuts 0) z ≡ Ok (record z { core = after_first (not t) })
   first_turn t is =
@@ -99,14 +99,14 @@ module _
 
   -- a change of the program's that only goes to a place
   comes_to :
-      (k : ℕ) (y : ZcCore) (to : Place) → zc_turns cuts k z ≡ Ok (record z { core = y }) → Ready p Named e (after_change (onward to) r.core) y
-      → place_address e to ≡ Some y.pc → onward to ≡ from.step.change → Comes p Named e cuts k z r'
+      (k : ℕ) (y : ZcCore) (to : Place) → zc_turns cuts k z ≡ Ok (record z { core = y }) → Ready p Named e (after_change (continues to) r.core) y
+      → e.address to ≡ Some y.pc → continues to ≡ from.step.change → Comes p Named e cuts k z r'
   comes_to k y to runs ready at is =
       comes_after from k y runs (subst (λ c. Ready p Named e (after_change c r.core) y) is ready) (subst IsQuiet is (record { events = refl; taken = refl }))
-      (ap (λ (c : Change). place_address e c.place) (sym is) ∙ at)
+      (ap (λ (c : Change). e.address c.place) (sym is) ∙ at)
 
   -- one, over the jump
-  over_comes : taken ≡ Some false → onward next ≡ from.step.change → Comes p Named e cuts 1 z r'
+  over_comes : taken ≡ Some false → continues next ≡ from.step.change → Comes p Named e cuts 1 z r'
   over_comes is same =
       let y = after_first true in
       comes_to 1 y next (zc_turns-one cuts z (record z { core = y }) (first_turn false is)) (ready_moved first.alike.ready next y.pc y.commits)
@@ -123,7 +123,7 @@ module _
   abbrev second_at : OneAt e between.pc (Base (Jal 0 laid.distance))
   second_at = record {
     size = laid.at.two.size;
-    here = ap (fetched_at (loaded e)) between_pc ∙ laid.at.two.here;
+    here = ap (fetched_at (loaded_core e)) between_pc ∙ laid.at.two.here;
     small = omega (arith, laid.at.two.small, between_pc);
   }
 
@@ -132,9 +132,9 @@ module _
   second = after_cuts room (cuts 1) (from.are 1) second_at (alike_moved between.pc between.commits first.alike)
 
   abbrev there : ZcCore
-  there = record (core_onward second.now laid.at.two.size second.now.regs) { pc = add32 second.now.pc laid.distance }
+  there = record (onward second.now laid.at.two.size second.now.regs) { pc = add32 second.now.pc laid.distance }
 
-  two_come : taken ≡ Some true → onward laid.to ≡ from.step.change → Comes p Named e cuts 2 z r'
+  two_come : taken ≡ Some true → continues laid.to ≡ from.step.change → Comes p Named e cuts 2 z r'
   two_come is same =
       let z1 : ZcState = record z { core = between } in
       let runs = zc_turns-more cuts 1 z z1 (record z { core = there }) (zc_turns-one cuts z z1 (first_turn true is)) second.turn in
@@ -147,9 +147,9 @@ module _
   long_comes = by taken refl does
     where
       does : branch_does taken laid.to next ≡ Goes from.step.change
-      does = ap (λ o. place_does p o r.core next) (sym laid.item) ∙ from.step.does
+      does = ap (λ o. item_does p o r.core next) (sym laid.item) ∙ from.step.does
 
       by : (o : Option Bool) → taken ≡ o → branch_does o laid.to next ≡ Goes from.step.change → Comes p Named e cuts (long_commits o) z r'
       by None is h = absurd cc
-      by (Some false) is h = over_comes is (let same : onward next ≡ from.step.change = cc in same)
-      by (Some true) is h = two_come is (let same : onward laid.to ≡ from.step.change = cc in same)
+      by (Some false) is h = over_comes is (let same : continues next ≡ from.step.change = cc in same)
+      by (Some true) is h = two_come is (let same : continues laid.to ≡ from.step.change = cc in same)

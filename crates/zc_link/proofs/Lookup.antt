@@ -10,23 +10,23 @@ use Rattle.zc_base.specs.Places.{same_place}
 use Rattle.zc_base.specs.declared.place.Place.{Place}
 use Rattle.elf32_read.specs.Parts.{ObjectParts, SectionParts}
 use Rattle.psabi_sym.specs.Inputs.{ParsedInputs, parsed}
-use Rattle.psabi_sym.specs.Listed.{sections_before}
+use Rattle.psabi_sym.specs.Indexed.{sections_before}
 use Rattle.block_cut.specs.Items.{all_targets, code_at, is_target_at, place_of, starts_in, starts_on, targets_of}
 use Rattle.block_cut.proofs.ListedLaws.{cut_at, listed}
 use Rattle.block_cut.proofs.PlainLaws.{target_on}
 use Rattle.block_cut.proofs.WholeLaws.{code_is_section}
-use Rattle.zc_link.specs.Places.{address_in}
+use Rattle.zc_link.specs.Places.{listed_address}
 use Rattle.zc_link.specs.ImageParts.{listed_places, with_address}
 use Rattle.zc_link.specs.TextLayout.{TextLayout}
 use Rattle.zc_link.proofs.Elements.{any_flat, any_offset}
 use Rattle.zc_link.proofs.PlaceLaws.{same_place-refl, same_place-true}
 
 -- what holds of all entries of a list holds of the one that is found
-pub found_holds : (P : Place × ℕ → Type 0) (es : List (Place × ℕ)) (q : Place) (a : ℕ) → All P es → address_in es q ≡ Some a → P (q, a)
+pub found_holds : (P : Place × ℕ → Type 0) (es : List (Place × ℕ)) (q : Place) (a : ℕ) → All P es → listed_address es q ≡ Some a → P (q, a)
 found_holds P [] q a all found = absurd cc
 found_holds P (e ∷ es) q a all found = by (same_place e.0 q) refl found (λ later. found_holds P es q a (All-tail P e es all) later)
   where
-    by : (b : Bool) → same_place e.0 q ≡ b → cond b (Some e.1) (address_in es q) ≡ Some a → (address_in es q ≡ Some a → P (q, a)) → P (q, a)
+    by : (b : Bool) → same_place e.0 q ≡ b → cond b (Some e.1) (listed_address es q) ≡ Some a → (listed_address es q ≡ Some a → P (q, a)) → P (q, a)
     by true is got rest =
         let place : q ≡ e.0 = same_place-true e.0 q is in
         let address : e.1 ≡ a = cc in
@@ -47,26 +47,26 @@ entries_placed L (q ∷ qs) = by (L.address q) refl (entries_placed L qs)
 -- a place among those of a list is found there if it has an address
 pub among_found :
     (L : TextLayout) (qs : List Place) (q : Place) (a : ℕ) → L.address q ≡ Some a → list_any (λ r. same_place r q) qs ≡ true
-    → (b : ℕ) × (address_in (flat_map (with_address L) qs) q ≡ Some b)
+    → (b : ℕ) × (listed_address (flat_map (with_address L) qs) q ≡ Some b)
 among_found L [] q a is among = absurd cc
 among_found L (r ∷ rs) q a is among = by (same_place r q) refl among (λ later. among_found L rs q a is later)
   where
     rest : List (Place × ℕ)
     rest = flat_map (with_address L) rs
 
-    skipped : (o : Option ℕ) → same_place r q ≡ false → address_in (option_to_list (option_map (λ a. (r, a)) o) ++ rest) q ≡ address_in rest q
+    skipped : (o : Option ℕ) → same_place r q ≡ false → listed_address (option_to_list (option_map (λ a. (r, a)) o) ++ rest) q ≡ listed_address rest q
     skipped None other = refl
-    skipped (Some b) other = ap (λ t. cond t (Some b) (address_in rest q)) other
+    skipped (Some b) other = ap (λ t. cond t (Some b) (listed_address rest q)) other
 
     by :
         (b : Bool) → same_place r q ≡ b → (b || list_any (λ s. same_place s q) rs) ≡ true
-        → (list_any (λ s. same_place s q) rs ≡ true → (b : ℕ) × (address_in rest q ≡ Some b))
-        → (b : ℕ) × (address_in (with_address L r ++ rest) q ≡ Some b)
+        → (list_any (λ s. same_place s q) rs ≡ true → (b : ℕ) × (listed_address rest q ≡ Some b))
+        → (b : ℕ) × (listed_address (with_address L r ++ rest) q ≡ Some b)
     by true same h later =
         let here : L.address r ≡ Some a = ap L.address (sym (same_place-true r q same)) ∙ is in (
           a,
-          ap (λ o. address_in (option_to_list (option_map (λ a. (r, a)) o) ++ rest) q) here
-              ∙ ap (λ t. cond t (Some a) (address_in rest q)) same,
+          ap (λ o. listed_address (option_to_list (option_map (λ a. (r, a)) o) ++ rest) q) here
+              ∙ ap (λ t. cond t (Some a) (listed_address rest q)) same,
         )
     by false other h later = let found = later h in (found.0, skipped (L.address r) other ∙ found.1)
 
@@ -121,11 +121,11 @@ module _ (L : TextLayout) (lists : (q : Place) → is_some (L.address q) ≡ is_
   unfolding listed_places
   listed_placed = entries_placed L (all_targets (parsed L.inputs).objects)
 
-  pub lookup : (q : Place) → address_in (listed_places L) q ≡ L.address q
+  pub lookup : (q : Place) → listed_address (listed_places L) q ≡ L.address q
   unfolding listed_places
-  lookup q = by (L.address q) refl (address_in (listed_places L) q) refl
+  lookup q = by (L.address q) refl (listed_address (listed_places L) q) refl
     where
-      by : (o : Option ℕ) → L.address q ≡ o → (u : Option ℕ) → address_in (listed_places L) q ≡ u → address_in (listed_places L) q ≡ L.address q
+      by : (o : Option ℕ) → L.address q ≡ o → (u : Option ℕ) → listed_address (listed_places L) q ≡ u → listed_address (listed_places L) q ≡ L.address q
       by o is (Some b) found = found ∙ sym (found_holds (λ e. L.address e.0 ≡ Some e.1) (listed_places L) q b listed_placed found)
       by None is None found = found ∙ sym is
       by (Some a) is None found =

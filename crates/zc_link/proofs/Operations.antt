@@ -14,7 +14,7 @@ use Rattle.sym_machine.specs.declared.word.SymWord.{SymWord}
 use Rattle.sym_machine.specs.declared.word.Value.{Value}
 use Rattle.sym_machine.specs.Program.{Program}
 use Rattle.sym_machine.specs.Words.{code_of, imm_numeric, imm_word, is_one, number_of, reg_numeric, reg_word, upper_word}
-use Rattle.zc_link.specs.Image.{Image, place_address}
+use Rattle.zc_link.specs.Image.{Image}
 use Rattle.zc_link.specs.Room.{Room}
 use Rattle.zc_link.specs.Sound.{NamesWord}
 use Rattle.zc_link.specs.Stands.{WordStands}
@@ -26,7 +26,7 @@ use Rattle.zc_link.proofs.Words.{code_or_names, code_or_stands, number_names, nu
 
 module _ {p : Program} {e : Image} (room : Room p e) where
   abbrev V : Value → Option ℕ
-  V = value_in p (place_address e)
+  V = value_in p e.address
 
   one_is : (imm : ℤ) → is_one imm ≡ true → as_word imm ≡ 1
   one_is (pos k) h = let is : k ≡ 1 = eqb-true k 1 h in omega (arith, is)

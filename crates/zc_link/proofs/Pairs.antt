@@ -13,13 +13,13 @@ use Rattle.psabi_reloc.specs.declared.kind.RelocKind.{RelocKind}
 use Rattle.psabi_reloc.specs.declared.kind.RelocKind.TheVariants as kind
 use Rattle.psabi_sym.specs.Faults.{first_some}
 use Rattle.psabi_sym.specs.Inputs.{Inputs, ParsedInputs, parsed}
-use Rattle.psabi_sym.specs.Listed.{ListedSection, section_at}
+use Rattle.psabi_sym.specs.Indexed.{IndexedSection, section_at}
 use Rattle.psabi_sym.specs.Resolve.{resolved}
 use Rattle.psabi_sym.specs.declared.target.Target.TheVariants.{Code}
 use Rattle.psabi_sym.proofs.FaultLaws.{neither}
 use Rattle.rv_decode.specs.declared.instr.Instr.{Instr}
 use Rattle.block_cut.specs.declared.item.Item.TheVariants.{PcHi}
-use Rattle.block_cut.specs.Faults.{first_fault, is_nothing, is_pair_at, reloc_fault}
+use Rattle.block_cut.specs.Faults.{first_fault, is_pair_at, is_zero_addend, reloc_fault}
 use Rattle.block_cut.specs.Items.{code_at, code_only, is_target_at, item_at, item_under, known_item, of_instr, raw_in, size_on, starts_on, target_of}
 use Rattle.block_cut.specs.Relocs.{field_end, field_of, instr_in, overlaps_another, is_ignored, is_pcrel_hi, is_pcrel_lo, is_placed, is_sound, has_pcrel_hi_at, overlap, reloc_on}
 use Rattle.block_cut.proofs.ItemLaws.{item_there}
@@ -77,7 +77,7 @@ counted n x (y ∷ ys) at some h = by (or_cases (hi_at n y) (list_any (hi_at n) 
         omega (arith, kept (overlap x) y ys (overlaps n x y at parts.1 some parts.2))
     by (inr later) rest = omega (arith, rest later, no_fewer (overlap x) y ys)
 
-module _ (p : ParsedInputs) (l : ListedSection) (n : ℕ) where
+module _ (p : ParsedInputs) (l : IndexedSection) (n : ℕ) where
   abbrev s : SectionParts
   s = l.section
 
@@ -193,10 +193,10 @@ module _ (inputs : Inputs) (none : first_fault inputs ≡ None) (A : Place → O
       let two = code_is_section p2.objects q s at in
       let l = listed q.object q.section s in
       let fine = reloc_good inputs none q.object q.section q.offset s r two.0 is in
-      let both : (not (is_nothing r.addend) || not (is_pair_at l (resolved p2 q.object r.symbol (pos 0)))) ≡ false =
-      ap (λ b. b && (not (is_nothing r.addend) || not (is_pair_at l (resolved p2 q.object r.symbol (pos 0))))) (sym lower) ∙ fine.paired in
-      let parts = or_parts (not (is_nothing r.addend)) (not (is_pair_at l (resolved p2 q.object r.symbol (pos 0)))) both in
-      let zero : r.addend ≡ pos 0 = nothing r.addend (not_false (is_nothing r.addend) parts.0) in
+      let both : (not (is_zero_addend r.addend) || not (is_pair_at l (resolved p2 q.object r.symbol (pos 0)))) ≡ false =
+      ap (λ b. b && (not (is_zero_addend r.addend) || not (is_pair_at l (resolved p2 q.object r.symbol (pos 0))))) (sym lower) ∙ fine.paired in
+      let parts = or_parts (not (is_zero_addend r.addend)) (not (is_pair_at l (resolved p2 q.object r.symbol (pos 0)))) both in
+      let zero : r.addend ≡ pos 0 = nothing r.addend (not_false (is_zero_addend r.addend) parts.0) in
       let to : resolved p2 q.object r.symbol (pos 0) ≡ Code from = ap (resolved p2 q.object r.symbol) (sym zero) ∙ leads in
       let pair : is_pair_at l (Code from) ≡ true = ap (is_pair_at l) (sym to) ∙ not_false (is_pair_at l (resolved p2 q.object r.symbol (pos 0))) parts.1 in
       let one = and_parts (eqb from.object q.object) _ pair in
@@ -214,7 +214,7 @@ module _ (inputs : Inputs) (none : first_fault inputs ≡ None) (A : Place → O
       not_false true h = refl
       not_false false h = absurd cc
 
-      nothing : (z : ℤ) → is_nothing z ≡ true → z ≡ pos 0
+      nothing : (z : ℤ) → is_zero_addend z ≡ true → z ≡ pos 0
       nothing (pos n) h = ap pos (eqb-true n 0 h)
       nothing (negsuc n) h = absurd cc
 

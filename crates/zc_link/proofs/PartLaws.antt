@@ -4,7 +4,11 @@ use Rattle.std.proofs.Common.{◌≡◌, ℕ, ◌+◌, ◌-◌, ◌*◌, ◌/◌
 use Rattle.std.proofs.lemmas.Bool.{ltb-false, ltb-true}
 use Rattle.rv_decode.specs.Bits.{add32, field}
 use Rattle.psabi_reloc.specs.Parts.{hi20_of, lo12_of}
-use Rattle.zc_link.specs.Values.{pc_upper, way}
+use Rattle.zc_link.specs.Values.{way}
+
+-- what an `auipc` at address a gives on the way to address t
+abbrev pub pc_upper : ℕ → ℕ → ℕ
+pc_upper a t = (a + hi20_of (way a t) * 2 ^ 12) % 2 ^ 32
 
 -- by the lower part's sign
 low_part :

@@ -5,7 +5,7 @@ use Rattle.std.proofs.lemmas.Option.{slice_get-map}
 use Rattle.zc_base.specs.declared.place.Place.{Place}
 use Rattle.psabi_sym.specs.Faults.{gather_fault}
 use Rattle.psabi_sym.specs.Inputs.{Inputs, ParsedInputs, parsed}
-use Rattle.psabi_sym.specs.Listed.{ListedSection, all_sections}
+use Rattle.psabi_sym.specs.Indexed.{IndexedSection, all_sections}
 use Rattle.psabi_sym.proofs.SectionNumbers.{has_number, number_of_section}
 use Rattle.block_cut.specs.Items.{index_on, is_target_at, targets_in}
 use Rattle.block_cut.specs.Places.{IsPlaceNumber, code_place, code_places, place_there}
@@ -17,7 +17,7 @@ use Rattle.block_cut.proofs.WordLaws.{target_got}
 
 -- a place, found by a number
 pub record IsFoundBy (p : ParsedInputs) (q : Place) (number : PlaceNumber) : Type 0 where
-  pub section : ListedSection
+  pub section : IndexedSection
   pub at : slice_get (all_sections p.objects) number.section ≡ Some section
   pub there : slice_get (code_places p section) number.index ≡ Some (place_there p q)
 

@@ -7,14 +7,14 @@ use Rattle.zc_base.specs.declared.place.Place.{Place}
 use Rattle.elf32_read.specs.Parts.{SectionParts, is_code_section}
 use Rattle.psabi_sym.specs.Faults.{gather_fault}
 use Rattle.psabi_sym.specs.Inputs.{Inputs, ParsedInputs, parsed}
-use Rattle.psabi_sym.specs.Listed.{ListedSection, section_at, sections_before}
+use Rattle.psabi_sym.specs.Indexed.{IndexedSection, section_at, sections_before}
 use Rattle.block_cut.specs.Items.{code_at, code_only, place_of}
 use Rattle.block_cut.specs.PlainLayout.{plain_address, plain_end, plain_end_of, section_end as plain_section_end}
 use Rattle.block_cut.proofs.ListedLaws.{before_more, listed}
 use Rattle.block_cut.proofs.PlainLaws.{offset_end, place_address}
 use Rattle.block_cut.proofs.RoomLaws.{section_end-other}
 use Rattle.block_cut.proofs.WholeLaws.{code_whole}
-use Rattle.zc_link.specs.LaidOut.{end_after, section_end, text_end}
+use Rattle.zc_link.specs.LaidOut.{code_end_after, laid_section_end, text_end}
 use Rattle.zc_link.specs.TextLayout.{TextLayout, front_end, plain_layout}
 use Rattle.zc_link.proofs.EachSection.{before_each, of_all}
 
@@ -39,23 +39,23 @@ module _ (inputs : Inputs) (none : gather_fault inputs ≡ None) where
   front_is = omega arith
 
   -- sections end by their addresses where they do in the plain layout
-  abbrev AreEnds : List ListedSection → Type 0
-  AreEnds ls = end_after L ls ≡ plain_end_of p ls
+  abbrev AreEnds : List IndexedSection → Type 0
+  AreEnds ls = code_end_after L ls ≡ plain_end_of p ls
 
   -- one section more
   section_ends :
       (o i : ℕ) (s : SectionParts) → section_at p.objects o i ≡ Some s
-      → section_end L (plain_end_of p (sections_before p.objects o i)) (listed o i s)
+      → laid_section_end L (plain_end_of p (sections_before p.objects o i)) (listed o i s)
       ≡ plain_section_end p (plain_end_of p (sections_before p.objects o i)) (listed o i s)
   section_ends o i s found = by (is_code_section s) refl
     where
-      l : ListedSection
+      l : IndexedSection
       l = listed o i s
 
       end : ℕ
       end = plain_end_of p (sections_before p.objects o i)
 
-      by : (b : Bool) → is_code_section s ≡ b → section_end L end l ≡ plain_section_end p end l
+      by : (b : Bool) → is_code_section s ≡ b → laid_section_end L end l ≡ plain_section_end p end l
       by true code =
           let q = place_of l (length s.bytes) in
           let at = code_found p o i (length s.bytes) s found code in
@@ -69,8 +69,8 @@ module _ (inputs : Inputs) (none : gather_fault inputs ≡ None) where
       let earlier = sections_before p.objects o i in
       let l = listed o i s in
       subst AreEnds (sym (before_more p.objects o i s found))
-      (fold-append (section_end L) (front_end L) earlier (l ∷ [])
-      ∙ ap (λ e. section_end L e l) before ∙ section_ends o i s found
+      (fold-append (laid_section_end L) (front_end L) earlier (l ∷ [])
+      ∙ ap (λ e. laid_section_end L e l) before ∙ section_ends o i s found
       ∙ sym (fold-append (plain_section_end p) inputs.map.text earlier (l ∷ [])))
 
   -- the sections before one

@@ -9,10 +9,10 @@ use Rattle.psabi_reloc.specs.Reaches.{branch_reach, jal_reach}
 use Rattle.psabi_sym.specs.Blocks.{aligned_up}
 use Rattle.psabi_sym.specs.Faults.{gather_fault, power_above}
 use Rattle.psabi_sym.specs.Inputs.{Inputs, ParsedInputs, parsed}
-use Rattle.psabi_sym.specs.Listed.{section_at, sections_before}
+use Rattle.psabi_sym.specs.Indexed.{section_at, sections_before}
 use Rattle.rv_decode.specs.declared.instr.BranchOp.{BranchOp}
 use Rattle.rv_decode.specs.Bits.{as_signed}
-use Rattle.block_cut.specs.Cut.{place_at}
+use Rattle.block_cut.specs.Invariants.Cut.{place_at}
 use Rattle.block_cut.specs.Items.{code_at, is_target_at, item_at, next_at, size_at, starts_on}
 use Rattle.block_cut.specs.PlainLayout.{address_on, after_item, starts_before, plain_address, plain_end, plain_end_of, plain_start}
 use Rattle.block_cut.specs.declared.item.Item.{Item}
@@ -24,7 +24,7 @@ use Rattle.block_cut.proofs.WholeLaws.{code_whole}
 use Rattle.sym_machine.specs.Conditions.{is_solid}
 use Rattle.shrink_layout.specs.Halves.{fixed_instr}
 use Rattle.shrink_layout.specs.Units.{CodeUnit, OneItem}
-use Rattle.zc_link.specs.LaidOut.{IsLaidOut, LiesAt, end_after, text_end}
+use Rattle.zc_link.specs.LaidOut.{IsLaidOut, LiesAt, code_end_after, text_end}
 use Rattle.zc_link.specs.Pace.{bytes_between}
 use Rattle.zc_link.specs.Standing.{HasOwnSize, IsReady}
 use Rattle.zc_link.specs.TextLayout.{TextLayout, behind, plain_layout, size_in}
@@ -156,7 +156,7 @@ module _ (inputs : Inputs) (ready : IsReady inputs) where
   -- one begins after those before it
   begins :
       (o i : ℕ) (s : SectionParts) → section_at p.objects o i ≡ Some s → is_code_section s ≡ true
-      → end_after L (sections_before p.objects o i) ≤ unwrap_or (A (place_at o i 0)) 0
+      → code_end_after L (sections_before p.objects o i) ≤ unwrap_or (A (place_at o i 0)) 0
   begins o i s found code =
       let q = place_at o i 0 in
       let at = code_found p o i 0 s found code in

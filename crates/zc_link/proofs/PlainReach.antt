@@ -6,9 +6,9 @@ use Rattle.std.specs.Option.{option_and_then, option_map_or}
 use Rattle.zc_base.specs.declared.place.Place.{Place}
 use Rattle.psabi_reloc.specs.Reaches.{branch_reach}
 use Rattle.psabi_sym.specs.Inputs.{Inputs, ParsedInputs, parsed}
-use Rattle.psabi_sym.specs.Listed.{sections_before}
+use Rattle.psabi_sym.specs.Indexed.{sections_before}
 use Rattle.block_cut.specs.declared.item.Item.TheVariants.{Branch}
-use Rattle.block_cut.specs.Faults.{branch_target, distance_between, first_fault, is_far, is_out_of_reach, range_fault}
+use Rattle.block_cut.specs.Faults.{branch_place, distance_between, first_fault, is_far, is_out_of_reach, range_fault}
 use Rattle.block_cut.specs.Items.{all_places, item_at, place_of, places_of, starts_in}
 use Rattle.block_cut.specs.PlainLayout.{plain_address}
 use Rattle.rv_decode.specs.declared.instr.BranchOp.{BranchOp}
@@ -43,7 +43,7 @@ module _ (inputs : Inputs) (none : first_fault inputs ≡ None) where
       let here : is_out_of_reach p q ≡ false = find_among test (place_of l) (starts_in s) q.offset mine found.start in
       let far : not (branch_reach (pos b -ℤ pos a)) ≡ false =
       (λ j. option_map_or (λ d. not (branch_reach d)) (distance_between (sym from j) (sym there j)) false)
-      ∙ (λ j. option_map_or (is_far p q) (option_and_then branch_target (sym is j)) false) ∙ here in
+      ∙ (λ j. option_map_or (is_far p q) (option_and_then branch_place (sym is j)) false) ∙ here in
       not_false (branch_reach (pos b -ℤ pos a)) far
     where
       not_false : (b : Bool) → not b ≡ false → b ≡ true

@@ -17,7 +17,7 @@ use Rattle.psabi_reloc.specs.declared.kind.RelocKind.{RelocKind as Kind}
 use Rattle.psabi_reloc.specs.declared.kind.RelocKind.TheVariants as kind
 use Rattle.psabi_sym.specs.Faults.{first_some, gather_fault}
 use Rattle.psabi_sym.specs.Inputs.{Inputs, ParsedInputs, parsed}
-use Rattle.psabi_sym.specs.Listed.{ListedSection, all_sections, sections_before}
+use Rattle.psabi_sym.specs.Indexed.{IndexedSection, all_sections, sections_before}
 use Rattle.psabi_sym.specs.declared.target.Target.{Target}
 use Rattle.psabi_sym.specs.declared.target.Target.TheVariants.{Code, Number, Absent, Nowhere}
 use Rattle.rv_decode.specs.declared.instr.Instr.{Instr}
@@ -25,7 +25,7 @@ use Rattle.rv_decode.specs.declared.instr.Instr.TheVariants as instr
 use Rattle.block_cut.specs.declared.item.Item.{Item}
 use Rattle.block_cut.specs.declared.item.Item.TheVariants.{Branch, Jump}
 use Rattle.block_cut.specs.Faults.{first_fault, if_so, has_bad_target, lacks_pcrel_hi, is_bad_target, entry_fault, range_fault, reloc_fault, relocs_fault, section_fault}
-use Rattle.block_cut.specs.Items.{all_places, call_item, code_at, instr_item, is_end_at, is_start_at, is_target_at, item_at, item_under, known_item, next_at, of_instr, place_away, place_of, places_of, raw_in, raw_pair, size_on, spelled, starts_in, starts_on, target_away, target_of, target_only, to_place, transfer_item}
+use Rattle.block_cut.specs.Items.{all_places, call_item, code_at, instr_item, is_end_at, is_start_at, is_target_at, item_at, item_under, known_item, next_at, of_instr, place_away, place_of, places_of, raw_in, raw_pair, size_on, spelled_item, starts_in, starts_on, target_away, target_of, target_only, to_place, transfer_item}
 use Rattle.block_cut.specs.Leaders.{ends_block, goes_to, is_leader_at, is_place, item_leads, reloc_leads, section_leads}
 use Rattle.block_cut.specs.Relocs.{instr_in, is_bad_kind, is_bad_place, is_ignored, is_transfer, reloc_on}
 use Rattle.block_cut.proofs.ItemLaws.{item_found, item_there}
@@ -63,7 +63,7 @@ not_so true fault h = absurd cc
 not_so false fault h = refl
 
 -- a relocation without a fault isn't astray
-not_astray : (inputs : ParsedInputs) (l : ListedSection) (r : Reloc) → reloc_fault inputs l r ≡ None → has_bad_target inputs l r ≡ false
+not_astray : (inputs : ParsedInputs) (l : IndexedSection) (r : Reloc) → reloc_fault inputs l r ≡ None → has_bad_target inputs l r ≡ false
 not_astray inputs l r none =
     let n = r.offset in
     let last = if_so (has_bad_target inputs l r) (BadTarget l.index n) ∷ [] in
@@ -264,8 +264,8 @@ module _ (inputs : Inputs) (none : first_fault inputs ≡ None) where
   instr_item_named q (instr.Csrrw rd source) other stays is = stays
 
   bare_named :
-      (q : Place) (o : Option Instr) (other : Item) → NamesItem Named other → item_at (parsed inputs) q ≡ Some (spelled objects q o other)
-      → NamesItem Named (spelled objects q o other)
+      (q : Place) (o : Option Instr) (other : Item) → NamesItem Named other → item_at (parsed inputs) q ≡ Some (spelled_item objects q o other)
+      → NamesItem Named (spelled_item objects q o other)
   bare_named q None other stays is = stays
   bare_named q (Some i) other stays is = instr_item_named q i other stays is
 

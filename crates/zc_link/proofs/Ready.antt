@@ -9,7 +9,7 @@ use Rattle.sym_machine.specs.declared.word.SymWord.{SymWord}
 use Rattle.sym_machine.specs.Program.{Program}
 use Rattle.sym_machine.specs.State.{PlainCore}
 use Rattle.sym_machine.specs.Words.{number_word, undef_word}
-use Rattle.zc_link.specs.Image.{Image, place_address}
+use Rattle.zc_link.specs.Image.{Image}
 use Rattle.zc_link.specs.Sound.{Alike, NamesWord, Ready}
 use Rattle.zc_link.specs.Stands.{WordStands}
 use Rattle.zc_link.specs.Values.{value_in}
@@ -50,7 +50,7 @@ module _ {p : Program} {Named : Place → Type 0} {e : Image} {s : PlainCore} {z
 
   -- a register gets a word, and a number that the word stands for
   pub ready_set :
-      (rd v : ℕ) (w : SymWord) → v < 2 ^ 32 → WordStands (value_in p (place_address e)) w v → NamesWord Named w
+      (rd v : ℕ) (w : SymWord) → v < 2 ^ 32 → WordStands (value_in p e.address) w v → NamesWord Named w
       → Ready p Named e (record s { regs = set_reg s.regs rd w }) (record z { regs = set_reg z.regs rd v })
   ready_set rd v w small stands names = record {
     running = ready.running;
@@ -58,7 +58,7 @@ module _ {p : Program} {Named : Place → Type 0} {e : Image} {s : PlainCore} {z
     plain = record { count = length-set_reg s.regs rd w ∙ ready.plain.count; input = ready.plain.input };
     core = set_reg_core z rd v ready.core small;
     registers = λ r lt.
-        set_reg_both (WordStands (value_in p (place_address e))) (number_word 0) undef_word 0 0 s.regs z.regs rd r w v
+        set_reg_both (WordStands (value_in p e.address)) (number_word 0) undef_word 0 0 s.regs z.regs rd r w v
         (ready.plain.count ∙ sym ready.core.count) stands (ready.registers r lt);
     memory = ready.memory;
     names = record {
@@ -79,8 +79,8 @@ module _ {p : Program} {Named : Place → Type 0} {e : Image} {s : PlainCore} {z
     plain = record { count = length-set_reg s.regs rd undef_word ∙ ready.plain.count; input = ready.plain.input };
     core = ready.core;
     registers = λ r lt.
-        set_reg_each (λ w. WordStands (value_in p (place_address e)) w (reg_in z r)) (number_word 0) undef_word s.regs rd r undef_word
-        (undef_stands (value_in p (place_address e)) (reg_in z r)) (ready.registers r lt);
+        set_reg_each (λ w. WordStands (value_in p e.address) w (reg_in z r)) (number_word 0) undef_word s.regs rd r undef_word
+        (undef_stands (value_in p e.address) (reg_in z r)) (ready.registers r lt);
     memory = ready.memory;
     names = record {
       registers = λ r lt. set_reg_each (NamesWord Named) (number_word 0) undef_word s.regs rd r undef_word (undef_names Named) (ready.names.registers r lt);

@@ -23,12 +23,13 @@ use Rattle.sym_machine.specs.Change.{Change, Goes, addi_does, base_of, by_sum, u
 use Rattle.sym_machine.specs.Program.{Program}
 use Rattle.sym_machine.specs.State.{PlainCore, reg_of}
 use Rattle.sym_machine.specs.Words.{value_word}
-use Rattle.zc_link.specs.Image.{Image, place_address}
+use Rattle.zc_link.specs.Image.{Image}
 use Rattle.zc_link.specs.Leads.{NamesTarget}
 use Rattle.zc_link.specs.Room.{Room}
 use Rattle.zc_link.specs.Sound.{NamesWord, Ready}
 use Rattle.zc_link.specs.Stands.{WordStands}
-use Rattle.zc_link.specs.Values.{pc_upper, target_value, value_in, way}
+use Rattle.zc_link.specs.Values.{target_value, value_in, way}
+use Rattle.zc_link.proofs.PartLaws.{pc_upper}
 use Rattle.zc_link.proofs.Addresses.{high_names, high_stands, low_names, low_stands, pc_low_names, pc_low_stands, way_stands}
 use Rattle.zc_link.proofs.Instrs.{GoesOn, Moves, jalr_moves, load_goes, moves_on, register_goes, store_goes}
 
@@ -51,7 +52,7 @@ module _ {p : Program} {Named : Place → Type 0} {e : Image} {s : PlainCore} {z
   -- ---- upper parts
 
   pub hi_goes :
-      (i : Instr) (t : Target) (x : ℕ) → target_value (place_address e) t ≡ Some x → upper_does Lui i (high_word t) next ≡ Goes c
+      (i : Instr) (t : Target) (x : ℕ) → target_value e.address t ≡ Some x → upper_does Lui i (high_word t) next ≡ Goes c
       → GoesOn p Named e (with_upper i (hi20_of x)) size c s next z
   hi_goes (instr.Upper Lui rd imm) t x is h =
       let v : ℕ = upper_result Lui z.pc (hi20_of x) in
@@ -72,8 +73,8 @@ module _ {p : Program} {Named : Place → Type 0} {e : Image} {s : PlainCore} {z
 
   -- of the way from here
   pub pc_hi_goes :
-      (i : Instr) (q : Place) (t : Target) (x : ℕ) → pc_target (p.item q) ≡ Some t → place_address e q ≡ Some z.pc
-      → target_value (place_address e) t ≡ Some x → upper_does Auipc i (value_word (PcHi q)) next ≡ Goes c
+      (i : Instr) (q : Place) (t : Target) (x : ℕ) → pc_target (p.item q) ≡ Some t → e.address q ≡ Some z.pc
+      → target_value e.address t ≡ Some x → upper_does Auipc i (value_word (PcHi q)) next ≡ Goes c
       → GoesOn p Named e (with_upper i (hi20_of (way z.pc x))) size c s next z
   pc_hi_goes (instr.Upper Lui rd imm) q t x leads at is h = absurd cc
   pc_hi_goes (instr.Upper Auipc rd imm) q t x leads at is h =
@@ -93,10 +94,10 @@ module _ {p : Program} {Named : Place → Type 0} {e : Image} {s : PlainCore} {z
 
   -- ---- sums
 
-  module _ (listed : place_address e next ≡ Some (after z size)) where
+  module _ (listed : e.address next ≡ Some (after z size)) where
     -- `addi`
     addi_moves :
-        (op : ImmOp) (rd first : ℕ) (k : ℤ) (w : SymWord) → WordStands (value_in p (place_address e)) w (add32 (reg_in z first) k) → NamesWord Named w
+        (op : ImmOp) (rd first : ℕ) (k : ℤ) (w : SymWord) → WordStands (value_in p e.address) w (add32 (reg_in z first) k) → NamesWord Named w
         → addi_does op rd w next ≡ Goes c → Moves p Named e (instr.WithImm op rd first k) size c s z
     addi_moves Addi rd first k w stands names h =
         moves_on listed (register_goes room ready size c next (instr.WithImm Addi rd first k) rd (add32 (reg_in z first) k) w refl (omega arith) stands names h)
@@ -112,7 +113,7 @@ module _ {p : Program} {Named : Place → Type 0} {e : Image} {s : PlainCore} {z
     -- any sum, by its word
     pub sum_moves :
         (i : Instr) (k : ℤ) (w : SymWord) → HasRegisters (with_imm i k) → (is_jalr i ≡ true → Named next)
-        → WordStands (value_in p (place_address e)) w (add32 (reg_in z (base_of i)) k) → NamesWord Named w → by_sum i w s next ≡ Goes c
+        → WordStands (value_in p e.address) w (add32 (reg_in z (base_of i)) k) → NamesWord Named w → by_sum i w s next ≡ Goes c
         → Moves p Named e (with_imm i k) size c s z
     sum_moves (instr.Upper op rd imm) k w registers named stands names h = absurd cc
     sum_moves (instr.Jal rd distance) k w registers named stands names h = absurd cc
@@ -129,7 +130,7 @@ module _ {p : Program} {Named : Place → Type 0} {e : Image} {s : PlainCore} {z
 
     -- with the lower part of an address
     pub lo_moves :
-        (i : Instr) (t : Target) (x : ℕ) → target_value (place_address e) t ≡ Some x → NamesTarget Named t → HasRegisters (with_imm i (lo12_of x))
+        (i : Instr) (t : Target) (x : ℕ) → target_value e.address t ≡ Some x → NamesTarget Named t → HasRegisters (with_imm i (lo12_of x))
         → (is_jalr i ≡ true → Named next) → by_sum i (low_sum t (reg_of s (base_of i))) s next ≡ Goes c → Moves p Named e (with_imm i (lo12_of x)) size c s z
     lo_moves i t x is names registers named h =
         let base = base_of i in
@@ -141,7 +142,7 @@ module _ {p : Program} {Named : Place → Type 0} {e : Image} {s : PlainCore} {z
     -- with the lower part of the way from an `auipc`
     pub pc_lo_moves :
         (i : Instr) (from : Place) (t : Target) (a x : ℕ) → pc_target (p.item from) ≡ Some t → ((u : Target) → pc_target (p.item from) ≡ Some u → NamesTarget Named u)
-        → place_address e from ≡ Some a → target_value (place_address e) t ≡ Some x → HasRegisters (with_imm i (lo12_of (way a x)))
+        → e.address from ≡ Some a → target_value e.address t ≡ Some x → HasRegisters (with_imm i (lo12_of (way a x)))
         → (is_jalr i ≡ true → Named next) → by_sum i (pc_low_sum from (pc_target (p.item from)) (reg_of s (base_of i))) s next ≡ Goes c
         → Moves p Named e (with_imm i (lo12_of (way a x))) size c s z
     pc_lo_moves i from t a x leads names at is registers named h =

@@ -10,21 +10,21 @@ use Rattle.std.proofs.lemmas.List.Elements.{All-nil}
 use Rattle.zc_base.specs.declared.place.Place.{Place}
 use Rattle.elf32_read.specs.Parts.{is_code_section}
 use Rattle.psabi_sym.specs.Inputs.{ParsedInputs, parsed}
-use Rattle.psabi_sym.specs.Listed.{ListedSection, all_sections}
+use Rattle.psabi_sym.specs.Indexed.{IndexedSection, all_sections}
 use Rattle.psabi_sym.proofs.SectionNumbers.{before_number, listed_at}
 use Rattle.block_cut.specs.Items.{place_of, starts_in, targets_in, targets_of}
 use Rattle.block_cut.specs.Places.{code_place, code_places}
 use Rattle.block_cut.specs.declared.code_place.CodePlace.{CodePlace}
 use Rattle.block_cut.proofs.TakeLaws.{take_next}
-use Rattle.zc_link.specs.LaidOut.{IsLaidOut, end_after, section_end}
+use Rattle.zc_link.specs.LaidOut.{IsLaidOut, code_end_after, laid_section_end}
 use Rattle.zc_link.specs.Standing.{BeginsSection}
 use Rattle.zc_link.specs.TextLayout.{TextLayout, front_end}
-use Rattle.zc_link.specs.Written.{Holds, IsSoFar, IsTextOf}
+use Rattle.zc_link.specs.Written.{HoldsPlace, IsSoFar, IsTextOf}
 use Rattle.zc_link.proofs.Grows.{so_far_gap}
 use Rattle.zc_link.proofs.Walk.{before}
 
 -- what isn't code has no places, and what is has some
-pub no_places : (p : ParsedInputs) (l : ListedSection) (own : List CodePlace) → own ≡ code_places p l → length own ≡ 0 → is_code_section l.section ≡ false
+pub no_places : (p : ParsedInputs) (l : IndexedSection) (own : List CodePlace) → own ≡ code_places p l → length own ≡ 0 → is_code_section l.section ≡ false
 no_places p l own are few = by (is_code_section l.section) refl
   where
     by : (b : Bool) → is_code_section l.section ≡ b → is_code_section l.section ≡ false
@@ -38,7 +38,7 @@ no_places p l own are few = by (is_code_section l.section) refl
           length-append (starts_in l.section) (length l.section.bytes ∷ []),
         ))
 
-pub some_places : (p : ParsedInputs) (l : ListedSection) (own : List CodePlace) → own ≡ code_places p l → (length own ≡ 0 → ⊥) → is_code_section l.section ≡ true
+pub some_places : (p : ParsedInputs) (l : IndexedSection) (own : List CodePlace) → own ≡ code_places p l → (length own ≡ 0 → ⊥) → is_code_section l.section ≡ true
 some_places p l own are some = by (is_code_section l.section) refl
   where
     by : (b : Bool) → is_code_section l.section ≡ b → is_code_section l.section ≡ true
@@ -55,12 +55,12 @@ nothing_yet L laid text places no_text no_places =
       listed = refl;
       ends = omega (arith, empty);
       front = subst (λ f. take (length f) [] ≡ f) (sym laid.front) refl;
-      holds = All-nil (Holds L []);
+      holds = All-nil (HoldsPlace L []);
       gaps = λ k past lt gap. absurd (omega (arith, lt));
       octets = λ k. omega arith;
     }))
 
-module _ (L : TextLayout) (k : ℕ) (l : ListedSection) (at : slice_get (all_sections (parsed L.inputs).objects) k ≡ Some l) where
+module _ (L : TextLayout) (k : ℕ) (l : IndexedSection) (at : slice_get (all_sections (parsed L.inputs).objects) k ≡ Some l) where
   abbrev p : ParsedInputs
   p = parsed L.inputs
 
@@ -69,31 +69,31 @@ module _ (L : TextLayout) (k : ℕ) (l : ListedSection) (at : slice_get (all_sec
       (text : List ℕ) (places : List (Place × ℕ)) → is_code_section l.section ≡ false → IsTextOf L (before L k) text places
       → IsTextOf L (before L (k + 1)) text places
   other_section text places other so_far =
-      let end = end_after L (before L k) in
+      let end = code_end_after L (before L k) in
       let later : before L (k + 1) ≡ before L k ++ l ∷ [] = take_next (all_sections p.objects) k l at in
       let nothing : targets_of l ≡ [] = ap (λ b. cond b (map (place_of l) (targets_in l.section)) []) other in
       let targets : flat_map targets_of (before L k) ≡ flat_map targets_of (before L (k + 1)) =
       sym (ap (flat_map targets_of) later ∙ flat_map-append targets_of (before L k) (l ∷ []) ∙ ap (λ t. flat_map targets_of (before L k) ++ (t ++ [])) nothing
       ∙ append-nil (flat_map targets_of (before L k))) in
-      let ends : end ≡ end_after L (before L (k + 1)) =
-      sym (ap (end_after L) later ∙ fold-append (section_end L) (front_end L) (before L k) (l ∷ [])
+      let ends : end ≡ code_end_after L (before L (k + 1)) =
+      sym (ap (code_end_after L) later ∙ fold-append (laid_section_end L) (front_end L) (before L k) (l ∷ [])
       ∙ ap (λ b. cond b (unwrap_or (L.address (place_of l (length l.section.bytes))) end) end) other) in
-      subst (λ ts. IsSoFar L ts (end_after L (before L (k + 1))) text places) targets
+      subst (λ ts. IsSoFar L ts (code_end_after L (before L (k + 1))) text places) targets
       (subst (λ e. IsSoFar L (flat_map targets_of (before L k)) e text places) ends so_far)
 
   -- one that is begins no earlier than the text so far ends
   module _ (laid : IsLaidOut L) (code : is_code_section l.section ≡ true) (begin : ℕ) (listed : L.address (place_of l 0) ≡ Some begin) where
-    pub begins_late : end_after L (before L k) ≤ begin
+    pub begins_late : code_end_after L (before L k) ≤ begin
     begins_late =
         let late = laid.begins l.object l.index l.section (listed_at p.objects k l at) code in
-        omega (arith, late, ap (end_after L) (before_number p.objects k l at), ap (λ o. unwrap_or o 0) listed)
+        omega (arith, late, ap (code_end_after L) (before_number p.objects k l at), ap (λ o. unwrap_or o 0) listed)
 
     -- after a gap
     pub begins_section :
-        (text : List ℕ) (places : List (Place × ℕ)) (n : ℕ) → n ≡ begin - end_after L (before L k) → IsTextOf L (before L k) text places
+        (text : List ℕ) (places : List (Place × ℕ)) (n : ℕ) → n ≡ begin - code_end_after L (before L k) → IsTextOf L (before L k) text places
         → BeginsSection L k (text ++ replicate n 0) places
     begins_section text places n gap so_far =
-        let end = end_after L (before L k) in
+        let end = code_end_after L (before L k) in
         let far : end + n ≡ begin = omega (arith, gap, begins_late) in
         record {
           section = l;

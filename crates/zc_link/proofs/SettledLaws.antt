@@ -20,7 +20,7 @@ use Rattle.sym_machine.specs.Conditions.{is_solid}
 use Rattle.shrink_layout.specs.declared.piece.Piece.{Piece}
 use Rattle.shrink_layout.specs.declared.piece.Piece.TheVariants.{Fixed}
 use Rattle.shrink_layout.specs.Forms.{HasAlignment, IsForm, holds, target, width}
-use Rattle.shrink_layout.specs.Pieces.{number_of, piece_of, pieces_of}
+use Rattle.shrink_layout.specs.Pieces.{piece_number_at, piece_of, pieces_of}
 use Rattle.shrink_layout.specs.Settled.{settled_address, settled_addresses, settled_end, settled_sizes}
 use Rattle.shrink_layout.specs.Units.{CodeUnit, OneItem, unit_at}
 use Rattle.shrink_layout.proofs.AddressLaws.{fits_at, form_at, next_address}
@@ -55,16 +55,16 @@ module _ (inputs : Inputs) (none : gather_fault inputs ≡ None) (is_map : IsMap
 
   -- the piece of an item: that it is the item's, its form, and where it ends
   record IsPiece (q : Place) (item : Item) : Type 0 where
-    pub within : number_of objects q < length pieces
-    pub there : (d : Piece) → get_or pieces (number_of objects q) d ≡ piece_of objects item
-    pub form : IsForm (piece_of objects item) (slice_index sizes (number_of objects q))
+    pub within : piece_number_at objects q < length pieces
+    pub there : (d : Piece) → get_or pieces (piece_number_at objects q) d ≡ piece_of objects item
+    pub form : IsForm (piece_of objects item) (slice_index sizes (piece_number_at objects q))
     pub ends :
-        at_number (number_of objects q + 1)
-        ≡ at_number (number_of objects q) + width (piece_of objects item) (slice_index sizes (number_of objects q)) (at_number (number_of objects q))
+        at_number (piece_number_at objects q + 1)
+        ≡ at_number (piece_number_at objects q) + width (piece_of objects item) (slice_index sizes (piece_number_at objects q)) (at_number (piece_number_at objects q))
 
   piece_is : (q : Place) (item : Item) → item_at (parsed inputs) q ≡ Some item → IsPiece q item
   piece_is q item is =
-      let n = number_of objects q in
+      let n = piece_number_at objects q in
       let within = number_below inputs none q item is in
       let there : (d : Piece) → get_or pieces n d ≡ piece_of objects item =
       λ d. get_or_from_slice_get pieces n (piece_of objects item) d (piece_there inputs none q item is) in
@@ -91,7 +91,7 @@ module _ (inputs : Inputs) (none : gather_fault inputs ≡ None) (is_map : IsMap
   lies q a item is got =
       let own = piece_is q item is in
       let here = near q a got in
-      let n = number_of objects q in
+      let n = piece_number_at objects q in
       let size = slice_index sizes n in
       let p = piece_of objects item in
       let there = own.there (Fixed 0) in
@@ -131,15 +131,15 @@ module _ (inputs : Inputs) (none : gather_fault inputs ≡ None) (is_map : IsMap
       by (Some item) is solid = record { item = item; is = is; solid = solid }
 
   -- what comes after it has a greater address
-  beyond : (q r : Place) → IsSolid q → IsSolid r → is_before q r ≡ true → at_number (number_of objects q) < at_number (number_of objects r)
+  beyond : (q r : Place) → IsSolid q → IsSolid r → is_before q r ≡ true → at_number (piece_number_at objects q) < at_number (piece_number_at objects r)
   beyond q r x y before =
       let own = piece_is q x.item x.is in
-      let k = number_of objects q in
+      let k = piece_number_at objects q in
       omega (
         arith,
         own.ends,
         width_some objects x.item (slice_index sizes k) (at_number k) x.solid own.form,
-        address_rises inputs none is_map (k + 1) (number_of objects r)
+        address_rises inputs none is_map (k + 1) (piece_number_at objects r)
             (omega (arith, number_rises_past (parsed inputs) q r x.item x.is (item_target (parsed inputs) r y.item y.is) before)) (number_most (parsed inputs) r),
       )
 
@@ -150,7 +150,7 @@ module _ (inputs : Inputs) (none : gather_fault inputs ≡ None) (is_map : IsMap
   settled_distinct q r a one two at at' =
       let x = solid_found q one in
       let y = solid_found r two in
-      let same : at_number (number_of objects q) ≡ at_number (number_of objects r) = (near q a at).number ∙ sym (near r a at').number in
+      let same : at_number (piece_number_at objects q) ≡ at_number (piece_number_at objects r) = (near q a at).number ∙ sym (near r a at').number in
       elim (same_or_before q r) [
         | inl before ↦ absurd (omega (arith, same, beyond q r x y before))
         | inr (inl after) ↦ absurd (omega (arith, same, beyond r q y x after))

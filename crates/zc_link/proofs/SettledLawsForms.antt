@@ -23,7 +23,7 @@ use Rattle.sym_machine.specs.Conditions.{is_solid}
 use Rattle.shrink_layout.specs.declared.piece.Piece.TheVariants as piece
 use Rattle.shrink_layout.specs.Halves.{fixed_instr, fixed_part}
 use Rattle.shrink_layout.specs.Forms.{HasAlignment, IsForm, distance, holds, target, width}
-use Rattle.shrink_layout.specs.Pieces.{instr_size, is_short, jump_piece, number_of, part_size, piece_of}
+use Rattle.shrink_layout.specs.Pieces.{instr_size, is_short, jump_piece, part_size, piece_number_at, piece_of}
 use Rattle.shrink_layout.proofs.Distances.{distance_back, distance_on}
 use Rattle.zc_link.specs.LaidOut.{HasBranchSize, HasForm, HasJumpSize, HasSize, OfWay}
 use Rattle.zc_link.specs.Values.{way}
@@ -68,7 +68,7 @@ less_four a b = elim (cases_lt b a) [
 
 -- the address of a place is that of its number, it is even, and lies near the text's start
 pub record IsNear (objects : List ObjectParts) (address : ℕ → ℕ) (text : ℕ) (q : Place) (b : ℕ) : Type 0 where
-  pub number : address (number_of objects q) ≡ b
+  pub number : address (piece_number_at objects q) ≡ b
   pub even : b % 2 ≡ 0
   pub low : text ≤ b
   pub few : b ≤ text + 0x8_0000
@@ -97,7 +97,7 @@ module _
     -- ---- branches and jumps
 
     -- the way to a place with an address is the distance to its number's
-    way_near : (to : Place) (b : ℕ) → A to ≡ Some b → as_signed (way a b) ≡ distance a (address (number_of objects to))
+    way_near : (to : Place) (b : ℕ) → A to ≡ Some b → as_signed (way a b) ≡ distance a (address (piece_number_at objects to))
     way_near to b is =
         let there = near to b is in
         way_distance a b (omega (arith, few, small)) (omega (arith, there.few, small)) (omega (arith, there.few, low)) (omega (arith, few, there.low))
@@ -125,13 +125,13 @@ module _
       short = is_short (branch (pos 0))
 
       branch_form :
-          (to : Place) (size : ℕ) → IsForm (piece.Branch (number_of objects to) short) size
-          → holds (piece.Branch (number_of objects to) short) size a (address (number_of objects to)) ≡ true
+          (to : Place) (size : ℕ) → IsForm (piece.Branch (piece_number_at objects to) short) size
+          → holds (piece.Branch (piece_number_at objects to) short) size a (address (piece_number_at objects to)) ≡ true
           → OfWay A a to (HasBranchSize branch size)
       branch_form to size form reach b is = by short refl form
         where
-          at : (n : ℕ) → size ≡ n → holds (piece.Branch (number_of objects to) short) n a (address (number_of objects to)) ≡ true
-          at n same = ap (λ m. holds (piece.Branch (number_of objects to) short) m a (address (number_of objects to))) (sym same) ∙ reach
+          at : (n : ℕ) → size ≡ n → holds (piece.Branch (piece_number_at objects to) short) n a (address (piece_number_at objects to)) ≡ true
+          at n same = ap (λ m. holds (piece.Branch (piece_number_at objects to) short) m a (address (piece_number_at objects to))) (sym same) ∙ reach
 
           four : size ≡ 4 → HasBranchSize branch size (as_signed (way a b))
           four same = inl (same, ap branch_reach (way_near to b is) ∙ at 4 same)
@@ -139,7 +139,7 @@ module _
           eight : size ≡ 8 → HasBranchSize branch size (as_signed (way a b))
           eight same = inr (inr (same, long_near to b is))
 
-          by : (s : Bool) → short ≡ s → IsForm (piece.Branch (number_of objects to) s) size → HasBranchSize branch size (as_signed (way a b))
+          by : (s : Bool) → short ≡ s → IsForm (piece.Branch (piece_number_at objects to) s) size → HasBranchSize branch size (as_signed (way a b))
           by true e (inl same) =
               inr (inl (same, branch_short op first second (pos 0) (as_signed (way a b)) e (ap short_branch_reach (way_near to b is) ∙ at 2 same)))
           by true e (inr (inl same)) = four same
@@ -162,8 +162,8 @@ module _
               → holds (jump_piece objects to s) size a (address (target (jump_piece objects to s))) ≡ true
               → HasJumpSize rd (width (jump_piece objects to s) size a) (as_signed (way a b))
           by true e (inl same) reach =
-              let at : short_jump_reach (distance a (address (number_of objects to))) ≡ true =
-              ap (λ m. holds (piece.Jump (number_of objects to)) m a (address (number_of objects to))) (sym same) ∙ reach in
+              let at : short_jump_reach (distance a (address (piece_number_at objects to))) ≡ true =
+              ap (λ m. holds (piece.Jump (piece_number_at objects to)) m a (address (piece_number_at objects to))) (sym same) ∙ reach in
               inr (same, jump_short rd (pos 0) (as_signed (way a b)) e (ap short_jump_reach (way_near to b is) ∙ at))
           by true e (inr same) reach = inl (same, jal_near to b is)
           by false e same reach = inl (same, jal_near to b is)
@@ -229,7 +229,7 @@ width_some objects (Hi i t) size a solid form = omega (arith, form, part_some t 
 width_some objects (Lo i t) size a solid form = omega (arith, form, part_some t (λ x. with_imm i (lo12_of x)))
 width_some objects (PcHi i t) size a solid form = omega (arith, form)
 width_some objects (PcLo i from) size a solid form = omega (arith, form)
-width_some objects (Branch op first second to) size a solid form = branch_some (number_of objects to) (is_short (instr.Branch op first second (pos 0))) size form
+width_some objects (Branch op first second to) size a solid form = branch_some (piece_number_at objects to) (is_short (instr.Branch op first second (pos 0))) size form
 width_some objects (Jump rd to) size a solid form = jump_some objects to (is_short (instr.Jal rd (pos 0))) size a form
 width_some objects (Call rd temp to) size a solid form = jump_some objects to (is_short (instr.Jal rd (pos 0))) size a form
 width_some objects (Align bytes) size a solid form = absurd cc

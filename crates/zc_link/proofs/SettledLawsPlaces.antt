@@ -10,8 +10,8 @@ use Rattle.zc_base.specs.declared.place.Place.{Place}
 use Rattle.elf32_read.specs.Parts.{ObjectParts, SectionParts, is_code_section}
 use Rattle.psabi_sym.specs.Faults.{gather_fault}
 use Rattle.psabi_sym.specs.Inputs.{Inputs, ParsedInputs, parsed}
-use Rattle.psabi_sym.specs.Listed.{ListedSection, section_at, sections_before}
-use Rattle.block_cut.specs.Cut.{place_at}
+use Rattle.psabi_sym.specs.Indexed.{IndexedSection, section_at, sections_before}
+use Rattle.block_cut.specs.Invariants.Cut.{place_at}
 use Rattle.block_cut.specs.Items.{code_at, is_target_at, starts_in, starts_on}
 use Rattle.block_cut.proofs.ListedLaws.{before_more, listed}
 use Rattle.block_cut.proofs.PlainLaws.{target_on}
@@ -21,7 +21,7 @@ use Rattle.shrink_layout.specs.declared.piece.Piece.{Piece}
 use Rattle.shrink_layout.specs.declared.piece.Piece.TheVariants.{Fixed}
 use Rattle.shrink_layout.specs.Layout.{IsLayout, addresses_of}
 use Rattle.shrink_layout.specs.Least.{AreForms}
-use Rattle.shrink_layout.specs.Pieces.{number_of, piece_count, pieces_before, pieces_of}
+use Rattle.shrink_layout.specs.Pieces.{piece_count, piece_number_at, pieces_before, pieces_of}
 use Rattle.shrink_layout.specs.Settled.{settled_address, settled_addresses, settled_end, settled_sizes}
 use Rattle.shrink_layout.proofs.AddressLaws.{ascending, even_address, first_address, form_at, last_address, layout_forms, next_address}
 use Rattle.shrink_layout.proofs.NumberEnds.{padding_number, padding_number-next, number-end, number-start, start_within}
@@ -29,7 +29,7 @@ use Rattle.shrink_layout.proofs.NumberLaws.{length-pieces_of, number-code, numbe
 use Rattle.shrink_layout.proofs.PlaceAddressLaws.{address_there}
 use Rattle.shrink_layout.proofs.SizesLaws.{sizes_layout}
 use Rattle.shrink_layout.proofs.PremiseLaws.{all_aligned, all_even, room_few}
-use Rattle.zc_link.specs.LaidOut.{end_after, section_end, text_end}
+use Rattle.zc_link.specs.LaidOut.{code_end_after, laid_section_end, text_end}
 use Rattle.zc_link.specs.TextLayout.{TextLayout, front_end, zc_layout}
 use Rattle.zc_link.proofs.EachSection.{before_each, of_all}
 use Rattle.zc_link.proofs.PlainEnds.{code_found}
@@ -95,7 +95,7 @@ module _ (inputs : Inputs) (none : gather_fault inputs ≡ None) (is_map : IsMap
   -- so addresses are given to targets, and to no others
   pub settled_listed : (q : Place) → is_some (A q) ≡ is_target_at objects q
   unfolding settled_address
-  settled_listed q = chosen_some (is_target_at objects q) (slice_index (settled_addresses p) (number_of objects q))
+  settled_listed q = chosen_some (is_target_at objects q) (slice_index (settled_addresses p) (piece_number_at objects q))
 
   -- a target has the address of its number
   settled_there :
@@ -107,9 +107,9 @@ module _ (inputs : Inputs) (none : gather_fault inputs ≡ None) (is_map : IsMap
       ∙ ap (λ n. Some (address n)) (number-code objects q s (target_there objects q s at target) at)
 
   -- and a place with an address has that of its number
-  pub settled_here : (q : Place) (a : ℕ) → A q ≡ Some a → address (number_of objects q) ≡ a
+  pub settled_here : (q : Place) (a : ℕ) → A q ≡ Some a → address (piece_number_at objects q) ≡ a
   unfolding settled_address settled_addresses
-  settled_here q a is = chosen (is_target_at objects q) (address (number_of objects q)) a is
+  settled_here q a is = chosen (is_target_at objects q) (address (piece_number_at objects q)) a is
 
   -- nothing stands in front of the first section
   front_none : address 1 ≡ front_end L
@@ -144,33 +144,33 @@ module _ (inputs : Inputs) (none : gather_fault inputs ≡ None) (is_map : IsMap
       )
 
   pub settled_even : (q : Place) (a : ℕ) → A q ≡ Some a → a % 2 ≡ 0
-  settled_even q a is = ap (λ n. n % 2) (sym (settled_here q a is)) ∙ address_even (number_of objects q)
+  settled_even q a is = ap (λ n. n % 2) (sym (settled_here q a is)) ∙ address_even (piece_number_at objects q)
 
   pub settled_low : (q : Place) (a : ℕ) → A q ≡ Some a → front_end L ≤ a
-  settled_low q a is = omega (arith, settled_here q a is, address_low (number_of objects q) (number_most p q))
+  settled_low q a is = omega (arith, settled_here q a is, address_low (piece_number_at objects q) (number_most p q))
 
   pub settled_few : (q : Place) (a : ℕ) → A q ≡ Some a → a ≤ inputs.map.text + 0x8_0000
-  settled_few q a is = omega (arith, settled_here q a is, address_few (number_of objects q) (number_most p q))
+  settled_few q a is = omega (arith, settled_here q a is, address_few (piece_number_at objects q) (number_most p q))
 
   -- ---- ends
 
   -- the code of these sections ends where the piece after theirs begins
-  abbrev EndsThere : List ListedSection → Type 0
-  EndsThere ls = end_after L ls ≡ address (1 + sum_by piece_count ls)
+  abbrev EndsThere : List IndexedSection → Type 0
+  EndsThere ls = code_end_after L ls ≡ address (1 + sum_by piece_count ls)
 
   -- with one section more
   ends_more :
       (o i : ℕ) (s : SectionParts) → section_at objects o i ≡ Some s → EndsThere (sections_before objects o i)
       → EndsThere (sections_before objects o (i + 1))
   ends_more o i s found before =
-      ap (end_after L) (before_more objects o i s found)
-      ∙ fold-append (section_end L) (front_end L) (sections_before objects o i) (listed o i s ∷ [])
+      ap (code_end_after L) (before_more objects o i s found)
+      ∙ fold-append (laid_section_end L) (front_end L) (sections_before objects o i) (listed o i s ∷ [])
       ∙ by (is_code_section s) refl
     where
       end : ℕ
-      end = end_after L (sections_before objects o i)
+      end = code_end_after L (sections_before objects o i)
 
-      by : (b : Bool) → is_code_section s ≡ b → section_end L end (listed o i s) ≡ address (padding_number objects o (i + 1))
+      by : (b : Bool) → is_code_section s ≡ b → laid_section_end L end (listed o i s) ≡ address (padding_number objects o (i + 1))
       by true code =
           let last = place_at o i (length s.bytes) in
           ap (λ b. cond b (unwrap_or (A last) end) end) code
@@ -184,7 +184,7 @@ module _ (inputs : Inputs) (none : gather_fault inputs ≡ None) (is_map : IsMap
   -- of the sections before one
   ends_before :
       (o i : ℕ) (s : SectionParts) → section_at objects o i ≡ Some s
-      → end_after L (sections_before objects o i) ≡ address (padding_number objects o i)
+      → code_end_after L (sections_before objects o i) ≡ address (padding_number objects o i)
   ends_before = before_each objects EndsThere (sym front_none) ends_more
 
   -- all code ends where the last piece does
@@ -197,7 +197,7 @@ module _ (inputs : Inputs) (none : gather_fault inputs ≡ None) (is_map : IsMap
 
   pub settled_high : (q : Place) (a : ℕ) → A q ≡ Some a → a ≤ text_end L
   settled_high q a is =
-      omega (arith, settled_here q a is, text_ends, address_rises (number_of objects q) (length pieces) (number_most p q) (omega arith))
+      omega (arith, settled_here q a is, text_ends, address_rises (piece_number_at objects q) (length pieces) (number_most p q) (omega arith))
 
   pub settled_short : text_end L ≤ inputs.map.text + 0x8_0000
   settled_short = omega (arith, text_ends, address_few (length pieces) (omega arith))
@@ -205,7 +205,7 @@ module _ (inputs : Inputs) (none : gather_fault inputs ≡ None) (is_map : IsMap
   -- a section begins no earlier than those before it end
   pub settled_begins :
       (o i : ℕ) (s : SectionParts) → section_at objects o i ≡ Some s → is_code_section s ≡ true
-      → end_after L (sections_before objects o i) ≤ unwrap_or (A (place_at o i 0)) 0
+      → code_end_after L (sections_before objects o i) ≤ unwrap_or (A (place_at o i 0)) 0
   settled_begins o i s found code =
       let whole = inputs_whole inputs o i s none found code in
       let first : unwrap_or (A (place_at o i 0)) 0 ≡ address (padding_number objects o i + 1) =

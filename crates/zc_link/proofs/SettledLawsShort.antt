@@ -10,7 +10,7 @@ use Rattle.rv_decode.specs.declared.instr.BranchOp.TheVariants.{Beq, Bne, Blt, B
 use Rattle.rv_decode.specs.declared.instr.Instr.TheVariants as instr
 use Rattle.rv_decode.specs.Normal.{greater_branch, normal_branch}
 use Rattle.shrink_layout.specs.Pieces.{is_short}
-use Rattle.zc_encode.specs.Halves.{half_for, has_bits, is_popular, is_signed, jump_half, low_bits, when, zero_half}
+use Rattle.zc_encode.specs.Halves.{beqz_half, half_for, has_bits, is_popular, is_signed, jump_half, low_bits, when}
 use Rattle.zc_encode.proofs.NumberLaws.{and_three}
 
 -- ---- distances
@@ -36,8 +36,8 @@ when_is true half = refl
 when_is false half = refl
 
 zero_short :
-    (group first second : ℕ) (old d : ℤ) → short_branch_reach d ≡ true → is_some (zero_half group first second old) ≡ true
-    → is_some (zero_half group first second d) ≡ true
+    (group first second : ℕ) (old d : ℤ) → short_branch_reach d ≡ true → is_some (beqz_half group first second old) ≡ true
+    → is_some (beqz_half group first second d) ≡ true
 zero_short group first second old d reach h =
     let three = and_three (eqb second 0) (is_popular first) (is_signed 9 2 old) (sym (when_is (eqb second 0 && (is_popular first && is_signed 9 2 old)) _) ∙ h) in
     when_is (eqb second 0 && (is_popular first && is_signed 9 2 d)) _
@@ -45,7 +45,7 @@ zero_short group first second old d reach h =
 
 greater_short :
     (op : BranchOp) (group first second : ℕ) (old d : ℤ)
-    → ((a b : ℕ) (z : ℤ) → half_for (instr.Branch op a b z) ≡ zero_half group a b z) → short_branch_reach d ≡ true
+    → ((a b : ℕ) (z : ℤ) → half_for (instr.Branch op a b z) ≡ beqz_half group a b z) → short_branch_reach d ≡ true
     → is_some (half_for (greater_branch op first second old)) ≡ true → is_some (half_for (greater_branch op first second d)) ≡ true
 greater_short op group first second old d is reach h = either (ltb first second) h
   where

@@ -13,13 +13,13 @@ use Rattle.sym_machine.specs.Conditions.{condition}
 use Rattle.sym_machine.specs.Program.{Program}
 use Rattle.sym_machine.specs.State.{PlainCore, reg_of}
 use Rattle.zc_link.specs.LaidOut.{IsLaidOut}
-use Rattle.zc_link.specs.Pace.{Alone, CallOf, LongOf, Piece, bytes_between, commits_of, long_commits, piece_of, span_of}
-use Rattle.zc_link.specs.TextLayout.{TextLayout, behind, piece_in, size_in}
+use Rattle.zc_link.specs.Pace.{Alone, CallOf, LongOf, Stretch, bytes_between, commits_of, long_commits, span_of, stretch_of}
+use Rattle.zc_link.specs.TextLayout.{TextLayout, behind, size_in, stretch_in}
 
 -- ---- commits
 
--- a piece has few commits for its items
-abbrev IsFew : Program → PlainCore → Piece → Type 0
+-- a stretch has few commits for its items
+abbrev IsFew : Program → PlainCore → Stretch → Type 0
 IsFew p s x = commits_of p s x ≤ 64 * span_of x
 
 -- a branch of two instructions has
@@ -29,7 +29,7 @@ long_few (Some false) = omega arith
 long_few (Some true) = omega arith
 
 -- so has what is written for an item in n bytes, if padding is short
-item_few : (p : Program) (s : PlainCore) (n : ℕ) (i : Item) → ((bytes : ℕ) → i ≡ Align bytes → n < 256) → IsFew p s (piece_of n (Some (OneItem i)))
+item_few : (p : Program) (s : PlainCore) (n : ℕ) (i : Item) → ((bytes : ℕ) → i ≡ Align bytes → n < 256) → IsFew p s (stretch_of n (Some (OneItem i)))
 item_few p s n (Op i) short = omega arith
 item_few p s n (Hi i t) short = omega arith
 item_few p s n (Lo i t) short = omega arith
@@ -87,10 +87,10 @@ module _ (L : TextLayout) (laid : IsLaidOut L) where
           let size = size_is L q a lies.size at lies.next in
           omega (arith, size, lies.form, aligned_up-lt (power_above k) a, power_most k)
 
-  -- so no piece has many commits
-  pub few : (p : Program) (s : PlainCore) → commits_of p s (piece_in L s.place) ≤ 64 * span_of (piece_in L s.place)
+  -- so no stretch has many commits
+  pub few : (p : Program) (s : PlainCore) → commits_of p s (stretch_in L s.place) ≤ 64 * span_of (stretch_in L s.place)
   few p s = by (L.unit s.place) refl
     where
-      by : (u : Option CodeUnit) → L.unit s.place ≡ u → IsFew p s (piece_of (size_in L s.place) u)
+      by : (u : Option CodeUnit) → L.unit s.place ≡ u → IsFew p s (stretch_of (size_in L s.place) u)
       by None unit = omega arith
       by (Some (OneItem i)) unit = item_few p s (size_in L s.place) i (λ k is. padding_short s.place k (unit ∙ ap (λ x. Some (OneItem x)) is))

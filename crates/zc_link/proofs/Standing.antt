@@ -1,13 +1,13 @@
 -- What is known of each item of inputs without a fault: its bytes, of which it has so many, spell what it is, and what it leads to has an
 -- address.
-use Rattle.std.proofs.Common.{◌≡◌, ℕ, ◌+◌, ℤ, List, Option, Some, None, Bool, true, false, cond, eqb, refl, sym, ap, ◌∙◌, subst}
+use Rattle.std.proofs.Common.{◌≡◌, ℕ, ◌+◌, ℤ, List, Option, Some, None, Bool, true, false, cond, refl, sym, ap, ◌∙◌, subst}
 use Rattle.std.specs.Prelude.{◌&&◌, not}
 use Rattle.std.specs.Option.{is_some, option_and_then, option_map_or}
-use Rattle.std.proofs.lemmas.Bool.{and_parts, eqb-true, or_left, or_right}
+use Rattle.std.proofs.lemmas.Bool.{eqb-true, or_left, or_right}
 use Rattle.zc_base.specs.declared.place.Place.{Place}
 use Rattle.elf32_read.specs.Parts.{ObjectParts, SectionParts}
 use Rattle.elf32_read.specs.declared.reloc.Reloc.{Reloc}
-use Rattle.psabi_reloc.specs.Kinds.{field_length, is_auipc, is_auipc_op, is_call, is_lui, is_store, is_sum, kind_of}
+use Rattle.psabi_reloc.specs.Kinds.{field_length, is_auipc, is_call, is_lui, is_store, is_sum, kind_of}
 use Rattle.psabi_reloc.specs.declared.kind.RelocKind.{RelocKind}
 use Rattle.psabi_reloc.specs.declared.kind.RelocKind.TheVariants as kind
 use Rattle.psabi_sym.specs.Faults.{gather_fault}
@@ -16,10 +16,9 @@ use Rattle.psabi_sym.specs.declared.target.Target.{Target}
 use Rattle.psabi_sym.specs.declared.target.Target.TheVariants.{Code, Number, Absent, Nowhere}
 use Rattle.rv_decode.specs.declared.instr.Instr.{Instr}
 use Rattle.rv_decode.specs.declared.instr.Instr.TheVariants as instr
-use Rattle.rv_decode.specs.declared.instr.UpperOp.{UpperOp}
 use Rattle.rv_decode.specs.declared.instr.UpperOp.TheVariants.{Lui, Auipc}
 use Rattle.block_cut.specs.Faults.{first_fault, is_bad_target}
-use Rattle.block_cut.specs.Items.{call_item, code_at, is_target_at, item_at, item_in, item_under, known_item, of_instr, place_away, raw_in, raw_pair, size_at, size_on, spelled, target_away, target_of, target_only, to_place, transfer_item}
+use Rattle.block_cut.specs.Items.{call_item, code_at, is_target_at, item_at, item_in, item_under, known_item, of_instr, place_away, raw_in, raw_pair, size_at, size_on, spelled_item, target_away, target_of, target_only, to_place, transfer_item}
 use Rattle.block_cut.specs.Relocs.{field_of, fits_at, instr_in, is_bad_kind, is_ignored, is_pcrel_lo, is_transfer, reloc_on}
 use Rattle.block_cut.specs.CodeSizes.{own_size}
 use Rattle.block_cut.specs.declared.item.Item.{Item}
@@ -80,7 +79,7 @@ module _ (inputs : Inputs) (none : gather_fault inputs ≡ None) (ready : IsRead
         record { distance = distance; spells = spells; address = there.0; listed = there.1 }
 
     -- an item without a relocation
-    bare : (d : Option Instr) → one ≡ d → own ≡ 4 → Stands (spelled p.objects q d raw)
+    bare : (d : Option Instr) → one ≡ d → own ≡ 4 → Stands (spelled_item p.objects q d raw)
     bare None e four = (tt, four)
     bare (Some (instr.Upper op rd imm)) e four = (e, four)
     bare (Some (instr.Jalr rd base imm)) e four = (e, four)
@@ -142,24 +141,20 @@ module _ (inputs : Inputs) (none : gather_fault inputs ≡ None) (ready : IsRead
     called d d2 (Number k) e e2 eight kind lost = (tt, eight)
     called d d2 (Absent k) e e2 eight kind lost = (tt, eight)
     called d d2 Nowhere e e2 eight kind lost = (tt, eight)
-    called (Some (instr.Upper op temp upper)) (Some (instr.Jalr rd base lower)) (Code to) e e2 eight kind lost =
+    called (Some (instr.Upper Auipc temp upper)) (Some (instr.Jalr rd base lower)) (Code to) e e2 eight kind lost =
         let there = target_listed p A targets to (target_is (Code to) to true lost refl) in
-        let tests = and_parts (is_auipc_op op) (eqb base temp) kind in
-        let same : base ≡ temp = eqb-true base temp tests.1 in (
+        let same : base ≡ temp = eqb-true base temp kind in (
           record {
             upper = upper;
             lower = lower;
-            first_spells = by op tests.0 e;
+            first_spells = e;
             second_spells = e2 ∙ ap (λ b. Some (instr.Jalr rd b lower)) same;
             address = there.0;
             listed = there.1;
           },
           eight,
         )
-      where
-        by : (op : UpperOp) → is_auipc_op op ≡ true → one ≡ Some (instr.Upper op temp upper) → one ≡ Some (instr.Upper Auipc temp upper)
-        by Lui h e = absurd cc
-        by Auipc h e = e
+    called (Some (instr.Upper Lui temp upper)) d2 (Code to) e e2 eight kind lost = absurd cc
     called d d2 (Code to) e e2 eight kind lost = (tt, eight)
 
     -- the lower part of a way

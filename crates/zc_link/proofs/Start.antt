@@ -5,22 +5,22 @@ use Rattle.std.specs.Prelude.{◌&&◌, All}
 use Rattle.std.proofs.lemmas.Bool.{and_parts, cases_lt, cond-false, cond-true, cond_both, eq-eqb, leb-true, ne_eqb}
 use Rattle.std.proofs.lemmas.List.{get_or-replicate, get_or_past, length-replicate}
 use Rattle.zc_base.specs.declared.place.Place.{Place}
-use Rattle.interrupt_plan.specs.Plan.{Cut}
+use Rattle.interrupt_plan.specs.Plan.{Interrupt}
 use Rattle.rv_decode.specs.Memory.{blank, cell_at}
 use Rattle.rv_decode.specs.State.{IsCore, reg_in, start_regs}
 use Rattle.rv_decode.proofs.MemoryLaws.{get_or_blank}
 use Rattle.rv_decode.proofs.RegisterLaws.{reads}
 use Rattle.sym_machine.specs.declared.word.SymByte.{SymByte}
 use Rattle.sym_machine.specs.declared.word.SymByte.TheVariants.{Undef}
-use Rattle.sym_machine.specs.Program.{Program, data_end, first_memory}
+use Rattle.sym_machine.specs.Program.{Program, data_high, start_memory}
 use Rattle.sym_machine.specs.State.{first_plain, reg_of}
 use Rattle.sym_machine.specs.Words.{number_of, number_word, undef_word}
 use Rattle.zc_machine.specs.Load.{first_core}
 use Rattle.zc_machine.specs.Run.{first_state}
-use Rattle.zc_link.specs.Image.{Image, loaded, place_address}
+use Rattle.zc_link.specs.Image.{Image, loaded_core}
 use Rattle.zc_link.specs.Laid.{AtEntry, Begins, Laid}
-use Rattle.zc_link.specs.Pace.{Piece}
-use Rattle.zc_link.specs.Simulates.{Comes, lead_from, lead_of}
+use Rattle.zc_link.specs.Pace.{lead_from, lead_of, Stretch}
+use Rattle.zc_link.specs.IsSimulation.{Comes}
 use Rattle.zc_link.specs.Sound.{NamesWord, Sound}
 use Rattle.zc_link.specs.Stands.{WordStands}
 use Rattle.zc_link.specs.Values.{value_in}
@@ -44,9 +44,9 @@ start_reads R x0 sp other y0 sp' other' zeros stacks others (suc (suc (suc r))) 
         (cases_lt i n)
 
 -- nothing is known of the stack, which begins at or after data's end
-stack_unknown : (p : Program) → data_end p ≤ p.map.stack_low → (a : ℕ) → p.map.stack_low ≤ a → cell_at Undef (first_memory p) a ≡ Undef
+stack_unknown : (p : Program) → data_high p ≤ p.map.stack_low → (a : ℕ) → p.map.stack_low ≤ a → cell_at Undef (start_memory p) a ≡ Undef
 stack_unknown p under a low =
-    cond-false (leb p.map.data_low a && leb (a + 1) (data_end p)) _ _ (no_data (leb p.map.data_low a && leb (a + 1) (data_end p)) refl)
+    cond-false (leb p.map.data_low a && leb (a + 1) (data_high p)) _ _ (no_data (leb p.map.data_low a && leb (a + 1) (data_high p)) refl)
     ∙ cond_both (leb p.map.stack_low a && leb (a + 1) (p.map.stack_low + length stack)) (get_or stack (a - p.map.stack_low) Undef) Undef (λ c. c ≡ Undef)
     (λ _. get_or_blank (p.map.stack_high - p.map.stack_low) (a - p.map.stack_low) Undef)
     (λ _. refl)
@@ -54,25 +54,25 @@ stack_unknown p under a low =
     stack : List SymByte
     stack = blank (p.map.stack_high - p.map.stack_low) Undef
 
-    no_data : (b : Bool) → (leb p.map.data_low a && leb (a + 1) (data_end p)) ≡ b → b ≡ false
+    no_data : (b : Bool) → (leb p.map.data_low a && leb (a + 1) (data_high p)) ≡ b → b ≡ false
     no_data true h =
-        let high = leb-true (a + 1) (data_end p) (and_parts (leb p.map.data_low a) (leb (a + 1) (data_end p)) h).1 in
+        let high = leb-true (a + 1) (data_high p) (and_parts (leb p.map.data_low a) (leb (a + 1) (data_high p)) h).1 in
         absurd (omega (arith, high, under, low))
     no_data false h = refl
 
-module _ {p : Program} {Named : Place → Type 0} {e : Image} {piece : Place → Piece} (laid : Laid p Named e piece) where
-  at_entry : place_address e p.entry ≡ Some e.entry
+module _ {p : Program} {Named : Place → Type 0} {e : Image} {piece : Place → Stretch} (laid : Laid p Named e piece) where
+  at_entry : e.address p.entry ≡ Some e.entry
   at_entry = by_begins laid.begins
     where
-      by_begins : Begins p e → place_address e p.entry ≡ Some e.entry
+      by_begins : Begins p e → e.address p.entry ≡ Some e.entry
       by_begins (AtEntry h) = h
 
   high_same : p.map.stack_high ≡ e.map.stack_high
   high_same = ap (λ m. m.stack_high) (sym laid.room.map)
 
-  start_stands : (input : List ℕ) (r : ℕ) → WordStands (value_in p (place_address e)) (reg_of (first_plain p input) r) (reads 0 0 (start_regs 0 e.map.stack_high 0) r)
+  start_stands : (input : List ℕ) (r : ℕ) → WordStands (value_in p e.address) (reg_of (first_plain p input) r) (reads 0 0 (start_regs 0 e.map.stack_high 0) r)
   start_stands input r =
-      let V = value_in p (place_address e) in
+      let V = value_in p e.address in
       start_reads (WordStands V) (number_word 0) (number_word p.map.stack_high) undef_word 0 e.map.stack_high 0
       (number_stands V 0) (rw high_same (number_stands V e.map.stack_high)) (undef_stands V 0) r
 
@@ -81,7 +81,7 @@ module _ {p : Program} {Named : Place → Type 0} {e : Image} {piece : Place →
       start_reads {Y = ℕ} (λ w n. NamesWord Named w) (number_word 0) (number_word p.map.stack_high) undef_word 0 0 0
       (number_names Named 0) (number_names Named p.map.stack_high) (undef_names Named) r
 
-  start_core : IsCore (loaded e)
+  start_core : IsCore (loaded_core e)
   unfolding first_core
   start_core = record {
     count = refl;
@@ -89,11 +89,11 @@ module _ {p : Program} {Named : Place → Type 0} {e : Image} {piece : Place →
     bytes = laid.bytes;
   }
 
-  start_sp : (input : List ℕ) → number_of (reg_of (first_plain p input) 2) ≡ Some (reg_in (loaded e) 2)
+  start_sp : (input : List ℕ) → number_of (reg_of (first_plain p input) 2) ≡ Some (reg_in (loaded_core e) 2)
   unfolding first_core
-  start_sp input = ap Some (number_is (value_in p (place_address e)) (reg_of (first_plain p input) 2) (reg_in (loaded e) 2) _ (start_core.words 2) (start_stands input 2) refl)
+  start_sp input = ap Some (number_is (value_in p e.address) (reg_of (first_plain p input) 2) (reg_in (loaded_core e) 2) _ (start_core.words 2) (start_stands input 2) refl)
 
-  start_sound : (input : List ℕ) → All (λ b. b < 256) input → Sound p Named e (first_plain p input) (first_state (loaded e) input)
+  start_sound : (input : List ℕ) → All (λ b. b < 256) input → Sound p Named e (first_plain p input) (first_state (loaded_core e) input)
   unfolding first_core
   start_sound input bytes = record {
     alike = record {
@@ -124,8 +124,8 @@ module _ {p : Program} {Named : Place → Type 0} {e : Image} {piece : Place →
   no_lead = ap (λ o. lead_from o e.entry) at_entry ∙ cond-true (eqb e.entry e.entry) 0 3 (eq-eqb e.entry e.entry refl)
 
   pub starts :
-      (input : List ℕ) → All (λ b. b < 256) input → (cuts : ℕ → List Cut)
-      → Comes p Named e cuts (lead_of p e) (first_state (loaded e) input) (record { core = first_plain p input; events = [] })
+      (input : List ℕ) → All (λ b. b < 256) input → (cuts : ℕ → List Interrupt)
+      → Comes p Named e cuts (lead_of p e) (first_state (loaded_core e) input) (record { core = first_plain p input; events = [] })
   starts input bytes cuts =
-      subst (λ k. Comes p Named e cuts k (first_state (loaded e) input) (record { core = first_plain p input; events = [] })) (sym no_lead)
-      (record { after = first_state (loaded e) input; runs = refl; together = inl (start_sound input bytes); events = refl })
+      subst (λ k. Comes p Named e cuts k (first_state (loaded_core e) input) (record { core = first_plain p input; events = [] })) (sym no_lead)
+      (record { after = first_state (loaded_core e) input; runs = refl; together = inl (start_sound input bytes); events = refl })

@@ -12,7 +12,7 @@ use Rattle.zc_base.specs.declared.place.Place.{Place}
 use Rattle.elf32_read.specs.Parts.{SectionParts, is_code_section}
 use Rattle.psabi_sym.specs.Faults.{gather_fault}
 use Rattle.psabi_sym.specs.Inputs.{Inputs, ParsedInputs, parsed}
-use Rattle.psabi_sym.specs.Listed.{ListedSection, all_sections}
+use Rattle.psabi_sym.specs.Indexed.{IndexedSection, all_sections}
 use Rattle.psabi_sym.proofs.SectionNumbers.{listed_at}
 use Rattle.block_cut.specs.Items.{after_items, index_on, is_target_at, item_at, next_at, place_of, size_at, size_on, starts_from, starts_in, starts_on, targets_in, targets_of}
 use Rattle.block_cut.specs.Places.{IsPlaceNumber, code_place, code_places}
@@ -25,9 +25,9 @@ use Rattle.block_cut.proofs.StartLaws.{before_end_all, before_first_none, before
 use Rattle.block_cut.proofs.TakeLaws.{take_next}
 use Rattle.block_cut.proofs.TextLaws.{place_number}
 use Rattle.block_cut.proofs.WordLaws.{IsCodeHere, code_here, target_got}
-use Rattle.shrink_layout.specs.Numbers.{HasPlace}
+use Rattle.shrink_layout.specs.Invariants.Numbers.{HasPlace}
 use Rattle.shrink_layout.specs.Units.{CodeUnit, OneItem, unit_items}
-use Rattle.zc_link.specs.LaidOut.{IsLaidOut, end_after, section_end}
+use Rattle.zc_link.specs.LaidOut.{IsLaidOut, code_end_after, laid_section_end}
 use Rattle.zc_link.specs.Standing.{BeginsSection, IsReady, StandsHere, WrittenHere}
 use Rattle.zc_link.specs.TextLayout.{TextLayout, behind, front_end}
 use Rattle.zc_link.specs.Written.{IsSoFar, IsTextOf}
@@ -62,11 +62,11 @@ starts_few s = few (length s.bytes) 0
         by false le = omega arith
 
 -- the sections before the one with a number
-abbrev pub before : TextLayout → ℕ → List ListedSection
+abbrev pub before : TextLayout → ℕ → List IndexedSection
 before L k = take k (all_sections (parsed L.inputs).objects)
 
 -- after so many places of a section, at the next of them
-pub record Walks (L : TextLayout) (k : ℕ) (l : ListedSection) (i : ℕ) (text : List ℕ) (places : List (Place × ℕ)) : Type 0 where
+pub record Walks (L : TextLayout) (k : ℕ) (l : IndexedSection) (i : ℕ) (text : List ℕ) (places : List (Place × ℕ)) : Type 0 where
   pub offset : ℕ
   pub target : IsTarget l.section offset
   pub index : i ≡ index_on l.section offset
@@ -75,12 +75,12 @@ pub record Walks (L : TextLayout) (k : ℕ) (l : ListedSection) (i : ℕ) (text 
       IsSoFar L (flat_map targets_of (before L k) ++ map (place_of l) (starts_before l.section offset)) (L.inputs.map.text + length text) text places
 
 -- or after all of them
-pub data After (L : TextLayout) (k : ℕ) (l : ListedSection) (i : ℕ) (text : List ℕ) (places : List (Place × ℕ)) : Type 0 where
+pub data After (L : TextLayout) (k : ℕ) (l : IndexedSection) (i : ℕ) (text : List ℕ) (places : List (Place × ℕ)) : Type 0 where
   OnWay : Walks L k l i text places → After L k l i text places
   AtEnd : length (targets_in l.section) ≤ i → IsTextOf L (before L (k + 1)) text places → After L k l i text places
 
 module _
-    (L : TextLayout) (none : gather_fault L.inputs ≡ None) (ready : IsReady L.inputs) (laid : IsLaidOut L) (k : ℕ) (l : ListedSection)
+    (L : TextLayout) (none : gather_fault L.inputs ≡ None) (ready : IsReady L.inputs) (laid : IsLaidOut L) (k : ℕ) (l : IndexedSection)
     (at : slice_get (all_sections (parsed L.inputs).objects) k ≡ Some l) (code : is_code_section l.section ≡ true) where
   abbrev p : ParsedInputs
   p = parsed L.inputs
@@ -278,14 +278,14 @@ module _
             ∙ ap (λ ts. all ++ ts) (sym (map-append (place_of l) (starts_in s) (length s.bytes ∷ [])) ∙ sym own ∙ sym (append-nil (targets_of l)))
             ∙ sym (flat_map-append targets_of (before L k) (l ∷ []))
             ∙ ap (flat_map targets_of) (sym later) in
-            let old_end = end_after L (before L k) in
-            let ends : a ≡ end_after L (before L (k + 1)) =
+            let old_end = code_end_after L (before L k) in
+            let ends : a ≡ code_end_after L (before L (k + 1)) =
             sym (ap (λ o. unwrap_or o old_end) (ap L.address (sym end_is) ∙ walks.address))
             ∙ sym (ap (λ b. cond b (unwrap_or (L.address (place_of l (length s.bytes))) old_end) old_end) code)
-            ∙ sym (fold-append (section_end L) (front_end L) (before L k) (l ∷ []))
-            ∙ ap (end_after L) (sym later) in
+            ∙ sym (fold-append (laid_section_end L) (front_end L) (before L k) (l ∷ []))
+            ∙ ap (code_end_after L) (sym later) in
             AtEnd (omega (arith, walks.index, ap length those, length-append (starts_in s) (length s.bytes ∷ [])))
-            (subst (λ ts. IsSoFar L ts (end_after L (before L (k + 1))) text (places ++ (here, a) ∷ [])) targets
+            (subst (λ ts. IsSoFar L ts (code_end_after L (before L (k + 1))) text (places ++ (here, a) ∷ [])) targets
             (subst (λ e. IsSoFar L ((all ++ map (place_of l) (starts_before s walks.offset)) ++ here ∷ []) e text (places ++ (here, a) ∷ [])) ends grown))
 
   -- ---- a turn
@@ -333,21 +333,23 @@ module _
       turn_has = has_place (after walks.offset item here_is) (i + 1) (after_index walks.offset item here_is i walks.index) (after_target walks.offset item here_is)
 
       -- and its address ends the item
-      pub turn_next :
+      module _
           (next : ℕ)
-          → ((r : Place) → is_target_at p.objects r ≡ true → IsPlaceNumber p.objects r (record { section = k; index = i + 1 }) → Some next ≡ L.address r)
-          → next ≡ address + takes.size
-      turn_next next found =
-          let n = after walks.offset item here_is in
-          let target = after_target walks.offset item here_is in
-          let number = subst (λ m. IsPlaceNumber p.objects (place_of l n) (record { section = k; index = m })) (sym (after_index walks.offset item here_is i walks.index)) (number_there n target) in
-          let same : Some next ≡ Some (start + length text + takes.size) = found (place_of l n) (target_at n target) number ∙ takes.next in
-          let far : next ≡ start + length text + takes.size = cc in
-          far ∙ ap (λ x. x + takes.size) address_is
+          (found : (r : Place) → is_target_at p.objects r ≡ true → IsPlaceNumber p.objects r (record { section = k; index = i + 1 }) → Some next ≡ L.address r) where
+        next_far : next ≡ address + takes.size
+        next_far =
+            let n = after walks.offset item here_is in
+            let target = after_target walks.offset item here_is in
+            let number = subst (λ m. IsPlaceNumber p.objects (place_of l n) (record { section = k; index = m })) (sym (after_index walks.offset item here_is i walks.index)) (number_there n target) in
+            let same : Some next ≡ Some (start + length text + takes.size) = found (place_of l n) (target_at n target) number ∙ takes.next in
+            let far : next ≡ start + length text + takes.size = cc in
+            far ∙ ap (λ x. x + takes.size) address_is
 
-      module _ (next : ℕ) (next_is : next ≡ address + takes.size) where
+        pub turn_above : address ≤ next
+        turn_above = omega (arith, next_far)
+
         size_is : takes.size ≡ next - address
-        size_is = omega (arith, next_is)
+        size_is = omega (arith, next_far)
 
         pub turn_stands : StandsHere L code_bytes q item address (next - address)
         turn_stands =
@@ -370,14 +372,14 @@ module _
 -- ---- in the code
 
 -- there is a section with each number
-pub listed_there : (sections : List ListedSection) (k : ℕ) → k < length sections → (l : ListedSection) × (slice_get sections k ≡ Some l)
+pub listed_there : (sections : List IndexedSection) (k : ℕ) → k < length sections → (l : IndexedSection) × (slice_get sections k ≡ Some l)
 listed_there [] k lt = absurd (omega (arith, lt))
 listed_there (l ∷ sections) zero lt = (l, refl)
 listed_there (l ∷ sections) (suc k) lt = listed_there sections k (omega (arith, lt))
 
 -- the first place of a section of code
 module _
-    (L : TextLayout) (none : gather_fault L.inputs ≡ None) (ready : IsReady L.inputs) (laid : IsLaidOut L) (k : ℕ) (l : ListedSection)
+    (L : TextLayout) (none : gather_fault L.inputs ≡ None) (ready : IsReady L.inputs) (laid : IsLaidOut L) (k : ℕ) (l : IndexedSection)
     (at : slice_get (all_sections (parsed L.inputs).objects) k ≡ Some l) (code : is_code_section l.section ≡ true) where
   first_index : 0 ≡ index_on l.section 0
   first_index = sym (ap length (before_first_none l.section code (there L none ready laid k l at code).whole))
@@ -400,7 +402,7 @@ module _
 -- the place at hand, by the section and the places that were asked for
 pub record AtHand
     (L : TextLayout) (k i : ℕ) (text : List ℕ) (places : List (Place × ℕ)) (object index : ℕ) (bytes : List ℕ) (place : CodePlace) : Type 0 where
-  pub section : ListedSection
+  pub section : IndexedSection
   pub at : slice_get (all_sections (parsed L.inputs).objects) k ≡ Some section
   pub code : is_code_section section.section ≡ true
   pub walks : Walks L k section i text places
@@ -410,10 +412,10 @@ pub record AtHand
 
 pub at_hand :
     (L : TextLayout) (none : gather_fault L.inputs ≡ None) (ready : IsReady L.inputs) (laid : IsLaidOut L) (k i : ℕ) (text : List ℕ)
-    (places : List (Place × ℕ)) (own : List CodePlace) (m : ListedSection) (old_text : List ℕ) (old_places : List (Place × ℕ)) → BeginsSection L k old_text old_places
+    (places : List (Place × ℕ)) (own : List CodePlace) (m : IndexedSection) (old_text : List ℕ) (old_places : List (Place × ℕ)) → BeginsSection L k old_text old_places
     → (cut objects : Inputs) → cut ≡ L.inputs → objects ≡ cut → slice_get (all_sections (parsed objects).objects) k ≡ Some m
-    → ((l : ListedSection) → slice_get (all_sections (parsed cut).objects) k ≡ Some l → own ≡ code_places (parsed cut) l)
-    → ((l : ListedSection) → slice_get (all_sections (parsed L.inputs).objects) k ≡ Some l → is_code_section l.section ≡ true → After L k l i text places)
+    → ((l : IndexedSection) → slice_get (all_sections (parsed cut).objects) k ≡ Some l → own ≡ code_places (parsed cut) l)
+    → ((l : IndexedSection) → slice_get (all_sections (parsed L.inputs).objects) k ≡ Some l → is_code_section l.section ≡ true → After L k l i text places)
     → (place : CodePlace) → place ≡ get_or own i place → i < length own → AtHand L k i text places m.object m.index m.section.bytes place
 at_hand L none ready laid k i text places own m old_text old_places begins cut objects same_cut same_objects found are after place there lt =
     let l = begins.section in
@@ -431,6 +433,6 @@ at_hand L none ready laid k i text places own m old_text old_places begins cut o
       code = begins.code;
       walks = walks;
       place_is = here_is;
-      code_is = ap (λ (x : ListedSection). x.section.bytes) section;
+      code_is = ap (λ (x : IndexedSection). x.section.bytes) section;
       item_is = ap (λ (x : CodePlace). x.item) is ∙ ap (item_at (parsed L.inputs)) here_is;
     }

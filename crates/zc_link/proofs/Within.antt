@@ -7,7 +7,7 @@ use Rattle.std.proofs.lemmas.Bool.{ltb-false, or_left, or_parts, or_right}
 use Rattle.std.proofs.lemmas.List.{map-append}
 use Rattle.std.proofs.lemmas.List.Elements.{All-append, All-cons, All-head, All-nil, All-tail, filter-append}
 use Rattle.elf32_read.specs.Kept.{has_flags}
-use Rattle.elf32_read.specs.Parts.{ObjectParts, SectionParts, is_kept_section}
+use Rattle.elf32_read.specs.Parts.{ObjectParts, SectionParts, is_code_section, is_kept_section}
 use Rattle.elf32_read.specs.declared.reloc.Reloc.{Reloc}
 use Rattle.psabi_reloc.specs.Kinds.{field_length, kind_of}
 use Rattle.psabi_reloc.specs.declared.kind.RelocKind.{RelocKind}
@@ -16,7 +16,7 @@ use Rattle.psabi_sym.specs.Blocks.{aligned_up, end_from}
 use Rattle.psabi_sym.specs.Data.{address_in, blocks_in, blocks_of, class_end, class_start, data_address, data_file_end, has_class, is_of_class, role_address, role_of, section_block}
 use Rattle.psabi_sym.specs.Faults.{first_some}
 use Rattle.psabi_sym.specs.Inputs.{Inputs, ParsedInputs, parsed}
-use Rattle.psabi_sym.specs.Listed.{ListedSection, all_sections, section_at, sections_before}
+use Rattle.psabi_sym.specs.Indexed.{IndexedSection, all_sections, section_at, sections_before}
 use Rattle.psabi_sym.specs.declared.block.Block.{Block}
 use Rattle.psabi_sym.specs.declared.data_class.DataClass.{DataClass}
 use Rattle.psabi_sym.specs.declared.data_class.DataClass.TheVariants.{ReadOnly, Data, SmallData, SmallZero, Zero}
@@ -91,16 +91,16 @@ data IsFirst (class : DataClass) : Type 0 where
 
 content_class : (s : SectionParts) (class : DataClass) → eqb s.kind 8 ≡ false → role_of s ≡ InClass class → IsFirst class
 unfolding role_of
-content_class s class content is = by (not (is_kept_section s)) (has_flags 4 s.flags) (eqb s.kind 8) _ (not (has_flags 1 s.flags)) _ content is
+content_class s class content is = by (is_code_section s) (is_kept_section s) (eqb s.kind 8) _ (not (has_flags 1 s.flags)) _ content is
   where
-    by : (dropped code zeros small read_only own : Bool) → zeros ≡ false
-        → cond dropped Dropped (cond code Code (InClass (cond zeros (cond small SmallZero Zero) (cond read_only ReadOnly (cond own SmallData Data))))) ≡ InClass class → IsFirst class
-    by true code zeros small read_only own none is = absurd cc
-    by false true zeros small read_only own none is = absurd cc
-    by false false true small read_only own none is = absurd cc
-    by false false false small true own none is = First cc
-    by false false false small false true none is = Third cc
-    by false false false small false false none is = Second cc
+    by : (code kept zeros small read_only own : Bool) → zeros ≡ false
+        → cond code Code (cond kept (InClass (cond zeros (cond small SmallZero Zero) (cond read_only ReadOnly (cond own SmallData Data)))) Dropped) ≡ InClass class → IsFirst class
+    by true kept zeros small read_only own none is = absurd cc
+    by false false zeros small read_only own none is = absurd cc
+    by false true true small read_only own none is = absurd cc
+    by false true false small true own none is = First cc
+    by false true false small false true none is = Third cc
+    by false true false small false false none is = Second cc
 
 module _ (p : ParsedInputs) where
   -- so one that has content ends before the bytes that files hold do
@@ -170,7 +170,7 @@ module _ (inputs : Inputs) (none : first_fault inputs ≡ None) (P : DataWord �
       by true is = All-nil P
       by false is = placed is (data_address p1 o i) refl
 
-  flat_all : (ls : List ListedSection) → All (λ l. All P (words_in p1 l)) ls → All P (flat_map (words_in p1) ls)
+  flat_all : (ls : List IndexedSection) → All (λ l. All P (words_in p1 l)) ls → All P (flat_map (words_in p1) ls)
   flat_all [] all = All-nil P
   flat_all (l ∷ ls) all = All-append P (words_in p1 l) (flat_map (words_in p1) ls) (All-head (λ m. All P (words_in p1 m)) l ls all) (flat_all ls (All-tail (λ m. All P (words_in p1 m)) l ls all))
 
@@ -184,7 +184,7 @@ abbrev pub IsWithin : ParsedInputs → DataWord → Type 0
 IsWithin p w = (p.map.data_low ≤ w.at) × (w.at + 4 ≤ data_file_end p)
 
 -- a word's relocation changes four bytes of its section
-pub word_field : (p : ParsedInputs) (l : ListedSection) (r : Reloc) → is_word (kind_of r.kind) ≡ true → IsGood p l r → r.offset + 4 ≤ l.section.size
+pub word_field : (p : ParsedInputs) (l : IndexedSection) (r : Reloc) → is_word (kind_of r.kind) ≡ true → IsGood p l r → r.offset + 4 ≤ l.section.size
 word_field p l r word fine =
     let s = l.section in
     let k = word_kind (kind_of r.kind) word in

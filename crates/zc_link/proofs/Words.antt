@@ -1,6 +1,7 @@
 -- Words that stand for numbers: a number stands for itself alone, an undefined word for any; and a result of numbers or a sum that
 -- the symbolic machine has stands for the machine's, and names no other places.
-use Rattle.std.proofs.Common.{◌≡◌, ℕ, ◌+◌, ◌*◌, ◌^◌, ◌<◌, Option, Some, None, Bool, true, false, cond, refl, sym, subst, arith, ℤ, pos, negsuc}
+use Rattle.std.specs.Option.{option_map_or}
+use Rattle.std.proofs.Common.{eqb, ◌≡◌, ℕ, ◌+◌, ◌*◌, ◌^◌, ◌<◌, Option, Some, None, Bool, true, false, cond, refl, sym, subst, arith, ℤ, pos, negsuc}
 use Rattle.std.proofs.lemmas.Bool.{eqb-true}
 use Rattle.zc_base.specs.declared.place.Place.{Place}
 use Rattle.rv_decode.specs.Bits.{add32}
@@ -9,7 +10,7 @@ use Rattle.sym_machine.specs.declared.word.Value.{Value}
 use Rattle.sym_machine.specs.declared.word.SymByte.{SymByte}
 use Rattle.sym_machine.specs.declared.word.SymByte.TheVariants.{Num, Part, Undef}
 use Rattle.sym_machine.specs.declared.word.SymWord.{SymWord}
-use Rattle.sym_machine.specs.Words.{code_or, is_zero, number_of, number_of_bytes, number_word, numeric, numeric2, sum_word, undef_word}
+use Rattle.sym_machine.specs.Words.{code_or, number_of, number_of_bytes, number_word, numeric, sum_word, undef_word}
 use Rattle.zc_link.specs.Sound.{NamesWord}
 use Rattle.zc_link.specs.Stands.{ByteStands, WordStands}
 
@@ -58,7 +59,7 @@ module _ (V : Value → Option ℕ) where
 
   numeric2_stands :
       (o u : Option ℕ) (f : ℕ → ℕ → ℕ) (m n : ℕ) → ((k : ℕ) → o ≡ Some k → k ≡ m) → ((k : ℕ) → u ≡ Some k → k ≡ n)
-      → WordStands V (numeric2 o u f) (f m n)
+      → WordStands V (option_map_or (λ k. option_map_or (λ l. number_word (f k l)) u undef_word) o undef_word) (f m n)
   numeric2_stands None None f m n left right = undef_stands (f m n)
   numeric2_stands None (Some l) f m n left right = undef_stands (f m n)
   numeric2_stands (Some k) None f m n left right = undef_stands (f m n)
@@ -66,7 +67,7 @@ module _ (V : Value → Option ℕ) where
 
   pub number_results2 :
       (a b : SymWord) (f : ℕ → ℕ → ℕ) (m n : ℕ) → m < 2 ^ 32 → n < 2 ^ 32 → WordStands V a m → WordStands V b n
-      → WordStands V (numeric2 (number_of a) (number_of b) f) (f m n)
+      → WordStands V (option_map_or (λ k. option_map_or (λ l. number_word (f k l)) (number_of b) undef_word) (number_of a) undef_word) (f m n)
   number_results2 a b f m n small_m small_n ha hb =
       numeric2_stands (number_of a) (number_of b) f m n (λ k is. number_is a m k small_m ha is) (λ k is. number_is b n k small_n hb is)
 
@@ -78,16 +79,16 @@ module _ (V : Value → Option ℕ) where
 
   -- ---- sums with an immediate
 
-  sum_zero : (imm : ℤ) (n : ℕ) → n < 2 ^ 32 → is_zero imm ≡ true → add32 n imm ≡ n
-  sum_zero (pos k) n small is = let zero : k ≡ 0 = eqb-true k 0 is in omega arith
-  sum_zero (negsuc k) n small is = cc
-
   pub sum_stands : (w : SymWord) (imm : ℤ) (n : ℕ) → n < 2 ^ 32 → WordStands V w n → WordStands V (sum_word w imm) (add32 n imm)
-  sum_stands w imm n small h = either (is_zero imm) refl
+  sum_stands w (pos k) n small h = either (eqb k 0) refl
     where
-      either : (b : Bool) → is_zero imm ≡ b → WordStands V (cond b w (numeric (number_of w) (λ m. add32 m imm))) (add32 n imm)
-      either true zero = rw (sum_zero imm n small zero) h
-      either false other = number_results w (λ m. add32 m imm) n small h
+      either : (b : Bool) → eqb k 0 ≡ b → WordStands V (cond b w (numeric (number_of w) (λ m. add32 m (pos k)))) (add32 n (pos k))
+      either true is =
+          let zero : k ≡ 0 = eqb-true k 0 is in
+          let same : add32 n (pos k) ≡ n = omega arith in
+          rw same h
+      either false other = number_results w (λ m. add32 m (pos k)) n small h
+  sum_stands w (negsuc k) n small h = number_results w (λ m. add32 m (negsuc k)) n small h
 
 -- ---- the places that words name
 
@@ -102,7 +103,7 @@ module _ (Named : Place → Type 0) where
   numeric_names None f = undef_names
   numeric_names (Some n) f = number_names (f n)
 
-  pub numeric2_names : (o u : Option ℕ) (f : ℕ → ℕ → ℕ) → NamesWord Named (numeric2 o u f)
+  pub numeric2_names : (o u : Option ℕ) (f : ℕ → ℕ → ℕ) → NamesWord Named (option_map_or (λ k. option_map_or (λ l. number_word (f k l)) u undef_word) o undef_word)
   numeric2_names None None f = undef_names
   numeric2_names None (Some l) f = undef_names
   numeric2_names (Some k) None f = undef_names
@@ -114,8 +115,9 @@ module _ (Named : Place → Type 0) where
 
   -- a sum is a copy, or it names none
   pub sum_names : (w : SymWord) (imm : ℤ) → NamesWord Named w → NamesWord Named (sum_word w imm)
-  sum_names w imm names = either (is_zero imm)
+  sum_names w (pos k) names = either (eqb k 0)
     where
-      either : (b : Bool) → NamesWord Named (cond b w (numeric (number_of w) (λ n. add32 n imm)))
+      either : (b : Bool) → NamesWord Named (cond b w (numeric (number_of w) (λ n. add32 n (pos k))))
       either true = names
-      either false = numeric_names (number_of w) (λ n. add32 n imm)
+      either false = numeric_names (number_of w) (λ n. add32 n (pos k))
+  sum_names w (negsuc k) names = numeric_names (number_of w) (λ n. add32 n (negsuc k))

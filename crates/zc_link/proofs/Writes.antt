@@ -11,7 +11,7 @@ use Rattle.sym_machine.specs.declared.word.SymByte.{SymByte}
 use Rattle.sym_machine.specs.declared.word.SymByte.TheVariants.{Undef}
 use Rattle.sym_machine.specs.Program.{Program}
 use Rattle.sym_machine.specs.State.{PlainCore, cell_of}
-use Rattle.zc_link.specs.Image.{Image, loaded, place_address}
+use Rattle.zc_link.specs.Image.{Image, loaded_core}
 use Rattle.zc_link.specs.Room.{Room, SpansMemory}
 use Rattle.zc_link.specs.Sound.{NamesByte, Ready}
 use Rattle.zc_link.specs.Stands.{ByteStands, IsMemory}
@@ -20,10 +20,10 @@ use Rattle.zc_link.specs.Values.{value_in}
 -- what a change makes of a byte of the program's, and of the machine's
 pub record Agrees (p : Program) (Named : Place → Type 0) (e : Image) (fs : ℕ → SymByte → SymByte) (fz : ℕ → ℕ → ℕ) : Type 0 where
   -- bytes that stand for each other do so again
-  pub stands : (x : ℕ) (c : SymByte) (v : ℕ) → IsMemory p x → ByteStands (value_in p (place_address e)) c v → ByteStands (value_in p (place_address e)) (fs x c) (fz x v)
+  pub stands : (x : ℕ) (c : SymByte) (v : ℕ) → IsMemory p x → ByteStands (value_in p e.address) c v → ByteStands (value_in p e.address) (fs x c) (fz x v)
   pub names : (x : ℕ) (c : SymByte) → NamesByte Named c → NamesByte Named (fs x c)
   -- text stays, and bytes stay bytes
-  pub text : (x v : ℕ) → lies_in is_text (extents_of (loaded e).memory) x 1 ≡ true → fz x v ≡ v
+  pub text : (x v : ℕ) → lies_in is_text (extents_of (loaded_core e).memory) x 1 ≡ true → fz x v ≡ v
   pub small : (x v : ℕ) → v < 256 → fz x v < 256
 
 module _ {p : Program} {e : Image} (room : Room p e) where
@@ -58,25 +58,25 @@ module _ {p : Program} {e : Image} (room : Room p e) where
           rw (cell-uncovered (changed fs s.memory) x Undef gone) undefined)
           (cases_Bool (is_covered (extents_of s.memory) x))
 
-      memory : (x : ℕ) → IsMemory p x → ByteStands (value_in p (place_address e)) (cell_at Undef (changed fs s.memory) x) (cell_at 0 (changed fz z.memory) x)
+      memory : (x : ℕ) → IsMemory p x → ByteStands (value_in p e.address) (cell_at Undef (changed fs s.memory) x) (cell_at 0 (changed fz z.memory) x)
       memory x m =
           let one : SpansMemory p x 1 = ⊎_elim (λ d. inl (d.0, omega (arith, d.1))) (λ k. inr (k.0, omega (arith, k.1))) m in
-          let here : is_covered (extents_of z.memory) x ≡ true = ap (λ es. is_covered es x) ready.extents ∙ lies_covered is_data (extents_of (loaded e).memory) x (room.reaches x 1 (omega arith) one) in
+          let here : is_covered (extents_of z.memory) x ≡ true = ap (λ es. is_covered es x) ready.extents ∙ lies_covered is_data (extents_of (loaded_core e).memory) x (room.reaches x 1 (omega arith) one) in
           rw (cell-changed fz z.memory x 0 here)
-          (cell (λ c. ByteStands (value_in p (place_address e)) c (fz x (byte_in z x))) x (agrees.stands x (cell_of s x) (byte_in z x) m (ready.memory x m)) tt)
+          (cell (λ c. ByteStands (value_in p e.address) c (fz x (byte_in z x))) x (agrees.stands x (cell_of s x) (byte_in z x) m (ready.memory x m)) tt)
 
       named : (x : ℕ) → IsMemory p x → NamesByte Named (cell_at Undef (changed fs s.memory) x)
       named x m = cell (NamesByte Named) x (agrees.names x (cell_of s x) (ready.names.memory x m)) tt
 
-      text : (x : ℕ) → lies_in is_text (extents_of (loaded e).memory) x 1 ≡ true → cell_at 0 (changed fz z.memory) x ≡ byte_in (loaded e) x
+      text : (x : ℕ) → lies_in is_text (extents_of (loaded_core e).memory) x 1 ≡ true → cell_at 0 (changed fz z.memory) x ≡ byte_in (loaded_core e) x
       text x t =
-          let yes : is_covered (extents_of z.memory) x ≡ true = ap (λ es. is_covered es x) ready.extents ∙ lies_covered is_text (extents_of (loaded e).memory) x t in
+          let yes : is_covered (extents_of z.memory) x ≡ true = ap (λ es. is_covered es x) ready.extents ∙ lies_covered is_text (extents_of (loaded_core e).memory) x t in
           cell-changed fz z.memory x 0 yes ∙ agrees.text x (byte_in z x) t ∙ ready.text x t
 
   -- n bytes from an address of memory on are written, and the given ones stand for each other
   pub written_agrees :
       {Named : Place → Type 0} (a n : ℕ) (f : ℕ → SymByte) (g : ℕ → ℕ) → SpansMemory p a n
-      → ((i : ℕ) → i < n → ByteStands (value_in p (place_address e)) (f i) (g i)) → ((i : ℕ) → i < n → NamesByte Named (f i)) → ((i : ℕ) → i < n → g i < 256)
+      → ((i : ℕ) → i < n → ByteStands (value_in p e.address) (f i) (g i)) → ((i : ℕ) → i < n → NamesByte Named (f i)) → ((i : ℕ) → i < n → g i < 256)
       → Agrees p Named e (written a n f) (written a n g)
   written_agrees {Named} a n f g spans stands names small = record {
     stands = λ x c v m st. by_stands x c v st;
@@ -88,19 +88,19 @@ module _ {p : Program} {e : Image} (room : Room p e) where
       index : (x : ℕ) → (leb a x && ltb x (a + n)) ≡ true → x - a < n
       index x t = let q = and_parts (leb a x) (ltb x (a + n)) t in omega (arith, leb-true a x q.0, ltb-true x (a + n) q.1)
 
-      by_stands : (x : ℕ) (c : SymByte) (v : ℕ) → ByteStands (value_in p (place_address e)) c v → ByteStands (value_in p (place_address e)) (written a n f x c) (written a n g x v)
+      by_stands : (x : ℕ) (c : SymByte) (v : ℕ) → ByteStands (value_in p e.address) c v → ByteStands (value_in p e.address) (written a n f x c) (written a n g x v)
       by_stands x c v st = either (leb a x && ltb x (a + n)) refl
         where
-          either : (b : Bool) → (leb a x && ltb x (a + n)) ≡ b → ByteStands (value_in p (place_address e)) (cond b (f (x - a)) c) (cond b (g (x - a)) v)
+          either : (b : Bool) → (leb a x && ltb x (a + n)) ≡ b → ByteStands (value_in p e.address) (cond b (f (x - a)) c) (cond b (g (x - a)) v)
           either true t = stands (x - a) (index x t)
           either false t = st
 
       -- memory lies apart from text
-      no_text : (x : ℕ) → lies_in is_text (extents_of (loaded e).memory) x 1 ≡ true → (leb a x && ltb x (a + n)) ≡ true → ⊥
+      no_text : (x : ℕ) → lies_in is_text (extents_of (loaded_core e).memory) x 1 ≡ true → (leb a x && ltb x (a + n)) ≡ true → ⊥
       no_text x text t =
           let q = and_parts (leb a x) (ltb x (a + n)) t in
           let low = leb-true a x q.0 in
           let high = ltb-true x (a + n) q.1 in
           let none = room.apart x text in
-          let all = lies_inside is_data (extents_of (loaded e).memory) a n x 1 (room.reaches a n (omega (arith, low, high)) spans) low (omega (arith, high)) in
+          let all = lies_inside is_data (extents_of (loaded_core e).memory) a n x 1 (room.reaches a n (omega (arith, low, high)) spans) low (omega (arith, high)) in
           cc

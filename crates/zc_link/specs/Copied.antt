@@ -3,13 +3,13 @@ use Rattle.std.specs.Prelude.{◌≡◌, ℕ, ◌-◌, List, [], ◌∷◌, drop
 use Rattle.zc_base.specs.Fields.{word_bytes}
 use Rattle.zc_base.specs.declared.place.Place.{Place}
 use Rattle.elf32_read.specs.Parts.{SectionParts}
-use Rattle.elf32_read.specs.Places.{places_of}
+use Rattle.elf32_read.specs.Places.{place_list}
 use Rattle.elf32_read.specs.Segments.{SegmentData, segments_of}
 use Rattle.psabi_sym.specs.Inputs.{ParsedInputs}
 use Rattle.block_cut.specs.Items.{code_at, item_at}
 use Rattle.block_cut.specs.declared.item.Item.{Item}
 use Rattle.block_cut.specs.declared.item.Item.TheVariants.{Op, Hi, Lo, PcHi, PcLo, Branch, Jump, Call, Align, Word, Raw, RawPair}
-use Rattle.zc_link.specs.Places.{address_in}
+use Rattle.zc_link.specs.Places.{listed_address}
 use Rattle.zc_link.specs.Values.{target_value}
 
 -- n bytes from an offset on
@@ -37,5 +37,5 @@ pub record Copied (inputs : ParsedInputs) (elf : List ℕ) : Type 0 where
   pub text : SegmentData
   pub alone : filter (λ s. s.code) (segments_of elf) ≡ text ∷ []
   pub each :
-      (q : Place) (a : ℕ) (s : SectionParts) (item : Item) → address_in (places_of elf) q ≡ Some a → code_at inputs.objects q ≡ Some s → item_at inputs q ≡ Some item
-      → ItemCopied (address_in (places_of elf)) (bytes_from s.bytes q.offset) (bytes_from text.bytes (a - text.at)) item
+      (q : Place) (a : ℕ) (s : SectionParts) (item : Item) → listed_address (place_list elf) q ≡ Some a → code_at inputs.objects q ≡ Some s → item_at inputs q ≡ Some item
+      → ItemCopied (listed_address (place_list elf)) (bytes_from s.bytes q.offset) (bytes_from text.bytes (a - text.at)) item

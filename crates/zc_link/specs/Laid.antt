@@ -1,15 +1,15 @@
--- What a layout must satisfy: each listed place starts a piece that is laid, and the image's memory begins as the program's does.
+-- What a layout must satisfy: each listed place starts a stretch that is laid, and the image's memory begins as the program's does.
 use Rattle.std.specs.Prelude.{◌≡◌, ℕ, ◌*◌, ◌<◌, ◌≤◌, Some}
 use Rattle.zc_base.specs.declared.place.Place.{Place}
 use Rattle.rv_decode.specs.Memory.{cell_at}
 use Rattle.rv_decode.specs.State.{byte_in}
 use Rattle.sym_machine.specs.declared.word.SymByte.TheVariants.{Undef}
-use Rattle.sym_machine.specs.Program.{Program, first_memory}
+use Rattle.sym_machine.specs.Program.{Program, start_memory}
 use Rattle.sym_machine.specs.State.{PlainCore}
-use Rattle.zc_link.specs.Image.{Image, loaded, place_address}
+use Rattle.zc_link.specs.Image.{Image, loaded_core}
 use Rattle.zc_link.specs.Leads.{Leads}
-use Rattle.zc_link.specs.Pace.{Piece, commits_of, span_of}
-use Rattle.zc_link.specs.Pieces.{PieceLaid}
+use Rattle.zc_link.specs.Pace.{Stretch, commits_of, span_of}
+use Rattle.zc_link.specs.Stretches.{StretchLaid}
 use Rattle.zc_link.specs.Room.{Room}
 use Rattle.zc_link.specs.Sound.{NamesByte}
 use Rattle.zc_link.specs.Stands.{ByteStands, IsMemory}
@@ -17,18 +17,18 @@ use Rattle.zc_link.specs.Values.{value_in}
 
 -- where the image starts: at the program's start, so far
 pub data Begins (p : Program) (e : Image) : Type 0 where
-  AtEntry : place_address e p.entry ≡ Some e.entry → Begins p e
+  AtEntry : e.address p.entry ≡ Some e.entry → Begins p e
 
--- if this holds of a program, an image, and what starts at each place, the image does the program's steps at the pace of these pieces
-pub record Laid (p : Program) (Named : Place → Type 0) (e : Image) (piece : Place → Piece) : Type 0 where
+-- if this holds of a program, an image, and what starts at each place, the image does the program's steps at the pace of these stretches
+pub record Laid (p : Program) (Named : Place → Type 0) (e : Image) (stretch : Place → Stretch) : Type 0 where
   pub room : Room p e
   pub leads : Leads p Named
   pub begins : Begins p e
-  pub few : (s : PlainCore) → commits_of p s (piece s.place) ≤ 64 * span_of (piece s.place)
-  -- each listed place's piece is laid at its address
-  pub each : (q : Place) (a : ℕ) → place_address e q ≡ Some a → PieceLaid p e q a (piece q)
+  pub few : (s : PlainCore) → commits_of p s (stretch s.place) ≤ 64 * span_of (stretch s.place)
+  -- each listed place's stretch is laid at its address
+  pub each : (q : Place) (a : ℕ) → e.address q ≡ Some a → StretchLaid p e q a (stretch q)
   -- memory begins with bytes that stand for the image's, and name what a program may name
   pub first :
-      (a : ℕ) → IsMemory p a → ByteStands (value_in p (place_address e)) (cell_at Undef (first_memory p) a) (byte_in (loaded e) a)
-  pub names : (a : ℕ) → IsMemory p a → NamesByte Named (cell_at Undef (first_memory p) a)
-  pub bytes : (a : ℕ) → byte_in (loaded e) a < 256
+      (a : ℕ) → IsMemory p a → ByteStands (value_in p e.address) (cell_at Undef (start_memory p) a) (byte_in (loaded_core e) a)
+  pub names : (a : ℕ) → IsMemory p a → NamesByte Named (cell_at Undef (start_memory p) a)
+  pub bytes : (a : ℕ) → byte_in (loaded_core e) a < 256

@@ -8,11 +8,11 @@ use Rattle.psabi_reloc.specs.Reaches.{branch_reach, jal_reach}
 use Rattle.psabi_sym.specs.Blocks.{aligned_up}
 use Rattle.psabi_sym.specs.Faults.{power_above}
 use Rattle.psabi_sym.specs.Inputs.{ParsedInputs, parsed}
-use Rattle.psabi_sym.specs.Listed.{ListedSection, all_sections, section_at, sections_before}
+use Rattle.psabi_sym.specs.Indexed.{IndexedSection, all_sections, section_at, sections_before}
 use Rattle.rv_decode.specs.declared.instr.Instr.{Instr}
 use Rattle.rv_decode.specs.declared.instr.Instr.TheVariants as instr
 use Rattle.rv_decode.specs.Bits.{as_signed}
-use Rattle.block_cut.specs.Cut.{place_at}
+use Rattle.block_cut.specs.Invariants.Cut.{place_at}
 use Rattle.block_cut.specs.Items.{entry_of, is_start_at, is_target_at, item_at, place_of}
 use Rattle.block_cut.specs.declared.item.Item.{Item}
 use Rattle.block_cut.specs.declared.item.Item.TheVariants.{Op, Hi, Lo, PcHi, PcLo, Branch, Jump, Call, Align, Word, Raw, RawPair}
@@ -80,16 +80,16 @@ pub record LiesAt (L : TextLayout) (q : Place) (a : ℕ) (u : CodeUnit) : Type 0
   pub form : UnitForm L.address a size u
 
 -- where the code of a section ends, or what stands before it if it isn't code
-abbrev pub section_end : TextLayout → ℕ → ListedSection → ℕ
-section_end L end l = if is_code_section l.section then unwrap_or (L.address (place_of l (length l.section.bytes))) end else end
+abbrev pub laid_section_end : TextLayout → ℕ → IndexedSection → ℕ
+laid_section_end L end l = if is_code_section l.section then unwrap_or (L.address (place_of l (length l.section.bytes))) end else end
 
 -- where the code of sections ends, which stand one after another behind what stands in front
-abbrev pub end_after : TextLayout → List ListedSection → ℕ
-end_after L sections = fold (section_end L) (front_end L) sections
+abbrev pub code_end_after : TextLayout → List IndexedSection → ℕ
+code_end_after L sections = fold (laid_section_end L) (front_end L) sections
 
 -- where all code ends
 abbrev pub text_end : TextLayout → ℕ
-text_end L = end_after L (all_sections (parsed L.inputs).objects)
+text_end L = code_end_after L (all_sections (parsed L.inputs).objects)
 
 -- what a link needs of a layout
 pub record IsLaidOut (L : TextLayout) : Type 0 where
@@ -110,7 +110,7 @@ pub record IsLaidOut (L : TextLayout) : Type 0 where
   -- a section begins no earlier than those before it end
   pub begins :
       (o i : ℕ) (s : SectionParts) → section_at (parsed L.inputs).objects o i ≡ Some s → is_code_section s ≡ true
-      → end_after L (sections_before (parsed L.inputs).objects o i) ≤ unwrap_or (L.address (place_at o i 0)) 0
+      → code_end_after L (sections_before (parsed L.inputs).objects o i) ≤ unwrap_or (L.address (place_at o i 0)) 0
   -- of two items with room of their own the addresses differ
   pub distinct :
       (q r : Place) (a : ℕ) → is_solid (item_at (parsed L.inputs) q) ≡ true → is_solid (item_at (parsed L.inputs) r) ≡ true

@@ -5,11 +5,12 @@ pub mod Stands
 pub mod Sound
 pub mod Pace
 pub mod TextLayout
-pub mod Simulates
+pub mod DataApart
+pub mod IsSimulation
 pub mod Preserves
 pub mod Leads
 pub mod Room
-pub mod Pieces
+pub mod Stretches
 pub mod Laid
 pub mod Copied
 pub mod ImageParts

@@ -2,7 +2,7 @@
 use Rattle.std.specs.Prelude.{◌≡◌, ℕ, ◌+◌, IsTrue, List, [], ◌∷◌, filter, All, Some}
 use Rattle.zc_base.specs.declared.counts.Counts.{Counts}
 use Rattle.zc_base.specs.declared.mem_map.MemMap.{MemMap}
-use Rattle.elf32_read.specs.Places.{places_of}
+use Rattle.elf32_read.specs.Places.{place_list}
 use Rattle.elf32_read.specs.Segments.{SegmentData, segments_of}
 use Rattle.elf32_write.specs.Image.{image_bytes}
 use Rattle.psabi_sym.specs.Inputs.{Inputs, parsed}
@@ -17,10 +17,10 @@ use Rattle.zc_link.specs.Image.{Image, image_in}
 use Rattle.zc_link.specs.ImageParts.{listed_places, parts_of}
 use Rattle.zc_link.specs.Pace.{pace_of}
 use Rattle.zc_link.specs.Preserves.{Preserves, PreservesQuietly}
-use Rattle.zc_link.specs.Simulates.{IsSimulation}
+use Rattle.zc_link.specs.IsSimulation.{IsSimulation}
 use Rattle.zc_link.specs.Sound.{IsNamed}
-use Rattle.zc_link.specs.TextLayout.{TextLayout, piece_in, plain_layout, zc_layout}
-use Rattle.zc_link.specs.Written.{GapsAreZero, Holds, HoldsFront}
+use Rattle.zc_link.specs.TextLayout.{TextLayout, plain_layout, stretch_in, zc_layout}
+use Rattle.zc_link.specs.Written.{GapsAreZero, HoldsFront, HoldsPlace}
 
 -- what a link gives: the file of the image, and what the plain layout and the image count
 pub record Link : Type 0 where
@@ -43,7 +43,7 @@ pub record HasParts (L : TextLayout) (flags : ℕ) (elf : List ℕ) : Type 0 whe
   pub text : List ℕ
   pub bytes : elf ≡ image_bytes (parts_of L flags text)
   pub front : HoldsFront L text
-  pub holds : All (Holds L text) (listed_places L)
+  pub holds : All (HoldsPlace L text) (listed_places L)
   pub gaps : GapsAreZero L text
 
 -- the file is an image without a fault that does the steps of the objects' program at the pace of a layout
@@ -52,7 +52,7 @@ pub record Simulates (L : TextLayout) (elf : List ℕ) : Type 0 where
   pub read : image_in elf L.inputs.map ≡ Some image
   pub simulates :
       IsSimulation (program_of (parsed L.inputs)) (IsNamed (parsed L.inputs)) image
-      (pace_of (program_of (parsed L.inputs)) (piece_in L))
+      (pace_of (program_of (parsed L.inputs)) (stretch_in L))
 
 -- an image of the inputs in a layout, whose text ends at an address: it has the parts laid out for the objects; it does what the
 -- objects' program does, under every plan of interrupts and without one, step by step; what it copies is the objects'; it lists the
@@ -63,7 +63,7 @@ pub record IsImageOf (L : TextLayout) (flags end : ℕ) (elf : List ℕ) : Type 
   pub quietly : PreservesQuietly L.inputs elf
   pub simulates : Simulates L elf
   pub copied : Copied (parsed L.inputs) elf
-  pub places : places_of elf ≡ listed_places L
+  pub places : place_list elf ≡ listed_places L
   pub text_end : TextEndsAt L.inputs.map elf end
 
 -- ---- links

@@ -7,23 +7,24 @@ use Rattle.shrink_layout.specs.Units.{CodeUnit, OneItem}
 use Rattle.sym_machine.specs.Conditions.{condition}
 use Rattle.sym_machine.specs.Program.{Program}
 use Rattle.sym_machine.specs.State.{PlainCore, reg_of}
+use Rattle.zc_link.specs.Image.{Image}
 
 -- a number of steps by the place, and a number of commits by the program's state
 pub record Pace : Type 0 where
   pub span : Place → ℕ
   pub weight : PlainCore → ℕ
 
--- ---- pieces
+-- ---- stretches
 
 -- what starts at a place: an item that is one instruction; an ALIGN of so many; a call of two; or a branch of two
-pub data Piece : Type 0 where
-  Alone : Piece
-  AlignOf : (count : ℕ) → Piece
-  CallOf : Piece
-  LongOf : (op : BranchOp) → (first second : ℕ) → Piece
+pub data Stretch : Type 0 where
+  Alone : Stretch
+  AlignOf : (count : ℕ) → Stretch
+  CallOf : Stretch
+  LongOf : (op : BranchOp) → (first second : ℕ) → Stretch
 
 -- its number of items
-abbrev pub span_of : Piece → ℕ
+abbrev pub span_of : Stretch → ℕ
 span_of Alone = 1
 span_of (AlignOf count) = 1
 span_of CallOf = 1
@@ -36,17 +37,17 @@ long_commits (Some false) = 1
 long_commits (Some true) = 2
 
 -- its number of commits, by the program's state
-abbrev pub commits_of : Program → PlainCore → Piece → ℕ
+abbrev pub commits_of : Program → PlainCore → Stretch → ℕ
 commits_of p s Alone = 1
 commits_of p s (AlignOf count) = count
 commits_of p s CallOf = 2
 commits_of p s (LongOf op first second) = long_commits (condition p op (reg_of s first) (reg_of s second))
 
--- the pace of an image in which these pieces start at places
-abbrev pub pace_of : Program → (Place → Piece) → Pace
-pace_of p piece = record { span = λ q. span_of (piece q); weight = λ s. commits_of p s (piece s.place) }
+-- the pace of an image in which these stretches start at places
+abbrev pub pace_of : Program → (Place → Stretch) → Pace
+pace_of p stretch = record { span = λ q. span_of (stretch q); weight = λ s. commits_of p s (stretch s.place) }
 
--- ---- pieces of a layout
+-- ---- stretches of a layout
 
 -- the bytes between two addresses
 abbrev pub bytes_between : Option ℕ → Option ℕ → ℕ
@@ -59,8 +60,18 @@ abbrev pub padding_commits : ℕ → ℕ
 padding_commits n = n / 4 + n % 4 / 2
 
 -- what is written in n bytes
-abbrev pub piece_of : ℕ → Option CodeUnit → Piece
-piece_of n (Some (OneItem (Branch op first second to))) = if n == 8 then LongOf op first second else Alone
-piece_of n (Some (OneItem (Call rd temp to))) = if n == 8 then CallOf else Alone
-piece_of n (Some (OneItem (Align bytes))) = AlignOf (padding_commits n)
-piece_of n _ = Alone
+abbrev pub stretch_of : ℕ → Option CodeUnit → Stretch
+stretch_of n (Some (OneItem (Branch op first second to))) = if n == 8 then LongOf op first second else Alone
+stretch_of n (Some (OneItem (Call rd temp to))) = if n == 8 then CallOf else Alone
+stretch_of n (Some (OneItem (Align bytes))) = AlignOf (padding_commits n)
+stretch_of n _ = Alone
+
+-- ---- the start
+
+-- the commits before the program's start: none if the image starts there, or else three, of the stub that sets jvt
+abbrev pub lead_from : Option ℕ → ℕ → ℕ
+lead_from None entry = 3
+lead_from (Some start) entry = if start == entry then 0 else 3
+
+abbrev pub lead_of : Program → Image → ℕ
+lead_of p e = lead_from (e.address p.entry) e.entry

@@ -5,24 +5,25 @@ use Rattle.rv_decode.specs.State.{ZcState}
 use Rattle.psabi_sym.specs.Inputs.{Inputs, parsed}
 use Rattle.sym_machine.specs.Program.{Program}
 use Rattle.sym_machine.specs.State.{PlainState}
-use Rattle.sym_machine.specs.Run.{plain}
+use Rattle.sym_machine.specs.Run.{program_after}
 use Rattle.sym_machine.specs.Objects.{program_of}
-use Rattle.zc_link.specs.Image.{Image, image_in, place_address, zc}
+use Rattle.zc_machine.specs.Run.{zc_after}
+use Rattle.zc_link.specs.Image.{Image, image_in, loaded_core}
 use Rattle.zc_link.specs.Stands.{Stands}
 
 -- the same environment calls so far; and if the place is listed, or the program has exited, each register and each byte of
 -- data and stack is what the program has there, unless that is undefined
 pub record Follows (p : Program) (e : Image) (s : PlainState) (z : ZcState) : Type 0 where
   pub events : z.events ≡ s.events
-  pub stands : IsSome (place_address e s.core.place) ⊎ IsSome s.core.exit → Stands p (place_address e) s.core z
+  pub stands : IsSome (e.address s.core.place) ⊎ IsSome s.core.exit → Stands p e.address s.core z
 
 -- for each input, and for each number n of steps that the program makes without getting stuck, there is a number of
 -- commits, the same for all these plans, after which the image follows the program
 abbrev pub FollowsUnder : (List Entry → Type 0) → Program → Image → Type 0
 FollowsUnder Allowed p e =
-    (input : List ℕ) (n : ℕ) (s : PlainState) → All (λ b. b < 256) input → plain p input n ≡ Ok s →
+    (input : List ℕ) (n : ℕ) (s : PlainState) → All (λ b. b < 256) input → program_after p input n ≡ Ok s →
     (m : ℕ) × (m ≤ 64 * n + 3)
-    × ((plan : List Entry) → Allowed plan → (z : ZcState) × (zc e input plan m ≡ Ok z) × Follows p e s z)
+    × ((plan : List Entry) → Allowed plan → (z : ZcState) × (zc_after (loaded_core e) input plan m ≡ Ok z) × Follows p e s z)
 
 -- a plan without interrupts
 abbrev pub IsQuiet : List Entry → Type 0

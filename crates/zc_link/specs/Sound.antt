@@ -11,10 +11,10 @@ use Rattle.sym_machine.specs.declared.word.SymByte.{SymByte}
 use Rattle.sym_machine.specs.declared.word.SymByte.TheVariants.{Num, Part, Undef}
 use Rattle.sym_machine.specs.declared.word.SymWord.{SymWord}
 use Rattle.sym_machine.specs.declared.word.Value.TheVariants.{Code, AbsHi, PcHi}
-use Rattle.sym_machine.specs.Program.{Program, first_memory}
+use Rattle.sym_machine.specs.Program.{Program, start_memory}
 use Rattle.sym_machine.specs.State.{IsPlainState, PlainCore, cell_of, reg_of}
 use Rattle.sym_machine.specs.Words.{number_of}
-use Rattle.zc_link.specs.Image.{Image, loaded, place_address}
+use Rattle.zc_link.specs.Image.{Image, loaded_core}
 use Rattle.zc_link.specs.Stands.{ByteStands, IsMemory, Stands, WordStands}
 use Rattle.zc_link.specs.Values.{value_in}
 
@@ -37,7 +37,7 @@ abbrev pub NamesWord : (Place → Type 0) → SymWord → Type 0
 NamesWord Named w = NamesByte Named w.b0 × NamesByte Named w.b1 × NamesByte Named w.b2 × NamesByte Named w.b3
 
 -- and of all registers and all memory
-pub record Names (p : Program) (Named : Place → Type 0) (s : PlainCore) : Type 0 where
+pub record NamesPlaces (p : Program) (Named : Place → Type 0) (s : PlainCore) : Type 0 where
   pub registers : (r : ℕ) → r < 32 → NamesWord Named (reg_of s r)
   pub memory : (a : ℕ) → IsMemory p a → NamesByte Named (cell_of s a)
 
@@ -51,13 +51,13 @@ pub record Ready (p : Program) (Named : Place → Type 0) (e : Image) (s : Plain
   pub going : z.exit ≡ None
   pub plain : IsPlainState s
   pub core : IsCore z
-  pub registers : (r : ℕ) → r < 32 → WordStands (value_in p (place_address e)) (reg_of s r) (reg_in z r)
-  pub memory : (a : ℕ) → IsMemory p a → ByteStands (value_in p (place_address e)) (cell_of s a) (byte_in z a)
-  pub names : Names p Named s
-  pub lies : extents_of s.memory ≡ extents_of (first_memory p)
-  pub extents : extents_of z.memory ≡ extents_of (loaded e).memory
-  pub text : (a : ℕ) → lies_in is_text (extents_of (loaded e).memory) a 1 ≡ true → byte_in z a ≡ byte_in (loaded e) a
-  pub table : (place_address e p.entry ≡ Some e.entry → ⊥) → z.jvt ≡ e.map.text
+  pub registers : (r : ℕ) → r < 32 → WordStands (value_in p e.address) (reg_of s r) (reg_in z r)
+  pub memory : (a : ℕ) → IsMemory p a → ByteStands (value_in p e.address) (cell_of s a) (byte_in z a)
+  pub names : NamesPlaces p Named s
+  pub lies : extents_of s.memory ≡ extents_of (start_memory p)
+  pub extents : extents_of z.memory ≡ extents_of (loaded_core e).memory
+  pub text : (a : ℕ) → lies_in is_text (extents_of (loaded_core e).memory) a 1 ≡ true → byte_in z a ≡ byte_in (loaded_core e) a
+  pub table : (e.address p.entry ≡ Some e.entry → ⊥) → z.jvt ≡ e.map.text
 
 -- and the program's sp is a number, the machine's, within the stack; and the bytes of the stack below it are undefined to the
 -- program
@@ -73,14 +73,14 @@ pub record Alike (p : Program) (Named : Place → Type 0) (e : Image) (s : Plain
 pub record Sound (p : Program) (Named : Place → Type 0) (e : Image) (s : PlainCore) (z : ZcState) : Type 0 where
   pub alike : Alike p Named e s z.core
   pub input : s.input ≡ z.input
-  pub place : place_address e s.place ≡ Some z.core.pc
+  pub place : e.address s.place ≡ Some z.core.pc
 
 -- both have exited with the same status, and the program's state stands for the machine's
 pub record Over (p : Program) (e : Image) (s : PlainCore) (z : ZcState) : Type 0 where
   pub status : ℕ
   pub exited : s.exit ≡ Some status
   pub ended : z.core.exit ≡ Some status
-  pub stands : Stands p (place_address e) s z
+  pub stands : Stands p e.address s z
 
 -- one of the two
 abbrev pub Together : Program → (Place → Type 0) → Image → PlainCore → ZcState → Type 0

@@ -6,7 +6,7 @@ use Rattle.zc_base.specs.declared.place.Place.{Place}
 use Rattle.elf32_read.specs.Parts.{is_code_section}
 use Rattle.psabi_reloc.specs.Kinds.{is_auipc, is_lui, is_store, is_sum}
 use Rattle.psabi_sym.specs.Inputs.{Inputs, parsed}
-use Rattle.psabi_sym.specs.Listed.{ListedSection, all_sections}
+use Rattle.psabi_sym.specs.Indexed.{IndexedSection, all_sections}
 use Rattle.psabi_sym.specs.declared.target.Target.{Target}
 use Rattle.rv_decode.specs.declared.instr.Instr.{Instr}
 use Rattle.rv_decode.specs.declared.instr.Instr.TheVariants as instr
@@ -125,7 +125,7 @@ pub record WrittenHere (L : TextLayout) (code : List ℕ) (q : Place) (item : It
 
 -- the text is so far that a section of code begins, which has this number among all
 pub record BeginsSection (L : TextLayout) (k : ℕ) (text : List ℕ) (places : List (Place × ℕ)) : Type 0 where
-  pub section : ListedSection
+  pub section : IndexedSection
   pub at : slice_get (all_sections (parsed L.inputs).objects) k ≡ Some section
   pub code : is_code_section section.section ≡ true
   pub address : ℕ

@@ -7,7 +7,7 @@ use Rattle.sym_machine.specs.declared.word.Value.{Value}
 use Rattle.sym_machine.specs.declared.word.SymByte.{SymByte}
 use Rattle.sym_machine.specs.declared.word.SymByte.TheVariants.{Num, Part, Undef}
 use Rattle.sym_machine.specs.declared.word.SymWord.{SymWord}
-use Rattle.sym_machine.specs.Program.{Program, data_end}
+use Rattle.sym_machine.specs.Program.{Program, data_high}
 use Rattle.sym_machine.specs.State.{PlainCore, reg_of, cell_of}
 use Rattle.zc_link.specs.Values.{value_in}
 
@@ -26,7 +26,7 @@ pub record WordStands (V : Value → Option ℕ) (w : SymWord) (n : ℕ) : Type 
 
 -- an address of data or of the stack
 abbrev pub IsMemory : Program → ℕ → Type 0
-IsMemory p a = ((p.map.data_low ≤ a) × (a < data_end p)) ⊎ ((p.map.stack_low ≤ a) × (a < p.map.stack_high))
+IsMemory p a = ((p.map.data_low ≤ a) × (a < data_high p)) ⊎ ((p.map.stack_low ≤ a) × (a < p.map.stack_high))
 
 -- the registers, the memory and the input stand for the machine's, and so does the place, unless the program has exited
 pub record Stands (p : Program) (A : Place → Option ℕ) (s : PlainCore) (z : ZcState) : Type 0 where

@@ -6,8 +6,8 @@ use Rattle.psabi_sym.specs.Inputs.{Inputs, parsed}
 use Rattle.block_cut.specs.Items.{after_items, entry_of, item_at}
 use Rattle.block_cut.specs.PlainLayout.{plain_address}
 use Rattle.shrink_layout.specs.Settled.{settled_address}
-use Rattle.shrink_layout.specs.Units.{CodeUnit, OneItem, unit_at, unit_items}
-use Rattle.zc_link.specs.Pace.{Piece, bytes_between, piece_of}
+use Rattle.shrink_layout.specs.Units.{CodeUnit, OneItem, front_bytes, unit_at, unit_items}
+use Rattle.zc_link.specs.Pace.{Stretch, bytes_between, stretch_of}
 
 -- the objects, the addresses of places, what is written at a place in one piece, the bytes in front of the first section (as many
 -- as the layout's first piece has), and where the image starts
@@ -34,7 +34,7 @@ zc_layout inputs = record {
   inputs = inputs;
   address = settled_address (parsed inputs);
   unit = unit_at (parsed inputs);
-  front = [];
+  front = front_bytes;
   entry = unwrap_or (settled_address (parsed inputs) (entry_of (parsed inputs))) inputs.map.text;
 }
 
@@ -50,6 +50,6 @@ behind L q = after_items (parsed L.inputs).objects (option_map_or unit_items (L.
 abbrev pub size_in : TextLayout → Place → ℕ
 size_in L q = bytes_between (L.address q) (L.address (behind L q))
 
--- the piece that starts at a place
-abbrev pub piece_in : TextLayout → Place → Piece
-piece_in L q = piece_of (size_in L q) (L.unit q)
+-- the stretch that starts at a place
+abbrev pub stretch_in : TextLayout → Place → Stretch
+stretch_in L q = stretch_of (size_in L q) (L.unit q)

@@ -22,13 +22,11 @@ target_value A target.Nowhere = None
 abbrev pub way : ℕ → ℕ → ℕ
 way a t = (t + (2 ^ 32 - a)) % 2 ^ 32
 
--- what an `auipc` at address a gives on the way to address t
-abbrev pub pc_upper : ℕ → ℕ → ℕ
-pc_upper a t = (a + hi20_of (way a t) * 2 ^ 12) % 2 ^ 32
-
--- what a value is: a place's address, the upper part of one, or what an `auipc` at a place gives
+-- what a value is: a place's address, the upper part of one, or what an `auipc` at a place gives on the way to where it leads
 abbrev pub value_in : Program → (Place → Option ℕ) → Value → Option ℕ
 value_in p A (Code q) = A q
 value_in p A (AbsHi q) = option_map (λ x. hi20_of x * 2 ^ 12) (A q)
 value_in p A (PcHi q) =
-    option_and_then (λ a. option_map (pc_upper a) (option_and_then (target_value A) (pc_target (p.item q)))) (A q)
+    option_and_then
+    (λ a. option_map (λ t. (a + hi20_of (way a t) * 2 ^ 12) % 2 ^ 32) (option_and_then (target_value A) (pc_target (p.item q))))
+    (A q)

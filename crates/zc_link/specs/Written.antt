@@ -7,7 +7,7 @@ use Rattle.elf32_read.specs.Parts.{SectionParts}
 use Rattle.psabi_reloc.specs.Parts.{hi20_of, lo12_of}
 use Rattle.psabi_reloc.specs.Patched.{with_imm, with_upper}
 use Rattle.psabi_sym.specs.Inputs.{parsed}
-use Rattle.psabi_sym.specs.Listed.{ListedSection}
+use Rattle.psabi_sym.specs.Indexed.{IndexedSection}
 use Rattle.psabi_sym.specs.declared.target.Target.{Target}
 use Rattle.rv_decode.specs.declared.instr.Instr.{Instr}
 use Rattle.rv_decode.specs.declared.instr.Instr.TheVariants as instr
@@ -24,14 +24,14 @@ use Rattle.block_cut.specs.declared.item.Item.TheVariants.{Op, Hi, Lo, PcHi, PcL
 use Rattle.shrink_layout.specs.Units.{CodeUnit, OneItem}
 use Rattle.zc_link.specs.Copied.{bytes_from}
 use Rattle.zc_link.specs.ImageParts.{with_address}
-use Rattle.zc_link.specs.LaidOut.{end_after}
+use Rattle.zc_link.specs.LaidOut.{code_end_after}
 use Rattle.zc_link.specs.TextLayout.{TextLayout, behind, front_end}
 use Rattle.zc_link.specs.Values.{target_value, way}
 
 -- ---- words and halfwords
 
 -- the four bytes of a word that spells an instruction
-pub record Spells (bytes : List ℕ) (i : Instr) : Type 0 where
+pub record SpellsWord (bytes : List ℕ) (i : Instr) : Type 0 where
   pub word : ℕ
   pub small : word < 2 ^ 32
   pub are : bytes ≡ word_bytes word
@@ -47,7 +47,7 @@ pub record SpellsShort (bytes : List ℕ) (i : Instr) : Type 0 where
 
 -- n bytes that are one or the other
 abbrev pub IsSpelled : ℕ → List ℕ → Instr → Type 0
-IsSpelled n bytes i = ((n ≡ 4) × Spells bytes i) ⊎ ((n ≡ 2) × SpellsShort bytes i)
+IsSpelled n bytes i = ((n ≡ 4) × SpellsWord bytes i) ⊎ ((n ≡ 2) × SpellsShort bytes i)
 
 -- `addi x0,x0,0` as a word, and as a halfword
 abbrev pub nop : ℕ
@@ -90,14 +90,14 @@ pub record WithWay (A : Place → Option ℕ) (a : ℕ) (to : Place) (P : ℤ �
   pub holds : P distance
 
 -- a branch of the opposite condition over eight bytes, and a jump whose distance is less by the four bytes before it
-pub record IsLong (op : BranchOp) (one two : ℕ) (distance : ℤ) (bytes : List ℕ) : Type 0 where
+pub record IsLongBranch (op : BranchOp) (one two : ℕ) (distance : ℤ) (bytes : List ℕ) : Type 0 where
   pub other : BranchOp
   pub opposite : IsOpposite op other
   pub first : List ℕ
   pub second : List ℕ
   pub both : bytes ≡ first ++ second
-  pub over : Spells first (instr.Branch other one two (pos 8))
-  pub jump : Spells second (instr.Jal 0 (distance -ℤ pos 4))
+  pub over : SpellsWord first (instr.Branch other one two (pos 8))
+  pub jump : SpellsWord second (instr.Jal 0 (distance -ℤ pos 4))
 
 -- an `auipc` and a `jalr` with the parts of the way
 pub record WithCall (A : Place → Option ℕ) (a rd temp : ℕ) (to : Place) (bytes : List ℕ) : Type 0 where
@@ -106,12 +106,12 @@ pub record WithCall (A : Place → Option ℕ) (a rd temp : ℕ) (to : Place) (b
   pub first : List ℕ
   pub second : List ℕ
   pub both : bytes ≡ first ++ second
-  pub upper : Spells first (instr.Upper Auipc temp (hi20_of (way a address)))
-  pub lower : Spells second (instr.Jalr rd temp (lo12_of (way a address)))
+  pub upper : SpellsWord first (instr.Upper Auipc temp (hi20_of (way a address)))
+  pub lower : SpellsWord second (instr.Jalr rd temp (lo12_of (way a address)))
 
 -- the n bytes of a branch: itself, or its long form
 abbrev pub IsBranchSpelled : ℕ → List ℕ → BranchOp → (one two : ℕ) → ℤ → Type 0
-IsBranchSpelled n bytes op one two d = IsSpelled n bytes (instr.Branch op one two d) ⊎ ((n ≡ 8) × IsLong op one two d bytes)
+IsBranchSpelled n bytes op one two d = IsSpelled n bytes (instr.Branch op one two d) ⊎ ((n ≡ 8) × IsLongBranch op one two d bytes)
 
 -- these n bytes are what is written for an item at an address, if A gives the addresses of places; `own` gives the object's own
 abbrev pub IsWritten : (Place → Option ℕ) → (Place → Option Item) → (ℕ → List ℕ) → ℕ → ℕ → Item → List ℕ → Type 0
@@ -147,8 +147,8 @@ pub record HoldsUnit (L : TextLayout) (text : List ℕ) (e : Place × ℕ) (u : 
       UnitWritten L.address (item_at (parsed L.inputs)) (bytes_from section.bytes e.0.offset) e.1 size u
       (bytes_from text (e.1 - L.inputs.map.text) size)
 
-abbrev pub Holds : TextLayout → List ℕ → Place × ℕ → Type 0
-Holds L text e = (u : CodeUnit) → L.unit e.0 ≡ Some u → HoldsUnit L text e u
+abbrev pub HoldsPlace : TextLayout → List ℕ → Place × ℕ → Type 0
+HoldsPlace L text e = (u : CodeUnit) → L.unit e.0 ≡ Some u → HoldsUnit L text e u
 
 -- the text begins with what stands in front
 abbrev pub HoldsFront : TextLayout → List ℕ → Type 0
@@ -171,10 +171,10 @@ pub record IsSoFar (L : TextLayout) (targets : List Place) (end : ℕ) (text : L
   pub listed : places ≡ flat_map (with_address L) targets
   pub ends : L.inputs.map.text + length text ≡ end
   pub front : HoldsFront L text
-  pub holds : All (Holds L text) places
+  pub holds : All (HoldsPlace L text) places
   pub gaps : GapsAreZero L text
   pub octets : (k : ℕ) → slice_index text k < 256
 
 -- the text of these sections, one after another, with their places
-abbrev pub IsTextOf : TextLayout → List ListedSection → List ℕ → List (Place × ℕ) → Type 0
-IsTextOf L sections text places = IsSoFar L (flat_map targets_of sections) (end_after L sections) text places
+abbrev pub IsTextOf : TextLayout → List IndexedSection → List ℕ → List (Place × ℕ) → Type 0
+IsTextOf L sections text places = IsSoFar L (flat_map targets_of sections) (code_end_after L sections) text places

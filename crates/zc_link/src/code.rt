@@ -33,6 +33,7 @@ pub enum Code<'a> {
 
 impl<'a> Code<'a> {
     /// Adds the bytes to a text.
+    #[inline(always)]
     pub fn add_to(self, text: &mut Vec<u8>) -> Result<(), AllocError>
         ensures { OnOk result (text.new.items ≡ text.old.items ++ code_bytes self.entry) }
     {

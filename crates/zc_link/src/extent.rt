@@ -6,7 +6,7 @@ use zc_base::place::Place;
 /// Where an item is written: its place and where that stands among all, the bytes of its section, its address, and how
 /// many bytes it takes there.
 #[derive(Clone, Copy)]
-pub struct Extent<'a> {
+pub struct ItemExtent<'a> {
     pub at: Place,
     pub number: PlaceNumber,
     pub code: &'a [u8],

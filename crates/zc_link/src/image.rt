@@ -3,12 +3,10 @@
 ghost use Rattle.std.specs.Prelude.{◌≡◌, ◌+◌, ◌-◌, ◌<◌, ◌≤◌, ◌^◌, IfOk, length, slice_index, ℕ};
 ghost use Rattle.psabi_sym.specs.Data.{data_end, data_file_end};
 ghost use Rattle.psabi_sym.specs.Inputs.{parsed};
-ghost use Rattle.psabi_sym.specs.Listed.{all_sections};
 ghost use Rattle.zc_link.specs.ImageParts.{image_data};
 ghost use Rattle.zc_link.specs.LaidOut.{text_end};
 ghost use Rattle.zc_link.specs.Links.{IsImageOf};
 ghost use Rattle.zc_link.specs.Standing.{IsReady};
-ghost use Rattle.zc_link.specs.Written.{IsTextOf};
 
 use crate::item::target_value;
 use crate::layout::Layout;
@@ -29,7 +27,20 @@ pub fn image_of<L: Layout>(alloc: Global, layout: &L, flags: u32) -> Result<Vec<
 {
     let laid = Text::lay(alloc, layout)?;
     let bytes = data_bytes(alloc, layout)?;
-    write(alloc, layout, flags, laid, bytes)
+    let objects = layout.cut().objects();
+    let map = objects.map();
+    let zero = zeros_after(objects, &bytes);
+    let parts = ImageParts {
+        entry: layout.entry(),
+        flags,
+        text_at: map.text,
+        text: laid.text,
+        data_at: map.data_low,
+        data_bytes: bytes,
+        zero,
+        places: laid.places,
+    };
+    write_image(alloc, &parts)
 }
 
 // The bytes of data that files hold, with each word that holds an address.
@@ -45,38 +56,6 @@ fn data_bytes<L: Layout>(alloc: Global, layout: &L) -> Result<Vec<u8>, AllocErro
         put_u32(bytes.as_mut_slice(), at, target_value(layout, word.target));
     }
     Ok(bytes)
-}
-
-// The file with this text and these bytes of data of a layout.
-fn write<L: Layout>(
-    alloc: Global,
-    layout: &L,
-    flags: u32,
-    laid: Text,
-    bytes: Vec<u8>,
-) -> Result<Vec<u8>, AllocError>
-    requires flags { flags ≤ 1 }
-    requires laid { IsTextOf (L.layout layout.now) (all_sections (parsed (L.layout layout.now).inputs).objects)
-        laid.text.items laid.places.items }
-    requires bytes { bytes.items ≡ image_data (parsed (L.layout layout.now).inputs) (L.layout layout.now).address }
-    ensures ready { IsReady (L.layout layout.now).inputs }
-    ensures image { IfOk result
-        (λ elf. IsImageOf (L.layout layout.now) flags (text_end (L.layout layout.now)) elf.items) }
-{
-    let objects = layout.cut().objects();
-    let map = objects.map();
-    let zero = zeros_after(objects, &bytes);
-    let parts = ImageParts {
-        entry: layout.entry(),
-        flags,
-        text_at: map.text,
-        text: laid.text,
-        data_at: map.data_low,
-        data_bytes: bytes,
-        zero,
-        places: laid.places,
-    };
-    write_image(alloc, &parts)
 }
 
 // How many zeros follow the bytes of data that the image holds.

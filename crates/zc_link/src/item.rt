@@ -20,10 +20,10 @@ ghost use Rattle.zc_link.specs.Copied.{bytes_from};
 ghost use Rattle.zc_link.specs.LaidOut.{HasBranchSize, HasJumpSize};
 ghost use Rattle.zc_link.specs.Standing.{GoesWith, StandsHere, WrittenHere, is_lower, is_patched};
 ghost use Rattle.zc_link.specs.Values.{target_value, way};
-ghost use Rattle.zc_link.specs.Written.{IsBranchSpelled, IsSpelled, Spells, SpellsShort};
+ghost use Rattle.zc_link.specs.Written.{IsBranchSpelled, IsSpelled, SpellsShort, SpellsWord};
 
 use crate::code::Code;
-use crate::extent::Extent;
+use crate::extent::ItemExtent;
 use crate::layout::Layout;
 use block_cut::item::Item;
 use psabi_reloc::put::{put_call, put_hi20, put_lo12_i, put_lo12_s};
@@ -85,7 +85,7 @@ fn put_lower(instr: &Instr, word: u32, x: u32) -> u32
 }
 
 // The word that is written for an item which has one, from its own: with what its relocation asks for.
-fn patched<L: Layout>(layout: &L, extent: Extent, item: Item) -> u32
+fn patched<L: Layout>(layout: &L, extent: ItemExtent, item: Item) -> u32
     requires stands { StandsHere (L.layout layout.now) extent.code.now extent.at item extent.address extent.size }
     requires patched { is_patched item ≡ true }
     requires four { extent.size ≡ 4 }
@@ -141,14 +141,14 @@ fn jump_code<'a>(rd: Reg, distance: i32, size: u32) -> Code<'a>
 }
 
 // The two words of a call with its distance, from its own.
-fn call_code<'a>(extent: Extent<'a>, distance: i32) -> Code<'a>
+fn call_code<'a>(extent: ItemExtent<'a>, distance: i32) -> Code<'a>
     requires { extent.at.offset + 8 ≤ length extent.code.now }
     ensures upper { (temp imm : ℕ)
         → instr_in 8 extent.entry.code.now extent.entry.at.offset ≡ Some (Instr.Upper Auipc temp imm)
-        → Spells (take 4 (code_bytes result)) (Instr.Upper Auipc temp (hi20_of (as_word distance))) }
+        → SpellsWord (take 4 (code_bytes result)) (Instr.Upper Auipc temp (hi20_of (as_word distance))) }
     ensures lower { (rd temp : ℕ) (imm : ℤ)
         → instr_in 4 extent.entry.code.now (extent.entry.at.offset + 4) ≡ Some (Instr.Jalr rd temp imm)
-        → Spells (drop 4 (code_bytes result)) (Instr.Jalr rd temp (lo12_of (as_word distance))) }
+        → SpellsWord (drop 4 (code_bytes result)) (Instr.Jalr rd temp (lo12_of (as_word distance))) }
 {
     let offset = extent.at.offset as usize;
     let words = [u32_at(extent.code, offset), u32_at(extent.code, offset + 4)];
@@ -166,7 +166,7 @@ fn own_bytes(code: &[u8], offset: usize, count: usize) -> &[u8]
 }
 
 /// What is written for an item where it lies. It takes constant time.
-pub fn item_code<'a, L: Layout>(layout: &L, extent: Extent<'a>, item: Item) -> Code<'a>
+pub fn item_code<'a, L: Layout>(layout: &L, extent: ItemExtent<'a>, item: Item) -> Code<'a>
     requires stands { StandsHere (L.layout layout.now) extent.code.now extent.at item extent.address extent.size }
     requires number { IsPlaceNumber (parsed (L.layout layout.now).inputs).objects extent.at extent.number }
     ensures { WrittenHere (L.layout layout.now) extent.entry.code.now extent.entry.at item

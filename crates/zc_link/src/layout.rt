@@ -6,7 +6,7 @@ ghost use Rattle.block_cut.specs.Places.{IsPlaceNumber};
 ghost use Rattle.block_cut.specs.declared.item.Item.{Item};
 ghost use Rattle.psabi_sym.specs.Inputs.{parsed};
 ghost use Rattle.shrink_layout.specs.Halves.{IsHalfOf};
-ghost use Rattle.shrink_layout.specs.Numbers.{HasPlace};
+ghost use Rattle.shrink_layout.specs.Invariants.Numbers.{HasPlace};
 ghost use Rattle.zc_base.specs.declared.place.Place.{Place};
 ghost use Rattle.zc_link.specs.LaidOut.{IsLaidOut};
 ghost use Rattle.zc_link.specs.Standing.{IsReady};

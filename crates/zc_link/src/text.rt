@@ -2,11 +2,11 @@
 
 ghost use Rattle.std.specs.Prelude.{◌≡◌, ◌+◌, ◌++◌, ◌<◌, ℕ, length, replicate, take, IfOk, OnOk};
 ghost use Rattle.psabi_sym.specs.Inputs.{parsed};
-ghost use Rattle.psabi_sym.specs.Listed.{all_sections};
+ghost use Rattle.psabi_sym.specs.Indexed.{all_sections};
 ghost use Rattle.zc_link.specs.Standing.{BeginsSection};
 ghost use Rattle.zc_link.specs.Written.{IsTextOf};
 
-use crate::extent::Extent;
+use crate::extent::ItemExtent;
 use crate::item::item_code;
 use crate::layout::Layout;
 use block_cut::place_number::PlaceNumber;
@@ -27,11 +27,15 @@ impl Text {
         ensures { IfOk result (λ laid. IsTextOf (L.layout layout.now)
             (all_sections (parsed (L.layout layout.now).inputs).objects) laid.text.items laid.places.items) }
     {
+        let cut = layout.cut();
+        let counts = cut.counts();
+        let sections = cut.objects().section_count();
         let mut laid = Text {
-            text: Vec::new(alloc),
-            places: Vec::new(alloc),
+            // Few layouts take more than the plain one.
+            text: Vec::with_capacity(alloc, counts.text as usize)?,
+            places: Vec::with_capacity(alloc, counts.items as usize + sections as usize)?,
         };
-        for k in 0..layout.cut().objects().section_count() {
+        for k in 0..sections {
             laid.add_section(layout, k)?;
         }
         Ok(laid)
@@ -85,7 +89,7 @@ impl Text {
                     section: k,
                     index: index + 1,
                 });
-                let extent = Extent {
+                let extent = ItemExtent {
                     at,
                     number: PlaceNumber { section: k, index },
                     code: section.bytes(),

@@ -8,14 +8,12 @@ ghost use Rattle.zc_link.specs.Links.{IsZcLink};
 use crate::image::image_of;
 use crate::linked::Linked;
 use block_cut::cut::Cut;
+use elf32_read::header::RVC;
 use frame_match::planned::plan;
 use psabi_sym::link_fault::LinkFault;
 use psabi_sym::objects::Objects;
 use shrink_layout::settled::settle;
 use std::alloc::Global;
-
-// Of e_flags: there are 16-bit instructions (RISC-V ELF psABI, "File Header").
-const RVC: u32 = 1;
 
 /// The link of the objects, which gives each instruction the form that it has in the first round of sizes
 /// that fits, or why they aren't linked. If nothing is aligned above 4 bytes, it is the shortest. Beside the

@@ -9,7 +9,7 @@ use Rattle.shrink_layout.proofs.NumberLaws.{item_target}
 use Rattle.zc_link.specs.Codes.{code_bytes}
 use Rattle.zc_link.specs.LaidOut.{HasBranchSize, HasCallSize, HasForm, HasJumpSize}
 use Rattle.zc_link.specs.Values.{way}
-use Rattle.zc_link.specs.Written.{Spells}
+use Rattle.zc_link.specs.Written.{SpellsWord}
 use Rattle.zc_link.proofs.ItemBytes.{align_written, branch_form, branch_stands, branch_written, call_form, call_stands, call_written, half_written, jump_stands, pair_written, patched_left, raw_written}
 use Rattle.zc_link.proofs.WayLaws.{taken, taken_is, way_word}
 use Rattle.zc_link.proofs.item.item_code.Goals as goal
@@ -79,8 +79,8 @@ returns-then-extent-eq8 g c =
     let far = c.distance_to-then-extent-eq8.ensures.way s.address s.listed in
     let whole : as_word (taken c.distance_to-then-extent-eq8.result) ≡ way e.address s.address = ap as_word (taken_is e.address s.address _ far ∙ far) ∙ way_word e.address s.address in
     call_written L e.code.now e.at c.args.item e.address e.size c.requires.stands k.rd k.temp k.to k.is _ c.if-extent-eq8.true
-    (subst (λ x. Spells (take 4 (code_bytes c.call_code.result)) (instr.Upper Auipc k.temp (hi20_of x))) whole (c.call_code.ensures.upper k.temp s.upper s.first_spells))
-    (subst (λ x. Spells (drop 4 (code_bytes c.call_code.result)) (instr.Jalr k.rd k.temp (lo12_of x))) whole (c.call_code.ensures.lower k.rd k.temp s.lower s.second_spells))
+    (subst (λ x. SpellsWord (take 4 (code_bytes c.call_code.result)) (instr.Upper Auipc k.temp (hi20_of x))) whole (c.call_code.ensures.upper k.temp s.upper s.first_spells))
+    (subst (λ x. SpellsWord (drop 4 (code_bytes c.call_code.result)) (instr.Jalr k.rd k.temp (lo12_of x))) whole (c.call_code.ensures.lower k.rd k.temp s.lower s.second_spells))
 
 pub returns-in-Align : goal.returns-in-Align
 returns-in-Align g c =

@@ -4,7 +4,7 @@ use Rattle.std.specs.Option.{unwrap_or}
 use Rattle.std.proofs.lemmas.Option.{get_or_from_slice_get, slice_get_within}
 use Rattle.zc_base.specs.declared.place.Place.{Place}
 use Rattle.psabi_sym.specs.Inputs.{Inputs, parsed}
-use Rattle.psabi_sym.specs.Listed.{ListedSection, all_sections}
+use Rattle.psabi_sym.specs.Indexed.{IndexedSection, all_sections}
 use Rattle.block_cut.specs.Items.{is_target_at}
 use Rattle.block_cut.specs.Places.{IsPlaceNumber, code_places, place_there}
 use Rattle.block_cut.specs.PlainLayout.{plain_address}
@@ -28,7 +28,7 @@ module _ (inputs cut : Inputs) (same : cut ≡ inputs) (ready : IsReady inputs) 
   section_below = slice_get_within (all_sections (parsed cut).objects) number.section found.section at
 
   module _ (places : List CodePlace)
-      (are : (l : ListedSection) → slice_get (all_sections (parsed cut).objects) number.section ≡ Some l → places ≡ code_places (parsed cut) l) where
+      (are : (l : IndexedSection) → slice_get (all_sections (parsed cut).objects) number.section ≡ Some l → places ≡ code_places (parsed cut) l) where
     there : slice_get places number.index ≡ Some (place_there (parsed inputs) q)
     there = ap (λ l. slice_get l number.index) (are found.section at ∙ ap (λ (x : Inputs). code_places (parsed x) found.section) same) ∙ found.there
 

@@ -2,19 +2,20 @@
 use Rattle.std.proofs.Common.{◌≤◌, length, ap, ◌∙◌, subst, arith}
 use Rattle.std.proofs.lemmas.List.{take_all}
 use Rattle.psabi_sym.specs.Inputs.{Inputs, parsed}
-use Rattle.psabi_sym.specs.Listed.{all_sections}
+use Rattle.psabi_sym.specs.Indexed.{all_sections}
 use Rattle.zc_link.specs.Written.{IsTextOf}
 use Rattle.zc_link.proofs.Sections.{nothing_yet}
 use Rattle.zc_link.proofs.text.Text.lay.Goals as goal
 
 pub loop-k-init : goal.loop-k-init
 loop-k-init g c =
-    nothing_yet (g.L.Layout.layout c.args.layout.now) c.cut.ensures.laid c.new.result.items c.new-2.result.items c.new.ensures.items c.new-2.ensures.items
+    nothing_yet (g.L.Layout.layout c.args.layout.now) c.cut-cut.ensures.laid c.in_ok-with_capacity.field-0.items c.in_ok-with_capacity-2.field-0.items c.in_ok-with_capacity.ensures.items
+    c.in_ok-with_capacity-2.ensures.items
 
 pub returns : goal.returns
 returns g c =
     let L = g.L.Layout.layout c.args.layout.now in
     let all = all_sections (parsed L.inputs).objects in
     let past : length all ≤ c.loop-k.k =
-    omega (arith, c.loop-k-test.false, c.section_count-k-end.ensures.count, ap (λ (x : Inputs). length (all_sections (parsed x).objects)) (c.objects.ensures.same ∙ c.cut.ensures.same)) in
+    omega (arith, c.loop-k-test.false, c.section_count-sections.ensures.count, ap (λ (x : Inputs). length (all_sections (parsed x).objects)) (c.objects.ensures.same ∙ c.cut-cut.ensures.same)) in
     subst (λ ls. IsTextOf L ls c.loop-k.laid.text.items c.loop-k.laid.places.items) (take_all c.loop-k.k all past) c.loop-k.invariant

@@ -1,7 +1,7 @@
--- A piece's law is its step: from a sound pair the steps of its items are its commits, whatever interrupts come before them.
+-- A stretch's law is its step: from a sound pair the steps of its items are its commits, whatever interrupts come before them.
 use Rattle.std.proofs.Common.{◌≡◌, ℕ, ◌<◌, List, Ok, refl, ap, ◌∙◌, arith}
 use Rattle.zc_base.specs.declared.place.Place.{Place}
-use Rattle.interrupt_plan.specs.Plan.{AreCuts, Cut}
+use Rattle.interrupt_plan.specs.Plan.{AreInterrupts, Interrupt}
 use Rattle.rv_decode.specs.Run.{iterate}
 use Rattle.rv_decode.specs.State.{ZcState}
 use Rattle.rv_decode.proofs.RunLaws.{bind_ok}
@@ -11,10 +11,10 @@ use Rattle.sym_machine.specs.Run.{plain_turn}
 use Rattle.sym_machine.specs.State.{PlainState}
 use Rattle.zc_link.specs.Image.{Image}
 use Rattle.zc_link.specs.Leads.{Leads}
-use Rattle.zc_link.specs.Pace.{AlignOf, Alone, CallOf, LongOf, Piece, commits_of, span_of}
-use Rattle.zc_link.specs.Pieces.{PieceLaid}
+use Rattle.zc_link.specs.Pace.{AlignOf, Alone, CallOf, LongOf, Stretch, commits_of, span_of}
+use Rattle.zc_link.specs.Stretches.{StretchLaid}
 use Rattle.zc_link.specs.Room.{Room}
-use Rattle.zc_link.specs.Simulates.{Comes, IsInside}
+use Rattle.zc_link.specs.IsSimulation.{Comes, IsInside}
 use Rattle.zc_link.specs.Sound.{Sound}
 use Rattle.sym_machine.proofs.RunLaws.{stepped}
 use Rattle.zc_link.proofs.Calls.{call_comes}
@@ -23,8 +23,8 @@ use Rattle.zc_link.proofs.Longs.{long_comes}
 use Rattle.zc_link.proofs.Padding.{align_comes}
 use Rattle.zc_link.proofs.Singles.{FromSound}
 
--- a piece has an item
-pub span_some : (x : Piece) → 0 < span_of x
+-- a stretch has an item
+pub span_some : (x : Stretch) → 0 < span_of x
 span_some Alone = omega arith
 span_some (AlignOf count) = omega arith
 span_some CallOf = omega arith
@@ -37,25 +37,25 @@ one_turn p r r' h =
     let last : first.0 ≡ r' = (let rest = first.2 in cc) in
     first.1 ∙ ap Ok last
 
-pub piece_comes :
-    {p : Program} {Named : Place → Type 0} {e : Image} {r r' : PlainState} {z : ZcState} (x : Piece) → Room p e → Leads p Named → (cuts : ℕ → List Cut) → AreCuts cuts → Sound p Named e r.core z
-    → z.events ≡ r.events → PieceLaid p e r.core.place z.core.pc x → iterate (plain_turn p) (span_of x) r ≡ Ok r'
+pub stretch_comes :
+    {p : Program} {Named : Place → Type 0} {e : Image} {r r' : PlainState} {z : ZcState} (x : Stretch) → Room p e → Leads p Named → (cuts : ℕ → List Interrupt) → AreInterrupts cuts → Sound p Named e r.core z
+    → z.events ≡ r.events → StretchLaid p e r.core.place z.core.pc x → iterate (plain_turn p) (span_of x) r ≡ Ok r'
     → Comes p Named e cuts (commits_of p r.core x) z r'
-piece_comes {p} {Named} {e} {r} {r'} {z} x room leads cuts are so same laid h = by x laid h
+stretch_comes {p} {Named} {e} {r} {r'} {z} x room leads cuts are so same laid h = by x laid h
   where
     from : iterate (plain_turn p) 1 r ≡ Ok r' → FromSound p Named e r r' cuts z
     from g = record { sound = so; same = same; are = are; step = stepped p r r' so.alike.running (one_turn p r r' g) }
 
-    by : (y : Piece) → PieceLaid p e r.core.place z.core.pc y → iterate (plain_turn p) (span_of y) r ≡ Ok r' → Comes p Named e cuts (commits_of p r.core y) z r'
+    by : (y : Stretch) → StretchLaid p e r.core.place z.core.pc y → iterate (plain_turn p) (span_of y) r ≡ Ok r' → Comes p Named e cuts (commits_of p r.core y) z r'
     by Alone item g = item_comes room leads (from g) (p.item r.core.place) refl item (from g).step.does
     by (AlignOf count) align g = align_comes count room (from g) align
     by CallOf call g = call_comes room (from g) call (leads.next r.core.place (Call call.rd call.temp call.to) call.item refl)
     by (LongOf op first second) long g = long_comes room (from g) long
 
--- a piece of one item has no place inside
-pub piece_inside :
-    (p : Program) (e : Image) (r r' : PlainState) (x : Piece) (k : ℕ) → 0 < k → k < span_of x → IsInside e r r'
-piece_inside p e r r' Alone k some lt = absurd (omega (arith, some, lt))
-piece_inside p e r r' (AlignOf count) k some lt = absurd (omega (arith, some, lt))
-piece_inside p e r r' CallOf k some lt = absurd (omega (arith, some, lt))
-piece_inside p e r r' (LongOf op first second) k some lt = absurd (omega (arith, some, lt))
+-- a stretch of one item has no place inside
+pub stretch_inside :
+    (p : Program) (e : Image) (r r' : PlainState) (x : Stretch) (k : ℕ) → 0 < k → k < span_of x → IsInside e r r'
+stretch_inside p e r r' Alone k some lt = absurd (omega (arith, some, lt))
+stretch_inside p e r r' (AlignOf count) k some lt = absurd (omega (arith, some, lt))
+stretch_inside p e r r' CallOf k some lt = absurd (omega (arith, some, lt))
+stretch_inside p e r r' (LongOf op first second) k some lt = absurd (omega (arith, some, lt))

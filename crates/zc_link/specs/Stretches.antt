@@ -8,9 +8,8 @@ use Rattle.rv_decode.specs.declared.instr.BranchOp.{BranchOp}
 use Rattle.rv_decode.specs.declared.instr.ImmOp.TheVariants.{Addi}
 use Rattle.rv_decode.specs.declared.instr.UpperOp.TheVariants.{Auipc}
 use Rattle.rv_decode.specs.Bits.{add32}
-use Rattle.rv_decode.specs.Effect.{effect}
+use Rattle.rv_decode.specs.Normal.{SameEffect}
 use Rattle.rv_decode.specs.Registers.{HasRegisters}
-use Rattle.rv_decode.specs.State.{IsCore, ZcCore}
 use Rattle.psabi_reloc.specs.Parts.{hi20_of, lo12_of}
 use Rattle.psabi_reloc.specs.Patched.{with_imm, with_upper}
 use Rattle.psabi_sym.specs.declared.target.Target.{Target}
@@ -22,8 +21,8 @@ use Rattle.zca_zcb_pass.specs.Forms.{IsOpposite}
 use Rattle.zc_decode.specs.declared.short.Short.{Short}
 use Rattle.zc_decode.specs.declared.short.Short.TheVariants.{Base}
 use Rattle.zc_machine.specs.Fetch.{Found, fetched_at}
-use Rattle.zc_link.specs.Image.{Image, loaded, place_address}
-use Rattle.zc_link.specs.Pace.{Piece, Alone, AlignOf, CallOf, LongOf}
+use Rattle.zc_link.specs.Image.{Image, loaded_core}
+use Rattle.zc_link.specs.Pace.{Stretch, Alone, AlignOf, CallOf, LongOf}
 use Rattle.zc_link.specs.Values.{target_value, way}
 
 -- ---- instructions
@@ -31,7 +30,7 @@ use Rattle.zc_link.specs.Values.{target_value, way}
 -- an instruction stands at an address, in so many bytes
 pub record OneAt (e : Image) (a : ℕ) (short : Short) : Type 0 where
   pub size : ℕ
-  pub here : fetched_at (loaded e) a ≡ Found short size
+  pub here : fetched_at (loaded_core e) a ≡ Found short size
   pub small : a + size < 2 ^ 32
 
 -- two stand there, one after the other
@@ -39,17 +38,13 @@ pub record TwoAt (e : Image) (a : ℕ) (first second : Short) : Type 0 where
   pub one : OneAt e a first
   pub two : OneAt e (a + one.size) second
 
--- another instruction has the same effect on every state of the machine
-abbrev pub SameEffect : Instr → Instr → Type 0
-SameEffect i j = (size : ℕ) (z : ZcCore) → IsCore z → effect j size z ≡ effect i size z
-
 -- an instruction alone, or one with the same effect, and the next place after it
 pub record AloneLaid (p : Program) (e : Image) (q : Place) (a : ℕ) (i : Instr) : Type 0 where
   pub registers : HasRegisters i
   pub here : Instr
-  pub same : SameEffect i here
+  pub same : SameEffect here i
   pub at : OneAt e a (Base here)
-  pub next : place_address e (p.next q) ≡ Some (a + at.size)
+  pub next : e.address (p.next q) ≡ Some (a + at.size)
 
 -- ---- items
 
@@ -61,19 +56,19 @@ pub record OpLaid (p : Program) (e : Image) (q : Place) (a : ℕ) (i : Instr) : 
 -- the upper part of the target's address
 pub record HiLaid (p : Program) (e : Image) (q : Place) (a : ℕ) (i : Instr) (t : Target) : Type 0 where
   pub value : ℕ
-  pub is : target_value (place_address e) t ≡ Some value
+  pub is : target_value e.address t ≡ Some value
   pub laid : AloneLaid p e q a (with_upper i (hi20_of value))
 
 -- the lower part
 pub record LoLaid (p : Program) (e : Image) (q : Place) (a : ℕ) (i : Instr) (t : Target) : Type 0 where
   pub value : ℕ
-  pub is : target_value (place_address e) t ≡ Some value
+  pub is : target_value e.address t ≡ Some value
   pub laid : AloneLaid p e q a (with_imm i (lo12_of value))
 
 -- the upper part of the way from here to the target
 pub record PcHiLaid (p : Program) (e : Image) (q : Place) (a : ℕ) (i : Instr) (t : Target) : Type 0 where
   pub value : ℕ
-  pub is : target_value (place_address e) t ≡ Some value
+  pub is : target_value e.address t ≡ Some value
   pub laid : AloneLaid p e q a (with_upper i (hi20_of (way a value)))
 
 -- the lower part of the way from the `auipc` at another place to what that leads to
@@ -81,15 +76,15 @@ pub record PcLoLaid (p : Program) (e : Image) (q : Place) (a : ℕ) (i : Instr) 
   pub to : Target
   pub leads : pc_target (p.item from) ≡ Some to
   pub address : ℕ
-  pub listed : place_address e from ≡ Some address
+  pub listed : e.address from ≡ Some address
   pub value : ℕ
-  pub is : target_value (place_address e) to ≡ Some value
+  pub is : target_value e.address to ≡ Some value
   pub laid : AloneLaid p e q a (with_imm i (lo12_of (way address value)))
 
 -- an instruction that goes to a place, by its distance: a branch, a jump, or a call that is one `jal`
 pub record ReachLaid (p : Program) (e : Image) (q : Place) (a : ℕ) (i : ℤ → Instr) (to : Place) : Type 0 where
   pub distance : ℤ
-  pub reaches : place_address e to ≡ Some (add32 a distance)
+  pub reaches : e.address to ≡ Some (add32 a distance)
   pub laid : AloneLaid p e q a (i distance)
 
 -- an item that is one instruction; of what the symbolic machine is stuck at, and of a section's end, nothing is owed, and padding
@@ -122,7 +117,7 @@ pub record AlignLaid (p : Program) (e : Image) (q : Place) (a count : ℕ) : Typ
   pub item : p.item q ≡ Some (Align bytes)
   pub end : ℕ
   pub nops : Nops e a count end
-  pub next : place_address e (p.next q) ≡ Some end
+  pub next : e.address (p.next q) ≡ Some end
 
 -- a call of two words: an `auipc` and a `jalr` whose parts lead from here to the place
 pub record CallLaid (p : Program) (e : Image) (q : Place) (a : ℕ) : Type 0 where
@@ -134,8 +129,8 @@ pub record CallLaid (p : Program) (e : Image) (q : Place) (a : ℕ) : Type 0 whe
   pub upper : ℕ
   pub lower : ℤ
   pub at : TwoAt e a (Base (Upper Auipc temp upper)) (Base (Jalr rd temp lower))
-  pub reaches : place_address e to ≡ Some (add32 ((a + upper * 2 ^ 12) % 2 ^ 32) lower / 2 * 2)
-  pub next : place_address e (p.next q) ≡ Some (a + at.one.size + at.two.size)
+  pub reaches : e.address to ≡ Some (add32 ((a + upper * 2 ^ 12) % 2 ^ 32) lower / 2 * 2)
+  pub next : e.address (p.next q) ≡ Some (a + at.one.size + at.two.size)
 
 -- a branch of two instructions: one of the opposite condition over both, and a jump to the place
 pub record LongLaid (p : Program) (e : Image) (q : Place) (a : ℕ) (op : BranchOp) (first second : ℕ) : Type 0 where
@@ -149,13 +144,13 @@ pub record LongLaid (p : Program) (e : Image) (q : Place) (a : ℕ) (op : Branch
   pub distance : ℤ
   pub at : TwoAt e a (Base (instr.Branch other first second over)) (Base (Jal 0 distance))
   pub lands : add32 a over ≡ a + at.one.size + at.two.size
-  pub reaches : place_address e to ≡ Some (add32 (a + at.one.size) distance)
-  pub next : place_address e (p.next q) ≡ Some (a + at.one.size + at.two.size)
+  pub reaches : e.address to ≡ Some (add32 (a + at.one.size) distance)
+  pub next : e.address (p.next q) ≡ Some (a + at.one.size + at.two.size)
 
--- ---- pieces
+-- ---- stretches
 
-abbrev pub PieceLaid : Program → Image → Place → ℕ → Piece → Type 0
-PieceLaid p e q a Alone = ItemLaid p e q a (p.item q)
-PieceLaid p e q a (AlignOf count) = AlignLaid p e q a count
-PieceLaid p e q a CallOf = CallLaid p e q a
-PieceLaid p e q a (LongOf op first second) = LongLaid p e q a op first second
+abbrev pub StretchLaid : Program → Image → Place → ℕ → Stretch → Type 0
+StretchLaid p e q a Alone = ItemLaid p e q a (p.item q)
+StretchLaid p e q a (AlignOf count) = AlignLaid p e q a count
+StretchLaid p e q a CallOf = CallLaid p e q a
+StretchLaid p e q a (LongOf op first second) = LongLaid p e q a op first second

@@ -29,12 +29,12 @@ use Rattle.sym_machine.specs.Program.{Program}
 use Rattle.zc_decode.specs.declared.short.Short.TheVariants.{Base}
 use Rattle.zc_encode.specs.Halves.{encoded16}
 use Rattle.zc_link.specs.Copied.{bytes_from}
-use Rattle.zc_link.specs.Image.{Image, place_address}
+use Rattle.zc_link.specs.Image.{Image}
 use Rattle.zc_link.specs.LaidOut.{IsLaidOut}
-use Rattle.zc_link.specs.Pace.{Alone, CallOf, LongOf, piece_of}
-use Rattle.zc_link.specs.Pieces.{AloneLaid, CallLaid, ItemLaid, LongLaid, PieceLaid}
-use Rattle.zc_link.specs.TextLayout.{TextLayout, piece_in, size_in}
-use Rattle.zc_link.specs.Written.{Holds, HoldsUnit, IsLong, IsSpelled, IsWritten, WithCall, WithWay}
+use Rattle.zc_link.specs.Pace.{Alone, CallOf, LongOf, stretch_of}
+use Rattle.zc_link.specs.Stretches.{AloneLaid, CallLaid, ItemLaid, LongLaid, StretchLaid}
+use Rattle.zc_link.specs.TextLayout.{TextLayout, size_in, stretch_in}
+use Rattle.zc_link.specs.Written.{HoldsPlace, HoldsUnit, IsLongBranch, IsSpelled, IsWritten, WithCall, WithWay}
 use Rattle.zc_link.specs.Values.{target_value, way}
 use Rattle.zc_link.proofs.Fetched.{StandAt, nops_at, one_at, spelled_at, stand_at, stand_first, stand_next}
 use Rattle.zc_link.proofs.ImageMemory.{AreLaidOut, image_of}
@@ -77,7 +77,7 @@ pub record ShowsLayout (L : TextLayout) (program : Program) (e : Image) : Type 0
   pub item : program.item ≡ item_at (parsed L.inputs)
   pub next : program.next ≡ next_at (parsed L.inputs).objects
   pub map : program.map ≡ L.inputs.map
-  pub listed : place_address e ≡ L.address
+  pub listed : e.address ≡ L.address
 
 module _ (L : TextLayout) (is_map : IsMap L.inputs.map) (laid : IsLaidOut L) (program : Program) (parts : Parts) (out : AreLaidOut program parts)
     (shows : ShowsLayout L program (image_of program.map parts)) where
@@ -91,15 +91,15 @@ module _ (L : TextLayout) (is_map : IsMap L.inputs.map) (laid : IsLaidOut L) (pr
   here = image_of program.map parts
 
   -- each place's address is the layout's
-  listed_at : (q : Place) → place_address here q ≡ A q
+  listed_at : (q : Place) → here.address q ≡ A q
   listed_at q = λ j. shows.listed j q
 
   -- the next place
-  next_listed : (q : Place) (b : ℕ) → A (next_at p.objects q) ≡ Some b → place_address here (program.next q) ≡ Some b
+  next_listed : (q : Place) (b : ℕ) → A (next_at p.objects q) ≡ Some b → here.address (program.next q) ≡ Some b
   next_listed q b next = (λ j. shows.listed j (shows.next j q)) ∙ next
 
   -- with a value
-  value_is : (t : Target) (x : ℕ) → target_value A t ≡ Some x → target_value (place_address here) t ≡ Some x
+  value_is : (t : Target) (x : ℕ) → target_value A t ≡ Some x → target_value here.address t ≡ Some x
   value_is t x is = ap (λ B. target_value B t) shows.listed ∙ is
 
   -- an address is even, and a word
@@ -125,7 +125,7 @@ module _ (L : TextLayout) (is_map : IsMap L.inputs.map) (laid : IsLaidOut L) (pr
   -- a branch of two
   long_laid :
       (q : Place) (a n : ℕ) (op : BranchOp) (first second : ℕ) (to : Place) (d : ℤ) (bytes : List ℕ) → n ≡ 8
-      → A (next_at p.objects q) ≡ Some (a + n) → StandAt program parts out a bytes → A to ≡ Some (add32 a d) → IsLong op first second d bytes
+      → A (next_at p.objects q) ≡ Some (a + n) → StandAt program parts out a bytes → A to ≡ Some (add32 a d) → IsLongBranch op first second d bytes
       → program.item q ≡ Some (Branch op first second to) → LongLaid program here q a op first second
   unfolding one_at
   long_laid q a n op first second to d bytes eight next st leads l same =
@@ -181,7 +181,7 @@ module _ (L : TextLayout) (is_map : IsMap L.inputs.map) (laid : IsLaidOut L) (pr
         next = next_listed q (a + n) next ∙ ap Some end;
       }
 
-  -- ---- each piece
+  -- ---- each stretch
 
   -- what is written for an item of n bytes at a place
   pub record WrittenAt (q : Place) (a n : ℕ) (item : Item) (bytes : List ℕ) : Type 0 where
@@ -203,61 +203,61 @@ module _ (L : TextLayout) (is_map : IsMap L.inputs.map) (laid : IsLaidOut L) (pr
   -- a branch: in eight bytes it is two instructions, and else one
   branch_laid :
       (q : Place) (a n : ℕ) (op : BranchOp) (first second : ℕ) (to : Place) (bytes : List ℕ) → WrittenAt q a n (Branch op first second to) bytes
-      → PieceLaid program here q a (piece_of n (Some (OneItem (Branch op first second to))))
+      → StretchLaid program here q a (stretch_of n (Some (OneItem (Branch op first second to))))
   branch_laid q a n op first second to bytes w = by w.written.holds
     where
       by :
-          IsSpelled n bytes (instr.Branch op first second w.written.distance) ⊎ ((n ≡ 8) × IsLong op first second w.written.distance bytes)
-          → PieceLaid program here q a (piece_of n (Some (OneItem (Branch op first second to))))
+          IsSpelled n bytes (instr.Branch op first second w.written.distance) ⊎ ((n ≡ 8) × IsLongBranch op first second w.written.distance bytes)
+          → StretchLaid program here q a (stretch_of n (Some (OneItem (Branch op first second to))))
       by (inl sp) =
           let d = w.written.distance in
           let i : Instr = instr.Branch op first second d in
-          subst (λ b. PieceLaid program here q a (cond b (LongOf op first second) Alone)) (sym (spelled_short n bytes i sp))
+          subst (λ b. StretchLaid program here q a (cond b (LongOf op first second) Alone)) (sym (spelled_short n bytes i sp))
           (item_laid q a (Branch op first second to) w.is
           (record { distance = d; reaches = (λ j. shows.listed j to) ∙ w.written.leads; laid = alone q a n bytes i (item_registers p q (Branch op first second to) w.is) w.next w.stands sp }))
       by (inr l) =
           let eight : eqb n 8 ≡ true = ap (λ k. eqb k 8) l.0 in
-          subst (λ b. PieceLaid program here q a (cond b (LongOf op first second) Alone)) (sym eight)
+          subst (λ b. StretchLaid program here q a (cond b (LongOf op first second) Alone)) (sym eight)
           (long_laid q a n op first second to w.written.distance bytes l.0 w.next w.stands w.written.leads l.1 (same_item q (Branch op first second to) w.is))
 
   -- so is a call
-  calling_laid : (q : Place) (a n rd temp : ℕ) (to : Place) (bytes : List ℕ) → WrittenAt q a n (Call rd temp to) bytes → PieceLaid program here q a (piece_of n (Some (OneItem (Call rd temp to))))
+  calling_laid : (q : Place) (a n rd temp : ℕ) (to : Place) (bytes : List ℕ) → WrittenAt q a n (Call rd temp to) bytes → StretchLaid program here q a (stretch_of n (Some (OneItem (Call rd temp to))))
   calling_laid q a n rd temp to bytes w = by w.written
     where
-      by : WithWay A a to (λ d. IsSpelled n bytes (instr.Jal rd d)) ⊎ ((n ≡ 8) × WithCall A a rd temp to bytes) → PieceLaid program here q a (piece_of n (Some (OneItem (Call rd temp to))))
+      by : WithWay A a to (λ d. IsSpelled n bytes (instr.Jal rd d)) ⊎ ((n ≡ 8) × WithCall A a rd temp to bytes) → StretchLaid program here q a (stretch_of n (Some (OneItem (Call rd temp to))))
       by (inl one) =
           let d = one.distance in
-          subst (λ b. PieceLaid program here q a (cond b CallOf Alone)) (sym (spelled_short n bytes (instr.Jal rd d) one.holds))
+          subst (λ b. StretchLaid program here q a (cond b CallOf Alone)) (sym (spelled_short n bytes (instr.Jal rd d) one.holds))
           (item_laid q a (Call rd temp to) w.is
           (record { distance = d; reaches = (λ j. shows.listed j to) ∙ one.leads; laid = alone q a n bytes (instr.Jal rd d) (item_registers p q (Call rd temp to) w.is) w.next w.stands one.holds }))
       by (inr two) =
           let eight : eqb n 8 ≡ true = ap (λ k. eqb k 8) two.0 in
-          subst (λ b. PieceLaid program here q a (cond b CallOf Alone)) (sym eight)
+          subst (λ b. StretchLaid program here q a (cond b CallOf Alone)) (sym eight)
           (call_laid q a n rd temp to bytes two.0 w.at w.next w.stands two.1 (same_item q (Call rd temp to) w.is))
 
   -- any item
-  piece_laid : (q : Place) (a n : ℕ) (item : Item) (bytes : List ℕ) → WrittenAt q a n item bytes → PieceLaid program here q a (piece_of n (Some (OneItem item)))
+  stretch_laid : (q : Place) (a n : ℕ) (item : Item) (bytes : List ℕ) → WrittenAt q a n item bytes → StretchLaid program here q a (stretch_of n (Some (OneItem item)))
   unfolding alone
-  piece_laid q a n (Op i) bytes w =
+  stretch_laid q a n (Op i) bytes w =
       item_laid q a (Op i) w.is
       (record {
         laid = alone q a n bytes i (item_registers p q (Op i) w.is) w.next w.stands w.written;
         four = λ ecall. (spelled_at program parts out a n bytes i w.stands w.written).long ∙ ecall_long n bytes i w.written ecall;
       })
-  piece_laid q a n (Hi i t) bytes w =
+  stretch_laid q a n (Hi i t) bytes w =
       let x = w.written.value in
       item_laid q a (Hi i t) w.is
       (record { value = x; is = value_is t x w.written.is; laid = alone q a n bytes (with_upper i (hi20_of x)) (upper_registers i (hi20_of x) (item_registers p q (Hi i t) w.is)) w.next w.stands w.written.holds })
-  piece_laid q a n (Lo i t) bytes w =
+  stretch_laid q a n (Lo i t) bytes w =
       let x = w.written.value in
       item_laid q a (Lo i t) w.is
       (record { value = x; is = value_is t x w.written.is; laid = alone q a n bytes (with_imm i (lo12_of x)) (imm_registers i (lo12_of x) (item_registers p q (Lo i t) w.is)) w.next w.stands w.written.holds })
-  piece_laid q a n (PcHi i t) bytes w =
+  stretch_laid q a n (PcHi i t) bytes w =
       let x = w.written.value in
       let upper = hi20_of (way a x) in
       item_laid q a (PcHi i t) w.is
       (record { value = x; is = value_is t x w.written.is; laid = alone q a n bytes (with_upper i upper) (upper_registers i upper (item_registers p q (PcHi i t) w.is)) w.next w.stands w.written.holds })
-  piece_laid q a n (PcLo i from) bytes w =
+  stretch_laid q a n (PcLo i from) bytes w =
       let l = w.written in
       let lower = lo12_of (way l.address l.value) in
       item_laid q a (PcLo i from) w.is
@@ -270,13 +270,13 @@ module _ (L : TextLayout) (is_map : IsMap L.inputs.map) (laid : IsLaidOut L) (pr
         is = value_is l.to l.value l.is;
         laid = alone q a n bytes (with_imm i lower) (imm_registers i lower (item_registers p q (PcLo i from) w.is)) w.next w.stands l.holds;
       })
-  piece_laid q a n (Branch op first second to) bytes w = branch_laid q a n op first second to bytes w
-  piece_laid q a n (Jump rd to) bytes w =
+  stretch_laid q a n (Branch op first second to) bytes w = branch_laid q a n op first second to bytes w
+  stretch_laid q a n (Jump rd to) bytes w =
       let d = w.written.distance in
       item_laid q a (Jump rd to) w.is
       (record { distance = d; reaches = (λ j. shows.listed j to) ∙ w.written.leads; laid = alone q a n bytes (instr.Jal rd d) (item_registers p q (Jump rd to) w.is) w.next w.stands w.written.holds })
-  piece_laid q a n (Call rd temp to) bytes w = calling_laid q a n rd temp to bytes w
-  piece_laid q a n (Align k) bytes w =
+  stretch_laid q a n (Call rd temp to) bytes w = calling_laid q a n rd temp to bytes w
+  stretch_laid q a n (Align k) bytes w =
       let one = laid.even q a w.at in
       let two = laid.even (next_at p.objects q) (a + n) w.next in
       record {
@@ -286,9 +286,9 @@ module _ (L : TextLayout) (is_map : IsMap L.inputs.map) (laid : IsLaidOut L) (pr
         nops = nops_at program parts out a n bytes (omega (arith, one, two)) w.stands w.written;
         next = next_listed q (a + n) w.next;
       }
-  piece_laid q a n (Word t) bytes w = item_laid q a (Word t) w.is tt
-  piece_laid q a n (Raw word) bytes w = item_laid q a (Raw word) w.is tt
-  piece_laid q a n (RawPair first second) bytes w = item_laid q a (RawPair first second) w.is tt
+  stretch_laid q a n (Word t) bytes w = item_laid q a (Word t) w.is tt
+  stretch_laid q a n (Raw word) bytes w = item_laid q a (Raw word) w.is tt
+  stretch_laid q a n (RawPair first second) bytes w = item_laid q a (RawPair first second) w.is tt
 
   -- ---- all
 
@@ -304,12 +304,12 @@ module _ (L : TextLayout) (is_map : IsMap L.inputs.map) (laid : IsLaidOut L) (pr
   -- what is written for an item at a place
   unit_laid :
       (q : Place) (a : ℕ) (item : Item) → A q ≡ Some a → L.unit q ≡ Some (OneItem item) → HoldsUnit L parts.text (q, a) (OneItem item)
-      → PieceLaid program here q a (piece_of (size_in L q) (Some (OneItem item)))
+      → StretchLaid program here q a (stretch_of (size_in L q) (Some (OneItem item)))
   unit_laid q a item at unit h =
       let start : program.map.text ≡ L.inputs.map.text = ap (λ m. m.text) shows.map in
       let st = stand_at program parts out a h.size (omega (arith, h.low, start)) (omega (arith, h.within, start)) in
-      subst (λ n. PieceLaid program here q a (piece_of n (Some (OneItem item)))) (sym (size_is L q a h.size at h.next))
-      (piece_laid q a h.size item (bytes_from parts.text (a - L.inputs.map.text) h.size)
+      subst (λ n. StretchLaid program here q a (stretch_of n (Some (OneItem item)))) (sym (size_is L q a h.size at h.next))
+      (stretch_laid q a h.size item (bytes_from parts.text (a - L.inputs.map.text) h.size)
       (record {
         own = bytes_from h.section.bytes q.offset;
         is = (laid.each q a (OneItem item) unit at).is;
@@ -319,20 +319,20 @@ module _ (L : TextLayout) (is_map : IsMap L.inputs.map) (laid : IsLaidOut L) (pr
         written = h.written;
       }))
 
-  -- each listed place's piece
-  pub each : All (Holds L parts.text) parts.places → (q : Place) (a : ℕ) → place_address here q ≡ Some a → PieceLaid program here q a (piece_in L q)
+  -- each listed place's stretch
+  pub each : All (HoldsPlace L parts.text) parts.places → (q : Place) (a : ℕ) → here.address q ≡ Some a → StretchLaid program here q a (stretch_in L q)
   each holds q a listed = by (sym (listed_at q) ∙ listed) (L.unit q) refl
     where
-      by : A q ≡ Some a → (u : Option CodeUnit) → L.unit q ≡ u → PieceLaid program here q a (piece_of (size_in L q) u)
+      by : A q ≡ Some a → (u : Option CodeUnit) → L.unit q ≡ u → StretchLaid program here q a (stretch_of (size_in L q) u)
       by at None unit = subst (ItemLaid program here q a) (λ j. sym shows.item j q) (nothing_there q a at unit (item_at p q) refl)
       by at (Some (OneItem item)) unit =
-          unit_laid q a item at unit (found_holds (Holds L parts.text) parts.places q a holds listed (OneItem item) unit)
+          unit_laid q a item at unit (found_holds (HoldsPlace L parts.text) parts.places q a holds listed (OneItem item) unit)
 
   -- places with room of their own have addresses of their own
-  pub distinct : (q r : Place) (a : ℕ) → is_solid (program.item q) ≡ true → is_solid (program.item r) ≡ true → place_address here q ≡ Some a → place_address here r ≡ Some a → q ≡ r
+  pub distinct : (q r : Place) (a : ℕ) → is_solid (program.item q) ≡ true → is_solid (program.item r) ≡ true → here.address q ≡ Some a → here.address r ≡ Some a → q ≡ r
   distinct q r a solid_q solid_r at_q at_r =
       laid.distinct q r a (ap is_solid (λ j. sym shows.item j q) ∙ solid_q) (ap is_solid (λ j. sym shows.item j r) ∙ solid_r) (sym (listed_at q) ∙ at_q) (sym (listed_at r) ∙ at_r)
 
   -- and all are even
-  pub even : (q : Place) (a : ℕ) → place_address here q ≡ Some a → (a % 2 ≡ 0) × (0 < a) × (a < 2 ^ 32)
+  pub even : (q : Place) (a : ℕ) → here.address q ≡ Some a → (a % 2 ≡ 0) × (0 < a) × (a < 2 ^ 32)
   even q a at = even_word q a (sym (listed_at q) ∙ at)

@@ -1,7 +1,7 @@
 -- The parts that are written are those of the layout, so the file is its image.
 use Rattle.std.proofs.Common.{◌≡◌, ◌∙◌, ◌-◌, ℕ, List, ap, sym, subst, length}
 use Rattle.std.proofs.lemmas.Result.{IfOk-weaker}
-use Rattle.elf32_write.specs.Image.{Fits, image_bytes}
+use Rattle.elf32_write.specs.Image.{NumbersFit, image_bytes}
 use Rattle.psabi_sym.specs.Data.{data_end, data_file_end}
 use Rattle.psabi_sym.specs.Inputs.{Inputs, parsed}
 use Rattle.zc_base.specs.declared.mem_map.MemMap.{MemMap}
@@ -11,9 +11,9 @@ use Rattle.zc_link.specs.TextLayout.{TextLayout}
 use Rattle.zc_link.proofs.Adds.{AreBytes}
 use Rattle.zc_link.proofs.ImageData.{length-image_data}
 use Rattle.zc_link.proofs.ImageFile.{HasDataRoom, fits, is_image}
-use Rattle.zc_link.proofs.image.write.Given as given
-use Rattle.zc_link.proofs.image.write.Goals as goal
-use Rattle.zc_link.proofs.image.write.Goals.{After-entry}
+use Rattle.zc_link.proofs.image.image_of.Given as given
+use Rattle.zc_link.proofs.image.image_of.Goals as goal
+use Rattle.zc_link.proofs.image.image_of.Goals.{After-entry}
 
 -- the parts of a layout's image, from each of them
 parts_same : (L : TextLayout) (flags : ℕ) (map : MemMap) (entry end : ℕ) (text bytes : List ℕ) (places : List (Place × ℕ)) → map ≡ L.inputs.map → entry ≡ L.entry
@@ -40,17 +40,17 @@ same : (g : given.Over) (c : After-entry g) → c.objects-objects.result.now ≡
 same g c = c.objects-objects.ensures.same ∙ c.cut.ensures.same
 
 -- the places are those that it lists
-places_same : (g : given.Over) (c : After-entry g) → c.args.laid.places.items ≡ listed_places (of g c)
+places_same : (g : given.Over) (c : After-entry g) → c.in_ok-laid.laid.places.items ≡ listed_places (of g c)
 unfolding listed_places
-places_same g c = c.requires.laid.listed
+places_same g c = c.in_ok-laid.ensures.listed
 
 -- the parts that are written
 written : (g : given.Over) (c : After-entry g)
-    → record { entry = c.entry.result; flags = c.args.flags; text_at = c.map-map.result.text; text = c.args.laid.text.items; data_at = c.map-map.result.data_low; data_bytes = c.args.bytes.items; zero = c.zeros_after-zero.result; places = c.args.laid.places.items }
-    ≡ parts_of (of g c) c.args.flags c.args.laid.text.items
+    → record { entry = c.entry.result; flags = c.args.flags; text_at = c.map-map.result.text; text = c.in_ok-laid.laid.text.items; data_at = c.map-map.result.data_low; data_bytes = c.in_ok-bytes.bytes.items; zero = c.zeros_after-zero.result; places = c.in_ok-laid.laid.places.items }
+    ≡ parts_of (of g c) c.args.flags c.in_ok-laid.laid.text.items
 written g c =
-    parts_same (of g c) c.args.flags c.map-map.result c.entry.result c.zeros_after-zero.result c.args.laid.text.items c.args.bytes.items c.args.laid.places.items
-    (c.map-map.ensures.value ∙ ap (λ (x : Inputs). x.map) (same g c)) c.entry.ensures (places_same g c) c.requires.bytes
+    parts_same (of g c) c.args.flags c.map-map.result c.entry.result c.zeros_after-zero.result c.in_ok-laid.laid.text.items c.in_ok-bytes.bytes.items c.in_ok-laid.laid.places.items
+    (c.map-map.ensures.value ∙ ap (λ (x : Inputs). x.map) (same g c)) c.entry.ensures (places_same g c) c.in_ok-bytes.ensures
     (c.zeros_after-zero.ensures.value ∙ ap (λ (x : Inputs). data_end (parsed x) - data_file_end (parsed x)) (same g c))
 
 -- what is known of the data
@@ -58,24 +58,24 @@ room : (g : given.Over) (c : After-entry g) → HasDataRoom (parsed (of g c).inp
 room g c = subst (λ (x : Inputs). HasDataRoom (parsed x)) (same g c) c.zeros_after-zero.ensures.most
 
 data_are : (g : given.Over) (c : After-entry g) → AreBytes (image_data (parsed (of g c).inputs) (of g c).address)
-data_are g c = subst AreBytes (c.deref.ensures.value ∙ c.requires.bytes) c.zeros_after-zero.ensures.range
+data_are g c = subst AreBytes (c.deref.ensures.value ∙ c.in_ok-bytes.ensures) c.zeros_after-zero.ensures.range
 
 pub zeros_after-zero-requires : goal.zeros_after-zero-requires
 zeros_after-zero-requires g c =
     let layout = g.L.Layout.layout c.args.layout.now in
-    ap length (c.deref.ensures.value ∙ c.requires.bytes) ∙ length-image_data (parsed layout.inputs) layout.address
+    ap length (c.deref.ensures.value ∙ c.in_ok-bytes.ensures) ∙ length-image_data (parsed layout.inputs) layout.address
     ∙ ap (λ (x : Inputs). data_file_end (parsed x) - x.map.data_low) (sym (c.objects-objects.ensures.same ∙ c.cut.ensures.same))
 
 pub write_image-requires : goal.write_image-requires
 write_image-requires g c =
     let a = (goal.at.write_image-requires g c).After-entry in
-    subst Fits (sym (written g a))
-    (fits (of g a) a.cut.ensures.ready a.cut.ensures.laid a.args.flags a.requires.flags (room g a) a.args.laid.text.items a.args.laid.places.items a.requires.laid (data_are g a))
+    subst NumbersFit (sym (written g a))
+    (fits (of g a) a.cut.ensures.ready a.cut.ensures.laid a.args.flags a.requires (room g a) a.in_ok-laid.laid.text.items a.in_ok-laid.laid.places.items a.in_ok-laid.ensures (data_are g a))
 
 pub returns-clause-image : goal.returns-clause-image
 returns-clause-image g c =
     let a = (goal.at.returns-clause-image g c).After-entry in
     IfOk-weaker c.write_image.result _ _
-    (λ elf bytes. is_image (of g a) a.cut.ensures.ready a.cut.ensures.laid a.args.flags a.requires.flags (room g a) a.args.laid.text.items a.args.laid.places.items a.requires.laid (data_are g a)
+    (λ elf bytes. is_image (of g a) a.cut.ensures.ready a.cut.ensures.laid a.args.flags a.requires (room g a) a.in_ok-laid.laid.text.items a.in_ok-laid.laid.places.items a.in_ok-laid.ensures (data_are g a)
     elf.items (bytes ∙ ap image_bytes (written g a)))
     c.write_image.ensures.bytes

@@ -1,0 +1,105 @@
+-- Where an instruction stands at pc that is no push or pop, an interrupt only writes bytes of the stack, and the instruction still
+-- stands there. So on a way of one commit it stands there until that is made, whatever interrupts come and cells are written.
+use Rattle.std.proofs.Common.{◌≡◌, ℕ, suc, ◌<◌, ◌≤◌, List, [], ◌∷◌, true, refl, sym, ap, ◌∙◌, subst, inl, arith, ltb}
+use Rattle.std.proofs.lemmas.Bool.{and_parts, cond_both}
+use Rattle.interrupt_plan.specs.Plan.{Interrupt}
+use Rattle.rv_decode.specs.declared.instr.Instr.{Instr}
+use Rattle.rv_decode.specs.Memory.{changed, extents_of, is_data, is_stack, is_text, lies_in, written}
+use Rattle.rv_decode.specs.State.{ZcCore, ZcState, byte_in, reg_in}
+use Rattle.rv_decode.proofs.MemoryLaws.{cell-changed, extents-changed, is_covered, lies_covered, stack_is_data, untouched}
+use Rattle.sym_machine.specs.Program.{Program}
+use Rattle.zc_decode.specs.declared.short.Short.TheVariants.{Base}
+use Rattle.zc_machine.specs.Fetch.{Found, fetched_at}
+use Rattle.zc_machine.specs.Interrupt.{all_dirtied, dirtied, interrupted, is_free}
+use Rattle.zc_machine.proofs.FetchLaws.{SameText, fetched_same}
+use Rattle.zc_link.specs.Image.{Image, loaded_core}
+use Rattle.zc_link.specs.Stretches.{OneAt}
+use Rattle.zc_link.specs.Room.{Room}
+use Rattle.zc_link.specs.DataApart.{Cuts, IsCell, OnWay, Pokes, Starts, Turns, poked}
+use Rattle.zc_link.proofs.Cuts.{cut-base}
+
+-- such an instruction stands at pc in the text, which is as it was loaded
+pub record AtBase (e : Image) (y : ZcCore) : Type 0 where
+  pub text : SameText (loaded_core e) y
+  pub instr : Instr
+  pub at : OneAt e y.pc (Base instr)
+
+-- so it is fetched
+pub base_fetched : {e : Image} {y : ZcCore} (b : AtBase e y) → fetched_at y y.pc ≡ Found (Base b.instr) b.at.size
+base_fetched {e} {y} b = fetched_same (loaded_core e) y b.text y.pc ∙ b.at.here
+
+-- z is y but for memory, whose text is as it was loaded
+pub record KeepsText (e : Image) (y z : ZcCore) : Type 0 where
+  pub rest : z ≡ record y { memory = z.memory }
+  pub text : SameText (loaded_core e) z
+
+-- then it still stands there
+base_kept : {e : Image} {y z : ZcCore} → AtBase e y → KeepsText e y z → AtBase e z
+base_kept {e} b kept = record { text = kept.text; instr = b.instr; at = subst (λ x. OneAt e x.pc (Base b.instr)) (sym kept.rest) b.at }
+
+-- ---- bytes of data and stack that are written
+
+module _ {p : Program} {e : Image} (room : Room p e) where
+  written_text :
+      (x b : ℕ) (y : ZcCore) → lies_in is_data (extents_of (loaded_core e).memory) x 1 ≡ true → SameText (loaded_core e) y
+      → SameText (loaded_core e) (record y { memory = changed (written x 1 (λ _. b)) y.memory })
+  written_text x b y held_there same = record {
+    extents = extents-changed (written x 1 (λ _. b)) y.memory ∙ same.extents;
+    text = λ a text.
+        let held : is_covered (extents_of y.memory) a ≡ true = ap (λ es. is_covered es a) same.extents ∙ lies_covered is_text (extents_of (loaded_core e).memory) a text in
+        cell-changed (written x 1 (λ _. b)) y.memory a 0 held
+        ∙ untouched x 1 (λ _. b) a (byte_in y a) (λ low high. other a text (omega (arith, low, high)))
+        ∙ same.text a text;
+  }
+    where
+      other : (a : ℕ) → lies_in is_text (extents_of (loaded_core e).memory) a 1 ≡ true → a ≡ x → ⊥
+      other a text is =
+          let none = room.apart a text in
+          let some = ap (λ k. lies_in is_data (extents_of (loaded_core e).memory) k 1) is ∙ held_there in
+          cc
+
+  pub poked_kept : (a b : ℕ) (z : ZcState) → IsCell p a → SameText (loaded_core e) z.core → KeepsText e z.core (poked a b z).core
+  poked_kept a b z cell same = record {
+    rest = refl;
+    text = written_text a b z.core (room.reaches a 1 (omega arith) (inl (cell.low, omega (arith, cell.high)))) same;
+  }
+
+  dirtied_kept : (d : ℕ × ℕ) (y : ZcCore) → SameText (loaded_core e) y → KeepsText e y (dirtied d y)
+  dirtied_kept d y same =
+      cond_both (is_free y d.0) (record y { memory = changed (written d.0 1 (λ i. d.1)) y.memory }) y (KeepsText e y)
+      (λ free.
+      let stack = (and_parts (lies_in is_stack (extents_of y.memory) d.0 1) (ltb d.0 (reg_in y 2)) free).0 in
+      let held = ap (λ es. lies_in is_data es d.0 1) (sym same.extents) ∙ stack_is_data (extents_of y.memory) d.0 1 stack in
+      record { rest = refl; text = written_text d.0 d.1 y held same })
+      (λ _. record { rest = refl; text = same })
+
+  all_dirtied_kept : (ds : List (ℕ × ℕ)) (y : ZcCore) → SameText (loaded_core e) y → KeepsText e y (all_dirtied ds y)
+  all_dirtied_kept [] y same = record { rest = refl; text = same }
+  all_dirtied_kept (d ∷ ds) y same =
+      let first = dirtied_kept d y same in
+      let later = all_dirtied_kept ds (dirtied d y) first.text in
+      record {
+        rest = later.rest ∙ ap {A = ZcCore} {B = ZcCore} (λ x. record x { memory = (all_dirtied ds (dirtied d y)).memory }) first.rest;
+        text = later.text;
+      }
+
+  pub cut_kept : (c : Interrupt) (y : ZcCore) → AtBase e y → KeepsText e y (interrupted c y)
+  cut_kept c y b = subst (KeepsText e y) (sym (cut-base c y b.instr b.at.size (base_fetched b))) (all_dirtied_kept c.dirt y b.text)
+
+  -- ---- one commit
+
+  module _ {From : ℕ → ZcState → Type 0} (from : (k : ℕ) (z : ZcState) → From k z → (k ≤ 1) × (0 < k → AtBase e z.core)) where
+    on_way : {k : ℕ} {z : ZcState} → OnWay p From k z → (k ≤ 1) × (0 < k → AtBase e z.core)
+    on_way (Starts k z is) = from k z is
+    on_way (Cuts k z c is way) =
+        let on = on_way way in
+        let at = on.1 (omega arith) in
+        (on.0, λ _. base_kept at (cut_kept c z.core at))
+    on_way (Pokes k z a b is small way) =
+        let on = on_way way in
+        let at = on.1 (omega arith) in
+        (on.0, λ _. base_kept at (poked_kept a b z is at.text))
+    on_way (Turns k z z' way turn) = let few = (on_way way).0 in (omega (arith, few), λ more. absurd (omega (arith, few, more)))
+
+    pub one_base : (k : ℕ) (z : ZcState) → OnWay p From (suc k) z → AtBase e z.core
+    one_base k z way = (on_way way).1 (omega arith)

@@ -1,0 +1,139 @@
+-- On both ways, from a sound pair and from the loaded image, an instruction that is no push or pop stands at pc as long as commits
+-- are left: a stretch of several commits has none that looks at memory, and one of one commit has one that the program goes on from.
+use Rattle.std.proofs.Common.{◌≡◌, ℕ, zero, suc, ◌<◌, List, [], ◌∷◌, Option, Some, None, Ok, refl, sym, ap, ◌∙◌, subst, inr, ⊎_elim, arith}
+use Rattle.std.specs.Prelude.{◌⊎◌}
+use Rattle.std.proofs.lemmas.Bool.{cases_lt}
+use Rattle.zc_base.specs.declared.place.Place.{Place}
+use Rattle.rv_decode.specs.declared.instr.BranchOp.{BranchOp}
+use Rattle.rv_decode.specs.declared.instr.Instr.{Instr}
+use Rattle.rv_decode.specs.declared.instr.Instr.TheVariants as instr
+use Rattle.rv_decode.specs.declared.instr.Instr.TheVariants.{Jal, Jalr, Upper}
+use Rattle.rv_decode.specs.declared.instr.UpperOp.TheVariants.{Auipc}
+use Rattle.rv_decode.specs.Run.{iterate}
+use Rattle.rv_decode.specs.State.{ZcCore, ZcState}
+use Rattle.rv_decode.proofs.RunLaws.{bind_ok}
+use Rattle.block_cut.specs.declared.item.Item.{Item}
+use Rattle.block_cut.specs.declared.item.Item.TheVariants.{Op, Hi, Lo, PcHi, PcLo, Branch, Jump, Call, Align, Word, Raw, RawPair}
+use Rattle.sym_machine.specs.Change.{Change, Goes, item_does}
+use Rattle.sym_machine.specs.Program.{Program}
+use Rattle.sym_machine.specs.Run.{plain_turn}
+use Rattle.sym_machine.specs.State.{PlainCore, PlainState}
+use Rattle.sym_machine.proofs.RunLaws.{stepped}
+use Rattle.zc_decode.specs.declared.short.Short.TheVariants.{Base}
+use Rattle.zc_link.specs.Image.{Image}
+use Rattle.zc_link.specs.Laid.{Laid}
+use Rattle.zc_link.specs.Pace.{AlignOf, Alone, CallOf, LongOf, Stretch, commits_of, pace_of, span_of}
+use Rattle.zc_link.specs.Stretches.{ItemLaid, LongLaid, OneAt, StretchLaid}
+use Rattle.zc_link.specs.DataApart.{Cuts, FromLoad, FromPair, OnWay, Pokes, Starts, Turns, all_poked, poked_plain}
+use Rattle.zc_link.specs.Sound.{Alike}
+use Rattle.zc_link.proofs.AtBase.{AtBase, one_base}
+use Rattle.zc_link.proofs.Bare.{Bares, OnBare, bares_base, nops_bare, two_bare}
+use Rattle.zc_link.proofs.Longs.{goes_over, known_taken}
+use Rattle.zc_link.proofs.Start.{no_lead}
+
+-- ---- what the program goes on from
+
+-- of an item that is one instruction, that instruction
+item_base :
+    (p : Program) {e : Image} (q next : Place) {a : ℕ} (s : PlainCore) {c : Change} (o : Option Item) → ItemLaid p e q a o → item_does p o s next ≡ Goes c
+    → (i : Instr) × OneAt e a (Base i)
+item_base p q next s None laid goes = absurd cc
+item_base p q next s (Some (Op i)) laid goes = (laid.laid.here, laid.laid.at)
+item_base p q next s (Some (Hi i t)) laid goes = (laid.laid.here, laid.laid.at)
+item_base p q next s (Some (Lo i t)) laid goes = (laid.laid.here, laid.laid.at)
+item_base p q next s (Some (PcHi i t)) laid goes = (laid.laid.here, laid.laid.at)
+item_base p q next s (Some (PcLo i from)) laid goes = (laid.laid.here, laid.laid.at)
+item_base p q next s (Some (Branch op first second to)) laid goes = (laid.laid.here, laid.laid.at)
+item_base p q next s (Some (Jump rd to)) laid goes = (laid.laid.here, laid.laid.at)
+item_base p q next s (Some (Call rd temp to)) laid goes = (laid.laid.here, laid.laid.at)
+item_base p q next s (Some (Align bytes)) laid goes = absurd laid
+item_base p q next s (Some (Word t)) laid goes = absurd cc
+item_base p q next s (Some (Raw word)) laid goes = absurd cc
+item_base p q next s (Some (RawPair first second)) laid goes = absurd cc
+
+-- cells of data that are written leave the program where it is
+poked_place : (cells : List (ℕ × ℕ)) (r : PlainState) → (all_poked cells r).core.place ≡ r.core.place
+poked_place [] r = refl
+poked_place (c ∷ cs) r = poked_place cs (poked_plain c r)
+
+poked_exit : (cells : List (ℕ × ℕ)) (r : PlainState) → (all_poked cells r).core.exit ≡ r.core.exit
+poked_exit [] r = refl
+poked_exit (c ∷ cs) r = poked_exit cs (poked_plain c r)
+
+module _ {p : Program} {Named : Place → Type 0} {e : Image} {stretch : Place → Stretch} (laid : Laid p Named e stretch) where
+  -- ---- stretches of several instructions
+
+  -- a long branch of two commits is taken, so its first instruction goes on to the jump
+  long_bare :
+      (s : PlainCore) (y : ZcCore) (op : BranchOp) (first second : ℕ) → Alike p Named e s y → LongLaid p e s.place y.pc op first second
+      → 1 < commits_of p s (LongOf op first second) → Bares e (commits_of p s (LongOf op first second)) y.regs y.pc
+  long_bare s y op first second al long more =
+      let taken = known_taken p s op first second more in
+      subst (λ n. Bares e n y.regs y.pc) (sym taken.commits)
+      (two_bare e y.regs y.pc (instr.Branch long.other first second long.over) (Jal 0 long.distance) tt (goes_over s y laid.room al long taken.is) tt long.at)
+
+  -- a stretch of several instructions has none that looks at memory
+  stretch_bare :
+      (s : PlainCore) (y : ZcCore) (x : Stretch) → Alike p Named e s y → StretchLaid p e s.place y.pc x → (1 < span_of x) ⊎ (1 < commits_of p s x)
+      → Bares e (commits_of p s x) y.regs y.pc
+  stretch_bare s y Alone al item more = ⊎_elim (λ steps. absurd (omega (arith, steps))) (λ commits. absurd (omega (arith, commits))) more
+  stretch_bare s y (AlignOf count) al align more = nops_bare e count y.regs y.pc align.end align.nops
+  stretch_bare s y CallOf al call more = two_bare e y.regs y.pc (Upper Auipc call.temp call.upper) (Jalr call.rd call.temp call.lower) tt tt tt call.at
+  stretch_bare s y (LongOf op first second) al long more =
+      ⊎_elim (λ steps. absurd (omega (arith, steps))) (λ commits. long_bare s y op first second al long commits) more
+
+  -- ---- from a sound pair
+
+  module _ (r : PlainState) where
+    abbrev From : ℕ → ZcState → Type 0
+    From = FromPair p Named e (pace_of p stretch) r
+
+    pub pair_bare :
+        (1 < span_of (stretch r.core.place)) ⊎ (1 < commits_of p r.core (stretch r.core.place)) → (k : ℕ) (z : ZcState) → From k z → OnBare e k z
+    pair_bare more k z from = record {
+      going = from.sound.alike.going;
+      same = record { extents = from.sound.alike.extents; text = from.sound.alike.text };
+      bares = subst (λ n. Bares e n z.core.regs z.core.pc) (sym from.commits)
+          (stretch_bare r.core z.core (stretch r.core.place) from.sound.alike (laid.each r.core.place z.core.pc from.sound.place) more);
+    }
+
+    first_base : (k : ℕ) (z : ZcState) → From k z → 0 < k → (i : Instr) × OneAt e z.core.pc (Base i)
+    first_base k z from some =
+        by (stretch r.core.place) (laid.each r.core.place z.core.pc from.sound.place) from.steps (let same = from.commits in omega (arith, same, some))
+      where
+        by :
+            (x : Stretch) → StretchLaid p e r.core.place z.core.pc x → iterate (plain_turn p) (span_of x) (all_poked from.cells r) ≡ Ok from.after
+            → 0 < commits_of p r.core x → (i : Instr) × OneAt e z.core.pc (Base i)
+        by Alone item steps more =
+            let r1 = all_poked from.cells r in
+            let first = bind_ok (plain_turn p r1) (iterate (plain_turn p) 0) from.after steps in
+            let step = stepped p r1 first.0 (poked_exit from.cells r ∙ from.sound.alike.running) first.1 in
+            item_base p r.core.place (p.next r1.core.place) r1.core (p.item r.core.place) item
+            (ap (λ q. item_does p (p.item q) r1.core (p.next r1.core.place)) (sym (poked_place from.cells r)) ∙ step.does)
+        by (AlignOf zero) align steps more = absurd (omega (arith, more))
+        by (AlignOf (suc count)) align steps more = (_, align.nops.0)
+        by CallOf call steps more = (_, call.at.one)
+        by (LongOf op first second) long steps more = (_, long.at.one)
+
+    pub pair_base : (k : ℕ) (z : ZcState) → OnWay p From (suc k) z → AtBase e z.core
+    pair_base = ⊎_elim
+        (λ more. bares_base laid.room (pair_bare (inr more)))
+        (λ few. one_base laid.room (λ k z from. (
+          (let same = from.commits in omega (arith, same, few)),
+          λ some.
+              let at = first_base k z from some in
+              record { text = record { extents = from.sound.alike.extents; text = from.sound.alike.text }; instr = at.0; at = at.1 },
+        )))
+        (cases_lt 1 (commits_of p r.core (stretch r.core.place)))
+
+  -- ---- from the loaded image
+
+  -- no commit comes before the start
+  pub none_left : {k : ℕ} {z : ZcState} → OnWay p (FromLoad p e) k z → k ≡ 0
+  none_left (Starts k z from) = from.commits ∙ no_lead laid
+  none_left (Cuts k z c is way) = none_left way
+  none_left (Pokes k z a b is small way) = none_left way
+  none_left (Turns k z z' way turn) = absurd (omega (arith, none_left way))
+
+  pub lead_base : (k : ℕ) (z : ZcState) → OnWay p (FromLoad p e) (suc k) z → AtBase e z.core
+  lead_base k z way = absurd (omega (arith, none_left way))

@@ -1,0 +1,69 @@
+-- What a simulation demands of interrupts and commits if others write cells of data between them: on the way from one sound pair
+-- to the next they do the same whatever data hold.
+use Rattle.std.specs.Prelude.{◌≡◌, ℕ, suc, ◌<◌, ◌≤◌, List, [], ◌∷◌, All, Ok}
+use Rattle.zc_base.specs.declared.place.Place.{Place}
+use Rattle.interrupt_plan.specs.Plan.{Interrupt, IsInterrupt}
+use Rattle.rv_decode.specs.Memory.{changed, written}
+use Rattle.rv_decode.specs.Run.{iterate}
+use Rattle.rv_decode.specs.State.{ZcState}
+use Rattle.sym_machine.specs.declared.word.SymByte.TheVariants.{Num}
+use Rattle.sym_machine.specs.Program.{Program, data_high}
+use Rattle.sym_machine.specs.Run.{plain_turn}
+use Rattle.sym_machine.specs.State.{PlainState}
+use Rattle.zc_machine.specs.Interrupt.{interrupted}
+use Rattle.zc_machine.specs.Run.{first_state, zc_turn}
+use Rattle.zc_link.specs.Image.{Image, loaded_core}
+use Rattle.zc_link.specs.Pace.{Pace, lead_of}
+use Rattle.zc_link.specs.Sound.{Sound}
+
+-- an address of data
+pub record IsCell (p : Program) (a : ℕ) : Type 0 where
+  pub low : p.map.data_low ≤ a
+  pub high : a < data_high p
+
+-- the machine's byte at an address becomes this, and the program's does
+abbrev pub poked : ℕ → ℕ → ZcState → ZcState
+poked a b z = record z { core = record z.core { memory = changed (written a 1 (λ _. b)) z.core.memory } }
+
+abbrev pub poked_plain : ℕ × ℕ → PlainState → PlainState
+poked_plain c r = record r { core = record r.core { memory = changed (written c.0 1 (λ _. Num c.1)) r.core.memory } }
+
+abbrev pub all_poked : List (ℕ × ℕ) → PlainState → PlainState
+all_poked [] r = r
+all_poked (c ∷ cs) r = all_poked cs (poked_plain c r)
+
+-- a sound pair with all its commits left; with some cells of data written the program isn't stuck on the way
+pub record FromPair (p : Program) (Named : Place → Type 0) (e : Image) (pace : Pace) (r : PlainState) (k : ℕ) (z : ZcState) : Type 0 where
+  pub commits : k ≡ pace.weight r.core
+  pub sound : Sound p Named e r.core z
+  pub cells : List (ℕ × ℕ)
+  pub are : All (λ c. IsCell p c.0 × (c.1 < 256)) cells
+  pub after : PlainState
+  pub steps : iterate (plain_turn p) (pace.span r.core.place) (all_poked cells r) ≡ Ok after
+
+-- the machine's first state, with all commits before the program's start left
+pub record FromLoad (p : Program) (e : Image) (k : ℕ) (z : ZcState) : Type 0 where
+  pub commits : k ≡ lead_of p e
+  pub input : List ℕ
+  pub bytes : All (λ b. b < 256) input
+  pub loads : z ≡ first_state (loaded_core e) input
+
+-- a state on the way from one of these to the end of its commits, of which so many are left: interrupts come, cells of data
+-- are written, and commits are made
+pub data OnWay (p : Program) (From : ℕ → ZcState → Type 0) : ℕ → ZcState → Type 0 where
+  Starts : (k : ℕ) (z : ZcState) → From k z → OnWay p From k z
+  Cuts : (k : ℕ) (z : ZcState) (c : Interrupt) → IsInterrupt c → OnWay p From (suc k) z → OnWay p From (suc k) (record z { core = interrupted c z.core })
+  Pokes : (k : ℕ) (z : ZcState) (a b : ℕ) → IsCell p a → b < 256 → OnWay p From (suc k) z → OnWay p From (suc k) (poked a b z)
+  Turns : (k : ℕ) (z z' : ZcState) → OnWay p From (suc k) z → zc_turn [] z ≡ Ok z' → OnWay p From k z'
+
+-- on the way an interrupt does the same whatever data hold
+abbrev pub CutsApart : Program → (ℕ → ZcState → Type 0) → Type 0
+CutsApart p From =
+    (k : ℕ) (z : ZcState) → OnWay p From (suc k) z → (c : Interrupt) → IsInterrupt c → (a b : ℕ) → IsCell p a → b < 256
+    → interrupted c (poked a b z).core ≡ (poked a b (record z { core = interrupted c z.core })).core
+
+-- and so does a commit, which therefore leaves data as they are
+abbrev pub CommitsApart : Program → (ℕ → ZcState → Type 0) → Type 0
+CommitsApart p From =
+    (k : ℕ) (z z' : ZcState) → OnWay p From (suc k) z → zc_turn [] z ≡ Ok z' → (a b : ℕ) → IsCell p a → b < 256
+    → zc_turn [] (poked a b z) ≡ Ok (poked a b z')
