@@ -10,7 +10,7 @@ use Rattle.zc_outside.proofs.Shelf.{OnlyPuts-refl}
 use Rattle.zc_outside.proofs.Wanted.{AreRead-AreHeld, AreRead-not-long, AreRead-same, AreUnread-sure}
 use Rattle.zcld.specs.declared.outcome.Outcome.{Outcome}
 use Rattle.zcld.specs.declared.outcome.Outcome.TheVariants.{Usage, ReadFault, WriteFault, OutOfMemory}
-use Rattle.zcld.specs.Call.{Answers, Counts, IsClean, IsFileRead, IsNoFault, IsSure, Reports, TellsAll}
+use Rattle.zcld.specs.Call.{Answers, CountsFaults, IsClean, IsFileRead, IsNoFault, IsSure, Reports, TellsAll}
 use Rattle.zcld.specs.Input.{IsShortInput}
 use Rattle.zcld.specs.Task.{OnlyRead, Performs, Task, UnreadCause}
 
@@ -132,7 +132,7 @@ line_moves text before after line = record {
 }
 
 -- what an outside that is sure counts over reading, work and the line
-all_counts : (task : Task) (a b c d : World) → OnlyRead task.wanted a b → Moves b c → Moves c d → Counts task a d
+all_counts : (task : Task) (a b c d : World) → OnlyRead task.wanted a b → Moves b c → Moves c d → CountsFaults task a d
 all_counts task a b c d read work line = record {
   store = λ sure held.
       let counted = read.shelf.counted sure held in
@@ -262,5 +262,5 @@ module _ (task : Task) (Work : List (List ℕ) → Outcome → World → World �
       sure = λ sure. elim ended [ inl answer ↦ answer_fault outcome answer | inr stopped ↦ absurd (stopped.unsure told tells sure) ];
     }
 
-    pub performed_counts : Counts task before after
+    pub performed_counts : CountsFaults task before after
     performed_counts = let world = moved in all_counts task before world.0 left after world.1 world.2 (line_moves text left after line)

@@ -7,9 +7,9 @@ use Rattle.std.specs.Str.{bytes_eq}
 use Rattle.std.specs.String.{string_bytes}
 use Rattle.std.specs.List.{list_all, position, prefix_len, zip}
 use Rattle.std.specs.Option.{option_and_then, option_copied, option_map}
-use Rattle.zcld.specs.declared.command_line.Form.{Form}
+use Rattle.zcld.specs.declared.command_line.Syntax.{Syntax}
 use Rattle.zcld.specs.declared.command_line.OptionForm.{OptionForm}
-use Rattle.zcld.specs.Command.{begins_with_dash, form_of, is_complete, option_of, spelled_from, takes_words, texts, with_value, words_of}
+use Rattle.zcld.specs.Command.{begins_with_dash, held_words, is_complete, option_of, spelled_from, syntax_of, takes_words, texts, with_value}
 
 -- how many elements pass first
 prefix_len-map : {X Y : Type 0} (p : Y → Bool) (f : X → Y) (xs : List X) → prefix_len p (map f xs) ≡ prefix_len (λ x. p (f x)) xs
@@ -30,8 +30,8 @@ required_held (option ∷ options) (None ∷ values) = ap (λ b. (not option.req
 required_held (option ∷ options) (Some value ∷ values) = ap (λ b. (not option.required || true) && b) (required_held options values)
 
 -- the test of all that was read
-pub complete_held : {A : Type 0} (form : Form) (values : List (Option (Bor (List ℕ)))) (positional : List (String A))
-    → is_complete (form_of form) (words_of values positional)
+pub complete_held : {A : Type 0} (form : Syntax) (values : List (Option (Bor (List ℕ)))) (positional : List (String A))
+    → is_complete (syntax_of form) (held_words values positional)
     ≡ (list_all (λ (option, value). not option.required || is_some value) (zip form.options.now values)
     && takes_words form.positional (length positional) && list_all (λ word. not (begins_with_dash (string_bytes word))) positional)
 unfolding is_complete
@@ -46,8 +46,8 @@ is_some-copied (Some value ∷ values) zero = refl
 is_some-copied (value ∷ values) (suc place) = is_some-copied values place
 
 -- one more value
-pub with_value_held : (form : Form) (values : List (Option (Bor (List ℕ)))) (name : List ℕ) (value : Bor (List ℕ))
-    → with_value (form_of form) (map option_copied values) name value.now
+pub with_value_held : (form : Syntax) (values : List (Option (Bor (List ℕ)))) (name : List ℕ) (value : Bor (List ℕ))
+    → with_value (syntax_of form) (map option_copied values) name value.now
     ≡ option_map (map option_copied) (option_and_then (λ place. if is_some (get_or values place None) then None else Some (set values place (Some value)))
     (position (λ option. bytes_eq option.name.now name) form.options.now))
 unfolding with_value
@@ -66,11 +66,11 @@ with_value_held form values name value =
     at_place (Some place) = rw (is_some-copied values place) (by_taken place (is_some (get_or values place None)))
 
 -- one step of the loop: an option and its value are taken from the words
-pub next_held : {A : Type 0} (form : Form) (values values' : List (Option (Bor (List ℕ)))) (rest : List (String A)) (option value : String A)
+pub next_held : {A : Type 0} (form : Syntax) (values values' : List (Option (Bor (List ℕ)))) (rest : List (String A)) (option value : String A)
     → 2 ≤ length rest → option ≡ get_or rest 0 option → value ≡ get_or rest 1 value
     → begins_with_dash (string_bytes option) ≡ true → begins_with_dash (string_bytes value) ≡ false
-    → Some (map option_copied values') ≡ with_value (form_of form) (map option_copied values) (string_bytes option) (string_bytes value)
-    → spelled_from (form_of form) (map option_copied values') (texts (take (length rest - 2) (drop 2 rest))) ≡ spelled_from (form_of form) (map option_copied values) (texts rest)
+    → Some (map option_copied values') ≡ with_value (syntax_of form) (map option_copied values) (string_bytes option) (string_bytes value)
+    → spelled_from (syntax_of form) (map option_copied values') (texts (take (length rest - 2) (drop 2 rest))) ≡ spelled_from (syntax_of form) (map option_copied values) (texts rest)
 next_held form values values' [] option value long first second is_option is_value given = absurd (omega arith)
 next_held form values values' (x ∷ []) option value long first second is_option is_value given = absurd (omega arith)
 next_held form values values' (x ∷ y ∷ rest) option value long first second is_option is_value given =

@@ -23,14 +23,34 @@ use Rattle.zcld.specs.Zc.{ZcWork}
 
 -- what each command does outside; the standard map is that of all of them
 abbrev pub task_of : Command → Task
-task_of (Plain out objects) =
-    record { wanted = objects_wanted objects; refusal = objects_refusal standard_map; puts = true; takes = false; writes = true }
-task_of (Zc out cert objects) =
-    record { wanted = objects_wanted objects; refusal = objects_refusal standard_map; puts = true; takes = false; writes = false }
-task_of (Run steps image) =
-    record { wanted = image_wanted image; refusal = image_refusal standard_map; puts = false; takes = true; writes = true }
-task_of (Trace steps objects) =
-    record { wanted = objects_wanted objects; refusal = objects_refusal standard_map; puts = false; takes = true; writes = true }
+task_of (Plain out objects) = record {
+  wanted = objects_wanted objects;
+  refusal = objects_refusal standard_map;
+  puts = true;
+  takes = false;
+  writes = true;
+}
+task_of (Zc out cert objects) = record {
+  wanted = objects_wanted objects;
+  refusal = objects_refusal standard_map;
+  puts = true;
+  takes = false;
+  writes = false;
+}
+task_of (Run steps image) = record {
+  wanted = image_wanted image;
+  refusal = image_refusal standard_map;
+  puts = false;
+  takes = true;
+  writes = true;
+}
+task_of (Trace steps objects) = record {
+  wanted = objects_wanted objects;
+  refusal = objects_refusal standard_map;
+  puts = false;
+  takes = true;
+  writes = true;
+}
 
 -- the work of each command, once its files are read and accepted
 abbrev pub work_of : Command → List (List ℕ) → Outcome → World → World → Type 0
@@ -40,9 +60,15 @@ work_of (Run steps image) = RunWork steps
 work_of (Trace steps objects) = TraceWork steps
 
 -- what words do: without a command it is Usage, and nothing is done
-abbrev pub Does : Option Command → List (List ℕ) → Outcome → World → World → Type 0
-Does None files outcome before after = (outcome ≡ Usage) × (after ≡ before)
-Does (Some command) files outcome before after = Performs (task_of command) (work_of command) files outcome before after
+abbrev pub CarriesOut : Option Command → List (List ℕ) → Outcome → World → World → Type 0
+CarriesOut None files outcome before after = (outcome ≡ Usage) × (after ≡ before)
+CarriesOut (Some command) files outcome before after = Performs (task_of command) (work_of command) files outcome before after
+
+-- the command did this with the files that it read, and the outcome's line is the same for the files that are left
+pub record DoesWith (command : Option Command) (left : List (List ℕ)) (outcome : Outcome) (before after : World) : Type 0 where
+  pub files : List (List ℕ)
+  pub does : CarriesOut command files outcome before after
+  pub line : err_line left outcome ≡ err_line files outcome
 
 -- ---- the outcome's line
 
@@ -50,7 +76,8 @@ Does (Some command) files outcome before after = Performs (task_of command) (wor
 abbrev pub WritesLine : List ℕ → Desk → Desk → Type 0
 WritesLine text before after =
     Adds before.err after.err text
-    ⊎ ((Rose before.write_faults after.write_faults ⊎ Rose before.write_memory_faults after.write_memory_faults) × AddsPart before.err after.err text)
+    ⊎ ((Rose before.write_faults after.write_faults ⊎ Rose before.write_memory_faults after.write_memory_faults)
+    × AddsPart before.err after.err text)
 
 -- the outcome's line is written, and nothing else is done
 pub record Reports (text : List ℕ) (before after : World) : Type 0 where
@@ -75,11 +102,14 @@ pub record IsFileRead (before after : World) : Type 0 where
 pub record IsClean (task : Task) (before after : World) : Type 0 where
   pub read : IsFileRead before after
   pub put : IsTrue task.puts → ¬ Rose before.shelf.write_faults after.shelf.write_faults
-  pub taken : IsTrue task.takes → (¬ Rose before.desk.read_faults after.desk.read_faults) × (¬ RoseAbove INPUT_LIMIT before.desk.taken after.desk.taken)
+  pub taken :
+      IsTrue task.takes →
+      (¬ Rose before.desk.read_faults after.desk.read_faults)
+      × (¬ RoseAbove INPUT_LIMIT before.desk.taken after.desk.taken)
   pub written : IsTrue task.writes → ¬ Rose before.desk.write_faults after.desk.write_faults
 
--- the store is sure, and so is the console, if the command writes to it or takes its input, of which it then tells that it isn't
--- too long
+-- the store is sure, and so is the console, if the command writes to it or takes its input, of which it then tells that
+-- it isn't too long
 pub record IsSure (task : Task) (before : World) : Type 0 where
   pub store : IsTrue before.shelf.sure
   pub console : IsTrue task.takes → IsTrue before.desk.sure × IsShortInput before.desk.input
@@ -93,13 +123,15 @@ pub record IsNoFault (outcome : Outcome) : Type 0 where
 -- what a command's outcome says, if its files are told:
 pub record Answers (task : Task) (outcome : Outcome) (files : List (List ℕ)) (before after : World) : Type 0 where
   -- a refusal that their bytes have is named, whatever else goes wrong
-  pub names : (refused : Outcome) → task.refusal files ≡ Some refused → IsFileRead before after → (outcome ≡ refused) ⊎ (outcome ≡ OutOfMemory)
+  pub names :
+      (refused : Outcome) → task.refusal files ≡ Some refused → IsFileRead before after →
+      (outcome ≡ refused) ⊎ (outcome ≡ OutOfMemory)
   -- with nothing counted, and over an outside that is sure, it is no fault of the outside
   pub complete : IsClean task before after → IsNoFault outcome
   pub sure : IsSure task before → IsNoFault outcome
 
 -- what an outside that is sure counts
-pub record Counts (task : Task) (before after : World) : Type 0 where
+pub record CountsFaults (task : Task) (before after : World) : Type 0 where
   -- a store that is sure and holds the files counts no fault, and a long file only if one of them is
   pub store :
       IsTrue before.shelf.sure → AreHeld before.shelf.files task.wanted →
@@ -124,8 +156,10 @@ pub record Calls (command : Option Command) (outcome : Outcome) (before after : 
   -- the files that were read
   pub files : List (List ℕ)
   pub left : World
-  pub does : Does command files outcome before left
+  pub does : CarriesOut command files outcome before left
   pub line : Reports (err_line files outcome) left after
   -- and what follows from that
-  pub answers : IfCommand command (λ task. (told : List (List ℕ)) → TellsAll before.shelf.files task.wanted told → Answers task outcome told before after)
-  pub counts : IfCommand command (λ task. Counts task before after)
+  pub answers : IfCommand command
+      (λ task.
+      (told : List (List ℕ)) → TellsAll before.shelf.files task.wanted told → Answers task outcome told before after)
+  pub counts : IfCommand command (λ task. CountsFaults task before after)

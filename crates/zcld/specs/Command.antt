@@ -10,7 +10,7 @@ use Rattle.std.specs.String.{string_bytes}
 use Rattle.zcld.specs.declared.command_line.TheConstants.{MOST_DIGITS, MOST_STEPS, USUAL_STEPS}
 use Rattle.zcld.specs.declared.command_line.CommandLine.{CommandLine}
 use Rattle.zcld.specs.declared.command_line.CommandLine.TheVariants as line
-use Rattle.zcld.specs.declared.command_line.Form as code_form
+use Rattle.zcld.specs.declared.command_line.Syntax as code_form
 use Rattle.zcld.specs.declared.command_line.OptionForm as code_option
 use Rattle.zcld.specs.declared.command_line.Positional.{Positional}
 use Rattle.zcld.specs.declared.command_line.Positional.TheVariants.{Exactly, OneOrMore}
@@ -49,7 +49,7 @@ pub record OptionForm : Type 0 where
   pub required : Bool
 
 -- what comes after a command's name: options in any order, and then positional words
-pub record Form : Type 0 where
+pub record Syntax : Type 0 where
   pub options : List OptionForm
   pub positional : Positional
 
@@ -67,19 +67,19 @@ abbrev pub optional : List ℕ → OptionForm
 optional name = record { name = name; required = false }
 
 -- `plain --out OUT OBJ...`
-abbrev pub plain_form : Form
+abbrev pub plain_form : Syntax
 plain_form = record { options = required (codes "--out") ∷ []; positional = OneOrMore }
 
 -- `zc --out OUT --cert CERT OBJ...`
-abbrev pub zc_form : Form
+abbrev pub zc_form : Syntax
 zc_form = record { options = required (codes "--out") ∷ required (codes "--cert") ∷ []; positional = OneOrMore }
 
 -- `run [--steps N] IMAGE`
-abbrev pub run_form : Form
+abbrev pub run_form : Syntax
 run_form = record { options = optional (codes "--steps") ∷ []; positional = Exactly 1 }
 
 -- `trace [--steps N] OBJ...`
-abbrev pub trace_form : Form
+abbrev pub trace_form : Syntax
 trace_form = record { options = optional (codes "--steps") ∷ []; positional = OneOrMore }
 
 -- ---- the words of a form
@@ -89,13 +89,14 @@ pub data Spelled : Type 0 where
   Words : (values : List (Option (List ℕ))) (positional : List (List ℕ)) → Spelled
 
 -- the values with one more: its option is one of the form's, and has none yet
-unfoldable pub with_value : Form → List (Option (List ℕ)) → List ℕ → List ℕ → Option (List (Option (List ℕ)))
+unfoldable pub with_value : Syntax → List (Option (List ℕ)) → List ℕ → List ℕ → Option (List (Option (List ℕ)))
 with_value form values name value =
-    option_and_then (λ place. if is_some (slice_index_or values place None) then None else Some (slice_set values place (Some value)))
+    option_and_then
+    (λ place. if is_some (slice_index_or values place None) then None else Some (slice_set values place (Some value)))
     (position (λ option. bytes_eq option.name name) form.options)
 
 -- what words spell after these values: options, each with its value in the next word, and then the positional words
-abbrev pub spelled_from : Form → List (Option (List ℕ)) → List (List ℕ) → Option Spelled
+abbrev pub spelled_from : Syntax → List (Option (List ℕ)) → List (List ℕ) → Option Spelled
 spelled_from form values [] = Some (Words values [])
 spelled_from form values (word ∷ []) = Some (Words values (word ∷ []))
 spelled_from form values (option ∷ value ∷ words) =
@@ -104,20 +105,16 @@ spelled_from form values (option ∷ value ∷ words) =
     option_and_then (λ more. spelled_from form more words) (with_value form values option value))
 
 -- no required option is missing, and the positional words are as many as the form has, and none of them is an option
-unfoldable pub is_complete : Form → Spelled → Bool
+unfoldable pub is_complete : Syntax → Spelled → Bool
 is_complete form (Words values positional) =
     list_all (λ (option, value). not option.required || is_some value) (zip form.options values)
     && takes_words form.positional (length positional) && list_all (λ word. not (begins_with_dash word)) positional
 
--- the values before any option
-abbrev pub no_values : Form → List (Option (List ℕ))
-no_values form = map (λ option. None) form.options
-
--- what the words after a command's name spell
-unfoldable pub spelled : Form → List (List ℕ) → Option Spelled
-spelled form words =
+-- what the words after a command's name spell, beginning without any value
+unfoldable pub spelled_words : Syntax → List (List ℕ) → Option Spelled
+spelled_words form words =
     option_and_then (λ found. if is_complete form found then Some found else None)
-    (spelled_from form (no_values form) words)
+    (spelled_from form (map (λ option. None) form.options) words)
 
 -- ---- what the words mean
 
@@ -150,10 +147,10 @@ trace_of other = None
 abbrev pub command_of : List (List ℕ) → Option Command
 command_of [] = None
 command_of (name ∷ words) =
-    if bytes_eq name (codes "plain") then option_and_then plain_of (spelled plain_form words) else
-    (if bytes_eq name (codes "zc") then option_and_then zc_of (spelled zc_form words) else
-    (if bytes_eq name (codes "run") then option_and_then run_of (spelled run_form words) else
-    (if bytes_eq name (codes "trace") then option_and_then trace_of (spelled trace_form words) else None)))
+    if bytes_eq name (codes "plain") then option_and_then plain_of (spelled_words plain_form words) else
+    (if bytes_eq name (codes "zc") then option_and_then zc_of (spelled_words zc_form words) else
+    (if bytes_eq name (codes "run") then option_and_then run_of (spelled_words run_form words) else
+    (if bytes_eq name (codes "trace") then option_and_then trace_of (spelled_words trace_form words) else None)))
 
 -- ---- as the program holds them
 
@@ -169,9 +166,9 @@ abbrev pub option_of : code_option.OptionForm → OptionForm
 option_of option = record { name = option.name.now; required = option.required }
 
 -- a form
-abbrev pub form_of : code_form.Form → Form
-form_of form = record { options = map option_of form.options.now; positional = form.positional }
+abbrev pub syntax_of : code_form.Syntax → Syntax
+syntax_of form = record { options = map option_of form.options.now; positional = form.positional }
 
 -- values and positional words
-abbrev pub words_of : {A : Type 0} → List (Option (Bor (List ℕ))) → List (String A) → Spelled
-words_of values positional = Words (map option_copied values) (texts positional)
+abbrev pub held_words : {A : Type 0} → List (Option (Bor (List ℕ))) → List (String A) → Spelled
+held_words values positional = Words (map option_copied values) (texts positional)

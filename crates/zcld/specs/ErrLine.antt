@@ -1,5 +1,5 @@
 -- The line that names an outcome on standard error, and the status that the program ends with.
-use Rattle.std.specs.Prelude.{ℕ, ◌+◌, ◌/◌, ◌%◌, ◌^◌, nat_lt, if◌then◌else◌, is_none, List, [], ◌∷◌, ◌++◌, codes, decimal, slice_get, Option, Some, None}
+use Rattle.std.specs.Prelude.{◌≡◌, ℕ, ◌+◌, ◌/◌, ◌%◌, ◌^◌, nat_lt, if◌then◌else◌, is_none, List, [], ◌∷◌, ◌++◌, codes, decimal, slice_get, Option, Some, None}
 use Rattle.std.specs.Option.{option_and_then, option_map}
 use Rattle.elf32_read.specs.declared.fault.Fault.{Fault}
 use Rattle.elf32_read.specs.Fault.{fault_number, fault_name, fault_symbol}
@@ -21,16 +21,19 @@ line text = text ++ 10 ∷ []
 
 -- a refusal names the object by its index, and the fault by its number and name
 abbrev pub refusal_text : ℕ → Fault → List ℕ
-refusal_text i fault = codes "refused " ++ decimal i ++ codes " " ++ decimal (fault_number fault) ++ codes " " ++ fault_name fault
+refusal_text i fault =
+    codes "refused " ++ decimal i ++ codes " " ++ decimal (fault_number fault) ++ codes " " ++ fault_name fault
 
 -- the name of a symbol of an object, by its index: none if the file can't be read, or has no such symbol
 abbrev pub name_in : ℕ → List ℕ → Option (List ℕ)
 name_in symbol file =
-    if is_none (object_fault file) then option_map (λ s. s.name) (slice_get (object_parts file).symbols symbol) else None
+    if is_none (object_fault file)
+    then option_map (λ s. s.name) (slice_get (object_parts file).symbols symbol) else None
 
 -- the name of the symbol that a fault of an object names, by the object's index
 abbrev pub fault_symbol_name : List (List ℕ) → ℕ → Fault → Option (List ℕ)
-fault_symbol_name files i fault = option_and_then (λ file. option_and_then (λ symbol. name_in symbol file) (fault_symbol fault)) (slice_get files i)
+fault_symbol_name files i fault =
+    option_and_then (λ file. option_and_then (λ symbol. name_in symbol file) (fault_symbol fault)) (slice_get files i)
 
 -- a space and a name, if there is one
 abbrev pub after_space : Option (List ℕ) → List ℕ
@@ -52,7 +55,8 @@ hex_word n =
 
 -- a stop names its reason by number and name, and the program counter
 abbrev pub stop_text : Reason → ℕ → List ℕ
-stop_text reason pc = codes "stopped " ++ decimal (reason_number reason) ++ codes " " ++ reason_name reason ++ codes " " ++ hex_word pc
+stop_text reason pc =
+    codes "stopped " ++ decimal (reason_number reason) ++ codes " " ++ reason_name reason ++ codes " " ++ hex_word pc
 
 -- a program that is stuck names the place, and the reason by number and name
 abbrev pub stuck_text : Place → Why → List ℕ
@@ -60,8 +64,8 @@ stuck_text place why =
     codes "stuck " ++ decimal place.object ++ codes " " ++ decimal place.section ++ codes " " ++ decimal place.offset
     ++ codes " " ++ decimal (why_number why) ++ codes " " ++ why_name why
 
--- the line of each outcome but the one that needs none, given the files that were read: a refusal may end with the name of a
--- symbol of an object
+-- the line of each outcome but the one that needs none, given the files that were read: a refusal may end with the name
+-- of a symbol of an object
 abbrev pub err_line : List (List ℕ) → Outcome → List ℕ
 err_line files Done = []
 err_line files (Exited code) = line (codes "exited " ++ decimal code)
@@ -74,6 +78,10 @@ err_line files (BadFile (Image fault)) = line (codes "bad image " ++ decimal (im
 err_line files (Stopped reason pc) = line (stop_text reason pc)
 err_line files (Stuck place why) = line (stuck_text place why)
 err_line files Spent = line (codes "spent")
+
+-- the outcome's line names nothing that stands in files
+abbrev pub NamesNothing : Outcome → Type 0
+NamesNothing outcome = (files : List (List ℕ)) → err_line files outcome ≡ err_line [] outcome
 
 -- the status of each outcome
 abbrev pub status_of : Outcome → ℕ

@@ -8,13 +8,15 @@ use Rattle.zcld.specs.declared.outcome.Outcome.TheVariants.{Done}
 use Rattle.zcld.specs.Command.{Command, Plain, Zc}
 use Rattle.zcld.specs.Objects.{inputs_of}
 
--- objects stood under the names, and under OUT stands an image that does what their program does, under every plan of interrupts
+-- objects stood under the names, and under OUT stands an image that does what their program does, under every plan of
+-- interrupts
 abbrev pub HoldsImage : List ℕ → List (List ℕ) → Files → Files → Type 0
 HoldsImage out names before after =
     (objects : List (List ℕ)) × (elf : List ℕ) × (map before names ≡ map Some objects) × (after out ≡ Some elf)
     × Preserves (inputs_of objects standard_map) elf
 
--- so it is if the words spell `zc` or `plain`, the outcome is Done, and the store told its files before and tells them after
+-- so it is if the words spell `zc` or `plain`, the outcome is Done, and the store told its files before and tells them
+-- after
 abbrev pub Links : Option Command → Outcome → Option Files → Option Files → Type 0
 Links (Some (Zc out cert names)) Done (Some before) (Some after) = HoldsImage out names before after
 Links (Some (Plain out names)) Done (Some before) (Some after) = HoldsImage out names before after

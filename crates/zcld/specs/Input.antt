@@ -13,7 +13,7 @@ TakesAll (Some xs) None input = ⊥
 TakesAll (Some xs) (Some ys) input = (input ≡ xs) × (ys ≡ [])
 
 -- the whole input was taken, and it isn't above its limit
-pub record Takes (input : List ℕ) (before after : Desk) : Type 0 where
+pub record TakesInput (input : List ℕ) (before after : Desk) : Type 0 where
   pub all : TakesAll before.input after.input input
   pub short : length input ≤ INPUT_LIMIT
   pub only : OnlyTakes before after

@@ -1,15 +1,28 @@
 -- What a command does that runs a machine: it takes the console's whole input, and the machine comes to an end.
 use Rattle.std.specs.Prelude.{◌≡◌, ℕ, ◌⊎◌, List}
-use Rattle.zc_outside.specs.Desk.{Desk}
+use Rattle.zc_outside.specs.Desk.{Desk, OnlyWrites}
 use Rattle.zc_outside.specs.World.{World}
 use Rattle.zcld.specs.declared.outcome.Outcome.{Outcome}
-use Rattle.zcld.specs.Input.{IsUntaken, Takes}
+use Rattle.zcld.specs.declared.outcome.Outcome.TheVariants.{OutOfMemory}
+use Rattle.zcld.specs.Input.{IsUntaken, TakesInput}
+
+-- a machine came to one of its ends, which is this outcome, and the console was only written to
+pub record HasEnded {End : Type 0} (Ends : End → Desk → Desk → Type 0) (outcome_of : End → Outcome) (outcome : Outcome) (before after : Desk) : Type 0 where
+  pub answer : End
+  pub ended : Ends answer before after
+  pub outcome_is : outcome ≡ outcome_of answer
+  pub only : OnlyWrites before after
+
+-- no memory for the machine, or that
+abbrev pub Executes : {End : Type 0} → (End → Desk → Desk → Type 0) → (End → Outcome) → Outcome → Desk → Desk → Type 0
+Executes Ends outcome_of outcome before after =
+    ((outcome ≡ OutOfMemory) × (after ≡ before)) ⊎ HasEnded Ends outcome_of outcome before after
 
 -- the whole input was taken, and the machine ran over it
 pub record HasRun (Runs : List ℕ → Outcome → Desk → Desk → Type 0) (outcome : Outcome) (before after : Desk) : Type 0 where
   pub input : List ℕ
   pub between : Desk
-  pub takes : Takes input before between
+  pub takes : TakesInput input before between
   pub runs : Runs input outcome between after
 
 -- the input can't be had, or it was taken whole and the machine ran

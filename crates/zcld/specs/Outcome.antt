@@ -1,13 +1,13 @@
 -- The outcomes of faults that lower crates give.
 use Rattle.psabi_sym.specs.declared.link_fault.LinkFault.{LinkFault}
 use Rattle.psabi_sym.specs.declared.link_fault.LinkFault.TheVariants as link
-use Rattle.zc_outside.specs.declared.read_files.ReadFault.{ReadFault as FileFault}
+use Rattle.zc_outside.specs.declared.read_files.ReadFault as files
 use Rattle.zc_outside.specs.declared.read_files.ReadFault.TheVariants as read
 use Rattle.zcld.specs.declared.outcome.Outcome.{Outcome}
 use Rattle.zcld.specs.declared.outcome.Outcome.TheVariants.{Refused, ReadFault, OutOfMemory}
 
 -- files that can't be had
-abbrev pub read_outcome : FileFault → Outcome
+abbrev pub read_outcome : files.ReadFault → Outcome
 read_outcome read.Unread = ReadFault
 read_outcome read.OutOfMemory = OutOfMemory
 

@@ -1,4 +1,5 @@
--- What `plain` does: it links the objects with their instructions as they are, puts the image, and writes how long its text is.
+-- What `plain` does: it links the objects with their instructions as they are, puts the image, and writes how long its
+-- text is.
 use Rattle.std.specs.Prelude.{◌≡◌, ℕ, ◌⊎◌, ◌++◌, List, [], ◌∷◌, codes, decimal}
 use Rattle.zc_base.specs.MemMap.{standard_map}
 use Rattle.zc_outside.specs.Desk.{OnlyWrites}
@@ -20,7 +21,8 @@ abbrev pub plain_output : List ℕ → List ℕ → List ℕ → Output
 plain_output out image text = record { files = (out, image) ∷ []; text = text }
 
 -- the link was made, its image was put, and the length of its text written, as far as this outcome says
-pub record PutsPlain (out : List ℕ) (files : List (List ℕ)) (outcome : Outcome) (before after : World) : Type 0 where
+pub record PutsPlain
+    (out : List ℕ) (files : List (List ℕ)) (outcome : Outcome) (before after : World) : Type 0 where
   pub link : Link
   pub linked : IsPlainLink (inputs_of files standard_map) link
   pub done : PutsInTurn outcome (plain_output out link.elf (plain_line link.plain.text)) before after
@@ -29,4 +31,5 @@ pub record PutsPlain (out : List ℕ) (files : List (List ℕ)) (outcome : Outco
 
 -- no memory for the link, and nothing was done; or that
 abbrev pub PlainWork : List ℕ → List (List ℕ) → Outcome → World → World → Type 0
-PlainWork out files outcome before after = ((outcome ≡ OutOfMemory) × (after ≡ before)) ⊎ PutsPlain out files outcome before after
+PlainWork out files outcome before after =
+    ((outcome ≡ OutOfMemory) × (after ≡ before)) ⊎ PutsPlain out files outcome before after

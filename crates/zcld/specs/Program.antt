@@ -18,8 +18,10 @@ wordless fault.OutOfMemory = OutOfMemory
 -- what is done: the call of these words; or without words only the outcome's line is written
 abbrev pub Acts : Result (Vec (String Global)) WordsFault → Outcome → World → World → Type 0
 Acts (Ok words) outcome before after =
-    ((outcome ≡ Usage) ↔ (command_of (texts words.items) ≡ None)) × Calls (command_of (texts words.items)) outcome before after
-Acts (Err fault) outcome before after = (outcome ≡ wordless fault) × Reports (err_line [] (wordless fault)) before after
+    ((outcome ≡ Usage) ↔ (command_of (texts words.items) ≡ None))
+    × Calls (command_of (texts words.items)) outcome before after
+Acts (Err fault) outcome before after =
+    (outcome ≡ wordless fault) × Reports (err_line [] (wordless fault)) before after
 
 -- the program ends with the status of the outcome of what is done
 pub record Ends (words : Result (Vec (String Global)) WordsFault) (status : ℕ) (before after : World) : Type 0 where

@@ -47,8 +47,8 @@ pub record IsPrinted (output : Output) (before after : World) : Type 0 where
   pub out : Adds before.desk.out after.desk.out output.text
   pub err : KeepsBytes before.desk.err after.desk.err
 
--- the world after the files were put in turn and the text was written, by how that ended; each fails only at an outside that
--- isn't sure
+-- the world after the files were put in turn and the text was written, by how that ended; each fails only at an outside
+-- that isn't sure
 abbrev pub PutsInTurn : Outcome → Output → World → World → Type 0
 PutsInTurn Done output before after = IsPrinted output before after
 PutsInTurn (Exited code) output before after = ⊥
@@ -56,8 +56,10 @@ PutsInTurn Usage output before after = ⊥
 PutsInTurn (Refused i fault) output before after = ⊥
 PutsInTurn ReadFault output before after = ⊥
 PutsInTurn WriteFault output before after =
-    (IsUnput output before after × Rose before.shelf.write_faults after.shelf.write_faults × (IsTrue before.shelf.sure → ⊥))
-    ⊎ (IsUnprinted output before after × Rose before.desk.write_faults after.desk.write_faults × (IsTrue before.desk.sure → ⊥))
+    (IsUnput output before after
+    × Rose before.shelf.write_faults after.shelf.write_faults × (IsTrue before.shelf.sure → ⊥))
+    ⊎ (IsUnprinted output before after
+    × Rose before.desk.write_faults after.desk.write_faults × (IsTrue before.desk.sure → ⊥))
 PutsInTurn OutOfMemory output before after = IsUnput output before after ⊎ IsUnprinted output before after
 PutsInTurn (BadFile fault) output before after = ⊥
 PutsInTurn (Stopped reason pc) output before after = ⊥

@@ -1,26 +1,25 @@
 -- What `run` does: it reads an image, takes the console's whole input, and makes commits of the Zc machine.
-use Rattle.std.specs.Prelude.{◌≡◌, ℕ, ◌⊎◌, List, [], ◌∷◌, Option}
+use Rattle.std.specs.Prelude.{ℕ, List, [], ◌∷◌, Option}
 use Rattle.std.specs.Option.{option_map}
-use Rattle.interrupt_plan.specs.Plan.{Entry}
 use Rattle.zc_base.specs.MemMap.{standard_map}
 use Rattle.zc_base.specs.declared.mem_map.MemMap.{MemMap}
-use Rattle.elf32_read.specs.Header.{entry_of}
+use Rattle.elf32_read.specs.Header.{entry_address}
 use Rattle.elf32_read.specs.Image.{image_fault}
 use Rattle.elf32_read.specs.Segments.{segments_of}
 use Rattle.rv_decode.specs.State.{ZcCore}
-use Rattle.zc_outside.specs.Desk.{Desk, OnlyWrites, WriteCause}
+use Rattle.zc_outside.specs.Desk.{Desk}
 use Rattle.zc_outside.specs.Wanted.{Wanted}
 use Rattle.zc_outside.specs.World.{World}
-use Rattle.zc_outside.specs.declared.console.ConsoleFault.TheVariants as console
 use Rattle.zc_machine.specs.Load.{first_core}
-use Rattle.zc_machine.specs.RunEnd.{Course, IfConsole, Ran}
+use Rattle.zc_machine.specs.RunEnd.{Ran, zc_course}
 use Rattle.zc_machine.specs.declared.run.RunEnd.{RunEnd}
-use Rattle.zc_machine.specs.declared.run.RunEnd.TheVariants as end
 use Rattle.zcld.specs.declared.limits.TheConstants.{IMAGE_LIMIT}
 use Rattle.zcld.specs.declared.outcome.FileFault.TheVariants.{Image}
 use Rattle.zcld.specs.declared.outcome.Outcome.{Outcome}
 use Rattle.zcld.specs.declared.outcome.Outcome.TheVariants.{Exited, WriteFault, OutOfMemory, BadFile, Stopped, Spent}
-use Rattle.zcld.specs.Machines.{MachineWork}
+use Rattle.zcld.specs.Machines.{MachineWork, Executes}
+use Rattle.zc_outside.specs.declared.console.ConsoleFault.TheVariants as console
+use Rattle.zc_machine.specs.declared.run.RunEnd.TheVariants as end
 
 -- ---- the image
 
@@ -41,11 +40,7 @@ image_wanted name = record { name = name; limit = IMAGE_LIMIT } ∷ []
 
 -- an image's first state in a map
 abbrev pub first_core_of : List ℕ → MemMap → ZcCore
-first_core_of image map = first_core (entry_of image) (segments_of image) map
-
--- a run from a first state under a plan of interrupts, of at most so many commits, over an input
-abbrev pub course_of : ZcCore → List Entry → ℕ → List ℕ → Course
-course_of first plan steps input = record { first = first; input = input; plan = plan; steps = steps }
+first_core_of image map = first_core (entry_address image) (segments_of image) map
 
 -- the outcome of each end; a stop names the program counter there
 abbrev pub run_outcome : RunEnd → ℕ → Outcome
@@ -55,20 +50,11 @@ run_outcome end.Spent pc = Spent
 run_outcome (end.Console console.Failed) pc = WriteFault
 run_outcome (end.Console console.OutOfMemory) pc = OutOfMemory
 
--- the machine came to an end, which is this outcome; what it wrote was written
-pub record HasExecuted (run : Course) (outcome : Outcome) (before after : Desk) : Type 0 where
-  pub answer : RunEnd
-  pub machine : ZcCore
-  pub ran : Ran run answer machine before after
-  pub outcome_is : outcome ≡ run_outcome answer machine.pc
-  pub cause : IfConsole answer (WriteCause before after)
-  pub only : OnlyWrites before after
+-- the run of an image from its first state over an input, without interrupts, of at most so many commits
+abbrev pub Runs : ZcCore → ℕ → List ℕ → Outcome → Desk → Desk → Type 0
+Runs first steps input =
+    Executes (λ (end : RunEnd × ZcCore). Ran [] (zc_course first input [] steps) end.0 end.1) (λ end. run_outcome end.0 end.1.pc)
 
--- no memory for the machine, or that
-abbrev pub Executes : (List ℕ → Course) → List ℕ → Outcome → Desk → Desk → Type 0
-Executes run input outcome before after = ((outcome ≡ OutOfMemory) × (after ≡ before)) ⊎ HasExecuted (run input) outcome before after
-
--- the work of `run`: the image in the standard map, without interrupts
+-- the work of `run`: the image in the standard map
 abbrev pub RunWork : ℕ → List (List ℕ) → Outcome → World → World → Type 0
-RunWork steps files outcome before after =
-    MachineWork (Executes (course_of (first_core_of (only_file files) standard_map) [] steps)) outcome before after
+RunWork steps files outcome before after = MachineWork (Runs (first_core_of (only_file files) standard_map) steps) outcome before after

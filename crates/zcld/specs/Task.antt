@@ -46,7 +46,9 @@ pub record IsRefused (task : Task) (files : List (List ℕ)) (outcome : Outcome)
   pub refused : task.refusal files ≡ Some outcome
 
 -- these are the files' bytes, they aren't refused, and the command did its work after that
-pub record IsWorked (task : Task) (Work : List (List ℕ) → Outcome → World → World → Type 0) (files : List (List ℕ)) (outcome : Outcome) (before after : World) : Type 0 where
+pub record IsWorked
+    (task : Task) (Work : List (List ℕ) → Outcome → World → World → Type 0) (files : List (List ℕ)) (outcome : Outcome)
+    (before after : World) : Type 0 where
   pub between : World
   pub only : OnlyRead task.wanted before between
   pub read : AreRead before.shelf.files task.wanted files
@@ -54,6 +56,8 @@ pub record IsWorked (task : Task) (Work : List (List ℕ) → Outcome → World 
   pub work : Work files outcome between after
 
 -- one of the three
-abbrev pub Performs : Task → (List (List ℕ) → Outcome → World → World → Type 0) → List (List ℕ) → Outcome → World → World → Type 0
+abbrev pub Performs :
+    Task → (List (List ℕ) → Outcome → World → World → Type 0) → List (List ℕ) → Outcome → World → World → Type 0
 Performs task Work files outcome before after =
-    IsUnread task outcome before after ⊎ (IsRefused task files outcome before after ⊎ IsWorked task Work files outcome before after)
+    IsUnread task outcome before after
+    ⊎ (IsRefused task files outcome before after ⊎ IsWorked task Work files outcome before after)

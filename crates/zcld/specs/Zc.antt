@@ -12,14 +12,16 @@ use Rattle.zcld.specs.Puts.{Output, PutsInTurn}
 
 -- the certificate of a link without a jump table: nothing to save, and nothing saved
 abbrev pub empty_certificate : List ℕ
-empty_certificate = line (codes "zcld certificate 1") ++ line (codes "price 0 0 0") ++ line (codes "net 0") ++ line (codes "end")
+empty_certificate =
+    line (codes "zcld certificate 1") ++ line (codes "price 0 0 0") ++ line (codes "net 0") ++ line (codes "end")
 
 -- the image and then the certificate, and no text
 abbrev pub zc_output : List ℕ → List ℕ → List ℕ → Output
 zc_output out cert image = record { files = (out, image) ∷ (cert, empty_certificate) ∷ []; text = [] }
 
 -- the link was made, and its image and the certificate were put, as far as this outcome says
-pub record PutsLink (out cert : List ℕ) (files : List (List ℕ)) (outcome : Outcome) (before after : World) : Type 0 where
+pub record PutsZc
+    (out cert : List ℕ) (files : List (List ℕ)) (outcome : Outcome) (before after : World) : Type 0 where
   pub link : Link
   pub linked : IsZcLink (inputs_of files standard_map) link
   pub done : PutsInTurn outcome (zc_output out cert link.elf) before after
@@ -29,4 +31,4 @@ pub record PutsLink (out cert : List ℕ) (files : List (List ℕ)) (outcome : O
 -- no memory for the link, and nothing was done; or that
 abbrev pub ZcWork : List ℕ → List ℕ → List (List ℕ) → Outcome → World → World → Type 0
 ZcWork out cert files outcome before after =
-    ((outcome ≡ OutOfMemory) × (after ≡ before)) ⊎ PutsLink out cert files outcome before after
+    ((outcome ≡ OutOfMemory) × (after ≡ before)) ⊎ PutsZc out cert files outcome before after

@@ -3,7 +3,7 @@
 ghost use Rattle.std.specs.Prelude.{◌≡◌, ◌↔◌, None};
 ghost use Rattle.psabi_sym.specs.Objects.{contents_of};
 ghost use Rattle.zc_outside.specs.World.{world};
-ghost use Rattle.zcld.specs.Call.{Calls, Does};
+ghost use Rattle.zcld.specs.Call.{Calls, DoesWith};
 ghost use Rattle.zcld.specs.Command.{command_of, texts};
 ghost use Rattle.zcld.specs.Headline.{Links};
 
@@ -37,8 +37,7 @@ pub fn zcld<S: Store, C: Console>(
     outcome
 }
 
-// Does what the words say, and keeps the files that it reads: the outcome's line may name what is in
-// them.
+// Does what the words say, and keeps of the files that it reads those in which the outcome's line may name something.
 fn perform<S: Store, C: Console>(
     alloc: Global,
     words: &[String],
@@ -46,7 +45,7 @@ fn perform<S: Store, C: Console>(
     store: &mut S,
     console: &mut C,
 ) -> Outcome
-    ensures { Does (command_of (texts words.now)) (contents_of files.new.items) result
+    ensures { DoesWith (command_of (texts words.now)) (contents_of files.new.items) result
         (world (S.shown store.old) (C.shown console.old)) (world (S.shown store.new) (C.shown console.new)) }
 {
     match read(words) {

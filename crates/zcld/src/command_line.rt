@@ -6,7 +6,7 @@ ghost use Rattle.std.specs.List.{list_all, position, zip};
 ghost use Rattle.std.specs.Option.{option_and_then, option_copied, option_map};
 ghost use Rattle.std.specs.Str.{bytes_eq};
 ghost use Rattle.std.specs.String.{string_bytes};
-ghost use Rattle.zcld.specs.Command.{begins_with_dash, command_of, form_of, is_complete, is_number as spells_number, meant, no_values, plain_form, plain_of, run_form, run_of, spelled, spelled_from, steps_given, steps_of, takes_words, texts, trace_form, trace_of, with_value, words_of, zc_form, zc_of};
+ghost use Rattle.zcld.specs.Command.{begins_with_dash, command_of, held_words, is_complete, is_number as spells_number, meant, plain_form, plain_of, run_form, run_of, spelled_from, spelled_words, steps_given, steps_of, syntax_of, takes_words, texts, trace_form, trace_of, with_value, zc_form, zc_of};
 
 /// The most digits of a number word.
 pub const MOST_DIGITS: usize = 20;
@@ -54,7 +54,7 @@ enum Positional {
 }
 
 // What comes after a command's name: options in any order, and then positional words.
-struct Form {
+struct Syntax {
     options: &'static [OptionForm],
     positional: Positional,
 }
@@ -75,25 +75,25 @@ const STEPS: OptionForm = OptionForm {
 };
 
 // `plain --out OUT OBJ...`
-const PLAIN: Form = Form {
+const PLAIN: Syntax = Syntax {
     options: &[OUT],
     positional: Positional::OneOrMore,
 };
 
 // `zc --out OUT --cert CERT OBJ...`
-const ZC: Form = Form {
+const ZC: Syntax = Syntax {
     options: &[OUT, CERT],
     positional: Positional::OneOrMore,
 };
 
 // `run [--steps N] IMAGE`
-const RUN: Form = Form {
+const RUN: Syntax = Syntax {
     options: &[STEPS],
     positional: Positional::Exactly(1),
 };
 
 // `trace [--steps N] OBJ...`
-const TRACE: Form = Form {
+const TRACE: Syntax = Syntax {
     options: &[STEPS],
     positional: Positional::OneOrMore,
 };
@@ -115,7 +115,7 @@ pub fn read(words: &[String]) -> Option<CommandLine<'_>>
 }
 
 fn plain(words: &[String]) -> Option<CommandLine<'_>>
-    ensures { option_map meant result ≡ option_and_then plain_of (spelled plain_form (texts words.now)) }
+    ensures { option_map meant result ≡ option_and_then plain_of (spelled_words plain_form (texts words.now)) }
 {
     let mut values = [None];
     let objects = read_form(&PLAIN, words, &mut values)?;
@@ -125,7 +125,7 @@ fn plain(words: &[String]) -> Option<CommandLine<'_>>
 
 // `zc`, unless the two files that it writes are one.
 fn zc(words: &[String]) -> Option<CommandLine<'_>>
-    ensures { option_map meant result ≡ option_and_then zc_of (spelled zc_form (texts words.now)) }
+    ensures { option_map meant result ≡ option_and_then zc_of (spelled_words zc_form (texts words.now)) }
 {
     let mut values = [None; 2];
     let objects = read_form(&ZC, words, &mut values)?;
@@ -138,7 +138,7 @@ fn zc(words: &[String]) -> Option<CommandLine<'_>>
 }
 
 fn run(words: &[String]) -> Option<CommandLine<'_>>
-    ensures { option_map meant result ≡ option_and_then run_of (spelled run_form (texts words.now)) }
+    ensures { option_map meant result ≡ option_and_then run_of (spelled_words run_form (texts words.now)) }
 {
     let mut values = [None];
     let [image] = read_form(&RUN, words, &mut values)? else {
@@ -152,7 +152,7 @@ fn run(words: &[String]) -> Option<CommandLine<'_>>
 }
 
 fn trace(words: &[String]) -> Option<CommandLine<'_>>
-    ensures { option_map meant result ≡ option_and_then trace_of (spelled trace_form (texts words.now)) }
+    ensures { option_map meant result ≡ option_and_then trace_of (spelled_words trace_form (texts words.now)) }
 {
     let mut values = [None];
     let objects = read_form(&TRACE, words, &mut values)?;
@@ -164,15 +164,15 @@ fn trace(words: &[String]) -> Option<CommandLine<'_>>
 }
 
 // The positional words of a form. The values of its options are written in the form's order.
-#[tactic(auto, unfolding(crate::specs::Command::spelled))]
+#[tactic(auto, unfolding(crate::specs::Command::spelled_words))]
 fn read_form<'a>(
-    form: &Form,
+    form: &Syntax,
     words: &'a [String],
     values: &mut [Option<&'a str>],
 ) -> Option<&'a [String]>
-    requires { map option_copied values.old ≡ no_values (form_of form.now) }
-    ensures { option_map (λ positional. words_of values.new positional.now) result
-        ≡ spelled (form_of form.now) (texts words.entry.now) }
+    requires { map option_copied values.old ≡ map (λ option. None) (syntax_of form.now).options }
+    ensures { option_map (λ positional. held_words values.new positional.now) result
+        ≡ spelled_words (syntax_of form.now) (texts words.entry.now) }
 {
     let positional = read_options(form, words, values)?;
     if completes(form, values, positional) {
@@ -185,13 +185,13 @@ fn read_form<'a>(
 // The words after the options, whose values are added to those that stand there.
 #[tactic(auto, using(crate::proofs::FormsHeld::next_held))]
 fn read_options<'a>(
-    form: &Form,
+    form: &Syntax,
     words: &'a [String],
     values: &mut [Option<&'a str>],
 ) -> Option<&'a [String]>
     requires { length values.old ≡ length form.now.options.now }
-    ensures { option_map (λ rest. words_of values.new rest.now) result
-        ≡ spelled_from (form_of form.now) (map option_copied values.old) (texts words.entry.now) }
+    ensures { option_map (λ rest. held_words values.new rest.now) result
+        ≡ spelled_from (syntax_of form.now) (map option_copied values.old) (texts words.entry.now) }
 {
     let mut rest = words;
     while let [option, value, after @ ..] = rest {
@@ -210,14 +210,14 @@ fn read_options<'a>(
 // Adds the value of an option, unless the form doesn't have the option or it has a value.
 #[tactic(auto, using(crate::proofs::FormsHeld::with_value_held))]
 fn add_value<'a>(
-    form: &Form,
+    form: &Syntax,
     values: &mut [Option<&'a str>],
     name: &str,
     value: &'a str,
 ) -> Option<()>
     requires { length values.old ≡ length form.now.options.now }
     ensures { option_map (λ _. map option_copied values.new) result
-        ≡ with_value (form_of form.now) (map option_copied values.old) name.now value.entry.now }
+        ≡ with_value (syntax_of form.now) (map option_copied values.old) name.now value.entry.now }
 {
     let place = place_in(form, name)?;
     if values[place].is_some() {
@@ -228,7 +228,7 @@ fn add_value<'a>(
 }
 
 // The place of an option in a form's order.
-fn place_in(form: &Form, name: &str) -> Option<usize>
+fn place_in(form: &Syntax, name: &str) -> Option<usize>
     ensures { result ≡ position (λ option. bytes_eq option.name.now name.now) form.now.options.now }
 {
     form.options.iter().position(|option| option.name == name)
@@ -236,8 +236,8 @@ fn place_in(form: &Form, name: &str) -> Option<usize>
 
 // Whether no required option is missing, and the positional words are those of the form.
 #[tactic(auto, using(crate::proofs::FormsHeld::complete_held))]
-fn completes(form: &Form, values: &[Option<&str>], positional: &[String]) -> bool
-    ensures { result ≡ is_complete (form_of form.now) (words_of values.now positional.now) }
+fn completes(form: &Syntax, values: &[Option<&str>], positional: &[String]) -> bool
+    ensures { result ≡ is_complete (syntax_of form.now) (held_words values.now positional.now) }
 {
     has_all_required(form, values)
         && takes(form.positional, positional.len())
@@ -254,7 +254,7 @@ fn takes(positional: Positional, count: usize) -> bool
     }
 }
 
-fn has_all_required(form: &Form, values: &[Option<&str>]) -> bool
+fn has_all_required(form: &Syntax, values: &[Option<&str>]) -> bool
     ensures { result
         ≡ list_all (λ (option, value). not option.required || is_some value) (zip form.now.options.now values.now) }
 {

@@ -110,13 +110,13 @@ pub fn line_of(outcome: &Outcome) -> ArrayString<ROOM>
 {
     match outcome {
         Outcome::Done => ArrayString::new(),
-        Outcome::Exited(code) => numbered("exited ", u32::from(*code)),
+        Outcome::Exited(code) => numbered_line("exited ", u32::from(*code)),
         Outcome::Usage => line("usage"),
         Outcome::Refused(object, fault) => refusal(*object, *fault, "\n"),
         Outcome::ReadFault => line("read fault"),
         Outcome::WriteFault => line("write fault"),
         Outcome::OutOfMemory => line("out of memory"),
-        Outcome::BadFile(FileFault::Image(fault)) => numbered("bad image ", fault.number()),
+        Outcome::BadFile(FileFault::Image(fault)) => numbered_line("bad image ", fault.number()),
         Outcome::Stopped(reason, pc) => stop(*reason, *pc),
         Outcome::Stuck(place, why) => stuck(*place, *why),
         Outcome::Spent => line("spent"),
@@ -152,7 +152,7 @@ fn refusal(object: u32, fault: Fault, end: &str) -> ArrayString<ROOM>
 }
 
 /// A text, a number and a line feed.
-pub fn numbered(text: &str, number: u32) -> ArrayString<ROOM>
+pub fn numbered_line(text: &str, number: u32) -> ArrayString<ROOM>
     requires { length text.now ≤ 50 }
     ensures { result.bytes ≡ with_line_feed (text.now ++ decimal number) }
 {

@@ -2,7 +2,7 @@
 
 ghost use Rattle.std.specs.Prelude.{◌≡◌, ◌+◌, ◌-◌, ◌^◌, IfOk, IfErr, length, min};
 ghost use Rattle.zc_outside.specs.Desk.{OnlyTakes};
-ghost use Rattle.zcld.specs.Input.{IsUntaken, Takes, TakesPart, UntakenCause};
+ghost use Rattle.zcld.specs.Input.{IsUntaken, TakesInput, TakesPart, UntakenCause};
 
 use crate::outcome::Outcome;
 use std::alloc::Global;
@@ -16,7 +16,7 @@ const PIECE: usize = 4096;
 
 /// All bytes that are left of the console's input, or how the call ends without them.
 pub fn take_all<C: Console>(alloc: Global, console: &mut C) -> Result<Vec<u8>, Outcome>
-    ensures ok { IfOk result (λ input. Takes input.items (C.shown console.old) (C.shown console.new)) }
+    ensures ok { IfOk result (λ input. TakesInput input.items (C.shown console.old) (C.shown console.new)) }
     ensures err { IfErr result (λ outcome. IsUntaken outcome (C.shown console.old) (C.shown console.new)) }
 {
     let mut input = Vec::new(alloc);

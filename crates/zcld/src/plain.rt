@@ -9,18 +9,17 @@ ghost use Rattle.zc_outside.specs.Desk.{OnlyWrites};
 ghost use Rattle.zc_outside.specs.Shelf.{OnlyPuts};
 ghost use Rattle.zc_base.specs.MemMap.{standard_map};
 ghost use Rattle.zc_outside.specs.World.{world};
-ghost use Rattle.zcld.specs.Call.{Does};
+ghost use Rattle.zcld.specs.Call.{DoesWith};
 ghost use Rattle.zcld.specs.Command.{Plain, texts};
+ghost use Rattle.zcld.specs.ErrLine.{NamesNothing, err_line};
 ghost use Rattle.zcld.specs.Objects.{RefusalCause, inputs_of};
 ghost use Rattle.zcld.specs.Plain.{plain_output};
 ghost use Rattle.zcld.specs.Puts.{PutsInTurn};
 
-use crate::err_line::numbered;
-use crate::objects::read_objects;
+use crate::err_line::numbered_line;
+use crate::objects::{gather, read_objects};
 use crate::outcome::Outcome;
-use psabi_sym::objects::Objects;
 use std::alloc::Global;
-use zc_base::mem_map::MemMap;
 use zc_link::linked::Linked;
 use zc_link::plain::link_plain;
 use zc_outside::console::{Console, ConsoleFault};
@@ -35,15 +34,15 @@ pub fn plain<S: Store, C: Console>(
     store: &mut S,
     console: &mut C,
 ) -> Outcome
-    ensures { Does (Some (Plain out.now (texts objects.now))) (contents_of files.new.items) result
+    ensures { DoesWith (Some (Plain out.now (texts objects.now))) (contents_of files.new.items) result
         (world (S.shown store.old) (C.shown console.old)) (world (S.shown store.new) (C.shown console.new)) }
 {
     if let Err(outcome) = read_objects(alloc, objects, files, store) {
         return outcome;
     }
-    match link(alloc, files.as_slice()) {
+    match link(alloc, files) {
         Ok(linked) => {
-            let line = numbered("plain text ", linked.plain.text);
+            let line = numbered_line("plain text ", linked.plain.text);
             put_and_print(store, out, linked.elf.as_slice(), line.as_str(), console)
         }
         Err(outcome) => outcome,
@@ -51,13 +50,16 @@ pub fn plain<S: Store, C: Console>(
 }
 
 // What the objects in these files are linked to, or how the call ends without that.
-#[tactic(auto, using(crate::proofs::Refusals::gather_refuses))]
-fn link(alloc: Global, files: &[Vec<u8>]) -> Result<Linked, Outcome>
-    ensures faultless { IfOk result (λ linked. first_fault (inputs_of (contents_of files.now) standard_map) ≡ None) }
-    ensures ok { IfOk result (λ linked. IsPlainLink (inputs_of (contents_of files.now) standard_map) linked) }
-    ensures err { IfErr result (RefusalCause (first_fault (inputs_of (contents_of files.now) standard_map))) }
+#[tactic(auto, using(crate::proofs::Refusals::gather_refuses, crate::proofs::Refusals::same_line))]
+fn link(alloc: Global, files: &mut Vec<Vec<u8>>) -> Result<Linked, Outcome>
+    ensures faultless { IfOk result (λ linked. first_fault (inputs_of (contents_of files.old.items) standard_map)
+        ≡ None) }
+    ensures ok { IfOk result (λ linked. IsPlainLink (inputs_of (contents_of files.old.items) standard_map) linked) }
+    ensures err { IfErr result (RefusalCause (first_fault (inputs_of (contents_of files.old.items) standard_map))) }
+    ensures line { IfErr result (λ outcome.
+        err_line (contents_of files.new.items) outcome ≡ err_line (contents_of files.old.items) outcome) }
 {
-    let objects = Objects::gather(alloc, files, MemMap::standard())?;
+    let objects = gather(alloc, files)?;
     Ok(link_plain(alloc, objects)?)
 }
 
@@ -73,6 +75,7 @@ fn put_and_print<S: Store, C: Console>(
         (world (S.shown store.old) (C.shown console.old)) (world (S.shown store.new) (C.shown console.new)) }
     ensures puts { OnlyPuts (S.shown store.old) (S.shown store.new) }
     ensures writes { OnlyWrites (C.shown console.old) (C.shown console.new) }
+    ensures line { NamesNothing result }
 {
     match store.put(out, image) {
         Ok(()) => {}

@@ -1,13 +1,13 @@
 // The command `run`: an image is read, and the machine runs it.
 
-ghost use Rattle.std.specs.Prelude.{◌≡◌, []};
+ghost use Rattle.std.specs.Prelude.{◌≡◌};
 ghost use Rattle.psabi_sym.specs.Objects.{contents_of};
 ghost use Rattle.zc_base.specs.MemMap.{standard_map};
 ghost use Rattle.zc_outside.specs.World.{world};
-ghost use Rattle.zcld.specs.Call.{Does};
+ghost use Rattle.zcld.specs.Call.{CarriesOut};
 ghost use Rattle.zcld.specs.Command.{Run};
 ghost use Rattle.zcld.specs.Machines.{TakesAndRuns};
-ghost use Rattle.zcld.specs.Run.{Executes, course_of, first_core_of, run_outcome as outcome_of_end};
+ghost use Rattle.zcld.specs.Run.{Runs, first_core_of, run_outcome as outcome_of_end};
 
 use crate::input::take_all;
 use crate::limits::IMAGE_LIMIT;
@@ -31,7 +31,7 @@ pub fn run<S: Store, C: Console>(
     store: &mut S,
     console: &mut C,
 ) -> Outcome
-    ensures { Does (Some (Run steps name.now)) (contents_of files.new.items) result
+    ensures { CarriesOut (Some (Run steps name.now)) (contents_of files.new.items) result
         (world (S.shown store.old) (C.shown console.old)) (world (S.shown store.new) (C.shown console.new)) }
 {
     let file = match read_file(alloc, name, IMAGE_LIMIT, store) {
@@ -51,7 +51,7 @@ pub fn run<S: Store, C: Console>(
 // Runs an image over the console's whole input.
 fn execute<C: Console>(alloc: Global, image: &Image, steps: u64, console: &mut C) -> Outcome
     requires { image.now.1 ≡ standard_map }
-    ensures { TakesAndRuns (Executes (course_of (first_core_of image.now.0 standard_map) [] steps)) result
+    ensures { TakesAndRuns (Runs (first_core_of image.now.0 standard_map) steps) result
         (C.shown console.old) (C.shown console.new) }
 {
     let input = match take_all(alloc, console) {

@@ -8,17 +8,16 @@ ghost use Rattle.zc_outside.specs.Desk.{Desk};
 ghost use Rattle.zc_outside.specs.Shelf.{OnlyPuts};
 ghost use Rattle.zc_base.specs.MemMap.{standard_map};
 ghost use Rattle.zc_outside.specs.World.{world};
-ghost use Rattle.zcld.specs.Call.{Does};
+ghost use Rattle.zcld.specs.Call.{DoesWith};
 ghost use Rattle.zcld.specs.Command.{Zc, texts};
+ghost use Rattle.zcld.specs.ErrLine.{NamesNothing, err_line};
 ghost use Rattle.zcld.specs.Objects.{RefusalCause, inputs_of};
 ghost use Rattle.zcld.specs.Puts.{PutsInTurn};
 ghost use Rattle.zcld.specs.Zc.{zc_output};
 
-use crate::objects::read_objects;
+use crate::objects::{gather, read_objects};
 use crate::outcome::Outcome;
-use psabi_sym::objects::Objects;
 use std::alloc::Global;
-use zc_base::mem_map::MemMap;
 use zc_link::linked::Linked;
 use zc_link::zc::link_zc;
 use zc_outside::store::{Store, StoreFault};
@@ -35,26 +34,29 @@ pub fn zc<S: Store>(
     store: &mut S,
 ) -> Outcome
     requires { out.now ≢ cert.now }
-    ensures { (desk : Desk) → Does (Some (Zc out.now cert.now (texts objects.now)))
+    ensures { (desk : Desk) → DoesWith (Some (Zc out.now cert.now (texts objects.now)))
         (contents_of files.new.items) result (world (S.shown store.old) desk) (world (S.shown store.new) desk) }
 {
     if let Err(outcome) = read_objects(alloc, objects, files, store) {
         return outcome;
     }
-    match link(alloc, files.as_slice()) {
+    match link(alloc, files) {
         Ok(linked) => put_both(store, out, linked.elf.as_slice(), cert),
         Err(outcome) => outcome,
     }
 }
 
 // What the objects in these files are linked to, or how the call ends without that.
-#[tactic(auto, using(crate::proofs::Refusals::gather_refuses))]
-fn link(alloc: Global, files: &[Vec<u8>]) -> Result<Linked, Outcome>
-    ensures faultless { IfOk result (λ linked. first_fault (inputs_of (contents_of files.now) standard_map) ≡ None) }
-    ensures ok { IfOk result (λ linked. IsZcLink (inputs_of (contents_of files.now) standard_map) linked) }
-    ensures err { IfErr result (RefusalCause (first_fault (inputs_of (contents_of files.now) standard_map))) }
+#[tactic(auto, using(crate::proofs::Refusals::gather_refuses, crate::proofs::Refusals::same_line))]
+fn link(alloc: Global, files: &mut Vec<Vec<u8>>) -> Result<Linked, Outcome>
+    ensures faultless { IfOk result (λ linked. first_fault (inputs_of (contents_of files.old.items) standard_map)
+        ≡ None) }
+    ensures ok { IfOk result (λ linked. IsZcLink (inputs_of (contents_of files.old.items) standard_map) linked) }
+    ensures err { IfErr result (RefusalCause (first_fault (inputs_of (contents_of files.old.items) standard_map))) }
+    ensures line { IfErr result (λ outcome.
+        err_line (contents_of files.new.items) outcome ≡ err_line (contents_of files.old.items) outcome) }
 {
-    let objects = Objects::gather(alloc, files, MemMap::standard())?;
+    let objects = gather(alloc, files)?;
     Ok(link_zc(alloc, objects)?)
 }
 
@@ -64,6 +66,7 @@ fn put_both<S: Store>(store: &mut S, out: &str, image: &[u8], cert: &str) -> Out
     ensures done { (desk : Desk) → PutsInTurn result (zc_output out.now cert.now image.now)
         (world (S.shown store.old) desk) (world (S.shown store.new) desk) }
     ensures puts { OnlyPuts (S.shown store.old) (S.shown store.new) }
+    ensures line { NamesNothing result }
 {
     match store.put(out, image) {
         Ok(()) => {}

@@ -1,29 +1,35 @@
 -- The image that is put is the link's, and the line is that of its text.
 use Rattle.std.proofs.Common.{◌≡◌, ◌∙◌, ap, rules, refl, inr, subst}
 use Rattle.zc_link.specs.Links.{Link}
+use Rattle.psabi_sym.specs.Objects.{contents_of}
 use Rattle.zc_outside.specs.World.{world}
 use Rattle.zcld.specs.Plain.{plain_line, plain_output}
 use Rattle.zcld.specs.Puts.{PutsInTurn}
+use Rattle.zcld.proofs.Refusals.{names_in_none}
 use Rattle.zcld.proofs.plain.plain.Goals as goal
 
 pub returns-in-Ok : goal.returns-in-Ok
 returns-in-Ok g c =
     let link : Link = c.in-Ok.linked in
-    let line : c.as_str.result.now ≡ plain_line link.plain.text = c.as_str.ensures.value ∙ c.numbered-line.ensures ∙ ap (λ (l : Link). plain_line l.plain.text) c.linked.view_is in
-    let image : c.as_slice-in-Ok.result.now ≡ link.elf = c.as_slice-in-Ok.ensures.value ∙ ap (λ (l : Link). l.elf) c.linked.view_is in
+    let line : c.as_str.result.now ≡ plain_line link.plain.text = c.as_str.ensures.value ∙ c.numbered_line-line.ensures ∙ ap (λ (l : Link). plain_line l.plain.text) c.linked.view_is in
+    let image : c.as_slice.result.now ≡ link.elf = c.as_slice.ensures.value ∙ ap (λ (l : Link). l.elf) c.linked.view_is in
     let between = world (g.S.Store.shown c.read_objects.new.store) (g.C.Console.shown c.args.console.now) in
     let after = world (g.S.Store.shown c.put_and_print.new.store) (g.C.Console.shown c.put_and_print.new.console) in
-    inr (inr (record {
-      between = between;
-      only = record { shelf = c.read_objects.ensures.reads; desk = refl };
-      read = search rules;
-      accepted = search rules;
-      work = inr (record {
-        link = link;
-        linked = search rules;
-        done = subst (λ e. PutsInTurn c.put_and_print.result (plain_output c.args.out.now e (plain_line link.plain.text)) between after) image
-            (subst (λ t. PutsInTurn c.put_and_print.result (plain_output c.args.out.now c.as_slice-in-Ok.result.now t) between after) line c.put_and_print.ensures.done);
-        shelf = c.put_and_print.ensures.puts;
-        desk = c.put_and_print.ensures.writes;
-      });
-    }))
+    record {
+      files = contents_of c.read_objects.new.files.items;
+      line = names_in_none c.put_and_print.result _ _ c.put_and_print.ensures.line;
+      does = inr (inr (record {
+        between = between;
+        only = record { shelf = c.read_objects.ensures.reads; desk = refl };
+        read = search rules;
+        accepted = search rules;
+        work = inr (record {
+          link = link;
+          linked = search rules;
+          done = subst (λ e. PutsInTurn c.put_and_print.result (plain_output c.args.out.now e (plain_line link.plain.text)) between after) image
+              (subst (λ t. PutsInTurn c.put_and_print.result (plain_output c.args.out.now c.as_slice.result.now t) between after) line c.put_and_print.ensures.done);
+          shelf = c.put_and_print.ensures.puts;
+          desk = c.put_and_print.ensures.writes;
+        });
+      }));
+    }
