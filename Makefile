@@ -3,7 +3,7 @@
 # make example  links a monitor of several C files as it is and makes it smaller, shows the start of its code and its sizes, and
 #               gives its commands to both images and to the objects; and makes examples/exit3.o smaller, shows that, and runs it
 # make check    runs the gate: every proof, must-fail edit, test and program, and then the program that this built over real
-#               files, and looks up the documents' names
+#               files, looks up the documents' names, and counts what the headline stands on
 # make install  installs the program below $(DESTDIR)$(PREFIX)/bin
 # make clean    removes what these made
 
@@ -55,6 +55,7 @@ check:
 	$(RT) ci
 	python3 scripts/check_program crates/zcld/out/zcld
 	python3 scripts/check_documents
+	python3 scripts/count_definitions --check
 
 install: build/zcld
 	install -d $(DESTDIR)$(PREFIX)/bin

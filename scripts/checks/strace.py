@@ -37,7 +37,8 @@ class Call:
         self.name, self.number, self.words = name, number, words
 
     def fault(self, what):
-        return fault(self.name, self.number, what)
+        # The kernel answers a refused brk with a break below the one that was asked for, and no error's number.
+        return fault(self.name, self.number, 'retval=0' if self.name == 'brk' and what.startswith('error=') else what)
 
     def __str__(self):
         return f'{self.name} {self.number} ({self.words[:60]})'

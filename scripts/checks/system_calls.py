@@ -57,7 +57,7 @@ def faults_of_run(group):
             ended = folder.run(words, before=call.fault(f'error={error}'))
             if call.name in MEMORY:
                 group.one_of(f'run, {error} at {call}', ended.status, (3, 124))
-            elif call.name in ('openat', 'read'):
+            elif call.name in ('openat', 'statx', 'read'):
                 group.same(f'run, {error} at {call}', (ended.status, ended.err), refusal)
             else:
                 group.same(f'run, {error} at {call}', ended.status, 3)
