@@ -1,7 +1,7 @@
 #!/usr/bin/env python3
 """Measures `zc` on chains of branches, which take as many rounds as there are branches.
 
-    bench/chains.py [--repeats R] [--before BEFORE] [PROGRAM]        PROGRAM is build/zcld if none is given
+    bench/chains.py [--repeats R] [--before BEFORE]... [PROGRAM]        PROGRAM is build/zcld if none is given
 
 The layout starts with the shortest forms, and each round gives the next longer one to what doesn't reach. In each chain but
 the first, a branch reaches just so unless the one next to it in the chain has grown, so each round makes one branch longer
@@ -22,7 +22,7 @@ sys.path.insert(0, os.path.join(os.path.dirname(os.path.abspath(__file__)), os.p
 sys.path.insert(0, os.path.join(os.path.dirname(os.path.abspath(__file__)), os.pardir, 'fuzz'))
 
 import zc_link
-from links import BEFORE, NOW, compared, heads_of, programs_of, text_size, words_with_before
+from links import NOW, compared, heads_of, programs_of, text_size, words_with_before
 from object_faults import Object
 from run import made_object
 from zcld_tools.files import write
@@ -92,7 +92,7 @@ def measured(programs, repeats):
         for name, code, image, calls in rows:
             peaks = {who: call.peak() for who, call in calls.items()}
             cells.append([name, code, f'{text_size(image):,}', *(it for who in calls for it in compared(calls, who, peaks))])
-        beside = heads_of(BEFORE) if BEFORE in programs else []
+        beside = [head for name in list(programs)[1:] for head in heads_of(name)]
         table(['chain', 'code, bytes', 'text, bytes', 'zc, ms', 'KiB', *beside], cells)
 
 

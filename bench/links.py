@@ -1,16 +1,16 @@
 #!/usr/bin/env python3
 """Measures `plain` and `zc` on lists of objects with many relocations, beside GNU ld and LLD.
 
-    bench/links.py [--repeats R] [--before BEFORE] [PROGRAM]        PROGRAM is build/zcld if none is given
+    bench/links.py [--repeats R] [--before BEFORE]... [PROGRAM]        PROGRAM is build/zcld if none is given
 
 Objects are made by rule: code that calls functions and uses data of other objects in each way that compilers do, with a
 relocation for nearly every word, and tables of addresses in data. Each list is linked R times by `zcld plain` and `zcld zc`,
 and R times by each other linker for RISC-V that is installed, without relaxation beside `plain` and with it beside `zc`. The
 last list is one for `zc` alone: a chain of branches, each of which reaches just so over the next ones, so that each round of
 the layout makes but a few longer. With BEFORE, another program of zcld, its calls are made as well, and the images must be
-the same. All calls are made in turn, in an order that changes. A time is the processor's for a whole process: the least of
-the R. A ratio above 1 says that the other linker took longer, or held more. Memory is the most that a process held, as GNU
-time tells it.
+the same; there may be several. All calls are made in turn, in an order that changes. A time is the processor's for a whole
+process: the least of the R. A ratio above 1 says that the other linker took longer, or held more. Memory is the most that a
+process held, as GNU time tells it.
 """
 import filecmp
 import os
@@ -144,13 +144,13 @@ class Listed:
             out, self.images[name] = f'{base}.{name[-2:]}', f'{base}.{name[-2:]}.relaxed'
             self.plain[name] = Call([*words, '--no-relax', '-o', out, *paths])
             self.small[name] = Call([*words, '-o', self.images[name], *paths])
-        self.same = [(f'{base}.{NOW}.{kind}', f'{base}.{BEFORE}.{kind}') for kind in ('plain', 'zc', 'cert')]
+        self.same = [(f'{base}.{NOW}.{kind}', f'{base}.{name}.{kind}') for name in mine for kind in ('plain', 'zc', 'cert')]
 
     def calls(self):
         return [*self.plain.values(), *self.small.values()]
 
     def compare(self):
-        """Ends this if both programs didn't write the same."""
+        """Ends this if programs of zcld didn't write the same."""
         for now, before in self.same:
             if not filecmp.cmp(now, before, shallow=False):
                 sys.exit(f'{self.what[0]}: {os.path.basename(now)} isn\'t {os.path.basename(before)}')
@@ -207,14 +207,16 @@ def report(lists, names, kind):
 
 
 def programs_of(given):
-    """The programs that the words name, by who is asked."""
-    return {who: programs.built(path) for who, path in ((NOW, given.program), (BEFORE, given.before)) if path}
+    """The programs that the words name, by who is asked: this one, BEFORE, and then BEFORE with a number from 2 on."""
+    names = [BEFORE, *(f'{BEFORE} {k + 2}' for k in range(len(given.before)))]
+    return {NOW: programs.built(given.program), **dict(zip(names, map(programs.built, given.before)))}
 
 
 def words_with_before(description, repeats):
     """The words of a bench that measures an earlier program too."""
     arguments = words_of_bench(description, repeats)
-    arguments.add_argument('--before', help='an earlier program of zcld, to be measured beside this one')
+    arguments.add_argument('--before', action='append', default=[],
+                           help='an earlier program of zcld, to be measured beside this one')
     return arguments
 
 
