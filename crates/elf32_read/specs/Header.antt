@@ -1,5 +1,5 @@
--- The headers of a little-endian ELF file of class 32 (System V gABI, "ELF SectionHeader", "Sections" and
--- "Program SectionHeader").
+-- The headers of a little-endian ELF file of class 32 (System V gABI, "ELF Header", "Sections" and
+-- "Program Header").
 use Rattle.std.specs.Prelude.{◌≡◌, ◌<◌, ℕ, ◌+◌, ◌*◌, Bool, not, ◌&&◌, ◌||◌, ◌==◌, if◌then◌else◌, List, [], ◌∷◌, take, drop, map, filter, slice_index, Option, Some, None}
 use Rattle.std.specs.List.{range_with_len}
 use Rattle.zc_base.specs.Fields.{half_in, word_in}
@@ -18,7 +18,7 @@ program_table bytes = word_in bytes 28
 abbrev pub section_table : List ℕ → ℕ
 section_table bytes = word_in bytes 32
 
--- e_flags (RISC-V ELF psABI, "File SectionHeader")
+-- e_flags (RISC-V ELF psABI, "File Header")
 abbrev pub file_flags : List ℕ → ℕ
 file_flags bytes = word_in bytes 36
 
@@ -39,7 +39,7 @@ abbrev pub has_other_section_headers : List ℕ → Bool
 has_other_section_headers bytes = not (section_count bytes == 0) && not (half_in bytes 46 == 40)
 
 -- e_ident begins 7F "ELF", class 1 (32-bit), data 1 (little-endian), version 1; e_type is the given
--- one, and e_machine is 243 (RISC-V ELF psABI, "File SectionHeader")
+-- one, and e_machine is 243 (RISC-V ELF psABI, "File Header")
 abbrev pub begins_as : ℕ → List ℕ → Bool
 begins_as file_type bytes =
     word_in bytes 0 == 0x464C_457F && slice_index bytes 4 == 1 && slice_index bytes 5 == 1 && slice_index bytes 6 == 1 && half_in bytes 16 == file_type && half_in bytes 18 == 243

@@ -1,5 +1,5 @@
--- The bytes of an image: an executable file of class 32 (System V gABI, "ELF SectionHeader", "Sections" and
--- "Program SectionHeader"), its parts one after the other, each padded with zeros to a multiple of 4.
+-- The bytes of an image: an executable file of class 32 (System V gABI, "ELF Header", "Sections" and
+-- "Program Header"), its parts one after the other, each padded with zeros to a multiple of 4.
 use Rattle.std.specs.Prelude.{ℕ, ◌+◌, ◌*◌, ◌-◌, ◌%◌, ◌^◌, ◌<◌, List, [], ◌∷◌, ◌++◌, length, codes, replicate}
 use Rattle.std.specs.List.{flat_map}
 use Rattle.zc_base.specs.Fields.{half_bytes, word_bytes}

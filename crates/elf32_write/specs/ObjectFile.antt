@@ -1,4 +1,4 @@
--- The bytes of an object: a relocatable file of class 32 (System V gABI, "ELF SectionHeader" and "Sections"). After the file's header
+-- The bytes of an object: a relocatable file of class 32 (System V gABI, "ELF Header" and "Sections"). After the file's header
 -- stand the contents of the sections, each padded with zeros to a multiple of 4, and then the section headers.
 use Rattle.std.specs.Prelude.{ℕ, ◌+◌, ◌*◌, ◌-◌, List, [], ◌∷◌, ◌++◌, length}
 use Rattle.std.specs.List.{flat_map}
