@@ -194,8 +194,8 @@ fn instructions_have_their_halfwords(rt: HostRuntime) -> Result<(), Fail> {
     Ok(())
 }
 
-// Rows of Zcb. The others are zero, a shift by 32, Zcb's operations and stores that aren't defined, a word's
-// low half, and Zcmp.
+// Rows of Zcb. The others are zero, a shift by 32, Zcb's operations and stores that aren't defined, and a
+// word's low half.
 const HALFWORDS: &str = "81C8 = lbu 10 11 1
 9D4D = mul 10 10 11
 9D75 = xori 10 10 -1
@@ -208,15 +208,15 @@ const HALFWORDS: &str = "81C8 = lbu 10 11 1
 6501 = none
 4002 = none
 8002 = none
-0513 = none
-B842 = none";
+0513 = none";
 
 #[test]
 fn halfwords_of_zcb_decode_and_others_do_not(rt: HostRuntime) -> Result<(), Fail> {
     expect(&rt, "decode16", HALFWORDS)
 }
 
-fn mix(sum: u32, value: u32) -> u32 {
+/// A sum with one value more.
+pub fn mix(sum: u32, value: u32) -> u32 {
     (sum ^ value).wrapping_mul(0x0100_0193)
 }
 
@@ -244,13 +244,13 @@ fn found_for(half: u16) -> Option<u16> {
     }
 }
 
-// `scripts/halfwords_of_llvm` prints the number of halfwords that LLVM reads, and the sum. Of these 330 are
+// `scripts/halfwords_of_llvm` prints how many of these halfwords LLVM reads, and the sum. Of them 330 are
 // hints whose normal form no other halfword has; each other one comes back with one normal form.
 #[test]
 fn all_halfwords_are_read_as_llvm_reads_them_and_come_back(rt: HostRuntime) {
     let (mut count, mut found, mut same, mut sum) = (0_u32, 0_u32, 0_u32, 0);
     for half in 0..=u16::MAX {
-        count = count.wrapping_add(u32::from(decode16(half).is_some()));
+        count = count.wrapping_add(u32::from(instr_of(half).is_some()));
         sum = mixed(sum, half);
         if let Some(back) = found_for(half) {
             let is_same = normal_fields(back) == normal_fields(half);

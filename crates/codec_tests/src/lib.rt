@@ -17,3 +17,5 @@ mod relocs;
 mod rows;
 #[cfg(test)]
 mod words;
+#[cfg(test)]
+mod zcmp;

@@ -7,6 +7,7 @@ use crate::forms::long_form;
 use crate::halfwords::{halfword, spelled};
 use crate::relocs::{call_with, fitting, kind, parts, put, reaching};
 use crate::words::{instr, normal_form};
+use crate::zcmp::short;
 use std::alloc::Global;
 use std::process::Abort;
 use std::test::Fail;
@@ -27,6 +28,7 @@ fn answer(alloc: Global, call: &str, given: &str) -> Result<String, Fail> {
         "decode" => instr(alloc, given),
         "normal" => normal_form(alloc, given),
         "decode16" => spelled(alloc, given),
+        "short" => short(alloc, given),
         "encode16" | "short_of" | "short_branch" | "short_jump" => halfword(alloc, call, given),
         "long_branch" => long_form(alloc, given),
         "kind" => kind(alloc, given),

@@ -1,4 +1,5 @@
--- What one instruction of RV32IM does (RISC-V unprivileged manual, chapters "RV32I" and "M").
+-- What one instruction of RV32IM does (RISC-V unprivileged manual, chapters "RV32I" and "M"), and the one of Zicsr that sets jvt
+-- (RISC-V Zc specification 1.0, "Zcmt").
 use Rattle.std.specs.Prelude.{ℕ, ℤ, ◌+◌, ◌*◌, ◌/◌, ◌%◌, ◌^◌, Bool, ◌==◌, if◌then◌else◌, List}
 use Rattle.rv_decode.specs.declared.instr.Instr.{Instr}
 use Rattle.rv_decode.specs.declared.instr.Instr.TheVariants.{Upper, Jal, Jalr, Branch, Load, Store, WithImm, WithReg, Fence, Ecall, Ebreak, Csrrw}
@@ -11,15 +12,13 @@ use Rattle.rv_decode.specs.Memory.{byte_of, changed, extents_of, is_data, lies_i
 use Rattle.rv_decode.specs.Results.{imm_result, is_taken, reg_result, upper_result}
 use Rattle.rv_decode.specs.State.{ZcCore, byte_in, half_at, reg_in, set_reg, word_at}
 
--- what an instruction comes to: it commits and leaves this state, or it doesn't commit, for this cause;
--- Unknown is an instruction that no machine here has yet
+-- what an instruction comes to: it commits and leaves this state, or it doesn't commit, for this cause
 pub data Effect : Type 0 where
   Commits : ZcCore → Effect
   Misaligned : Effect
   BadAccess : Effect
   Break : Effect
   Call : Effect
-  Unknown : Effect
 
 -- ---- the next instruction
 
@@ -93,6 +92,12 @@ stored n a word z = record z { memory = changed (written a n (byte_of word)) z.m
 abbrev pub stores : StoreOp → ℕ → ℕ → ℕ → ZcCore → Effect
 stores op a word size z = reaching (store_width op) a z (Commits (onward (stored (store_width op) a word z) size z.regs))
 
+-- ---- the jump table
+
+-- a register gets the table's base, and jvt the word of another, whose low six bits count as 0: the mode is always 0
+abbrev pub swaps_jvt : ℕ → ℕ → ℕ → ZcCore → Effect
+swaps_jvt word rd size z = Commits (record (onward z size (set_reg z.regs rd z.jvt)) { jvt = word / 64 * 64 })
+
 -- ---- instructions
 
 -- the effect of an instruction that takes this many bytes; `jalr` clears bit 0 of its sum, and a fence does nothing
@@ -108,4 +113,4 @@ effect (WithReg op rd first second) size z = gives (reg_result op (reg_in z firs
 effect (Fence rest) size z = Commits (onward z size z.regs)
 effect Ecall size z = Call
 effect Ebreak size z = Break
-effect (Csrrw rd source) size z = Unknown
+effect (Csrrw rd source) size z = swaps_jvt (reg_in z source) rd size z

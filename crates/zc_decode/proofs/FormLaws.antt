@@ -5,7 +5,7 @@ use Rattle.rv_decode.specs.Bits.{field}
 use Rattle.rv_decode.specs.Decode.{row_of}
 use Rattle.zc_decode.specs.Fields.{group_of}
 use Rattle.zc_decode.specs.Halfwords.{decoded16, spelled}
-use Rattle.zc_decode.specs.Rows.{form_of, groups, operations, register_rows}
+use Rattle.zc_decode.specs.Rows.{form_of, groups, operations, register_rows, zcmp_rows}
 use Rattle.zc_decode.specs.declared.form.Form.{Form}
 
 -- a halfword of a group
@@ -25,6 +25,13 @@ pub form_in_registers : (half n : ℕ) (row : Option Form) → group_of half ≡
 form_in_registers half n row group operation is found =
     form_in_operations half 0b11 _ group operation refl
     ∙ ap (λ k. option_flatten (row_of (register_rows half) k)) is
+    ∙ ap option_flatten found
+
+-- a push, pop, move or table jump
+pub form_in_zcmp : (half n : ℕ) (row : Option Form) → group_of half ≡ 0b101_10 → field half 10 3 ≡ n → row_of (zcmp_rows half) n ≡ Some row → form_of half ≡ row
+form_in_zcmp half n row group is found =
+    form_in_group half 0b101_10 _ group refl
+    ∙ ap (λ k. option_flatten (row_of (zcmp_rows half) k)) is
     ∙ ap option_flatten found
 
 -- a halfword spells what those of its row do

@@ -1,7 +1,8 @@
 -- The fields of a halfword (RISC-V unprivileged manual, "Compressed Instruction Formats" and "RVC Instruction Set Listings";
--- RISC-V Zc specification 1.0, "Zcb").
-use Rattle.std.specs.Prelude.{ℕ, ℤ, ◌+◌, ◌-◌, ◌*◌, ◌^◌}
+-- RISC-V Zc specification 1.0, "Zcb", "Zcmp" and "Zcmt").
+use Rattle.std.specs.Prelude.{ℕ, ℤ, ◌+◌, ◌-◌, ◌*◌, ◌^◌, nat_lt, if◌then◌else◌}
 use Rattle.rv_decode.specs.Bits.{field, signed}
+use Rattle.zc_decode.specs.Lists.{base_of}
 
 -- which rows are possible: bits 15 to 13 and 1 to 0, as one number of five bits
 abbrev pub group_of : ℕ → ℕ
@@ -24,6 +25,22 @@ high_reg_of half = 8 + field half 7 3
 -- the register of bits 4 to 2, one of x8 to x15: rs2', and rd' of a load
 abbrev pub low_reg_of : ℕ → ℕ
 low_reg_of half = 8 + field half 2 3
+
+-- the one of s0 to s7 with a number of three bits: x8, x9, x18 to x23
+abbrev pub s_register_of : ℕ → ℕ
+s_register_of code = if nat_lt code 2 then 8 + code else 16 + code
+
+-- r1s': the s register of bits 9 to 7
+abbrev pub r1s_of : ℕ → ℕ
+r1s_of half = s_register_of (field half 7 3)
+
+-- r2s': the s register of bits 4 to 2
+abbrev pub r2s_of : ℕ → ℕ
+r2s_of half = s_register_of (field half 2 3)
+
+-- the register list of a push or pop: bits 7 to 4
+abbrev pub list_of : ℕ → ℕ
+list_of half = field half 4 4
 
 -- ---- immediates without a sign
 
@@ -54,6 +71,14 @@ lwsp_of half = field half 2 2 * 2 ^ 6 + field half 12 1 * 2 ^ 5 + field half 4 3
 -- c.swsp: imm[5:2] is bits 12 to 9, imm[7:6] bits 8 to 7
 abbrev pub swsp_of : ℕ → ℕ
 swsp_of half = field half 7 2 * 2 ^ 6 + field half 9 4 * 2 ^ 2
+
+-- the bytes that a push or pop moves sp by: its list's base, and sixteens by bits 3 to 2
+abbrev pub adjust_of : ℕ → ℕ
+adjust_of half = base_of (list_of half) + 16 * field half 2 2
+
+-- the entry of the jump table: bits 9 to 2
+abbrev pub index_of : ℕ → ℕ
+index_of half = field half 2 8
 
 -- ---- immediates with a sign
 

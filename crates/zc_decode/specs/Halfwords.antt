@@ -1,5 +1,5 @@
--- The tables of halfwords (RISC-V unprivileged manual, "RVC Instruction Set Listings"; RISC-V Zc specification 1.0, "Zca" and
--- "Zcb"): what a halfword of each row spells.
+-- The tables of halfwords (RISC-V unprivileged manual, "RVC Instruction Set Listings"; RISC-V Zc specification 1.0, "Zca",
+-- "Zcb", "Zcmp" and "Zcmt"): what a halfword of each row spells.
 use Rattle.std.specs.Prelude.{ℕ, pos, negsuc, Option}
 use Rattle.std.specs.Option.{option_map}
 use Rattle.rv_decode.specs.declared.instr.Instr.TheVariants.{Upper, Jal, Jalr, Branch, Load, Store, WithImm, WithReg, Ebreak}
@@ -9,12 +9,12 @@ use Rattle.rv_decode.specs.declared.instr.LoadOp.TheVariants.{Lbu, Lh, Lhu, Lw}
 use Rattle.rv_decode.specs.declared.instr.StoreOp.TheVariants.{Sb, Sh, Sw}
 use Rattle.rv_decode.specs.declared.instr.ImmOp.TheVariants.{Addi, Andi, Slli, Srai, Srli, Xori}
 use Rattle.rv_decode.specs.declared.instr.RegOp.TheVariants.{Add, And, Mul, Or, Sub, Xor}
-use Rattle.zc_decode.specs.Fields.{addi4spn_of, addi16sp_of, amount_of, cb_offset_of, byte_offset_of, half_offset_of, high_reg_of, imm_ci_of, cj_offset_of, low_reg_of, lui_of, lwsp_of, c_rd_of, c_rs2_of, swsp_of, word_offset_of}
+use Rattle.zc_decode.specs.Fields.{addi4spn_of, addi16sp_of, amount_of, cb_offset_of, byte_offset_of, half_offset_of, high_reg_of, imm_ci_of, cj_offset_of, low_reg_of, lui_of, lwsp_of, c_rd_of, c_rs2_of, swsp_of, word_offset_of, adjust_of, index_of, list_of, r1s_of, r2s_of}
 use Rattle.zc_decode.specs.Rows.{form_of}
 use Rattle.zc_decode.specs.declared.form.Form.{Form}
-use Rattle.zc_decode.specs.declared.form.Form.TheVariants.{CAddi4spn, CLw, CSw, CLbu, CLhu, CLh, CSb, CSh, CNop, CAddi, CJal, CLi, CAddi16sp, CLui, CSrli, CSrai, CAndi, CSub, CXor, COr, CAnd, CMul, CZextB, CNot, CJ, CBeqz, CBnez, CSlli, CLwsp, CJr, CMv, CEbreak, CJalr, CAdd, CSwsp}
+use Rattle.zc_decode.specs.declared.form.Form.TheVariants.{CAddi4spn, CLw, CSw, CLbu, CLhu, CLh, CSb, CSh, CNop, CAddi, CJal, CLi, CAddi16sp, CLui, CSrli, CSrai, CAndi, CSub, CXor, COr, CAnd, CMul, CZextB, CNot, CJ, CBeqz, CBnez, CSlli, CLwsp, CJr, CMv, CEbreak, CJalr, CAdd, CSwsp, CmPush, CmPop, CmPopretz, CmPopret, CmMvsa01, CmMva01s, CmJt, CmJalt}
 use Rattle.zc_decode.specs.declared.short.Short.{Short}
-use Rattle.zc_decode.specs.declared.short.Short.TheVariants.{Base}
+use Rattle.zc_decode.specs.declared.short.Short.TheVariants.{Base, Push, Pop, PopRet, PopRetz, MoveSa, MoveAs, TableJump}
 
 -- what a halfword of a row spells, a line a row in the tables' order; a hint spells its expansion too
 abbrev pub spelled : Form → ℕ → Short
@@ -53,6 +53,14 @@ spelled CEbreak half = Base Ebreak
 spelled CJalr half = Base (Jalr 1 (c_rd_of half) (pos 0))
 spelled CAdd half = Base (WithReg Add (c_rd_of half) (c_rd_of half) (c_rs2_of half))
 spelled CSwsp half = Base (Store Sw (c_rs2_of half) 2 (pos (swsp_of half)))
+spelled CmPush half = Push (list_of half) (adjust_of half)
+spelled CmPop half = Pop (list_of half) (adjust_of half)
+spelled CmPopretz half = PopRetz (list_of half) (adjust_of half)
+spelled CmPopret half = PopRet (list_of half) (adjust_of half)
+spelled CmMvsa01 half = MoveSa (r1s_of half) (r2s_of half)
+spelled CmMva01s half = MoveAs (r1s_of half) (r2s_of half)
+spelled CmJt half = TableJump (index_of half)
+spelled CmJalt half = TableJump (index_of half)
 
 -- what a halfword spells; none outside the tables
 unfoldable pub decoded16 : ℕ → Option Short

@@ -3,7 +3,7 @@ use Rattle.std.specs.Prelude.{ℕ, pos, Bool, false, not, ◌==◌, ◌||◌}
 use Rattle.std.specs.Ordering.{int_eq}
 use Rattle.zc_decode.specs.Fields.{amount_of, c_rd_of, imm_ci_of}
 use Rattle.zc_decode.specs.declared.form.Form.{Form}
-use Rattle.zc_decode.specs.declared.form.Form.TheVariants.{CAddi4spn, CLw, CSw, CLbu, CLhu, CLh, CSb, CSh, CNop, CAddi, CJal, CLi, CAddi16sp, CLui, CSrli, CSrai, CAndi, CSub, CXor, COr, CAnd, CMul, CZextB, CNot, CJ, CBeqz, CBnez, CSlli, CLwsp, CJr, CMv, CEbreak, CJalr, CAdd, CSwsp}
+use Rattle.zc_decode.specs.declared.form.Form.TheVariants.{CAddi4spn, CLw, CSw, CLbu, CLhu, CLh, CSb, CSh, CNop, CAddi, CJal, CLi, CAddi16sp, CLui, CSrli, CSrai, CAndi, CSub, CXor, COr, CAnd, CMul, CZextB, CNot, CJ, CBeqz, CBnez, CSlli, CLwsp, CJr, CMv, CEbreak, CJalr, CAdd, CSwsp, CmPush, CmPop, CmPopretz, CmPopret, CmMvsa01, CmMva01s, CmJt, CmJalt}
 
 -- whether the standard names a halfword of a row as a hint
 abbrev pub is_hint : Form → ℕ → Bool
@@ -42,6 +42,14 @@ is_hint CEbreak half = false
 is_hint CJalr half = false
 is_hint CAdd half = c_rd_of half == 0
 is_hint CSwsp half = false
+is_hint CmPush half = false
+is_hint CmPop half = false
+is_hint CmPopretz half = false
+is_hint CmPopret half = false
+is_hint CmMvsa01 half = false
+is_hint CmMva01s half = false
+is_hint CmJt half = false
+is_hint CmJalt half = false
 
 -- the number of a row in the tables' order
 abbrev pub row_number : Form → ℕ
@@ -80,3 +88,11 @@ row_number CEbreak = 31
 row_number CJalr = 32
 row_number CAdd = 33
 row_number CSwsp = 34
+row_number CmPush = 35
+row_number CmPop = 36
+row_number CmPopretz = 37
+row_number CmPopret = 38
+row_number CmMvsa01 = 39
+row_number CmMva01s = 40
+row_number CmJt = 41
+row_number CmJalt = 42

@@ -1,12 +1,12 @@
 -- The rows of the tables of halfwords, by their bits (RISC-V unprivileged manual, "RVC Instruction Set Listings"; RISC-V Zc
--- specification 1.0, "Zcb").
-use Rattle.std.specs.Prelude.{ℕ, ◌+◌, ◌*◌, List, [], ◌∷◌, Option, Some, None, Bool, ◌==◌, if◌then◌else◌}
+-- specification 1.0, "Zcb", "Zcmp" and "Zcmt").
+use Rattle.std.specs.Prelude.{ℕ, ◌+◌, ◌*◌, List, [], ◌∷◌, Option, Some, None, Bool, ◌==◌, if◌then◌else◌, nat_lt}
 use Rattle.std.specs.Option.{option_flatten}
 use Rattle.rv_decode.specs.Bits.{field}
 use Rattle.rv_decode.specs.Decode.{row_of}
-use Rattle.zc_decode.specs.Fields.{addi4spn_of, group_of, lui_of, c_rd_of, c_rs2_of}
+use Rattle.zc_decode.specs.Fields.{addi4spn_of, group_of, lui_of, c_rd_of, c_rs2_of, index_of, list_of}
 use Rattle.zc_decode.specs.declared.form.Form.{Form}
-use Rattle.zc_decode.specs.declared.form.Form.TheVariants.{CAddi4spn, CLw, CSw, CLbu, CLhu, CLh, CSb, CSh, CNop, CAddi, CJal, CLi, CAddi16sp, CLui, CSrli, CSrai, CAndi, CSub, CXor, COr, CAnd, CMul, CZextB, CNot, CJ, CBeqz, CBnez, CSlli, CLwsp, CJr, CMv, CEbreak, CJalr, CAdd, CSwsp}
+use Rattle.zc_decode.specs.declared.form.Form.TheVariants.{CAddi4spn, CLw, CSw, CLbu, CLhu, CLh, CSb, CSh, CNop, CAddi, CJal, CLi, CAddi16sp, CLui, CSrli, CSrai, CAndi, CSub, CXor, COr, CAnd, CMul, CZextB, CNot, CJ, CBeqz, CBnez, CSlli, CLwsp, CJr, CMv, CEbreak, CJalr, CAdd, CSwsp, CmPush, CmPop, CmPopretz, CmPopret, CmMvsa01, CmMva01s, CmJt, CmJalt}
 
 -- what isn't reserved is of the row
 abbrev pub unless : Bool → Form → Option Form
@@ -60,6 +60,31 @@ jump_row half =
     then (if field half 12 1 == 0 then unless (c_rd_of half == 0) CJr else (if c_rd_of half == 0 then Some CEbreak else Some CJalr))
     else (if field half 12 1 == 0 then Some CMv else Some CAdd)
 
+-- pushes and pops, by bits 12 to 8
+abbrev pub zcmp_lists : List (ℕ × Form)
+zcmp_lists =
+    (0b11000, CmPush) ∷
+    (0b11010, CmPop) ∷
+    (0b11100, CmPopretz) ∷
+    (0b11110, CmPopret) ∷
+    []
+
+-- moves, by bits 6 to 5; to one register twice is reserved
+abbrev pub zcmp_moves : ℕ → List (ℕ × Option Form)
+zcmp_moves half =
+    (0b01, unless (field half 7 3 == field half 2 3) CmMvsa01) ∷
+    (0b11, Some CmMva01s) ∷
+    []
+
+-- Zcmp and Zcmt, by bits 12 to 10; lists below 4 are reserved, and bits 9 and 8 tell which push or pop; table jumps from 32 on link
+abbrev pub zcmp_rows : ℕ → List (ℕ × Option Form)
+zcmp_rows half =
+    (0b000, Some (if nat_lt (index_of half) 32 then CmJt else CmJalt)) ∷
+    (0b011, option_flatten (row_of (zcmp_moves half) (field half 5 2))) ∷
+    (0b110, if nat_lt (list_of half) 4 then None else row_of zcmp_lists (field half 8 5)) ∷
+    (0b111, if nat_lt (list_of half) 4 then None else row_of zcmp_lists (field half 8 5)) ∷
+    []
+
 -- ---- rows, by bits 15 to 13 and 1 to 0
 
 -- c.addi with rd 0 is c.nop. c.lui with rd 2 is c.addi16sp, and an immediate of 0 is reserved in both
@@ -80,6 +105,7 @@ groups half =
     (0b000_10, unless (field half 12 1 == 1) CSlli) ∷
     (0b010_10, unless (c_rd_of half == 0) CLwsp) ∷
     (0b100_10, jump_row half) ∷
+    (0b101_10, option_flatten (row_of (zcmp_rows half) (field half 10 3))) ∷
     (0b110_10, Some CSwsp) ∷
     []
 

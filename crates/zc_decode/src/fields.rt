@@ -1,8 +1,10 @@
 // The fields of halfwords.
 
 ghost use Rattle.std.specs.Prelude.{◌≡◌, ◌<◌, pos};
-ghost use Rattle.zc_decode.specs.Fields.{addi16sp_of, addi4spn_of, amount_of, cb_offset_of, byte_offset_of, group_of, half_offset_of, high_reg_of, imm_ci_of, cj_offset_of, low_reg_of, lui_of, lwsp_of, swsp_of, word_offset_of};
+ghost use Rattle.rv_decode.specs.Bits.{field};
+ghost use Rattle.zc_decode.specs.Fields.{addi16sp_of, addi4spn_of, adjust_of, amount_of, cb_offset_of, byte_offset_of, group_of, half_offset_of, high_reg_of, imm_ci_of, cj_offset_of, index_of, list_of, low_reg_of, lui_of, lwsp_of, s_register_of, swsp_of, word_offset_of};
 
+use crate::lists::base;
 use rv_decode::bits::{field_at, signed_of};
 use zc_base::reg::Reg;
 
@@ -33,6 +35,36 @@ pub fn register(number: u32) -> Reg
     ensures { result ≡ number }
 {
     Reg::new(number as u8).unwrap()
+}
+
+/// The one of s0 to s7 whose number stands in the three bits from bit `low` on.
+pub fn s_register(half: u32, low: u32) -> Reg
+    requires { low < 32 }
+    ensures { result ≡ s_register_of (field half low 3) }
+{
+    let code = field_at(half, low, 3);
+    register(if code < 2 { 8 + code } else { 16 + code })
+}
+
+/// The register list of a push or pop.
+pub fn list(half: u32) -> u8
+    ensures { result ≡ list_of half }
+{
+    field_at(half, 4, 4) as u8
+}
+
+/// The bytes that a push or pop moves sp by.
+pub fn adjust(half: u32) -> u8
+    ensures { result ≡ adjust_of half }
+{
+    (base(field_at(half, 4, 4)) + 16 * field_at(half, 2, 2)) as u8
+}
+
+/// The entry of the jump table.
+pub fn index(half: u32) -> u8
+    ensures { result ≡ index_of half }
+{
+    field_at(half, 2, 8) as u8
 }
 
 /// The amount of a shift.

@@ -1,8 +1,8 @@
 // The rows of the tables of halfwords.
 
 /// A row of the tables of halfwords, by the name of its instruction: those of Zca and Zcb by quadrant,
-/// with Zcb's after Zca's in quadrant 0 (RISC-V unprivileged manual, "RVC Instruction Set Listings";
-/// RISC-V Zc specification 1.0, "Zcb").
+/// with Zcb's after Zca's in quadrant 0, and then those of Zcmp and Zcmt (RISC-V unprivileged manual,
+/// "RVC Instruction Set Listings"; RISC-V Zc specification 1.0, "Zcb", "Zcmp" and "Zcmt").
 ///
 /// The order is this project's own. Of two rows that have a halfword for an instruction, the first is
 /// the one to take.
@@ -43,4 +43,12 @@ pub enum Form {
     CJalr,
     CAdd,
     CSwsp,
+    CmPush,
+    CmPop,
+    CmPopretz,
+    CmPopret,
+    CmMvsa01,
+    CmMva01s,
+    CmJt,
+    CmJalt,
 }

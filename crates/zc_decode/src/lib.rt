@@ -1,10 +1,10 @@
-//! The halfwords of Zca and Zcb: what a halfword spells. Those of Zcmp and Zcmt spell nothing yet. Nothing
-//! here takes memory.
+//! The halfwords of Zca, Zcb, Zcmp and Zcmt: what a halfword spells. Nothing here takes memory.
 #![tactic(auto)]
 
 pub mod decode16;
 mod fields;
 pub mod form;
+pub mod lists;
 mod rows;
 pub mod short;
 mod spell;

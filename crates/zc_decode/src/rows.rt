@@ -3,7 +3,7 @@
 ghost use Rattle.std.specs.Prelude.{◌≡◌};
 ghost use Rattle.rv_decode.specs.Decode.{row_of};
 ghost use Rattle.zc_decode.specs.Rows as rows;
-ghost use Rattle.zc_decode.specs.Rows.{form_of, groups, jump_row, operations, register_rows};
+ghost use Rattle.zc_decode.specs.Rows.{form_of, groups, jump_row, operations, register_rows, zcmp_rows};
 
 use crate::fields::{addi4spn, group_at, lui};
 use crate::form::Form;
@@ -30,6 +30,7 @@ pub fn form_at(half: u32) -> Option<Form>
         0b000_10 => unless(field_at(half, 12, 1) == 1, Form::CSlli),
         0b010_10 => unless(field_at(half, 7, 5) == 0, Form::CLwsp),
         0b100_10 => jump(half),
+        0b101_10 => zcmp(half),
         0b110_10 => Some(Form::CSwsp),
         _ => None,
     }
@@ -129,5 +130,52 @@ fn jump(half: u32) -> Option<Form>
         (_, 0, 0) => Some(Form::CEbreak),
         (_, _, 0) => Some(Form::CJalr),
         (_, _, _) => Some(Form::CAdd),
+    }
+}
+
+// Pushes and pops, moves, and table jumps.
+fn zcmp(half: u32) -> Option<Form>
+    ensures { row_of (groups half) 0b101_10 ≡ Some result }
+{
+    match field_at(half, 10, 3) {
+        0b000 => Some(table_jump(half)),
+        0b011 => moves(half),
+        0b110 | 0b111 => push_or_pop(half),
+        _ => None,
+    }
+}
+
+fn table_jump(half: u32) -> Form
+    ensures { row_of (zcmp_rows half) 0b000 ≡ Some (Some result) }
+{
+    if field_at(half, 2, 8) < 32 {
+        Form::CmJt
+    } else {
+        Form::CmJalt
+    }
+}
+
+fn moves(half: u32) -> Option<Form>
+    ensures { row_of (zcmp_rows half) 0b011 ≡ Some result }
+{
+    match field_at(half, 5, 2) {
+        0b01 => unless(field_at(half, 7, 3) == field_at(half, 2, 3), Form::CmMvsa01),
+        0b11 => Some(Form::CmMva01s),
+        _ => None,
+    }
+}
+
+fn push_or_pop(half: u32) -> Option<Form>
+    ensures { row_of (zcmp_rows half) 0b110 ≡ Some result }
+{
+    if field_at(half, 4, 4) < 4 {
+        return None;
+    }
+    match field_at(half, 8, 5) {
+        0b11000 => Some(Form::CmPush),
+        0b11010 => Some(Form::CmPop),
+        0b11100 => Some(Form::CmPopretz),
+        0b11110 => Some(Form::CmPopret),
+        _ => None,
     }
 }

@@ -7,7 +7,7 @@ use zc_base::reg::Reg;
 ///
 /// `list` is the register list's number, `adjust` the whole change of the stack pointer in bytes.
 /// `MoveSa` moves a0 to `first` and a1 to `second`, `MoveAs` moves them back, and `TableJump` goes to
-/// the address in that entry of the jump table.
+/// the address in that entry of the jump table, from entry 32 on with the return address in ra.
 #[derive(Clone, Copy)]
 pub enum Short {
     Base(Instr),

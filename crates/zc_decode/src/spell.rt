@@ -4,8 +4,8 @@ ghost use Rattle.std.specs.Prelude.{◌≡◌, ◌<◌, pos};
 ghost use Rattle.zc_decode.specs.Halfwords.{spelled};
 
 use crate::fields::{
-    addi4spn, addi16sp, amount, byte_offset, cb_offset, cj_offset, half_offset, high_reg, imm_ci,
-    low_reg, lui, lwsp, register, swsp, word_offset,
+    addi4spn, addi16sp, adjust, amount, byte_offset, cb_offset, cj_offset, half_offset, high_reg,
+    imm_ci, index, list, low_reg, lui, lwsp, register, s_register, swsp, word_offset,
 };
 use crate::form::Form;
 use crate::short::Short;
@@ -55,6 +55,31 @@ pub fn spell(form: Form, half: u32) -> Short
         Form::CJalr => jalr(1, rd),
         Form::CAdd => with_reg(RegOp::Add, rd, rd, rs2),
         Form::CSwsp => store(StoreOp::Sw, rs2, register(2), swsp(half)),
+        Form::CmPush => Short::Push {
+            list: list(half),
+            adjust: adjust(half),
+        },
+        Form::CmPop => Short::Pop {
+            list: list(half),
+            adjust: adjust(half),
+        },
+        Form::CmPopretz => Short::PopRetz {
+            list: list(half),
+            adjust: adjust(half),
+        },
+        Form::CmPopret => Short::PopRet {
+            list: list(half),
+            adjust: adjust(half),
+        },
+        Form::CmMvsa01 => Short::MoveSa {
+            first: s_register(half, 7),
+            second: s_register(half, 2),
+        },
+        Form::CmMva01s => Short::MoveAs {
+            first: s_register(half, 7),
+            second: s_register(half, 2),
+        },
+        Form::CmJt | Form::CmJalt => Short::TableJump { index: index(half) },
     }
 }
 

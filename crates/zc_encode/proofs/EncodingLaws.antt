@@ -15,16 +15,18 @@ use Rattle.rv_decode.specs.Registers.{HasRegisters}
 use Rattle.zc_decode.specs.Hints.{is_hint, row_number}
 use Rattle.zc_decode.specs.Rows.{form_of}
 use Rattle.zc_decode.specs.declared.form.Form.{Form}
-use Rattle.zc_decode.specs.declared.form.Form.TheVariants.{CEbreak}
-use Rattle.zc_decode.specs.declared.short.Short.TheVariants.{Base}
-use Rattle.zc_encode.specs.Encoding.{IsEncoding, IsFirst, Spells}
-use Rattle.zc_encode.specs.Halves.{half_for}
+use Rattle.zc_decode.specs.declared.form.Form.TheVariants.{CEbreak, CmMva01s, CmMvsa01, CmPop, CmPopret, CmPopretz, CmPush}
+use Rattle.zc_decode.specs.declared.short.Short.{Short}
+use Rattle.zc_decode.specs.declared.short.Short.TheVariants.{Base, Push, Pop, PopRet, PopRetz, MoveSa, MoveAs, TableJump}
+use Rattle.zc_encode.specs.Encoding.{IsEncoding, IsFirst, Spells, normal_short}
+use Rattle.zc_encode.specs.Halves.{half_for, list_half, move_half, move_sa_half, table_half}
 use Rattle.zc_encode.proofs.ImmRows.{upper_row, with_imm_row}
 use Rattle.zc_encode.proofs.JumpRows.{branch_row, jal_row, jalr_row}
 use Rattle.zc_encode.proofs.MemoryRows.{load_row, store_row}
 use Rattle.zc_encode.proofs.RegRows.{InOrder, with_reg_row}
-use Rattle.zc_encode.proofs.RoundTrips.{comes_back, each_comes_back, is_earlier, is_found, is_found_for}
-use Rattle.zc_encode.proofs.RowFits.{InRow}
+use Rattle.zc_encode.proofs.RoundTrips.{comes_back, each_comes_back, half_of_normal, is_earlier, is_found}
+use Rattle.zc_encode.proofs.RowFits.{InRow, InRowOf}
+use Rattle.zc_encode.proofs.ZcmpRows.{move_as_row, move_sa_row, pop_row, popret_row, popretz_row, push_row, table_row}
 
 -- ---- what is found spells the instruction
 
@@ -135,23 +137,22 @@ found form half (Some k) h = (k, refl, ⊎_elim (λ e. inl (sym (eqb-true k half
     earlier None is e = absurd cc
     earlier (Some other) is e = (other, is, ltb-true (row_number other) (row_number form) e)
 
-spells_found : (form : Form) (half : ℕ) (i : Instr) → Spells form half (Base i) → Found form half (half_for (normal_of i))
-spells_found form half i s =
-    let back : comes_back half (Some form) ≡ true = sym (ap (comes_back half) s.row) ∙ each_comes_back half s.small in
-    let again = sym (ap (λ t. is_hint form half || is_found_for form half t) s.same) ∙ back in
-    found form half _ (⊎_elim (λ hint. absurd (false≢true (sym s.no_hint ∙ hint))) (λ e. e) (or_cases (is_hint form half) _ again))
+spells_found : (form : Form) (half : ℕ) (s : Short) → Spells form half s → Found form half (half_of_normal (normal_short s))
+spells_found form half s spells =
+    let back : comes_back half (Some form) ≡ true = sym (ap (comes_back half) spells.row) ∙ each_comes_back half spells.small in
+    let again = sym (ap (λ t. is_hint form half || is_found form half (half_of_normal t)) spells.same) ∙ back in
+    found form half _ (⊎_elim (λ hint. absurd (false≢true (sym spells.no_hint ∙ hint))) (λ e. e) (or_cases (is_hint form half) _ again))
 
 -- ---- both
 
-first_of : (i : Instr) (half : ℕ) → HasRegisters (normal_of i) → half_for (normal_of i) ≡ Some half → IsFirst half (Base i)
-first_of i half registers is =
-    let in_row = found_row (normal_of i) half registers (normal_ordered i) is in
+first_of : (s : Short) (half : ℕ) → InRowOf half (normal_short s) → half_of_normal (normal_short s) ≡ Some half → IsFirst half s
+first_of s half in_row is =
     let row = in_row.1 in
     record {
       form = in_row.0;
       spells = record { small = row.small; row = row.row; no_hint = row.no_hint; same = row.is };
-      first = λ other k s.
-          let f = spells_found other k i s in
+      first = λ other k spells.
+          let f = spells_found other k s spells in
           let same : f.0 ≡ half = some (sym f.1 ∙ is) in
           ⊎_elim (λ e. inl (e ∙ same)) (λ e. inr (earlier in_row.0 e.0 other (sym (row.row) ∙ ap form_of (sym same) ∙ e.1) e.2)) f.2;
     }
@@ -165,9 +166,34 @@ first_of i half registers is =
         form_is : (a b : Form) → Some a ≡ Some b → a ≡ b
         form_is a b e = cc
 
-pub encoding : (i : Instr) (o : Option ℕ) → HasRegisters (normal_of i) → half_for (normal_of i) ≡ o → IsEncoding (Base i) o
-encoding i None registers is = λ form half s. let f = spells_found form half i s in absurd (none (sym is ∙ f.1))
+-- what is found for the normal form is the encoding, if it is of a row
+encoding_of : (s : Short) (o : Option ℕ) → ((half : ℕ) → o ≡ Some half → InRowOf half (normal_short s)) → half_of_normal (normal_short s) ≡ o → IsEncoding s o
+encoding_of s None rows is = λ form half spells. let f = spells_found form half s spells in absurd (none (sym is ∙ f.1))
   where
     none : {k : ℕ} → None ≡ Some k → ⊥
     none e = cc
-encoding i (Some half) registers is = first_of i half registers is
+encoding_of s (Some half) rows is = first_of s half (rows half refl) is
+
+pub encoding : (i : Instr) (o : Option ℕ) → HasRegisters (normal_of i) → half_for (normal_of i) ≡ o → IsEncoding (Base i) o
+encoding i o registers is = encoding_of (Base i) o (λ half found. found_row (normal_of i) half registers (normal_ordered i) (is ∙ found)) is
+
+pub encoding-push : (list adjust : ℕ) (o : Option ℕ) → list_half 0b1000 list adjust ≡ o → IsEncoding (Push list adjust) o
+encoding-push list adjust o is = encoding_of (Push list adjust) o (λ half found. (CmPush, push_row list adjust half (is ∙ found))) is
+
+pub encoding-pop : (list adjust : ℕ) (o : Option ℕ) → list_half 0b1010 list adjust ≡ o → IsEncoding (Pop list adjust) o
+encoding-pop list adjust o is = encoding_of (Pop list adjust) o (λ half found. (CmPop, pop_row list adjust half (is ∙ found))) is
+
+pub encoding-popret : (list adjust : ℕ) (o : Option ℕ) → list_half 0b1110 list adjust ≡ o → IsEncoding (PopRet list adjust) o
+encoding-popret list adjust o is = encoding_of (PopRet list adjust) o (λ half found. (CmPopret, popret_row list adjust half (is ∙ found))) is
+
+pub encoding-popretz : (list adjust : ℕ) (o : Option ℕ) → list_half 0b1100 list adjust ≡ o → IsEncoding (PopRetz list adjust) o
+encoding-popretz list adjust o is = encoding_of (PopRetz list adjust) o (λ half found. (CmPopretz, popretz_row list adjust half (is ∙ found))) is
+
+pub encoding-move_sa : (first second : ℕ) (o : Option ℕ) → move_sa_half first second ≡ o → IsEncoding (MoveSa first second) o
+encoding-move_sa first second o is = encoding_of (MoveSa first second) o (λ half found. (CmMvsa01, move_sa_row first second half (is ∙ found))) is
+
+pub encoding-move_as : (first second : ℕ) (o : Option ℕ) → move_half 0b11 first second ≡ o → IsEncoding (MoveAs first second) o
+encoding-move_as first second o is = encoding_of (MoveAs first second) o (λ half found. (CmMva01s, move_as_row first second half (is ∙ found))) is
+
+pub encoding-table : (index : ℕ) (o : Option ℕ) → table_half index ≡ o → IsEncoding (TableJump index) o
+encoding-table index o is = encoding_of (TableJump index) o (λ half found. table_row index half (is ∙ found)) is

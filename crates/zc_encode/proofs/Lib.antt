@@ -5,5 +5,6 @@ pub mod MemoryRows
 pub mod ImmRows
 pub mod RegRows
 pub mod JumpRows
+pub mod ZcmpRows
 pub mod RoundTrips
 pub mod EncodingLaws

@@ -13,7 +13,7 @@ use Rattle.zc_decode.specs.declared.form.Form.{Form}
 use Rattle.zc_decode.specs.declared.short.Short.{Short}
 use Rattle.zc_decode.specs.declared.short.Short.TheVariants.{Base}
 use Rattle.zc_encode.specs.Encoding.{normal_short}
-use Rattle.zc_encode.specs.Halves.{half_for}
+use Rattle.zc_encode.specs.Halves.{encoded16, half_for}
 
 -- whether a halfword is of an earlier row
 abbrev pub is_earlier : Form → Option Form → Bool
@@ -25,15 +25,15 @@ abbrev pub is_found : Form → ℕ → Option ℕ → Bool
 is_found form half None = false
 is_found form half (Some k) = eqb k half || is_earlier form (form_of k)
 
--- the same for what it spells, in normal form
-abbrev pub is_found_for : Form → ℕ → Short → Bool
-is_found_for form half (Base i) = is_found form half (half_for i)
-is_found_for form half other = false
+-- the halfword of what is in normal form
+abbrev pub half_of_normal : Short → Option ℕ
+half_of_normal (Base i) = half_for i
+half_of_normal other = encoded16 other
 
 -- whether a halfword with this row comes back
 abbrev pub comes_back : ℕ → Option Form → Bool
 comes_back half None = true
-comes_back half (Some form) = is_hint form half || is_found_for form half (normal_short (spelled form half))
+comes_back half (Some form) = is_hint form half || is_found form half (half_of_normal (normal_short (spelled form half)))
 
 -- the same for a number, which the match computes once
 tried : (ℕ → Option Form) → ℕ → Bool

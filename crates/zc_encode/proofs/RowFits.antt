@@ -13,16 +13,23 @@ use Rattle.zc_decode.specs.declared.short.Short.{Short}
 use Rattle.zc_decode.specs.declared.short.Short.TheVariants.{Base, Push, Pop, PopRet, PopRetz, MoveSa, MoveAs, TableJump}
 use Rattle.zc_encode.specs.Encoding.{normal_short}
 
--- a halfword of a row that spells an instruction in normal form
-pub record Row (form : Form) (half : ℕ) (i : Instr) : Type 0 where
+-- a halfword of a row that spells what is in normal form
+pub record RowOf (form : Form) (half : ℕ) (s : Short) : Type 0 where
   pub small : half < 2 ^ 16
   pub row : form_of half ≡ Some form
   pub no_hint : is_hint form half ≡ false
-  pub is : normal_short (spelled form half) ≡ Base i
+  pub is : normal_short (spelled form half) ≡ s
+
+-- an instruction of 32 bits
+abbrev pub Row : Form → ℕ → Instr → Type 0
+Row form half i = RowOf form half (Base i)
 
 -- of some row
 abbrev pub InRow : ℕ → Instr → Type 0
 InRow half i = (form : Form) × Row form half i
+
+abbrev pub InRowOf : ℕ → Short → Type 0
+InRowOf half s = (form : Form) × RowOf form half s
 
 -- what two in turn give comes from one of them
 pub either_of : (first second : Option ℕ) (half : ℕ) → option_or first second ≡ Some half → (first ≡ Some half) ⊎ (second ≡ Some half)

@@ -1,6 +1,6 @@
 -- The halfword of each row for an instruction in normal form, by its fields (RISC-V unprivileged manual, "RVC Instruction Set
--- Listings"; RISC-V Zc specification 1.0, "Zcb").
-use Rattle.std.specs.Prelude.{ℕ, ℤ, pos, negsuc, ◌+◌, ◌-◌, ◌*◌, ◌%◌, ◌^◌, Bool, false, not, ◌==◌, ◌&&◌, ◌||◌, nat_lt, nat_le, if◌then◌else◌, Option, Some, None}
+-- Listings"; RISC-V Zc specification 1.0, "Zcb", "Zcmp" and "Zcmt").
+use Rattle.std.specs.Prelude.{ℕ, ℤ, pos, negsuc, ◌+◌, ◌-◌, ◌*◌, ◌%◌, ◌^◌, Bool, false, not, ◌==◌, ◌&&◌, ◌||◌, nat_lt, nat_le, if◌then◌else◌, Option, Some, None, ◌/◌}
 use Rattle.std.specs.Option.{option_or}
 use Rattle.std.specs.Ordering.{int_eq}
 use Rattle.rv_decode.specs.declared.instr.Instr.{Instr}
@@ -21,6 +21,7 @@ use Rattle.rv_decode.specs.Bits.{as_word, field}
 use Rattle.rv_decode.specs.Normal.{normal_of}
 use Rattle.zc_decode.specs.declared.short.Short.{Short}
 use Rattle.zc_decode.specs.declared.short.Short.TheVariants.{Base, Push, Pop, PopRet, PopRetz, MoveSa, MoveAs, TableJump}
+use Rattle.zc_decode.specs.Lists.{base_of}
 
 -- ---- fields
 
@@ -282,13 +283,38 @@ half_for Ecall = None
 half_for Ebreak = Some 0x9002
 half_for (Csrrw rd source) = None
 
+-- ---- Zcmp and Zcmt
+
+-- a push or pop by bits 11 to 8, its list, and the sixteens that sp moves by beyond the list's base
+abbrev pub list_half : ℕ → ℕ → ℕ → Option ℕ
+list_half kind list adjust =
+    let more = adjust - base_of list in
+    when (nat_le 4 list && (nat_lt list 16 && (nat_le (base_of list) adjust && (more % 16 == 0 && nat_lt more 64))))
+    (half_of 0b101_10 1 (kind * 2 + field list 3 1) (field list 0 3 * 4 + more / 16))
+
+-- the number of one of s0 to s7 in three bits; 8 of another register
+abbrev pub s_code : ℕ → ℕ
+s_code r = if nat_le 8 r && nat_lt r 10 then r - 8 else (if nat_le 18 r && nat_lt r 24 then r - 16 else 8)
+
+-- a move between two of them and a0 and a1, by bits 6 and 5
+abbrev pub move_half : ℕ → ℕ → ℕ → Option ℕ
+move_half which first second =
+    when (nat_lt (s_code first) 8 && nat_lt (s_code second) 8) (half_of 0b101_10 0 (24 + s_code first) (which * 8 + s_code second))
+
+-- a move to two of them, which are different
+abbrev pub move_sa_half : ℕ → ℕ → Option ℕ
+move_sa_half first second = if first == second then None else move_half 0b01 first second
+
+abbrev pub table_half : ℕ → Option ℕ
+table_half index = when (nat_lt index 256) (half_of 0b101_10 0 (index / 32) (index % 32))
+
 -- the halfword of what a halfword can spell
 abbrev pub encoded16 : Short → Option ℕ
 encoded16 (Base i) = half_for (normal_of i)
-encoded16 (Push list adjust) = None
-encoded16 (Pop list adjust) = None
-encoded16 (PopRet list adjust) = None
-encoded16 (PopRetz list adjust) = None
-encoded16 (MoveSa first second) = None
-encoded16 (MoveAs first second) = None
-encoded16 (TableJump index) = None
+encoded16 (Push list adjust) = list_half 0b1000 list adjust
+encoded16 (Pop list adjust) = list_half 0b1010 list adjust
+encoded16 (PopRet list adjust) = list_half 0b1110 list adjust
+encoded16 (PopRetz list adjust) = list_half 0b1100 list adjust
+encoded16 (MoveSa first second) = move_sa_half first second
+encoded16 (MoveAs first second) = move_half 0b11 first second
+encoded16 (TableJump index) = table_half index

@@ -9,6 +9,7 @@ use crate::jumps::{branch, jal, jalr};
 use crate::memory::{load, store};
 use crate::with_imm::{upper, with_imm_half};
 use crate::with_reg::with_reg;
+use crate::zcmp::{move_as, move_sa, push_or_pop, table_jump};
 use rv_decode::instr::Instr;
 use rv_decode::normal::normal;
 use zc_decode::short::Short;
@@ -21,13 +22,13 @@ pub fn encode16(s: Short) -> Option<u16>
 {
     match s {
         Short::Base(i) => encode(normal(i)),
-        Short::Push { .. }
-        | Short::Pop { .. }
-        | Short::PopRet { .. }
-        | Short::PopRetz { .. }
-        | Short::MoveSa { .. }
-        | Short::MoveAs { .. }
-        | Short::TableJump { .. } => None,
+        Short::Push { list, adjust } => push_or_pop(0b1000, list, adjust),
+        Short::Pop { list, adjust } => push_or_pop(0b1010, list, adjust),
+        Short::PopRet { list, adjust } => push_or_pop(0b1110, list, adjust),
+        Short::PopRetz { list, adjust } => push_or_pop(0b1100, list, adjust),
+        Short::MoveSa { first, second } => move_sa(first, second),
+        Short::MoveAs { first, second } => move_as(first, second),
+        Short::TableJump { index } => table_jump(index),
     }
 }
 

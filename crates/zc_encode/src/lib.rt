@@ -7,3 +7,4 @@ mod jumps;
 mod memory;
 mod with_imm;
 mod with_reg;
+mod zcmp;
