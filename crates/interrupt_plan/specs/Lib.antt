@@ -1,2 +1,4 @@
 pub mod Plan
 pub mod Order
+pub mod Text
+pub mod Fault

@@ -1,4 +1,8 @@
 //! Plans of interrupts: what happens between two commits of the machine.
 #![tactic(auto)]
 
+pub mod fault;
+mod line;
 pub mod plan;
+pub mod read_plan;
+mod word;

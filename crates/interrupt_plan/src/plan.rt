@@ -1,6 +1,6 @@
 // Plans of interrupts.
 
-ghost use Rattle.std.specs.Prelude.{◌≡◌, ◌<◌, [], length, slice_get, Some};
+ghost use Rattle.std.specs.Prelude.{◌≡◌, ◌<◌, ◌^◌, [], length, slice_get, Some};
 
 use std::alloc::Global;
 use std::marker::Model;
@@ -51,6 +51,15 @@ pub fn empty_plan(alloc: Global) -> Plan
 
 impl Plan {
     ghost use Rattle.interrupt_plan.specs.Order.{IsInOrder};
+
+    /// The plan of these interrupts.
+    pub(crate) fn new(cuts: Vec<PlanCut>) -> Plan
+        requires few { length cuts.items < 2 ^ 32 }
+        requires in_order { IsInOrder cuts.items }
+        ensures { result ≡ cuts.items }
+    {
+        Plan { cuts }
+    }
 
     /// How many interrupts there are.
     pub fn cut_count(&self) -> u32

@@ -1,0 +1,29 @@
+-- What the fault of a text says of it.
+use Rattle.std.specs.Prelude.{◌≡◌, ◌≢◌, ℕ, ◌+◌, ◌<◌, List, [], ◌∷◌, ◌++◌, length, All, codes}
+use Rattle.interrupt_plan.specs.Plan.{Entry}
+use Rattle.interrupt_plan.specs.Order.{IsInOrder}
+use Rattle.interrupt_plan.specs.Text.{FitsEntry, entry_line, plan_text}
+use Rattle.interrupt_plan.specs.declared.fault.PlanFault.{PlanFault}
+use Rattle.interrupt_plan.specs.declared.fault.PlanFault.TheVariants.{BadLine, OutOfMemory, OutOfOrder, TooLarge}
+
+-- the text begins with the lines of a plan, and this stands behind them
+pub record BeginsAsPlan (text : List ℕ) (before : List Entry) (rest : List ℕ) : Type 0 where
+  pub spells : text ≡ plan_text before ++ rest
+  pub fits : All FitsEntry before
+  pub in_order : IsInOrder before
+
+-- no entry's line stands first
+abbrev pub IsNoEntry : List ℕ → Type 0
+IsNoEntry rest = (e : Entry) (more : List ℕ) → FitsEntry e → rest ≢ entry_line e ++ 10 ∷ more
+
+-- an entry comes before one that is listed earlier
+abbrev pub IsEarlier : List Entry → Entry → Type 0
+IsEarlier before e = IsInOrder (before ++ e ∷ []) → ⊥
+
+-- a bad line is the first one, or stands behind those of a plan and is no entry's; want of memory may come at any text
+pub data IsFault (text : List ℕ) : PlanFault → Type 0 where
+  first_line : ((rest : List ℕ) → text ≢ codes "zcld plan 1" ++ 10 ∷ rest) → IsFault text (BadLine 1)
+  bad_line : (before : List Entry) (rest : List ℕ) → BeginsAsPlan text before rest → rest ≢ [] → IsNoEntry rest → IsFault text (BadLine (length before + 2))
+  earlier : (before : List Entry) (e : Entry) (more : List ℕ) → BeginsAsPlan text before (entry_line e ++ 10 ∷ more) → FitsEntry e → IsEarlier before e → IsFault text (OutOfOrder (length before + 2))
+  large : 8388608 < length text → IsFault text TooLarge
+  memory : IsFault text OutOfMemory

@@ -1,0 +1,131 @@
+-- The text of a plan: the line `zcld plan 1`, and then a line for each interrupt. A line feed ends each line.
+use Rattle.std.specs.Prelude.{◌≡◌, ◌≤◌, ◌⊎◌, ℕ, ◌+◌, ◌^◌, ◌<◌, ◌&&◌, nat_lt, bytes_eq, if◌then◌else◌, List, [], ◌∷◌, ◌++◌, length, drop, map, flat_map, slice_range, All, codes, decimal, Option, Some, None, Result, Ok, Err}
+use Rattle.std.specs.List.{join_with_byte}
+use Rattle.std.specs.Option.{option_and_then, option_map}
+use Rattle.std.specs.Str.Parse.{digits_value}
+use Rattle.text_lines.specs.Hex.{hex_byte, hex_word}
+use Rattle.text_lines.specs.Lines.{lines_of, words_of}
+use Rattle.text_lines.specs.Number.{decimal_of, if_text_of}
+use Rattle.interrupt_plan.specs.Plan.{Entry, Interrupt}
+use Rattle.interrupt_plan.specs.Order.{IsInOrder}
+use Rattle.interrupt_plan.specs.declared.fault.PlanFault.{PlanFault}
+use Rattle.interrupt_plan.specs.declared.fault.PlanFault.TheVariants.{BadLine, OutOfMemory, OutOfOrder, TooLarge}
+
+-- ---- the text that spells a plan
+
+-- an access: `a` and its number
+abbrev pub access_word : ℕ → List ℕ
+access_word n = codes "a" ++ decimal n
+
+-- a byte: `d`, its address, `:` and the byte
+abbrev pub byte_word : ℕ × ℕ → List ℕ
+byte_word d = codes "d" ++ hex_word d.0 ++ codes ":" ++ hex_byte d.1
+
+-- an interrupt: its accesses, and then its bytes
+abbrev pub interrupt_words : Interrupt → List (List ℕ)
+interrupt_words c = map access_word c.done ++ map byte_word c.dirt
+
+-- an entry's line, with one space between two words
+abbrev pub entry_words : Entry → List (List ℕ)
+entry_words e = codes "cut" ∷ decimal e.at ∷ interrupt_words e.cut
+
+abbrev pub entry_line : Entry → List ℕ
+entry_line e = join_with_byte 32 (entry_words e)
+
+unfoldable pub plan_text : List Entry → List ℕ
+plan_text plan = codes "zcld plan 1" ++ 10 ∷ flat_map (λ e. entry_line e ++ 10 ∷ []) plan
+
+-- its numbers fit their types
+abbrev pub FitsByte : ℕ × ℕ → Type 0
+FitsByte d = (d.0 < 2 ^ 32) × (d.1 < 256)
+
+abbrev pub FitsEntry : Entry → Type 0
+FitsEntry e = (e.at < 2 ^ 64) × All (λ n. n < 256) e.cut.done × All FitsByte e.cut.dirt
+
+-- the text is that of a plan whose numbers fit their types, in order
+pub record IsText (text : List ℕ) (plan : List Entry) : Type 0 where
+  pub spells : text ≡ plan_text plan
+  pub fits : All FitsEntry plan
+  pub in_order : IsInOrder plan
+
+-- ---- the plan that a text spells
+
+-- the access, or the byte, whose word this is
+unfoldable pub access_of : List ℕ → Option ℕ
+access_of word = let n = digits_value 10 (drop 1 word) in if_text_of (nat_lt n 256) access_word n word
+
+unfoldable pub dirt_of : List ℕ → Option (ℕ × ℕ)
+dirt_of word =
+    let d : ℕ × ℕ = (digits_value 16 (slice_range word 1 9), digits_value 16 (drop 10 word)) in
+    if_text_of (nat_lt d.0 (2 ^ 32) && nat_lt d.1 256) byte_word d word
+
+-- the bytes of words that are all bytes
+abbrev pub bytes_of : List (List ℕ) → Option (List (ℕ × ℕ))
+bytes_of [] = Some []
+bytes_of (word ∷ words) = option_and_then (λ d. option_map (λ dirt. d ∷ dirt) (bytes_of words)) (dirt_of word)
+
+-- an interrupt of these parts, or with one access more before the others
+abbrev pub interrupt : List ℕ → List (ℕ × ℕ) → Interrupt
+interrupt done dirt = record { done = done; dirt = dirt }
+
+abbrev pub with_access : ℕ → Interrupt → Interrupt
+with_access n c = interrupt (n ∷ c.done) c.dirt
+
+-- where the first word is an access, that and the interrupt of the others, or else bytes alone
+abbrev pub access_or_bytes : Option ℕ → Option Interrupt → Option (List (ℕ × ℕ)) → Option Interrupt
+access_or_bytes (Some n) others bytes = option_map (with_access n) others
+access_or_bytes None others bytes = option_map (interrupt []) bytes
+
+-- the interrupt of words: accesses, and from the first word on that is none, bytes
+abbrev pub interrupt_of : List (List ℕ) → Option Interrupt
+interrupt_of [] = Some (interrupt [] [])
+interrupt_of (word ∷ words) = access_or_bytes (access_of word) (interrupt_of words) (bytes_of (word ∷ words))
+
+-- words are those of these accesses, and then others that are to be bytes
+abbrev pub BeginsWith : List (List ℕ) → List ℕ → List (List ℕ) → Type 0
+BeginsWith words done others = interrupt_of words ≡ option_map (interrupt done) (bytes_of others)
+
+abbrev pub entry : ℕ → Interrupt → Entry
+entry at c = record { at = at; cut = c }
+
+-- the entry of a line's words
+unfoldable pub entry_of_words : List (List ℕ) → Option Entry
+entry_of_words (first ∷ (number ∷ words)) =
+    if bytes_eq first (codes "cut")
+    then option_and_then (λ at. option_map (entry at) (interrupt_of words)) (decimal_of 0xFFFF_FFFF_FFFF_FFFF number)
+    else None
+entry_of_words (first ∷ []) = None
+entry_of_words [] = None
+
+-- an entry, and those behind it
+abbrev pub with_first : Entry → Result (List Entry) PlanFault → Result (List Entry) PlanFault
+with_first e (Ok es) = Ok (e ∷ es)
+with_first e (Err fault) = Err fault
+
+-- an entry may not stand before commit `low`; those behind it may not stand before its own
+abbrev pub entry_then : ℕ → ℕ → Option Entry → (ℕ → Result (List Entry) PlanFault) → Result (List Entry) PlanFault
+entry_then line low None behind = Err (BadLine line)
+entry_then line low (Some e) behind = if nat_lt e.at low then Err (OutOfOrder line) else with_first e (behind e.at)
+
+-- the entries of the lines from this one on; nothing stands behind the last line feed
+abbrev pub entries_in : ℕ → ℕ → List (List ℕ) → Result (List Entry) PlanFault
+entries_in line low (text ∷ (next ∷ lines)) =
+    entry_then line low (entry_of_words (words_of text)) (λ at. entries_in (line + 1) at (next ∷ lines))
+entries_in line low (rest ∷ []) = if bytes_eq rest [] then Ok [] else Err (BadLine line)
+entries_in line low [] = Ok []
+
+-- the entries behind the first line
+abbrev pub entries_behind : List (List ℕ) → Result (List Entry) PlanFault
+entries_behind (title ∷ (next ∷ lines)) =
+    if bytes_eq title (codes "zcld plan 1") then entries_in 2 0 (next ∷ lines) else Err (BadLine 1)
+entries_behind (rest ∷ []) = Err (BadLine 1)
+entries_behind [] = Err (BadLine 1)
+
+-- the plan that a text spells, or the first fault that stands in it
+unfoldable pub plan_in : List ℕ → Result (List Entry) PlanFault
+plan_in text = if nat_lt 8388608 (length text) then Err TooLarge else entries_behind (lines_of text)
+
+-- a text within the limit that spells a plan is read as that plan, unless memory is wanting
+abbrev pub ReadsEach : List ℕ → Result (List Entry) PlanFault → Type 0
+ReadsEach text result =
+    (plan : List Entry) → IsText text plan → length text ≤ 8388608 → (result ≡ Ok plan) ⊎ (result ≡ Err OutOfMemory)
