@@ -1,10 +1,13 @@
--- Loads and stores that lie in memory at a multiple of their width are made, and a store writes the low bytes of its word.
-use Rattle.std.proofs.Common.{◌≡◌, ℕ, zero, suc, ◌%◌, ◌<◌, List, eqb, cond, true, ap, ◌∙◌, arith, slice_index}
+-- Loads and stores that lie in memory at a multiple of their width are made, and a store writes the low bytes of its word. A
+-- table jump goes by its entry.
+use Rattle.std.proofs.Common.{◌≡◌, ℕ, zero, suc, ◌*◌, ◌/◌, ◌%◌, ◌<◌, List, eqb, ltb, cond, true, Some, None, ap, ◌∙◌, arith, slice_index}
 use Rattle.std.specs.Int.{to_le_bytes, w32}
 use Rattle.std.proofs.lemmas.Bool.{cond-true}
-use Rattle.rv_decode.specs.Effect.{Effect, BadAccess, Misaligned, reaching}
-use Rattle.rv_decode.specs.Memory.{Region, byte_of, changed, extents_of, is_data, lies_in, written}
-use Rattle.rv_decode.specs.State.{ZcCore}
+use Rattle.std.proofs.lemmas.Option.{cond_some}
+use Rattle.rv_decode.specs.Effect.{Effect, BadAccess, Misaligned, jumps, reaching}
+use Rattle.rv_decode.specs.Memory.{Region, byte_of, changed, extents_of, is_data, is_text, lies_in, written}
+use Rattle.rv_decode.specs.State.{ZcCore, word_at}
+use Rattle.zc_decode.specs.Effect.{entry_at, table_jumps}
 use Rattle.zc_machine.proofs.RegionLaws.{written-same}
 
 -- an access that is made
@@ -24,3 +27,12 @@ byte_same word (suc (suc (suc (suc i)))) lt = absurd (omega arith)
 -- the four bytes of a word are written
 pub changed-word : (a word : ℕ) (rs : List (Region ℕ)) → changed (written a 4 (slice_index (to_le_bytes w32 word))) rs ≡ changed (written a 4 (byte_of word)) rs
 changed-word a word rs = ap (λ f. changed f rs) (λ i x c. written-same a 4 (slice_index (to_le_bytes w32 word)) (byte_of word) (byte_same word) x c i)
+
+-- a table jump goes by its entry, if that lies in code
+pub table_jump-made :
+    (index size entry : ℕ) (z : ZcCore) → cond (lies_in is_text (extents_of z.memory) (entry_at index z) 4) (Some (word_at z (entry_at index z))) None ≡ Some entry
+    → table_jumps index size z ≡ jumps (entry / 2 * 2) (cond (ltb index 32) 0 1) size z
+table_jump-made index size entry z is =
+    let q = cond_some (lies_in is_text (extents_of z.memory) (entry_at index z) 4) (word_at z (entry_at index z)) entry is in
+    cond-true (lies_in is_text (extents_of z.memory) (entry_at index z) 4) (jumps (word_at z (entry_at index z) / 2 * 2) (cond (ltb index 32) 0 1) size z) BadAccess q.0
+    ∙ ap (λ w. jumps (w / 2 * 2) (cond (ltb index 32) 0 1) size z) q.1

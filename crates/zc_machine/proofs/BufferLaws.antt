@@ -4,7 +4,7 @@ use Rattle.std.proofs.lemmas.List.{get_or-take, get_or_default, length-take-le, 
 use Rattle.rv_decode.specs.State.{ZcCore, byte_in}
 use Rattle.zc_machine.specs.Buffer.{bytes_at}
 use Rattle.zc_machine.specs.Memory.{Reaches}
-use Rattle.zc_machine.specs.declared.region.Access.{Access}
+use Rattle.zc_machine.specs.declared.region.AccessKind.{AccessKind}
 
 module _ (z : ZcCore) where
   pub length-bytes_at : (a n : ℕ) → length (bytes_at z a n) ≡ n
@@ -37,7 +37,7 @@ module _ (z : ZcCore) where
   bytes_at-rest a m n within = let all : m + (n - m) ≡ n = omega arith in sym (bytes_at-add a m (n - m)) ∙ ap (bytes_at z a) all
 
   -- what an access reaches begins with them
-  pub reach_bytes : (way : Access) (a n : ℕ) (cells : List ℕ) → Reaches way z.memory a cells → n ≤ length cells → take n cells ≡ bytes_at z a n
+  pub reach_bytes : (way : AccessKind) (a n : ℕ) (cells : List ℕ) → Reaches way z.memory a cells → n ≤ length cells → take n cells ≡ bytes_at z a n
   reach_bytes way a n cells reach within = same_lists _ _ (front ∙ sym (length-bytes_at a n)) each
     where
       front : length (take n cells) ≡ n

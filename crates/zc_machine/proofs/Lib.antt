@@ -6,8 +6,9 @@ pub mod AccessLaws
 pub mod BufferLaws
 pub mod LoadLaws
 pub mod ApartLaws
-pub mod StepLaws
 pub mod CutLaws
+pub mod StepLaws
+pub mod FrameLaws
 pub mod TurnLaws
 pub mod OutputLaws
 pub mod RunLaws

@@ -9,7 +9,7 @@ use Rattle.rv_decode.specs.Memory.{Extent, Kind, Region, cell_at, cells_changed,
 use Rattle.rv_decode.proofs.MemoryLaws.{extents-changed, get_or-cells_changed, is_covered, length-cells_changed, lies_covered, lies_inside, spans_inside, untouched}
 use Rattle.zc_machine.specs.Memory.{Apart, AreApart, Reaches}
 use Rattle.zc_machine.specs.Region.{allowed}
-use Rattle.zc_machine.specs.declared.region.Access.{Access}
+use Rattle.zc_machine.specs.declared.region.AccessKind.{AccessKind}
 
 -- two tests agree if each holds where the other does
 same_tests : (b c : Bool) → (b ≡ true → c ≡ true) → (c ≡ true → b ≡ true) → b ≡ c
@@ -95,7 +95,7 @@ cell_at_at (r ∷ rs) (suc i) d x apart lt here =
 
 -- the rest of the region there
 reached :
-    (access : Access) (rs : List (Region ℕ)) (i : ℕ) (d : Region ℕ) (a : ℕ) → AreApart (extents_of rs) → i < length rs → (allowed access (get_or rs i d).kind && spans (extent_of (get_or rs i d)) a 1) ≡ true
+    (access : AccessKind) (rs : List (Region ℕ)) (i : ℕ) (d : Region ℕ) (a : ℕ) → AreApart (extents_of rs) → i < length rs → (allowed access (get_or rs i d).kind && spans (extent_of (get_or rs i d)) a 1) ≡ true
     → Reaches access rs a (drop (a - (get_or rs i d).at) (get_or rs i d).cells)
 reached access rs i d a apart lt holds = record {
   lies = λ n some. lies_at (allowed access) rs i d a n apart lt q.0 q.1 some ∙ same_tests (spans (extent_of r) a n) (leb n (length (drop (a - r.at) r.cells)))
@@ -121,14 +121,14 @@ reached access rs i d a apart lt holds = record {
     size = length-drop (a - r.at) r.cells
 
 pub item_reached :
-    (access : Access) (rs : List (Region ℕ)) (i : ℕ) (r : Region ℕ) (a : ℕ) → AreApart (extents_of rs) → i < length rs → r ≡ get_or rs i r → (allowed access r.kind && spans (extent_of r) a 1) ≡ true
+    (access : AccessKind) (rs : List (Region ℕ)) (i : ℕ) (r : Region ℕ) (a : ℕ) → AreApart (extents_of rs) → i < length rs → r ≡ get_or rs i r → (allowed access r.kind && spans (extent_of r) a 1) ≡ true
     → Reaches access rs a (drop (a - r.at) r.cells)
 item_reached access rs i r a apart lt is holds =
     subst (λ (x : Region ℕ). Reaches access rs a (drop (a - x.at) x.cells)) (sym is)
     (reached access rs i r a apart lt (ap (λ (x : Region ℕ). allowed access x.kind && spans (extent_of x) a 1) (sym is) ∙ holds))
 
 -- nothing, if no region has such a byte there
-pub unreached : (access : Access) (rs : List (Region ℕ)) (a : ℕ) → a < 2 ^ 32 → lies_in (allowed access) (extents_of rs) a 1 ≡ false → Reaches access rs a []
+pub unreached : (access : AccessKind) (rs : List (Region ℕ)) (a : ℕ) → a < 2 ^ 32 → lies_in (allowed access) (extents_of rs) a 1 ≡ false → Reaches access rs a []
 unreached access rs a small none = record {
   lies = λ n some.
       false_from_ne_true (lies_in (allowed access) (extents_of rs) a n) (λ h. false≢true (sym none ∙ lies_inside (allowed access) (extents_of rs) a n a 1 h (omega arith) (omega arith)))

@@ -1,6 +1,5 @@
 -- A run by its turns: how far it has come, and where each kind of step leads.
 use Rattle.std.proofs.Common.{◌≡◌, ℕ, ◌+◌, ◌<◌, List, [], ◌∷◌, ◌++◌, take, drop, Some, None, Ok, Err, refl, sym, ap, ap₂, ◌∙◌, arith}
-use Rattle.interrupt_plan.specs.Plan.{Entry, interrupts_at}
 use Rattle.rv_decode.specs.State as event
 use Rattle.rv_decode.specs.State.{Event, ZcCore, ZcState}
 use Rattle.rv_decode.specs.EventBytes.{written_to}
@@ -15,14 +14,12 @@ use Rattle.zc_machine.specs.declared.reason.Reason.{Reason}
 use Rattle.zc_machine.specs.declared.run.RunEnd.TheVariants as end
 use Rattle.zc_machine.specs.Answer.{answer_of, core_after, exited, has_read, has_written}
 use Rattle.zc_machine.specs.Buffer.{bytes_at}
-use Rattle.zc_machine.specs.Interrupt.{all_interrupted}
-use Rattle.zc_machine.specs.Run.{committed, first_state, zc_after, zc_turn}
-use Rattle.zc_machine.specs.RunEnd.{Ran, zc_course}
+use Rattle.zc_machine.specs.Run.{committed, first_state, machine_after, turn}
+use Rattle.zc_machine.specs.RunEnd.{Ran, course_of}
 use Rattle.zc_machine.specs.Step.{ZcStep, Committed, Wants, Ended, Stopped, zc_step}
-use Rattle.zc_machine.proofs.CutLaws.{all_cuts_keep}
 use Rattle.zc_machine.proofs.OutputLaws.{Wrote-event, written_to-more}
 use Rattle.zc_machine.proofs.StepLaws.{Shows, step_shows}
-use Rattle.zc_machine.proofs.TurnLaws.{zc_turn-running, zc_turns-more, zc_turns-stop}
+use Rattle.zc_machine.proofs.TurnLaws.{turn-running, turns-more, turns-stop}
 
 -- ---- what a step's answer says of the step
 
@@ -69,75 +66,83 @@ committed_step z (Stopped reason) h e = absurd cc
 
 -- ---- how far a run has come
 
-pub zc_after-none : (first : ZcCore) (input : List ℕ) (plan : List Entry) → zc_after first input plan 0 ≡ Ok (first_state first input)
-unfolding zc_after
-zc_after-none first input plan = refl
+machine_after-none : (first : ZcCore) (input : List ℕ) (happens : ℕ → ZcCore → ZcCore) → machine_after first input happens 0 ≡ Ok (first_state first input)
+unfolding machine_after
+machine_after-none first input happens = refl
 
 -- the run has come to this machine, which hasn't exited, with this much of its input left; what it has written stands
-pub record Came (first : ZcCore) (input : List ℕ) (plan : List Entry) (z : ZcCore) (left : List ℕ) (before now : Desk) : Type 0 where
+pub record Came (first : ZcCore) (input : List ℕ) (happens : ℕ → ZcCore → ZcCore) (z : ZcCore) (left : List ℕ) (before now : Desk) : Type 0 where
   pub events : List Event
-  pub so_far : zc_after first input plan z.commits ≡ Ok (record { core = z; input = left; events = events })
+  pub so_far : machine_after first input happens z.commits ≡ Ok (record { core = z; input = left; events = events })
   pub running : z.exit ≡ None
   pub wrote : Wrote (written_to 1 events) (written_to 2 events) before now
   pub only : OnlyWrites before now
 
 -- it begins there
-pub Came-start : (first : ZcCore) (input : List ℕ) (plan : List Entry) (desk : Desk) → first.exit ≡ None → first.commits ≡ 0 → Came first input plan first input desk desk
-Came-start first input plan desk running start = record {
+pub Came-start :
+    (first : ZcCore) (input : List ℕ) (happens : ℕ → ZcCore → ZcCore) (desk : Desk) → first.exit ≡ None → first.commits ≡ 0 → Came first input happens first input desk desk
+Came-start first input happens desk running start = record {
   events = [];
-  so_far = ap (zc_after first input plan) start ∙ zc_after-none first input plan;
+  so_far = ap (machine_after first input happens) start ∙ machine_after-none first input happens;
   running = running;
   wrote = Wrote-none desk;
   only = OnlyWrites-refl desk;
 }
 
 -- it came to this machine by one commit more
-pub record Next (first : ZcCore) (input : List ℕ) (plan : List Entry) (z z2 : ZcCore) (left : List ℕ) (before now : Desk) : Type 0 where
+pub record Next (first : ZcCore) (input : List ℕ) (happens : ℕ → ZcCore → ZcCore) (z z2 : ZcCore) (left : List ℕ) (before now : Desk) : Type 0 where
   pub counts : z2.commits ≡ z.commits + 1
-  pub came : Came first input plan z2 left before now
+  pub came : Came first input happens z2 left before now
 
--- ---- a turn from there, whose interrupts leave z'
+-- what happens before the next commit leads to this machine, and is no commit itself
+pub record Happened (happens : ℕ → ZcCore → ZcCore) (z z' : ZcCore) : Type 0 where
+  pub made : z' ≡ happens z.commits z
+  pub commits : z'.commits ≡ z.commits
+  pub exit : z'.exit ≡ z.exit
+
+pub happened :
+    {made happens : ℕ → ZcCore → ZcCore} {z z' : ZcCore} → made ≡ happens → z' ≡ made z.commits z → z'.commits ≡ z.commits → z'.exit ≡ z.exit → Happened happens z z'
+happened {z = z} same here commits exit = record { made = here ∙ ap (λ h. h z.commits z) same; commits = commits; exit = exit }
+
+-- ---- a turn from there, where what happens leads to z'
 
 module _
-    {first : ZcCore} {input : List ℕ} {plan : List Entry} {z : ZcCore} {left : List ℕ} {before now : Desk} (came : Came first input plan z left before now) (z' : ZcCore)
-    (cuts : z' ≡ all_interrupted (interrupts_at plan z.commits) z) where
+    {first : ZcCore} {input : List ℕ} {happens : ℕ → ZcCore → ZcCore} {z : ZcCore} {left : List ℕ} {before now : Desk} (came : Came first input happens z left before now)
+    {z' : ZcCore} (had : Happened happens z z') where
   abbrev here : ZcState
   here = record { core = z; input = left; events = came.events }
 
   abbrev there : ZcState
   there = record { core = z'; input = left; events = came.events }
 
-  -- the turn is the step that follows its interrupts
-  turn_made : zc_turn (interrupts_at plan z.commits) here ≡ committed (zc_step z') there
+  -- the turn is the step that follows what happens
+  turn_made : turn (happens z.commits) here ≡ committed (zc_step z') there
   turn_made =
-      zc_turn-running (interrupts_at plan z.commits) here came.running
-      ∙ sym (ap (λ y. committed (zc_step y) (record { core = y; input = left; events = came.events })) cuts)
+      turn-running (happens z.commits) here came.running
+      ∙ sym (ap (λ y. committed (zc_step y) (record { core = y; input = left; events = came.events })) had.made)
 
-  after_more : (r : ZcState) → committed (zc_step z') there ≡ Ok r → zc_after first input plan (z.commits + 1) ≡ Ok r
-  unfolding zc_after
-  after_more r turn = zc_turns-more (interrupts_at plan) z.commits (first_state first input) here r came.so_far (turn_made ∙ turn)
+  after_more : (r : ZcState) → committed (zc_step z') there ≡ Ok r → machine_after first input happens (z.commits + 1) ≡ Ok r
+  unfolding machine_after
+  after_more r made = turns-more happens z.commits (first_state first input) here r came.so_far (turn_made ∙ made)
 
-  after_stop : (reason : Reason) → committed (zc_step z') there ≡ Err reason → zc_after first input plan (z.commits + 1) ≡ Err reason
-  unfolding zc_after
-  after_stop reason turn = zc_turns-stop (interrupts_at plan) z.commits (first_state first input) here reason came.so_far (turn_made ∙ turn)
-
-  pub commits_kept : z'.commits ≡ z.commits
-  commits_kept = ap (λ y. y.commits) cuts ∙ (all_cuts_keep (interrupts_at plan z.commits) z).commits
+  after_stop : (reason : Reason) → committed (zc_step z') there ≡ Err reason → machine_after first input happens (z.commits + 1) ≡ Err reason
+  unfolding machine_after
+  after_stop reason made = turns-stop happens z.commits (first_state first input) here reason came.so_far (turn_made ∙ made)
 
   exit_kept : z'.exit ≡ None
-  exit_kept = ap (λ y. y.exit) cuts ∙ (all_cuts_keep (interrupts_at plan z.commits) z).exit ∙ came.running
+  exit_kept = had.exit ∙ came.running
 
   -- a commit that leads to a state is one more
   goes_on :
       (r : ZcState) (desk : Desk) → committed (zc_step z') there ≡ Ok r → r.core.commits ≡ z'.commits + 1 → r.core.exit ≡ z'.exit
-      → Wrote (written_to 1 r.events) (written_to 2 r.events) before desk → OnlyWrites now desk → Next first input plan z r.core r.input before desk
+      → Wrote (written_to 1 r.events) (written_to 2 r.events) before desk → OnlyWrites now desk → Next first input happens z r.core r.input before desk
   goes_on r desk turn counts exit wrote only =
-      let more = counts ∙ ap (λ k. k + 1) commits_kept in
+      let more = counts ∙ ap (λ k. k + 1) had.commits in
       record {
         counts = more;
         came = record {
           events = r.events;
-          so_far = ap (zc_after first input plan) more ∙ after_more r turn;
+          so_far = ap (machine_after first input happens) more ∙ after_more r turn;
           running = exit ∙ exit_kept;
           wrote = wrote;
           only = OnlyWrites-trans came.only only;
@@ -146,7 +151,7 @@ module _
 
   module _ (z2 : ZcCore) where
     -- an instruction that commits
-    pub committed_next : answer.Committed ≡ answer_of (zc_step z') → z2 ≡ core_after (zc_step z') z' → Next first input plan z z2 left before now
+    pub committed_next : answer.Committed ≡ answer_of (zc_step z') → z2 ≡ core_after (zc_step z') z' → Next first input happens z z2 left before now
     committed_next answers is =
         let q = committed_step z' (zc_step z') (step_shows z') answers in
         goes_on (record { core = z2; input = left; events = came.events }) now
@@ -156,7 +161,7 @@ module _
     -- a read
     pub read_next :
         (at len : ℕ) (front rest : List ℕ) → zc_step z' ≡ Wants (Read at len) → front ≡ take len left → rest ≡ drop len left → z2 ≡ has_read front z'
-        → Next first input plan z z2 rest before now
+        → Next first input happens z z2 rest before now
     read_next at len front rest wants taken others is =
         let events : List Event = came.events ++ event.Read (take len left) ∷ [] in
         goes_on (record { core = z2; input = rest; events = events }) now
@@ -168,7 +173,7 @@ module _
     -- a write whose bytes stand
     pub write_next :
         (fd at len : ℕ) (desk : Desk) → zc_step z' ≡ Wants (Write fd at len) → z2 ≡ has_written z' → WroteTo fd (bytes_at z' at len) now desk → OnlyWrites now desk
-        → Next first input plan z z2 left before desk
+        → Next first input happens z z2 left before desk
     write_next fd at len desk wants is wrote only =
         let events : List Event = came.events ++ event.Write fd (bytes_at z' at len) ∷ [] in
         goes_on (record { core = z2; input = left; events = events }) desk
@@ -184,11 +189,11 @@ module _
       cc
 
   module _ (z2 : ZcCore) (steps : ℕ) (within : z.commits < steps) where
-    abbrev early : EndsEarly (zc_course first input plan steps) before now
+    abbrev early : EndsEarly (course_of first input happens steps) before now
     early = record { count = z.commits; within = within; made = record { last = here; state = came.so_far; running = came.running; wrote = came.wrote } }
 
     -- the exit
-    pub exit_ran : (status : ℕ) → zc_step z' ≡ Wants (Exit status) → z2 ≡ exited status z' → Ran plan (zc_course first input plan steps) (end.Exit status) z2 before now
+    pub exit_ran : (status : ℕ) → zc_step z' ≡ Wants (Exit status) → z2 ≡ exited status z' → Ran happens (course_of first input happens steps) (end.Exit status) z2 before now
     exit_ran status wants is =
         let last : ZcState = record { core = exited status z'; input = left; events = came.events ++ event.Exit status ∷ [] } in (
           record {
@@ -203,13 +208,13 @@ module _
         )
 
     -- a stop
-    pub stop_ran : (reason : Reason) → zc_step z' ≡ Stopped reason → z2 ≡ z' → Ran plan (zc_course first input plan steps) (end.Stopped reason) z2 before now
-    stop_ran reason stops is = (record { early = early; next = after_stop reason (ap (λ s. committed s there) stops) }, is ∙ cuts)
+    pub stop_ran : (reason : Reason) → zc_step z' ≡ Stopped reason → z2 ≡ z' → Ran happens (course_of first input happens steps) (end.Stopped reason) z2 before now
+    stop_ran reason stops is = (record { early = early; next = after_stop reason (ap (λ s. committed s there) stops) }, is ∙ had.made)
 
     -- a write that the console refused
     pub refused_ran :
         (fd at len : ℕ) (fault : ConsoleFault) (desk : Desk) → zc_step z' ≡ Wants (Write fd at len) → WrotePart fd (bytes_at z' at len) now desk
-        → WriteCause now desk fault → Ran plan (zc_course first input plan steps) (end.Console fault) z2 before desk
+        → WriteCause now desk fault → Ran happens (course_of first input happens steps) (end.Console fault) z2 before desk
     refused_ran fd at len fault desk wants part cause =
         let bytes = bytes_at z' at len in
         let next : ZcState = record { core = has_written z'; input = left; events = came.events ++ event.Write fd bytes ∷ [] } in
@@ -227,12 +232,12 @@ module _
 
 -- all steps were made
 pub spent_ran :
-    (first : ZcCore) (input : List ℕ) (plan : List Entry) (steps : ℕ) (z : ZcCore) (left : List ℕ) (before now : Desk) → Came first input plan z left before now
-    → z.commits ≡ steps → Ran plan (zc_course first input plan steps) end.Spent z before now
-spent_ran first input plan steps z left before now came all = (
+    (first : ZcCore) (input : List ℕ) (happens : ℕ → ZcCore → ZcCore) (steps : ℕ) (z : ZcCore) (left : List ℕ) (before now : Desk) → Came first input happens z left before now
+    → z.commits ≡ steps → Ran happens (course_of first input happens steps) end.Spent z before now
+spent_ran first input happens steps z left before now came all = (
   record {
     last = record { core = z; input = left; events = came.events };
-    state = ap (zc_after first input plan) (sym all) ∙ came.so_far;
+    state = ap (machine_after first input happens) (sym all) ∙ came.so_far;
     running = came.running;
     wrote = came.wrote;
   },

@@ -1,22 +1,24 @@
 -- What each kind of step shows of the state that it is made in.
 use Rattle.std.specs.Option.{option_map_or}
 use Rattle.std.specs.Prelude.{◌&&◌, ◌||◌}
-use Rattle.std.proofs.Common.{◌≡◌, ℕ, ◌+◌, ◌%◌, ◌⊎◌, inl, inr, ⊎_elim, Bool, true, false, cond, eqb, Option, Some, None, refl, subst, arith}
+use Rattle.std.proofs.Common.{◌≡◌, ℕ, ◌+◌, ◌*◌, ◌/◌, ◌%◌, ◌⊎◌, inl, inr, ⊎_elim, List, [], ◌∷◌, Bool, true, false, cond, eqb, ltb, Option, Some, None, refl, ap, subst, arith}
 use Rattle.std.proofs.lemmas.Bool.{and_parts, eqb-true, or_cases}
-use Rattle.rv_decode.specs.State.{ZcCore, reg_in}
+use Rattle.rv_decode.specs.State.{ZcCore, reg_in, word_at}
 use Rattle.rv_decode.specs.Bits.{add32}
-use Rattle.rv_decode.specs.Effect.{Effect, Commits, BadAccess, Misaligned, effect, gives, load_result, load_width, onward, reaching, store_width, stored}
-use Rattle.rv_decode.specs.Memory.{extents_of, is_data, lies_in}
+use Rattle.rv_decode.specs.Effect.{Effect, Commits, BadAccess, Misaligned, effect, gives, jumps, load_result, load_width, onward, reaching, store_width, stored}
+use Rattle.rv_decode.specs.Memory.{extents_of, is_data, is_text, lies_in}
 use Rattle.rv_decode.specs.declared.instr.Instr.{Instr}
 use Rattle.rv_decode.specs.declared.instr.Instr.TheVariants.{Upper, Jal, Jalr, Branch, Load, Store, WithImm, WithReg, Fence, Ecall, Ebreak, Csrrw}
-use Rattle.zc_decode.specs.Effect.{short_effect}
+use Rattle.zc_decode.specs.Accesses.{Access, accesses_of}
+use Rattle.zc_decode.specs.Effect.{all_accessed, entry_at, framed, reaching_all, returned, short_effect, table_jumps, zeroed}
 use Rattle.zc_decode.specs.declared.short.Short.{Short}
-use Rattle.zc_decode.specs.declared.short.Short.TheVariants.{Base}
+use Rattle.zc_decode.specs.declared.short.Short.TheVariants.{Base, Push, Pop, PopRet, PopRetz, MoveSa, MoveAs, TableJump}
 use Rattle.zc_machine.specs.declared.reason.Reason.{Reason}
 use Rattle.zc_machine.specs.declared.reason.Reason.TheVariants as reason
 use Rattle.zc_machine.specs.declared.reason.Reason.TheVariants.{UnknownCall}
 use Rattle.zc_machine.specs.declared.answer.EnvCall.{EnvCall}
 use Rattle.zc_machine.specs.declared.answer.EnvCall.TheVariants.{Exit, Read, Write}
+use Rattle.zc_machine.proofs.CutLaws.{all_accessed_keeps}
 use Rattle.zc_machine.specs.Buffer.{InMemory}
 use Rattle.zc_machine.specs.Fetch.{Fetched, Found, Missing, fetched_at}
 use Rattle.zc_machine.specs.Step.{ZcStep, Committed, Wants, Ended, Stopped, buffered, called, effect_step, made, zc_step}
@@ -89,11 +91,35 @@ module _ (z : ZcCore) where
   effect_shows (Fence rest) size = (refl, refl)
   effect_shows Ecall size = call_shows
   effect_shows Ebreak size = tt
-  effect_shows (Csrrw rd source) size = tt
+  effect_shows (Csrrw rd source) size = (refl, refl)
+
+  -- a push or pop
+  frames_show : (left : ZcCore) (xs : List Access) → (left.commits ≡ z.commits + 1) × (left.exit ≡ z.exit) → Shows z (effect_step (reaching_all xs z (Commits left)) z)
+  frames_show left [] shows = shows
+  frames_show left (a ∷ rest) shows = access_step (Shows z) z 4 a.at (reaching_all rest z (Commits left)) (frames_show left rest shows) (λ reason. tt)
+
+  -- its commit
+  framed_shows : (s : Short) → let y = all_accessed s (accesses_of s (reg_in z 2)) z in (y.commits + 1 ≡ z.commits + 1) × (y.exit ≡ z.exit)
+  framed_shows s = let kept = all_accessed_keeps s (accesses_of s (reg_in z 2)) z in (ap (λ n. n + 1) kept.commits, kept.exit)
+
+  table_shows : (index size : ℕ) → Shows z (effect_step (table_jumps index size z) z)
+  table_shows index size = either (lies_in is_text (extents_of z.memory) (entry_at index z) 4)
+    where
+      either : (b : Bool) → Shows z (effect_step (cond b (jumps (word_at z (entry_at index z) / 2 * 2) (cond (ltb index 32) 0 1) size z) BadAccess) z)
+      either true = (refl, refl)
+      either false = tt
 
   short_shows : (s : Short) (size : ℕ) → Shows z (effect_step (short_effect s size z) z)
   short_shows (Base i) size = effect_shows i size
-  short_shows other size = tt
+  short_shows (Push list adjust) size = frames_show (framed (Push list adjust) size z) (accesses_of (Push list adjust) (reg_in z 2)) (framed_shows (Push list adjust))
+  short_shows (Pop list adjust) size = frames_show (framed (Pop list adjust) size z) (accesses_of (Pop list adjust) (reg_in z 2)) (framed_shows (Pop list adjust))
+  short_shows (PopRet list adjust) size =
+      frames_show (returned (framed (PopRet list adjust) size z)) (accesses_of (PopRet list adjust) (reg_in z 2)) (framed_shows (PopRet list adjust))
+  short_shows (PopRetz list adjust) size =
+      frames_show (returned (zeroed (framed (PopRetz list adjust) size z))) (accesses_of (PopRetz list adjust) (reg_in z 2)) (framed_shows (PopRetz list adjust))
+  short_shows (MoveSa first second) size = (refl, refl)
+  short_shows (MoveAs first second) size = (refl, refl)
+  short_shows (TableJump index) size = table_shows index size
 
   made_shows : (f : Fetched) → Shows z (made f z)
   made_shows (Found s size) = short_shows s size

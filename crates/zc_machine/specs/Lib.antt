@@ -4,6 +4,7 @@ pub mod Memory
 pub mod Fetch
 pub mod Cells
 pub mod Step
+pub mod Frames
 pub mod Answer
 pub mod Buffer
 pub mod Interrupt

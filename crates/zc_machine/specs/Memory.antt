@@ -2,7 +2,7 @@
 use Rattle.std.specs.Prelude.{◌≡◌, ℕ, ◌+◌, ◌^◌, ◌<◌, ◌≤◌, min, max, nat_le, List, [], ◌∷◌, length, All, slice_index}
 use Rattle.rv_decode.specs.Memory.{Extent, Region, cell_at, extents_of, lies_in}
 use Rattle.zc_machine.specs.Region.{allowed}
-use Rattle.zc_machine.specs.declared.region.Access.{Access}
+use Rattle.zc_machine.specs.declared.region.AccessKind.{AccessKind}
 
 -- two regions have no address in common
 abbrev pub Apart : Extent → Extent → Type 0
@@ -14,7 +14,7 @@ AreApart [] = Unit {0}
 AreApart (e ∷ es) = (e.at + e.size ≤ 2 ^ 32) × All (Apart e) es × AreApart es
 
 -- these are the cells from an address on that such an access may reach at once: so many as lie in one region
-pub record Reaches (access : Access) (memory : List (Region ℕ)) (a : ℕ) (cells : List ℕ) : Type 0 where
+pub record Reaches (access : AccessKind) (memory : List (Region ℕ)) (a : ℕ) (cells : List ℕ) : Type 0 where
   pub lies : (n : ℕ) → 0 < n → lies_in (allowed access) (extents_of memory) a n ≡ nat_le n (length cells)
   pub holds : (i : ℕ) → i < length cells → cell_at 0 memory (a + i) ≡ slice_index cells i
   pub below : a + length cells ≤ 2 ^ 32

@@ -1,8 +1,8 @@
 -- The regions of an image's memory, and what reaches them.
 use Rattle.std.specs.Prelude.{Bool}
 use Rattle.rv_decode.specs.Memory.{Kind, Text, Data, Stack, is_data, is_stack, is_text}
-use Rattle.zc_machine.specs.declared.region.Access.{Access}
-use Rattle.zc_machine.specs.declared.region.Access.TheVariants as access
+use Rattle.zc_machine.specs.declared.region.AccessKind.{AccessKind}
+use Rattle.zc_machine.specs.declared.region.AccessKind.TheVariants as access
 use Rattle.zc_machine.specs.declared.region.RegionKind.{RegionKind}
 use Rattle.zc_machine.specs.declared.region.RegionKind.TheVariants as region
 
@@ -13,7 +13,7 @@ kind_of_region region.Data = Data
 kind_of_region region.Stack = Stack
 
 -- an instruction is fetched from code, data are loaded and stored in data and stack, and an interrupt writes to the stack
-abbrev pub allowed : Access → Kind → Bool
+abbrev pub allowed : AccessKind → Kind → Bool
 allowed access.Fetch = is_text
 allowed access.Data = is_data
 allowed access.Interrupt = is_stack

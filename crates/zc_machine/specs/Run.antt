@@ -1,4 +1,4 @@
--- Runs of the machine under a plan of interrupts.
+-- Runs of the machine, with whatever happens to it between its commits.
 use Rattle.std.specs.Prelude.{ℕ, zero, suc, List, [], ◌∷◌, ◌++◌, take, drop, Result, Ok, Err}
 use Rattle.std.specs.Option.{option_map_or}
 use Rattle.interrupt_plan.specs.Plan.{Interrupt, Entry, interrupts_at}
@@ -29,20 +29,39 @@ committed (Wants c) r = answered c r
 committed (Ended status) r = Ok r
 committed (Stopped reason) r = Err reason
 
--- one turn: the interrupts before the next commit, and that commit; after the exit the state stays
-unfoldable pub zc_turn : List Interrupt → ZcState → Result ZcState Reason
-zc_turn cuts r =
-    option_map_or (λ status. Ok r) r.core.exit (let z = all_interrupted cuts r.core in committed (zc_step z) (record r { core = z }))
+-- ---- whatever happens between commits
 
--- m turns, with the interrupts before each of them, counted from 0
-abbrev pub zc_turns : (ℕ → List Interrupt) → ℕ → ZcState → Result ZcState Reason
-zc_turns cuts zero r = Ok r
-zc_turns cuts (suc m) r = zc_turn (cuts 0) r >>= zc_turns (λ k. cuts (suc k)) m
+-- a turn: what happens to the machine before its next commit, and then that commit; after the exit the state stays
+unfoldable pub turn : (ZcCore → ZcCore) → ZcState → Result ZcState Reason
+turn happens r = option_map_or (λ status. Ok r) r.core.exit (let z = happens r.core in committed (zc_step z) (record r { core = z }))
 
--- a run's first state
+-- m turns, with what happens before each of their commits, counted from 0
+abbrev pub turns : (ℕ → ZcCore → ZcCore) → ℕ → ZcState → Result ZcState Reason
+turns happens zero r = Ok r
+turns happens (suc m) r = turn (happens 0) r >>= turns (λ k. happens (suc k)) m
+
+-- a run's first state: this core, with this input
 abbrev pub first_state : ZcCore → List ℕ → ZcState
 first_state first input = record { core = first; input = input; events = [] }
 
--- the state after m commits from this core with this input under a plan, or why the machine stops before
-unfoldable pub zc_after : ZcCore → List ℕ → List Entry → ℕ → Result ZcState Reason
-zc_after first input plan m = zc_turns (interrupts_at plan) m (first_state first input)
+-- the state after m commits from there, or why the machine stops before; what happens before commit m isn't in it
+unfoldable pub machine_after : ZcCore → List ℕ → (ℕ → ZcCore → ZcCore) → ℕ → Result ZcState Reason
+machine_after first input happens m = turns happens m (first_state first input)
+
+-- ---- interrupts
+
+-- a turn with these interrupts before its commit
+abbrev pub zc_turn : List Interrupt → ZcState → Result ZcState Reason
+zc_turn cuts r = turn (all_interrupted cuts) r
+
+-- m turns, with the interrupts before each of their commits
+abbrev pub zc_turns : (ℕ → List Interrupt) → ℕ → ZcState → Result ZcState Reason
+zc_turns cuts m r = turns (λ k. all_interrupted (cuts k)) m r
+
+-- what happens by a plan: all its interrupts before the commit with this number, in order
+abbrev pub interrupts_by : List Entry → ℕ → ZcCore → ZcCore
+interrupts_by plan k = all_interrupted (interrupts_at plan k)
+
+-- the state after m commits under a plan
+abbrev pub zc_after : ZcCore → List ℕ → List Entry → ℕ → Result ZcState Reason
+zc_after first input plan m = machine_after first input (interrupts_by plan) m

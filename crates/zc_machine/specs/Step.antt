@@ -7,7 +7,7 @@ use Rattle.rv_decode.specs.Effect as act
 use Rattle.rv_decode.specs.Effect.{Effect}
 use Rattle.zc_decode.specs.Effect.{short_effect}
 use Rattle.zc_machine.specs.declared.reason.Reason.{Reason}
-use Rattle.zc_machine.specs.declared.reason.Reason.TheVariants.{Illegal, BadAccess, Misaligned, Break, UnknownCall}
+use Rattle.zc_machine.specs.declared.reason.Reason.TheVariants.{BadAccess, Misaligned, Break, UnknownCall}
 use Rattle.zc_machine.specs.declared.answer.EnvCall.{EnvCall}
 use Rattle.zc_machine.specs.declared.answer.EnvCall.TheVariants as call
 use Rattle.zc_machine.specs.Fetch.{Fetched, Found, Missing, fetched_at}
@@ -40,7 +40,6 @@ effect_step act.Misaligned z = Stopped Misaligned
 effect_step act.BadAccess z = Stopped BadAccess
 effect_step act.Break z = Stopped Break
 effect_step act.Call z = called z
-effect_step act.Unknown z = Stopped Illegal
 
 -- what was fetched is executed
 abbrev pub made : Fetched → ZcCore → ZcStep

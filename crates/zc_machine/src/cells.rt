@@ -29,7 +29,8 @@ fn first_half(cells: &[u8]) -> Option<u16>
     }
 }
 
-fn first_word(cells: &[u8]) -> Option<u32>
+/// The word that these cells begin with, or none if they are too few.
+pub fn first_word(cells: &[u8]) -> Option<u32>
     ensures { result ≡ first_word cells.now }
 {
     match cells {
@@ -52,6 +53,7 @@ pub fn loaded(op: LoadOp, cells: &[u8]) -> Option<u32>
 }
 
 /// The instruction that these cells begin with, and its size in bytes.
+#[inline(always)]
 pub fn instruction(cells: &[u8]) -> Result<(Short, u32), Reason>
     ensures { fetched_as result ≡ instruction cells.now }
 {
@@ -68,6 +70,7 @@ pub fn instruction(cells: &[u8]) -> Result<(Short, u32), Reason>
 }
 
 // The instruction of four bytes that a word spells, if all its bytes are there.
+#[inline(always)]
 fn word_spells(word: Option<u32>) -> Result<(Short, u32), Reason>
     ensures { fetched_as result ≡ word_spells word }
 {

@@ -1,12 +1,15 @@
-//! The machine that runs linked images: RV32IM with the halfwords of Zca and Zcb.
+//! The machine that runs linked images: RV32IM with the halfwords of Zca, Zcb, Zcmp and Zcmt, and
+//! `csrrw` on jvt.
 #![tactic(auto)]
 
 pub mod answer;
+pub mod between;
 mod cells;
 mod load;
 pub mod machine;
 mod memory;
 mod output;
+mod plan_cursor;
 pub mod reason;
 mod region;
 pub mod run;

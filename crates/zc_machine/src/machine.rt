@@ -5,7 +5,7 @@ ghost use Rattle.zc_base.specs.MemMap.{IsMap};
 ghost use Rattle.elf32_read.specs.Header.{entry_address};
 ghost use Rattle.elf32_read.specs.Segments.{segments_of};
 ghost use Rattle.rv_decode.specs.Bits.{add32};
-ghost use Rattle.rv_decode.specs.Effect.{after, effect, gives, onward};
+ghost use Rattle.rv_decode.specs.Effect.{after, effect, gives, onward, swaps_jvt};
 ghost use Rattle.rv_decode.specs.State.{reg_in, set_reg};
 ghost use Rattle.zc_decode.specs.Effect.{short_effect};
 ghost use Rattle.zc_machine.specs.Answer.{answer_of, core_after, fetched_as};
@@ -15,6 +15,7 @@ ghost use Rattle.zc_machine.specs.Step.{effect_step, zc_step};
 
 mod accesses;
 mod calls;
+mod frames;
 mod interrupts;
 mod jumps;
 
@@ -23,8 +24,9 @@ use crate::cells::instruction;
 use crate::load::first_regions;
 use crate::memory::Memory;
 use crate::reason::Reason;
-use crate::region::Access;
+use crate::region::AccessKind;
 use elf32_read::image::Image;
+use jumps::even;
 use rv_decode::instr::Instr;
 use rv_decode::results::{imm_result, is_taken, reg_result, upper_result};
 use std::alloc::{AllocError, Global};
@@ -122,11 +124,13 @@ impl Machine {
         }
     }
 
-    // The instruction at the program counter with its size in bytes.
+    // The instruction at the program counter with its size in bytes. Each step calls it, and as a call of its own it would
+    // hand the instruction over in memory.
+    #[inline(always)]
     fn fetch(&self) -> Result<(Short, u32), Reason>
         ensures { fetched_as result ≡ fetched_at self.now self.now.pc }
     {
-        instruction(self.memory.reach(Access::Fetch, self.pc))
+        instruction(self.memory.reach(AccessKind::Fetch, self.pc))
     }
 
     // Makes the step of an instruction of this size.
@@ -137,14 +141,13 @@ impl Machine {
     {
         match short {
             Short::Base(instr) => self.execute_base(instr, size),
-            // No machine has these yet.
-            Short::Push { .. }
-            | Short::Pop { .. }
-            | Short::PopRet { .. }
-            | Short::PopRetz { .. }
-            | Short::MoveSa { .. }
-            | Short::MoveAs { .. }
-            | Short::TableJump { .. } => Step::Stopped(Reason::Illegal),
+            Short::Push { list, adjust } => self.push(list, adjust, size),
+            Short::Pop { list, adjust } => self.pop(list, adjust, size),
+            Short::PopRet { list, adjust } => self.pop_ret(list, adjust, size),
+            Short::PopRetz { list, adjust } => self.pop_retz(list, adjust, size),
+            Short::MoveSa { first, second } => self.move_sa(first, second, size),
+            Short::MoveAs { first, second } => self.move_as(first, second, size),
+            Short::TableJump { index } => self.table_jump(index, size),
         }
     }
 
@@ -161,7 +164,7 @@ impl Machine {
                 self.jump(to, rd, size)
             }
             Instr::Jalr { rd, base, imm } => {
-                let to = self.address(base, imm) & !1;
+                let to = even(self.address(base, imm));
                 self.jump(to, rd, size)
             }
             Instr::Branch {
@@ -200,8 +203,7 @@ impl Machine {
             Instr::Fence { .. } => self.go_on(size),
             Instr::Ecall => self.call(),
             Instr::Ebreak => Step::Stopped(Reason::Break),
-            // No machine has this yet.
-            Instr::Csrrw { .. } => Step::Stopped(Reason::Illegal),
+            Instr::Csrrw { rd, source } => self.swap_jvt(self.register(source), rd, size),
         }
     }
 
@@ -255,6 +257,43 @@ impl Machine {
         ensures state { self.new ≡ core_after (effect_step (gives value rd size self.old) self.old) self.old }
     {
         self.set(rd, value);
+        self.go_on(size)
+    }
+
+    // Commits the move of a0 and a1 to two registers.
+    fn move_sa(&mut self, first: Reg, second: Reg, size: u32) -> Step
+        requires { self.old.commits < 2 ^ 64 - 1 }
+        ensures answer { result ≡ Step.Committed }
+        ensures state { self.new ≡ core_after (effect_step (short_effect (Short.MoveSa first second)
+            size self.old) self.old) self.old }
+    {
+        let (a0, a1) = (self.regs[10], self.regs[11]);
+        self.set(first, a0);
+        self.set(second, a1);
+        self.go_on(size)
+    }
+
+    // Commits the move of two registers to a0 and a1.
+    fn move_as(&mut self, first: Reg, second: Reg, size: u32) -> Step
+        requires { self.old.commits < 2 ^ 64 - 1 }
+        ensures answer { result ≡ Step.Committed }
+        ensures state { self.new ≡ core_after (effect_step (short_effect (Short.MoveAs first second)
+            size self.old) self.old) self.old }
+    {
+        let (a0, a1) = (self.register(first), self.register(second));
+        self.regs[10] = a0;
+        self.regs[11] = a1;
+        self.go_on(size)
+    }
+
+    // Commits the exchange of the jump table's base.
+    fn swap_jvt(&mut self, word: u32, rd: Reg, size: u32) -> Step
+        requires { self.old.commits < 2 ^ 64 - 1 }
+        ensures answer { result ≡ Step.Committed }
+        ensures state { self.new ≡ core_after (effect_step (swaps_jvt word rd size self.old) self.old) self.old }
+    {
+        self.set(rd, self.jvt);
+        self.jvt = word & !63;
         self.go_on(size)
     }
 }

@@ -5,7 +5,7 @@ ghost use Rattle.rv_decode.specs.Memory.{changed, extents_of, lies_in, written};
 ghost use Rattle.zc_machine.specs.Memory.{AreApart, Reaches};
 ghost use Rattle.zc_machine.specs.Region.{allowed};
 
-use crate::region::{Access, Region};
+use crate::region::{AccessKind, Region};
 use std::marker::Model;
 
 /// Regions without a common address.
@@ -36,14 +36,14 @@ impl Memory {
     }
 
     /// The cells from an address on that an access may reach at once.
-    pub fn reach(&self, access: Access, address: u32) -> &[u8]
+    pub fn reach(&self, access: AccessKind, address: u32) -> &[u8]
         ensures { Reaches access self.now address result.now }
     {
         reach(self.regions.as_slice(), access, address)
     }
 
     /// Writes bytes from an address on, if an access may reach them, and says whether it may.
-    pub fn write(&mut self, access: Access, address: u32, bytes: &[u8]) -> bool
+    pub fn write(&mut self, access: AccessKind, address: u32, bytes: &[u8]) -> bool
         ensures reached { result ≡ lies_in (allowed access) (extents_of self.old) address (length bytes.now) }
         ensures after { self.new ≡ (if result then changed (written address (length bytes.now)
             (slice_index bytes.now)) self.old else self.old) }
@@ -52,7 +52,7 @@ impl Memory {
     }
 }
 
-fn reach(regions: &[Region], access: Access, address: u32) -> &[u8]
+fn reach(regions: &[Region], access: AccessKind, address: u32) -> &[u8]
     requires { AreApart (extents_of regions.now) }
     ensures { Reaches access regions.now address result.now }
 {
@@ -64,7 +64,7 @@ fn reach(regions: &[Region], access: Access, address: u32) -> &[u8]
     &[]
 }
 
-fn write(regions: &mut [Region], access: Access, address: u32, bytes: &[u8]) -> bool
+fn write(regions: &mut [Region], access: AccessKind, address: u32, bytes: &[u8]) -> bool
     requires { AreApart (extents_of regions.old) }
     ensures reached { result ≡ lies_in (allowed access) (extents_of regions.old) address (length bytes.now) }
     ensures after { regions.new ≡ (if result then changed (written address (length bytes.now)

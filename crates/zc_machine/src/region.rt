@@ -14,10 +14,10 @@ pub enum RegionKind {
     Stack,
 }
 
-/// What reaches memory: the fetch of an instruction, a load, a store or a call's buffer, or an
-/// interrupt that writes.
+/// What reaches memory: the fetch of an instruction or of an entry of the jump table, a load, a store
+/// or a call's buffer, or an interrupt that writes.
 #[derive(Clone, Copy)]
-pub enum Access {
+pub enum AccessKind {
     Fetch,
     Data,
     Interrupt,
@@ -25,19 +25,19 @@ pub enum Access {
 
 impl RegionKind {
     // Whether an access may reach such a region.
-    fn allows(self, access: Access) -> bool
+    fn allows(self, access: AccessKind) -> bool
         ensures { result ≡ allowed access (kind_of_region self) }
     {
         match access {
-            Access::Fetch => match self {
+            AccessKind::Fetch => match self {
                 RegionKind::Text => true,
                 RegionKind::Data | RegionKind::Stack => false,
             },
-            Access::Data => match self {
+            AccessKind::Data => match self {
                 RegionKind::Data | RegionKind::Stack => true,
                 RegionKind::Text => false,
             },
-            Access::Interrupt => match self {
+            AccessKind::Interrupt => match self {
                 RegionKind::Stack => true,
                 RegionKind::Text | RegionKind::Data => false,
             },
@@ -72,7 +72,7 @@ impl Region {
     }
 
     /// Whether the cell at an address lies in the region, and an access may reach it.
-    pub fn has(&self, access: Access, address: u32) -> bool
+    pub fn has(&self, access: AccessKind, address: u32) -> bool
         ensures { result ≡ (allowed access self.now.kind && spans (extent_of self.now) address 1) }
     {
         self.kind.allows(access)
@@ -81,7 +81,7 @@ impl Region {
     }
 
     /// The same of so many cells from an address on.
-    pub fn holds(&self, access: Access, address: u32, count: usize) -> bool
+    pub fn holds(&self, access: AccessKind, address: u32, count: usize) -> bool
         ensures { result ≡ (allowed access self.now.kind && spans (extent_of self.now) address count) }
     {
         self.kind.allows(access) && self.spans(address, count)

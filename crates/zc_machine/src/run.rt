@@ -1,15 +1,15 @@
 // Runs of the machine.
 
-ghost use Rattle.std.specs.Prelude.{◌≡◌, ◌+◌, None};
-ghost use Rattle.interrupt_plan.specs.Plan.{interrupts_at};
-ghost use Rattle.zc_machine.specs.Cursor.{IsAt};
-ghost use Rattle.zc_machine.specs.Interrupt.{all_interrupted};
-ghost use Rattle.zc_machine.specs.RunEnd.{Ran, zc_course};
+ghost use Rattle.std.specs.Prelude.{◌≡◌, None};
+ghost use Rattle.zc_machine.specs.Run.{interrupts_by};
+ghost use Rattle.zc_machine.specs.RunEnd.{Ran, course_of, zc_course};
 ghost use Rattle.zc_outside.specs.Desk.{OnlyWrites};
 
 use crate::answer::{EnvCall, Step};
+use crate::between::BetweenCommits;
 use crate::machine::Machine;
 use crate::output::write;
+use crate::plan_cursor::PlanCursor;
 use crate::reason::Reason;
 use interrupt_plan::plan::Plan;
 use zc_outside::console::{Console, ConsoleFault};
@@ -36,14 +36,31 @@ pub fn run<C: Console>(
 ) -> RunEnd
     requires running { machine.old.exit ≡ None }
     requires start { machine.old.commits ≡ 0 }
-    ensures ran { Ran plan.now (zc_course machine.old input.now plan.now steps) result machine.new
+    ensures ran { Ran (interrupts_by plan.now) (zc_course machine.old input.now plan.now steps) result machine.new
         (C.shown console.old) (C.shown console.new) }
     ensures writes { OnlyWrites (C.shown console.old) (C.shown console.new) }
 {
-    let mut next = 0;
+    run_with(machine, PlanCursor::new(plan), input, steps, console)
+}
+
+/// Runs a machine as `run` does, with whatever happens between its commits.
+pub fn run_with<B: BetweenCommits + Drop, C: Console>(
+    machine: &mut Machine,
+    mut between: B,
+    input: &[u8],
+    steps: u64,
+    console: &mut C,
+) -> RunEnd
+    requires running { machine.old.exit ≡ None }
+    requires start { machine.old.commits ≡ 0 }
+    requires first { B.HasComeTo between 0 }
+    ensures ran { Ran (B.happens between) (course_of machine.old input.now (B.happens between) steps) result
+        machine.new (C.shown console.old) (C.shown console.new) }
+    ensures writes { OnlyWrites (C.shown console.old) (C.shown console.new) }
+{
     let mut left = input;
     while machine.commits() < steps {
-        next = interrupt(machine, plan, next);
+        between.act_on(machine);
         match machine.step() {
             Step::Committed => {}
             Step::Wants(EnvCall::Read { len, .. }) => {
@@ -66,23 +83,4 @@ pub fn run<C: Console>(
         }
     }
     RunEnd::Spent
-}
-
-// Makes the interrupts before the next commit, from the one with this number on, and gives the number
-// of the first one after them.
-fn interrupt(machine: &mut Machine, plan: &Plan, mut next: u32) -> u32
-    requires { IsAt plan.now next machine.old.commits }
-    ensures made { machine.new ≡ all_interrupted (interrupts_at plan.now machine.old.commits) machine.old }
-    ensures reached { IsAt plan.now result (machine.old.commits + 1) }
-{
-    let count = plan.cut_count();
-    while next < count {
-        let cut = plan.cut(next);
-        if cut.at != machine.commits() {
-            break;
-        }
-        machine.cut(cut.done.as_slice(), cut.dirt.as_slice());
-        next += 1;
-    }
-    next
 }

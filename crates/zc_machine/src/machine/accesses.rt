@@ -11,7 +11,7 @@ use crate::answer::Step;
 use crate::cells::loaded;
 use crate::memory::Memory;
 use crate::reason::Reason;
-use crate::region::Access;
+use crate::region::AccessKind;
 use rv_decode::instr::{LoadOp, StoreOp};
 use zc_base::reg::Reg;
 
@@ -25,7 +25,7 @@ impl Machine {
         if !is_aligned_load(op, a) {
             return Step::Stopped(Reason::Misaligned);
         }
-        match loaded(op, self.memory.reach(Access::Data, a)) {
+        match loaded(op, self.memory.reach(AccessKind::Data, a)) {
             Some(value) => self.give(value, rd, size),
             None => Step::Stopped(Reason::BadAccess),
         }
@@ -49,16 +49,16 @@ impl Machine {
 }
 
 // Writes the low bytes of a word, if they lie in memory for data, and says whether they do.
-fn put(memory: &mut Memory, op: StoreOp, a: u32, word: u32) -> bool
+pub(super) fn put(memory: &mut Memory, op: StoreOp, a: u32, word: u32) -> bool
     ensures reached { result ≡ lies_in is_data (extents_of memory.old) a (store_width op) }
     ensures after { memory.new ≡ (if result then changed (written a (store_width op)
         (byte_of word)) memory.old else memory.old) }
 {
     let bytes = word.to_le_bytes();
     match op {
-        StoreOp::Sb => memory.write(Access::Data, a, &bytes[..1]),
-        StoreOp::Sh => memory.write(Access::Data, a, &bytes[..2]),
-        StoreOp::Sw => memory.write(Access::Data, a, &bytes),
+        StoreOp::Sb => memory.write(AccessKind::Data, a, &bytes[..1]),
+        StoreOp::Sh => memory.write(AccessKind::Data, a, &bytes[..2]),
+        StoreOp::Sw => memory.write(AccessKind::Data, a, &bytes),
     }
 }
 

@@ -10,7 +10,7 @@ ghost use Rattle.zc_machine.specs.Step.{Wants, buffered, called, zc_step};
 use super::Machine;
 use crate::answer::{EnvCall, Step};
 use crate::reason::Reason;
-use crate::region::Access;
+use crate::region::AccessKind;
 
 // Pieces end at multiples of this.
 const PAGE: u32 = 4096;
@@ -35,7 +35,7 @@ impl Machine {
         let len = self.regs[12];
         let fits = bytes.len() as u64 <= u64::from(len);
         prove!(fits);
-        self.memory.write(Access::Data, self.regs[11], bytes);
+        self.memory.write(AccessKind::Data, self.regs[11], bytes);
         self.regs[10] = bytes.len() as u32;
         self.pc = self.pc.wrapping_add(4);
         self.commits += 1;
@@ -60,7 +60,7 @@ impl Machine {
         ensures below { OnSome result (at + len ≤ 2 ^ 32) }
         ensures some { IfSome result (λ piece. IsPiece self.now at len piece.now) }
     {
-        let cells = self.memory.reach(Access::Data, at);
+        let cells = self.memory.reach(AccessKind::Data, at);
         if cells.len() < len as usize {
             return None;
         }
@@ -88,7 +88,7 @@ impl Machine {
     fn buffered(&self, call: EnvCall) -> Step
         ensures { result ≡ answer_of (buffered self.now call) }
     {
-        let cells = self.memory.reach(Access::Data, self.regs[11]);
+        let cells = self.memory.reach(AccessKind::Data, self.regs[11]);
         if self.regs[12] as usize <= cells.len() {
             Step::Wants(call)
         } else {

@@ -1,7 +1,7 @@
 use Rattle.std.proofs.Common.{subst, ◌∙◌}
 use Rattle.rv_decode.specs.State.{ZcCore}
 use Rattle.zc_machine.specs.Memory.{Reaches}
-use Rattle.zc_machine.specs.declared.region.Access.TheVariants.{Fetch}
+use Rattle.zc_machine.specs.declared.region.AccessKind.TheVariants.{Fetch}
 use Rattle.zc_machine.proofs.ReachLaws.{reach_fetched}
 use Rattle.zc_machine.proofs.machine.Machine.fetch.Goals as goal
 

@@ -7,7 +7,7 @@ use Rattle.zc_machine.specs.Answer.{core_after}
 use Rattle.zc_machine.specs.Cells.{loaded}
 use Rattle.zc_machine.specs.Memory.{Reaches}
 use Rattle.zc_machine.specs.Step.{effect_step}
-use Rattle.zc_machine.specs.declared.region.Access.TheVariants.{Data}
+use Rattle.zc_machine.specs.declared.region.AccessKind.TheVariants.{Data}
 use Rattle.zc_machine.proofs.AccessLaws.{reaching-made}
 use Rattle.zc_machine.proofs.ReachLaws.{reach_loaded}
 use Rattle.zc_machine.proofs.machine.Machine.load_to.Goals as goal

@@ -4,7 +4,7 @@ use Rattle.std.proofs.lemmas.List.{length-take-le}
 use Rattle.rv_decode.specs.State.{ZcCore}
 use Rattle.zc_machine.specs.Buffer.{bytes_at}
 use Rattle.zc_machine.specs.Memory.{Reaches}
-use Rattle.zc_machine.specs.declared.region.Access.TheVariants.{Data}
+use Rattle.zc_machine.specs.declared.region.AccessKind.TheVariants.{Data}
 use Rattle.zc_machine.proofs.BufferLaws.{reach_bytes}
 use Rattle.zc_machine.proofs.machine.Machine.piece.Goals as goal
 

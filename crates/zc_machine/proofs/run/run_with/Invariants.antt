@@ -1,14 +1,14 @@
-use Rattle.std.proofs.Common.{◌-◌, ◌≤◌}
-use Rattle.zc_machine.specs.Cursor.{IsAt}
+use Rattle.std.proofs.Common.{◌≡◌, ◌-◌, ◌≤◌}
 use Rattle.zc_machine.proofs.RunLaws.{Came}
-use Rattle.zc_machine.proofs.run.run.Given as goal
+use Rattle.zc_machine.proofs.run.run_with.Given as goal
 
 abbrev pub invariant-loop-left : goal.invariant-loop-left
 invariant-loop-left g l = record {
   within : l.machine.commits ≤ l.steps;
-  at : IsAt l.plan l.next l.machine.commits;
+  at : g.B.BetweenCommits.HasComeTo l.between l.machine.commits;
+  same : g.B.BetweenCommits.happens l.between ≡ g.B.BetweenCommits.happens l.initial.between;
   came :
-      Came l.initial.machine l.input l.plan l.machine l.left
+      Came l.initial.machine l.input (g.B.BetweenCommits.happens l.initial.between) l.machine l.left
       (g.C.Console.shown l.initial.console) (g.C.Console.shown l.console);
 }
 
