@@ -1,8 +1,99 @@
 -- The items that are written together, as one instruction or two (RISC-V Zc specification 1.0, "Zcmp").
-use Rattle.std.specs.Prelude.{List, []}
+use Rattle.std.specs.Prelude.{ℕ, zero, suc, ◌-◌, Bool, if◌then◌else◌, List, [], ◌∷◌, map, slice_get, Option, Some, None}
+use Rattle.std.specs.List.{flat_map}
+use Rattle.std.specs.Option.{option_and_then}
+use Rattle.zc_base.specs.declared.place.Place.{Place}
+use Rattle.elf32_read.specs.Parts.{SectionParts, is_code_section}
 use Rattle.psabi_sym.specs.Inputs.{ParsedInputs}
+use Rattle.psabi_sym.specs.Indexed.{IndexedSection, all_sections}
+use Rattle.rv_decode.specs.declared.instr.Instr.{Instr}
+use Rattle.block_cut.specs.Items.{code_at, index_on, item_at, place_of, starts_in, starts_on}
+use Rattle.block_cut.specs.Leaders.{is_leader_at}
+use Rattle.frame_match.specs.Matches.{longest_of}
+use Rattle.frame_match.specs.Read.{op_of}
+use Rattle.frame_match.specs.declared.found.Found.{Found}
 use Rattle.frame_match.specs.declared.group.Group.{Group}
+use Rattle.frame_match.specs.declared.role.Role.{Role}
+use Rattle.frame_match.specs.declared.role.Role.TheVariants.{Alone, First, Inside}
 
--- the groups of all code, in the order of their places: none so far
+-- ---- items one after another
+
+-- an item: its instruction if it is one without relocation, and whether a basic block begins there
+pub record Spot : Type 0 where
+  pub place : Place
+  pub op : Option Instr
+  pub leader : Bool
+
+-- an instruction, and those behind it; none without it
+abbrev pub op_then : Option Instr → List Instr → List Instr
+op_then None is = []
+op_then (Some i) is = i ∷ is
+
+-- the instructions of items up to where a basic block begins, or an item is no instruction or has a relocation
+abbrev pub ops_behind : List Spot → List Instr
+ops_behind [] = []
+ops_behind (s ∷ ss) = if s.leader then [] else op_then s.op (ops_behind ss)
+
+-- those from an item on: at the first a basic block may begin
+abbrev pub ops_from : Spot → List Spot → List Instr
+ops_from s ss = op_then s.op (ops_behind ss)
+
+-- ---- what items are to groups
+
+-- the group of what starts at a place
+abbrev pub group_at : Place → Found → Group
+group_at q f = record { start = q; items = f.items; kind = f.kind; rest = f.rest }
+
+-- an item is the first of a group if one starts there
+abbrev pub role_of : Place → Option Found → Role
+role_of q None = Alone
+role_of q (Some f) = First (group_at q f)
+
+-- how many items behind the first belong to it
+abbrev pub items_behind : Role → ℕ
+items_behind Alone = 0
+items_behind (First g) = g.items - 1
+items_behind Inside = 0
+
+-- the roles of items of which so many belong to the group before: the search goes on behind that group, and at each item takes
+-- the group of most items
+abbrev pub roles_from : ℕ → List Spot → List Role
+roles_from left [] = []
+roles_from (suc left) (s ∷ ss) = Inside ∷ roles_from left ss
+roles_from zero (s ∷ ss) =
+    role_of s.place (longest_of (ops_from s ss)) ∷ roles_from (items_behind (role_of s.place (longest_of (ops_from s ss)))) ss
+
+-- ---- all code
+
+-- the item at an offset of a section
+abbrev pub spot_on : ParsedInputs → IndexedSection → ℕ → Spot
+spot_on inputs l n =
+    record { place = place_of l n; op = option_and_then op_of (item_at inputs (place_of l n)); leader = is_leader_at inputs (place_of l n) }
+
+-- the roles of a section's items; what isn't code has none
+unfoldable pub roles_in : ParsedInputs → IndexedSection → List Role
+roles_in inputs l = if is_code_section l.section then roles_from 0 (map (spot_on inputs l) (starts_in l.section)) else []
+
+-- the group that starts with an item
+abbrev pub first_of : Role → List Group
+first_of Alone = []
+first_of (First g) = g ∷ []
+first_of Inside = []
+
+-- the groups of a section, in order
+abbrev pub groups_in : ParsedInputs → IndexedSection → List Group
+groups_in inputs l = flat_map first_of (roles_in inputs l)
+
+-- those of all code, by object, section and offset
 abbrev pub groups_of : ParsedInputs → List Group
-groups_of inputs = []
+groups_of inputs = flat_map (groups_in inputs) (all_sections inputs.objects)
+
+-- the role of the item at an offset of a section, if one starts there
+abbrev pub role_on : ParsedInputs → Place → SectionParts → Option Role
+role_on inputs q s =
+    if starts_on s q.offset
+    then slice_get (roles_in inputs (record { object = q.object; index = q.section; section = s })) (index_on s q.offset) else None
+
+-- and of the item at a place
+unfoldable pub role_at : ParsedInputs → Place → Option Role
+role_at inputs q = option_and_then (role_on inputs q) (code_at inputs.objects q)

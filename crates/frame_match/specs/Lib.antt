@@ -1,1 +1,4 @@
+pub mod Read
+pub mod Matches
 pub mod Groups
+pub mod Invariants

@@ -1,13 +1,22 @@
 // The objects with their groups.
 
-ghost use Rattle.std.specs.Prelude.{◌≡◌, IfOk, [], length};
+ghost use Rattle.std.specs.Prelude.{◌≡◌, ◌<◌, IfOk, Some, length, slice_get, true};
+ghost use Rattle.zc_base.specs.declared.place.Place.{Place};
 ghost use Rattle.psabi_sym.specs.Inputs.{parsed};
-ghost use Rattle.frame_match.specs.Groups.{groups_of};
+ghost use Rattle.block_cut.specs.Items.{is_start_at};
+ghost use Rattle.block_cut.specs.Places.{IsPlaceNumber};
+ghost use Rattle.frame_match.specs.Groups.{groups_of, role_at};
+ghost use Rattle.frame_match.specs.Invariants.Marks.{ArePlanned, HasItem};
 
 use crate::group::Group;
+use crate::mark::{Mark, Marks};
+use crate::role::Role;
+use crate::walk::walk_section;
 use block_cut::cut::Cut;
+use block_cut::place_number::PlaceNumber;
 use std::alloc::{AllocError, Global};
 use std::marker::Model;
+use zc_base::place::Place;
 
 /// The objects of a link with their code cut into items, and the groups of items that are written
 /// together.
@@ -15,27 +24,52 @@ use std::marker::Model;
 pub struct Planned {
     cut: Cut,
     groups: Vec<Group>,
+    sections: Vec<Marks>,
 }
 
 impl Model for Planned {
-    ghost use Rattle.std.specs.Prelude.{◌≡◌};
     ghost use Rattle.psabi_sym.specs.Inputs.{parsed, Inputs};
-    ghost use Rattle.frame_match.specs.Groups.{groups_of};
+    ghost use Rattle.frame_match.specs.Invariants.Marks.{ArePlanned};
 
     ghost Value = { Inputs };
 
     ghost view = { λ planned. planned.cut };
 
-    ghost invariant = { λ planned. planned.groups.items ≡ groups_of (parsed planned.cut) };
+    ghost invariant = { λ planned. ArePlanned (parsed planned.cut) planned.groups.items planned.sections.items };
 }
 
-/// Finds the groups of a cut. There are none so far: every item is written by itself.
+// What is kept beside a cut.
+#[derive(Drop)]
+struct KeptGroups {
+    groups: Vec<Group>,
+    sections: Vec<Marks>,
+}
+
+// The groups of a cut, section by section.
+fn find_groups(alloc: Global, cut: &Cut) -> Result<KeptGroups, AllocError>
+    ensures { IfOk result (λ kept. ArePlanned (parsed cut.now) kept.groups.items kept.sections.items) }
+{
+    let count = cut.objects().section_count();
+    let mut groups = Vec::new(alloc);
+    let mut sections = Vec::with_capacity(alloc, count as usize)?;
+    for k in 0..count {
+        let walk = walk_section(alloc, cut, k, groups)?;
+        groups = walk.groups;
+        sections.push(Marks { marks: walk.marks })?;
+    }
+    Ok(KeptGroups { groups, sections })
+}
+
+/// Finds the groups of a cut. It looks at each item a fixed number of times, and takes memory for what it keeps alone.
 pub fn plan(alloc: Global, cut: Cut) -> Result<Planned, AllocError>
     ensures same { IfOk result (λ planned. planned ≡ cut) }
-    ensures none { IfOk result (λ planned. groups_of (parsed planned) ≡ []) }
 {
-    let groups = Vec::new(alloc);
-    Ok(Planned { cut, groups })
+    let kept = find_groups(alloc, &cut)?;
+    Ok(Planned {
+        cut,
+        groups: kept.groups,
+        sections: kept.sections,
+    })
 }
 
 impl Planned {
@@ -43,7 +77,43 @@ impl Planned {
     pub fn group_count(&self) -> u32
         ensures { result ≡ length (groups_of (parsed self.now)) }
     {
+        // There are no more groups than items.
+        let _counts = self.cut.counts();
         self.groups.len() as u32
+    }
+
+    /// A group, by its number among all: by object, section and offset.
+    pub fn group(&self, i: u32) -> Group
+        requires { i < length (groups_of (parsed self.now)) }
+        ensures { slice_get (groups_of (parsed self.now)) i ≡ Some result }
+    {
+        self.groups[i as usize]
+    }
+
+    /// What the item at a place is to groups, by where the place stands among all.
+    pub fn role_at(&self, number: PlaceNumber) -> Role
+        requires { HasItem (parsed self.now).objects number }
+        ensures { (q : Place) → is_start_at (parsed self.now).objects q ≡ true
+            → IsPlaceNumber (parsed self.now).objects q number → role_at (parsed self.now) q ≡ Some result }
+    {
+        match self.sections[number.section as usize].get(number.index) {
+            Mark::Apart => Role::Alone,
+            Mark::Start(n) => Role::First(self.groups[n as usize]),
+            Mark::Within => Role::Inside,
+        }
+    }
+
+    /// What the item at a place is to groups, if one starts there.
+    pub fn role(&self, p: Place) -> Option<Role>
+        ensures { result ≡ role_at (parsed self.now) p }
+    {
+        if self.cut.item(p).is_none() {
+            return None;
+        }
+        match self.cut.number(p) {
+            None => None,
+            Some(number) => Some(self.role_at(number)),
+        }
     }
 
     /// The items.

@@ -1,0 +1,6 @@
+-- What the code keeps, and what it finds on its way. Only invariants, contracts within the crate and proofs name these;
+-- nothing that must be believed does.
+pub mod Runs
+pub mod Frames
+pub mod Kinds
+pub mod Marks

@@ -1,0 +1,53 @@
+-- Instructions one after another, as the code holds them.
+use Rattle.std.specs.Prelude.{◌≡◌, ◌≤◌, ◌<◌, ℕ, Bool, true, false, not, ◌&&◌, ◌||◌, ◌==◌, List, [], ◌∷◌, length, map, slice_get, Option, Some}
+use Rattle.std.specs.Option.{is_some, option_and_then}
+use Rattle.psabi_sym.specs.Inputs.{ParsedInputs}
+use Rattle.psabi_sym.specs.Indexed.{IndexedSection}
+use Rattle.rv_decode.specs.declared.instr.Instr.{Instr}
+use Rattle.block_cut.specs.Places.{code_place}
+use Rattle.block_cut.specs.declared.code_place.CodePlace.{CodePlace}
+use Rattle.frame_match.specs.Groups.{op_then, ops_from, spot_on, Spot}
+use Rattle.frame_match.specs.Read.{op_of}
+
+-- ---- instructions at places
+
+-- the instruction at a place, if it has no relocation
+abbrev pub op_in : CodePlace → Option Instr
+op_in p = option_and_then op_of p.item
+
+-- those at places
+abbrev pub ops_of : List CodePlace → List Instr
+ops_of [] = []
+ops_of (p ∷ ps) = op_then (op_in p) (ops_of ps)
+
+-- each place has one
+abbrev pub AreOps : List CodePlace → Type 0
+AreOps ps = (k : ℕ) (p : CodePlace) → slice_get ps k ≡ Some p → is_some (op_in p) ≡ true
+
+-- ---- places of a section
+
+-- each is what stands at its offset of a section
+abbrev pub ArePlacesOf : ParsedInputs → IndexedSection → List CodePlace → Type 0
+ArePlacesOf inputs l ps = (k : ℕ) (p : CodePlace) → slice_get ps k ≡ Some p → p ≡ code_place inputs l p.offset
+
+-- the items there
+abbrev pub spots_of : ParsedInputs → IndexedSection → List CodePlace → List Spot
+spots_of inputs l ps = map (λ p. spot_on inputs l p.offset) ps
+
+-- ---- how far instructions go
+
+-- the instructions that the first of some items begins
+abbrev pub run_of : List Spot → List Instr
+run_of [] = []
+run_of (s ∷ ss) = ops_from s ss
+
+-- an item's instruction stands behind those before it, or is the first
+abbrev pub joins : Bool → Spot → Bool
+joins first s = is_some s.op && (first || not s.leader)
+
+-- so many items are joined, at most 16; the next one isn't, unless these are 16 or all
+pub record IsRun (spots : List Spot) (n : ℕ) : Type 0 where
+  pub within : n ≤ length spots
+  pub few : n ≤ 16
+  pub each : (k : ℕ) (s : Spot) → k < n → slice_get spots k ≡ Some s → joins (k == 0) s ≡ true
+  pub stops : (s : Spot) → n < 16 → slice_get spots n ≡ Some s → joins (n == 0) s ≡ false

@@ -1,0 +1,38 @@
+// What is kept of each item.
+
+ghost use Rattle.std.specs.Prelude.{◌≡◌, ◌<◌, Some, length, slice_get};
+
+use std::marker::Model;
+
+/// What is kept of an item: it belongs to no group, it starts the group with a number, or it stands inside one.
+#[derive(Clone, Copy)]
+pub enum Mark {
+    Apart,
+    Start(u32),
+    Within,
+}
+
+/// What is kept of a section's items, in order.
+#[derive(Drop)]
+pub struct Marks {
+    pub marks: Vec<Mark>,
+}
+
+impl Model for Marks {
+    ghost use Rattle.std.specs.Prelude.{List};
+    ghost use Rattle.frame_match.specs.declared.mark.Mark.{Mark};
+
+    ghost Value = { List Mark };
+
+    ghost view = { λ marks. marks.marks.items };
+}
+
+impl Marks {
+    /// What is kept of an item, by its index.
+    pub fn get(&self, index: u32) -> Mark
+        requires { index < length self.now }
+        ensures { slice_get self.now index ≡ Some result }
+    {
+        self.marks[index as usize]
+    }
+}

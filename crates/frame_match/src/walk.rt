@@ -1,0 +1,147 @@
+// The groups of a section.
+
+ghost use Rattle.std.specs.Prelude.{◌≡◌, ◌<◌, ◌≤◌, ◌^◌, ◌+◌, ◌-◌, ◌++◌, ◌∷◌, [], IfOk, Some, length, slice_get, take};
+ghost use Rattle.psabi_sym.specs.Indexed.{all_sections, IndexedSection};
+ghost use Rattle.psabi_sym.specs.Inputs.{parsed};
+ghost use Rattle.std.specs.List.{flat_map};
+ghost use Rattle.block_cut.specs.Items.{items_in, place_of};
+ghost use Rattle.frame_match.specs.declared.mark.Mark.TheVariants.{Start};
+ghost use Rattle.frame_match.specs.Matches.{longest_of};
+ghost use Rattle.frame_match.specs.Groups.{group_at, groups_in, roles_in};
+ghost use Rattle.frame_match.specs.Invariants.Marks.{groups_after, marks_after, marks_from, WalksOn};
+ghost use Rattle.frame_match.specs.Invariants.Runs.{run_of, spots_of, ArePlacesOf};
+
+use crate::found::Found;
+use crate::group::Group;
+use crate::mark::Mark;
+use crate::run::{Run, place_in};
+use crate::search::longest;
+use block_cut::code_place::CodePlace;
+use block_cut::cut::Cut;
+use psabi_sym::section_ref::SectionRef;
+use std::alloc::{AllocError, Global};
+
+/// The groups so far, what is kept of the section's items so far, and how many of the next items belong to the last
+/// group.
+#[derive(Drop)]
+pub struct Walk {
+    pub groups: Vec<Group>,
+    pub marks: Vec<Mark>,
+    pub left: u32,
+}
+
+// What the instructions from the first of some places of a section on come to.
+fn found_at(cut: &Cut, section: &SectionRef, places: &[CodePlace]) -> Option<Found>
+    requires { ArePlacesOf (parsed cut.now) section.now places.now }
+    ensures { result ≡ longest_of (run_of (spots_of (parsed cut.now) section.now places.now)) }
+{
+    longest(&Run::new(cut, section, places))
+}
+
+impl Walk {
+    // Adds a group that starts at a place.
+    fn start(
+        &mut self,
+        section: &SectionRef,
+        place: &CodePlace,
+        found: Found,
+    ) -> Result<(), AllocError>
+        requires { length self.old.groups.items < 2 ^ 32 }
+        ensures marks { IfOk result (λ _. self.new.marks.items
+            ≡ self.old.marks.items ++ Start (length self.old.groups.items) ∷ []) }
+        ensures groups { IfOk result (λ _. self.new.groups.items
+            ≡ self.old.groups.items ++ group_at (place_of section.now place.now.offset) found ∷ []) }
+        ensures left { IfOk result (λ _. self.new.left ≡ found.items - 1) }
+    {
+        self.marks.push(Mark::Start(self.groups.len() as u32))?;
+        self.left = found.items.saturating_sub(1);
+        self.groups.push(Group {
+            start: place_in(section, place),
+            items: found.items,
+            kind: found.kind,
+            rest: found.rest,
+        })?;
+        Ok(())
+    }
+
+    // Goes over the first of some places of a section.
+    fn next(
+        &mut self,
+        cut: &Cut,
+        section: &SectionRef,
+        places: &[CodePlace],
+    ) -> Result<(), AllocError>
+        requires some { 0 < length places.now }
+        requires room { length self.old.groups.items < 2 ^ 32 }
+        requires places { ArePlacesOf (parsed cut.now) section.now places.now }
+        ensures on { IfOk result (λ _. WalksOn (parsed cut.now) section.now places.now self.old self.new) }
+        ensures few { IfOk result (λ _. length self.new.groups.items ≤ length self.old.groups.items + 1) }
+    {
+        if self.left > 0 {
+            self.left -= 1;
+            self.marks.push(Mark::Within)?;
+            return Ok(());
+        }
+        match found_at(cut, section, places) {
+            None => {
+                self.marks.push(Mark::Apart)?;
+                Ok(())
+            }
+            Some(found) => self.start(section, &places[0], found),
+        }
+    }
+
+    // Goes over all of some places of a section.
+    fn go_over(
+        &mut self,
+        cut: &Cut,
+        section: &SectionRef,
+        places: &[CodePlace],
+    ) -> Result<(), AllocError>
+        requires places { ArePlacesOf (parsed cut.now) section.now places.now }
+        requires room { length self.old.groups.items + length places.now < 2 ^ 32 }
+        ensures marks { IfOk result (λ _.
+            self.new.marks.items ≡ marks_after self.old (spots_of (parsed cut.now) section.now places.now)) }
+        ensures groups { IfOk result (λ _.
+            self.new.groups.items ≡ groups_after self.old (spots_of (parsed cut.now) section.now places.now)) }
+    {
+        for k in 0..places.len() {
+            self.next(cut, section, &places[k..])?;
+        }
+        Ok(())
+    }
+}
+
+// The places of a section where items start: all but the last, where the section ends.
+fn starts_of(places: &[CodePlace]) -> &[CodePlace]
+    ensures { result.now ≡ take (length places.now - 1) places.now }
+{
+    &places[..places.len().saturating_sub(1)]
+}
+
+/// The walk over all of a section, by its number among all, where some groups come before.
+pub fn walk_section(
+    alloc: Global,
+    cut: &Cut,
+    section: u32,
+    groups: Vec<Group>,
+) -> Result<Walk, AllocError>
+    requires section { section < length (all_sections (parsed cut.now).objects) }
+    requires few { length groups.items
+        ≤ length (flat_map (items_in (parsed cut.now)) (take section (all_sections (parsed cut.now).objects))) }
+    ensures marks { (l : IndexedSection) → slice_get (all_sections (parsed cut.now).objects) section ≡ Some l
+        → IfOk result (λ w. w.marks.items ≡ marks_from (length groups.items) (roles_in (parsed cut.now) l)) }
+    ensures groups { (l : IndexedSection) → slice_get (all_sections (parsed cut.now).objects) section ≡ Some l
+        → IfOk result (λ w. w.groups.items ≡ groups.items ++ groups_in (parsed cut.now) l) }
+{
+    // There are no more groups than items.
+    let _counts = cut.counts();
+    let places = starts_of(cut.places(section));
+    let mut walk = Walk {
+        groups,
+        marks: Vec::with_capacity(alloc, places.len())?,
+        left: 0,
+    };
+    walk.go_over(cut, &cut.objects().section(section), places)?;
+    Ok(walk)
+}
