@@ -4,11 +4,11 @@ use Rattle.std.specs.Option.{option_map, option_map_or}
 use Rattle.zc_base.specs.declared.counts.Counts.{Counts}
 use Rattle.zc_base.specs.declared.place.Place.{Place}
 use Rattle.psabi_sym.specs.Inputs.{ParsedInputs}
-use Rattle.block_cut.specs.Items.{all_items, all_places, is_target_at}
+use Rattle.block_cut.specs.Items.{all_items, all_places}
 use Rattle.block_cut.specs.declared.item.Item.TheVariants as item
 use Rattle.shrink_layout.specs.Layout.{addresses_of, sizes_of}
 use Rattle.shrink_layout.specs.Pieces.{piece_number_at, pieces_of}
-use Rattle.shrink_layout.specs.Units.{CodeUnit, OneItem, unit_at}
+use Rattle.shrink_layout.specs.Units.{CodeUnit, OneItem, is_listed_at, unit_at}
 
 -- the sizes of the pieces
 unfoldable pub settled_sizes : ParsedInputs → List ℕ
@@ -20,10 +20,10 @@ settled_sizes inputs = sizes_of inputs.map.text (pieces_of inputs)
 unfoldable pub settled_addresses : ParsedInputs → List ℕ
 settled_addresses inputs = addresses_of inputs.map.text (pieces_of inputs) (settled_sizes inputs)
 
--- the address of a place where an item starts or a section of code ends; none of another
+-- the address of a place that images list; none of another
 unfoldable pub settled_address : ParsedInputs → Place → Option ℕ
 settled_address inputs q =
-    if is_target_at inputs.objects q
+    if is_listed_at inputs q
     then Some (slice_index (settled_addresses inputs) (piece_number_at inputs.objects q))
     else None
 

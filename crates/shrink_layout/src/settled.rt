@@ -1,6 +1,6 @@
 // The objects with the layout of their code.
 
-ghost use Rattle.std.specs.Prelude.{◌≡◌, ◌≤◌, ◌^◌, ◌<◌, if◌then◌else◌, IfOk, IsTrue, Some, length, true};
+ghost use Rattle.std.specs.Prelude.{◌≡◌, ◌≤◌, ℕ, ◌^◌, ◌<◌, if◌then◌else◌, IfOk, IsTrue, Some, length, true};
 ghost use Rattle.psabi_sym.specs.Inputs.{parsed, Inputs};
 ghost use Rattle.block_cut.specs.Items.{is_target_at, item_at};
 ghost use Rattle.block_cut.specs.Places.{IsPlaceNumber};
@@ -159,8 +159,7 @@ pub fn settle(alloc: Global, planned: Planned) -> Result<Settled, AllocError>
 }
 
 impl Settled {
-    /// The address of a place where an item starts or a section of code ends. It takes constant time, as
-    /// does all that follows.
+    /// The address of a place that images list. It takes constant time, as does all that follows.
     pub fn address(&self, p: Place) -> Option<u32>
         ensures { result ≡ settled_address (parsed self.now) p }
     {
@@ -170,11 +169,11 @@ impl Settled {
         }
     }
 
-    /// The address of a place, by where it stands among all.
+    /// The address of a place that images list, by where it stands among all.
     pub fn address_at(&self, number: PlaceNumber) -> u32
         requires { HasPlace (parsed self.now).objects number }
-        ensures { (q : Place) → is_target_at (parsed self.now).objects q ≡ true
-            → IsPlaceNumber (parsed self.now).objects q number → Some result ≡ settled_address (parsed self.now) q }
+        ensures { (q : Place) (address : ℕ) → settled_address (parsed self.now) q ≡ Some address
+            → IsPlaceNumber (parsed self.now).objects q number → result ≡ address }
     {
         self.addresses[self.piece_at(number)]
     }

@@ -40,7 +40,7 @@ IsBare (WithReg op rd first second) = Unit {0}
 IsBare (Fence rest) = Unit {0}
 IsBare Ecall = ⊥
 IsBare Ebreak = ⊥
-IsBare (Csrrw rd source) = ⊥
+IsBare (Csrrw rd source) = Unit {0}
 
 -- and goes on to the next one, with these registers: a branch does if it isn't taken
 abbrev pub IsOn : Instr → List ℕ → Type 0
@@ -55,7 +55,7 @@ IsOn (WithReg op rd first second) regs = Unit {0}
 IsOn (Fence rest) regs = Unit {0}
 IsOn Ecall regs = ⊥
 IsOn Ebreak regs = ⊥
-IsOn (Csrrw rd source) regs = ⊥
+IsOn (Csrrw rd source) regs = Unit {0}
 
 -- a byte of memory is another
 abbrev with_byte : ℕ → ℕ → ZcCore → ZcCore
@@ -82,7 +82,7 @@ bare_effect (WithReg op rd first second) size y bare = record { left = _; commit
 bare_effect (Fence rest) size y bare = record { left = _; commits = refl; memory = refl; exit = refl; pc = λ _. refl; apart = λ a b. refl }
 bare_effect Ecall size y bare = absurd bare
 bare_effect Ebreak size y bare = absurd bare
-bare_effect (Csrrw rd source) size y bare = absurd bare
+bare_effect (Csrrw rd source) size y bare = record { left = _; commits = refl; memory = refl; exit = refl; pc = λ _. refl; apart = λ a b. refl }
 
 -- ---- several of them
 

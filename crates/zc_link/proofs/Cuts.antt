@@ -15,16 +15,21 @@ use Rattle.sym_machine.specs.Program.{Program}
 use Rattle.sym_machine.specs.State.{PlainCore, cell_of}
 use Rattle.zc_decode.specs.declared.short.Short.TheVariants.{Base}
 use Rattle.zc_machine.specs.Fetch.{Found, fetched_at}
-use Rattle.zc_machine.specs.Interrupt.{all_dirtied, all_interrupted, dirtied, interrupted, is_free}
+use Rattle.zc_machine.specs.Interrupt.{all_dirtied, all_interrupted, dirtied, done_all, done_of, interrupted, is_free}
 use Rattle.zc_machine.specs.Load.{first_core}
 use Rattle.zc_machine.proofs.LoadLaws.{stack_bounds}
 use Rattle.zc_link.specs.Image.{Image, loaded_core}
 use Rattle.zc_link.specs.Room.{Room}
 use Rattle.zc_link.specs.Sound.{Alike}
 
+-- an instruction without accesses has none that an interrupt could do
+done-none : (i : Instr) (done : List ℕ) (z : ZcCore) → done_all (Base i) [] done z ≡ z
+done-none i [] z = refl
+done-none i (j ∷ js) z = done-none i js z
+
 -- where no push or pop stands at pc, an interrupt only writes its bytes
 pub cut-base : (c : Interrupt) (z : ZcCore) (i : Instr) (size : ℕ) → fetched_at z z.pc ≡ Found (Base i) size → interrupted c z ≡ all_dirtied c.dirt z
-cut-base c z i size here = refl
+cut-base c z i size here = ap (λ f. all_dirtied c.dirt (done_of f c.done z)) here ∙ ap (all_dirtied c.dirt) (done-none i c.done z)
 
 -- z is y, but for bytes from low to below n
 pub record Spoiled (low n : ℕ) (y z : ZcCore) : Type 0 where

@@ -20,8 +20,16 @@ pub none_there : {X A : Type 0} (f : X → Option A) (before rest : List X) (x :
 none_there f [] rest x h = (none_first (f x) (map f rest) h).0
 none_there f (y ∷ ys) rest x h = none_there f ys rest x (none_first (f y) (map f (ys ++ x ∷ rest)) h).1
 
--- what a search finds is an element
+-- what a search finds is an element, and passes
 module _ {X : Type 0} (p : X → Bool) where
+  pub found_passes : (xs : List X) (x : X) → find p xs ≡ Some x → p x ≡ true
+  found_passes [] x h = absurd cc
+  found_passes (y ∷ ys) x h = by (p y) refl h (λ g. found_passes ys x g)
+    where
+      by : (b : Bool) → p y ≡ b → cond b (Some y) (find p ys) ≡ Some x → (find p ys ≡ Some x → p x ≡ true) → p x ≡ true
+      by true passes g rest = let same : y ≡ x = cc in ap p (sym same) ∙ passes
+      by false fails g rest = rest g
+
   pub any_found : (q : X → Bool) (xs : List X) (x : X) → find p xs ≡ Some x → q x ≡ true → list_any q xs ≡ true
   any_found q [] x h passes = absurd cc
   any_found q (y ∷ ys) x h passes = by (p y) h (λ g. any_found q ys x g passes)

@@ -4,7 +4,7 @@ use Rattle.std.proofs.Common.{◌≡◌, ℕ, List, [], ◌∷◌, ◌++◌, map
 use Rattle.std.specs.Prelude.{◌&&◌, ◌||◌, is_none, not}
 use Rattle.std.specs.List.{find, flat_map}
 use Rattle.std.specs.Option.{is_some, option_map, unwrap_or}
-use Rattle.std.proofs.lemmas.Bool.{eqb-true, or_left}
+use Rattle.std.proofs.lemmas.Bool.{eqb-true, not-false, or_left}
 use Rattle.zc_base.specs.declared.place.Place.{Place}
 use Rattle.elf32_read.specs.Parts.{ObjectParts, SectionParts}
 use Rattle.elf32_read.specs.declared.fault.Fault.{Fault}
@@ -21,11 +21,15 @@ use Rattle.psabi_sym.specs.declared.target.Target.TheVariants.{Code, Number, Abs
 use Rattle.psabi_sym.proofs.FaultLaws.{neither}
 use Rattle.block_cut.specs.Faults.{entry_fault, first_fault, if_so, has_bad_target, lacks_pcrel_hi, is_bad_target, range_fault, reloc_fault, relocs_fault, section_fault}
 use Rattle.block_cut.specs.Items.{entry_in, entry_of, is_end_at, is_start_at, is_target_at, start_only, target_of}
+use Rattle.block_cut.specs.Leaders.{is_leader_at}
 use Rattle.block_cut.specs.Relocs.{is_bad_kind, is_bad_place, is_ignored, is_transfer, reloc_on}
 use Rattle.block_cut.proofs.ListedLaws.{cut_at, listed}
 use Rattle.block_cut.proofs.StartLaws.{is_among}
+use Rattle.zc_link.specs.LaidOut.{ListsLeaders}
 use Rattle.zc_link.specs.Standing.{HasValue}
 use Rattle.zc_link.proofs.Elements.{none_found, none_there}
+use Rattle.zc_link.proofs.Led.{AsksIn, reloc_leader}
+use Rattle.zc_link.proofs.StartLed.{name_leader}
 
 -- ---- what gives nothing
 
@@ -123,40 +127,53 @@ module _ (inputs : Inputs) (none : first_fault inputs ≡ None) where
 
 -- ---- targets
 
--- of any addresses that the places have to which code may lead, and no others
-module _ (p : ParsedInputs) (A : Place → Option ℕ) (listed : (q : Place) → is_some (A q) ≡ is_target_at p.objects q) where
-  -- a place where code may lead has an address
-  pub target_listed : (to : Place) → is_target_at p.objects to ≡ true → (b : ℕ) × (A to ≡ Some b)
-  target_listed to target = by (A to) refl (listed to ∙ target)
-    where
-      by : (o : Option ℕ) → A to ≡ o → is_some (A to) ≡ true → (b : ℕ) × (A to ≡ Some b)
-      by None e h = absurd (cc (ap is_some e, h))
-      by (Some b) e h = (b, e)
+-- a relocation that asks for something leads to a number, or where an item starts or a section of code ends
+pub target_good :
+    (p : ParsedInputs) (l : IndexedSection) (r : Reloc) (to : Place) → is_ignored (kind_of r.kind) ≡ false → IsGood p l r
+    → target_of p l.object r ≡ Code to → is_target_at p.objects to ≡ true
+target_good p l r to asks fine leads =
+    not-false (is_target_at p.objects to)
+    (ap (is_bad_target p.objects (is_transfer (kind_of r.kind))) (sym leads)
+    ∙ ap (λ b. not b && is_bad_target p.objects (is_transfer (kind_of r.kind)) (target_of p l.object r)) (sym asks)
+    ∙ fine.leads)
+
+-- where there is an address, it is one
+pub address_some : (o : Option ℕ) → is_some o ≡ true → (b : ℕ) × (o ≡ Some b)
+address_some None h = absurd cc
+address_some (Some b) h = (b, refl)
+
+-- if the places that begin basic blocks have addresses
+module _ (p : ParsedInputs) (A : Place → Option ℕ) (leaders : ListsLeaders p A) where
+  -- such a place has an address
+  pub leader_listed : (to : Place) → is_target_at p.objects to ≡ true → is_leader_at p to ≡ true → (b : ℕ) × (A to ≡ Some b)
+  leader_listed to target leader = address_some (A to) (leaders to target leader)
 
   -- what a relocation that asks for something leads to has a value
-  pub has_value : (t : Target) (transfers : Bool) → is_bad_target p.objects transfers t ≡ false → HasValue A t
-  has_value (Code to) transfers h = target_listed to (is_true (is_target_at p.objects to) h)
+  pub reloc_value : {o i : ℕ} {s : SectionParts} {r : Reloc} → AsksIn p o i s r → IsGood p (listed o i s) r → HasValue A (target_of p o r)
+  reloc_value {o} {i} {s} {r} by fine =
+      of (target_of p o r) (λ to leads. leader_listed to (target_good p (listed o i s) r to by.asks fine leads) (reloc_leader p to by leads))
+      (ap (λ b. not b && is_bad_target p.objects (is_transfer (kind_of r.kind)) (target_of p o r)) (sym by.asks) ∙ fine.leads)
     where
-      is_true : (b : Bool) → not b ≡ false → b ≡ true
-      is_true true h = refl
-      is_true false h = absurd cc
-  has_value (Number n) transfers h = (n, refl)
-  has_value (Absent n) transfers h = (n, refl)
-  has_value Nowhere transfers h = absurd cc
-
-  pub reloc_value : (l : IndexedSection) (r : Reloc) → is_ignored (kind_of r.kind) ≡ false → IsGood p l r → HasValue A (target_of p l.object r)
-  reloc_value l r asks is =
-      has_value (target_of p l.object r) (is_transfer (kind_of r.kind))
-      (ap (λ b. not b && is_bad_target p.objects (is_transfer (kind_of r.kind)) (target_of p l.object r)) (sym asks) ∙ is.leads)
+      of :
+          (t : Target) → ((to : Place) → t ≡ Code to → (b : ℕ) × (A to ≡ Some b))
+          → is_bad_target p.objects (is_transfer (kind_of r.kind)) t ≡ false → HasValue A t
+      of (Code to) place h = place to refl
+      of (Number n) place h = (n, refl)
+      of (Absent n) place h = (n, refl)
+      of Nowhere place h = absurd cc
 
 -- ---- the start
 
--- where the program may start an item starts
-start_at : (objects : List ObjectParts) (t : Target) (q : Place) → start_only objects t ≡ Some q → is_start_at objects q ≡ true
+-- the place that a target is, where an item starts
+record IsStartOf (objects : List ObjectParts) (t : Target) (q : Place) : Type 0 where
+  leads : t ≡ Code q
+  starts : is_start_at objects q ≡ true
+
+start_at : (objects : List ObjectParts) (t : Target) (q : Place) → start_only objects t ≡ Some q → IsStartOf objects t q
 start_at objects (Code r) q h = by (is_start_at objects r) refl h
   where
-    by : (b : Bool) → is_start_at objects r ≡ b → cond b (Some r) None ≡ Some q → is_start_at objects q ≡ true
-    by true starts g = let same : r ≡ q = cc in ap (is_start_at objects) (sym same) ∙ starts
+    by : (b : Bool) → is_start_at objects r ≡ b → cond b (Some r) None ≡ Some q → IsStartOf objects (Code r) q
+    by true starts g = let same : r ≡ q = cc in record { leads = ap Code same; starts = ap (is_start_at objects) (sym same) ∙ starts }
     by false starts g = absurd cc
 start_at objects (Number n) q h = absurd cc
 start_at objects (Absent n) q h = absurd cc
@@ -164,10 +181,10 @@ start_at objects Nowhere q h = absurd cc
 
 -- where the program starts has an address
 pub start_listed :
-    (inputs : Inputs) (A : Place → Option ℕ) → first_fault inputs ≡ None → ((q : Place) → is_some (A q) ≡ is_target_at (parsed inputs).objects q)
+    (inputs : Inputs) (A : Place → Option ℕ) → first_fault inputs ≡ None → ListsLeaders (parsed inputs) A
     → (b : ℕ) × (A (entry_of (parsed inputs)) ≡ Some b)
 unfolding entry_fault
-start_listed inputs A none lists = by (entry_in p) refl (all_none inputs none).entry
+start_listed inputs A none leaders = by (entry_in p) refl (all_none inputs none).entry
   where
     p : ParsedInputs
     p = parsed inputs
@@ -176,5 +193,6 @@ start_listed inputs A none lists = by (entry_in p) refl (all_none inputs none).e
     by None is h = absurd cc
     by (Some q) is h =
         let start = start_at p.objects (name_target p start_name) q is in
-        let there = target_listed p A lists q (or_left (is_start_at p.objects q) (is_end_at p.objects q) start) in
+        let target = or_left (is_start_at p.objects q) (is_end_at p.objects q) start.starts in
+        let there = leader_listed p A leaders q target (name_leader p q start_name start.leads) in
         (there.0, ap (λ o. A (unwrap_or o (record { object = 0; section = 0; offset = 0 }))) is ∙ there.1)

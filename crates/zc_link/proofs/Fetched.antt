@@ -49,7 +49,7 @@ short_low half s is low = by (row_of (groups half) (group_of half)) refl is
     by (Some row) found h =
         let other : eqb (group_of half % 4) 3 ≡ false =
         row_found IsShortGroup (groups half) (group_of half) row
-        (refl, (refl, (refl, (refl, (refl, (refl, (refl, (refl, (refl, (refl, (refl, (refl, (refl, (refl, (refl, (refl, tt)))))))))))))))) found in
+        (refl, (refl, (refl, (refl, (refl, (refl, (refl, (refl, (refl, (refl, (refl, (refl, (refl, (refl, (refl, (refl, (refl, tt))))))))))))))))) found in
         let same : eqb (group_of half % 4) 3 ≡ true = ap (λ n. eqb n 3) set in
         absurd (cc (other, same))
 

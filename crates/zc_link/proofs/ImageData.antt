@@ -1,34 +1,29 @@
 -- Words of data over the bytes that files hold: in the image, and in the program's first memory. So each byte of this stands for
 -- that of the image.
-use Rattle.std.proofs.Common.{◌≡◌, ℕ, zero, suc, ◌+◌, ◌-◌, ◌<◌, ◌≤◌, ◌⊎◌, inl, inr, List, [], ◌∷◌, ◌++◌, map, length, replicate, take, drop, get_or, Option, Some, None, Bool, true, false, eqb, refl, sym, ap, ◌∙◌, subst, arith, append_assoc, length-append}
-use Rattle.std.specs.Prelude.{All, ◌&&◌, not}
-use Rattle.std.specs.List.{fold, list_any}
-use Rattle.std.specs.Option.{is_some, option_map_or, unwrap_or}
-use Rattle.std.proofs.lemmas.Bool.{cases_lt, or_cases, or_left, or_right}
+use Rattle.std.proofs.Common.{◌≡◌, ℕ, zero, suc, ◌+◌, ◌-◌, ◌<◌, ◌≤◌, ◌⊎◌, inl, inr, List, [], ◌∷◌, ◌++◌, map, length, replicate, take, drop, get_or, Option, Some, None, true, false, refl, sym, ap, ◌∙◌, subst, arith, append_assoc, length-append}
+use Rattle.std.specs.Prelude.{All}
+use Rattle.std.specs.List.{fold}
+use Rattle.std.specs.Option.{unwrap_or}
+use Rattle.std.proofs.lemmas.Bool.{cases_lt}
 use Rattle.std.proofs.lemmas.List.{drop-append-le, get_or-append-add, get_or-drop, get_or-map, get_or-take, get_or_append_left, length-map, length-take-le, take-append-le, take_all}
 use Rattle.std.proofs.lemmas.List.Elements.{All-get_or, All-head, All-tail}
 use Rattle.std.proofs.lemmas.List.Sums.{fold_more}
 use Rattle.zc_base.specs.Fields.{with_word, word_bytes}
 use Rattle.zc_base.specs.declared.place.Place.{Place}
-use Rattle.elf32_read.specs.Parts.{SectionParts}
-use Rattle.elf32_read.specs.declared.reloc.Reloc.{Reloc}
 use Rattle.psabi_reloc.specs.Kinds.{kind_of}
 use Rattle.psabi_reloc.specs.declared.kind.RelocKind.{RelocKind}
 use Rattle.psabi_reloc.specs.declared.kind.RelocKind.TheVariants as kind
 use Rattle.psabi_sym.specs.Contents.{data_contents, overlaid}
 use Rattle.psabi_sym.specs.Data.{data_end, data_file_end}
 use Rattle.psabi_sym.specs.Inputs.{Inputs, ParsedInputs, parsed}
-use Rattle.psabi_sym.specs.Indexed.{all_sections, section_at, sections_before}
 use Rattle.psabi_sym.specs.declared.target.Target.{Target}
 use Rattle.psabi_sym.specs.declared.target.Target.TheVariants as target
 use Rattle.psabi_sym.proofs.ContentLaws.{length-data_contents, length-overlaid}
 use Rattle.block_cut.specs.DataWords.{data_words}
-use Rattle.block_cut.specs.Faults.{first_fault, is_bad_target}
-use Rattle.block_cut.specs.Items.{code_at, is_end_at, is_start_at, is_target_at, starts_on, target_of}
-use Rattle.block_cut.specs.Leaders.{is_leader_at, is_place, reloc_leads, section_leads}
-use Rattle.block_cut.specs.Relocs.{is_ignored, is_transfer, is_word}
-use Rattle.block_cut.proofs.ItemLaws.{item_there}
-use Rattle.block_cut.proofs.ListedLaws.{cut_at, listed}
+use Rattle.block_cut.specs.Faults.{first_fault}
+use Rattle.block_cut.specs.Items.{target_of}
+use Rattle.block_cut.specs.Relocs.{is_ignored, is_word}
+use Rattle.block_cut.proofs.ListedLaws.{listed}
 use Rattle.block_cut.specs.declared.data_word.DataWord.{DataWord}
 use Rattle.sym_machine.specs.AddressParts.{bytes_of, target_word}
 use Rattle.sym_machine.specs.Objects.{data_bytes, unfilled_bytes}
@@ -37,15 +32,15 @@ use Rattle.sym_machine.specs.declared.word.SymByte.{SymByte}
 use Rattle.sym_machine.specs.declared.word.SymByte.TheVariants.{Num, Undef}
 use Rattle.sym_machine.specs.declared.word.Value.{Value}
 use Rattle.sym_machine.specs.declared.word.Value.TheVariants as value
+use Rattle.zc_link.specs.LaidOut.{ListsLeaders}
 use Rattle.zc_link.specs.Leads.{NamesTarget}
 use Rattle.zc_link.specs.ImageParts.{data_value, image_data, with_data_word}
 use Rattle.zc_link.specs.Standing.{HasValue}
 use Rattle.zc_link.specs.Sound.{IsNamed, NamesByte}
 use Rattle.zc_link.specs.Stands.{ByteStands}
 use Rattle.zc_link.specs.Values.{target_value}
-use Rattle.zc_link.proofs.Elements.{any_there}
-use Rattle.zc_link.proofs.PlaceLaws.{same_place-refl}
-use Rattle.zc_link.proofs.Faultless.{IsGood, reloc_value}
+use Rattle.zc_link.proofs.Faultless.{reloc_value, target_good}
+use Rattle.zc_link.proofs.Led.{AsksIn, leader_named, reloc_leader}
 use Rattle.zc_link.proofs.Within.{IsWithin, all_words, content_within, word_field, words_within}
 
 -- ---- one list over another
@@ -217,52 +212,23 @@ module _ (inputs : Inputs) (none : first_fault inputs ≡ None) where
   abbrev p0 : ParsedInputs
   p0 = parsed inputs
 
-  -- a place that leads a basic block is one that a program may name
-  named : (to : Place) → is_target_at p0.objects to ≡ true → is_leader_at p0 to ≡ true → IsNamed p0 to
-  named to target leader = by (or_cases (is_start_at p0.objects to) (is_end_at p0.objects to) target)
-    where
-      starts : (o : Option SectionParts) → code_at p0.objects to ≡ o → option_map_or (λ s. starts_on s to.offset) o false ≡ true → IsNamed p0 to
-      starts None at h = absurd cc
-      starts (Some s) at h = inl (rw (item_there p0 to s at h) refl, rw leader refl)
-
-      by : (is_start_at p0.objects to ≡ true) ⊎ (is_end_at p0.objects to ≡ true) → IsNamed p0 to
-      by (inl start) = starts (code_at p0.objects to) refl start
-      by (inr end) = inr (rw end refl)
-
-  -- where a relocation of data leads is such a place
-  reloc_named : (o i : ℕ) (s : SectionParts) (r : Reloc) (to : Place) → section_at p0.objects o i ≡ Some s → is_ignored (kind_of r.kind) ≡ false → IsGood p0 (listed o i s) r
-      → ((test : Reloc → Bool) → test r ≡ true → list_any test s.relocs ≡ true) → target_of p0 o r ≡ target.Code to → IsNamed p0 to
-  unfolding is_leader_at
-  reloc_named o i s r to found asks fine among leads =
-      let cut = cut_at p0.objects o i s found in
-      let lost : not (is_target_at p0.objects to) ≡ false =
-      ap (is_bad_target p0.objects (is_transfer (kind_of r.kind))) (sym leads) ∙ ap (λ b. not b && is_bad_target p0.objects (is_transfer (kind_of r.kind)) (target_of p0 o r)) (sym asks) ∙ fine.leads in
-      let mine : reloc_leads p0 to o r ≡ true = (λ j. not (asks j) && is_place to (leads j)) ∙ same_place-refl to in
-      let own : section_leads p0 to (listed o i s) ≡ true = among (reloc_leads p0 to o) mine in
-      let some : list_any (section_leads p0 to) (all_sections p0.objects) ≡ true =
-      ap (list_any (section_leads p0 to)) cut.all_are ∙ any_there (section_leads p0 to) (sections_before p0.objects o i) cut.rest (listed o i s) own in
-      named to (not_false (is_target_at p0.objects to) lost) (or_right (eqb to.offset 0 && is_target_at p0.objects to) _ (or_left (list_any (section_leads p0 to) (all_sections p0.objects)) _ some))
-    where
-      not_false : (b : Bool) → not b ≡ false → b ≡ true
-      not_false true h = refl
-      not_false false h = absurd cc
-
   target_named : (t : Target) → ((to : Place) → t ≡ target.Code to → IsNamed p0 to) → NamesTarget (IsNamed p0) t
   target_named (target.Code to) each = each to refl
   target_named (target.Number n) each = tt
   target_named (target.Absent n) each = tt
   target_named target.Nowhere each = tt
 
-  module _ (A : Place → Option ℕ) (lists : (q : Place) → is_some (A q) ≡ is_target_at p0.objects q) (V : Value → Option ℕ) (place : (q : Place) → V (value.Code q) ≡ A q) where
+  module _ (A : Place → Option ℕ) (leaders : ListsLeaders p0 A) (V : Value → Option ℕ) (place : (q : Place) → V (value.Code q) ≡ A q) where
     words_fine : All (IsFineWord p0 A (IsNamed p0) V place) (data_words p0)
     words_fine = all_words inputs none (IsFineWord p0 A (IsNamed p0) V place) (λ o i at s r found content address word fine among.
         let within = content_within p0 o i at s found content address in
         let field = word_field p0 (listed o i s) r word fine in
-        let asks = word_asks (kind_of r.kind) word in
+        let asks : AsksIn p0 o i s r = record { found = found; asks = word_asks (kind_of r.kind) word; among = among } in
         record {
           within = (omega (arith, within.0), omega (arith, within.1, field));
-          has = reloc_value p0 A lists (listed o i s) r asks fine;
-          named = target_named (target_of p0 o r) (λ to leads. reloc_named o i s r to found asks fine among leads);
+          has = reloc_value p0 A leaders asks fine;
+          named = target_named (target_of p0 o r)
+              (λ to leads. leader_named p0 to (target_good p0 (listed o i s) r to asks.asks fine leads) (reloc_leader p0 to asks leads));
         })
       where
         word_asks : (k : Option RelocKind) → is_word k ≡ true → is_ignored k ≡ false

@@ -43,13 +43,12 @@ use Rattle.zc_link.specs.TextLayout.{TextLayout, behind, stretch_in}
 use Rattle.zc_link.specs.Values.{target_value, value_in}
 use Rattle.zc_link.specs.Written.{HoldsPlace, HoldsUnit, IsTextOf, IsWritten}
 use Rattle.zc_link.proofs.ImageMemory.{AreLaidOut, image_of}
-use Rattle.zc_link.proofs.Induction.{quietly}
 use Rattle.zc_link.proofs.Adds.{AreBytes}
 use Rattle.zc_link.proofs.ImageData.{AreFine, data_fine, length-image_data}
 use Rattle.zc_link.proofs.Faultless.{all_none}
 use Rattle.zc_link.proofs.LaidLaws.{unit_there}
 use Rattle.zc_link.proofs.StretchesLaid.{ShowsLayout, distinct, each, even}
-use Rattle.zc_link.proofs.SizedPieces.{few}
+use Rattle.zc_link.proofs.SizedPieces.{few, some}
 use Rattle.zc_link.proofs.Lookup.{found_holds, listed_placed, lookup}
 use Rattle.zc_link.proofs.ListedPlaces.{are_inside, ascends, entries, places_few}
 use Rattle.zc_link.proofs.ProgramLeads.{leads_faultless}
@@ -121,7 +120,7 @@ module _ (L : TextLayout) (ready : IsReady L.inputs) (lies : IsLaidOut L) (flags
 
   -- each with its address
   placed : All (λ e. A e.0 ≡ Some e.1) (listed_places L)
-  placed = listed_placed L lies.listed
+  placed = listed_placed L lies.only
 
   -- and the text holds what is written there
   holds : All (HoldsPlace L text) (listed_places L)
@@ -144,7 +143,7 @@ module _ (L : TextLayout) (ready : IsReady L.inputs) (lies : IsLaidOut L) (flags
   unfolding code_value
   bytes_size =
       let zeros = replicate (data_end p3 - data_file_end p3) 0 in
-      let same = (data_fine inputs ready.faultless A lies.listed (code_value A) (λ q. refl)).same in
+      let same = (data_fine inputs ready.faultless A lies.leaders (code_value A) (λ q. refl)).same in
       same ∙ length-append (image_data p3 A) zeros ∙ (let r : length (replicate {A = ℕ} (data_end p3 - data_file_end p3) 0) ≡ data_end p3 - data_file_end p3 = length-replicate (data_end p3 - data_file_end p3) 0 in omega arith)
 
   -- so memory lies as it should
@@ -166,7 +165,7 @@ module _ (L : TextLayout) (ready : IsReady L.inputs) (lies : IsLaidOut L) (flags
 
   -- the image lists the layout's addresses
   listed_are : e.address ≡ A
-  listed_are = λ j q. lookup L lies.listed q j
+  listed_are = λ j q. lookup L lies.only q j
 
   -- it is of the objects' program
   pub shows : ShowsLayout L program e
@@ -186,7 +185,7 @@ module _ (L : TextLayout) (ready : IsReady L.inputs) (lies : IsLaidOut L) (flags
 
   -- each byte of the program's data stands for the image's
   fine : AreFine p3 A (IsNamed p3) V place_value (data_bytes p3) (memory.data_cells parts)
-  fine = data_fine inputs ready.faultless A lies.listed V place_value
+  fine = data_fine inputs ready.faultless A lies.leaders V place_value
 
   -- an address of data is that of a byte
   cell_within : (a : ℕ) → program.map.data_low ≤ a → a < program.map.data_low + length program.bytes → a - program.map.data_low < length (memory.data_cells parts)
@@ -231,6 +230,7 @@ module _ (L : TextLayout) (ready : IsReady L.inputs) (lies : IsLaidOut L) (flags
     room = rooms;
     leads = leads_faultless inputs ready.faultless;
     begins = AtEntry ((λ j. listed_are j (entry_of p3)) ∙ lies.entry);
+    some = some L;
     few = few L lies program;
     each = each L ready.is_map lies program parts out shows holds;
     first = λ a m. first a;
@@ -338,7 +338,6 @@ module _ (L : TextLayout) (ready : IsReady L.inputs) (lies : IsLaidOut L) (flags
   is_image elf written = record {
     parts = record { text = text; bytes = written; front = laid.front; holds = holds; gaps = laid.gaps };
     preserves = subst (Preserves inputs) (sym written) preserves;
-    quietly = quietly inputs elf (subst (Preserves inputs) (sym written) preserves);
     simulates = subst (Simulates L) (sym written) keeps;
     copied = subst (Copied p3) (sym written) copied;
     places = ap place_list written ∙ back.places;

@@ -4,24 +4,23 @@
 use Rattle.std.proofs.Common.{◌≡◌, ℕ, zero, suc, ◌+◌, ◌-◌, ◌*◌, ◌<◌, ◌≤◌, List, [], Bool, true, false, cond, Option, Some, None, Ok, refl, sym, ap, ◌∙◌, subst, inl, inr, ⊎_elim, arith, eqb}
 use Rattle.std.specs.Prelude.{◌⊎◌, IsSome}
 use Rattle.std.proofs.lemmas.Bool.{cases_lt, false≢true}
-use Rattle.std.proofs.lemmas.List.Elements.{All-nil}
 use Rattle.zc_base.specs.declared.place.Place.{Place}
 use Rattle.interrupt_plan.specs.Plan.{AreInterrupts, Interrupt, IsPlan, interrupts_at}
 use Rattle.interrupt_plan.proofs.PlanLaws.{interrupts_at-bytes}
 use Rattle.rv_decode.specs.Run.{◌>>=◌, iterate}
 use Rattle.rv_decode.specs.State.{ZcState}
 use Rattle.rv_decode.proofs.RunLaws.{bind_ok, iterate-add}
-use Rattle.psabi_sym.specs.Inputs.{Inputs, parsed}
+use Rattle.psabi_sym.specs.Inputs.{parsed}
 use Rattle.sym_machine.specs.Objects.{program_of}
 use Rattle.sym_machine.specs.Program.{Program}
 use Rattle.sym_machine.specs.Run.{plain_turn, program_after}
 use Rattle.sym_machine.specs.State.{PlainCore, PlainState, first_plain}
 use Rattle.sym_machine.proofs.RunLaws.{all_stay}
-use Rattle.zc_machine.specs.Run.{first_state, zc_after, zc_turns}
+use Rattle.zc_machine.specs.Run.{first_state, machine_after, zc_turns}
 use Rattle.zc_machine.proofs.TurnLaws.{zc_turns-add}
 use Rattle.zc_link.specs.Image.{Image, loaded_core}
 use Rattle.zc_link.specs.Links.{Simulates}
-use Rattle.zc_link.specs.Preserves.{Follows, FollowsUnder, Preserves, PreservesQuietly}
+use Rattle.zc_link.specs.Preserves.{Follows, FollowsAlways, Preserves}
 use Rattle.zc_link.specs.Pace.{lead_from, lead_of, Pace, pace_of}
 use Rattle.zc_link.specs.IsSimulation.{IsSimulation}
 use Rattle.zc_link.specs.Sound.{IsNamed, Sound, Together}
@@ -139,8 +138,8 @@ module _ (p : Program) (Named : Place → Type 0) (e : Image) (pace : Pace) (law
   all_steps zero (suc n) r r' within h = absurd (omega (arith, within))
   all_steps (suc fuel) (suc n) r r' within h = some_steps (suc n) r r' (omega arith) h (λ k r1 lt g. all_steps fuel k r1 r' (omega (arith, lt, within)) g)
 
-  pub follows : FollowsUnder IsPlan p e
-  unfolding program_after zc_after
+  pub follows : FollowsAlways p e
+  unfolding program_after machine_after
   follows input n s bytes h =
       let lead = lead_of p e in
       let short : lead ≤ 3 = lead_few (e.address p.entry) e.entry in
@@ -167,13 +166,3 @@ preserves L elf steps =
       read = steps.read;
       follows = follows (program_of inputs) (IsNamed inputs) steps.image (pace_of (program_of inputs) (stretch_in L)) steps.simulates;
     }
-
--- what holds under every plan holds without interrupts
-pub quietly : (inputs : Inputs) (elf : List ℕ) → Preserves inputs elf → PreservesQuietly inputs elf
-quietly inputs elf under_all = record {
-  image = under_all.image;
-  read = under_all.read;
-  follows = λ input n s bytes h.
-      let under = under_all.follows input n s bytes h in
-      (under.0, under.1, λ plan none. under.2 plan (subst IsPlan (sym none) (All-nil _)));
-}

@@ -2,7 +2,7 @@
 use Rattle.std.proofs.Common.{◌≡◌, ℕ, ◌+◌, ◌*◌, ◌<◌, ◌≤◌, List, [], ◌∷◌, ◌++◌, map, length, max, ◌⊎◌, inl, inr, Option, Bool, true, false, cond, nat_lt, refl, ap, ◌∙◌, arith, length-append, eqb}
 use Rattle.std.specs.Prelude.{All, Some, None}
 use Rattle.std.specs.List.{flat_map, list_any, sum_by}
-use Rattle.std.specs.Option.{option_map, option_to_list}
+use Rattle.std.specs.Option.{is_some, option_map, option_to_list}
 use Rattle.std.proofs.lemmas.Bool.{and_from, eq-eqb, le-ltb, lt-ltb, ltb-false, or_from, or_right}
 use Rattle.std.proofs.lemmas.List.{length-map}
 use Rattle.std.proofs.lemmas.List.Elements.{All-append, All-cons, All-head, All-nil, All-tail, All-weaker}
@@ -32,7 +32,7 @@ use Rattle.block_cut.specs.Whole.{IsWhole}
 use Rattle.zc_link.specs.ImageParts.{listed_places, with_address}
 use Rattle.zc_link.specs.LaidOut.{IsLaidOut}
 use Rattle.zc_link.specs.TextLayout.{TextLayout}
-use Rattle.zc_link.proofs.Lookup.{address_target, target_there}
+use Rattle.zc_link.proofs.Lookup.{target_there}
 use Rattle.zc_link.proofs.SectionOrder.{IsBefore, IsRising, before_places, sections_rising}
 
 -- ---- how many
@@ -240,7 +240,7 @@ module _ (L : TextLayout) (none : gather_fault L.inputs ≡ None) (map : IsMap L
   -- a place in the list has numbers that fit in its fields
   place_entry : (q : Place) (a : ℕ) → A q ≡ Some a → IsEntry (q, a)
   place_entry q a at =
-      let is = target_there p.objects q (address_target p A laid.listed q a at) in
+      let is = target_there p.objects q (laid.only q (ap is_some at)) in
       let two = code_is_section p.objects q is.section is.code in
       let whole = code_whole L.inputs q is.section none is.code in
       let of = section_of L.inputs q.object q.section is.section two.0 in

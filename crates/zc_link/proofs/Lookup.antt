@@ -1,4 +1,4 @@
--- The addresses that an image lists are those of the layout: a place has one if an item starts there or a section ends there.
+-- The addresses that an image lists are those of the layout: a place has one only if an item starts there or a section ends there.
 use Rattle.std.proofs.Common.{◌≡◌, ℕ, List, [], ◌∷◌, ◌++◌, map, length, Option, Some, None, Bool, true, false, cond, eqb, refl, sym, ap, ◌∙◌, subst, inl, inr, ◌⊎◌}
 use Rattle.std.specs.Prelude.{All, ◌||◌}
 use Rattle.std.specs.List.{flat_map, list_any}
@@ -9,7 +9,7 @@ use Rattle.std.proofs.lemmas.List.Folds.{list_any-append}
 use Rattle.zc_base.specs.Places.{same_place}
 use Rattle.zc_base.specs.declared.place.Place.{Place}
 use Rattle.elf32_read.specs.Parts.{ObjectParts, SectionParts}
-use Rattle.psabi_sym.specs.Inputs.{ParsedInputs, parsed}
+use Rattle.psabi_sym.specs.Inputs.{parsed}
 use Rattle.psabi_sym.specs.Indexed.{sections_before}
 use Rattle.block_cut.specs.Items.{all_targets, code_at, is_target_at, place_of, starts_in, starts_on, targets_of}
 use Rattle.block_cut.proofs.ListedLaws.{cut_at, listed}
@@ -109,14 +109,8 @@ target_among objects q is =
     either s (inl start) = or_left (list_any (λ m. eqb m q.offset) (starts_in s)) _ start
     either s (inr end) = or_right (list_any (λ m. eqb m q.offset) (starts_in s)) _ (or_left (eqb (length s.bytes) q.offset) false (eq-eqb (length s.bytes) q.offset (sym end)))
 
--- if these places and no others have addresses
-module _ (p : ParsedInputs) (A : Place → Option ℕ) (lists : (q : Place) → is_some (A q) ≡ is_target_at p.objects q) where
-  -- a place with an address is such a place
-  pub address_target : (q : Place) (a : ℕ) → A q ≡ Some a → is_target_at p.objects q ≡ true
-  address_target q a is = sym (lists q) ∙ ap is_some is
-
--- then an image lists these addresses
-module _ (L : TextLayout) (lists : (q : Place) → is_some (L.address q) ≡ is_target_at (parsed L.inputs).objects q) where
+-- if no other places have addresses, an image lists these addresses
+module _ (L : TextLayout) (only : (q : Place) → is_some (L.address q) ≡ true → is_target_at (parsed L.inputs).objects q ≡ true) where
   pub listed_placed : All (λ e. L.address e.0 ≡ Some e.1) (listed_places L)
   unfolding listed_places
   listed_placed = entries_placed L (all_targets (parsed L.inputs).objects)
@@ -129,6 +123,6 @@ module _ (L : TextLayout) (lists : (q : Place) → is_some (L.address q) ≡ is_
       by o is (Some b) found = found ∙ sym (found_holds (λ e. L.address e.0 ≡ Some e.1) (listed_places L) q b listed_placed found)
       by None is None found = found ∙ sym is
       by (Some a) is None found =
-          let among = target_among (parsed L.inputs).objects q (address_target (parsed L.inputs) L.address lists q a is) in
+          let among = target_among (parsed L.inputs).objects q (only q (ap is_some is)) in
           let other = among_found L (all_targets (parsed L.inputs).objects) q a is among in
           absurd (cc (found, other.1))

@@ -1,5 +1,6 @@
--- On both ways, from a sound pair and from the loaded image, an instruction that is no push or pop stands at pc as long as commits
--- are left: a stretch of several commits has none that looks at memory, and one of one commit has one that the program goes on from.
+-- On both ways, from a sound pair and from the loaded image, it is known what stands at pc as long as commits are left: of a group one of
+-- its instructions, and else none that is a push or a pop. A stretch of several commits that is no group has none that looks at memory,
+-- and one of one commit has one that the program goes on from.
 use Rattle.std.proofs.Common.{◌≡◌, ℕ, zero, suc, ◌<◌, List, [], ◌∷◌, Option, Some, None, Ok, refl, sym, ap, ◌∙◌, subst, inr, ⊎_elim, arith}
 use Rattle.std.specs.Prelude.{◌⊎◌}
 use Rattle.std.proofs.lemmas.Bool.{cases_lt}
@@ -22,12 +23,14 @@ use Rattle.sym_machine.proofs.RunLaws.{stepped}
 use Rattle.zc_decode.specs.declared.short.Short.TheVariants.{Base}
 use Rattle.zc_link.specs.Image.{Image}
 use Rattle.zc_link.specs.Laid.{Laid}
-use Rattle.zc_link.specs.Pace.{AlignOf, Alone, CallOf, LongOf, Stretch, commits_of, pace_of, span_of}
+use Rattle.zc_link.specs.Pace.{AlignOf, Alone, CallOf, GroupOf, LongOf, Stretch, commits_of, pace_of, span_of}
 use Rattle.zc_link.specs.Stretches.{ItemLaid, LongLaid, OneAt, StretchLaid}
 use Rattle.zc_link.specs.DataApart.{Cuts, FromLoad, FromPair, OnWay, Pokes, Starts, Turns, all_poked, poked_plain}
 use Rattle.zc_link.specs.Sound.{Alike}
 use Rattle.zc_link.proofs.AtBase.{AtBase, one_base}
 use Rattle.zc_link.proofs.Bare.{Bares, OnBare, bares_base, nops_bare, two_bare}
+use Rattle.zc_link.proofs.GroupFrom.{group_from}
+use Rattle.zc_link.proofs.GroupWay.{OnGroup}
 use Rattle.zc_link.proofs.Longs.{goes_over, known_taken}
 use Rattle.zc_link.proofs.Start.{no_lead}
 
@@ -51,6 +54,14 @@ item_base p q next s (Some (Word t)) laid goes = absurd cc
 item_base p q next s (Some (Raw word)) laid goes = absurd cc
 item_base p q next s (Some (RawPair first second)) laid goes = absurd cc
 
+-- a stretch that is no group
+abbrev pub IsNoGroup : Stretch → Type 0
+IsNoGroup Alone = Unit {0}
+IsNoGroup (AlignOf count) = Unit {0}
+IsNoGroup CallOf = Unit {0}
+IsNoGroup (LongOf op first second) = Unit {0}
+IsNoGroup (GroupOf items commits) = ⊥
+
 -- cells of data that are written leave the program where it is
 poked_place : (cells : List (ℕ × ℕ)) (r : PlainState) → (all_poked cells r).core.place ≡ r.core.place
 poked_place [] r = refl
@@ -72,15 +83,16 @@ module _ {p : Program} {Named : Place → Type 0} {e : Image} {stretch : Place �
       subst (λ n. Bares e n y.regs y.pc) (sym taken.commits)
       (two_bare e y.regs y.pc (instr.Branch long.other first second long.over) (Jal 0 long.distance) tt (goes_over s y laid.room al long taken.is) tt long.at)
 
-  -- a stretch of several instructions has none that looks at memory
+  -- a stretch of several instructions has none that looks at memory, if it is no group
   stretch_bare :
-      (s : PlainCore) (y : ZcCore) (x : Stretch) → Alike p Named e s y → StretchLaid p e s.place y.pc x → (1 < span_of x) ⊎ (1 < commits_of p s x)
+      (s : PlainCore) (y : ZcCore) (x : Stretch) → IsNoGroup x → Alike p Named e s y → StretchLaid p e s.place y.pc x → (1 < span_of x) ⊎ (1 < commits_of p s x)
       → Bares e (commits_of p s x) y.regs y.pc
-  stretch_bare s y Alone al item more = ⊎_elim (λ steps. absurd (omega (arith, steps))) (λ commits. absurd (omega (arith, commits))) more
-  stretch_bare s y (AlignOf count) al align more = nops_bare e count y.regs y.pc align.end align.nops
-  stretch_bare s y CallOf al call more = two_bare e y.regs y.pc (Upper Auipc call.temp call.upper) (Jalr call.rd call.temp call.lower) tt tt tt call.at
-  stretch_bare s y (LongOf op first second) al long more =
+  stretch_bare s y Alone other al item more = ⊎_elim (λ steps. absurd (omega (arith, steps))) (λ commits. absurd (omega (arith, commits))) more
+  stretch_bare s y (AlignOf count) other al align more = nops_bare e count y.regs y.pc align.end align.nops
+  stretch_bare s y CallOf other al call more = two_bare e y.regs y.pc (Upper Auipc call.temp call.upper) (Jalr call.rd call.temp call.lower) tt tt tt call.at
+  stretch_bare s y (LongOf op first second) other al long more =
       ⊎_elim (λ steps. absurd (omega (arith, steps))) (λ commits. long_bare s y op first second al long commits) more
+  stretch_bare s y (GroupOf items count) other al group more = absurd other
 
   -- ---- from a sound pair
 
@@ -89,42 +101,51 @@ module _ {p : Program} {Named : Place → Type 0} {e : Image} {stretch : Place �
     From = FromPair p Named e (pace_of p stretch) r
 
     pub pair_bare :
-        (1 < span_of (stretch r.core.place)) ⊎ (1 < commits_of p r.core (stretch r.core.place)) → (k : ℕ) (z : ZcState) → From k z → OnBare e k z
-    pair_bare more k z from = record {
+        IsNoGroup (stretch r.core.place) → (1 < span_of (stretch r.core.place)) ⊎ (1 < commits_of p r.core (stretch r.core.place)) → (k : ℕ) (z : ZcState) → From k z → OnBare e k z
+    pair_bare other more k z from = record {
       going = from.sound.alike.going;
       same = record { extents = from.sound.alike.extents; text = from.sound.alike.text };
       bares = subst (λ n. Bares e n z.core.regs z.core.pc) (sym from.commits)
-          (stretch_bare r.core z.core (stretch r.core.place) from.sound.alike (laid.each r.core.place z.core.pc from.sound.place) more);
+          (stretch_bare r.core z.core (stretch r.core.place) other from.sound.alike (laid.each r.core.place z.core.pc from.sound.place) more);
     }
 
-    first_base : (k : ℕ) (z : ZcState) → From k z → 0 < k → (i : Instr) × OneAt e z.core.pc (Base i)
-    first_base k z from some =
-        by (stretch r.core.place) (laid.each r.core.place z.core.pc from.sound.place) from.steps (let same = from.commits in omega (arith, same, some))
+    first_base : IsNoGroup (stretch r.core.place) → (k : ℕ) (z : ZcState) → From k z → 0 < k → (i : Instr) × OneAt e z.core.pc (Base i)
+    first_base other k z from some =
+        by (stretch r.core.place) other (laid.each r.core.place z.core.pc from.sound.place) from.steps (let same = from.commits in omega (arith, same, some))
       where
         by :
-            (x : Stretch) → StretchLaid p e r.core.place z.core.pc x → iterate (plain_turn p) (span_of x) (all_poked from.cells r) ≡ Ok from.after
+            (x : Stretch) → IsNoGroup x → StretchLaid p e r.core.place z.core.pc x → iterate (plain_turn p) (span_of x) (all_poked from.cells r) ≡ Ok from.after
             → 0 < commits_of p r.core x → (i : Instr) × OneAt e z.core.pc (Base i)
-        by Alone item steps more =
+        by Alone single item steps more =
             let r1 = all_poked from.cells r in
             let first = bind_ok (plain_turn p r1) (iterate (plain_turn p) 0) from.after steps in
             let step = stepped p r1 first.0 (poked_exit from.cells r ∙ from.sound.alike.running) first.1 in
             item_base p r.core.place (p.next r1.core.place) r1.core (p.item r.core.place) item
             (ap (λ q. item_does p (p.item q) r1.core (p.next r1.core.place)) (sym (poked_place from.cells r)) ∙ step.does)
-        by (AlignOf zero) align steps more = absurd (omega (arith, more))
-        by (AlignOf (suc count)) align steps more = (_, align.nops.0)
-        by CallOf call steps more = (_, call.at.one)
-        by (LongOf op first second) long steps more = (_, long.at.one)
+        by (AlignOf zero) single align steps more = absurd (omega (arith, more))
+        by (AlignOf (suc count)) single align steps more = (_, align.nops.0)
+        by CallOf single call steps more = (_, call.at.one)
+        by (LongOf op first second) single long steps more = (_, long.at.one)
+        by (GroupOf items commits) single group steps more = absurd single
 
-    pub pair_base : (k : ℕ) (z : ZcState) → OnWay p From (suc k) z → AtBase e z.core
-    pair_base = ⊎_elim
-        (λ more. bares_base laid.room (pair_bare (inr more)))
+    pub pair_base : IsNoGroup (stretch r.core.place) → (k : ℕ) (z : ZcState) → OnWay p From (suc k) z → AtBase e z.core
+    pair_base other = ⊎_elim
+        (λ more. bares_base laid.room (pair_bare other (inr more)))
         (λ few. one_base laid.room (λ k z from. (
           (let same = from.commits in omega (arith, same, few)),
           λ some.
-              let at = first_base k z from some in
+              let at = first_base other k z from some in
               record { text = record { extents = from.sound.alike.extents; text = from.sound.alike.text }; instr = at.0; at = at.1 },
         )))
         (cases_lt 1 (commits_of p r.core (stretch r.core.place)))
+
+    -- a group's instructions stand there, with their accesses in the stack
+    pub pair_group : (items commits : ℕ) → stretch r.core.place ≡ GroupOf items commits → (k : ℕ) (z : ZcState) → From k z → 0 < k → OnGroup laid.room k z.core
+    pair_group items commits is k z from some =
+        let group = subst (StretchLaid p e r.core.place z.core.pc) is (laid.each r.core.place z.core.pc from.sound.place) in
+        let steps = ap (λ x. iterate (plain_turn p) (span_of x) (all_poked from.cells r)) (sym is) ∙ from.steps in
+        subst (λ n. OnGroup laid.room n z.core) (ap (commits_of p r.core) (sym is) ∙ sym from.commits)
+        (group_from laid.room r from.after z from.cells from.sound from.are group steps)
 
   -- ---- from the loaded image
 

@@ -3,7 +3,7 @@
 use Rattle.std.proofs.Common.{◌≡◌, ℕ, suc, ◌+◌, ◌<◌, ◌≤◌, ℤ, pos, negsuc, List, [], ◌∷◌, map, filter, length, max, min, Option, Some, None, Bool, true, false, cond, eqb, ltb, leb, refl, sym, ap, ◌∙◌, arith, inl, inr, ◌⊎◌}
 use Rattle.std.specs.Prelude.{◌&&◌, ◌||◌, not}
 use Rattle.std.specs.List.{find, list_any}
-use Rattle.std.specs.Option.{is_some, option_and_then}
+use Rattle.std.specs.Option.{option_and_then}
 use Rattle.std.proofs.lemmas.Bool.{and_from, and_parts, eq-eqb, eqb-true, leb-true, lt-ltb, ltb-false, or_cases, or_parts}
 use Rattle.zc_base.specs.declared.place.Place.{Place}
 use Rattle.elf32_read.specs.Parts.{SectionParts, is_code_section}
@@ -27,8 +27,10 @@ use Rattle.block_cut.proofs.ListedLaws.{listed}
 use Rattle.block_cut.proofs.PlainLaws.{target_on}
 use Rattle.block_cut.proofs.SoundLaws.{sound_at}
 use Rattle.block_cut.proofs.WholeLaws.{code_is_section}
+use Rattle.zc_link.specs.LaidOut.{ListsLeaders}
 use Rattle.zc_link.specs.Standing.{GoesWith, HasValue}
-use Rattle.zc_link.proofs.Faultless.{good, reloc_good, reloc_value, section_none, target_listed}
+use Rattle.zc_link.proofs.Led.{asks_at, reloc_leader}
+use Rattle.zc_link.proofs.Faultless.{good, leader_listed, reloc_good, reloc_value, section_none}
 
 -- ---- one relocation in a place
 
@@ -140,7 +142,7 @@ pub record IsUpperAt (p : ParsedInputs) (A : Place → Option ℕ) (from : Place
   pub item : item_at p from ≡ Some (PcHi first (target_of p from.object reloc))
   pub has : HasValue A (target_of p from.object reloc)
 
-module _ (inputs : Inputs) (none : first_fault inputs ≡ None) (A : Place → Option ℕ) (targets : (q : Place) → is_some (A q) ≡ is_target_at (parsed inputs).objects q) where
+module _ (inputs : Inputs) (none : first_fault inputs ≡ None) (A : Place → Option ℕ) (leaders : ListsLeaders (parsed inputs) A) where
   abbrev p2 : ParsedInputs
   p2 = parsed inputs
 
@@ -170,7 +172,7 @@ module _ (inputs : Inputs) (none : first_fault inputs ≡ None) (A : Place → O
       let field = sound.field.some in
       let hi = found_upper p2 l n s.relocs r fine marks.1 found.1 (omega arith) (few_there from.object from.section s r n two.0 two.1 found.1) in
       of (instr_in 4 s.bytes n) refl marks.0 r (hi_kind (kind_of r.kind) hi) found.1
-      (reloc_value p2 A targets l r sound.asks (reloc_good inputs none from.object from.section n s r two.0 found.1))
+      (reloc_value p2 A leaders (asks_at p2 from s r at found.1 sound.asks) (reloc_good inputs none from.object from.section n s r two.0 found.1))
     where
       of :
           (d : Option Instr) → instr_in 4 s.bytes from.offset ≡ d → is_auipc d ≡ true → (r : Reloc) → kind_of r.kind ≡ Some kind.PcrelHi20
@@ -207,7 +209,8 @@ module _ (inputs : Inputs) (none : first_fault inputs ≡ None) (A : Place → O
       let inside = leb-true (from.offset + 4) (length s.bytes) (and_parts (leb (from.offset + 4) (length s.bytes)) _ rest.1).0 in
       let start : starts_on s from.offset ≡ true = starts here target inside in
       let upper = upper_at from s here start rest.1 in
-      let address = target_listed p2 A targets from target in
+      let asks = asks_at p2 q s r at is (sound_at s q.offset r two.1 is).asks in
+      let address = leader_listed p2 A leaders from target (reloc_leader p2 from asks leads) in
       record { first = upper.first; to = target_of p2 from.object upper.reloc; names = upper.item; address = address.0; listed = address.1; has = upper.has }
     where
       not_false : (b : Bool) → not b ≡ false → b ≡ true

@@ -24,7 +24,7 @@ use Rattle.block_cut.proofs.WholeLaws.{code_whole}
 use Rattle.sym_machine.specs.Conditions.{is_solid}
 use Rattle.shrink_layout.specs.Halves.{fixed_instr}
 use Rattle.shrink_layout.specs.Units.{CodeUnit, OneItem}
-use Rattle.zc_link.specs.LaidOut.{IsLaidOut, LiesAt, code_end_after, text_end}
+use Rattle.zc_link.specs.LaidOut.{IsLaidOut, LiesAt, ListsLeaders, code_end_after, text_end}
 use Rattle.zc_link.specs.Pace.{bytes_between}
 use Rattle.zc_link.specs.Standing.{HasOwnSize, IsReady}
 use Rattle.zc_link.specs.TextLayout.{TextLayout, behind, plain_layout, size_in}
@@ -66,6 +66,9 @@ module _ (inputs : Inputs) (ready : IsReady inputs) where
   none : gather_fault inputs ≡ None
   none = (all_none inputs ready.faultless).gathered
 
+  leaders : ListsLeaders p A
+  leaders q target leader = plain_listed p q ∙ target
+
   bounds : (q : Place) (a : ℕ) → A q ≡ Some a → AreBounds inputs none a
   bounds q a at = address_bounds inputs none ready.is_map q a at
 
@@ -104,7 +107,7 @@ module _ (inputs : Inputs) (ready : IsReady inputs) where
   lies_item : (q : Place) (a : ℕ) (item : Item) → item_at p q ≡ Some item → A q ≡ Some a → LiesAt L q a (OneItem item)
   lies_item q a item is at =
       by item (size_at p.objects q) is (ap A (behind_is q) ∙ next_address inputs none q item a is at)
-      (item_own inputs none ready A (plain_listed p) q item is)
+      (item_own inputs none ready A leaders q item is)
     where
       by : (i : Item) (own : ℕ) → item_at p q ≡ Some i → A (behind L q) ≡ Some (after_item a own i) → HasOwnSize i own → LiesAt L q a (OneItem i)
       by (Op i) own h next size = record { is = h; size = own; next = next; form = inl size }
@@ -149,7 +152,7 @@ module _ (inputs : Inputs) (ready : IsReady inputs) where
       by None at = absurd (cc (ap (λ o. bytes_between o (A (behind L q))) at, two))
       by (Some a) at =
           of a at item (size_at p.objects q) (ap A (behind_is q) ∙ next_address inputs none q item a is at)
-          (item_own inputs none ready A (plain_listed p) q item is)
+          (item_own inputs none ready A leaders q item is)
 
   -- ---- sections
 
@@ -188,9 +191,10 @@ module _ (inputs : Inputs) (ready : IsReady inputs) where
 
   pub plain_is_laid_out : IsLaidOut L
   plain_is_laid_out =
-      let start = start_listed inputs A ready.faultless (plain_listed p) in
+      let start = start_listed inputs A ready.faultless leaders in
       record {
-        listed = plain_listed p;
+        only = λ q some. sym (plain_listed p q) ∙ some;
+        leaders = leaders;
         written = item_written p A (plain_listed p);
         front = refl;
         entry = start.1 ∙ ap Some (sym (ap (λ o. unwrap_or o inputs.map.text) start.1));

@@ -28,7 +28,7 @@ use Rattle.shrink_layout.proofs.NumberLaws.{item_target, number_below, number_mo
 use Rattle.shrink_layout.proofs.OrderLaws.{number_rises_past}
 use Rattle.shrink_layout.proofs.PlaceAddressLaws.{next_address_there}
 use Rattle.shrink_layout.proofs.PremiseLaws.{all_aligned}
-use Rattle.zc_link.specs.LaidOut.{IsLaidOut, LiesAt, text_end}
+use Rattle.zc_link.specs.LaidOut.{IsLaidOut, LiesAt, ListsLeaders, text_end}
 use Rattle.zc_link.specs.TextLayout.{zc_layout}
 use Rattle.zc_link.proofs.Faultless.{start_listed}
 use Rattle.zc_link.proofs.ItemUnits.{item_behind, item_written}
@@ -168,9 +168,11 @@ pub settled_is_laid_out : (inputs : Inputs) → first_fault inputs ≡ None → 
 settled_is_laid_out inputs none is_map =
     let fine = gathered inputs none in
     let A = settled_address (parsed inputs) in
-    let start = start_listed inputs A none (settled_listed inputs fine is_map) in
+    let leaders : ListsLeaders (parsed inputs) A = λ q target leader. settled_listed inputs fine is_map q ∙ target in
+    let start = start_listed inputs A none leaders in
     record {
-      listed = settled_listed inputs fine is_map;
+      only = λ q some. sym (settled_listed inputs fine is_map q) ∙ some;
+      leaders = leaders;
       written = item_written (parsed inputs) A (settled_listed inputs fine is_map);
       front = refl;
       entry = start.1 ∙ ap Some (sym (ap (λ o. unwrap_or o inputs.map.text) start.1));

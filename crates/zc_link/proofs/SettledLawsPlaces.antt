@@ -23,10 +23,11 @@ use Rattle.shrink_layout.specs.Layout.{IsLayout, addresses_of}
 use Rattle.shrink_layout.specs.Least.{AreForms}
 use Rattle.shrink_layout.specs.Pieces.{piece_count, piece_number_at, pieces_before, pieces_of}
 use Rattle.shrink_layout.specs.Settled.{settled_address, settled_addresses, settled_end, settled_sizes}
+use Rattle.shrink_layout.specs.Units.{is_listed_at}
 use Rattle.shrink_layout.proofs.AddressLaws.{ascending, even_address, first_address, form_at, last_address, layout_forms, next_address}
 use Rattle.shrink_layout.proofs.NumberEnds.{padding_number, padding_number-next, number-end, number-start, start_within}
 use Rattle.shrink_layout.proofs.NumberLaws.{length-pieces_of, number-code, number_most}
-use Rattle.shrink_layout.proofs.PlaceAddressLaws.{address_there}
+use Rattle.shrink_layout.proofs.PlaceAddressLaws.{address_there, listed_target}
 use Rattle.shrink_layout.proofs.SizesLaws.{sizes_layout}
 use Rattle.shrink_layout.proofs.PremiseLaws.{all_aligned, all_even, room_few}
 use Rattle.zc_link.specs.LaidOut.{code_end_after, laid_section_end, text_end}
@@ -95,7 +96,7 @@ module _ (inputs : Inputs) (none : gather_fault inputs ≡ None) (is_map : IsMap
   -- so addresses are given to targets, and to no others
   pub settled_listed : (q : Place) → is_some (A q) ≡ is_target_at objects q
   unfolding settled_address
-  settled_listed q = chosen_some (is_target_at objects q) (slice_index (settled_addresses p) (piece_number_at objects q))
+  settled_listed q = chosen_some (is_listed_at p q) (slice_index (settled_addresses p) (piece_number_at objects q)) ∙ listed_target p q
 
   -- a target has the address of its number
   settled_there :
@@ -109,7 +110,7 @@ module _ (inputs : Inputs) (none : gather_fault inputs ≡ None) (is_map : IsMap
   -- and a place with an address has that of its number
   pub settled_here : (q : Place) (a : ℕ) → A q ≡ Some a → address (piece_number_at objects q) ≡ a
   unfolding settled_address settled_addresses
-  settled_here q a is = chosen (is_target_at objects q) (address (piece_number_at objects q)) a is
+  settled_here q a is = chosen (is_listed_at p q) (address (piece_number_at objects q)) a is
 
   -- nothing stands in front of the first section
   front_none : address 1 ≡ front_end L

@@ -51,6 +51,29 @@ item_few p s n (Word t) short = omega arith
 item_few p s n (Raw word) short = omega arith
 item_few p s n (RawPair first second) short = omega arith
 
+-- and it has an item
+item_some : (n : ℕ) (i : Item) → 0 < span_of (stretch_of n (Some (OneItem i)))
+item_some n (Op i) = omega arith
+item_some n (Hi i t) = omega arith
+item_some n (Lo i t) = omega arith
+item_some n (PcHi i t) = omega arith
+item_some n (PcLo i from) = omega arith
+item_some n (Branch op first second to) = by (eqb n 8)
+  where
+    by : (b : Bool) → 0 < span_of (cond b (LongOf op first second) Alone)
+    by true = omega arith
+    by false = omega arith
+item_some n (Jump rd to) = omega arith
+item_some n (Call rd temp to) = by (eqb n 8)
+  where
+    by : (b : Bool) → 0 < span_of (cond b CallOf Alone)
+    by true = omega arith
+    by false = omega arith
+item_some n (Align bytes) = omega arith
+item_some n (Word t) = omega arith
+item_some n (Raw word) = omega arith
+item_some n (RawPair first second) = omega arith
+
 -- a power of two above a number is 256 at most
 power_most : (n : ℕ) → power_above n ≤ 256
 power_most n = by (ltb n 2) (ltb n 4) (ltb n 8) (ltb n 16) (ltb n 32) (ltb n 64) (ltb n 128)
@@ -94,3 +117,11 @@ module _ (L : TextLayout) (laid : IsLaidOut L) where
       by : (u : Option CodeUnit) → L.unit s.place ≡ u → IsFew p s (stretch_of (size_in L s.place) u)
       by None unit = omega arith
       by (Some (OneItem i)) unit = item_few p s (size_in L s.place) i (λ k is. padding_short s.place k (unit ∙ ap (λ x. Some (OneItem x)) is))
+
+-- and each has an item
+pub some : (L : TextLayout) (q : Place) → 0 < span_of (stretch_in L q)
+some L q = by (L.unit q)
+  where
+    by : (u : Option CodeUnit) → 0 < span_of (stretch_of (size_in L q) u)
+    by None = omega arith
+    by (Some (OneItem i)) = item_some (size_in L q) i

@@ -1,11 +1,11 @@
 -- What is known of each item of inputs without a fault: its bytes, of which it has so many, spell what it is, and what it leads to has an
 -- address.
-use Rattle.std.proofs.Common.{◌≡◌, ℕ, ◌+◌, ℤ, List, Option, Some, None, Bool, true, false, cond, refl, sym, ap, ◌∙◌, subst}
+use Rattle.std.proofs.Common.{◌≡◌, ℕ, ◌+◌, ℤ, Option, Some, None, Bool, true, false, refl, sym, ap, ◌∙◌, subst}
 use Rattle.std.specs.Prelude.{◌&&◌, not}
-use Rattle.std.specs.Option.{is_some, option_and_then, option_map_or}
+use Rattle.std.specs.Option.{option_map_or}
 use Rattle.std.proofs.lemmas.Bool.{eqb-true, or_left, or_right}
 use Rattle.zc_base.specs.declared.place.Place.{Place}
-use Rattle.elf32_read.specs.Parts.{ObjectParts, SectionParts}
+use Rattle.elf32_read.specs.Parts.{SectionParts}
 use Rattle.elf32_read.specs.declared.reloc.Reloc.{Reloc}
 use Rattle.psabi_reloc.specs.Kinds.{field_length, is_auipc, is_call, is_lui, is_store, is_sum, kind_of}
 use Rattle.psabi_reloc.specs.declared.kind.RelocKind.{RelocKind}
@@ -18,7 +18,8 @@ use Rattle.rv_decode.specs.declared.instr.Instr.{Instr}
 use Rattle.rv_decode.specs.declared.instr.Instr.TheVariants as instr
 use Rattle.rv_decode.specs.declared.instr.UpperOp.TheVariants.{Lui, Auipc}
 use Rattle.block_cut.specs.Faults.{first_fault, is_bad_target}
-use Rattle.block_cut.specs.Items.{call_item, code_at, is_target_at, item_at, item_in, item_under, known_item, of_instr, place_away, raw_in, raw_pair, size_at, size_on, spelled_item, target_away, target_of, target_only, to_place, transfer_item}
+use Rattle.block_cut.specs.Items.{call_item, code_at, is_target_at, item_at, item_in, item_under, known_item, of_instr, raw_in, raw_pair, size_at, size_on, spelled_item, target_away, target_of, to_place, transfer_item}
+use Rattle.block_cut.specs.Leaders.{goes_to, is_leader_at}
 use Rattle.block_cut.specs.Relocs.{field_of, fits_at, instr_in, is_bad_kind, is_ignored, is_pcrel_lo, is_transfer, reloc_on}
 use Rattle.block_cut.specs.CodeSizes.{own_size}
 use Rattle.block_cut.specs.declared.item.Item.{Item}
@@ -27,27 +28,18 @@ use Rattle.block_cut.proofs.ListedLaws.{listed}
 use Rattle.block_cut.proofs.PlainLaws.{item_here}
 use Rattle.block_cut.proofs.SoundLaws.{rvc_bad, sound_at}
 use Rattle.block_cut.proofs.WholeLaws.{code_is_section}
+use Rattle.zc_link.specs.LaidOut.{ListsLeaders}
 use Rattle.zc_link.specs.Standing.{GoesWith, HasOwnSize, HasValue, IsReady, ItemStands, SpellsKind, SpellsWay, is_lower}
-use Rattle.zc_link.proofs.Faultless.{all_none, reloc_good, reloc_value, target_listed}
+use Rattle.zc_link.proofs.Faultless.{all_none, leader_listed, reloc_good, reloc_value}
+use Rattle.zc_link.proofs.Led.{asks_at, away_target, item_leader, reloc_leader}
 use Rattle.zc_link.proofs.Pairs.{goes_with}
+use Rattle.zc_link.proofs.PlaceLaws.{same_place-refl}
 
 -- objects without a fault have none between them
 pub gathered : (inputs : Inputs) → first_fault inputs ≡ None → gather_fault inputs ≡ None
 gathered inputs none = (all_none inputs none).gathered
 
--- where a branch or a jump leads, if it is an item of its own
-away_target : (objects : List ObjectParts) (q to : Place) (distance : ℤ) → target_away objects q distance ≡ Some to → is_target_at objects to ≡ true
-away_target objects q to distance = from (place_away q distance)
-  where
-    only : (r : Place) (b : Bool) → is_target_at objects r ≡ b → cond b (Some r) None ≡ Some to → is_target_at objects to ≡ true
-    only r true is h = let same : r ≡ to = cc in ap (is_target_at objects) (sym same) ∙ is
-    only r false is h = absurd cc
-
-    from : (o : Option Place) → option_and_then (target_only objects) o ≡ Some to → is_target_at objects to ≡ true
-    from None h = absurd cc
-    from (Some r) h = only r (is_target_at objects r) refl h
-
-module _ (inputs : Inputs) (none : gather_fault inputs ≡ None) (ready : IsReady inputs) (A : Place → Option ℕ) (targets : (q : Place) → is_some (A q) ≡ is_target_at (parsed inputs).objects q) where
+module _ (inputs : Inputs) (none : gather_fault inputs ≡ None) (ready : IsReady inputs) (A : Place → Option ℕ) (leaders : ListsLeaders (parsed inputs) A) where
   abbrev p : ParsedInputs
   p = parsed inputs
 
@@ -73,34 +65,48 @@ module _ (inputs : Inputs) (none : gather_fault inputs ≡ None) (ready : IsRead
     Stands i = ItemStands A (item_at p) one two i × HasOwnSize i own
 
     -- a branch or a jump to a place
-    way_stands : (i : ℤ → Instr) (distance : ℤ) (to : Place) → one ≡ Some (i distance) → is_target_at p.objects to ≡ true → SpellsWay A one i to
-    way_stands i distance to spells target =
-        let there = target_listed p A targets to target in
+    way_stands :
+        (i : ℤ → Instr) (distance : ℤ) (to : Place) → one ≡ Some (i distance) → is_target_at p.objects to ≡ true → is_leader_at p to ≡ true
+        → SpellsWay A one i to
+    way_stands i distance to spells target leader =
+        let there = leader_listed p A leaders to target leader in
         record { distance = distance; spells = spells; address = there.0; listed = there.1 }
 
+    -- where an item that goes to a place stands here
+    going_leader : (to : Place) (i : Item) → item_at p q ≡ Some i → goes_to to i ≡ true → is_leader_at p to ≡ true
+    going_leader to i is goes = item_leader p q to i is (or_left (goes_to to i) _ goes)
+
     -- an item without a relocation
-    bare : (d : Option Instr) → one ≡ d → own ≡ 4 → Stands (spelled_item p.objects q d raw)
-    bare None e four = (tt, four)
-    bare (Some (instr.Upper op rd imm)) e four = (e, four)
-    bare (Some (instr.Jalr rd base imm)) e four = (e, four)
-    bare (Some (instr.Load op rd base imm)) e four = (e, four)
-    bare (Some (instr.Store op source base imm)) e four = (e, four)
-    bare (Some (instr.WithImm op rd first imm)) e four = (e, four)
-    bare (Some (instr.WithReg op rd left right)) e four = (e, four)
-    bare (Some (instr.Fence rest)) e four = (e, four)
-    bare (Some instr.Ecall) e four = (e, four)
-    bare (Some instr.Ebreak) e four = (e, four)
-    bare (Some (instr.Csrrw rd source)) e four = (tt, four)
-    bare (Some (instr.Jal rd distance)) e four = by (target_away p.objects q distance) refl
+    bare : (d : Option Instr) → one ≡ d → own ≡ 4 → item_at p q ≡ Some (spelled_item p.objects q d raw) → Stands (spelled_item p.objects q d raw)
+    bare None e four is = (tt, four)
+    bare (Some (instr.Upper op rd imm)) e four is = (e, four)
+    bare (Some (instr.Jalr rd base imm)) e four is = (e, four)
+    bare (Some (instr.Load op rd base imm)) e four is = (e, four)
+    bare (Some (instr.Store op source base imm)) e four is = (e, four)
+    bare (Some (instr.WithImm op rd first imm)) e four is = (e, four)
+    bare (Some (instr.WithReg op rd left right)) e four is = (e, four)
+    bare (Some (instr.Fence rest)) e four is = (e, four)
+    bare (Some instr.Ecall) e four is = (e, four)
+    bare (Some instr.Ebreak) e four is = (e, four)
+    bare (Some (instr.Csrrw rd source)) e four is = (tt, four)
+    bare (Some (instr.Jal rd distance)) e four is = by (target_away p.objects q distance) refl is
       where
-        by : (o : Option Place) → target_away p.objects q distance ≡ o → Stands (option_map_or (Jump rd) o raw)
-        by None away = (tt, four)
-        by (Some to) away = (way_stands (instr.Jal rd) distance to e (away_target p.objects q to distance away), four)
-    bare (Some (instr.Branch op left right distance)) e four = by (target_away p.objects q distance) refl
+        by :
+            (o : Option Place) → target_away p.objects q distance ≡ o → item_at p q ≡ Some (option_map_or (Jump rd) o raw)
+            → Stands (option_map_or (Jump rd) o raw)
+        by None away here = (tt, four)
+        by (Some to) away here =
+            let leader = going_leader to (Jump rd to) here (same_place-refl to) in
+            (way_stands (instr.Jal rd) distance to e (away_target p.objects q to distance away) leader, four)
+    bare (Some (instr.Branch op left right distance)) e four is = by (target_away p.objects q distance) refl is
       where
-        by : (o : Option Place) → target_away p.objects q distance ≡ o → Stands (option_map_or (Branch op left right) o raw)
-        by None away = (tt, four)
-        by (Some to) away = (way_stands (instr.Branch op left right) distance to e (away_target p.objects q to distance away), four)
+        by :
+            (o : Option Place) → target_away p.objects q distance ≡ o → item_at p q ≡ Some (option_map_or (Branch op left right) o raw)
+            → Stands (option_map_or (Branch op left right) o raw)
+        by None away here = (tt, four)
+        by (Some to) away here =
+            let leader = going_leader to (Branch op left right to) here (same_place-refl to) in
+            (way_stands (instr.Branch op left right) distance to e (away_target p.objects q to distance away) leader, four)
 
     -- ---- with one
 
@@ -120,29 +126,33 @@ module _ (inputs : Inputs) (none : gather_fault inputs ≡ None) (ready : IsRead
     parted is_kind f (Some i) e four kind each = each i (record { spells = e; kind = kind })
 
     -- a branch or a jump
-    transferred : (i : Instr) (to : Place) → one ≡ Some i → own ≡ 4 → is_target_at p.objects to ≡ true → Stands (transfer_item i raw to)
-    transferred (instr.Branch op left right distance) to e four target = (way_stands (instr.Branch op left right) distance to e target, four)
-    transferred (instr.Jal rd distance) to e four target = (way_stands (instr.Jal rd) distance to e target, four)
-    transferred i to e four target = (tt, four)
+    transferred :
+        (i : Instr) (to : Place) → one ≡ Some i → own ≡ 4 → is_target_at p.objects to ≡ true → is_leader_at p to ≡ true
+        → Stands (transfer_item i raw to)
+    transferred (instr.Branch op left right distance) to e four target leader =
+        (way_stands (instr.Branch op left right) distance to e target leader, four)
+    transferred (instr.Jal rd distance) to e four target leader = (way_stands (instr.Jal rd) distance to e target leader, four)
+    transferred i to e four target leader = (tt, four)
 
     led :
         (d : Option Instr) (t : Target) → one ≡ d → own ≡ 4 → is_bad_target p.objects true t ≡ false
-        → Stands (of_instr d raw (λ i. to_place t (transfer_item i raw) raw))
-    led None t e four lost = (tt, four)
-    led (Some i) (Code to) e four lost = transferred i to e four (target_is (Code to) to true lost refl)
-    led (Some i) (Number k) e four lost = (tt, four)
-    led (Some i) (Absent k) e four lost = (tt, four)
-    led (Some i) Nowhere e four lost = (tt, four)
+        → ((to : Place) → t ≡ Code to → is_leader_at p to ≡ true) → Stands (of_instr d raw (λ i. to_place t (transfer_item i raw) raw))
+    led None t e four lost leads = (tt, four)
+    led (Some i) (Code to) e four lost leads = transferred i to e four (target_is (Code to) to true lost refl) (leads to refl)
+    led (Some i) (Number k) e four lost leads = (tt, four)
+    led (Some i) (Absent k) e four lost leads = (tt, four)
+    led (Some i) Nowhere e four lost leads = (tt, four)
 
     -- a call
     called :
         (d d2 : Option Instr) (t : Target) → one ≡ d → two ≡ d2 → own ≡ 8 → is_call d d2 ≡ true → is_bad_target p.objects true t ≡ false
+        → ((to : Place) → t ≡ Code to → is_leader_at p to ≡ true)
         → Stands (to_place t (call_item d d2 (raw_pair s.bytes n)) (raw_pair s.bytes n))
-    called d d2 (Number k) e e2 eight kind lost = (tt, eight)
-    called d d2 (Absent k) e e2 eight kind lost = (tt, eight)
-    called d d2 Nowhere e e2 eight kind lost = (tt, eight)
-    called (Some (instr.Upper Auipc temp upper)) (Some (instr.Jalr rd base lower)) (Code to) e e2 eight kind lost =
-        let there = target_listed p A targets to (target_is (Code to) to true lost refl) in
+    called d d2 (Number k) e e2 eight kind lost leads = (tt, eight)
+    called d d2 (Absent k) e e2 eight kind lost leads = (tt, eight)
+    called d d2 Nowhere e e2 eight kind lost leads = (tt, eight)
+    called (Some (instr.Upper Auipc temp upper)) (Some (instr.Jalr rd base lower)) (Code to) e e2 eight kind lost leads =
+        let there = leader_listed p A leaders to (target_is (Code to) to true lost refl) (leads to refl) in
         let same : base ≡ temp = eqb-true base temp kind in (
           record {
             upper = upper;
@@ -154,8 +164,8 @@ module _ (inputs : Inputs) (none : gather_fault inputs ≡ None) (ready : IsRead
           },
           eight,
         )
-    called (Some (instr.Upper Lui temp upper)) d2 (Code to) e e2 eight kind lost = absurd cc
-    called d d2 (Code to) e e2 eight kind lost = (tt, eight)
+    called (Some (instr.Upper Lui temp upper)) d2 (Code to) e e2 eight kind lost leads = absurd cc
+    called d d2 (Code to) e e2 eight kind lost leads = (tt, eight)
 
     -- the lower part of a way
     lowered :
@@ -176,7 +186,8 @@ module _ (inputs : Inputs) (none : gather_fault inputs ≡ None) (ready : IsRead
 
     module _
         (r : Reloc) (on : reloc_on s n ≡ Some r)
-        (has : is_ignored (kind_of r.kind) ≡ false → HasValue A (target_of p q.object r)) where
+        (has : is_ignored (kind_of r.kind) ≡ false → HasValue A (target_of p q.object r))
+        (leads : (to : Place) → target_of p q.object r ≡ Code to → is_leader_at p to ≡ true) where
       abbrev t : Target
       t = target_of p q.object r
 
@@ -184,8 +195,8 @@ module _ (inputs : Inputs) (none : gather_fault inputs ≡ None) (ready : IsRead
       paired :
           (k : Option RelocKind) → kind_of r.kind ≡ k → is_pcrel_lo k ≡ true → is_bad_target p.objects false t ≡ false
           → (from : Place) → t ≡ Code from → GoesWith A (item_at p) from
-      paired k is lo lost from leads =
-          goes_with inputs ready.faultless A targets q from s r at on (ap is_pcrel_lo is ∙ lo) leads (target_is t from false lost leads)
+      paired k is lo lost from named =
+          goes_with inputs ready.faultless A leaders q from s r at on (ap is_pcrel_lo is ∙ lo) named (target_is t from false lost named)
 
       -- by the relocation's kind
       by_kind :
@@ -194,9 +205,9 @@ module _ (inputs : Inputs) (none : gather_fault inputs ≡ None) (ready : IsRead
       by_kind None is size asks known fits lost = absurd cc
       by_kind (Some kind.Ignored) is size asks known fits lost = absurd cc
       by_kind (Some kind.Word) is size asks known fits lost = (has (ap is_ignored is), size)
-      by_kind (Some kind.Branch) is size asks known fits lost = led one t refl size lost
-      by_kind (Some kind.Jal) is size asks known fits lost = led one t refl size lost
-      by_kind (Some kind.Call) is size asks known fits lost = called one two t refl refl size fits lost
+      by_kind (Some kind.Branch) is size asks known fits lost = led one t refl size lost leads
+      by_kind (Some kind.Jal) is size asks known fits lost = led one t refl size lost leads
+      by_kind (Some kind.Call) is size asks known fits lost = called one two t refl refl size fits lost leads
       by_kind (Some kind.PcrelHi20) is size asks known fits lost =
           parted is_auipc (λ i. PcHi i t) one refl size fits (λ i spells. ((spells, has (ap is_ignored is)), size))
       by_kind (Some kind.PcrelLo12I) is size asks known fits lost =
@@ -220,11 +231,15 @@ module _ (inputs : Inputs) (none : gather_fault inputs ≡ None) (ready : IsRead
     item_stands item is =
         let here = item_here inputs none q item is in
         let same : here.section ≡ s = cc (sym here.code ∙ at) in
-        subst Stands (ap (λ t. item_in p t q) (sym same) ∙ here.item) (by (reloc_on s n) refl)
+        let own_item = ap (λ t. item_in p t q) (sym same) ∙ here.item in
+        subst Stands own_item (by (reloc_on s n) refl (is ∙ ap Some (sym own_item)))
       where
-        by : (o : Option Reloc) → reloc_on s n ≡ o → Stands (item_under p q o own s.bytes)
-        by None on = bare one refl (ap (λ o. option_map_or field_of o (own_size s.compressed s.bytes n)) on)
-        by (Some r) on =
+        by :
+            (o : Option Reloc) → reloc_on s n ≡ o → item_at p q ≡ Some (item_under p q (reloc_on s n) own s.bytes)
+            → Stands (item_under p q o own s.bytes)
+        by None on there =
+            bare one refl (ap (λ o. option_map_or field_of o (own_size s.compressed s.bytes n)) on) (there ∙ ap (λ o. Some (item_under p q o own s.bytes)) on)
+        by (Some r) on there =
             let section = code_is_section p.objects q s at in
             let sound = sound_at s n r section.1 on in
             let fine = reloc_good inputs ready.faultless q.object q.section n s r section.0 on in
@@ -232,7 +247,8 @@ module _ (inputs : Inputs) (none : gather_fault inputs ≡ None) (ready : IsRead
             let t = target_of p q.object r in
             let lost : is_bad_target p.objects transfers t ≡ false =
             ap (λ b. not b && is_bad_target p.objects transfers t) (sym sound.asks) ∙ fine.leads in
-            by_kind r on (λ asks. reloc_value p A targets (listed q.object q.section s) r asks fine) (kind_of r.kind) refl
+            let asks = asks_at p q s r at on sound.asks in
+            by_kind r on (λ _. reloc_value p A leaders asks fine) (λ to. reloc_leader p to asks) (kind_of r.kind) refl
             (ap (λ o. option_map_or field_of o (own_size s.compressed s.bytes n)) on) sound.asks sound.known sound.fits lost
 
   -- the bytes that an item has in its object

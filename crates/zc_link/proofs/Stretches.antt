@@ -1,5 +1,5 @@
 -- A stretch's law is its step: from a sound pair the steps of its items are its commits, whatever interrupts come before them.
-use Rattle.std.proofs.Common.{◌≡◌, ℕ, ◌<◌, List, Ok, refl, ap, ◌∙◌, arith}
+use Rattle.std.proofs.Common.{◌≡◌, ℕ, ◌<◌, List, None, Ok, refl, ap, ◌∙◌, arith}
 use Rattle.zc_base.specs.declared.place.Place.{Place}
 use Rattle.interrupt_plan.specs.Plan.{AreInterrupts, Interrupt}
 use Rattle.rv_decode.specs.Run.{iterate}
@@ -11,24 +11,18 @@ use Rattle.sym_machine.specs.Run.{plain_turn}
 use Rattle.sym_machine.specs.State.{PlainState}
 use Rattle.zc_link.specs.Image.{Image}
 use Rattle.zc_link.specs.Leads.{Leads}
-use Rattle.zc_link.specs.Pace.{AlignOf, Alone, CallOf, LongOf, Stretch, commits_of, span_of}
+use Rattle.zc_link.specs.Pace.{AlignOf, Alone, CallOf, GroupOf, LongOf, Stretch, commits_of, span_of}
 use Rattle.zc_link.specs.Stretches.{StretchLaid}
 use Rattle.zc_link.specs.Room.{Room}
 use Rattle.zc_link.specs.IsSimulation.{Comes, IsInside}
 use Rattle.zc_link.specs.Sound.{Sound}
 use Rattle.sym_machine.proofs.RunLaws.{stepped}
 use Rattle.zc_link.proofs.Calls.{call_comes}
+use Rattle.zc_link.proofs.GroupsCome.{group_comes, group_inside}
 use Rattle.zc_link.proofs.Items.{item_comes}
 use Rattle.zc_link.proofs.Longs.{long_comes}
 use Rattle.zc_link.proofs.Padding.{align_comes}
 use Rattle.zc_link.proofs.Singles.{FromSound}
-
--- a stretch has an item
-pub span_some : (x : Stretch) → 0 < span_of x
-span_some Alone = omega arith
-span_some (AlignOf count) = omega arith
-span_some CallOf = omega arith
-span_some (LongOf op first second) = omega arith
 
 -- the step of an item alone
 one_turn : (p : Program) (r r' : PlainState) → iterate (plain_turn p) 1 r ≡ Ok r' → plain_turn p r ≡ Ok r'
@@ -51,11 +45,14 @@ stretch_comes {p} {Named} {e} {r} {r'} {z} x room leads cuts are so same laid h 
     by (AlignOf count) align g = align_comes count room (from g) align
     by CallOf call g = call_comes room (from g) call (leads.next r.core.place (Call call.rd call.temp call.to) call.item refl)
     by (LongOf op first second) long g = long_comes room (from g) long
+    by (GroupOf items commits) group g = group_comes room (record { sound = so; same = same; are = are }) group g
 
--- a stretch of one item has no place inside
+-- a stretch of one item has no place inside, and those inside a group aren't listed
 pub stretch_inside :
-    (p : Program) (e : Image) (r r' : PlainState) (x : Stretch) (k : ℕ) → 0 < k → k < span_of x → IsInside e r r'
-stretch_inside p e r r' Alone k some lt = absurd (omega (arith, some, lt))
-stretch_inside p e r r' (AlignOf count) k some lt = absurd (omega (arith, some, lt))
-stretch_inside p e r r' CallOf k some lt = absurd (omega (arith, some, lt))
-stretch_inside p e r r' (LongOf op first second) k some lt = absurd (omega (arith, some, lt))
+    (p : Program) (e : Image) (a : ℕ) (r r' : PlainState) (x : Stretch) (k : ℕ) → StretchLaid p e r.core.place a x → 0 < k → k < span_of x → r.core.exit ≡ None
+    → iterate (plain_turn p) k r ≡ Ok r' → IsInside e r r'
+stretch_inside p e a r r' Alone k laid some lt running h = absurd (omega (arith, some, lt))
+stretch_inside p e a r r' (AlignOf count) k laid some lt running h = absurd (omega (arith, some, lt))
+stretch_inside p e a r r' CallOf k laid some lt running h = absurd (omega (arith, some, lt))
+stretch_inside p e a r r' (LongOf op first second) k laid some lt running h = absurd (omega (arith, some, lt))
+stretch_inside p e a r r' (GroupOf items commits) k laid some lt running h = group_inside k r r' laid some lt running h

@@ -34,6 +34,8 @@ use Rattle.zc_link.specs.Written.{IsSoFar, IsTextOf}
 use Rattle.zc_link.specs.Pace.{bytes_between}
 use Rattle.zc_link.proofs.Grows.{so_far_end, so_far_item}
 use Rattle.zc_link.proofs.LaidLaws.{unit_is}
+use Rattle.zc_link.proofs.Faultless.{leader_listed}
+use Rattle.zc_link.proofs.Led.{first_leader}
 use Rattle.zc_link.proofs.Standing.{item_own, item_stands}
 
 -- where an item starts, or the section ends
@@ -64,6 +66,11 @@ starts_few s = few (length s.bytes) 0
 -- the sections before the one with a number
 abbrev pub before : TextLayout → ℕ → List IndexedSection
 before L k = take k (all_sections (parsed L.inputs).objects)
+
+-- a number is the address of the place with this number among all, if that has one
+abbrev pub GivesAddress : TextLayout → ℕ → ℕ → ℕ → Type 0
+GivesAddress L k i given =
+    (q : Place) (a : ℕ) → L.address q ≡ Some a → IsPlaceNumber (parsed L.inputs).objects q (record { section = k; index = i }) → given ≡ a
 
 -- after so many places of a section, at the next of them
 pub record Walks (L : TextLayout) (k : ℕ) (l : IndexedSection) (i : ℕ) (text : List ℕ) (places : List (Place × ℕ)) : Type 0 where
@@ -182,9 +189,9 @@ module _
             behind_there = lies.next;
             stands = record {
               is = is;
-              size = item_own L.inputs none ready L.address laid.listed q item is;
+              size = item_own L.inputs none ready L.address laid.leaders q item is;
               within = omega (arith, st.inside, own);
-              stands = (item_stands L.inputs none ready L.address laid.listed q s (there.at n) item is).0;
+              stands = (item_stands L.inputs none ready L.address laid.leaders q s (there.at n) item is).0;
               takes = (λ j. bytes_between (listed j) (lies.next j)) ∙ omega arith;
               even = omega (arith, laid.even q a listed, laid.even (behind L q) (a + lies.size) lies.next);
               form = lies.form;
@@ -335,15 +342,13 @@ module _
       -- and its address ends the item
       module _
           (next : ℕ)
-          (found : (r : Place) → is_target_at p.objects r ≡ true → IsPlaceNumber p.objects r (record { section = k; index = i + 1 }) → Some next ≡ L.address r) where
+          (found : GivesAddress L k (i + 1) next) where
         next_far : next ≡ address + takes.size
         next_far =
             let n = after walks.offset item here_is in
             let target = after_target walks.offset item here_is in
             let number = subst (λ m. IsPlaceNumber p.objects (place_of l n) (record { section = k; index = m })) (sym (after_index walks.offset item here_is i walks.index)) (number_there n target) in
-            let same : Some next ≡ Some (start + length text + takes.size) = found (place_of l n) (target_at n target) number ∙ takes.next in
-            let far : next ≡ start + length text + takes.size = cc in
-            far ∙ ap (λ x. x + takes.size) address_is
+            found (place_of l n) (start + length text + takes.size) takes.next number ∙ ap (λ x. x + takes.size) address_is
 
         pub turn_above : address ≤ next
         turn_above = omega (arith, next_far)
@@ -390,14 +395,13 @@ module _
   pub first_has : HasPlace (parsed L.inputs).objects (record { section = k; index = 0 })
   first_has = has_place L none ready laid k l at code 0 0 first_index first_target
 
-  pub first_address :
-      (begin : ℕ)
-      → ((q : Place) → is_target_at (parsed L.inputs).objects q ≡ true → IsPlaceNumber (parsed L.inputs).objects q (record { section = k; index = 0 }) → Some begin ≡ L.address q)
-      → L.address (place_of l 0) ≡ Some begin
+  pub first_address : (begin : ℕ) → GivesAddress L k 0 begin → L.address (place_of l 0) ≡ Some begin
   first_address begin found =
-      sym (found (place_of l 0) (target_at L none ready laid k l at code 0 first_target)
-      (subst (λ m. IsPlaceNumber (parsed L.inputs).objects (place_of l 0) (record { section = k; index = m })) (sym first_index)
-      (number_there L none ready laid k l at code 0 first_target)))
+      let target = target_at L none ready laid k l at code 0 first_target in
+      let there = leader_listed (parsed L.inputs) L.address laid.leaders (place_of l 0) target (first_leader (parsed L.inputs) (place_of l 0) refl target) in
+      let number = subst (λ m. IsPlaceNumber (parsed L.inputs).objects (place_of l 0) (record { section = k; index = m })) (sym first_index)
+      (number_there L none ready laid k l at code 0 first_target) in
+      there.1 ∙ ap Some (sym (found (place_of l 0) there.0 there.1 number))
 
 -- the place at hand, by the section and the places that were asked for
 pub record AtHand

@@ -24,6 +24,7 @@ pub record Laid (p : Program) (Named : Place → Type 0) (e : Image) (stretch : 
   pub room : Room p e
   pub leads : Leads p Named
   pub begins : Begins p e
+  pub some : (q : Place) → 0 < span_of (stretch q)
   pub few : (s : PlainCore) → commits_of p s (stretch s.place) ≤ 64 * span_of (stretch s.place)
   -- each listed place's stretch is laid at its address
   pub each : (q : Place) (a : ℕ) → e.address q ≡ Some a → StretchLaid p e q a (stretch q)

@@ -14,6 +14,7 @@ use Rattle.rv_decode.specs.declared.instr.Instr.TheVariants as instr
 use Rattle.rv_decode.specs.Bits.{as_signed}
 use Rattle.block_cut.specs.Invariants.Cut.{place_at}
 use Rattle.block_cut.specs.Items.{entry_of, is_start_at, is_target_at, item_at, place_of}
+use Rattle.block_cut.specs.Leaders.{is_leader_at}
 use Rattle.block_cut.specs.declared.item.Item.{Item}
 use Rattle.block_cut.specs.declared.item.Item.TheVariants.{Op, Hi, Lo, PcHi, PcLo, Branch, Jump, Call, Align, Word, Raw, RawPair}
 use Rattle.sym_machine.specs.Conditions.{is_solid}
@@ -91,10 +92,16 @@ code_end_after L sections = fold (laid_section_end L) (front_end L) sections
 abbrev pub text_end : TextLayout → ℕ
 text_end L = code_end_after L (all_sections (parsed L.inputs).objects)
 
+-- each place that begins a basic block has an address, where an item starts or a section of code ends
+abbrev pub ListsLeaders : ParsedInputs → (Place → Option ℕ) → Type 0
+ListsLeaders inputs A = (q : Place) → is_target_at inputs.objects q ≡ true → is_leader_at inputs q ≡ true → is_some (A q) ≡ true
+
 -- what a link needs of a layout
 pub record IsLaidOut (L : TextLayout) : Type 0 where
-  -- of the places where an item starts or a section of code ends, and of no others, there are addresses
-  pub listed : (q : Place) → is_some (L.address q) ≡ is_target_at (parsed L.inputs).objects q
+  -- of places where an item starts or a section of code ends, and of no others, there are addresses: at least of those that begin
+  -- a basic block
+  pub only : (q : Place) → is_some (L.address q) ≡ true → is_target_at (parsed L.inputs).objects q ≡ true
+  pub leaders : ListsLeaders (parsed L.inputs) L.address
   -- where an item starts at a place with an address, something is written, and nowhere else
   pub written : (q : Place) → is_some (L.unit q) ≡ (is_some (L.address q) && is_start_at (parsed L.inputs).objects q)
   -- nothing stands in front of the first section, and the image starts where the program does

@@ -10,6 +10,7 @@ pub mod IsSimulation
 pub mod Preserves
 pub mod Leads
 pub mod Room
+pub mod Groups
 pub mod Stretches
 pub mod Laid
 pub mod Copied

@@ -16,7 +16,7 @@ use Rattle.zc_link.specs.Copied.{Copied}
 use Rattle.zc_link.specs.Image.{Image, image_in}
 use Rattle.zc_link.specs.ImageParts.{listed_places, parts_of}
 use Rattle.zc_link.specs.Pace.{pace_of}
-use Rattle.zc_link.specs.Preserves.{Preserves, PreservesQuietly}
+use Rattle.zc_link.specs.Preserves.{Preserves}
 use Rattle.zc_link.specs.IsSimulation.{IsSimulation}
 use Rattle.zc_link.specs.Sound.{IsNamed}
 use Rattle.zc_link.specs.TextLayout.{TextLayout, plain_layout, stretch_in, zc_layout}
@@ -55,12 +55,11 @@ pub record Simulates (L : TextLayout) (elf : List ℕ) : Type 0 where
       (pace_of (program_of (parsed L.inputs)) (stretch_in L))
 
 -- an image of the inputs in a layout, whose text ends at an address: it has the parts laid out for the objects; it does what the
--- objects' program does, under every plan of interrupts and without one, step by step; what it copies is the objects'; it lists the
--- places that have an address, in both layouts those where an item starts or a section of code ends; and its text ends there
+-- objects' program does, under every plan of interrupts, step by step; what it copies is the objects'; it lists the places that
+-- have an address, in both layouts those where an item starts or a section of code ends; and its text ends there
 pub record IsImageOf (L : TextLayout) (flags end : ℕ) (elf : List ℕ) : Type 0 where
   pub parts : HasParts L flags elf
   pub preserves : Preserves L.inputs elf
-  pub quietly : PreservesQuietly L.inputs elf
   pub simulates : Simulates L elf
   pub copied : Copied (parsed L.inputs) elf
   pub places : place_list elf ≡ listed_places L

@@ -16,12 +16,14 @@ pub record Pace : Type 0 where
 
 -- ---- stretches
 
--- what starts at a place: an item that is one instruction; an ALIGN of so many; a call of two; or a branch of two
+-- what starts at a place: an item that is one instruction; an ALIGN of so many; a call of two; a branch of two; or a group of so
+-- many items in so many instructions
 pub data Stretch : Type 0 where
   Alone : Stretch
   AlignOf : (count : ℕ) → Stretch
   CallOf : Stretch
   LongOf : (op : BranchOp) → (first second : ℕ) → Stretch
+  GroupOf : (items commits : ℕ) → Stretch
 
 -- its number of items
 abbrev pub span_of : Stretch → ℕ
@@ -29,6 +31,7 @@ span_of Alone = 1
 span_of (AlignOf count) = 1
 span_of CallOf = 1
 span_of (LongOf op first second) = 1
+span_of (GroupOf items commits) = items
 
 -- a branch of two instructions takes both if it is taken, and else goes over the second
 abbrev pub long_commits : Option Bool → ℕ
@@ -42,6 +45,7 @@ commits_of p s Alone = 1
 commits_of p s (AlignOf count) = count
 commits_of p s CallOf = 2
 commits_of p s (LongOf op first second) = long_commits (condition p op (reg_of s first) (reg_of s second))
+commits_of p s (GroupOf items commits) = commits
 
 -- the pace of an image in which these stretches start at places
 abbrev pub pace_of : Program → (Place → Stretch) → Pace

@@ -1,5 +1,5 @@
 -- The image does what the program does: said of the two as records, and of the files of the objects and of the image.
-use Rattle.std.specs.Prelude.{◌≡◌, ℕ, ◌+◌, ◌*◌, ◌<◌, ◌≤◌, ◌⊎◌, List, [], All, IsSome, Some, Ok}
+use Rattle.std.specs.Prelude.{◌≡◌, ℕ, ◌+◌, ◌*◌, ◌<◌, ◌≤◌, ◌⊎◌, List, All, IsSome, Some, Ok}
 use Rattle.interrupt_plan.specs.Plan.{Entry, IsPlan}
 use Rattle.rv_decode.specs.State.{ZcState}
 use Rattle.psabi_sym.specs.Inputs.{Inputs, parsed}
@@ -18,29 +18,17 @@ pub record Follows (p : Program) (e : Image) (s : PlainState) (z : ZcState) : Ty
   pub stands : IsSome (e.address s.core.place) ⊎ IsSome s.core.exit → Stands p e.address s.core z
 
 -- for each input, and for each number n of steps that the program makes without getting stuck, there is a number of
--- commits, the same for all these plans, after which the image follows the program
-abbrev pub FollowsUnder : (List Entry → Type 0) → Program → Image → Type 0
-FollowsUnder Allowed p e =
+-- commits, the same for all plans, after which the image follows the program
+abbrev pub FollowsAlways : Program → Image → Type 0
+FollowsAlways p e =
     (input : List ℕ) (n : ℕ) (s : PlainState) → All (λ b. b < 256) input → program_after p input n ≡ Ok s →
     (m : ℕ) × (m ≤ 64 * n + 3)
-    × ((plan : List Entry) → Allowed plan → (z : ZcState) × (zc_after (loaded_core e) input plan m ≡ Ok z) × Follows p e s z)
-
--- a plan without interrupts
-abbrev pub IsQuiet : List Entry → Type 0
-IsQuiet plan = plan ≡ []
+    × ((plan : List Entry) → IsPlan plan → (z : ZcState) × (zc_after (loaded_core e) input plan m ≡ Ok z) × Follows p e s z)
 
 -- ---- files
 
--- the file is an image without a fault, and under these plans it does what the objects' program does
-pub record PreservesUnder (Allowed : List Entry → Type 0) (inputs : Inputs) (elf : List ℕ) : Type 0 where
+-- the file is an image without a fault, and under every plan of interrupts it does what the objects' program does
+pub record Preserves (inputs : Inputs) (elf : List ℕ) : Type 0 where
   pub image : Image
   pub read : image_in elf inputs.map ≡ Some image
-  pub follows : FollowsUnder Allowed (program_of (parsed inputs)) image
-
--- under every plan of interrupts
-abbrev pub Preserves : Inputs → List ℕ → Type 0
-Preserves inputs elf = PreservesUnder IsPlan inputs elf
-
--- without interrupts
-abbrev pub PreservesQuietly : Inputs → List ℕ → Type 0
-PreservesQuietly inputs elf = PreservesUnder IsQuiet inputs elf
+  pub follows : FollowsAlways (program_of (parsed inputs)) image

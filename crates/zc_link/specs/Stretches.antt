@@ -1,5 +1,5 @@
 -- What is laid for what starts at a listed place: its instructions stand at the place's address.
-use Rattle.std.specs.Prelude.{◌≡◌, ℕ, zero, suc, ℤ, pos, ◌+◌, ◌*◌, ◌/◌, ◌%◌, ◌^◌, ◌<◌, Option, Some, None}
+use Rattle.std.specs.Prelude.{◌≡◌, ℕ, zero, suc, ℤ, pos, ◌+◌, ◌*◌, ◌/◌, ◌%◌, ◌^◌, ◌<◌, ◌⊎◌, List, [], ◌∷◌, length, Option, Some, None}
 use Rattle.zc_base.specs.declared.place.Place.{Place}
 use Rattle.rv_decode.specs.declared.instr.Instr.{Instr}
 use Rattle.rv_decode.specs.declared.instr.Instr.TheVariants as instr
@@ -19,10 +19,11 @@ use Rattle.sym_machine.specs.AddressParts.{pc_target}
 use Rattle.sym_machine.specs.Program.{Program}
 use Rattle.zca_zcb_pass.specs.Forms.{IsOpposite}
 use Rattle.zc_decode.specs.declared.short.Short.{Short}
-use Rattle.zc_decode.specs.declared.short.Short.TheVariants.{Base}
+use Rattle.zc_decode.specs.declared.short.Short.TheVariants.{Base, MoveAs, MoveSa, Push}
 use Rattle.zc_machine.specs.Fetch.{Found, fetched_at}
+use Rattle.zc_link.specs.Groups.{Ending, GroupKind, IsGroup, MovesFromSaved, MovesToSaved, PopOf, PushOf, adjust_of, group_commits, group_ops, lower_sp, pop_kind, raise_sp, rest_of}
 use Rattle.zc_link.specs.Image.{Image, loaded_core}
-use Rattle.zc_link.specs.Pace.{Stretch, Alone, AlignOf, CallOf, LongOf}
+use Rattle.zc_link.specs.Pace.{Stretch, Alone, AlignOf, CallOf, GroupOf, LongOf}
 use Rattle.zc_link.specs.Values.{target_value, way}
 
 -- ---- instructions
@@ -147,6 +148,64 @@ pub record LongLaid (p : Program) (e : Image) (q : Place) (a : ℕ) (op : Branch
   pub reaches : e.address to ≡ Some (add32 (a + at.one.size) distance)
   pub next : e.address (p.next q) ≡ Some (a + at.one.size + at.two.size)
 
+-- ---- groups
+
+-- the place so many items on
+abbrev pub place_on : Program → Place → ℕ → Place
+place_on p q zero = q
+place_on p q (suc k) = place_on p (p.next q) k
+
+-- from a place on the items are these instructions, without relocation
+abbrev pub AreOps : Program → Place → List Instr → Type 0
+AreOps p q [] = Unit {0}
+AreOps p q (i ∷ is) = (p.item q ≡ Some (Op i)) × AreOps p (p.next q) is
+
+-- an instruction stands at an address, or one with the same effect
+pub record FormAt (e : Image) (a : ℕ) (i : Instr) : Type 0 where
+  pub here : Instr
+  pub same : SameEffect here i
+  pub at : OneAt e a (Base here)
+
+-- from an address to another stands what moves sp by the rest of a frame, if there is a rest
+abbrev pub RestAt : Image → ℕ → ℕ → Instr → ℕ → Type 0
+RestAt e a rest i end = ((rest ≡ 0) × (end ≡ a)) ⊎ ((0 < rest) × (form : FormAt e a i) × (end ≡ a + form.at.size))
+
+-- a push stands there: a halfword, and then the rest of its frame
+pub record PushAt (e : Image) (a list frame end : ℕ) : Type 0 where
+  pub half : OneAt e a (Push list (adjust_of list frame))
+  pub rest : RestAt e (a + half.size) (rest_of list frame) (lower_sp (rest_of list frame)) end
+
+-- a pop stands there: the rest of its frame, and then a halfword
+pub record PopAt (e : Image) (a : ℕ) (ending : Ending) (list frame end : ℕ) : Type 0 where
+  pub middle : ℕ
+  pub rest : RestAt e a (rest_of list frame) (raise_sp (rest_of list frame)) middle
+  pub half : OneAt e middle (pop_kind ending list (adjust_of list frame))
+  pub ends : end ≡ middle + half.size
+
+-- one halfword stands there
+pub record HalfAt (e : Image) (a : ℕ) (short : Short) (end : ℕ) : Type 0 where
+  pub half : OneAt e a short
+  pub ends : end ≡ a + half.size
+
+-- a group stands there
+abbrev pub GroupAt : Image → ℕ → GroupKind → ℕ → Type 0
+GroupAt e a (PushOf list frame order) end = PushAt e a list frame end
+GroupAt e a (PopOf ending list frame order) end = PopAt e a ending list frame end
+GroupAt e a (MovesToSaved order first second) end = HalfAt e a (MoveSa first second) end
+GroupAt e a (MovesFromSaved order first second) end = HalfAt e a (MoveAs first second) end
+
+-- so many items are a group, which stands in so many instructions; the places inside it aren't listed, and the one behind it is
+pub record GroupLaid (p : Program) (e : Image) (q : Place) (a items commits : ℕ) : Type 0 where
+  pub kind : GroupKind
+  pub is : IsGroup kind
+  pub ops : AreOps p q (group_ops kind)
+  pub items_are : items ≡ length (group_ops kind)
+  pub commits_are : commits ≡ group_commits kind
+  pub end : ℕ
+  pub at : GroupAt e a kind end
+  pub inside : (k : ℕ) → 0 < k → k < items → e.address (place_on p q k) ≡ None
+  pub next : e.address (place_on p q items) ≡ Some end
+
 -- ---- stretches
 
 abbrev pub StretchLaid : Program → Image → Place → ℕ → Stretch → Type 0
@@ -154,3 +213,4 @@ StretchLaid p e q a Alone = ItemLaid p e q a (p.item q)
 StretchLaid p e q a (AlignOf count) = AlignLaid p e q a count
 StretchLaid p e q a CallOf = CallLaid p e q a
 StretchLaid p e q a (LongOf op first second) = LongLaid p e q a op first second
+StretchLaid p e q a (GroupOf items commits) = GroupLaid p e q a items commits

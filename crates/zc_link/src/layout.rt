@@ -32,16 +32,15 @@ pub trait Layout {
         ensures ready { IsReady (layout self.now).inputs }
         ensures laid { IsLaidOut (layout self.now) };
 
-    /// The address of a place where an item starts or a section of code ends.
+    /// The address of a place, if it has one.
     fn address(&self, p: Place) -> Option<u32>
         ensures { result ≡ (layout self.now).address p };
 
-    /// The address of a place, by where it stands among all.
+    /// The address of a place that has one, by where it stands among all.
     fn address_at(&self, number: PlaceNumber) -> u32
         requires { HasPlace (parsed (layout self.now).inputs).objects number }
-        ensures { (q : Place) → is_target_at (parsed (layout self.now).inputs).objects q ≡ true
-            → IsPlaceNumber (parsed (layout self.now).inputs).objects q number
-            → Some result ≡ (layout self.now).address q };
+        ensures { (q : Place) (address : ℕ) → (layout self.now).address q ≡ Some address
+            → IsPlaceNumber (parsed (layout self.now).inputs).objects q number → result ≡ address };
 
     /// The halfword of an item that is written in two bytes and whose instruction doesn't depend on addresses, by
     /// where its place stands among all.

@@ -1,12 +1,15 @@
 -- The address of a place is that of its piece.
-use Rattle.std.proofs.Common.{◌≤◌, Some, length, slice_index, sym, ap, ◌∙◌, arith}
+use Rattle.std.proofs.Common.{◌≡◌, ◌≤◌, ℕ, Some, true, length, slice_index, sym, ap, ◌∙◌, arith}
 use Rattle.psabi_sym.specs.Inputs.{parsed}
 use Rattle.block_cut.specs.Items.{is_target_at}
 use Rattle.shrink_layout.specs.Pieces.{piece_number_at, pieces_of}
 use Rattle.shrink_layout.specs.Settled.{settled_address, settled_addresses}
 use Rattle.shrink_layout.proofs.KeptLaws.{kept_address, kept_long}
-use Rattle.shrink_layout.proofs.PlaceAddressLaws.{address_there}
+use Rattle.shrink_layout.proofs.PlaceAddressLaws.{address_target, address_there}
 use Rattle.shrink_layout.proofs.settled.Settled.address_at.Goals as goal
+
+some_same : (m n : ℕ) → Some m ≡ Some n → m ≡ n
+some_same m n is = cc
 
 pub index-requires : goal.index-requires
 index-requires c =
@@ -20,13 +23,15 @@ index-requires c =
     )
 
 pub returns : goal.returns
-returns c = λ q target has.
+returns c = λ q a is has.
     let own = c.self.inside in
     let inputs = parsed own.planned in
-    let target_here = ap (λ x. is_target_at (parsed x).objects q) c.self.view_is ∙ target in
-    let number = c.piece_at.ensures.known q target has ∙ ap (λ x. piece_number_at (parsed x).objects q) (sym c.self.view_is) in
+    let here : settled_address inputs q ≡ Some a = ap (λ x. settled_address (parsed x) q) c.self.view_is ∙ is in
+    let target : is_target_at inputs.objects q ≡ true = address_target inputs q a here in
+    let target_there = ap (λ x. is_target_at (parsed x).objects q) (sym c.self.view_is) ∙ target in
+    let number = c.piece_at.ensures.known q target_there has ∙ ap (λ x. piece_number_at (parsed x).objects q) (sym c.self.view_is) in
     let most : c.piece_at.result ≤ length (pieces_of inputs) = omega (arith, c.piece_at.ensures.most, ap (λ x. length (pieces_of (parsed x))) c.self.view_is) in
     let address = c.index.ensures
     ∙ kept_address inputs own.addresses.items c.self.invariant.addresses_are c.piece_at.result c.index.result.now most
     ∙ ap (slice_index (settled_addresses inputs)) number in
-    ap Some address ∙ sym (address_there inputs q target_here) ∙ ap (λ x. settled_address (parsed x) q) c.self.view_is
+    some_same _ a (ap Some address ∙ sym (address_there inputs q target) ∙ here)

@@ -1,6 +1,6 @@
 -- The section with the number is code, which has a place with the index: so that place's address is kept there.
-use Rattle.std.proofs.Common.{◌≡◌, ◌<◌, List, Some, true, length, get_or, slice_get, sym, ap, ◌∙◌}
-use Rattle.std.specs.Option.{unwrap_or}
+use Rattle.std.proofs.Common.{◌≡◌, ℕ, ◌<◌, List, Some, true, length, get_or, slice_get, sym, ap, ◌∙◌}
+use Rattle.std.specs.Option.{is_some, unwrap_or}
 use Rattle.std.proofs.lemmas.Option.{get_or_from_slice_get, slice_get_within}
 use Rattle.zc_base.specs.declared.place.Place.{Place}
 use Rattle.psabi_sym.specs.Inputs.{Inputs, parsed}
@@ -11,7 +11,7 @@ use Rattle.block_cut.specs.PlainLayout.{plain_address}
 use Rattle.block_cut.specs.declared.code_place.CodePlace.{CodePlace}
 use Rattle.block_cut.specs.declared.place_number.PlaceNumber.{PlaceNumber}
 use Rattle.zc_link.specs.Standing.{IsReady}
-use Rattle.zc_link.proofs.Faultless.{all_none, target_listed}
+use Rattle.zc_link.proofs.Faultless.{all_none}
 use Rattle.zc_link.proofs.PlaceNumbers.{IsFoundBy, found_by}
 use Rattle.zc_link.proofs.PlainLaws.{plain_listed}
 use Rattle.zc_link.proofs.layout.CutLayout.address_at.Goals as goal
@@ -35,11 +35,10 @@ module _ (inputs cut : Inputs) (same : cut ≡ inputs) (ready : IsReady inputs) 
     index_below : number.index < length places
     index_below = slice_get_within places number.index (place_there (parsed inputs) q) there
 
-    address_is : (d : CodePlace) → Some (get_or places number.index d).address ≡ plain_address (parsed inputs) q
-    address_is d =
-        let known = target_listed (parsed inputs) (plain_address (parsed inputs)) (plain_listed (parsed inputs)) q target in
-        ap (λ (x : CodePlace). Some x.address) (get_or_from_slice_get places number.index (place_there (parsed inputs) q) d there)
-        ∙ ap (λ o. Some (unwrap_or o 0)) known.1 ∙ sym known.1
+    address_is : (d : CodePlace) (a : ℕ) → plain_address (parsed inputs) q ≡ Some a → (get_or places number.index d).address ≡ a
+    address_is d a known =
+        ap (λ (x : CodePlace). x.address) (get_or_from_slice_get places number.index (place_there (parsed inputs) q) d there)
+        ∙ ap (λ o. unwrap_or o 0) known
 
 pub places-requires : goal.places-requires
 places-requires c =
@@ -56,6 +55,7 @@ bounds-places-number-2 c =
     c.places.result.now c.places.ensures
 
 pub returns : goal.returns
-returns c = λ q target is.
+returns c = λ q a known is.
+    let target = sym (plain_listed (parsed c.args.self.now) q) ∙ ap is_some known in
     address_is c.args.self.now c.cut-cut.result.now c.cut-cut.ensures.same c.cut-cut.ensures.ready q c.args.number target is
-    c.places.result.now c.places.ensures c.index-places-number.result
+    c.places.result.now c.places.ensures c.index-places-number.result a known

@@ -5,7 +5,6 @@ use Rattle.psabi_sym.specs.Inputs.{Inputs, parsed}
 use Rattle.psabi_sym.specs.Indexed.{IndexedSection, all_sections}
 use Rattle.zc_base.specs.declared.mem_map.MemMap.{MemMap}
 use Rattle.zc_base.specs.declared.place.Place.{Place}
-use Rattle.block_cut.specs.Items.{is_target_at}
 use Rattle.block_cut.specs.Places.{IsPlaceNumber, code_places}
 use Rattle.block_cut.specs.declared.item.Item.{Item}
 use Rattle.shrink_layout.specs.Invariants.Numbers.{HasPlace}
@@ -14,7 +13,7 @@ use Rattle.zc_link.specs.Standing.{StandsHere, WrittenHere}
 use Rattle.zc_link.specs.TextLayout.{TextLayout}
 use Rattle.zc_link.specs.declared.text.Text.{Text}
 use Rattle.zc_link.proofs.Standing.{gathered}
-use Rattle.zc_link.proofs.Walk.{After, AtHand, OnWay, Walks, at_hand, at_end, index_few, turn_above, turn_ends, turn_has, turn_number, turn_stands, turn_steps, walk_begins}
+use Rattle.zc_link.proofs.Walk.{After, AtHand, GivesAddress, OnWay, Walks, at_hand, at_end, index_few, turn_above, turn_ends, turn_has, turn_number, turn_stands, turn_steps, walk_begins}
 use Rattle.zc_link.proofs.text.Text.add_places.Given as given
 use Rattle.zc_link.proofs.text.Text.add_places.Goals as goal
 use Rattle.zc_link.proofs.text.Text.add_places.Goals.{In_ok-push, in-Some+in_ok-add_to, in_default}
@@ -76,7 +75,7 @@ module _ (g : given.Over) (c : In_ok-push g) where
     -- which goes up to the next place
     module _
         (next : ℕ)
-        (found : (r : Place) → is_target_at (parsed L.inputs).objects r ≡ true → IsPlaceNumber (parsed L.inputs).objects r (record { section = c.args.k; index = i + 1 }) → Some next ≡ L.address r) where
+        (found : GivesAddress L c.args.k (i + 1) next) where
       above : c.loop-i.address ≤ next
       above =
           turn_above L none c.cut-cut.ensures.ready c.cut-cut.ensures.laid c.args.k hand.section hand.at hand.code i text places hand.walks here

@@ -4,11 +4,10 @@ use Rattle.std.proofs.lemmas.Bool.{eqb-false, eqb-true}
 use Rattle.psabi_sym.specs.Inputs.{Inputs, parsed}
 use Rattle.psabi_sym.specs.Faults.{gather_fault}
 use Rattle.psabi_sym.specs.Indexed.{IndexedSection, all_sections}
-use Rattle.zc_base.specs.declared.place.Place.{Place}
 use Rattle.zc_base.specs.declared.mem_map.MemMap.{MemMap}
 use Rattle.elf32_read.specs.Parts.{is_code_section}
-use Rattle.block_cut.specs.Items.{is_target_at, place_of}
-use Rattle.block_cut.specs.Places.{IsPlaceNumber, code_places}
+use Rattle.block_cut.specs.Items.{place_of}
+use Rattle.block_cut.specs.Places.{code_places}
 use Rattle.block_cut.specs.declared.code_place.CodePlace.{CodePlace}
 use Rattle.zc_link.specs.LaidOut.{code_end_after}
 use Rattle.zc_link.specs.TextLayout.{TextLayout}
@@ -16,7 +15,7 @@ use Rattle.zc_link.specs.Standing.{BeginsSection}
 use Rattle.zc_link.proofs.LaidLaws.{address_small}
 use Rattle.zc_link.proofs.Sections.{begins_late, begins_section, no_places, other_section, some_places}
 use Rattle.zc_link.proofs.Standing.{gathered}
-use Rattle.zc_link.proofs.Walk.{before, first_address, first_has, listed_there}
+use Rattle.zc_link.proofs.Walk.{GivesAddress, before, first_address, first_has, listed_there}
 use Rattle.zc_link.proofs.text.Text.add_section.Given as given
 use Rattle.zc_link.proofs.text.Text.add_section.Goals as goal
 use Rattle.zc_link.proofs.text.Text.add_section.Goals.{Else-is_empty}
@@ -59,8 +58,7 @@ module _ (g : given.Over) (c : Else-is_empty g) where
 
   -- it begins there, which isn't before the text's end
   module _
-      (begin : ℕ)
-      (found : (q : Place) → is_target_at (parsed L.inputs).objects q ≡ true → IsPlaceNumber (parsed L.inputs).objects q (record { section = c.args.k; index = 0 }) → Some begin ≡ L.address q) where
+      (begin : ℕ) (found : GivesAddress L c.args.k 0 begin) where
     first : L.address (place_of here 0) ≡ Some begin
     first = first_address L none c.cut-cut.ensures.ready c.cut-cut.ensures.laid c.args.k here there code begin found
 
