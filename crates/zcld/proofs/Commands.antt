@@ -16,7 +16,7 @@ use Rattle.zcld.proofs.ZcFacts.{zc_facts}
 facts : (command : Command) → Facts (task_of command) (work_of command)
 facts (Plain out objects) = plain_facts out objects
 facts (Zc out cert objects) = zc_facts out cert objects
-facts (Run steps image) = run_facts steps image
+facts (Run plan steps image) = run_facts plan steps image
 facts (Trace steps objects) = trace_facts steps objects
 
 module _ (files : List (List ℕ)) (outcome : Outcome) (before left : World) where

@@ -14,7 +14,7 @@ use Rattle.zcld.specs.ErrLine.{err_line}
 use Rattle.zcld.specs.Input.{IsShortInput, RoseAbove}
 use Rattle.zcld.specs.Objects.{objects_refusal, objects_wanted}
 use Rattle.zcld.specs.Plain.{PlainWork}
-use Rattle.zcld.specs.Run.{RunWork, image_refusal, image_wanted}
+use Rattle.zcld.specs.Run.{RunWork, run_refusal, run_wanted}
 use Rattle.zcld.specs.Task.{Performs, Task}
 use Rattle.zcld.specs.Trace.{TraceWork}
 use Rattle.zcld.specs.Zc.{ZcWork}
@@ -37,9 +37,9 @@ task_of (Zc out cert objects) = record {
   takes = false;
   writes = false;
 }
-task_of (Run steps image) = record {
-  wanted = image_wanted image;
-  refusal = image_refusal standard_map;
+task_of (Run plan steps image) = record {
+  wanted = run_wanted plan image;
+  refusal = run_refusal standard_map;
   puts = false;
   takes = true;
   writes = true;
@@ -56,7 +56,7 @@ task_of (Trace steps objects) = record {
 abbrev pub work_of : Command → List (List ℕ) → Outcome → World → World → Type 0
 work_of (Plain out objects) = PlainWork out
 work_of (Zc out cert objects) = ZcWork out cert
-work_of (Run steps image) = RunWork steps
+work_of (Run plan steps image) = RunWork steps
 work_of (Trace steps objects) = TraceWork steps
 
 -- what words do: without a command it is Usage, and nothing is done

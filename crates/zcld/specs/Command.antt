@@ -14,12 +14,13 @@ use Rattle.zcld.specs.declared.command_line.Syntax as code_form
 use Rattle.zcld.specs.declared.command_line.OptionForm as code_option
 use Rattle.zcld.specs.declared.command_line.Positional.{Positional}
 use Rattle.zcld.specs.declared.command_line.Positional.TheVariants.{Exactly, OneOrMore}
+use Rattle.zcld.specs.declared.command_line.RunArgs.{RunArgs}
 
--- a command with the names of its files, and how many steps it may make
+-- a command with the names of its files, of which a plan may be left out, and how many steps it may make
 pub data Command : Type 0 where
   Plain : (out : List ℕ) (objects : List (List ℕ)) → Command
   Zc : (out cert : List ℕ) (objects : List (List ℕ)) → Command
-  Run : (steps : ℕ) (image : List ℕ) → Command
+  Run : (plan : Option (List ℕ)) (steps : ℕ) (image : List ℕ) → Command
   Trace : (steps : ℕ) (objects : List (List ℕ)) → Command
 
 -- ---- words
@@ -74,9 +75,9 @@ plain_form = record { options = required (codes "--out") ∷ []; positional = On
 abbrev pub zc_form : Syntax
 zc_form = record { options = required (codes "--out") ∷ required (codes "--cert") ∷ []; positional = OneOrMore }
 
--- `run [--steps N] IMAGE`
+-- `run [--plan PLAN] [--steps N] IMAGE`
 abbrev pub run_form : Syntax
-run_form = record { options = optional (codes "--steps") ∷ []; positional = Exactly 1 }
+run_form = record { options = optional (codes "--plan") ∷ optional (codes "--steps") ∷ []; positional = Exactly 1 }
 
 -- `trace [--steps N] OBJ...`
 abbrev pub trace_form : Syntax
@@ -133,9 +134,9 @@ abbrev pub zc_of : Spelled → Option Command
 zc_of (Words (Some out ∷ Some cert ∷ []) objects) = if bytes_eq out cert then None else Some (Zc out cert objects)
 zc_of other = None
 
--- `run` of its one image
+-- `run` of its one image, under the plan if there is one
 abbrev pub run_of : Spelled → Option Command
-run_of (Words (steps ∷ []) (image ∷ [])) = option_map (λ n. Run n image) (steps_given steps)
+run_of (Words (plan ∷ steps ∷ []) (image ∷ [])) = option_map (λ n. Run plan n image) (steps_given steps)
 run_of other = None
 
 -- `trace` of its objects
@@ -154,11 +155,15 @@ command_of (name ∷ words) =
 
 -- ---- as the program holds them
 
+-- the words of `run`
+abbrev pub run_meant : RunArgs → Command
+run_meant args = Run (option_copied args.plan) args.steps args.image.now
+
 -- a command
 abbrev pub meant : CommandLine → Command
 meant (line.Plain out objects) = Plain out.now (texts objects.now)
 meant (line.Zc out cert objects) = Zc out.now cert.now (texts objects.now)
-meant (line.Run steps image) = Run steps image.now
+meant (line.Run args) = run_meant args
 meant (line.Trace steps objects) = Trace steps (texts objects.now)
 
 -- an option

@@ -1,17 +1,20 @@
 -- The line that names an outcome on standard error, and the status that the program ends with.
-use Rattle.std.specs.Prelude.{◌≡◌, ℕ, ◌+◌, ◌/◌, ◌%◌, ◌^◌, nat_lt, if◌then◌else◌, is_none, List, [], ◌∷◌, ◌++◌, codes, decimal, slice_get, Option, Some, None}
+use Rattle.std.specs.Prelude.{◌≡◌, ℕ, nat_lt, if◌then◌else◌, is_none, List, [], ◌∷◌, ◌++◌, codes, decimal, slice_get, Option, Some, None}
 use Rattle.std.specs.Option.{option_and_then, option_map}
 use Rattle.elf32_read.specs.declared.fault.Fault.{Fault}
 use Rattle.elf32_read.specs.Fault.{fault_number, fault_name, fault_symbol}
 use Rattle.elf32_read.specs.Object.{object_fault}
 use Rattle.elf32_read.specs.Parts.{object_parts}
 use Rattle.elf32_read.specs.ImageFault.{image_fault_number}
+use Rattle.interrupt_plan.specs.declared.fault.PlanFault.{PlanFault}
+use Rattle.interrupt_plan.specs.declared.fault.PlanFault.TheVariants as plan
+use Rattle.text_lines.specs.Hex.{hex_word}
 use Rattle.zc_base.specs.declared.place.Place.{Place}
 use Rattle.sym_machine.specs.declared.why.Why.{Why}
 use Rattle.sym_machine.specs.Why.{why_name, why_number}
 use Rattle.zc_machine.specs.declared.reason.Reason.{Reason}
 use Rattle.zc_machine.specs.Reason.{reason_name, reason_number}
-use Rattle.zcld.specs.declared.outcome.FileFault.TheVariants.{Image}
+use Rattle.zcld.specs.declared.outcome.FileFault.TheVariants.{Image, Plan}
 use Rattle.zcld.specs.declared.outcome.Outcome.{Outcome}
 use Rattle.zcld.specs.declared.outcome.Outcome.TheVariants.{Done, Exited, Usage, Refused, ReadFault, WriteFault, OutOfMemory, BadFile, Stopped, Stuck, Spent}
 
@@ -40,18 +43,12 @@ abbrev pub after_space : Option (List ℕ) → List ℕ
 after_space None = []
 after_space (Some name) = codes " " ++ name
 
--- a lower-case hexadecimal digit
-abbrev pub hex_digit : ℕ → ℕ
-hex_digit d = if nat_lt d 10 then 48 + d else 87 + d
-
--- the hexadecimal digit of a number that stands before this many bits
-abbrev pub hex_at : ℕ → ℕ → ℕ
-hex_at n shift = hex_digit (n / 2 ^ shift % 16)
-
--- a 32-bit number as eight hexadecimal digits
-abbrev pub hex_word : ℕ → List ℕ
-hex_word n =
-    hex_at n 28 ∷ hex_at n 24 ∷ hex_at n 20 ∷ hex_at n 16 ∷ hex_at n 12 ∷ hex_at n 8 ∷ hex_at n 4 ∷ hex_at n 0 ∷ []
+-- a fault of a plan names its line
+abbrev pub plan_fault_text : PlanFault → List ℕ
+plan_fault_text (plan.BadLine number) = codes "bad plan line " ++ decimal number
+plan_fault_text (plan.OutOfOrder number) = codes "bad plan order " ++ decimal number
+plan_fault_text plan.TooLarge = codes "bad plan size"
+plan_fault_text plan.OutOfMemory = codes "out of memory"
 
 -- a stop names its reason by number and name, and the program counter
 abbrev pub stop_text : Reason → ℕ → List ℕ
@@ -75,6 +72,7 @@ err_line files ReadFault = line (codes "read fault")
 err_line files WriteFault = line (codes "write fault")
 err_line files OutOfMemory = line (codes "out of memory")
 err_line files (BadFile (Image fault)) = line (codes "bad image " ++ decimal (image_fault_number fault))
+err_line files (BadFile (Plan fault)) = line (plan_fault_text fault)
 err_line files (Stopped reason pc) = line (stop_text reason pc)
 err_line files (Stuck place why) = line (stuck_text place why)
 err_line files Spent = line (codes "spent")

@@ -1,10 +1,13 @@
 -- The outcomes of faults that lower crates give.
+use Rattle.interrupt_plan.specs.declared.fault.PlanFault.{PlanFault}
+use Rattle.interrupt_plan.specs.declared.fault.PlanFault.TheVariants as plan
 use Rattle.psabi_sym.specs.declared.link_fault.LinkFault.{LinkFault}
 use Rattle.psabi_sym.specs.declared.link_fault.LinkFault.TheVariants as link
 use Rattle.zc_outside.specs.declared.read_files.ReadFault as files
 use Rattle.zc_outside.specs.declared.read_files.ReadFault.TheVariants as read
+use Rattle.zcld.specs.declared.outcome.FileFault.TheVariants.{Plan}
 use Rattle.zcld.specs.declared.outcome.Outcome.{Outcome}
-use Rattle.zcld.specs.declared.outcome.Outcome.TheVariants.{Refused, ReadFault, OutOfMemory}
+use Rattle.zcld.specs.declared.outcome.Outcome.TheVariants.{Refused, ReadFault, OutOfMemory, BadFile}
 
 -- files that can't be had
 abbrev pub read_outcome : files.ReadFault → Outcome
@@ -15,3 +18,10 @@ read_outcome read.OutOfMemory = OutOfMemory
 abbrev pub link_outcome : LinkFault → Outcome
 link_outcome (link.Object i fault) = Refused i fault
 link_outcome link.OutOfMemory = OutOfMemory
+
+-- a text that is no plan
+abbrev pub plan_outcome : PlanFault → Outcome
+plan_outcome (plan.BadLine number) = BadFile (Plan (plan.BadLine number))
+plan_outcome (plan.OutOfOrder number) = BadFile (Plan (plan.OutOfOrder number))
+plan_outcome plan.TooLarge = BadFile (Plan plan.TooLarge)
+plan_outcome plan.OutOfMemory = OutOfMemory

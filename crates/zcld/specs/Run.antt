@@ -1,40 +1,66 @@
--- What `run` does: it reads an image, takes the console's whole input, and makes commits of the Zc machine.
-use Rattle.std.specs.Prelude.{ℕ, List, [], ◌∷◌, Option}
-use Rattle.std.specs.Option.{option_map}
+-- What `run` does: it reads an image and a plan of interrupts, takes the console's whole input, and makes commits of the Zc
+-- machine under the plan.
+use Rattle.std.specs.Prelude.{◌≡◌, ℕ, List, [], ◌∷◌, slice_get, Option, Some, None, Result, Ok, Err}
+use Rattle.std.specs.Option.{option_map, option_map_or, option_or}
 use Rattle.zc_base.specs.MemMap.{standard_map}
 use Rattle.zc_base.specs.declared.mem_map.MemMap.{MemMap}
 use Rattle.elf32_read.specs.Header.{entry_address}
 use Rattle.elf32_read.specs.Image.{image_fault}
 use Rattle.elf32_read.specs.Segments.{segments_of}
+use Rattle.interrupt_plan.specs.Plan.{Entry}
+use Rattle.interrupt_plan.specs.Text.{plan_in}
+use Rattle.interrupt_plan.specs.declared.fault.PlanFault.{PlanFault}
+use Rattle.interrupt_plan.specs.declared.read_plan.TheConstants.{PLAN_LIMIT}
 use Rattle.rv_decode.specs.State.{ZcCore}
 use Rattle.zc_outside.specs.Desk.{Desk}
 use Rattle.zc_outside.specs.Wanted.{Wanted}
 use Rattle.zc_outside.specs.World.{World}
 use Rattle.zc_machine.specs.Load.{first_core}
+use Rattle.zc_machine.specs.Run.{interrupts_by}
 use Rattle.zc_machine.specs.RunEnd.{Ran, zc_course}
 use Rattle.zc_machine.specs.declared.run.RunEnd.{RunEnd}
 use Rattle.zcld.specs.declared.limits.TheConstants.{IMAGE_LIMIT}
-use Rattle.zcld.specs.declared.outcome.FileFault.TheVariants.{Image}
+use Rattle.zcld.specs.declared.outcome.FileFault.TheVariants.{Image, Plan}
 use Rattle.zcld.specs.declared.outcome.Outcome.{Outcome}
 use Rattle.zcld.specs.declared.outcome.Outcome.TheVariants.{Exited, WriteFault, OutOfMemory, BadFile, Stopped, Spent}
 use Rattle.zcld.specs.Machines.{MachineWork, Executes}
 use Rattle.zc_outside.specs.declared.console.ConsoleFault.TheVariants as console
 use Rattle.zc_machine.specs.declared.run.RunEnd.TheVariants as end
 
--- ---- the image
+-- ---- the files
 
--- the file of the one image
-abbrev pub only_file : List (List ℕ) → List ℕ
-only_file [] = []
-only_file (file ∷ files) = file
+-- a plan, if there is one, is read up to its limit
+abbrev pub plan_wanted : Option (List ℕ) → List Wanted
+plan_wanted None = []
+plan_wanted (Some name) = record { name = name; limit = PLAN_LIMIT } ∷ []
 
--- a refusal names the first fault that stands in the image
-abbrev pub image_refusal : MemMap → List (List ℕ) → Option Outcome
-image_refusal map files = option_map (λ fault. BadFile (Image fault)) (image_fault (only_file files) map)
+-- the image, and then the plan if there is one, each up to its limit
+abbrev pub run_wanted : Option (List ℕ) → List ℕ → List Wanted
+run_wanted plan image = record { name = image; limit = IMAGE_LIMIT } ∷ plan_wanted plan
 
--- the image is read up to its limit
-abbrev pub image_wanted : List ℕ → List Wanted
-image_wanted name = record { name = name; limit = IMAGE_LIMIT } ∷ []
+-- the image, which is the first file
+abbrev pub first_file : List (List ℕ) → List ℕ
+first_file [] = []
+first_file (file ∷ files) = file
+
+-- the plan that the second file spells; without one there are no interrupts
+abbrev pub plan_of : List (List ℕ) → Result (List Entry) PlanFault
+plan_of files = option_map_or plan_in (slice_get files 1) (Ok [])
+
+-- ---- why they are refused
+
+-- the first fault that stands in an image
+abbrev pub image_refusal : MemMap → List ℕ → Option Outcome
+image_refusal map image = option_map (λ fault. BadFile (Image fault)) (image_fault image map)
+
+-- the first fault that stands in a plan
+abbrev pub plan_refusal : Result (List Entry) PlanFault → Option Outcome
+plan_refusal (Ok plan) = None
+plan_refusal (Err fault) = Some (BadFile (Plan fault))
+
+-- the image's fault is named; the plan's only if the image has none
+abbrev pub run_refusal : MemMap → List (List ℕ) → Option Outcome
+run_refusal map files = option_or (image_refusal map (first_file files)) (plan_refusal (plan_of files))
 
 -- ---- the run
 
@@ -50,11 +76,14 @@ run_outcome end.Spent pc = Spent
 run_outcome (end.Console console.Failed) pc = WriteFault
 run_outcome (end.Console console.OutOfMemory) pc = OutOfMemory
 
--- the run of an image from its first state over an input, without interrupts, of at most so many commits
-abbrev pub Runs : ZcCore → ℕ → List ℕ → Outcome → Desk → Desk → Type 0
-Runs first steps input =
-    Executes (λ (end : RunEnd × ZcCore). Ran [] (zc_course first input [] steps) end.0 end.1) (λ end. run_outcome end.0 end.1.pc)
+-- the run of an image from its first state over an input, under a plan, of at most so many commits
+abbrev pub Runs : ZcCore → List Entry → ℕ → List ℕ → Outcome → Desk → Desk → Type 0
+Runs first plan steps input =
+    Executes (λ (end : RunEnd × ZcCore). Ran (interrupts_by plan) (zc_course first input plan steps) end.0 end.1)
+    (λ end. run_outcome end.0 end.1.pc)
 
--- the work of `run`: the image in the standard map
-abbrev pub RunWork : ℕ → List (List ℕ) → Outcome → World → World → Type 0
-RunWork steps files outcome before after = MachineWork (Runs (first_core_of (only_file files) standard_map) steps) outcome before after
+-- the work of `run`: the image in the standard map, under the plan
+pub record RunWork (steps : ℕ) (files : List (List ℕ)) (outcome : Outcome) (before after : World) : Type 0 where
+  pub plan : List Entry
+  pub spelled : plan_of files ≡ Ok plan
+  pub run : MachineWork (Runs (first_core_of (first_file files) standard_map) plan steps) outcome before after

@@ -53,7 +53,7 @@ fn perform<S: Store, C: Console>(
             plain(alloc, out, objects, files, store, console)
         }
         Some(CommandLine::Zc { out, cert, objects }) => zc(alloc, out, cert, objects, files, store),
-        Some(CommandLine::Run { steps, image }) => run(alloc, steps, image, files, store, console),
+        Some(CommandLine::Run(args)) => run(alloc, args, files, store, console),
         Some(CommandLine::Trace { steps, objects }) => {
             trace(alloc, steps, objects, files, store, console)
         }

@@ -17,8 +17,16 @@ pub const MOST_STEPS: u64 = 1_000_000_000;
 /// The steps that are allowed if no word says.
 pub const USUAL_STEPS: u64 = 10_000_000;
 
-/// A command, with the names of its files. `steps` is how many commits or steps
-/// the machine may make.
+/// What `run` runs: an image, and the plan of its interrupts if there is one, by their names, for at most
+/// so many commits.
+#[derive(Clone, Copy)]
+pub struct RunArgs<'a> {
+    pub plan: Option<&'a str>,
+    pub steps: u64,
+    pub image: &'a str,
+}
+
+/// A command, with the names of its files. `steps` is how many steps the machine may make.
 #[derive(Clone, Copy)]
 pub enum CommandLine<'a> {
     Plain {
@@ -30,10 +38,7 @@ pub enum CommandLine<'a> {
         cert: &'a str,
         objects: &'a [String],
     },
-    Run {
-        steps: u64,
-        image: &'a str,
-    },
+    Run(RunArgs<'a>),
     Trace {
         steps: u64,
         objects: &'a [String],
@@ -69,6 +74,11 @@ const CERT: OptionForm = OptionForm {
     required: true,
 };
 
+const PLAN: OptionForm = OptionForm {
+    name: "--plan",
+    required: false,
+};
+
 const STEPS: OptionForm = OptionForm {
     name: "--steps",
     required: false,
@@ -86,9 +96,9 @@ const ZC: Syntax = Syntax {
     positional: Positional::OneOrMore,
 };
 
-// `run [--steps N] IMAGE`
+// `run [--plan PLAN] [--steps N] IMAGE`
 const RUN: Syntax = Syntax {
-    options: &[STEPS],
+    options: &[PLAN, STEPS],
     positional: Positional::Exactly(1),
 };
 
@@ -140,15 +150,16 @@ fn zc(words: &[String]) -> Option<CommandLine<'_>>
 fn run(words: &[String]) -> Option<CommandLine<'_>>
     ensures { option_map meant result ≡ option_and_then run_of (spelled_words run_form (texts words.now)) }
 {
-    let mut values = [None];
+    let mut values = [None; 2];
     let [image] = read_form(&RUN, words, &mut values)? else {
         return None;
     };
-    let [steps] = values;
-    Some(CommandLine::Run {
+    let [plan, steps] = values;
+    Some(CommandLine::Run(RunArgs {
+        plan,
         steps: allowed(steps)?,
         image: image.as_str(),
-    })
+    }))
 }
 
 fn trace(words: &[String]) -> Option<CommandLine<'_>>

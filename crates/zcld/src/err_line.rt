@@ -5,16 +5,18 @@ ghost use Rattle.elf32_read.specs.Object.{object_fault};
 ghost use Rattle.std.specs.Option.{option_map};
 ghost use Rattle.std.specs.List.{flat_map};
 ghost use Rattle.psabi_sym.specs.Objects.{contents_of};
+ghost use Rattle.text_lines.specs.Hex.{hex_at, hex_word};
 ghost use Rattle.zc_outside.specs.Desk.{OnlyWrites};
 ghost use Rattle.zc_outside.specs.Streams.{KeepsBytes};
 ghost use Rattle.zcld.specs.Call.{WritesLine};
-ghost use Rattle.zcld.specs.ErrLine.{err_line, fault_symbol_name, hex_at, hex_word, line as with_line_feed, name_in, refusal_text, stop_text, stuck_text};
+ghost use Rattle.zcld.specs.ErrLine.{err_line, fault_symbol_name, line as with_line_feed, name_in, plan_fault_text, refusal_text, stop_text, stuck_text};
 ghost use Rattle.zcld.specs.declared.outcome.Outcome.TheVariants.{Refused};
 
 use crate::outcome::{FileFault, Outcome};
 use arrayvec::ArrayString;
 use elf32_read::fault::Fault;
 use elf32_read::object::Object;
+use interrupt_plan::fault::PlanFault;
 use itoa::Buffer;
 use sym_machine::why::Why;
 use zc_base::place::Place;
@@ -117,6 +119,7 @@ pub fn line_of(outcome: &Outcome) -> ArrayString<ROOM>
         Outcome::WriteFault => line("write fault"),
         Outcome::OutOfMemory => line("out of memory"),
         Outcome::BadFile(FileFault::Image(fault)) => numbered_line("bad image ", fault.number()),
+        Outcome::BadFile(FileFault::Plan(fault)) => bad_plan(*fault),
         Outcome::Stopped(reason, pc) => stop(*reason, *pc),
         Outcome::Stuck(place, why) => stuck(*place, *why),
         Outcome::Spent => line("spent"),
@@ -162,6 +165,18 @@ pub fn numbered_line(text: &str, number: u32) -> ArrayString<ROOM>
     line.push_str(digits.format(number));
     line.push_str("\n");
     line
+}
+
+// The line of a fault of a plan.
+fn bad_plan(fault: PlanFault) -> ArrayString<ROOM>
+    ensures { result.bytes ≡ with_line_feed (plan_fault_text fault) }
+{
+    match fault {
+        PlanFault::BadLine { number } => numbered_line("bad plan line ", number),
+        PlanFault::OutOfOrder { number } => numbered_line("bad plan order ", number),
+        PlanFault::TooLarge => line("bad plan size"),
+        PlanFault::OutOfMemory => line("out of memory"),
+    }
 }
 
 // The line of a stop.

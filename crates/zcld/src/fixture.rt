@@ -72,6 +72,20 @@ const ECHO_IMAGE: &str = "\
 130640009308f003730000001306050013051000930800047300000013050000130640009308f0037300000013060500
 130520009308000473000000130500009308d00573000000";
 
+// An image likewise, of `li a7,93`, `lbu a0,-1(sp)` and `ecall`: its status is the byte below the stack pointer.
+const LOAD_IMAGE: &str = "\
+7f454c460101010000000000000000000200f30001000000000001003400000000000000010000003400200001002800
+00000000010000005400000000000100000001000c0000000c00000005000000040000009308d0050345f1ff73000000";
+
+// Plans: two whose second and third line is at fault, one that changes nothing, since no push or pop stands where
+// its interrupt comes and its byte lies above the stack, and one that writes the byte below the stack pointer.
+const PLANS: [(&str, &str); 4] = [
+    ("number", "zcld plan 1\ncut 05\n"),
+    ("order", "zcld plan 1\ncut 3\ncut 2\n"),
+    ("outside", "zcld plan 1\ncut 0 a0 d10000000:ee\n"),
+    ("below", "zcld plan 1\ncut 1 d0fffffff:2a\n"),
+];
+
 const CERTIFICATE: &str = "zcld certificate 1\nprice 0 0 0\nnet 0\nend\n";
 
 // The number that a hexadecimal digit stands for.
@@ -96,7 +110,8 @@ fn bytes_of(alloc: Global, digits: &str) -> Result<Vec<u8>, Fail> {
 }
 
 // The files of a call: `x` and `z` are the object, `image` is its image, `echo` and `echo.elf` are the other
-// program, and `bad` is no ELF file. The store's calls with these numbers fail.
+// program, `load.elf` is the image that loads, and `bad` is no ELF file; and the plans. The store's calls with these
+// numbers fail.
 fn store_of(alloc: Global, fails: &[u32]) -> Result<MemStore, Fail> {
     let mut store = MemStore::new(alloc, fails)?;
     let files = [
@@ -105,10 +120,14 @@ fn store_of(alloc: Global, fails: &[u32]) -> Result<MemStore, Fail> {
         ("image", IMAGE),
         ("echo", ECHO),
         ("echo.elf", ECHO_IMAGE),
+        ("load.elf", LOAD_IMAGE),
         ("bad", "00"),
     ];
     for (name, digits) in files {
         store.add(name, bytes_of(alloc, digits)?.as_slice())?;
+    }
+    for (name, text) in PLANS {
+        store.add(name, text.as_bytes())?;
     }
     Ok(store)
 }

@@ -5,6 +5,7 @@ ghost use Rattle.zcld.specs.ErrLine.{status_of};
 
 use elf32_read::fault::Fault;
 use elf32_read::image_fault::ImageFault;
+use interrupt_plan::fault::PlanFault;
 use psabi_sym::link_fault::LinkFault;
 use std::alloc::AllocError;
 use sym_machine::why::Why;
@@ -16,6 +17,7 @@ use zc_outside::read_files::ReadFault;
 #[derive(Clone, Copy, PartialEq, Eq, Debug)]
 pub enum FileFault {
     Image(ImageFault),
+    Plan(PlanFault),
 }
 
 /// How a call ends. A refusal names the object, by its index among those of the command line, and
@@ -71,6 +73,22 @@ impl From<LinkFault> for Outcome {
         match fault {
             LinkFault::Object { index, fault } => Outcome::Refused(index, fault),
             LinkFault::OutOfMemory => Outcome::OutOfMemory,
+        }
+    }
+}
+
+impl From<PlanFault> for Outcome {
+    ghost use Rattle.std.specs.Prelude.{◌≡◌};
+    ghost use Rattle.zcld.specs.Outcome.{plan_outcome};
+
+    ghost from_gives = { λ fault outcome. outcome ≡ plan_outcome fault };
+
+    fn from(fault: PlanFault) -> Outcome {
+        match fault {
+            PlanFault::OutOfMemory => Outcome::OutOfMemory,
+            PlanFault::BadLine { .. } | PlanFault::OutOfOrder { .. } | PlanFault::TooLarge => {
+                Outcome::BadFile(FileFault::Plan(fault))
+            }
         }
     }
 }

@@ -1,19 +1,24 @@
-// The command `run`: an image is read, and the machine runs it.
+// The command `run`: an image is read, and the machine runs it under a plan of interrupts.
 
-ghost use Rattle.std.specs.Prelude.{◌≡◌};
+ghost use Rattle.std.specs.Prelude.{◌≡◌, ◌<◌, ◌⊎◌, IfOk, IfErr, OnOk, Ok, Err, length, option_copied};
 ghost use Rattle.psabi_sym.specs.Objects.{contents_of};
 ghost use Rattle.zc_base.specs.MemMap.{standard_map};
+ghost use Rattle.zc_outside.specs.Wanted.{AreRead, ReadsAll};
 ghost use Rattle.zc_outside.specs.World.{world};
 ghost use Rattle.zcld.specs.Call.{CarriesOut};
-ghost use Rattle.zcld.specs.Command.{Run};
+ghost use Rattle.zcld.specs.Command.{run_meant};
 ghost use Rattle.zcld.specs.Machines.{TakesAndRuns};
-ghost use Rattle.zcld.specs.Run.{Runs, first_core_of, run_outcome as outcome_of_end};
+ghost use Rattle.zcld.specs.Run.{Runs, first_core_of, plan_of, run_outcome as outcome_of_end, run_wanted};
+ghost use Rattle.zcld.specs.Task.{UnreadCause};
 
+use crate::command_line::RunArgs;
 use crate::input::take_all;
 use crate::limits::IMAGE_LIMIT;
 use crate::outcome::{FileFault, Outcome};
 use elf32_read::image::Image;
-use interrupt_plan::plan::empty_plan;
+use interrupt_plan::fault::PlanFault;
+use interrupt_plan::plan::{Plan, empty_plan};
+use interrupt_plan::read_plan::{PLAN_LIMIT, read_plan};
 use std::alloc::Global;
 use zc_base::mem_map::MemMap;
 use zc_machine::machine::Machine;
@@ -22,36 +27,78 @@ use zc_outside::console::{Console, ConsoleFault};
 use zc_outside::read_files::read_file;
 use zc_outside::store::Store;
 
-/// Runs the image under a name, over the console's whole input, for at most so many commits.
+/// Runs the image under a name, over the console's whole input, under the plan of interrupts under another
+/// name if there is one, for at most so many commits.
 pub fn run<S: Store, C: Console>(
     alloc: Global,
-    steps: u64,
-    name: &str,
+    args: RunArgs,
     files: &mut Vec<Vec<u8>>,
     store: &mut S,
     console: &mut C,
 ) -> Outcome
-    ensures { CarriesOut (Some (Run steps name.now)) (contents_of files.new.items) result
+    ensures { CarriesOut (Some (run_meant args.entry)) (contents_of files.new.items) result
         (world (S.shown store.old) (C.shown console.old)) (world (S.shown store.new) (C.shown console.new)) }
 {
-    let file = match read_file(alloc, name, IMAGE_LIMIT, store) {
-        Ok(file) => file,
-        Err(fault) => return Outcome::from(fault),
-    };
-    files.clear();
-    if files.push(file).is_err() {
-        return Outcome::OutOfMemory;
+    if let Err(outcome) = read_both(alloc, args, files, store) {
+        return outcome;
     }
-    match Image::read(files[0].as_slice(), MemMap::standard()) {
-        Ok(image) => execute(alloc, &image, steps, console),
-        Err(fault) => Outcome::BadFile(FileFault::Image(fault)),
+    let image = match Image::read(files[0].as_slice(), MemMap::standard()) {
+        Ok(image) => image,
+        Err(fault) => return Outcome::BadFile(FileFault::Image(fault)),
+    };
+    match plan_of(alloc, files.as_slice()) {
+        Ok(plan) => execute(alloc, &image, &plan, args.steps, console),
+        Err(fault) => Outcome::from(fault),
     }
 }
 
-// Runs an image over the console's whole input.
-fn execute<C: Console>(alloc: Global, image: &Image, steps: u64, console: &mut C) -> Outcome
+// Makes `files` the image and then the plan, if there is one, or says how the call ends without them.
+fn read_both<S: Store>(
+    alloc: Global,
+    args: RunArgs,
+    files: &mut Vec<Vec<u8>>,
+    store: &mut S,
+) -> Result<(), Outcome>
+    ensures ok { OnOk result (AreRead (S.shown store.old).files
+        (run_wanted (option_copied args.entry.plan) args.entry.image.now) (contents_of files.new.items)) }
+    ensures some { OnOk result (0 < length files.new.items) }
+    ensures err { IfErr result (UnreadCause (run_wanted (option_copied args.entry.plan) args.entry.image.now)
+        (S.shown store.old) (S.shown store.new)) }
+    ensures reads { ReadsAll (run_wanted (option_copied args.entry.plan) args.entry.image.now)
+        (S.shown store.old) (S.shown store.new) }
+{
+    files.clear();
+    let image = read_file(alloc, args.image, IMAGE_LIMIT, store)?;
+    files.push(image).map_err(|_| Outcome::OutOfMemory)?;
+    if let Some(name) = args.plan {
+        let plan = read_file(alloc, name, PLAN_LIMIT as u32, store)?;
+        files.push(plan).map_err(|_| Outcome::OutOfMemory)?;
+    }
+    Ok(())
+}
+
+// The plan that the second file spells, or the one without interrupts if there is none.
+fn plan_of(alloc: Global, files: &[Vec<u8>]) -> Result<Plan, PlanFault>
+    ensures ok { IfOk result (λ plan. plan_of (contents_of files.now) ≡ Ok plan) }
+    ensures err { IfErr result (λ fault.
+        (fault ≡ PlanFault.OutOfMemory) ⊎ (plan_of (contents_of files.now) ≡ Err fault)) }
+{
+    match files.get(1) {
+        Some(text) => read_plan(alloc, text.as_slice()),
+        None => Ok(empty_plan(alloc)),
+    }
+}
+
+// Runs an image over the console's whole input, under a plan.
+fn execute<C: Console>(
+    alloc: Global,
+    image: &Image,
+    plan: &Plan,
+    steps: u64,
+    console: &mut C,
+) -> Outcome
     requires { image.now.1 ≡ standard_map }
-    ensures { TakesAndRuns (Runs (first_core_of image.now.0 standard_map) steps) result
+    ensures { TakesAndRuns (Runs (first_core_of image.now.0 standard_map) plan.now steps) result
         (C.shown console.old) (C.shown console.new) }
 {
     let input = match take_all(alloc, console) {
@@ -61,8 +108,7 @@ fn execute<C: Console>(alloc: Global, image: &Image, steps: u64, console: &mut C
     let Ok(mut machine) = Machine::load(alloc, image) else {
         return Outcome::OutOfMemory;
     };
-    let plan = empty_plan(alloc);
-    let end = run_machine(&mut machine, &plan, input.as_slice(), steps, console);
+    let end = run_machine(&mut machine, plan, input.as_slice(), steps, console);
     run_outcome(end, machine.pc())
 }
 

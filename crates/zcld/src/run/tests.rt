@@ -24,3 +24,21 @@ run echo.elf with c4 => -- 0 0 "inpu" "t"
 run echo.elf with c2 c3 => -- 123 0 "" """#;
     expect(&rt, lines)
 }
+
+// The store's call 0 reads the image, and call 1 the plan.
+#[test]
+fn an_image_runs_under_a_plan_that_is_judged_after_it(rt: HostRuntime) -> Result<(), Fail> {
+    let lines = r#"run load.elf => -- 0 0 "" "exited 0\n"
+run --plan below load.elf => -- 42 0 "" "exited 42\n"
+run --plan below --steps 3 load.elf => -- 42 0 "" "exited 42\n"
+run --steps 2 --plan below load.elf => -- 127 0 "" "spent\n"
+run --plan outside image => -- 3 0 "" "exited 3\n"
+run --plan number image => -- 125 5 "" "bad plan line 2\n"
+run --plan order image => -- 125 5 "" "bad plan order 3\n"
+run --plan order bad => -- 125 5 "" "bad image 1\n"
+run --plan y bad => -- 122 5 "" "read fault\n"
+run --plan below load.elf with s1 => -- 122 5 "" "read fault\n"
+run --plan below --plan below image => -- 120 5 "" "usage\n"
+run --plan => -- 120 5 "" "usage\n""#;
+    expect(&rt, lines)
+}
