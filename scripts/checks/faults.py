@@ -15,7 +15,9 @@ COMMANDS = (
     ('zc --cert cert --out out object', 0, ''), ('zc --out  --cert cert object', 123, 'write fault'),
     ('zc --out out --cert  object', 123, 'write fault'), ('zc --out out --cert cert object  object', 122, 'read fault'),
     ('plain --out  object', 123, 'write fault'), ('plain --out out object  object', 122, 'read fault'),
-    ('run ', 122, 'read fault'), ('run --steps 3 image', 3, 'exited 3'), ('run --steps 0 image', 127, 'spent'),
+    ('run ', 122, 'read fault'), ('run --plan  image', 122, 'read fault'), ('run --plan plan image', 3, 'exited 3'),
+    ('run --plan plan --steps 3 image', 3, 'exited 3'), ('run --steps 2 --plan plan image', 127, 'spent'),
+    ('run --steps 3 image', 3, 'exited 3'), ('run --steps 0 image', 127, 'spent'),
     ('run --steps 1000000000 image', 3, 'exited 3'), ('run --steps 00000000000000000003 image', 3, 'exited 3'),
     ('run --steps 00000000000000000002 image', 127, 'spent'), ('trace --steps 3 object', 3, 'exited 3'),
     ('trace --steps 0 object', 127, 'spent'), ('trace --steps 00000000001000000000 object', 3, 'exited 3'),
@@ -38,6 +40,9 @@ zc --out out object
 zc --cert cert object
 plain --out out --cert cert object
 run --step 3 image
+run --Plan plan image
+zc --out out --cert cert --plan plan object
+trace --plan plan object
 run --out out image
 trace -steps 3 object
 run steps 3 image
@@ -46,12 +51,17 @@ plain --out out --out out object
 zc --out out --out cert object
 zc --out out --cert cert --out out object
 run --steps 3 --steps 3 image
+run --plan plan --plan plan image
+run --plan plan --steps 3 --plan plan image
 plain --out -o object
 zc --out -o --cert cert object
 zc --out out --cert - object
 zc --out --cert cert object
 run --steps -1 image
 run --steps
+run --plan - image
+run --plan --steps 3 image
+run --plan
 zc --out out --cert out object
 run -image
 zc --out out --cert cert -object
@@ -62,15 +72,20 @@ trace
 trace --steps 3
 zc --out out --cert cert
 run
+run --plan image
+run --steps 3 --plan plan
 run image image
 plain object --out out
 zc object --out out --cert cert
 run image --steps 3
+run image --plan plan
+run --plan plan image --steps 3
 trace object --steps 3
 zc --out out object --cert cert
 zc --out out --cert cert object --out out object
 run --steps  image
 trace --steps  object
+run --plan plan --steps  image
 run --steps +3 image
 run --steps 3x image
 run --steps 000000000000000000003 image
@@ -84,9 +99,10 @@ STUCK = ((NOP,), (lw(A0, A0),), (branch(0, A0, ZERO, 8), NOP, NOP), (jalr(ZERO, 
 
 def statuses(group):
     """each outcome's status and line"""
-    folder = group.folder(image=THREE_IMAGE, bad=b'bad', unread=object_of(words_of(0)), stuck=object_of(words_of(ECALL)),
-                          other=OTHER, illegal=image_of(words_of(0)), broken=image_of(words_of(EBREAK)),
-                          past=image_of(words_of(NOP)), **{f'code{k}': object_of(words_of(*it)) for k, it in enumerate(STUCK)},
+    folder = group.folder(image=THREE_IMAGE, bad=b'bad', order=b'zcld plan 1\ncut 1\ncut 0\n',
+                          unread=object_of(words_of(0)), stuck=object_of(words_of(ECALL)), other=OTHER,
+                          illegal=image_of(words_of(0)), broken=image_of(words_of(EBREAK)), past=image_of(words_of(NOP)),
+                          **{f'code{k}': object_of(words_of(*it)) for k, it in enumerate(STUCK)},
                           **{f'exit{k}': image_of(exit_code(k)) for k in (0, 117, 118, 255)})
     rows = (
         ('zc --out out --cert cert object', 0, ''), ('run image', 3, 'exited 3'), ('trace object', 3, 'exited 3'),
@@ -101,7 +117,8 @@ def statuses(group):
         ('zc --out o --cert c other', 121, 'refused 0 16 NoEntry'),
         ('trace other', 121, 'refused 0 16 NoEntry'), ('trace none', 122, 'read fault'), ('run none', 122, 'read fault'),
         ('zc --out o --cert c none', 122, 'read fault'), ('zc --out none/o --cert c object', 123, 'write fault'),
-        ('run object', 125, 'bad image 1'), ('run illegal', 126, 'stopped 1 Illegal 00010000'),
+        ('run object', 125, 'bad image 1'), ('run --plan bad image', 125, 'bad plan line 1'),
+        ('run --plan order image', 125, 'bad plan order 3'), ('run illegal', 126, 'stopped 1 Illegal 00010000'),
         ('trace stuck', 126, 'stuck 0 1 0 4 ArgumentUnknown'), ('trace unread', 126, 'stuck 0 1 0 8 NoInstruction'),
         ('run broken', 126, 'stopped 4 Break 00010000'), ('run past', 126, 'stopped 2 BadAccess 00010004'),
         ('trace code0', 126, 'stuck 0 1 4 8 NoInstruction'), ('trace other code0', 126, 'stuck 1 1 4 8 NoInstruction'),
@@ -119,10 +136,10 @@ def statuses(group):
 def words(group):
     """words that spell a command or none, and words that aren't UTF-8"""
     for call, status, line in COMMANDS:
-        folder = group.folder(image=THREE_IMAGE)
+        folder = group.folder(image=THREE_IMAGE, plan=b'zcld plan 1\n')
         group.ends(call, folder.run(call.split(' ')), status, line)
         folder.remove()
-    folder = group.folder(image=THREE_IMAGE, out=OLD, cert=OLD)
+    folder = group.folder(image=THREE_IMAGE, plan=b'zcld plan 1\n', out=OLD, cert=OLD)
     for call in NO_COMMANDS.splitlines():
         group.refused(call, folder.run(call.split(' ')), folder, 120, 'usage')
     group.done('the object by its own name', folder.link(out='object'), folder, out='object')

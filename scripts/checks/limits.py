@@ -21,7 +21,7 @@ def memories(folder):
 
 def little_memory(group):
     """little memory"""
-    folder = group.folder(image=THREE_IMAGE, object=LARGE)
+    folder = group.folder(image=THREE_IMAGE, object=LARGE, plan=b'zcld plan 1\n' + b'cut 0 a0 d0fffffff:2a\n' * 2000)
     seen = set()
     for memory in memories(folder):
         folder.write('out', OLD)
@@ -35,9 +35,11 @@ def little_memory(group):
             group.one_of(f'{memory} bytes: OUT', folder.read('out'), (OLD, LARGE_IMAGE))
             group.one_of(f'{memory} bytes: CERT', folder.read('cert'), (OLD,))
         group.alone(f'{memory} bytes', folder)
-        ended = folder.run(('run', 'image'), first=in_memory(memory))
-        group.one_of(f'run in {memory} bytes', (ended.status, ended.err), ((3, b'exited 3\n'), (124, b'out of memory\n')))
-        seen.add(ended.status)
+        for words in (('run', 'image'), ('run', '--plan', 'plan', 'image')):
+            ended = folder.run(words, first=in_memory(memory))
+            ends = (3, b'exited 3\n'), (124, b'out of memory\n')
+            group.one_of(f'{words} in {memory} bytes', (ended.status, ended.err), ends)
+            seen.add(ended.status)
     group.same('each end was seen', seen, {0, 3, 124})
 
 

@@ -50,8 +50,8 @@ def check_fault(group, call, fault, refused, out, cert):
 
 
 def faults_of_run(group):
-    """Faults at each system call of a run of an image."""
-    folder, words = group.folder(image=THREE_IMAGE), ('run', 'image')
+    """Faults at each system call of a run of an image under a plan."""
+    folder, words = group.folder(image=THREE_IMAGE, plan=b'zcld plan 1\ncut 0\n'), ('run', '--plan', 'plan', 'image')
     for call in strace.calls_of(words, folder, 'image'):
         for error, refusal in (('EIO', (122, b'read fault\n')), ('ENOMEM', (124, b'out of memory\n'))):
             ended = folder.run(words, before=call.fault(f'error={error}'))

@@ -3,6 +3,7 @@
 
 ghost use Rattle.std.specs.Prelude.{◌≡◌, IfOk, None};
 
+mod frames;
 mod rows;
 
 use crate::row::{bytes_of, column, end_of, number_of, shown};
@@ -86,6 +87,82 @@ fn halfwords_do_what_they_stand_for(rt: HostRuntime) -> Result<(), Fail> {
 #[test]
 fn programs_end_with_their_status_or_reason(rt: HostRuntime) -> Result<(), Fail> {
     expect_runs(&rt, PROGRAMS, "")
+}
+
+// The numbers are those of `fuzz/frames.py`.
+#[test]
+fn pushes_and_pops_leave_what_the_model_says(rt: HostRuntime) -> Result<(), Fail> {
+    assert_eq!(rt; frames::all_lists(rt.alloc())?, 0x6A4C_6C09);
+    assert_eq!(rt; frames::all_ends(rt.alloc())?, 0x21B7_06AB);
+    Ok(())
+}
+
+// Makes so many steps.
+fn go(machine: &mut Machine, steps: u32) {
+    for _k in 0..steps {
+        if machine.commits() < 99 {
+            machine.step();
+        }
+    }
+}
+
+// pc, sp, ra, s0 and a0, and the eight bytes below the stack's end.
+fn frame_text(alloc: Global, machine: &Machine) -> Result<String, Fail> {
+    let mut text = format!(in alloc; "{:x}", machine.pc())?;
+    for number in [2, 1, 8, 10] {
+        let word = machine.register(Reg::new(number).ok_or("no register")?);
+        text.push_str(format!(in alloc; " {word:x}")?.as_str())?;
+    }
+    let bytes = machine.piece(0x0FFF_FFF8, 8).ok_or("no memory")?;
+    Ok(format!(in alloc; "{text} {bytes:?}")?)
+}
+
+// A push is interrupted after its first access, by what then overwrites that word; and then a pop is, once after each access.
+#[test]
+fn an_interrupted_push_or_pop_starts_again(rt: HostRuntime) -> Result<(), Fail> {
+    // lui ra,0x10; addi ra,ra,16; lui s0,0x11223; addi s0,s0,0x344; cm.push {ra, s0}, -16
+    // c.li a0,9; c.li ra,0; c.li s0,0; cm.popretz {ra, s0}, 16
+    let text = "000100B7 01008093 11223437 34440413 B852 4525 4081 4401 BC52";
+    let mut machine = load(rt.alloc(), text)?;
+    go(&mut machine, 4);
+    let dirt = [
+        (0x0FFF_FFFC, 0xEE),
+        (0x0FFF_FFFD, 0xEE),
+        (0x0FFF_FFFE, 0xEE),
+        (0x0FFF_FFFF, 0xEE),
+    ];
+    machine.cut(&[0], &dirt);
+    let cut = frame_text(rt.alloc(), &machine)?;
+    assert_eq!(rt;
+        cut.as_str(),
+        "10010 10000000 10010 11223344 0 [0, 0, 0, 0, 238, 238, 238, 238]"
+    );
+    go(&mut machine, 1);
+    let pushed = frame_text(rt.alloc(), &machine)?;
+    assert_eq!(rt;
+        pushed.as_str(),
+        "10012 ffffff0 10010 11223344 0 [16, 0, 1, 0, 68, 51, 34, 17]"
+    );
+    go(&mut machine, 3);
+    machine.cut(&[0], &[]);
+    let once = frame_text(rt.alloc(), &machine)?;
+    assert_eq!(rt;
+        once.as_str(),
+        "10018 ffffff0 0 11223344 9 [16, 0, 1, 0, 68, 51, 34, 17]"
+    );
+    machine.cut(&[1], &[]);
+    let twice = frame_text(rt.alloc(), &machine)?;
+    assert_eq!(rt;
+        twice.as_str(),
+        "10018 ffffff0 10010 11223344 9 [16, 0, 1, 0, 68, 51, 34, 17]"
+    );
+    go(&mut machine, 1);
+    let popped = frame_text(rt.alloc(), &machine)?;
+    assert_eq!(rt;
+        popped.as_str(),
+        "10010 10000000 10010 11223344 0 [16, 0, 1, 0, 68, 51, 34, 17]"
+    );
+    Ok(())
 }
 
 // Makes a step, and says what it answers.

@@ -1,10 +1,12 @@
-//! Tests of the two machines: worked examples over small programs. They stand apart since a crate with tests is proved
-//! twice, and so the machines' own crates have none.
+//! Tests of the two machines, over small programs, and of the texts of plans. They stand apart since a crate with tests is
+//! proved twice, and so these crates have none of their own.
 #![tactic(auto)]
 
 #[cfg(test)]
 mod images;
 #[cfg(test)]
 mod objects;
+#[cfg(test)]
+mod plans;
 #[cfg(test)]
 mod row;

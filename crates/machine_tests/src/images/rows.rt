@@ -48,8 +48,16 @@ FFFFF537 00000263 00100073 | ends stopped 4 Break 10008 fffff000
 00500513 02054533 FFF11583 | ends stopped 3 Misaligned 10008 ffffffff
 # jal a0,4; lw a1,0(sp), past the stack; fence
 0040056F 00012583 0FF0000F | ends stopped 2 BadAccess 10004 10004
-# addi a0,x0,1; csrrw on jvt
-00100513 01729073 00000000 | ends stopped 1 Illegal 10004 1
+# lui t1,0x12345; addi t1,t1,0x6FF; csrrw x0,jvt,t1; csrrw a0,jvt,x0: jvt's low six bits are 0
+12345337 6FF30313 01731073 01701573 | steps 4 | ends spent 10010 123456c0
+# lui t1,0x10; csrrw x0,jvt,t1; cm.jt 4, whose entry ends where the code does; c.nop
+00010337 01731073 A012 0001 00000000 0001000B | steps 3 | ends spent 1000a 0
+# the same with cm.jt 5, whose entry comes after that
+00010337 01731073 A016 0001 00000000 0001000B | steps 3 | ends stopped 2 BadAccess 10008 0
+# addi t1,x0,-64; csrrw x0,jvt,t1; cm.jt 16, whose entry is at 0
+FC000313 01731073 A042 | steps 3 | ends stopped 2 BadAccess 10008 0
+# addi x0,sp,0, which is an entry too; lui t1,0x10; addi t1,t1,-128; csrrw x0,jvt,t1; cm.jalt 32; c.mv a0,ra
+00010013 00010337 F8030313 01731073 A082 8506 | steps 6 | ends spent 10014 10012
 # c.li a0,4; c.nop; c.ebreak
 4511 0001 9002 | ends stopped 4 Break 10004 4
 # c.li a0,3; addi a7,x0,93; ecall, for so many commits

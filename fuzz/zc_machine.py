@@ -1,0 +1,392 @@
+"""Runs an image under a plan of interrupts, as `run` does.
+
+    fuzz/zc_machine.py [--plan PLAN] [--steps N] IMAGE
+
+takes standard input, writes what the program writes, and ends like `run`. It knows nothing of the program, so that both can be
+compared: it follows the RISC-V unprivileged manual ("RV32I", "M", "RVC Instruction Set Listings") and the RISC-V Zc specification
+1.0 ("Zcb", "Zcmp", "Zcmt"). It looks at an image and at a plan only as far as they have no fault.
+"""
+import argparse
+import os
+import sys
+
+sys.path.insert(0, os.path.join(os.path.dirname(os.path.abspath(__file__)), os.pardir, 'scripts'))
+
+from symbolic_machine import MASK, computed, holds
+from zcld_tools.files import read
+from zcld_tools.images import STACK_HIGH, STACK_LOW, segments
+from zcld_tools.elf import EXECUTE
+from zcld_tools.instructions import (A0, A1, A2, A7, EBREAK, ECALL, EXIT_CALL, OPCODE_AUIPC, OPCODE_FENCE, OPCODE_IMMEDIATE,
+                                     OPCODE_JAL, OPCODE_JALR, OPCODE_LOAD, OPCODE_LUI, OPCODE_REGISTER, RA, READ_CALL, S0, SP,
+                                     WRITE_CALL, ZERO, addi, branch, branch_distance, immediate, is_branch, is_store, jal,
+                                     jal_distance, jalr, load, low_part, lui, lw, of_format_r, signed, store, sw)
+
+ILLEGAL, BAD_ACCESS, MISALIGNED, BREAK, UNKNOWN_CALL = range(1, 6)
+NAMES = (None, 'Illegal', 'BadAccess', 'Misaligned', 'Break', 'UnknownCall')
+OPCODE_SYSTEM, JVT = 0x73, 0x017
+# The registers that a list may have, from ra on, and the bytes of a frame by how many it has.
+SAVED = (RA, S0, S0 + 1, *range(18, 28))
+PUSH, POP, POPRETZ, POPRET = 'cm.push', 'cm.pop', 'cm.popretz', 'cm.popret'
+LIST_FORMS = {0b11000: PUSH, 0b11010: POP, 0b11100: POPRETZ, 0b11110: POPRET}
+
+
+class Stopped(Exception):
+    """A commit that can't be made, by its number."""
+
+
+def bits(value, high, low=None):
+    """The bits of a value from one place down to another, as a number."""
+    low = high if low is None else low
+    return value >> low & (1 << high - low + 1) - 1
+
+
+def joined(value, *pieces):
+    """The number whose pieces stand in a value: each piece is its lowest place in the number, and its places in the value."""
+    return sum(bits(value, *places) << at for at, *places in pieces)
+
+
+# ---- halfwords of Zca and Zcb, as the words that do the same
+
+
+def expanded(half):
+    """The word of a halfword, or none."""
+    quadrant = (quadrant_0, quadrant_1, quadrant_2)[half & 3]
+    return quadrant(half, half >> 13, 8 + bits(half, 4, 2), 8 + bits(half, 9, 7))
+
+
+def quadrant_0(half, group, low, high):
+    if group == 0:
+        value = joined(half, (4, 12, 11), (6, 10, 7), (2, 6), (3, 5))
+        return addi(low, SP, value) if value else None
+    if group in (2, 6):
+        value = joined(half, (3, 12, 10), (2, 6), (6, 5))
+        return lw(low, high, value) if group == 2 else sw(low, high, value)
+    if group == 4:
+        byte, pair, row = joined(half, (0, 6), (1, 5)), bits(half, 5) << 1, bits(half, 12, 10)
+        return {0: load(4, low, high, byte), 1: load(1 if bits(half, 6) else 5, low, high, pair), 2: store(0, low, high, byte),
+                3: None if bits(half, 6) else store(1, low, high, pair)}.get(row)
+    return None
+
+
+def quadrant_1(half, group, low, high):
+    register, value = bits(half, 11, 7), signed(joined(half, (5, 12), (0, 6, 2)), 6)
+    if group in (1, 5):
+        places = (11, 12), (4, 11), (8, 10, 9), (10, 8), (6, 7), (7, 6), (1, 5, 3), (5, 2)
+        return jal(RA if group == 1 else ZERO, signed(joined(half, *places), 12))
+    if group >= 6:
+        return branch(group - 6, high, ZERO, signed(joined(half, (8, 12), (3, 11, 10), (6, 6, 5), (1, 4, 3), (5, 2)), 9))
+    if group == 3:
+        wide = signed(joined(half, (9, 12), (4, 6), (6, 5), (7, 4, 3), (5, 2)), 10)
+        if value == 0:
+            return None
+        return addi(SP, SP, wide) if register == SP else lui(register, value)
+    if group == 4:
+        return operation(half, low, high, value)
+    return addi(register, ZERO if group == 2 else register, value)
+
+
+def operation(half, low, high, value):
+    row = bits(half, 11, 10)
+    if row < 2:
+        return None if bits(half, 12) else immediate(5, high, high, row << 10 | bits(half, 6, 2))
+    if row == 2:
+        return immediate(7, high, high, value)
+    which = bits(half, 12) << 2 | bits(half, 6, 5)
+    if which == 7:
+        return {0: immediate(7, high, high, 255), 5: immediate(4, high, high, -1)}.get(bits(half, 4, 2))
+    found = {0: (0x20, 0), 1: (0, 4), 2: (0, 6), 3: (0, 7), 6: (1, 0)}.get(which)
+    return of_format_r(*found, high, high, low) if found else None
+
+
+def quadrant_2(half, group, low, high):
+    register, second = bits(half, 11, 7), bits(half, 6, 2)
+    if group == 0:
+        return None if bits(half, 12) else immediate(1, register, register, second)
+    if group == 2:
+        return lw(register, SP, joined(half, (5, 12), (2, 6, 4), (6, 3, 2))) if register else None
+    if group == 6:
+        return sw(second, SP, joined(half, (2, 12, 9), (6, 8, 7)))
+    if group == 4:
+        if second:
+            return of_format_r(0, 0, register, register if bits(half, 12) else ZERO, second)
+        if register:
+            return jalr(RA if bits(half, 12) else ZERO, register)
+        return EBREAK if bits(half, 12) else None
+    return None
+
+
+# ---- Zcmp and Zcmt
+
+
+class Frame:
+    """A push or pop: its form, the registers in the order of its accesses, and how far it moves sp."""
+
+    def __init__(self, form, number, more):
+        count = 13 if number == 15 else number - 3
+        self.form, self.registers = form, SAVED[:count][::-1]
+        self.size = (4 * count + 15 & ~15) + 16 * more
+
+    def top(self, pointer):
+        """The address below which the words lie, by sp before the instruction."""
+        return pointer if self.form == PUSH else pointer + self.size & MASK
+
+    def accesses(self, pointer):
+        return [(self.top(pointer) - 4 * (j + 1) & MASK, register) for j, register in enumerate(self.registers)]
+
+
+def frame_of(half):
+    """The push or pop of a halfword, or none."""
+    form = LIST_FORMS.get(bits(half, 12, 8))
+    if half & 3 != 2 or half >> 13 != 5 or form is None or bits(half, 7, 4) < 4:
+        return None
+    return Frame(form, bits(half, 7, 4), bits(half, 3, 2))
+
+
+def moved_registers(half):
+    """The s registers that a move names, r1s' first."""
+    return [S0 + code if code < 2 else 16 + code for code in (bits(half, 9, 7), bits(half, 4, 2))]
+
+
+# ---- the machine
+
+
+class Machine:
+    """The state of a run: registers, jvt, pc, memory, the input that is left, what was written, and the commits so far."""
+
+    def __init__(self, image, given):
+        self.given, self.written, self.commits = given, {1: b'', 2: b''}, 0
+        self.regions = [[segment.address, bytearray(segment.content.ljust(segment.size, b'\0')), bool(segment.flags & EXECUTE)]
+                        for segment in segments(image)]
+        self.regions.append([STACK_LOW, bytearray(STACK_HIGH - STACK_LOW), False])
+        self.registers, self.jvt, self.pc = [0] * 32, 0, int.from_bytes(image[24:28], 'little')
+        self.registers[SP] = STACK_HIGH
+
+    # memory
+
+    def place(self, at, size, is_code=False):
+        """The cells of a region and where an access begins in them, or none."""
+        for start, cells, code in self.regions:
+            if code == is_code and start <= at and at + size <= start + len(cells):
+                return cells, at - start
+        return None
+
+    def reach(self, at, size):
+        """The same of data at a multiple of its size, or a stop."""
+        if at % size:
+            raise Stopped(MISALIGNED)
+        found = self.place(at, size)
+        if found is None:
+            raise Stopped(BAD_ACCESS)
+        return found
+
+    def fetch(self, at, size):
+        found = self.place(at, size, True)
+        if found is None:
+            raise Stopped(BAD_ACCESS)
+        cells, index = found
+        return int.from_bytes(cells[index:index + size], 'little')
+
+    def load(self, at, size):
+        cells, index = self.reach(at, size)
+        return int.from_bytes(cells[index:index + size], 'little')
+
+    def store(self, at, size, word):
+        cells, index = self.reach(at, size)
+        cells[index:index + size] = (word & (1 << 8 * size) - 1).to_bytes(size, 'little')
+
+    def set(self, register, word):
+        if register:
+            self.registers[register] = word & MASK
+
+    # interrupts
+
+    def interrupt(self, done, dirt):
+        """The accesses with these numbers are made of the push or pop at pc, and then these bytes are written below sp."""
+        for address, register in self.numbered(done):
+            if address % 4 == 0 and self.place(address, 4):
+                self.access(address, register, self.frame().form == PUSH)
+        for address, byte in dirt:
+            if STACK_LOW <= address < min(STACK_HIGH, self.registers[SP]):
+                self.regions[-1][1][address - STACK_LOW] = byte
+
+    def frame(self):
+        try:
+            return frame_of(self.fetch(self.pc, 2))
+        except Stopped:
+            return None
+
+    def numbered(self, numbers):
+        frame = self.frame()
+        accesses = frame.accesses(self.registers[SP]) if frame else []
+        return [accesses[number] for number in numbers if number < len(accesses)]
+
+    def access(self, address, register, saves):
+        if saves:
+            self.store(address, 4, self.registers[register])
+        else:
+            self.set(register, self.load(address, 4))
+
+    # commits
+
+    def commit(self):
+        """Makes a commit, and gives the status if it was the exit."""
+        half = self.fetch(self.pc, 2)
+        status = None
+        if half & 3 == 3:
+            status = self.word(self.fetch(self.pc, 4), 4)
+        elif half & 3 == 2 and half >> 13 == 5:
+            self.fused(half)
+        else:
+            word = expanded(half)
+            if word is None:
+                raise Stopped(ILLEGAL)
+            status = self.word(word, 2)
+        self.commits += 1
+        return status
+
+    def fused(self, half):
+        """Zcmp and Zcmt."""
+        frame, row, which = frame_of(half), bits(half, 12, 10), bits(half, 6, 5)
+        if frame:
+            self.move_frame(frame)
+        elif row == 0:
+            self.jump_by_table(bits(half, 9, 2))
+        elif row == 3 and which in (1, 3):
+            first, second = moved_registers(half)
+            if which == 1 and first == second:
+                raise Stopped(ILLEGAL)
+            pairs = ((first, A0), (second, A1)) if which == 1 else ((A0, first), (A1, second))
+            words = [self.registers[source] for _, source in pairs]
+            for (to, _), word in zip(pairs, words):
+                self.set(to, word)
+            self.pc = self.pc + 2 & MASK
+        else:
+            raise Stopped(ILLEGAL)
+
+    def move_frame(self, frame):
+        pointer = self.registers[SP]
+        accesses = frame.accesses(pointer)
+        for address, _ in accesses:
+            self.reach(address, 4)
+        for address, register in accesses:
+            self.access(address, register, frame.form == PUSH)
+        self.set(SP, pointer - frame.size if frame.form == PUSH else pointer + frame.size)
+        self.pc = self.registers[RA] & ~1 if frame.form in (POPRET, POPRETZ) else self.pc + 2 & MASK
+        if frame.form == POPRETZ:
+            self.set(A0, 0)
+
+    def jump_by_table(self, index):
+        target = self.fetch(self.jvt + 4 * index & MASK, 4) & ~1
+        if index >= 32:
+            self.set(RA, self.pc + 2)
+        self.pc = target
+
+    def word(self, word, size):
+        """An instruction of RV32IM, of this size."""
+        opcode, f3, to = word & 0x7F, word >> 12 & 7, word >> 7 & 31
+        first, second = self.registers[word >> 15 & 31], self.registers[word >> 20 & 31]
+        after = self.pc + size & MASK
+        if word == ECALL:
+            return self.environment(after)
+        if word == EBREAK:
+            raise Stopped(BREAK)
+        result, target = self.result(word, opcode, f3, first, second, after)
+        self.set(to if result is not None else 0, result or 0)
+        self.pc = target
+        return None
+
+    def result(self, word, opcode, f3, first, second, after):
+        """What goes to rd, or none, and the next pc."""
+        f7 = word >> 25
+        if opcode == OPCODE_LUI:
+            return word & 0xFFFFF000, after
+        if opcode == OPCODE_AUIPC:
+            return self.pc + (word & 0xFFFFF000) & MASK, after
+        if opcode == OPCODE_JAL:
+            return after, self.pc + jal_distance(word) & MASK
+        if opcode == OPCODE_JALR and f3 == 0:
+            return after, first + low_part(word) & MASK & ~1
+        if is_branch(word):
+            return None, self.pc + branch_distance(word) & MASK if holds(f3, first, second) else after
+        if opcode == OPCODE_LOAD and f3 in (0, 1, 2, 4, 5):
+            size = 1 << f3 % 4
+            found = self.load(first + low_part(word) & MASK, size)
+            return signed(found, 8 * size) & MASK if f3 < 4 else found, after
+        if is_store(word):
+            self.store(first + low_part(word) & MASK, 1 << f3, second)
+            return None, after
+        if opcode == OPCODE_IMMEDIATE and (f3 not in (1, 5) or f7 == 0 or (f7, f3) == (0x20, 5)):
+            value = low_part(word)
+            return computed(f7, f3, first, value & 31) if f3 in (1, 5) else computed(0, f3, first, value & MASK), after
+        if opcode == OPCODE_REGISTER and (f7 in (0, 1) or f7 == 0x20 and f3 in (0, 5)):
+            return computed(f7, f3, first, second), after
+        if opcode == OPCODE_FENCE and f3 == 0:
+            return None, after
+        if opcode == OPCODE_SYSTEM and f3 == 1 and word >> 20 == JVT:
+            old, self.jvt = self.jvt, first & ~63
+            return old, after
+        raise Stopped(ILLEGAL)
+
+    def environment(self, after):
+        which, first, at, size = (self.registers[register] for register in (A7, A0, A1, A2))
+        if which == EXIT_CALL:
+            return first & 255
+        if which not in (READ_CALL, WRITE_CALL) or first not in ((0,) if which == READ_CALL else (1, 2)):
+            raise Stopped(UNKNOWN_CALL)
+        cells, index = self.place(at, size) or (None, None) if size else (b'', 0)
+        if cells is None:
+            raise Stopped(BAD_ACCESS)
+        if which == READ_CALL:
+            taken, self.given = self.given[:size], self.given[size:]
+            if taken:
+                cells[index:index + len(taken)] = taken
+            self.set(A0, len(taken))
+        else:
+            self.written[first] += bytes(cells[index:index + size])
+            self.set(A0, size)
+        self.pc = after
+        return None
+
+
+def plan_in(text):
+    """The interrupts of a plan without a fault: the commit, the accesses that were done, and the bytes that are written."""
+    interrupts = []
+    for line in text.decode().splitlines()[1:]:
+        _, at, *rest = line.split(' ')
+        dirt = [word[1:].split(':') for word in rest if word[0] == 'd']
+        interrupts.append((int(at), [int(word[1:]) for word in rest if word[0] == 'a'],
+                           [(int(address, 16), int(byte, 16)) for address, byte in dirt]))
+    return interrupts
+
+
+def run(machine, interrupts, steps):
+    """The line that a run under a plan ends with."""
+    waiting = list(reversed(interrupts))
+    for commit in range(steps):
+        while waiting and waiting[-1][0] == commit:
+            machine.interrupt(*waiting.pop()[1:])
+        try:
+            status = machine.commit()
+        except Stopped as why:
+            number, = why.args
+            return f'stopped {number} {NAMES[number]} {machine.pc:08x}'
+        if status is not None:
+            return f'exited {status}'
+    return 'spent'
+
+
+def main():
+    arguments = argparse.ArgumentParser(description='Runs an image under a plan of interrupts.')
+    arguments.add_argument('image')
+    arguments.add_argument('--plan')
+    arguments.add_argument('--steps', type=int, default=10_000_000)
+    given = arguments.parse_args()
+    machine = Machine(read(given.image), sys.stdin.buffer.read())
+    line = run(machine, plan_in(read(given.plan)) if given.plan else [], given.steps)
+    sys.stdout.buffer.write(machine.written[1])
+    sys.stdout.flush()
+    sys.stderr.buffer.write(machine.written[2] + line.encode() + b'\n')
+
+
+if __name__ == '__main__':
+    main()
