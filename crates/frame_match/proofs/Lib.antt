@@ -1,5 +1,6 @@
 mod AccessLaws
 mod FoundLaws
+mod BeginLaws
 mod FrameLaws
 pub mod GroupLaws
 mod ListLaws

@@ -4,18 +4,20 @@ use Rattle.std.proofs.Common.{◌≡◌, ◌∙◌, ℕ, suc, ◌+◌, ◌<◌, 
 use Rattle.std.specs.Prelude.{◌⊎◌, filter, slice_index_or}
 use Rattle.std.specs.List.{flat_map, list_any, slice_get}
 use Rattle.std.specs.Option.{is_some, option_and_then, option_map_or}
-use Rattle.std.proofs.lemmas.Bool.{eqb-true, le-ltb, or_cases}
+use Rattle.std.proofs.lemmas.Bool.{eqb-true, false_from_ne_true, le-ltb, or_cases}
 use Rattle.std.proofs.lemmas.List.{length-map}
 use Rattle.std.proofs.lemmas.Option.{get_or_from_slice_get, none-some, same_Some, slice_get_within}
 use Rattle.zc_base.specs.declared.place.Place.{Place}
 use Rattle.elf32_read.specs.Parts.{SectionParts, is_code_section}
+use Rattle.psabi_sym.specs.Faults.{gather_fault}
 use Rattle.psabi_sym.specs.Inputs.{Inputs, ParsedInputs, parsed}
 use Rattle.psabi_sym.specs.Indexed.{IndexedSection, all_sections}
 use Rattle.psabi_sym.proofs.SectionNumbers.{has_number, number_of_section}
-use Rattle.block_cut.specs.Items.{all_items, code_at, index_on, is_start_at, item_at, item_in, items_in, place_of, starts_in, starts_on}
+use Rattle.block_cut.specs.Items.{all_items, code_at, index_on, is_end_at, is_start_at, is_target_at, item_at, item_in, items_in, place_of, starts_in, starts_on}
 use Rattle.block_cut.specs.Places.{IsPlaceNumber}
 use Rattle.block_cut.specs.declared.place_number.PlaceNumber.{PlaceNumber}
-use Rattle.block_cut.proofs.WholeLaws.{code_is_section}
+use Rattle.block_cut.proofs.StartLaws.{before_end_all}
+use Rattle.block_cut.proofs.WholeLaws.{code_is_section, code_whole}
 use Rattle.frame_match.specs.Groups.{first_of, groups_in, groups_of, items_behind, role_at, role_of, role_on, roles_from, roles_in, spot_on, Spot, ops_from}
 use Rattle.frame_match.specs.Matches.{longest_of}
 use Rattle.frame_match.specs.Invariants.Marks.{marks_from, section_marks, ArePlanned}
@@ -294,3 +296,70 @@ no_role inputs q h = by (code_at inputs.objects q) h
     by : (o : Option SectionParts) → option_map_or (λ s. starts_on s q.offset) o false ≡ false → option_and_then (role_on inputs q) o ≡ None
     by None e = refl
     by (Some s) e = ap (λ b. cond b (slice_get (roles_in inputs (record { object = q.object; index = q.section; section = s })) (index_on s q.offset)) None) e
+
+-- ---- a place of code
+
+-- there are as many marks as roles
+marks_count : (n : ℕ) (rs : List Role) → length (marks_from n rs) ≡ length rs
+marks_count n [] = refl
+marks_count n (Alone ∷ rs) = ap suc (marks_count n rs)
+marks_count n (First g ∷ rs) = ap suc (marks_count (n + 1) rs)
+marks_count n (Inside ∷ rs) = ap suc (marks_count n rs)
+
+-- its section's marks, by what the code reads: a mark for each item
+module _ (view now : Inputs) (groups : List Group) (sections : List (List Mark)) (same : view ≡ now) (are : ArePlanned (parsed view) groups sections)
+    (q : Place) (number : PlaceNumber) (has : IsPlaceNumber (parsed now).objects q number) where
+  abbrev p : ParsedInputs
+  p = parsed now
+
+  abbrev s : SectionParts
+  s = has.section
+
+  record HasMarks : Type 0 where
+    marks : List Mark
+    section : slice_get sections number.section ≡ Some marks
+    many : length marks ≡ length (starts_in s)
+
+  marks_there : HasMarks
+  marks_there =
+      let own = subst (λ x. ArePlanned (parsed x) groups sections) same are in
+      let all = all_sections p.objects in
+      let l : IndexedSection = record { object = q.object; index = q.section; section = s } in
+      let two = code_is_section p.objects q s has.here in
+      let there = number_of_section p.objects q.object q.section s two.0 in
+      let at : number.section ≡ there.0 = has.section_is ∙ sym (has_number p.objects there.0 l there.1).place in
+      let listed : slice_get all number.section ≡ Some l = ap (slice_get all) at ∙ there.1 in
+      let before = length (flat_map (groups_in p) (take number.section all)) in
+      let none : 0 + before ≡ before = omega arith in
+      record {
+        marks = marks_from before (roles_in p l);
+        section = ap (λ ms. slice_get ms number.section) own.marks_are ∙ section_get (roles_in p) 0 all number.section l listed
+            ∙ ap (λ n. Some (marks_from n (roles_in p l))) none;
+        many = marks_count before (roles_in p l) ∙ roles_length p l two.1;
+      }
+
+  pub place_within : number.section < length sections
+  place_within = slice_get_within sections number.section marks_there.marks marks_there.section
+
+  module _ (read : List Mark) (is : read ≡ slice_index_or sections number.section read) where
+    many_read : length read ≡ length (starts_in s)
+    many_read = ap length (is ∙ get_or_from_slice_get sections number.section marks_there.marks read marks_there.section) ∙ marks_there.many
+
+    -- an item starts there if it has a mark
+    pub marked_start : gather_fault now ≡ None → is_target_at p.objects q ≡ true → number.index < length read → is_start_at p.objects q ≡ true
+    marked_start none target less = by (or_cases (is_start_at p.objects q) (is_end_at p.objects q) target)
+      where
+        by : (is_start_at p.objects q ≡ true) ⊎ (is_end_at p.objects q ≡ true) → is_start_at p.objects q ≡ true
+        by (inl start) = start
+        by (inr end) =
+            let two = code_is_section p.objects q s has.here in
+            let whole = code_whole now q s none has.here in
+            let over : q.offset ≡ length s.bytes = eqb-true _ _ (ap (λ o. option_map_or (λ t. eqb q.offset (length t.bytes)) o false) (sym has.here) ∙ end) in
+            let all : index_on s q.offset ≡ length (starts_in s) = ap (index_on s) over ∙ ap length (before_end_all s two.1 whole) in
+            absurd (omega (arith, less, all, has.index_is, many_read))
+
+    -- and none if it hasn't
+    pub unmarked_start : length read ≤ number.index → is_start_at p.objects q ≡ false
+    unmarked_start over = false_from_ne_true (is_start_at p.objects q) (λ start.
+        let starts : starts_on s q.offset ≡ true = sym (ap (λ o. option_map_or (λ t. starts_on t q.offset) o false) has.here) ∙ start in
+        omega (arith, over, has.index_is, filter_less q.offset (starts_in s) starts, many_read))

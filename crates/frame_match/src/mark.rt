@@ -28,6 +28,13 @@ impl Model for Marks {
 }
 
 impl Marks {
+    /// How many items are in the section.
+    pub fn len(&self) -> usize
+        ensures { result ≡ length self.now }
+    {
+        self.marks.len()
+    }
+
     /// What is kept of an item, by its index.
     pub fn get(&self, index: u32) -> Mark
         requires { index < length self.now }

@@ -3,7 +3,7 @@
 ghost use Rattle.std.specs.Prelude.{◌≡◌, ◌<◌, IfOk, Some, length, slice_get, true};
 ghost use Rattle.zc_base.specs.declared.place.Place.{Place};
 ghost use Rattle.psabi_sym.specs.Inputs.{parsed};
-ghost use Rattle.block_cut.specs.Items.{is_start_at};
+ghost use Rattle.block_cut.specs.Items.{is_start_at, is_target_at};
 ghost use Rattle.block_cut.specs.Places.{IsPlaceNumber};
 ghost use Rattle.frame_match.specs.Groups.{groups_of, role_at};
 ghost use Rattle.frame_match.specs.Invariants.Marks.{ArePlanned, HasItem};
@@ -103,16 +103,30 @@ impl Planned {
         }
     }
 
+    /// What the item at a place is to groups, by where the place stands among all, if an item starts there: a section
+    /// may end there.
+    pub fn role_by(&self, number: PlaceNumber) -> Option<Role>
+        requires { (q : Place) × (is_target_at (parsed self.now).objects q ≡ true)
+            × IsPlaceNumber (parsed self.now).objects q number }
+        ensures { (q : Place) → is_target_at (parsed self.now).objects q ≡ true
+            → IsPlaceNumber (parsed self.now).objects q number → result ≡ role_at (parsed self.now) q }
+    {
+        // This call says that no fault stands in the objects, so a section ends behind its last item.
+        let _count = self.cut.objects().section_count();
+        if (number.index as usize) < self.sections[number.section as usize].len() {
+            Some(self.role_at(number))
+        } else {
+            None
+        }
+    }
+
     /// What the item at a place is to groups, if one starts there.
     pub fn role(&self, p: Place) -> Option<Role>
         ensures { result ≡ role_at (parsed self.now) p }
     {
-        if self.cut.item(p).is_none() {
-            return None;
-        }
         match self.cut.number(p) {
             None => None,
-            Some(number) => Some(self.role_at(number)),
+            Some(number) => self.role_by(number),
         }
     }
 

@@ -3,6 +3,7 @@
 ghost use Rattle.std.specs.Prelude.{◌≡◌, IfSome};
 ghost use Rattle.frame_match.specs.Read as read;
 ghost use Rattle.frame_match.specs.Read.{is_return_instr, is_zero_instr, move_of, op_of as op_of_item, slot_from, slot_of as slot_of_instr, sp_move_of};
+ghost use Rattle.frame_match.specs.Invariants.Runs as runs;
 ghost use Rattle.frame_match.specs.declared.slot.Access.TheVariants.{Restores, Saves};
 
 use crate::found::Move;
@@ -184,6 +185,15 @@ fn is_return_jump(instr: &Instr) -> bool
         Instr::Jalr { rd, base, imm } => rd.number() == 0 && base.number() == 1 && *imm == 0,
         _ => false,
     }
+}
+
+/// Whether a push, a pop or moves may begin with an instruction: it restores a register, moves one, lowers the stack
+/// pointer or sets a0 to 0.
+pub fn may_begin(instr: &Instr) -> bool
+    ensures { result ≡ runs.may_begin instr.now }
+{
+    restored_slot(instr).is_some()
+        || (move_in(instr).is_some() || (lowered(Some(*instr)).is_some() || is_zero_move(instr)))
 }
 
 /// Whether an instruction returns.

@@ -35,8 +35,8 @@ impl<'a> Model for Run<'a> {
     ghost invariant = { λ run. AreOps run.places.now };
 }
 
-// The instruction at a place, if it has no relocation.
-fn op_at(place: &CodePlace) -> Option<Instr>
+/// The instruction at a place, if it has no relocation.
+pub fn op_at(place: &CodePlace) -> Option<Instr>
     ensures { result ≡ op_in place.now }
 {
     match &place.item {

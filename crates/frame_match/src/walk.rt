@@ -4,17 +4,19 @@ ghost use Rattle.std.specs.Prelude.{◌≡◌, ◌<◌, ◌≤◌, ◌^◌, ◌+
 ghost use Rattle.psabi_sym.specs.Indexed.{all_sections, IndexedSection};
 ghost use Rattle.psabi_sym.specs.Inputs.{parsed};
 ghost use Rattle.std.specs.List.{flat_map};
+ghost use Rattle.std.specs.Option.{option_and_then};
 ghost use Rattle.block_cut.specs.Items.{items_in, place_of};
 ghost use Rattle.frame_match.specs.declared.mark.Mark.TheVariants.{Start};
 ghost use Rattle.frame_match.specs.Matches.{longest_of};
 ghost use Rattle.frame_match.specs.Groups.{group_at, groups_in, roles_in};
 ghost use Rattle.frame_match.specs.Invariants.Marks.{groups_after, marks_after, marks_from, WalksOn};
-ghost use Rattle.frame_match.specs.Invariants.Runs.{run_of, spots_of, ArePlacesOf};
+ghost use Rattle.frame_match.specs.Invariants.Runs.{begins_with, op_in, run_of, spots_of, ArePlacesOf};
 
 use crate::found::Found;
 use crate::group::Group;
 use crate::mark::Mark;
-use crate::run::{Run, place_in};
+use crate::read::may_begin;
+use crate::run::{Run, op_at, place_in};
 use crate::search::longest;
 use block_cut::code_place::CodePlace;
 use block_cut::cut::Cut;
@@ -30,12 +32,30 @@ pub struct Walk {
     pub left: u32,
 }
 
-// What the instructions from the first of some places of a section on come to.
+// Whether a group may begin with the first of some places.
+fn begins(places: &[CodePlace]) -> bool
+    ensures { result ≡ begins_with (option_and_then op_in (slice_get places.now 0)) }
+{
+    match places.get(0) {
+        Some(place) => match op_at(place) {
+            Some(instr) => may_begin(&instr),
+            None => false,
+        },
+        None => false,
+    }
+}
+
+// What the instructions from the first of some places of a section on come to. Few may begin a group, so most items are
+// looked at once.
 fn found_at(cut: &Cut, section: &SectionRef, places: &[CodePlace]) -> Option<Found>
     requires { ArePlacesOf (parsed cut.now) section.now places.now }
     ensures { result ≡ longest_of (run_of (spots_of (parsed cut.now) section.now places.now)) }
 {
-    longest(&Run::new(cut, section, places))
+    if begins(places) {
+        longest(&Run::new(cut, section, places))
+    } else {
+        None
+    }
 }
 
 impl Walk {

@@ -1,13 +1,14 @@
 -- Instructions one after another, as the code holds them.
 use Rattle.std.specs.Prelude.{◌≡◌, ◌≤◌, ◌<◌, ℕ, Bool, true, false, not, ◌&&◌, ◌||◌, ◌==◌, List, [], ◌∷◌, length, map, slice_get, Option, Some}
-use Rattle.std.specs.Option.{is_some, option_and_then}
+use Rattle.std.specs.Option.{is_some, option_and_then, option_map_or}
 use Rattle.psabi_sym.specs.Inputs.{ParsedInputs}
 use Rattle.psabi_sym.specs.Indexed.{IndexedSection}
 use Rattle.rv_decode.specs.declared.instr.Instr.{Instr}
 use Rattle.block_cut.specs.Places.{code_place}
 use Rattle.block_cut.specs.declared.code_place.CodePlace.{CodePlace}
 use Rattle.frame_match.specs.Groups.{op_then, ops_from, spot_on, Spot}
-use Rattle.frame_match.specs.Read.{op_of}
+use Rattle.frame_match.specs.Read.{is_zero_instr, lowered, move_of, op_of, slot_of}
+use Rattle.frame_match.specs.declared.slot.Access.TheVariants.{Restores}
 
 -- ---- instructions at places
 
@@ -23,6 +24,13 @@ ops_of (p ∷ ps) = op_then (op_in p) (ops_of ps)
 -- each place has one
 abbrev pub AreOps : List CodePlace → Type 0
 AreOps ps = (k : ℕ) (p : CodePlace) → slice_get ps k ≡ Some p → is_some (op_in p) ≡ true
+
+-- a push, a pop or moves may begin with an instruction: it restores a register, moves one, lowers sp or sets a0 to 0
+abbrev pub may_begin : Instr → Bool
+may_begin i = is_some (slot_of Restores i) || (is_some (move_of i) || (is_some (lowered (Some i)) || is_zero_instr i))
+
+abbrev pub begins_with : Option Instr → Bool
+begins_with i = option_map_or may_begin i false
 
 -- ---- places of a section
 
