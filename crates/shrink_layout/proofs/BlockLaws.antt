@@ -7,7 +7,7 @@ use Rattle.std.proofs.lemmas.Bool.{cases_lt}
 use Rattle.std.proofs.lemmas.Nat.Gcd.{dvd_of_mod-eq-zero, dvd_trans, mod-eq-zero_of_dvd}
 use Rattle.psabi_reloc.specs.Reaches.{branch_reach, short_branch_reach, short_jump_reach}
 use Rattle.shrink_layout.specs.declared.piece.Piece.{Piece}
-use Rattle.shrink_layout.specs.declared.piece.Piece.TheVariants.{Fixed, Align, Branch, Jump}
+use Rattle.shrink_layout.specs.declared.piece.Piece.TheVariants.{Fixed, Joined, Align, Branch, Jump}
 use Rattle.shrink_layout.specs.Invariants.Blocks.{AreTested, IsMovedBy, IsSameStep, IsStep, IsStill, IsUnchanged, OthersFit, block_size, nth_piece}
 use Rattle.shrink_layout.specs.Forms.{HasAlignment, distance, holds, longest, target, width}
 use Rattle.shrink_layout.specs.Layout.{addresses_of, holds_at}
@@ -62,6 +62,7 @@ addresses_by_steps = steps_from
 -- a piece takes as many bytes at two addresses that are apart by such a multiple
 pub same_width : (n : ℕ) (p : Piece) (size a b : ℕ) → IsMovedBy n p → a % n ≡ b % n → width p size a ≡ width p size b
 same_width n (Fixed m) size a b moved e = refl
+same_width n (Joined m) size a b moved e = refl
 same_width n (Align alignment) size a b moved e =
     let divides = dvd_of_mod-eq-zero alignment moved in
     let same : a % alignment ≡ b % alignment = sym (mod-mod_of_dvd alignment a divides) ∙ ap (λ r. r % alignment) e ∙ mod-mod_of_dvd alignment b divides in
@@ -72,6 +73,7 @@ same_width n (Jump to) size a b moved e = refl
 -- what is so for a number is so for a multiple of it
 pub moved_through : (n m : ℕ) (p : Piece) → m % n ≡ 0 → IsMovedBy n p → IsMovedBy m p
 moved_through n m (Fixed size) e moved = tt
+moved_through n m (Joined size) e moved = tt
 moved_through n m (Align alignment) e moved = mod-eq-zero_of_dvd alignment (dvd_trans alignment (dvd_of_mod-eq-zero alignment moved) (dvd_of_mod-eq-zero n e))
 moved_through n m (Branch to short) e moved = tt
 moved_through n m (Jump to) e moved = tt
@@ -147,6 +149,7 @@ same_distance f t f' t' way = elim (cases_lt t f) [
 -- and what reaches goes by the distance alone
 same_holds : (p : Piece) (size f t f' t' : ℕ) → distance f t ≡ distance f' t' → holds p size f t ≡ holds p size f' t'
 same_holds (Fixed n) size f t f' t' e = refl
+same_holds (Joined n) size f t f' t' e = refl
 same_holds (Align alignment) size f t f' t' e = refl
 same_holds (Branch to short) size f t f' t' e = ap (λ z. cond (eqb size 2) (short_branch_reach z) (cond (eqb size 4) (branch_reach z) true)) e
 same_holds (Jump to) size f t f' t' e = ap (λ z. cond (eqb size 2) (short_jump_reach z) true) e

@@ -1,8 +1,8 @@
 -- Pieces are counted as places are: places of a section have numbers one after another, behind that of its padding, so the pieces that meet a
 -- test are as many as the places whose units do (`units_counted`).
-use Rattle.std.proofs.Common.{◌≡◌, ℕ, zero, suc, ◌+◌, ◌%◌, ◌<◌, List, [], ◌∷◌, ◌++◌, length, filter, map, drop, take, slice_index, Bool, true, false, cond, Some, None, slice_get, refl, sym, ap, ◌∙◌, arith, eqb, ltb}
+use Rattle.std.proofs.Common.{◌≡◌, ℕ, zero, suc, ◌+◌, ◌%◌, ◌<◌, List, [], ◌∷◌, ◌++◌, length, filter, map, drop, take, slice_index, Bool, true, false, cond, Option, Some, None, slice_get, refl, sym, ap, ◌∙◌, arith, eqb, ltb}
 use Rattle.std.specs.List.{flat_map, range_with_len, sum_by}
-use Rattle.std.specs.Option.{option_map, option_map_or}
+use Rattle.std.specs.Option.{option_map_or}
 use Rattle.std.proofs.lemmas.Bool.{le-ltb, lt-ltb}
 use Rattle.std.proofs.lemmas.List.Sums.{sum_by-cons}
 use Rattle.zc_base.specs.declared.place.Place.{Place}
@@ -21,10 +21,10 @@ use Rattle.block_cut.proofs.WholeLaws.{inputs_whole}
 use Rattle.shrink_layout.specs.Counted.{count_from, is_long_piece, is_short_piece, pieces_with}
 use Rattle.shrink_layout.specs.Pieces.{is_short_jump, jump_piece, piece_at, piece_count, piece_number_at, piece_of, pieces_in, pieces_of, section_alignment, section_pieces, unit_piece}
 use Rattle.shrink_layout.specs.Settled.{is_long, is_sized, settled_sizes, units_with}
-use Rattle.shrink_layout.specs.Units.{CodeUnit, OneItem, unit_at}
+use Rattle.shrink_layout.specs.Units.{CodeUnit, OneGroup, OneItem, unit_at}
 use Rattle.shrink_layout.specs.declared.piece.Piece.{Piece}
 use Rattle.shrink_layout.specs.declared.piece.Piece.TheVariants.{Align}
-use Rattle.shrink_layout.proofs.ItemPieces.{held_start, there}
+use Rattle.shrink_layout.proofs.UnitLaws.{held_start, there}
 use Rattle.shrink_layout.proofs.NumberLaws.{item_target, length-section_laid, number-code}
 
 -- ---- the starts of a section, by their numbers in it
@@ -65,7 +65,7 @@ module _ (objects : List ObjectParts) where
   jump_counts to false size = (refl, refl)
 
   -- an item's piece is short if the item takes two bytes, and long if it is a branch that takes eight
-  pub item_counts :
+  item_counts :
       (i : Item) (size : ℕ) → (is_short_piece (piece_of objects i) size ≡ is_sized 2 size (OneItem i)) × (is_long_piece (piece_of objects i) size ≡ is_long size (OneItem i))
   item_counts (item.Op i) size = (refl, refl)
   item_counts (item.Hi i t) size = (refl, refl)
@@ -79,6 +79,18 @@ module _ (objects : List ObjectParts) where
   item_counts (item.Word t) size = (refl, refl)
   item_counts (item.Raw word) size = (refl, refl)
   item_counts (item.RawPair first second) size = (refl, refl)
+
+module _ (objects : List ObjectParts) where
+  -- and so with what is written at a place; what is written together counts as neither
+  pub unit_short : (o : Option CodeUnit) (size : ℕ) → is_short_piece (unit_piece objects o) size ≡ option_map_or (is_sized 2 size) o false
+  unit_short None size = refl
+  unit_short (Some (OneItem i)) size = (item_counts objects i size).0
+  unit_short (Some (OneGroup g)) size = refl
+
+  pub unit_long : (o : Option CodeUnit) (size : ℕ) → is_long_piece (unit_piece objects o) size ≡ option_map_or (is_long size) o false
+  unit_long None size = refl
+  unit_long (Some (OneItem i)) size = (item_counts objects i size).1
+  unit_long (Some (OneGroup g)) size = refl
 
 -- ---- counts
 
@@ -106,7 +118,7 @@ passed_append test (q ∷ first) second = by (test q) (passed_append test first 
 module _
     (inputs : ParsedInputs) (sizes : List ℕ) (of_piece : Piece → ℕ → Bool) (of_unit : ℕ → CodeUnit → Bool)
     (padding : (alignment size : ℕ) → of_piece (Align alignment) size ≡ false)
-    (item : (i : Item) (size : ℕ) → of_piece (piece_of inputs.objects i) size ≡ of_unit size (OneItem i)) where
+    (unit : (o : Option CodeUnit) (size : ℕ) → of_piece (unit_piece inputs.objects o) size ≡ option_map_or (of_unit size) o false) where
   -- whether the unit at a place passes
   abbrev passes : Place → Bool
   passes q = option_map_or (of_unit (slice_index sizes (piece_number_at inputs.objects q))) (unit_at inputs q) false
@@ -130,12 +142,9 @@ module _
         let start = are n (among_first n n ns refl) in
         let index : index_on l.section n ≡ a = ap (λ l. slice_index l 0) numbers in
         let number : piece_number_at inputs.objects q ≡ first + a = number_here n start ∙ ap (λ k. first + k) index in
-        let i = item_in inputs l.section q in
-        let at = held_start inputs l here code n start in
         let one : of_piece (piece_at inputs q) (slice_index sizes (first + a)) ≡ passes q =
-        ap (λ o. of_piece (unit_piece inputs.objects (option_map OneItem o)) (slice_index sizes (first + a))) at
-        ∙ item i (slice_index sizes (first + a))
-        ∙ sym ((λ j. option_map_or (of_unit (slice_index sizes (number j))) (option_map OneItem (at j)) false)) in
+        unit (unit_at inputs q) (slice_index sizes (first + a))
+        ∙ sym (λ j. option_map_or (of_unit (slice_index sizes (number j))) (unit_at inputs q) false) in
         let rest = counted ns (λ m is. are m (among_later n m ns is)) (a + 1) (ap (drop 1) numbers) in
         let next : first + (a + 1) ≡ first + a + 1 = omega arith in
         ap (λ b. cond {A = ℕ} b 1 0 + count_from of_piece sizes (first + a + 1) (map (piece_at inputs) (map (place_of l) ns))) one
@@ -193,14 +202,14 @@ module _
 pub units_counted :
     (inputs : Inputs) → gather_fault inputs ≡ None → (of_piece : Piece → ℕ → Bool) (of_unit : ℕ → CodeUnit → Bool)
     → ((alignment size : ℕ) → of_piece (Align alignment) size ≡ false)
-    → ((i : Item) (size : ℕ) → of_piece (piece_of (parsed inputs).objects i) size ≡ of_unit size (OneItem i))
+    → ((o : Option CodeUnit) (size : ℕ) → of_piece (unit_piece (parsed inputs).objects o) size ≡ option_map_or (of_unit size) o false)
     → pieces_with of_piece (pieces_of (parsed inputs)) (settled_sizes (parsed inputs)) ≡ units_with (parsed inputs) of_unit
 unfolding pieces_of
-units_counted inputs none of_piece of_unit padding item =
+units_counted inputs none of_piece of_unit padding unit =
     let given = parsed inputs in
     let all = all_sections given.objects in
     let sizes = settled_sizes given in
-    sections_counted given sizes of_piece of_unit padding item 1 all (λ k l is.
+    sections_counted given sizes of_piece of_unit padding unit 1 all (λ k l is.
     let here = listed_at given.objects k l is in
     ap (λ ls. count_from of_piece sizes (1 + sum_by piece_count ls) (section_pieces given l)) (sym (before_number given.objects k l is))
-    ∙ section_counted given sizes of_piece of_unit padding item l here (inputs_whole inputs l.object l.index l.section none here))
+    ∙ section_counted given sizes of_piece of_unit padding unit l here (inputs_whole inputs l.object l.index l.section none here))

@@ -4,7 +4,7 @@ use Rattle.std.proofs.Math.IntN.{+ℤ-neg_ℤ_cancel, +ℤ_comm}
 use Rattle.std.proofs.lemmas.Bool.{and_from, and_parts, cases_lt, eq-eqb, lt-ltb, ltb-true}
 use Rattle.psabi_reloc.specs.Reaches.{is_even_of}
 use Rattle.shrink_layout.specs.declared.piece.Piece.{Piece}
-use Rattle.shrink_layout.specs.declared.piece.Piece.TheVariants.{Fixed, Align, Branch, Jump}
+use Rattle.shrink_layout.specs.declared.piece.Piece.TheVariants.{Fixed, Joined, Align, Branch, Jump}
 use Rattle.shrink_layout.specs.Forms.{distance, holds}
 
 -- ---- what a distance is
@@ -85,6 +85,7 @@ either_way false x x' y y' f g h = g h
 -- a form that reaches so far reaches nearer too
 pub holds_nearer : (p : Piece) (size f' t' f t : ℕ) → f' % 2 ≡ 0 → t' % 2 ≡ 0 → Nearer f' t' f t → holds p size f t ≡ true → holds p size f' t' ≡ true
 holds_nearer (Fixed n) size f' t' f t e e' near reached = refl
+holds_nearer (Joined n) size f' t' f t e e' near reached = refl
 holds_nearer (Align alignment) size f' t' f t e e' near reached = refl
 holds_nearer (Branch to short) size f' t' f t e e' near reached =
     either_way (eqb size 2) _ _ _ _ (reaches_nearer 9 f' t' f t (omega arith) e e' near) (either_way (eqb size 4) _ _ _ _ (reaches_nearer 13 f' t' f t (omega arith) e e' near) (λ h. h)) reached

@@ -11,10 +11,11 @@ use Rattle.shrink_layout.specs.Layout.{addresses_of, sizes_of}
 use Rattle.shrink_layout.specs.Least.{AreForms}
 use Rattle.shrink_layout.specs.Pieces.{piece_number_at, pieces_of}
 use Rattle.shrink_layout.specs.Settled.{is_long, is_sized, settled_addresses, settled_end, settled_size, settled_sizes, units_with}
+use Rattle.shrink_layout.specs.Units.{is_inside}
 use Rattle.shrink_layout.proofs.AddressLaws.{ascending, first_address, length_addresses}
-use Rattle.shrink_layout.proofs.CountLaws.{item_counts, units_counted}
+use Rattle.shrink_layout.proofs.CountLaws.{unit_long, unit_short, units_counted}
 use Rattle.shrink_layout.proofs.NumberLaws.{number_below}
-use Rattle.shrink_layout.proofs.PlaceAddressLaws.{size_nowhere, size_there}
+use Rattle.shrink_layout.proofs.PlaceAddressLaws.{size_outside}
 use Rattle.shrink_layout.proofs.RoundLaws.{length_forms, round_forms}
 
 module _ (inputs : ParsedInputs) where
@@ -71,15 +72,15 @@ module _ (inputs : ParsedInputs) where
 
 -- ---- by what is found
 
--- a place has a size if an item starts there
-pub size_by : (inputs : ParsedInputs) (q : Place) → (is_some (item_at inputs q) ≡ false → settled_size inputs q ≡ None)
-    × (is_some (item_at inputs q) ≡ true → settled_size inputs q ≡ Some (slice_index (settled_addresses inputs) (piece_number_at inputs.objects q + 1) - slice_index (settled_addresses inputs) (piece_number_at inputs.objects q)))
-size_by inputs q = by (item_at inputs q) refl
+-- what is written for an item that isn't inside a group has a size
+pub size_by : (inputs : ParsedInputs) (q : Place) → is_some (item_at inputs q) ≡ true → is_inside inputs q ≡ false
+    → settled_size inputs q ≡ Some (slice_index (settled_addresses inputs) (piece_number_at inputs.objects q + 1) - slice_index (settled_addresses inputs) (piece_number_at inputs.objects q))
+size_by inputs q there outside = by (item_at inputs q) refl there
   where
-    by : (o : Option Item) → item_at inputs q ≡ o → (is_some o ≡ false → settled_size inputs q ≡ None)
-        × (is_some o ≡ true → settled_size inputs q ≡ Some (slice_index (settled_addresses inputs) (piece_number_at inputs.objects q + 1) - slice_index (settled_addresses inputs) (piece_number_at inputs.objects q)))
-    by None is = (λ out. size_nowhere inputs q is, λ there. absurd cc)
-    by (Some i) is = (λ out. absurd cc, λ there. size_there inputs q i is)
+    by : (o : Option Item) → item_at inputs q ≡ o → is_some o ≡ true
+        → settled_size inputs q ≡ Some (slice_index (settled_addresses inputs) (piece_number_at inputs.objects q + 1) - slice_index (settled_addresses inputs) (piece_number_at inputs.objects q))
+    by None is h = absurd cc
+    by (Some i) is h = size_outside inputs q i is outside
 
 -- its number is below the number of pieces then
 pub below_by : (inputs : Inputs) → gather_fault inputs ≡ None → (q : Place) → is_some (item_at (parsed inputs) q) ≡ true → piece_number_at (parsed inputs).objects q < length (pieces_of (parsed inputs))
@@ -94,8 +95,8 @@ below_by inputs none q there = by (item_at (parsed inputs) q) refl there
 module _ (inputs : Inputs) (none : gather_fault inputs ≡ None) where
   -- items that take two bytes
   pub short_counted : pieces_with is_short_piece (pieces_of (parsed inputs)) (settled_sizes (parsed inputs)) ≡ units_with (parsed inputs) (is_sized 2)
-  short_counted = units_counted inputs none is_short_piece (is_sized 2) (λ alignment size. refl) (λ i size. (item_counts (parsed inputs).objects i size).0)
+  short_counted = units_counted inputs none is_short_piece (is_sized 2) (λ alignment size. refl) (unit_short (parsed inputs).objects)
 
   -- branches that take eight
   pub long_counted : pieces_with is_long_piece (pieces_of (parsed inputs)) (settled_sizes (parsed inputs)) ≡ units_with (parsed inputs) is_long
-  long_counted = units_counted inputs none is_long_piece is_long (λ alignment size. refl) (λ i size. (item_counts (parsed inputs).objects i size).1)
+  long_counted = units_counted inputs none is_long_piece is_long (λ alignment size. refl) (unit_long (parsed inputs).objects)

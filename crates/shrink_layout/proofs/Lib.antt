@@ -4,9 +4,11 @@ pub mod BlockLaws
 pub mod CountLaws
 pub mod Distances
 pub mod FormLaws
+pub mod GroupAddresses
+pub mod GroupCounts
 pub mod GrownLaws
 pub mod HalfLaws
-pub mod ItemPieces
+pub mod HeldLaws
 pub mod KeptLaws
 pub mod LaidLaws
 pub mod LeastLaws
@@ -17,8 +19,11 @@ pub mod OrderLaws
 pub mod PlaceAddressLaws
 pub mod PlaceNumberLaws
 pub mod PremiseLaws
+pub mod RoleLaws
+pub mod RolePlaces
 pub mod RoundLaws
 pub mod SectionLaws
 pub mod ShortLaws
 pub mod SizesLaws
 pub mod TestLaws
+pub mod UnitLaws

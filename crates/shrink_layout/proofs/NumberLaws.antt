@@ -1,11 +1,11 @@
 -- Where places stand in the list of pieces. In inputs without a fault between objects:
--- - `piece_there`: the piece with an item's number is the item's;
+-- - `place_piece`: the piece with an item's number is that of its place;
 -- - `number_next`: the place after an item has the next number;
 -- - `number_most`, `number_below`: numbers are at most the number of pieces, and those of items are below it.
 use Rattle.std.proofs.Common.{◌≡◌, ℕ, ◌+◌, ◌<◌, ◌≤◌, ◌⊎◌, inl, inr, List, [], ◌∷◌, ◌++◌, length, filter, map, Bool, true, false, cond, Option, Some, None, slice_get, refl, sym, ap, ◌∙◌, arith, append_assoc, eqb, ltb}
 use Rattle.std.specs.Prelude.{◌||◌}
 use Rattle.std.specs.List.{flat_map, sum_by}
-use Rattle.std.specs.Option.{option_map, option_map_or}
+use Rattle.std.specs.Option.{option_map_or}
 use Rattle.std.proofs.lemmas.Bool.{eqb-true, lt-ltb, ltb-true}
 use Rattle.std.proofs.lemmas.Grind.{flat_map-append}
 use Rattle.std.proofs.lemmas.List.{length-append, length-map, map-append}
@@ -25,9 +25,10 @@ use Rattle.block_cut.proofs.ListedLaws.{cut_at, listed}
 use Rattle.block_cut.proofs.PlainLaws.{next_start}
 use Rattle.block_cut.proofs.StartLaws.{before_end_all, before_next_start, front, is_among, start_is, step}
 use Rattle.block_cut.proofs.WholeLaws.{code_is_section, code_whole}
-use Rattle.shrink_layout.specs.Pieces.{piece_at, piece_count, piece_number_at, piece_of, pieces_before, pieces_of, section_alignment, unit_piece}
-use Rattle.shrink_layout.specs.Units.{OneItem, front_size}
+use Rattle.shrink_layout.specs.Pieces.{piece_at, piece_count, piece_number_at, pieces_before, pieces_of, section_alignment, unit_piece}
+use Rattle.shrink_layout.specs.Units.{CodeUnit, front_size, unit_at}
 use Rattle.shrink_layout.specs.declared.piece.Piece.TheVariants.{Fixed, Align}
+use Rattle.shrink_layout.proofs.UnitLaws.{found_item, unit_found}
 
 -- the place at an offset of a section
 abbrev pub place_at : ℕ → ℕ → ℕ → Place
@@ -231,16 +232,20 @@ module _ (inputs : Inputs) (none : gather_fault inputs ≡ None) where
       ) in
       (λ j. slice_get (all j) (number j)) ∙ behind head (g q.offset) (map g starts.rest ++ cut.rest)
 
-  -- so the piece of an item does
-  pub piece_there : (q : Place) (i : Item) → item_at given q ≡ Some i → slice_get (pieces_of given) (piece_number_at given.objects q) ≡ Some (piece_of given.objects i)
+  -- so the piece there does
+  pub place_piece : (q : Place) (i : Item) → item_at given q ≡ Some i → slice_get (pieces_of given) (piece_number_at given.objects q) ≡ Some (piece_at given q)
   unfolding pieces_of
-  piece_there q i is =
-      laid_there (Fixed front_size) (λ s. Align (section_alignment s)) (piece_at given) q i is
-      ∙ ap (λ x. Some (unit_piece given.objects (option_map OneItem x))) is
+  place_piece q i is = laid_there (Fixed front_size) (λ s. Align (section_alignment s)) (piece_at given) q i is
+
+  -- which is that of what is written there
+  pub unit_there : (q : Place) (u : CodeUnit) → unit_at given q ≡ Some u → slice_get (pieces_of given) (piece_number_at given.objects q) ≡ Some (unit_piece given.objects (Some u))
+  unit_there q u is =
+      let at = found_item given q (unit_found given q u is) in
+      place_piece q at.0 at.1 ∙ ap (λ o. Some (unit_piece given.objects o)) is
 
   -- and its number is below the number of pieces
   pub number_below : (q : Place) (i : Item) → item_at given q ≡ Some i → piece_number_at given.objects q < length (pieces_of given)
-  number_below q i is = slice_get_within (pieces_of given) (piece_number_at given.objects q) (piece_of given.objects i) (piece_there q i is)
+  number_below q i is = slice_get_within (pieces_of given) (piece_number_at given.objects q) (piece_at given q) (place_piece q i is)
 
   -- code may lead to what follows an item
   pub next_target : (q : Place) (i : Item) → item_at given q ≡ Some i → is_target_at given.objects (next_at given.objects q) ≡ true

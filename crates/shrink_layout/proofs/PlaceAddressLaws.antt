@@ -1,18 +1,23 @@
--- Which places images list, and addresses and sizes of places.
+-- Addresses and sizes of places.
 use Rattle.std.proofs.Common.{◌≡◌, ◌-◌, ◌+◌, ℕ, Bool, true, false, cond, Option, Some, None, slice_index, refl, sym, ap, ◌∙◌}
-use Rattle.std.specs.Prelude.{◌||◌}
+use Rattle.std.specs.Prelude.{◌&&◌}
 use Rattle.std.specs.Option.{is_some, option_map, option_map_or}
 use Rattle.zc_base.specs.declared.place.Place.{Place}
 use Rattle.elf32_read.specs.Parts.{SectionParts}
 use Rattle.psabi_sym.specs.Faults.{gather_fault}
 use Rattle.psabi_sym.specs.Inputs.{Inputs, ParsedInputs, parsed}
-use Rattle.block_cut.specs.Items.{code_at, is_end_at, is_start_at, is_target_at, item_at, item_in, next_at, starts_on}
+use Rattle.block_cut.specs.Items.{code_at, is_end_at, is_start_at, is_target_at, item_at, item_in, starts_on}
+use Rattle.block_cut.specs.Leaders.{is_leader_at}
 use Rattle.block_cut.specs.declared.item.Item.{Item}
 use Rattle.block_cut.proofs.ItemLaws.{item_at-code, item_at-none}
+use Rattle.frame_match.specs.Groups.{role_at}
+use Rattle.frame_match.specs.declared.role.Role.{Role}
+use Rattle.frame_match.specs.declared.role.Role.TheVariants.{Alone, First, Inside}
 use Rattle.shrink_layout.specs.Pieces.{piece_number_at}
 use Rattle.shrink_layout.specs.Settled.{settled_address, settled_addresses, settled_size}
-use Rattle.shrink_layout.specs.Units.{OneItem, is_listed_at, unit_at}
-use Rattle.shrink_layout.proofs.NumberLaws.{next_target, number_next}
+use Rattle.shrink_layout.specs.Units.{CodeUnit, is_inside, is_listed_at, is_within, unit_at}
+use Rattle.shrink_layout.proofs.RolePlaces.{end_listed, inside_unlisted, leader_listed, listed_target, unit_listed, unit_outside}
+use Rattle.shrink_layout.proofs.UnitLaws.{found_item, found_start, start_item, unit-inside, unit_found}
 
 -- there is an item just where one starts
 pub start_some : (inputs : ParsedInputs) (q : Place) → is_some (item_at inputs q) ≡ is_start_at inputs.objects q
@@ -28,58 +33,99 @@ start_some inputs q = by (code_at inputs.objects q) refl
         ap is_some (item_at-code inputs q s at) ∙ tested s (starts_on s q.offset)
         ∙ sym (ap (λ o. option_map_or (λ t. starts_on t q.offset) o false) at)
 
--- something is written just where an item starts
-pub unit_some : (inputs : ParsedInputs) (q : Place) → is_some (unit_at inputs q) ≡ is_start_at inputs.objects q
-unit_some inputs q = mapped (item_at inputs q) ∙ start_some inputs q
+-- ---- addresses
+
+module _ (inputs : ParsedInputs) (q : Place) where
+  -- a place that images list has the address with its number
+  pub address_there : is_listed_at inputs q ≡ true → settled_address inputs q ≡ Some (slice_index (settled_addresses inputs) (piece_number_at inputs.objects q))
+  unfolding settled_address
+  address_there is = ap (λ b. cond b (Some (slice_index (settled_addresses inputs) (piece_number_at inputs.objects q))) None) is
+
+  -- others have none
+  pub address_nowhere : is_listed_at inputs q ≡ false → settled_address inputs q ≡ None
+  unfolding settled_address
+  address_nowhere is = ap (λ b. cond b (Some (slice_index (settled_addresses inputs) (piece_number_at inputs.objects q))) None) is
+
+  -- so a place with an address is such a place
+  pub address_listed : (a : ℕ) → settled_address inputs q ≡ Some a → is_listed_at inputs q ≡ true
+  unfolding settled_address
+  address_listed a is = by (is_listed_at inputs q) refl is
+    where
+      by : (b : Bool) → is_listed_at inputs q ≡ b → cond b (Some (slice_index (settled_addresses inputs) (piece_number_at inputs.objects q))) None ≡ Some a → is_listed_at inputs q ≡ true
+      by true listed h = listed
+      by false other h = absurd cc
+
+  -- and code may lead there
+  pub address_target : (a : ℕ) → settled_address inputs q ≡ Some a → is_target_at inputs.objects q ≡ true
+  address_target a is = listed_target inputs q (address_listed a is)
+
+-- each end of a section has an address
+pub end_address : (inputs : ParsedInputs) (q : Place) → is_end_at inputs.objects q ≡ true → is_some (settled_address inputs q) ≡ true
+end_address inputs q end = ap is_some (address_there inputs q (end_listed inputs q end))
+
+-- and so has each place where a basic block begins
+pub leader_address : (inputs : Inputs) → gather_fault inputs ≡ None → (q : Place) → is_target_at (parsed inputs).objects q ≡ true → is_leader_at (parsed inputs) q ≡ true
+    → is_some (settled_address (parsed inputs) q) ≡ true
+leader_address inputs none q target leads = ap is_some (address_there (parsed inputs) q (leader_listed inputs none q target leads))
+
+-- something is written just where an item starts that has an address
+pub unit_written : (inputs : Inputs) → gather_fault inputs ≡ None → (q : Place)
+    → is_some (unit_at (parsed inputs) q) ≡ (is_some (settled_address (parsed inputs) q) && is_start_at (parsed inputs).objects q)
+unit_written inputs none q = by (unit_at given q) refl (is_start_at given.objects q) refl
   where
-    mapped : (o : Option Item) → is_some (option_map OneItem o) ≡ is_some o
-    mapped None = refl
-    mapped (Some i) = refl
+    given : ParsedInputs
+    given = parsed inputs
 
--- so the places that images list are those where an item starts or a section of code ends
-pub listed_target : (inputs : ParsedInputs) (q : Place) → is_listed_at inputs q ≡ is_target_at inputs.objects q
-unfolding is_listed_at
-listed_target inputs q = ap (λ b. b || is_end_at inputs.objects q) (unit_some inputs q)
+    and_false : (b : Bool) → (b && false) ≡ false
+    and_false true = refl
+    and_false false = refl
 
--- where code may lead there is the address with the place's number
-pub address_there : (inputs : ParsedInputs) (q : Place) → is_target_at inputs.objects q ≡ true
-    → settled_address inputs q ≡ Some (slice_index (settled_addresses inputs) (piece_number_at inputs.objects q))
-unfolding settled_address
-address_there inputs q is = ap (λ b. cond b (Some (slice_index (settled_addresses inputs) (piece_number_at inputs.objects q))) None) (listed_target inputs q ∙ is)
+    -- where nothing is written for an item, that is inside a group
+    nowhere : unit_at given q ≡ None → is_start_at given.objects q ≡ true → (b : Bool) → is_inside given q ≡ b → settled_address given q ≡ None
+    nowhere at start true inside = address_nowhere given q (inside_unlisted inputs none q inside)
+    nowhere at start false outside = let i = start_item given q start in let u = unit_outside given q i.0 i.1 outside in absurd (cc (at, u.1))
 
--- elsewhere there is none
-pub address_nowhere : (inputs : ParsedInputs) (q : Place) → is_target_at inputs.objects q ≡ false → settled_address inputs q ≡ None
-unfolding settled_address
-address_nowhere inputs q is = ap (λ b. cond b (Some (slice_index (settled_addresses inputs) (piece_number_at inputs.objects q))) None) (listed_target inputs q ∙ is)
+    by : (o : Option CodeUnit) → unit_at given q ≡ o → (b : Bool) → is_start_at given.objects q ≡ b
+        → is_some o ≡ (is_some (settled_address given q) && is_start_at given.objects q)
+    by (Some u) at b start = sym (λ j. is_some (address_there given q (unit_listed given q u at) j) && found_start given q (unit_found given q u at) j)
+    by None at true start = sym (ap (λ o. is_some o && is_start_at given.objects q) (nowhere at start (is_inside given q) refl))
+    by None at false other = sym (ap (λ x. is_some (settled_address given q) && x) other ∙ and_false (is_some (settled_address given q)))
 
--- so a place with an address is such a place
-pub address_target : (inputs : ParsedInputs) (q : Place) (a : ℕ) → settled_address inputs q ≡ Some a → is_target_at inputs.objects q ≡ true
-unfolding settled_address
-address_target inputs q a is = by (is_listed_at inputs q) refl is
-  where
-    by :
-        (b : Bool) → is_listed_at inputs q ≡ b
-        → cond b (Some (slice_index (settled_addresses inputs) (piece_number_at inputs.objects q))) None ≡ Some a
-        → is_target_at inputs.objects q ≡ true
-    by true listed h = sym (listed_target inputs q) ∙ listed
-    by false other h = absurd cc
+-- ---- sizes
 
 -- the way from a place to the next address
-abbrev size_on : ParsedInputs → Place → ℕ
-size_on inputs q = slice_index (settled_addresses inputs) (piece_number_at inputs.objects q + 1) - slice_index (settled_addresses inputs) (piece_number_at inputs.objects q)
+abbrev way_on : ParsedInputs → Place → ℕ
+way_on inputs q = slice_index (settled_addresses inputs) (piece_number_at inputs.objects q + 1) - slice_index (settled_addresses inputs) (piece_number_at inputs.objects q)
 
--- an item's size is that way
-pub size_there : (inputs : ParsedInputs) (q : Place) (i : Item) → item_at inputs q ≡ Some i
-    → settled_size inputs q ≡ Some (slice_index (settled_addresses inputs) (piece_number_at inputs.objects q + 1) - slice_index (settled_addresses inputs) (piece_number_at inputs.objects q))
-size_there inputs q i is = ap (λ o. option_map (λ u. size_on inputs q) (option_map OneItem o)) is
+module _ (inputs : ParsedInputs) (q : Place) where
+  -- the size of what is written is that way
+  pub size_there : (u : CodeUnit) → unit_at inputs q ≡ Some u
+      → settled_size inputs q ≡ Some (slice_index (settled_addresses inputs) (piece_number_at inputs.objects q + 1) - slice_index (settled_addresses inputs) (piece_number_at inputs.objects q))
+  size_there u is = ap (option_map (λ v. way_on inputs q)) is
 
--- and elsewhere there is no size
-pub size_nowhere : (inputs : ParsedInputs) (q : Place) → item_at inputs q ≡ None → settled_size inputs q ≡ None
-size_nowhere inputs q is = ap (λ o. option_map (λ u. size_on inputs q) (option_map OneItem o)) is
+  -- and elsewhere there is no size
+  pub size_nowhere : unit_at inputs q ≡ None → settled_size inputs q ≡ None
+  size_nowhere is = ap (option_map (λ v. way_on inputs q)) is
 
--- the place after an item has the next address
-pub next_address_there : (inputs : Inputs) → gather_fault inputs ≡ None → (q : Place) (i : Item) → item_at (parsed inputs) q ≡ Some i
-    → settled_address (parsed inputs) (next_at (parsed inputs).objects q) ≡ Some (slice_index (settled_addresses (parsed inputs)) (piece_number_at (parsed inputs).objects q + 1))
-next_address_there inputs none q i is =
-    address_there (parsed inputs) (next_at (parsed inputs).objects q) (next_target inputs none q i is)
-    ∙ ap (λ k. Some (slice_index (settled_addresses (parsed inputs)) k)) (number_next inputs none q i is)
+  -- as where no item starts
+  pub size_without : is_some (item_at inputs q) ≡ false → settled_size inputs q ≡ None
+  size_without other = size_nowhere (by (unit_at inputs q) refl)
+    where
+      by : (o : Option CodeUnit) → unit_at inputs q ≡ o → unit_at inputs q ≡ None
+      by None at = at
+      by (Some u) at = let i = found_item inputs q (unit_found inputs q u at) in absurd (cc (other, ap is_some i.1))
+
+  -- and inside a group
+  pub size_inside : is_inside inputs q ≡ true → settled_size inputs q ≡ None
+  size_inside inside = by (role_at inputs q) refl inside
+    where
+      by : (o : Option Role) → role_at inputs q ≡ o → is_within o ≡ true → settled_size inputs q ≡ None
+      by None at h = absurd cc
+      by (Some Alone) at h = absurd cc
+      by (Some (First g)) at h = absurd cc
+      by (Some Inside) at h = size_nowhere (unit-inside inputs q at)
+
+  -- but there is one of every other item
+  pub size_outside : (i : Item) → item_at inputs q ≡ Some i → is_inside inputs q ≡ false
+      → settled_size inputs q ≡ Some (slice_index (settled_addresses inputs) (piece_number_at inputs.objects q + 1) - slice_index (settled_addresses inputs) (piece_number_at inputs.objects q))
+  size_outside i is outside = let u = unit_outside inputs q i is outside in size_there u.0 u.1

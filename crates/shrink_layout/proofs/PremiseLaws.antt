@@ -1,7 +1,7 @@
 -- What the layout asks of pieces holds of those of inputs without a fault: alignments are at least 1 and even, sizes are even,
 -- targets are pieces or the end (`targets`), and all have little room (`room_few`). If nothing is aligned above 4 bytes, no piece
 -- is aligned above 2 (`all_tight`).
-use Rattle.std.proofs.Common.{◌≡◌, ℕ, zero, suc, ◌+◌, ◌*◌, ◌%◌, ◌<◌, ◌≤◌, List, [], ◌∷◌, ◌++◌, All, get_or, length, map, max, Bool, true, false, cond, None, refl, sym, ap, subst, ◌∙◌, arith, leb, ltb}
+use Rattle.std.proofs.Common.{◌≡◌, ℕ, zero, suc, ◌+◌, ◌*◌, ◌%◌, ◌<◌, ◌≤◌, List, [], ◌∷◌, ◌++◌, All, get_or, length, map, max, Bool, true, false, cond, Some, None, slice_get, refl, sym, ap, subst, ◌∙◌, arith, eqb, leb, ltb}
 use Rattle.std.specs.Prelude.{◌&&◌, nat_le, not}
 use Rattle.std.specs.List.{flat_map, list_any, sum_by}
 use Rattle.std.proofs.lemmas.Bool.{and_parts, leb-false, ltb-false, ltb-true, not-true, or_parts}
@@ -12,29 +12,31 @@ use Rattle.elf32_read.specs.Parts.{ObjectParts, SectionParts, is_code_section}
 use Rattle.psabi_sym.specs.Blocks.{aligned_up}
 use Rattle.psabi_sym.specs.Faults.{code_room, gather_fault, power_above}
 use Rattle.psabi_sym.specs.Inputs.{Inputs, ParsedInputs, parsed}
-use Rattle.psabi_sym.specs.Indexed.{IndexedSection, all_sections}
+use Rattle.psabi_sym.specs.Indexed.{IndexedSection, all_sections, section_at}
 use Rattle.psabi_sym.specs.declared.target.Target.{Target}
 use Rattle.psabi_sym.specs.declared.target.Target.TheVariants.{Code, Number, Absent, Nowhere}
 use Rattle.zc_base.specs.declared.place.Place.{Place}
 use Rattle.psabi_reloc.specs.Parts.{hi20_of, lo12_of}
 use Rattle.psabi_reloc.specs.Patched.{with_imm, with_upper}
 use Rattle.rv_decode.specs.declared.instr.Instr.{Instr}
-use Rattle.block_cut.specs.Items.{all_items, item_in, items_in, size_on, starts_in}
+use Rattle.psabi_sym.proofs.SectionNumbers.{listed_at}
+use Rattle.block_cut.specs.Items.{all_items, code_at, item_in, items_in, place_of, places_of, size_on, starts_in}
 use Rattle.block_cut.specs.PlainLayout.{padding_of}
 use Rattle.block_cut.specs.Whole.{IsWhole}
 use Rattle.block_cut.specs.declared.item.Item.{Item}
 use Rattle.block_cut.specs.declared.item.Item.TheVariants as item
 use Rattle.block_cut.proofs.ItemLaws.{Takes, Bytes, Padding, item_takes}
-use Rattle.block_cut.proofs.RoomLaws.{AreWhole, all_whole, code_room_is, rooms, rooms_few}
+use Rattle.block_cut.proofs.RoomLaws.{AreWhole, all_whole, code_room_is, items_in-code, rooms, rooms_few}
 use Rattle.block_cut.proofs.StartLaws.{along}
 use Rattle.shrink_layout.specs.Forms.{HasAlignment, IsEvenPiece, longest, target}
 use Rattle.shrink_layout.specs.Least.{IsTight}
-use Rattle.shrink_layout.specs.Pieces.{is_align, is_aligned_code, is_short, is_short_branch, is_short_jump, is_unaligned, jump_piece, part_size, piece_number_at, piece_of, pieces_of, section_alignment}
-use Rattle.shrink_layout.specs.Units.{front_size}
+use Rattle.frame_match.specs.declared.group.Group.{Group}
+use Rattle.shrink_layout.specs.Pieces.{group_size, is_align, is_aligned_code, is_short, is_short_branch, is_short_jump, is_unaligned, jump_piece, part_size, piece_at, piece_number_at, piece_of, pieces_in, pieces_of, section_alignment, section_pieces}
+use Rattle.shrink_layout.specs.Units.{front_size, rest_instr}
 use Rattle.shrink_layout.specs.declared.piece.Piece.{Piece}
 use Rattle.shrink_layout.specs.declared.piece.Piece.TheVariants.{Fixed, Align, Branch, Jump}
-use Rattle.shrink_layout.proofs.ItemPieces.{item_pieces, item_pieces-code, item_pieces_in, piece_on, pieces_by_items}
-use Rattle.shrink_layout.proofs.NumberLaws.{number_most, place_at}
+use Rattle.shrink_layout.proofs.NumberLaws.{number_most, section_laid-code}
+use Rattle.shrink_layout.proofs.UnitLaws.{item_same, piece_case, there}
 
 -- ---- lists
 
@@ -44,7 +46,7 @@ Each P [] = Unit {0}
 Each P (x ∷ xs) = P x × Each P xs
 
 -- of two lists
-each-append : {X : Type 0} (P : X → Type 0) (xs ys : List X) → Each P xs → Each P ys → Each P (xs ++ ys)
+pub each-append : {X : Type 0} (P : X → Type 0) (xs ys : List X) → Each P xs → Each P ys → Each P (xs ++ ys)
 each-append P [] ys one two = two
 each-append P (x ∷ xs) ys one two = (one.0, each-append P xs ys one.1 two)
 
@@ -88,6 +90,22 @@ powers n false e2 false e4 false e8 false e16 false e32 false e64 false e128 = r
 power_is : (n : ℕ) → IsPower n (power_above n)
 power_is n = powers n (ltb n 2) refl (ltb n 4) refl (ltb n 8) refl (ltb n 16) refl (ltb n 32) refl (ltb n 64) refl (ltb n 128) refl
 
+-- ---- groups
+
+-- a group takes 2, 4 or 6 bytes
+pub record IsGroupSize (n : ℕ) : Type 0 where
+  pub least : 2 ≤ n
+  pub even : n % 2 ≡ 0
+  pub most : n ≤ 6
+
+pub group_sized : (g : Group) → IsGroupSize (group_size g)
+group_sized g = by (eqb g.rest 0) (is_short (rest_instr g))
+  where
+    by : (b c : Bool) → IsGroupSize (cond b 2 (2 + cond c 2 4))
+    by true c = record { least = omega arith; even = refl; most = omega arith }
+    by false true = record { least = omega arith; even = refl; most = omega arith }
+    by false false = record { least = omega arith; even = refl; most = omega arith }
+
 -- ---- pieces of items
 
 module _ (inputs : ParsedInputs) where
@@ -95,9 +113,9 @@ module _ (inputs : ParsedInputs) where
   objects = inputs.objects
 
   -- P holds of the piece of an item if it holds of the sizes that there are, of branches and jumps to places, and of padding
-  piece_case : (i : Item) (P : Piece → Type 0) → P (Fixed 2) → P (Fixed 4) → P (Fixed 8) → ((q : Place) (b : Bool) → P (Branch (piece_number_at objects q) b)) → ((q : Place) → P (Jump (piece_number_at objects q)))
+  item_case : (i : Item) (P : Piece → Type 0) → P (Fixed 2) → P (Fixed 4) → P (Fixed 8) → ((q : Place) (b : Bool) → P (Branch (piece_number_at objects q) b)) → ((q : Place) → P (Jump (piece_number_at objects q)))
       → ((bytes : ℕ) → i ≡ item.Align bytes → P (Align (power_above bytes))) → P (piece_of objects i)
-  piece_case i P two four eight branch jump align = by i refl
+  item_case i P two four eight branch jump align = by i refl
     where
       sized : (b : Bool) → P (Fixed (cond b 2 4))
       sized true = two
@@ -129,28 +147,51 @@ module _ (inputs : ParsedInputs) where
 
   -- alignments of items are at least 1
   item_aligned : (i : Item) → HasAlignment (piece_of objects i)
-  item_aligned i = piece_case i HasAlignment tt tt tt (λ q b. tt) (λ q. tt) (λ bytes e. (power_is bytes).some)
+  item_aligned i = item_case i HasAlignment tt tt tt (λ q b. tt) (λ q. tt) (λ bytes e. (power_is bytes).some)
 
   -- sizes and alignments of items are even
   item_even : (i : Item) → IsEvenPiece (piece_of objects i)
-  item_even i = piece_case i IsEvenPiece refl refl refl (λ q b. tt) (λ q. tt) (λ bytes e. (power_is bytes).even)
+  item_even i = item_case i IsEvenPiece refl refl refl (λ q b. tt) (λ q. tt) (λ bytes e. (power_is bytes).even)
 
   -- a target is a piece, or the end
   item_leads : (i : Item) → target (piece_of objects i) ≤ length (pieces_of inputs)
   item_leads i =
-      piece_case i (λ p. target p ≤ length (pieces_of inputs)) (omega arith) (omega arith) (omega arith) (λ q b. number_most inputs q) (λ q. number_most inputs q) (λ bytes e. omega arith)
+      item_case i (λ p. target p ≤ length (pieces_of inputs)) (omega arith) (omega arith) (omega arith) (λ q b. number_most inputs q) (λ q. number_most inputs q) (λ bytes e. omega arith)
 
   -- what isn't padding is tight
   item_tight : (i : Item) → is_align i ≡ false → IsTight (piece_of objects i)
-  item_tight i is = piece_case i IsTight tt tt tt (λ q b. tt) (λ q. tt) (λ bytes e. absurd (cc (is, ap is_align e)))
+  item_tight i is = item_case i IsTight tt tt tt (λ q b. tt) (λ q. tt) (λ bytes e. absurd (cc (is, ap is_align e)))
 
   -- an item takes at most twice the bytes of its step
   item_longest : (i : Item) (n : ℕ) → 4 ≤ n → Takes i n → longest (piece_of objects i) ≤ 2 * n
   item_longest i n some (Padding is p) =
       omega (arith, ap (λ x. longest (piece_of objects x)) is, (power_is n).near (omega arith) (omega (arith, p.short)))
   item_longest i n some (Bytes is) =
-      piece_case i (λ p. longest p ≤ 2 * n) (omega arith) (omega arith) (omega arith) (λ q b. omega arith) (λ q. omega arith)
+      item_case i (λ p. longest p ≤ 2 * n) (omega arith) (omega arith) (omega arith) (λ q b. omega arith) (λ q. omega arith)
       (λ bytes e. absurd (cc (is, ap padding_of e)))
+
+  -- ---- pieces of places
+
+  place_aligned : (q : Place) → HasAlignment (piece_at inputs q)
+  place_aligned q = piece_case inputs q HasAlignment tt (λ i is. item_aligned i) (λ g. tt)
+
+  place_even : (q : Place) → IsEvenPiece (piece_at inputs q)
+  place_even q = piece_case inputs q IsEvenPiece refl (λ i is. item_even i) (λ g. (group_sized g).even)
+
+  place_leads : (q : Place) → target (piece_at inputs q) ≤ length (pieces_of inputs)
+  place_leads q = piece_case inputs q (λ p. target p ≤ length (pieces_of inputs)) (omega arith) (λ i is. item_leads i) (λ g. omega arith)
+
+  -- so is what is written where an item isn't padding
+  place_tight : (q : Place) (s : SectionParts) → code_at objects q ≡ Some s → is_align (item_in inputs s q) ≡ false → IsTight (piece_at inputs q)
+  place_tight q s here other =
+      piece_case inputs q IsTight tt (λ i is. item_tight i (ap is_align (item_same inputs q s i here is) ∙ other)) (λ g. tt)
+
+  -- and it takes at most twice the bytes of the step there
+  place_longest : (q : Place) (s : SectionParts) (n : ℕ) → code_at objects q ≡ Some s → 4 ≤ n → Takes (item_in inputs s q) n → longest (piece_at inputs q) ≤ 2 * n
+  place_longest q s n here some takes =
+      piece_case inputs q (λ p. longest p ≤ 2 * n) (omega arith)
+      (λ i is. item_longest i n some (subst (λ x. Takes x n) (sym (item_same inputs q s i here is)) takes))
+      (λ g. omega (arith, some, (group_sized g).most))
 
   -- ---- pieces of sections
 
@@ -170,54 +211,67 @@ module _ (inputs : ParsedInputs) where
           let above : 4 < s.align = leb-false s.align 4 high in
           record { some = omega arith; even = omega (arith, whole.aligned); most = omega arith }
 
-  -- P holds of each piece of sections if it holds of what pads them and of their items
-  each_piece : (P : Piece → Type 0) → ((s : SectionParts) → IsWhole s → P (Align (section_alignment s))) → ((i : Item) → P (piece_of objects i)) → (ls : List IndexedSection) → AreWhole ls
-      → Each P (item_pieces_in inputs ls)
-  each_piece P pads item [] whole = tt
-  each_piece P pads item (l ∷ ls) whole =
-      each-append P (item_pieces inputs l) (item_pieces_in inputs ls) (by (is_code_section l.section) refl) (each_piece P pads item ls whole.1)
+  -- P holds of each piece of sections if it holds of what pads them and of those of places
+  each_piece : (P : Piece → Type 0) → ((s : SectionParts) → IsWhole s → P (Align (section_alignment s))) → ((q : Place) → P (piece_at inputs q)) → (ls : List IndexedSection) → AreWhole ls
+      → Each P (pieces_in inputs ls)
+  each_piece P pads place [] whole = tt
+  each_piece P pads place (l ∷ ls) whole =
+      each-append P (section_pieces inputs l) (pieces_in inputs ls) (by (is_code_section l.section) refl) (each_piece P pads place ls whole.1)
     where
-      by : (b : Bool) → is_code_section l.section ≡ b → Each P (cond b (Align (section_alignment l.section) ∷ map (piece_of objects) (items_in inputs l)) [])
-      by true code = (pads l.section (whole.0 code), each-map P (piece_of objects) item (items_in inputs l))
+      by : (b : Bool) → is_code_section l.section ≡ b → Each P (cond b (Align (section_alignment l.section) ∷ map (piece_at inputs) (places_of l)) [])
+      by true code = (pads l.section (whole.0 code), each-map P (piece_at inputs) place (places_of l))
       by false other = tt
 
-  -- nothing is padding among these
-  each_tight : (is : List Item) → list_any is_align is ≡ false → Each IsTight (map (piece_of objects) is)
-  each_tight [] none = tt
-  each_tight (i ∷ is) none = let two = or_parts (is_align i) (list_any is_align is) none in (item_tight i two.0, each_tight is two.1)
+  -- a section has its pieces by their offsets
+  section_pieces-code : (l : IndexedSection) → is_code_section l.section ≡ true → section_pieces inputs l ≡ Align (section_alignment l.section) ∷ map (λ m. piece_at inputs (place_of l m)) (starts_in l.section)
+  section_pieces-code l code = section_laid-code (λ s. Align (section_alignment s)) (piece_at inputs) l.object l.index l.section code
+
+  module _ (l : IndexedSection) (here : section_at objects l.object l.index ≡ Some l.section) (code : is_code_section l.section ≡ true) where
+    -- what is written is tight if no item is padding
+    each_tight : (ns : List ℕ) → list_any is_align (map (λ n. item_in inputs l.section (place_of l n)) ns) ≡ false → Each IsTight (map (λ n. piece_at inputs (place_of l n)) ns)
+    each_tight [] none = tt
+    each_tight (n ∷ ns) none =
+        let two = or_parts (is_align (item_in inputs l.section (place_of l n))) (list_any is_align (map (λ m. item_in inputs l.section (place_of l m)) ns)) none in
+        (place_tight (place_of l n) l.section (there inputs l here code n) two.0, each_tight ns two.1)
 
   -- so all pieces of sections are tight that aren't aligned either
-  sections_tight : (ls : List IndexedSection) → list_any is_align (flat_map (items_in inputs) ls) ≡ false → list_any is_aligned_code ls ≡ false → Each IsTight (item_pieces_in inputs ls)
-  sections_tight [] none low = tt
-  sections_tight (l ∷ ls) none low =
+  sections_tight : (ls : List IndexedSection) → ((k : ℕ) (l : IndexedSection) → slice_get ls k ≡ Some l → section_at objects l.object l.index ≡ Some l.section)
+      → list_any is_align (flat_map (items_in inputs) ls) ≡ false → list_any is_aligned_code ls ≡ false → Each IsTight (pieces_in inputs ls)
+  sections_tight [] here none low = tt
+  sections_tight (l ∷ ls) here none low =
       let items = or_parts (list_any is_align (items_in inputs l)) (list_any is_align (flat_map (items_in inputs) ls)) (sym (list_any-append is_align (items_in inputs l) (flat_map (items_in inputs) ls)) ∙ none) in
       let two = or_parts (is_aligned_code l) (list_any is_aligned_code ls) low in
-      each-append IsTight (item_pieces inputs l) (item_pieces_in inputs ls) (by (is_code_section l.section) items.0 two.0) (sections_tight ls items.1 two.1)
+      each-append IsTight (section_pieces inputs l) (pieces_in inputs ls) (own (is_code_section l.section) refl items.0 two.0) (sections_tight ls (λ k m is. here (suc k) m is) items.1 two.1)
     where
       aligned : (b : Bool) → leb l.section.align 4 ≡ b → ltb 4 l.section.align ≡ false → cond b 2 l.section.align ≡ 2
       aligned true le high = refl
       aligned false le high = absurd (omega (arith, leb-false l.section.align 4 le, ltb-false 4 l.section.align high))
 
-      by : (b : Bool) → list_any is_align (items_in inputs l) ≡ false → (b && ltb 4 l.section.align) ≡ false → Each IsTight (cond b (Align (section_alignment l.section) ∷ map (piece_of objects) (items_in inputs l)) [])
-      by true none high = (aligned (leb l.section.align 4) refl high, each_tight (items_in inputs l) none)
-      by false none high = tt
+      own : (b : Bool) → is_code_section l.section ≡ b → list_any is_align (items_in inputs l) ≡ false → (b && ltb 4 l.section.align) ≡ false → Each IsTight (section_pieces inputs l)
+      own true code none high =
+          subst (Each IsTight) (sym (section_pieces-code l code))
+          (aligned (leb l.section.align 4) refl high, each_tight l (here 0 l refl) code (starts_in l.section) (ap (list_any is_align) (sym (items_in-code inputs l code)) ∙ none))
+      own false other none high = subst (Each IsTight) (sym (ap (λ b. cond b (Align (section_alignment l.section) ∷ map (piece_at inputs) (places_of l)) []) other)) tt
 
   -- ---- room
 
-  module _ (o i : ℕ) (s : SectionParts) (code : is_code_section s ≡ true) (whole : IsWhole s) where
-    -- the items of a section take at most twice its bytes
-    items_longest : sum_by longest (map (piece_on inputs o i s) (starts_in s)) ≤ 2 * length s.bytes
-    items_longest = omega (arith, all)
-      where
-        f : ℕ → Piece
-        f m = piece_on inputs o i s m
+  module _ (l : IndexedSection) (here : section_at objects l.object l.index ≡ Some l.section) (code : is_code_section l.section ≡ true) (whole : IsWhole l.section) where
+    abbrev s : SectionParts
+    s = l.section
 
-        all : sum_by longest (map (piece_on inputs o i s) (starts_in s)) + 2 * 0 ≤ 2 * length s.bytes
-        all = along s code whole (λ n xs. sum_by longest (map (piece_on inputs o i s) xs) + 2 * n ≤ 2 * length s.bytes) (omega arith)
+    abbrev piece_on : ℕ → Piece
+    piece_on m = piece_at inputs (place_of l m)
+
+    -- the places of a section take at most twice its bytes
+    places_longest : sum_by longest (map piece_on (starts_in s)) ≤ 2 * length s.bytes
+    places_longest = omega (arith, all)
+      where
+        all : sum_by longest (map piece_on (starts_in s)) + 2 * 0 ≤ 2 * length s.bytes
+        all = along s code whole (λ n xs. sum_by longest (map piece_on xs) + 2 * n ≤ 2 * length s.bytes) (omega arith)
             (λ n xs lt words st above rest. omega (
               arith,
-              sum_by-cons longest (piece_on inputs o i s n) (map (piece_on inputs o i s) xs),
-              item_longest (item_in inputs s (place_at o i n)) (size_on s n) (omega (arith, st.words, st.some)) (item_takes inputs s (place_at o i n) code),
+              sum_by-cons longest (piece_on n) (map piece_on xs),
+              place_longest (place_of l n) s (size_on s n) (there inputs l here code n) (omega (arith, st.words, st.some)) (item_takes inputs s (place_of l n) code),
               rest,
             ))
 
@@ -229,28 +283,29 @@ module _ (inputs : ParsedInputs) where
         omega arith
 
   -- the pieces of sections have twice their room, and are no more than the words of it
-  sections_longest : (ls : List IndexedSection) → AreWhole ls → (sum_by longest (item_pieces_in inputs ls) ≤ 2 * rooms ls) × (4 * length (item_pieces_in inputs ls) ≤ rooms ls)
-  sections_longest [] whole = (omega arith, omega arith)
-  sections_longest (l ∷ ls) whole = by (is_code_section l.section) refl (sections_longest ls whole.1)
+  sections_longest : (ls : List IndexedSection) → ((k : ℕ) (l : IndexedSection) → slice_get ls k ≡ Some l → section_at objects l.object l.index ≡ Some l.section) → AreWhole ls
+      → (sum_by longest (pieces_in inputs ls) ≤ 2 * rooms ls) × (4 * length (pieces_in inputs ls) ≤ rooms ls)
+  sections_longest [] here whole = (omega arith, omega arith)
+  sections_longest (l ∷ ls) here whole = by (is_code_section l.section) refl (sections_longest ls (λ k m is. here (suc k) m is) whole.1)
     where
       ps : List Piece
-      ps = item_pieces_in inputs ls
+      ps = pieces_in inputs ls
 
-      by : (b : Bool) → is_code_section l.section ≡ b → (sum_by longest (item_pieces_in inputs ls) ≤ 2 * rooms ls) × (4 * length (item_pieces_in inputs ls) ≤ rooms ls)
-          → (sum_by longest (item_pieces_in inputs (l ∷ ls)) ≤ 2 * rooms (l ∷ ls)) × (4 * length (item_pieces_in inputs (l ∷ ls)) ≤ rooms (l ∷ ls))
+      by : (b : Bool) → is_code_section l.section ≡ b → (sum_by longest (pieces_in inputs ls) ≤ 2 * rooms ls) × (4 * length (pieces_in inputs ls) ≤ rooms ls)
+          → (sum_by longest (pieces_in inputs (l ∷ ls)) ≤ 2 * rooms (l ∷ ls)) × (4 * length (pieces_in inputs (l ∷ ls)) ≤ rooms (l ∷ ls))
       by true code rest =
           let s = l.section in
-          let own = item_pieces-code inputs l.object l.index s code in
-          let items = map (piece_on inputs l.object l.index s) (starts_in s) in
+          let own = section_pieces-code l code in
+          let places = map (λ m. piece_at inputs (place_of l m)) (starts_in s) in
           let room = code_room_is s code in
-          let few = starts_few l.object l.index s code (whole.0 code) in (
+          let few = starts_few l (here 0 l refl) code (whole.0 code) in (
             omega (
               arith,
-              sum_by-append longest (item_pieces inputs l) (item_pieces_in inputs ls),
+              sum_by-append longest (section_pieces inputs l) (pieces_in inputs ls),
               ap (sum_by longest) own,
-              sum_by-cons longest (Align (section_alignment s)) items,
+              sum_by-cons longest (Align (section_alignment s)) places,
               (padding_is s (whole.0 code)).most,
-              items_longest l.object l.index s code (whole.0 code),
+              places_longest l (here 0 l refl) code (whole.0 code),
               room,
               (whole.0 code).bytes,
               sum_by-cons (λ (m : IndexedSection). code_room m.section) l ls,
@@ -258,9 +313,9 @@ module _ (inputs : ParsedInputs) where
             ),
             omega (
               arith,
-              length-append (item_pieces inputs l) (item_pieces_in inputs ls),
+              length-append (section_pieces inputs l) (pieces_in inputs ls),
               ap length own,
-              length-map (starts_in s) (piece_on inputs l.object l.index s),
+              length-map (starts_in s) (λ m. piece_at inputs (place_of l m)),
               few,
               room,
               (whole.0 code).bytes,
@@ -269,17 +324,17 @@ module _ (inputs : ParsedInputs) where
             ),
           )
       by false other rest =
-          let own : item_pieces inputs l ≡ [] = ap (λ b. cond b (Align (section_alignment l.section) ∷ map (piece_of objects) (items_in inputs l)) []) other in (
+          let own : section_pieces inputs l ≡ [] = ap (λ b. cond b (Align (section_alignment l.section) ∷ map (piece_at inputs) (places_of l)) []) other in (
             omega (
               arith,
-              sum_by-append longest (item_pieces inputs l) (item_pieces_in inputs ls),
+              sum_by-append longest (section_pieces inputs l) (pieces_in inputs ls),
               ap (sum_by longest) own,
               sum_by-cons (λ (m : IndexedSection). code_room m.section) l ls,
               rest.0,
             ),
             omega (
               arith,
-              length-append (item_pieces inputs l) (item_pieces_in inputs ls),
+              length-append (section_pieces inputs l) (pieces_in inputs ls),
               ap length own,
               sum_by-cons (λ (m : IndexedSection). code_room m.section) l ls,
               rest.1,
@@ -288,6 +343,11 @@ module _ (inputs : ParsedInputs) where
 
 -- ---- all pieces
 
+-- what stands in front, and those of sections
+pieces_are : (inputs : ParsedInputs) → pieces_of inputs ≡ Fixed front_size ∷ pieces_in inputs (all_sections inputs.objects)
+unfolding pieces_of
+pieces_are inputs = refl
+
 module _ (inputs : Inputs) (none : gather_fault inputs ≡ None) where
   abbrev given : ParsedInputs
   given = parsed inputs
@@ -295,43 +355,42 @@ module _ (inputs : Inputs) (none : gather_fault inputs ≡ None) where
   abbrev sections : List IndexedSection
   sections = all_sections given.objects
 
-  -- P holds of each piece if it holds of what stands in front, of what pads sections, and of items
-  all_pieces : (P : Piece → Type 0) → P (Fixed front_size) → ((s : SectionParts) → IsWhole s → P (Align (section_alignment s))) → ((i : Item) → P (piece_of given.objects i)) → All P (pieces_of given)
-  all_pieces P front pads item =
-      subst (All P) (sym (pieces_by_items given))
-      (all_of P (Fixed front_size ∷ item_pieces_in given sections) (front, each_piece given P pads item sections (all_whole inputs none)))
+  -- P holds of each piece if it holds of what stands in front, of what pads sections, and of those of places
+  all_pieces : (P : Piece → Type 0) → P (Fixed front_size) → ((s : SectionParts) → IsWhole s → P (Align (section_alignment s))) → ((q : Place) → P (piece_at given q)) → All P (pieces_of given)
+  unfolding pieces_of
+  all_pieces P front pads place = all_of P (Fixed front_size ∷ pieces_in given sections) (front, each_piece given P pads place sections (all_whole inputs none))
 
   -- all alignments are at least 1
   pub all_aligned : All HasAlignment (pieces_of given)
-  all_aligned = all_pieces HasAlignment tt (λ s whole. (padding_is given s whole).some) (item_aligned given)
+  all_aligned = all_pieces HasAlignment tt (λ s whole. (padding_is given s whole).some) (place_aligned given)
 
   -- and all pieces are even
   pub all_even : All IsEvenPiece (pieces_of given)
-  all_even = all_pieces IsEvenPiece refl (λ s whole. (padding_is given s whole).even) (item_even given)
+  all_even = all_pieces IsEvenPiece refl (λ s whole. (padding_is given s whole).even) (place_even given)
 
   -- targets are pieces, or the end
   pub targets : All (λ p. target p ≤ length (pieces_of given)) (pieces_of given)
-  targets = all_pieces (λ p. target p ≤ length (pieces_of given)) (omega arith) (λ s whole. omega arith) (item_leads given)
+  targets = all_pieces (λ p. target p ≤ length (pieces_of given)) (omega arith) (λ s whole. omega arith) (place_leads given)
 
   -- the longest forms take little room
   pub room_few : sum_by longest (pieces_of given) ≤ 0x8_0000
   room_few =
       omega (
         arith,
-        ap (sum_by longest) (pieces_by_items given),
-        sum_by-cons longest (Fixed front_size) (item_pieces_in given sections),
-        (sections_longest given sections (all_whole inputs none)).0,
+        ap (sum_by longest) (pieces_are given),
+        sum_by-cons longest (Fixed front_size) (pieces_in given sections),
+        (sections_longest given sections (λ k l is. listed_at given.objects k l is) (all_whole inputs none)).0,
         rooms_few inputs none,
       )
 
   -- and there are few pieces
   pub pieces_few : 4 * length (pieces_of given) ≤ 0x4_0004
-  pieces_few = omega (arith, ap length (pieces_by_items given), (sections_longest given sections (all_whole inputs none)).1, rooms_few inputs none)
+  pieces_few = omega (arith, ap length (pieces_are given), (sections_longest given sections (λ k l is. listed_at given.objects k l is) (all_whole inputs none)).1, rooms_few inputs none)
 
 -- if nothing is aligned above 4 bytes, all are tight
 pub all_tight : (inputs : ParsedInputs) → is_unaligned inputs ≡ true → All IsTight (pieces_of inputs)
+unfolding pieces_of
 all_tight inputs is =
     let two = and_parts (not (list_any is_align (all_items inputs))) (not (list_any is_aligned_code (all_sections inputs.objects))) is in
-    subst (All IsTight) (sym (pieces_by_items inputs))
-    (all_of IsTight (Fixed front_size ∷ item_pieces_in inputs (all_sections inputs.objects))
-    (tt, sections_tight inputs (all_sections inputs.objects) (not-true (list_any is_align (all_items inputs)) two.0) (not-true (list_any is_aligned_code (all_sections inputs.objects)) two.1)))
+    all_of IsTight (Fixed front_size ∷ pieces_in inputs (all_sections inputs.objects))
+    (tt, sections_tight inputs (all_sections inputs.objects) (λ k l is. listed_at inputs.objects k l is) (not-true (list_any is_align (all_items inputs)) two.0) (not-true (list_any is_aligned_code (all_sections inputs.objects)) two.1))

@@ -1,9 +1,8 @@
--- Sections by their numbers among all: what one more adds to the pieces, to their count, and to the items that they belong to.
-use Rattle.std.proofs.Common.{◌≡◌, ℕ, zero, suc, ◌+◌, ◌<◌, ◌≤◌, List, [], ◌∷◌, ◌++◌, length, map, take, drop, cond, Bool, true, false, Option, Some, None, slice_get, refl, sym, ap, ◌∙◌, arith, append_assoc, eqb}
+-- Sections by their numbers among all: what one more adds to the pieces, to their count, and to what is written for them.
+use Rattle.std.proofs.Common.{◌≡◌, ℕ, zero, suc, ◌+◌, ◌-◌, ◌<◌, ◌≤◌, List, [], ◌∷◌, ◌++◌, length, map, take, drop, cond, Bool, true, false, Some, None, slice_get, refl, sym, ap, ◌∙◌, arith, append_assoc, eqb}
 use Rattle.std.specs.List.{flat_map, sum_by}
-use Rattle.std.specs.Option.{option_to_list}
-use Rattle.std.proofs.lemmas.Bool.{eqb-true, false_from_ne_true}
-use Rattle.std.proofs.lemmas.List.{append-nil, length-append, length-map, map-append, take-append-drop, take_more}
+use Rattle.std.proofs.lemmas.Bool.{eqb-true}
+use Rattle.std.proofs.lemmas.List.{append-nil, length-append, length-map, map-append, take-append-drop, take_at, take_more}
 use Rattle.std.proofs.lemmas.List.Concat.{flat_map-append}
 use Rattle.std.proofs.lemmas.List.Sums.{sum_by-append, sum_by-cons}
 use Rattle.std.proofs.lemmas.Option.{get_or_from_slice_get, slice_get_within}
@@ -13,19 +12,15 @@ use Rattle.psabi_sym.specs.Inputs.{Inputs, ParsedInputs, parsed}
 use Rattle.psabi_sym.specs.Indexed.{IndexedSection, all_sections, section_at}
 use Rattle.psabi_sym.proofs.BridgeLaws.{map-map}
 use Rattle.psabi_sym.proofs.SectionNumbers.{listed_at}
-use Rattle.block_cut.specs.Items.{item_at, item_in, items_in, place_of, starts_in, starts_on, targets_in}
+use Rattle.block_cut.specs.Items.{place_of, places_of, starts_in, targets_in}
 use Rattle.block_cut.specs.Places.{code_place, code_places}
 use Rattle.block_cut.specs.Whole.{IsWhole}
 use Rattle.block_cut.specs.declared.code_place.CodePlace.{CodePlace}
-use Rattle.block_cut.specs.declared.item.Item.{Item}
-use Rattle.block_cut.proofs.ItemLaws.{item_at-code}
-use Rattle.block_cut.proofs.RoomLaws.{items_in-code}
-use Rattle.block_cut.proofs.StartLaws.{among_first, among_later, is_among, start_is}
 use Rattle.block_cut.proofs.WholeLaws.{inputs_whole}
-use Rattle.shrink_layout.specs.Invariants.Made.{items_held, section_owners, owners_in}
-use Rattle.shrink_layout.specs.Pieces.{piece_count, piece_of, pieces_in, section_alignment, section_pieces}
+use Rattle.shrink_layout.specs.Invariants.Made.{owners_in, places_held, section_owners}
+use Rattle.shrink_layout.specs.Pieces.{piece_at, piece_count, pieces_in, section_alignment, section_pieces}
+use Rattle.shrink_layout.specs.Units.{unit_at}
 use Rattle.shrink_layout.specs.declared.piece.Piece.TheVariants.{Align}
-use Rattle.shrink_layout.proofs.ItemPieces.{held_start, section_by_items, section_has, there}
 use Rattle.shrink_layout.proofs.NumberLaws.{length-pieces_of}
 use Rattle.shrink_layout.proofs.PremiseLaws.{pieces_few}
 
@@ -50,14 +45,18 @@ some_at [] k lt = absurd (omega (arith, lt))
 some_at (x ∷ xs) zero lt = (x, refl)
 some_at (x ∷ xs) (suc k) lt = some_at xs k (omega (arith, lt))
 
+-- all of a list but its last element
+pub but_last : {X : Type 0} (xs : List X) (x : X) → take (length (xs ++ x ∷ []) - 1) (xs ++ x ∷ []) ≡ xs
+but_last xs x = take_at xs (x ∷ []) (length (xs ++ x ∷ []) - 1) (omega (arith, length-append xs (x ∷ [])))
+
 -- what isn't 0 is more
 not_none : (n : ℕ) → eqb n 0 ≡ false → 0 < n
 not_none zero is = absurd cc
 not_none (suc n) is = omega arith
 
--- the items of one place more
-pub held_next : (places : List CodePlace) (k : ℕ) (p : CodePlace) → slice_get places k ≡ Some p → items_held (take (k + 1) places) ≡ items_held (take k places) ++ option_to_list p.item
-held_next places k p is = flat_next (λ (q : CodePlace). option_to_list q.item) places k p is
+-- one place more
+pub held_next : (l : IndexedSection) (places : List CodePlace) (k : ℕ) (p : CodePlace) → slice_get places k ≡ Some p → places_held l (take (k + 1) places) ≡ places_held l (take k places) ++ place_of l p.offset ∷ []
+held_next l places k p is = ap (places_held l) (split_at places k p is) ∙ map-append (λ (q : CodePlace). place_of l q.offset) (take k places) (p ∷ [])
 
 module _ (inputs : Inputs) (none : gather_fault inputs ≡ None) where
   abbrev given : ParsedInputs
@@ -100,31 +99,19 @@ module _ (inputs : Inputs) (none : gather_fault inputs ≡ None) where
             )
         by false = refl
 
-    -- ---- the items
+    -- ---- the places
 
-    -- none starts at the end of a section of code
-    held_end : is_code_section l.section ≡ true → item_at given (place_of l (length l.section.bytes)) ≡ None
-    held_end code =
-        let n = length l.section.bytes in
-        item_at-code given (place_of l n) l.section (there given l here code n)
-        ∙ ap (λ b. cond b (Some (item_in given l.section (place_of l n))) None)
-        (false_from_ne_true (starts_on l.section n) (λ start. omega (arith, (start_is l.section code (whole code) n start).inside)))
-
-    held_starts : is_code_section l.section ≡ true → (ns : List ℕ) → ((n : ℕ) → is_among n ns ≡ true → starts_on l.section n ≡ true)
-        → items_held (map (code_place given l) ns) ≡ map (λ n. item_in given l.section (place_of l n)) ns
-    held_starts code [] are = refl
-    held_starts code (n ∷ ns) are =
-        λ i. option_to_list (held_start given l here code n (are n (among_first n n ns refl)) i) ++ held_starts code ns (λ m there. are m (among_later n m ns there)) i
-
-    -- its places have its items
-    held : is_code_section l.section ≡ true → items_held (map (code_place given l) (targets_in l.section)) ≡ items_in given l
-    held code =
-        let n = length l.section.bytes in
-        ap items_held (map-append (code_place given l) (starts_in l.section) (n ∷ []))
-        ∙ flat_map-append (λ (p : CodePlace). option_to_list p.item) (map (code_place given l) (starts_in l.section)) (map (code_place given l) (n ∷ []))
-        ∙ (λ i. held_starts code (starts_in l.section) (λ m there. there) i ++ (option_to_list (held_end code i) ++ []))
-        ∙ append-nil (map (λ m. item_in given l.section (place_of l m)) (starts_in l.section))
-        ∙ sym (items_in-code given l code)
+    -- all but the last are those where items start
+    pub held_all : is_code_section l.section ≡ true → places_held l (take (length (code_places given l) - 1) (code_places given l)) ≡ places_of l
+    held_all code =
+        let f = code_place given l in
+        let end = length l.section.bytes in
+        let all : code_places given l ≡ map f (starts_in l.section) ++ f end ∷ [] =
+        ap (λ b. cond b (map f (targets_in l.section)) []) code ∙ map-append f (starts_in l.section) (end ∷ []) in
+        ap (λ ps. places_held l (take (length ps - 1) ps)) all
+        ∙ ap (places_held l) (but_last (map f (starts_in l.section)) (f end))
+        ∙ map-map (λ (p : CodePlace). place_of l p.offset) f (starts_in l.section)
+        ∙ sym (ap (λ b. cond b (map (place_of l) (starts_in l.section)) []) code)
 
     -- ---- what is no code
 
@@ -138,48 +125,44 @@ module _ (inputs : Inputs) (none : gather_fault inputs ≡ None) where
     -- it adds no pieces
     pub none_next : eqb (length (code_places given l)) 0 ≡ true → pieces_in given (take k all) ≡ pieces_in given (take (k + 1) all)
     none_next none =
-        let own : section_pieces given l ≡ [] = section_by_items given l here ∙ ap (λ b. cond b (Align (section_alignment l.section) ∷ map (piece_of objects) (items_in given l)) []) (no_code none) in
+        let own : section_pieces given l ≡ [] = ap (λ b. cond b (Align (section_alignment l.section) ∷ map (piece_at given) (places_of l)) []) (no_code none) in
         sym (flat_next (section_pieces given) all k l is ∙ ap (λ ps. pieces_in given (take k all) ++ ps) own ∙ append-nil (pieces_in given (take k all)))
 
     pub no_owners_next : eqb (length (code_places given l)) 0 ≡ true → owners_in given (take k all) ≡ owners_in given (take (k + 1) all)
     no_owners_next none =
-        let own : section_owners given l ≡ [] = ap (λ b. cond b (None ∷ map (item_at given) (cond b (map (place_of l) (starts_in l.section)) [])) []) (no_code none) in
+        let own : section_owners given l ≡ [] = ap (λ b. cond b (None ∷ map (unit_at given) (places_of l)) []) (no_code none) in
         sym (flat_next (section_owners given) all k l is ∙ ap (λ xs. owners_in given (take k all) ++ xs) own ∙ append-nil (owners_in given (take k all)))
 
     -- ---- what is code
 
-    some_code : eqb (length (code_places given l)) 0 ≡ false → is_code_section l.section ≡ true
+    pub some_code : eqb (length (code_places given l)) 0 ≡ false → is_code_section l.section ≡ true
     some_code some = by (is_code_section l.section) refl
       where
         by : (b : Bool) → is_code_section l.section ≡ b → is_code_section l.section ≡ true
         by true code = code
         by false other = absurd (omega (arith, not_none (length (code_places given l)) some, places_count, ap (λ b. cond b (1 + length (starts_in l.section)) 0) other))
 
-    held_all : is_code_section l.section ≡ true → items_held (code_places given l) ≡ items_in given l
-    held_all code = ap (λ b. items_held (cond b (map (code_place given l) (targets_in l.section)) [])) code ∙ held code
-
-    -- it adds its padding and the pieces of its items
+    -- it adds its padding and the pieces of its places
     pub some_next : eqb (length (code_places given l)) 0 ≡ false
-        → (pieces_in given (take k all) ++ Align (section_alignment l.section) ∷ []) ++ map (piece_of objects) (items_held (code_places given l)) ≡ pieces_in given (take (k + 1) all)
+        → (pieces_in given (take k all) ++ Align (section_alignment l.section) ∷ []) ++ map (piece_at given) (places_held l (take (length (code_places given l) - 1) (code_places given l)))
+        ≡ pieces_in given (take (k + 1) all)
     some_next some =
         let code = some_code some in
         let front = pieces_in given (take k all) in
         let pad = Align (section_alignment l.section) in
-        let own : section_pieces given l ≡ pad ∷ map (piece_of objects) (items_in given l) = section_by_items given l here ∙ ap (λ b. cond b (pad ∷ map (piece_of objects) (items_in given l)) []) code in
-        append_assoc front (pad ∷ []) (map (piece_of objects) (items_held (code_places given l)))
-        ∙ ap (λ is. front ++ pad ∷ map (piece_of objects) is) (held_all code)
+        let own : section_pieces given l ≡ pad ∷ map (piece_at given) (places_of l) = ap (λ b. cond b (pad ∷ map (piece_at given) (places_of l)) []) code in
+        append_assoc front (pad ∷ []) (map (piece_at given) (places_held l (take (length (code_places given l) - 1) (code_places given l))))
+        ∙ ap (λ ps. front ++ pad ∷ map (piece_at given) ps) (held_all code)
         ∙ sym (flat_next (section_pieces given) all k l is ∙ ap (λ ps. front ++ ps) own)
 
     pub owners_next : eqb (length (code_places given l)) 0 ≡ false
-        → (owners_in given (take k all) ++ None ∷ []) ++ map Some (items_held (code_places given l)) ≡ owners_in given (take (k + 1) all)
+        → (owners_in given (take k all) ++ None ∷ []) ++ map (unit_at given) (places_held l (take (length (code_places given l) - 1) (code_places given l))) ≡ owners_in given (take (k + 1) all)
     owners_next some =
         let code = some_code some in
         let front = owners_in given (take k all) in
-        let owners : Bool → List (Option Item) = λ b. cond b (None ∷ map (item_at given) (cond b (map (place_of l) (starts_in l.section)) [])) [] in
-        let own : section_owners given l ≡ None ∷ map Some (items_in given l) =
-        ap owners code ∙ ap (λ xs. None ∷ xs) (map-map (item_at given) (place_of l) (starts_in l.section) ∙ section_has given l here code (λ o. o)) in
-        append_assoc front (None ∷ []) (map Some (items_held (code_places given l)))
-        ∙ ap (λ is. front ++ None ∷ map Some is) (held_all code)
+        let own : section_owners given l ≡ None ∷ map (unit_at given) (places_of l) = ap (λ b. cond b (None ∷ map (unit_at given) (places_of l)) []) code in
+        append_assoc front (None ∷ []) (map (unit_at given) (places_held l (take (length (code_places given l) - 1) (code_places given l))))
+        ∙ ap (λ ps. front ++ None ∷ map (unit_at given) ps) (held_all code)
         ∙ sym (flat_next (section_owners given) all k l is ∙ ap (λ xs. front ++ xs) own)
 
 -- ---- what a section's places count

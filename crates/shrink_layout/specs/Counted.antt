@@ -1,11 +1,12 @@
 -- How pieces are counted, by their sizes.
 use Rattle.std.specs.Prelude.{ℕ, ◌+◌, Bool, false, ◌==◌, if◌then◌else◌, List, [], ◌∷◌, drop, slice_index}
 use Rattle.shrink_layout.specs.declared.piece.Piece.{Piece}
-use Rattle.shrink_layout.specs.declared.piece.Piece.TheVariants.{Fixed, Align, Branch, Jump}
+use Rattle.shrink_layout.specs.declared.piece.Piece.TheVariants.{Fixed, Joined, Align, Branch, Jump}
 
--- a piece that isn't padding and takes 2 bytes
+-- a piece of one item that isn't padding and takes 2 bytes
 abbrev pub is_short_piece : Piece → ℕ → Bool
 is_short_piece (Fixed n) size = size == 2
+is_short_piece (Joined n) size = false
 is_short_piece (Align alignment) size = false
 is_short_piece (Branch to short) size = size == 2
 is_short_piece (Jump to) size = size == 2
@@ -13,6 +14,7 @@ is_short_piece (Jump to) size = size == 2
 -- a branch that takes 8
 abbrev pub is_long_piece : Piece → ℕ → Bool
 is_long_piece (Fixed n) size = false
+is_long_piece (Joined n) size = false
 is_long_piece (Align alignment) size = false
 is_long_piece (Branch to short) size = size == 8
 is_long_piece (Jump to) size = false

@@ -3,12 +3,13 @@
 use Rattle.std.specs.Prelude.{◌≡◌, ℕ, ℤ, pos, ◌-ℤ◌, ◌-◌, ◌%◌, ◌^◌, ◌<◌, ◌⊎◌, Bool, true, false, ◌==◌, if◌then◌else◌}
 use Rattle.psabi_reloc.specs.Reaches.{branch_reach, short_branch_reach, short_jump_reach}
 use Rattle.shrink_layout.specs.declared.piece.Piece.{Piece}
-use Rattle.shrink_layout.specs.declared.piece.Piece.TheVariants.{Fixed, Align, Branch, Jump}
+use Rattle.shrink_layout.specs.declared.piece.Piece.TheVariants.{Fixed, Joined, Align, Branch, Jump}
 
 -- ---- sizes
 
 abbrev pub shortest : Piece → ℕ
 shortest (Fixed size) = size
+shortest (Joined size) = size
 shortest (Align alignment) = 0
 shortest (Branch to true) = 2
 shortest (Branch to false) = 4
@@ -17,6 +18,7 @@ shortest (Jump to) = 2
 -- the next longer form; the longest has none
 abbrev pub longer : Piece → ℕ → ℕ
 longer (Fixed n) size = size
+longer (Joined n) size = size
 longer (Align alignment) size = size
 longer (Branch to short) size = if size == 2 then 4 else 8
 longer (Jump to) size = 4
@@ -24,6 +26,7 @@ longer (Jump to) size = 4
 -- the bytes that a piece takes at most
 abbrev pub longest : Piece → ℕ
 longest (Fixed size) = size
+longest (Joined size) = size
 longest (Align alignment) = alignment
 longest (Branch to short) = 8
 longest (Jump to) = 4
@@ -31,6 +34,7 @@ longest (Jump to) = 4
 -- the sizes that are forms; that of padding is what its place needs, so its form is 0
 abbrev pub IsForm : Piece → ℕ → Type 0
 IsForm (Fixed n) size = size ≡ n
+IsForm (Joined n) size = size ≡ n
 IsForm (Align alignment) size = size ≡ 0
 IsForm (Branch to true) size = (size ≡ 2) ⊎ ((size ≡ 4) ⊎ (size ≡ 8))
 IsForm (Branch to false) size = (size ≡ 4) ⊎ (size ≡ 8)
@@ -41,6 +45,7 @@ IsForm (Jump to) size = (size ≡ 2) ⊎ (size ≡ 4)
 -- how many pieces stand before the target
 abbrev pub target : Piece → ℕ
 target (Fixed size) = 0
+target (Joined size) = 0
 target (Align alignment) = 0
 target (Branch to short) = to
 target (Jump to) = to
@@ -56,6 +61,7 @@ near_limit = 2 ^ 31
 -- whether a form reaches from the address of its piece to that of the target; the longest always does
 abbrev pub holds : Piece → ℕ → ℕ → ℕ → Bool
 holds (Fixed n) size «from» to = true
+holds (Joined n) size «from» to = true
 holds (Align alignment) size «from» to = true
 holds (Branch t short) size «from» to =
     if size == 2 then short_branch_reach (distance «from» to)
@@ -67,6 +73,7 @@ holds (Jump t) size «from» to = if size == 2 then short_jump_reach (distance �
 -- the bytes that a piece takes at an address: its size, or what its alignment needs
 abbrev pub width : Piece → ℕ → ℕ → ℕ
 width (Fixed n) size at = size
+width (Joined n) size at = size
 width (Align alignment) size at = (alignment - at % alignment) % alignment
 width (Branch to short) size at = size
 width (Jump to) size at = size
@@ -74,6 +81,7 @@ width (Jump to) size at = size
 -- an alignment is at least 1
 abbrev pub HasAlignment : Piece → Type 0
 HasAlignment (Fixed size) = Unit {0}
+HasAlignment (Joined size) = Unit {0}
 HasAlignment (Align alignment) = 0 < alignment
 HasAlignment (Branch to short) = Unit {0}
 HasAlignment (Jump to) = Unit {0}
@@ -81,6 +89,7 @@ HasAlignment (Jump to) = Unit {0}
 -- sizes and alignments are even, so that all addresses are
 abbrev pub IsEvenPiece : Piece → Type 0
 IsEvenPiece (Fixed size) = size % 2 ≡ 0
+IsEvenPiece (Joined size) = size % 2 ≡ 0
 IsEvenPiece (Align alignment) = alignment % 2 ≡ 0
 IsEvenPiece (Branch to short) = Unit {0}
 IsEvenPiece (Jump to) = Unit {0}

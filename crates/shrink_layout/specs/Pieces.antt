@@ -1,6 +1,7 @@
--- The pieces of code: the padding before each section of it, and its items, each with the forms that it has (RISC-V
--- unprivileged manual, "C Extension for Compressed Instructions"; RISC-V Zc specification 1.0, "Zcb").
-use Rattle.std.specs.Prelude.{ℕ, pos, ◌+◌, Bool, true, false, nat_lt, nat_le, if◌then◌else◌, List, [], ◌∷◌, length, map, not, ◌&&◌, Option, Some, None}
+-- The pieces of code: the padding before each section of it, and what is written for its items, each with the forms that
+-- it has (RISC-V unprivileged manual, "C Extension for Compressed Instructions"; RISC-V Zc specification 1.0, "Zcb" and
+-- "Zcmp").
+use Rattle.std.specs.Prelude.{ℕ, pos, ◌+◌, Bool, true, false, ◌==◌, nat_lt, nat_le, if◌then◌else◌, List, [], ◌∷◌, length, map, not, ◌&&◌, Option, Some, None}
 use Rattle.std.specs.List.{flat_map, list_any, sum_by}
 use Rattle.std.specs.Option.{is_some, option_map_or}
 use Rattle.zc_base.specs.declared.place.Place.{Place}
@@ -20,9 +21,10 @@ use Rattle.zc_encode.specs.Halves.{encoded16}
 use Rattle.block_cut.specs.Items.{all_items, code_at, index_on, is_target_at, places_of, starts_in}
 use Rattle.block_cut.specs.declared.item.Item.{Item}
 use Rattle.block_cut.specs.declared.item.Item.TheVariants as item
-use Rattle.shrink_layout.specs.Units.{CodeUnit, OneItem, front_size, unit_at}
+use Rattle.frame_match.specs.declared.group.Group.{Group}
+use Rattle.shrink_layout.specs.Units.{CodeUnit, OneGroup, OneItem, front_size, rest_instr, unit_at}
 use Rattle.shrink_layout.specs.declared.piece.Piece.{Piece}
-use Rattle.shrink_layout.specs.declared.piece.Piece.TheVariants.{Fixed, Align, Branch, Jump}
+use Rattle.shrink_layout.specs.declared.piece.Piece.TheVariants.{Fixed, Joined, Align, Branch, Jump}
 
 -- ---- where places stand in the list
 
@@ -86,10 +88,15 @@ piece_of objects (item.Word t) = Fixed 4
 piece_of objects (item.Raw word) = Fixed 4
 piece_of objects (item.RawPair first second) = Fixed 8
 
--- the piece of what is written at a place
+-- the size of a group: a halfword, and the instruction that moves sp by the rest of its frame
+abbrev pub group_size : Group → ℕ
+group_size g = if g.rest == 0 then 2 else 2 + instr_size (rest_instr g)
+
+-- the piece of what is written at a place; where an item starts inside a group that is nothing
 abbrev pub unit_piece : List ObjectParts → Option CodeUnit → Piece
-unit_piece objects None = Fixed 0
+unit_piece objects None = Joined 0
 unit_piece objects (Some (OneItem i)) = piece_of objects i
+unit_piece objects (Some (OneGroup g)) = Joined (group_size g)
 
 -- the piece at a place
 abbrev pub piece_at : ParsedInputs → Place → Piece

@@ -3,12 +3,15 @@
 #![tactic(auto)]
 
 mod blocks;
+mod group_counts;
+pub mod group_size;
 mod instr_piece;
 mod item_piece;
 mod moves;
 mod numbers;
 pub mod piece;
 mod pieces;
+mod place_piece;
 mod round;
 mod rounds;
 pub mod settled;

@@ -5,11 +5,12 @@ ghost use Rattle.shrink_layout.specs.Forms.{HasAlignment, IsForm, holds, longer,
 
 use psabi_reloc::reaches::{branch_reaches, short_branch_reaches, short_jump_reaches};
 
-/// What the layout knows of an item, or of the padding before a section.
+/// What the layout knows of an item, of the padding before a section, or of what stands in front of all code.
 ///
 /// | Piece | Stands for |
 /// |---|---|
-/// | `Fixed` | an item that has one size wherever it lies: most have |
+/// | `Fixed` | an item that has one size wherever it lies, as most have; or what stands in front |
+/// | `Joined` | an item of a group: the first has the bytes of all, the others none |
 /// | `Align` | padding up to a multiple of the alignment |
 /// | `Branch` | a branch; `short` says whether it has a form of two bytes |
 /// | `Jump` | a jump or a call that has a form of two bytes |
@@ -18,6 +19,7 @@ use psabi_reloc::reaches::{branch_reaches, short_branch_reaches, short_jump_reac
 #[derive(Clone, Copy)]
 pub enum Piece {
     Fixed { size: u8 },
+    Joined { size: u8 },
     Align { alignment: u32 },
     Branch { to: u32, short: bool },
     Jump { to: u32 },
@@ -29,7 +31,7 @@ impl Piece {
         ensures { result ≡ shortest self }
     {
         match self {
-            Piece::Fixed { size } => size,
+            Piece::Fixed { size } | Piece::Joined { size } => size,
             Piece::Align { .. } => 0,
             Piece::Branch { short: true, .. } | Piece::Jump { .. } => 2,
             Piece::Branch { short: false, .. } => 4,
@@ -41,7 +43,7 @@ impl Piece {
         ensures { result ≡ longer self size }
     {
         match self {
-            Piece::Fixed { .. } | Piece::Align { .. } => size,
+            Piece::Fixed { .. } | Piece::Joined { .. } | Piece::Align { .. } => size,
             Piece::Branch { .. } => { if size == 2 { 4 } else { 8 } }
             Piece::Jump { .. } => 4,
         }
@@ -52,7 +54,7 @@ impl Piece {
         ensures { result ≡ target self }
     {
         match self {
-            Piece::Fixed { .. } | Piece::Align { .. } => 0,
+            Piece::Fixed { .. } | Piece::Joined { .. } | Piece::Align { .. } => 0,
             Piece::Branch { to, .. } | Piece::Jump { to } => to,
         }
     }
@@ -63,7 +65,7 @@ impl Piece {
     {
         let distance = to.wrapping_sub(from).cast_signed();
         match self {
-            Piece::Fixed { .. } | Piece::Align { .. } => true,
+            Piece::Fixed { .. } | Piece::Joined { .. } | Piece::Align { .. } => true,
             Piece::Branch { .. } if size == 2 => short_branch_reaches(distance),
             Piece::Branch { .. } if size == 4 => branch_reaches(distance),
             Piece::Branch { .. } => true,
@@ -80,7 +82,10 @@ impl Piece {
     {
         match self {
             Piece::Align { alignment } => (alignment - at % alignment) % alignment,
-            Piece::Fixed { .. } | Piece::Branch { .. } | Piece::Jump { .. } => u32::from(size),
+            Piece::Fixed { .. }
+            | Piece::Joined { .. }
+            | Piece::Branch { .. }
+            | Piece::Jump { .. } => u32::from(size),
         }
     }
 }

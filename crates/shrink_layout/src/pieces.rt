@@ -1,20 +1,24 @@
 // The pieces of all code.
 
-ghost use Rattle.std.specs.Prelude.{◌≡◌, ◌<◌, ◌+◌, ◌^◌, ◌++◌, ◌∷◌, [], List, Option, None, Some, IfOk, if◌then◌else◌, length, map, nat_le};
+ghost use Rattle.std.specs.Prelude.{◌≡◌, ◌<◌, ◌+◌, ◌-◌, ◌^◌, ◌++◌, ◌∷◌, [], List, Option, None, IfOk, if◌then◌else◌, length, map, nat_le, take};
 ghost use Rattle.psabi_sym.specs.Faults.{gather_fault};
 ghost use Rattle.psabi_sym.specs.Inputs.{parsed};
 ghost use Rattle.psabi_sym.specs.Indexed.{all_sections};
-ghost use Rattle.block_cut.specs.declared.item.Item.{Item};
-ghost use Rattle.shrink_layout.specs.Invariants.Made.{AreHalvesOf, AreMade, items_held};
+ghost use Rattle.shrink_layout.specs.Invariants.Made.{AreHalvesOf, AreHeld, AreMade, places_held};
 ghost use Rattle.shrink_layout.specs.Invariants.Numbers.{AreHalves, AreFirstNumbers};
-ghost use Rattle.shrink_layout.specs.Pieces.{piece_of, pieces_of};
+ghost use Rattle.shrink_layout.specs.Pieces.{piece_at, pieces_of};
+ghost use Rattle.shrink_layout.specs.Units.{CodeUnit, unit_at};
 
 use crate::instr_piece::{ItemPiece, without_half};
-use crate::item_piece::item_piece;
 use crate::piece::Piece;
+use crate::place_piece::{ItemPlace, place_piece};
 use block_cut::code_place::CodePlace;
 use block_cut::cut::Cut;
+use block_cut::place_number::PlaceNumber;
+use frame_match::planned::Planned;
+use psabi_sym::section_ref::SectionRef;
 use std::alloc::{AllocError, Global};
+use zc_base::place::Place;
 
 /// The pieces of all code, each with the halfword of its item if that is known before the layout, else 0.
 #[derive(Drop)]
@@ -35,6 +39,14 @@ impl Pieces {
     }
 }
 
+// Places of a section, which has this number among all.
+#[derive(Drop)]
+struct SectionPlaces<'a> {
+    number: u32,
+    section: SectionRef<'a>,
+    places: &'a [CodePlace],
+}
+
 // The alignment of the padding before a section: up to 4 it is that of instructions, which may take two
 // bytes.
 fn padding(align: u32) -> u32
@@ -43,45 +55,78 @@ fn padding(align: u32) -> u32
     if align <= 4 { 2 } else { align }
 }
 
-// Adds the pieces of the items that start at places.
-fn add_items(
-    cut: &Cut,
+// The places of a section where items start: all but the last, where the section ends.
+fn starts_of(places: &[CodePlace]) -> &[CodePlace]
+    ensures { result.now ≡ take (length places.now - 1) places.now }
+{
+    &places[..places.len().saturating_sub(1)]
+}
+
+// Adds the pieces of places of a section.
+fn add_places(
+    planned: &Planned,
     starts: &[u32],
-    places: &[CodePlace],
+    of: &SectionPlaces,
     made: &mut Pieces,
 ) -> Result<(), AllocError>
-    requires faultless { gather_fault cut.now ≡ None }
-    requires starts { AreFirstNumbers (parsed cut.now).objects starts.now }
+    requires faultless { gather_fault planned.now ≡ None }
+    requires starts { AreFirstNumbers (parsed planned.now).objects starts.now }
+    requires held { AreHeld (parsed planned.now) of.now.number of.now.section of.now.places.now }
+    requires few { length of.now.places.now < 2 ^ 32 }
     ensures pieces { IfOk result (λ _. made.new.pieces.items
-        ≡ made.old.pieces.items ++ map (piece_of (parsed cut.now).objects) (items_held places.now)) }
-    ensures halves { IfOk result (λ _. (owners : List (Option Item)) → AreHalvesOf owners made.old.halves.items
-        → AreHalvesOf (owners ++ map Some (items_held places.now)) made.new.halves.items) }
+        ≡ made.old.pieces.items ++ map (piece_at (parsed planned.now)) (places_held of.now.section of.now.places.now)) }
+    ensures halves { IfOk result (λ _. (owners : List (Option CodeUnit)) → AreHalvesOf owners made.old.halves.items
+        → AreHalvesOf (owners ++ map (unit_at (parsed planned.now)) (places_held of.now.section of.now.places.now))
+        made.new.halves.items) }
 {
-    for place in places {
-        if let Some(item) = &place.item {
-            made.push(item_piece(cut, starts, item))?;
-        }
+    for i in 0..of.places.len() {
+        let place = &of.places[i];
+        let at = ItemPlace {
+            at: Place {
+                object: of.section.object(),
+                section: of.section.index(),
+                offset: place.offset,
+            },
+            number: PlaceNumber {
+                section: of.number,
+                index: i as u32,
+            },
+            item: &place.item,
+        };
+        made.push(place_piece(planned, starts, &at))?;
     }
     Ok(())
 }
 
-// Adds the pieces of the section with this number among all: its padding, and those of its items.
-fn add_section(cut: &Cut, starts: &[u32], section: u32, made: &mut Pieces) -> Result<(), AllocError>
-    requires faultless { gather_fault cut.now ≡ None }
-    requires starts { AreFirstNumbers (parsed cut.now).objects starts.now }
-    requires section { section < length (all_sections (parsed cut.now).objects) }
-    requires so_far { AreMade (parsed cut.now) section made.old.pieces.items made.old.halves.items }
-    ensures { IfOk result (λ _. AreMade (parsed cut.now) (section + 1) made.new.pieces.items made.new.halves.items) }
+// Adds the pieces of the section with this number among all: its padding, and those of the places where items start.
+fn add_section(
+    planned: &Planned,
+    starts: &[u32],
+    section: u32,
+    made: &mut Pieces,
+) -> Result<(), AllocError>
+    requires faultless { gather_fault planned.now ≡ None }
+    requires starts { AreFirstNumbers (parsed planned.now).objects starts.now }
+    requires section { section < length (all_sections (parsed planned.now).objects) }
+    requires so_far { AreMade (parsed planned.now) section made.old.pieces.items made.old.halves.items }
+    ensures { IfOk result
+        (λ _. AreMade (parsed planned.now) (section + 1) made.new.pieces.items made.new.halves.items) }
 {
+    let cut = planned.cut();
     let places = cut.places(section);
     if places.is_empty() {
         return Ok(());
     }
-    let align = cut.objects().section(section).align();
+    let own = cut.objects().section(section);
     made.push(without_half(Piece::Align {
-        alignment: padding(align),
+        alignment: padding(own.align()),
     }))?;
-    add_items(cut, starts, places, made)
+    let of = SectionPlaces {
+        number: section,
+        section: own,
+        places: starts_of(places),
+    };
+    add_places(planned, starts, &of, made)
 }
 
 /// How many pieces objects that are cut have at most: what stands in front of all code, the padding before each section,
@@ -94,11 +139,12 @@ pub fn most_pieces(cut: &Cut) -> usize
 
 /// The pieces of objects that are cut, by the numbers of their sections' first places. A jump may lead to a place that
 /// comes later, so all of these are known before the first piece is made.
-pub fn make_pieces(alloc: Global, cut: &Cut, starts: &[u32]) -> Result<Pieces, AllocError>
-    requires starts { AreFirstNumbers (parsed cut.now).objects starts.now }
-    ensures pieces { IfOk result (λ made. made.pieces.items ≡ pieces_of (parsed cut.now)) }
-    ensures halves { IfOk result (λ made. AreHalves (parsed cut.now) made.halves.items) }
+pub fn make_pieces(alloc: Global, planned: &Planned, starts: &[u32]) -> Result<Pieces, AllocError>
+    requires starts { AreFirstNumbers (parsed planned.now).objects starts.now }
+    ensures pieces { IfOk result (λ made. made.pieces.items ≡ pieces_of (parsed planned.now)) }
+    ensures halves { IfOk result (λ made. AreHalves (parsed planned.now) made.halves.items) }
 {
+    let cut = planned.cut();
     let sections = cut.objects().section_count();
     let most = most_pieces(cut);
     // The halfwords are kept longer.
@@ -110,7 +156,7 @@ pub fn make_pieces(alloc: Global, cut: &Cut, starts: &[u32]) -> Result<Pieces, A
     // What stands in front of all code takes no bytes so far.
     made.push(without_half(Piece::Fixed { size: 0 }))?;
     for section in 0..sections {
-        add_section(cut, starts, section, &mut made)?;
+        add_section(planned, starts, section, &mut made)?;
     }
     Ok(made)
 }

@@ -24,7 +24,7 @@ fn can_grow(piece: Piece, size: u8) -> bool
     ensures { result ≡ false → ReachesAll piece size }
 {
     match piece {
-        Piece::Fixed { .. } | Piece::Align { .. } => false,
+        Piece::Fixed { .. } | Piece::Joined { .. } | Piece::Align { .. } => false,
         Piece::Branch { .. } => size == 2 || size == 4,
         Piece::Jump { .. } => size == 2,
     }

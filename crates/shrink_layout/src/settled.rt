@@ -2,7 +2,7 @@
 
 ghost use Rattle.std.specs.Prelude.{◌≡◌, ◌≤◌, ℕ, ◌^◌, ◌<◌, if◌then◌else◌, IfOk, IsTrue, Some, length, true};
 ghost use Rattle.psabi_sym.specs.Inputs.{parsed, Inputs};
-ghost use Rattle.block_cut.specs.Items.{is_target_at, item_at};
+ghost use Rattle.block_cut.specs.Items.{is_target_at};
 ghost use Rattle.block_cut.specs.Places.{IsPlaceNumber};
 ghost use Rattle.block_cut.specs.declared.item.Item.{Item};
 ghost use Rattle.shrink_layout.specs.Counted.{is_long_piece, is_short_piece, pieces_with};
@@ -12,15 +12,17 @@ ghost use Rattle.shrink_layout.specs.Least.{IsLeast};
 ghost use Rattle.shrink_layout.specs.Invariants.Numbers.{HasPlace, IsSettled};
 ghost use Rattle.shrink_layout.specs.Pieces.{is_unaligned, piece_number_at, pieces_of};
 ghost use Rattle.shrink_layout.specs.Settled.{settled_address, settled_counts, settled_end, settled_size, settled_sizes};
+ghost use Rattle.shrink_layout.specs.Units.{OneItem, is_inside, unit_at};
 ghost use Rattle.zc_base.specs.declared.place.Place.{Place};
 
+use crate::group_counts::count_groups;
 use crate::numbers::{first_numbers, piece_number, piece_number_at};
 use crate::piece::Piece;
 use crate::pieces::{make_pieces, most_pieces};
 use crate::rounds::settle_pieces;
-use block_cut::cut::Cut;
 use block_cut::place_number::PlaceNumber;
 use frame_match::planned::Planned;
+use frame_match::role::Role;
 use std::alloc::{AllocError, Global};
 use std::marker::Model;
 use zc_base::counts::Counts;
@@ -58,13 +60,13 @@ impl Model for Settled {
         IsSettled settled.planned settled.starts.items settled.halves.items settled.addresses.items settled.counts };
 }
 
-// One for a piece that isn't padding and takes two bytes, and else none.
+// One for a piece of one item that isn't padding and takes two bytes, and else none.
 fn short_of(piece: Piece, size: u8) -> u32
     ensures value { result ≡ (if is_short_piece piece size then 1 else 0) }
     ensures most { result ≤ 1 }
 {
     match piece {
-        Piece::Align { .. } => 0,
+        Piece::Align { .. } | Piece::Joined { .. } => 0,
         Piece::Fixed { .. } | Piece::Branch { .. } | Piece::Jump { .. } => {
             if size == 2 { 1 } else { 0 }
         }
@@ -78,25 +80,27 @@ fn long_of(piece: Piece, size: u8) -> u32
 {
     match piece {
         Piece::Branch { .. } if size == 8 => 1,
-        Piece::Branch { .. } | Piece::Fixed { .. } | Piece::Align { .. } | Piece::Jump { .. } => 0,
+        Piece::Branch { .. }
+        | Piece::Fixed { .. }
+        | Piece::Joined { .. }
+        | Piece::Align { .. }
+        | Piece::Jump { .. } => 0,
     }
 }
 
-// What a layout counts, by the text's bytes and the number of items. The first piece isn't counted, since it
-// stands in front of all code.
-fn count(text: u32, items: u32, pieces: &[Piece], sizes: &[u8]) -> Counts
+// How many pieces take two bytes, and how many branches eight.
+#[derive(Clone, Copy)]
+struct SizeCounts {
+    short: u32,
+    long: u32,
+}
+
+// What pieces count at their sizes. The first isn't counted, since it stands in front of all code.
+fn count_sizes(pieces: &[Piece], sizes: &[u8]) -> SizeCounts
     requires same { length sizes.now ≡ length pieces.now }
     requires few { length pieces.now < 2 ^ 32 }
-    ensures { result ≡ record {
-      text = text;
-      items = items;
-      short = pieces_with is_short_piece pieces.now sizes.now;
-      long = pieces_with is_long_piece pieces.now sizes.now;
-      pushes = 0;
-      pops = 0;
-      moves = 0;
-      table = 0;
-    } }
+    ensures short { result.short ≡ pieces_with is_short_piece pieces.now sizes.now }
+    ensures long { result.long ≡ pieces_with is_long_piece pieces.now sizes.now }
 {
     let mut short = 0;
     let mut long = 0;
@@ -104,34 +108,36 @@ fn count(text: u32, items: u32, pieces: &[Piece], sizes: &[u8]) -> Counts
         short += short_of(pieces[k], sizes[k]);
         long += long_of(pieces[k], sizes[k]);
     }
-    Counts {
-        text,
-        items,
-        short,
-        long,
-        pushes: 0,
-        pops: 0,
-        moves: 0,
-        table: 0,
-    }
+    SizeCounts { short, long }
 }
 
-// The layout of objects that are cut.
-fn lay_out(alloc: Global, cut: &Cut) -> Result<KeptLayout, AllocError>
+// The layout of objects with their groups.
+fn lay_out(alloc: Global, planned: &Planned) -> Result<KeptLayout, AllocError>
     ensures settled { IfOk result
-        (λ kept. IsSettled cut.now kept.starts.items kept.halves.items kept.addresses.items kept.counts) }
-    ensures least { IsTrue (is_unaligned (parsed cut.now)) → IfOk result
-        (λ _. IsLeast cut.now.map.text (pieces_of (parsed cut.now)) (settled_sizes (parsed cut.now))) }
+        (λ kept. IsSettled planned.now kept.starts.items kept.halves.items kept.addresses.items kept.counts) }
+    ensures least { IsTrue (is_unaligned (parsed planned.now)) → IfOk result
+        (λ _. IsLeast planned.now.map.text (pieces_of (parsed planned.now)) (settled_sizes (parsed planned.now))) }
 {
+    let cut = planned.cut();
     let starts = first_numbers(alloc, cut)?;
     // What is kept is allocated before the pieces, so that what they take is given back as a whole.
     let addresses = Vec::with_capacity(alloc, most_pieces(cut) + 1)?;
-    let made = make_pieces(alloc, cut, &starts)?;
+    let made = make_pieces(alloc, planned, &starts)?;
     let text = cut.objects().map().text;
     let rounds = settle_pieces(alloc, text, &made.pieces, addresses)?;
     let end = rounds.addresses[made.pieces.len()];
-    let items = cut.counts().items;
-    let counts = count(end - text, items, &made.pieces, &rounds.sizes);
+    let sizes = count_sizes(&made.pieces, &rounds.sizes);
+    let groups = count_groups(planned);
+    let counts = Counts {
+        text: end - text,
+        items: cut.counts().items,
+        short: sizes.short,
+        long: sizes.long,
+        pushes: groups.pushes,
+        pops: groups.pops,
+        moves: groups.moves,
+        table: 0,
+    };
     Ok(KeptLayout {
         starts,
         halves: made.halves,
@@ -148,7 +154,7 @@ pub fn settle(alloc: Global, planned: Planned) -> Result<Settled, AllocError>
     ensures least { IsTrue (is_unaligned (parsed planned)) → IfOk result
         (λ _. IsLeast planned.map.text (pieces_of (parsed planned)) (settled_sizes (parsed planned))) }
 {
-    let kept = lay_out(alloc, planned.cut())?;
+    let kept = lay_out(alloc, &planned)?;
     Ok(Settled {
         planned,
         starts: kept.starts,
@@ -159,13 +165,37 @@ pub fn settle(alloc: Global, planned: Planned) -> Result<Settled, AllocError>
 }
 
 impl Settled {
-    /// The address of a place that images list. It takes constant time, as does all that follows.
+    // Whether an item starts inside a group at a place.
+    fn is_inside(&self, p: Place) -> bool
+        ensures { result ≡ is_inside (parsed self.now) p }
+    {
+        matches!(self.planned.role(p), Some(Role::Inside))
+    }
+
+    // The same, by where the place stands among all.
+    fn is_inside_by(&self, number: PlaceNumber) -> bool
+        requires { HasPlace (parsed self.now).objects number }
+        ensures { (q : Place) → is_target_at (parsed self.now).objects q ≡ true
+            → IsPlaceNumber (parsed self.now).objects q number → result ≡ is_inside (parsed self.now) q }
+    {
+        matches!(self.planned.role_by(number), Some(Role::Inside))
+    }
+
+    /// The address of a place that images list; a place inside a group has none. It takes constant time, as does all
+    /// that follows.
     pub fn address(&self, p: Place) -> Option<u32>
         ensures { result ≡ settled_address (parsed self.now) p }
     {
-        match self.planned.cut().number(p) {
+        let cut = self.planned.cut();
+        match cut.number(p) {
             None => None,
-            Some(number) => Some(self.address_at(number)),
+            Some(number) => {
+                if self.is_inside_by(number) {
+                    None
+                } else {
+                    Some(self.address_at(number))
+                }
+            }
         }
     }
 
@@ -188,11 +218,11 @@ impl Settled {
         piece_number(&self.starts, number) as usize
     }
 
-    /// The halfword of the item that starts at a place, by where the place stands among all, if that is known
-    /// before the layout: some halfword does what its instruction does, which doesn't depend on addresses.
+    /// The halfword of the item that is written by itself at a place, by where the place stands among all, if that is
+    /// known before the layout: some halfword does what its instruction does, which doesn't depend on addresses.
     pub fn half_at(&self, number: PlaceNumber) -> u16
         requires { HasPlace (parsed self.now).objects number }
-        ensures { (q : Place) (item : Item) → item_at (parsed self.now) q ≡ Some item
+        ensures { (q : Place) (item : Item) → unit_at (parsed self.now) q ≡ Some (OneItem item)
             → IsPlaceNumber (parsed self.now).objects q number → IsHalfOf item result }
     {
         let k = self.piece_at(number);
@@ -204,12 +234,12 @@ impl Settled {
         }
     }
 
-    /// The bytes of the item at a place, if one starts there.
+    /// The bytes of what is written at a place: of an item by itself, or of a group.
     pub fn size(&self, p: Place) -> Option<u32>
         ensures { result ≡ settled_size (parsed self.now) p }
     {
         let cut = self.planned.cut();
-        if cut.item(p).is_none() {
+        if cut.item(p).is_none() || self.is_inside(p) {
             return None;
         }
         let k = piece_number_at(cut, &self.starts, p) as usize;

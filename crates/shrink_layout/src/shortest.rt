@@ -44,7 +44,10 @@ pub fn lay_shortest(
             Piece::Align { alignment } => {
                 multiples[k / BLOCK] = multiple_with(multiples[k / BLOCK], alignment);
             }
-            Piece::Fixed { .. } | Piece::Branch { .. } | Piece::Jump { .. } => {}
+            Piece::Fixed { .. }
+            | Piece::Joined { .. }
+            | Piece::Branch { .. }
+            | Piece::Jump { .. } => {}
         }
         at += piece.width(size, at);
         sizes[k] = size;

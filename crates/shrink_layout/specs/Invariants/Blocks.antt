@@ -4,7 +4,7 @@ use Rattle.std.specs.Prelude.{◌≡◌, ℕ, ◌+◌, ◌/◌, ◌%◌, ◌<◌
 use Rattle.std.specs.List.{sum_by}
 use Rattle.shrink_layout.specs.declared.blocks.PieceSpan.{PieceSpan}
 use Rattle.shrink_layout.specs.declared.piece.Piece.{Piece}
-use Rattle.shrink_layout.specs.declared.piece.Piece.TheVariants.{Fixed, Align, Branch, Jump}
+use Rattle.shrink_layout.specs.declared.piece.Piece.TheVariants.{Fixed, Joined, Align, Branch, Jump}
 use Rattle.shrink_layout.specs.Forms.{HasAlignment, holds, longer, longest, near_limit, target, width}
 use Rattle.shrink_layout.specs.Layout.{holds_at}
 use Rattle.shrink_layout.specs.Least.{AreForms}
@@ -59,6 +59,7 @@ IsSameStep old new k = slice_index new (k + 1) + slice_index old k ≡ slice_ind
 -- padding takes as many bytes if it is moved by a multiple of n
 abbrev pub IsMovedBy : ℕ → Piece → Type 0
 IsMovedBy n (Fixed size) = Unit {0}
+IsMovedBy n (Joined size) = Unit {0}
 IsMovedBy n (Align alignment) = n % alignment ≡ 0
 IsMovedBy n (Branch to short) = Unit {0}
 IsMovedBy n (Jump to) = Unit {0}

@@ -7,13 +7,14 @@ use Rattle.elf32_read.specs.Parts.{ObjectParts}
 use Rattle.psabi_sym.specs.Faults.{gather_fault}
 use Rattle.psabi_sym.specs.Inputs.{Inputs, ParsedInputs, parsed}
 use Rattle.psabi_sym.specs.Indexed.{all_sections}
-use Rattle.block_cut.specs.Items.{is_target_at, item_at}
+use Rattle.block_cut.specs.Items.{is_target_at}
 use Rattle.block_cut.specs.Places.{IsPlaceNumber}
 use Rattle.block_cut.specs.declared.item.Item.{Item}
 use Rattle.block_cut.specs.declared.place_number.PlaceNumber.{PlaceNumber}
 use Rattle.shrink_layout.specs.Halves.{IsHalfOf}
 use Rattle.shrink_layout.specs.Pieces.{piece_count, piece_number_at, pieces_of}
 use Rattle.shrink_layout.specs.Settled.{settled_addresses, settled_counts}
+use Rattle.shrink_layout.specs.Units.{OneItem, unit_at}
 
 -- ---- numbers
 
@@ -36,11 +37,11 @@ HasPlace objects number = (q : Place) × (is_target_at objects q ≡ true) × Is
 
 -- ---- halfwords
 
--- a halfword for each piece: that of the item there, if it is known before the layout
+-- a halfword for each piece: that of an item by itself, if it is known before the layout
 abbrev pub AreHalves : ParsedInputs → List ℕ → Type 0
 AreHalves inputs halves =
     (length halves ≡ length (pieces_of inputs))
-    × ((q : Place) (item : Item) → item_at inputs q ≡ Some item
+    × ((q : Place) (item : Item) → unit_at inputs q ≡ Some (OneItem item)
     → IsHalfOf item (slice_index halves (piece_number_at inputs.objects q)))
 
 -- ---- the whole

@@ -17,8 +17,8 @@ all_pieces inputs = refl
 
 pub returns-clause-pieces : goal.returns-clause-pieces
 returns-clause-pieces c =
-    let inputs = parsed c.args.cut.now in
-    let count = ap (λ x. length (all_sections (parsed x).objects)) c.objects.ensures.same in
+    let inputs = parsed c.args.planned.now in
+    let count = ap (λ x. length (all_sections (parsed x).objects)) (c.objects.ensures.same ∙ c.cut-cut.ensures.same) in
     let all = take_all c.loop-section.section (all_sections inputs.objects) (omega (arith, c.loop-section-test.false, c.loop-section.auto.section-end, c.section_count-sections.ensures.count, count)) in
     c.loop-section.invariant.pieces_are
     ∙ ap (λ ls. Fixed front_size ∷ pieces_in inputs ls) all
@@ -26,9 +26,9 @@ returns-clause-pieces c =
 
 pub returns-clause-halves : goal.returns-clause-halves
 returns-clause-halves c =
-    let inputs = c.args.cut.now in
-    let none = ap gather_fault (sym c.objects.ensures.same) ∙ c.section_count-sections.ensures.faultless in
-    let count = ap (λ x. length (all_sections (parsed x).objects)) c.objects.ensures.same in
+    let inputs = c.args.planned.now in
+    let none = ap gather_fault (sym (c.objects.ensures.same ∙ c.cut-cut.ensures.same)) ∙ c.section_count-sections.ensures.faultless in
+    let count = ap (λ x. length (all_sections (parsed x).objects)) (c.objects.ensures.same ∙ c.cut-cut.ensures.same) in
     let all = take_all c.loop-section.section (all_sections (parsed inputs).objects) (omega (arith, c.loop-section-test.false, c.loop-section.auto.section-end, c.section_count-sections.ensures.count, count)) in
     all_halves inputs none c.loop-section.made.halves.items
     (subst (λ ls. AreHalvesOf (None ∷ owners_in (parsed inputs) ls) c.loop-section.made.halves.items) all c.loop-section.invariant.halves_are)

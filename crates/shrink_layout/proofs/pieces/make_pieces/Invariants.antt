@@ -3,4 +3,4 @@ use Rattle.shrink_layout.specs.Invariants.Made.{AreMade}
 use Rattle.shrink_layout.proofs.pieces.make_pieces.Given as goal
 
 abbrev pub invariant-loop-section : goal.invariant-loop-section
-invariant-loop-section l = AreMade (parsed l.cut) l.section l.made.pieces.items l.made.halves.items
+invariant-loop-section l = AreMade (parsed l.planned) l.section l.made.pieces.items l.made.halves.items

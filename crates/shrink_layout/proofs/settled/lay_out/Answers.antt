@@ -1,7 +1,10 @@
 -- What `settle_pieces` asks holds of the pieces of inputs without a fault, and what it gives is the layout.
 use Rattle.std.proofs.Common.{◌≡◌, ℕ, ◌-◌, ◌≤◌, ◌%◌, All, List, length, sym, ap, subst, subst₂, ◌∙◌, arith}
 use Rattle.std.specs.List.{sum_by}
+use Rattle.psabi_sym.specs.Faults.{gather_fault}
 use Rattle.psabi_sym.specs.Inputs.{parsed}
+use Rattle.block_cut.specs.PlainLayout.{plain_counts}
+use Rattle.shrink_layout.specs.Invariants.Numbers.{AreFirstNumbers}
 use Rattle.shrink_layout.specs.Counted.{is_long_piece, is_short_piece, pieces_with}
 use Rattle.shrink_layout.specs.Forms.{HasAlignment, IsEvenPiece, longest, target}
 use Rattle.shrink_layout.specs.Layout.{addresses_of, sizes_of}
@@ -14,52 +17,52 @@ use Rattle.shrink_layout.proofs.settled.lay_out.Goals as goal
 
 pub settle_pieces-requires : goal.settle_pieces-requires
 settle_pieces-requires c =
-    let none = c.in_ok-starts.ensures.gathered in
+    let none = ap gather_fault (sym c.cut-cut.ensures.same) ∙ c.in_ok-starts.ensures.gathered in
     let pieces = c.deref-2.ensures.value ∙ c.in_ok-made.ensures.pieces in
     let map = c.map-text.ensures.is_map in
     record {
-      alignments = subst (All HasAlignment) (sym pieces) (all_aligned c.args.cut.now none);
-      targets = subst (λ ps. All (λ p. target p ≤ length ps) ps) (sym pieces) (targets c.args.cut.now none);
-      room = omega (arith, ap (sum_by longest) pieces, room_few c.args.cut.now none, map.code, map.data_room, map.top);
-      near = omega (arith, ap (sum_by longest) pieces, room_few c.args.cut.now none);
+      alignments = subst (All HasAlignment) (sym pieces) (all_aligned c.args.planned.now none);
+      targets = subst (λ ps. All (λ p. target p ≤ length ps) ps) (sym pieces) (targets c.args.planned.now none);
+      room = omega (arith, ap (sum_by longest) pieces, room_few c.args.planned.now none, map.code, map.data_room, map.top);
+      near = omega (arith, ap (sum_by longest) pieces, room_few c.args.planned.now none);
     }
 
 pub index-end-requires : goal.index-end-requires
 index-end-requires c =
-    let inputs = parsed c.args.cut.now in
+    let inputs = parsed c.args.planned.now in
     let pieces = c.deref-2.ensures.value ∙ c.in_ok-made.ensures.pieces in
-    let text = ap (λ m. m.text) c.map-text.ensures.value ∙ ap (λ x. x.map.text) c.objects.ensures.same in
+    let text = ap (λ m. m.text) c.map-text.ensures.value ∙ ap (λ x. x.map.text) (c.objects.ensures.same ∙ c.cut-cut.ensures.same) in
     let are = c.in_ok-rounds.ensures.addresses ∙ (λ j. addresses_of (text j) (pieces j) (sizes_of (text j) (pieces j))) ∙ kept_addresses inputs in
     omega (arith, c.len.ensures, c.in_ok-made.made.pieces.ok, c.in_ok-rounds.rounds.addresses.ok, ap length c.in_ok-made.ensures.pieces, kept_long inputs c.in_ok-rounds.rounds.addresses.items are)
 
-pub overflow_sub-end : goal.overflow_sub-end
-overflow_sub-end c =
-    let inputs = parsed c.args.cut.now in
+pub overflow_sub-counts : goal.overflow_sub-counts
+overflow_sub-counts c =
+    let inputs = parsed c.args.planned.now in
     let pieces = c.deref-2.ensures.value ∙ c.in_ok-made.ensures.pieces in
-    let text = ap (λ m. m.text) c.map-text.ensures.value ∙ ap (λ x. x.map.text) c.objects.ensures.same in
+    let text = ap (λ m. m.text) c.map-text.ensures.value ∙ ap (λ x. x.map.text) (c.objects.ensures.same ∙ c.cut-cut.ensures.same) in
     let are = c.in_ok-rounds.ensures.addresses ∙ (λ j. addresses_of (text j) (pieces j) (sizes_of (text j) (pieces j))) ∙ kept_addresses inputs in
     let last : c.len.result ≡ length (pieces_of inputs) = omega (arith, c.len.ensures, c.in_ok-made.made.pieces.ok, ap length c.in_ok-made.ensures.pieces) in
     let end = c.index-end.ensures ∙ kept_end inputs c.in_ok-rounds.rounds.addresses.items are c.len.result c.index-end.result.now last in
     omega (arith, end, text, end_rises inputs)
 
-pub count-counts-requires-clause-same : goal.count-counts-requires-clause-same
-count-counts-requires-clause-same c =
-    let inputs = parsed c.args.cut.now in
+pub count_sizes-sizes-requires-clause-same : goal.count_sizes-sizes-requires-clause-same
+count_sizes-sizes-requires-clause-same c =
+    let inputs = parsed c.args.planned.now in
     let pieces = c.deref-2.ensures.value ∙ c.in_ok-made.ensures.pieces in
-    let text = ap (λ m. m.text) c.map-text.ensures.value ∙ ap (λ x. x.map.text) c.objects.ensures.same in
+    let text = ap (λ m. m.text) c.map-text.ensures.value ∙ ap (λ x. x.map.text) (c.objects.ensures.same ∙ c.cut-cut.ensures.same) in
     let sizes = c.deref-4.ensures.value ∙ c.in_ok-rounds.ensures.sizes ∙ (λ j. sizes_of (text j) (pieces j)) ∙ kept_sizes inputs in
     ap length sizes ∙ sizes_long inputs ∙ ap length (sym (c.deref-3.ensures.value ∙ c.in_ok-made.ensures.pieces))
 
-pub count-counts-requires-clause-few : goal.count-counts-requires-clause-few
-count-counts-requires-clause-few c =
-    omega (arith, ap length (c.deref-3.ensures.value ∙ c.in_ok-made.ensures.pieces), pieces_few c.args.cut.now c.in_ok-starts.ensures.gathered)
+pub count_sizes-sizes-requires-clause-few : goal.count_sizes-sizes-requires-clause-few
+count_sizes-sizes-requires-clause-few c =
+    omega (arith, ap length (c.deref-3.ensures.value ∙ c.in_ok-made.ensures.pieces), pieces_few c.args.planned.now (ap gather_fault (sym c.cut-cut.ensures.same) ∙ c.in_ok-starts.ensures.gathered))
 
 pub returns-clause-settled : goal.returns-clause-settled
 returns-clause-settled c =
-    let none = c.in_ok-starts.ensures.gathered in
-    let inputs = parsed c.args.cut.now in
+    let none = ap gather_fault (sym c.cut-cut.ensures.same) ∙ c.in_ok-starts.ensures.gathered in
+    let inputs = parsed c.args.planned.now in
     let pieces = c.deref-2.ensures.value ∙ c.in_ok-made.ensures.pieces in
-    let text = ap (λ m. m.text) c.map-text.ensures.value ∙ ap (λ x. x.map.text) c.objects.ensures.same in
+    let text = ap (λ m. m.text) c.map-text.ensures.value ∙ ap (λ x. x.map.text) (c.objects.ensures.same ∙ c.cut-cut.ensures.same) in
     let are = c.in_ok-rounds.ensures.addresses ∙ (λ j. addresses_of (text j) (pieces j) (sizes_of (text j) (pieces j))) ∙ kept_addresses inputs in
     let sizes = c.deref-4.ensures.value ∙ c.in_ok-rounds.ensures.sizes ∙ (λ j. sizes_of (text j) (pieces j)) ∙ kept_sizes inputs in
     let last : c.len.result ≡ length (pieces_of inputs) = omega (arith, c.len.ensures, c.in_ok-made.made.pieces.ok, ap length c.in_ok-made.ensures.pieces) in
@@ -67,29 +70,28 @@ returns-clause-settled c =
     let listed = c.deref-3.ensures.value ∙ c.in_ok-made.ensures.pieces in
     record {
       faultless = none;
-      starts_are = c.in_ok-starts.ensures.starts;
+      starts_are = subst (λ x. AreFirstNumbers (parsed x).objects c.in_ok-starts.starts.items) c.cut-cut.ensures.same c.in_ok-starts.ensures.starts;
       halves_are = c.in_ok-made.ensures.halves;
       addresses_are = are;
-      counts_are = c.count-counts.ensures
-          ∙ (λ j. record {
-            text = end j - text j;
-            items = (c.counts-items.ensures j).items;
-            short = ((λ i. pieces_with is_short_piece (listed i) (sizes i)) ∙ short_counted c.args.cut.now none) j;
-            long = ((λ i. pieces_with is_long_piece (listed i) (sizes i)) ∙ long_counted c.args.cut.now none) j;
-            pushes = 0;
-            pops = 0;
-            moves = 0;
-            table = 0;
-          });
+      counts_are = λ j. record {
+        text = end j - text j;
+        items = ((c.counts.ensures ∙ ap (λ x. plain_counts (parsed x)) c.cut-cut.ensures.same) j).items;
+        short = (c.count_sizes-sizes.ensures.short ∙ (λ i. pieces_with is_short_piece (listed i) (sizes i)) ∙ short_counted c.args.planned.now none) j;
+        long = (c.count_sizes-sizes.ensures.long ∙ (λ i. pieces_with is_long_piece (listed i) (sizes i)) ∙ long_counted c.args.planned.now none) j;
+        pushes = c.count_groups-groups.ensures.pushes j;
+        pops = c.count_groups-groups.ensures.pops j;
+        moves = c.count_groups-groups.ensures.moves j;
+        table = 0;
+      };
     }
 
 pub returns-clause-least : goal.returns-clause-least
 returns-clause-least c = λ unaligned.
-    let inputs = parsed c.args.cut.now in
-    let none = c.in_ok-starts.ensures.gathered in
+    let inputs = parsed c.args.planned.now in
+    let none = ap gather_fault (sym c.cut-cut.ensures.same) ∙ c.in_ok-starts.ensures.gathered in
     let pieces = c.deref-2.ensures.value ∙ c.in_ok-made.ensures.pieces in
-    let text = ap (λ m. m.text) c.map-text.ensures.value ∙ ap (λ x. x.map.text) c.objects.ensures.same in
+    let text = ap (λ m. m.text) c.map-text.ensures.value ∙ ap (λ x. x.map.text) (c.objects.ensures.same ∙ c.cut-cut.ensures.same) in
     let even : c.map-text.result.text % 2 ≡ 0 = omega (arith, c.map-text.ensures.is_map.text_page) in
-    let given = c.in_ok-rounds.ensures.least even (subst (All IsEvenPiece) (sym pieces) (all_even c.args.cut.now none)) (subst (All IsTight) (sym pieces) (all_tight inputs unaligned)) in
+    let given = c.in_ok-rounds.ensures.least even (subst (All IsEvenPiece) (sym pieces) (all_even c.args.planned.now none)) (subst (All IsTight) (sym pieces) (all_tight inputs unaligned)) in
     subst (IsLeast inputs.map.text (pieces_of inputs)) (kept_sizes inputs)
     (subst₂ (λ (t : ℕ) (ps : List Piece). IsLeast t ps (sizes_of t ps)) text pieces given)

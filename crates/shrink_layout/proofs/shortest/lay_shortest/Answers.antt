@@ -45,8 +45,9 @@ loop-k-preserved c =
           (λ some q moves. made.before some q (subst (λ n. IsMovedBy n q) (sym read) moves)) now.moved
       | in-Fixed v ↦ moved_still pieces old new k (ap (λ l. l.items) v.multiples-is) (λ n. elim v.in-Fixed.is [
         | inl f ↦ subst (IsMovedBy n) (sym f.1) tt
-        | inr (inl f) ↦ subst (IsMovedBy n) (sym f.2) tt
-        | inr (inr f) ↦ subst (IsMovedBy n) (sym f.1) tt
+        | inr (inl f) ↦ subst (IsMovedBy n) (sym f.1) tt
+        | inr (inr (inl f)) ↦ subst (IsMovedBy n) (sym f.2) tt
+        | inr (inr (inr f)) ↦ subst (IsMovedBy n) (sym f.1) tt
       ]) now.moved
     ] in
     record {

@@ -5,7 +5,8 @@ use Rattle.block_cut.specs.Items.{is_target_at}
 use Rattle.shrink_layout.specs.Pieces.{piece_number_at, pieces_of}
 use Rattle.shrink_layout.specs.Settled.{settled_address, settled_addresses}
 use Rattle.shrink_layout.proofs.KeptLaws.{kept_address, kept_long}
-use Rattle.shrink_layout.proofs.PlaceAddressLaws.{address_target, address_there}
+use Rattle.shrink_layout.proofs.PlaceAddressLaws.{address_listed, address_there}
+use Rattle.shrink_layout.proofs.RolePlaces.{listed_target}
 use Rattle.shrink_layout.proofs.settled.Settled.address_at.Goals as goal
 
 some_same : (m n : ℕ) → Some m ≡ Some n → m ≡ n
@@ -27,11 +28,12 @@ returns c = λ q a is has.
     let own = c.self.inside in
     let inputs = parsed own.planned in
     let here : settled_address inputs q ≡ Some a = ap (λ x. settled_address (parsed x) q) c.self.view_is ∙ is in
-    let target : is_target_at inputs.objects q ≡ true = address_target inputs q a here in
+    let listed = address_listed inputs q a here in
+    let target : is_target_at inputs.objects q ≡ true = listed_target inputs q listed in
     let target_there = ap (λ x. is_target_at (parsed x).objects q) (sym c.self.view_is) ∙ target in
     let number = c.piece_at.ensures.known q target_there has ∙ ap (λ x. piece_number_at (parsed x).objects q) (sym c.self.view_is) in
     let most : c.piece_at.result ≤ length (pieces_of inputs) = omega (arith, c.piece_at.ensures.most, ap (λ x. length (pieces_of (parsed x))) c.self.view_is) in
     let address = c.index.ensures
     ∙ kept_address inputs own.addresses.items c.self.invariant.addresses_are c.piece_at.result c.index.result.now most
     ∙ ap (slice_index (settled_addresses inputs)) number in
-    some_same _ a (ap Some address ∙ sym (address_there inputs q target) ∙ here)
+    some_same _ a (ap Some address ∙ sym (address_there inputs q listed) ∙ here)

@@ -2,10 +2,11 @@
 use Rattle.std.proofs.Common.{slice_index, sym, ap, subst, ◌∙◌, arith}
 use Rattle.std.proofs.lemmas.List.{get_or_default}
 use Rattle.psabi_sym.specs.Inputs.{parsed}
-use Rattle.block_cut.specs.Items.{item_at}
 use Rattle.shrink_layout.specs.Halves.{IsHalfOf}
 use Rattle.shrink_layout.specs.Pieces.{piece_number_at}
+use Rattle.shrink_layout.specs.Units.{unit_at}
 use Rattle.shrink_layout.proofs.NumberLaws.{item_target, number_below}
+use Rattle.shrink_layout.proofs.UnitLaws.{unit_item}
 use Rattle.shrink_layout.proofs.settled.Settled.half_at.Goals as goal
 
 pub returns-then-k-len : goal.returns-then-k-len
@@ -13,23 +14,25 @@ returns-then-k-len c = λ q item is has.
     let own = c.self.inside in
     let are = c.self.invariant.halves_are in
     let same = sym c.self.view_is in
-    let is_here = ap (λ x. item_at (parsed x) q) c.self.view_is ∙ is in
+    let is_here = ap (λ x. unit_at (parsed x) q) c.self.view_is ∙ is in
+    let i = (unit_item (parsed own.planned) q item is_here).1 in
     let k = c.piece_at-k.result in
-    let number = c.piece_at-k.ensures.known q (item_target (parsed c.args.self.now) q item is) has ∙ ap (λ x. piece_number_at (parsed x).objects q) same in
+    let number = c.piece_at-k.ensures.known q (item_target (parsed c.args.self.now) q item (unit_item (parsed c.args.self.now) q item is).1) has ∙ ap (λ x. piece_number_at (parsed x).objects q) same in
     let half = c.index.ensures
-    ∙ get_or_default own.halves.items k c.index.result.now 0 (omega (arith, number, number_below own.planned c.self.invariant.faultless q item is_here, are.0))
+    ∙ get_or_default own.halves.items k c.index.result.now 0 (omega (arith, number, number_below own.planned c.self.invariant.faultless q item i, are.0))
     ∙ ap (slice_index own.halves.items) number in
     subst (IsHalfOf item) (sym half) (are.1 q item is_here)
 
 pub returns-else-k-len : goal.returns-else-k-len
 returns-else-k-len c = λ q item is has.
     let own = c.self.inside in
-    let is_here = ap (λ x. item_at (parsed x) q) c.self.view_is ∙ is in
-    let number = c.piece_at-k.ensures.known q (item_target (parsed c.args.self.now) q item is) has ∙ ap (λ x. piece_number_at (parsed x).objects q) (sym c.self.view_is) in
+    let is_here = ap (λ x. unit_at (parsed x) q) c.self.view_is ∙ is in
+    let i = (unit_item (parsed own.planned) q item is_here).1 in
+    let number = c.piece_at-k.ensures.known q (item_target (parsed c.args.self.now) q item (unit_item (parsed c.args.self.now) q item is).1) has ∙ ap (λ x. piece_number_at (parsed x).objects q) (sym c.self.view_is) in
     absurd (omega (
       arith,
       number,
-      number_below own.planned c.self.invariant.faultless q item is_here,
+      number_below own.planned c.self.invariant.faultless q item i,
       c.self.invariant.halves_are.0,
       c.len.ensures,
       own.halves.ok,

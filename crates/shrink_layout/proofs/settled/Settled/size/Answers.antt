@@ -1,9 +1,12 @@
-use Rattle.std.proofs.Common.{◌+◌, ◌-◌, Some, is_some, slice_index, sym, ap, ◌∙◌, arith}
+use Rattle.std.proofs.Common.{◌≡◌, ◌+◌, ◌-◌, Some, None, is_some, not, slice_index, sym, ap, ◌∙◌, arith}
 use Rattle.psabi_sym.specs.Inputs.{parsed}
 use Rattle.block_cut.specs.Items.{item_at}
 use Rattle.shrink_layout.specs.Pieces.{piece_number_at}
 use Rattle.shrink_layout.specs.Settled.{settled_addresses, settled_size}
+use Rattle.shrink_layout.specs.Units.{is_inside}
 use Rattle.shrink_layout.proofs.KeptLaws.{addresses_rise, below_by, kept_address, kept_long, size_by}
+use Rattle.shrink_layout.proofs.PlaceAddressLaws.{size_inside, size_without}
+use Rattle.shrink_layout.proofs.settled.Settled.size.Goals.{then-is_none-via-then-is_none, then-is_none-via-else-is_none+then-is_inside}
 use Rattle.shrink_layout.proofs.settled.Settled.size.Goals as goal
 
 pub index-requires : goal.index-requires
@@ -40,6 +43,18 @@ overflow_sub-result c =
     let second = c.index.ensures ∙ kept_address inputs own.addresses.items is.addresses_are (k + 1) c.index.result.now (omega (arith, number, below)) in
     omega (arith, first, second, addresses_rise inputs k (k + 1) (omega arith) (omega (arith, number, below)))
 
+pub returns-then-is_none : goal.returns-then-is_none
+returns-then-is_none c =
+    let own = c.self.inside in
+    let q = c.args.p in
+    let given = parsed own.planned in
+    let found = c.item.ensures.item ∙ ap (λ x. item_at (parsed x) q) c.cut-cut.ensures.same in
+    let none : settled_size given q ≡ None = elim c.then-is_none.branch [
+      | then-is_none-via-then-is_none w ↦ size_without given q (ap is_some (sym found) ∙ c.is_none.ensures ∙ ap not w.if-is_none.true)
+      | then-is_none-via-else-is_none+then-is_inside w ↦ size_inside given q (ap (λ x. is_inside (parsed x) q) c.self.view_is ∙ sym w.is_inside.ensures ∙ w.if-is_inside.true)
+    ] in
+    sym none ∙ ap (λ x. settled_size (parsed x) q) c.self.view_is
+
 pub returns : goal.returns
 returns c =
     let own = c.self.inside in
@@ -55,5 +70,5 @@ returns c =
     let second = c.index.ensures ∙ kept_address inputs own.addresses.items is.addresses_are (k + 1) c.index.result.now (omega (arith, number, below)) in
     (λ j. Some (second j - first j))
     ∙ ap (λ n. Some (slice_index (settled_addresses inputs) (n + 1) - slice_index (settled_addresses inputs) n)) number
-    ∙ sym ((size_by inputs q).1 some)
+    ∙ sym (size_by inputs q some (ap (λ x. is_inside (parsed x) q) c.self.view_is ∙ sym c.is_inside.ensures ∙ c.if-is_inside.false))
     ∙ ap (λ x. settled_size (parsed x) q) c.self.view_is

@@ -1,6 +1,6 @@
 use Rattle.std.proofs.Common.{◌≡◌, ◌+◌, ◌≤◌, drop}
 use Rattle.shrink_layout.specs.Counted.{count_from, is_long_piece, is_short_piece, pieces_with}
-use Rattle.shrink_layout.proofs.settled.count.Given as goal
+use Rattle.shrink_layout.proofs.settled.count_sizes.Given as goal
 
 abbrev pub invariant-loop-k : goal.invariant-loop-k
 invariant-loop-k l = record {

@@ -1,0 +1,76 @@
+// The piece of a place.
+
+ghost use Rattle.std.specs.Prelude.{◌≡◌, None, Some};
+ghost use Rattle.frame_match.specs.Groups.{role_at};
+ghost use Rattle.frame_match.specs.declared.role.Role.TheVariants.{Alone};
+ghost use Rattle.psabi_sym.specs.Faults.{gather_fault};
+ghost use Rattle.psabi_sym.specs.Inputs.{parsed};
+ghost use Rattle.block_cut.specs.Items.{item_at};
+ghost use Rattle.shrink_layout.specs.Invariants.Made.{IsHalfAt, IsItemPlace};
+ghost use Rattle.shrink_layout.specs.Invariants.Numbers.{AreFirstNumbers};
+ghost use Rattle.shrink_layout.specs.Pieces.{piece_at};
+ghost use Rattle.shrink_layout.specs.Units.{unit_at};
+ghost use Rattle.shrink_layout.specs.declared.piece.Piece.TheVariants.{Joined};
+
+use crate::group_size::group_size;
+use crate::instr_piece::{ItemPiece, without_half};
+use crate::item_piece::item_piece;
+use crate::piece::Piece;
+use block_cut::item::Item;
+use block_cut::place_number::PlaceNumber;
+use frame_match::planned::Planned;
+use frame_match::role::Role;
+use zc_base::place::Place;
+
+// The piece of items that are written together.
+fn joined(size: u8) -> ItemPiece
+    ensures { result ≡ record { piece = Joined size; half = 0 } }
+{
+    without_half(Piece::Joined { size })
+}
+
+/// A place where an item starts, where that stands among all, and the item.
+#[derive(Drop)]
+pub struct ItemPlace<'a> {
+    pub at: Place,
+    pub number: PlaceNumber,
+    pub item: &'a Option<Item>,
+}
+
+// What the item is to groups.
+fn role_of(planned: &Planned, place: &ItemPlace) -> Role
+    requires { IsItemPlace (parsed planned.now) place.now.at place.now.number place.now.item.now }
+    ensures { role_at (parsed planned.now) place.now.at ≡ Some result }
+{
+    planned.role_at(place.number)
+}
+
+// The piece of an item by itself.
+fn alone(planned: &Planned, starts: &[u32], place: &ItemPlace) -> ItemPiece
+    requires faultless { gather_fault planned.now ≡ None }
+    requires starts { AreFirstNumbers (parsed planned.now).objects starts.now }
+    requires item { place.now.item.now ≡ item_at (parsed planned.now) place.now.at }
+    requires alone { role_at (parsed planned.now) place.now.at ≡ Some Alone }
+    ensures piece { result.piece ≡ piece_at (parsed planned.now) place.now.at }
+    ensures half { IsHalfAt (unit_at (parsed planned.now) place.now.at) result.half }
+{
+    match place.item {
+        None => joined(0),
+        Some(item) => item_piece(planned.cut(), starts, item),
+    }
+}
+
+/// The piece of what is written where an item starts, with its halfword if it is that of an item.
+pub fn place_piece(planned: &Planned, starts: &[u32], place: &ItemPlace) -> ItemPiece
+    requires faultless { gather_fault planned.now ≡ None }
+    requires starts { AreFirstNumbers (parsed planned.now).objects starts.now }
+    requires place { IsItemPlace (parsed planned.now) place.now.at place.now.number place.now.item.now }
+    ensures piece { result.piece ≡ piece_at (parsed planned.now) place.now.at }
+    ensures half { IsHalfAt (unit_at (parsed planned.now) place.now.at) result.half }
+{
+    match role_of(planned, place) {
+        Role::Inside => joined(0),
+        Role::First(group) => joined(group_size(group)),
+        Role::Alone => alone(planned, starts, place),
+    }
+}
