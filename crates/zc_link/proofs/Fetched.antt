@@ -130,8 +130,8 @@ module _ (p : Program) (parts : Parts) (out : AreLaidOut p parts) where
       }
 
   -- so is what a halfword spells
-  half_at_address : (a half : ℕ) (bytes : List ℕ) (i : Instr) → StandAt a bytes → half < 2 ^ 16 → bytes ≡ half_bytes half → decoded16 half ≡ Some (Base i) → OneAt e a (Base i)
-  half_at_address a half bytes i st small are spells =
+  unfoldable pub half_at_address : (a half : ℕ) (bytes : List ℕ) (s : Short) → StandAt a bytes → half < 2 ^ 16 → bytes ≡ half_bytes half → decoded16 half ≡ Some s → OneAt e a s
+  half_at_address a half bytes s st small are spells =
       let two : length bytes ≡ 2 = ap length are in
       let map = out.is_map in
       let short = out.short in
@@ -142,7 +142,7 @@ module _ (p : Program) (parts : Parts) (out : AreLaidOut p parts) where
       let is : half_at (loaded_core e) a ≡ half = omega (arith, b0, b1, small) in
       record {
         size = 2;
-        here = fetched_short (loaded_core e) a half (Base i) (text_lies p parts out a 2 st.low (omega (arith, high, two))) is (short_low half (Base i) spells) spells;
+        here = fetched_short (loaded_core e) a half s (text_lies p parts out a 2 st.low (omega (arith, high, two))) is (short_low half s spells) spells;
         small = omega (arith, high, two, short, map.code, map.data_room, map.top);
       }
 
@@ -160,7 +160,7 @@ module _ (p : Program) (parts : Parts) (out : AreLaidOut p parts) where
   spelled_at a n bytes i st (inr h) = record {
     here = h.1.same.0;
     same = h.1.same.2;
-    at = half_at_address a h.1.half bytes h.1.same.0 st h.1.small h.1.are h.1.same.1;
+    at = half_at_address a h.1.half bytes (Base h.1.same.0) st h.1.small h.1.are h.1.same.1;
     long = sym h.0;
   }
 
@@ -186,7 +186,7 @@ module _ (p : Program) (parts : Parts) (out : AreLaidOut p parts) where
           let half : n % 4 ≡ 2 = eqb-true (n % 4) 2 is in
           let count : suc (n / 4) ≡ padding_commits n = omega (arith, half) in
           let end : a + 2 + 4 * (n / 4) ≡ a + n = omega (arith, half) in
-          let first = half_at_address a short_nop (half_bytes short_nop) (instr.WithImm Addi 0 0 (pos 0)) (stand_first a (half_bytes short_nop) (copies nop (n / 4)) there) (omega arith) refl short_nop_spells in
+          let first = half_at_address a short_nop (half_bytes short_nop) (Base (instr.WithImm Addi 0 0 (pos 0))) (stand_first a (half_bytes short_nop) (copies nop (n / 4)) there) (omega arith) refl short_nop_spells in
           subst (λ c. Nops e a c (a + n)) count
           (first, subst (Nops e (a + 2) (n / 4)) end (words_at (n / 4) (a + 2) (stand_next a (half_bytes short_nop) (copies nop (n / 4)) there)))
       by false is there =

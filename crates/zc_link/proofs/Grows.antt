@@ -1,19 +1,18 @@
--- A text that grows: what it holds it keeps, and one item more, a gap, or a section's end make it the text so far again.
+-- A text that grows: what it holds it keeps, and one unit more, a place inside a group, a gap, or a section's end make it the text so far again.
 use Rattle.std.proofs.Common.{◌≡◌, ℕ, ◌+◌, ◌-◌, ◌<◌, ◌≤◌, List, [], ◌∷◌, ◌++◌, length, take, drop, Some, None, refl, sym, ap, ◌∙◌, subst, arith, length-append, ⊎_elim}
 use Rattle.std.specs.Prelude.{All, replicate}
 use Rattle.std.specs.List.{flat_map}
 use Rattle.std.specs.Option.{option_map, option_to_list}
 use Rattle.std.proofs.Math.Seq.{drop-append_seam, take-length}
 use Rattle.std.proofs.lemmas.Bool.{cases_lt}
-use Rattle.std.proofs.lemmas.List.{drop-append-le, get_or-append_right, get_or-replicate, get_or_append_left, length-drop, length-replicate, take-append-le}
+use Rattle.std.proofs.lemmas.List.{append-nil, drop-append-le, get_or-append_right, get_or-replicate, get_or_append_left, length-drop, length-replicate, take-append-le}
 use Rattle.std.proofs.lemmas.List.Concat.{flat_map-append}
 use Rattle.std.proofs.lemmas.List.Elements.{All-append, All-cons, All-nil, All-weaker}
 use Rattle.zc_base.specs.declared.place.Place.{Place}
 use Rattle.elf32_read.specs.Parts.{SectionParts}
 use Rattle.psabi_sym.specs.Inputs.{ParsedInputs, parsed}
 use Rattle.block_cut.specs.Items.{code_at, item_at}
-use Rattle.block_cut.specs.declared.item.Item.{Item}
-use Rattle.shrink_layout.specs.Units.{OneItem}
+use Rattle.shrink_layout.specs.Units.{CodeUnit}
 use Rattle.zc_link.specs.Copied.{bytes_from}
 use Rattle.zc_link.specs.ImageParts.{with_address}
 use Rattle.zc_link.specs.Standing.{WrittenHere}
@@ -69,13 +68,13 @@ module _ (L : TextLayout) where
   all_more : (text more : List ℕ) (places : List (Place × ℕ)) → All (HoldsPlace L text) places → All (HoldsPlace L (text ++ more)) places
   all_more text more places all = All-weaker (HoldsPlace L text) (HoldsPlace L (text ++ more)) (λ e h. holds_more text more e h) places all
 
-  -- what is added for an item it holds
-  item_held :
-      (s : SectionParts) (q : Place) (item : Item) (n : ℕ) (text bytes : List ℕ) → code_at p.objects q ≡ Some s → L.unit q ≡ Some (OneItem item)
+  -- what is added for a unit it holds
+  unit_held :
+      (s : SectionParts) (q : Place) (v : CodeUnit) (n : ℕ) (text bytes : List ℕ) → code_at p.objects q ≡ Some s → L.unit q ≡ Some v
       → L.address (behind L q) ≡ Some (start + length text + n) → front_end L ≤ start + length text
-      → WrittenHere L s.bytes q item (start + length text) n bytes → HoldsPlace L (text ++ bytes) (q, start + length text)
-  item_held s q item n text bytes at is next low adds u is' =
-      let same : OneItem item ≡ u = cc in
+      → WrittenHere L s.bytes q v (start + length text) n bytes → HoldsPlace L (text ++ bytes) (q, start + length text)
+  unit_held s q v n text bytes at is next low adds u is' =
+      let same : v ≡ u = cc in
       let a = start + length text in
       subst (HoldsUnit L (text ++ bytes) (q, a)) same
       (record {
@@ -85,21 +84,21 @@ module _ (L : TextLayout) where
         within = omega (arith, adds.long, length-append text bytes);
         section = s;
         here = at;
-        written = subst (UnitWritten L.address (item_at p) (bytes_from s.bytes q.offset) a n (OneItem item))
+        written = subst (UnitWritten L.address (item_at p) (bytes_from s.bytes q.offset) a n v)
             (sym (added_there text bytes (a - start) n (omega arith) (sym adds.long))) adds.written;
       })
 
   -- ---- gaps
 
-  -- bytes of an item are no gap
-  item_gaps :
-      (q : Place) (item : Item) (text bytes : List ℕ) → L.unit q ≡ Some (OneItem item) → L.address q ≡ Some (start + length text)
+  -- bytes of a unit are no gap
+  unit_gaps :
+      (q : Place) (v : CodeUnit) (text bytes : List ℕ) → L.unit q ≡ Some v → L.address q ≡ Some (start + length text)
       → L.address (behind L q) ≡ Some (start + length text + length bytes) → GapsAreZero L text → GapsAreZero L (text ++ bytes)
-  item_gaps q item text bytes is address next before k past lt gap = ⊎_elim
+  unit_gaps q v text bytes is address next before k past lt gap = ⊎_elim
       (λ (early : start + k < start + length text).
       get_or_append_left text bytes 0 k (omega (arith, early)) ∙ before k past (omega (arith, early)) gap)
       (λ (late : start + length text + length bytes ≤ start + k). absurd (omega (arith, late, lt, length-append text bytes)))
-      (gap q (OneItem item) (start + length text) (length bytes) is address next)
+      (gap q v (start + length text) (length bytes) is address next)
 
   -- and zeros are 0
   zero_gaps : (text : List ℕ) (n : ℕ) → GapsAreZero L text → GapsAreZero L (text ++ replicate n 0)
@@ -120,24 +119,39 @@ module _ (L : TextLayout) where
       (λ j. listed j ++ (option_to_list (option_map (λ x. (q, x)) (sym address j)) ++ []))
       ∙ sym (flat_map-append (with_address L) targets (q ∷ []))
 
-  -- an item
-  pub so_far_item :
-      (s : SectionParts) (q : Place) (item : Item) (n : ℕ) (targets : List Place) (end : ℕ) (text bytes : List ℕ) (places : List (Place × ℕ))
-      → code_at p.objects q ≡ Some s → L.unit q ≡ Some (OneItem item) → L.address q ≡ Some (start + length text)
+  -- a unit
+  pub so_far_unit :
+      (s : SectionParts) (q : Place) (v : CodeUnit) (n : ℕ) (targets : List Place) (end : ℕ) (text bytes : List ℕ) (places : List (Place × ℕ))
+      → code_at p.objects q ≡ Some s → L.unit q ≡ Some v → L.address q ≡ Some (start + length text)
       → L.address (behind L q) ≡ Some (start + length text + n) → front_end L ≤ start + length text
-      → WrittenHere L s.bytes q item (start + length text) n bytes → IsSoFar L targets end text places
+      → WrittenHere L s.bytes q v (start + length text) n bytes → IsSoFar L targets end text places
       → IsSoFar L (targets ++ q ∷ []) (start + length (text ++ bytes)) (text ++ bytes) (places ++ (q, start + length text) ∷ [])
-  so_far_item s q item n targets end text bytes places at is address next low adds before =
+  so_far_unit s q v n targets end text bytes places at is address next low adds before =
       let a = start + length text in
       record {
         listed = listed_more targets q a places before.listed address;
         ends = refl;
         front = begins_still L.front text bytes before.front;
         holds = All-append (HoldsPlace L (text ++ bytes)) places ((q, a) ∷ []) (all_more text bytes places before.holds)
-            (All-cons (HoldsPlace L (text ++ bytes)) (q, a) [] (item_held s q item n text bytes at is next low adds) (All-nil (HoldsPlace L (text ++ bytes))));
-        gaps = item_gaps q item text bytes is address (next ∙ ap (λ m. Some (start + length text + m)) (sym adds.long)) before.gaps;
+            (All-cons (HoldsPlace L (text ++ bytes)) (q, a) [] (unit_held s q v n text bytes at is next low adds) (All-nil (HoldsPlace L (text ++ bytes))));
+        gaps = unit_gaps q v text bytes is address (next ∙ ap (λ m. Some (start + length text + m)) (sym adds.long)) before.gaps;
         octets = bytes_append text bytes before.octets adds.octets;
       }
+
+  -- a place inside a group
+  pub so_far_inside :
+      (q : Place) (targets : List Place) (end : ℕ) (text : List ℕ) (places : List (Place × ℕ)) → L.address q ≡ None
+      → IsSoFar L targets end text places → IsSoFar L (targets ++ q ∷ []) end text places
+  so_far_inside q targets end text places address before = record {
+    listed = before.listed ∙ sym (append-nil (flat_map (with_address L) targets))
+        ∙ (λ j. flat_map (with_address L) targets ++ (option_to_list (option_map (λ x. (q, x)) (sym address j)) ++ []))
+        ∙ sym (flat_map-append (with_address L) targets (q ∷ []));
+    ends = before.ends;
+    front = before.front;
+    holds = before.holds;
+    gaps = before.gaps;
+    octets = before.octets;
+  }
 
   -- a section's end
   pub so_far_end :

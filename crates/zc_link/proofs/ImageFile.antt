@@ -22,7 +22,8 @@ use Rattle.rv_decode.specs.State.{byte_in}
 use Rattle.block_cut.specs.Items.{code_at, entry_of, item_at}
 use Rattle.block_cut.specs.declared.item.Item.{Item}
 use Rattle.block_cut.specs.declared.item.Item.TheVariants.{Op, Hi, Lo, PcHi, PcLo, Branch, Jump, Call, Align, Word, Raw, RawPair}
-use Rattle.shrink_layout.specs.Units.{CodeUnit, OneItem}
+use Rattle.shrink_layout.specs.Units.{CodeUnit, OneGroup, OneItem}
+use Rattle.zc_link.proofs.GroupItems.{group_op}
 use Rattle.sym_machine.specs.Objects.{data_bytes, program_of}
 use Rattle.sym_machine.specs.Program.{Program, start_memory}
 use Rattle.sym_machine.specs.declared.word.SymByte.TheVariants.{Undef}
@@ -230,9 +231,9 @@ module _ (L : TextLayout) (ready : IsReady L.inputs) (lies : IsLaidOut L) (flags
     room = rooms;
     leads = leads_faultless inputs ready.faultless;
     begins = AtEntry ((λ j. listed_are j (entry_of p3)) ∙ lies.entry);
-    some = some L;
+    some = some L lies;
     few = few L lies program;
-    each = each L ready.is_map lies program parts out shows holds;
+    each = each L ready.is_map lies program parts out shows none holds;
     first = λ a m. first a;
     names = λ a m. names a;
     bytes = memory.bytes program parts out;
@@ -310,7 +311,7 @@ module _ (L : TextLayout) (ready : IsReady L.inputs) (lies : IsLaidOut L) (flags
     each = λ q a s item here at is.
         let found : listed_address (listed_places L) q ≡ Some a = ap (λ l. listed_address l q) (sym back.places) ∙ here in
         let listed_at : A q ≡ Some a = sym (λ j. listed_are j q) ∙ found in
-        let there = unit_there L ready.is_map lies q item a is listed_at in
+        let there = unit_there L lies q item a is listed_at in
         of q a s item there.0 at is (lies.each q a there.0 there.1 listed_at) (found_holds (HoldsPlace L text) (listed_places L) q a holds found there.0 there.1);
   }
     where
@@ -332,6 +333,10 @@ module _ (L : TextLayout) (ready : IsReady L.inputs) (lies : IsLaidOut L) (flags
           (copied_item A (listed_address (place_list (image_bytes parts))) (item_at p3) (bytes_from s.bytes q.offset) (bytes_from text (a - inputs.map.text)) a h.size i addresses
           (subst (λ n. HasForm A a n i) size form.form)
           (subst (λ t. IsWritten A (item_at p3) (bytes_from t.bytes q.offset) a h.size i (bytes_from text (a - inputs.map.text) h.size)) same h.written))
+      of q a s item (OneGroup g) at is form h =
+          let first = group_op inputs none q g form.is in
+          let one : Op first.0 ≡ item = cc (sym first.1 ∙ is) in
+          subst (ItemCopied (listed_address (place_list (image_bytes parts))) (bytes_from s.bytes q.offset) (bytes_from text (a - inputs.map.text))) one tt
 
   -- the file is one of the layout's image
   pub is_image : (elf : List ℕ) → elf ≡ image_bytes parts → IsImageOf L flags (text_end L) elf

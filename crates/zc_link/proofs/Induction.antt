@@ -5,7 +5,7 @@ use Rattle.std.proofs.Common.{◌≡◌, ℕ, zero, suc, ◌+◌, ◌-◌, ◌*�
 use Rattle.std.specs.Prelude.{◌⊎◌, IsSome}
 use Rattle.std.proofs.lemmas.Bool.{cases_lt, false≢true}
 use Rattle.zc_base.specs.declared.place.Place.{Place}
-use Rattle.interrupt_plan.specs.Plan.{AreInterrupts, Interrupt, IsPlan, interrupts_at}
+use Rattle.interrupt_plan.specs.Plan.{AreInterrupts, Interrupt, interrupts_at}
 use Rattle.interrupt_plan.proofs.PlanLaws.{interrupts_at-bytes}
 use Rattle.rv_decode.specs.Run.{◌>>=◌, iterate}
 use Rattle.rv_decode.specs.State.{ZcState}

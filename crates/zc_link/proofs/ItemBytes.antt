@@ -19,6 +19,7 @@ use Rattle.block_cut.specs.declared.item.Item.{Item}
 use Rattle.block_cut.specs.declared.item.Item.TheVariants.{Op, Hi, Lo, PcHi, PcLo, Branch, Jump, Call, Align, Word, Raw, RawPair}
 use Rattle.shrink_layout.specs.Halves.{IsHalfOf}
 use Rattle.shrink_layout.specs.Pieces.{is_short}
+use Rattle.shrink_layout.specs.Units.{OneItem}
 use Rattle.zc_decode.specs.declared.short.Short.TheVariants.{Base}
 use Rattle.zc_encode.specs.Halves.{encoded16}
 use Rattle.zca_zcb_pass.specs.Forms.{HasEffectOf}
@@ -67,7 +68,7 @@ module _ (L : TextLayout) (code : List ℕ) (q : Place) (item : Item) (a n : ℕ
   own = bytes_from code q.offset
 
   abbrev Here : List ℕ → Type 0
-  Here bytes = WrittenHere L code q item a n bytes
+  Here bytes = WrittenHere L code q (OneItem item) a n bytes
 
   made : (bytes : List ℕ) → AreSized n bytes → IsWritten L.address it own a n item bytes → Here bytes
   made bytes sized written = record { long = sized.0; written = written; octets = sized.1 }

@@ -39,6 +39,8 @@ pub mod GroupWay
 pub mod GroupFrom
 pub mod GroupExamples
 pub mod GroupsFound
+pub mod GroupItems
+pub mod GroupHalves
 pub mod Stretches
 pub mod AtBase
 pub mod Bare
@@ -57,6 +59,7 @@ pub mod LaidLaws
 pub mod Adds
 pub mod BranchBytes
 pub mod ItemBytes
+pub mod GroupBytes
 pub mod Grows
 pub mod Faultless
 pub mod ItemUnits
@@ -69,9 +72,11 @@ pub mod PlainLaws
 pub mod Pairs
 pub mod Standing
 pub mod Walk
+pub mod ItemStarts
 pub mod Sections
 pub mod ImageMemory
 pub mod Fetched
+pub mod GroupsLaid
 pub mod Lookup
 pub mod ItemRegisters
 pub mod SizedPieces

@@ -23,14 +23,14 @@ use Rattle.block_cut.proofs.StartLaws.{start_first}
 use Rattle.block_cut.proofs.WholeLaws.{code_whole}
 use Rattle.sym_machine.specs.Conditions.{is_solid}
 use Rattle.shrink_layout.specs.Halves.{fixed_instr}
-use Rattle.shrink_layout.specs.Units.{CodeUnit, OneItem}
+use Rattle.shrink_layout.specs.Units.{CodeUnit, OneGroup, OneItem}
 use Rattle.zc_link.specs.LaidOut.{IsLaidOut, LiesAt, ListsLeaders, code_end_after, text_end}
 use Rattle.zc_link.specs.Pace.{bytes_between}
 use Rattle.zc_link.specs.Standing.{HasOwnSize, IsReady}
 use Rattle.zc_link.specs.TextLayout.{TextLayout, behind, plain_layout, size_in}
 use Rattle.zc_link.specs.Values.{way}
 use Rattle.zc_link.proofs.Faultless.{all_none, start_listed}
-use Rattle.zc_link.proofs.ItemUnits.{item_behind, item_unit, item_written}
+use Rattle.zc_link.proofs.ItemUnits.{item_behind, item_unit, item_written, no_group, single_inside}
 use Rattle.zc_link.proofs.SizedPieces.{size_is}
 use Rattle.zc_link.proofs.PlainEnds as ends
 use Rattle.zc_link.proofs.PlainEnds.{code_found}
@@ -110,24 +110,25 @@ module _ (inputs : Inputs) (ready : IsReady inputs) where
       (item_own inputs none ready A leaders q item is)
     where
       by : (i : Item) (own : ℕ) → item_at p q ≡ Some i → A (behind L q) ≡ Some (after_item a own i) → HasOwnSize i own → LiesAt L q a (OneItem i)
-      by (Op i) own h next size = record { is = h; size = own; next = next; form = inl size }
-      by (Hi i t) own h next size = record { is = h; size = own; next = next; form = inl size }
-      by (Lo i t) own h next size = record { is = h; size = own; next = next; form = inl size }
-      by (PcHi i t) own h next size = record { is = h; size = own; next = next; form = size }
-      by (PcLo i from) own h next size = record { is = h; size = own; next = next; form = size }
+      by (Op i) own h next size = record { inside = single_inside L q; is = h; size = own; next = next; form = inl size }
+      by (Hi i t) own h next size = record { inside = single_inside L q; is = h; size = own; next = next; form = inl size }
+      by (Lo i t) own h next size = record { inside = single_inside L q; is = h; size = own; next = next; form = inl size }
+      by (PcHi i t) own h next size = record { inside = single_inside L q; is = h; size = own; next = next; form = size }
+      by (PcLo i from) own h next size = record { inside = single_inside L q; is = h; size = own; next = next; form = size }
       by (Branch op first second to) own h next size =
-          record { is = h; size = own; next = next; form = λ b there. inl (size, branches q to op first second a b h at there) }
-      by (Jump rd to) own h next size = record { is = h; size = own; next = next; form = λ b there. inl (size, jumps q to a b at there) }
-      by (Call rd temp to) own h next size = record { is = h; size = own; next = next; form = λ b there. inl size }
+          record { inside = single_inside L q; is = h; size = own; next = next; form = λ b there. inl (size, branches q to op first second a b h at there) }
+      by (Jump rd to) own h next size = record { inside = single_inside L q; is = h; size = own; next = next; form = λ b there. inl (size, jumps q to a b at there) }
+      by (Call rd temp to) own h next size = record { inside = single_inside L q; is = h; size = own; next = next; form = λ b there. inl size }
       by (Align n) own h next size =
           let up : a + (aligned_up (power_above n) a - a) ≡ aligned_up (power_above n) a = omega (arith, aligned_up-ge (power_above n) a) in
-          record { is = h; size = aligned_up (power_above n) a - a; next = next ∙ ap Some (sym up); form = up }
-      by (Word t) own h next size = record { is = h; size = own; next = next; form = size }
-      by (Raw word) own h next size = record { is = h; size = own; next = next; form = size }
-      by (RawPair first second) own h next size = record { is = h; size = own; next = next; form = size }
+          record { inside = single_inside L q; is = h; size = aligned_up (power_above n) a - a; next = next ∙ ap Some (sym up); form = up }
+      by (Word t) own h next size = record { inside = single_inside L q; is = h; size = own; next = next; form = size }
+      by (Raw word) own h next size = record { inside = single_inside L q; is = h; size = own; next = next; form = size }
+      by (RawPair first second) own h next size = record { inside = single_inside L q; is = h; size = own; next = next; form = size }
 
   lies : (q : Place) (a : ℕ) (u : CodeUnit) → L.unit q ≡ Some u → A q ≡ Some a → LiesAt L q a u
   lies q a (OneItem item) unit at = lies_item q a item (item_unit p q (OneItem item) unit) at
+  lies q a (OneGroup g) unit at = absurd (no_group (item_at p q) g unit)
 
   -- so in two bytes there is nothing but padding
   pub padding_alone : (q : Place) (item : Item) → item_at p q ≡ Some item → size_in L q ≡ 2 → fixed_instr item ≡ None

@@ -1,10 +1,10 @@
 -- The settled layout is a layout of the code (`settled_is_laid_out`): an item lies between its place and the next in a form that it may
 -- have there (`settled_lies`), and items with room of their own have addresses of their own, since numbers rise with places
 -- (`settled_distinct`).
-use Rattle.std.proofs.Common.{◌≡◌, ℕ, ◌+◌, ◌<◌, List, length, get_or, true, Option, Some, None, refl, sym, ap, ◌∙◌, subst, arith, inl, inr}
-use Rattle.std.specs.Prelude.{slice_index}
-use Rattle.std.specs.Option.{option_map, unwrap_or}
-use Rattle.std.proofs.lemmas.Option.{get_or_from_slice_get}
+use Rattle.std.proofs.Common.{◌≡◌, ℕ, ◌+◌, ◌<◌, List, length, get_or, Bool, true, false, cond, eqb, Option, Some, None, refl, sym, ap, ◌∙◌, subst, arith, inl, inr}
+use Rattle.std.specs.Prelude.{◌&&◌, ◌||◌, slice_index}
+use Rattle.std.specs.Option.{is_some, option_map_or, unwrap_or}
+use Rattle.std.proofs.lemmas.Option.{get_or_from_slice_get, same_Some, slice_get_within}
 use Rattle.zc_base.specs.MemMap.{IsMap}
 use Rattle.zc_base.specs.Places.{is_before}
 use Rattle.zc_base.specs.declared.place.Place.{Place}
@@ -13,25 +13,31 @@ use Rattle.psabi_sym.specs.Faults.{gather_fault}
 use Rattle.psabi_sym.specs.Inputs.{Inputs, parsed}
 use Rattle.psabi_sym.proofs.FaultLaws.{neither}
 use Rattle.block_cut.specs.Faults.{first_fault}
-use Rattle.block_cut.specs.Items.{item_at}
+use Rattle.block_cut.specs.Items.{after_items, is_end_at, is_start_at, item_at}
 use Rattle.block_cut.specs.declared.item.Item.{Item}
 use Rattle.block_cut.proofs.PlaceOrder.{same_or_before}
 use Rattle.sym_machine.specs.Conditions.{is_solid}
 use Rattle.shrink_layout.specs.declared.piece.Piece.{Piece}
-use Rattle.shrink_layout.specs.declared.piece.Piece.TheVariants.{Fixed}
+use Rattle.shrink_layout.specs.declared.piece.Piece.TheVariants.{Fixed, Joined}
 use Rattle.shrink_layout.specs.Forms.{HasAlignment, IsForm, holds, target, width}
-use Rattle.shrink_layout.specs.Pieces.{piece_number_at, piece_of, pieces_of}
+use Rattle.shrink_layout.specs.Pieces.{group_size, instr_size, piece_number_at, piece_of, pieces_of, unit_piece}
 use Rattle.shrink_layout.specs.Settled.{settled_address, settled_addresses, settled_end, settled_sizes}
-use Rattle.shrink_layout.specs.Units.{CodeUnit, OneItem, unit_at}
+use Rattle.frame_match.specs.declared.group.Group.{Group}
+use Rattle.frame_match.specs.declared.role.Role.TheVariants.{Inside}
+use Rattle.shrink_layout.specs.Units.{CodeUnit, OneGroup, OneItem, is_listed_at, is_within, rest_instr, unit_at, unit_items}
 use Rattle.shrink_layout.proofs.AddressLaws.{fits_at, form_at, next_address}
-use Rattle.shrink_layout.proofs.NumberLaws.{item_target, number_below, number_most, piece_there}
+use Rattle.shrink_layout.proofs.NumberLaws.{item_target, number_most, unit_there}
+use Rattle.shrink_layout.proofs.GroupAddresses.{behind_address, group_ends}
 use Rattle.shrink_layout.proofs.OrderLaws.{number_rises_past}
-use Rattle.shrink_layout.proofs.PlaceAddressLaws.{next_address_there}
+use Rattle.shrink_layout.proofs.PlaceAddressLaws.{address_nowhere, start_some}
+use Rattle.shrink_layout.proofs.RolePlaces.{inside_unlisted, leader_listed, listed_target}
+use Rattle.shrink_layout.proofs.UnitLaws.{found_start, role_found, start_item, unit_found, unit_group, unit_item}
 use Rattle.shrink_layout.proofs.PremiseLaws.{all_aligned}
 use Rattle.zc_link.specs.LaidOut.{IsLaidOut, LiesAt, ListsLeaders, text_end}
-use Rattle.zc_link.specs.TextLayout.{zc_layout}
+use Rattle.zc_link.specs.TextLayout.{behind, zc_layout}
 use Rattle.zc_link.proofs.Faultless.{start_listed}
-use Rattle.zc_link.proofs.ItemUnits.{item_behind, item_written}
+use Rattle.zc_link.proofs.GroupItems.{inside_role, start_no_end}
+use Rattle.zc_link.proofs.ItemUnits.{single_inside}
 use Rattle.zc_link.proofs.SettledLawsForms.{IsNear, has_form, width_some}
 use Rattle.zc_link.proofs.SettledLawsPlaces.{address, address_rises, end_settled, forms, settled, settled_begins, settled_even, settled_few, settled_here, settled_high, settled_listed, settled_low, settled_short}
 
@@ -51,23 +57,23 @@ module _ (inputs : Inputs) (none : gather_fault inputs ≡ None) (is_map : IsMap
   abbrev at_number : ℕ → ℕ
   at_number = address inputs none is_map
 
-  -- ---- an item
+  -- ---- what is written
 
-  -- the piece of an item: that it is the item's, its form, and where it ends
-  record IsPiece (q : Place) (item : Item) : Type 0 where
+  -- its piece: its form, and where it ends
+  record IsPiece (q : Place) (u : CodeUnit) : Type 0 where
     pub within : piece_number_at objects q < length pieces
-    pub there : (d : Piece) → get_or pieces (piece_number_at objects q) d ≡ piece_of objects item
-    pub form : IsForm (piece_of objects item) (slice_index sizes (piece_number_at objects q))
+    pub there : (d : Piece) → get_or pieces (piece_number_at objects q) d ≡ unit_piece objects (Some u)
+    pub form : IsForm (unit_piece objects (Some u)) (slice_index sizes (piece_number_at objects q))
     pub ends :
         at_number (piece_number_at objects q + 1)
-        ≡ at_number (piece_number_at objects q) + width (piece_of objects item) (slice_index sizes (piece_number_at objects q)) (at_number (piece_number_at objects q))
+        ≡ at_number (piece_number_at objects q) + width (unit_piece objects (Some u)) (slice_index sizes (piece_number_at objects q)) (at_number (piece_number_at objects q))
 
-  piece_is : (q : Place) (item : Item) → item_at (parsed inputs) q ≡ Some item → IsPiece q item
-  piece_is q item is =
+  piece_is : (q : Place) (u : CodeUnit) → unit_at (parsed inputs) q ≡ Some u → IsPiece q u
+  piece_is q u is =
       let n = piece_number_at objects q in
-      let within = number_below inputs none q item is in
-      let there : (d : Piece) → get_or pieces n d ≡ piece_of objects item =
-      λ d. get_or_from_slice_get pieces n (piece_of objects item) d (piece_there inputs none q item is) in
+      let got = unit_there inputs none q u is in
+      let within = slice_get_within pieces n (unit_piece objects (Some u)) got in
+      let there : (d : Piece) → get_or pieces n d ≡ unit_piece objects (Some u) = λ d. get_or_from_slice_get pieces n (unit_piece objects (Some u)) d got in
       record {
         within = within;
         there = there;
@@ -85,11 +91,15 @@ module _ (inputs : Inputs) (none : gather_fault inputs ≡ None) (is_map : IsMap
     few = settled_few inputs none is_map q b is;
   }
 
+  -- behind what is written lies the place so many items on
+  behind_is : (q : Place) (u : CodeUnit) → unit_at (parsed inputs) q ≡ Some u → behind (zc_layout inputs) q ≡ after_items objects (unit_items u) q
+  behind_is q u is = ap (λ o. after_items objects (option_map_or unit_items o 1) q) is
+
   -- an item lies between its place and the next
-  lies : (q : Place) (a : ℕ) (item : Item) → item_at (parsed inputs) q ≡ Some item → A q ≡ Some a → LiesAt (zc_layout inputs) q a (OneItem item)
+  lies : (q : Place) (a : ℕ) (item : Item) → unit_at (parsed inputs) q ≡ Some (OneItem item) → A q ≡ Some a → LiesAt (zc_layout inputs) q a (OneItem item)
   unfolding settled_addresses
   lies q a item is got =
-      let own = piece_is q item is in
+      let own = piece_is q (OneItem item) is in
       let here = near q a got in
       let n = piece_number_at objects q in
       let size = slice_index sizes n in
@@ -101,44 +111,102 @@ module _ (inputs : Inputs) (none : gather_fault inputs ≡ None) (is_map : IsMap
       let reach : holds p size a (at_number (target p)) ≡ true = ap (λ x. holds p size x (at_number (target p))) (sym here.number) ∙ fits in
       let aligned : HasAlignment p = subst HasAlignment there (all_aligned inputs none n (Fixed 0) own.within) in
       record {
-        is = is;
+        is = (unit_item (parsed inputs) q item is).1;
         size = width p size a;
-        next = ap A (item_behind (zc_layout inputs) q refl) ∙ next_address_there inputs none q item is ∙ ap Some own.ends ∙ ap (λ x. Some (x + width p size x)) here.number;
+        next = ap A (behind_is q (OneItem item) is) ∙ behind_address inputs none q (OneItem item) is ∙ ap Some own.ends ∙ ap (λ x. Some (x + width p size x)) here.number;
         form = has_form objects A at_number inputs.map.text (omega (arith, is_map.code, is_map.data_room, is_map.top)) near a here.even here.low here.few item size
             aligned own.form reach;
+        inside = single_inside (zc_layout inputs) q;
+      }
+
+  -- so does a group, and the places inside it have no addresses
+  group_lies : (q : Place) (a : ℕ) (g : Group) → unit_at (parsed inputs) q ≡ Some (OneGroup g) → A q ≡ Some a → LiesAt (zc_layout inputs) q a (OneGroup g)
+  group_lies q a g is got =
+      let role = unit_group (parsed inputs) q g is in
+      record {
+        is = role;
+        size = group_size g;
+        next = ap A (behind_is q (OneGroup g) is) ∙ group_ends inputs none q g a is got;
+        form = refl;
+        inside = λ k some few.
+            let r = after_items objects k q in
+            let inner = inside_role inputs none q g role k some few in (
+              found_start (parsed inputs) r (role_found (parsed inputs) r Inside inner),
+              address_nowhere (parsed inputs) r (inside_unlisted inputs none r (ap is_within inner)),
+            );
       }
 
   settled_lies : (q : Place) (a : ℕ) (u : CodeUnit) → unit_at (parsed inputs) q ≡ Some u → A q ≡ Some a → LiesAt (zc_layout inputs) q a u
-  settled_lies q a u unit got = by (item_at (parsed inputs) q) refl unit
+  settled_lies q a (OneItem item) unit got = lies q a item unit got
+  settled_lies q a (OneGroup g) unit got = group_lies q a g unit got
+
+  -- something is written where an item starts at a place with an address, and nowhere else
+  settled_written : (q : Place) → is_some (unit_at (parsed inputs) q) ≡ (is_some (A q) && is_start_at objects q)
+  unfolding is_listed_at
+  settled_written q = by (unit_at (parsed inputs) q) refl ∙ ap (λ b. b && is_start_at objects q) (sym (settled_listed inputs none is_map q))
     where
-      by : (o : Option Item) → item_at (parsed inputs) q ≡ o → option_map OneItem o ≡ Some u → LiesAt (zc_layout inputs) q a u
-      by None is h = absurd cc
-      by (Some item) is h = let same : OneItem item ≡ u = cc in subst (LiesAt (zc_layout inputs) q a) same (lies q a item is got)
+      no_end : (b : Bool) → is_start_at objects q ≡ b → false ≡ (is_end_at objects q && b)
+      no_end true start =
+          let item = start_item (parsed inputs) q start in
+          ap (λ b. b && true) (sym (start_no_end inputs none q item.0 item.1))
+      no_end false start = no_right (is_end_at objects q)
+        where
+          no_right : (b : Bool) → false ≡ (b && false)
+          no_right true = refl
+          no_right false = refl
+
+      by : (o : Option CodeUnit) → unit_at (parsed inputs) q ≡ o → is_some (unit_at (parsed inputs) q) ≡ ((is_some (unit_at (parsed inputs) q) || is_end_at objects q) && is_start_at objects q)
+      by None at = ap is_some at ∙ no_end (is_start_at objects q) refl ∙ ap (λ o. (is_some o || is_end_at objects q) && is_start_at objects q) (sym at)
+      by (Some u) at =
+          let start = found_start (parsed inputs) q (unit_found (parsed inputs) q u at) in
+          ap is_some at ∙ (λ j. (is_some (sym at j) || is_end_at objects q) && sym start j)
 
   -- ---- addresses of their own
 
-  -- an item with room of its own, at a place
+  -- what is written at the place of an item with room of its own
   record IsSolid (q : Place) : Type 0 where
     pub item : Item
     pub is : item_at (parsed inputs) q ≡ Some item
-    pub solid : is_solid (Some item) ≡ true
+    pub unit : CodeUnit
+    pub written : unit_at (parsed inputs) q ≡ Some unit
+    pub some : (size a : ℕ) → IsForm (unit_piece objects (Some unit)) size → 0 < width (unit_piece objects (Some unit)) size a
 
-  solid_found : (q : Place) → is_solid (item_at (parsed inputs) q) ≡ true → IsSolid q
-  solid_found q solid = by (item_at (parsed inputs) q) refl solid
+  solid_found : (q : Place) (a : ℕ) → is_solid (item_at (parsed inputs) q) ≡ true → A q ≡ Some a → IsSolid q
+  solid_found q a solid at = by (item_at (parsed inputs) q) refl solid
     where
+      some_bytes : (g : Group) (size a : ℕ) → IsForm (Joined (group_size g)) size → 0 < width (Joined (group_size g)) size a
+      some_bytes g size a form = either (eqb g.rest 0) form
+        where
+          either : (b : Bool) → size ≡ cond b 2 (2 + instr_size (rest_instr g)) → 0 < size
+          either true is = omega (arith, is)
+          either false is = omega (arith, is)
+
+      unit_of : (item : Item) → item_at (parsed inputs) q ≡ Some item → is_solid (Some item) ≡ true → (u : CodeUnit) → unit_at (parsed inputs) q ≡ Some u → IsSolid q
+      unit_of item is solid (OneItem i) unit =
+          let same : item ≡ i = same_Some item i (sym is ∙ (unit_item (parsed inputs) q i unit).1) in
+          record { item = item; is = is; unit = OneItem i; written = unit; some = λ size a form. width_some objects i size a (ap (λ x. is_solid (Some x)) (sym same) ∙ solid) form }
+      unit_of item is solid (OneGroup g) unit = record { item = item; is = is; unit = OneGroup g; written = unit; some = some_bytes g }
+
       by : (o : Option Item) → item_at (parsed inputs) q ≡ o → is_solid o ≡ true → IsSolid q
       by None is solid = absurd cc
-      by (Some item) is solid = record { item = item; is = is; solid = solid }
+      by (Some item) is solid =
+          let start : is_start_at objects q ≡ true = sym (start_some (parsed inputs) q) ∙ ap is_some is in
+          let some : is_some (unit_at (parsed inputs) q) ≡ true = settled_written q ∙ (λ j. is_some (at j) && start j) in
+          written (unit_at (parsed inputs) q) refl some
+        where
+          written : (o : Option CodeUnit) → unit_at (parsed inputs) q ≡ o → is_some (unit_at (parsed inputs) q) ≡ true → IsSolid q
+          written None at some = absurd (cc (some, ap is_some at))
+          written (Some u) at some = unit_of item is solid u at
 
   -- what comes after it has a greater address
   beyond : (q r : Place) → IsSolid q → IsSolid r → is_before q r ≡ true → at_number (piece_number_at objects q) < at_number (piece_number_at objects r)
   beyond q r x y before =
-      let own = piece_is q x.item x.is in
+      let own = piece_is q x.unit x.written in
       let k = piece_number_at objects q in
       omega (
         arith,
         own.ends,
-        width_some objects x.item (slice_index sizes k) (at_number k) x.solid own.form,
+        x.some (slice_index sizes k) (at_number k) own.form,
         address_rises inputs none is_map (k + 1) (piece_number_at objects r)
             (omega (arith, number_rises_past (parsed inputs) q r x.item x.is (item_target (parsed inputs) r y.item y.is) before)) (number_most (parsed inputs) r),
       )
@@ -148,8 +216,8 @@ module _ (inputs : Inputs) (none : gather_fault inputs ≡ None) (is_map : IsMap
       (q r : Place) (a : ℕ) → is_solid (item_at (parsed inputs) q) ≡ true → is_solid (item_at (parsed inputs) r) ≡ true
       → A q ≡ Some a → A r ≡ Some a → q ≡ r
   settled_distinct q r a one two at at' =
-      let x = solid_found q one in
-      let y = solid_found r two in
+      let x = solid_found q a one at in
+      let y = solid_found r a two at' in
       let same : at_number (piece_number_at objects q) ≡ at_number (piece_number_at objects r) = (near q a at).number ∙ sym (near r a at').number in
       elim (same_or_before q r) [
         | inl before ↦ absurd (omega (arith, same, beyond q r x y before))
@@ -168,12 +236,12 @@ pub settled_is_laid_out : (inputs : Inputs) → first_fault inputs ≡ None → 
 settled_is_laid_out inputs none is_map =
     let fine = gathered inputs none in
     let A = settled_address (parsed inputs) in
-    let leaders : ListsLeaders (parsed inputs) A = λ q target leader. settled_listed inputs fine is_map q ∙ target in
+    let leaders : ListsLeaders (parsed inputs) A = λ q target leader. settled_listed inputs fine is_map q ∙ leader_listed inputs fine q target leader in
     let start = start_listed inputs A none leaders in
     record {
-      only = λ q some. sym (settled_listed inputs fine is_map q) ∙ some;
+      only = λ q some. listed_target (parsed inputs) q (sym (settled_listed inputs fine is_map q) ∙ some);
       leaders = leaders;
-      written = item_written (parsed inputs) A (settled_listed inputs fine is_map);
+      written = settled_written inputs fine is_map;
       front = refl;
       entry = start.1 ∙ ap Some (sym (ap (λ o. unwrap_or o inputs.map.text) start.1));
       even = settled_even inputs fine is_map;

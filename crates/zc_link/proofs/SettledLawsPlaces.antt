@@ -1,9 +1,9 @@
--- Addresses of places in the settled layout: the places where an item starts or a section of code ends have one (`settled_there`,
+-- Addresses of places in the settled layout: those that images list have one (`settled_there`,
 -- `settled_here`), it is even (`settled_even`), and the code before a section ends where that section's padding begins (`ends_before`).
 use Rattle.std.proofs.Common.{◌≡◌, ℕ, ◌+◌, ◌%◌, ◌≤◌, ◌⊎◌, List, [], ◌∷◌, length, Bool, true, false, cond, Option, Some, None, refl, sym, ap, ◌∙◌, arith, eqb, inl, inr, eq-eqb}
 use Rattle.std.specs.Prelude.{◌||◌, slice_index, is_some}
 use Rattle.std.specs.List.{sum_by}
-use Rattle.std.specs.Option.{unwrap_or}
+use Rattle.std.specs.Option.{option_map_or, unwrap_or}
 use Rattle.std.proofs.lemmas.List.Sums.{fold-append}
 use Rattle.zc_base.specs.MemMap.{IsMap}
 use Rattle.zc_base.specs.declared.place.Place.{Place}
@@ -27,12 +27,14 @@ use Rattle.shrink_layout.specs.Units.{is_listed_at}
 use Rattle.shrink_layout.proofs.AddressLaws.{ascending, even_address, first_address, form_at, last_address, layout_forms, next_address}
 use Rattle.shrink_layout.proofs.NumberEnds.{padding_number, padding_number-next, number-end, number-start, start_within}
 use Rattle.shrink_layout.proofs.NumberLaws.{length-pieces_of, number-code, number_most}
-use Rattle.shrink_layout.proofs.PlaceAddressLaws.{address_there, listed_target}
+use Rattle.shrink_layout.proofs.PlaceAddressLaws.{address_there}
+use Rattle.shrink_layout.proofs.RolePlaces.{end_listed, leader_listed, listed_target}
 use Rattle.shrink_layout.proofs.SizesLaws.{sizes_layout}
 use Rattle.shrink_layout.proofs.PremiseLaws.{all_aligned, all_even, room_few}
 use Rattle.zc_link.specs.LaidOut.{code_end_after, laid_section_end, text_end}
 use Rattle.zc_link.specs.TextLayout.{TextLayout, front_end, zc_layout}
 use Rattle.zc_link.proofs.EachSection.{before_each, of_all}
+use Rattle.zc_link.proofs.Led.{first_leader}
 use Rattle.zc_link.proofs.PlainEnds.{code_found}
 
 -- ---- targets
@@ -93,19 +95,32 @@ module _ (inputs : Inputs) (none : gather_fault inputs ≡ None) (is_map : IsMap
   pub forms : AreForms pieces sizes
   forms = layout_forms inputs.map.text pieces sizes settled
 
-  -- so addresses are given to targets, and to no others
-  pub settled_listed : (q : Place) → is_some (A q) ≡ is_target_at objects q
+  -- so addresses are given to the places that images list, and to no others
+  pub settled_listed : (q : Place) → is_some (A q) ≡ is_listed_at p q
   unfolding settled_address
-  settled_listed q = chosen_some (is_listed_at p q) (slice_index (settled_addresses p) (piece_number_at objects q)) ∙ listed_target p q
+  settled_listed q = chosen_some (is_listed_at p q) (slice_index (settled_addresses p) (piece_number_at objects q))
 
-  -- a target has the address of its number
+  -- such a place has the address of its number
   settled_there :
-      (q : Place) (s : SectionParts) → code_at objects q ≡ Some s → (starts_on s q.offset ≡ true) ⊎ (q.offset ≡ length s.bytes)
+      (q : Place) (s : SectionParts) → code_at objects q ≡ Some s → is_listed_at p q ≡ true
       → A q ≡ Some (address (pieces_before objects q.object q.section s q.offset))
   unfolding settled_addresses
-  settled_there q s at target =
-      address_there p q (target_there objects q s at target)
-      ∙ ap (λ n. Some (address n)) (number-code objects q s (target_there objects q s at target) at)
+  settled_there q s at listed =
+      address_there p q listed
+      ∙ ap (λ n. Some (address n)) (number-code objects q s (listed_target p q listed) at)
+
+  -- the end of a section is one
+  end_there : (q : Place) (s : SectionParts) → code_at objects q ≡ Some s → q.offset ≡ length s.bytes → is_listed_at p q ≡ true
+  end_there q s at end =
+      end_listed p q
+      (ap (λ o. option_map_or (λ t. eqb q.offset (length t.bytes)) o false) at ∙ eq-eqb q.offset (length s.bytes) end)
+
+  -- so is its first place, since a basic block begins there
+  first_there : (q : Place) (s : SectionParts) → code_at objects q ≡ Some s → (starts_on s q.offset ≡ true) ⊎ (q.offset ≡ length s.bytes) → q.offset ≡ 0
+      → is_listed_at p q ≡ true
+  first_there q s at target first =
+      let led = target_there objects q s at target in
+      leader_listed inputs none q led (first_leader p q first led)
 
   -- and a place with an address has that of its number
   pub settled_here : (q : Place) (a : ℕ) → A q ≡ Some a → address (piece_number_at objects q) ≡ a
@@ -175,7 +190,7 @@ module _ (inputs : Inputs) (none : gather_fault inputs ≡ None) (is_map : IsMap
       by true code =
           let last = place_at o i (length s.bytes) in
           ap (λ b. cond b (unwrap_or (A last) end) end) code
-          ∙ ap (λ x. unwrap_or x end) (settled_there last s (code_found p o i (length s.bytes) s found code) (inr refl))
+          ∙ ap (λ x. unwrap_or x end) (settled_there last s (code_found p o i (length s.bytes) s found code) (end_there last s (code_found p o i (length s.bytes) s found code) refl))
           ∙ ap address (number-end objects o i s found code (inputs_whole inputs o i s none found code))
       by false other =
           let nothing : piece_count (listed o i s) ≡ 0 = ap (λ b. cond {A = ℕ} b (1 + length (starts_in s)) 0) other in
@@ -209,8 +224,9 @@ module _ (inputs : Inputs) (none : gather_fault inputs ≡ None) (is_map : IsMap
       → code_end_after L (sections_before objects o i) ≤ unwrap_or (A (place_at o i 0)) 0
   settled_begins o i s found code =
       let whole = inputs_whole inputs o i s none found code in
+      let here = code_found p o i 0 s found code in
       let first : unwrap_or (A (place_at o i 0)) 0 ≡ address (padding_number objects o i + 1) =
-      ap (λ x. unwrap_or x 0) (settled_there (place_at o i 0) s (code_found p o i 0 s found code) (start_first s code whole))
+      ap (λ x. unwrap_or x 0) (settled_there (place_at o i 0) s here (first_there (place_at o i 0) s here (start_first s code whole) refl))
       ∙ ap address (number-start objects o i s found code whole) in
       omega (
         arith,

@@ -8,13 +8,15 @@ use Rattle.psabi_sym.proofs.BlockLaws.{aligned_up-lt}
 use Rattle.block_cut.specs.Items.{after_items, next_at}
 use Rattle.block_cut.specs.declared.item.Item.{Item}
 use Rattle.block_cut.specs.declared.item.Item.TheVariants.{Op, Hi, Lo, PcHi, PcLo, Branch, Jump, Call, Align, Word, Raw, RawPair}
-use Rattle.shrink_layout.specs.Units.{CodeUnit, OneItem, unit_items}
+use Rattle.frame_match.specs.declared.group.Group.{Group}
+use Rattle.shrink_layout.specs.Units.{CodeUnit, OneGroup, OneItem, unit_items}
 use Rattle.sym_machine.specs.Conditions.{condition}
 use Rattle.sym_machine.specs.Program.{Program}
 use Rattle.sym_machine.specs.State.{PlainCore, reg_of}
 use Rattle.zc_link.specs.LaidOut.{IsLaidOut}
-use Rattle.zc_link.specs.Pace.{Alone, CallOf, LongOf, Stretch, bytes_between, commits_of, long_commits, span_of, stretch_of}
+use Rattle.zc_link.specs.Pace.{Alone, CallOf, LongOf, Stretch, bytes_between, commits_in, commits_of, long_commits, span_of, stretch_of}
 use Rattle.zc_link.specs.TextLayout.{TextLayout, behind, size_in, stretch_in}
+use Rattle.zc_link.proofs.LaidLaws.{group_items}
 
 -- ---- commits
 
@@ -51,7 +53,15 @@ item_few p s n (Word t) short = omega arith
 item_few p s n (Raw word) short = omega arith
 item_few p s n (RawPair first second) short = omega arith
 
--- and it has an item
+-- so has a group
+group_few : (g : Group) → commits_in g ≤ 2
+group_few g = by (eqb g.rest 0)
+  where
+    by : (b : Bool) → cond b 1 2 ≤ 2
+    by true = omega arith
+    by false = omega arith
+
+-- what is written for an item has one
 item_some : (n : ℕ) (i : Item) → 0 < span_of (stretch_of n (Some (OneItem i)))
 item_some n (Op i) = omega arith
 item_some n (Hi i t) = omega arith
@@ -117,11 +127,13 @@ module _ (L : TextLayout) (laid : IsLaidOut L) where
       by : (u : Option CodeUnit) → L.unit s.place ≡ u → IsFew p s (stretch_of (size_in L s.place) u)
       by None unit = omega arith
       by (Some (OneItem i)) unit = item_few p s (size_in L s.place) i (λ k is. padding_short s.place k (unit ∙ ap (λ x. Some (OneItem x)) is))
+      by (Some (OneGroup g)) unit = omega (arith, group_few g, group_items L laid s.place g unit)
 
--- and each has an item
-pub some : (L : TextLayout) (q : Place) → 0 < span_of (stretch_in L q)
-some L q = by (L.unit q)
-  where
-    by : (u : Option CodeUnit) → 0 < span_of (stretch_of (size_in L q) u)
-    by None = omega arith
-    by (Some (OneItem i)) = item_some (size_in L q) i
+  -- and each has an item
+  pub some : (q : Place) → 0 < span_of (stretch_in L q)
+  some q = by (L.unit q) refl
+    where
+      by : (u : Option CodeUnit) → L.unit q ≡ u → 0 < span_of (stretch_of (size_in L q) u)
+      by None unit = omega arith
+      by (Some (OneItem i)) unit = item_some (size_in L q) i
+      by (Some (OneGroup g)) unit = omega (arith, group_items L laid q g unit)

@@ -24,7 +24,6 @@ use Rattle.block_cut.specs.Relocs.{field_of, fits_at, instr_in, is_bad_kind, is_
 use Rattle.block_cut.specs.CodeSizes.{own_size}
 use Rattle.block_cut.specs.declared.item.Item.{Item}
 use Rattle.block_cut.specs.declared.item.Item.TheVariants.{Hi, Lo, PcHi, PcLo, Branch, Jump}
-use Rattle.block_cut.proofs.ListedLaws.{listed}
 use Rattle.block_cut.proofs.PlainLaws.{item_here}
 use Rattle.block_cut.proofs.SoundLaws.{rvc_bad, sound_at}
 use Rattle.block_cut.proofs.WholeLaws.{code_is_section}

@@ -9,6 +9,7 @@ use Rattle.zc_base.specs.declared.place.Place.{Place}
 use Rattle.elf32_write.specs.Parts.{Parts}
 use Rattle.psabi_reloc.specs.Parts.{hi20_of, lo12_of}
 use Rattle.psabi_reloc.specs.Patched.{with_imm, with_upper}
+use Rattle.psabi_sym.specs.Faults.{gather_fault}
 use Rattle.psabi_sym.specs.Inputs.{ParsedInputs, parsed}
 use Rattle.psabi_sym.specs.declared.target.Target.{Target}
 use Rattle.rv_decode.specs.Bits.{FitsIn, add32}
@@ -18,11 +19,13 @@ use Rattle.rv_decode.specs.declared.instr.Instr.{Instr}
 use Rattle.rv_decode.specs.declared.instr.Instr.TheVariants as instr
 use Rattle.rv_decode.specs.declared.instr.UpperOp.TheVariants.{Auipc}
 use Rattle.rv_decode.proofs.DecodeLaws.{decoded-in_range, decoded-registers}
-use Rattle.block_cut.specs.Items.{is_start_at, item_at, next_at, starts_on}
+use Rattle.block_cut.specs.Items.{after_items, is_start_at, item_at, next_at, starts_on}
 use Rattle.block_cut.specs.declared.item.Item.{Item}
 use Rattle.block_cut.specs.declared.item.Item.TheVariants.{Op, Hi, Lo, PcHi, PcLo, Branch, Jump, Call, Align, Word, Raw, RawPair}
 use Rattle.block_cut.proofs.ItemLaws.{item_found}
-use Rattle.shrink_layout.specs.Units.{CodeUnit, OneItem}
+use Rattle.frame_match.specs.declared.group.Group.{Group}
+use Rattle.shrink_layout.specs.Pieces.{group_size}
+use Rattle.shrink_layout.specs.Units.{CodeUnit, OneGroup, OneItem, unit_items}
 use Rattle.sym_machine.specs.AddressParts.{pc_target}
 use Rattle.sym_machine.specs.Conditions.{is_solid}
 use Rattle.sym_machine.specs.Program.{Program}
@@ -31,12 +34,14 @@ use Rattle.zc_encode.specs.Halves.{encoded16}
 use Rattle.zc_link.specs.Copied.{bytes_from}
 use Rattle.zc_link.specs.Image.{Image}
 use Rattle.zc_link.specs.LaidOut.{IsLaidOut}
-use Rattle.zc_link.specs.Pace.{Alone, CallOf, LongOf, stretch_of}
-use Rattle.zc_link.specs.Stretches.{AloneLaid, CallLaid, ItemLaid, LongLaid, StretchLaid}
-use Rattle.zc_link.specs.TextLayout.{TextLayout, size_in, stretch_in}
+use Rattle.zc_link.specs.Pace.{Alone, CallOf, LongOf, commits_in, stretch_of}
+use Rattle.zc_link.specs.Stretches.{AloneLaid, CallLaid, GroupLaid, ItemLaid, LongLaid, StretchLaid, place_on}
+use Rattle.zc_link.specs.TextLayout.{TextLayout, behind, size_in, stretch_in}
 use Rattle.zc_link.specs.Written.{HoldsPlace, HoldsUnit, IsLongBranch, IsSpelled, IsWritten, WithCall, WithWay}
 use Rattle.zc_link.specs.Values.{target_value, way}
 use Rattle.zc_link.proofs.Fetched.{StandAt, nops_at, one_at, spelled_at, stand_at, stand_first, stand_next}
+use Rattle.zc_link.proofs.GroupItems.{group_known}
+use Rattle.zc_link.proofs.GroupsLaid.{commits_are, group_at}
 use Rattle.zc_link.proofs.ImageMemory.{AreLaidOut, image_of}
 use Rattle.zc_link.proofs.ItemRegisters.{imm_registers, item_registers, upper_registers}
 use Rattle.zc_link.proofs.Lookup.{found_holds}
@@ -301,13 +306,19 @@ module _ (L : TextLayout) (is_map : IsMap L.inputs.map) (laid : IsLaidOut L) (pr
       let some : is_some (L.unit q) ≡ true = laid.written q ∙ (λ j. is_some (at j) && start j) in
       absurd (cc (some, ap is_some unit))
 
-  -- what is written for an item at a place
+  -- the bytes of what is written at a place stand at its address
+  stands_there :
+      (q : Place) (a : ℕ) (u : CodeUnit) (h : HoldsUnit L parts.text (q, a) u) → StandAt program parts out a (bytes_from parts.text (a - L.inputs.map.text) h.size)
+  stands_there q a u h =
+      let start : program.map.text ≡ L.inputs.map.text = ap (λ m. m.text) shows.map in
+      let st = stand_at program parts out a h.size (omega (arith, h.low, start)) (omega (arith, h.within, start)) in
+      subst (λ x. StandAt program parts out a (bytes_from parts.text (a - x) h.size)) start st
+
+  -- an item by itself
   unit_laid :
       (q : Place) (a : ℕ) (item : Item) → A q ≡ Some a → L.unit q ≡ Some (OneItem item) → HoldsUnit L parts.text (q, a) (OneItem item)
       → StretchLaid program here q a (stretch_of (size_in L q) (Some (OneItem item)))
   unit_laid q a item at unit h =
-      let start : program.map.text ≡ L.inputs.map.text = ap (λ m. m.text) shows.map in
-      let st = stand_at program parts out a h.size (omega (arith, h.low, start)) (omega (arith, h.within, start)) in
       subst (λ n. StretchLaid program here q a (stretch_of n (Some (OneItem item)))) (sym (size_is L q a h.size at h.next))
       (stretch_laid q a h.size item (bytes_from parts.text (a - L.inputs.map.text) h.size)
       (record {
@@ -315,18 +326,49 @@ module _ (L : TextLayout) (is_map : IsMap L.inputs.map) (laid : IsLaidOut L) (pr
         is = (laid.each q a (OneItem item) unit at).is;
         at = at;
         next = ap A (sym (behind_item L q item unit)) ∙ h.next;
-        stands = subst (λ x. StandAt program parts out a (bytes_from parts.text (a - x) h.size)) start st;
+        stands = stands_there q a (OneItem item) h;
         written = h.written;
       }))
 
+  -- the places after a place
+  places_on : (k : ℕ) (q : Place) → place_on program q k ≡ after_items p.objects k q
+  places_on zero q = refl
+  places_on (suc k) q = ap (λ (f : Place → Place). place_on program (f q) k) shows.next ∙ places_on k (next_at p.objects q)
+
+  -- a group
+  group_laid :
+      gather_fault L.inputs ≡ None → (q : Place) (a : ℕ) (g : Group) → A q ≡ Some a → L.unit q ≡ Some (OneGroup g)
+      → HoldsUnit L parts.text (q, a) (OneGroup g) → GroupLaid program here q a g.items (commits_in g)
+  group_laid none q a g at unit h =
+      let lies = laid.each q a (OneGroup g) unit at in
+      let known = group_known L.inputs none q g lies.is in
+      let size : h.size ≡ group_size g = sym (size_is L q a h.size at h.next) ∙ size_is L q a lies.size at lies.next ∙ lies.form in
+      let last : behind L q ≡ after_items p.objects g.items q = ap (λ u. after_items p.objects (option_map_or unit_items u 1) q) unit in
+      record {
+        kind = known.kind;
+        is = known.is;
+        ops = known.ops program shows.item shows.next;
+        items_are = known.items;
+        commits_are = commits_are g known.kind known.rest;
+        end = a + h.size;
+        at = group_at program parts out g known.kind known.half known.rest a h.size (bytes_from parts.text (a - L.inputs.map.text) h.size) size
+            (stands_there q a (OneGroup g) h) h.written;
+        inside = λ k some few. ap here.address (places_on k q) ∙ listed_at (after_items p.objects k q) ∙ (lies.inside k some few).1;
+        next = ap here.address (places_on g.items q) ∙ listed_at (after_items p.objects g.items q) ∙ ap A (sym last) ∙ h.next;
+      }
+
   -- each listed place's stretch
-  pub each : All (HoldsPlace L parts.text) parts.places → (q : Place) (a : ℕ) → here.address q ≡ Some a → StretchLaid program here q a (stretch_in L q)
-  each holds q a listed = by (sym (listed_at q) ∙ listed) (L.unit q) refl
+  pub each :
+      gather_fault L.inputs ≡ None → All (HoldsPlace L parts.text) parts.places → (q : Place) (a : ℕ) → here.address q ≡ Some a
+      → StretchLaid program here q a (stretch_in L q)
+  each none holds q a listed = by (sym (listed_at q) ∙ listed) (L.unit q) refl
     where
       by : A q ≡ Some a → (u : Option CodeUnit) → L.unit q ≡ u → StretchLaid program here q a (stretch_of (size_in L q) u)
       by at None unit = subst (ItemLaid program here q a) (λ j. sym shows.item j q) (nothing_there q a at unit (item_at p q) refl)
       by at (Some (OneItem item)) unit =
           unit_laid q a item at unit (found_holds (HoldsPlace L parts.text) parts.places q a holds listed (OneItem item) unit)
+      by at (Some (OneGroup g)) unit =
+          group_laid none q a g at unit (found_holds (HoldsPlace L parts.text) parts.places q a holds listed (OneGroup g) unit)
 
   -- places with room of their own have addresses of their own
   pub distinct : (q r : Place) (a : ℕ) → is_solid (program.item q) ≡ true → is_solid (program.item r) ≡ true → here.address q ≡ Some a → here.address r ≡ Some a → q ≡ r

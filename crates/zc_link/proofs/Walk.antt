@@ -7,7 +7,7 @@ use Rattle.std.specs.Option.{is_some, option_map, option_map_or, unwrap_or}
 use Rattle.std.proofs.lemmas.List.{append-nil, length-map, map-append}
 use Rattle.std.proofs.lemmas.List.Concat.{flat_map-append}
 use Rattle.std.proofs.lemmas.List.Sums.{fold-append}
-use Rattle.std.proofs.lemmas.Option.{slice_get-map, slice_get_read, slice_get_within}
+use Rattle.std.proofs.lemmas.Option.{same_Some, slice_get-map, slice_get_read, slice_get_within}
 use Rattle.zc_base.specs.declared.place.Place.{Place}
 use Rattle.elf32_read.specs.Parts.{SectionParts, is_code_section}
 use Rattle.psabi_sym.specs.Faults.{gather_fault}
@@ -27,13 +27,13 @@ use Rattle.block_cut.proofs.TextLaws.{place_number}
 use Rattle.block_cut.proofs.WordLaws.{IsCodeHere, code_here, target_got}
 use Rattle.shrink_layout.specs.Invariants.Numbers.{HasPlace}
 use Rattle.shrink_layout.specs.Units.{CodeUnit, OneItem, unit_items}
-use Rattle.zc_link.specs.LaidOut.{IsLaidOut, code_end_after, laid_section_end}
-use Rattle.zc_link.specs.Standing.{BeginsSection, IsReady, StandsHere, WrittenHere}
+use Rattle.zc_link.specs.LaidOut.{HasNoAddress, IsLaidOut, code_end_after, laid_section_end}
+use Rattle.zc_link.specs.Standing.{BeginsSection, IsReady, StandsHere, StartsHere, UnitHere}
 use Rattle.zc_link.specs.TextLayout.{TextLayout, behind, front_end}
 use Rattle.zc_link.specs.Written.{IsSoFar, IsTextOf}
 use Rattle.zc_link.specs.Pace.{bytes_between}
-use Rattle.zc_link.proofs.Grows.{so_far_end, so_far_item}
-use Rattle.zc_link.proofs.LaidLaws.{unit_is}
+use Rattle.zc_link.proofs.Grows.{so_far_end, so_far_inside, so_far_unit}
+use Rattle.zc_link.proofs.LaidLaws.{address_small, unit_some}
 use Rattle.zc_link.proofs.Faultless.{leader_listed}
 use Rattle.zc_link.proofs.Led.{first_leader}
 use Rattle.zc_link.proofs.Standing.{item_own, item_stands}
@@ -72,12 +72,14 @@ abbrev pub GivesAddress : TextLayout → ℕ → ℕ → ℕ → Type 0
 GivesAddress L k i given =
     (q : Place) (a : ℕ) → L.address q ≡ Some a → IsPlaceNumber (parsed L.inputs).objects q (record { section = k; index = i }) → given ≡ a
 
--- after so many places of a section, at the next of them
+-- after so many places of a section, at the next of them: so many items on, behind those that are inside a group, the text ends
 pub record Walks (L : TextLayout) (k : ℕ) (l : IndexedSection) (i : ℕ) (text : List ℕ) (places : List (Place × ℕ)) : Type 0 where
   pub offset : ℕ
   pub target : IsTarget l.section offset
   pub index : i ≡ index_on l.section offset
-  pub address : L.address (place_of l offset) ≡ Some (L.inputs.map.text + length text)
+  pub left : ℕ
+  pub ahead : L.address (after_items (parsed L.inputs).objects left (place_of l offset)) ≡ Some (L.inputs.map.text + length text)
+  pub inside : (j : ℕ) → j < left → HasNoAddress L (after_items (parsed L.inputs).objects j (place_of l offset))
   pub so_far :
       IsSoFar L (flat_map targets_of (before L k) ++ map (place_of l) (starts_before l.section offset)) (L.inputs.map.text + length text) text places
 
@@ -128,10 +130,17 @@ module _
       cc (sym got ∙ found)
 
   -- so few
+  pub number_few : (i n : ℕ) → i ≡ index_on s n → IsTarget s n → (i < length (targets_in s)) × (i + 1 < 2 ^ 32)
+  number_few i n index target =
+      let within = slice_get_within (targets_in s) (index_on s n) n (target_got s code there.whole n (either s n target)) in
+      (omega (arith, within, index), omega (arith, within, index, length-append (starts_in s) (length s.bytes ∷ []), starts_few s, there.whole.short))
+
   pub index_few : (i : ℕ) (text : List ℕ) (places : List (Place × ℕ)) → Walks L k l i text places → (i < length (targets_in s)) × (i + 1 < 2 ^ 32)
-  index_few i text places walks =
-      let within = slice_get_within (targets_in s) (index_on s walks.offset) walks.offset (target_got s code there.whole walks.offset (either s walks.offset walks.target)) in
-      (omega (arith, within, walks.index), omega (arith, within, walks.index, length-append (starts_in s) (length s.bytes ∷ []), starts_few s, there.whole.short))
+  index_few i text places walks = number_few i walks.offset walks.index walks.target
+
+  -- a text that is on its way is short
+  pub text_small : (i : ℕ) (text : List ℕ) (places : List (Place × ℕ)) → Walks L k l i text places → start + length text < 2 ^ 32
+  text_small i text places walks = address_small L ready.is_map laid (after_items p.objects walks.left (place_of l walks.offset)) (start + length text) walks.ahead
 
   -- ---- an item
 
@@ -147,7 +156,7 @@ module _
         ap (λ t. starts_on t n) (sym same) ∙ own.start
 
     -- the next place is a target, with the next number
-    abbrev after : ℕ
+    abbrev pub after : ℕ
     after = n + size_on s n
 
     pub after_target : IsTarget s after
@@ -162,11 +171,8 @@ module _
     next_is : next_at p.objects q ≡ place_of l after
     next_is = ap (λ o. record q { offset = n + option_map_or (λ t. size_on t n) o 4 }) (there.at n)
 
-    -- what is written there
-    module _ (a : ℕ) (listed : L.address q ≡ Some a) where
-      pub unit : L.unit q ≡ Some (OneItem item)
-      unit = unit_is L ready.is_map laid q item a is listed
-
+    -- what is written there, if it is written by itself
+    module _ (unit : L.unit q ≡ Some (OneItem item)) (a : ℕ) (listed : L.address q ≡ Some a) where
       behind_is : behind L q ≡ place_of l after
       behind_is = ap (λ u. after_items p.objects (option_map_or unit_items u 1) q) unit ∙ next_is
 
@@ -189,6 +195,7 @@ module _
             behind_there = lies.next;
             stands = record {
               is = is;
+              unit = unit;
               size = item_own L.inputs none ready L.address laid.leaders q item is;
               within = omega (arith, st.inside, own);
               stands = (item_stands L.inputs none ready L.address laid.leaders q s (there.at n) item is).0;
@@ -211,7 +218,9 @@ module _
         offset = 0;
         target = start_first s code there.whole;
         index = sym (ap length none_before);
-        address = ap (λ m. L.address (place_of m 0)) (sym same) ∙ begins.listed ∙ ap Some (sym begins.so_far.ends);
+        left = 0;
+        ahead = ap (λ m. L.address (place_of m 0)) (sym same) ∙ begins.listed ∙ ap Some (sym begins.so_far.ends);
+        inside = λ j few. absurd (omega (arith, few));
         so_far = subst (λ ts. IsSoFar L ts (start + length text) text places) targets
             (subst (λ e. IsSoFar L all e text places) (sym begins.so_far.ends) begins.so_far);
       }
@@ -226,29 +235,85 @@ module _
     abbrev all : List Place
     all = flat_map targets_of (before L k)
 
-    -- one item more
-    pub walk_steps :
-        (item : Item) (is : item_at p here ≡ Some item) (bytes : List ℕ)
-        → WrittenHere L s.bytes here item a (takes_here walks.offset item is a walks.address).size bytes
-        → Walks L k l (i + 1) (text ++ bytes) (places ++ (here, a) ∷ [])
-    walk_steps item is bytes written =
+    -- one place more has one item more before it
+    targets_more :
+        (item : Item) → item_at p here ≡ Some item
+        → (all ++ map (place_of l) (starts_before s walks.offset)) ++ here ∷ []
+        ≡ all ++ map (place_of l) (starts_before s (walks.offset + size_on s walks.offset))
+    targets_more item is =
         let n = walks.offset in
-        let takes = takes_here n item is a walks.address in
-        let next = after n item is in
-        let far : a + takes.size ≡ start + length (text ++ bytes) = omega (arith, length-append text bytes, written.long) in
-        let grown = so_far_item L s here item takes.size (all ++ map (place_of l) (starts_before s n)) a text bytes places (there.at n)
-        (unit n item is a walks.address) walks.address takes.behind_there (laid.low here a walks.address) written walks.so_far in
-        let targets : (all ++ map (place_of l) (starts_before s n)) ++ here ∷ [] ≡ all ++ map (place_of l) (starts_before s next) =
         append_assoc all (map (place_of l) (starts_before s n)) (here ∷ [])
         ∙ ap (λ ps. all ++ ps) (sym (map-append (place_of l) (starts_before s n) (n ∷ [])))
-        ∙ ap (λ ns. all ++ map (place_of l) ns) (sym (after_before n item is)) in
+        ∙ ap (λ ns. all ++ map (place_of l) ns) (sym (after_before n item is))
+
+    -- a place with an address isn't inside a group
+    not_inside : (b : ℕ) → L.address here ≡ Some b → walks.left ≡ 0
+    not_inside b listed = by walks.left walks.inside
+      where
+        by : (n : ℕ) → ((j : ℕ) → j < n → HasNoAddress L (after_items p.objects j here)) → n ≡ 0
+        by zero inside = refl
+        by (suc n) inside = absurd (cc (listed, (inside 0 (omega arith)).1))
+
+    -- nor is one where no item starts
+    not_start : item_at p here ≡ None → walks.left ≡ 0
+    not_start last = by walks.left walks.inside
+      where
+        by : (n : ℕ) → ((j : ℕ) → j < n → HasNoAddress L (after_items p.objects j here)) → n ≡ 0
+        by zero inside = refl
+        by (suc n) inside =
+            let start = ap (λ o. option_map_or (λ t. starts_on t walks.offset) o false) (sym (there.at walks.offset)) ∙ (inside 0 (omega arith)).0 in
+            absurd (cc (item_there p here s (there.at walks.offset) start, last))
+
+    -- there the text ends
+    ends_here : walks.left ≡ 0 → L.address here ≡ Some a
+    ends_here first = ap (λ n. L.address (after_items p.objects n here)) (sym first) ∙ walks.ahead
+
+    -- a unit more
+    pub walk_steps :
+        (item : Item) → item_at p here ≡ Some item → (bytes : List ℕ) → UnitHere L s.bytes here a bytes
+        → Walks L k l (i + 1) (text ++ bytes) (places ++ (here, a) ∷ [])
+    walk_steps item is bytes unit =
+        let n = walks.offset in
+        let next = after n item is in
+        let count = unit_items unit.unit - 1 in
+        let items : unit_items unit.unit ≡ suc count = omega (arith, unit_some L laid here unit.unit unit.is) in
+        let lies = laid.each here a unit.unit unit.is unit.address in
+        let far : a + length bytes ≡ start + length (text ++ bytes) = omega (arith, length-append text bytes) in
+        let grown = so_far_unit L s here unit.unit (length bytes) (all ++ map (place_of l) (starts_before s n)) a text bytes places (there.at n)
+        unit.is unit.address unit.next (laid.low here a unit.address) unit.written walks.so_far in
+        let behind_it : behind L here ≡ after_items p.objects count (place_of l next) =
+        ap (λ u. after_items p.objects (option_map_or unit_items u 1) here) unit.is ∙ ap (λ m. after_items p.objects m here) items
+        ∙ ap (after_items p.objects count) (next_is n item is) in
         record {
           offset = next;
           target = after_target n item is;
           index = after_index n item is i walks.index;
-          address = takes.next ∙ ap Some far;
-          so_far = subst (λ ts. IsSoFar L ts (start + length (text ++ bytes)) (text ++ bytes) (places ++ (here, a) ∷ [])) targets grown;
+          left = count;
+          ahead = ap L.address (sym behind_it) ∙ unit.next ∙ ap Some far;
+          inside = λ j few. subst (λ r. HasNoAddress L (after_items p.objects j r)) (next_is n item is) (lies.inside (suc j) (omega arith) (omega (arith, few, items)));
+          so_far = subst (λ ts. IsSoFar L ts (start + length (text ++ bytes)) (text ++ bytes) (places ++ (here, a) ∷ [])) (targets_more item is) grown;
         }
+
+    -- a place inside a group
+    pub walk_inside : (item : Item) → item_at p here ≡ Some item → L.address here ≡ None → Walks L k l (i + 1) text places
+    walk_inside item is nowhere = by walks.left walks.ahead walks.inside
+      where
+        by : (m : ℕ) → L.address (after_items p.objects m here) ≡ Some a → ((j : ℕ) → j < m → HasNoAddress L (after_items p.objects j here))
+            → Walks L k l (i + 1) text places
+        by zero ahead inside = absurd (cc (ahead, nowhere))
+        by (suc m) ahead inside =
+            let n = walks.offset in
+            let next = after n item is in
+            record {
+              offset = next;
+              target = after_target n item is;
+              index = after_index n item is i walks.index;
+              left = m;
+              ahead = ap (λ r. L.address (after_items p.objects m r)) (sym (next_is n item is)) ∙ ahead;
+              inside = λ j few. subst (λ r. HasNoAddress L (after_items p.objects j r)) (next_is n item is) (inside (suc j) (omega (arith, few)));
+              so_far = subst (λ ts. IsSoFar L ts a text places) (targets_more item is)
+                  (so_far_inside L here (all ++ map (place_of l) (starts_before s n)) a text places nowhere walks.so_far);
+            }
 
     -- at its end
     pub walk_ends : item_at p here ≡ None → After L k l (i + 1) text (places ++ (here, a) ∷ [])
@@ -275,7 +340,7 @@ module _
         by (inl start) = absurd (cc (item_there p here s (there.at walks.offset) start, last))
         by (inr over) =
             let end_is : here ≡ place_of l (length s.bytes) = ap (place_of l) over in
-            let grown = so_far_end L here (all ++ map (place_of l) (starts_before s walks.offset)) a text places (nothing (starts_on s walks.offset) refl) walks.address walks.so_far in
+            let grown = so_far_end L here (all ++ map (place_of l) (starts_before s walks.offset)) a text places (nothing (starts_on s walks.offset) refl) (ends_here (not_start last)) walks.so_far in
             let those : starts_before s walks.offset ≡ starts_in s = ap (starts_before s) over ∙ before_end_all s code there.whole in
             let later : before L (k + 1) ≡ before L k ++ l ∷ [] = take_next (all_sections p.objects) k l at in
             let own : targets_of l ≡ map (place_of l) (targets_in s) = ap (λ b. cond b (map (place_of l) (targets_in s)) []) code in
@@ -287,7 +352,7 @@ module _
             ∙ ap (flat_map targets_of) (sym later) in
             let old_end = code_end_after L (before L k) in
             let ends : a ≡ code_end_after L (before L (k + 1)) =
-            sym (ap (λ o. unwrap_or o old_end) (ap L.address (sym end_is) ∙ walks.address))
+            sym (ap (λ o. unwrap_or o old_end) (ap L.address (sym end_is) ∙ (ends_here (not_start last))))
             ∙ sym (ap (λ b. cond b (unwrap_or (L.address (place_of l (length s.bytes))) old_end) old_end) code)
             ∙ sym (fold-append (laid_section_end L) (front_end L) (before L k) (l ∷ []))
             ∙ ap (code_end_after L) (sym later) in
@@ -323,6 +388,23 @@ module _
         (subst (λ m. IsPlaceNumber p.objects (place_of l walks.offset) (record { section = k; index = m })) (sym walks.index)
         (number_there walks.offset walks.target))
 
+    pub turn_starts : (item : Item) → item_at p q ≡ Some item → StartsHere L (record { section = k; index = i }) code_bytes q item
+    turn_starts item is = record {
+      section = l;
+      listed = at;
+      code = code;
+      own = code_is;
+      offset = walks.offset;
+      place = place_is;
+      index = walks.index;
+      is = is;
+    }
+
+    pub turn_address : (b : ℕ) → L.address q ≡ Some b → address ≡ b
+    turn_address b listed =
+        let here_listed = ap L.address place_is ∙ listed in
+        sym address_is ∙ same_Some (start + length text) b (sym (ends_here i text places walks (not_inside i text places walks b here_listed)) ∙ here_listed)
+
     pub turn_ends : item_at p q ≡ None → After L k l (i + 1) text (places ++ (q, address) ∷ [])
     turn_ends last =
         subst (λ e. After L k l (i + 1) text (places ++ e ∷ [])) (λ j. (place_is j, address_is j))
@@ -332,47 +414,16 @@ module _
       abbrev here_is : item_at p (place_of l walks.offset) ≡ Some item
       here_is = ap (item_at p) place_is ∙ is
 
-      abbrev takes : TakesHere walks.offset item here_is (start + length text) walks.address
-      takes = takes_here walks.offset item here_is (start + length text) walks.address
+      pub turn_steps : (bytes : List ℕ) → UnitHere L code_bytes q address bytes → Walks L k l (i + 1) (text ++ bytes) (places ++ (q, address) ∷ [])
+      turn_steps bytes unit =
+          subst (λ e. Walks L k l (i + 1) (text ++ bytes) (places ++ e ∷ [])) (λ j. (place_is j, address_is j))
+          (walk_steps i text places walks item here_is bytes
+          (subst (λ c. UnitHere L c (place_of l walks.offset) (start + length text) bytes) (sym code_is)
+          (subst (λ r. UnitHere L code_bytes r (start + length text) bytes) (sym place_is)
+          (subst (λ x. UnitHere L code_bytes q x bytes) (sym address_is) unit))))
 
-      -- the next place has the next number
-      pub turn_has : HasPlace p.objects (record { section = k; index = i + 1 })
-      turn_has = has_place (after walks.offset item here_is) (i + 1) (after_index walks.offset item here_is i walks.index) (after_target walks.offset item here_is)
-
-      -- and its address ends the item
-      module _
-          (next : ℕ)
-          (found : GivesAddress L k (i + 1) next) where
-        next_far : next ≡ address + takes.size
-        next_far =
-            let n = after walks.offset item here_is in
-            let target = after_target walks.offset item here_is in
-            let number = subst (λ m. IsPlaceNumber p.objects (place_of l n) (record { section = k; index = m })) (sym (after_index walks.offset item here_is i walks.index)) (number_there n target) in
-            found (place_of l n) (start + length text + takes.size) takes.next number ∙ ap (λ x. x + takes.size) address_is
-
-        pub turn_above : address ≤ next
-        turn_above = omega (arith, next_far)
-
-        size_is : takes.size ≡ next - address
-        size_is = omega (arith, next_far)
-
-        pub turn_stands : StandsHere L code_bytes q item address (next - address)
-        turn_stands =
-            subst (StandsHere L code_bytes q item address) size_is
-            (subst (λ x. StandsHere L code_bytes q item x takes.size) address_is
-            (subst (λ r. StandsHere L code_bytes r item (start + length text) takes.size) place_is
-            (subst (λ c. StandsHere L c (place_of l walks.offset) item (start + length text) takes.size) code_is takes.stands)))
-
-        pub turn_steps :
-            (bytes : List ℕ) → WrittenHere L code_bytes q item address (next - address) bytes
-            → Walks L k l (i + 1) (text ++ bytes) (places ++ (q, address) ∷ [])
-        turn_steps bytes written =
-            subst (λ e. Walks L k l (i + 1) (text ++ bytes) (places ++ e ∷ [])) (λ j. (place_is j, address_is j))
-            (walk_steps i text places walks item here_is bytes
-            (subst (λ c. WrittenHere L c (place_of l walks.offset) item (start + length text) takes.size bytes) (sym code_is)
-            (subst (λ r. WrittenHere L code_bytes r item (start + length text) takes.size bytes) (sym place_is)
-            (subst (λ x. WrittenHere L code_bytes q item x takes.size bytes) (sym address_is)
-            (subst (λ m. WrittenHere L code_bytes q item address m bytes) (sym size_is) written)))))
+      pub turn_inside : L.address q ≡ None → Walks L k l (i + 1) text places
+      turn_inside nowhere = walk_inside i text places walks item here_is (ap L.address place_is ∙ nowhere)
 
 -- ---- in the code
 

@@ -1,5 +1,5 @@
 -- What a link needs of a layout: where the places of code lie, and how many bytes what is written at each takes.
-use Rattle.std.specs.Prelude.{◌≡◌, ℕ, ℤ, pos, ◌-ℤ◌, ◌+◌, ◌%◌, ◌≤◌, ◌⊎◌, ◌&&◌, true, false, IsTrue, if◌then◌else◌, List, [], length, Option, Some}
+use Rattle.std.specs.Prelude.{◌≡◌, ℕ, ℤ, pos, ◌-ℤ◌, ◌+◌, ◌%◌, ◌<◌, ◌≤◌, ◌⊎◌, ◌&&◌, true, false, IsTrue, if◌then◌else◌, List, [], length, Option, Some, None}
 use Rattle.std.specs.List.{fold}
 use Rattle.std.specs.Option.{is_some, option_map_or, unwrap_or}
 use Rattle.zc_base.specs.declared.place.Place.{Place}
@@ -13,14 +13,16 @@ use Rattle.rv_decode.specs.declared.instr.Instr.{Instr}
 use Rattle.rv_decode.specs.declared.instr.Instr.TheVariants as instr
 use Rattle.rv_decode.specs.Bits.{as_signed}
 use Rattle.block_cut.specs.Invariants.Cut.{place_at}
-use Rattle.block_cut.specs.Items.{entry_of, is_start_at, is_target_at, item_at, place_of}
+use Rattle.block_cut.specs.Items.{after_items, entry_of, is_start_at, is_target_at, item_at, place_of}
 use Rattle.block_cut.specs.Leaders.{is_leader_at}
 use Rattle.block_cut.specs.declared.item.Item.{Item}
 use Rattle.block_cut.specs.declared.item.Item.TheVariants.{Op, Hi, Lo, PcHi, PcLo, Branch, Jump, Call, Align, Word, Raw, RawPair}
+use Rattle.frame_match.specs.Groups.{role_at}
+use Rattle.frame_match.specs.declared.role.Role.TheVariants.{First}
 use Rattle.sym_machine.specs.Conditions.{is_solid}
 use Rattle.shrink_layout.specs.Halves.{fixed_instr}
-use Rattle.shrink_layout.specs.Pieces.{is_short}
-use Rattle.shrink_layout.specs.Units.{CodeUnit, OneItem}
+use Rattle.shrink_layout.specs.Pieces.{group_size, is_short}
+use Rattle.shrink_layout.specs.Units.{CodeUnit, OneGroup, OneItem, unit_items}
 use Rattle.zc_link.specs.TextLayout.{TextLayout, behind, front_end}
 use Rattle.zc_link.specs.Values.{way}
 
@@ -63,22 +65,30 @@ HasForm A a n (Word t) = n ≡ 4
 HasForm A a n (Raw word) = n ≡ 4
 HasForm A a n (RawPair first second) = n ≡ 8
 
--- what is written at a place is the item that starts there
+-- what is written at a place is the item that starts there, or the group whose first item that is
 abbrev pub IsUnitAt : ParsedInputs → Place → CodeUnit → Type 0
 IsUnitAt inputs q (OneItem i) = item_at inputs q ≡ Some i
+IsUnitAt inputs q (OneGroup g) = role_at inputs q ≡ Some (First g)
 
 -- it may take n bytes at an address
 abbrev pub UnitForm : (Place → Option ℕ) → ℕ → ℕ → CodeUnit → Type 0
 UnitForm A a n (OneItem i) = HasForm A a n i
+UnitForm A a n (OneGroup g) = n ≡ group_size g
 
 -- ---- layouts
 
--- what is written at a place takes the bytes up to the place behind it, in a form that it may have there
+-- a place inside a group: an item starts there, and it has no address
+abbrev pub HasNoAddress : TextLayout → Place → Type 0
+HasNoAddress L q = (is_start_at (parsed L.inputs).objects q ≡ true) × (L.address q ≡ None)
+
+-- what is written at a place takes the bytes up to the place behind it, in a form that it may have there; the places of its further
+-- items have no addresses
 pub record LiesAt (L : TextLayout) (q : Place) (a : ℕ) (u : CodeUnit) : Type 0 where
   pub is : IsUnitAt (parsed L.inputs) q u
   pub size : ℕ
   pub next : L.address (behind L q) ≡ Some (a + size)
   pub form : UnitForm L.address a size u
+  pub inside : (k : ℕ) → 0 < k → k < unit_items u → HasNoAddress L (after_items (parsed L.inputs).objects k q)
 
 -- where the code of a section ends, or what stands before it if it isn't code
 abbrev pub laid_section_end : TextLayout → ℕ → IndexedSection → ℕ

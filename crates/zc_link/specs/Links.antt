@@ -56,7 +56,8 @@ pub record Simulates (L : TextLayout) (elf : List ℕ) : Type 0 where
 
 -- an image of the inputs in a layout, whose text ends at an address: it has the parts laid out for the objects; it does what the
 -- objects' program does, under every plan of interrupts, step by step; what it copies is the objects'; it lists the places that
--- have an address, in both layouts those where an item starts or a section of code ends; and its text ends there
+-- have an address: those where an item starts or a section of code ends, but in a layout with groups none inside a group; and its
+-- text ends there
 pub record IsImageOf (L : TextLayout) (flags end : ℕ) (elf : List ℕ) : Type 0 where
   pub parts : HasParts L flags elf
   pub preserves : Preserves L.inputs elf

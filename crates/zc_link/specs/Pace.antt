@@ -3,7 +3,8 @@ use Rattle.std.specs.Prelude.{ℕ, ◌+◌, ◌-◌, ◌/◌, ◌%◌, Bool, tru
 use Rattle.zc_base.specs.declared.place.Place.{Place}
 use Rattle.rv_decode.specs.declared.instr.BranchOp.{BranchOp}
 use Rattle.block_cut.specs.declared.item.Item.TheVariants.{Branch, Call, Align}
-use Rattle.shrink_layout.specs.Units.{CodeUnit, OneItem}
+use Rattle.frame_match.specs.declared.group.Group.{Group}
+use Rattle.shrink_layout.specs.Units.{CodeUnit, OneGroup, OneItem}
 use Rattle.sym_machine.specs.Conditions.{condition}
 use Rattle.sym_machine.specs.Program.{Program}
 use Rattle.sym_machine.specs.State.{PlainCore, reg_of}
@@ -63,11 +64,16 @@ bytes_between (Some a) (Some b) = b - a
 abbrev pub padding_commits : ℕ → ℕ
 padding_commits n = n / 4 + n % 4 / 2
 
+-- the instructions of a group: one, or two if one doesn't move sp by all of its frame
+abbrev pub commits_in : Group → ℕ
+commits_in g = if g.rest == 0 then 1 else 2
+
 -- what is written in n bytes
 abbrev pub stretch_of : ℕ → Option CodeUnit → Stretch
 stretch_of n (Some (OneItem (Branch op first second to))) = if n == 8 then LongOf op first second else Alone
 stretch_of n (Some (OneItem (Call rd temp to))) = if n == 8 then CallOf else Alone
 stretch_of n (Some (OneItem (Align bytes))) = AlignOf (padding_commits n)
+stretch_of n (Some (OneGroup g)) = GroupOf g.items (commits_in g)
 stretch_of n _ = Alone
 
 -- ---- the start

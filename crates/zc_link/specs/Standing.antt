@@ -1,6 +1,7 @@
 -- What is known of an item where it stands in its object, before it is written at its address in a layout.
-use Rattle.std.specs.Prelude.{◌≡◌, ℕ, ℤ, ◌+◌, ◌%◌, ◌<◌, ◌≤◌, ◌||◌, List, length, slice_get, slice_index, take, Bool, true, false, Option, Some, None}
+use Rattle.std.specs.Prelude.{◌≡◌, ℕ, ℤ, ◌+◌, ◌%◌, ◌<◌, ◌≤◌, ◌||◌, IsTrue, List, length, slice_get, slice_index, take, Bool, true, false, Option, Some, None}
 use Rattle.std.specs.List.{flat_map}
+use Rattle.std.specs.Option.{is_some}
 use Rattle.zc_base.specs.MemMap.{IsMap}
 use Rattle.zc_base.specs.declared.place.Place.{Place}
 use Rattle.elf32_read.specs.Parts.{is_code_section}
@@ -12,14 +13,19 @@ use Rattle.rv_decode.specs.declared.instr.Instr.{Instr}
 use Rattle.rv_decode.specs.declared.instr.Instr.TheVariants as instr
 use Rattle.rv_decode.specs.declared.instr.UpperOp.TheVariants.{Auipc}
 use Rattle.block_cut.specs.Faults.{first_fault}
-use Rattle.block_cut.specs.Items.{item_at, place_of, size_at, targets_of}
+use Rattle.block_cut.specs.Items.{index_on, item_at, place_of, size_at, targets_of}
 use Rattle.block_cut.specs.Relocs.{instr_in}
+use Rattle.block_cut.specs.declared.place_number.PlaceNumber.{PlaceNumber}
 use Rattle.block_cut.specs.declared.item.Item.{Item}
 use Rattle.block_cut.specs.declared.item.Item.TheVariants.{Op, Hi, Lo, PcHi, PcLo, Branch, Jump, Call, Align, Word, Raw, RawPair}
+use Rattle.shrink_layout.specs.Units.{CodeUnit, OneItem}
+use Rattle.zc_decode.specs.declared.short.Short.{Short}
+use Rattle.zc_decode.specs.declared.short.Short.TheVariants.{Base, MoveAs, MoveSa, Pop, PopRet, PopRetz, Push, TableJump}
+use Rattle.zc_encode.specs.Halves.{encoded16}
 use Rattle.zc_link.specs.Copied.{bytes_from}
 use Rattle.zc_link.specs.LaidOut.{HasForm}
-use Rattle.zc_link.specs.TextLayout.{TextLayout, size_in}
-use Rattle.zc_link.specs.Written.{IsSoFar, IsWritten}
+use Rattle.zc_link.specs.TextLayout.{TextLayout, behind, size_in}
+use Rattle.zc_link.specs.Written.{IsSoFar, UnitWritten}
 use Rattle.zc_link.specs.Values.{target_value}
 
 -- inputs that are linked: no fault stands in them, and the map is one that a link may be made for
@@ -103,9 +109,10 @@ HasOwnSize (Align n) own = own ≡ n
 HasOwnSize (RawPair first second) own = own ≡ 8
 HasOwnSize other own = own ≡ 4
 
--- an item stands at a place of code with these bytes, in which it lies, and is written at an address in n bytes
+-- an item stands at a place of code with these bytes, in which it lies, and is written by itself at an address in n bytes
 pub record StandsHere (L : TextLayout) (code : List ℕ) (q : Place) (item : Item) (a n : ℕ) : Type 0 where
   pub is : item_at (parsed L.inputs) q ≡ Some item
+  pub unit : L.unit q ≡ Some (OneItem item)
   pub size : HasOwnSize item (size_at (parsed L.inputs).objects q)
   pub within : q.offset + size_at (parsed L.inputs).objects q ≤ length code
   pub stands :
@@ -115,11 +122,47 @@ pub record StandsHere (L : TextLayout) (code : List ℕ) (q : Place) (item : Ite
   pub even : n % 2 ≡ 0
   pub form : HasForm L.address a n item
 
--- these bytes are what is written for it
-pub record WrittenHere (L : TextLayout) (code : List ℕ) (q : Place) (item : Item) (a n : ℕ) (bytes : List ℕ) : Type 0 where
+-- ---- units
+
+-- what no word spells
+abbrev pub HasNoWord : Short → Type 0
+HasNoWord (Base i) = ⊥
+HasNoWord (Push list adjust) = Unit {0}
+HasNoWord (Pop list adjust) = Unit {0}
+HasNoWord (PopRet list adjust) = Unit {0}
+HasNoWord (PopRetz list adjust) = Unit {0}
+HasNoWord (MoveSa first second) = Unit {0}
+HasNoWord (MoveAs first second) = Unit {0}
+HasNoWord (TableJump index) = Unit {0}
+
+-- a halfword alone spells it
+abbrev pub HasHalf : Short → Type 0
+HasHalf short = HasNoWord short × IsTrue (is_some (encoded16 short))
+
+-- these bytes are what is written for an item or a group
+pub record WrittenHere (L : TextLayout) (code : List ℕ) (q : Place) (u : CodeUnit) (a n : ℕ) (bytes : List ℕ) : Type 0 where
   pub long : length bytes ≡ n
-  pub written : IsWritten L.address (item_at (parsed L.inputs)) (bytes_from code q.offset) a n item bytes
+  pub written : UnitWritten L.address (item_at (parsed L.inputs)) (bytes_from code q.offset) a n u bytes
   pub octets : (k : ℕ) → slice_index bytes k < 256
+
+-- an item starts at a place of a section of code with these bytes, which has this number among all
+pub record StartsHere (L : TextLayout) (number : PlaceNumber) (bytes : List ℕ) (q : Place) (item : Item) : Type 0 where
+  pub section : IndexedSection
+  pub listed : slice_get (all_sections (parsed L.inputs).objects) number.section ≡ Some section
+  pub code : is_code_section section.section ≡ true
+  pub own : section.section.bytes ≡ bytes
+  pub offset : ℕ
+  pub place : place_of section offset ≡ q
+  pub index : number.index ≡ index_on section.section offset
+  pub is : item_at (parsed L.inputs) q ≡ Some item
+
+-- these bytes are what is written at a place with an address, up to that of the place behind it
+pub record UnitHere (L : TextLayout) (code : List ℕ) (q : Place) (a : ℕ) (bytes : List ℕ) : Type 0 where
+  pub unit : CodeUnit
+  pub is : L.unit q ≡ Some unit
+  pub address : L.address q ≡ Some a
+  pub next : L.address (behind L q) ≡ Some (a + length bytes)
+  pub written : WrittenHere L code q unit a (length bytes) bytes
 
 -- ---- sections
 

@@ -1,4 +1,5 @@
--- What is written in a layout: each item in so many bytes, with what its relocation asks for (RISC-V ELF psABI, "Relocations").
+-- What is written in a layout: each item in so many bytes, with what its relocation asks for (RISC-V ELF psABI, "Relocations"), or a
+-- group of items as a push, a pop or two moves (RISC-V Zc specification 1.0, "Zcmp").
 use Rattle.std.specs.Prelude.{◌≡◌, ℕ, ℤ, pos, ◌-ℤ◌, ◌+◌, ◌-◌, ◌/◌, ◌%◌, ◌^◌, ◌<◌, ◌≤◌, ◌⊎◌, ◌==◌, if◌then◌else◌, List, [], ◌++◌, length, replicate, slice_index, take, All, Option, Some}
 use Rattle.std.specs.List.{flat_map}
 use Rattle.zc_base.specs.Fields.{half_bytes, word_bytes}
@@ -15,13 +16,16 @@ use Rattle.rv_decode.specs.declared.instr.BranchOp.{BranchOp}
 use Rattle.rv_decode.specs.declared.instr.UpperOp.TheVariants.{Auipc}
 use Rattle.rv_decode.specs.Bits.{add32}
 use Rattle.rv_decode.specs.Decode.{decoded}
+use Rattle.zc_decode.specs.Halfwords.{decoded16}
+use Rattle.zc_decode.specs.declared.short.Short.{Short}
 use Rattle.zc_decode.specs.declared.short.Short.TheVariants.{Base}
 use Rattle.zc_encode.specs.Halves.{encoded16}
 use Rattle.zca_zcb_pass.specs.Forms.{HasEffectOf, IsOpposite}
 use Rattle.block_cut.specs.Items.{code_at, item_at, targets_of}
 use Rattle.block_cut.specs.declared.item.Item.{Item}
 use Rattle.block_cut.specs.declared.item.Item.TheVariants.{Op, Hi, Lo, PcHi, PcLo, Branch, Jump, Call, Align, Word, Raw, RawPair}
-use Rattle.shrink_layout.specs.Units.{CodeUnit, OneItem}
+use Rattle.frame_match.specs.declared.group.Group.{Group}
+use Rattle.shrink_layout.specs.Units.{CodeUnit, OneGroup, OneItem, is_push, rest_instr}
 use Rattle.zc_link.specs.Copied.{bytes_from}
 use Rattle.zc_link.specs.ImageParts.{with_address}
 use Rattle.zc_link.specs.LaidOut.{code_end_after}
@@ -45,7 +49,15 @@ pub record SpellsShort (bytes : List ℕ) (i : Instr) : Type 0 where
   pub first : encoded16 (Base i) ≡ Some half
   pub same : HasEffectOf i half
 
--- n bytes that are one or the other
+-- the two bytes of the first halfword that spells something
+pub record SpellsHalf (bytes : List ℕ) (short : Short) : Type 0 where
+  pub half : ℕ
+  pub small : half < 2 ^ 16
+  pub are : bytes ≡ half_bytes half
+  pub first : encoded16 short ≡ Some half
+  pub spells : decoded16 half ≡ Some short
+
+-- n bytes of a word or a short form
 abbrev pub IsSpelled : ℕ → List ℕ → Instr → Type 0
 IsSpelled n bytes i = ((n ≡ 4) × SpellsWord bytes i) ⊎ ((n ≡ 2) × SpellsShort bytes i)
 
@@ -129,9 +141,26 @@ IsWritten A item own a n (Word t) bytes = WithValue A t (λ x. bytes ≡ word_by
 IsWritten A item own a n (Raw word) bytes = bytes ≡ own 4
 IsWritten A item own a n (RawPair first second) bytes = bytes ≡ own 8
 
+-- ---- groups
+
+-- the n bytes of a push or pop in two instructions: its halfword, and what moves sp by the rest of its frame, behind a push and before a pop
+pub record IsSplit (n : ℕ) (g : Group) (bytes : List ℕ) : Type 0 where
+  pub half : List ℕ
+  pub other : List ℕ
+  pub both : bytes ≡ (if is_push g.kind then half ++ other else other ++ half)
+  pub spells : SpellsHalf half g.kind
+  pub rest : IsSpelled (n - 2) other (rest_instr g)
+
+-- the n bytes of a group: its halfword, which moves sp by all of its frame, or two instructions
+abbrev pub IsGroupWritten : ℕ → Group → List ℕ → Type 0
+IsGroupWritten n g bytes = ((g.rest ≡ 0) × SpellsHalf bytes g.kind) ⊎ ((0 < g.rest) × IsSplit n g bytes)
+
+-- ---- units
+
 -- what is written at a place in n bytes
 abbrev pub UnitWritten : (Place → Option ℕ) → (Place → Option Item) → (ℕ → List ℕ) → ℕ → ℕ → CodeUnit → List ℕ → Type 0
 UnitWritten A item own a n (OneItem i) bytes = IsWritten A item own a n i bytes
+UnitWritten A item own a n (OneGroup g) bytes = IsGroupWritten n g bytes
 
 -- ---- text
 

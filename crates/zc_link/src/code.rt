@@ -20,6 +20,9 @@ const SHORT_NOP: u16 = 0x1;
 /// | `Half` | a halfword |
 /// | `Word` | a word |
 /// | `Pair` | two words |
+/// | `Halves` | two halfwords |
+/// | `HalfWord` | a halfword, and a word behind it |
+/// | `WordHalf` | a word, and a halfword behind it |
 /// | `Own` | the object's own bytes |
 /// | `Padding` | so many bytes of instructions that do nothing |
 #[derive(Clone, Copy)]
@@ -27,6 +30,9 @@ pub enum Code<'a> {
     Half(u16),
     Word(u32),
     Pair(u32, u32),
+    Halves(u16, u16),
+    HalfWord(u16, u32),
+    WordHalf(u32, u16),
     Own(&'a [u8]),
     Padding(u32),
 }
@@ -43,6 +49,18 @@ impl<'a> Code<'a> {
             Code::Pair(first, second) => {
                 add_word(text, first)?;
                 add_word(text, second)
+            }
+            Code::Halves(first, second) => {
+                add_half(text, first)?;
+                add_half(text, second)
+            }
+            Code::HalfWord(half, word) => {
+                add_half(text, half)?;
+                add_word(text, word)
+            }
+            Code::WordHalf(word, half) => {
+                add_word(text, word)?;
+                add_half(text, half)
             }
             Code::Own(bytes) => text.extend_from_slice(bytes),
             Code::Padding(count) => add_padding(text, count),

@@ -14,6 +14,7 @@ ghost use Rattle.rv_decode.specs.declared.instr.BranchOp.{BranchOp};
 ghost use Rattle.rv_decode.specs.declared.instr.Instr.{Instr};
 ghost use Rattle.rv_decode.specs.declared.instr.UpperOp.TheVariants.{Auipc};
 ghost use Rattle.shrink_layout.specs.Pieces.{is_short};
+ghost use Rattle.shrink_layout.specs.Units.{OneItem};
 ghost use Rattle.zc_base.specs.Fields.{half_bytes, word_bytes};
 ghost use Rattle.zc_link.specs.Codes.{code_bytes};
 ghost use Rattle.zc_link.specs.Copied.{bytes_from};
@@ -89,7 +90,7 @@ fn patched<L: Layout>(layout: &L, extent: ItemExtent, item: Item) -> u32
     requires stands { StandsHere (L.layout layout.now) extent.code.now extent.at item extent.address extent.size }
     requires patched { is_patched item ≡ true }
     requires four { extent.size ≡ 4 }
-    ensures { WrittenHere (L.layout layout.now) extent.entry.code.now extent.entry.at item
+    ensures { WrittenHere (L.layout layout.now) extent.entry.code.now extent.entry.at (OneItem item)
         extent.entry.address extent.entry.size (word_bytes result) }
 {
     let word = u32_at(extent.code, extent.at.offset as usize);
@@ -169,7 +170,7 @@ fn own_bytes(code: &[u8], offset: usize, count: usize) -> &[u8]
 pub fn item_code<'a, L: Layout>(layout: &L, extent: ItemExtent<'a>, item: Item) -> Code<'a>
     requires stands { StandsHere (L.layout layout.now) extent.code.now extent.at item extent.address extent.size }
     requires number { IsPlaceNumber (parsed (L.layout layout.now).inputs).objects extent.at extent.number }
-    ensures { WrittenHere (L.layout layout.now) extent.entry.code.now extent.entry.at item
+    ensures { WrittenHere (L.layout layout.now) extent.entry.code.now extent.entry.at (OneItem item)
         extent.entry.address extent.entry.size (code_bytes result) }
 {
     match item {

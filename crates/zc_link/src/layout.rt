@@ -1,12 +1,14 @@
 // Layouts of code, as links see them.
 
 ghost use Rattle.std.specs.Prelude.{◌≡◌, ℕ, Some, true};
-ghost use Rattle.block_cut.specs.Items.{is_target_at, item_at};
+ghost use Rattle.block_cut.specs.Items.{is_start_at, is_target_at, item_at};
 ghost use Rattle.block_cut.specs.Places.{IsPlaceNumber};
 ghost use Rattle.block_cut.specs.declared.item.Item.{Item};
+ghost use Rattle.frame_match.specs.Invariants.Marks.{HasItem};
 ghost use Rattle.psabi_sym.specs.Inputs.{parsed};
 ghost use Rattle.shrink_layout.specs.Halves.{IsHalfOf};
 ghost use Rattle.shrink_layout.specs.Invariants.Numbers.{HasPlace};
+ghost use Rattle.shrink_layout.specs.Units.{OneItem, role_unit};
 ghost use Rattle.zc_base.specs.declared.place.Place.{Place};
 ghost use Rattle.zc_link.specs.LaidOut.{IsLaidOut};
 ghost use Rattle.zc_link.specs.Standing.{IsReady};
@@ -14,6 +16,7 @@ ghost use Rattle.zc_link.specs.TextLayout.{TextLayout, plain_layout, size_in, zc
 
 use block_cut::cut::Cut;
 use block_cut::place_number::PlaceNumber;
+use frame_match::role::Role;
 use shrink_layout::settled::Settled;
 use zc_base::place::Place;
 
@@ -42,11 +45,18 @@ pub trait Layout {
         ensures { (q : Place) (address : ℕ) → (layout self.now).address q ≡ Some address
             → IsPlaceNumber (parsed (layout self.now).inputs).objects q number → result ≡ address };
 
-    /// The halfword of an item that is written in two bytes and whose instruction doesn't depend on addresses, by
+    /// What an item is to the layout's groups, by where its place stands among all.
+    fn role_at(&self, number: PlaceNumber) -> Role
+        requires { HasItem (parsed (layout self.now).inputs).objects number }
+        ensures { (q : Place) → is_start_at (parsed (layout self.now).inputs).objects q ≡ true
+            → IsPlaceNumber (parsed (layout self.now).inputs).objects q number
+            → (layout self.now).unit q ≡ role_unit (item_at (parsed (layout self.now).inputs) q) result };
+
+    /// The halfword of an item that is written by itself in two bytes and whose instruction doesn't depend on addresses, by
     /// where its place stands among all.
     fn half_at(&self, number: PlaceNumber) -> u16
         requires { HasPlace (parsed (layout self.now).inputs).objects number }
-        ensures { (q : Place) (item : Item) → item_at (parsed (layout self.now).inputs) q ≡ Some item
+        ensures { (q : Place) (item : Item) → (layout self.now).unit q ≡ Some (OneItem item)
             → IsPlaceNumber (parsed (layout self.now).inputs).objects q number → size_in (layout self.now) q ≡ 2
             → IsHalfOf item result };
 
@@ -72,6 +82,10 @@ impl Layout for Cut {
         // This call says that the cut is ready for a link.
         let cut = Layout::cut(self);
         cut.places(number.section)[number.index as usize].address
+    }
+
+    fn role_at(&self, _number: PlaceNumber) -> Role {
+        Role::Alone
     }
 
     fn half_at(&self, _number: PlaceNumber) -> u16 {
@@ -100,6 +114,10 @@ impl Layout for Settled {
 
     fn address_at(&self, number: PlaceNumber) -> u32 {
         Settled::address_at(self, number)
+    }
+
+    fn role_at(&self, number: PlaceNumber) -> Role {
+        self.planned().role_at(number)
     }
 
     fn half_at(&self, number: PlaceNumber) -> u16 {

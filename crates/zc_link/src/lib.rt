@@ -3,10 +3,12 @@
 
 mod code;
 mod extent;
+mod group;
 mod image;
 mod item;
 mod layout;
 pub mod linked;
 pub mod plain;
 mod text;
+mod unit;
 pub mod zc;

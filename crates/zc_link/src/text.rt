@@ -6,9 +6,9 @@ ghost use Rattle.psabi_sym.specs.Indexed.{all_sections};
 ghost use Rattle.zc_link.specs.Standing.{BeginsSection};
 ghost use Rattle.zc_link.specs.Written.{IsTextOf};
 
-use crate::extent::ItemExtent;
-use crate::item::item_code;
+use crate::extent::ItemStart;
 use crate::layout::Layout;
+use crate::unit::unit_code;
 use block_cut::place_number::PlaceNumber;
 use std::alloc::{AllocError, Global};
 use zc_base::place::Place;
@@ -74,7 +74,7 @@ impl Text {
         let cut = layout.cut();
         let section = cut.objects().section(k);
         let places = cut.places(k);
-        let mut address = cut.objects().map().text + self.text.len() as u32;
+        let start = cut.objects().map().text;
         for i in 0..places.len() {
             let place = &places[i];
             let at = Place {
@@ -82,22 +82,25 @@ impl Text {
                 section: section.index(),
                 offset: place.offset,
             };
-            self.places.push((at, address))?;
-            if let Some(item) = place.item {
-                let index = i as u32;
-                let next = layout.address_at(PlaceNumber {
-                    section: k,
-                    index: index + 1,
-                });
-                let extent = ItemExtent {
-                    at,
-                    number: PlaceNumber { section: k, index },
-                    code: section.bytes(),
-                    address,
-                    size: next - address,
-                };
-                item_code(layout, extent, item).add_to(&mut self.text)?;
-                address = next;
+            let address = start + self.text.len() as u32;
+            match place.item {
+                None => self.places.push((at, address))?,
+                Some(item) => {
+                    let number = PlaceNumber {
+                        section: k,
+                        index: i as u32,
+                    };
+                    let begins = ItemStart {
+                        at,
+                        number,
+                        code: section.bytes(),
+                        address,
+                    };
+                    if let Some(code) = unit_code(layout, begins, item) {
+                        self.places.push((at, address))?;
+                        code.add_to(&mut self.text)?;
+                    }
+                }
             }
         }
         Ok(())

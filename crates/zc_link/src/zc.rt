@@ -15,9 +15,10 @@ use psabi_sym::objects::Objects;
 use shrink_layout::settled::settle;
 use std::alloc::Global;
 
-/// The link of the objects, which gives each instruction the form that it has in the first round of sizes
-/// that fits, or why they aren't linked. If nothing is aligned above 4 bytes, it is the shortest. Beside the
-/// rounds it takes time near-linear in the size of the objects.
+/// The link of the objects, or why they aren't linked. Pushes, pops and moves are written as one instruction
+/// (`frame_match::planned::plan` finds them), and all else in the form that it has in the first round of sizes
+/// that fits. If nothing is aligned above 4 bytes, that is the shortest for these groups. Beside the rounds it
+/// takes time near-linear in the size of the objects.
 pub fn link_zc(alloc: Global, objects: Objects) -> Result<Linked, LinkFault>
     ensures faultless { IfOk result (λ _. first_fault objects ≡ None) }
     ensures link { IfOk result (λ linked. IsZcLink objects linked) }

@@ -107,4 +107,4 @@ returns-in_default g c =
     let other = c.in_default in
     half_written L e.code.now e.at c.args.item e.address e.size h c.half_at.result c.half_at.type_inv
     (patched_left c.args.item other.not-Branch other.not-Jump (λ rd temp to. other.not-Call rd temp to) other.not-Align other.not-Raw other.not-RawPair) c.if-extent-eq2.true
-    (c.half_at.ensures e.at c.args.item h.is c.requires.number (h.takes ∙ c.if-extent-eq2.true))
+    (c.half_at.ensures e.at c.args.item h.unit c.requires.number (h.takes ∙ c.if-extent-eq2.true))

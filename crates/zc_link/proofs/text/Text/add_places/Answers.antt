@@ -1,26 +1,25 @@
--- Each turn takes a place: the item that starts there goes up to the next place, and if none does the section ends.
-use Rattle.std.proofs.Common.{◌≡◌, refl, ℕ, ◌+◌, ◌-◌, ◌++◌, ◌<◌, ◌≤◌, ◌^◌, List, [], ◌∷◌, length, None, Some, true, sym, ap, ◌∙◌, subst, arith, slice_get, length-append}
+-- Each turn takes a place: what is written for the item there, nothing inside a group, and if no item starts there the section ends.
+use Rattle.std.proofs.Common.{◌≡◌, ℕ, ◌+◌, ◌++◌, ◌<◌, ◌^◌, List, [], ◌∷◌, length, None, Some, sym, ap, ◌∙◌, subst, arith, slice_get}
 use Rattle.psabi_sym.specs.Faults.{gather_fault}
 use Rattle.psabi_sym.specs.Inputs.{Inputs, parsed}
 use Rattle.psabi_sym.specs.Indexed.{IndexedSection, all_sections}
 use Rattle.zc_base.specs.declared.mem_map.MemMap.{MemMap}
 use Rattle.zc_base.specs.declared.place.Place.{Place}
-use Rattle.block_cut.specs.Places.{IsPlaceNumber, code_places}
+use Rattle.block_cut.specs.Places.{code_places}
 use Rattle.block_cut.specs.declared.item.Item.{Item}
-use Rattle.shrink_layout.specs.Invariants.Numbers.{HasPlace}
 use Rattle.zc_link.specs.Codes.{code_bytes}
-use Rattle.zc_link.specs.Standing.{StandsHere, WrittenHere}
+use Rattle.zc_link.specs.Standing.{StartsHere, UnitHere}
 use Rattle.zc_link.specs.TextLayout.{TextLayout}
 use Rattle.zc_link.specs.declared.text.Text.{Text}
 use Rattle.zc_link.proofs.Standing.{gathered}
-use Rattle.zc_link.proofs.Walk.{After, AtHand, GivesAddress, OnWay, Walks, at_hand, at_end, index_few, turn_above, turn_ends, turn_has, turn_number, turn_stands, turn_steps, walk_begins}
+use Rattle.zc_link.proofs.Walk.{After, AtHand, OnWay, Walks, at_hand, at_end, index_few, text_small, turn_address, turn_ends, turn_inside, turn_starts, turn_steps, walk_begins}
 use Rattle.zc_link.proofs.text.Text.add_places.Given as given
 use Rattle.zc_link.proofs.text.Text.add_places.Goals as goal
-use Rattle.zc_link.proofs.text.Text.add_places.Goals.{In_ok-push, in-Some+in_ok-add_to, in_default}
+use Rattle.zc_link.proofs.text.Text.add_places.Goals.{After-len, in-None+in_ok-push-in-None, in-Some+in-Some-unit_code+in_ok-push-in-Some+in_ok-add_to-in-Some, in-Some+in_default}
 
--- ---- a turn, from the push of its place on
+-- ---- a turn
 
-module _ (g : given.Over) (c : In_ok-push g) where
+module _ (g : given.Over) (c : After-len g) where
   abbrev L : TextLayout
   L = g.L.Layout.layout c.args.layout.now
 
@@ -36,8 +35,13 @@ module _ (g : given.Over) (c : In_ok-push g) where
   abbrev places : List (Place × ℕ)
   places = c.loop-i.self.places.items
 
-  abbrev address : L.inputs.map.text + length text ≡ c.loop-i.address
-  address = sym c.loop-i.invariant.address
+  abbrev address : ℕ
+  address = c.map-start.result.text + c.len.result
+
+  address_is : L.inputs.map.text + length text ≡ address
+  address_is =
+      let map : c.map-start.result ≡ L.inputs.map = c.map-start.ensures.value ∙ ap (λ (x : Inputs). x.map) (c.objects-2.ensures.same ∙ c.cut-cut.ensures.same) in
+      omega (arith, ap (λ (m : MemMap). m.text) map, c.len.ensures)
 
   -- its place
   abbrev here : Place
@@ -54,56 +58,48 @@ module _ (g : given.Over) (c : In_ok-push g) where
   few : i + 1 < 2 ^ 32
   few = (index_few L none c.cut-cut.ensures.ready c.cut-cut.ensures.laid c.args.k hand.section hand.at hand.code i text places hand.walks).1
 
-  number : IsPlaceNumber (parsed L.inputs).objects here (record { section = c.args.k; index = i })
-  number =
-      turn_number L none c.cut-cut.ensures.ready c.cut-cut.ensures.laid c.args.k hand.section hand.at hand.code i text places hand.walks here
-      c.section-section.result.section.bytes c.loop-i.address hand.place_is hand.code_is address
+  small : L.inputs.map.text + length text < 2 ^ 32
+  small = text_small L none c.cut-cut.ensures.ready c.cut-cut.ensures.laid c.args.k hand.section hand.at hand.code i text places hand.walks
 
   -- the section ends here
-  ends : c.index-places-i.result.item ≡ None → After L c.args.k hand.section (i + 1) text (places ++ (here, c.loop-i.address) ∷ [])
+  ends : c.index-places-i.result.item ≡ None → After L c.args.k hand.section (i + 1) text (places ++ (here, address) ∷ [])
   ends last =
       turn_ends L none c.cut-cut.ensures.ready c.cut-cut.ensures.laid c.args.k hand.section hand.at hand.code i text places hand.walks here
-      c.section-section.result.section.bytes c.loop-i.address hand.place_is hand.code_is address (sym hand.item_is ∙ last)
+      c.section-section.result.section.bytes address hand.place_is hand.code_is address_is (sym hand.item_is ∙ last)
+
+  -- the text ends at its address, if it has one
+  address_of : (b : ℕ) → L.address here ≡ Some b → address ≡ b
+  address_of =
+      turn_address L none c.cut-cut.ensures.ready c.cut-cut.ensures.laid c.args.k hand.section hand.at hand.code i text places hand.walks here
+      c.section-section.result.section.bytes address hand.place_is hand.code_is address_is
 
   -- or an item starts here
-  module _ (item : Item) (is : c.index-places-i.result.item ≡ Some item) where
-    has_next : HasPlace (parsed L.inputs).objects (record { section = c.args.k; index = i + 1 })
-    has_next =
-        turn_has L none c.cut-cut.ensures.ready c.cut-cut.ensures.laid c.args.k hand.section hand.at hand.code i text places hand.walks here
-        c.section-section.result.section.bytes c.loop-i.address hand.place_is hand.code_is address item (sym hand.item_is ∙ is)
+  module _ (item : Item) (is : c.index-places-i.result.item ≡ Some item) (own : List ℕ) (own_is : own ≡ c.section-section.result.section.bytes) where
+    starts : StartsHere L (record { section = c.args.k; index = i }) own here item
+    starts =
+        turn_starts L none c.cut-cut.ensures.ready c.cut-cut.ensures.laid c.args.k hand.section hand.at hand.code i text places hand.walks here
+        own address hand.place_is (hand.code_is ∙ sym own_is) address_is item (sym hand.item_is ∙ is)
 
-    -- which goes up to the next place
-    module _
-        (next : ℕ)
-        (found : GivesAddress L c.args.k (i + 1) next) where
-      above : c.loop-i.address ≤ next
-      above =
-          turn_above L none c.cut-cut.ensures.ready c.cut-cut.ensures.laid c.args.k hand.section hand.at hand.code i text places hand.walks here
-          c.section-section.result.section.bytes c.loop-i.address hand.place_is hand.code_is address item (sym hand.item_is ∙ is) next found
+    steps : (bytes : List ℕ) → UnitHere L own here address bytes → Walks L c.args.k hand.section (i + 1) (text ++ bytes) (places ++ (here, address) ∷ [])
+    steps =
+        turn_steps L none c.cut-cut.ensures.ready c.cut-cut.ensures.laid c.args.k hand.section hand.at hand.code i text places hand.walks here
+        own address hand.place_is (hand.code_is ∙ sym own_is) address_is item (sym hand.item_is ∙ is)
 
-      module _ (own : List ℕ) (own_is : own ≡ c.section-section.result.section.bytes) where
-        stands : StandsHere L own here item c.loop-i.address (next - c.loop-i.address)
-        stands =
-            turn_stands L none c.cut-cut.ensures.ready c.cut-cut.ensures.laid c.args.k hand.section hand.at hand.code i text places hand.walks here
-            own c.loop-i.address hand.place_is (hand.code_is ∙ sym own_is) address item (sym hand.item_is ∙ is) next found
-
-        steps : (bytes : List ℕ) → WrittenHere L own here item c.loop-i.address (next - c.loop-i.address) bytes
-            → Walks L c.args.k hand.section (i + 1) (text ++ bytes) (places ++ (here, c.loop-i.address) ∷ [])
-        steps =
-            turn_steps L none c.cut-cut.ensures.ready c.cut-cut.ensures.laid c.args.k hand.section hand.at hand.code i text places hand.walks here
-            own c.loop-i.address hand.place_is (hand.code_is ∙ sym own_is) address item (sym hand.item_is ∙ is) next found
+    inside : L.address here ≡ None → Walks L c.args.k hand.section (i + 1) text places
+    inside =
+        turn_inside L none c.cut-cut.ensures.ready c.cut-cut.ensures.laid c.args.k hand.section hand.at hand.code i text places hand.walks here
+        own address hand.place_is (hand.code_is ∙ sym own_is) address_is item (sym hand.item_is ∙ is)
 
   -- so far it is the walk after one place more, if its text and places are these
   after_turn :
-      (more text_then text_now : List ℕ) (places_then places_now : List (Place × ℕ)) → text_now ≡ text_then → text_then ≡ more → places_now ≡ places_then
-      → places_then ≡ places ++ (here, c.loop-i.address) ∷ []
-      → After L c.args.k hand.section (i + 1) more (places ++ (here, c.loop-i.address) ∷ [])
+      (more text_now : List ℕ) (places_more places_now : List (Place × ℕ)) → text_now ≡ more → places_now ≡ places_more
+      → After L c.args.k hand.section (i + 1) more places_more
       → (m : IndexedSection) → slice_get (all_sections (parsed L.inputs).objects) c.args.k ≡ Some m → After L c.args.k m (i + 1) text_now places_now
-  after_turn more text_then text_now places_then places_now text_is grown places_are pushed after m at =
+  after_turn more text_now places_more places_now text_is places_are after m at =
       let same : hand.section ≡ m = cc (sym hand.at ∙ at) in
       subst (λ x. After L c.args.k x (i + 1) text_now places_now) same
-      (subst (λ t. After L c.args.k hand.section (i + 1) t places_now) (sym (text_is ∙ grown))
-      (subst (λ ps. After L c.args.k hand.section (i + 1) more ps) (sym (places_are ∙ pushed)) after))
+      (subst (λ t. After L c.args.k hand.section (i + 1) t places_now) (sym text_is)
+      (subst (λ ps. After L c.args.k hand.section (i + 1) more ps) (sym places_are) after))
 
 -- ---- the goals
 
@@ -112,55 +108,50 @@ loop-i-init g c =
     let L = g.L.Layout.layout c.args.layout.now in
     let cut = c.cut-cut.ensures in
     let none = gathered L.inputs cut.ready.faultless in
-    let map : c.map.result ≡ L.inputs.map = c.map.ensures.value ∙ ap (λ (x : Inputs). x.map) (c.objects-2.ensures.same ∙ cut.same) in
     record {
-      address = omega (arith, ap (λ (m : MemMap). m.text) map, c.len.ensures);
       after = λ m at code. OnWay (walk_begins L none cut.ready cut.laid c.args.k m at code c.args.self.now.text.items c.args.self.now.places.items c.requires);
     }
 
-pub overflow_cast-index : goal.overflow_cast-index
-overflow_cast-index g c = record { fits = omega (arith, few g (goal.at.overflow_cast-index g c).In_ok-push) }
+pub overflow_cast-address : goal.overflow_cast-address
+overflow_cast-address g c = record { fits = omega (arith, small g (goal.at.overflow_cast-address g c).After-len, c.len.ensures) }
 
-pub overflow_add-index : goal.overflow_add-index
-overflow_add-index g c = record { fits = omega (arith, few g (goal.at.overflow_add-index g c).In_ok-push) }
+pub overflow_add-address : goal.overflow_add-address
+overflow_add-address g c =
+    let a = (goal.at.overflow_add-address g c).After-len in
+    record { fits = omega (arith, small g a, address_is g a) }
 
-pub address_at-next-requires : goal.address_at-next-requires
-address_at-next-requires g c = has_next g (goal.at.address_at-next-requires g c).In_ok-push c.in-Some.item c.in-Some.is
+pub overflow_cast-number : goal.overflow_cast-number
+overflow_cast-number g c = record { fits = omega (arith, few g (goal.at.overflow_cast-number g c).After-len) }
 
-pub overflow_sub-extent : goal.overflow_sub-extent
-overflow_sub-extent g c =
-    omega (arith, above g (goal.at.overflow_sub-extent g c).In_ok-push c.in-Some.item c.in-Some.is c.address_at-next.result c.address_at-next.ensures)
+pub unit_code-requires-clause-starts : goal.unit_code-requires-clause-starts
+unit_code-requires-clause-starts g c =
+    starts g (goal.at.unit_code-requires-clause-starts g c).After-len c.in-Some.item c.in-Some.is c.bytes.result.now c.bytes.ensures
 
-pub item_code-requires-clause-stands : goal.item_code-requires-clause-stands
-item_code-requires-clause-stands g c =
-    stands g (goal.at.item_code-requires-clause-stands g c).In_ok-push c.in-Some.item c.in-Some.is c.address_at-next.result c.address_at-next.ensures c.bytes.result.now c.bytes.ensures
-
-pub item_code-requires-clause-number : goal.item_code-requires-clause-number
-item_code-requires-clause-number g c = number g (goal.at.item_code-requires-clause-number g c).In_ok-push
+pub unit_code-requires-clause-address : goal.unit_code-requires-clause-address
+unit_code-requires-clause-address g c = address_of g (goal.at.unit_code-requires-clause-address g c).After-len
 
 pub loop-i-preserved : goal.loop-i-preserved
 loop-i-preserved g c =
-    let a = (goal.at.loop-i-preserved g c).In_ok-push in
+    let a = (goal.at.loop-i-preserved g c).After-len in
     elim c.match-place.branch [
-      | in-Some+in_ok-add_to w ↦
-          let bytes = code_bytes w.item_code.result in
-          let next = w.address_at-next.result in
-          let found = w.address_at-next.ensures in
-          let high = above g a w.in-Some.item w.in-Some.is next found in
-          let walks = steps g a w.in-Some.item w.in-Some.is next found w.bytes.result.now w.bytes.ensures bytes w.item_code.ensures in
-          let text_is = ap (λ (t : Text). t.text.items) w.self-is in
+      | in-None+in_ok-push-in-None w ↦ record {
+        after = λ m at code.
+            after_turn g a (text g a) c.match-place.self.text.items (places g a ++ (here g a, address g a) ∷ []) c.match-place.self.places.items (ap (λ (t : Text). t.text.items) w.self-is)
+            (ap (λ (t : Text). t.places.items) w.self-is ∙ w.in_ok-push-in-None.ensures.items) (ends g a w.in-None.is) m at;
+      }
+      | in-Some+in-Some-unit_code+in_ok-push-in-Some+in_ok-add_to-in-Some w ↦
+          let bytes = code_bytes w.in-Some-unit_code.code in
           record {
-            address = omega (arith, w.address-is, high, w.item_code.ensures.long, c.loop-i.invariant.address, ap length text_is, ap length w.in_ok-add_to.ensures, length-append (text g a) bytes);
             after = λ m at code.
-                after_turn g a (text g a ++ bytes) _ _ _ _ text_is w.in_ok-add_to.ensures (ap (λ (t : Text). t.places.items) w.self-is) c.in_ok-push.ensures.items (OnWay walks) m at;
+                after_turn g a (text g a ++ bytes) c.match-place.self.text.items (places g a ++ (here g a, address g a) ∷ []) c.match-place.self.places.items (ap (λ (t : Text). t.text.items) w.self-is ∙ w.in_ok-add_to-in-Some.ensures)
+                (ap (λ (t : Text). t.places.items) w.self-is ∙ w.in_ok-push-in-Some.ensures.items)
+                (OnWay (steps g a w.in-Some.item w.in-Some.is w.bytes.result.now w.bytes.ensures bytes w.in-Some-unit_code.ensures.written)) m at;
           }
-      | in_default w ↦
-          let text_is : c.match-place.self.text.items ≡ text g a = ap (λ (t : Text). t.text.items) w.self-is in
-          record {
-            address = w.address-is ∙ c.loop-i.invariant.address ∙ ap (λ t. (L g a).inputs.map.text + length t) (sym text_is);
-            after = λ m at code.
-                after_turn g a (text g a) _ _ _ _ text_is refl (ap (λ (t : Text). t.places.items) w.self-is) c.in_ok-push.ensures.items (ends g a w.in_default.is) m at;
-          }
+      | in-Some+in_default w ↦ record {
+        after = λ m at code.
+            after_turn g a (text g a) c.match-place.self.text.items (places g a) c.match-place.self.places.items (ap (λ (t : Text). t.text.items) w.self-is) (ap (λ (t : Text). t.places.items) w.self-is)
+            (OnWay (inside g a w.in-Some.item w.in-Some.is w.bytes.result.now w.bytes.ensures w.in_default.ensures.inside)) m at;
+      }
     ]
 
 pub returns : goal.returns

@@ -1,0 +1,120 @@
+-- What is written where an item starts: the item by itself, up to the next place (`alone_here`), or its group, up to the place behind that
+-- (`group_here`).
+use Rattle.std.proofs.Common.{◌≡◌, ℕ, ◌+◌, ◌-◌, ◌<◌, ◌^◌, inl, List, length, Some, None, true, false, refl, sym, ap, ◌∙◌, subst, arith}
+use Rattle.std.specs.Prelude.{slice_index}
+use Rattle.std.specs.Option.{option_map_or}
+use Rattle.zc_base.specs.declared.place.Place.{Place}
+use Rattle.psabi_sym.specs.Faults.{gather_fault}
+use Rattle.psabi_sym.specs.Inputs.{ParsedInputs, parsed}
+use Rattle.psabi_sym.specs.Indexed.{IndexedSection}
+use Rattle.block_cut.specs.Items.{index_on, is_start_at, item_at, place_of, starts_on}
+use Rattle.block_cut.specs.Places.{IsPlaceNumber}
+use Rattle.block_cut.specs.declared.item.Item.{Item}
+use Rattle.block_cut.specs.declared.place_number.PlaceNumber.{PlaceNumber}
+use Rattle.frame_match.specs.declared.group.Group.{Group}
+use Rattle.frame_match.specs.Invariants.Marks.{HasItem}
+use Rattle.shrink_layout.specs.Invariants.Numbers.{HasPlace}
+use Rattle.shrink_layout.specs.Pieces.{group_size}
+use Rattle.shrink_layout.specs.Units.{OneGroup, OneItem}
+use Rattle.zc_link.specs.LaidOut.{IsLaidOut}
+use Rattle.zc_link.specs.Standing.{IsReady, StandsHere, StartsHere, UnitHere, WrittenHere}
+use Rattle.zc_link.specs.TextLayout.{TextLayout, behind}
+use Rattle.zc_link.specs.Written.{IsGroupWritten}
+use Rattle.zc_link.proofs.Walk.{GivesAddress, IsTarget, TakesHere, after, after_index, after_target, has_place, number_few, number_there, start_there, takes_here, there}
+
+module _
+    (L : TextLayout) (none : gather_fault L.inputs ≡ None) (ready : IsReady L.inputs) (laid : IsLaidOut L) (number : PlaceNumber) (code : List ℕ) (q : Place)
+    (item : Item) (starts : StartsHere L number code q item) where
+  abbrev p : ParsedInputs
+  p = parsed L.inputs
+
+  abbrev l : IndexedSection
+  l = starts.section
+
+  abbrev n : ℕ
+  n = starts.offset
+
+  pub is_here : item_at p (place_of l n) ≡ Some item
+  is_here = ap (item_at p) starts.place ∙ starts.is
+
+  begins : starts_on l.section n ≡ true
+  begins = start_there L none ready laid number.section l starts.listed starts.code n item is_here
+
+  pub alone_number : IsPlaceNumber p.objects q number
+  alone_number =
+      subst (λ r. IsPlaceNumber p.objects r number) starts.place
+      (subst (λ m. IsPlaceNumber p.objects (place_of l n) (record { section = number.section; index = m })) (sym starts.index)
+      (number_there L none ready laid number.section l starts.listed starts.code n (inl begins)))
+
+  -- it is a start
+  pub alone_start : is_start_at p.objects q ≡ true
+  alone_start =
+      ap (is_start_at p.objects) (sym starts.place)
+      ∙ ap (λ o. option_map_or (λ s. starts_on s n) o false) ((there L none ready laid number.section l starts.listed starts.code).at n) ∙ begins
+
+  pub has_item : HasItem p.objects number
+  has_item = (q, alone_start, alone_number)
+
+  pub alone_few : number.index + 1 < 2 ^ 32
+  alone_few = (number_few L none ready laid number.section l starts.listed starts.code number.index n starts.index (inl begins)).1
+
+  abbrev next_target : IsTarget l.section (after L none ready laid number.section l starts.listed starts.code n item is_here)
+  next_target = after_target L none ready laid number.section l starts.listed starts.code n item is_here
+
+  next_index : number.index + 1 ≡ index_on l.section (after L none ready laid number.section l starts.listed starts.code n item is_here)
+  next_index = after_index L none ready laid number.section l starts.listed starts.code n item is_here number.index starts.index
+
+  pub alone_has : HasPlace p.objects (record { section = number.section; index = number.index + 1 })
+  alone_has =
+      has_place L none ready laid number.section l starts.listed starts.code (after L none ready laid number.section l starts.listed starts.code n item is_here)
+      (number.index + 1) next_index next_target
+
+  -- ---- an item by itself
+
+  module _ (unit : L.unit q ≡ Some (OneItem item)) (a : ℕ) (listed : L.address q ≡ Some a) where
+    pub takes : TakesHere L none ready laid number.section l starts.listed starts.code n item is_here (ap L.unit starts.place ∙ unit) a (ap L.address starts.place ∙ listed)
+    takes = takes_here L none ready laid number.section l starts.listed starts.code n item is_here (ap L.unit starts.place ∙ unit) a (ap L.address starts.place ∙ listed)
+
+    module _ (next : ℕ) (found : GivesAddress L number.section (number.index + 1) next) where
+      pub alone_next : next ≡ a + takes.size
+      alone_next =
+          let m = after L none ready laid number.section l starts.listed starts.code n item is_here in
+          found (place_of l m) (a + takes.size) takes.next
+          (subst (λ i. IsPlaceNumber p.objects (place_of l m) (record { section = number.section; index = i })) (sym next_index)
+          (number_there L none ready laid number.section l starts.listed starts.code m next_target))
+
+      size_is : takes.size ≡ next - a
+      size_is = omega (arith, alone_next)
+
+      pub alone_stands : StandsHere L code q item a (next - a)
+      alone_stands =
+          subst (StandsHere L code q item a) size_is
+          (subst (λ r. StandsHere L code r item a takes.size) starts.place (subst (λ c. StandsHere L c (place_of l n) item a takes.size) starts.own takes.stands))
+
+      pub alone_here : (bytes : List ℕ) → WrittenHere L code q (OneItem item) a (next - a) bytes → UnitHere L code q a bytes
+      alone_here bytes written =
+          let long : next - a ≡ length bytes = sym written.long in
+          let far : a + takes.size ≡ a + length bytes = omega (arith, size_is, written.long) in
+          record {
+            unit = OneItem item;
+            is = unit;
+            address = listed;
+            next = ap (λ r. L.address (behind L r)) (sym starts.place) ∙ takes.behind_there ∙ ap Some far;
+            written = subst (λ m. WrittenHere L code q (OneItem item) a m bytes) long written;
+          }
+
+-- ---- a group
+
+module _ (L : TextLayout) (laid : IsLaidOut L) (code : List ℕ) (q : Place) (g : Group) (unit : L.unit q ≡ Some (OneGroup g)) (a : ℕ) (listed : L.address q ≡ Some a) where
+  pub group_here :
+      (bytes : List ℕ) → length bytes ≡ group_size g → IsGroupWritten (group_size g) g bytes → ((k : ℕ) → slice_index bytes k < 256) → UnitHere L code q a bytes
+  group_here bytes long written octets =
+      let lies = laid.each q a (OneGroup g) unit listed in
+      let far : a + lies.size ≡ a + length bytes = omega (arith, lies.form, long) in
+      record {
+        unit = OneGroup g;
+        is = unit;
+        address = listed;
+        next = lies.next ∙ ap Some far;
+        written = record { long = refl; written = subst (λ m. IsGroupWritten m g bytes) (sym long) written; octets = octets };
+      }

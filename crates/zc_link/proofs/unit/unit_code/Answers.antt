@@ -1,0 +1,93 @@
+-- By what the item is to groups: by itself, the first of one, or inside one, where nothing is written.
+use Rattle.std.proofs.Common.{◌≡◌, ◌<◌, ◌^◌, Some, None, true, sym, ap, ◌∙◌, subst, arith}
+use Rattle.psabi_sym.specs.Faults.{gather_fault}
+use Rattle.psabi_sym.specs.Inputs.{parsed}
+use Rattle.block_cut.specs.Items.{is_start_at}
+use Rattle.frame_match.specs.declared.group.Group.{Group}
+use Rattle.frame_match.specs.declared.role.Role.TheVariants.{First}
+use Rattle.shrink_layout.specs.Units.{CodeUnit, OneGroup, OneItem, role_unit}
+use Rattle.zc_link.specs.Codes.{code_bytes}
+use Rattle.zc_link.specs.Standing.{HasHalf}
+use Rattle.zc_link.specs.TextLayout.{TextLayout}
+use Rattle.zc_link.proofs.GroupHalves.{half_there, rest_low}
+use Rattle.zc_link.proofs.GroupItems.{IsKnown, group_known}
+use Rattle.zc_link.proofs.ItemStarts.{alone_number, alone_start, group_here, has_item}
+use Rattle.zc_link.proofs.LaidLaws.{no_address, unit_address}
+use Rattle.zc_link.proofs.Standing.{gathered}
+use Rattle.zc_link.proofs.unit.unit_code.Given as given
+use Rattle.zc_link.proofs.unit.unit_code.Goals as goal
+use Rattle.zc_link.proofs.unit.unit_code.Goals.{After-role_at, In-First}
+
+module _ (g : given.Over) (c : After-role_at g) where
+  abbrev L : TextLayout
+  L = g.L.Layout.layout c.args.layout.now
+
+  abbrev none : gather_fault L.inputs ≡ None
+  none = gathered L.inputs c.cut-cut.ensures.ready.faultless
+
+  start : is_start_at (parsed L.inputs).objects c.args.start.at ≡ true
+  start = alone_start L none c.cut-cut.ensures.ready c.cut-cut.ensures.laid c.args.start.number c.args.start.code.now c.args.start.at c.args.item c.requires.starts
+
+  -- what is written there
+  unit_of : L.unit c.args.start.at ≡ role_unit (Some c.args.item) c.role_at.result
+  unit_of =
+      c.role_at.ensures c.args.start.at start
+      (alone_number L none c.cut-cut.ensures.ready c.cut-cut.ensures.laid c.args.start.number c.args.start.code.now c.args.start.at c.args.item c.requires.starts)
+      ∙ ap (λ o. role_unit o c.role_at.result) c.requires.starts.is
+
+  -- has the address at hand
+  address_of : (u : CodeUnit) → L.unit c.args.start.at ≡ Some u → L.address c.args.start.at ≡ Some c.args.start.address
+  address_of u unit =
+      let at = unit_address L c.cut-cut.ensures.laid c.args.start.at u unit in
+      at.1 ∙ ap Some (sym (c.requires.address at.0 at.1))
+
+  -- a group's halfword and rest
+  module _ (group : Group) (is : c.role_at.result ≡ First group) where
+    unit : L.unit c.args.start.at ≡ Some (OneGroup group)
+    unit = unit_of ∙ ap (role_unit (Some c.args.item)) is
+
+    known : IsKnown L.inputs none c.args.start.at group (c.cut-cut.ensures.laid.each c.args.start.at c.args.start.address (OneGroup group) unit (address_of (OneGroup group) unit)).is
+    known = group_known L.inputs none c.args.start.at group (c.cut-cut.ensures.laid.each c.args.start.at c.args.start.address (OneGroup group) unit (address_of (OneGroup group) unit)).is
+
+    half : HasHalf group.kind
+    half = subst HasHalf (sym known.half) (half_there known.kind known.is)
+
+    rest : group.rest < 2 ^ 11
+    rest = omega (arith, known.rest, rest_low known.kind known.is)
+
+-- ---- the goals
+
+pub role_at-requires : goal.role_at-requires
+role_at-requires g c =
+    let L = g.L.Layout.layout c.args.layout.now in
+    has_item L (gathered L.inputs c.cut-cut.ensures.ready.faultless) c.cut-cut.ensures.ready c.cut-cut.ensures.laid c.args.start.number c.args.start.code.now c.args.start.at c.args.item
+    c.requires.starts
+
+pub alone_code-requires-clause-unit : goal.alone_code-requires-clause-unit
+alone_code-requires-clause-unit g c =
+    let a = (goal.at.alone_code-requires-clause-unit g c).After-role_at in
+    unit_of g a ∙ ap (role_unit (Some c.args.item)) c.in-Alone.is
+
+pub alone_code-requires-clause-address : goal.alone_code-requires-clause-address
+alone_code-requires-clause-address g c =
+    let a = (goal.at.alone_code-requires-clause-address g c).After-role_at in
+    address_of g a (OneItem c.args.item) (unit_of g a ∙ ap (role_unit (Some c.args.item)) c.in-Alone.is)
+
+pub group_code-requires-clause-half : goal.group_code-requires-clause-half
+group_code-requires-clause-half g c = half g (goal.at.group_code-requires-clause-half g c).After-role_at c.in-First.group c.in-First.is
+
+pub group_code-requires-clause-rest : goal.group_code-requires-clause-rest
+group_code-requires-clause-rest g c = rest g (goal.at.group_code-requires-clause-rest g c).After-role_at c.in-First.group c.in-First.is
+
+pub returns-in-First-clause-written : goal.returns-in-First-clause-written
+returns-in-First-clause-written g c =
+    let a = (goal.at.returns-in-First-clause-written g c).After-role_at in
+    let group = c.in-First.group in
+    let own = unit g a group c.in-First.is in
+    group_here (L g a) c.cut-cut.ensures.laid c.args.start.code.now c.args.start.at group own c.args.start.address (address_of g a (OneGroup group) own)
+    (code_bytes c.group_code.result) c.group_code.ensures.long c.group_code.ensures.written c.group_code.ensures.octets
+
+pub returns-in-Inside-clause-inside : goal.returns-in-Inside-clause-inside
+returns-in-Inside-clause-inside g c =
+    let a = (goal.at.returns-in-Inside-clause-inside g c).After-role_at in
+    no_address (L g a) c.cut-cut.ensures.laid c.args.start.at (start g a) (unit_of g a ∙ ap (role_unit (Some c.args.item)) c.in-Inside.is)

@@ -1,0 +1,56 @@
+// What is written at a place: an item by itself, or a group at its first.
+
+ghost use Rattle.std.specs.Prelude.{◌≡◌, None, Some, IfNone, IfSome, ℕ};
+ghost use Rattle.shrink_layout.specs.Units.{OneItem};
+ghost use Rattle.zc_link.specs.Codes.{code_bytes};
+ghost use Rattle.zc_link.specs.Standing.{StartsHere, UnitHere};
+
+use crate::code::Code;
+use crate::extent::{ItemExtent, ItemStart};
+use crate::group::group_code;
+use crate::item::item_code;
+use crate::layout::Layout;
+use block_cut::item::Item;
+use block_cut::place_number::PlaceNumber;
+use frame_match::role::Role;
+
+/// What is written at a place where an item starts, or none inside a group. It takes constant time.
+pub fn unit_code<'a, L: Layout>(layout: &L, start: ItemStart<'a>, item: Item) -> Option<Code<'a>>
+    requires starts { StartsHere (L.layout layout.now) start.number start.code.now start.at item }
+    requires address { (b : ℕ) → (L.layout layout.now).address start.at ≡ Some b → start.address ≡ b }
+    ensures inside { IfNone result ((L.layout layout.now).address start.entry.at ≡ None) }
+    ensures written { IfSome result (λ code.
+        UnitHere (L.layout layout.now) start.entry.code.now start.entry.at start.entry.address (code_bytes code)) }
+{
+    // This call says that the layout is one that a link may have.
+    let _cut = layout.cut();
+    match layout.role_at(start.number) {
+        Role::Alone => Some(alone_code(layout, start, item)),
+        Role::First(group) => Some(group_code(&group)),
+        Role::Inside => None,
+    }
+}
+
+// What is written for an item by itself: up to the next place.
+fn alone_code<'a, L: Layout>(layout: &L, start: ItemStart<'a>, item: Item) -> Code<'a>
+    requires starts { StartsHere (L.layout layout.now) start.number start.code.now start.at item }
+    requires unit { (L.layout layout.now).unit start.at ≡ Some (OneItem item) }
+    requires address { (L.layout layout.now).address start.at ≡ Some start.address }
+    ensures { UnitHere (L.layout layout.now) start.entry.code.now start.entry.at start.entry.address
+        (code_bytes result) }
+{
+    // So does this one.
+    let _cut = layout.cut();
+    let next = layout.address_at(PlaceNumber {
+        section: start.number.section,
+        index: start.number.index + 1,
+    });
+    let extent = ItemExtent {
+        at: start.at,
+        number: start.number,
+        code: start.code,
+        address: start.address,
+        size: next - start.address,
+    };
+    item_code(layout, extent, item)
+}
