@@ -1,5 +1,6 @@
-// What objects are cut into, told by lines of text.
+// What objects are cut into and what is linked of them, told by lines of text.
 
+use crate::images::image_text;
 use crate::objects::{files_of, numbers_of};
 use block_cut::cut::Cut;
 use block_cut::item::Item;
@@ -15,6 +16,7 @@ use std::process::Abort;
 use std::test::Fail;
 use zc_base::mem_map::MemMap;
 use zc_base::place::Place;
+use zc_link::zc::link_zc;
 
 // A place by its object, section and offset.
 fn place_of(alloc: Global, text: &str) -> Result<Place, Fail> {
@@ -145,17 +147,27 @@ fn place(offset: u32) -> Place {
     }
 }
 
-// The bytes of the item at an offset of section 1, how far another lies from the text's start, and the counts.
-fn settled_numbers(settled: &Settled, at: u32, to: u32) -> [u32; 6] {
-    let text = MemMap::standard().text;
+// How far an offset of section 1 lies from the text's start, or 99 if it has no address.
+fn settled_way(settled: &Settled, to: u32) -> u32 {
+    match settled.address(place(to)) {
+        None => 99,
+        Some(address) => address.wrapping_sub(MemMap::standard().text),
+    }
+}
+
+// The bytes of what is written at an offset of section 1, how far another lies from the text's start, and the counts.
+fn settled_numbers(settled: &Settled, at: u32, to: u32) -> [u32; 9] {
     let counts = settled.counts();
     [
         settled.size(place(at)).unwrap_or(99),
-        settled.address(place(to)).unwrap_or(0).wrapping_sub(text),
-        settled.text_end().wrapping_sub(text),
+        settled_way(settled, to),
+        settled.text_end().wrapping_sub(MemMap::standard().text),
         counts.items,
         counts.short,
         counts.long,
+        counts.pushes,
+        counts.pops,
+        counts.moves,
     ]
 }
 
@@ -204,6 +216,9 @@ fn told(alloc: Global, cut: &Cut, question: &str) -> Result<String, Fail> {
 fn answer(alloc: Global, changes: &str, question: &str) -> Result<String, Fail> {
     let files = files_of(alloc, changes)?;
     let objects = Objects::gather(alloc, &files, MemMap::standard())?;
+    if let Some(asked) = question.strip_prefix("zc ") {
+        return image_text(alloc, &link_zc(alloc, objects)?, asked);
+    }
     match (Cut::new(alloc, objects), question.strip_prefix("settled ")) {
         (Err(fault), _) => fault_text(alloc, fault),
         (Ok(cut), None) => told(alloc, &cut, question),

@@ -81,16 +81,25 @@ pub const DATA: &str = "
 0:40:1:1:0 5:1:1:1:20 6:6:5:1:4 7:0:1:1:0 /5:0:9:1:20 /6:8:2:1:0 @ data = 100001 code 0:1:20 100006 number 20 10000c code 0:1:20 100014 code 1:1:48 | none of code or zeros
 ";
 
-/// The bytes of the item at an offset when the code is made smaller, how far another offset then lies from the text's
-/// start, and the counts: the text's bytes, items, short ones and long branches.
+/// The bytes of what is written at an offset when the code is made smaller, how far another offset then lies from the
+/// text's start, each 99 if there is none, and the counts: the text's bytes, items, short ones, long branches, pushes, pops
+/// and moves.
 pub const SETTLED: &str = "
-alone 327779*1 19*126 115*1 0:0:1:16:508 @ settled 0:508 = 2 254 258 128 127 0 | a short branch just reaches
-alone 327779*1 19*127 115*1 0:0:1:16:512 @ settled 0:512 = 4 258 262 129 127 0 | and doesn't
-alone 111*1 19*1022 115*1 0:0:1:17:4092 @ settled 0:4092 = 2 2046 2050 1024 1023 0 | a short jump just reaches
-alone 111*1 19*1023 115*1 0:0:1:17:4096 @ settled 0:4096 = 4 2050 2054 1025 1023 0 | and doesn't
-alone 19*1024 111*1 115*1 0:4096:1:17:0 @ settled 4096:0 = 2 0 2054 1026 1025 0 | back
-alone 19*1025 111*1 115*1 0:4100:1:17:0 @ settled 4100:0 = 4 0 2058 1027 1025 0 | too far back
-alone 327779*1 111*1 19*1022 115*1 0:0:1:16:508 1:4:1:17:4096 @ settled 0:508 = 2 254 2052 1025 1024 0 | a branch over a short jump
-alone 327779*1 111*1 19*1023 115*1 0:0:1:16:508 1:4:1:17:4100 @ settled 0:508 = 4 258 2058 1026 1023 0 | the jump grows and pushes the branch
-alone 19*2 11862115*1 97862931*1 19*3 97862931*1021 115*1 0:8:1:16:4112 1:16:0:43:12 @ settled 8:4112 = 8 4100 4104 1027 2 1 | padding pushes a branch to 8 bytes
+alone 327779*1 19*126 115*1 0:0:1:16:508 @ settled 0:508 = 2 254 258 128 127 0 0 0 0 | a short branch just reaches
+alone 327779*1 19*127 115*1 0:0:1:16:512 @ settled 0:512 = 4 258 262 129 127 0 0 0 0 | and doesn't
+alone 111*1 19*1022 115*1 0:0:1:17:4092 @ settled 0:4092 = 2 2046 2050 1024 1023 0 0 0 0 | a short jump just reaches
+alone 111*1 19*1023 115*1 0:0:1:17:4096 @ settled 0:4096 = 4 2050 2054 1025 1023 0 0 0 0 | and doesn't
+alone 19*1024 111*1 115*1 0:4096:1:17:0 @ settled 4096:0 = 2 0 2054 1026 1025 0 0 0 0 | back
+alone 19*1025 111*1 115*1 0:4100:1:17:0 @ settled 4100:0 = 4 0 2058 1027 1025 0 0 0 0 | too far back
+alone 327779*1 111*1 19*1022 115*1 0:0:1:16:508 1:4:1:17:4096 @ settled 0:508 = 2 254 2052 1025 1024 0 0 0 0 | a branch over a short jump
+alone 327779*1 111*1 19*1023 115*1 0:0:1:16:508 1:4:1:17:4100 @ settled 0:508 = 4 258 2058 1026 1023 0 0 0 0 | the jump grows and pushes the branch
+alone 19*2 11862115*1 97862931*1 19*3 97862931*1021 115*1 0:8:1:16:4112 1:16:0:43:12 @ settled 8:4112 = 8 4100 4104 1027 2 1 0 0 0 | padding pushes a branch to 8 bytes
+alone 4278255891*1 8463907*1 1123363*1 8462467*1 12657667*1 16843027*1 32871*1 115*1 19*4 @ settled 0:12 = 2 2 16 12 4 0 1 1 0 | a push, and a pop that returns
+alone 4278255891*1 8463907*1 1123363*1 8462467*1 12657667*1 16843027*1 32871*1 115*1 19*4 @ settled 4:8 = 99 99 16 12 4 0 1 1 0 | nothing is written inside a push
+alone 4278255891*1 8463907*1 1123363*1 8462467*1 12657667*1 16843027*1 32871*1 115*1 19*4 @ settled 12:28 = 2 4 16 12 4 0 1 1 0 | what follows lies behind the pop
+alone 4211147027*1 75572771*1 68232227*1 115*1 19*8 @ settled 0:12 = 4 4 24 12 8 0 1 0 0 | 80 bytes take a short addition too
+alone 2164326675*1 2122393123*1 2115052579*1 115*1 19*8 @ settled 0:12 = 6 6 26 12 8 0 1 0 0 | and 2032 a long one
+alone 75571331*1 79766531*1 83951891*1 32871*1 115*1 19*7 @ settled 0:16 = 4 4 22 12 7 0 0 1 0 | so with a pop
+alone 328723*1 361619*1 115*1 19*9 @ settled 0:8 = 2 2 24 12 9 0 0 0 1 | two moves
+alone 4278255891*1 8463907*1 1123363*1 327779*1 115*1 19*7 0:12:1:16:4 @ settled 0:4 = 2 2 26 12 11 0 0 0 0 | no group where a branch leads into one
 ";

@@ -13,6 +13,12 @@ mod fault_rows;
 #[cfg(test)]
 mod faults;
 #[cfg(test)]
+mod group_rows;
+#[cfg(test)]
+mod groups;
+#[cfg(test)]
+mod images;
+#[cfg(test)]
 mod links;
 #[cfg(test)]
 mod objects;

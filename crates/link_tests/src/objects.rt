@@ -96,13 +96,17 @@ fn put_reloc(file: &mut [u8], numbers: &[i64]) -> Result<(), Fail> {
     write_word(file, at + 8, addend)
 }
 
-// Makes a change: `19*3` adds three words 19 at the file's end, `528:64` writes the word 64 at 528, and five
-// numbers are a relocation.
+// Makes a change: `19*3` adds three words 19 at the file's end, and eight hexadecimal digits one word, `528:64` writes the
+// word 64 at 528, and five numbers are a relocation.
 fn change(alloc: Global, file: &mut Vec<u8>, text: &str) -> Result<(), Fail> {
     if let Some((word, times)) = text.split_once('*') {
         for _ in 0..times.parse::<u32>()? {
             file.extend_from_slice(&word.parse::<u32>()?.to_le_bytes())?;
         }
+        return Ok(());
+    }
+    if !text.contains(':') {
+        file.extend_from_slice(&u32::from_str_radix(text, 16)?.to_le_bytes())?;
         return Ok(());
     }
     let numbers = numbers_of(alloc, text)?;
@@ -116,26 +120,32 @@ fn change(alloc: Global, file: &mut Vec<u8>, text: &str) -> Result<(), Fail> {
     }
 }
 
-// Makes the words that were added section 1, and takes all other code away.
+// Makes the words that were added section 1, and drops all other code. Symbols 2 and 7 are then at its start.
 fn leave_added(file: &mut [u8]) -> Result<(), Fail> {
     let size = u32::try_from(file.len().saturating_sub(OBJECT_SIZE))?;
     write_word(file, 472, OBJECT_SIZE as u32)?;
     write_word(file, 476, size)?;
-    write_word(file, 516, 0)?;
-    write_word(file, 636, 0)
+    write_word(file, 504, 0)?;
+    write_word(file, 624, 0)?;
+    write_word(file, 276, 0)?;
+    write_word(file, 356, 0)
 }
 
 /// Two such objects with these changes, those of the second after a stroke each. There symbol 8 has another
-/// name, and 9 is the first's `_start`. With `alone` it is the first by itself, and its code is what was added.
+/// name, and 9 is the first's `_start`. With `bare` the code of each is what was added; with `alone` it is the first by
+/// itself, and so is its code.
 pub fn files_of(alloc: Global, changes: &str) -> Result<Vec<Vec<u8>>, Fail> {
     let mut first = bytes_of(alloc, OBJECT)?;
     let mut second = bytes_of(alloc, OBJECT)?;
     write_word(&mut second, START_NAME, 2)?;
     write_word(&mut second, WEAK_NAME, 1)?;
     let mut alone = false;
+    let mut bare = false;
     for text in changes.split_whitespace() {
         if text == "alone" {
             alone = true;
+        } else if text == "bare" {
+            bare = true;
         } else if let Some(text) = text.strip_prefix("/") {
             change(alloc, &mut second, text)?;
         } else {
@@ -145,6 +155,10 @@ pub fn files_of(alloc: Global, changes: &str) -> Result<Vec<Vec<u8>>, Fail> {
     if alone {
         leave_added(&mut first)?;
         return Ok(vec![in alloc; first]?);
+    }
+    if bare {
+        leave_added(&mut first)?;
+        leave_added(&mut second)?;
     }
     Ok(vec![in alloc; first, second]?)
 }
