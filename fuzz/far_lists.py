@@ -4,11 +4,14 @@ Each program goes on forward from its start to its exit, so that it ends. A bran
 """
 from zc_examples import XORI
 from zcld_tools.elf import ALIGN, BRANCH, CALL, JAL, LOCAL
-from zcld_tools.instructions import A0, A1, A4, EXIT_WORDS, RA, T0, T1, ZERO, addi, auipc, branch, jal, jalr, of_format_r
+from zcld_tools.instructions import (A0, A1, A4, EXIT_WORDS, RA, S0, S1, SP, T0, T1, ZERO, addi, auipc, branch, jal, jalr, lw,
+                                     of_format_r, sw)
 from zcld_tools.objects import Written
 
 # `xor a1,a1,a0` and `sub a0,a0,a1`.
 OPERATIONS = of_format_r(0, 4, A1, A1, A0), of_format_r(0x20, 0, A0, A0, A1)
+# Words that one instruction stands for, or two: two moves, and a push and a pop.
+FUSED = (addi(S0, A0), addi(S1, A1)), (addi(SP, SP, -16), sw(RA, SP, 12), lw(RA, SP, 12), addi(SP, SP, 16))
 # How many items back or forth a branch or jump leads: near, at the ends of what the forms reach, and beyond.
 STEPS = (1, 3, 30, 62, 63, 64, 126, 127, 128, 129, 500, 510, 511, 512, 513, 600, 680, 750)
 FAR_STEPS = (*STEPS, 900, 1000, 1020, 1022, 1023, 1024, 1100)
@@ -68,6 +71,8 @@ class Section:
         elif kind == 6 and rng.random() < 0.3:
             bytes_asked = rng.choice((4, 12, 28, 60))
             self.section.reloc(ALIGN, None, bytes_asked, [0xFFFFFFFF] * (bytes_asked // 4))
+        elif kind == 7:
+            self.section.words(*rng.choice(FUSED))
         elif kind < 20:
             self.section.words(addi(A0, A0, rng.choice((1, 31, 100))))
         else:

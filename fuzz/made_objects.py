@@ -1,23 +1,28 @@
 """Makes lists of objects by chance whose code and data have relocations of all kinds.
 
 Most lists are programs that run to their end: functions call later ones in each way that compilers do, and work on data in each
-way. An odd list has something in it that is no fault of the objects' form, but most likely one of their relocations or layout.
+way. They save registers and restore them, and move some, in ways that one instruction may stand for (made_frames.py), or that
+only look so. An odd list has something in it that is no fault of the objects' form, but most likely one of their relocations or
+layout.
 """
 import struct
 
+from groups import MOVED
+from made_frames import ENDINGS, GOES_ON, made_frame, slip_between
 from object_faults import LINKER_NAMES
 from object_items import OF_TWO_BYTES
 from zcld_tools.elf import (ABS, ADD32, ALIGN, ALLOC, BRANCH, CALL, CALL_PLT, CODE_FLAGS, COMMON, CONSTANT_FLAGS,
                             DATA_FLAGS, DATA_TYPE, FUNCTION_TYPE, GLOBAL, GOT_HI20, HI20, INIT_ARRAY, JAL, LO12_I, LO12_S,
-                            LOCAL, NOBITS, NONE, PCREL_HI20, PCREL_LO12_I, PCREL_LO12_S, PROGBITS, RELAX, RVC_BRANCH, R_32,
-                            SECTION_TYPE, SUB32, WEAK)
-from zcld_tools.instructions import (A0, A1, A2, A7, CALL_WORDS, ECALL, EXIT_WORDS, NOP, RA, READ_CALL, RET, S0, S1, SP, T0,
-                                     T1, T2, T3, WRITE_CALL, ZERO, add, addi, auipc, branch, immediate, is_store, jal, jalr,
-                                     load, lui, lw, of_format_r, store, sw)
+                            LOCAL, NOBITS, NONE, NO_TYPE, PCREL_HI20, PCREL_LO12_I, PCREL_LO12_S, PROGBITS, RELAX, RVC_BRANCH,
+                            R_32, SECTION_TYPE, SUB32, WEAK)
+from zcld_tools.instructions import (A0, A1, A2, A5, A7, CALL_WORDS, ECALL, EXIT_WORDS, NOP, RA, READ_CALL, SP, T0, T1, T2, T3,
+                                     WRITE_CALL, ZERO, add, addi, auipc, branch, immediate, is_store, jal, jalr, load,
+                                     low_part, lui, lw, of_format_r, store, sw, with_low)
 from zcld_tools.objects import Reloc, Written
+from zc_machine import SAVED
 
-# The register in which a program adds up what it comes to.
-SUM = S1
+# The register in which a program adds up what it comes to, and those that functions keep. All are numbers.
+SUM, KEPT = A5, SAVED[1:]
 
 # ---- data
 
@@ -341,6 +346,88 @@ class Function:
         self.section.words(*[addi(SUM, SUM, 1)] * count)
         self.place(end)
 
+    # frames and moves
+
+    def add_words(self, words):
+        """Adds words that belong together, of which most do. Otherwise another word stands among them, one has a relocation, or
+        a basic block begins there."""
+        rng, which = self.rng, self.rng.randrange(10)
+        begins = under = None
+        if which == 0:
+            slip_between(rng, words)
+        elif which == 1:
+            under = rng.choice([k for k, word in enumerate(words) if word & 0xFFFFF != addi(SP, SP)])
+        elif which == 2:
+            begins = rng.randrange(1, len(words))
+            beginning = self.beginning()
+        for k, word in enumerate(words):
+            if k == begins:
+                self.place(beginning)
+            if k == under and word >> 15 & 31 == SP:
+                self.section.reloc(LO12_S if is_store(word) else LO12_I, None, low_part(word), (with_low(word, 0),))
+            else:
+                self.section.words(word)
+            self.relax()
+
+    def beginning(self):
+        """A symbol that is placed later: one to which a branch leads that isn't taken, one that others may use, or a label that
+        nothing leads to."""
+        rng = self.rng
+        name = self.program.new_name(b'middle')
+        kind = rng.choice((NO_TYPE, FUNCTION_TYPE))
+        symbol = self.read.symbol(name, home=self.section, bind=rng.choice((LOCAL, LOCAL, GLOBAL, WEAK)), kind=kind)
+        if rng.random() < 0.5:
+            self.section.reloc(rng.choice((BRANCH, BRANCH, NONE)), symbol, 0, (branch(1, ZERO, ZERO, 8),))
+        return symbol
+
+    def use_kept(self):
+        """Changes some of the registers that functions keep."""
+        for register in self.rng.sample((RA, *KEPT), self.rng.randrange(1, 5)):
+            self.section.words(addi(register, ZERO, self.rng.randrange(2048)))
+
+    def keep(self):
+        """Saves registers, uses them, and restores them."""
+        saved = made_frame(self.rng, self.rng.random() < 0.7)
+        self.add_words(saved.stores(self.rng))
+        self.use_kept()
+        self.add_words(saved.loads(self.rng, GOES_ON))
+        self.section.words(add(SUM, SUM, self.rng.choice(KEPT)))
+
+    def add_function(self, count):
+        """The words of a function, which uses registers that it keeps."""
+        saved = made_frame(self.rng, self.rng.random() < 0.7)
+        self.add_words(saved.stores(self.rng))
+        self.body(count)
+        self.use_kept()
+        self.add_words(saved.loads(self.rng, self.rng.choice([it for it in ENDINGS if it != GOES_ON])))
+
+    def inner_function(self):
+        """A function in the midst of another, and a call of it."""
+        end = self.label()
+        self.section.reloc(JAL, end, 0, (jal(ZERO),))
+        start = self.label()
+        self.add_function(0)
+        self.place(end)
+        self.section.reloc(JAL, start, 0, (jal(RA),))
+        self.section.words(add(SUM, SUM, A0))
+
+    def move(self):
+        """Moves between a0 and a1 and registers that functions keep, of which most are pairs."""
+        rng = self.rng
+        registers = [rng.choice(MOVED if rng.random() < 0.9 else KEPT) for _ in range(2)]
+        self.section.words(addi(A0, SUM, rng.randrange(2048)), addi(A1, SUM, rng.randrange(2048)))
+        for _ in range(rng.choice((1, 1, 2))):
+            words = [addi(register, it) for register, it in zip(registers, (A0, A1))]
+            if rng.random() < 0.5:
+                words = [addi(it, register) for register, it in zip(registers, (A0, A1))]
+            rng.shuffle(words)
+            if rng.random() < 0.1:
+                # the first is made or not
+                self.section.words(branch(rng.choice((0, 1, 4, 5)), SUM, ZERO, 8))
+            self.add_words(words)
+            rng.shuffle(registers)
+        self.section.words(*(add(SUM, SUM, it) for it in (*registers, A0, A1)))
+
     # what a run may get stuck on
 
     def strange(self):
@@ -378,7 +465,8 @@ class Function:
     def body(self, count):
         ways = (self.work, self.load_number, self.store_number, self.take_address, self.write_number, self.read_input,
                 self.skip, self.jump_over, self.align, self.loop, self.call, self.call, self.call_nothing,
-                self.compare, self.test_address, self.keep_address)
+                self.compare, self.test_address, self.keep_address, self.keep, self.keep, self.inner_function,
+                self.inner_function, self.move, self.move, self.move)
         for _ in range(count):
             self.rng.choice(ways)()
         if self.rng.random() < 0.03:
@@ -387,9 +475,7 @@ class Function:
             self.strange()
 
     def make(self):
-        self.section.words(addi(SP, SP, -16), sw(RA, SP, 12), sw(S0, SP, 8))
-        self.body(self.rng.choice((1, 3, 6)))
-        self.section.words(lw(RA, SP, 12), lw(S0, SP, 8), addi(SP, SP, 16), RET)
+        self.add_function(self.rng.choice((1, 3, 6)))
 
 
 def add_start(program):
@@ -400,7 +486,7 @@ def add_start(program):
         section.words(NOP, NOP)
     read.symbol(b'_start', home=section, value=len(section.content), bind=rng.choice((GLOBAL, GLOBAL, WEAK)))
     made = Function(program, read, section, -1)
-    section.words(addi(SUM, ZERO, rng.randrange(2048)))
+    section.words(*(addi(register, ZERO, rng.randrange(2048)) for register in (SUM, A0, *KEPT)))
     made.body(rng.choice((2, 5)))
     made.call()
     section.words(addi(SP, SP, -16), sw(SUM, SP), addi(A0, ZERO, 1), addi(A1, SP), addi(A2, ZERO, 4),

@@ -70,10 +70,14 @@ class Plain:
             words = [self.word(place, item)]
         return words_of(*words)
 
+    def places(self):
+        """The places of what is written, in their order."""
+        return self.code.places()
+
     def text(self):
         """The bytes of the text, with zeros between sections."""
         text = bytearray()
-        for place in self.code.places():
+        for place in self.places():
             text += bytes(self.addresses[place] - TEXT_AT - len(text))
             text += self.item_bytes(place, self.code.item(place))
         return bytes(text) + bytes(self.end - TEXT_AT - len(text))

@@ -2,8 +2,9 @@
 
     fuzz/zc_link.py OUT FILE...
 
-writes the image of the files under OUT, or says their first fault. It knows nothing of the program, so that both can be
-compared.
+writes the image of the files under OUT, and says how long the text is and what it is made of, or says their first fault. It
+knows nothing of the program, so that both can be compared. A group (groups.py) is a piece of a fixed size, and what stands
+inside one has no address.
 """
 import os
 import struct
@@ -11,10 +12,13 @@ import sys
 
 sys.path.insert(0, os.path.join(os.path.dirname(os.path.abspath(__file__)), os.pardir, 'scripts'))
 
+from groups import FROM_SAVED, TO_SAVED, groups_of, places_outside
 from halfwords import short_form
 from object_data import CODE, aligned
 from object_faults import Object
 from plain_link import Plain, write_link
+from zc_machine import POP, POPRET, POPRETZ, PUSH
+from zcld_tools.files import read_all
 from zcld_tools.images import COMPRESSED, TEXT_AT
 from zcld_tools.instructions import NOP, OPCODE_JAL, with_branch, with_high, with_jump, with_low, words_of
 
@@ -29,14 +33,16 @@ class Zc(Plain):
     flags = COMPRESSED
 
     def __init__(self, objects):
-        self.sizes, self.rounds = {}, 0
+        self.groups, self.items, self.sizes, self.rounds = {}, {}, {}, 0
         super().__init__(objects)
 
     # forms
 
-    def forms(self, item):
-        """The sizes that an item may take, the shortest first; of padding none."""
+    def forms(self, place, item):
+        """The sizes that an item may take, or the group that starts with it, the shortest first; of padding none."""
         word = item.words[0]
+        if place in self.groups:
+            return [len(self.groups[place].code)]
         if item.kind == 'Align':
             return []
         if item.kind == 'RawPair':
@@ -65,11 +71,11 @@ class Zc(Plain):
         addresses, at = {}, TEXT_AT
         for (i, k), part in self.code.code_parts():
             at = aligned(at, part.section.align if part.section.align > 4 else 2)
-            for offset in part.starts:
-                place = i, k, offset
-                addresses[place] = at
-                item = self.items[place]
-                at = aligned(at, item.target) if item.kind == 'Align' else at + self.sizes[place]
+            for place in ((i, k, offset) for offset in part.starts):
+                if place in self.items:
+                    addresses[place] = at
+                    item = self.items[place]
+                    at = aligned(at, item.target) if item.kind == 'Align' else at + self.sizes[place]
             addresses[i, k, part.section.size] = at
         return addresses, at
 
@@ -78,8 +84,9 @@ class Zc(Plain):
         return reach is None or reach[0] <= addresses[item.target[1:]] - addresses[place] <= reach[1]
 
     def layout(self):
-        self.items = {place: self.code.item(place) for place in self.code.places()}
-        forms = {place: self.forms(item) for place, item in self.items.items() if item.kind != 'Align'}
+        self.groups = groups_of(self.code)
+        self.items = {place: self.code.item(place) for place in places_outside(self.code, self.groups)}
+        forms = {place: self.forms(place, item) for place, item in self.items.items() if item.kind != 'Align'}
         self.sizes = {place: sizes[0] for place, sizes in forms.items()}
         grow = [place for place in forms if self.items[place].kind in REACHES]
         while True:
@@ -93,7 +100,12 @@ class Zc(Plain):
 
     # text
 
+    def places(self):
+        return self.items
+
     def item_bytes(self, place, item):
+        if place in self.groups:
+            return self.groups[place].code
         if item.kind == 'Align':
             size = -self.addresses[place] % item.target
             return struct.pack('<H', SHORT_NOP) * (size % 4 // 2) + words_of(NOP) * (size // 4)
@@ -107,11 +119,29 @@ class Zc(Plain):
         return struct.pack('<H', short_form(word)) if size == 2 else words_of(word)
 
 
+    # counts
+
+    def counts(self):
+        """How many items there are, items of two bytes outside groups, branches of eight, and groups of each kind."""
+        forms = [group.form for group in self.groups.values()]
+        sizes = [(item.kind, self.sizes.get(place)) for place, item in self.items.items() if place not in self.groups]
+        return {'items': len([*self.code.places()]), 'short': sum(size == 2 for _, size in sizes),
+                'long': sizes.count(('Branch', 8)), 'push': forms.count(PUSH),
+                'pop': sum(form in (POP, POPRET, POPRETZ) for form in forms),
+                'move': sum(form in (TO_SAVED, FROM_SAVED) for form in forms)}
+
+
 def zc(files):
     """The image of files without a fault, and how many bytes of text it has."""
     made = Zc([Object(data) for data in files])
     return made.image(), made.end - TEXT_AT
 
 
-if __name__ == '__main__':
+def main():
     write_link('zc', zc)
+    for name, count in Zc([Object(data) for data in read_all(sys.argv[2:])]).counts().items():
+        print(name, count)
+
+
+if __name__ == '__main__':
+    main()

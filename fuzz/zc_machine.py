@@ -359,6 +359,16 @@ def plan_in(text):
     return interrupts
 
 
+def line_of(at, done, dirt):
+    """The line of an interrupt in a plan."""
+    return ''.join((f'cut {at}', *(f' a{number}' for number in done), *(f' d{address:08x}:{byte:02x}' for address, byte in dirt)))
+
+
+def plan_of(interrupts):
+    """The text of a plan."""
+    return '\n'.join(('zcld plan 1', *(line_of(*it) for it in interrupts), '')).encode()
+
+
 def run(machine, interrupts, steps):
     """The line that a run under a plan ends with."""
     waiting = list(reversed(interrupts))

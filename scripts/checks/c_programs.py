@@ -21,10 +21,14 @@ def objects_of(program, compiler):
             for name in sorted(os.listdir(os.path.join(EXAMPLES, folder, compiler)))]
 
 
+def input_of(program):
+    return read(program, 'input') if os.path.exists(os.path.join(EXAMPLES, program, 'input')) else b''
+
+
 def c_programs(group):
     """programs that C compilers made: the same output and status as objects and as images of both links"""
     for program, status in STATUSES.items():
-        given = read(program, 'input') if os.path.exists(os.path.join(EXAMPLES, program, 'input')) else b''
+        given = input_of(program)
         for compiler in COMPILERS:
             what, objects, out = f'{program} by {compiler}', objects_of(program, compiler), read(program, 'output')
             folder, names = group.linked_plainly(what, objects)

@@ -2,30 +2,20 @@
 import random
 import struct
 
-from zc_machine import JVT, LIST_FORMS, OPCODE_SYSTEM, POPRET, POPRETZ, PUSH, SAVED, Frame, Machine, plan_in, run
+from groups import BITS, FROM_SAVED, LISTS, MORE, TO_SAVED, frame_half, move_half
+from zc_machine import JVT, OPCODE_SYSTEM, POPRET, POPRETZ, PUSH, SAVED, Frame, Machine, plan_in, plan_of, run
 from zcld_tools.files import random_bytes
 from zcld_tools.images import COMPRESSED, DATA_AT, STACK_HIGH, STACK_LOW, TEXT_AT, image_bytes
-from zcld_tools.instructions import (A0, A1, A2, A7, ECALL, EXIT_WORDS, RA, SP, T0, T1, WRITE_CALL, ZERO, addi, constant, jal, lw,
+from zcld_tools.instructions import (A0, A1, A2, A7, ECALL, EXIT_WORDS, SP, T0, T1, WRITE_CALL, ZERO, addi, constant, jal, lw,
                                      of_format_i, sw)
 
 from checks.by_chance import random_word
 from checks.made_files import call_of_stack
 
-NUMBERS, MORE = range(4, 16), range(4)
-BITS = {form: which for which, form in LIST_FORMS.items()}
 TABLE = 64
 
 
-# ---- halfwords, by the bits of the standard
-
-
-def frame_half(form, number, more):
-    return 5 << 13 | BITS[form] << 8 | number << 4 | more << 2 | 2
-
-
-def move_half(which, first, second):
-    """A move between a0, a1 and the s registers with these numbers of three bits: 1 to them, 3 from them."""
-    return 5 << 13 | 3 << 10 | first << 7 | which << 5 | second << 2 | 2
+# ---- instructions, by the bits of the standard
 
 
 def table_half(index):
@@ -66,15 +56,6 @@ class Code:
 
     def image(self, zeros=4096):
         return image_bytes(self.content, {}, b'', zeros, TEXT_AT, COMPRESSED)
-
-
-def line_of(at, done, dirt):
-    """The line of an interrupt in a plan."""
-    return ''.join((f'cut {at}', *(f' a{number}' for number in done), *(f' d{address:08x}:{byte:02x}' for address, byte in dirt)))
-
-
-def plan_of(interrupts):
-    return '\n'.join(('zcld plan 1', *(line_of(*it) for it in interrupts), '')).encode()
 
 
 def ends_as_the_model(group, what, image, interrupts, steps=100_000, given=b''):
@@ -122,7 +103,7 @@ def frames_program(form, number, rng):
 def frames(group):
     """a push and a pop of every list at every adjustment, whole and after each access"""
     for form in BITS:
-        for number in NUMBERS:
+        for number in LISTS:
             image, interrupts = frames_program(form, number, random.Random(f'{form} {number}'))
             what = f'{form} {number}'
             ends_as_the_model(group, what, image, interrupts)
@@ -142,7 +123,7 @@ def edges(group):
     """pushes and pops at the ends of memory, which stop where one access can't be made"""
     for more, form in zip(MORE, BITS):
         for k, pointer in enumerate(pointers()):
-            number, code = NUMBERS[k % len(NUMBERS)], Code()
+            number, code = LISTS[k % len(LISTS)], Code()
             code.add(*constant(SP, pointer))
             interrupts = [(code.commits, [2, 0, 12, 255], [(pointer - 1 & 0xFFFFFFFF, 7)])]
             code.add(frame_half(form, number, more))
@@ -157,9 +138,9 @@ def edges(group):
 def random_instruction(rng):
     kind = rng.randrange(13)
     if kind < 3:
-        return [frame_half(rng.choice(list(BITS)), rng.choice(NUMBERS), rng.choice(MORE))]
+        return [frame_half(rng.choice(list(BITS)), rng.choice(LISTS), rng.choice(MORE))]
     if kind < 5:
-        return [move_half(rng.choice((1, 3)), rng.randrange(8), rng.randrange(8))]
+        return [move_half(rng.choice((TO_SAVED, FROM_SAVED)), rng.randrange(8), rng.randrange(8))]
     if kind == 5:
         return [table_half(rng.randrange(256))]
     if kind == 6:
@@ -183,7 +164,7 @@ def random_code(rng):
     # words of the stack that lead back to code
     for register in SAVED:
         code.add(*constant(register, code.address + 2 * rng.randrange(100, 200)))
-    code.add(*[frame_half(PUSH, rng.choice(NUMBERS), rng.choice(MORE)) for _ in range(8)])
+    code.add(*[frame_half(PUSH, rng.choice(LISTS), rng.choice(MORE)) for _ in range(8)])
     for _ in range(rng.randrange(5, 60)):
         starts.append(code.address)
         code.add(*random_instruction(rng))

@@ -8,11 +8,12 @@ import against_ld
 from halfwords import short_form
 from object_data import Symbols
 from object_faults import LINKER_NAMES, Object
+from zc_machine import PUSH, frame_of
 from zcld_tools import TOP, programs
 from zcld_tools.elf import (ABS, CALL, COMMON, CONSTANT_FLAGS, DATA_FLAGS, DATA_TYPE, FILE_TYPE, FUNCTION_TYPE, GLOBAL,
                             LOCAL, NOBITS, PROGBITS, R_32, SECTION_TYPE, WEAK)
 from zcld_tools.images import DATA_AT, TEXT_AT, segments
-from zcld_tools.instructions import A0, CALL_WORDS, EXIT_WORDS, RET, ZERO, addi, is_branch
+from zcld_tools.instructions import A0, CALL_WORDS, EXIT_WORDS, RA, RET, SP, ZERO, addi, is_branch, low_part, sw
 from zcld_tools.objects import object_with
 from zcld_tools.programs import Failed
 
@@ -105,6 +106,18 @@ def check_by_hand(group):
         group.same(f'by hand, {link}, labels', run(folder, '--labels', *words), (0, lines(wanted), MIDDLE))
 
 
+def check_inside_push(group):
+    """A local symbol in the middle of what becomes a push, and one behind it."""
+    made, text = object_with(addi(SP, SP, -16), sw(RA, SP, 12), *EXIT_WORDS)
+    for name, value in ((b'inside', 4), (b'behind', 8)):
+        made.symbol(name, home=text, value=value, bind=LOCAL)
+    wanted = {'plain': (('00010000 T _start', '00010004 t inside', '00010008 t behind'), b''),
+              'zc': (('00010000 T _start', '00010002 t behind'), MIDDLE)}
+    for link, folder in linked(group, 'inside a push', [made.bytes()]):
+        rows, said = wanted[link]
+        group.same(f'inside a push, {link}', run(folder, 'out', 'file0'), (0, lines(rows), said))
+
+
 def check_refusals(group):
     (_, folder), _ = linked(group, 'refusals', by_hand())
     image = folder.read('out')
@@ -158,9 +171,13 @@ def contents(image):
 
 
 def begins_with(text, at, source):
-    """Whether the instruction at an address is the first one of a function, as it is or in its short form. Of a branch,
-    and of what is under a relocation, the operation and the registers are looked at."""
+    """Whether the instruction at an address is the first one of a function, as it is or in its short form, or a push that lowers
+    sp as that does or by a part. Of a branch, and of what is under a relocation, the operation and the registers are looked
+    at."""
     found, word = int.from_bytes(text[at - TEXT_AT:][:4], 'little'), source.word()
+    frame = frame_of(found & 0xFFFF)
+    if frame and word & 0xFFFFF == addi(SP, SP):
+        return frame.form == PUSH and frame.size <= -low_part(word)
     if is_branch(word):
         mask, short_mask = 0x01FFF07F, 0xE383
     else:
@@ -202,6 +219,7 @@ def check_monitor(group, what, folder, files, names):
 def listed_symbols(group):
     """symbols as they are printed, by hand and of the monitor, and what is refused"""
     check_by_hand(group)
+    check_inside_push(group)
     check_refusals(group)
     for monitor in monitors(group):
         check_monitor(group, *monitor)
