@@ -2,6 +2,7 @@
 
 use crate::objects::bytes_of;
 use psabi_sym::objects::Objects;
+use std::alloc::Global;
 use std::process::Abort;
 use std::test::Fail;
 use zc_base::mem_map::MemMap;
@@ -58,24 +59,42 @@ const SMALL: &str = "
 00000000 00000000
 ";
 
-// A link should count so many bytes of text, items and short ones, have these flags, and these bytes after its
-// headers.
+// The object, linked as it is or made smaller.
+fn link(alloc: Global, is_smaller: bool) -> Result<Linked, Fail> {
+    let mut files = Vec::new(alloc);
+    files.push(bytes_of(alloc, OBJECT)?)?;
+    let objects = Objects::gather(alloc, &files, MemMap::standard())?;
+    if is_smaller {
+        Ok(link_zc(alloc, objects)?)
+    } else {
+        Ok(link_plain(alloc, objects)?)
+    }
+}
+
+// How many bytes of text, items and short ones a plain link and this one have, and the flags.
+fn counts_text(alloc: Global, linked: &Linked) -> Result<String, Fail> {
+    let (plain, zc) = (linked.plain, linked.zc);
+    let before = format!(in alloc; "{} {} {}", plain.text, plain.items, plain.short)?;
+    let after = format!(in alloc; "{} {} {}", zc.text, zc.items, zc.short)?;
+    let flags = linked.elf.get(36..40).ok_or("no flags")?;
+    Ok(format!(in alloc; "{before}, {after}, {flags:?}")?)
+}
+
+// A link should have these counts and flags, and these bytes after its headers.
 fn expect<R: Abort + AllocGlobal>(
     rt: &R,
-    linked: &Linked,
-    counts: (u32, u32, u32),
-    flags: u8,
+    is_smaller: bool,
+    counts: &str,
     words: &str,
 ) -> Result<(), Fail> {
+    let linked = link(rt.alloc(), is_smaller)?;
+    let found = counts_text(rt.alloc(), &linked)?;
+    assert_eq!(rt; found.as_str(), counts);
     let bytes = bytes_of(rt.alloc(), words)?;
-    let found = (linked.zc.text, linked.zc.items, linked.zc.short);
-    let plain = (linked.plain.text, linked.plain.items, linked.plain.short);
     let end = bytes.len().saturating_add(116);
-    let parts = (linked.elf.get(36..40), linked.elf.get(116..end));
-    assert_eq!(*rt; (plain, found), ((56, 13, 0), counts));
-    assert_eq!(*rt;
-        parts,
-        (Some([flags, 0, 0, 0].as_slice()), Some(bytes.as_slice()))
+    assert!(rt;
+        linked.elf.get(116..end) == Some(bytes.as_slice()),
+        "{counts}"
     );
     Ok(())
 }
@@ -84,10 +103,6 @@ fn expect<R: Abort + AllocGlobal>(
 fn each_relocation_is_filled_in_and_each_item_has_its_shortest_form(
     rt: HostRuntime,
 ) -> Result<(), Fail> {
-    let alloc = rt.alloc();
-    let files = vec![in alloc; bytes_of(alloc, OBJECT)?]?;
-    let plain = link_plain(alloc, Objects::gather(alloc, &files, MemMap::standard())?)?;
-    expect(&rt, &plain, (56, 13, 0), 0, PLAIN)?;
-    let small = link_zc(alloc, Objects::gather(alloc, &files, MemMap::standard())?)?;
-    expect(&rt, &small, (52, 13, 5), 1, SMALL)
+    expect(&rt, false, "56 13 0, 56 13 0, [0, 0, 0, 0]", PLAIN)?;
+    expect(&rt, true, "56 13 0, 52 13 5, [1, 0, 0, 0]", SMALL)
 }

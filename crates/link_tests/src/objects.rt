@@ -3,7 +3,7 @@
 // The check proves each test, and pays there for each assertion and each row of a table. So files are
 // hexadecimal digits, and rows are lines of a text.
 
-use std::alloc::Global;
+use std::alloc::{AllocError, Global};
 use std::test::Fail;
 use zc_base::fields::put_u32;
 
@@ -58,7 +58,10 @@ const WEAK_NAME: usize = 384;
 pub fn bytes_of(alloc: Global, words: &str) -> Result<Vec<u8>, Fail> {
     let mut bytes = Vec::new(alloc);
     for word in words.split_whitespace() {
-        bytes.extend_from_slice(&u32::from_str_radix(word, 16)?.to_be_bytes())?;
+        let number = u32::from_str_radix(word, 16)?;
+        for k in 0..4_u32 {
+            bytes.push(((number >> (24 - 8 * k)) % 256) as u8)?;
+        }
     }
     Ok(bytes)
 }
@@ -90,24 +93,34 @@ fn put_reloc(file: &mut [u8], numbers: &[i64]) -> Result<(), Fail> {
     };
     let at = RELOCS + 12 * usize::from(u8::try_from(*number)?);
     let info = u32::from(u8::try_from(*symbol)?) << 8 | u32::from(u8::try_from(*kind)?);
-    let addend = u32::from_le_bytes(i32::try_from(*addend)?.to_le_bytes());
+    let addend = i32::try_from(*addend)?.cast_unsigned();
     write_word(file, at, u32::try_from(*offset)?)?;
     write_word(file, at + 4, info)?;
     write_word(file, at + 8, addend)
+}
+
+// Adds a word, the low byte first.
+fn add_word(file: &mut Vec<u8>, word: u32) -> Result<(), AllocError> {
+    let mut rest = word;
+    for _ in 0..4 {
+        file.push((rest % 256) as u8)?;
+        rest /= 256;
+    }
+    Ok(())
 }
 
 // Makes a change: `19*3` adds three words 19 at the file's end, and eight hexadecimal digits one word, `528:64` writes the
 // word 64 at 528, and five numbers are a relocation.
 fn change(alloc: Global, file: &mut Vec<u8>, text: &str) -> Result<(), Fail> {
     if let Some((word, times)) = text.split_once('*') {
+        let word = word.parse::<u32>()?;
         for _ in 0..times.parse::<u32>()? {
-            file.extend_from_slice(&word.parse::<u32>()?.to_le_bytes())?;
+            add_word(file, word)?;
         }
         return Ok(());
     }
     if !text.contains(':') {
-        file.extend_from_slice(&u32::from_str_radix(text, 16)?.to_le_bytes())?;
-        return Ok(());
+        return Ok(add_word(file, u32::from_str_radix(text, 16)?)?);
     }
     let numbers = numbers_of(alloc, text)?;
     match numbers.as_slice() {
@@ -152,13 +165,14 @@ pub fn files_of(alloc: Global, changes: &str) -> Result<Vec<Vec<u8>>, Fail> {
             change(alloc, &mut first, text)?;
         }
     }
-    if alone {
-        leave_added(&mut first)?;
-        return Ok(vec![in alloc; first]?);
-    }
-    if bare {
+    if alone || bare {
         leave_added(&mut first)?;
         leave_added(&mut second)?;
     }
-    Ok(vec![in alloc; first, second]?)
+    let mut files = Vec::new(alloc);
+    files.push(first)?;
+    if !alone {
+        files.push(second)?;
+    }
+    Ok(files)
 }

@@ -117,51 +117,47 @@ fn frame_text(alloc: Global, machine: &Machine) -> Result<String, Fail> {
     Ok(format!(in alloc; "{text} {bytes:?}")?)
 }
 
-// A push is interrupted after its first access, by what then overwrites that word; and then a pop is, once after each access.
+// The push and the pop, with what they save and load: lui ra,0x10; addi ra,ra,16; lui s0,0x11223; addi s0,s0,0x344; cm.push
+// {ra, s0}, -16; c.li a0,9; c.li ra,0; c.li s0,0; cm.popretz {ra, s0}, 16.
+const FRAME: &str = "000100B7 01008093 11223437 34440413 B852 4525 4081 4401 BC52";
+
+// After so many steps, and if an access is done, after an interrupt that then writes these bytes from 0FFFFFFC on: a push is
+// interrupted after its first access, by what then overwrites that word; and then a pop is, once after each access.
+const CUTS: &str = "
+steps 4 | done 00 | dirt EEEEEEEE | left 10010 10000000 10010 11223344 0 [0, 0, 0, 0, 238, 238, 238, 238]
+steps 1 | left 10012 ffffff0 10010 11223344 0 [16, 0, 1, 0, 68, 51, 34, 17]
+steps 3 | done 00 | left 10018 ffffff0 0 11223344 9 [16, 0, 1, 0, 68, 51, 34, 17]
+steps 0 | done 01 | left 10018 ffffff0 10010 11223344 9 [16, 0, 1, 0, 68, 51, 34, 17]
+steps 1 | left 10010 10000000 10010 11223344 0 [16, 0, 1, 0, 68, 51, 34, 17]";
+
+// Bytes for the last word of the stack.
+fn last_word(alloc: Global, text: &str) -> Result<Vec<(u32, u8)>, Fail> {
+    let (mut dirt, mut at) = (Vec::new(alloc), 0x0FFF_FFFC_u32);
+    for byte in bytes_of(alloc, text)? {
+        dirt.push((at, byte))?;
+        at = at.wrapping_add(1);
+    }
+    Ok(dirt)
+}
+
+// Makes the steps and the interrupt of a row, and says what they leave.
+fn left_by(alloc: Global, machine: &mut Machine, row: &str) -> Result<String, Fail> {
+    go(machine, number_of(row, "steps")?);
+    let done = bytes_of(alloc, column(row, "done"))?;
+    if !done.is_empty() {
+        let dirt = last_word(alloc, column(row, "dirt"))?;
+        machine.cut(done.as_slice(), dirt.as_slice());
+    }
+    frame_text(alloc, machine)
+}
+
 #[test]
 fn an_interrupted_push_or_pop_starts_again(rt: HostRuntime) -> Result<(), Fail> {
-    // lui ra,0x10; addi ra,ra,16; lui s0,0x11223; addi s0,s0,0x344; cm.push {ra, s0}, -16
-    // c.li a0,9; c.li ra,0; c.li s0,0; cm.popretz {ra, s0}, 16
-    let text = "000100B7 01008093 11223437 34440413 B852 4525 4081 4401 BC52";
-    let mut machine = load(rt.alloc(), text)?;
-    go(&mut machine, 4);
-    let dirt = [
-        (0x0FFF_FFFC, 0xEE),
-        (0x0FFF_FFFD, 0xEE),
-        (0x0FFF_FFFE, 0xEE),
-        (0x0FFF_FFFF, 0xEE),
-    ];
-    machine.cut(&[0], &dirt);
-    let cut = frame_text(rt.alloc(), &machine)?;
-    assert_eq!(rt;
-        cut.as_str(),
-        "10010 10000000 10010 11223344 0 [0, 0, 0, 0, 238, 238, 238, 238]"
-    );
-    go(&mut machine, 1);
-    let pushed = frame_text(rt.alloc(), &machine)?;
-    assert_eq!(rt;
-        pushed.as_str(),
-        "10012 ffffff0 10010 11223344 0 [16, 0, 1, 0, 68, 51, 34, 17]"
-    );
-    go(&mut machine, 3);
-    machine.cut(&[0], &[]);
-    let once = frame_text(rt.alloc(), &machine)?;
-    assert_eq!(rt;
-        once.as_str(),
-        "10018 ffffff0 0 11223344 9 [16, 0, 1, 0, 68, 51, 34, 17]"
-    );
-    machine.cut(&[1], &[]);
-    let twice = frame_text(rt.alloc(), &machine)?;
-    assert_eq!(rt;
-        twice.as_str(),
-        "10018 ffffff0 10010 11223344 9 [16, 0, 1, 0, 68, 51, 34, 17]"
-    );
-    go(&mut machine, 1);
-    let popped = frame_text(rt.alloc(), &machine)?;
-    assert_eq!(rt;
-        popped.as_str(),
-        "10010 10000000 10010 11223344 0 [16, 0, 1, 0, 68, 51, 34, 17]"
-    );
+    let mut machine = load(rt.alloc(), FRAME)?;
+    for row in CUTS.trim().lines() {
+        let left = left_by(rt.alloc(), &mut machine, row)?;
+        assert_eq!(rt; left.as_str(), column(row, "left"), "{row}");
+    }
     Ok(())
 }
 

@@ -37,7 +37,8 @@ fn cut_of(alloc: Global, row: &str) -> Result<Cut, Fail> {
         column(row, "relocs"),
         column(row, "data"),
     )?;
-    let files = vec![in alloc; object]?;
+    let mut files = Vec::new(alloc);
+    files.push(object)?;
     let objects = Objects::gather(alloc, &files, MemMap::standard())?;
     Ok(Cut::new(alloc, objects)?)
 }

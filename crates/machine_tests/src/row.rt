@@ -28,9 +28,11 @@ pub fn number_of(row: &str, key: &str) -> Result<u32, Fail> {
 pub fn bytes_of(alloc: Global, text: &str) -> Result<Vec<u8>, Fail> {
     let mut bytes = Vec::new(alloc);
     for digits in text.split_whitespace() {
-        let number = u32::from_str_radix(digits, 16)?.to_le_bytes();
-        let size = digits.len() / 2;
-        bytes.extend_from_slice(number.get(..size).ok_or("more than eight digits")?)?;
+        let mut number = u32::from_str_radix(digits, 16)?;
+        for _ in 0..digits.len() / 2 {
+            bytes.push((number % 256) as u8)?;
+            number /= 256;
+        }
     }
     Ok(bytes)
 }

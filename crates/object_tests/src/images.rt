@@ -5,6 +5,7 @@ use elf32_read::image::Image;
 use elf32_read::image_fault::ImageFault;
 use elf32_write::image_parts::ImageParts;
 use elf32_write::write_image::write_image;
+use std::alloc::{AllocError, Global};
 use std::test::Fail;
 use zc_base::mem_map::MemMap;
 use zc_base::place::Place;
@@ -29,9 +30,6 @@ const IMAGE: &str = "
 0d000000 08000000 03000000 00001000 80000000 00*12 04000000 00*4
 12000000 01000000 00*8 80000000 30000000 00*8 04000000 00*4
 1f000000 03000000 00*8 b0000000 29000000 00*8 01000000 00*4";
-
-// li a0,3 in two bytes, and addi a7,x0,93 and ecall in four each.
-const TEXT: [u8; 10] = [0x0D, 0x45, 0x93, 0x08, 0xD0, 0x05, 0x73, 0x00, 0x00, 0x00];
 
 // Each line: the number of the fault, or 0 for none, the changes, and what they make.
 const FAULTS: &str = "0 as it is
@@ -93,60 +91,91 @@ fn the_first_fault_of_an_image_is_numbered(rt: HostRuntime) -> Result<(), Fail> 
     Ok(())
 }
 
+// What the image says: where it starts, and how many segments and places it has; of a segment its address, its size,
+// whether it is code, and its bytes; and of each place the object, the section, the offset and the address.
+const PARTS: &str = "counts = 10000 2 4
+segment 0 = 10000 10 true [13, 69, 147, 8, 208, 5, 115, 0, 0, 0]
+segment 1 = 100000 0 false []
+places = 0:1:0 10000; 0:1:4 10002; 0:1:8 10006; 0:1:12 1000a;";
+
+fn segment_text(alloc: Global, image: &Image, i: u32) -> Result<String, Fail> {
+    if image.segment_count() <= i {
+        return Err("no segment".into());
+    }
+    let s = image.segment(i);
+    Ok(format!(in alloc; "{:x} {} {} {:?}", s.at, s.size, s.code, s.bytes)?)
+}
+
+fn places_text(alloc: Global, image: &Image) -> Result<String, AllocError> {
+    let mut text = String::new(alloc);
+    for i in 0..image.place_count() {
+        let (p, address) = image.place(i);
+        let place = format!(in alloc; "{}:{}:{} {address:x}; ", p.object, p.section, p.offset)?;
+        text.push_str(place.as_str())?;
+    }
+    Ok(text)
+}
+
+fn told(alloc: Global, image: &Image, question: &str) -> Result<String, Fail> {
+    let (word, number) = question.split_once(" ").unwrap_or((question, ""));
+    match word {
+        "segment" => segment_text(alloc, image, number.parse::<u32>()?),
+        "places" => Ok(places_text(alloc, image)?),
+        _ => {
+            let (entry, segments) = (image.entry(), image.segment_count());
+            Ok(format!(in alloc; "{entry:x} {segments} {}", image.place_count())?)
+        }
+    }
+}
+
 #[test]
 fn an_image_has_its_segments_and_places(rt: HostRuntime) -> Result<(), Fail> {
     let bytes = bytes_of(rt.alloc(), IMAGE)?;
     let image = Image::read(&bytes, MemMap::standard())?;
-    assert_eq!(rt;
-        (image.entry(), image.segment_count(), image.place_count()),
-        (0x10000, 2, 4)
-    );
-    let text = image.segment(0);
-    assert_eq!(rt;
-        (text.at, text.size, text.code, text.bytes),
-        (0x10000, 10, true, TEXT.as_slice())
-    );
-    let data = image.segment(1);
-    assert_eq!(rt;
-        (data.at, data.size, data.code, data.bytes.len()),
-        (0x10_0000, 0, false, 0)
-    );
-    for (i, (offset, address)) in [(0, 0x10000), (4, 0x10002), (8, 0x10006), (12, 0x1000A)]
-        .iter()
-        .enumerate()
-    {
-        assert!(rt; i < image.place_count() as usize);
-        let place = Place {
-            object: 0,
-            section: 1,
-            offset: *offset,
-        };
-        assert_eq!(rt; image.place(i as u32), (place, *address));
+    for line in PARTS.lines() {
+        let (question, want) = line.split_once(" = ").ok_or("no answer")?;
+        let text = told(rt.alloc(), &image, question)?;
+        assert_eq!(rt; text.as_str().trim(), want.trim(), "{line}");
     }
     Ok(())
 }
 
+// li a0,3 in two bytes, and addi a7,x0,93 and ecall in four each.
+const TEXT: &str = "0d45 9308d005 73000000";
+
+// The offset of each place in section 1 of the object, and its address.
+const PLACES: &str = "0 10000
+4 10002
+8 10006
+12 1000a";
+
+fn places(alloc: Global) -> Result<Vec<(Place, u32)>, Fail> {
+    let mut places = Vec::new(alloc);
+    for line in PLACES.lines() {
+        let (offset, address) = line.split_once(" ").ok_or("no address")?;
+        let place = Place {
+            object: 0,
+            section: 1,
+            offset: offset.parse::<u32>()?,
+        };
+        places.push((place, u32::from_str_radix(address, 16)?))?;
+    }
+    Ok(places)
+}
+
 #[test]
 fn an_image_is_written_from_its_parts(rt: HostRuntime) -> Result<(), Fail> {
-    let place = |offset| Place {
-        object: 0,
-        section: 1,
-        offset,
-    };
+    let (text, places) = (bytes_of(rt.alloc(), TEXT)?, places(rt.alloc())?);
+    assert!(rt; text.len() == 10 && places.len() == 4);
     let parts = ImageParts {
         entry: 0x10000,
         flags: 1,
         text_at: 0x10000,
-        text: Vec::from_slice(rt.alloc(), &TEXT)?,
+        text,
         data_at: 0x0010_0000,
         data_bytes: Vec::new(rt.alloc()),
         zero: 0,
-        places: vec![in rt.alloc();
-            (place(0), 0x10000),
-            (place(4), 0x10002),
-            (place(8), 0x10006),
-            (place(12), 0x1000A),
-        ]?,
+        places,
     };
     let file = write_image(rt.alloc(), &parts)?;
     assert!(rt; file == bytes_of(rt.alloc(), IMAGE)?);

@@ -134,11 +134,11 @@ const LATER_ENDS: &str = "
 00*4 02000000 00*8 34000000 e0000000 02000000 01000000 04000000 10000000
 00*4 03000000 00*8 14010000 85000000 00*8 01000000 00*4";
 
-// The objects of lines, each with its changes.
-fn files_of(alloc: Global, lines: &str) -> Result<Vec<Vec<u8>>, Fail> {
+// The objects of a list, each with its changes, with `;` between them.
+fn files_of(alloc: Global, list: &str) -> Result<Vec<Vec<u8>>, Fail> {
     let mut files = Vec::new(alloc);
-    for line in lines.lines() {
-        let (name, changes) = line.split_once(" ").unwrap_or((line, ""));
+    for text in list.split(';') {
+        let (name, changes) = text.split_once(" ").unwrap_or((text, ""));
         let object = match name {
             "first" => FIRST,
             "second" => SECOND,
@@ -154,13 +154,7 @@ fn files_of(alloc: Global, lines: &str) -> Result<Vec<Vec<u8>>, Fail> {
     Ok(files)
 }
 
-fn link(alloc: Global, lines: &str) -> Result<Objects, Fail> {
-    let files = files_of(alloc, lines)?;
-    Ok(Objects::gather(alloc, &files, MemMap::standard())?)
-}
-
-// The target as text.
-fn shown(alloc: Global, target: Target) -> Result<String, AllocError> {
+fn target_text(alloc: Global, target: Target) -> Result<String, AllocError> {
     match target {
         Target::Code(at) => format!(in alloc; "code {} {} {}", at.object, at.section, at.offset),
         Target::Number(value) => format!(in alloc; "number {value:x}"),
@@ -180,24 +174,112 @@ fn target_of(objects: &Objects, numbers: &str) -> Result<Target, Fail> {
     ))
 }
 
-// The symbols of each line lead where it says.
-fn expect_targets<R: Abort + AllocGlobal>(
-    rt: &R,
-    objects: &Objects,
-    lines: &str,
-) -> Result<(), Fail> {
+// Where the data end in the file and in memory, and their bytes in the file.
+fn data_text(alloc: Global, objects: &Objects) -> Result<String, Fail> {
+    let (file_end, end) = (objects.data_file_end(), objects.data_end());
+    let bytes = objects.data_contents(alloc)?;
+    let digits = hex::encode(alloc, bytes.as_slice())?;
+    Ok(format!(in alloc; "{file_end:x} {end:x} {digits}")?)
+}
+
+// The flags of each object.
+fn flags_text(alloc: Global, objects: &Objects) -> Result<String, AllocError> {
+    let mut text = String::new(alloc);
+    for i in 0..objects.object_count() {
+        let flags = objects.object(i as u16).flags();
+        text.push_str(format!(in alloc; "{flags:x} ")?.as_str())?;
+    }
+    Ok(text)
+}
+
+// How many objects there are, whether the map is the standard one, and the number of the first section after all.
+fn counts_text(alloc: Global, objects: &Objects) -> Result<String, AllocError> {
+    let count = objects.object_count();
+    let is_standard = objects.map() == MemMap::standard();
+    let after = objects.section_number(count as u16, 0);
+    format!(in alloc; "{count} {is_standard} {after:?}")
+}
+
+// Of each section of the first object, which one has its relocations, and whether it is code.
+fn relas_text(alloc: Global, objects: &Objects) -> Result<String, Fail> {
+    if objects.object_count() == 0 {
+        return Err("no object".into());
+    }
+    let mut text = String::new(alloc);
+    for section in 0..objects.object(0).section_count() as u16 {
+        let (rela, is_code) = (objects.rela_of(0, section), objects.is_code(0, section));
+        text.push_str(format!(in alloc; "{rela:?} {is_code}; ")?.as_str())?;
+    }
+    Ok(text)
+}
+
+// A section by its number among all: its object and its index there, the number by these, its type, alignment, size and
+// bytes, whether it is code, and the offsets of its relocations.
+fn section_text(alloc: Global, objects: &Objects, number: u32) -> Result<String, Fail> {
+    if objects.section_count() <= number {
+        return Err("no section".into());
+    }
+    let s = objects.section(number);
+    let (object, index) = (s.object(), s.index());
+    let found = objects.section_number(object, index);
+    let head = format!(in alloc; "{object}:{index} {found:?} {} {}", s.kind(), s.align())?;
+    let (length, is_code) = (s.bytes().len(), s.is_code());
+    let mut text = format!(in alloc; "{head} {} {length} {is_code}", s.size())?;
+    for k in 0..s.reloc_count() {
+        let offset = s.reloc(k).offset;
+        text.push_str(format!(in alloc; " {offset}")?.as_str())?;
+    }
+    Ok(text)
+}
+
+// A fault with its object, and the symbol that it names.
+fn fault_text(alloc: Global, fault: LinkFault) -> Result<String, AllocError> {
+    let LinkFault::Object { index, fault } = fault else {
+        return Err(AllocError);
+    };
+    match fault.symbol() {
+        None => format!(in alloc; "{index} {}", fault.name()),
+        Some(symbol) => format!(in alloc; "{index} {} {symbol}", fault.name()),
+    }
+}
+
+// What is asked of objects: where a symbol leads, or what the words below stand for.
+fn told(alloc: Global, objects: &Objects, question: &str) -> Result<String, Fail> {
+    let (word, number) = question.split_once(" ").unwrap_or((question, ""));
+    match word {
+        "linked" => Ok(String::from_str(alloc, "linked")?),
+        "start" => Ok(target_text(alloc, objects.start())?),
+        "data" => data_text(alloc, objects),
+        "flags" => Ok(flags_text(alloc, objects)?),
+        "counts" => Ok(counts_text(alloc, objects)?),
+        "relocated" => relas_text(alloc, objects),
+        "section" => section_text(alloc, objects, number.parse::<u32>()?),
+        _ => Ok(target_text(alloc, target_of(objects, question)?)?),
+    }
+}
+
+// The fault of objects, or what is asked of them.
+fn answer(alloc: Global, list: &str, question: &str) -> Result<String, Fail> {
+    let files = files_of(alloc, list)?;
+    match Objects::gather(alloc, &files, MemMap::standard()) {
+        Ok(objects) => told(alloc, &objects, question),
+        Err(fault) => Ok(fault_text(alloc, fault)?),
+    }
+}
+
+// Each line, after the same text, should have the objects, what is asked of them, and what comes.
+fn expect<R: Abort + AllocGlobal>(rt: &R, before: &str, lines: &str) -> Result<(), Fail> {
     for line in lines.lines() {
-        let (symbol, want) = line.split_once(" = ").ok_or("no target")?;
-        let target = shown(rt.alloc(), target_of(objects, symbol)?)?;
-        assert_eq!(rt; target.as_str(), want, "{line}");
+        let row = format!(in rt.alloc(); "{before}{line}")?;
+        let (given, want) = row.as_str().split_once(" = ").ok_or("no answer")?;
+        let (list, question) = given.split_once(" @ ").ok_or("no question")?;
+        let text = answer(rt.alloc(), list, question)?;
+        assert_eq!(rt; text.as_str().trim(), want.trim(), "{line}");
     }
     Ok(())
 }
 
-#[test]
-fn symbols_lead_to_code_numbers_and_nowhere(rt: HostRuntime) -> Result<(), Fail> {
-    let objects = link(rt.alloc(), "first\nsecond")?;
-    let lines = "0 0 5 = number 5
+const TARGETS: &str = "0 0 5 = number 5
 0 1 -1 = number 100001
 0 2 0 = code 0 1 4
 0 2 4 = code 0 1 8
@@ -213,34 +295,28 @@ fn symbols_lead_to_code_numbers_and_nowhere(rt: HostRuntime) -> Result<(), Fail>
 0 8 0 = number 10005b
 0 9 0 = nowhere
 1 1 0 = number 10005a";
-    expect_targets(&rt, &objects, lines)
+
+#[test]
+fn symbols_lead_to_code_numbers_and_nowhere(rt: HostRuntime) -> Result<(), Fail> {
+    expect(&rt, "first;second @ ", TARGETS)
 }
 
 // `abc` and `jklmn` are read only, `defg` is data, and `hi` small data.
-#[test]
-fn data_stands_class_after_class(rt: HostRuntime) -> Result<(), Fail> {
-    let objects = link(rt.alloc(), "first\nsecond")?;
-    let lines = "1 5 0 = number 100004
+const DATA: &str = "1 5 0 = number 100004
 0 10 0 = number 100010
 0 11 0 = number 100020
 0 12 0 = number 100030
-0 13 0 = number 100040";
-    expect_targets(&rt, &objects, lines)?;
-    assert_eq!(rt;
-        (objects.data_file_end(), objects.data_end()),
-        (0x10_0022, 0x10_005B)
-    );
-    let bytes = objects.data_contents(rt.alloc())?;
-    assert!(rt; bytes == bytes_of(rt.alloc(), "616263 00 6a6b6c6d6e 00*7 64656667 00*12 6869")?);
-    Ok(())
+0 13 0 = number 100040
+data = 100022 10005b 616263006a6b6c6d6e00000000000000646566670000000000000000000000006869";
+
+#[test]
+fn data_stands_class_after_class(rt: HostRuntime) -> Result<(), Fail> {
+    expect(&rt, "first;second @ ", DATA)
 }
 
 // Each name of the second object is one of the first, but for the whole text, two that aren't defined, and
 // the empty one.
-#[test]
-fn names_that_end_alike_are_told_apart(rt: HostRuntime) -> Result<(), Fail> {
-    let objects = link(rt.alloc(), "ends\nlater")?;
-    let lines = "1 1 0 = absent 0
+const NAMES: &str = "1 1 0 = absent 0
 1 2 0 = number 1
 1 3 0 = number 2
 1 4 0 = number 3
@@ -253,102 +329,59 @@ fn names_that_end_alike_are_told_apart(rt: HostRuntime) -> Result<(), Fail> {
 1 11 0 = absent 0
 1 12 0 = number 7
 1 13 0 = absent 0";
-    expect_targets(&rt, &objects, lines)
+
+#[test]
+fn names_that_end_alike_are_told_apart(rt: HostRuntime) -> Result<(), Fail> {
+    expect(&rt, "ends;later @ ", NAMES)
 }
 
 // In the names of symbols, `_start` begins at 11, in the place of `abs`, and `t` at 16.
+const STARTS: &str = " @ start = number 1234
+ 104:b 168:10 @ start = code 0 1 4
+ 120:b 168:10 @ start = number 100011
+ 168:10 184:b @ start = nowhere
+ 168:10 @ start = nowhere";
+
 #[test]
 fn a_program_starts_where_its_name_leads(rt: HostRuntime) -> Result<(), Fail> {
-    let lines = "first 307:6174735f 310:747261 = number 1234
-first 307:6174735f 310:747261 104:b 168:10 = code 0 1 4
-first 307:6174735f 310:747261 120:b 168:10 = number 100011
-first 307:6174735f 310:747261 168:10 184:b = nowhere
-first 307:6174735f 310:747261 168:10 = nowhere";
-    for line in lines.lines() {
-        let (files, want) = line.split_once(" = ").ok_or("no target")?;
-        let start = shown(rt.alloc(), link(rt.alloc(), files)?.start())?;
-        assert_eq!(rt; start.as_str(), want, "{line}");
-    }
-    Ok(())
+    expect(&rt, "first 307:6174735f 310:747261", STARTS)
 }
 
-// The object and its fault, with the symbol that this names.
-fn refusal(alloc: Global, files: &[Vec<u8>]) -> Result<String, AllocError> {
-    match Objects::gather(alloc, files, MemMap::standard()) {
-        Ok(_) => String::from_str(alloc, "none"),
-        Err(LinkFault::OutOfMemory) => Err(AllocError),
-        Err(LinkFault::Object { index, fault }) => match fault.symbol() {
-            None => format!(in alloc; "{index} {}", fault.name()),
-            Some(symbol) => format!(in alloc; "{index} {} {symbol}", fault.name()),
-        },
-    }
-}
+// In the last two the data are as large as they may be, and a byte larger.
+const FAULTS: &str = "header @ linked = linked
+header;empty;empty @ linked = 1 NotElf
+caller;first @ linked = 0 Undefined 1
+caller;first;first @ linked = 2 Duplicate 2
+caller 216:3fff9f @ linked = 0 Undefined 1
+caller 216:3fffa0 @ linked = 0 TooLarge";
 
-// Each row: the objects, and which of them is refused. In the last two the data are as large as they may be, and a
-// byte larger.
 #[test]
 fn the_first_fault_and_its_object_are_named(rt: HostRuntime) -> Result<(), Fail> {
-    for (lines, want) in [
-        ("header", "none"),
-        ("header\nempty\nempty", "1 NotElf"),
-        ("caller\nfirst", "0 Undefined 1"),
-        ("caller\nfirst\nfirst", "2 Duplicate 2"),
-        ("caller 216:3fff9f", "0 Undefined 1"),
-        ("caller 216:3fffa0", "0 TooLarge"),
-    ] {
-        let files = files_of(rt.alloc(), lines)?;
-        let refused = refusal(rt.alloc(), &files)?;
-        assert_eq!(rt; refused.as_str(), want, "{lines}");
-    }
-    Ok(())
+    expect(&rt, "", FAULTS)
 }
+
+const RELOCATED: &str = "counts = 2 true None
+flags = 0 10
+relocated = None false; Some(3) true; None false; None false; None false; None false; None false;";
 
 #[test]
 fn relocations_stand_in_the_section_that_names_theirs(rt: HostRuntime) -> Result<(), Fail> {
-    let objects = link(rt.alloc(), "caller 96:20\nheader")?;
-    assert_eq!(rt;
-        (objects.object_count(), objects.map() == MemMap::standard()),
-        (2, true)
-    );
-    for section in 0..objects.object(0).section_count() as u16 {
-        let want = if section == 1 { Some(3) } else { None };
-        assert_eq!(rt; objects.rela_of(0, section), want);
-        assert_eq!(rt; objects.is_code(0, section), section == 1);
-    }
-    assert_eq!(rt; objects.section_number(2, 0), None);
-    assert_eq!(rt;
-        (objects.object(0).flags(), objects.object(1).flags()),
-        (0, 0x10)
-    );
-    Ok(())
+    expect(&rt, "caller 96:20;header @ ", RELOCATED)
 }
 
-// Each section of the second object by its number among all, beside what the object says of it.
+// The header has no section. The second object has six.
+const SECTIONS: &str = "header;caller 96:20 @ counts = 2 true None
+header;caller 96:20 @ section 0 = 1:0 Some(0) 0 0 0 0 false
+header;caller 96:20 @ section 1 = 1:1 Some(1) 1 4 4 4 true 0
+header;caller 96:20 @ section 2 = 1:2 Some(2) 8 1 0 0 false
+header;caller 96:20 @ section 3 = 1:3 Some(3) 4 4 12 12 false
+header;caller 96:20 @ section 4 = 1:4 Some(4) 2 4 32 32 false
+header;caller 96:20 @ section 5 = 1:5 Some(5) 3 1 3 3 false
+header;caller 96:20 @ section 6 = 1:6 Some(6) 3 1 12 12 false
+second;caller 96:20 @ section 2 = 0:2 Some(2) 1 4 5 5 false
+second;caller 96:20 @ section 7 = 1:1 Some(7) 1 4 4 4 true 0";
+
 #[test]
 fn sections_are_numbered_through_all_objects(rt: HostRuntime) -> Result<(), Fail> {
-    let objects = link(rt.alloc(), "header\ncaller 96:20")?;
-    assert_eq!(rt; objects.object_count(), 2);
-    let before = objects.object(0).section_count();
-    let object = objects.object(1);
-    for i in 0..object.section_count() {
-        let number = before + i;
-        assert_eq!(rt; objects.section_number(1, i as u16), Some(number));
-        assert!(rt; number < objects.section_count());
-        let section = objects.section(number);
-        let entry = object.section_entry(i);
-        assert_eq!(rt; (section.object(), u32::from(section.index())), (1, i));
-        assert_eq!(rt;
-            (section.kind(), section.align(), section.size()),
-            (entry.kind, entry.align, entry.size)
-        );
-        assert_eq!(rt; section.bytes().len(), entry.bytes.len());
-        assert_eq!(rt;
-            (section.is_code(), section.reloc_count()),
-            (i == 1, object.reloc_count(i))
-        );
-        for k in 0..section.reloc_count() {
-            assert!(rt; section.reloc(k).offset < section.size());
-        }
-    }
-    Ok(())
+    expect(&rt, "", SECTIONS)
 }

@@ -2,6 +2,7 @@
 
 use crate::fixture::{bytes_of, changed};
 use elf32_read::object::Object;
+use std::alloc::Global;
 use std::process::Abort;
 use std::test::Fail;
 
@@ -30,6 +31,9 @@ const OBJECT: &str = "
 20000000 02000000 00*8 54000000 40000000 07000000 02000000 04000000 10000000
 28000000 03000000 00*8 94000000 39000000 00*8 01000000 00*4";
 
+// How many sections and symbols there are.
+const COUNTS: &str = "8 4";
+
 // Each section: its name, type, flags, size and alignment, how many bytes it has in the file, and how many
 // relocations.
 const SECTIONS: &str = " 0 0 0 0 0 0
@@ -46,6 +50,13 @@ const SYMBOLS: &str = " 0 0 0 0 0
  0 0 0 3 1
 _start 4 4 1 2 1
 c 4 8 1 1 65522";
+
+// Each relocation of section 1: its offset, symbol, type and addend.
+const RELOCS: &str = "0 2 23 0
+4 3 1 -4";
+
+// The contents of section 1, two instructions: `addi a0,x0,3` and `ecall`.
+const CONTENTS: &str = "[19, 5, 48, 0, 115, 0, 0, 0]";
 
 // Fields of a header: its type at 4, flags at 8, the offset of its content at 16, size at 20, link at 24, info at 28,
 // alignment at 32, and the size of an entry at 36. Each line: the fault, or `-` for none, the changes, and what
@@ -156,70 +167,84 @@ BadSymbol 116+4:11 116+12:30012 past the end of zeros
 BadSymbol 76:400 a relocation of no symbol
 BadSymbol 368:17 .eh_frame by another name";
 
-#[test]
-fn sections_are_read_with_names_contents_and_relocations(rt: HostRuntime) -> Result<(), Fail> {
+// A section, which says the same in its entry.
+fn section_text(alloc: Global, object: &Object, i: u32) -> Result<String, Fail> {
+    if object.section_count() <= i {
+        return Err("no section".into());
+    }
+    let (s, entry) = (object.section(i), object.section_entry(i));
+    if !(entry.name_starts_with(s.name) && entry.bytes == s.bytes) {
+        return Err("another entry".into());
+    }
+    let (name, length) = (str::from_utf8(s.name)?, s.bytes.len());
+    let head = format!(in alloc; "{name} {} {} {}", s.kind, s.flags.bits, s.size)?;
+    Ok(format!(in alloc; "{head} {} {length} {}", s.align, object.reloc_count(i))?)
+}
+
+fn symbol_text(alloc: Global, object: &Object, i: u32) -> Result<String, Fail> {
+    if object.symbol_count() <= i {
+        return Err("no symbol".into());
+    }
+    let s = object.symbol(i);
+    let head = format!(in alloc; "{} {} {}", str::from_utf8(s.name)?, s.value, s.size)?;
+    Ok(format!(in alloc; "{head} {} {} {}", s.bind, s.kind, s.home)?)
+}
+
+// A relocation of section 1.
+fn reloc_text(alloc: Global, object: &Object, k: u32) -> Result<String, Fail> {
+    if object.section_count() <= 1 || object.reloc_count(1) <= k {
+        return Err("no relocation".into());
+    }
+    let r = object.reloc(1, k);
+    Ok(format!(in alloc; "{} {} {} {}", r.offset, r.symbol, r.kind, r.addend)?)
+}
+
+fn contents_text(alloc: Global, object: &Object) -> Result<String, Fail> {
+    if object.section_count() <= 1 {
+        return Err("no section".into());
+    }
+    Ok(format!(in alloc; "{:?}", object.section_entry(1).bytes)?)
+}
+
+fn told(alloc: Global, object: &Object, word: &str, i: u32) -> Result<String, Fail> {
+    match word {
+        "section" => section_text(alloc, object, i),
+        "symbol" => symbol_text(alloc, object, i),
+        "relocation" => reloc_text(alloc, object, i),
+        "contents" => contents_text(alloc, object),
+        _ => {
+            let (sections, symbols) = (object.section_count(), object.symbol_count());
+            Ok(format!(in alloc; "{sections} {symbols}")?)
+        }
+    }
+}
+
+// The object's parts of this kind, from the first on, should be as the lines say.
+fn expect<R: Abort + AllocGlobal>(rt: &R, word: &str, lines: &str) -> Result<(), Fail> {
     let bytes = bytes_of(rt.alloc(), OBJECT)?;
     let object = Object::read(&bytes)?;
-    for (i, line) in SECTIONS.lines().enumerate() {
-        assert!(rt; i < object.section_count() as usize);
-        let section = object.section(i as u32);
-        let shown = format!(in rt.alloc();
-            "{} {} {} {} {} {}",
-            section.kind,
-            section.flags.bits,
-            section.size,
-            section.align,
-            section.bytes.len(),
-            object.reloc_count(i as u32)
-        )?;
-        let (name, numbers) = line.split_once(" ").ok_or("no name")?;
-        assert_eq!(rt; (section.name, shown.as_str()), (name.as_bytes(), numbers));
-        let entry = object.section_entry(i as u32);
-        assert!(rt;
-            entry.name_starts_with(section.name) && entry.bytes == section.bytes,
-            "{line}"
-        );
+    for (i, line) in lines.lines().enumerate() {
+        let text = told(rt.alloc(), &object, word, u32::try_from(i)?)?;
+        assert_eq!(rt; text.as_str(), line, "{word} {i}");
     }
     Ok(())
 }
 
-// Section 1 holds two instructions, `addi a0,x0,3` and `ecall`.
+#[test]
+fn sections_are_read_with_names_contents_and_relocations(rt: HostRuntime) -> Result<(), Fail> {
+    expect(&rt, "section", SECTIONS)
+}
+
 #[test]
 fn sections_and_symbols_are_counted_and_contents_lent(rt: HostRuntime) -> Result<(), Fail> {
-    let bytes = bytes_of(rt.alloc(), OBJECT)?;
-    let object = Object::read(&bytes)?;
-    assert_eq!(rt; (object.section_count(), object.symbol_count()), (8, 4));
-    let code = object.section_entry(1).bytes;
-    assert_eq!(rt; code, [0x13, 5, 0x30, 0, 0x73, 0, 0, 0].as_slice());
-    Ok(())
+    expect(&rt, "counts", COUNTS)?;
+    expect(&rt, "contents", CONTENTS)
 }
 
 #[test]
 fn symbols_and_relocations_are_read(rt: HostRuntime) -> Result<(), Fail> {
-    let bytes = bytes_of(rt.alloc(), OBJECT)?;
-    let object = Object::read(&bytes)?;
-    for (i, line) in SYMBOLS.lines().enumerate() {
-        assert!(rt; i < object.symbol_count() as usize);
-        let symbol = object.symbol(i as u32);
-        let shown = format!(in rt.alloc();
-            "{} {} {} {} {}",
-            symbol.value, symbol.size, symbol.bind, symbol.kind, symbol.home
-        )?;
-        let (name, numbers) = line.split_once(" ").ok_or("no name")?;
-        assert_eq!(rt; (symbol.name, shown.as_str()), (name.as_bytes(), numbers));
-    }
-    assert!(rt; 1 < object.section_count() && object.reloc_count(1) == 2);
-    let first = object.reloc(1, 0);
-    let second = object.reloc(1, 1);
-    assert_eq!(rt;
-        (first.offset, first.symbol, first.kind, first.addend),
-        (0, 2, 23, 0)
-    );
-    assert_eq!(rt;
-        (second.offset, second.symbol, second.kind, second.addend),
-        (4, 3, 1, -4)
-    );
-    Ok(())
+    expect(&rt, "symbol", SYMBOLS)?;
+    expect(&rt, "relocation", RELOCS)
 }
 
 fn fault_of(bytes: &[u8]) -> &'static str {

@@ -11,33 +11,38 @@ use std::io;
 use std::io::ErrorKind;
 use std::process::Abort;
 use std::test::Fail;
-use zc_outside::console::Console;
+use zc_outside::console::{Console, ConsoleFault};
 use zc_outside::mem_console::MemConsole;
 use zc_outside::std_console::StdConsole;
 
-// What a console answers to `take ROOM`, `out BYTES` or `err BYTES`: how many bytes it took, and then a
-// buffer of four.
+fn fault_text(alloc: Global, fault: ConsoleFault) -> Result<String, Fail> {
+    Ok(format!(in alloc; "{fault}")?)
+}
+
+// Takes into so much room of a buffer of four: how many bytes came, and the buffer.
+fn taken<C: Console>(alloc: Global, console: &mut C, room: &str) -> Result<String, Fail> {
+    let mut buf = *b"....";
+    match console.take(&mut buf[..room.parse::<usize>()?.min(4)]) {
+        Ok(count) => Ok(format!(in alloc; "{count} {}", str::from_utf8(&buf)?)?),
+        Err(fault) => fault_text(alloc, fault),
+    }
+}
+
+fn written(alloc: Global, answer: Result<(), ConsoleFault>) -> Result<String, Fail> {
+    match answer {
+        Ok(()) => Ok(String::from_str(alloc, "written")?),
+        Err(fault) => fault_text(alloc, fault),
+    }
+}
+
+// What a console answers to `take ROOM`, `out BYTES` or `err BYTES`.
 fn answer<C: Console>(alloc: Global, console: &mut C, call: &str) -> Result<String, Fail> {
     let (kind, value) = call.split_once(" ").ok_or("no call")?;
-    let (mut buf, mut count) = (*b"....", 0);
-    let answer = match kind {
-        "take" => match console.take(&mut buf[..value.parse::<usize>()?.min(4)]) {
-            Ok(taken) => {
-                count = taken;
-                Ok(())
-            }
-            Err(fault) => Err(fault),
-        },
-        "out" => console.out(value.as_bytes()),
-        "err" => console.err(value.as_bytes()),
-        _ => return Err("no call".into()),
-    };
-    match answer {
-        Ok(()) => {
-            let bytes = str::from_utf8(&buf)?;
-            Ok(format!(in alloc; "{count} {bytes}")?)
-        }
-        Err(fault) => Ok(format!(in alloc; "{fault}")?),
+    match kind {
+        "take" => taken(alloc, console, value),
+        "out" => written(alloc, console.out(value.as_bytes())),
+        "err" => written(alloc, console.err(value.as_bytes())),
+        _ => Err("no call".into()),
     }
 }
 
@@ -61,13 +66,13 @@ fn a_console_in_memory_moves_bytes_but_for_the_listed_calls(rt: HostRuntime) -> 
     let mut console = MemConsole::new(rt.alloc(), b"hello", &[3])?;
     let lines = "take 2 => 2 he..
 take 0 => 0 ....
-out to out => 0 ....
-out  => 0 ....
-err  => 0 ....
+out to out => written
+out  => written
+err  => written
 err lost => the console can't be read or written
 take 4 => 3 llo.
 take 4 => 0 ....
-err to err => 0 ....";
+err to err => written";
     expect_calls(&rt, &mut console, lines)?;
     let written = (console.out_bytes(), console.err_bytes());
     assert!(rt; written == (b"to out".as_slice(), b"to err".as_slice()));
@@ -91,9 +96,9 @@ fn short_reads_and_writes_are_whole_or_refused(rt: HostRuntime) -> Result<(), Fa
             "take 4 => 1 a...
 take 4 => 1 a...
 take 4 => {fault}
-out abc => 0 ....
+out abc => written
 out def => {fault}
-err  => 0 ....
+err  => written
 err to err => {fault}"
         )?;
         expect_calls(&rt, &mut console, lines.as_str())?;
@@ -110,7 +115,7 @@ fn a_write_that_takes_nothing_is_a_fault(rt: HostRuntime) -> Result<(), Fail> {
     let full = Drip::new(rt.alloc(), 0, None);
     let mut console = StdConsole::new(rt.stdin(), rt.stdout(), full);
     let lines = "err err => the console can't be read or written
-out out => 0 ....
+out out => written
 take 4 => 0 ....";
     expect_calls(&rt, &mut console, lines)
 }

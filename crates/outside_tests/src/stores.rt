@@ -8,7 +8,7 @@
 // proof; `scripts/check_program` has permissions.
 
 use crate::refusing::{CALLS, Refusing};
-use std::alloc::Global;
+use std::alloc::{AllocError, Global};
 use std::io::ErrorKind;
 use std::os::unix::fs::symlink;
 use std::process::Abort;
@@ -16,10 +16,37 @@ use std::test::Fail;
 use std::{fs, process};
 use zc_outside::disk_store::DiskStore;
 use zc_outside::mem_store::MemStore;
-use zc_outside::store::Store;
+use zc_outside::store::{Store, StoreFault};
 
-// What a store answers to `get LIMIT NAME`, or to `put BYTES NAME` of one word: the bytes between bars, or
-// none. A name is one of the folder, unless it begins with a slash.
+fn fault_text(alloc: Global, fault: StoreFault) -> Result<String, Fail> {
+    Ok(format!(in alloc; "{fault}")?)
+}
+
+// The bytes that a store gave, between bars.
+fn given(alloc: Global, answer: Result<Vec<u8>, StoreFault>) -> Result<String, Fail> {
+    match answer {
+        Ok(bytes) => Ok(format!(in alloc; "|{}|", str::from_utf8(bytes.as_slice())?)?),
+        Err(fault) => fault_text(alloc, fault),
+    }
+}
+
+fn put(alloc: Global, answer: Result<(), StoreFault>) -> Result<String, Fail> {
+    match answer {
+        Ok(()) => Ok(String::from_str(alloc, "put")?),
+        Err(fault) => fault_text(alloc, fault),
+    }
+}
+
+// A name of the folder, unless it begins with a slash.
+fn path_of(alloc: Global, folder: &str, name: &str) -> Result<String, AllocError> {
+    if name.starts_with('/') {
+        String::from_str(alloc, name)
+    } else {
+        format!(in alloc; "{folder}/{name}")
+    }
+}
+
+// What a store answers to `get LIMIT NAME`, or to `put BYTES NAME` of one word.
 fn answer<S: Store>(
     alloc: Global,
     store: &mut S,
@@ -28,30 +55,15 @@ fn answer<S: Store>(
 ) -> Result<String, Fail> {
     let (kind, rest) = call.split_once(" ").ok_or("no call")?;
     let (value, name) = rest.split_once(" ").ok_or("no name")?;
-    let inside = format!(in alloc; "{folder}/{name}")?;
-    let name = if name.starts_with('/') {
-        name
-    } else {
-        inside.as_str()
-    };
-    let mut bytes = Vec::new(alloc);
-    let answer = match kind {
-        "put" => store.put(name, value.as_bytes()),
-        "get" => match store.get(alloc, name, u32::from(value.parse::<u16>()?)) {
-            Ok(found) => {
-                bytes = found;
-                Ok(())
-            }
-            Err(fault) => Err(fault),
-        },
-        _ => return Err("no call".into()),
-    };
-    match answer {
-        Ok(()) => {
-            let text = str::from_utf8(bytes.as_slice())?;
-            Ok(format!(in alloc; "|{text}|")?)
-        }
-        Err(fault) => Ok(format!(in alloc; "{fault}")?),
+    let path = path_of(alloc, folder, name)?;
+    let path = path.as_str();
+    match kind {
+        "put" => put(alloc, store.put(path, value.as_bytes())),
+        "get" => given(
+            alloc,
+            store.get(alloc, path, u32::from(value.parse::<u16>()?)),
+        ),
+        _ => Err("no call".into()),
     }
 }
 
@@ -75,13 +87,13 @@ fn expect_calls<R: Abort + AllocGlobal, S: Store>(
 fn a_store_in_memory_keeps_files_but_for_the_listed_calls(rt: HostRuntime) -> Result<(), Fail> {
     let mut store = MemStore::new(rt.alloc(), &[1, 5])?;
     store.add("m/old", b"was")?;
-    let lines = "put abc new => ||
+    let lines = "put abc new => put
 put lost old => the file can't be read or written
 get 3 new => |abc|
 get 2 new => the file has 3 bytes or more, over its limit
 get 9 none => the file can't be read or written
 get 3 new => the file can't be read or written
-put  new => ||
+put  new => put
 get 0 new => ||
 get 3 old => |was|";
     expect_calls(&rt, &mut store, "m", lines)?;
@@ -123,17 +135,17 @@ fn change(rt: &HostRuntime, folder: &str, lines: &str) -> Result<(), Fail> {
 fn a_disk_gives_what_was_put_where_a_file_may_be(rt: HostRuntime) -> Result<(), Fail> {
     let folder = make_folder(&rt, "files")?;
     let mut store = DiskStore::new(&rt, rt.process());
-    let lines = "put the_first_bytes file => ||
+    let lines = "put the_first_bytes file => put
 get 15 file => |the_first_bytes|
-put  file => ||
+put  file => put
 get 15 file => ||
-put then_others file => ||
+put then_others file => put
 get 11 file => |then_others|
 get 10 file => the file has 11 bytes or more, over its limit
 get 10 /dev/zero => the file has 11 bytes or more, over its limit
 get 10 none => the file can't be read or written
 get 10 . => the file can't be read or written
-put bytes /dev/null => ||
+put bytes /dev/null => put
 put bytes /dev/full => the file can't be read or written
 put bytes . => the file can't be read or written
 put bytes none/file => the file can't be read or written";
@@ -152,7 +164,7 @@ const KINDS: [(ErrorKind, &str); 2] = [
 fn a_refused_call_leaves_the_old_file(rt: HostRuntime) -> Result<(), Fail> {
     let folder = make_folder(&rt, "refused")?;
     let mut store = DiskStore::new(&rt, rt.process());
-    expect_calls(&rt, &mut store, folder.as_str(), "put old file => ||")?;
+    expect_calls(&rt, &mut store, folder.as_str(), "put old file => put")?;
     for (kind, fault) in KINDS {
         let lines = format!(in rt.alloc(); "put new file => {fault}\nget 3 file => |old|")?;
         for call in 0..CALLS {
@@ -174,23 +186,23 @@ fn links_stay_and_files_are_known_by_their_last_names(rt: HostRuntime) -> Result
     let name = folder.as_str();
     let mut store = DiskStore::new(&rt, rt.process());
     change(&rt, name, "link file link\nlink link far")?;
-    let lines = "put new far => ||
-put newer far => ||
+    let lines = "put new far => put
+put newer far => put
 get 5 file => |newer|
 put other link => the file can't be read or written
 get 5 file => |newer|
-put one a => ||
-put two b => ||";
+put one a => put
+put two b => put";
     expect_calls(&rt, &mut store, name, lines)?;
     change(&rt, name, "rename b a")?;
     let lines = "put three a => the file can't be read or written
-put four b => ||
-put five a => ||
+put four b => put
+put five a => put
 get 4 a => |five|";
     expect_calls(&rt, &mut store, name, lines)?;
     change(&rt, name, "remove a")?;
-    let lines = "put six c => ||
-put seven c => ||
+    let lines = "put six c => put
+put seven c => put
 get 4 b => |four|";
     expect_calls(&rt, &mut store, name, lines)?;
     change(

@@ -17,8 +17,12 @@ const POPRETZ: u32 = 0xBC02;
 
 const POPRET: u32 = 0xBE02;
 
+// A push and pops of one register, of six and of all: cm.push {ra, s0-s4}, -48; cm.pop {ra, s0-s11}, 96; cm.popretz {ra},
+// 16; cm.popret {ra, s0-s4}, 48. Numbers in texts are hexadecimal.
+const SOME: &str = "B896 BAFA BC42 BE96";
+
 // a0, and the registers that lists have.
-const REGISTERS: [u32; 14] = [10, 1, 8, 9, 18, 19, 20, 21, 22, 23, 24, 25, 26, 27];
+const REGISTERS: &str = "A 1 8 9 12 13 14 15 16 17 18 19 1A 1B";
 
 // The instructions before the push or pop: two for each of these registers and for sp.
 const COMMITS: u32 = 30;
@@ -30,33 +34,21 @@ const MIDDLE: u32 = 0x0FFF_FE80;
 
 const HIGH: u32 = 0x1000_0000;
 
-// Values of sp at which some accesses lie outside the stack, or at no multiple of 4.
-const ENDS: [u32; 24] = [
-    LOW - 64,
-    LOW - 16,
-    LOW - 4,
-    LOW,
-    LOW + 4,
-    LOW + 8,
-    LOW + 16,
-    LOW + 32,
-    LOW + 48,
-    LOW + 52,
-    LOW + 64,
-    HIGH - 112,
-    HIGH - 80,
-    HIGH - 64,
-    HIGH - 32,
-    HIGH - 16,
-    HIGH - 4,
-    HIGH,
-    HIGH + 4,
-    MIDDLE + 1,
-    MIDDLE + 2,
-    MIDDLE + 3,
-    0,
-    0x1_0000,
-];
+// Values of sp at which some accesses lie outside the stack, or at no multiple of 4: near its first address, near the one
+// after its last, in the middle, and far from it.
+const ENDS: &str =
+    "0FEFFFC0 0FEFFFF0 0FEFFFFC 0FF00000 0FF00004 0FF00008 0FF00010 0FF00020 0FF00030 0FF00034 0FF00040
+0FFFFF90 0FFFFFB0 0FFFFFC0 0FFFFFE0 0FFFFFF0 0FFFFFFC 10000000 10000004
+0FFFFE81 0FFFFE82 0FFFFE83
+00000000 00010000";
+
+fn numbers(alloc: Global, text: &str) -> Result<Vec<u32>, Fail> {
+    let mut numbers = Vec::new(alloc);
+    for digits in text.split_whitespace() {
+        numbers.push(u32::from_str_radix(digits, 16)?)?;
+    }
+    Ok(numbers)
+}
 
 // `lui` and `addi` that give a register a number.
 fn constant(alloc: Global, register: u32, value: u32) -> Result<String, Fail> {
@@ -68,10 +60,11 @@ fn constant(alloc: Global, register: u32, value: u32) -> Result<String, Fail> {
 // Code that sets the registers before each of these halfwords.
 fn text_of(alloc: Global, halves: &[u32], pointer: u32) -> Result<String, Fail> {
     let mut text = String::new(alloc);
+    let registers = numbers(alloc, REGISTERS)?;
     for half in halves {
-        for register in REGISTERS {
+        for register in &registers {
             let value = register.wrapping_mul(0x0765_4321) ^ *half;
-            text.push_str(constant(alloc, register, value)?.as_str())?;
+            text.push_str(constant(alloc, *register, value)?.as_str())?;
         }
         text.push_str(constant(alloc, 2, pointer)?.as_str())?;
         text.push_str(format!(in alloc; "{half:04x} ")?.as_str())?;
@@ -87,6 +80,12 @@ fn pattern(alloc: Global, at: u32, count: u32) -> Result<Vec<(u32, u8)>, Fail> {
         dirt.push((address, (address.wrapping_mul(0x9E37_79B1) >> 24) as u8))?;
     }
     Ok(dirt)
+}
+
+// Writes such bytes by an interrupt.
+fn fill(alloc: Global, machine: &mut Machine, at: u32, count: u32) -> Result<(), Fail> {
+    machine.cut(&[0], pattern(alloc, at, count)?.as_slice());
+    Ok(())
 }
 
 fn added(sum: u32, value: u32) -> u32 {
@@ -134,9 +133,9 @@ fn stepped(machine: &mut Machine) -> u32 {
 fn frames(alloc: Global, halves: &[u32], pointer: u32, sum: u32) -> Result<u32, Fail> {
     let mut sum = sum;
     let mut machine = load(alloc, text_of(alloc, halves, pointer)?.as_str())?;
-    for (at, count) in [(LOW, 128), (MIDDLE - 128, 256), (HIGH - 128, 128)] {
-        machine.cut(&[0], pattern(alloc, at, count)?.as_slice());
-    }
+    fill(alloc, &mut machine, LOW, 128)?;
+    fill(alloc, &mut machine, MIDDLE - 128, 256)?;
+    fill(alloc, &mut machine, HIGH - 128, 128)?;
     let dirt = pattern(alloc, pointer.wrapping_sub(6), 12)?;
     for _half in halves {
         sum = frame(&mut machine, dirt.as_slice(), sum)?;
@@ -159,31 +158,40 @@ fn frame(machine: &mut Machine, dirt: &[(u32, u8)], sum: u32) -> Result<u32, Fai
     with_state(machine, sum)
 }
 
-/// The sum over each list at each adjustment. A pop that returns leaves the code, so each has a machine of its own, and each
-/// list one adjustment.
-pub fn all_lists(alloc: Global) -> Result<u32, Fail> {
-    let mut sum = 0;
-    for form in [PUSH, POP] {
-        let mut halves = Vec::new(alloc);
-        for number in 16..64_u32 {
-            halves.push(form | number << 2)?;
-        }
-        sum = frames(alloc, halves.as_slice(), MIDDLE, sum)?;
+// A sum over each list at each adjustment, of a form that doesn't return.
+fn lists(alloc: Global, form: u32, sum: u32) -> Result<u32, Fail> {
+    let mut halves = Vec::new(alloc);
+    for number in 16..64_u32 {
+        halves.push(form | number << 2)?;
     }
-    for form in [POPRETZ, POPRET] {
-        for list in 4..16_u32 {
-            sum = frames(alloc, &[form | list << 4 | list % 4 << 2], MIDDLE, sum)?;
-        }
+    frames(alloc, halves.as_slice(), MIDDLE, sum)
+}
+
+// A sum over each list of a form that returns. It leaves the code, so each has a machine of its own, and each list one
+// adjustment.
+fn returns(alloc: Global, form: u32, sum: u32) -> Result<u32, Fail> {
+    let mut sum = sum;
+    for list in 4..16_u32 {
+        sum = frames(alloc, &[form | list << 4 | list % 4 << 2], MIDDLE, sum)?;
     }
     Ok(sum)
 }
 
+/// The sum over all lists of all forms.
+pub fn all_lists(alloc: Global) -> Result<u32, Fail> {
+    let pushed = lists(alloc, PUSH, 0)?;
+    let popped = lists(alloc, POP, pushed)?;
+    let returned = returns(alloc, POPRETZ, popped)?;
+    returns(alloc, POPRET, returned)
+}
+
 /// The sum over lists of one register, of six and of all at the ends of the stack and elsewhere.
 pub fn all_ends(alloc: Global) -> Result<u32, Fail> {
+    let pointers = numbers(alloc, ENDS)?;
     let mut sum = 0;
-    for (form, more) in [(PUSH, 0x94), (POP, 0xF8), (POPRETZ, 0x40), (POPRET, 0x94)] {
-        for pointer in ENDS {
-            sum = frames(alloc, &[form | more], pointer, sum)?;
+    for half in numbers(alloc, SOME)? {
+        for pointer in &pointers {
+            sum = frames(alloc, &[half], *pointer, sum)?;
         }
     }
     Ok(sum)
