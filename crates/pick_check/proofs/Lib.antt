@@ -1,0 +1,11 @@
+pub mod SlotLaws
+pub mod Duality
+pub mod Accepted
+pub mod PlainLaws
+pub mod LineLaws
+pub mod FirstLaws
+pub mod WhileLaws
+pub mod TextLaws
+pub mod FaultLaws
+pub mod ReadLaws
+pub mod WriteLaws

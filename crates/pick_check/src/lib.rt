@@ -1,0 +1,15 @@
+//! Certificates of jump tables: what an assignment of slots saves, a bound by prices that none exceeds, the checker,
+//! whose yes means that no assignment saves more, and certificates as texts.
+#![tactic(auto)]
+
+pub mod accepts;
+pub mod assignment;
+pub mod bound;
+pub mod certificate;
+pub mod fault;
+mod first;
+mod line;
+pub mod part;
+pub mod read_certificate;
+pub mod saving;
+pub mod write_certificate;
