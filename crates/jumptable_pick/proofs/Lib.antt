@@ -1,0 +1,5 @@
+pub mod SortLaws
+pub mod RankLaws
+pub mod TableLaws
+pub mod PickLaws
+pub mod PlaceLaws

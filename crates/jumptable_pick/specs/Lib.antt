@@ -1,0 +1,4 @@
+pub mod Ranking
+pub mod Tables
+pub mod Picked
+pub mod Slots

@@ -1,0 +1,48 @@
+// The slots of the tables that may be picked.
+
+ghost use Rattle.std.specs.Prelude.{◌≡◌, ◌≤◌, IfOk, length};
+ghost use Rattle.jumptable_pick.specs.Tables.{call_table, chosen, joined, jump_table};
+
+use crate::ranking::Rank;
+use std::alloc::{AllocError, Global};
+
+/// The slots for jumps, in a table without calls.
+pub fn jump_table(alloc: Global, jumps: &[Rank]) -> Result<Vec<u32>, AllocError>
+    ensures { IfOk result (λ slots. slots.items ≡ jump_table jumps.now) }
+{
+    chosen(alloc, 4, 32, jumps)
+}
+
+/// The slots for jumps and for calls.
+pub fn call_table(alloc: Global, jumps: &[Rank], calls: &[Rank]) -> Result<Vec<u32>, AllocError>
+    ensures { IfOk result (λ slots. slots.items ≡ call_table jumps.now calls.now) }
+{
+    let low = chosen(alloc, 0, 32, jumps)?;
+    let high = chosen(alloc, 4, 224, calls)?;
+    joined(low, &high)
+}
+
+// Slots for the targets among the first `most` that save more than `above` bytes.
+fn chosen(alloc: Global, above: u32, most: usize, ranks: &[Rank]) -> Result<Vec<u32>, AllocError>
+    ensures { IfOk result (λ slots. slots.items ≡ chosen above most ranks.now) }
+{
+    let mut slots = Vec::new(alloc);
+    for rank in &ranks[..most.min(ranks.len())] {
+        if rank.saved.0 > above {
+            slots.push(rank.number)?;
+        }
+    }
+    Ok(slots)
+}
+
+// Slots for jumps and, after holes up to slot 32, slots for calls, if there are any.
+fn joined(mut low: Vec<u32>, high: &[u32]) -> Result<Vec<u32>, AllocError>
+    requires { length low.items ≤ 32 }
+    ensures { IfOk result (λ slots. slots.items ≡ joined low.items high.now) }
+{
+    if !high.is_empty() {
+        low.resize(32, 0)?;
+        low.extend_from_slice(high)?;
+    }
+    Ok(low)
+}
