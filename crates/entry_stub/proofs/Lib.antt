@@ -1,0 +1,2 @@
+pub mod StubLaws
+pub mod BaseLaws
