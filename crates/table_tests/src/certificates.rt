@@ -1,0 +1,179 @@
+// Texts of certificates, and what is said of them.
+//
+// In a row `|` stands for a line feed, `_` for a line `slot 0`, and `~` for eight of these.
+
+use crate::rows::expect;
+use pick_check::accepts::accepts;
+use pick_check::fault::CertFault;
+use pick_check::read_certificate::read_certificate;
+use pick_check::write_certificate::write_certificate;
+use std::alloc::{AllocError, Global};
+use std::test::Fail;
+
+const HOLES: &str = "slot 0\nslot 0\nslot 0\nslot 0\nslot 0\nslot 0\nslot 0\nslot 0\n";
+
+// The bytes that a row stands for.
+fn bytes_of(alloc: Global, row: &str) -> Result<Vec<u8>, AllocError> {
+    let mut bytes = Vec::new(alloc);
+    for byte in row.bytes() {
+        match byte {
+            b'|' => bytes.push(b'\n')?,
+            b'_' => bytes.extend_from_slice(b"slot 0\n")?,
+            b'~' => bytes.extend_from_slice(HOLES.as_bytes())?,
+            _ => bytes.push(byte)?,
+        }
+    }
+    Ok(bytes)
+}
+
+// What is said of a text: which line may not stand there, or the net, if the checker takes the certificate. What is
+// read is also written, and should give the text again.
+fn said_of(alloc: Global, bytes: &[u8]) -> Result<String, AllocError> {
+    let (savings, certificate) = match read_certificate(alloc, bytes) {
+        Ok(read) => read,
+        Err(CertFault::BadLine { number }) => return format!(in alloc; "line {number}"),
+        Err(fault) => return format!(in alloc; "{fault}"),
+    };
+    if savings.len() > 160_000 || certificate.slots.len() > 256 {
+        return String::from_str(alloc, "too many lines");
+    }
+    let written = write_certificate(alloc, &savings, &certificate)?;
+    if written.as_slice() != bytes {
+        return String::from_str(alloc, "written in another way");
+    }
+    if accepts(&savings, &certificate) {
+        format!(in alloc; "{}", certificate.net)
+    } else {
+        String::from_str(alloc, "rejected")
+    }
+}
+
+/// What is said of a text, or of the lines between the first and the last of a certificate, or of line 2 of one.
+pub fn answer(alloc: Global, call: &str, row: &str) -> Result<String, Fail> {
+    let text = match call {
+        "lines" => format!(in alloc; "zcld certificate 1|{row}|end|")?,
+        "line 2" => format!(in alloc; "zcld certificate 1|{row}|price 0 0 0|net 0|end|")?,
+        _ => String::from_str(alloc, row)?,
+    };
+    let bytes = bytes_of(alloc, text.as_str())?;
+    Ok(said_of(alloc, bytes.as_slice())?)
+}
+
+// Slots, prices and a net, by worked savings: the net that the checker takes, or that it takes none.
+const CHECKED: &str = "price 0 0 0|net 0 = 0
+price 0 0 0|net 1 = rejected
+saving 0 1 0 0 50|price 0 0 0|net 0 = 0
+saving 0 1 0 0 30|saving 0 1 4 0 50|saving 0 1 8 0 4|~~~~slot 2|slot 1|slot 3|price 0 0 0|net 16 = 16
+saving 0 1 0 0 30|saving 0 1 4 0 50|saving 0 1 8 0 4|~~~~slot 3|slot 2|slot 1|price 0 0 0|net 16 = 16
+saving 0 1 0 0 30|saving 0 1 4 0 50|saving 0 1 8 0 4|~~~~slot 2|slot 1|slot 3|price 0 0 1|net 16 = rejected
+saving 0 1 0 0 30|saving 0 1 4 0 50|saving 0 1 8 0 4|~~~~slot 2|slot 1|slot 3|price 0 0 1|net 237 = rejected
+saving 0 1 0 0 30|saving 0 1 4 0 50|saving 0 1 8 0 4|~~~_______slot 2|slot 1|slot 3|_price 0 0 0|net 16 = rejected
+saving 0 1 0 0 30|saving 0 1 4 0 50|saving 0 1 8 0 4|~~~~slot 2|slot 1|price 0 0 0|net 12 = rejected
+saving 0 1 0 10 0|saving 0 1 4 3 0|saving 0 1 8 2 0|slot 1|slot 2|price 0 0 0|net 6 = 6
+saving 0 1 0 10 0|saving 0 1 4 3 0|saving 0 1 8 2 0|slot 2|slot 1|price 0 0 0|net 6 = 6
+saving 0 1 0 10 0|saving 0 1 4 3 0|saving 0 1 8 2 0|slot 1|slot 2|slot 3|price 0 0 0|net 6 = 6
+saving 0 1 0 10 0|saving 0 1 4 3 0|saving 0 1 8 2 0|slot 1|price 0 0 0|net 4 = rejected
+saving 0 1 0 10 0|saving 0 1 4 3 0|saving 0 1 8 2 0|slot 1|slot 2|slot 4|price 0 0 0|net 2 = rejected
+saving 0 1 0 10 0|slot 1|slot 1|price 0 0 0|net 0 = rejected
+saving 0 1 0 10 0|slot 1|slot 1|price 0 0 0|net 20 = rejected
+saving 0 1 0 10 0|slot 1|slot 2|price 0 0 0|net 0 = rejected
+saving 0 1 0 10 0|slot 1|slot 4294967295|price 0 0 0|net 0 = rejected
+saving 0 1 0 10 0|saving 0 1 0 10 0|slot 1|slot 2|price 0 0 0|net 20 = 20
+saving 0 0 0 90 90|slot 1|~~~_______slot 1|price 0 0 0|net 216 = 216
+saving 65535 65535 4294967295 4294967295 4294967295|~~~_______slot 1|slot 1|price 0 0 0|net 17179869036 = 17179869036
+~~~~~~~~~~~~~~~~~~~~~~~~~~~~~~~~price 0 0 0|net 0 = rejected
+price 4294967295 4294967295 4294967295|net 0 = rejected
+price 4294967295 4294967295 4294967295|net 1099511627380 = rejected
+price 0 0 0|net 18446744073709551615 = rejected";
+
+#[test]
+fn a_certificate_is_checked(rt: HostRuntime) -> Result<(), Fail> {
+    expect(&rt, "lines", CHECKED)
+}
+
+const FAULTS: &str = " = line 1
+zcld certificate 1 = line 1
+zcld certificate 1| = line 2
+zcld certificate 2|price 0 0 0|net 0|end| = line 1
+|zcld certificate 1|price 0 0 0|net 0|end| = line 1
+zcld certificate 1 |price 0 0 0|net 0|end| = line 1
+zcld certificate 1|zcld certificate 1|price 0 0 0|net 0|end| = line 2
+zcld certificate 1|price 0 0 0| = line 3
+zcld certificate 1|price 0 0 0|net 0 = line 3
+zcld certificate 1|price 0 0 0|net 0| = line 4
+zcld certificate 1|price 0 0 0|net 0|end = line 4
+zcld certificate 1|price 0 0 0|net 0|end | = line 4
+zcld certificate 1|price 0 0 0|net 0|end|| = line 5
+zcld certificate 1|price 0 0 0|net 0|end| . = line 5
+zcld certificate 1|price 0 0 0|net 0|end|end| = line 5
+zcld certificate 1|net 0|price 0 0 0|end| = line 2
+zcld certificate 1|price 0 0 0|price 0 0 0|net 0|end| = line 3
+zcld certificate 1||price 0 0 0|net 0|end| = line 2
+zcld certificate 1|slot 1|saving 0 1 0 10 0|price 0 0 0|net 0|end| = line 3
+zcld certificate 1|saving 0 1 0 10 0|slot 1|saving 0 1 0 10 0|price 0 0 0|net 0|end| = line 4
+zcld certificate 1|saving 0 1 0 10 0|price 0 0 0|slot 1|net 0|end| = line 4
+zcld certificate 1|~~~~~~~~~~~~~~~~~~~~~~~~~~~~~~~~slot 0|price 0 0 0|net 0|end| = line 258
+zcld certificate 1|~~~~slot 00|price 0 0 0|net 0|end| = line 34
+zcld certificate 1|saving 0 1 0 0 50 |price 0 0 0|net 0|end| = line 2
+zcld certificate 1|slot |price 0 0 0|net 0|end| = line 2";
+
+#[test]
+fn the_first_line_that_may_not_stand_is_named(rt: HostRuntime) -> Result<(), Fail> {
+    expect(&rt, "text", FAULTS)
+}
+
+const LINES: &str = "saving 0 1 0 0 050 = line 2
+saving 00 1 0 0 50 = line 2
+saving 65536 1 0 0 50 = line 2
+saving 0 65536 0 0 50 = line 2
+saving 0 1 4294967296 0 50 = line 2
+saving 0 1 0 4294967296 50 = line 2
+saving 0 1 0 0 4294967296 = line 2
+saving 0 1 0 0 = line 2
+saving 0 1 0 0 50 0 = line 2
+saving  0 1 0 0 50 = line 2
+saving 0 1 0 0 +50 = line 2
+saving 0 1 0 0 -1 = line 2
+saving 0 1 0 0 0x5 = line 2
+Saving 0 1 0 0 50 = line 2
+ saving 0 1 0 0 50 = line 2
+saving0 1 0 0 50 = line 2
+saving = line 2
+slot 4294967296 = line 2
+slot 01 = line 2
+slot 1 1 = line 2
+slot = line 2
+slots 1 = line 2
+price 4294967296 0 0 = line 2
+price 0 4294967296 0 = line 2
+price 0 0 4294967296 = line 2
+price 0 0 = line 2
+price 0 0 0 0 = line 2
+price 0 0 00 = line 2
+prices 0 0 0 = line 2
+net 0 = line 2
+end = line 2";
+
+#[test]
+fn a_line_is_refused(rt: HostRuntime) -> Result<(), Fail> {
+    expect(&rt, "line 2", LINES)
+}
+
+// What is printed of a text of so many line feeds.
+fn told_of(alloc: Global, length: usize) -> Result<String, Fail> {
+    let mut text = Vec::new(alloc);
+    text.resize(length, b'\n')?;
+    match read_certificate(alloc, text.as_slice()) {
+        Ok(_read) => Err("it is read".into()),
+        Err(fault) => Ok(format!(in alloc; "{fault}")?),
+    }
+}
+
+#[test]
+fn a_text_above_the_limit_is_too_large(rt: HostRuntime) -> Result<(), Fail> {
+    let within = told_of(rt.alloc(), 8_388_608)?;
+    let above = told_of(rt.alloc(), 8_388_609)?;
+    assert_eq!(rt; within.as_str(), "line 1 isn't one of a certificate");
+    assert_eq!(rt; above.as_str(), "the certificate is too large");
+    Ok(())
+}

@@ -1,0 +1,31 @@
+// Rows of a table: what is asked, and what should come.
+//
+// The check proves each test, and pays there for each assertion and each row of a table. So rows are lines of
+// a text, and what is asserted of them stands here.
+
+use crate::certificates;
+use crate::picks::{certificate, places};
+use crate::stubs::stub_bytes;
+use std::alloc::Global;
+use std::process::Abort;
+use std::test::Fail;
+
+// What a call gives for a row.
+fn answer(alloc: Global, call: &str, given: &str) -> Result<String, Fail> {
+    match call {
+        "pick" => certificate(alloc, given),
+        "slot_places" => places(alloc, given),
+        "stub" => stub_bytes(alloc, given),
+        _ => certificates::answer(alloc, call, given),
+    }
+}
+
+/// The call should give for each row what stands after `=`.
+pub fn expect<R: Abort + AllocGlobal>(rt: &R, call: &str, rows: &str) -> Result<(), Fail> {
+    for row in rows.lines() {
+        let (given, want) = row.split_once(" =").ok_or("no answer")?;
+        let found = answer(rt.alloc(), call, given)?;
+        assert_eq!(rt; found.as_str().trim(), want.trim(), "{call} {row}");
+    }
+    Ok(())
+}
