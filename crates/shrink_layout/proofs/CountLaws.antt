@@ -19,9 +19,9 @@ use Rattle.block_cut.specs.declared.item.Item.TheVariants as item
 use Rattle.block_cut.proofs.StartLaws.{Above, IsStep, above_filter, along, among_first, among_later, is_among}
 use Rattle.block_cut.proofs.WholeLaws.{inputs_whole}
 use Rattle.shrink_layout.specs.Counted.{count_from, is_long_piece, is_short_piece, pieces_with}
-use Rattle.shrink_layout.specs.Pieces.{is_short_jump, jump_piece, piece_at, piece_count, piece_number_at, piece_of, pieces_in, pieces_of, section_alignment, section_pieces, unit_piece}
+use Rattle.shrink_layout.specs.Pieces.{is_short_jump, jump_piece, piece_at, piece_count, piece_number_at, piece_of, pieces_by, pieces_in, pieces_of, section_alignment, section_pieces, slot_at, unit_piece}
 use Rattle.shrink_layout.specs.Settled.{is_long, is_sized, settled_sizes, units_with}
-use Rattle.shrink_layout.specs.Units.{CodeUnit, OneGroup, OneItem, unit_at}
+use Rattle.shrink_layout.specs.Units.{CodeUnit, OneGroup, OneItem, OneSite, unit_by}
 use Rattle.shrink_layout.specs.declared.piece.Piece.{Piece}
 use Rattle.shrink_layout.specs.declared.piece.Piece.TheVariants.{Align}
 use Rattle.shrink_layout.proofs.UnitLaws.{held_start, there}
@@ -86,11 +86,13 @@ module _ (objects : List ObjectParts) where
   unit_short None size = refl
   unit_short (Some (OneItem i)) size = (item_counts objects i size).0
   unit_short (Some (OneGroup g)) size = refl
+  unit_short (Some (OneSite n)) size = refl
 
   pub unit_long : (o : Option CodeUnit) (size : ℕ) → is_long_piece (unit_piece objects o) size ≡ option_map_or (is_long size) o false
   unit_long None size = refl
   unit_long (Some (OneItem i)) size = (item_counts objects i size).1
   unit_long (Some (OneGroup g)) size = refl
+  unit_long (Some (OneSite n)) size = refl
 
 -- ---- counts
 
@@ -106,22 +108,22 @@ count_append test sizes k (p ∷ first) second =
     omega (arith, rest, ap (λ n. count_from test sizes n second) same)
 
 -- what passes of two lists
-passed_append : (test : Place → Bool) (first second : List Place) → length (filter test (first ++ second)) ≡ length (filter test first) + length (filter test second)
+pub passed_append : {X : Type 0} (test : X → Bool) (first second : List X) → length (filter test (first ++ second)) ≡ length (filter test first) + length (filter test second)
 passed_append test [] second = omega arith
-passed_append test (q ∷ first) second = by (test q) (passed_append test first second)
+passed_append {X = X} test (x ∷ first) second = by (test x) (passed_append test first second)
   where
     by : (b : Bool) → length (filter test (first ++ second)) ≡ length (filter test first) + length (filter test second)
-        → length (cond b (q ∷ filter test (first ++ second)) (filter test (first ++ second))) ≡ length (cond b (q ∷ filter test first) (filter test first)) + length (filter test second)
+        → length (cond b (x ∷ filter test (first ++ second)) (filter test (first ++ second))) ≡ length (cond b (x ∷ filter test first) (filter test first)) + length (filter test second)
     by true rest = omega (arith, rest)
     by false rest = omega (arith, rest)
 
 module _
-    (inputs : ParsedInputs) (sizes : List ℕ) (of_piece : Piece → ℕ → Bool) (of_unit : ℕ → CodeUnit → Bool)
+    (inputs : ParsedInputs) (slot : Place → Option ℕ) (sizes : List ℕ) (of_piece : Piece → ℕ → Bool) (of_unit : ℕ → CodeUnit → Bool)
     (padding : (alignment size : ℕ) → of_piece (Align alignment) size ≡ false)
     (unit : (o : Option CodeUnit) (size : ℕ) → of_piece (unit_piece inputs.objects o) size ≡ option_map_or (of_unit size) o false) where
   -- whether the unit at a place passes
   abbrev passes : Place → Bool
-  passes q = option_map_or (of_unit (slice_index sizes (piece_number_at inputs.objects q))) (unit_at inputs q) false
+  passes q = option_map_or (of_unit (slice_index sizes (piece_number_at inputs.objects q))) (unit_by inputs slot q) false
 
   module _ (l : IndexedSection) (here : section_at inputs.objects l.object l.index ≡ Some l.section) (code : is_code_section l.section ≡ true) where
     -- the number of the first place
@@ -135,20 +137,20 @@ module _
 
     -- of places with numbers one after another as many pass as pieces
     counted : (ns : List ℕ) → ((n : ℕ) → is_among n ns ≡ true → starts_on l.section n ≡ true) → (a : ℕ) → map (index_on l.section) ns ≡ range_with_len a (length ns)
-        → count_from of_piece sizes (first + a) (map (piece_at inputs) (map (place_of l) ns)) ≡ length (filter passes (map (place_of l) ns))
+        → count_from of_piece sizes (first + a) (map (piece_at inputs slot) (map (place_of l) ns)) ≡ length (filter passes (map (place_of l) ns))
     counted [] are a numbers = refl
     counted (n ∷ ns) are a numbers =
         let q = place_of l n in
         let start = are n (among_first n n ns refl) in
         let index : index_on l.section n ≡ a = ap (λ l. slice_index l 0) numbers in
         let number : piece_number_at inputs.objects q ≡ first + a = number_here n start ∙ ap (λ k. first + k) index in
-        let one : of_piece (piece_at inputs q) (slice_index sizes (first + a)) ≡ passes q =
-        unit (unit_at inputs q) (slice_index sizes (first + a))
-        ∙ sym (λ j. option_map_or (of_unit (slice_index sizes (number j))) (unit_at inputs q) false) in
+        let one : of_piece (piece_at inputs slot q) (slice_index sizes (first + a)) ≡ passes q =
+        unit (unit_by inputs slot q) (slice_index sizes (first + a))
+        ∙ sym (λ j. option_map_or (of_unit (slice_index sizes (number j))) (unit_by inputs slot q) false) in
         let rest = counted ns (λ m is. are m (among_later n m ns is)) (a + 1) (ap (drop 1) numbers) in
         let next : first + (a + 1) ≡ first + a + 1 = omega arith in
-        ap (λ b. cond {A = ℕ} b 1 0 + count_from of_piece sizes (first + a + 1) (map (piece_at inputs) (map (place_of l) ns))) one
-        ∙ by (passes q) (ap (λ k. count_from of_piece sizes k (map (piece_at inputs) (map (place_of l) ns))) (sym next) ∙ rest)
+        ap (λ b. cond {A = ℕ} b 1 0 + count_from of_piece sizes (first + a + 1) (map (piece_at inputs slot) (map (place_of l) ns))) one
+        ∙ by (passes q) (ap (λ k. count_from of_piece sizes k (map (piece_at inputs slot) (map (place_of l) ns))) (sym next) ∙ rest)
       where
         by : (b : Bool) {x : ℕ} → x ≡ length (filter passes (map (place_of l) ns))
             → cond {A = ℕ} b 1 0 + x ≡ length (cond b (place_of l n ∷ filter passes (map (place_of l) ns)) (filter passes (map (place_of l) ns)))
@@ -157,7 +159,7 @@ module _
 
   -- so of a section
   section_counted : (l : IndexedSection) → section_at inputs.objects l.object l.index ≡ Some l.section → (is_code_section l.section ≡ true → IsWhole l.section)
-      → count_from of_piece sizes (1 + sum_by piece_count (sections_before inputs.objects l.object l.index)) (section_pieces inputs l) ≡ length (filter passes (places_of l))
+      → count_from of_piece sizes (1 + sum_by piece_count (sections_before inputs.objects l.object l.index)) (section_pieces inputs slot l) ≡ length (filter passes (places_of l))
   section_counted l here whole = by (is_code_section l.section) refl
     where
       k : ℕ
@@ -167,31 +169,31 @@ module _
       places b = cond b (map (place_of l) (starts_in l.section)) []
 
       by : (b : Bool) → is_code_section l.section ≡ b
-          → count_from of_piece sizes k (cond b (Align (section_alignment l.section) ∷ map (piece_at inputs) (places b)) []) ≡ length (filter passes (places b))
+          → count_from of_piece sizes k (cond b (Align (section_alignment l.section) ∷ map (piece_at inputs slot) (places b)) []) ≡ length (filter passes (places b))
       by true code =
           let pad = padding (section_alignment l.section) (slice_index sizes k) in
           let own = counted l here code (starts_in l.section) (λ m is. is) 0 (indexes l.section code (whole code)) in
           let same : first l here code + 0 ≡ k + 1 = omega arith in
-          let places_of_code = map (piece_at inputs) (map (place_of l) (starts_in l.section)) in
+          let places_of_code = map (piece_at inputs slot) (map (place_of l) (starts_in l.section)) in
           omega (arith, ap (λ b. cond {A = ℕ} b 1 0) pad, ap (λ n. count_from of_piece sizes n places_of_code) same, own)
       by false other = refl
 
   -- and of sections one after another
   sections_counted : (k : ℕ) (ls : List IndexedSection)
-      → ((j : ℕ) (l : IndexedSection) → slice_get ls j ≡ Some l → count_from of_piece sizes (k + sum_by piece_count (take j ls)) (section_pieces inputs l) ≡ length (filter passes (places_of l)))
-      → count_from of_piece sizes k (pieces_in inputs ls) ≡ length (filter passes (flat_map places_of ls))
+      → ((j : ℕ) (l : IndexedSection) → slice_get ls j ≡ Some l → count_from of_piece sizes (k + sum_by piece_count (take j ls)) (section_pieces inputs slot l) ≡ length (filter passes (places_of l)))
+      → count_from of_piece sizes k (pieces_in inputs slot ls) ≡ length (filter passes (flat_map places_of ls))
   sections_counted k [] each = refl
   sections_counted k (l ∷ ls) each =
       let first : k + 0 ≡ k = omega arith in
-      let own = ap (λ n. count_from of_piece sizes n (section_pieces inputs l)) (sym first) ∙ each 0 l refl in
-      let long = length-section_laid (λ s. Align (section_alignment s)) (piece_at inputs) l in
+      let own = ap (λ n. count_from of_piece sizes n (section_pieces inputs slot l)) (sym first) ∙ each 0 l refl in
+      let long = length-section_laid (λ s. Align (section_alignment s)) (piece_at inputs slot) l in
       let rest = sections_counted (k + piece_count l) ls (λ j m is.
       let there : k + piece_count l + sum_by piece_count (take j ls) ≡ k + sum_by piece_count (take (suc j) (l ∷ ls)) = omega (arith, sum_by-cons piece_count l (take j ls)) in
-      ap (λ n. count_from of_piece sizes n (section_pieces inputs m)) there ∙ each (suc j) m is) in
+      ap (λ n. count_from of_piece sizes n (section_pieces inputs slot m)) there ∙ each (suc j) m is) in
       omega (
         arith,
-        count_append of_piece sizes k (section_pieces inputs l) (pieces_in inputs ls),
-        ap (λ n. count_from of_piece sizes (k + n) (pieces_in inputs ls)) long,
+        count_append of_piece sizes k (section_pieces inputs slot l) (pieces_in inputs slot ls),
+        ap (λ n. count_from of_piece sizes (k + n) (pieces_in inputs slot ls)) long,
         own,
         rest,
         passed_append passes (places_of l) (flat_map places_of ls),
@@ -200,16 +202,17 @@ module _
 -- ---- all places
 
 pub units_counted :
-    (inputs : Inputs) → gather_fault inputs ≡ None → (of_piece : Piece → ℕ → Bool) (of_unit : ℕ → CodeUnit → Bool)
+    (inputs : Inputs) → gather_fault inputs ≡ None → (slots : List (Option Place)) (of_piece : Piece → ℕ → Bool) (of_unit : ℕ → CodeUnit → Bool)
     → ((alignment size : ℕ) → of_piece (Align alignment) size ≡ false)
     → ((o : Option CodeUnit) (size : ℕ) → of_piece (unit_piece (parsed inputs).objects o) size ≡ option_map_or (of_unit size) o false)
-    → pieces_with of_piece (pieces_of (parsed inputs)) (settled_sizes (parsed inputs)) ≡ units_with (parsed inputs) of_unit
-unfolding pieces_of
-units_counted inputs none of_piece of_unit padding unit =
+    → pieces_with of_piece (pieces_of (parsed inputs) slots) (settled_sizes (parsed inputs) slots) ≡ units_with (parsed inputs) slots of_unit
+unfolding pieces_by pieces_of
+units_counted inputs none slots of_piece of_unit padding unit =
     let given = parsed inputs in
+    let slot = slot_at given slots in
     let all = all_sections given.objects in
-    let sizes = settled_sizes given in
-    sections_counted given sizes of_piece of_unit padding unit 1 all (λ k l is.
+    let sizes = settled_sizes given slots in
+    sections_counted given slot sizes of_piece of_unit padding unit 1 all (λ k l is.
     let here = listed_at given.objects k l is in
-    ap (λ ls. count_from of_piece sizes (1 + sum_by piece_count ls) (section_pieces given l)) (sym (before_number given.objects k l is))
-    ∙ section_counted given sizes of_piece of_unit padding unit l here (inputs_whole inputs l.object l.index l.section none here))
+    ap (λ ls. count_from of_piece sizes (1 + sum_by piece_count ls) (section_pieces given slot l)) (sym (before_number given.objects k l is))
+    ∙ section_counted given slot sizes of_piece of_unit padding unit l here (inputs_whole inputs l.object l.index l.section none here))

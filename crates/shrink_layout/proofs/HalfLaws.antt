@@ -1,14 +1,56 @@
--- Halfwords by what is written for pieces.
-use Rattle.std.proofs.Common.{◌≡◌, ℕ, zero, suc, List, [], ◌∷◌, ◌++◌, length, Option, Some, None, slice_get, slice_index, refl, ap, subst, ◌∙◌, arith}
+-- Halfwords by what is written for pieces, and which of them are of jumps and calls through the table.
+use Rattle.std.proofs.Common.{◌≡◌, ℕ, zero, suc, List, [], ◌∷◌, ◌++◌, length, Option, Some, None, true, false, slice_get, slice_index, refl, ap, sym, subst, ◌∙◌, arith}
+use Rattle.std.specs.Option.{option_map}
 use Rattle.std.proofs.lemmas.Option.{none-some, same_Some}
+use Rattle.zc_base.specs.declared.place.Place.{Place}
 use Rattle.psabi_sym.specs.Faults.{gather_fault}
 use Rattle.psabi_sym.specs.Inputs.{Inputs, parsed}
 use Rattle.psabi_sym.specs.Indexed.{all_sections}
-use Rattle.shrink_layout.specs.Invariants.Made.{AreHalvesOf, IsHalfAt, owners_in}
-use Rattle.shrink_layout.specs.Invariants.Numbers.{AreHalves}
-use Rattle.shrink_layout.specs.Units.{CodeUnit, OneItem, unit_at}
+use Rattle.rv_decode.specs.declared.instr.Instr.{Instr}
+use Rattle.zc_decode.specs.Halfwords.{decoded16, spelled}
+use Rattle.zc_decode.specs.Rows.{form_of}
+use Rattle.zc_decode.specs.declared.short.Short.{Short}
+use Rattle.zc_decode.specs.declared.short.Short.TheVariants.{Base, Push, Pop, PopRet, PopRetz, MoveSa, MoveAs, TableJump}
+use Rattle.zc_encode.specs.Encoding.{normal_short}
+use Rattle.zc_encode.specs.Halves.{encoded16}
+use Rattle.zc_encode.proofs.ZcmpRows.{table_row}
+use Rattle.zca_zcb_pass.specs.Forms.{HasEffectOf}
+use Rattle.shrink_layout.specs.Halves.{IsSiteHalf}
+use Rattle.shrink_layout.specs.Invariants.Made.{AreHalvesOf, all_owners}
+use Rattle.shrink_layout.specs.Invariants.Numbers.{AreHalves, IsHalfAt, is_table_half, is_table_jump}
+use Rattle.shrink_layout.specs.Pieces.{unit_at}
+use Rattle.shrink_layout.specs.Units.{CodeUnit, OneGroup, OneItem, OneSite}
 use Rattle.shrink_layout.proofs.NumberLaws.{laid_there, length-laid_in, length-pieces_of}
-use Rattle.shrink_layout.proofs.UnitLaws.{unit_item}
+
+-- ---- which spell a jump or call through the table
+
+-- 0 doesn't
+pub no_table_half : is_table_half 0 ≡ false
+unfolding decoded16 form_of
+no_table_half = refl
+
+-- one with the effect of an instruction doesn't
+pub effect_no_table : (i : Instr) (half : ℕ) → HasEffectOf i half → is_table_half half ≡ false
+effect_no_table i half has = ap is_table_jump has.1
+
+-- that of a slot does
+pub table_half_is : (slot half : ℕ) → encoded16 (TableJump slot) ≡ Some half → is_table_half half ≡ true
+unfolding decoded16
+table_half_is slot half is =
+    let row = table_row slot half is in
+    ap (λ o. is_table_jump (option_map (λ form. spelled form half) o)) row.1.row ∙ by (spelled row.0 half) row.1.is
+  where
+    by : (s : Short) → normal_short s ≡ TableJump slot → is_table_jump (Some s) ≡ true
+    by (Base i) h = absurd cc
+    by (Push list adjust) h = absurd cc
+    by (Pop list adjust) h = absurd cc
+    by (PopRet list adjust) h = absurd cc
+    by (PopRetz list adjust) h = absurd cc
+    by (MoveSa first second) h = absurd cc
+    by (MoveAs first second) h = absurd cc
+    by (TableJump index) h = refl
+
+-- ---- those of pieces
 
 -- those of two lists
 pub halves-append : (owners more : List (Option CodeUnit)) (halves others : List ℕ) → AreHalvesOf owners halves → AreHalvesOf more others → AreHalvesOf (owners ++ more) (halves ++ others)
@@ -32,10 +74,27 @@ half_got (owner ∷ owners) (h ∷ halves) are zero o is = subst (λ x. IsHalfAt
 half_got (owner ∷ owners) (h ∷ halves) are (suc k) o is = half_got owners halves are.1 k o is
 
 -- those of all pieces
-pub all_halves : (inputs : Inputs) → gather_fault inputs ≡ None → (halves : List ℕ) → AreHalvesOf (None ∷ owners_in (parsed inputs) (all_sections (parsed inputs).objects)) halves → AreHalves (parsed inputs) halves
-all_halves inputs none halves are =
+pub all_halves : (inputs : Inputs) → gather_fault inputs ≡ None → (slots : List (Option Place)) (halves : List ℕ)
+    → AreHalvesOf (all_owners (parsed inputs) slots) halves → AreHalves (parsed inputs) slots halves
+all_halves inputs none slots halves are =
     let given = parsed inputs in
-    let owners = owners_in given (all_sections given.objects) in (
-      omega (arith, length-halves (None ∷ owners) halves are, length-laid_in (λ s. None) (unit_at given) (all_sections given.objects), length-pieces_of given),
-      λ q i is. half_got (None ∷ owners) halves are _ (Some (OneItem i)) (laid_there inputs none None (λ s. None) (unit_at given) q i (unit_item given q i is).1 ∙ ap Some is),
+    let owners = all_owners given slots in (
+      omega (arith, length-halves owners halves are, length-laid_in (λ s. None) (unit_at given slots) (all_sections given.objects), length-pieces_of given slots),
+      λ q i is. half_got owners halves are _ (unit_at given slots q) (laid_there inputs none None (λ s. None) (unit_at given slots) q i is),
     )
+
+-- ---- of one piece
+
+-- the halfword of a jump or call through the table is kept if that is what is written
+pub site_half_by : (o : Option CodeUnit) (half : ℕ) → IsHalfAt o half → is_table_half half ≡ true → IsSiteHalf o (Some half)
+site_half_by None half is table = absurd (cc (is, table))
+site_half_by (Some (OneItem i)) half is table = absurd (cc (is.1, table))
+site_half_by (Some (OneGroup g)) half is table = absurd (cc (is, table))
+site_half_by (Some (OneSite slot)) half is table = sym is
+
+-- and none if it isn't
+pub no_site_half_by : (o : Option CodeUnit) (half : ℕ) → IsHalfAt o half → is_table_half half ≡ false → IsSiteHalf o None
+no_site_half_by None half is other = refl
+no_site_half_by (Some (OneItem i)) half is other = refl
+no_site_half_by (Some (OneGroup g)) half is other = refl
+no_site_half_by (Some (OneSite slot)) half is other = absurd (cc (table_half_is slot half is, other))

@@ -50,7 +50,7 @@ more n size xs some rest = record { above = above; index = index }
         let lt : n < m = omega (arith, some, rest.above i m got) in
         ap length (ap (λ b. cond b (n ∷ filter (λ j. ltb j m) xs) (filter (λ j. ltb j m) xs)) (lt-ltb n m lt)) ∙ ap suc (rest.index i m got)
 
-among : (xs : List ℕ) (i n : ℕ) → slice_get xs i ≡ Some n → list_any (λ m. eqb m n) xs ≡ true
+pub among : (xs : List ℕ) (i n : ℕ) → slice_get xs i ≡ Some n → list_any (λ m. eqb m n) xs ≡ true
 among [] i n got = absurd (none-some n got)
 among (x ∷ xs) zero n got = or_left (eqb x n) (list_any (λ m. eqb m n) xs) (eq-eqb x n (same_Some x n got))
 among (x ∷ xs) (suc i) n got = or_right (eqb x n) (list_any (λ m. eqb m n) xs) (among xs i n got)
@@ -62,12 +62,12 @@ module _ (s : SectionParts) (code : is_code_section s ≡ true) (whole : IsWhole
   ordered = along s code whole AreOrdered (record { above = λ i m got. absurd (none-some m got); index = λ i m got. absurd (none-some m got) })
       (λ n xs lt words st above rest. more n _ xs (let some = st.some in omega (arith, some)) rest)
 
-  start_index : (i n : ℕ) → slice_get (starts_in s) i ≡ Some n → index_on s n ≡ i
+  pub start_index : (i n : ℕ) → slice_get (starts_in s) i ≡ Some n → index_on s n ≡ i
   start_index i n got = ordered.index i n got
 
 -- ---- places
 
-got_of : {X Y : Type 0} (f : X → Y) (xs : List X) (i : ℕ) (y : Y) → slice_get (map f xs) i ≡ Some y → (x : X) × (slice_get xs i ≡ Some x) × (f x ≡ y)
+pub got_of : {X Y : Type 0} (f : X → Y) (xs : List X) (i : ℕ) (y : Y) → slice_get (map f xs) i ≡ Some y → (x : X) × (slice_get xs i ≡ Some x) × (f x ≡ y)
 got_of f [] i y got = absurd (none-some y got)
 got_of f (x ∷ xs) zero y got = (x, refl, same_Some (f x) y got)
 got_of f (x ∷ xs) (suc i) y got = got_of f xs i y got

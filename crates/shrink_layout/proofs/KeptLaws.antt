@@ -18,85 +18,85 @@ use Rattle.shrink_layout.proofs.NumberLaws.{number_below}
 use Rattle.shrink_layout.proofs.PlaceAddressLaws.{size_outside}
 use Rattle.shrink_layout.proofs.RoundLaws.{length_forms, round_forms}
 
-module _ (inputs : ParsedInputs) where
+module _ (inputs : ParsedInputs) (slots : List (Option Place)) where
   -- each size is a form
-  pub settled_forms : AreForms (pieces_of inputs) (settled_sizes inputs)
+  pub settled_forms : AreForms (pieces_of inputs slots) (settled_sizes inputs slots)
   unfolding settled_sizes sizes_of
-  settled_forms = round_forms inputs.map.text (pieces_of inputs) (2 * length (pieces_of inputs))
+  settled_forms = round_forms inputs.map.text (pieces_of inputs slots) (2 * length (pieces_of inputs slots))
 
   -- there is one for each piece
-  pub sizes_long : length (settled_sizes inputs) ≡ length (pieces_of inputs)
-  sizes_long = length_forms (pieces_of inputs) (settled_sizes inputs) settled_forms
+  pub sizes_long : length (settled_sizes inputs slots) ≡ length (pieces_of inputs slots)
+  sizes_long = length_forms (pieces_of inputs slots) (settled_sizes inputs slots) settled_forms
 
   -- there is an address for each piece, and for the end
-  pub addresses_long : length (settled_addresses inputs) ≡ length (pieces_of inputs) + 1
+  pub addresses_long : length (settled_addresses inputs slots) ≡ length (pieces_of inputs slots) + 1
   unfolding settled_addresses
-  addresses_long = length_addresses inputs.map.text (pieces_of inputs) (settled_sizes inputs) settled_forms
+  addresses_long = length_addresses inputs.map.text (pieces_of inputs slots) (settled_sizes inputs slots) settled_forms
 
   -- addresses rise
-  pub addresses_rise : (i j : ℕ) → i ≤ j → j ≤ length (pieces_of inputs) → slice_index (settled_addresses inputs) i ≤ slice_index (settled_addresses inputs) j
+  pub addresses_rise : (i j : ℕ) → i ≤ j → j ≤ length (pieces_of inputs slots) → slice_index (settled_addresses inputs slots) i ≤ slice_index (settled_addresses inputs slots) j
   unfolding settled_addresses
-  addresses_rise i j le most = ascending inputs.map.text (pieces_of inputs) (settled_sizes inputs) settled_forms i j le most
+  addresses_rise i j le most = ascending inputs.map.text (pieces_of inputs slots) (settled_sizes inputs slots) settled_forms i j le most
 
   -- the first is where the text begins
-  pub address_first : slice_index (settled_addresses inputs) 0 ≡ inputs.map.text
+  pub address_first : slice_index (settled_addresses inputs slots) 0 ≡ inputs.map.text
   unfolding settled_addresses
-  address_first = first_address inputs.map.text (pieces_of inputs) (settled_sizes inputs)
+  address_first = first_address inputs.map.text (pieces_of inputs slots) (settled_sizes inputs slots)
 
   -- so the text doesn't end before it begins
-  pub end_rises : inputs.map.text ≤ settled_end inputs
+  pub end_rises : inputs.map.text ≤ settled_end inputs slots
   unfolding settled_end
-  end_rises = omega (arith, address_first, addresses_rise 0 (length (pieces_of inputs)) (omega arith) (omega arith))
+  end_rises = omega (arith, address_first, addresses_rise 0 (length (pieces_of inputs slots)) (omega arith) (omega arith))
 
   -- those of the pieces are kept
-  pub kept_sizes : sizes_of inputs.map.text (pieces_of inputs) ≡ settled_sizes inputs
+  pub kept_sizes : sizes_of inputs.map.text (pieces_of inputs slots) ≡ settled_sizes inputs slots
   unfolding settled_sizes
   kept_sizes = refl
 
-  pub kept_addresses : addresses_of inputs.map.text (pieces_of inputs) (sizes_of inputs.map.text (pieces_of inputs)) ≡ settled_addresses inputs
+  pub kept_addresses : addresses_of inputs.map.text (pieces_of inputs slots) (sizes_of inputs.map.text (pieces_of inputs slots)) ≡ settled_addresses inputs slots
   unfolding settled_addresses settled_sizes
   kept_addresses = refl
 
-  module _ (addresses : List ℕ) (are : addresses ≡ settled_addresses inputs) where
-    pub kept_long : length addresses ≡ length (pieces_of inputs) + 1
+  module _ (addresses : List ℕ) (are : addresses ≡ settled_addresses inputs slots) where
+    pub kept_long : length addresses ≡ length (pieces_of inputs slots) + 1
     kept_long = ap length are ∙ addresses_long
 
     -- one of them, however it is read
-    pub kept_address : (k d : ℕ) → k ≤ length (pieces_of inputs) → get_or addresses k d ≡ slice_index (settled_addresses inputs) k
+    pub kept_address : (k d : ℕ) → k ≤ length (pieces_of inputs slots) → get_or addresses k d ≡ slice_index (settled_addresses inputs slots) k
     kept_address k d le = get_or_default addresses k d 0 (omega (arith, le, kept_long)) ∙ ap (λ l. slice_index l k) are
 
     -- that of the end is the last
-    pub kept_end : (k d : ℕ) → k ≡ length (pieces_of inputs) → get_or addresses k d ≡ settled_end inputs
+    pub kept_end : (k d : ℕ) → k ≡ length (pieces_of inputs slots) → get_or addresses k d ≡ settled_end inputs slots
     unfolding settled_end
-    kept_end k d last = kept_address k d (omega (arith, last)) ∙ ap (slice_index (settled_addresses inputs)) last
+    kept_end k d last = kept_address k d (omega (arith, last)) ∙ ap (slice_index (settled_addresses inputs slots)) last
 
 -- ---- by what is found
 
 -- what is written for an item that isn't inside a group has a size
-pub size_by : (inputs : ParsedInputs) (q : Place) → is_some (item_at inputs q) ≡ true → is_inside inputs q ≡ false
-    → settled_size inputs q ≡ Some (slice_index (settled_addresses inputs) (piece_number_at inputs.objects q + 1) - slice_index (settled_addresses inputs) (piece_number_at inputs.objects q))
-size_by inputs q there outside = by (item_at inputs q) refl there
+pub size_by : (inputs : ParsedInputs) (slots : List (Option Place)) (q : Place) → is_some (item_at inputs q) ≡ true → is_inside inputs q ≡ false
+    → settled_size inputs slots q ≡ Some (slice_index (settled_addresses inputs slots) (piece_number_at inputs.objects q + 1) - slice_index (settled_addresses inputs slots) (piece_number_at inputs.objects q))
+size_by inputs slots q there outside = by (item_at inputs q) refl there
   where
     by : (o : Option Item) → item_at inputs q ≡ o → is_some o ≡ true
-        → settled_size inputs q ≡ Some (slice_index (settled_addresses inputs) (piece_number_at inputs.objects q + 1) - slice_index (settled_addresses inputs) (piece_number_at inputs.objects q))
+        → settled_size inputs slots q ≡ Some (slice_index (settled_addresses inputs slots) (piece_number_at inputs.objects q + 1) - slice_index (settled_addresses inputs slots) (piece_number_at inputs.objects q))
     by None is h = absurd cc
-    by (Some i) is h = size_outside inputs q i is outside
+    by (Some i) is h = size_outside inputs slots q i is outside
 
 -- its number is below the number of pieces then
-pub below_by : (inputs : Inputs) → gather_fault inputs ≡ None → (q : Place) → is_some (item_at (parsed inputs) q) ≡ true → piece_number_at (parsed inputs).objects q < length (pieces_of (parsed inputs))
-below_by inputs none q there = by (item_at (parsed inputs) q) refl there
+pub below_by : (inputs : Inputs) → gather_fault inputs ≡ None → (slots : List (Option Place)) (q : Place) → is_some (item_at (parsed inputs) q) ≡ true → piece_number_at (parsed inputs).objects q < length (pieces_of (parsed inputs) slots)
+below_by inputs none slots q there = by (item_at (parsed inputs) q) refl there
   where
-    by : (o : Option Item) → item_at (parsed inputs) q ≡ o → is_some o ≡ true → piece_number_at (parsed inputs).objects q < length (pieces_of (parsed inputs))
+    by : (o : Option Item) → item_at (parsed inputs) q ≡ o → is_some o ≡ true → piece_number_at (parsed inputs).objects q < length (pieces_of (parsed inputs) slots)
     by None is there = absurd cc
-    by (Some i) is there = number_below inputs none q i is
+    by (Some i) is there = number_below inputs none slots q i is
 
 -- ---- counts
 
-module _ (inputs : Inputs) (none : gather_fault inputs ≡ None) where
+module _ (inputs : Inputs) (none : gather_fault inputs ≡ None) (slots : List (Option Place)) where
   -- items that take two bytes
-  pub short_counted : pieces_with is_short_piece (pieces_of (parsed inputs)) (settled_sizes (parsed inputs)) ≡ units_with (parsed inputs) (is_sized 2)
-  short_counted = units_counted inputs none is_short_piece (is_sized 2) (λ alignment size. refl) (unit_short (parsed inputs).objects)
+  pub short_counted : pieces_with is_short_piece (pieces_of (parsed inputs) slots) (settled_sizes (parsed inputs) slots) ≡ units_with (parsed inputs) slots (is_sized 2)
+  short_counted = units_counted inputs none slots is_short_piece (is_sized 2) (λ alignment size. refl) (unit_short (parsed inputs).objects)
 
   -- branches that take eight
-  pub long_counted : pieces_with is_long_piece (pieces_of (parsed inputs)) (settled_sizes (parsed inputs)) ≡ units_with (parsed inputs) is_long
-  long_counted = units_counted inputs none is_long_piece is_long (λ alignment size. refl) (unit_long (parsed inputs).objects)
+  pub long_counted : pieces_with is_long_piece (pieces_of (parsed inputs) slots) (settled_sizes (parsed inputs) slots) ≡ units_with (parsed inputs) slots is_long
+  long_counted = units_counted inputs none slots is_long_piece is_long (λ alignment size. refl) (unit_long (parsed inputs).objects)

@@ -28,38 +28,44 @@ below_at (r ∷ sizes) (s ∷ other) h (suc k) = below_at sizes other h.1 k
 
 -- ---- ways
 
--- with smaller sizes it is no farther
-closer : (low high : ℕ) (pieces : List Piece) (sizes other : List ℕ) → All IsEvenPiece pieces → All IsTight pieces → low % 2 ≡ 0 → high % 2 ≡ 0
-    → AreForms pieces sizes → AreForms pieces other → Below sizes other → (i j : ℕ) → i ≤ j → j ≤ length pieces
-    → slice_index (addresses_of low pieces sizes) j + slice_index (addresses_of high pieces other) i ≤ slice_index (addresses_of high pieces other) j + slice_index (addresses_of low pieces sizes) i
-closer low high [] sizes other even tight e e' h h' b zero zero le within = omega arith
-closer low high [] sizes other even tight e e' h h' b zero (suc j) le within = absurd (omega arith)
-closer low high [] sizes other even tight e e' h h' b (suc i) j le within = absurd (omega arith)
-closer low high (p ∷ pieces) [] other even tight e e' h h' b i j le within = absurd h
-closer low high (p ∷ pieces) (r ∷ sizes) [] even tight e e' h h' b i j le within = absurd h'
-closer low high (p ∷ pieces) (r ∷ sizes) (s ∷ other) even tight e e' h h' b zero zero le within = omega arith
-closer low high (p ∷ pieces) (r ∷ sizes) (s ∷ other) even tight e e' h h' b zero (suc j) le within =
+-- with smaller sizes it is no farther, also if some pieces are others
+pub closer :
+    (low high : ℕ) (pieces others : List Piece) (sizes other : List ℕ) → All IsEvenPiece pieces → All IsTight pieces → All IsEvenPiece others → All IsTight others
+    → low % 2 ≡ 0 → high % 2 ≡ 0 → AreForms pieces sizes → AreForms others other → Below sizes other → (i j : ℕ) → i ≤ j → j ≤ length pieces
+    → slice_index (addresses_of low pieces sizes) j + slice_index (addresses_of high others other) i ≤ slice_index (addresses_of high others other) j + slice_index (addresses_of low pieces sizes) i
+closer low high [] others sizes other even tight even' tight' e e' h h' b zero zero le within = omega arith
+closer low high [] others sizes other even tight even' tight' e e' h h' b zero (suc j) le within = absurd (omega arith)
+closer low high [] others sizes other even tight even' tight' e e' h h' b (suc i) j le within = absurd (omega arith)
+closer low high (p ∷ pieces) others [] other even tight even' tight' e e' h h' b i j le within = absurd h
+closer low high (p ∷ pieces) [] (r ∷ sizes) [] even tight even' tight' e e' h h' b i j le within = absurd b
+closer low high (p ∷ pieces) [] (r ∷ sizes) (s ∷ other) even tight even' tight' e e' h h' b i j le within = absurd h'
+closer low high (p ∷ pieces) (p' ∷ others) (r ∷ sizes) [] even tight even' tight' e e' h h' b i j le within = absurd h'
+closer low high (p ∷ pieces) (p' ∷ others) (r ∷ sizes) (s ∷ other) even tight even' tight' e e' h h' b zero zero le within = omega arith
+closer low high (p ∷ pieces) (p' ∷ others) (r ∷ sizes) (s ∷ other) even tight even' tight' e e' h h' b zero (suc j) le within =
     let is_even = even 0 p (omega arith) in
-    let is_tight = tight 0 p (omega arith) in
-    let rest = closer (low + width p r low) (high + width p s high) pieces sizes other (All-tail IsEvenPiece p pieces even) (All-tail IsTight p pieces tight) (even_after p r low is_even h.0 e) (even_after p s high is_even h'.0 e') h.1 h'.1 b.1 zero j (omega arith) (omega arith) in
+    let is_even' = even' 0 p' (omega arith) in
+    let rest = closer (low + width p r low) (high + width p' s high) pieces others sizes other (All-tail IsEvenPiece p pieces even) (All-tail IsTight p pieces tight) (All-tail IsEvenPiece p' others even') (All-tail IsTight p' others tight') (even_after p r low is_even h.0 e) (even_after p' s high is_even' h'.0 e') h.1 h'.1 b.1 zero j (omega arith) (omega arith) in
     let first = first_address (low + width p r low) pieces sizes in
-    let first' = first_address (high + width p s high) pieces other in
-    let w = tight_width p r low is_tight h.0 e in
-    let w' = tight_width p s high is_tight h'.0 e' in
+    let first' = first_address (high + width p' s high) others other in
+    let w = tight_width p r low (tight 0 p (omega arith)) h.0 e in
+    let w' = tight_width p' s high (tight' 0 p' (omega arith)) h'.0 e' in
     omega (arith, rest, first, first', w, w', b.0)
-closer low high (p ∷ pieces) (r ∷ sizes) (s ∷ other) even tight e e' h h' b (suc i) zero le within = absurd (omega arith)
-closer low high (p ∷ pieces) (r ∷ sizes) (s ∷ other) even tight e e' h h' b (suc i) (suc j) le within =
+closer low high (p ∷ pieces) (p' ∷ others) (r ∷ sizes) (s ∷ other) even tight even' tight' e e' h h' b (suc i) zero le within = absurd (omega arith)
+closer low high (p ∷ pieces) (p' ∷ others) (r ∷ sizes) (s ∷ other) even tight even' tight' e e' h h' b (suc i) (suc j) le within =
     let is_even = even 0 p (omega arith) in
-    closer (low + width p r low) (high + width p s high) pieces sizes other (All-tail IsEvenPiece p pieces even) (All-tail IsTight p pieces tight) (even_after p r low is_even h.0 e) (even_after p s high is_even h'.0 e') h.1 h'.1 b.1 i j (omega arith) (omega arith)
+    let is_even' = even' 0 p' (omega arith) in
+    closer (low + width p r low) (high + width p' s high) pieces others sizes other (All-tail IsEvenPiece p pieces even) (All-tail IsTight p pieces tight) (All-tail IsEvenPiece p' others even') (All-tail IsTight p' others tight') (even_after p r low is_even h.0 e) (even_after p' s high is_even' h'.0 e') h.1 h'.1 b.1 i j (omega arith) (omega arith)
 
 -- each way is nearer, in either direction
-nearer : (text : ℕ) (pieces : List Piece) (sizes other : List ℕ) → All IsEvenPiece pieces → All IsTight pieces → text % 2 ≡ 0
-    → AreForms pieces sizes → AreForms pieces other → Below sizes other → (k t : ℕ) → k ≤ length pieces → t ≤ length pieces
-    → Nearer (slice_index (addresses_of text pieces sizes) k) (slice_index (addresses_of text pieces sizes) t) (slice_index (addresses_of text pieces other) k) (slice_index (addresses_of text pieces other) t)
-nearer text pieces sizes other even tight e h h' b k t in_k in_t =
+pub nearer :
+    (low high : ℕ) (pieces others : List Piece) (sizes other : List ℕ) → All IsEvenPiece pieces → All IsTight pieces → All IsEvenPiece others → All IsTight others
+    → low % 2 ≡ 0 → high % 2 ≡ 0 → length others ≡ length pieces → AreForms pieces sizes → AreForms others other → Below sizes other
+    → (k t : ℕ) → k ≤ length pieces → t ≤ length pieces
+    → Nearer (slice_index (addresses_of low pieces sizes) k) (slice_index (addresses_of low pieces sizes) t) (slice_index (addresses_of high others other) k) (slice_index (addresses_of high others other) t)
+nearer low high pieces others sizes other even tight even' tight' e e' same h h' b k t in_k in_t =
     elim (cases_lt t k) [
-      | inl before ↦ inr (ascending text pieces sizes h t k (omega arith) in_k, ascending text pieces other h' t k (omega arith) in_k, closer text text pieces sizes other even tight e e h h' b t k (omega arith) in_k)
-      | inr after ↦ inl (ascending text pieces sizes h k t after in_t, ascending text pieces other h' k t after in_t, closer text text pieces sizes other even tight e e h h' b k t after in_t)
+      | inl before ↦ inr (ascending low pieces sizes h t k (omega arith) in_k, ascending high others other h' t k (omega arith) (omega (arith, same, in_k)), closer low high pieces others sizes other even tight even' tight' e e' h h' b t k (omega arith) in_k)
+      | inr after ↦ inl (ascending low pieces sizes h k t after in_t, ascending high others other h' k t after (omega (arith, same, in_t)), closer low high pieces others sizes other even tight even' tight' e e' h h' b k t after in_t)
     ]
 
 -- ---- rounds
@@ -102,7 +108,7 @@ round_below text pieces zero other e even tight targets h fits = shortest_below 
 round_below text pieces (suc r) other e even tight targets h fits =
     let so_far = round_below text pieces r other e even tight targets h fits in
     let forms = round_forms text pieces r in
-    below_grown (addresses_of text pieces (round text pieces r)) (addresses_of text pieces other) (length pieces) 0 pieces (round text pieces r) other (even_address text pieces (round text pieces r) even forms e) (nearer text pieces (round text pieces r) other even tight e forms h so_far) (omega arith) targets forms h so_far fits
+    below_grown (addresses_of text pieces (round text pieces r)) (addresses_of text pieces other) (length pieces) 0 pieces (round text pieces r) other (even_address text pieces (round text pieces r) even forms e) (nearer text text pieces pieces (round text pieces r) other even tight even tight e e refl forms h so_far) (omega arith) targets forms h so_far fits
 
 -- so the first one that fits is the least
 pub least : (text : ℕ) (pieces : List Piece) (sizes : List ℕ) → text % 2 ≡ 0 → All IsEvenPiece pieces → All IsTight pieces → All (λ p. target p ≤ length pieces) pieces

@@ -6,6 +6,7 @@ pub mod Distances
 pub mod FormLaws
 pub mod GroupAddresses
 pub mod GroupCounts
+pub mod GroupedSites
 pub mod GrownLaws
 pub mod HalfLaws
 pub mod HeldLaws
@@ -22,8 +23,17 @@ pub mod PremiseLaws
 pub mod RoleLaws
 pub mod RolePlaces
 pub mod RoundLaws
+pub mod SavedLaws
+pub mod SavingLaws
 pub mod SectionLaws
 pub mod ShortLaws
+pub mod SiteCounts
+pub mod SiteLaws
 pub mod SizesLaws
+pub mod SlotLaws
+pub mod TableLaws
+pub mod TablePieces
+pub mod TargetLaws
+pub mod TargetNumbers
 pub mod TestLaws
 pub mod UnitLaws

@@ -1,7 +1,8 @@
 -- Numbers at the ends of sections: a section's start has the number after its padding's, and its end that of the next section's padding.
-use Rattle.std.proofs.Common.{◌≡◌, ℕ, ◌+◌, ◌≤◌, List, [], ◌∷◌, length, cond, true, Some, ap, arith}
+use Rattle.std.proofs.Common.{◌≡◌, ℕ, ◌+◌, ◌≤◌, List, [], ◌∷◌, length, cond, true, Option, Some, ap, arith}
 use Rattle.std.specs.List.{sum_by}
 use Rattle.std.proofs.lemmas.List.Sums.{sum_by-append, sum_by-cons}
+use Rattle.zc_base.specs.declared.place.Place.{Place}
 use Rattle.elf32_read.specs.Parts.{ObjectParts, SectionParts, is_code_section}
 use Rattle.psabi_sym.specs.Inputs.{ParsedInputs}
 use Rattle.psabi_sym.specs.Indexed.{section_at, sections_before}
@@ -40,6 +41,6 @@ module _ (objects : List ObjectParts) (o i : ℕ) (s : SectionParts) (found : se
 
 -- the number of a section's start isn't beyond the list
 pub start_within :
-    (inputs : ParsedInputs) (o i : ℕ) (s : SectionParts) → section_at inputs.objects o i ≡ Some s → is_code_section s ≡ true
-    → IsWhole s → padding_number inputs.objects o i + 1 ≤ length (pieces_of inputs)
-start_within inputs o i s found code whole = omega (arith, number-start inputs.objects o i s found code whole, before_most inputs o i s 0 found code)
+    (inputs : ParsedInputs) (slots : List (Option Place)) (o i : ℕ) (s : SectionParts) → section_at inputs.objects o i ≡ Some s → is_code_section s ≡ true
+    → IsWhole s → padding_number inputs.objects o i + 1 ≤ length (pieces_of inputs slots)
+start_within inputs slots o i s found code whole = omega (arith, number-start inputs.objects o i s found code whole, before_most inputs slots o i s 0 found code)

@@ -25,8 +25,8 @@ use Rattle.block_cut.proofs.ListedLaws.{cut_at, listed}
 use Rattle.block_cut.proofs.PlainLaws.{next_start}
 use Rattle.block_cut.proofs.StartLaws.{before_end_all, before_next_start, front, is_among, start_is, step}
 use Rattle.block_cut.proofs.WholeLaws.{code_is_section, code_whole}
-use Rattle.shrink_layout.specs.Pieces.{piece_at, piece_count, piece_number_at, pieces_before, pieces_of, section_alignment, unit_piece}
-use Rattle.shrink_layout.specs.Units.{CodeUnit, front_size, unit_at}
+use Rattle.shrink_layout.specs.Pieces.{piece_at, piece_count, piece_number_at, pieces_before, pieces_by, pieces_of, section_alignment, slot_at, unit_at, unit_piece}
+use Rattle.shrink_layout.specs.Units.{CodeUnit, front_size}
 use Rattle.shrink_layout.specs.declared.piece.Piece.TheVariants.{Fixed, Align}
 use Rattle.shrink_layout.proofs.UnitLaws.{found_item, unit_found}
 
@@ -161,21 +161,26 @@ item_target inputs q i is =
     ∙ ap (λ b. b || is_end_at inputs.objects q) found.start
 
 -- there are as many pieces as sections and items, and what stands in front
-pub length-pieces_of : (inputs : ParsedInputs) → length (pieces_of inputs) ≡ 1 + sum_by piece_count (all_sections inputs.objects)
-unfolding pieces_of
-length-pieces_of inputs =
-    let all = length-laid_in (λ s. Align (section_alignment s)) (piece_at inputs) (all_sections inputs.objects) in
+pub length-pieces_of : (inputs : ParsedInputs) (slots : List (Option Place)) → length (pieces_of inputs slots) ≡ 1 + sum_by piece_count (all_sections inputs.objects)
+unfolding pieces_by pieces_of
+length-pieces_of inputs slots =
+    let all = length-laid_in (λ s. Align (section_alignment s)) (piece_at inputs (slot_at inputs slots)) (all_sections inputs.objects) in
     omega (arith, all)
 
+-- whatever slots there are
+pub same_length : (inputs : ParsedInputs) (slots others : List (Option Place)) → length (pieces_of inputs slots) ≡ length (pieces_of inputs others)
+same_length inputs slots others = length-pieces_of inputs slots ∙ sym (length-pieces_of inputs others)
+
 -- no more stand before an offset than there are
-pub before_most : (inputs : ParsedInputs) (o i : ℕ) (s : SectionParts) (n : ℕ) → section_at inputs.objects o i ≡ Some s → is_code_section s ≡ true → pieces_before inputs.objects o i s n ≤ length (pieces_of inputs)
-before_most inputs o i s n found code =
+pub before_most : (inputs : ParsedInputs) (slots : List (Option Place)) (o i : ℕ) (s : SectionParts) (n : ℕ) → section_at inputs.objects o i ≡ Some s → is_code_section s ≡ true
+    → pieces_before inputs.objects o i s n ≤ length (pieces_of inputs slots)
+before_most inputs slots o i s n found code =
     let cut = cut_at inputs.objects o i s found in
     let l = listed o i s in
     let own : piece_count l ≡ 1 + length (starts_in s) = ap (λ b. cond b (1 + length (starts_in s)) 0) code in
     omega (
       arith,
-      length-pieces_of inputs,
+      length-pieces_of inputs slots,
       ap (sum_by piece_count) cut.all_are,
       sum_by-append piece_count (sections_before inputs.objects o i) (l ∷ cut.rest),
       sum_by-cons piece_count l cut.rest,
@@ -184,16 +189,16 @@ before_most inputs o i s n found code =
     )
 
 -- nor before a place
-pub number_most : (inputs : ParsedInputs) (q : Place) → piece_number_at inputs.objects q ≤ length (pieces_of inputs)
-number_most inputs q = by (is_target_at inputs.objects q) refl (code_at inputs.objects q) refl
+pub number_most : (inputs : ParsedInputs) (slots : List (Option Place)) (q : Place) → piece_number_at inputs.objects q ≤ length (pieces_of inputs slots)
+number_most inputs slots q = by (is_target_at inputs.objects q) refl (code_at inputs.objects q) refl
   where
-    by : (b : Bool) → is_target_at inputs.objects q ≡ b → (o : Option SectionParts) → code_at inputs.objects q ≡ o → piece_number_at inputs.objects q ≤ length (pieces_of inputs)
+    by : (b : Bool) → is_target_at inputs.objects q ≡ b → (o : Option SectionParts) → code_at inputs.objects q ≡ o → piece_number_at inputs.objects q ≤ length (pieces_of inputs slots)
     by false other o at = omega (arith, number-nowhere inputs.objects q other)
     by true target None at =
         omega (arith, ap (λ o. cond (is_target_at inputs.objects q) (option_map_or (λ t. pieces_before inputs.objects q.object q.section t q.offset) o 0) 0) at, ap (λ b. cond {A = ℕ} b 0 0) target)
     by true target (Some s) at =
         let two = code_is_section inputs.objects q s at in
-        omega (arith, number-code inputs.objects q s target at, before_most inputs q.object q.section s q.offset two.0 two.1)
+        omega (arith, number-code inputs.objects q s target at, before_most inputs slots q.object q.section s q.offset two.0 two.1)
 
 -- the element after a list
 pub behind : {X : Type 0} (xs : List X) (y : X) (ys : List X) → slice_get (xs ++ y ∷ ys) (length xs) ≡ Some y
@@ -233,19 +238,22 @@ module _ (inputs : Inputs) (none : gather_fault inputs ≡ None) where
       (λ j. slice_get (all j) (number j)) ∙ behind head (g q.offset) (map g starts.rest ++ cut.rest)
 
   -- so the piece there does
-  pub place_piece : (q : Place) (i : Item) → item_at given q ≡ Some i → slice_get (pieces_of given) (piece_number_at given.objects q) ≡ Some (piece_at given q)
-  unfolding pieces_of
-  place_piece q i is = laid_there (Fixed front_size) (λ s. Align (section_alignment s)) (piece_at given) q i is
+  pub place_piece : (slots : List (Option Place)) (q : Place) (i : Item) → item_at given q ≡ Some i
+      → slice_get (pieces_of given slots) (piece_number_at given.objects q) ≡ Some (piece_at given (slot_at given slots) q)
+  unfolding pieces_by pieces_of
+  place_piece slots q i is = laid_there (Fixed (front_size slots)) (λ s. Align (section_alignment s)) (piece_at given (slot_at given slots)) q i is
 
   -- which is that of what is written there
-  pub unit_there : (q : Place) (u : CodeUnit) → unit_at given q ≡ Some u → slice_get (pieces_of given) (piece_number_at given.objects q) ≡ Some (unit_piece given.objects (Some u))
-  unit_there q u is =
-      let at = found_item given q (unit_found given q u is) in
-      place_piece q at.0 at.1 ∙ ap (λ o. Some (unit_piece given.objects o)) is
+  pub unit_there : (slots : List (Option Place)) (q : Place) (u : CodeUnit) → unit_at given slots q ≡ Some u
+      → slice_get (pieces_of given slots) (piece_number_at given.objects q) ≡ Some (unit_piece given.objects (Some u))
+  unit_there slots q u is =
+      let at = found_item given q (unit_found given (slot_at given slots) q u is) in
+      place_piece slots q at.0 at.1 ∙ ap (λ o. Some (unit_piece given.objects o)) is
 
   -- and its number is below the number of pieces
-  pub number_below : (q : Place) (i : Item) → item_at given q ≡ Some i → piece_number_at given.objects q < length (pieces_of given)
-  number_below q i is = slice_get_within (pieces_of given) (piece_number_at given.objects q) (piece_at given q) (place_piece q i is)
+  pub number_below : (slots : List (Option Place)) (q : Place) (i : Item) → item_at given q ≡ Some i → piece_number_at given.objects q < length (pieces_of given slots)
+  number_below slots q i is =
+      slice_get_within (pieces_of given slots) (piece_number_at given.objects q) (piece_at given (slot_at given slots) q) (place_piece slots q i is)
 
   -- code may lead to what follows an item
   pub next_target : (q : Place) (i : Item) → item_at given q ≡ Some i → is_target_at given.objects (next_at given.objects q) ≡ true

@@ -1,5 +1,5 @@
 -- The number of a place by where it stands among all: that of its section's first place, and its index (`piece_number_is`).
-use Rattle.std.proofs.Common.{◌≡◌, ℕ, ◌+◌, ◌<◌, ◌≤◌, List, length, true, slice_index, sym, ap, ◌∙◌, arith}
+use Rattle.std.proofs.Common.{◌≡◌, ℕ, ◌+◌, ◌<◌, ◌≤◌, List, Option, length, true, slice_index, sym, ap, ◌∙◌, arith}
 use Rattle.std.specs.List.{sum_by}
 use Rattle.std.proofs.lemmas.List.FromFn.{get_or-map-range_with_len, length-map-range_with_len}
 use Rattle.std.proofs.lemmas.Option.{slice_get_within}
@@ -67,5 +67,5 @@ module _ (inputs : Inputs) (starts : List ℕ) (are : AreFirstNumbers (parsed in
   pub place_within : number.section < length starts
   place_within = told.within
 
-  pub place_most : slice_index starts number.section + number.index ≤ length (pieces_of (parsed inputs))
-  place_most = omega (arith, told.is, number_most (parsed inputs) has.0)
+  pub place_most : (slots : List (Option Place)) → slice_index starts number.section + number.index ≤ length (pieces_of (parsed inputs) slots)
+  place_most slots = omega (arith, told.is, number_most (parsed inputs) slots has.0)

@@ -1,7 +1,7 @@
 -- What the layout asks of pieces holds of those of inputs without a fault: alignments are at least 1 and even, sizes are even,
 -- targets are pieces or the end (`targets`), and all have little room (`room_few`). If nothing is aligned above 4 bytes, no piece
 -- is aligned above 2 (`all_tight`).
-use Rattle.std.proofs.Common.{◌≡◌, ℕ, zero, suc, ◌+◌, ◌*◌, ◌%◌, ◌<◌, ◌≤◌, List, [], ◌∷◌, ◌++◌, All, get_or, length, map, max, Bool, true, false, cond, Some, None, slice_get, refl, sym, ap, subst, ◌∙◌, arith, eqb, leb, ltb}
+use Rattle.std.proofs.Common.{◌≡◌, ℕ, zero, suc, ◌+◌, ◌*◌, ◌%◌, ◌<◌, ◌≤◌, List, [], ◌∷◌, ◌++◌, All, get_or, length, map, max, Bool, true, false, cond, Option, Some, None, slice_get, refl, sym, ap, subst, ◌∙◌, arith, eqb, leb, ltb}
 use Rattle.std.specs.Prelude.{◌&&◌, nat_le, not}
 use Rattle.std.specs.List.{flat_map, list_any, sum_by}
 use Rattle.std.proofs.lemmas.Bool.{and_parts, leb-false, ltb-false, ltb-true, not-true, or_parts}
@@ -31,7 +31,7 @@ use Rattle.block_cut.proofs.StartLaws.{along}
 use Rattle.shrink_layout.specs.Forms.{HasAlignment, IsEvenPiece, longest, target}
 use Rattle.shrink_layout.specs.Least.{IsTight}
 use Rattle.frame_match.specs.declared.group.Group.{Group}
-use Rattle.shrink_layout.specs.Pieces.{group_size, is_align, is_aligned_code, is_short, is_short_branch, is_short_jump, is_unaligned, jump_piece, part_size, piece_at, piece_number_at, piece_of, pieces_in, pieces_of, section_alignment, section_pieces}
+use Rattle.shrink_layout.specs.Pieces.{group_size, is_align, is_aligned_code, is_short, is_short_branch, is_short_jump, is_unaligned, jump_piece, part_size, piece_at, piece_number_at, piece_of, pieces_by, pieces_in, pieces_of, section_alignment, section_pieces, slot_at}
 use Rattle.shrink_layout.specs.Units.{front_size, rest_instr}
 use Rattle.shrink_layout.specs.declared.piece.Piece.{Piece}
 use Rattle.shrink_layout.specs.declared.piece.Piece.TheVariants.{Fixed, Align, Branch, Jump}
@@ -108,9 +108,12 @@ group_sized g = by (eqb g.rest 0) (is_short (rest_instr g))
 
 -- ---- pieces of items
 
-module _ (inputs : ParsedInputs) where
+module _ (inputs : ParsedInputs) (slots : List (Option Place)) where
   abbrev objects : List ObjectParts
   objects = inputs.objects
+
+  abbrev slot : Place → Option ℕ
+  slot = slot_at inputs slots
 
   -- P holds of the piece of an item if it holds of the sizes that there are, of branches and jumps to places, and of padding
   item_case : (i : Item) (P : Piece → Type 0) → P (Fixed 2) → P (Fixed 4) → P (Fixed 8) → ((q : Place) (b : Bool) → P (Branch (piece_number_at objects q) b)) → ((q : Place) → P (Jump (piece_number_at objects q)))
@@ -154,9 +157,9 @@ module _ (inputs : ParsedInputs) where
   item_even i = item_case i IsEvenPiece refl refl refl (λ q b. tt) (λ q. tt) (λ bytes e. (power_is bytes).even)
 
   -- a target is a piece, or the end
-  item_leads : (i : Item) → target (piece_of objects i) ≤ length (pieces_of inputs)
+  item_leads : (i : Item) → target (piece_of objects i) ≤ length (pieces_of inputs slots)
   item_leads i =
-      item_case i (λ p. target p ≤ length (pieces_of inputs)) (omega arith) (omega arith) (omega arith) (λ q b. number_most inputs q) (λ q. number_most inputs q) (λ bytes e. omega arith)
+      item_case i (λ p. target p ≤ length (pieces_of inputs slots)) (omega arith) (omega arith) (omega arith) (λ q b. number_most inputs slots q) (λ q. number_most inputs slots q) (λ bytes e. omega arith)
 
   -- what isn't padding is tight
   item_tight : (i : Item) → is_align i ≡ false → IsTight (piece_of objects i)
@@ -172,26 +175,27 @@ module _ (inputs : ParsedInputs) where
 
   -- ---- pieces of places
 
-  place_aligned : (q : Place) → HasAlignment (piece_at inputs q)
-  place_aligned q = piece_case inputs q HasAlignment tt (λ i is. item_aligned i) (λ g. tt)
+  place_aligned : (q : Place) → HasAlignment (piece_at inputs slot q)
+  place_aligned q = piece_case inputs slot q HasAlignment tt (λ i is. item_aligned i) (λ g. tt) tt
 
-  place_even : (q : Place) → IsEvenPiece (piece_at inputs q)
-  place_even q = piece_case inputs q IsEvenPiece refl (λ i is. item_even i) (λ g. (group_sized g).even)
+  place_even : (q : Place) → IsEvenPiece (piece_at inputs slot q)
+  place_even q = piece_case inputs slot q IsEvenPiece refl (λ i is. item_even i) (λ g. (group_sized g).even) refl
 
-  place_leads : (q : Place) → target (piece_at inputs q) ≤ length (pieces_of inputs)
-  place_leads q = piece_case inputs q (λ p. target p ≤ length (pieces_of inputs)) (omega arith) (λ i is. item_leads i) (λ g. omega arith)
+  place_leads : (q : Place) → target (piece_at inputs slot q) ≤ length (pieces_of inputs slots)
+  place_leads q = piece_case inputs slot q (λ p. target p ≤ length (pieces_of inputs slots)) (omega arith) (λ i is. item_leads i) (λ g. omega arith) (omega arith)
 
   -- so is what is written where an item isn't padding
-  place_tight : (q : Place) (s : SectionParts) → code_at objects q ≡ Some s → is_align (item_in inputs s q) ≡ false → IsTight (piece_at inputs q)
+  place_tight : (q : Place) (s : SectionParts) → code_at objects q ≡ Some s → is_align (item_in inputs s q) ≡ false → IsTight (piece_at inputs slot q)
   place_tight q s here other =
-      piece_case inputs q IsTight tt (λ i is. item_tight i (ap is_align (item_same inputs q s i here is) ∙ other)) (λ g. tt)
+      piece_case inputs slot q IsTight tt (λ i is. item_tight i (ap is_align (item_same inputs q s i here is) ∙ other)) (λ g. tt) tt
 
   -- and it takes at most twice the bytes of the step there
-  place_longest : (q : Place) (s : SectionParts) (n : ℕ) → code_at objects q ≡ Some s → 4 ≤ n → Takes (item_in inputs s q) n → longest (piece_at inputs q) ≤ 2 * n
+  place_longest : (q : Place) (s : SectionParts) (n : ℕ) → code_at objects q ≡ Some s → 4 ≤ n → Takes (item_in inputs s q) n → longest (piece_at inputs slot q) ≤ 2 * n
   place_longest q s n here some takes =
-      piece_case inputs q (λ p. longest p ≤ 2 * n) (omega arith)
+      piece_case inputs slot q (λ p. longest p ≤ 2 * n) (omega arith)
       (λ i is. item_longest i n some (subst (λ x. Takes x n) (sym (item_same inputs q s i here is)) takes))
       (λ g. omega (arith, some, (group_sized g).most))
+      (omega (arith, some))
 
   -- ---- pieces of sections
 
@@ -212,23 +216,23 @@ module _ (inputs : ParsedInputs) where
           record { some = omega arith; even = omega (arith, whole.aligned); most = omega arith }
 
   -- P holds of each piece of sections if it holds of what pads them and of those of places
-  each_piece : (P : Piece → Type 0) → ((s : SectionParts) → IsWhole s → P (Align (section_alignment s))) → ((q : Place) → P (piece_at inputs q)) → (ls : List IndexedSection) → AreWhole ls
-      → Each P (pieces_in inputs ls)
+  each_piece : (P : Piece → Type 0) → ((s : SectionParts) → IsWhole s → P (Align (section_alignment s))) → ((q : Place) → P (piece_at inputs slot q)) → (ls : List IndexedSection) → AreWhole ls
+      → Each P (pieces_in inputs slot ls)
   each_piece P pads place [] whole = tt
   each_piece P pads place (l ∷ ls) whole =
-      each-append P (section_pieces inputs l) (pieces_in inputs ls) (by (is_code_section l.section) refl) (each_piece P pads place ls whole.1)
+      each-append P (section_pieces inputs slot l) (pieces_in inputs slot ls) (by (is_code_section l.section) refl) (each_piece P pads place ls whole.1)
     where
-      by : (b : Bool) → is_code_section l.section ≡ b → Each P (cond b (Align (section_alignment l.section) ∷ map (piece_at inputs) (places_of l)) [])
-      by true code = (pads l.section (whole.0 code), each-map P (piece_at inputs) place (places_of l))
+      by : (b : Bool) → is_code_section l.section ≡ b → Each P (cond b (Align (section_alignment l.section) ∷ map (piece_at inputs slot) (places_of l)) [])
+      by true code = (pads l.section (whole.0 code), each-map P (piece_at inputs slot) place (places_of l))
       by false other = tt
 
   -- a section has its pieces by their offsets
-  section_pieces-code : (l : IndexedSection) → is_code_section l.section ≡ true → section_pieces inputs l ≡ Align (section_alignment l.section) ∷ map (λ m. piece_at inputs (place_of l m)) (starts_in l.section)
-  section_pieces-code l code = section_laid-code (λ s. Align (section_alignment s)) (piece_at inputs) l.object l.index l.section code
+  section_pieces-code : (l : IndexedSection) → is_code_section l.section ≡ true → section_pieces inputs slot l ≡ Align (section_alignment l.section) ∷ map (λ m. piece_at inputs slot (place_of l m)) (starts_in l.section)
+  section_pieces-code l code = section_laid-code (λ s. Align (section_alignment s)) (piece_at inputs slot) l.object l.index l.section code
 
   module _ (l : IndexedSection) (here : section_at objects l.object l.index ≡ Some l.section) (code : is_code_section l.section ≡ true) where
     -- what is written is tight if no item is padding
-    each_tight : (ns : List ℕ) → list_any is_align (map (λ n. item_in inputs l.section (place_of l n)) ns) ≡ false → Each IsTight (map (λ n. piece_at inputs (place_of l n)) ns)
+    each_tight : (ns : List ℕ) → list_any is_align (map (λ n. item_in inputs l.section (place_of l n)) ns) ≡ false → Each IsTight (map (λ n. piece_at inputs slot (place_of l n)) ns)
     each_tight [] none = tt
     each_tight (n ∷ ns) none =
         let two = or_parts (is_align (item_in inputs l.section (place_of l n))) (list_any is_align (map (λ m. item_in inputs l.section (place_of l m)) ns)) none in
@@ -236,22 +240,22 @@ module _ (inputs : ParsedInputs) where
 
   -- so all pieces of sections are tight that aren't aligned either
   sections_tight : (ls : List IndexedSection) → ((k : ℕ) (l : IndexedSection) → slice_get ls k ≡ Some l → section_at objects l.object l.index ≡ Some l.section)
-      → list_any is_align (flat_map (items_in inputs) ls) ≡ false → list_any is_aligned_code ls ≡ false → Each IsTight (pieces_in inputs ls)
+      → list_any is_align (flat_map (items_in inputs) ls) ≡ false → list_any is_aligned_code ls ≡ false → Each IsTight (pieces_in inputs slot ls)
   sections_tight [] here none low = tt
   sections_tight (l ∷ ls) here none low =
       let items = or_parts (list_any is_align (items_in inputs l)) (list_any is_align (flat_map (items_in inputs) ls)) (sym (list_any-append is_align (items_in inputs l) (flat_map (items_in inputs) ls)) ∙ none) in
       let two = or_parts (is_aligned_code l) (list_any is_aligned_code ls) low in
-      each-append IsTight (section_pieces inputs l) (pieces_in inputs ls) (own (is_code_section l.section) refl items.0 two.0) (sections_tight ls (λ k m is. here (suc k) m is) items.1 two.1)
+      each-append IsTight (section_pieces inputs slot l) (pieces_in inputs slot ls) (own (is_code_section l.section) refl items.0 two.0) (sections_tight ls (λ k m is. here (suc k) m is) items.1 two.1)
     where
       aligned : (b : Bool) → leb l.section.align 4 ≡ b → ltb 4 l.section.align ≡ false → cond b 2 l.section.align ≡ 2
       aligned true le high = refl
       aligned false le high = absurd (omega (arith, leb-false l.section.align 4 le, ltb-false 4 l.section.align high))
 
-      own : (b : Bool) → is_code_section l.section ≡ b → list_any is_align (items_in inputs l) ≡ false → (b && ltb 4 l.section.align) ≡ false → Each IsTight (section_pieces inputs l)
+      own : (b : Bool) → is_code_section l.section ≡ b → list_any is_align (items_in inputs l) ≡ false → (b && ltb 4 l.section.align) ≡ false → Each IsTight (section_pieces inputs slot l)
       own true code none high =
           subst (Each IsTight) (sym (section_pieces-code l code))
           (aligned (leb l.section.align 4) refl high, each_tight l (here 0 l refl) code (starts_in l.section) (ap (list_any is_align) (sym (items_in-code inputs l code)) ∙ none))
-      own false other none high = subst (Each IsTight) (sym (ap (λ b. cond b (Align (section_alignment l.section) ∷ map (piece_at inputs) (places_of l)) []) other)) tt
+      own false other none high = subst (Each IsTight) (sym (ap (λ b. cond b (Align (section_alignment l.section) ∷ map (piece_at inputs slot) (places_of l)) []) other)) tt
 
   -- ---- room
 
@@ -260,7 +264,7 @@ module _ (inputs : ParsedInputs) where
     s = l.section
 
     abbrev piece_on : ℕ → Piece
-    piece_on m = piece_at inputs (place_of l m)
+    piece_on m = piece_at inputs slot (place_of l m)
 
     -- the places of a section take at most twice its bytes
     places_longest : sum_by longest (map piece_on (starts_in s)) ≤ 2 * length s.bytes
@@ -284,24 +288,24 @@ module _ (inputs : ParsedInputs) where
 
   -- the pieces of sections have twice their room, and are no more than the words of it
   sections_longest : (ls : List IndexedSection) → ((k : ℕ) (l : IndexedSection) → slice_get ls k ≡ Some l → section_at objects l.object l.index ≡ Some l.section) → AreWhole ls
-      → (sum_by longest (pieces_in inputs ls) ≤ 2 * rooms ls) × (4 * length (pieces_in inputs ls) ≤ rooms ls)
+      → (sum_by longest (pieces_in inputs slot ls) ≤ 2 * rooms ls) × (4 * length (pieces_in inputs slot ls) ≤ rooms ls)
   sections_longest [] here whole = (omega arith, omega arith)
   sections_longest (l ∷ ls) here whole = by (is_code_section l.section) refl (sections_longest ls (λ k m is. here (suc k) m is) whole.1)
     where
       ps : List Piece
-      ps = pieces_in inputs ls
+      ps = pieces_in inputs slot ls
 
-      by : (b : Bool) → is_code_section l.section ≡ b → (sum_by longest (pieces_in inputs ls) ≤ 2 * rooms ls) × (4 * length (pieces_in inputs ls) ≤ rooms ls)
-          → (sum_by longest (pieces_in inputs (l ∷ ls)) ≤ 2 * rooms (l ∷ ls)) × (4 * length (pieces_in inputs (l ∷ ls)) ≤ rooms (l ∷ ls))
+      by : (b : Bool) → is_code_section l.section ≡ b → (sum_by longest (pieces_in inputs slot ls) ≤ 2 * rooms ls) × (4 * length (pieces_in inputs slot ls) ≤ rooms ls)
+          → (sum_by longest (pieces_in inputs slot (l ∷ ls)) ≤ 2 * rooms (l ∷ ls)) × (4 * length (pieces_in inputs slot (l ∷ ls)) ≤ rooms (l ∷ ls))
       by true code rest =
           let s = l.section in
           let own = section_pieces-code l code in
-          let places = map (λ m. piece_at inputs (place_of l m)) (starts_in s) in
+          let places = map (λ m. piece_at inputs slot (place_of l m)) (starts_in s) in
           let room = code_room_is s code in
           let few = starts_few l (here 0 l refl) code (whole.0 code) in (
             omega (
               arith,
-              sum_by-append longest (section_pieces inputs l) (pieces_in inputs ls),
+              sum_by-append longest (section_pieces inputs slot l) (pieces_in inputs slot ls),
               ap (sum_by longest) own,
               sum_by-cons longest (Align (section_alignment s)) places,
               (padding_is s (whole.0 code)).most,
@@ -313,9 +317,9 @@ module _ (inputs : ParsedInputs) where
             ),
             omega (
               arith,
-              length-append (section_pieces inputs l) (pieces_in inputs ls),
+              length-append (section_pieces inputs slot l) (pieces_in inputs slot ls),
               ap length own,
-              length-map (starts_in s) (λ m. piece_at inputs (place_of l m)),
+              length-map (starts_in s) (λ m. piece_at inputs slot (place_of l m)),
               few,
               room,
               (whole.0 code).bytes,
@@ -324,17 +328,17 @@ module _ (inputs : ParsedInputs) where
             ),
           )
       by false other rest =
-          let own : section_pieces inputs l ≡ [] = ap (λ b. cond b (Align (section_alignment l.section) ∷ map (piece_at inputs) (places_of l)) []) other in (
+          let own : section_pieces inputs slot l ≡ [] = ap (λ b. cond b (Align (section_alignment l.section) ∷ map (piece_at inputs slot) (places_of l)) []) other in (
             omega (
               arith,
-              sum_by-append longest (section_pieces inputs l) (pieces_in inputs ls),
+              sum_by-append longest (section_pieces inputs slot l) (pieces_in inputs slot ls),
               ap (sum_by longest) own,
               sum_by-cons (λ (m : IndexedSection). code_room m.section) l ls,
               rest.0,
             ),
             omega (
               arith,
-              length-append (section_pieces inputs l) (pieces_in inputs ls),
+              length-append (section_pieces inputs slot l) (pieces_in inputs slot ls),
               ap length own,
               sum_by-cons (λ (m : IndexedSection). code_room m.section) l ls,
               rest.1,
@@ -343,54 +347,70 @@ module _ (inputs : ParsedInputs) where
 
 -- ---- all pieces
 
--- what stands in front, and those of sections
-pieces_are : (inputs : ParsedInputs) → pieces_of inputs ≡ Fixed front_size ∷ pieces_in inputs (all_sections inputs.objects)
-unfolding pieces_of
-pieces_are inputs = refl
+-- what stands in front takes an even number of bytes
+front_even : (slots : List (Option Place)) → front_size slots % 2 ≡ 0
+front_even [] = refl
+front_even (x ∷ xs) = omega arith
 
-module _ (inputs : Inputs) (none : gather_fault inputs ≡ None) where
+-- and few
+pub front_few : (slots : List (Option Place)) → length slots ≤ 256 → front_size slots ≤ 0x40c
+front_few [] few = omega arith
+front_few (x ∷ xs) few = omega (arith, few)
+
+-- what stands in front, and those of sections
+pieces_are : (inputs : ParsedInputs) (slots : List (Option Place)) → pieces_of inputs slots ≡ Fixed (front_size slots) ∷ pieces_in inputs (slot_at inputs slots) (all_sections inputs.objects)
+unfolding pieces_by pieces_of
+pieces_are inputs slots = refl
+
+module _ (inputs : Inputs) (none : gather_fault inputs ≡ None) (slots : List (Option Place)) where
   abbrev given : ParsedInputs
   given = parsed inputs
 
   abbrev sections : List IndexedSection
   sections = all_sections given.objects
 
+  abbrev given_slot : Place → Option ℕ
+  given_slot = slot_at given slots
+
   -- P holds of each piece if it holds of what stands in front, of what pads sections, and of those of places
-  all_pieces : (P : Piece → Type 0) → P (Fixed front_size) → ((s : SectionParts) → IsWhole s → P (Align (section_alignment s))) → ((q : Place) → P (piece_at given q)) → All P (pieces_of given)
-  unfolding pieces_of
-  all_pieces P front pads place = all_of P (Fixed front_size ∷ pieces_in given sections) (front, each_piece given P pads place sections (all_whole inputs none))
+  all_pieces : (P : Piece → Type 0) → P (Fixed (front_size slots)) → ((s : SectionParts) → IsWhole s → P (Align (section_alignment s))) → ((q : Place) → P (piece_at given given_slot q))
+      → All P (pieces_of given slots)
+  unfolding pieces_by pieces_of
+  all_pieces P front pads place =
+      all_of P (Fixed (front_size slots) ∷ pieces_in given given_slot sections) (front, each_piece given slots P pads place sections (all_whole inputs none))
 
   -- all alignments are at least 1
-  pub all_aligned : All HasAlignment (pieces_of given)
-  all_aligned = all_pieces HasAlignment tt (λ s whole. (padding_is given s whole).some) (place_aligned given)
+  pub all_aligned : All HasAlignment (pieces_of given slots)
+  all_aligned = all_pieces HasAlignment tt (λ s whole. (padding_is given slots s whole).some) (place_aligned given slots)
 
   -- and all pieces are even
-  pub all_even : All IsEvenPiece (pieces_of given)
-  all_even = all_pieces IsEvenPiece refl (λ s whole. (padding_is given s whole).even) (place_even given)
+  pub all_even : All IsEvenPiece (pieces_of given slots)
+  all_even = all_pieces IsEvenPiece (front_even slots) (λ s whole. (padding_is given slots s whole).even) (place_even given slots)
 
   -- targets are pieces, or the end
-  pub targets : All (λ p. target p ≤ length (pieces_of given)) (pieces_of given)
-  targets = all_pieces (λ p. target p ≤ length (pieces_of given)) (omega arith) (λ s whole. omega arith) (place_leads given)
+  pub targets : All (λ p. target p ≤ length (pieces_of given slots)) (pieces_of given slots)
+  targets = all_pieces (λ p. target p ≤ length (pieces_of given slots)) (omega arith) (λ s whole. omega arith) (place_leads given slots)
 
-  -- the longest forms take little room
-  pub room_few : sum_by longest (pieces_of given) ≤ 0x8_0000
+  -- the longest forms take little room, beside what stands in front
+  pub room_few : sum_by longest (pieces_of given slots) ≤ 0x8_0000 + front_size slots
   room_few =
       omega (
         arith,
-        ap (sum_by longest) (pieces_are given),
-        sum_by-cons longest (Fixed front_size) (pieces_in given sections),
-        (sections_longest given sections (λ k l is. listed_at given.objects k l is) (all_whole inputs none)).0,
+        ap (sum_by longest) (pieces_are given slots),
+        sum_by-cons longest (Fixed (front_size slots)) (pieces_in given given_slot sections),
+        (sections_longest given slots sections (λ k l is. listed_at given.objects k l is) (all_whole inputs none)).0,
         rooms_few inputs none,
       )
 
   -- and there are few pieces
-  pub pieces_few : 4 * length (pieces_of given) ≤ 0x4_0004
-  pieces_few = omega (arith, ap length (pieces_are given), (sections_longest given sections (λ k l is. listed_at given.objects k l is) (all_whole inputs none)).1, rooms_few inputs none)
+  pub pieces_few : 4 * length (pieces_of given slots) ≤ 0x4_0004
+  pieces_few =
+      omega (arith, ap length (pieces_are given slots), (sections_longest given slots sections (λ k l is. listed_at given.objects k l is) (all_whole inputs none)).1, rooms_few inputs none)
 
 -- if nothing is aligned above 4 bytes, all are tight
-pub all_tight : (inputs : ParsedInputs) → is_unaligned inputs ≡ true → All IsTight (pieces_of inputs)
-unfolding pieces_of
-all_tight inputs is =
+pub all_tight : (inputs : ParsedInputs) (slots : List (Option Place)) → is_unaligned inputs ≡ true → All IsTight (pieces_of inputs slots)
+unfolding pieces_by pieces_of
+all_tight inputs slots is =
     let two = and_parts (not (list_any is_align (all_items inputs))) (not (list_any is_aligned_code (all_sections inputs.objects))) is in
-    all_of IsTight (Fixed front_size ∷ pieces_in inputs (all_sections inputs.objects))
-    (tt, sections_tight inputs (all_sections inputs.objects) (λ k l is. listed_at inputs.objects k l is) (not-true (list_any is_align (all_items inputs)) two.0) (not-true (list_any is_aligned_code (all_sections inputs.objects)) two.1))
+    all_of IsTight (Fixed (front_size slots) ∷ pieces_in inputs (slot_at inputs slots) (all_sections inputs.objects))
+    (tt, sections_tight inputs slots (all_sections inputs.objects) (λ k l is. listed_at inputs.objects k l is) (not-true (list_any is_align (all_items inputs)) two.0) (not-true (list_any is_aligned_code (all_sections inputs.objects)) two.1))

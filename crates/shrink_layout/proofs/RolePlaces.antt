@@ -23,13 +23,13 @@ use Rattle.frame_match.specs.declared.group.Group.{Group}
 use Rattle.frame_match.specs.declared.role.Role.{Role}
 use Rattle.frame_match.specs.declared.role.Role.TheVariants.{Alone, First, Inside}
 use Rattle.frame_match.proofs.GroupLaws.{inside_no_leader}
-use Rattle.shrink_layout.specs.Pieces.{piece_number_at, pieces_of, unit_piece}
-use Rattle.shrink_layout.specs.Units.{CodeUnit, OneGroup, OneItem, is_inside, is_listed_at, is_within, unit_at, unit_items}
+use Rattle.shrink_layout.specs.Pieces.{piece_number_at, pieces_of, slot_at, unit_at, unit_piece}
+use Rattle.shrink_layout.specs.Units.{CodeUnit, OneGroup, OneItem, OneSite, is_inside, is_listed_at, is_within, item_unit, no_slot, unit_by, unit_items}
 use Rattle.shrink_layout.specs.declared.piece.Piece.TheVariants.{Joined}
 use Rattle.shrink_layout.proofs.NumberLaws.{behind, below_more, filter_few, number_next, place_piece, starts_cut}
 use Rattle.shrink_layout.proofs.RoleLaws.{AreInside, first_some, role_next, roles_count}
 use Rattle.shrink_layout.proofs.SectionLaws.{some_at}
-use Rattle.shrink_layout.proofs.UnitLaws.{found_item, found_start, role_found, start_item, unit-alone, unit-first, unit-inside, unit_found, unit_group, unit_item}
+use Rattle.shrink_layout.proofs.UnitLaws.{found_item, found_start, role_found, start_item, unit-alone, unit-first, unit-inside, unit-some, unit_found, unit_group, unit_item, unit_site}
 
 -- ---- roles of a section's items
 
@@ -74,12 +74,13 @@ role_there inputs q i is =
     (at.0, role-code inputs q s found.code found.start ∙ at.1)
 
 -- so something is written where an item starts that isn't inside a group
-pub unit_outside : (inputs : ParsedInputs) (q : Place) (i : Item) → item_at inputs q ≡ Some i → is_inside inputs q ≡ false → (u : CodeUnit) × (unit_at inputs q ≡ Some u)
-unit_outside inputs q i is outside = let r = role_there inputs q i is in by r.0 r.1
+pub unit_outside : (inputs : ParsedInputs) (slot : Place → Option ℕ) (q : Place) (i : Item) → item_at inputs q ≡ Some i → is_inside inputs q ≡ false
+    → (u : CodeUnit) × (unit_by inputs slot q ≡ Some u)
+unit_outside inputs slot q i is outside = let r = role_there inputs q i is in by r.0 r.1
   where
-    by : (r : Role) → role_at inputs q ≡ Some r → (u : CodeUnit) × (unit_at inputs q ≡ Some u)
-    by Alone at = (OneItem i, unit-alone inputs q at ∙ ap (option_map OneItem) is)
-    by (First g) at = (OneGroup g, unit-first inputs q g at)
+    by : (r : Role) → role_at inputs q ≡ Some r → (u : CodeUnit) × (unit_by inputs slot q ≡ Some u)
+    by Alone at = (item_unit (slot q) i, unit-alone inputs slot q at ∙ ap (option_map (item_unit (slot q))) is)
+    by (First g) at = (OneGroup g, unit-first inputs slot q g at)
     by Inside at = absurd (cc (outside, ap is_within at))
 
 -- a group has an item
@@ -98,38 +99,38 @@ or_true true = refl
 or_true false = refl
 
 module _ (inputs : ParsedInputs) (q : Place) where
-  pub unit_listed : (u : CodeUnit) → unit_at inputs q ≡ Some u → is_listed_at inputs q ≡ true
+  pub unit_listed : (slot : Place → Option ℕ) (u : CodeUnit) → unit_by inputs slot q ≡ Some u → is_listed_at inputs q ≡ true
   unfolding is_listed_at
-  unit_listed u is = ap (λ o. is_some o || is_end_at inputs.objects q) is
+  unit_listed slot u is = ap (λ b. b || is_end_at inputs.objects q) (unit-some inputs no_slot slot q ∙ ap is_some is)
 
   pub end_listed : is_end_at inputs.objects q ≡ true → is_listed_at inputs q ≡ true
   unfolding is_listed_at
-  end_listed is = ap (λ b. is_some (unit_at inputs q) || b) is ∙ or_true (is_some (unit_at inputs q))
+  end_listed is = ap (λ b. is_some (unit_by inputs no_slot q) || b) is ∙ or_true (is_some (unit_by inputs no_slot q))
 
   -- code may lead there
   pub listed_target : is_listed_at inputs q ≡ true → is_target_at inputs.objects q ≡ true
   unfolding is_listed_at
-  listed_target is = by (unit_at inputs q) refl is
+  listed_target is = by (unit_by inputs no_slot q) refl is
     where
-      by : (o : Option CodeUnit) → unit_at inputs q ≡ o → (is_some o || is_end_at inputs.objects q) ≡ true → is_target_at inputs.objects q ≡ true
+      by : (o : Option CodeUnit) → unit_by inputs no_slot q ≡ o → (is_some o || is_end_at inputs.objects q) ≡ true → is_target_at inputs.objects q ≡ true
       by None at h = ap (λ b. is_start_at inputs.objects q || b) h ∙ or_true (is_start_at inputs.objects q)
-      by (Some u) at h = ap (λ b. b || is_end_at inputs.objects q) (found_start inputs q (unit_found inputs q u at))
+      by (Some u) at h = ap (λ b. b || is_end_at inputs.objects q) (found_start inputs q (unit_found inputs no_slot q u at))
 
   -- and it isn't inside a group
   pub target_listed : is_target_at inputs.objects q ≡ true → is_inside inputs q ≡ false → is_listed_at inputs q ≡ true
   target_listed target outside = by (is_start_at inputs.objects q) refl target
     where
       by : (b : Bool) → is_start_at inputs.objects q ≡ b → (b || is_end_at inputs.objects q) ≡ true → is_listed_at inputs q ≡ true
-      by true start h = let i = start_item inputs q start in let u = unit_outside inputs q i.0 i.1 outside in unit_listed u.0 u.1
+      by true start h = let i = start_item inputs q start in let u = unit_outside inputs no_slot q i.0 i.1 outside in unit_listed no_slot u.0 u.1
       by false other h = end_listed h
 
 -- ---- behind what is written
 
 -- so many items on stands a place that images list, whose number is as many more; nothing is written between
-pub record IsBehind (inputs : ParsedInputs) (q r : Place) (n : ℕ) : Type 0 where
+pub record IsBehind (inputs : ParsedInputs) (slots : List (Option Place)) (q r : Place) (n : ℕ) : Type 0 where
   pub listed : is_listed_at inputs r ≡ true
   pub number : piece_number_at inputs.objects r ≡ piece_number_at inputs.objects q + n
-  pub between : (j : ℕ) → 0 < j → j < n → slice_get (pieces_of inputs) (piece_number_at inputs.objects q + j) ≡ Some (Joined 0)
+  pub between : (j : ℕ) → 0 < j → j < n → slice_get (pieces_of inputs slots) (piece_number_at inputs.objects q + j) ≡ Some (Joined 0)
 
 module _ (inputs : Inputs) (none : gather_fault inputs ≡ None) where
   abbrev given : ParsedInputs
@@ -157,27 +158,27 @@ module _ (inputs : Inputs) (none : gather_fault inputs ≡ None) where
     start_here start = ap (λ o. option_map_or (λ t. starts_on t q.offset) o false) (sym here) ∙ start
 
   -- one item more before it, if nothing is written at the next
-  one_before : (q next : Place) (left : ℕ) (r : Place) → piece_number_at given.objects next ≡ piece_number_at given.objects q + 1
-      → slice_get (pieces_of given) (piece_number_at given.objects next) ≡ Some (Joined 0)
-      → IsBehind given next r (suc left) → IsBehind given q r (suc (suc left))
-  one_before q next left r number nothing rest = record {
+  one_before : (slots : List (Option Place)) (q next : Place) (left : ℕ) (r : Place) → piece_number_at given.objects next ≡ piece_number_at given.objects q + 1
+      → slice_get (pieces_of given slots) (piece_number_at given.objects next) ≡ Some (Joined 0)
+      → IsBehind given slots next r (suc left) → IsBehind given slots q r (suc (suc left))
+  one_before slots q next left r number nothing rest = record {
     listed = rest.listed;
     number = omega (arith, rest.number, number);
     between = by;
   }
     where
-      by : (j : ℕ) → 0 < j → j < suc (suc left) → slice_get (pieces_of given) (piece_number_at given.objects q + j) ≡ Some (Joined 0)
+      by : (j : ℕ) → 0 < j → j < suc (suc left) → slice_get (pieces_of given slots) (piece_number_at given.objects q + j) ≡ Some (Joined 0)
       by zero some few = absurd (omega (arith, some))
-      by (suc zero) some few = ap (slice_get (pieces_of given)) (sym number) ∙ nothing
+      by (suc zero) some few = ap (slice_get (pieces_of given slots)) (sym number) ∙ nothing
       by (suc (suc j)) some few =
           let e : piece_number_at given.objects q + suc (suc j) ≡ piece_number_at given.objects next + suc j = omega (arith, number) in
-          ap (slice_get (pieces_of given)) e ∙ rest.between (suc j) (omega arith) (omega (arith, few))
+          ap (slice_get (pieces_of given slots)) e ∙ rest.between (suc j) (omega arith) (omega (arith, few))
 
   -- from an item on, behind which so many are inside a group
-  behind_from : (left : ℕ) (q : Place) (i : Item) (s : SectionParts) → item_at given q ≡ Some i → code_at given.objects q ≡ Some s → starts_on s q.offset ≡ true
+  behind_from : (slots : List (Option Place)) (left : ℕ) (q : Place) (i : Item) (s : SectionParts) → item_at given q ≡ Some i → code_at given.objects q ≡ Some s → starts_on s q.offset ≡ true
       → AreInside (roles_in given (own q s)) (suc (index_on s q.offset)) left
-      → IsBehind given q (after_items given.objects (suc left) q) (suc left)
-  behind_from zero q i s is here start are = record {
+      → IsBehind given slots q (after_items given.objects (suc left) q) (suc left)
+  behind_from slots zero q i s is here start are = record {
     listed = by (next_start inputs none q i is);
     number = number_next inputs none q i is;
     between = λ j some few. absurd (omega (arith, some, few));
@@ -193,9 +194,9 @@ module _ (inputs : Inputs) (none : gather_fault inputs ≡ None) where
           let same : index_on s next.offset ≡ suc (index_on s q.offset) + 0 = omega (arith, index_next q s here start) in
           let role = role-code given next s here (start_here next s here begins) in
           let outside : is_inside given next ≡ false = ap is_within (role ∙ ap (slice_get (roles_in given (own q s))) same) ∙ are.next in
-          let u = unit_outside given next j.0 j.1 outside in
-          unit_listed given next u.0 u.1
-  behind_from (suc left) q i s is here start are = by (next_start inputs none q i is) (λ j at starts more. behind_from left (next_at given.objects q) j s at here starts more)
+          let u = unit_outside given no_slot next j.0 j.1 outside in
+          unit_listed given next no_slot u.0 u.1
+  behind_from slots (suc left) q i s is here start are = by (next_start inputs none q i is) (λ j at starts more. behind_from slots left (next_at given.objects q) j s at here starts more)
     where
       next : Place
       next = next_at given.objects q
@@ -220,32 +221,37 @@ module _ (inputs : Inputs) (none : gather_fault inputs ≡ None) where
 
       by : (is_start_at given.objects next ≡ true) ⊎ (is_end_at given.objects next ≡ true)
           → ((j : Item) → item_at given next ≡ Some j → starts_on s next.offset ≡ true → AreInside (roles_in given (own next s)) (suc (index_on s next.offset)) left
-          → IsBehind given next (after_items given.objects (suc left) next) (suc left))
-          → IsBehind given q (after_items given.objects (suc (suc left)) q) (suc (suc left))
+          → IsBehind given slots next (after_items given.objects (suc left) next) (suc left))
+          → IsBehind given slots q (after_items given.objects (suc (suc left)) q) (suc (suc left))
       by (inr end) rest =
           absurd (omega (arith, slice_get_within (roles_in given (own q s)) (index_on s next.offset) Inside first, roles_many given q s here, index_end next s here end))
       by (inl begins) rest =
           let j = start_item given next begins in
           let starts = start_here next s here begins in
           let behind_it = rest j.0 j.1 starts more in
-          let nothing : unit_at given next ≡ None = unit-inside given next (role-code given next s here starts ∙ first) in
-          one_before q next left (after_items given.objects (suc left) next) (number_next inputs none q i is)
-          (place_piece inputs none next j.0 j.1 ∙ ap (λ o. Some (unit_piece given.objects o)) nothing) behind_it
+          let nothing : unit_at given slots next ≡ None = unit-inside given (slot_at given slots) next (role-code given next s here starts ∙ first) in
+          one_before slots q next left (after_items given.objects (suc left) next) (number_next inputs none q i is)
+          (place_piece inputs none slots next j.0 j.1 ∙ ap (λ o. Some (unit_piece given.objects o)) nothing) behind_it
 
   -- from where something is written on
-  pub behind_unit : (q : Place) (u : CodeUnit) → unit_at given q ≡ Some u → IsBehind given q (after_items given.objects (unit_items u) q) (unit_items u)
-  behind_unit q (OneItem i) is =
-      let two = unit_item given q i is in
+  pub behind_unit : (slots : List (Option Place)) (q : Place) (u : CodeUnit) → unit_at given slots q ≡ Some u → IsBehind given slots q (after_items given.objects (unit_items u) q) (unit_items u)
+  behind_unit slots q (OneItem i) is =
+      let two = unit_item given (slot_at given slots) q i is in
       let found = item_found given q i two.1 in
-      behind_from 0 q i found.section two.1 found.code found.start (roles_next given q found.section found.code found.start Alone two.0 refl)
-  behind_unit q (OneGroup g) is =
-      let role = unit_group given q g is in
+      behind_from slots 0 q i found.section two.1 found.code found.start (roles_next given q found.section found.code found.start Alone two.0 refl)
+  behind_unit slots q (OneGroup g) is =
+      let role = unit_group given (slot_at given slots) q g is in
       let found = role_found given q (First g) role in
       let s = found.section in
       let item = found_item given q found in
       let e : suc (g.items - 1) ≡ g.items = omega (arith, group_some given q g role) in
-      subst (λ n. IsBehind given q (after_items given.objects n q) n) e
-      (behind_from (g.items - 1) q item.0 s item.1 found.code found.start (roles_next given q s found.code found.start (First g) role refl))
+      subst (λ n. IsBehind given slots q (after_items given.objects n q) n) e
+      (behind_from slots (g.items - 1) q item.0 s item.1 found.code found.start (roles_next given q s found.code found.start (First g) role refl))
+  behind_unit slots q (OneSite n) is =
+      let role = (unit_site given (slot_at given slots) q n is).0 in
+      let found = role_found given q Alone role in
+      let item = found_item given q found in
+      behind_from slots 0 q item.0 found.section item.1 found.code found.start (roles_next given q found.section found.code found.start Alone role refl)
 
   -- ---- places inside groups
 
@@ -263,11 +269,11 @@ module _ (inputs : Inputs) (none : gather_fault inputs ≡ None) where
           ap (λ o. option_map_or (λ t. eqb q.offset (length t.bytes)) o false) found.code
           ∙ false_from_ne_true (eqb q.offset (length s.bytes)) (λ e. omega (arith, eqb-true q.offset (length s.bytes) e, below))
 
-      by : (o : Option Role) → role_at given q ≡ o → is_within o ≡ true → (is_some (unit_at given q) || is_end_at given.objects q) ≡ false
+      by : (o : Option Role) → role_at given q ≡ o → is_within o ≡ true → (is_some (unit_by given no_slot q) || is_end_at given.objects q) ≡ false
       by None at h = absurd cc
       by (Some Alone) at h = absurd cc
       by (Some (First g)) at h = absurd cc
-      by (Some Inside) at h = ap (λ o. is_some o || is_end_at given.objects q) (unit-inside given q at) ∙ no_end Inside at
+      by (Some Inside) at h = ap (λ o. is_some o || is_end_at given.objects q) (unit-inside given no_slot q at) ∙ no_end Inside at
 
   -- no basic block begins there
   pub inside_leads : (q : Place) → role_at given q ≡ Some Inside → is_leader_at given q ≡ false

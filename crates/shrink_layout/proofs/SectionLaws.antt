@@ -1,11 +1,12 @@
 -- Sections by their numbers among all: what one more adds to the pieces, to their count, and to what is written for them.
-use Rattle.std.proofs.Common.{◌≡◌, ℕ, zero, suc, ◌+◌, ◌-◌, ◌<◌, ◌≤◌, List, [], ◌∷◌, ◌++◌, length, map, take, drop, cond, Bool, true, false, Some, None, slice_get, refl, sym, ap, ◌∙◌, arith, append_assoc, eqb}
+use Rattle.std.proofs.Common.{◌≡◌, ℕ, zero, suc, ◌+◌, ◌-◌, ◌<◌, ◌≤◌, List, [], ◌∷◌, ◌++◌, length, map, take, drop, cond, Bool, true, false, Option, Some, None, slice_get, refl, sym, ap, ◌∙◌, arith, append_assoc, eqb}
 use Rattle.std.specs.List.{flat_map, sum_by}
 use Rattle.std.proofs.lemmas.Bool.{eqb-true}
 use Rattle.std.proofs.lemmas.List.{append-nil, length-append, length-map, map-append, take-append-drop, take_at, take_more}
 use Rattle.std.proofs.lemmas.List.Concat.{flat_map-append}
 use Rattle.std.proofs.lemmas.List.Sums.{sum_by-append, sum_by-cons}
 use Rattle.std.proofs.lemmas.Option.{get_or_from_slice_get, slice_get_within}
+use Rattle.zc_base.specs.declared.place.Place.{Place}
 use Rattle.elf32_read.specs.Parts.{ObjectParts, is_code_section}
 use Rattle.psabi_sym.specs.Faults.{gather_fault}
 use Rattle.psabi_sym.specs.Inputs.{Inputs, ParsedInputs, parsed}
@@ -19,7 +20,7 @@ use Rattle.block_cut.specs.declared.code_place.CodePlace.{CodePlace}
 use Rattle.block_cut.proofs.WholeLaws.{inputs_whole}
 use Rattle.shrink_layout.specs.Invariants.Made.{owners_in, places_held, section_owners}
 use Rattle.shrink_layout.specs.Pieces.{piece_at, piece_count, pieces_in, section_alignment, section_pieces}
-use Rattle.shrink_layout.specs.Units.{unit_at}
+use Rattle.shrink_layout.specs.Units.{unit_by}
 use Rattle.shrink_layout.specs.declared.piece.Piece.TheVariants.{Align}
 use Rattle.shrink_layout.proofs.NumberLaws.{length-pieces_of}
 use Rattle.shrink_layout.proofs.PremiseLaws.{pieces_few}
@@ -29,7 +30,7 @@ split_at : {X : Type 0} (xs : List X) (k : ℕ) (x : X) → slice_get xs k ≡ S
 split_at xs k x is = take_more xs k x (slice_get_within xs k x is) ∙ ap (λ y. take k xs ++ y ∷ []) (get_or_from_slice_get xs k x x is)
 
 -- what a function gives for one element more
-flat_next : {X Y : Type 0} (f : X → List Y) (xs : List X) (k : ℕ) (x : X) → slice_get xs k ≡ Some x → flat_map f (take (k + 1) xs) ≡ flat_map f (take k xs) ++ f x
+pub flat_next : {X Y : Type 0} (f : X → List Y) (xs : List X) (k : ℕ) (x : X) → slice_get xs k ≡ Some x → flat_map f (take (k + 1) xs) ≡ flat_map f (take k xs) ++ f x
 flat_next f xs k x is =
     ap (flat_map f) (split_at xs k x is) ∙ flat_map-append f (take k xs) (x ∷ []) ∙ ap (λ l. flat_map f (take k xs) ++ l) (append-nil (f x))
 
@@ -70,7 +71,7 @@ module _ (inputs : Inputs) (none : gather_fault inputs ≡ None) where
 
   -- numbers are small
   pub count_few : (k : ℕ) → sum_by piece_count (take k all) ≤ 0x1_0000
-  count_few k = omega (arith, sum_front piece_count all k, length-pieces_of given, pieces_few inputs none)
+  count_few k = omega (arith, sum_front piece_count all k, length-pieces_of given [], pieces_few inputs none [])
 
   module _ (k : ℕ) (l : IndexedSection) (is : slice_get all k ≡ Some l) where
     here : section_at objects l.object l.index ≡ Some l.section
@@ -123,15 +124,15 @@ module _ (inputs : Inputs) (none : gather_fault inputs ≡ None) where
         by false other = other
 
     -- it adds no pieces
-    pub none_next : eqb (length (code_places given l)) 0 ≡ true → pieces_in given (take k all) ≡ pieces_in given (take (k + 1) all)
-    none_next none =
-        let own : section_pieces given l ≡ [] = ap (λ b. cond b (Align (section_alignment l.section) ∷ map (piece_at given) (places_of l)) []) (no_code none) in
-        sym (flat_next (section_pieces given) all k l is ∙ ap (λ ps. pieces_in given (take k all) ++ ps) own ∙ append-nil (pieces_in given (take k all)))
+    pub none_next : (slot : Place → Option ℕ) → eqb (length (code_places given l)) 0 ≡ true → pieces_in given slot (take k all) ≡ pieces_in given slot (take (k + 1) all)
+    none_next slot none =
+        let own : section_pieces given slot l ≡ [] = ap (λ b. cond b (Align (section_alignment l.section) ∷ map (piece_at given slot) (places_of l)) []) (no_code none) in
+        sym (flat_next (section_pieces given slot) all k l is ∙ ap (λ ps. pieces_in given slot (take k all) ++ ps) own ∙ append-nil (pieces_in given slot (take k all)))
 
-    pub no_owners_next : eqb (length (code_places given l)) 0 ≡ true → owners_in given (take k all) ≡ owners_in given (take (k + 1) all)
-    no_owners_next none =
-        let own : section_owners given l ≡ [] = ap (λ b. cond b (None ∷ map (unit_at given) (places_of l)) []) (no_code none) in
-        sym (flat_next (section_owners given) all k l is ∙ ap (λ xs. owners_in given (take k all) ++ xs) own ∙ append-nil (owners_in given (take k all)))
+    pub no_owners_next : (slot : Place → Option ℕ) → eqb (length (code_places given l)) 0 ≡ true → owners_in given slot (take k all) ≡ owners_in given slot (take (k + 1) all)
+    no_owners_next slot none =
+        let own : section_owners given slot l ≡ [] = ap (λ b. cond b (None ∷ map (unit_by given slot) (places_of l)) []) (no_code none) in
+        sym (flat_next (section_owners given slot) all k l is ∙ ap (λ xs. owners_in given slot (take k all) ++ xs) own ∙ append-nil (owners_in given slot (take k all)))
 
     -- ---- what is code
 
@@ -143,27 +144,27 @@ module _ (inputs : Inputs) (none : gather_fault inputs ≡ None) where
         by false other = absurd (omega (arith, not_none (length (code_places given l)) some, places_count, ap (λ b. cond b (1 + length (starts_in l.section)) 0) other))
 
     -- it adds its padding and the pieces of its places
-    pub some_next : eqb (length (code_places given l)) 0 ≡ false
-        → (pieces_in given (take k all) ++ Align (section_alignment l.section) ∷ []) ++ map (piece_at given) (places_held l (take (length (code_places given l) - 1) (code_places given l)))
-        ≡ pieces_in given (take (k + 1) all)
-    some_next some =
+    pub some_next : (slot : Place → Option ℕ) → eqb (length (code_places given l)) 0 ≡ false
+        → (pieces_in given slot (take k all) ++ Align (section_alignment l.section) ∷ []) ++ map (piece_at given slot) (places_held l (take (length (code_places given l) - 1) (code_places given l)))
+        ≡ pieces_in given slot (take (k + 1) all)
+    some_next slot some =
         let code = some_code some in
-        let front = pieces_in given (take k all) in
+        let front = pieces_in given slot (take k all) in
         let pad = Align (section_alignment l.section) in
-        let own : section_pieces given l ≡ pad ∷ map (piece_at given) (places_of l) = ap (λ b. cond b (pad ∷ map (piece_at given) (places_of l)) []) code in
-        append_assoc front (pad ∷ []) (map (piece_at given) (places_held l (take (length (code_places given l) - 1) (code_places given l))))
-        ∙ ap (λ ps. front ++ pad ∷ map (piece_at given) ps) (held_all code)
-        ∙ sym (flat_next (section_pieces given) all k l is ∙ ap (λ ps. front ++ ps) own)
+        let own : section_pieces given slot l ≡ pad ∷ map (piece_at given slot) (places_of l) = ap (λ b. cond b (pad ∷ map (piece_at given slot) (places_of l)) []) code in
+        append_assoc front (pad ∷ []) (map (piece_at given slot) (places_held l (take (length (code_places given l) - 1) (code_places given l))))
+        ∙ ap (λ ps. front ++ pad ∷ map (piece_at given slot) ps) (held_all code)
+        ∙ sym (flat_next (section_pieces given slot) all k l is ∙ ap (λ ps. front ++ ps) own)
 
-    pub owners_next : eqb (length (code_places given l)) 0 ≡ false
-        → (owners_in given (take k all) ++ None ∷ []) ++ map (unit_at given) (places_held l (take (length (code_places given l) - 1) (code_places given l))) ≡ owners_in given (take (k + 1) all)
-    owners_next some =
+    pub owners_next : (slot : Place → Option ℕ) → eqb (length (code_places given l)) 0 ≡ false
+        → (owners_in given slot (take k all) ++ None ∷ []) ++ map (unit_by given slot) (places_held l (take (length (code_places given l) - 1) (code_places given l))) ≡ owners_in given slot (take (k + 1) all)
+    owners_next slot some =
         let code = some_code some in
-        let front = owners_in given (take k all) in
-        let own : section_owners given l ≡ None ∷ map (unit_at given) (places_of l) = ap (λ b. cond b (None ∷ map (unit_at given) (places_of l)) []) code in
-        append_assoc front (None ∷ []) (map (unit_at given) (places_held l (take (length (code_places given l) - 1) (code_places given l))))
-        ∙ ap (λ ps. front ++ None ∷ map (unit_at given) ps) (held_all code)
-        ∙ sym (flat_next (section_owners given) all k l is ∙ ap (λ xs. front ++ xs) own)
+        let front = owners_in given slot (take k all) in
+        let own : section_owners given slot l ≡ None ∷ map (unit_by given slot) (places_of l) = ap (λ b. cond b (None ∷ map (unit_by given slot) (places_of l)) []) code in
+        append_assoc front (None ∷ []) (map (unit_by given slot) (places_held l (take (length (code_places given l) - 1) (code_places given l))))
+        ∙ ap (λ ps. front ++ None ∷ map (unit_by given slot) ps) (held_all code)
+        ∙ sym (flat_next (section_owners given slot) all k l is ∙ ap (λ xs. front ++ xs) own)
 
 -- ---- what a section's places count
 

@@ -1,6 +1,7 @@
--- What is written at a place: the item there by itself, the group whose first item it is, or nothing, inside a group.
+-- What is written at a place: the item there by itself, the jump or call there through the table, the group whose first item it is, or nothing, inside a
+-- group.
 use Rattle.std.proofs.Common.{◌≡◌, ◌∙◌, ℕ, Bool, true, false, cond, Option, Some, None, slice_get, refl, sym, ap}
-use Rattle.std.specs.Option.{option_and_then, option_map, option_map_or}
+use Rattle.std.specs.Option.{is_some, option_and_then, option_map, option_map_or}
 use Rattle.std.proofs.lemmas.Option.{none-some}
 use Rattle.zc_base.specs.declared.place.Place.{Place}
 use Rattle.elf32_read.specs.Parts.{SectionParts, is_code_section}
@@ -14,64 +15,95 @@ use Rattle.frame_match.specs.declared.group.Group.{Group}
 use Rattle.frame_match.specs.declared.role.Role.{Role}
 use Rattle.frame_match.specs.declared.role.Role.TheVariants.{Alone, First, Inside}
 use Rattle.shrink_layout.specs.Pieces.{group_size, piece_at, piece_of, unit_piece}
-use Rattle.shrink_layout.specs.Units.{CodeUnit, OneGroup, OneItem, role_unit, unit_at}
+use Rattle.shrink_layout.specs.Units.{CodeUnit, OneGroup, OneItem, OneSite, item_unit, role_unit, unit_by}
 use Rattle.shrink_layout.specs.declared.piece.Piece.{Piece}
 use Rattle.shrink_layout.specs.declared.piece.Piece.TheVariants.{Joined}
 
-module _ (inputs : ParsedInputs) (q : Place) where
+module _ (inputs : ParsedInputs) (slot : Place → Option ℕ) (q : Place) where
   -- ---- by the role of the item there
 
-  pub unit-none : role_at inputs q ≡ None → unit_at inputs q ≡ None
-  unit-none is = ap (option_and_then (role_unit (item_at inputs q))) is
+  pub unit-none : role_at inputs q ≡ None → unit_by inputs slot q ≡ None
+  unit-none is = ap (option_and_then (role_unit (slot q) (item_at inputs q))) is
 
-  pub unit-alone : role_at inputs q ≡ Some Alone → unit_at inputs q ≡ option_map OneItem (item_at inputs q)
-  unit-alone is = ap (option_and_then (role_unit (item_at inputs q))) is
+  pub unit-alone : role_at inputs q ≡ Some Alone → unit_by inputs slot q ≡ option_map (item_unit (slot q)) (item_at inputs q)
+  unit-alone is = ap (option_and_then (role_unit (slot q) (item_at inputs q))) is
 
-  pub unit-first : (g : Group) → role_at inputs q ≡ Some (First g) → unit_at inputs q ≡ Some (OneGroup g)
-  unit-first g is = ap (option_and_then (role_unit (item_at inputs q))) is
+  pub unit-first : (g : Group) → role_at inputs q ≡ Some (First g) → unit_by inputs slot q ≡ Some (OneGroup g)
+  unit-first g is = ap (option_and_then (role_unit (slot q) (item_at inputs q))) is
 
-  pub unit-inside : role_at inputs q ≡ Some Inside → unit_at inputs q ≡ None
-  unit-inside is = ap (option_and_then (role_unit (item_at inputs q))) is
+  pub unit-inside : role_at inputs q ≡ Some Inside → unit_by inputs slot q ≡ None
+  unit-inside is = ap (option_and_then (role_unit (slot q) (item_at inputs q))) is
 
   -- ---- and what it tells of the item
 
-  mapped_some : (o : Option Item) (i : Item) → option_map OneItem o ≡ Some (OneItem i) → o ≡ Some i
-  mapped_some None i h = absurd cc
-  mapped_some (Some j) i h = let same : j ≡ i = cc h in ap Some same
+  mapped_some : (n : Option ℕ) (o : Option Item) (i : Item) → option_map (item_unit n) o ≡ Some (OneItem i) → o ≡ Some i
+  mapped_some n None i h = absurd cc
+  mapped_some None (Some j) i h = let same : j ≡ i = cc h in ap Some same
+  mapped_some (Some n) (Some j) i h = absurd cc
 
-  mapped_other : (o : Option Item) (g : Group) → option_map OneItem o ≡ Some (OneGroup g) → ⊥
-  mapped_other None g h = cc h
-  mapped_other (Some j) g h = cc h
+  mapped_group : (n : Option ℕ) (o : Option Item) (g : Group) → option_map (item_unit n) o ≡ Some (OneGroup g) → ⊥
+  mapped_group n None g h = cc h
+  mapped_group None (Some j) g h = cc h
+  mapped_group (Some n) (Some j) g h = cc h
 
-  pub unit_item : (i : Item) → unit_at inputs q ≡ Some (OneItem i) → (role_at inputs q ≡ Some Alone) × (item_at inputs q ≡ Some i)
+  mapped_site : (n : Option ℕ) (o : Option Item) (k : ℕ) → option_map (item_unit n) o ≡ Some (OneSite k) → n ≡ Some k
+  mapped_site n None k h = absurd cc
+  mapped_site None (Some j) k h = absurd cc
+  mapped_site (Some n) (Some j) k h = let same : n ≡ k = cc h in ap Some same
+
+  pub unit_item : (i : Item) → unit_by inputs slot q ≡ Some (OneItem i) → (role_at inputs q ≡ Some Alone) × (item_at inputs q ≡ Some i)
   unit_item i is = by (role_at inputs q) refl is
     where
-      by : (o : Option Role) → role_at inputs q ≡ o → option_and_then (role_unit (item_at inputs q)) o ≡ Some (OneItem i) → (role_at inputs q ≡ Some Alone) × (item_at inputs q ≡ Some i)
+      by : (o : Option Role) → role_at inputs q ≡ o → option_and_then (role_unit (slot q) (item_at inputs q)) o ≡ Some (OneItem i) → (role_at inputs q ≡ Some Alone) × (item_at inputs q ≡ Some i)
       by None at h = absurd cc
-      by (Some Alone) at h = (at, mapped_some (item_at inputs q) i h)
+      by (Some Alone) at h = (at, mapped_some (slot q) (item_at inputs q) i h)
       by (Some (First g)) at h = absurd cc
       by (Some Inside) at h = absurd cc
 
-  pub unit_group : (g : Group) → unit_at inputs q ≡ Some (OneGroup g) → role_at inputs q ≡ Some (First g)
+  pub unit_group : (g : Group) → unit_by inputs slot q ≡ Some (OneGroup g) → role_at inputs q ≡ Some (First g)
   unit_group g is = by (role_at inputs q) refl is
     where
-      by : (o : Option Role) → role_at inputs q ≡ o → option_and_then (role_unit (item_at inputs q)) o ≡ Some (OneGroup g) → role_at inputs q ≡ Some (First g)
+      by : (o : Option Role) → role_at inputs q ≡ o → option_and_then (role_unit (slot q) (item_at inputs q)) o ≡ Some (OneGroup g) → role_at inputs q ≡ Some (First g)
       by None at h = absurd cc
-      by (Some Alone) at h = absurd (mapped_other (item_at inputs q) g h)
+      by (Some Alone) at h = absurd (mapped_group (slot q) (item_at inputs q) g h)
       by (Some (First x)) at h = let same : x ≡ g = cc h in at ∙ ap (λ y. Some (First y)) same
+      by (Some Inside) at h = absurd cc
+
+  pub unit_site : (n : ℕ) → unit_by inputs slot q ≡ Some (OneSite n) → (role_at inputs q ≡ Some Alone) × (slot q ≡ Some n)
+  unit_site n is = by (role_at inputs q) refl is
+    where
+      by : (o : Option Role) → role_at inputs q ≡ o → option_and_then (role_unit (slot q) (item_at inputs q)) o ≡ Some (OneSite n) → (role_at inputs q ≡ Some Alone) × (slot q ≡ Some n)
+      by None at h = absurd cc
+      by (Some Alone) at h = (at, mapped_site (slot q) (item_at inputs q) n h)
+      by (Some (First g)) at h = absurd cc
       by (Some Inside) at h = absurd cc
 
   -- ---- its piece
 
-  -- P holds of a place's piece if it holds of no bytes, of the piece of an item there, and of those of groups
+  -- P holds of a place's piece if it holds of no bytes, of the piece of an item there, of those of groups, and of that of a jump through the table
   pub piece_case : (P : Piece → Type 0) → P (Joined 0) → ((i : Item) → item_at inputs q ≡ Some i → P (piece_of inputs.objects i))
-      → ((g : Group) → P (Joined (group_size g))) → P (piece_at inputs q)
-  piece_case P nothing item group = by (unit_at inputs q) refl
+      → ((g : Group) → P (Joined (group_size g))) → P (Joined 2) → P (piece_at inputs slot q)
+  piece_case P nothing item group site = by (unit_by inputs slot q) refl
     where
-      by : (o : Option CodeUnit) → unit_at inputs q ≡ o → P (unit_piece inputs.objects o)
+      by : (o : Option CodeUnit) → unit_by inputs slot q ≡ o → P (unit_piece inputs.objects o)
       by None at = nothing
       by (Some (OneItem i)) at = item i (unit_item i at).1
       by (Some (OneGroup g)) at = group g
+      by (Some (OneSite n)) at = site
+
+-- whatever slots there are, something is written there or nothing
+pub unit-some : (inputs : ParsedInputs) (slot other : Place → Option ℕ) (q : Place) → is_some (unit_by inputs slot q) ≡ is_some (unit_by inputs other q)
+unit-some inputs slot other q = by (role_at inputs q)
+  where
+    mapped : (n m : Option ℕ) (o : Option Item) → is_some (option_map (item_unit n) o) ≡ is_some (option_map (item_unit m) o)
+    mapped n m None = refl
+    mapped n m (Some i) = refl
+
+    by : (o : Option Role) → is_some (option_and_then (role_unit (slot q) (item_at inputs q)) o) ≡ is_some (option_and_then (role_unit (other q) (item_at inputs q)) o)
+    by None = refl
+    by (Some Alone) = mapped (slot q) (other q) (item_at inputs q)
+    by (Some (First g)) = refl
+    by (Some Inside) = refl
 
 -- ---- where items start
 
@@ -95,9 +127,10 @@ role_found inputs q r is = by (code_at inputs.objects q) refl is
         tested s at (slice_get (roles_in inputs (record { object = q.object; index = q.section; section = s })) (index_on s q.offset)) (starts_on s q.offset) refl h
 
 -- so something is written only where an item starts
-pub unit_found : (inputs : ParsedInputs) (q : Place) (u : CodeUnit) → unit_at inputs q ≡ Some u → IsStartIn inputs q
-unit_found inputs q (OneItem i) is = role_found inputs q Alone (unit_item inputs q i is).0
-unit_found inputs q (OneGroup g) is = role_found inputs q (First g) (unit_group inputs q g is)
+pub unit_found : (inputs : ParsedInputs) (slot : Place → Option ℕ) (q : Place) (u : CodeUnit) → unit_by inputs slot q ≡ Some u → IsStartIn inputs q
+unit_found inputs slot q (OneItem i) is = role_found inputs q Alone (unit_item inputs slot q i is).0
+unit_found inputs slot q (OneGroup g) is = role_found inputs q (First g) (unit_group inputs slot q g is)
+unit_found inputs slot q (OneSite n) is = role_found inputs q Alone (unit_site inputs slot q n is).0
 
 -- there is an item then
 pub found_item : (inputs : ParsedInputs) (q : Place) → IsStartIn inputs q → (i : Item) × (item_at inputs q ≡ Some i)

@@ -5,12 +5,13 @@ use Rattle.psabi_reloc.specs.Patched.{with_imm, with_upper}
 use Rattle.psabi_sym.specs.declared.target.Target.{Target}
 use Rattle.psabi_sym.specs.declared.target.Target.TheVariants.{Code, Number, Absent, Nowhere}
 use Rattle.rv_decode.specs.declared.instr.Instr.{Instr}
-use Rattle.zc_decode.specs.declared.short.Short.TheVariants.{Base}
+use Rattle.zc_decode.specs.declared.short.Short.TheVariants.{Base, TableJump}
 use Rattle.zc_encode.specs.Halves.{encoded16}
 use Rattle.zca_zcb_pass.specs.Forms.{HasEffectOf}
 use Rattle.block_cut.specs.declared.item.Item.{Item}
 use Rattle.block_cut.specs.declared.item.Item.TheVariants as item
 use Rattle.shrink_layout.specs.Pieces.{is_short}
+use Rattle.shrink_layout.specs.Units.{CodeUnit, OneGroup, OneItem, OneSite}
 
 -- an instruction with a part of a target's address, if that is no address of code
 abbrev pub fixed_part : Target → (ℕ → Instr) → Option Instr
@@ -32,3 +33,10 @@ abbrev pub IsHalfOf : Item → ℕ → Type 0
 IsHalfOf i half =
     (instr : Instr) → fixed_instr i ≡ Some instr → IsTrue (is_short instr)
     → (encoded16 (Base instr) ≡ Some half) × HasEffectOf instr half
+
+-- the halfword of a jump or call through the table, if that is what is written
+abbrev pub IsSiteHalf : Option CodeUnit → Option ℕ → Type 0
+IsSiteHalf None half = half ≡ None
+IsSiteHalf (Some (OneItem i)) half = half ≡ None
+IsSiteHalf (Some (OneGroup g)) half = half ≡ None
+IsSiteHalf (Some (OneSite slot)) half = half ≡ encoded16 (TableJump slot)

@@ -3,7 +3,9 @@ pub mod Forms
 pub mod Layout
 pub mod Least
 pub mod Pieces
+pub mod Savings
 pub mod Settled
+pub mod Table
 pub mod Units
 pub mod Halves
 pub mod Counted

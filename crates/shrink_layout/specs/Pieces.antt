@@ -1,9 +1,9 @@
 -- The pieces of code: the padding before each section of it, and what is written for its items, each with the forms that
--- it has (RISC-V unprivileged manual, "C Extension for Compressed Instructions"; RISC-V Zc specification 1.0, "Zcb" and
--- "Zcmp").
-use Rattle.std.specs.Prelude.{ℕ, pos, ◌+◌, Bool, true, false, ◌==◌, nat_lt, nat_le, if◌then◌else◌, List, [], ◌∷◌, length, map, not, ◌&&◌, Option, Some, None}
+-- it has (RISC-V unprivileged manual, "C Extension for Compressed Instructions"; RISC-V Zc specification 1.0, "Zcb",
+-- "Zcmp" and "Zcmt").
+use Rattle.std.specs.Prelude.{ℕ, pos, ◌+◌, Bool, true, false, ◌==◌, nat_lt, nat_le, if◌then◌else◌, List, [], ◌∷◌, length, map, not, slice_index, ◌&&◌, Option, Some, None}
 use Rattle.std.specs.List.{flat_map, list_any, sum_by}
-use Rattle.std.specs.Option.{is_some, option_map_or}
+use Rattle.std.specs.Option.{is_some, option_and_then, option_map_or}
 use Rattle.zc_base.specs.declared.place.Place.{Place}
 use Rattle.elf32_read.specs.Parts.{ObjectParts, SectionParts, is_code_section}
 use Rattle.psabi_reloc.specs.Parts.{hi20_of, lo12_of}
@@ -18,11 +18,12 @@ use Rattle.rv_decode.specs.declared.instr.Instr.{Instr}
 use Rattle.rv_decode.specs.declared.instr.Instr.TheVariants as instr
 use Rattle.zc_decode.specs.declared.short.Short.TheVariants.{Base}
 use Rattle.zc_encode.specs.Halves.{encoded16}
-use Rattle.block_cut.specs.Items.{all_items, code_at, index_on, is_target_at, places_of, starts_in}
+use Rattle.block_cut.specs.Items.{all_items, code_at, index_on, is_target_at, item_at, places_of, starts_in}
 use Rattle.block_cut.specs.declared.item.Item.{Item}
 use Rattle.block_cut.specs.declared.item.Item.TheVariants as item
 use Rattle.frame_match.specs.declared.group.Group.{Group}
-use Rattle.shrink_layout.specs.Units.{CodeUnit, OneGroup, OneItem, front_size, rest_instr, unit_at}
+use Rattle.shrink_layout.specs.Layout.{sizes_of}
+use Rattle.shrink_layout.specs.Units.{CodeUnit, OneGroup, OneItem, OneSite, front_size, jump_of, no_slot, rest_instr, slot_for, unit_by}
 use Rattle.shrink_layout.specs.declared.piece.Piece.{Piece}
 use Rattle.shrink_layout.specs.declared.piece.Piece.TheVariants.{Fixed, Joined, Align, Branch, Jump}
 
@@ -97,10 +98,11 @@ abbrev pub unit_piece : List ObjectParts → Option CodeUnit → Piece
 unit_piece objects None = Joined 0
 unit_piece objects (Some (OneItem i)) = piece_of objects i
 unit_piece objects (Some (OneGroup g)) = Joined (group_size g)
+unit_piece objects (Some (OneSite slot)) = Joined 2
 
--- the piece at a place
-abbrev pub piece_at : ParsedInputs → Place → Piece
-piece_at inputs q = unit_piece inputs.objects (unit_at inputs q)
+-- the piece at a place, if jumps and calls have these slots
+abbrev pub piece_at : ParsedInputs → (Place → Option ℕ) → Place → Piece
+piece_at inputs slot q = unit_piece inputs.objects (unit_by inputs slot q)
 
 -- ---- all pieces
 
@@ -110,17 +112,50 @@ abbrev pub section_alignment : SectionParts → ℕ
 section_alignment s = if nat_le s.align 4 then 2 else s.align
 
 -- a section's pieces
-abbrev pub section_pieces : ParsedInputs → IndexedSection → List Piece
-section_pieces inputs l =
-    if is_code_section l.section then Align (section_alignment l.section) ∷ map (piece_at inputs) (places_of l) else []
+abbrev pub section_pieces : ParsedInputs → (Place → Option ℕ) → IndexedSection → List Piece
+section_pieces inputs slot l =
+    if is_code_section l.section
+    then Align (section_alignment l.section) ∷ map (piece_at inputs slot) (places_of l)
+    else []
 
 -- those of sections one after another
-abbrev pub pieces_in : ParsedInputs → List IndexedSection → List Piece
-pieces_in inputs sections = flat_map (section_pieces inputs) sections
+abbrev pub pieces_in : ParsedInputs → (Place → Option ℕ) → List IndexedSection → List Piece
+pieces_in inputs slot sections = flat_map (section_pieces inputs slot) sections
 
--- those of all code, by object, section and offset, behind what stands in front
-unfoldable pub pieces_of : ParsedInputs → List Piece
-pieces_of inputs = Fixed front_size ∷ pieces_in inputs (all_sections inputs.objects)
+-- those of all code, by object, section and offset, behind so many bytes in front
+unfoldable pub pieces_by : ParsedInputs → ℕ → (Place → Option ℕ) → List Piece
+pieces_by inputs front slot = Fixed front ∷ pieces_in inputs slot (all_sections inputs.objects)
+
+-- ---- slots
+
+-- the sizes of the layout without a table
+unfoldable pub first_sizes : ParsedInputs → List ℕ
+first_sizes inputs = sizes_of inputs.map.text (pieces_by inputs 0 no_slot)
+
+-- a jump or call that the table could serve: it takes so many bytes without one, and links no register or ra
+abbrev pub site_only : ℕ → ℕ × Place → Option (ℕ × Place)
+site_only size jump = if size == 4 && nat_lt jump.0 2 then Some jump else None
+
+-- the one at a place
+unfoldable pub site_at : ParsedInputs → Place → Option (ℕ × Place)
+site_at inputs q =
+    option_and_then (site_only (slice_index (first_sizes inputs) (piece_number_at inputs.objects q)))
+    (option_and_then jump_of (item_at inputs q))
+
+-- the slot of the jump or call at a place; without slots none has one
+unfoldable pub slot_at : ParsedInputs → List (Option Place) → Place → Option ℕ
+slot_at inputs [] q = None
+slot_at inputs (slot ∷ slots) q = option_and_then (slot_for (slot ∷ slots)) (site_at inputs q)
+
+-- ---- a layout
+
+-- what is written at a place with a table of these slots
+abbrev pub unit_at : ParsedInputs → List (Option Place) → Place → Option CodeUnit
+unit_at inputs slots q = unit_by inputs (slot_at inputs slots) q
+
+-- all pieces with it: in front stand the table and its stub
+unfoldable pub pieces_of : ParsedInputs → List (Option Place) → List Piece
+pieces_of inputs slots = pieces_by inputs (front_size slots) (slot_at inputs slots)
 
 -- ---- alignments
 

@@ -34,7 +34,7 @@ pub fn rest_instr(group: Group) -> Instr
 }
 
 /// How many bytes a group takes.
-pub fn group_size(group: Group) -> u8
+pub fn group_size(group: Group) -> u16
     ensures { result ≡ pieces.group_size group }
 {
     if group.rest == 0 {

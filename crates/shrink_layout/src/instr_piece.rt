@@ -1,11 +1,12 @@
 // The pieces of instructions that don't depend on the layout, and those of instructions with parts of addresses.
 
-ghost use Rattle.std.specs.Prelude.{◌≡◌};
+ghost use Rattle.std.specs.Prelude.{◌≡◌, Some, false};
 ghost use Rattle.psabi_reloc.specs.Parts.{hi20_of, lo12_of};
 ghost use Rattle.psabi_reloc.specs.Patched.{with_imm, with_upper};
 ghost use Rattle.block_cut.specs.declared.item.Item.TheVariants as item;
-ghost use Rattle.shrink_layout.specs.Halves.{IsHalfOf};
+ghost use Rattle.shrink_layout.specs.Invariants.Numbers.{IsHalfAt, is_table_half};
 ghost use Rattle.shrink_layout.specs.Pieces.{instr_size, part_size};
+ghost use Rattle.shrink_layout.specs.Units.{OneItem};
 ghost use Rattle.shrink_layout.specs.declared.piece.Piece.TheVariants.{Fixed};
 
 use crate::piece::Piece;
@@ -24,22 +25,25 @@ pub struct ItemPiece {
 
 /// A piece of which no halfword is known.
 pub fn without_half(piece: Piece) -> ItemPiece
-    ensures { result ≡ record { piece = piece; half = 0 } }
+    ensures piece { result ≡ record { piece = piece; half = 0 } }
+    ensures half { is_table_half result.half ≡ false }
 {
     ItemPiece { piece, half: 0 }
 }
 
 /// A piece of one size.
-pub fn fixed(size: u8) -> ItemPiece
-    ensures { result ≡ record { piece = Fixed size; half = 0 } }
+pub fn fixed(size: u16) -> ItemPiece
+    ensures piece { result ≡ record { piece = Fixed size; half = 0 } }
+    ensures half { is_table_half result.half ≡ false }
 {
     without_half(Piece::Fixed { size })
 }
 
 /// The piece of an instruction whose immediate doesn't depend on the layout.
+#[tactic(auto, using(crate::proofs::HalfLaws::effect_no_table))]
 pub fn instr_piece(i: Instr) -> ItemPiece
     ensures piece { result.piece ≡ Fixed (instr_size i) }
-    ensures half { IsHalfOf (item.Op i) result.half }
+    ensures half { IsHalfAt (Some (OneItem (item.Op i))) result.half }
 {
     match short_of(i) {
         None => fixed(4),
@@ -53,7 +57,7 @@ pub fn instr_piece(i: Instr) -> ItemPiece
 /// The piece of an instruction with the upper part of a target: addresses of code aren't known yet.
 pub fn upper_piece(i: Instr, t: Target) -> ItemPiece
     ensures piece { result.piece ≡ Fixed (part_size t (λ x. with_upper i (hi20_of x))) }
-    ensures half { IsHalfOf (item.Hi i t) result.half }
+    ensures half { IsHalfAt (Some (OneItem (item.Hi i t))) result.half }
 {
     match t {
         Target::Code(_) | Target::Nowhere => fixed(4),
@@ -64,7 +68,7 @@ pub fn upper_piece(i: Instr, t: Target) -> ItemPiece
 /// That of one with the lower part.
 pub fn lower_piece(i: Instr, t: Target) -> ItemPiece
     ensures piece { result.piece ≡ Fixed (part_size t (λ x. with_imm i (lo12_of x))) }
-    ensures half { IsHalfOf (item.Lo i t) result.half }
+    ensures half { IsHalfAt (Some (OneItem (item.Lo i t))) result.half }
 {
     match t {
         Target::Code(_) | Target::Nowhere => fixed(4),

@@ -1,12 +1,12 @@
 // The piece of an item.
 
-ghost use Rattle.std.specs.Prelude.{◌≡◌, ◌&&◌, ◌==◌, None};
+ghost use Rattle.std.specs.Prelude.{◌≡◌, ◌&&◌, ◌==◌, None, Some, false};
 ghost use Rattle.psabi_sym.specs.Faults.{gather_fault};
 ghost use Rattle.psabi_sym.specs.Inputs.{parsed};
-ghost use Rattle.shrink_layout.specs.Halves.{IsHalfOf};
-ghost use Rattle.shrink_layout.specs.Invariants.Numbers.{AreFirstNumbers};
+ghost use Rattle.shrink_layout.specs.Invariants.Numbers.{AreFirstNumbers, IsHalfAt, is_table_half};
 ghost use Rattle.shrink_layout.specs.Pieces as pieces;
 ghost use Rattle.shrink_layout.specs.Pieces.{piece_of};
+ghost use Rattle.shrink_layout.specs.Units.{OneItem};
 ghost use Rattle.zc_encode.specs.Halves.{is_popular};
 
 use crate::instr_piece::{ItemPiece, fixed, instr_piece, lower_piece, upper_piece, without_half};
@@ -48,10 +48,11 @@ fn is_short_jump(rd: Reg) -> bool
 fn jump_piece(cut: &Cut, starts: &[u32], rd: Reg, to: Place) -> ItemPiece
     requires faultless { gather_fault cut.now ≡ None }
     requires starts { AreFirstNumbers (parsed cut.now).objects starts.now }
-    ensures { result ≡ record {
+    ensures piece { result ≡ record {
       piece = pieces.jump_piece (parsed cut.now).objects to (pieces.is_short_jump rd);
       half = 0;
     } }
+    ensures half { is_table_half result.half ≡ false }
 {
     if !is_short_jump(rd) {
         return fixed(4);
@@ -66,7 +67,7 @@ pub fn item_piece(cut: &Cut, starts: &[u32], item: &Item) -> ItemPiece
     requires faultless { gather_fault cut.now ≡ None }
     requires starts { AreFirstNumbers (parsed cut.now).objects starts.now }
     ensures piece { result.piece ≡ piece_of (parsed cut.now).objects item.now }
-    ensures half { IsHalfOf item.now result.half }
+    ensures half { IsHalfAt (Some (OneItem item.now)) result.half }
 {
     match item {
         Item::Op(i) => instr_piece(*i),

@@ -8,7 +8,7 @@ use crate::blocks::{Blocks, PieceSpan};
 use crate::piece::Piece;
 
 // The addresses of a block's pieces, each after the bytes of the one before it.
-fn lay_anew(addresses: &mut [u32], pieces: &[Piece], sizes: &[u8], span: PieceSpan)
+fn lay_anew(addresses: &mut [u32], pieces: &[Piece], sizes: &[u16], span: PieceSpan)
     requires within { IsWithin span (length pieces.now) }
     requires room { HaveRoom pieces.now sizes.now addresses.old span.first }
     ensures others { AreNewIn addresses.old addresses.new span.first span.end }
@@ -63,7 +63,7 @@ fn can_move(blocks: &Blocks, block: usize, here: u32, at: u32) -> bool
 /// The addresses after a round in which the pieces of some blocks grew: blocks that can be moved as a whole are
 /// moved, and others are laid anew. Of these a piece may take another number of bytes than before, so each counts
 /// as changed.
-pub fn move_on(pieces: &[Piece], sizes: &[u8], addresses: &mut [u32], blocks: &mut Blocks)
+pub fn move_on(pieces: &[Piece], sizes: &[u16], addresses: &mut [u32], blocks: &mut Blocks)
     requires grown { HaveGrown pieces.now sizes.now addresses.old blocks.old }
     ensures text { slice_index addresses.new 0 ≡ slice_index addresses.old 0 }
     ensures laid { AreLaid pieces.now sizes.now addresses.new blocks.new }

@@ -10,7 +10,7 @@ use psabi_reloc::reaches::{branch_reaches, short_branch_reaches, short_jump_reac
 /// | Piece | Stands for |
 /// |---|---|
 /// | `Fixed` | an item that has one size wherever it lies, as most have; or what stands in front |
-/// | `Joined` | an item of a group: the first has the bytes of all, the others none |
+/// | `Joined` | an item of a group: the first has the bytes of all, the others none; a jump or call through the table |
 /// | `Align` | padding up to a multiple of the alignment |
 /// | `Branch` | a branch; `short` says whether it has a form of two bytes |
 /// | `Jump` | a jump or a call that has a form of two bytes |
@@ -18,8 +18,8 @@ use psabi_reloc::reaches::{branch_reaches, short_branch_reaches, short_jump_reac
 /// `to` counts the pieces before the target.
 #[derive(Clone, Copy)]
 pub enum Piece {
-    Fixed { size: u8 },
-    Joined { size: u8 },
+    Fixed { size: u16 },
+    Joined { size: u16 },
     Align { alignment: u32 },
     Branch { to: u32, short: bool },
     Jump { to: u32 },
@@ -27,7 +27,7 @@ pub enum Piece {
 
 impl Piece {
     /// The shortest form.
-    pub fn shortest(self) -> u8
+    pub fn shortest(self) -> u16
         ensures { result ≡ shortest self }
     {
         match self {
@@ -39,7 +39,7 @@ impl Piece {
     }
 
     /// The next longer form, if there is one, or else the same.
-    pub fn longer(self, size: u8) -> u8
+    pub fn longer(self, size: u16) -> u16
         ensures { result ≡ longer self size }
     {
         match self {
@@ -60,7 +60,7 @@ impl Piece {
     }
 
     /// Whether this form reaches from one address to another, which is less than 2 GiB away.
-    pub fn holds(self, size: u8, from: u32, to: u32) -> bool
+    pub fn holds(self, size: u16, from: u32, to: u32) -> bool
         ensures { from < to + near_limit → to < from + near_limit → result ≡ holds self size from to }
     {
         let distance = to.wrapping_sub(from).cast_signed();
@@ -74,7 +74,7 @@ impl Piece {
     }
 
     /// The bytes that a piece takes at an address: its size, or what its alignment needs.
-    pub fn width(self, size: u8, at: u32) -> u32
+    pub fn width(self, size: u16, at: u32) -> u32
         requires alignment { HasAlignment self }
         requires form { IsForm self size }
         ensures value { result ≡ width self size at }

@@ -1,21 +1,21 @@
 // The pieces of all code.
 
-ghost use Rattle.std.specs.Prelude.{◌≡◌, ◌<◌, ◌+◌, ◌-◌, ◌^◌, ◌++◌, ◌∷◌, [], List, Option, None, IfOk, if◌then◌else◌, length, map, nat_le, take};
-ghost use Rattle.psabi_sym.specs.Faults.{gather_fault};
+ghost use Rattle.std.specs.Prelude.{◌≡◌, ◌<◌, ◌≤◌, ◌+◌, ◌-◌, ◌^◌, ◌++◌, ◌∷◌, [], List, Option, IfOk, if◌then◌else◌, length, map, nat_le, take};
 ghost use Rattle.psabi_sym.specs.Inputs.{parsed};
 ghost use Rattle.psabi_sym.specs.Indexed.{all_sections};
-ghost use Rattle.shrink_layout.specs.Invariants.Made.{AreHalvesOf, AreHeld, AreMade, places_held};
-ghost use Rattle.shrink_layout.specs.Invariants.Numbers.{AreHalves, AreFirstNumbers};
-ghost use Rattle.shrink_layout.specs.Pieces.{piece_at, pieces_of};
-ghost use Rattle.shrink_layout.specs.Units.{CodeUnit, unit_at};
+ghost use Rattle.shrink_layout.specs.Invariants.Made.{AreHalvesOf, AreHeld, AreMade, all_owners, places_held};
+ghost use Rattle.shrink_layout.specs.Invariants.Slots.{IsSource, source_inputs, source_piece, source_slots, source_unit};
+ghost use Rattle.shrink_layout.specs.Pieces.{pieces_of};
+ghost use Rattle.shrink_layout.specs.Units as units;
+ghost use Rattle.shrink_layout.specs.Units.{CodeUnit};
 
 use crate::instr_piece::{ItemPiece, without_half};
 use crate::piece::Piece;
 use crate::place_piece::{ItemPlace, place_piece};
+use crate::slots::PieceSource;
 use block_cut::code_place::CodePlace;
 use block_cut::cut::Cut;
 use block_cut::place_number::PlaceNumber;
-use frame_match::planned::Planned;
 use psabi_sym::section_ref::SectionRef;
 use std::alloc::{AllocError, Global};
 use zc_base::place::Place;
@@ -55,64 +55,67 @@ fn padding(align: u32) -> u32
     if align <= 4 { 2 } else { align }
 }
 
-// The places of a section where items start: all but the last, where the section ends.
-fn starts_of(places: &[CodePlace]) -> &[CodePlace]
+/// The places of a section where items start: all but the last, where the section ends.
+pub fn starts_of(places: &[CodePlace]) -> &[CodePlace]
     ensures { result.now ≡ take (length places.now - 1) places.now }
 {
     &places[..places.len().saturating_sub(1)]
 }
 
+// The bytes of the table of some slots and of the stub behind it.
+fn front_size(slots: &[Option<Place>]) -> u16
+    requires { length slots.now ≤ 256 }
+    ensures { result ≡ units.front_size slots.now }
+{
+    match slots {
+        [] => 0,
+        [_, ..] => 4 * slots.len() as u16 + 12,
+    }
+}
+
 // Adds the pieces of places of a section.
 fn add_places(
-    planned: &Planned,
-    starts: &[u32],
-    of: &SectionPlaces,
+    of: &PieceSource,
+    section: &SectionPlaces,
     made: &mut Pieces,
 ) -> Result<(), AllocError>
-    requires faultless { gather_fault planned.now ≡ None }
-    requires starts { AreFirstNumbers (parsed planned.now).objects starts.now }
-    requires held { AreHeld (parsed planned.now) of.now.number of.now.section of.now.places.now }
-    requires few { length of.now.places.now < 2 ^ 32 }
-    ensures pieces { IfOk result (λ _. made.new.pieces.items
-        ≡ made.old.pieces.items ++ map (piece_at (parsed planned.now)) (places_held of.now.section of.now.places.now)) }
+    requires source { IsSource of.now }
+    requires held { AreHeld (source_inputs of.now) section.now.number section.now.section section.now.places.now }
+    requires few { length section.now.places.now < 2 ^ 32 }
+    ensures pieces { IfOk result (λ _. made.new.pieces.items ≡ made.old.pieces.items
+        ++ map (source_piece of.now) (places_held section.now.section section.now.places.now)) }
     ensures halves { IfOk result (λ _. (owners : List (Option CodeUnit)) → AreHalvesOf owners made.old.halves.items
-        → AreHalvesOf (owners ++ map (unit_at (parsed planned.now)) (places_held of.now.section of.now.places.now))
+        → AreHalvesOf (owners ++ map (source_unit of.now) (places_held section.now.section section.now.places.now))
         made.new.halves.items) }
 {
-    for i in 0..of.places.len() {
-        let place = &of.places[i];
+    for i in 0..section.places.len() {
+        let place = &section.places[i];
         let at = ItemPlace {
             at: Place {
-                object: of.section.object(),
-                section: of.section.index(),
+                object: section.section.object(),
+                section: section.section.index(),
                 offset: place.offset,
             },
             number: PlaceNumber {
-                section: of.number,
+                section: section.number,
                 index: i as u32,
             },
             item: &place.item,
         };
-        made.push(place_piece(planned, starts, &at))?;
+        made.push(place_piece(of, &at))?;
     }
     Ok(())
 }
 
 // Adds the pieces of the section with this number among all: its padding, and those of the places where items start.
-fn add_section(
-    planned: &Planned,
-    starts: &[u32],
-    section: u32,
-    made: &mut Pieces,
-) -> Result<(), AllocError>
-    requires faultless { gather_fault planned.now ≡ None }
-    requires starts { AreFirstNumbers (parsed planned.now).objects starts.now }
-    requires section { section < length (all_sections (parsed planned.now).objects) }
-    requires so_far { AreMade (parsed planned.now) section made.old.pieces.items made.old.halves.items }
-    ensures { IfOk result
-        (λ _. AreMade (parsed planned.now) (section + 1) made.new.pieces.items made.new.halves.items) }
+fn add_section(of: &PieceSource, section: u32, made: &mut Pieces) -> Result<(), AllocError>
+    requires source { IsSource of.now }
+    requires section { section < length (all_sections (source_inputs of.now).objects) }
+    requires so_far { AreMade (source_inputs of.now) (source_slots of.now) section made.old.pieces.items made.old.halves.items }
+    ensures { IfOk result (λ _. AreMade (source_inputs of.now) (source_slots of.now) (section + 1)
+        made.new.pieces.items made.new.halves.items) }
 {
-    let cut = planned.cut();
+    let cut = of.planned.cut();
     let places = cut.places(section);
     if places.is_empty() {
         return Ok(());
@@ -121,12 +124,12 @@ fn add_section(
     made.push(without_half(Piece::Align {
         alignment: padding(own.align()),
     }))?;
-    let of = SectionPlaces {
+    let starts = SectionPlaces {
         number: section,
         section: own,
         places: starts_of(places),
     };
-    add_places(planned, starts, &of, made)
+    add_places(of, &starts, made)
 }
 
 /// How many pieces objects that are cut have at most: what stands in front of all code, the padding before each section,
@@ -137,14 +140,15 @@ pub fn most_pieces(cut: &Cut) -> usize
     1 + cut.objects().section_count() as usize + cut.counts().items as usize
 }
 
-/// The pieces of objects that are cut, by the numbers of their sections' first places. A jump may lead to a place that
-/// comes later, so all of these are known before the first piece is made.
-pub fn make_pieces(alloc: Global, planned: &Planned, starts: &[u32]) -> Result<Pieces, AllocError>
-    requires starts { AreFirstNumbers (parsed planned.now).objects starts.now }
-    ensures pieces { IfOk result (λ made. made.pieces.items ≡ pieces_of (parsed planned.now)) }
-    ensures halves { IfOk result (λ made. AreHalves (parsed planned.now) made.halves.items) }
+/// The pieces of objects that are cut, with a table of slots. A jump may lead to a place that comes later, so the
+/// numbers of all places are known before the first piece is made.
+pub fn make_pieces(alloc: Global, of: &PieceSource) -> Result<Pieces, AllocError>
+    requires source { IsSource of.now }
+    ensures pieces { IfOk result (λ made. made.pieces.items ≡ pieces_of (source_inputs of.now) (source_slots of.now)) }
+    ensures halves { IfOk result
+        (λ made. AreHalvesOf (all_owners (source_inputs of.now) (source_slots of.now)) made.halves.items) }
 {
-    let cut = planned.cut();
+    let cut = of.planned.cut();
     let sections = cut.objects().section_count();
     let most = most_pieces(cut);
     // The halfwords are kept longer.
@@ -153,10 +157,11 @@ pub fn make_pieces(alloc: Global, planned: &Planned, starts: &[u32]) -> Result<P
         pieces: Vec::with_capacity(alloc, most)?,
         halves,
     };
-    // What stands in front of all code takes no bytes so far.
-    made.push(without_half(Piece::Fixed { size: 0 }))?;
+    made.push(without_half(Piece::Fixed {
+        size: front_size(of.slots.slots),
+    }))?;
     for section in 0..sections {
-        add_section(planned, starts, section, &mut made)?;
+        add_section(of, section, &mut made)?;
     }
     Ok(made)
 }

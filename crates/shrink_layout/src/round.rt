@@ -10,7 +10,7 @@ use crate::blocks::{BLOCK, Blocks, PieceSpan};
 use crate::piece::Piece;
 
 // Whether the form of the piece with number k reaches.
-fn fits(addresses: &[u32], k: usize, piece: Piece, size: u8) -> bool
+fn fits(addresses: &[u32], k: usize, piece: Piece, size: u16) -> bool
     requires near { AreNear addresses.now }
     requires piece_addressed { k < length addresses.now }
     requires target_addressed { target piece < length addresses.now }
@@ -20,7 +20,7 @@ fn fits(addresses: &[u32], k: usize, piece: Piece, size: u8) -> bool
 }
 
 // Whether there is a longer form. If not, this one reaches everywhere.
-fn can_grow(piece: Piece, size: u8) -> bool
+fn can_grow(piece: Piece, size: u16) -> bool
     ensures { result ≡ false → ReachesAll piece size }
 {
     match piece {
@@ -40,7 +40,7 @@ struct Tested {
 }
 
 // Gives the next longer form to just those pieces of a block that don't fit.
-fn grow_block(pieces: &[Piece], addresses: &[u32], sizes: &mut [u8], span: PieceSpan) -> Tested
+fn grow_block(pieces: &[Piece], addresses: &[u32], sizes: &mut [u16], span: PieceSpan) -> Tested
     requires sized { length sizes.old ≡ length pieces.now }
     requires testable { CanBeTested pieces.now addresses.now }
     requires within { IsWithin span (length pieces.now) }
@@ -67,7 +67,7 @@ fn grow_block(pieces: &[Piece], addresses: &[u32], sizes: &mut [u8], span: Piece
 
 /// One round: gives the next longer form to just those pieces that don't fit, and says whether all fitted. Only
 /// the pieces of blocks are tested near which something changed, since all others fit.
-pub fn grow(pieces: &[Piece], addresses: &[u32], sizes: &mut [u8], blocks: &mut Blocks) -> bool
+pub fn grow(pieces: &[Piece], addresses: &[u32], sizes: &mut [u16], blocks: &mut Blocks) -> bool
     requires laid { AreLaid pieces.now sizes.old addresses.now blocks.old }
     ensures fitted { result ≡ all_fit (slice_index addresses.now 0) pieces.now sizes.old }
     ensures sizes { sizes.new ≡ next_sizes (slice_index addresses.now 0) pieces.now sizes.old }

@@ -17,7 +17,7 @@ use std::marker::Model;
 /// The size of each piece, and the address of each piece and of the end.
 #[derive(Drop)]
 pub struct PieceLayout {
-    pub sizes: Vec<u8>,
+    pub sizes: Vec<u16>,
     pub addresses: Vec<u32>,
 }
 
@@ -25,7 +25,7 @@ pub struct PieceLayout {
 #[derive(Drop)]
 struct Rounds<'a> {
     pieces: &'a [Piece],
-    sizes: Vec<u8>,
+    sizes: Vec<u16>,
     addresses: Vec<u32>,
     blocks: Blocks,
 }

@@ -1,18 +1,23 @@
 // The objects with the layout of their code.
 
-ghost use Rattle.std.specs.Prelude.{◌≡◌, ◌≤◌, ℕ, ◌^◌, ◌<◌, if◌then◌else◌, IfOk, IsTrue, Some, length, true};
-ghost use Rattle.psabi_sym.specs.Inputs.{parsed, Inputs};
-ghost use Rattle.block_cut.specs.Items.{is_target_at};
+ghost use Rattle.std.specs.Prelude.{◌≡◌, ◌≤◌, ℕ, ◌^◌, ◌<◌, if◌then◌else◌, IfOk, IsTrue, Some, None, [], length, true};
+ghost use Rattle.psabi_sym.specs.Faults.{gather_fault};
+ghost use Rattle.psabi_sym.specs.Inputs.{ParsedInputs, parsed};
+ghost use Rattle.block_cut.specs.Items.{is_start_at, is_target_at};
 ghost use Rattle.block_cut.specs.Places.{IsPlaceNumber};
 ghost use Rattle.block_cut.specs.declared.item.Item.{Item};
+ghost use Rattle.frame_match.specs.Invariants.Marks.{HasItem};
 ghost use Rattle.shrink_layout.specs.Counted.{is_long_piece, is_short_piece, pieces_with};
-ghost use Rattle.shrink_layout.specs.Halves.{IsHalfOf};
+ghost use Rattle.shrink_layout.specs.Halves.{IsHalfOf, IsSiteHalf};
 ghost use Rattle.shrink_layout.specs.Layout.{IsLayout};
 ghost use Rattle.shrink_layout.specs.Least.{IsLeast};
-ghost use Rattle.shrink_layout.specs.Invariants.Numbers.{HasPlace, IsSettled};
-ghost use Rattle.shrink_layout.specs.Pieces.{is_unaligned, piece_number_at, pieces_of};
-ghost use Rattle.shrink_layout.specs.Settled.{settled_address, settled_counts, settled_end, settled_size, settled_sizes};
-ghost use Rattle.shrink_layout.specs.Units.{OneItem, is_inside, unit_at};
+ghost use Rattle.shrink_layout.specs.Invariants.Made.{AreHalvesOf, all_owners};
+ghost use Rattle.shrink_layout.specs.Invariants.Numbers.{AreFirstNumbers, HasPlace, IsSettled};
+ghost use Rattle.shrink_layout.specs.Invariants.Slots.{AreNumbered};
+ghost use Rattle.shrink_layout.specs.Pieces.{is_unaligned, piece_number_at, pieces_of, unit_at};
+ghost use Rattle.shrink_layout.specs.Settled.{is_site, settled_address, settled_addresses, settled_counts, settled_end, settled_size, settled_sizes, units_with};
+ghost use Rattle.shrink_layout.specs.Table.{TablePays};
+ghost use Rattle.shrink_layout.specs.Units.{AreTargetSlots, OneItem, is_inside};
 ghost use Rattle.zc_base.specs.declared.place.Place.{Place};
 
 use crate::group_counts::count_groups;
@@ -20,6 +25,8 @@ use crate::numbers::{first_numbers, piece_number, piece_number_at};
 use crate::piece::Piece;
 use crate::pieces::{make_pieces, most_pieces};
 use crate::rounds::settle_pieces;
+use crate::slots::{Numbered, PieceSource, Slots};
+use crate::table_halves::{count_table_halves, is_table_jump};
 use block_cut::place_number::PlaceNumber;
 use frame_match::planned::Planned;
 use frame_match::role::Role;
@@ -28,40 +35,48 @@ use std::marker::Model;
 use zc_base::counts::Counts;
 use zc_base::place::Place;
 
-/// The layout of objects' code that is made smaller: the number of each section's first place, and for each piece its
-/// halfword, if that is known before the layout, and its address.
+/// The layout of objects' code that is made smaller: the slots of its table, the number of each section's first place,
+/// and for each piece its halfword, if that is known before the layout, and its address.
 #[derive(Drop)]
 pub struct Settled {
     planned: Planned,
+    slots: Vec<Option<Place>>,
     starts: Vec<u32>,
     halves: Vec<u16>,
     addresses: Vec<u32>,
     counts: Counts,
 }
 
-// What is kept of a layout beside the objects.
+// What is kept of a layout beside the objects, the slots and the numbers.
 #[derive(Drop)]
 struct KeptLayout {
-    starts: Vec<u32>,
     halves: Vec<u16>,
     addresses: Vec<u32>,
     counts: Counts,
+}
+
+// What is left of a layout once its halfwords aren't needed any more.
+#[derive(Drop)]
+struct FirstLayout {
+    planned: Planned,
+    starts: Vec<u32>,
+    addresses: Vec<u32>,
 }
 
 impl Model for Settled {
-    ghost use Rattle.psabi_sym.specs.Inputs.{Inputs};
     ghost use Rattle.shrink_layout.specs.Invariants.Numbers.{IsSettled};
+    ghost use Rattle.shrink_layout.specs.Settled.{SettledLayout};
 
-    ghost Value = { Inputs };
+    ghost Value = { SettledLayout };
 
-    ghost view = { λ settled. settled.planned };
+    ghost view = { λ settled. record { inputs = settled.planned; slots = settled.slots.items } };
 
-    ghost invariant = { λ settled.
-        IsSettled settled.planned settled.starts.items settled.halves.items settled.addresses.items settled.counts };
+    ghost invariant = { λ settled. IsSettled settled.planned settled.slots.items
+        settled.starts.items settled.halves.items settled.addresses.items settled.counts };
 }
 
 // One for a piece of one item that isn't padding and takes two bytes, and else none.
-fn short_of(piece: Piece, size: u8) -> u32
+fn short_of(piece: Piece, size: u16) -> u32
     ensures value { result ≡ (if is_short_piece piece size then 1 else 0) }
     ensures most { result ≤ 1 }
 {
@@ -74,7 +89,7 @@ fn short_of(piece: Piece, size: u8) -> u32
 }
 
 // One for a branch that takes eight bytes, and else none.
-fn long_of(piece: Piece, size: u8) -> u32
+fn long_of(piece: Piece, size: u16) -> u32
     ensures value { result ≡ (if is_long_piece piece size then 1 else 0) }
     ensures most { result ≤ 1 }
 {
@@ -96,7 +111,7 @@ struct SizeCounts {
 }
 
 // What pieces count at their sizes. The first isn't counted, since it stands in front of all code.
-fn count_sizes(pieces: &[Piece], sizes: &[u8]) -> SizeCounts
+fn count_sizes(pieces: &[Piece], sizes: &[u16]) -> SizeCounts
     requires same { length sizes.now ≡ length pieces.now }
     requires few { length pieces.now < 2 ^ 32 }
     ensures short { result.short ≡ pieces_with is_short_piece pieces.now sizes.now }
@@ -111,23 +126,52 @@ fn count_sizes(pieces: &[Piece], sizes: &[u8]) -> SizeCounts
     SizeCounts { short, long }
 }
 
-// The layout of objects with their groups.
-fn lay_out(alloc: Global, planned: &Planned) -> Result<KeptLayout, AllocError>
-    ensures settled { IfOk result
-        (λ kept. IsSettled planned.now kept.starts.items kept.halves.items kept.addresses.items kept.counts) }
-    ensures least { IsTrue (is_unaligned (parsed planned.now)) → IfOk result
-        (λ _. IsLeast planned.now.map.text (pieces_of (parsed planned.now)) (settled_sizes (parsed planned.now))) }
+// How many jumps and calls go through the table of some slots, by the halfwords of all pieces.
+fn count_sites(slots: &[Option<Place>], halves: &[u16]) -> u32
+    requires { length halves.now < 2 ^ 32 }
+    ensures { (inputs : ParsedInputs) → AreHalvesOf (all_owners inputs slots.now) halves.now
+        → result ≡ units_with inputs slots.now is_site }
 {
-    let cut = planned.cut();
-    let starts = first_numbers(alloc, cut)?;
-    // What is kept is allocated before the pieces, so that what they take is given back as a whole.
-    let addresses = Vec::with_capacity(alloc, most_pieces(cut) + 1)?;
-    let made = make_pieces(alloc, planned, &starts)?;
+    if slots.is_empty() {
+        0
+    } else {
+        count_table_halves(halves)
+    }
+}
+
+// The layout with a table of slots. The addresses are those of the layout without it if there are any, and the new ones
+// take their place.
+fn lay_out(
+    alloc: Global,
+    of: &Numbered,
+    addresses: Vec<u32>,
+    slots: &[Option<Place>],
+) -> Result<KeptLayout, AllocError>
+    requires numbered { AreNumbered of.now }
+    requires addresses { 0 < length slots.now
+        → addresses.items ≡ settled_addresses (parsed of.now.planned.now) [] }
+    requires targets { AreTargetSlots (parsed of.now.planned.now).objects slots.now }
+    ensures settled { IfOk result (λ kept. IsSettled of.now.planned.now slots.now
+        of.now.starts.now kept.halves.items kept.addresses.items kept.counts) }
+    ensures least { IsTrue (is_unaligned (parsed of.now.planned.now)) → IfOk result
+        (λ _. IsLeast of.now.planned.now.map.text (pieces_of (parsed of.now.planned.now) slots.now)
+        (settled_sizes (parsed of.now.planned.now) slots.now)) }
+    ensures pays { IsTrue (is_unaligned (parsed of.now.planned.now)) → IfOk result
+        (λ _. TablePays (parsed of.now.planned.now) slots.now) }
+{
+    let kept = Slots::new(alloc, of, addresses, slots)?;
+    let source = PieceSource {
+        planned: of.planned,
+        starts: of.starts,
+        slots: &kept,
+    };
+    let made = make_pieces(alloc, &source)?;
+    let cut = of.planned.cut();
     let text = cut.objects().map().text;
-    let rounds = settle_pieces(alloc, text, &made.pieces, addresses)?;
+    let rounds = settle_pieces(alloc, text, &made.pieces, kept.into_addresses())?;
     let end = rounds.addresses[made.pieces.len()];
     let sizes = count_sizes(&made.pieces, &rounds.sizes);
-    let groups = count_groups(planned);
+    let groups = count_groups(of.planned);
     let counts = Counts {
         text: end - text,
         items: cut.counts().items,
@@ -136,28 +180,92 @@ fn lay_out(alloc: Global, planned: &Planned) -> Result<KeptLayout, AllocError>
         pushes: groups.pushes,
         pops: groups.pops,
         moves: groups.moves,
-        table: 0,
+        table: count_sites(slots, &made.halves),
     };
     Ok(KeptLayout {
-        starts,
         halves: made.halves,
         addresses: rounds.addresses,
         counts,
     })
 }
 
-/// Settles the layout of objects whose code is made smaller: the first round of sizes that fits.
+/// Settles the layout of objects whose code is made smaller, without a table: the first round of sizes that fits.
 pub fn settle(alloc: Global, planned: Planned) -> Result<Settled, AllocError>
-    ensures same { IfOk result (λ settled. settled ≡ planned) }
+    ensures same { IfOk result (λ settled. settled.inputs ≡ planned) }
+    ensures slots { IfOk result (λ settled. settled.slots ≡ []) }
     ensures layout { IfOk result
-        (λ _. IsLayout planned.map.text (pieces_of (parsed planned)) (settled_sizes (parsed planned))) }
+        (λ _. IsLayout planned.map.text (pieces_of (parsed planned) []) (settled_sizes (parsed planned) [])) }
     ensures least { IsTrue (is_unaligned (parsed planned)) → IfOk result
-        (λ _. IsLeast planned.map.text (pieces_of (parsed planned)) (settled_sizes (parsed planned))) }
+        (λ _. IsLeast planned.map.text (pieces_of (parsed planned) []) (settled_sizes (parsed planned) [])) }
 {
-    let kept = lay_out(alloc, &planned)?;
+    let cut = planned.cut();
+    let slots = Vec::new(alloc);
+    let starts = first_numbers(alloc, cut)?;
+    // What is kept is allocated before the pieces, so that what they take is given back as a whole.
+    let addresses = Vec::with_capacity(alloc, most_pieces(cut) + 1)?;
+    let of = Numbered {
+        planned: &planned,
+        starts: &starts,
+    };
+    let kept = lay_out(alloc, &of, addresses, &slots)?;
     Ok(Settled {
         planned,
-        starts: kept.starts,
+        slots,
+        starts,
+        halves: kept.halves,
+        addresses: kept.addresses,
+        counts: kept.counts,
+    })
+}
+
+// Lets the halfwords of a layout go.
+fn first_layout(settled: Settled) -> FirstLayout
+    ensures same { result.planned ≡ settled.inputs }
+    ensures faultless { gather_fault settled.inputs ≡ None }
+    ensures starts { AreFirstNumbers (parsed settled.inputs).objects result.starts.items }
+    ensures addresses { result.addresses.items ≡ settled_addresses (parsed settled.inputs) settled.slots }
+{
+    FirstLayout {
+        planned: settled.planned,
+        starts: settled.starts,
+        addresses: settled.addresses,
+    }
+}
+
+/// Settles the layout anew with a table in front, whose slots lead to these places, or are holes. Without slots there is
+/// no table.
+pub fn settle_with(
+    alloc: Global,
+    settled: Settled,
+    slots: &[Option<Place>],
+) -> Result<Settled, AllocError>
+    requires without { settled.slots ≡ [] }
+    requires targets { AreTargetSlots (parsed settled.inputs).objects slots.now }
+    ensures same { IfOk result (λ r. r.inputs ≡ settled.inputs) }
+    ensures slots { IfOk result (λ r. r.slots ≡ slots.now) }
+    ensures layout { IfOk result (λ _. IsLayout settled.inputs.map.text
+        (pieces_of (parsed settled.inputs) slots.now) (settled_sizes (parsed settled.inputs) slots.now)) }
+    ensures least { IsTrue (is_unaligned (parsed settled.inputs)) → IfOk result
+        (λ _. IsLeast settled.inputs.map.text
+        (pieces_of (parsed settled.inputs) slots.now) (settled_sizes (parsed settled.inputs) slots.now)) }
+    ensures pays { IsTrue (is_unaligned (parsed settled.inputs)) → IfOk result
+        (λ _. TablePays (parsed settled.inputs) slots.now) }
+{
+    let FirstLayout {
+        planned,
+        starts,
+        addresses,
+    } = first_layout(settled);
+    let kept_slots = Vec::from_slice(alloc, slots)?;
+    let of = Numbered {
+        planned: &planned,
+        starts: &starts,
+    };
+    let kept = lay_out(alloc, &of, addresses, slots)?;
+    Ok(Settled {
+        planned,
+        slots: kept_slots,
+        starts,
         halves: kept.halves,
         addresses: kept.addresses,
         counts: kept.counts,
@@ -167,16 +275,16 @@ pub fn settle(alloc: Global, planned: Planned) -> Result<Settled, AllocError>
 impl Settled {
     // Whether an item starts inside a group at a place.
     fn is_inside(&self, p: Place) -> bool
-        ensures { result ≡ is_inside (parsed self.now) p }
+        ensures { result ≡ is_inside (parsed self.now.inputs) p }
     {
         matches!(self.planned.role(p), Some(Role::Inside))
     }
 
     // The same, by where the place stands among all.
     fn is_inside_by(&self, number: PlaceNumber) -> bool
-        requires { HasPlace (parsed self.now).objects number }
-        ensures { (q : Place) → is_target_at (parsed self.now).objects q ≡ true
-            → IsPlaceNumber (parsed self.now).objects q number → result ≡ is_inside (parsed self.now) q }
+        requires { HasPlace (parsed self.now.inputs).objects number }
+        ensures { (q : Place) → is_target_at (parsed self.now.inputs).objects q ≡ true
+            → IsPlaceNumber (parsed self.now.inputs).objects q number → result ≡ is_inside (parsed self.now.inputs) q }
     {
         matches!(self.planned.role_by(number), Some(Role::Inside))
     }
@@ -184,7 +292,7 @@ impl Settled {
     /// The address of a place that images list; a place inside a group has none. It takes constant time, as does all
     /// that follows.
     pub fn address(&self, p: Place) -> Option<u32>
-        ensures { result ≡ settled_address (parsed self.now) p }
+        ensures { result ≡ settled_address (parsed self.now.inputs) self.now.slots p }
     {
         let cut = self.planned.cut();
         match cut.number(p) {
@@ -201,19 +309,20 @@ impl Settled {
 
     /// The address of a place that images list, by where it stands among all.
     pub fn address_at(&self, number: PlaceNumber) -> u32
-        requires { HasPlace (parsed self.now).objects number }
-        ensures { (q : Place) (address : ℕ) → settled_address (parsed self.now) q ≡ Some address
-            → IsPlaceNumber (parsed self.now).objects q number → result ≡ address }
+        requires { HasPlace (parsed self.now.inputs).objects number }
+        ensures { (q : Place) (address : ℕ) → settled_address (parsed self.now.inputs) self.now.slots q ≡ Some address
+            → IsPlaceNumber (parsed self.now.inputs).objects q number → result ≡ address }
     {
         self.addresses[self.piece_at(number)]
     }
 
     // The number of the piece at a place, by where the place stands among all.
     fn piece_at(&self, number: PlaceNumber) -> usize
-        requires { HasPlace (parsed self.now).objects number }
-        ensures most { result ≤ length (pieces_of (parsed self.now)) }
-        ensures known { (q : Place) → is_target_at (parsed self.now).objects q ≡ true
-            → IsPlaceNumber (parsed self.now).objects q number → result ≡ piece_number_at (parsed self.now).objects q }
+        requires { HasPlace (parsed self.now.inputs).objects number }
+        ensures most { result ≤ length (pieces_of (parsed self.now.inputs) self.now.slots) }
+        ensures known { (q : Place) → is_target_at (parsed self.now.inputs).objects q ≡ true
+            → IsPlaceNumber (parsed self.now.inputs).objects q number
+            → result ≡ piece_number_at (parsed self.now.inputs).objects q }
     {
         piece_number(&self.starts, number) as usize
     }
@@ -221,9 +330,9 @@ impl Settled {
     /// The halfword of the item that is written by itself at a place, by where the place stands among all, if that is
     /// known before the layout: some halfword does what its instruction does, which doesn't depend on addresses.
     pub fn half_at(&self, number: PlaceNumber) -> u16
-        requires { HasPlace (parsed self.now).objects number }
-        ensures { (q : Place) (item : Item) → unit_at (parsed self.now) q ≡ Some (OneItem item)
-            → IsPlaceNumber (parsed self.now).objects q number → IsHalfOf item result }
+        requires { HasPlace (parsed self.now.inputs).objects number }
+        ensures { (q : Place) (item : Item) → unit_at (parsed self.now.inputs) self.now.slots q ≡ Some (OneItem item)
+            → IsPlaceNumber (parsed self.now.inputs).objects q number → IsHalfOf item result }
     {
         let k = self.piece_at(number);
         // No piece stands at the end of all code.
@@ -234,9 +343,26 @@ impl Settled {
         }
     }
 
-    /// The bytes of what is written at a place: of an item by itself, or of a group.
+    /// The halfword of the jump or call through the table at a place where an item starts, if that is what is written
+    /// there, by where the place stands among all.
+    pub fn site_half(&self, number: PlaceNumber) -> Option<u16>
+        requires { HasItem (parsed self.now.inputs).objects number }
+        ensures { (q : Place) → is_start_at (parsed self.now.inputs).objects q ≡ true
+            → IsPlaceNumber (parsed self.now.inputs).objects q number
+            → IsSiteHalf (unit_at (parsed self.now.inputs) self.now.slots q) result }
+    {
+        let half = self.halves[self.piece_at(number)];
+        if is_table_jump(half) {
+            Some(half)
+        } else {
+            None
+        }
+    }
+
+    /// The bytes of what is written at a place: of an item by itself, of a group, or of a jump or call through the
+    /// table.
     pub fn size(&self, p: Place) -> Option<u32>
-        ensures { result ≡ settled_size (parsed self.now) p }
+        ensures { result ≡ settled_size (parsed self.now.inputs) self.now.slots p }
     {
         let cut = self.planned.cut();
         if cut.item(p).is_none() || self.is_inside(p) {
@@ -248,22 +374,30 @@ impl Settled {
 
     /// Where the text ends.
     pub fn text_end(&self) -> u32
-        ensures { result ≡ settled_end (parsed self.now) }
+        ensures { result ≡ settled_end (parsed self.now.inputs) self.now.slots }
     {
         self.addresses[self.addresses.len() - 1]
     }
 
     /// What the layout counts.
     pub fn counts(&self) -> Counts
-        ensures { result ≡ settled_counts (parsed self.now) }
+        ensures { result ≡ settled_counts (parsed self.now.inputs) self.now.slots }
     {
         self.counts
     }
 
     /// The objects with their items and groups.
     pub fn planned(&self) -> &Planned
-        ensures same { result.now ≡ self.now }
+        ensures same { result.now ≡ self.now.inputs }
     {
         &self.planned
+    }
+
+    /// The slots of the table: the place that each leads to, or a hole. Without a table there are none.
+    pub fn slots(&self) -> &[Option<Place>]
+        ensures same { result.now ≡ self.now.slots }
+        ensures targets { AreTargetSlots (parsed self.now.inputs).objects self.now.slots }
+    {
+        &self.slots
     }
 }

@@ -14,7 +14,7 @@ use std::alloc::{AllocError, Global};
 /// by a multiple of which it can be moved with the same paddings, or 0.
 #[derive(Drop)]
 pub struct Shortest {
-    pub sizes: Vec<u8>,
+    pub sizes: Vec<u16>,
     pub addresses: Vec<u32>,
     pub multiples: Vec<u32>,
 }

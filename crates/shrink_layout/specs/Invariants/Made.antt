@@ -10,9 +10,9 @@ use Rattle.block_cut.specs.declared.item.Item.{Item}
 use Rattle.block_cut.specs.declared.place_number.PlaceNumber.{PlaceNumber}
 use Rattle.zc_base.specs.declared.place.Place.{Place}
 use Rattle.block_cut.specs.declared.code_place.CodePlace.{CodePlace}
-use Rattle.shrink_layout.specs.Halves.{IsHalfOf}
-use Rattle.shrink_layout.specs.Pieces.{pieces_in}
-use Rattle.shrink_layout.specs.Units.{CodeUnit, OneGroup, OneItem, front_size, unit_at}
+use Rattle.shrink_layout.specs.Invariants.Numbers.{IsHalfAt}
+use Rattle.shrink_layout.specs.Pieces.{pieces_in, slot_at}
+use Rattle.shrink_layout.specs.Units.{CodeUnit, front_size, unit_by}
 use Rattle.shrink_layout.specs.declared.piece.Piece.{Piece}
 use Rattle.shrink_layout.specs.declared.piece.Piece.TheVariants.{Fixed}
 
@@ -33,27 +33,28 @@ AreHeld inputs k l places =
     → IsItemPlace inputs (place_of l p.offset) (record { section = k; index = i }) p.item
 
 -- what is written for each piece of a section; its padding is for nothing
-abbrev pub section_owners : ParsedInputs → IndexedSection → List (Option CodeUnit)
-section_owners inputs l = if is_code_section l.section then None ∷ map (unit_at inputs) (places_of l) else []
+abbrev pub section_owners : ParsedInputs → (Place → Option ℕ) → IndexedSection → List (Option CodeUnit)
+section_owners inputs slot l = if is_code_section l.section then None ∷ map (unit_by inputs slot) (places_of l) else []
 
 -- for those of sections one after another
-abbrev pub owners_in : ParsedInputs → List IndexedSection → List (Option CodeUnit)
-owners_in inputs sections = flat_map (section_owners inputs) sections
+abbrev pub owners_in : ParsedInputs → (Place → Option ℕ) → List IndexedSection → List (Option CodeUnit)
+owners_in inputs slot sections = flat_map (section_owners inputs slot) sections
 
--- the halfword of what is written, if that is an item by itself
-abbrev pub IsHalfAt : Option CodeUnit → ℕ → Type 0
-IsHalfAt None half = Unit {0}
-IsHalfAt (Some (OneItem i)) half = IsHalfOf i half
-IsHalfAt (Some (OneGroup g)) half = Unit {0}
+-- for all
+abbrev pub all_owners : ParsedInputs → List (Option Place) → List (Option CodeUnit)
+all_owners inputs slots = None ∷ owners_in inputs (slot_at inputs slots) (all_sections inputs.objects)
 
--- one for each
+-- a halfword for each
 abbrev pub AreHalvesOf : List (Option CodeUnit) → List ℕ → Type 0
 AreHalvesOf [] [] = Unit {0}
 AreHalvesOf [] (half ∷ halves) = ⊥
 AreHalvesOf (owner ∷ owners) [] = ⊥
 AreHalvesOf (owner ∷ owners) (half ∷ halves) = IsHalfAt owner half × AreHalvesOf owners halves
 
--- the pieces up to the section with a number among all, and their halfwords
-pub record AreMade (inputs : ParsedInputs) (k : ℕ) (pieces : List Piece) (halves : List ℕ) : Type 0 where
-  pub pieces_are : pieces ≡ Fixed front_size ∷ pieces_in inputs (take k (all_sections inputs.objects))
-  pub halves_are : AreHalvesOf (None ∷ owners_in inputs (take k (all_sections inputs.objects))) halves
+-- the pieces up to the section with a number among all, with a table of these slots, and their halfwords
+pub record AreMade
+    (inputs : ParsedInputs) (slots : List (Option Place)) (k : ℕ) (pieces : List Piece) (halves : List ℕ) : Type 0 where
+  pub pieces_are : pieces
+      ≡ Fixed (front_size slots) ∷ pieces_in inputs (slot_at inputs slots) (take k (all_sections inputs.objects))
+  pub halves_are :
+      AreHalvesOf (None ∷ owners_in inputs (slot_at inputs slots) (take k (all_sections inputs.objects))) halves

@@ -1,5 +1,5 @@
 -- The number of each place of code, and what the layout keeps beside it.
-use Rattle.std.specs.Prelude.{◌≡◌, ℕ, ◌+◌, List, length, map, take, slice_index, true, None, Some}
+use Rattle.std.specs.Prelude.{◌≡◌, ℕ, ◌+◌, Bool, false, List, length, map, take, slice_index, true, Option, None, Some}
 use Rattle.std.specs.List.{range_with_len, sum_by}
 use Rattle.zc_base.specs.declared.counts.Counts.{Counts}
 use Rattle.zc_base.specs.declared.place.Place.{Place}
@@ -7,14 +7,18 @@ use Rattle.elf32_read.specs.Parts.{ObjectParts}
 use Rattle.psabi_sym.specs.Faults.{gather_fault}
 use Rattle.psabi_sym.specs.Inputs.{Inputs, ParsedInputs, parsed}
 use Rattle.psabi_sym.specs.Indexed.{all_sections}
-use Rattle.block_cut.specs.Items.{is_target_at}
+use Rattle.zc_decode.specs.Halfwords.{decoded16}
+use Rattle.zc_decode.specs.declared.short.Short.{Short}
+use Rattle.zc_decode.specs.declared.short.Short.TheVariants.{TableJump}
+use Rattle.zc_encode.specs.Halves.{encoded16}
+use Rattle.block_cut.specs.Items.{is_target_at, item_at}
 use Rattle.block_cut.specs.Places.{IsPlaceNumber}
 use Rattle.block_cut.specs.declared.item.Item.{Item}
 use Rattle.block_cut.specs.declared.place_number.PlaceNumber.{PlaceNumber}
 use Rattle.shrink_layout.specs.Halves.{IsHalfOf}
-use Rattle.shrink_layout.specs.Pieces.{piece_count, piece_number_at, pieces_of}
+use Rattle.shrink_layout.specs.Pieces.{piece_count, piece_number_at, pieces_of, unit_at}
 use Rattle.shrink_layout.specs.Settled.{settled_addresses, settled_counts}
-use Rattle.shrink_layout.specs.Units.{OneItem, unit_at}
+use Rattle.shrink_layout.specs.Units.{AreTargetSlots, CodeUnit, OneGroup, OneItem, OneSite}
 
 -- ---- numbers
 
@@ -37,19 +41,38 @@ HasPlace objects number = (q : Place) × (is_target_at objects q ≡ true) × Is
 
 -- ---- halfwords
 
--- a halfword for each piece: that of an item by itself, if it is known before the layout
-abbrev pub AreHalves : ParsedInputs → List ℕ → Type 0
-AreHalves inputs halves =
-    (length halves ≡ length (pieces_of inputs))
-    × ((q : Place) (item : Item) → unit_at inputs q ≡ Some (OneItem item)
-    → IsHalfOf item (slice_index halves (piece_number_at inputs.objects q)))
+-- a jump or call through the table
+abbrev pub is_table_jump : Option Short → Bool
+is_table_jump (Some (TableJump index)) = true
+is_table_jump _ = false
+
+-- what a halfword spells is one
+abbrev pub is_table_half : ℕ → Bool
+is_table_half half = is_table_jump (decoded16 half)
+
+-- the halfword of what is written: that of a jump or call through the table, and that of an item by itself, if it is
+-- known before the layout; no other is one of a jump or call through the table
+abbrev pub IsHalfAt : Option CodeUnit → ℕ → Type 0
+IsHalfAt None half = is_table_half half ≡ false
+IsHalfAt (Some (OneItem i)) half = IsHalfOf i half × (is_table_half half ≡ false)
+IsHalfAt (Some (OneGroup g)) half = is_table_half half ≡ false
+IsHalfAt (Some (OneSite slot)) half = encoded16 (TableJump slot) ≡ Some half
+
+-- a halfword for each piece
+abbrev pub AreHalves : ParsedInputs → List (Option Place) → List ℕ → Type 0
+AreHalves inputs slots halves =
+    (length halves ≡ length (pieces_of inputs slots))
+    × ((q : Place) (item : Item) → item_at inputs q ≡ Some item
+    → IsHalfAt (unit_at inputs slots q) (slice_index halves (piece_number_at inputs.objects q)))
 
 -- ---- the whole
 
--- a layout of inputs without a fault, as it is kept
-pub record IsSettled (inputs : Inputs) (starts halves addresses : List ℕ) (counts : Counts) : Type 0 where
+-- a layout of inputs without a fault, with a table of these slots, as it is kept
+pub record IsSettled
+    (inputs : Inputs) (slots : List (Option Place)) (starts halves addresses : List ℕ) (counts : Counts) : Type 0 where
   pub faultless : gather_fault inputs ≡ None
+  pub targets : AreTargetSlots (parsed inputs).objects slots
   pub starts_are : AreFirstNumbers (parsed inputs).objects starts
-  pub halves_are : AreHalves (parsed inputs) halves
-  pub addresses_are : addresses ≡ settled_addresses (parsed inputs)
-  pub counts_are : counts ≡ settled_counts (parsed inputs)
+  pub halves_are : AreHalves (parsed inputs) slots halves
+  pub addresses_are : addresses ≡ settled_addresses (parsed inputs) slots
+  pub counts_are : counts ≡ settled_counts (parsed inputs) slots

@@ -1,5 +1,5 @@
 -- The place has a number where it may be led to, which tells its piece's (`piece_number_is`).
-use Rattle.std.proofs.Common.{◌≡◌, List, Option, Some, MatchOption, true, false, subst, ◌∙◌, arith}
+use Rattle.std.proofs.Common.{◌≡◌, List, [], Option, Some, MatchOption, true, false, subst, ◌∙◌, arith}
 use Rattle.zc_base.specs.declared.place.Place.{Place}
 use Rattle.elf32_read.specs.Parts.{ObjectParts}
 use Rattle.psabi_sym.specs.Inputs.{parsed}
@@ -31,8 +31,8 @@ piece_number-requires-clause-room c =
     omega (
       arith,
       (piece_number_is objects c.args.starts.now c.requires.starts c.args.p c.in-Some.number has.0 has.1).is,
-      number_most (parsed inputs) c.args.p,
-      pieces_few inputs c.requires.faultless,
+      number_most (parsed inputs) [] c.args.p,
+      pieces_few inputs c.requires.faultless [],
     )
 
 pub returns-in-Some : goal.returns-in-Some

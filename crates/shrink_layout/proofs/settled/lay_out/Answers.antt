@@ -1,10 +1,11 @@
 -- What `settle_pieces` asks holds of the pieces of inputs without a fault, and what it gives is the layout.
-use Rattle.std.proofs.Common.{◌≡◌, ℕ, ◌-◌, ◌≤◌, ◌%◌, All, List, length, sym, ap, subst, subst₂, ◌∙◌, arith}
+use Rattle.std.proofs.Common.{◌≡◌, ℕ, ◌-◌, ◌≤◌, ◌%◌, All, List, Option, length, sym, ap, subst, subst₂, ◌∙◌, arith}
 use Rattle.std.specs.List.{sum_by}
-use Rattle.psabi_sym.specs.Faults.{gather_fault}
 use Rattle.psabi_sym.specs.Inputs.{parsed}
+use Rattle.block_cut.specs.Faults.{first_fault}
 use Rattle.block_cut.specs.PlainLayout.{plain_counts}
-use Rattle.shrink_layout.specs.Invariants.Numbers.{AreFirstNumbers}
+use Rattle.zc_base.specs.declared.place.Place.{Place}
+use Rattle.shrink_layout.specs.Invariants.Made.{AreHalvesOf, all_owners}
 use Rattle.shrink_layout.specs.Counted.{is_long_piece, is_short_piece, pieces_with}
 use Rattle.shrink_layout.specs.Forms.{HasAlignment, IsEvenPiece, longest, target}
 use Rattle.shrink_layout.specs.Layout.{addresses_of, sizes_of}
@@ -12,86 +13,110 @@ use Rattle.shrink_layout.specs.Least.{IsLeast, IsTight}
 use Rattle.shrink_layout.specs.Pieces.{pieces_of}
 use Rattle.shrink_layout.specs.declared.piece.Piece.{Piece}
 use Rattle.shrink_layout.proofs.KeptLaws.{end_rises, kept_addresses, kept_end, kept_long, kept_sizes, long_counted, short_counted, sizes_long}
-use Rattle.shrink_layout.proofs.PremiseLaws.{all_aligned, all_even, all_tight, pieces_few, room_few, targets}
+use Rattle.shrink_layout.proofs.HalfLaws.{all_halves}
+use Rattle.shrink_layout.proofs.PremiseLaws.{all_aligned, all_even, all_tight, front_few, pieces_few, room_few, targets}
+use Rattle.shrink_layout.proofs.TableLaws.{table_pays_off}
 use Rattle.shrink_layout.proofs.settled.lay_out.Goals as goal
 
 pub settle_pieces-requires : goal.settle_pieces-requires
 settle_pieces-requires c =
-    let none = ap gather_fault (sym c.cut-cut.ensures.same) ∙ c.in_ok-starts.ensures.gathered in
-    let pieces = c.deref-2.ensures.value ∙ c.in_ok-made.ensures.pieces in
+    let none = c.requires.numbered.faultless in
+    let pieces = c.deref.ensures.value ∙ c.in_ok-made.ensures.pieces ∙ ap (pieces_of (parsed c.args.of.now.planned.now)) c.in_ok-kept.ensures.same in
     let map = c.map-text.ensures.is_map in
     record {
-      alignments = subst (All HasAlignment) (sym pieces) (all_aligned c.args.planned.now none);
-      targets = subst (λ ps. All (λ p. target p ≤ length ps) ps) (sym pieces) (targets c.args.planned.now none);
-      room = omega (arith, ap (sum_by longest) pieces, room_few c.args.planned.now none, map.code, map.data_room, map.top);
-      near = omega (arith, ap (sum_by longest) pieces, room_few c.args.planned.now none);
+      alignments = subst (All HasAlignment) (sym pieces) (all_aligned c.args.of.now.planned.now none c.args.slots.now);
+      targets = subst (λ ps. All (λ p. target p ≤ length ps) ps) (sym pieces) (targets c.args.of.now.planned.now none c.args.slots.now);
+      room = omega (arith, ap (sum_by longest) pieces, room_few c.args.of.now.planned.now none c.args.slots.now, front_few c.args.slots.now c.requires.targets.few, map.code, map.data_room, map.top);
+      near = omega (arith, ap (sum_by longest) pieces, room_few c.args.of.now.planned.now none c.args.slots.now, front_few c.args.slots.now c.requires.targets.few);
     }
 
 pub index-end-requires : goal.index-end-requires
 index-end-requires c =
-    let inputs = parsed c.args.planned.now in
-    let pieces = c.deref-2.ensures.value ∙ c.in_ok-made.ensures.pieces in
+    let inputs = parsed c.args.of.now.planned.now in
+    let pieces = c.deref.ensures.value ∙ c.in_ok-made.ensures.pieces ∙ ap (pieces_of (parsed c.args.of.now.planned.now)) c.in_ok-kept.ensures.same in
     let text = ap (λ m. m.text) c.map-text.ensures.value ∙ ap (λ x. x.map.text) (c.objects.ensures.same ∙ c.cut-cut.ensures.same) in
-    let are = c.in_ok-rounds.ensures.addresses ∙ (λ j. addresses_of (text j) (pieces j) (sizes_of (text j) (pieces j))) ∙ kept_addresses inputs in
-    omega (arith, c.len.ensures, c.in_ok-made.made.pieces.ok, c.in_ok-rounds.rounds.addresses.ok, ap length c.in_ok-made.ensures.pieces, kept_long inputs c.in_ok-rounds.rounds.addresses.items are)
+    let are = c.in_ok-rounds.ensures.addresses ∙ (λ j. addresses_of (text j) (pieces j) (sizes_of (text j) (pieces j))) ∙ kept_addresses inputs c.args.slots.now in
+    omega (arith, c.len.ensures, c.in_ok-made.made.pieces.ok, c.in_ok-rounds.rounds.addresses.ok, ap length (c.in_ok-made.ensures.pieces ∙ ap (pieces_of inputs) c.in_ok-kept.ensures.same), kept_long inputs c.args.slots.now c.in_ok-rounds.rounds.addresses.items are)
 
 pub overflow_sub-counts : goal.overflow_sub-counts
 overflow_sub-counts c =
-    let inputs = parsed c.args.planned.now in
-    let pieces = c.deref-2.ensures.value ∙ c.in_ok-made.ensures.pieces in
+    let inputs = parsed c.args.of.now.planned.now in
+    let pieces = c.deref.ensures.value ∙ c.in_ok-made.ensures.pieces ∙ ap (pieces_of (parsed c.args.of.now.planned.now)) c.in_ok-kept.ensures.same in
     let text = ap (λ m. m.text) c.map-text.ensures.value ∙ ap (λ x. x.map.text) (c.objects.ensures.same ∙ c.cut-cut.ensures.same) in
-    let are = c.in_ok-rounds.ensures.addresses ∙ (λ j. addresses_of (text j) (pieces j) (sizes_of (text j) (pieces j))) ∙ kept_addresses inputs in
-    let last : c.len.result ≡ length (pieces_of inputs) = omega (arith, c.len.ensures, c.in_ok-made.made.pieces.ok, ap length c.in_ok-made.ensures.pieces) in
-    let end = c.index-end.ensures ∙ kept_end inputs c.in_ok-rounds.rounds.addresses.items are c.len.result c.index-end.result.now last in
-    omega (arith, end, text, end_rises inputs)
+    let are = c.in_ok-rounds.ensures.addresses ∙ (λ j. addresses_of (text j) (pieces j) (sizes_of (text j) (pieces j))) ∙ kept_addresses inputs c.args.slots.now in
+    let last : c.len.result ≡ length (pieces_of inputs c.args.slots.now) = omega (arith, c.len.ensures, c.in_ok-made.made.pieces.ok, ap length (c.in_ok-made.ensures.pieces ∙ ap (pieces_of inputs) c.in_ok-kept.ensures.same)) in
+    let end = c.index-end.ensures ∙ kept_end inputs c.args.slots.now c.in_ok-rounds.rounds.addresses.items are c.len.result c.index-end.result.now last in
+    omega (arith, end, text, end_rises inputs c.args.slots.now)
 
 pub count_sizes-sizes-requires-clause-same : goal.count_sizes-sizes-requires-clause-same
 count_sizes-sizes-requires-clause-same c =
-    let inputs = parsed c.args.planned.now in
-    let pieces = c.deref-2.ensures.value ∙ c.in_ok-made.ensures.pieces in
+    let inputs = parsed c.args.of.now.planned.now in
+    let pieces = c.deref.ensures.value ∙ c.in_ok-made.ensures.pieces ∙ ap (pieces_of (parsed c.args.of.now.planned.now)) c.in_ok-kept.ensures.same in
     let text = ap (λ m. m.text) c.map-text.ensures.value ∙ ap (λ x. x.map.text) (c.objects.ensures.same ∙ c.cut-cut.ensures.same) in
-    let sizes = c.deref-4.ensures.value ∙ c.in_ok-rounds.ensures.sizes ∙ (λ j. sizes_of (text j) (pieces j)) ∙ kept_sizes inputs in
-    ap length sizes ∙ sizes_long inputs ∙ ap length (sym (c.deref-3.ensures.value ∙ c.in_ok-made.ensures.pieces))
+    let sizes = c.deref-3.ensures.value ∙ c.in_ok-rounds.ensures.sizes ∙ (λ j. sizes_of (text j) (pieces j)) ∙ kept_sizes inputs c.args.slots.now in
+    ap length sizes ∙ sizes_long inputs c.args.slots.now ∙ ap length (sym (c.deref-2.ensures.value ∙ c.in_ok-made.ensures.pieces ∙ ap (pieces_of (parsed c.args.of.now.planned.now)) c.in_ok-kept.ensures.same))
 
 pub count_sizes-sizes-requires-clause-few : goal.count_sizes-sizes-requires-clause-few
 count_sizes-sizes-requires-clause-few c =
-    omega (arith, ap length (c.deref-3.ensures.value ∙ c.in_ok-made.ensures.pieces), pieces_few c.args.planned.now (ap gather_fault (sym c.cut-cut.ensures.same) ∙ c.in_ok-starts.ensures.gathered))
+    omega (arith, ap length (c.deref-2.ensures.value ∙ c.in_ok-made.ensures.pieces ∙ ap (pieces_of (parsed c.args.of.now.planned.now)) c.in_ok-kept.ensures.same), pieces_few c.args.of.now.planned.now c.requires.numbered.faultless c.args.slots.now)
 
 pub returns-clause-settled : goal.returns-clause-settled
 returns-clause-settled c =
-    let none = ap gather_fault (sym c.cut-cut.ensures.same) ∙ c.in_ok-starts.ensures.gathered in
-    let inputs = parsed c.args.planned.now in
-    let pieces = c.deref-2.ensures.value ∙ c.in_ok-made.ensures.pieces in
+    let none = c.requires.numbered.faultless in
+    let inputs = parsed c.args.of.now.planned.now in
+    let pieces = c.deref.ensures.value ∙ c.in_ok-made.ensures.pieces ∙ ap (pieces_of (parsed c.args.of.now.planned.now)) c.in_ok-kept.ensures.same in
     let text = ap (λ m. m.text) c.map-text.ensures.value ∙ ap (λ x. x.map.text) (c.objects.ensures.same ∙ c.cut-cut.ensures.same) in
-    let are = c.in_ok-rounds.ensures.addresses ∙ (λ j. addresses_of (text j) (pieces j) (sizes_of (text j) (pieces j))) ∙ kept_addresses inputs in
-    let sizes = c.deref-4.ensures.value ∙ c.in_ok-rounds.ensures.sizes ∙ (λ j. sizes_of (text j) (pieces j)) ∙ kept_sizes inputs in
-    let last : c.len.result ≡ length (pieces_of inputs) = omega (arith, c.len.ensures, c.in_ok-made.made.pieces.ok, ap length c.in_ok-made.ensures.pieces) in
-    let end = c.index-end.ensures ∙ kept_end inputs c.in_ok-rounds.rounds.addresses.items are c.len.result c.index-end.result.now last in
-    let listed = c.deref-3.ensures.value ∙ c.in_ok-made.ensures.pieces in
+    let are = c.in_ok-rounds.ensures.addresses ∙ (λ j. addresses_of (text j) (pieces j) (sizes_of (text j) (pieces j))) ∙ kept_addresses inputs c.args.slots.now in
+    let sizes = c.deref-3.ensures.value ∙ c.in_ok-rounds.ensures.sizes ∙ (λ j. sizes_of (text j) (pieces j)) ∙ kept_sizes inputs c.args.slots.now in
+    let last : c.len.result ≡ length (pieces_of inputs c.args.slots.now) = omega (arith, c.len.ensures, c.in_ok-made.made.pieces.ok, ap length (c.in_ok-made.ensures.pieces ∙ ap (pieces_of inputs) c.in_ok-kept.ensures.same)) in
+    let end = c.index-end.ensures ∙ kept_end inputs c.args.slots.now c.in_ok-rounds.rounds.addresses.items are c.len.result c.index-end.result.now last in
+    let listed = c.deref-2.ensures.value ∙ c.in_ok-made.ensures.pieces ∙ ap (pieces_of (parsed c.args.of.now.planned.now)) c.in_ok-kept.ensures.same in
+    let owners = subst (λ (xs : List (Option Place)). AreHalvesOf (all_owners inputs xs) c.in_ok-made.made.halves.items) c.in_ok-kept.ensures.same c.in_ok-made.ensures.halves in
     record {
       faultless = none;
-      starts_are = subst (λ x. AreFirstNumbers (parsed x).objects c.in_ok-starts.starts.items) c.cut-cut.ensures.same c.in_ok-starts.ensures.starts;
-      halves_are = c.in_ok-made.ensures.halves;
+      targets = c.requires.targets;
+      starts_are = c.requires.numbered.starts;
+      halves_are = all_halves c.args.of.now.planned.now none c.args.slots.now c.in_ok-made.made.halves.items owners;
       addresses_are = are;
       counts_are = λ j. record {
         text = end j - text j;
         items = ((c.counts.ensures ∙ ap (λ x. plain_counts (parsed x)) c.cut-cut.ensures.same) j).items;
-        short = (c.count_sizes-sizes.ensures.short ∙ (λ i. pieces_with is_short_piece (listed i) (sizes i)) ∙ short_counted c.args.planned.now none) j;
-        long = (c.count_sizes-sizes.ensures.long ∙ (λ i. pieces_with is_long_piece (listed i) (sizes i)) ∙ long_counted c.args.planned.now none) j;
+        short = (c.count_sizes-sizes.ensures.short ∙ (λ i. pieces_with is_short_piece (listed i) (sizes i)) ∙ short_counted c.args.of.now.planned.now none c.args.slots.now) j;
+        long = (c.count_sizes-sizes.ensures.long ∙ (λ i. pieces_with is_long_piece (listed i) (sizes i)) ∙ long_counted c.args.of.now.planned.now none c.args.slots.now) j;
         pushes = c.count_groups-groups.ensures.pushes j;
         pops = c.count_groups-groups.ensures.pops j;
         moves = c.count_groups-groups.ensures.moves j;
-        table = 0;
+        table = (c.count_sites.ensures inputs (subst (AreHalvesOf (all_owners inputs c.args.slots.now)) (sym c.deref-4.ensures.value) owners)) j;
       };
     }
 
 pub returns-clause-least : goal.returns-clause-least
 returns-clause-least c = λ unaligned.
-    let inputs = parsed c.args.planned.now in
-    let none = ap gather_fault (sym c.cut-cut.ensures.same) ∙ c.in_ok-starts.ensures.gathered in
-    let pieces = c.deref-2.ensures.value ∙ c.in_ok-made.ensures.pieces in
+    let inputs = parsed c.args.of.now.planned.now in
+    let none = c.requires.numbered.faultless in
+    let pieces = c.deref.ensures.value ∙ c.in_ok-made.ensures.pieces ∙ ap (pieces_of (parsed c.args.of.now.planned.now)) c.in_ok-kept.ensures.same in
     let text = ap (λ m. m.text) c.map-text.ensures.value ∙ ap (λ x. x.map.text) (c.objects.ensures.same ∙ c.cut-cut.ensures.same) in
     let even : c.map-text.result.text % 2 ≡ 0 = omega (arith, c.map-text.ensures.is_map.text_page) in
-    let given = c.in_ok-rounds.ensures.least even (subst (All IsEvenPiece) (sym pieces) (all_even c.args.planned.now none)) (subst (All IsTight) (sym pieces) (all_tight inputs unaligned)) in
-    subst (IsLeast inputs.map.text (pieces_of inputs)) (kept_sizes inputs)
+    let given = c.in_ok-rounds.ensures.least even (subst (All IsEvenPiece) (sym pieces) (all_even c.args.of.now.planned.now none c.args.slots.now)) (subst (All IsTight) (sym pieces) (all_tight inputs c.args.slots.now unaligned)) in
+    subst (IsLeast inputs.map.text (pieces_of inputs c.args.slots.now)) (kept_sizes inputs c.args.slots.now)
     (subst₂ (λ (t : ℕ) (ps : List Piece). IsLeast t ps (sizes_of t ps)) text pieces given)
+
+pub count_sites-requires : goal.count_sites-requires
+count_sites-requires c =
+    let inputs = parsed c.args.of.now.planned.now in
+    let none = c.requires.numbered.faultless in
+    let owners = subst (λ (xs : List (Option Place)). AreHalvesOf (all_owners inputs xs) c.in_ok-made.made.halves.items) c.in_ok-kept.ensures.same c.in_ok-made.ensures.halves in
+    omega (
+      arith,
+      ap length c.deref-4.ensures.value,
+      (all_halves c.args.of.now.planned.now none c.args.slots.now c.in_ok-made.made.halves.items owners).0,
+      pieces_few c.args.of.now.planned.now none c.args.slots.now,
+    )
+
+pub returns-clause-pays : goal.returns-clause-pays
+returns-clause-pays c = λ unaligned.
+    let inputs = c.args.of.now.planned.now in
+    let text = ap (λ m. m.text) c.map-text.ensures.value ∙ ap (λ x. x.map.text) (c.objects.ensures.same ∙ c.cut-cut.ensures.same) in
+    let none = ap first_fault (sym c.cut-cut.ensures.same) ∙ c.objects.ensures.faultless in
+    let even : inputs.map.text % 2 ≡ 0 = omega (arith, text, c.map-text.ensures.is_map.text_page) in
+    table_pays_off inputs none c.args.slots.now unaligned even

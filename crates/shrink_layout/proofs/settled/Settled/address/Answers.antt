@@ -6,7 +6,7 @@ use Rattle.psabi_sym.specs.Inputs.{Inputs, ParsedInputs, parsed}
 use Rattle.block_cut.specs.Items.{is_target_at}
 use Rattle.block_cut.specs.Places.{IsPlaceNumber}
 use Rattle.block_cut.specs.declared.place_number.PlaceNumber.{PlaceNumber}
-use Rattle.shrink_layout.specs.Settled.{settled_address}
+use Rattle.shrink_layout.specs.Settled.{SettledLayout, settled_address}
 use Rattle.shrink_layout.specs.Units.{is_inside, is_listed_at}
 use Rattle.shrink_layout.proofs.PlaceAddressLaws.{address_nowhere, address_there}
 use Rattle.shrink_layout.proofs.RolePlaces.{inside_unlisted, listed_target, target_listed}
@@ -29,21 +29,26 @@ returns-in-None c =
     let own = c.self.inside in
     let q = c.args.p in
     let has = known c.cut-cut.result.now own.planned q c.number.result None c.cut-cut.ensures.same c.in-None.is c.number.ensures in
-    sym (address_nowhere (parsed own.planned) q (unlisted (parsed own.planned) q has)) ∙ ap (λ x. settled_address (parsed x) q) c.self.view_is
+    sym (address_nowhere (parsed own.planned) own.slots.items q (unlisted (parsed own.planned) q has))
+    ∙ ap (λ (x : SettledLayout). settled_address (parsed x.inputs) x.slots q) c.self.view_is
 
 pub returns-then-is_inside_by : goal.returns-then-is_inside_by
 returns-then-is_inside_by c =
     let own = c.self.inside in
     let q = c.args.p in
-    let has = known _ _ q _ _ (c.cut-cut.ensures.same ∙ c.self.view_is) c.in-Some.is c.number.ensures in
+    let same = ap (λ (x : SettledLayout). x.inputs) c.self.view_is in
+    let has = known _ _ q _ _ (c.cut-cut.ensures.same ∙ same) c.in-Some.is c.number.ensures in
     let inside : is_inside (parsed own.planned) q ≡ true =
-    ap (λ x. is_inside (parsed x) q) c.self.view_is ∙ sym (c.is_inside_by.ensures q has.0 has.1) ∙ c.if-is_inside_by.true in
-    sym (address_nowhere (parsed own.planned) q (inside_unlisted own.planned c.self.invariant.faultless q inside)) ∙ ap (λ x. settled_address (parsed x) q) c.self.view_is
+    ap (λ x. is_inside (parsed x) q) same ∙ sym (c.is_inside_by.ensures q has.0 has.1) ∙ c.if-is_inside_by.true in
+    sym (address_nowhere (parsed own.planned) own.slots.items q (inside_unlisted own.planned c.self.invariant.faultless q inside))
+    ∙ ap (λ (x : SettledLayout). settled_address (parsed x.inputs) x.slots q) c.self.view_is
 
 pub returns-else-is_inside_by : goal.returns-else-is_inside_by
 returns-else-is_inside_by c =
     let q = c.args.p in
-    let has = known _ _ q _ _ (c.cut-cut.ensures.same ∙ c.self.view_is) c.in-Some.is c.number.ensures in
+    let same = ap (λ (x : SettledLayout). x.inputs) c.self.view_is in
+    let has = known _ _ q _ _ (c.cut-cut.ensures.same ∙ same) c.in-Some.is c.number.ensures in
     let outside = sym (c.is_inside_by.ensures q has.0 has.1) ∙ c.if-is_inside_by.false in
-    let there = address_there (parsed c.args.self.now) q (target_listed (parsed c.args.self.now) q has.0 outside) in
+    let given = parsed c.args.self.now.inputs in
+    let there = address_there given c.args.self.now.slots q (target_listed given q has.0 outside) in
     ap Some (c.address_at.ensures q _ there has.1) ∙ sym there

@@ -2,7 +2,7 @@ use Rattle.std.proofs.Common.{◌≡◌, ◌+◌, ◌-◌, Some, None, is_some, 
 use Rattle.psabi_sym.specs.Inputs.{parsed}
 use Rattle.block_cut.specs.Items.{item_at}
 use Rattle.shrink_layout.specs.Pieces.{piece_number_at}
-use Rattle.shrink_layout.specs.Settled.{settled_addresses, settled_size}
+use Rattle.shrink_layout.specs.Settled.{SettledLayout, settled_addresses, settled_size}
 use Rattle.shrink_layout.specs.Units.{is_inside}
 use Rattle.shrink_layout.proofs.KeptLaws.{addresses_rise, below_by, kept_address, kept_long, size_by}
 use Rattle.shrink_layout.proofs.PlaceAddressLaws.{size_inside, size_without}
@@ -15,9 +15,9 @@ index-requires c =
     let is = c.self.invariant in
     let q = c.args.p in
     let found = c.item.ensures.item ∙ ap (λ x. item_at (parsed x) q) c.cut-cut.ensures.same in
-    let below = below_by own.planned is.faultless q (ap is_some (sym found) ∙ c.if-is_none.ensures) in
+    let below = below_by own.planned is.faultless own.slots.items q (ap is_some (sym found) ∙ c.if-is_none.ensures) in
     let number = c.piece_number_at-k.ensures ∙ ap (λ x. piece_number_at (parsed x).objects q) c.cut-cut.ensures.same in
-    omega (arith, number, below, own.addresses.ok, kept_long (parsed own.planned) own.addresses.items is.addresses_are)
+    omega (arith, number, below, own.addresses.ok, kept_long (parsed own.planned) own.slots.items own.addresses.items is.addresses_are)
 
 pub index-requires-2 : goal.index-requires-2
 index-requires-2 c =
@@ -25,9 +25,9 @@ index-requires-2 c =
     let is = c.self.invariant in
     let q = c.args.p in
     let found = c.item.ensures.item ∙ ap (λ x. item_at (parsed x) q) c.cut-cut.ensures.same in
-    let below = below_by own.planned is.faultless q (ap is_some (sym found) ∙ c.if-is_none.ensures) in
+    let below = below_by own.planned is.faultless own.slots.items q (ap is_some (sym found) ∙ c.if-is_none.ensures) in
     let number = c.piece_number_at-k.ensures ∙ ap (λ x. piece_number_at (parsed x).objects q) c.cut-cut.ensures.same in
-    omega (arith, number, below, own.addresses.ok, kept_long (parsed own.planned) own.addresses.items is.addresses_are)
+    omega (arith, number, below, own.addresses.ok, kept_long (parsed own.planned) own.slots.items own.addresses.items is.addresses_are)
 
 pub overflow_sub-result : goal.overflow_sub-result
 overflow_sub-result c =
@@ -37,11 +37,11 @@ overflow_sub-result c =
     let k = c.piece_number_at-k.result in
     let inputs = parsed own.planned in
     let found = c.item.ensures.item ∙ ap (λ x. item_at (parsed x) q) c.cut-cut.ensures.same in
-    let below = below_by own.planned is.faultless q (ap is_some (sym found) ∙ c.if-is_none.ensures) in
+    let below = below_by own.planned is.faultless own.slots.items q (ap is_some (sym found) ∙ c.if-is_none.ensures) in
     let number = c.piece_number_at-k.ensures ∙ ap (λ x. piece_number_at (parsed x).objects q) c.cut-cut.ensures.same in
-    let first = c.index-2.ensures ∙ kept_address inputs own.addresses.items is.addresses_are k c.index-2.result.now (omega (arith, number, below)) in
-    let second = c.index.ensures ∙ kept_address inputs own.addresses.items is.addresses_are (k + 1) c.index.result.now (omega (arith, number, below)) in
-    omega (arith, first, second, addresses_rise inputs k (k + 1) (omega arith) (omega (arith, number, below)))
+    let first = c.index-2.ensures ∙ kept_address inputs own.slots.items own.addresses.items is.addresses_are k c.index-2.result.now (omega (arith, number, below)) in
+    let second = c.index.ensures ∙ kept_address inputs own.slots.items own.addresses.items is.addresses_are (k + 1) c.index.result.now (omega (arith, number, below)) in
+    omega (arith, first, second, addresses_rise inputs own.slots.items k (k + 1) (omega arith) (omega (arith, number, below)))
 
 pub returns-then-is_none : goal.returns-then-is_none
 returns-then-is_none c =
@@ -49,11 +49,11 @@ returns-then-is_none c =
     let q = c.args.p in
     let given = parsed own.planned in
     let found = c.item.ensures.item ∙ ap (λ x. item_at (parsed x) q) c.cut-cut.ensures.same in
-    let none : settled_size given q ≡ None = elim c.then-is_none.branch [
-      | then-is_none-via-then-is_none w ↦ size_without given q (ap is_some (sym found) ∙ c.is_none.ensures ∙ ap not w.if-is_none.true)
-      | then-is_none-via-else-is_none+then-is_inside w ↦ size_inside given q (ap (λ x. is_inside (parsed x) q) c.self.view_is ∙ sym w.is_inside.ensures ∙ w.if-is_inside.true)
+    let none : settled_size given own.slots.items q ≡ None = elim c.then-is_none.branch [
+      | then-is_none-via-then-is_none w ↦ size_without given own.slots.items q (ap is_some (sym found) ∙ c.is_none.ensures ∙ ap not w.if-is_none.true)
+      | then-is_none-via-else-is_none+then-is_inside w ↦ size_inside given own.slots.items q (ap (λ (x : SettledLayout). is_inside (parsed x.inputs) q) c.self.view_is ∙ sym w.is_inside.ensures ∙ w.if-is_inside.true)
     ] in
-    sym none ∙ ap (λ x. settled_size (parsed x) q) c.self.view_is
+    sym none ∙ ap (λ (x : SettledLayout). settled_size (parsed x.inputs) x.slots q) c.self.view_is
 
 pub returns : goal.returns
 returns c =
@@ -64,11 +64,11 @@ returns c =
     let inputs = parsed own.planned in
     let found = c.item.ensures.item ∙ ap (λ x. item_at (parsed x) q) c.cut-cut.ensures.same in
     let some = ap is_some (sym found) ∙ c.if-is_none.ensures in
-    let below = below_by own.planned is.faultless q some in
+    let below = below_by own.planned is.faultless own.slots.items q some in
     let number = c.piece_number_at-k.ensures ∙ ap (λ x. piece_number_at (parsed x).objects q) c.cut-cut.ensures.same in
-    let first = c.index-2.ensures ∙ kept_address inputs own.addresses.items is.addresses_are k c.index-2.result.now (omega (arith, number, below)) in
-    let second = c.index.ensures ∙ kept_address inputs own.addresses.items is.addresses_are (k + 1) c.index.result.now (omega (arith, number, below)) in
+    let first = c.index-2.ensures ∙ kept_address inputs own.slots.items own.addresses.items is.addresses_are k c.index-2.result.now (omega (arith, number, below)) in
+    let second = c.index.ensures ∙ kept_address inputs own.slots.items own.addresses.items is.addresses_are (k + 1) c.index.result.now (omega (arith, number, below)) in
     (λ j. Some (second j - first j))
-    ∙ ap (λ n. Some (slice_index (settled_addresses inputs) (n + 1) - slice_index (settled_addresses inputs) n)) number
-    ∙ sym (size_by inputs q some (ap (λ x. is_inside (parsed x) q) c.self.view_is ∙ sym c.is_inside.ensures ∙ c.if-is_inside.false))
-    ∙ ap (λ x. settled_size (parsed x) q) c.self.view_is
+    ∙ ap (λ n. Some (slice_index (settled_addresses inputs own.slots.items) (n + 1) - slice_index (settled_addresses inputs own.slots.items) n)) number
+    ∙ sym (size_by inputs own.slots.items q some (ap (λ (x : SettledLayout). is_inside (parsed x.inputs) q) c.self.view_is ∙ sym c.is_inside.ensures ∙ c.if-is_inside.false))
+    ∙ ap (λ (x : SettledLayout). settled_size (parsed x.inputs) x.slots q) c.self.view_is

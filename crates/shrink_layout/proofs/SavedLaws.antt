@@ -1,0 +1,308 @@
+-- What slots save is two bytes for each jump or call through the table (`saved_twice`). So if the table pays, the text with it is shorter than that
+-- without by the net at least (`net_paid`).
+use Rattle.std.proofs.Common.{◌≡◌, ◌∙◌, ℕ, zero, suc, ◌+◌, ◌*◌, ◌<◌, ◌≤◌, List, [], ◌∷◌, ◌++◌, Bool, true, false, cond, drop, filter, length, map, take, Option, Some, None, slice_get, slice_index, refl, sym, ap, subst, arith, eqb}
+use Rattle.std.specs.Prelude.{◌&&◌, ◌||◌}
+use Rattle.std.specs.List.{flat_map, list_any}
+use Rattle.std.specs.Option.{is_some, option_map, option_map_or, option_to_list}
+use Rattle.std.proofs.lemmas.Bool.{false≢true, or_left, or_right}
+use Rattle.std.proofs.lemmas.List.{length-map}
+use Rattle.std.proofs.lemmas.List.Elements.{All-map, All-weaker}
+use Rattle.std.proofs.lemmas.Option.{none-some, same_Some}
+use Rattle.zc_base.specs.Places.{same_place}
+use Rattle.zc_base.specs.declared.place.Place.{Place}
+use Rattle.psabi_sym.specs.Faults.{gather_fault}
+use Rattle.psabi_sym.specs.Inputs.{Inputs, ParsedInputs, parsed}
+use Rattle.block_cut.specs.Items.{all_places, all_targets, is_target_at}
+use Rattle.block_cut.specs.declared.item.Item.{Item}
+use Rattle.pick_check.specs.Best.{IsAssignment, Saves}
+use Rattle.pick_check.specs.Saved.{cost_of, saved_by, saved_in, saved_of}
+use Rattle.pick_check.specs.declared.part.Part.TheVariants.{Jumps, Calls}
+use Rattle.pick_check.specs.declared.saving.Saving.{Saving}
+use Rattle.shrink_layout.specs.Pieces.{piece_number_at, site_at, slot_at, unit_at}
+use Rattle.shrink_layout.specs.Savings.{has_sites, saving_of, savings_of, sites_of}
+use Rattle.shrink_layout.specs.Settled.{is_site, settled_end, settled_sizes, units_with}
+use Rattle.shrink_layout.specs.Table.{AreSlots, IsSlot, TablePays}
+use Rattle.shrink_layout.specs.Units.{AreTargetSlots, IsTargetSlot, CodeUnit, OneGroup, OneItem, OneSite, front_size, is_slot_of, item_unit, slot_for, slot_from}
+use Rattle.shrink_layout.proofs.GroupedSites.{AreApart, AreCounted, AreSlotPlaces, ArePlacesApart, at_sites, kept_apart, kept_counted, slotted, saved_same, sites_saved, any_slotted}
+use Rattle.shrink_layout.proofs.PremiseLaws.{Each, each-append}
+use Rattle.shrink_layout.proofs.SiteLaws.{site_found, site_unit, slot_nowhere, slot_there}
+use Rattle.shrink_layout.proofs.TargetNumbers.{IsNumbered, got_target, same-refl, same_true}
+use Rattle.shrink_layout.proofs.UnitLaws.{unit_site}
+
+-- ---- lists
+
+take_map : {X Y : Type 0} (f : X → Y) (n : ℕ) (xs : List X) → take n (map f xs) ≡ map f (take n xs)
+take_map f zero xs = refl
+take_map f (suc n) [] = refl
+take_map f (suc n) (x ∷ xs) = ap (λ l. f x ∷ l) (take_map f n xs)
+
+drop_map : {X Y : Type 0} (f : X → Y) (n : ℕ) (xs : List X) → drop n (map f xs) ≡ map f (drop n xs)
+drop_map f zero xs = refl
+drop_map f (suc n) [] = refl
+drop_map f (suc n) (x ∷ xs) = drop_map f n xs
+
+-- what passes of what there is, place by place
+passed_flat : {X Y : Type 0} (f : X → Option Y) (test : Y → Bool) (xs : List X)
+    → length (filter test (flat_map (λ x. option_to_list (f x)) xs)) ≡ length (filter (λ x. option_map_or test (f x) false) xs)
+passed_flat f test [] = refl
+passed_flat {X = X} {Y = Y} f test (x ∷ xs) = by (f x) (passed_flat f test xs)
+  where
+    rest : List Y
+    rest = flat_map (λ x. option_to_list (f x)) xs
+
+    others : List X
+    others = filter (λ x. option_map_or test (f x) false) xs
+
+    by : (o : Option Y) → length (filter test rest) ≡ length others
+        → length (filter test (option_to_list o ++ rest)) ≡ length (cond (option_map_or test o false) (x ∷ others) others)
+    by None same = same
+    by (Some y) same = tested (test y)
+      where
+        tested : (b : Bool) → length (cond b (y ∷ filter test rest) (filter test rest)) ≡ length (cond b (x ∷ others) others)
+        tested true = ap suc same
+        tested false = same
+
+-- one that passes is some
+any_got : {X : Type 0} (test : X → Bool) (xs : List X) (k : ℕ) (x : X) → slice_get xs k ≡ Some x → test x ≡ true → list_any test xs ≡ true
+any_got test [] k x got passes = absurd (none-some x got)
+any_got test (y ∷ ys) zero x got passes = or_left (test y) (list_any test ys) (ap test (same_Some y x got) ∙ passes)
+any_got test (y ∷ ys) (suc k) x got passes = or_right (test y) (list_any test ys) (any_got test ys k x got passes)
+
+-- what holds of each holds of one
+each_got : {X : Type 0} (P : X → Type 0) (xs : List X) (k : ℕ) (x : X) → Each P xs → slice_get xs k ≡ Some x → P x
+each_got P [] k x each got = absurd (none-some x got)
+each_got P (y ∷ ys) zero x each got = subst P (same_Some y x got) each.0
+each_got P (y ∷ ys) (suc k) x each got = each_got P ys k x each.1 got
+
+-- ---- savings stand apart
+
+module _ (inputs : Inputs) (none : gather_fault inputs ≡ None) where
+  abbrev given : ParsedInputs
+  given = parsed inputs
+
+  -- places with numbers from one on differ from one with a lesser number
+  other_number : (p : Place) (n m : ℕ) (qs : List Place) → IsNumbered given.objects p n → n < m → ((j : ℕ) (q : Place) → slice_get qs j ≡ Some q → IsNumbered given.objects q (m + j))
+      → list_any (same_place p) qs ≡ false
+  other_number p n m [] is lt each = refl
+  other_number p n m (q ∷ qs) is lt each =
+      by (same_place p q) refl (other_number p n (m + 1) qs is (omega (arith, lt)) (λ j r at. let one = each (suc j) r at in record { target = one.target; number = omega (arith, one.number) }))
+    where
+      by : (b : Bool) → same_place p q ≡ b → list_any (same_place p) qs ≡ false → (b || list_any (same_place p) qs) ≡ false
+      by true same rest = absurd (omega (arith, is.number, (each 0 q refl).number, lt, ap (piece_number_at given.objects) (same_true p q same)))
+      by false other rest = rest
+
+  apart_from : (m : ℕ) (qs : List Place) → ((j : ℕ) (q : Place) → slice_get qs j ≡ Some q → IsNumbered given.objects q (m + j)) → ArePlacesApart qs
+  apart_from m [] each = tt
+  apart_from m (q ∷ qs) each =
+      let later : (j : ℕ) (r : Place) → slice_get qs j ≡ Some r → IsNumbered given.objects r (m + 1 + j) =
+      λ j r at. let one = each (suc j) r at in record { target = one.target; number = omega (arith, one.number) } in
+      (other_number q m (m + 1) qs (let first = each 0 q refl in record { target = first.target; number = omega (arith, first.number) }) (omega arith) later, apart_from (m + 1) qs later)
+
+  -- what can be saved is told of each target once
+  pub savings_apart : AreApart (savings_of given)
+  unfolding savings_of
+  savings_apart =
+      kept_apart (sites_of given) has_sites (all_targets given.objects)
+      (apart_from 2 (all_targets given.objects) (λ j q at. got_target inputs none j q at))
+
+  savings_counted : AreCounted (sites_of given) (savings_of given)
+  unfolding savings_of
+  savings_counted = kept_counted (sites_of given) has_sites (all_targets given.objects)
+
+  -- code may lead to each target
+  savings_targets : Each (λ (s : Saving). is_target_at given.objects s.target ≡ true) (savings_of given)
+  unfolding savings_of
+  savings_targets = from (all_targets given.objects) (λ j q at. (got_target inputs none j q at).target)
+    where
+      from : (qs : List Place) → ((j : ℕ) (q : Place) → slice_get qs j ≡ Some q → is_target_at given.objects q ≡ true)
+          → Each (λ (s : Saving). is_target_at given.objects s.target ≡ true) (filter has_sites (map (saving_of (sites_of given)) qs))
+      from [] each = tt
+      from (q ∷ qs) each = by (has_sites (saving_of (sites_of given) q)) (from qs (λ j r at. each (suc j) r at))
+        where
+          rest : List Saving
+          rest = filter has_sites (map (saving_of (sites_of given)) qs)
+
+          by : (b : Bool) → Each (λ (s : Saving). is_target_at given.objects s.target ≡ true) rest
+              → Each (λ (s : Saving). is_target_at given.objects s.target ≡ true) (cond b (saving_of (sites_of given) q ∷ rest) rest)
+          by true more = (each 0 q refl, more)
+          by false more = more
+
+  -- ---- sites by the registers that they link
+
+  abbrev LinksLow : ℕ × Place → Type 0
+  LinksLow s = s.0 < 2
+
+  sites_low : Each LinksLow (sites_of given)
+  unfolding sites_of
+  sites_low = low (all_places given.objects)
+    where
+      low : (qs : List Place) → Each LinksLow (flat_map (λ q. option_to_list (site_at given q)) qs)
+      low [] = tt
+      low (q ∷ qs) = each-append LinksLow (option_to_list (site_at given q)) (flat_map (λ q. option_to_list (site_at given q)) qs) (by (site_at given q) refl) (low qs)
+        where
+          by : (o : Option (ℕ × Place)) → site_at given q ≡ o → Each LinksLow (option_to_list o)
+          by None at = tt
+          by (Some jump) at = ((site_found given q jump at).links, tt)
+
+  -- ---- slots
+
+  slot_any : (n : ℕ) (q : Place) (slots : List (Option Place)) → is_some (slot_from n q slots) ≡ list_any (is_slot_of q) slots
+  slot_any n q [] = refl
+  slot_any n q (slot ∷ slots) = by (is_slot_of q slot) (slot_any (n + 1) q slots)
+    where
+      by : (b : Bool) → is_some (slot_from (n + 1) q slots) ≡ list_any (is_slot_of q) slots
+          → is_some (cond b (Some n) (slot_from (n + 1) q slots)) ≡ (b || list_any (is_slot_of q) slots)
+      by true rest = refl
+      by false rest = rest
+
+  module _ (slots : List (Option Place)) where
+    abbrev has_low : Place → Bool
+    has_low q = list_any (is_slot_of q) (take 32 slots)
+
+    abbrev has_high : Place → Bool
+    has_high q = list_any (is_slot_of q) (drop 32 slots)
+
+    abbrev has_one : ℕ × Place → Bool
+    has_one s = is_some (slot_for slots s)
+
+    -- sites with a slot are jumps with one below 32, and calls with one from 32 on
+    by_register : (sites : List (ℕ × Place)) → Each LinksLow sites
+        → length (filter has_one sites) ≡ length (filter (λ s. eqb s.0 0 && has_low s.1) sites) + length (filter (λ s. eqb s.0 1 && has_high s.1) sites)
+    by_register [] low = refl
+    by_register (s ∷ sites) low = by s.0 low.0 refl (by_register sites low.1)
+      where
+        all : List (ℕ × Place)
+        all = filter has_one sites
+
+        jumps : List (ℕ × Place)
+        jumps = filter (λ (s : ℕ × Place). eqb s.0 0 && has_low s.1) sites
+
+        calls : List (ℕ × Place)
+        calls = filter (λ (s : ℕ × Place). eqb s.0 1 && has_high s.1) sites
+
+        first : (a b : Bool) → a ≡ b → length all ≡ length jumps + length calls → length (cond a (s ∷ all) all) ≡ length (cond b (s ∷ jumps) jumps) + length calls
+        first true true same rest = omega (arith, rest)
+        first false false same rest = omega (arith, rest)
+        first true false same rest = absurd (false≢true (sym same))
+        first false true same rest = absurd (false≢true same)
+
+        second : (a b : Bool) → a ≡ b → length all ≡ length jumps + length calls → length (cond a (s ∷ all) all) ≡ length jumps + length (cond b (s ∷ calls) calls)
+        second true true same rest = omega (arith, rest)
+        second false false same rest = omega (arith, rest)
+        second true false same rest = absurd (false≢true (sym same))
+        second false true same rest = absurd (false≢true same)
+
+        by : (rd : ℕ) → rd < 2 → s.0 ≡ rd → length all ≡ length jumps + length calls
+            → length (cond (is_some (cond (eqb rd 0) (slot_from 0 s.1 (take 32 slots)) (slot_from 32 s.1 (drop 32 slots)))) (s ∷ all) all)
+            ≡ length (cond (eqb rd 0 && has_low s.1) (s ∷ jumps) jumps) + length (cond (eqb rd 1 && has_high s.1) (s ∷ calls) calls)
+        by zero lt is rest = first (is_some (slot_from 0 s.1 (take 32 slots))) (has_low s.1) (slot_any 0 s.1 (take 32 slots)) rest
+        by (suc zero) lt is rest = second (is_some (slot_from 32 s.1 (drop 32 slots))) (has_high s.1) (slot_any 32 s.1 (drop 32 slots)) rest
+        by (suc (suc rd)) lt is rest = absurd (omega (arith, lt))
+
+    -- a jump or call through the table stands just where a site has a slot
+    same_sites : (size : ℕ) (q : Place) → option_map_or (is_site size) (unit_at given slots q) false ≡ option_map_or has_one (site_at given q) false
+    same_sites size q = by (site_at given q) refl
+      where
+        nothing : (o : Option CodeUnit) → unit_at given slots q ≡ o → slot_at given slots q ≡ None → option_map_or (is_site size) o false ≡ false
+        nothing None at slot = refl
+        nothing (Some (OneItem i)) at slot = refl
+        nothing (Some (OneGroup g)) at slot = refl
+        nothing (Some (OneSite n)) at slot = absurd (none-some n (sym slot ∙ (unit_site given (slot_at given slots) q n at).1))
+
+        tested : (i : Item) (o : Option ℕ) → is_site size (item_unit o i) ≡ is_some o
+        tested i None = refl
+        tested i (Some n) = refl
+
+        by : (o : Option (ℕ × Place)) → site_at given q ≡ o → option_map_or (is_site size) (unit_at given slots q) false ≡ option_map_or has_one o false
+        by None at = nothing (unit_at given slots q) refl (slot_nowhere given slots q at)
+        by (Some jump) at =
+            let site = site_found given q jump at in
+            ap (λ o. option_map_or (is_site size) o false) (site_unit inputs none q jump site (slot_at given slots))
+            ∙ tested site.item (slot_at given slots q) ∙ ap is_some (slot_there given slots q jump at)
+
+    -- so there are as many
+    units_sites : units_with given slots is_site ≡ length (filter has_one (sites_of given))
+    unfolding sites_of
+    units_sites =
+        (λ j. length (filter (λ q. same_sites (slice_index (settled_sizes given slots) (piece_number_at given.objects q)) q j) (all_places given.objects)))
+        ∙ sym (passed_flat (site_at given) has_one (all_places given.objects))
+
+  -- ---- what is saved
+
+  module _ (place : ℕ → Option Place) (are : AreSlotPlaces (savings_of given) place) (numbers : List ℕ) where
+    abbrev slots : List (Option Place)
+    slots = map place numbers
+
+    -- the jumps of each target with a slot below 32
+    jumps_saved : saved_in Jumps (savings_of given) (take 32 numbers) ≡ 2 * length (filter (λ s. eqb s.0 0 && has_low slots s.1) (sites_of given))
+    jumps_saved =
+        saved_same (saved_by Jumps) (at_sites 0 (take 32 numbers) (sites_of given)) (take 32 numbers) 0 (savings_of given) (each (savings_of given) savings_counted)
+        ∙ sites_saved 0 (take 32 numbers) (savings_of given) savings_apart (sites_of given)
+        ∙ (λ j. 2 * length (filter (λ (s : ℕ × Place). eqb s.0 0 && same s.1 j) (sites_of given)))
+      where
+        each : (savings : List Saving) → AreCounted (sites_of given) savings → Each (λ s. saved_by Jumps s ≡ at_sites 0 (take 32 numbers) (sites_of given) s) savings
+        each [] counted = tt
+        each (s ∷ rest) counted = (ap (λ (x : Saving). 2 * x.jump_sites) counted.0, each rest counted.1)
+
+        same : (p : Place) → slotted (take 32 numbers) 0 (savings_of given) p ≡ has_low slots p
+        same p = sym (ap (list_any (is_slot_of p)) (take_map place 32 numbers) ∙ any_slotted (savings_of given) place are p (take 32 numbers))
+
+    -- and the calls of each with a slot from 32 on
+    calls_saved : saved_in Calls (savings_of given) (drop 32 numbers) ≡ 2 * length (filter (λ s. eqb s.0 1 && has_high slots s.1) (sites_of given))
+    calls_saved =
+        saved_same (saved_by Calls) (at_sites 1 (drop 32 numbers) (sites_of given)) (drop 32 numbers) 0 (savings_of given) (each (savings_of given) savings_counted)
+        ∙ sites_saved 1 (drop 32 numbers) (savings_of given) savings_apart (sites_of given)
+        ∙ (λ j. 2 * length (filter (λ (s : ℕ × Place). eqb s.0 1 && same s.1 j) (sites_of given)))
+      where
+        each : (savings : List Saving) → AreCounted (sites_of given) savings → Each (λ s. saved_by Calls s ≡ at_sites 1 (drop 32 numbers) (sites_of given) s) savings
+        each [] counted = tt
+        each (s ∷ rest) counted = (ap (λ (x : Saving). 2 * x.call_sites) counted.0, each rest counted.1)
+
+        same : (p : Place) → slotted (drop 32 numbers) 0 (savings_of given) p ≡ has_high slots p
+        same p = sym (ap (list_any (is_slot_of p)) (drop_map place 32 numbers) ∙ any_slotted (savings_of given) place are p (drop 32 numbers))
+
+    -- two bytes for each jump or call through the table
+    pub saved_twice : saved_of (savings_of given) numbers ≡ 2 * units_with given slots is_site
+    saved_twice = omega (arith, jumps_saved, calls_saved, units_sites slots, by_register slots (sites_of given) sites_low)
+
+    -- the table's cost is what stands in front
+    cost_front : cost_of numbers ≡ front_size slots
+    cost_front = by numbers
+      where
+        by : (ns : List ℕ) → cost_of ns ≡ front_size (map place ns)
+        by [] = refl
+        by (n ∷ ns) = omega (arith, length-map ns place)
+
+    -- the text with the table and the net are together no more than the text without it
+    pub net_paid : (net : ℕ) → Saves (savings_of given) numbers net → TablePays given slots → settled_end given slots + net ≤ settled_end given []
+    net_paid net saves pays = omega (arith, saves, pays, saved_twice, cost_front)
+
+    -- and the slots are those of a table
+    slot_is : (n : ℕ) → IsSlot given (place n)
+    slot_is zero = subst (IsSlot given) (sym are.hole) tt
+    slot_is (suc k) = subst (IsSlot given) (sym (are.target k)) (by (slice_get (savings_of given) k) refl)
+      where
+        by : (o : Option Saving) → slice_get (savings_of given) k ≡ o → IsSlot given (option_map (λ (s : Saving). s.target) o)
+        by None at = tt
+        by (Some s) at = any_got (λ (t : Saving). same_place t.target s.target) (savings_of given) k s at (same-refl s.target)
+
+    pub slots_are : IsAssignment (savings_of given) numbers → AreSlots given slots
+    slots_are assigned = record {
+      few = omega (arith, length-map numbers place, assigned.few);
+      each = All-map (IsSlot given) place numbers (All-weaker (λ n. n ≤ length (savings_of given)) (λ n. IsSlot given (place n)) (λ n within. slot_is n) numbers assigned.in_range);
+    }
+
+    -- whose places code may lead to
+    target_slot : (n : ℕ) → IsTargetSlot given.objects (place n)
+    target_slot zero = subst (IsTargetSlot given.objects) (sym are.hole) tt
+    target_slot (suc k) = subst (IsTargetSlot given.objects) (sym (are.target k)) (by (slice_get (savings_of given) k) refl)
+      where
+        by : (o : Option Saving) → slice_get (savings_of given) k ≡ o → IsTargetSlot given.objects (option_map (λ (s : Saving). s.target) o)
+        by None at = tt
+        by (Some s) at = each_got (λ (t : Saving). is_target_at given.objects t.target ≡ true) (savings_of given) k s savings_targets at
+
+    pub target_slots : IsAssignment (savings_of given) numbers → AreTargetSlots given.objects slots
+    target_slots assigned = record {
+      few = omega (arith, length-map numbers place, assigned.few);
+      each = All-map (IsTargetSlot given.objects) place numbers (All-weaker (λ n. n ≤ length (savings_of given)) (λ n. IsTargetSlot given.objects (place n)) (λ n within. target_slot n) numbers assigned.in_range);
+    }

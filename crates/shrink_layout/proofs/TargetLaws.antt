@@ -1,0 +1,225 @@
+-- Where items lead: in inputs without a fault, a branch, a jump or a call leads to a place where an item starts or a section of code ends
+-- (`item_leads`). Such a place has a number behind that of the front (`number_some`).
+use Rattle.std.proofs.Common.{◌≡◌, ℕ, ◌+◌, ◌≤◌, List, map, Bool, true, false, cond, Option, Some, None, refl, sym, ap, ◌∙◌, subst, arith}
+use Rattle.std.specs.Prelude.{ℤ, ◌==◌, ◌&&◌, not}
+use Rattle.std.specs.List.{position_or_len}
+use Rattle.std.specs.Option.{option_and_then, option_map, option_map_or}
+use Rattle.std.proofs.lemmas.Bool.{not-false}
+use Rattle.std.proofs.lemmas.List.Folds.{find_at}
+use Rattle.zc_base.specs.declared.place.Place.{Place}
+use Rattle.elf32_read.specs.Parts.{ObjectParts, SectionParts}
+use Rattle.elf32_read.specs.declared.fault.Fault.{Fault}
+use Rattle.elf32_read.specs.declared.fault.Fault.TheVariants as fault
+use Rattle.elf32_read.specs.declared.reloc.Reloc.{Reloc}
+use Rattle.psabi_reloc.specs.Kinds.{kind_of}
+use Rattle.psabi_reloc.specs.declared.kind.RelocKind.{RelocKind}
+use Rattle.psabi_reloc.specs.declared.kind.RelocKind.TheVariants as kind
+use Rattle.psabi_sym.specs.Faults.{first_some, gather_fault}
+use Rattle.psabi_sym.specs.Inputs.{Inputs, ParsedInputs, parsed}
+use Rattle.psabi_sym.specs.Indexed.{section_at, sections_before}
+use Rattle.psabi_sym.specs.declared.target.Target.{Target}
+use Rattle.psabi_sym.specs.declared.target.Target.TheVariants.{Code, Number, Absent, Nowhere}
+use Rattle.psabi_sym.proofs.FaultLaws.{neither}
+use Rattle.rv_decode.specs.declared.instr.Instr.{Instr}
+use Rattle.rv_decode.specs.declared.instr.Instr.TheVariants as instr
+use Rattle.block_cut.specs.Faults.{first_fault, has_bad_target, if_so, is_bad_target, lacks_pcrel_hi, reloc_fault, relocs_fault, section_fault}
+use Rattle.block_cut.specs.Items.{call_item, code_at, is_target_at, item_at, item_under, known_item, of_instr, place_away, raw_in, raw_pair, size_on, spelled_item, target_away, target_of, target_only, to_place, transfer_item}
+use Rattle.block_cut.specs.Relocs.{instr_in, is_bad_kind, is_bad_place, is_ignored, is_sound, is_transfer, reloc_on}
+use Rattle.block_cut.specs.declared.item.Item.{Item}
+use Rattle.block_cut.specs.declared.item.Item.TheVariants as item
+use Rattle.block_cut.proofs.FirstLaws.{none_at, none_within}
+use Rattle.block_cut.proofs.ItemLaws.{item_found}
+use Rattle.block_cut.proofs.ListedLaws.{cut_at, listed}
+use Rattle.block_cut.proofs.SoundLaws.{sound_at}
+use Rattle.block_cut.proofs.WholeLaws.{code_is_section}
+use Rattle.shrink_layout.specs.Pieces.{is_short_jump, jump_piece, piece_number_at, piece_of}
+use Rattle.shrink_layout.proofs.NumberLaws.{number-code}
+use Rattle.shrink_layout.proofs.OrderLaws.{target_code}
+use Rattle.shrink_layout.proofs.TablePieces.{IsPastFront}
+
+-- ---- numbers
+
+-- where code may lead there stand what is in front and a padding before it
+pub number_some : (objects : List ObjectParts) (q : Place) → is_target_at objects q ≡ true → 2 ≤ piece_number_at objects q
+number_some objects q target =
+    let at = target_code objects q target in
+    omega (arith, number-code objects q at.0 target at.1)
+
+-- what an item leads to is where code may lead
+abbrev pub LeadsWell : List ObjectParts → Item → Type 0
+LeadsWell objects (item.Branch op first second to) = is_target_at objects to ≡ true
+LeadsWell objects (item.Jump rd to) = is_target_at objects to ≡ true
+LeadsWell objects (item.Call rd temp to) = is_target_at objects to ≡ true
+LeadsWell objects _ = Unit {0}
+
+-- ---- relocations without a fault
+
+not_so : (b : Bool) (f : Fault) → if_so b f ≡ None → b ≡ false
+not_so true f h = absurd cc
+not_so false f h = refl
+
+mapped_none : {A B : Type 0} (f : A → B) (o : Option A) → option_map f o ≡ None → o ≡ None
+mapped_none f None h = refl
+mapped_none f (Some a) h = absurd cc
+
+module _ (inputs : Inputs) (none : first_fault inputs ≡ None) where
+  abbrev given : ParsedInputs
+  given = parsed inputs
+
+  abbrev objects : List ObjectParts
+  objects = given.objects
+
+  no_reloc_fault : relocs_fault given ≡ None
+  unfolding first_fault
+  no_reloc_fault = (neither (relocs_fault given) _ (neither (gather_fault inputs) _ none).1).0
+
+  -- there is none between objects either
+  pub no_gather_fault : gather_fault inputs ≡ None
+  unfolding first_fault
+  no_gather_fault = (neither (gather_fault inputs) _ none).0
+
+  -- one that asks for something at an offset of a section leads where it may
+  reloc_leads : (o i n : ℕ) (s : SectionParts) (r : Reloc) → section_at objects o i ≡ Some s → reloc_on s n ≡ Some r → is_ignored (kind_of r.kind) ≡ false
+      → is_bad_target objects (is_transfer (kind_of r.kind)) (target_of given o r) ≡ false
+  unfolding reloc_on relocs_fault
+  reloc_leads o i n s r found on asks =
+      let l = listed o i s in
+      let cut = cut_at objects o i s found in
+      let own : section_fault given l ≡ None =
+      none_within (section_fault given) (sections_before objects o i) l cut.rest (ap (λ ls. first_some (map (section_fault given) ls)) (sym cut.all_are) ∙ no_reloc_fault) in
+      let all : first_some (map (reloc_fault given l) s.relocs) ≡ None = mapped_none _ (first_some (map (reloc_fault given l) s.relocs)) own in
+      let test = λ (x : Reloc). is_sound s x && x.offset == n in
+      let here = none_at (reloc_fault given l) s.relocs (position_or_len test s.relocs) r (sym (find_at test s.relocs) ∙ on) all in
+      let one = neither (if_so (is_bad_kind s (kind_of r.kind)) (fault.RelocKind i r.offset)) _ here in
+      let two = neither (if_so (is_bad_place s r) (fault.RelocPlace i r.offset)) _ one.1 in
+      let three = neither (if_so (lacks_pcrel_hi given l r) (fault.LoPair i r.offset)) _ two.1 in
+      let four = neither (if_so (has_bad_target given l r) (fault.BadTarget i r.offset)) _ three.1 in
+      ap (λ b. not b && is_bad_target objects (is_transfer (kind_of r.kind)) (target_of given o r)) (sym asks)
+      ∙ not_so (has_bad_target given l r) (fault.BadTarget i r.offset) four.0
+
+  -- ---- items
+
+  -- a place that is so far away is where it may
+  away_target : (q to : Place) (distance : ℤ) → target_away objects q distance ≡ Some to → is_target_at objects to ≡ true
+  away_target q to distance = from (place_away q distance)
+    where
+      only : (r : Place) (b : Bool) → is_target_at objects r ≡ b → cond b (Some r) None ≡ Some to → is_target_at objects to ≡ true
+      only r true is h = let same : r ≡ to = cc in ap (is_target_at objects) (sym same) ∙ is
+      only r false is h = absurd cc
+
+      from : (o : Option Place) → option_and_then (target_only objects) o ≡ Some to → is_target_at objects to ≡ true
+      from None h = absurd cc
+      from (Some r) h = only r (is_target_at objects r) refl h
+
+  module _ (q : Place) (size : ℕ) (bytes : List ℕ) where
+    abbrev raw : ℕ → Item
+    raw n = raw_in n bytes q.offset
+
+    -- an item without a relocation
+    bare : (d : Option Instr) → LeadsWell objects (spelled_item objects q d (raw size))
+    bare None = tt
+    bare (Some (instr.Upper op rd imm)) = tt
+    bare (Some (instr.Jalr rd base imm)) = tt
+    bare (Some (instr.Load op rd base imm)) = tt
+    bare (Some (instr.Store op source base imm)) = tt
+    bare (Some (instr.WithImm op rd first imm)) = tt
+    bare (Some (instr.WithReg op rd first second)) = tt
+    bare (Some (instr.Fence rest)) = tt
+    bare (Some instr.Ecall) = tt
+    bare (Some instr.Ebreak) = tt
+    bare (Some (instr.Csrrw rd source)) = tt
+    bare (Some (instr.Jal rd distance)) = by (target_away objects q distance) refl
+      where
+        by : (o : Option Place) → target_away objects q distance ≡ o → LeadsWell objects (option_map_or (item.Jump rd) o (raw size))
+        by None away = tt
+        by (Some to) away = away_target q to distance away
+    bare (Some (instr.Branch op first second distance)) = by (target_away objects q distance) refl
+      where
+        by : (o : Option Place) → target_away objects q distance ≡ o → LeadsWell objects (option_map_or (item.Branch op first second) o (raw size))
+        by None away = tt
+        by (Some to) away = away_target q to distance away
+
+    -- an instruction with a part of an address
+    parted : (f : Instr → Item) (d : Option Instr) → ((i : Instr) → LeadsWell objects (f i)) → LeadsWell objects (of_instr d (raw 4) f)
+    parted f None each = tt
+    parted f (Some i) each = each i
+
+    -- a branch or a jump
+    transferred : (i : Instr) (to : Place) → is_target_at objects to ≡ true → LeadsWell objects (transfer_item i (raw 4) to)
+    transferred (instr.Branch op first second distance) to target = target
+    transferred (instr.Jal rd distance) to target = target
+    transferred i to target = tt
+
+    led : (t : Target) → is_bad_target objects true t ≡ false → (i : Instr) → LeadsWell objects (to_place t (transfer_item i (raw 4)) (raw 4))
+    led (Code to) well i = transferred i to (not-false (is_target_at objects to) well)
+    led (Number n) well i = tt
+    led (Absent n) well i = tt
+    led Nowhere well i = tt
+
+    -- a call
+    called : (d d2 : Option Instr) (t : Target) → is_bad_target objects true t ≡ false → LeadsWell objects (to_place t (call_item d d2 (raw_pair bytes q.offset)) (raw_pair bytes q.offset))
+    called d d2 (Number n) well = tt
+    called d d2 (Absent n) well = tt
+    called d d2 Nowhere well = tt
+    called (Some (instr.Upper op temp upper)) (Some (instr.Jalr rd base lower)) (Code to) well = not-false (is_target_at objects to) well
+    called d d2 (Code to) well = tt
+
+    -- the lower part of a way
+    lowered : (t : Target) (i : Instr) → LeadsWell objects (to_place t (item.PcLo i) (raw 4))
+    lowered (Code from) i = tt
+    lowered (Number n) i = tt
+    lowered (Absent n) i = tt
+    lowered Nowhere i = tt
+
+    -- an item with a relocation of this kind
+    known : (k : Option RelocKind) (addend : ℤ) (t : Target) → is_bad_target objects (is_transfer k) t ≡ false
+        → LeadsWell objects (known_item k addend t bytes q.offset)
+    known None addend t well = tt
+    known (Some kind.Ignored) addend t well = tt
+    known (Some kind.Word) addend t well = tt
+    known (Some kind.Branch) addend t well = parted (λ i. to_place t (transfer_item i (raw 4)) (raw 4)) (instr_in 4 bytes q.offset) (led t well)
+    known (Some kind.Jal) addend t well = parted (λ i. to_place t (transfer_item i (raw 4)) (raw 4)) (instr_in 4 bytes q.offset) (led t well)
+    known (Some kind.Call) addend t well = called (instr_in 4 bytes q.offset) (instr_in 4 bytes (q.offset + 4)) t well
+    known (Some kind.PcrelHi20) addend t well = parted (λ i. item.PcHi i t) (instr_in 4 bytes q.offset) (λ i. tt)
+    known (Some kind.PcrelLo12I) addend t well = parted (λ i. to_place t (item.PcLo i) (raw 4)) (instr_in 4 bytes q.offset) (lowered t)
+    known (Some kind.PcrelLo12S) addend t well = parted (λ i. to_place t (item.PcLo i) (raw 4)) (instr_in 4 bytes q.offset) (lowered t)
+    known (Some kind.Hi20) addend t well = parted (λ i. item.Hi i t) (instr_in 4 bytes q.offset) (λ i. tt)
+    known (Some kind.Lo12I) addend t well = parted (λ i. item.Lo i t) (instr_in 4 bytes q.offset) (λ i. tt)
+    known (Some kind.Lo12S) addend t well = parted (λ i. item.Lo i t) (instr_in 4 bytes q.offset) (λ i. tt)
+    known (Some kind.RvcBranch) addend t well = tt
+    known (Some kind.RvcJump) addend t well = tt
+    known (Some kind.Align) addend t well = tt
+
+  -- each item
+  pub item_leads : (q : Place) (i : Item) → item_at given q ≡ Some i → LeadsWell objects i
+  item_leads q i is =
+      let found = item_found given q i is in
+      subst (LeadsWell objects) found.item (by found.section found.code (reloc_on found.section q.offset) refl)
+    where
+      by : (s : SectionParts) → code_at objects q ≡ Some s → (o : Option Reloc) → reloc_on s q.offset ≡ o → LeadsWell objects (item_under given q o (size_on s q.offset) s.bytes)
+      by s at None on = bare q (size_on s q.offset) s.bytes (instr_in (size_on s q.offset) s.bytes q.offset)
+      by s at (Some r) on =
+          let section = code_is_section objects q s at in
+          let sound = sound_at s q.offset r section.1 on in
+          known q (size_on s q.offset) s.bytes (kind_of r.kind) r.addend (target_of given q.object r)
+          (reloc_leads q.object q.section q.offset s r section.0 on sound.asks)
+
+  -- so the piece of a jump has its target past the front
+  jump_past : (to : Place) (b : Bool) → is_target_at objects to ≡ true → IsPastFront (jump_piece objects to b)
+  jump_past to true well = omega (arith, number_some objects to well)
+  jump_past to false well = tt
+
+  -- as the piece of each item has, if it has one
+  pub item_past : (i : Item) → LeadsWell objects i → IsPastFront (piece_of objects i)
+  item_past (item.Op i) well = tt
+  item_past (item.Hi i t) well = tt
+  item_past (item.Lo i t) well = tt
+  item_past (item.PcHi i t) well = tt
+  item_past (item.PcLo i q) well = tt
+  item_past (item.Branch op first second to) well = omega (arith, number_some objects to well)
+  item_past (item.Jump rd to) well = jump_past to (is_short_jump rd) well
+  item_past (item.Call rd temp to) well = jump_past to (is_short_jump rd) well
+  item_past (item.Align bytes) well = tt
+  item_past (item.Word t) well = tt
+  item_past (item.Raw word) well = tt
+  item_past (item.RawPair first second) well = tt

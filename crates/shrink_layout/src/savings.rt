@@ -1,0 +1,137 @@
+// What a table could save: the targets of jumps and calls that take four bytes without one.
+
+ghost use Rattle.std.specs.Prelude.{◌≡◌, ◌<◌, ◌≤◌, ◌+◌, ◌==◌, ◌++◌, ◌∷◌, [], All, IfOk, List, if◌then◌else◌, length, map};
+ghost use Rattle.psabi_sym.specs.Inputs.{parsed};
+ghost use Rattle.psabi_sym.specs.Indexed.{all_sections};
+ghost use Rattle.block_cut.specs.Items.{all_targets};
+ghost use Rattle.shrink_layout.specs.Invariants.Numbers.{AreFirstNumbers};
+ghost use Rattle.shrink_layout.specs.Invariants.Sites.{AreOfPlaces, AreSavings, places_before, targets_before};
+ghost use Rattle.shrink_layout.specs.Savings.{HasFewSites, has_sites, saving_of, savings_of};
+ghost use Rattle.zc_base.specs.declared.place.Place.{Place};
+
+use crate::numbers::{first_numbers, piece_number_at};
+use crate::pieces::starts_of;
+use crate::settled::Settled;
+use crate::site::{Site, site_at};
+use block_cut::cut::Cut;
+use pick_check::saving::Saving;
+use std::alloc::{AllocError, Global};
+use zc_base::place::Place;
+
+// Adds the targets in the section with this number among all.
+fn add_targets(cut: &Cut, section: u32, savings: &mut Vec<Saving>) -> Result<(), AllocError>
+    requires section { section < length (all_sections (parsed cut.now).objects) }
+    requires so_far { savings.old.items ≡ map (saving_of []) (targets_before (parsed cut.now).objects section) }
+    ensures { IfOk result (λ _. savings.new.items
+        ≡ map (saving_of []) (targets_before (parsed cut.now).objects (section + 1))) }
+{
+    let own = cut.objects().section(section);
+    let places = cut.places(section);
+    for place in places {
+        savings.push(Saving {
+            target: Place {
+                object: own.object(),
+                section: own.index(),
+                offset: place.offset,
+            },
+            jump_sites: 0,
+            call_sites: 0,
+        })?;
+    }
+    Ok(())
+}
+
+// All targets, so far without sites.
+fn bare_targets(alloc: Global, cut: &Cut) -> Result<Vec<Saving>, AllocError>
+    ensures { IfOk result (λ savings. savings.items ≡ map (saving_of []) (all_targets (parsed cut.now).objects)) }
+{
+    let mut savings = Vec::new(alloc);
+    for section in 0..cut.objects().section_count() {
+        add_targets(cut, section, &mut savings)?;
+    }
+    Ok(savings)
+}
+
+// One site more.
+fn count_site(saving: &mut Saving, site: Site)
+    requires jumps { saving.old.jump_sites < 0xFFFF_FFFF }
+    requires calls { saving.old.call_sites < 0xFFFF_FFFF }
+    ensures target { saving.new.target ≡ saving.old.target }
+    ensures jumps { saving.new.jump_sites ≡ saving.old.jump_sites + (if site.rd == 0 then 1 else 0) }
+    ensures calls { saving.new.call_sites ≡ saving.old.call_sites + (if site.rd == 0 then 0 else 1) }
+{
+    if site.rd == 0 {
+        saving.jump_sites += 1;
+    } else {
+        saving.call_sites += 1;
+    }
+}
+
+// Counts the site at a place, if there is one, at its target. Targets have numbers from 2 on, in their order: before
+// the first stand what is in front of all code and a padding, and the end of a section has the number of the next
+// one's padding.
+fn count_place(settled: &Settled, starts: &[u32], p: Place, savings: &mut [Saving])
+    requires unset { settled.now.slots ≡ [] }
+    requires starts { AreFirstNumbers (parsed settled.now.inputs).objects starts.now }
+    requires few { AreOfPlaces (parsed settled.now.inputs) savings.old }
+    ensures { (qs : List Place) → AreSavings (parsed settled.now.inputs) qs savings.old
+        → AreSavings (parsed settled.now.inputs) (qs ++ p ∷ []) savings.new }
+{
+    if let Some(site) = site_at(settled, p) {
+        let cut = settled.planned().cut();
+        // This call says that no fault stands in the objects.
+        let _objects = cut.objects();
+        let number = piece_number_at(cut, starts, site.to);
+        count_site(&mut savings[(number - 2) as usize], site);
+    }
+}
+
+// Counts the sites in the section with this number among all.
+fn count_section(settled: &Settled, starts: &[u32], section: u32, savings: &mut [Saving])
+    requires unset { settled.now.slots ≡ [] }
+    requires starts { AreFirstNumbers (parsed settled.now.inputs).objects starts.now }
+    requires section { section < length (all_sections (parsed settled.now.inputs).objects) }
+    requires so_far { AreSavings (parsed settled.now.inputs)
+        (places_before (parsed settled.now.inputs).objects section) savings.old }
+    ensures { AreSavings (parsed settled.now.inputs)
+        (places_before (parsed settled.now.inputs).objects (section + 1)) savings.new }
+{
+    let cut = settled.planned().cut();
+    let own = cut.objects().section(section);
+    let places = starts_of(cut.places(section));
+    for place in places {
+        let at = Place {
+            object: own.object(),
+            section: own.index(),
+            offset: place.offset,
+        };
+        count_place(settled, starts, at, savings);
+    }
+}
+
+// Whether some site leads to a target.
+fn has_sites(saving: &Saving) -> bool
+    ensures { result ≡ has_sites saving.now }
+{
+    saving.jump_sites != 0 || saving.call_sites != 0
+}
+
+impl Settled {
+    /// The targets of jumps and calls that a table could serve, each with how many there are to it, by object, section
+    /// and offset. It takes time linear in the items.
+    pub fn savings(&self, alloc: Global) -> Result<Vec<Saving>, AllocError>
+        requires { self.now.slots ≡ [] }
+        ensures value { IfOk result (λ savings. savings.items ≡ savings_of (parsed self.now.inputs)) }
+        ensures few { IfOk result (λ savings. length savings.items ≤ 0x1_0000) }
+        ensures sites { IfOk result (λ savings. All HasFewSites savings.items) }
+    {
+        let cut = self.planned().cut();
+        let starts = first_numbers(alloc, cut)?;
+        let mut savings = bare_targets(alloc, cut)?;
+        for section in 0..cut.objects().section_count() {
+            count_section(self, &starts, section, &mut savings);
+        }
+        savings.retain(|saving| has_sites(saving));
+        Ok(savings)
+    }
+}

@@ -1,0 +1,118 @@
+// The slots of a table by where they lead, and what pieces are made from.
+
+ghost use Rattle.std.specs.Prelude.{◌≡◌, ◌+◌, ◌<◌, ◌≤◌, All, IfOk, [], length};
+ghost use Rattle.psabi_sym.specs.Inputs.{parsed};
+ghost use Rattle.shrink_layout.specs.Invariants.Slots.{AreFirstSlots, AreNumbered, AreSlotsOf};
+ghost use Rattle.shrink_layout.specs.Pieces.{pieces_of};
+ghost use Rattle.shrink_layout.specs.Settled.{settled_addresses};
+ghost use Rattle.shrink_layout.specs.Units.{AreTargetSlots, IsTargetSlot};
+
+use crate::numbers::piece_number_at;
+use frame_match::planned::Planned;
+use std::alloc::{AllocError, Global};
+use zc_base::place::Place;
+
+// How many slots there are for jumps, which come first; those behind them are for calls (RISC-V Zc specification 1.0,
+// "cm.jt" and "cm.jalt").
+const JUMP_SLOTS: usize = 32;
+
+/// Objects with their items and groups, and the number of each section's first place.
+#[derive(Drop)]
+pub struct Numbered<'a> {
+    pub planned: &'a Planned,
+    pub starts: &'a [u32],
+}
+
+/// The slots of a table, and what tells through which of them a jump or call goes.
+#[derive(Drop)]
+pub struct Slots<'a> {
+    pub slots: &'a [Option<Place>],
+    /// If there are slots, the addresses in the layout without the table.
+    pub addresses: Vec<u32>,
+    /// If there are slots, the first for jumps to each place, by the number of the place's piece.
+    pub jumps: Vec<Option<u8>>,
+    /// The first for calls.
+    pub calls: Vec<Option<u8>>,
+}
+
+/// What pieces are made from: the objects, and the slots of a table.
+#[derive(Drop)]
+pub struct PieceSource<'a> {
+    pub planned: &'a Planned,
+    pub starts: &'a [u32],
+    pub slots: &'a Slots<'a>,
+}
+
+// A part of a table's slots, with the number of its first.
+#[derive(Clone, Copy)]
+struct SlotPart<'a> {
+    first: u8,
+    slots: &'a [Option<Place>],
+}
+
+// The first slot of each place in a part, by the number of the place's piece: of slots that lead to one place the first
+// is noted last.
+fn first_slots(
+    alloc: Global,
+    of: &Numbered,
+    part: SlotPart,
+    count: usize,
+) -> Result<Vec<Option<u8>>, AllocError>
+    requires numbered { AreNumbered of.now }
+    requires few { part.first + length part.slots.now ≤ 256 }
+    requires targets { All (IsTargetSlot (parsed of.now.planned.now).objects) part.slots.now }
+    requires count { 0 < length part.slots.now → count ≡ length (pieces_of (parsed of.now.planned.now) []) + 1 }
+    ensures long { IfOk result (λ firsts. length firsts.items ≡ count) }
+    ensures firsts { IfOk result (λ firsts.
+        AreFirstSlots (parsed of.now.planned.now).objects part.entry.first part.entry.slots.now firsts.items) }
+{
+    let mut firsts = vec![in alloc; None; count]?;
+    for k in (0..part.slots.len()).rev() {
+        if let Some(to) = part.slots[k] {
+            let number = piece_number_at(of.planned.cut(), of.starts, to);
+            firsts[number as usize] = Some(part.first + k as u8);
+        }
+    }
+    Ok(firsts)
+}
+
+impl<'a> Slots<'a> {
+    /// The slots of a table. If there are any, the addresses are those of the layout without it.
+    pub fn new(
+        alloc: Global,
+        of: &Numbered,
+        addresses: Vec<u32>,
+        slots: &'a [Option<Place>],
+    ) -> Result<Slots<'a>, AllocError>
+        requires numbered { AreNumbered of.now }
+        requires addresses { 0 < length slots.now
+            → addresses.items ≡ settled_addresses (parsed of.now.planned.now) [] }
+        requires targets { AreTargetSlots (parsed of.now.planned.now).objects slots.now }
+        ensures same { IfOk result (λ kept. kept.slots.now ≡ slots.now) }
+        ensures kept { IfOk result (AreSlotsOf (parsed of.now.planned.now)) }
+    {
+        let count = addresses.len();
+        let middle = slots.len().min(JUMP_SLOTS);
+        let jumps = SlotPart {
+            first: 0,
+            slots: &slots[..middle],
+        };
+        let calls = SlotPart {
+            first: JUMP_SLOTS as u8,
+            slots: &slots[middle..],
+        };
+        Ok(Slots {
+            slots,
+            jumps: first_slots(alloc, of, jumps, count)?,
+            calls: first_slots(alloc, of, calls, count)?,
+            addresses,
+        })
+    }
+
+    /// The addresses, once the slots aren't needed any more.
+    pub fn into_addresses(self) -> Vec<u32>
+        ensures { result.items ≡ self.entry.addresses.items }
+    {
+        self.addresses
+    }
+}
