@@ -1,8 +1,8 @@
 -- Bytes of words, of padding and of objects: how many there are, and that they are bytes.
-use Rattle.std.proofs.Common.{◌≡◌, ℕ, zero, suc, ◌+◌, ◌*◌, ◌/◌, ◌%◌, ◌<◌, ◌≤◌, List, [], ◌∷◌, ◌++◌, length, Bool, true, false, cond, eqb, refl, sym, ◌∙◌, arith, get_or, length-append, take, drop}
+use Rattle.std.proofs.Common.{◌≡◌, ℕ, zero, suc, ◌+◌, ◌*◌, ◌/◌, ◌%◌, ◌<◌, ◌≤◌, List, [], ◌∷◌, ◌++◌, length, Bool, true, false, cond, eqb, refl, sym, ap, ◌∙◌, arith, get_or, length-append, take, drop}
 use Rattle.std.specs.Prelude.{replicate}
 use Rattle.std.proofs.lemmas.Bool.{eqb-false, eqb-true}
-use Rattle.std.proofs.lemmas.List.{length-drop, length-take-le}
+use Rattle.std.proofs.lemmas.List.{drop-append-le, length-drop, length-take-le, take-append-le}
 use Rattle.zc_base.specs.Fields.{half_bytes, word_bytes}
 use Rattle.zc_link.specs.Copied.{bytes_from}
 use Rattle.zc_link.specs.Written.{copies, nop, padding, short_nop}
@@ -72,3 +72,8 @@ drop_are (suc n) (x ∷ xs) are k = drop_are n xs (λ i. are (suc i)) k
 
 pub length-bytes_from : (bytes : List ℕ) (at n : ℕ) → at + n ≤ length bytes → length (bytes_from bytes at n) ≡ n
 length-bytes_from bytes at n within = length-take-le n (drop at bytes) (omega (arith, length-drop at bytes))
+
+-- the first bytes stay if more come after them
+pub first_bytes : (text more : List ℕ) (at n : ℕ) → at + n ≤ length text → bytes_from (text ++ more) at n ≡ bytes_from text at n
+first_bytes text more at n within =
+    ap (take n) (drop-append-le at text more (omega arith)) ∙ take-append-le n (drop at text) more (omega (arith, length-drop at text))

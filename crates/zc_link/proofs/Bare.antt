@@ -22,7 +22,7 @@ use Rattle.zc_link.specs.Image.{Image, loaded_core}
 use Rattle.zc_link.specs.Stretches.{Nops, OneAt, TwoAt}
 use Rattle.zc_link.specs.Room.{Room}
 use Rattle.zc_link.specs.DataApart.{CommitsApart, Cuts, IsCell, OnWay, Pokes, Starts, Turns, poked}
-use Rattle.zc_link.proofs.AtBase.{AtBase, KeepsText, base_fetched, cut_kept, poked_kept}
+use Rattle.zc_link.proofs.NoAccess.{KeepsText, NoAccess, base_at, cut_kept, here_fetched, poked_kept}
 use Rattle.zc_link.proofs.Singles.{below_top}
 
 -- ---- instructions
@@ -108,9 +108,9 @@ pub record OnBare (e : Image) (k : ℕ) (z : ZcState) : Type 0 where
   pub same : SameText (loaded_core e) z.core
   pub bares : Bares e k z.core.regs z.core.pc
 
--- an instruction that is no push or pop stands at pc
-abbrev bare_base : {e : Image} {k : ℕ} {z : ZcState} → OnBare e (suc k) z → AtBase e z.core
-bare_base on = record { text = on.same; instr = on.bares.0; at = on.bares.1 }
+-- an instruction without accesses stands at pc
+abbrev bare_here : {e : Image} {k : ℕ} {z : ZcState} → OnBare e (suc k) z → NoAccess e z.core
+bare_here on = record { text = on.same; here = base_at on.bares.1 }
 
 -- if only memory outside the text changes, so many are still to be committed
 bare_kept : {e : Image} {k : ℕ} {z : ZcState} (y : ZcCore) → OnBare e k z → KeepsText e z.core y → OnBare e k (record z { core = y })
@@ -143,7 +143,7 @@ module _ {p : Program} {e : Image} (room : Room p e) where
       let i = on.bares.0 in
       let at = on.bares.1 in
       let does = bare_effect i at.size z.core on.bares.2 in
-      let here = base_fetched (bare_base on) in
+      let here = here_fetched (bare_here on) in
       let is : record z { core = does.left } ≡ z' = (let both = sym (bare_turn i at.size z does.left on.going here does.commits) ∙ turn in cc) in
       subst (BareTurn k z) is (record {
         on = record {
@@ -170,12 +170,12 @@ module _ {p : Program} {e : Image} (room : Room p e) where
   module _ {From : ℕ → ZcState → Type 0} (from : (k : ℕ) (z : ZcState) → From k z → OnBare e k z) where
     on_way : {k : ℕ} {z : ZcState} → OnWay p From k z → OnBare e k z
     on_way (Starts k z is) = from k z is
-    on_way (Cuts k z c is way) = let on = on_way way in bare_kept (interrupted c z.core) on (cut_kept room c z.core (bare_base on))
+    on_way (Cuts k z c is way) = let on = on_way way in bare_kept (interrupted c z.core) on (cut_kept room c z.core (bare_here on))
     on_way (Pokes k z a b is small way) = let on = on_way way in bare_kept (poked a b z).core on (poked_kept room a b z is on.same)
     on_way (Turns k z z' way turn) = (turned k z z' (on_way way) turn).on
 
-    pub bares_base : (k : ℕ) (z : ZcState) → OnWay p From (suc k) z → AtBase e z.core
-    bares_base k z way = bare_base (on_way way)
+    pub bares_no_access : (k : ℕ) (z : ZcState) → OnWay p From (suc k) z → NoAccess e z.core
+    bares_no_access k z way = bare_here (on_way way)
 
     pub bare_apart : CommitsApart p From
     bare_apart k z z' way turn a b cell small = (turned k z z' (on_way way) turn).apart a b cell

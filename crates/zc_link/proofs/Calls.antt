@@ -29,23 +29,21 @@ use Rattle.zc_link.specs.Stretches.{CallLaid, OneAt, ReachLaid}
 use Rattle.zc_link.specs.Room.{Room}
 use Rattle.zc_link.specs.IsSimulation.{Comes}
 use Rattle.zc_link.specs.Sound.{Alike, Ready}
-use Rattle.zc_link.specs.Values.{value_in}
 use Rattle.zc_link.proofs.Addresses.{code_names, code_stands}
 use Rattle.zc_link.proofs.Commits.{AfterCuts, after_cuts, zc_turns-one}
 use Rattle.zc_link.proofs.Instrs.{IsQuiet, Moves}
-use Rattle.zc_link.proofs.Ready.{ready_forgets, ready_moved, ready_set}
+use Rattle.zc_link.proofs.Ready.{alike_forgets, ready_forgets, ready_moved, ready_set}
 use Rattle.zc_link.proofs.Singles.{FromSound, below_top, comes_after, single_comes}
-use Rattle.zc_link.proofs.Words.{undef_names, undef_stands}
 
 -- what a call changes
-abbrev call_change : ℕ → ℕ → Place → Place → Change
+abbrev pub call_change : ℕ → ℕ → Place → Place → Change
 call_change rd temp to next = record (continues to) { writes = (temp, undef_word) ∷ (rd, code_word next) ∷ [] }
 
-record Called (rd temp : ℕ) (to next : Place) (c : Change) : Type 0 where
-  some : temp ≢ 0
-  change : call_change rd temp to next ≡ c
+pub record Called (rd temp : ℕ) (to next : Place) (c : Change) : Type 0 where
+  pub some : temp ≢ 0
+  pub change : call_change rd temp to next ≡ c
 
-called : (rd temp : ℕ) (to next : Place) (c : Change) → call_to rd temp to next ≡ Goes c → Called rd temp to next c
+pub called : (rd temp : ℕ) (to next : Place) (c : Change) → call_to rd temp to next ≡ Goes c → Called rd temp to next c
 called rd temp to next c h = tested (eqb temp 0) refl h
   where
     tested : (b : Bool) → eqb temp 0 ≡ b → cond b (Stops TargetUnknown) (Goes (call_change rd temp to next)) ≡ Goes c → Called rd temp to next c
@@ -125,17 +123,7 @@ module _ {p : Program} {Named : Place → Type 0} {e : Image} {r r' : PlainState
         no_sp r.core.regs laid.rd laid.temp (p.next r.core.place) end.sp from.sound.alike.plain.count end.is
 
     between_alike : Alike p Named e forgotten between
-    between_alike =
-        let same_word = reads-set_reg_other (number_word 0) undef_word r.core.regs laid.temp undef_word 2 (λ x. not_sp (sym x)) in
-        let same : reg_in between 2 ≡ reg_in first.now 2 = reads-set_reg_other 0 0 first.now.regs laid.temp way_part 2 (λ x. not_sp (sym x)) in
-        let al = first.alike in
-        record {
-          ready = ready_moved (ready_set al.ready laid.temp way_part undef_word (omega arith) (undef_stands (value_in p e.address) way_part) (undef_names Named)) r.core.place _ _;
-          sp = ap number_of same_word ∙ al.sp ∙ ap Some (sym same);
-          low = rw same al.low;
-          high = rw same al.high;
-          below = λ a low lt. al.below a low (rw same at lt);
-        }
+    between_alike = alike_forgets laid.temp way_part between.pc between.commits not_sp (omega arith) first.alike
 
     between_pc : between.pc ≡ z.core.pc + laid.at.one.size
     between_pc = sym (below_top z.core.pc first.now.pc laid.at.one.size first.pc laid.at.one.small)

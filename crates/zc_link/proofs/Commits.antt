@@ -1,7 +1,7 @@
 -- A commit under interrupts: the state after the interrupts before it is alike with the program's, and the turn is what the
 -- instruction at pc then does.
 use Rattle.std.specs.Option.{option_map_or}
-use Rattle.std.proofs.Common.{◌≡◌, ℕ, suc, List, Ok, sym, ap, ◌∙◌, subst}
+use Rattle.std.proofs.Common.{◌≡◌, ℕ, suc, List, Ok, refl, sym, ap, ◌∙◌, subst}
 use Rattle.std.specs.Prelude.{All}
 use Rattle.zc_base.specs.declared.place.Place.{Place}
 use Rattle.interrupt_plan.specs.Plan.{Interrupt, IsInterrupt}
@@ -22,7 +22,7 @@ use Rattle.zc_link.specs.Image.{Image, loaded_core}
 use Rattle.zc_link.specs.Stretches.{OneAt}
 use Rattle.zc_link.specs.Room.{Room}
 use Rattle.zc_link.specs.Sound.{Alike}
-use Rattle.zc_link.proofs.Cuts.{Spoiled, all_cuts_kept, all_dirtied_spoiled, cut-base, spoiled_below, stack_within, unspoiled}
+use Rattle.zc_link.proofs.Cuts.{Spoiled, all_cuts_kept, all_dirtied_spoiled, cut-none, spoiled_below, stack_within, unspoiled}
 
 -- the state after the interrupts before the commit of this instruction, and what the turn then is
 pub record AfterCuts (p : Program) (Named : Place → Type 0) (e : Image) (i : Instr) (size : ℕ) (s : PlainCore) (cuts : List Interrupt) (z : ZcState) : Type 0 where
@@ -59,7 +59,7 @@ after_cuts {p} {Named} {e} {s} {z} {i} room cuts are at al = record {
     spoiled : IsSpoiled (all_interrupted cuts z.core)
     spoiled = all_cuts_kept IsSpoiled
         (λ c y is k.
-        subst IsSpoiled (sym (cut-base c y i at.size (fetched y k)))
+        subst IsSpoiled (sym (cut-none c y (Base i) at.size (λ sp. refl) (fetched y k)))
         (all_dirtied_spoiled p.map.stack_low z.core (λ a h. (stack_within room z.core al.extents a h).0) c.dirt y is k))
         cuts z.core are (unspoiled p.map.stack_low (reg_in z.core 2) z.core al.core.bytes)
 

@@ -6,14 +6,14 @@ use Rattle.std.proofs.lemmas.Bool.{and_parts, cases_Bool, cases_lt, cond_both, l
 use Rattle.std.proofs.lemmas.List.Elements.{All-head, All-tail}
 use Rattle.zc_base.specs.declared.place.Place.{Place}
 use Rattle.interrupt_plan.specs.Plan.{Interrupt, IsInterrupt}
-use Rattle.rv_decode.specs.declared.instr.Instr.{Instr}
 use Rattle.rv_decode.specs.Memory.{cell_at, changed, extents_of, is_stack, lies_in, written}
 use Rattle.rv_decode.specs.State.{ZcCore, byte_in, reg_in}
 use Rattle.rv_decode.proofs.MemoryLaws.{cell-changed, cell-uncovered, cell_kept, extents-changed, is_covered, untouched}
 use Rattle.sym_machine.specs.declared.word.SymByte.TheVariants.{Undef}
 use Rattle.sym_machine.specs.Program.{Program}
 use Rattle.sym_machine.specs.State.{PlainCore, cell_of}
-use Rattle.zc_decode.specs.declared.short.Short.TheVariants.{Base}
+use Rattle.zc_decode.specs.Accesses.{accesses_of}
+use Rattle.zc_decode.specs.declared.short.Short.{Short}
 use Rattle.zc_machine.specs.Fetch.{Found, fetched_at}
 use Rattle.zc_machine.specs.Interrupt.{all_dirtied, all_interrupted, dirtied, done_all, done_of, interrupted, is_free}
 use Rattle.zc_machine.specs.Load.{first_core}
@@ -23,13 +23,21 @@ use Rattle.zc_link.specs.Room.{Room}
 use Rattle.zc_link.specs.Sound.{Alike}
 
 -- an instruction without accesses has none that an interrupt could do
-done-none : (i : Instr) (done : List ℕ) (z : ZcCore) → done_all (Base i) [] done z ≡ z
-done-none i [] z = refl
-done-none i (j ∷ js) z = done-none i js z
+pub done-none :
+    (s : Short) (size : ℕ) → ((sp : ℕ) → accesses_of s sp ≡ []) → (done : List ℕ) (z : ZcCore)
+    → done_of (Found s size) done z ≡ z
+done-none s size none done z = ap (λ xs. done_all s xs done z) (none (reg_in z 2)) ∙ stays done
+  where
+    stays : (js : List ℕ) → done_all s [] js z ≡ z
+    stays [] = refl
+    stays (j ∷ js) = stays js
 
--- where no push or pop stands at pc, an interrupt only writes its bytes
-pub cut-base : (c : Interrupt) (z : ZcCore) (i : Instr) (size : ℕ) → fetched_at z z.pc ≡ Found (Base i) size → interrupted c z ≡ all_dirtied c.dirt z
-cut-base c z i size here = ap (λ f. all_dirtied c.dirt (done_of f c.done z)) here ∙ ap (all_dirtied c.dirt) (done-none i c.done z)
+-- where one stands at pc, an interrupt only writes its bytes
+pub cut-none :
+    (c : Interrupt) (z : ZcCore) (s : Short) (size : ℕ) → ((sp : ℕ) → accesses_of s sp ≡ []) → fetched_at z z.pc ≡ Found s size
+    → interrupted c z ≡ all_dirtied c.dirt z
+cut-none c z s size none here =
+    ap (λ f. all_dirtied c.dirt (done_of f c.done z)) here ∙ ap (all_dirtied c.dirt) (done-none s size none c.done z)
 
 -- z is y, but for bytes from low to below n
 pub record Spoiled (low n : ℕ) (y z : ZcCore) : Type 0 where

@@ -34,7 +34,7 @@ use Rattle.zc_link.specs.Image.{Image, loaded_core}
 use Rattle.zc_link.specs.Room.{Room}
 use Rattle.zc_link.specs.Sound.{Alike}
 use Rattle.zc_link.specs.Stretches.{OneAt}
-use Rattle.zc_link.proofs.Cuts.{all_cuts_kept, stack_within}
+use Rattle.zc_link.proofs.Cuts.{all_cuts_kept, done-none, stack_within}
 use Rattle.zc_link.proofs.Slots.{FrameFacts, IsOneOf}
 
 -- z is y, but for bytes from low to below n, and for the registers of these slots
@@ -340,10 +340,6 @@ module _ {p : Program} {e : Image} (room : Room p e) where
       }
 
 -- an instruction without accesses
-none_done : (s : Short) (js : List ℕ) (z : ZcCore) → done_all s [] js z ≡ z
-none_done s [] z = refl
-none_done s (j ∷ js) z = none_done s js z
-
 pub without_accesses :
     (K : ZcCore → Type 0) (s : Short) (size : ℕ) → ((sp : ℕ) → accesses_of s sp ≡ []) → (js : List ℕ) (z : ZcCore) → K z → K (done_of (Found s size) js z)
-without_accesses K s size none js z k = subst K (sym (ap (λ xs. done_all s xs js z) (none (reg_in z 2)) ∙ none_done s js z)) k
+without_accesses K s size none js z k = subst K (sym (done-none s size none js z)) k

@@ -36,7 +36,7 @@ module _ (list frame : ℕ) (order : List Slot) (is : IsFrame list frame order) 
       (and_from (leb (base_of list) adjust) _ (le-leb (base_of list) adjust (omega (arith, base, whole, least)))
       (and_from (eqb (more % 16) 0) _ (eq-eqb (more % 16) 0 (omega (arith, base, whole, least))) (lt-ltb more 64 (omega (arith, base, whole, least))))))
 
-some_when : (b : Bool) (x : ℕ) → b ≡ true → is_some (cond b (Some x) None) ≡ true
+pub some_when : (b : Bool) (x : ℕ) → b ≡ true → is_some (cond b (Some x) None) ≡ true
 some_when true x is = refl
 some_when false x is = absurd cc
 

@@ -32,7 +32,7 @@ use Rattle.zc_link.specs.Groups.{Ending, GoesOn, Returns, Slot, ZeroBeforeRaise,
 use Rattle.zc_link.specs.Image.{Image, loaded_core}
 use Rattle.zc_link.specs.Room.{Room}
 use Rattle.zc_link.specs.Stretches.{OneAt}
-use Rattle.zc_link.proofs.AtBase.{poked_kept}
+use Rattle.zc_link.proofs.NoAccess.{poked_kept}
 use Rattle.zc_link.proofs.Cuts.{stack_within}
 use Rattle.zc_link.proofs.Effects.{commits_same}
 use Rattle.zc_link.proofs.FrameCuts.{AvoidSp, IsReady, SpoiledSlots, interrupt_kept, itself, pop_accesses, pop_kept, push_kept, text_kept, without_accesses}

@@ -5,41 +5,33 @@ use Rattle.std.specs.List.{flat_map}
 use Rattle.std.specs.Option.{option_map, option_to_list}
 use Rattle.std.proofs.Math.Seq.{drop-append_seam, take-length}
 use Rattle.std.proofs.lemmas.Bool.{cases_lt}
-use Rattle.std.proofs.lemmas.List.{append-nil, drop-append-le, get_or-append_right, get_or-replicate, get_or_append_left, length-drop, length-replicate, take-append-le}
+use Rattle.std.proofs.lemmas.List.{append-nil, get_or-append_right, get_or-replicate, get_or_append_left, length-replicate, take-append-le}
 use Rattle.std.proofs.lemmas.List.Concat.{flat_map-append}
 use Rattle.std.proofs.lemmas.List.Elements.{All-append, All-cons, All-nil, All-weaker}
 use Rattle.zc_base.specs.declared.place.Place.{Place}
 use Rattle.elf32_read.specs.Parts.{SectionParts}
 use Rattle.psabi_sym.specs.Inputs.{ParsedInputs, parsed}
 use Rattle.block_cut.specs.Items.{code_at, item_at}
-use Rattle.shrink_layout.specs.Units.{CodeUnit}
+use Rattle.shrink_layout.specs.Units.{CodeUnit, front_size}
 use Rattle.zc_link.specs.Copied.{bytes_from}
+use Rattle.zc_link.specs.Front.{IsFront}
 use Rattle.zc_link.specs.ImageParts.{with_address}
 use Rattle.zc_link.specs.Standing.{WrittenHere}
 use Rattle.zc_link.specs.TextLayout.{TextLayout, behind, front_end}
-use Rattle.zc_link.specs.Written.{GapsAreZero, HoldsPlace, HoldsUnit, IsSoFar, UnitWritten}
-use Rattle.zc_link.proofs.Adds.{bytes_append, zeros_are}
+use Rattle.zc_link.specs.Written.{GapsAreZero, HoldsFront, HoldsPlace, HoldsUnit, IsSoFar, UnitWritten}
+use Rattle.zc_link.proofs.Adds.{bytes_append, first_bytes, zeros_are}
+use Rattle.zc_link.proofs.FrontLaws.{front_within}
 
 -- ---- bytes
 
--- those of the front stay if more come after them
-front_stays : (text more : List ℕ) (at n : ℕ) → at + n ≤ length text → bytes_from (text ++ more) at n ≡ bytes_from text at n
-front_stays text more at n within =
-    ap (take n) (drop-append-le at text more (omega arith)) ∙ take-append-le n (drop at text) more (omega (arith, length-drop at text))
-
--- and what is added stands after them
+-- what is added stands after what was there
 added_there : (text bytes : List ℕ) (at n : ℕ) → at ≡ length text → n ≡ length bytes → bytes_from (text ++ bytes) at n ≡ bytes
 added_there text bytes at n is_at is_n =
     (λ j. take (is_n j) (drop (is_at j) (text ++ bytes))) ∙ ap (take (length bytes)) (drop-append_seam text bytes) ∙ take-length bytes
 
--- so does what a text begins with
-begins_still : (front text more : List ℕ) → take (length front) text ≡ front → take (length front) (text ++ more) ≡ front
-begins_still [] text more is = refl
-begins_still (x ∷ front) [] more is = absurd cc
-begins_still (x ∷ front) (y ∷ text) more is =
-    let first : y ≡ x = cc in
-    let rest : take (length front) text ≡ front = cc in
-    (λ j. first j ∷ begins_still front text more rest j)
+-- what a text begins with stays
+begins_still : (L : TextLayout) (text more : List ℕ) → HoldsFront L text → HoldsFront L (text ++ more)
+begins_still L text more is = subst (IsFront L) (sym (take-append-le (front_size L.slots) text more (front_within L text is))) is
 
 module _ (L : TextLayout) where
   abbrev p : ParsedInputs
@@ -62,7 +54,7 @@ module _ (L : TextLayout) where
         section = h.section;
         here = h.here;
         written = subst (UnitWritten L.address (item_at p) (bytes_from h.section.bytes e.0.offset) e.1 h.size u)
-            (sym (front_stays text more (e.1 - start) h.size (omega (arith, h.low, h.within)))) h.written;
+            (sym (first_bytes text more (e.1 - start) h.size (omega (arith, h.low, h.within)))) h.written;
       }
 
   all_more : (text more : List ℕ) (places : List (Place × ℕ)) → All (HoldsPlace L text) places → All (HoldsPlace L (text ++ more)) places
@@ -131,7 +123,7 @@ module _ (L : TextLayout) where
       record {
         listed = listed_more targets q a places before.listed address;
         ends = refl;
-        front = begins_still L.front text bytes before.front;
+        front = begins_still L text bytes before.front;
         holds = All-append (HoldsPlace L (text ++ bytes)) places ((q, a) ∷ []) (all_more text bytes places before.holds)
             (All-cons (HoldsPlace L (text ++ bytes)) (q, a) [] (unit_held s q v n text bytes at is next low adds) (All-nil (HoldsPlace L (text ++ bytes))));
         gaps = unit_gaps q v text bytes is address (next ∙ ap (λ m. Some (start + length text + m)) (sym adds.long)) before.gaps;
@@ -174,7 +166,7 @@ module _ (L : TextLayout) where
   so_far_gap targets end n text places before = record {
     listed = before.listed;
     ends = omega (arith, before.ends, length-append text (replicate n 0), length-replicate {A = ℕ} n 0);
-    front = begins_still L.front text (replicate n 0) before.front;
+    front = begins_still L text (replicate n 0) before.front;
     holds = all_more text (replicate n 0) places before.holds;
     gaps = zero_gaps text n before.gaps;
     octets = bytes_append text (replicate n 0) before.octets (zeros_are n);

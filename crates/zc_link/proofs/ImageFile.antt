@@ -1,8 +1,9 @@
 -- The file of a layout's image: it reads back as the image of the text that was laid and the data, which is laid as a layout owes; so
 -- it does what the objects' program does. And what it copies is the objects'.
-use Rattle.std.proofs.Common.{◌≡◌, ℕ, ◌+◌, ◌-◌, ◌<◌, ◌≤◌, List, [], ◌∷◌, length, filter, replicate, Option, Some, None, true, zero, suc, refl, sym, ap, ◌∙◌, subst, arith, get_or, length-append, cond}
+use Rattle.std.proofs.Common.{◌≡◌, ℕ, ◌+◌, ◌-◌, ◌%◌, ◌<◌, ◌≤◌, List, [], ◌∷◌, length, filter, replicate, Option, Some, None, true, zero, suc, refl, sym, ap, ◌∙◌, subst, arith, get_or, length-append, cond}
 use Rattle.std.specs.Prelude.{All}
 use Rattle.std.proofs.lemmas.List.{length-replicate}
+use Rattle.std.proofs.lemmas.Option.{none-some}
 use Rattle.zc_base.specs.declared.place.Place.{Place}
 use Rattle.elf32_read.specs.Image.{are_known_flags}
 use Rattle.elf32_read.specs.Parts.{SectionParts}
@@ -22,16 +23,17 @@ use Rattle.rv_decode.specs.State.{byte_in}
 use Rattle.block_cut.specs.Items.{code_at, entry_of, item_at}
 use Rattle.block_cut.specs.declared.item.Item.{Item}
 use Rattle.block_cut.specs.declared.item.Item.TheVariants.{Op, Hi, Lo, PcHi, PcLo, Branch, Jump, Call, Align, Word, Raw, RawPair}
-use Rattle.shrink_layout.specs.Units.{CodeUnit, OneGroup, OneItem}
+use Rattle.shrink_layout.specs.Units.{CodeUnit, OneGroup, OneItem, OneSite, jump_of}
 use Rattle.zc_link.proofs.GroupItems.{group_op}
 use Rattle.sym_machine.specs.Objects.{data_bytes, program_of}
 use Rattle.sym_machine.specs.Program.{Program, start_memory}
 use Rattle.sym_machine.specs.declared.word.SymByte.TheVariants.{Undef}
 use Rattle.sym_machine.specs.declared.word.Value.{Value}
 use Rattle.zc_link.specs.Copied.{Copied, ItemCopied, bytes_from}
+use Rattle.zc_link.specs.Front.{image_entry, start_address}
 use Rattle.zc_link.specs.Image.{Image, image_in, loaded_core}
 use Rattle.zc_link.specs.ImageParts.{image_data, listed_places, parts_of}
-use Rattle.zc_link.specs.Laid.{AtEntry, Laid}
+use Rattle.zc_link.specs.Laid.{AtEntry, Begins, BehindStub, Laid, StubLaid}
 use Rattle.zc_link.specs.LaidOut.{HasForm, IsLaidOut, LiesAt, text_end}
 use Rattle.zc_link.specs.Links.{IsImageOf, Simulates, TextEndsAt}
 use Rattle.zc_link.specs.Places.{listed_address}
@@ -40,6 +42,7 @@ use Rattle.zc_link.specs.Room.{Room}
 use Rattle.zc_link.specs.Sound.{IsNamed, NamesByte}
 use Rattle.zc_link.specs.Standing.{IsReady}
 use Rattle.zc_link.specs.Stands.{ByteStands}
+use Rattle.zc_link.specs.Stretches.{linked_by}
 use Rattle.zc_link.specs.TextLayout.{TextLayout, behind, stretch_in}
 use Rattle.zc_link.specs.Values.{target_value, value_in}
 use Rattle.zc_link.specs.Written.{HoldsPlace, HoldsUnit, IsTextOf, IsWritten}
@@ -47,9 +50,11 @@ use Rattle.zc_link.proofs.ImageMemory.{AreLaidOut, image_of}
 use Rattle.zc_link.proofs.Adds.{AreBytes}
 use Rattle.zc_link.proofs.ImageData.{AreFine, data_fine, length-image_data}
 use Rattle.zc_link.proofs.Faultless.{all_none}
+use Rattle.zc_link.proofs.FrontLaws.{front_within, size_some, starts_at_stub, starts_there}
 use Rattle.zc_link.proofs.LaidLaws.{unit_there}
 use Rattle.zc_link.proofs.StretchesLaid.{ShowsLayout, distinct, each, even}
 use Rattle.zc_link.proofs.SizedPieces.{few, some}
+use Rattle.zc_link.proofs.TablesLaid.{stub_laid}
 use Rattle.zc_link.proofs.Lookup.{found_holds, listed_placed, lookup}
 use Rattle.zc_link.proofs.ListedPlaces.{are_inside, ascends, entries, places_few}
 use Rattle.zc_link.proofs.ProgramLeads.{leads_faultless}
@@ -79,7 +84,29 @@ copied_item A B items own bytes a n (Word t) same form w = (w.value, ap (λ f. t
 copied_item A B items own bytes a n (Raw word) same form w = ap bytes (sym form) ∙ w
 copied_item A B items own bytes a n (RawPair first second) same form w = ap bytes (sym form) ∙ w
 
+-- so are jumps and calls, of which nothing is copied
+jump_copied :
+    (B : Place → Option ℕ) (own bytes : ℕ → List ℕ) (item : Item) (rd : ℕ) (to : Place) → jump_of item ≡ Some (rd, to) → ItemCopied B own bytes item
+jump_copied B own bytes (Op i) rd to is = tt
+jump_copied B own bytes (Hi i t) rd to is = tt
+jump_copied B own bytes (Lo i t) rd to is = tt
+jump_copied B own bytes (PcHi i t) rd to is = tt
+jump_copied B own bytes (PcLo i from) rd to is = tt
+jump_copied B own bytes (Branch op first second at) rd to is = tt
+jump_copied B own bytes (Jump r at) rd to is = tt
+jump_copied B own bytes (Call r temp at) rd to is = tt
+jump_copied B own bytes (Align k) rd to is = tt
+jump_copied B own bytes (Word t) rd to is = absurd (none-some (rd, to) is)
+jump_copied B own bytes (Raw word) rd to is = absurd (none-some (rd, to) is)
+jump_copied B own bytes (RawPair first second) rd to is = absurd (none-some (rd, to) is)
+
 -- ---- the image
+
+-- an address of this text, and even
+record IsEntryIn (start size a : ℕ) : Type 0 where
+  pub even : a % 2 ≡ 0
+  pub low : start ≤ a
+  pub high : a ≤ start + size
 
 -- addresses of places alone
 code_value : (Place → Option ℕ) → Value → Option ℕ
@@ -132,7 +159,7 @@ module _ (L : TextLayout) (ready : IsReady L.inputs) (lies : IsLaidOut L) (flags
   ends = laid.ends
 
   -- so it is short
-  short : length text ≤ 0x8_0000
+  short : length text ≤ 0x9_0000
   short = omega (arith, ends, lies.short)
 
   -- data are short too
@@ -171,7 +198,7 @@ module _ (L : TextLayout) (ready : IsReady L.inputs) (lies : IsLaidOut L) (flags
   -- it is of the objects' program
   pub shows : ShowsLayout L program e
   unfolding program_of
-  shows = record { item = refl; next = refl; map = refl; listed = listed_are }
+  shows = record { item = refl; next = refl; map = refl; listed = listed_are; entry = refl }
 
   -- ---- memory
 
@@ -224,16 +251,50 @@ module _ (L : TextLayout) (ready : IsReady L.inputs) (lies : IsLaidOut L) (flags
         distinct = distinct L map lies program parts out shows;
       }
 
+  -- the image starts where the program does, or at the stub
+  begins : Begins program e
+  unfolding program_of
+  begins = by (length L.slots) refl
+    where
+      by : (n : ℕ) → length L.slots ≡ n → Begins program e
+      by zero none = AtEntry ((λ j. listed_are j (entry_of p3)) ∙ lies.start ∙ ap Some (sym (starts_there L none)))
+      by (suc n) some =
+          let any : 0 < length L.slots = omega (arith, some) in
+          BehindStub (subst (StubLaid program e) (sym (starts_at_stub L any)) (stub_laid L program parts out refl laid.front any lies listed_are refl))
+
+  -- that is at an even address of the text
+  entry_is : IsEntryIn inputs.map.text (length text) (image_entry L)
+  entry_is = by (length L.slots) refl
+    where
+      by : (n : ℕ) → length L.slots ≡ n → IsEntryIn inputs.map.text (length text) (image_entry L)
+      by zero none =
+          let is = starts_there L none in
+          let start = start_address L in
+          let even = lies.even (entry_of p3) start lies.start in
+          let low = lies.low (entry_of p3) start lies.start in
+          let high = lies.high (entry_of p3) start lies.start in
+          record { even = omega (arith, is, even); low = omega (arith, is, low); high = omega (arith, is, high, ends) }
+      by (suc n) some =
+          let any : 0 < length L.slots = omega (arith, some) in
+          let is = starts_at_stub L any in
+          let within = front_within L text laid.front in
+          let page = ready.is_map.text_page in
+          record {
+            even = omega (arith, is, page);
+            low = omega (arith, is);
+            high = omega (arith, is, within, size_some L.slots any);
+          }
+
   -- all of it is laid
   laid_out : Laid program (IsNamed p3) e (stretch_in L)
   unfolding program_of
   laid_out = record {
     room = rooms;
     leads = leads_faultless inputs ready.faultless;
-    begins = AtEntry ((λ j. listed_are j (entry_of p3)) ∙ lies.entry);
+    begins = begins;
     some = some L lies;
     few = few L lies program;
-    each = each L ready.is_map lies program parts out shows none holds;
+    each = each L ready.is_map lies program parts out shows none laid.front holds;
     first = λ a m. first a;
     names = λ a m. names a;
     bytes = memory.bytes program parts out;
@@ -265,9 +326,9 @@ module _ (L : TextLayout) (ready : IsReady L.inputs) (lies : IsLaidOut L) (flags
         flags = known_flags flags one;
         text = omega (arith, short, map.code);
         data_memory = memory_size;
-        entry_even = omega (arith, lies.even (entry_of p3) L.entry lies.entry);
-        entry_low = omega (arith, lies.low (entry_of p3) L.entry lies.entry);
-        entry_high = omega (arith, lies.high (entry_of p3) L.entry lies.entry, ends);
+        entry_even = entry_is.even;
+        entry_low = entry_is.low;
+        entry_high = entry_is.high;
         entries = entries L none map lies (listed_places L) placed;
         ascending = ascends L none map lies;
         inside = are_inside L none map lies (listed_places L) placed;
@@ -337,6 +398,10 @@ module _ (L : TextLayout) (ready : IsReady L.inputs) (lies : IsLaidOut L) (flags
           let first = group_op inputs none q g form.is in
           let one : Op first.0 ≡ item = cc (sym first.1 ∙ is) in
           subst (ItemCopied (listed_address (place_list (image_bytes parts))) (bytes_from s.bytes q.offset) (bytes_from text (a - inputs.map.text))) one tt
+      of q a s item (OneSite n) at is form h =
+          let site = form.is in
+          jump_copied (listed_address (place_list (image_bytes parts))) (bytes_from s.bytes q.offset) (bytes_from text (a - inputs.map.text)) item (linked_by n) site.to
+          (let one : site.item ≡ item = cc (sym site.is ∙ is) in ap jump_of (sym one) ∙ site.goes)
 
   -- the file is one of the layout's image
   pub is_image : (elf : List ℕ) → elf ≡ image_bytes parts → IsImageOf L flags (text_end L) elf

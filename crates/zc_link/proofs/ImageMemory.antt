@@ -33,7 +33,7 @@ pub record AreLaidOut (p : Program) (parts : Parts) : Type 0 where
   pub is_map : IsMap p.map
   pub text_at : parts.text_at ≡ p.map.text
   pub data_at : parts.data_at ≡ p.map.data_low
-  pub short : length parts.text ≤ 0x8_0000
+  pub short : length parts.text ≤ 0x9_0000
   pub size : length p.bytes ≡ length parts.data_bytes + parts.zero
   pub room : length parts.data_bytes + parts.zero ≤ 0x40_0000
   pub text_are : AreBytes parts.text

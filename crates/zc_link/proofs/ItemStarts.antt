@@ -1,8 +1,11 @@
--- What is written where an item starts: the item by itself, up to the next place (`alone_here`), or its group, up to the place behind that
--- (`group_here`).
+-- What is written where an item starts: the item by itself, up to the next place (`alone_here`), its group, up to the place behind that
+-- (`group_here`), or a jump or call through the table (`site_here`).
 use Rattle.std.proofs.Common.{◌≡◌, ℕ, ◌+◌, ◌-◌, ◌<◌, ◌^◌, inl, List, length, Some, None, true, false, refl, sym, ap, ◌∙◌, subst, arith}
 use Rattle.std.specs.Prelude.{slice_index}
-use Rattle.std.specs.Option.{option_map_or}
+use Rattle.std.specs.Option.{is_some, option_map_or}
+use Rattle.std.proofs.lemmas.Bool.{lt-ltb}
+use Rattle.std.proofs.lemmas.Option.{slice_get_within}
+use Rattle.zc_base.specs.Fields.{half_bytes}
 use Rattle.zc_base.specs.declared.place.Place.{Place}
 use Rattle.psabi_sym.specs.Faults.{gather_fault}
 use Rattle.psabi_sym.specs.Inputs.{ParsedInputs, parsed}
@@ -15,11 +18,17 @@ use Rattle.frame_match.specs.declared.group.Group.{Group}
 use Rattle.frame_match.specs.Invariants.Marks.{HasItem}
 use Rattle.shrink_layout.specs.Invariants.Numbers.{HasPlace}
 use Rattle.shrink_layout.specs.Pieces.{group_size}
-use Rattle.shrink_layout.specs.Units.{OneGroup, OneItem}
+use Rattle.shrink_layout.specs.Units.{OneGroup, OneItem, OneSite}
+use Rattle.zc_decode.specs.declared.short.Short.TheVariants.{TableJump}
+use Rattle.zc_encode.specs.Halves.{encoded16}
+use Rattle.zc_encode.proofs.EncodingLaws.{encoding-table}
 use Rattle.zc_link.specs.LaidOut.{IsLaidOut}
 use Rattle.zc_link.specs.Standing.{IsReady, StandsHere, StartsHere, UnitHere, WrittenHere}
 use Rattle.zc_link.specs.TextLayout.{TextLayout, behind}
-use Rattle.zc_link.specs.Written.{IsGroupWritten}
+use Rattle.zc_link.specs.Written.{IsGroupWritten, SpellsHalf}
+use Rattle.zc_link.proofs.Adds.{half_are}
+use Rattle.zc_link.proofs.GroupBytes.{half_spells}
+use Rattle.zc_link.proofs.GroupHalves.{some_when}
 use Rattle.zc_link.proofs.Walk.{GivesAddress, IsTarget, TakesHere, after, after_index, after_target, has_place, number_few, number_there, start_there, takes_here, there}
 
 module _
@@ -117,4 +126,34 @@ module _ (L : TextLayout) (laid : IsLaidOut L) (code : List ℕ) (q : Place) (g 
         address = listed;
         next = lies.next ∙ ap Some far;
         written = record { long = refl; written = subst (λ m. IsGroupWritten m g bytes) (sym long) written; octets = octets };
+      }
+
+-- ---- a jump or call through the table
+
+-- its number is small, so there is a halfword, which spells it
+pub site_some : (slot : ℕ) → slot < 256 → is_some (encoded16 (TableJump slot)) ≡ true
+site_some slot few = some_when _ _ (lt-ltb slot 256 few)
+
+pub site_spells : (slot half : ℕ) → encoded16 (TableJump slot) ≡ Some half → SpellsHalf (half_bytes half) (TableJump slot)
+site_spells slot half is = half_spells (TableJump slot) (Some half) half (tt, ap is_some is) (sym is) (encoding-table slot (Some half) is) refl
+
+module _
+    (L : TextLayout) (laid : IsLaidOut L) (code : List ℕ) (q : Place) (slot : ℕ) (unit : L.unit q ≡ Some (OneSite slot)) (a : ℕ)
+    (listed : L.address q ≡ Some a) where
+  pub site_few : slot < 256
+  site_few =
+      let site = (laid.each q a (OneSite slot) unit listed).is in
+      let few = laid.few in
+      omega (arith, few, slice_get_within L.slots slot (Some site.to) site.leads)
+
+  pub site_here : (half : ℕ) → encoded16 (TableJump slot) ≡ Some half → UnitHere L code q a (half_bytes half)
+  site_here half is =
+      let lies = laid.each q a (OneSite slot) unit listed in
+      let far : a + lies.size ≡ a + 2 = omega (arith, lies.form) in
+      record {
+        unit = OneSite slot;
+        is = unit;
+        address = listed;
+        next = lies.next ∙ ap Some far;
+        written = record { long = refl; written = site_spells slot half is; octets = half_are half };
       }

@@ -7,9 +7,9 @@ use Rattle.psabi_sym.specs.Inputs.{ParsedInputs, parsed}
 use Rattle.block_cut.specs.Items.{after_items, is_end_at, is_start_at, is_target_at, item_at, next_at}
 use Rattle.block_cut.specs.declared.item.Item.{Item}
 use Rattle.frame_match.specs.declared.group.Group.{Group}
-use Rattle.shrink_layout.specs.Units.{CodeUnit, OneGroup, OneItem, unit_items}
+use Rattle.shrink_layout.specs.Units.{OneGroup, OneItem, OneSite, unit_items}
 use Rattle.shrink_layout.proofs.PlaceAddressLaws.{start_some}
-use Rattle.zc_link.specs.LaidOut.{HasNoAddress, IsUnitAt}
+use Rattle.zc_link.specs.LaidOut.{HasNoAddress}
 use Rattle.zc_link.specs.TextLayout.{TextLayout, behind}
 
 -- the place behind what is written is the one after the item
@@ -27,15 +27,19 @@ pub no_group : (o : Option Item) (g : Group) → option_map OneItem o ≡ Some (
 no_group None g h = absurd cc
 no_group (Some j) g h = absurd cc
 
+-- nor a jump through a table
+pub no_site : (o : Option Item) (slot : ℕ) → option_map OneItem o ≡ Some (OneSite slot) → ⊥
+no_site None slot h = absurd cc
+no_site (Some j) slot h = absurd cc
+
 -- what is written is the item there
 pub item_unit :
-    (p : ParsedInputs) (q : Place) (u : CodeUnit) → option_map OneItem (item_at p q) ≡ Some u → IsUnitAt p q u
-item_unit p q (OneItem i) is = by (item_at p q) is
+    (p : ParsedInputs) (q : Place) (i : Item) → option_map OneItem (item_at p q) ≡ Some (OneItem i) → item_at p q ≡ Some i
+item_unit p q i is = by (item_at p q) is
   where
     by : (o : Option Item) → option_map OneItem o ≡ Some (OneItem i) → o ≡ Some i
     by None h = absurd cc
     by (Some j) h = cc
-item_unit p q (OneGroup g) is = absurd (no_group (item_at p q) g is)
 
 -- it has no place but its own
 pub single_inside : (L : TextLayout) (q : Place) (k : ℕ) → 0 < k → k < 1 → HasNoAddress L (after_items (parsed L.inputs).objects k q)

@@ -9,7 +9,7 @@ use Rattle.block_cut.specs.Items.{is_start_at, item_at, starts_on}
 use Rattle.block_cut.specs.declared.item.Item.{Item}
 use Rattle.block_cut.proofs.ItemLaws.{item_found}
 use Rattle.frame_match.specs.declared.group.Group.{Group}
-use Rattle.shrink_layout.specs.Units.{CodeUnit, OneGroup, OneItem, unit_items}
+use Rattle.shrink_layout.specs.Units.{CodeUnit, OneGroup, OneItem, OneSite, unit_items}
 use Rattle.shrink_layout.proofs.RolePlaces.{group_some}
 use Rattle.zc_link.specs.LaidOut.{IsLaidOut}
 use Rattle.zc_link.specs.TextLayout.{TextLayout}
@@ -54,3 +54,4 @@ module _ (L : TextLayout) (laid : IsLaidOut L) where
   pub unit_some : (q : Place) (u : CodeUnit) → L.unit q ≡ Some u → 1 ≤ unit_items u
   unit_some q (OneItem i) unit = omega arith
   unit_some q (OneGroup g) unit = group_items q g unit
+  unit_some q (OneSite slot) unit = omega arith

@@ -1,12 +1,11 @@
--- On both ways, from a sound pair and from the loaded image, it is known what stands at pc as long as commits are left: of a group one of
--- its instructions, and else none that is a push or a pop. A stretch of several commits that is no group has none that looks at memory,
--- and one of one commit has one that the program goes on from.
+-- On the way from a sound pair it is known what stands at pc as long as commits are left: of a group one of its
+-- instructions, and else one without accesses, so no push or pop. A stretch of several commits that is no group has none
+-- that looks at memory, and one of one commit has one that the program goes on from.
 use Rattle.std.proofs.Common.{◌≡◌, ℕ, zero, suc, ◌<◌, List, [], ◌∷◌, Option, Some, None, Ok, refl, sym, ap, ◌∙◌, subst, inr, ⊎_elim, arith}
 use Rattle.std.specs.Prelude.{◌⊎◌}
 use Rattle.std.proofs.lemmas.Bool.{cases_lt}
 use Rattle.zc_base.specs.declared.place.Place.{Place}
 use Rattle.rv_decode.specs.declared.instr.BranchOp.{BranchOp}
-use Rattle.rv_decode.specs.declared.instr.Instr.{Instr}
 use Rattle.rv_decode.specs.declared.instr.Instr.TheVariants as instr
 use Rattle.rv_decode.specs.declared.instr.Instr.TheVariants.{Jal, Jalr, Upper}
 use Rattle.rv_decode.specs.declared.instr.UpperOp.TheVariants.{Auipc}
@@ -20,39 +19,38 @@ use Rattle.sym_machine.specs.Program.{Program}
 use Rattle.sym_machine.specs.Run.{plain_turn}
 use Rattle.sym_machine.specs.State.{PlainCore, PlainState}
 use Rattle.sym_machine.proofs.RunLaws.{stepped}
-use Rattle.zc_decode.specs.declared.short.Short.TheVariants.{Base}
+use Rattle.zc_decode.specs.declared.short.Short.TheVariants.{TableJump}
 use Rattle.zc_link.specs.Image.{Image}
 use Rattle.zc_link.specs.Laid.{Laid}
-use Rattle.zc_link.specs.Pace.{AlignOf, Alone, CallOf, GroupOf, LongOf, Stretch, commits_of, pace_of, span_of}
-use Rattle.zc_link.specs.Stretches.{ItemLaid, LongLaid, OneAt, StretchLaid}
-use Rattle.zc_link.specs.DataApart.{Cuts, FromLoad, FromPair, OnWay, Pokes, Starts, Turns, all_poked, poked_plain}
+use Rattle.zc_link.specs.Pace.{AlignOf, Alone, CallOf, GroupOf, LongOf, Stretch, TableOf, commits_of, pace_of, span_of}
+use Rattle.zc_link.specs.Stretches.{ItemLaid, LongLaid, StretchLaid}
+use Rattle.zc_link.specs.DataApart.{FromPair, OnWay, all_poked, poked_plain}
 use Rattle.zc_link.specs.Sound.{Alike}
-use Rattle.zc_link.proofs.AtBase.{AtBase, one_base}
-use Rattle.zc_link.proofs.Bare.{Bares, OnBare, bares_base, nops_bare, two_bare}
+use Rattle.zc_link.proofs.Bare.{Bares, OnBare, bares_no_access, nops_bare, two_bare}
 use Rattle.zc_link.proofs.GroupFrom.{group_from}
 use Rattle.zc_link.proofs.GroupWay.{OnGroup}
 use Rattle.zc_link.proofs.Longs.{goes_over, known_taken}
-use Rattle.zc_link.proofs.Start.{no_lead}
+use Rattle.zc_link.proofs.NoAccess.{NoAccess, NoAccessAt, base_at, one_no_access}
 
 -- ---- what the program goes on from
 
 -- of an item that is one instruction, that instruction
-item_base :
+item_alone :
     (p : Program) {e : Image} (q next : Place) {a : ℕ} (s : PlainCore) {c : Change} (o : Option Item) → ItemLaid p e q a o → item_does p o s next ≡ Goes c
-    → (i : Instr) × OneAt e a (Base i)
-item_base p q next s None laid goes = absurd cc
-item_base p q next s (Some (Op i)) laid goes = (laid.laid.here, laid.laid.at)
-item_base p q next s (Some (Hi i t)) laid goes = (laid.laid.here, laid.laid.at)
-item_base p q next s (Some (Lo i t)) laid goes = (laid.laid.here, laid.laid.at)
-item_base p q next s (Some (PcHi i t)) laid goes = (laid.laid.here, laid.laid.at)
-item_base p q next s (Some (PcLo i from)) laid goes = (laid.laid.here, laid.laid.at)
-item_base p q next s (Some (Branch op first second to)) laid goes = (laid.laid.here, laid.laid.at)
-item_base p q next s (Some (Jump rd to)) laid goes = (laid.laid.here, laid.laid.at)
-item_base p q next s (Some (Call rd temp to)) laid goes = (laid.laid.here, laid.laid.at)
-item_base p q next s (Some (Align bytes)) laid goes = absurd laid
-item_base p q next s (Some (Word t)) laid goes = absurd cc
-item_base p q next s (Some (Raw word)) laid goes = absurd cc
-item_base p q next s (Some (RawPair first second)) laid goes = absurd cc
+    → NoAccessAt e a
+item_alone p q next s None laid goes = absurd cc
+item_alone p q next s (Some (Op i)) laid goes = base_at laid.laid.at
+item_alone p q next s (Some (Hi i t)) laid goes = base_at laid.laid.at
+item_alone p q next s (Some (Lo i t)) laid goes = base_at laid.laid.at
+item_alone p q next s (Some (PcHi i t)) laid goes = base_at laid.laid.at
+item_alone p q next s (Some (PcLo i from)) laid goes = base_at laid.laid.at
+item_alone p q next s (Some (Branch op first second to)) laid goes = base_at laid.laid.at
+item_alone p q next s (Some (Jump rd to)) laid goes = base_at laid.laid.at
+item_alone p q next s (Some (Call rd temp to)) laid goes = base_at laid.laid.at
+item_alone p q next s (Some (Align bytes)) laid goes = absurd laid
+item_alone p q next s (Some (Word t)) laid goes = absurd cc
+item_alone p q next s (Some (Raw word)) laid goes = absurd cc
+item_alone p q next s (Some (RawPair first second)) laid goes = absurd cc
 
 -- a stretch that is no group
 abbrev pub IsNoGroup : Stretch → Type 0
@@ -61,6 +59,7 @@ IsNoGroup (AlignOf count) = Unit {0}
 IsNoGroup CallOf = Unit {0}
 IsNoGroup (LongOf op first second) = Unit {0}
 IsNoGroup (GroupOf items commits) = ⊥
+IsNoGroup (TableOf slot) = Unit {0}
 
 -- cells of data that are written leave the program where it is
 poked_place : (cells : List (ℕ × ℕ)) (r : PlainState) → (all_poked cells r).core.place ≡ r.core.place
@@ -93,8 +92,9 @@ module _ {p : Program} {Named : Place → Type 0} {e : Image} {stretch : Place �
   stretch_bare s y (LongOf op first second) other al long more =
       ⊎_elim (λ steps. absurd (omega (arith, steps))) (λ commits. long_bare s y op first second al long commits) more
   stretch_bare s y (GroupOf items count) other al group more = absurd other
+  stretch_bare s y (TableOf slot) other al table more = ⊎_elim (λ steps. absurd (omega (arith, steps))) (λ commits. absurd (omega (arith, commits))) more
 
-  -- ---- from a sound pair
+  -- ---- the way
 
   module _ (r : PlainState) where
     abbrev From : ℕ → ZcState → Type 0
@@ -109,33 +109,32 @@ module _ {p : Program} {Named : Place → Type 0} {e : Image} {stretch : Place �
           (stretch_bare r.core z.core (stretch r.core.place) other from.sound.alike (laid.each r.core.place z.core.pc from.sound.place) more);
     }
 
-    first_base : IsNoGroup (stretch r.core.place) → (k : ℕ) (z : ZcState) → From k z → 0 < k → (i : Instr) × OneAt e z.core.pc (Base i)
-    first_base other k z from some =
+    first_at : IsNoGroup (stretch r.core.place) → (k : ℕ) (z : ZcState) → From k z → 0 < k → NoAccessAt e z.core.pc
+    first_at other k z from some =
         by (stretch r.core.place) other (laid.each r.core.place z.core.pc from.sound.place) from.steps (let same = from.commits in omega (arith, same, some))
       where
         by :
             (x : Stretch) → IsNoGroup x → StretchLaid p e r.core.place z.core.pc x → iterate (plain_turn p) (span_of x) (all_poked from.cells r) ≡ Ok from.after
-            → 0 < commits_of p r.core x → (i : Instr) × OneAt e z.core.pc (Base i)
+            → 0 < commits_of p r.core x → NoAccessAt e z.core.pc
         by Alone single item steps more =
             let r1 = all_poked from.cells r in
             let first = bind_ok (plain_turn p r1) (iterate (plain_turn p) 0) from.after steps in
             let step = stepped p r1 first.0 (poked_exit from.cells r ∙ from.sound.alike.running) first.1 in
-            item_base p r.core.place (p.next r1.core.place) r1.core (p.item r.core.place) item
+            item_alone p r.core.place (p.next r1.core.place) r1.core (p.item r.core.place) item
             (ap (λ q. item_does p (p.item q) r1.core (p.next r1.core.place)) (sym (poked_place from.cells r)) ∙ step.does)
         by (AlignOf zero) single align steps more = absurd (omega (arith, more))
-        by (AlignOf (suc count)) single align steps more = (_, align.nops.0)
-        by CallOf single call steps more = (_, call.at.one)
-        by (LongOf op first second) single long steps more = (_, long.at.one)
+        by (AlignOf (suc count)) single align steps more = base_at align.nops.0
+        by CallOf single call steps more = base_at call.at.one
+        by (LongOf op first second) single long steps more = base_at long.at.one
         by (GroupOf items commits) single group steps more = absurd single
+        by (TableOf slot) single table steps more = record { short = TableJump slot; none = λ sp. refl; at = table.at }
 
-    pub pair_base : IsNoGroup (stretch r.core.place) → (k : ℕ) (z : ZcState) → OnWay p From (suc k) z → AtBase e z.core
-    pair_base other = ⊎_elim
-        (λ more. bares_base laid.room (pair_bare other (inr more)))
-        (λ few. one_base laid.room (λ k z from. (
+    pub pair_no_access : IsNoGroup (stretch r.core.place) → (k : ℕ) (z : ZcState) → OnWay p From (suc k) z → NoAccess e z.core
+    pair_no_access other = ⊎_elim
+        (λ more. bares_no_access laid.room (pair_bare other (inr more)))
+        (λ few. one_no_access laid.room (λ k z from. (
           (let same = from.commits in omega (arith, same, few)),
-          λ some.
-              let at = first_base other k z from some in
-              record { text = record { extents = from.sound.alike.extents; text = from.sound.alike.text }; instr = at.0; at = at.1 },
+          λ some. record { text = record { extents = from.sound.alike.extents; text = from.sound.alike.text }; here = first_at other k z from some },
         )))
         (cases_lt 1 (commits_of p r.core (stretch r.core.place)))
 
@@ -146,15 +145,3 @@ module _ {p : Program} {Named : Place → Type 0} {e : Image} {stretch : Place �
         let steps = ap (λ x. iterate (plain_turn p) (span_of x) (all_poked from.cells r)) (sym is) ∙ from.steps in
         subst (λ n. OnGroup laid.room n z.core) (ap (commits_of p r.core) (sym is) ∙ sym from.commits)
         (group_from laid.room r from.after z from.cells from.sound from.are group steps)
-
-  -- ---- from the loaded image
-
-  -- no commit comes before the start
-  pub none_left : {k : ℕ} {z : ZcState} → OnWay p (FromLoad p e) k z → k ≡ 0
-  none_left (Starts k z from) = from.commits ∙ no_lead laid
-  none_left (Cuts k z c is way) = none_left way
-  none_left (Pokes k z a b is small way) = none_left way
-  none_left (Turns k z z' way turn) = absurd (omega (arith, none_left way))
-
-  pub lead_base : (k : ℕ) (z : ZcState) → OnWay p (FromLoad p e) (suc k) z → AtBase e z.core
-  lead_base k z way = absurd (omega (arith, none_left way))

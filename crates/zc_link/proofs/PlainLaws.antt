@@ -23,14 +23,14 @@ use Rattle.block_cut.proofs.StartLaws.{start_first}
 use Rattle.block_cut.proofs.WholeLaws.{code_whole}
 use Rattle.sym_machine.specs.Conditions.{is_solid}
 use Rattle.shrink_layout.specs.Halves.{fixed_instr}
-use Rattle.shrink_layout.specs.Units.{CodeUnit, OneGroup, OneItem}
+use Rattle.shrink_layout.specs.Units.{CodeUnit, OneGroup, OneItem, OneSite}
 use Rattle.zc_link.specs.LaidOut.{IsLaidOut, LiesAt, ListsLeaders, code_end_after, text_end}
 use Rattle.zc_link.specs.Pace.{bytes_between}
 use Rattle.zc_link.specs.Standing.{HasOwnSize, IsReady}
 use Rattle.zc_link.specs.TextLayout.{TextLayout, behind, plain_layout, size_in}
 use Rattle.zc_link.specs.Values.{way}
 use Rattle.zc_link.proofs.Faultless.{all_none, start_listed}
-use Rattle.zc_link.proofs.ItemUnits.{item_behind, item_unit, item_written, no_group, single_inside}
+use Rattle.zc_link.proofs.ItemUnits.{item_behind, item_unit, item_written, no_group, no_site, single_inside}
 use Rattle.zc_link.proofs.SizedPieces.{size_is}
 use Rattle.zc_link.proofs.PlainEnds as ends
 use Rattle.zc_link.proofs.PlainEnds.{code_found}
@@ -127,8 +127,9 @@ module _ (inputs : Inputs) (ready : IsReady inputs) where
       by (RawPair first second) own h next size = record { inside = single_inside L q; is = h; size = own; next = next; form = size }
 
   lies : (q : Place) (a : ℕ) (u : CodeUnit) → L.unit q ≡ Some u → A q ≡ Some a → LiesAt L q a u
-  lies q a (OneItem item) unit at = lies_item q a item (item_unit p q (OneItem item) unit) at
+  lies q a (OneItem item) unit at = lies_item q a item (item_unit p q item unit) at
   lies q a (OneGroup g) unit at = absurd (no_group (item_at p q) g unit)
+  lies q a (OneSite slot) unit at = absurd (no_site (item_at p q) slot unit)
 
   -- so in two bytes there is nothing but padding
   pub padding_alone : (q : Place) (item : Item) → item_at p q ≡ Some item → size_in L q ≡ 2 → fixed_instr item ≡ None
@@ -197,8 +198,8 @@ module _ (inputs : Inputs) (ready : IsReady inputs) where
         only = λ q some. sym (plain_listed p q) ∙ some;
         leaders = leaders;
         written = item_written p A (plain_listed p);
-        front = refl;
-        entry = start.1 ∙ ap Some (sym (ap (λ o. unwrap_or o inputs.map.text) start.1));
+        start = start.1 ∙ ap Some (sym (ap (λ o. unwrap_or o inputs.map.text) start.1));
+        few = omega arith;
         even = λ q a at. let b = bounds q a at in omega (arith, b.words);
         low = λ q a at. omega (arith, (bounds q a at).low);
         high = λ q a at. let b = bounds q a at in omega (arith, b.high, plain_end_is);

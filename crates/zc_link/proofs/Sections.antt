@@ -1,5 +1,5 @@
 -- From section to section: one that isn't code changes nothing, and one that is begins after a gap.
-use Rattle.std.proofs.Common.{◌≡◌, ℕ, ◌+◌, ◌-◌, ◌≤◌, List, [], ◌∷◌, ◌++◌, length, map, Some, Bool, true, false, cond, refl, sym, ap, ◌∙◌, subst, arith, slice_get, take}
+use Rattle.std.proofs.Common.{◌≡◌, ℕ, ◌+◌, ◌-◌, ◌≤◌, List, [], ◌∷◌, ◌++◌, length, map, Some, Bool, true, false, cond, refl, sym, ap, ◌∙◌, subst, arith, slice_get}
 use Rattle.std.specs.Prelude.{replicate}
 use Rattle.std.specs.List.{flat_map}
 use Rattle.std.specs.Option.{unwrap_or}
@@ -16,10 +16,12 @@ use Rattle.block_cut.specs.Items.{place_of, starts_in, targets_in, targets_of}
 use Rattle.block_cut.specs.Places.{code_place, code_places}
 use Rattle.block_cut.specs.declared.code_place.CodePlace.{CodePlace}
 use Rattle.block_cut.proofs.TakeLaws.{take_next}
+use Rattle.zc_link.specs.Front.{IsFront}
 use Rattle.zc_link.specs.LaidOut.{IsLaidOut, code_end_after, laid_section_end}
 use Rattle.zc_link.specs.Standing.{BeginsSection}
 use Rattle.zc_link.specs.TextLayout.{TextLayout, front_end}
 use Rattle.zc_link.specs.Written.{HoldsPlace, IsSoFar, IsTextOf}
+use Rattle.zc_link.proofs.FrontLaws.{front_held, front_long, front_octets}
 use Rattle.zc_link.proofs.Grows.{so_far_gap}
 use Rattle.zc_link.proofs.Walk.{before}
 
@@ -45,20 +47,19 @@ some_places p l own are some = by (is_code_section l.section) refl
     by true is = is
     by false is = absurd (some (ap length (are ∙ ap (λ b. cond b (map (code_place p l) (targets_in l.section)) []) is)))
 
--- before the first section the text is empty
-pub nothing_yet : (L : TextLayout) → IsLaidOut L → (text : List ℕ) (places : List (Place × ℕ)) → text ≡ [] → places ≡ [] → IsTextOf L (before L 0) text places
-nothing_yet L laid text places no_text no_places =
-    let empty : length L.front ≡ 0 = ap length laid.front in
-    subst (λ t. IsTextOf L [] t places) (sym no_text)
-    (subst (λ l. IsTextOf L [] [] l) (sym no_places)
+-- before the first section the text is what stands in front
+pub front_alone : (L : TextLayout) (text : List ℕ) (places : List (Place × ℕ)) → IsFront L text → places ≡ [] → IsTextOf L (before L 0) text places
+front_alone L text places is no_places =
+    let long = front_long L text is in
+    subst (λ l. IsTextOf L [] text l) (sym no_places)
     (record {
       listed = refl;
-      ends = omega (arith, empty);
-      front = subst (λ f. take (length f) [] ≡ f) (sym laid.front) refl;
-      holds = All-nil (HoldsPlace L []);
-      gaps = λ k past lt gap. absurd (omega (arith, lt));
-      octets = λ k. omega arith;
-    }))
+      ends = ap (λ n. L.inputs.map.text + n) long;
+      front = front_held L text is;
+      holds = All-nil (HoldsPlace L text);
+      gaps = λ k past lt gap. absurd (omega (arith, past, lt, long));
+      octets = front_octets L text is;
+    })
 
 module _ (L : TextLayout) (k : ℕ) (l : IndexedSection) (at : slice_get (all_sections (parsed L.inputs).objects) k ≡ Some l) where
   abbrev p : ParsedInputs

@@ -1,61 +1,92 @@
 -- The settled layout is a layout of the code (`settled_is_laid_out`): an item lies between its place and the next in a form that it may
 -- have there (`settled_lies`), and items with room of their own have addresses of their own, since numbers rise with places
 -- (`settled_distinct`).
-use Rattle.std.proofs.Common.{◌≡◌, ℕ, ◌+◌, ◌<◌, List, length, get_or, Bool, true, false, cond, eqb, Option, Some, None, refl, sym, ap, ◌∙◌, subst, arith, inl, inr}
-use Rattle.std.specs.Prelude.{◌&&◌, ◌||◌, slice_index}
+use Rattle.std.proofs.Common.{◌≡◌, ℕ, ◌+◌, ◌<◌, ◌≤◌, List, length, get_or, Bool, true, false, cond, eqb, Option, Some, None, refl, sym, ap, ◌∙◌, subst, arith, inl, inr}
+use Rattle.std.specs.Prelude.{◌&&◌, slice_index}
 use Rattle.std.specs.Option.{is_some, option_map_or, unwrap_or}
-use Rattle.std.proofs.lemmas.Option.{get_or_from_slice_get, same_Some, slice_get_within}
+use Rattle.std.proofs.lemmas.Option.{get_or_from_slice_get, none-some, same_Some, slice_get_within}
 use Rattle.zc_base.specs.MemMap.{IsMap}
 use Rattle.zc_base.specs.Places.{is_before}
 use Rattle.zc_base.specs.declared.place.Place.{Place}
 use Rattle.elf32_read.specs.Parts.{ObjectParts}
 use Rattle.psabi_sym.specs.Faults.{gather_fault}
 use Rattle.psabi_sym.specs.Inputs.{Inputs, parsed}
-use Rattle.psabi_sym.proofs.FaultLaws.{neither}
 use Rattle.block_cut.specs.Faults.{first_fault}
-use Rattle.block_cut.specs.Items.{after_items, is_end_at, is_start_at, item_at}
+use Rattle.block_cut.specs.Items.{after_items, is_start_at, item_at}
 use Rattle.block_cut.specs.declared.item.Item.{Item}
+use Rattle.block_cut.specs.declared.item.Item.TheVariants.{Op, Hi, Lo, PcHi, PcLo, Branch, Jump, Call, Align, Word, Raw, RawPair}
+use Rattle.block_cut.proofs.ItemLaws.{item_found}
 use Rattle.block_cut.proofs.PlaceOrder.{same_or_before}
 use Rattle.sym_machine.specs.Conditions.{is_solid}
 use Rattle.shrink_layout.specs.declared.piece.Piece.{Piece}
 use Rattle.shrink_layout.specs.declared.piece.Piece.TheVariants.{Fixed, Joined}
 use Rattle.shrink_layout.specs.Forms.{HasAlignment, IsForm, holds, target, width}
-use Rattle.shrink_layout.specs.Pieces.{group_size, instr_size, piece_number_at, piece_of, pieces_of, unit_piece}
+use Rattle.shrink_layout.specs.Pieces.{group_size, instr_size, piece_number_at, piece_of, pieces_of, slot_at, unit_at, unit_piece}
 use Rattle.shrink_layout.specs.Settled.{settled_address, settled_addresses, settled_end, settled_sizes}
 use Rattle.frame_match.specs.declared.group.Group.{Group}
 use Rattle.frame_match.specs.declared.role.Role.TheVariants.{Inside}
-use Rattle.shrink_layout.specs.Units.{CodeUnit, OneGroup, OneItem, is_listed_at, is_within, rest_instr, unit_at, unit_items}
+use Rattle.shrink_layout.specs.Units.{CodeUnit, OneGroup, OneItem, OneSite, is_within, jump_of, rest_instr, unit_items}
 use Rattle.shrink_layout.proofs.AddressLaws.{fits_at, form_at, next_address}
 use Rattle.shrink_layout.proofs.NumberLaws.{item_target, number_most, unit_there}
 use Rattle.shrink_layout.proofs.GroupAddresses.{behind_address, group_ends}
 use Rattle.shrink_layout.proofs.OrderLaws.{number_rises_past}
-use Rattle.shrink_layout.proofs.PlaceAddressLaws.{address_nowhere, start_some}
+use Rattle.shrink_layout.proofs.PlaceAddressLaws.{address_nowhere, start_some, unit_written}
 use Rattle.shrink_layout.proofs.RolePlaces.{inside_unlisted, leader_listed, listed_target}
-use Rattle.shrink_layout.proofs.UnitLaws.{found_start, role_found, start_item, unit_found, unit_group, unit_item}
+use Rattle.shrink_layout.proofs.UnitLaws.{found_start, role_found, unit_group, unit_item, unit_site}
 use Rattle.shrink_layout.proofs.PremiseLaws.{all_aligned}
+use Rattle.rv_decode.specs.declared.instr.Instr.{Instr}
 use Rattle.zc_link.specs.LaidOut.{IsLaidOut, LiesAt, ListsLeaders, text_end}
+use Rattle.zc_link.specs.Standing.{IsReady, ItemStands}
+use Rattle.zc_link.specs.Stretches.{linked_by}
 use Rattle.zc_link.specs.TextLayout.{behind, zc_layout}
 use Rattle.zc_link.proofs.Faultless.{start_listed}
-use Rattle.zc_link.proofs.GroupItems.{inside_role, start_no_end}
+use Rattle.zc_link.proofs.GroupItems.{inside_role}
 use Rattle.zc_link.proofs.ItemUnits.{single_inside}
+use Rattle.zc_link.proofs.SlotLaws.{slot_leads}
+use Rattle.zc_link.proofs.Standing.{gathered, item_stands}
 use Rattle.zc_link.proofs.SettledLawsForms.{IsNear, has_form, width_some}
 use Rattle.zc_link.proofs.SettledLawsPlaces.{address, address_rises, end_settled, forms, settled, settled_begins, settled_even, settled_few, settled_here, settled_high, settled_listed, settled_low, settled_short}
 
-module _ (inputs : Inputs) (none : gather_fault inputs ≡ None) (is_map : IsMap inputs.map) where
+-- where a jump or a call leads
+jump_listed :
+    (A : Place → Option ℕ) (items : Place → Option Item) (one two : Option Instr) (item : Item) (rd : ℕ) (to : Place) → ItemStands A items one two item
+    → jump_of item ≡ Some (rd, to) → is_some (A to) ≡ true
+jump_listed A items one two (Op i) rd to h is = absurd (none-some (rd, to) is)
+jump_listed A items one two (Hi i t) rd to h is = absurd (none-some (rd, to) is)
+jump_listed A items one two (Lo i t) rd to h is = absurd (none-some (rd, to) is)
+jump_listed A items one two (PcHi i t) rd to h is = absurd (none-some (rd, to) is)
+jump_listed A items one two (PcLo i from) rd to h is = absurd (none-some (rd, to) is)
+jump_listed A items one two (Branch op first second at) rd to h is = absurd (none-some (rd, to) is)
+jump_listed A items one two (Jump r at) rd to h is =
+    let same = same_Some (r, at) (rd, to) is in
+    ap (λ (x : ℕ × Place). is_some (A x.1)) (sym same) ∙ ap is_some h.listed
+jump_listed A items one two (Call r temp at) rd to h is =
+    let same = same_Some (r, at) (rd, to) is in
+    ap (λ (x : ℕ × Place). is_some (A x.1)) (sym same) ∙ ap is_some h.listed
+jump_listed A items one two (Align n) rd to h is = absurd (none-some (rd, to) is)
+jump_listed A items one two (Word t) rd to h is = absurd (none-some (rd, to) is)
+jump_listed A items one two (Raw word) rd to h is = absurd (none-some (rd, to) is)
+jump_listed A items one two (RawPair first second) rd to h is = absurd (none-some (rd, to) is)
+
+module _ (inputs : Inputs) (faultless : first_fault inputs ≡ None) (is_map : IsMap inputs.map) (slots : List (Option Place)) (slots_few : length slots ≤ 256) where
+  -- none stands between objects
+  abbrev none : gather_fault inputs ≡ None
+  none = gathered inputs faultless
+
   abbrev objects : List ObjectParts
   objects = (parsed inputs).objects
 
   abbrev A : Place → Option ℕ
-  A = settled_address (parsed inputs)
+  A = settled_address (parsed inputs) slots
 
   abbrev sizes : List ℕ
-  sizes = settled_sizes (parsed inputs)
+  sizes = settled_sizes (parsed inputs) slots
 
   abbrev pieces : List Piece
-  pieces = pieces_of (parsed inputs)
+  pieces = pieces_of (parsed inputs) slots
 
   abbrev at_number : ℕ → ℕ
-  at_number = address inputs none is_map
+  at_number = address inputs none is_map slots slots_few
 
   -- ---- what is written
 
@@ -68,35 +99,35 @@ module _ (inputs : Inputs) (none : gather_fault inputs ≡ None) (is_map : IsMap
         at_number (piece_number_at objects q + 1)
         ≡ at_number (piece_number_at objects q) + width (unit_piece objects (Some u)) (slice_index sizes (piece_number_at objects q)) (at_number (piece_number_at objects q))
 
-  piece_is : (q : Place) (u : CodeUnit) → unit_at (parsed inputs) q ≡ Some u → IsPiece q u
+  piece_is : (q : Place) (u : CodeUnit) → unit_at (parsed inputs) slots q ≡ Some u → IsPiece q u
   piece_is q u is =
       let n = piece_number_at objects q in
-      let got = unit_there inputs none q u is in
+      let got = unit_there inputs none slots q u is in
       let within = slice_get_within pieces n (unit_piece objects (Some u)) got in
       let there : (d : Piece) → get_or pieces n d ≡ unit_piece objects (Some u) = λ d. get_or_from_slice_get pieces n (unit_piece objects (Some u)) d got in
       record {
         within = within;
         there = there;
-        form = subst (λ p. IsForm p (slice_index sizes n)) (there (Fixed 0)) (form_at pieces sizes n (Fixed 0) within (forms inputs none is_map));
-        ends = next_address inputs.map.text pieces sizes n (Fixed 0) within (forms inputs none is_map)
+        form = subst (λ p. IsForm p (slice_index sizes n)) (there (Fixed 0)) (form_at pieces sizes n (Fixed 0) within (forms inputs none is_map slots slots_few));
+        ends = next_address inputs.map.text pieces sizes n (Fixed 0) within (forms inputs none is_map slots slots_few)
             ∙ ap (λ p. at_number n + width p (slice_index sizes n) (at_number n)) (there (Fixed 0));
       }
 
   -- a place's address is near the text's start
   near : (q : Place) (b : ℕ) → A q ≡ Some b → IsNear objects at_number inputs.map.text q b
   near q b is = record {
-    number = settled_here inputs none is_map q b is;
-    even = settled_even inputs none is_map q b is;
-    low = omega (arith, settled_low inputs none is_map q b is);
-    few = settled_few inputs none is_map q b is;
+    number = settled_here inputs none is_map slots slots_few q b is;
+    even = settled_even inputs none is_map slots slots_few q b is;
+    low = omega (arith, settled_low inputs none is_map slots slots_few q b is);
+    few = settled_few inputs none is_map slots slots_few q b is;
   }
 
   -- behind what is written lies the place so many items on
-  behind_is : (q : Place) (u : CodeUnit) → unit_at (parsed inputs) q ≡ Some u → behind (zc_layout inputs) q ≡ after_items objects (unit_items u) q
+  behind_is : (q : Place) (u : CodeUnit) → unit_at (parsed inputs) slots q ≡ Some u → behind (zc_layout inputs slots) q ≡ after_items objects (unit_items u) q
   behind_is q u is = ap (λ o. after_items objects (option_map_or unit_items o 1) q) is
 
   -- an item lies between its place and the next
-  lies : (q : Place) (a : ℕ) (item : Item) → unit_at (parsed inputs) q ≡ Some (OneItem item) → A q ≡ Some a → LiesAt (zc_layout inputs) q a (OneItem item)
+  lies : (q : Place) (a : ℕ) (item : Item) → unit_at (parsed inputs) slots q ≡ Some (OneItem item) → A q ≡ Some a → LiesAt (zc_layout inputs slots) q a (OneItem item)
   unfolding settled_addresses
   lies q a item is got =
       let own = piece_is q (OneItem item) is in
@@ -107,59 +138,72 @@ module _ (inputs : Inputs) (none : gather_fault inputs ≡ None) (is_map : IsMap
       let there = own.there (Fixed 0) in
       let fits : holds p size (at_number n) (at_number (target p)) ≡ true =
       ap (λ r. holds r size (at_number n) (at_number (target r))) (sym there)
-      ∙ fits_at inputs.map.text pieces sizes n (Fixed 0) own.within (forms inputs none is_map) (settled inputs none is_map).fits in
+      ∙ fits_at inputs.map.text pieces sizes n (Fixed 0) own.within (forms inputs none is_map slots slots_few) (settled inputs none is_map slots slots_few).fits in
       let reach : holds p size a (at_number (target p)) ≡ true = ap (λ x. holds p size x (at_number (target p))) (sym here.number) ∙ fits in
-      let aligned : HasAlignment p = subst HasAlignment there (all_aligned inputs none n (Fixed 0) own.within) in
+      let aligned : HasAlignment p = subst HasAlignment there (all_aligned inputs none slots n (Fixed 0) own.within) in
       record {
-        is = (unit_item (parsed inputs) q item is).1;
+        is = (unit_item (parsed inputs) (slot_at (parsed inputs) slots) q item is).1;
         size = width p size a;
-        next = ap A (behind_is q (OneItem item) is) ∙ behind_address inputs none q (OneItem item) is ∙ ap Some own.ends ∙ ap (λ x. Some (x + width p size x)) here.number;
+        next = ap A (behind_is q (OneItem item) is) ∙ behind_address inputs none slots q (OneItem item) is ∙ ap Some own.ends ∙ ap (λ x. Some (x + width p size x)) here.number;
         form = has_form objects A at_number inputs.map.text (omega (arith, is_map.code, is_map.data_room, is_map.top)) near a here.even here.low here.few item size
             aligned own.form reach;
-        inside = single_inside (zc_layout inputs) q;
+        inside = single_inside (zc_layout inputs slots) q;
       }
 
   -- so does a group, and the places inside it have no addresses
-  group_lies : (q : Place) (a : ℕ) (g : Group) → unit_at (parsed inputs) q ≡ Some (OneGroup g) → A q ≡ Some a → LiesAt (zc_layout inputs) q a (OneGroup g)
+  group_lies : (q : Place) (a : ℕ) (g : Group) → unit_at (parsed inputs) slots q ≡ Some (OneGroup g) → A q ≡ Some a → LiesAt (zc_layout inputs slots) q a (OneGroup g)
   group_lies q a g is got =
-      let role = unit_group (parsed inputs) q g is in
+      let role = unit_group (parsed inputs) (slot_at (parsed inputs) slots) q g is in
       record {
         is = role;
         size = group_size g;
-        next = ap A (behind_is q (OneGroup g) is) ∙ group_ends inputs none q g a is got;
+        next = ap A (behind_is q (OneGroup g) is) ∙ group_ends inputs none slots q g a is got;
         form = refl;
         inside = λ k some few.
             let r = after_items objects k q in
             let inner = inside_role inputs none q g role k some few in (
               found_start (parsed inputs) r (role_found (parsed inputs) r Inside inner),
-              address_nowhere (parsed inputs) r (inside_unlisted inputs none r (ap is_within inner)),
+              address_nowhere (parsed inputs) slots r (inside_unlisted inputs none r (ap is_within inner)),
             );
       }
 
-  settled_lies : (q : Place) (a : ℕ) (u : CodeUnit) → unit_at (parsed inputs) q ≡ Some u → A q ≡ Some a → LiesAt (zc_layout inputs) q a u
+  -- the places where a basic block begins have addresses
+  leaders : ListsLeaders (parsed inputs) A
+  leaders q target leader = settled_listed inputs none is_map slots slots_few q ∙ leader_listed inputs none q target leader
+
+  -- so does a jump or call through the table
+  site_lies : (q : Place) (a n : ℕ) → unit_at (parsed inputs) slots q ≡ Some (OneSite n) → A q ≡ Some a → LiesAt (zc_layout inputs slots) q a (OneSite n)
+  unfolding settled_addresses
+  site_lies q a n is got =
+      let own = piece_is q (OneSite n) is in
+      let here = near q a got in
+      let served = slot_leads (parsed inputs) slots q n (unit_site (parsed inputs) (slot_at (parsed inputs) slots) q n is).1 in
+      let found = item_found (parsed inputs) q served.item served.is in
+      let stands = (item_stands inputs none ready A leaders q found.section found.code served.item served.is).0 in
+      let k = piece_number_at objects q in
+      let end : at_number (k + 1) ≡ a + 2 = omega (arith, own.ends, own.form, here.number) in
+      record {
+        is = record {
+          item = served.item;
+          is = served.is;
+          to = served.to;
+          goes = served.goes;
+          leads = served.leads;
+          listed = jump_listed A (item_at (parsed inputs)) _ _ served.item (linked_by n) served.to stands served.goes;
+        };
+        size = 2;
+        next = ap A (behind_is q (OneSite n) is) ∙ behind_address inputs none slots q (OneSite n) is ∙ ap Some end;
+        form = refl;
+        inside = single_inside (zc_layout inputs slots) q;
+      }
+    where
+      ready : IsReady inputs
+      ready = record { faultless = faultless; is_map = is_map }
+
+  settled_lies : (q : Place) (a : ℕ) (u : CodeUnit) → unit_at (parsed inputs) slots q ≡ Some u → A q ≡ Some a → LiesAt (zc_layout inputs slots) q a u
   settled_lies q a (OneItem item) unit got = lies q a item unit got
   settled_lies q a (OneGroup g) unit got = group_lies q a g unit got
-
-  -- something is written where an item starts at a place with an address, and nowhere else
-  settled_written : (q : Place) → is_some (unit_at (parsed inputs) q) ≡ (is_some (A q) && is_start_at objects q)
-  unfolding is_listed_at
-  settled_written q = by (unit_at (parsed inputs) q) refl ∙ ap (λ b. b && is_start_at objects q) (sym (settled_listed inputs none is_map q))
-    where
-      no_end : (b : Bool) → is_start_at objects q ≡ b → false ≡ (is_end_at objects q && b)
-      no_end true start =
-          let item = start_item (parsed inputs) q start in
-          ap (λ b. b && true) (sym (start_no_end inputs none q item.0 item.1))
-      no_end false start = no_right (is_end_at objects q)
-        where
-          no_right : (b : Bool) → false ≡ (b && false)
-          no_right true = refl
-          no_right false = refl
-
-      by : (o : Option CodeUnit) → unit_at (parsed inputs) q ≡ o → is_some (unit_at (parsed inputs) q) ≡ ((is_some (unit_at (parsed inputs) q) || is_end_at objects q) && is_start_at objects q)
-      by None at = ap is_some at ∙ no_end (is_start_at objects q) refl ∙ ap (λ o. (is_some o || is_end_at objects q) && is_start_at objects q) (sym at)
-      by (Some u) at =
-          let start = found_start (parsed inputs) q (unit_found (parsed inputs) q u at) in
-          ap is_some at ∙ (λ j. (is_some (sym at j) || is_end_at objects q) && sym start j)
+  settled_lies q a (OneSite n) unit got = site_lies q a n unit got
 
   -- ---- addresses of their own
 
@@ -168,7 +212,7 @@ module _ (inputs : Inputs) (none : gather_fault inputs ≡ None) (is_map : IsMap
     pub item : Item
     pub is : item_at (parsed inputs) q ≡ Some item
     pub unit : CodeUnit
-    pub written : unit_at (parsed inputs) q ≡ Some unit
+    pub written : unit_at (parsed inputs) slots q ≡ Some unit
     pub some : (size a : ℕ) → IsForm (unit_piece objects (Some unit)) size → 0 < width (unit_piece objects (Some unit)) size a
 
   solid_found : (q : Place) (a : ℕ) → is_solid (item_at (parsed inputs) q) ≡ true → A q ≡ Some a → IsSolid q
@@ -181,20 +225,21 @@ module _ (inputs : Inputs) (none : gather_fault inputs ≡ None) (is_map : IsMap
           either true is = omega (arith, is)
           either false is = omega (arith, is)
 
-      unit_of : (item : Item) → item_at (parsed inputs) q ≡ Some item → is_solid (Some item) ≡ true → (u : CodeUnit) → unit_at (parsed inputs) q ≡ Some u → IsSolid q
+      unit_of : (item : Item) → item_at (parsed inputs) q ≡ Some item → is_solid (Some item) ≡ true → (u : CodeUnit) → unit_at (parsed inputs) slots q ≡ Some u → IsSolid q
       unit_of item is solid (OneItem i) unit =
-          let same : item ≡ i = same_Some item i (sym is ∙ (unit_item (parsed inputs) q i unit).1) in
+          let same : item ≡ i = same_Some item i (sym is ∙ (unit_item (parsed inputs) (slot_at (parsed inputs) slots) q i unit).1) in
           record { item = item; is = is; unit = OneItem i; written = unit; some = λ size a form. width_some objects i size a (ap (λ x. is_solid (Some x)) (sym same) ∙ solid) form }
       unit_of item is solid (OneGroup g) unit = record { item = item; is = is; unit = OneGroup g; written = unit; some = some_bytes g }
+      unit_of item is solid (OneSite n) unit = record { item = item; is = is; unit = OneSite n; written = unit; some = λ size a form. omega (arith, form) }
 
       by : (o : Option Item) → item_at (parsed inputs) q ≡ o → is_solid o ≡ true → IsSolid q
       by None is solid = absurd cc
       by (Some item) is solid =
           let start : is_start_at objects q ≡ true = sym (start_some (parsed inputs) q) ∙ ap is_some is in
-          let some : is_some (unit_at (parsed inputs) q) ≡ true = settled_written q ∙ (λ j. is_some (at j) && start j) in
-          written (unit_at (parsed inputs) q) refl some
+          let some : is_some (unit_at (parsed inputs) slots q) ≡ true = unit_written inputs none slots q ∙ (λ j. is_some (at j) && start j) in
+          written (unit_at (parsed inputs) slots q) refl some
         where
-          written : (o : Option CodeUnit) → unit_at (parsed inputs) q ≡ o → is_some (unit_at (parsed inputs) q) ≡ true → IsSolid q
+          written : (o : Option CodeUnit) → unit_at (parsed inputs) slots q ≡ o → is_some (unit_at (parsed inputs) slots q) ≡ true → IsSolid q
           written None at some = absurd (cc (some, ap is_some at))
           written (Some u) at some = unit_of item is solid u at
 
@@ -207,8 +252,8 @@ module _ (inputs : Inputs) (none : gather_fault inputs ≡ None) (is_map : IsMap
         arith,
         own.ends,
         x.some (slice_index sizes k) (at_number k) own.form,
-        address_rises inputs none is_map (k + 1) (piece_number_at objects r)
-            (omega (arith, number_rises_past (parsed inputs) q r x.item x.is (item_target (parsed inputs) r y.item y.is) before)) (number_most (parsed inputs) r),
+        address_rises inputs none is_map slots slots_few (k + 1) (piece_number_at objects r)
+            (omega (arith, number_rises_past (parsed inputs) q r x.item x.is (item_target (parsed inputs) r y.item y.is) before)) (number_most (parsed inputs) slots r),
       )
 
   -- so two such with one address are one
@@ -227,32 +272,28 @@ module _ (inputs : Inputs) (none : gather_fault inputs ≡ None) (is_map : IsMap
 
 -- ---- the layout
 
--- inputs without a fault have none between objects
-gathered : (inputs : Inputs) → first_fault inputs ≡ None → gather_fault inputs ≡ None
-unfolding first_fault
-gathered inputs none = (neither (gather_fault inputs) _ none).0
+module _ (inputs : Inputs) (faultless : first_fault inputs ≡ None) (is_map : IsMap inputs.map) (slots : List (Option Place)) (few : length slots ≤ 256) where
+  pub settled_is_laid_out : IsLaidOut (zc_layout inputs slots)
+  settled_is_laid_out =
+      let none = gathered inputs faultless in
+      let A = settled_address (parsed inputs) slots in
+      let led = leaders inputs faultless is_map slots few in
+      let start = start_listed inputs A faultless led in
+      record {
+        only = λ q some. listed_target (parsed inputs) q (sym (settled_listed inputs none is_map slots few q) ∙ some);
+        leaders = led;
+        written = unit_written inputs none slots;
+        start = start.1 ∙ ap Some (sym (ap (λ o. unwrap_or o inputs.map.text) start.1));
+        few = few;
+        even = settled_even inputs none is_map slots few;
+        low = settled_low inputs none is_map slots few;
+        high = settled_high inputs none is_map slots few;
+        short = settled_short inputs none is_map slots few;
+        each = settled_lies inputs faultless is_map slots few;
+        begins = settled_begins inputs none is_map slots few;
+        distinct = settled_distinct inputs faultless is_map slots few;
+      }
 
-pub settled_is_laid_out : (inputs : Inputs) → first_fault inputs ≡ None → IsMap inputs.map → IsLaidOut (zc_layout inputs)
-settled_is_laid_out inputs none is_map =
-    let fine = gathered inputs none in
-    let A = settled_address (parsed inputs) in
-    let leaders : ListsLeaders (parsed inputs) A = λ q target leader. settled_listed inputs fine is_map q ∙ leader_listed inputs fine q target leader in
-    let start = start_listed inputs A none leaders in
-    record {
-      only = λ q some. listed_target (parsed inputs) q (sym (settled_listed inputs fine is_map q) ∙ some);
-      leaders = leaders;
-      written = settled_written inputs fine is_map;
-      front = refl;
-      entry = start.1 ∙ ap Some (sym (ap (λ o. unwrap_or o inputs.map.text) start.1));
-      even = settled_even inputs fine is_map;
-      low = settled_low inputs fine is_map;
-      high = settled_high inputs fine is_map;
-      short = settled_short inputs fine is_map;
-      each = settled_lies inputs fine is_map;
-      begins = settled_begins inputs fine is_map;
-      distinct = settled_distinct inputs fine is_map;
-    }
-
--- and its text ends where the last piece does
-pub settled_end_is : (inputs : Inputs) → first_fault inputs ≡ None → IsMap inputs.map → text_end (zc_layout inputs) ≡ settled_end (parsed inputs)
-settled_end_is inputs none is_map = end_settled inputs (gathered inputs none) is_map
+  -- and its text ends where the last piece does
+  pub settled_end_is : text_end (zc_layout inputs slots) ≡ settled_end (parsed inputs) slots
+  settled_end_is = end_settled inputs (gathered inputs faultless) is_map slots few

@@ -33,7 +33,7 @@ use Rattle.zc_link.proofs.SettledLawsShort.{branch_short, jump_short}
 -- ---- ways
 
 -- a `jal` goes so far
-pub jal_settled : (a b : ℕ) → a % 2 ≡ 0 → b % 2 ≡ 0 → b ≤ a + 0x8_0004 → a ≤ b + 0x8_0004 → jal_reach (distance a b) ≡ true
+pub jal_settled : (a b : ℕ) → a % 2 ≡ 0 → b % 2 ≡ 0 → b ≤ a + 0x9_0004 → a ≤ b + 0x9_0004 → jal_reach (distance a b) ≡ true
 jal_settled a b ea eb near back = elim (cases_lt b a) [
   | inr le ↦
       let n = b - a in
@@ -71,10 +71,10 @@ pub record IsNear (objects : List ObjectParts) (address : ℕ → ℕ) (text : �
   pub number : address (piece_number_at objects q) ≡ b
   pub even : b % 2 ≡ 0
   pub low : text ≤ b
-  pub few : b ≤ text + 0x8_0000
+  pub few : b ≤ text + 0x9_0000
 
 module _
-    (objects : List ObjectParts) (A : Place → Option ℕ) (address : ℕ → ℕ) (text : ℕ) (small : text + 0x8_0000 < 2 ^ 32)
+    (objects : List ObjectParts) (A : Place → Option ℕ) (address : ℕ → ℕ) (text : ℕ) (small : text + 0x9_0000 < 2 ^ 32)
     (near : (q : Place) (b : ℕ) → A q ≡ Some b → IsNear objects address text q b) where
   -- ---- instructions
 
@@ -93,7 +93,7 @@ module _
   part_form item (Absent n) f is = known_form item (f n) is
   part_form item Nowhere f is = inl refl
 
-  module _ (a : ℕ) (even : a % 2 ≡ 0) (low : text ≤ a) (few : a ≤ text + 0x8_0000) where
+  module _ (a : ℕ) (even : a % 2 ≡ 0) (low : text ≤ a) (few : a ≤ text + 0x9_0000) where
     -- ---- branches and jumps
 
     -- the way to a place with an address is the distance to its number's

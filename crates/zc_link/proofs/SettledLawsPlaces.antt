@@ -21,13 +21,14 @@ use Rattle.shrink_layout.specs.declared.piece.Piece.{Piece}
 use Rattle.shrink_layout.specs.declared.piece.Piece.TheVariants.{Fixed}
 use Rattle.shrink_layout.specs.Layout.{IsLayout, addresses_of}
 use Rattle.shrink_layout.specs.Least.{AreForms}
-use Rattle.shrink_layout.specs.Pieces.{piece_count, piece_number_at, pieces_before, pieces_of}
+use Rattle.shrink_layout.specs.Pieces.{piece_count, piece_number_at, pieces_before, pieces_by, pieces_of}
 use Rattle.shrink_layout.specs.Settled.{settled_address, settled_addresses, settled_end, settled_sizes}
-use Rattle.shrink_layout.specs.Units.{is_listed_at}
+use Rattle.shrink_layout.specs.Units.{front_size, is_listed_at}
 use Rattle.shrink_layout.proofs.AddressLaws.{ascending, even_address, first_address, form_at, last_address, layout_forms, next_address}
 use Rattle.shrink_layout.proofs.NumberEnds.{padding_number, padding_number-next, number-end, number-start, start_within}
 use Rattle.shrink_layout.proofs.NumberLaws.{length-pieces_of, number-code, number_most}
-use Rattle.shrink_layout.proofs.PlaceAddressLaws.{address_there}
+use Rattle.shrink_layout.proofs.OrderLaws.{target_code}
+use Rattle.shrink_layout.proofs.PlaceAddressLaws.{address_target, address_there}
 use Rattle.shrink_layout.proofs.RolePlaces.{end_listed, leader_listed, listed_target}
 use Rattle.shrink_layout.proofs.SizesLaws.{sizes_layout}
 use Rattle.shrink_layout.proofs.PremiseLaws.{all_aligned, all_even, room_few}
@@ -53,6 +54,13 @@ target_there objects q s at target = target_on objects q s at ∙ by target
     by (inl start) = ap (λ b. b || eqb q.offset (length s.bytes)) start
     by (inr end) = ap (λ b. starts_on s q.offset || b) (eq-eqb q.offset (length s.bytes) end) ∙ or_true (starts_on s q.offset)
 
+-- what is in front of all code stands before such a place
+number_some : (p : ParsedInputs) (q : Place) → is_target_at p.objects q ≡ true → 1 ≤ piece_number_at p.objects q
+number_some p q target =
+    let at = target_code p.objects q target in
+    let number : piece_number_at p.objects q ≡ pieces_before p.objects q.object q.section at.0 q.offset = number-code p.objects q at.0 target at.1 in
+    omega (arith, number)
+
 -- ---- addresses
 
 -- what is known of a choice that gave something
@@ -64,24 +72,24 @@ chosen_some : (b : Bool) (x : ℕ) → is_some (cond b (Some x) None) ≡ b
 chosen_some true x = refl
 chosen_some false x = refl
 
-module _ (inputs : Inputs) (none : gather_fault inputs ≡ None) (is_map : IsMap inputs.map) where
+module _ (inputs : Inputs) (none : gather_fault inputs ≡ None) (is_map : IsMap inputs.map) (slots : List (Option Place)) (slots_few : length slots ≤ 256) where
   abbrev p : ParsedInputs
   p = parsed inputs
 
   abbrev L : TextLayout
-  L = zc_layout inputs
+  L = zc_layout inputs slots
 
   abbrev objects : List ObjectParts
   objects = p.objects
 
   abbrev A : Place → Option ℕ
-  A = settled_address p
+  A = settled_address p slots
 
   abbrev pieces : List Piece
-  pieces = pieces_of p
+  pieces = pieces_of p slots
 
   abbrev sizes : List ℕ
-  sizes = settled_sizes p
+  sizes = settled_sizes p slots
 
   -- the sizes are those of the first round that fits
   pub settled : IsLayout inputs.map.text pieces sizes
@@ -98,7 +106,7 @@ module _ (inputs : Inputs) (none : gather_fault inputs ≡ None) (is_map : IsMap
   -- so addresses are given to the places that images list, and to no others
   pub settled_listed : (q : Place) → is_some (A q) ≡ is_listed_at p q
   unfolding settled_address
-  settled_listed q = chosen_some (is_listed_at p q) (slice_index (settled_addresses p) (piece_number_at objects q))
+  settled_listed q = chosen_some (is_listed_at p q) (slice_index (settled_addresses p slots) (piece_number_at objects q))
 
   -- such a place has the address of its number
   settled_there :
@@ -106,7 +114,7 @@ module _ (inputs : Inputs) (none : gather_fault inputs ≡ None) (is_map : IsMap
       → A q ≡ Some (address (pieces_before objects q.object q.section s q.offset))
   unfolding settled_addresses
   settled_there q s at listed =
-      address_there p q listed
+      address_there p slots q listed
       ∙ ap (λ n. Some (address n)) (number-code objects q s (listed_target p q listed) at)
 
   -- the end of a section is one
@@ -127,11 +135,11 @@ module _ (inputs : Inputs) (none : gather_fault inputs ≡ None) (is_map : IsMap
   unfolding settled_address settled_addresses
   settled_here q a is = chosen (is_listed_at p q) (address (piece_number_at objects q)) a is
 
-  -- nothing stands in front of the first section
-  front_none : address 1 ≡ front_end L
-  unfolding pieces_of
-  front_none =
-      let size : slice_index sizes 0 ≡ 0 = form_at pieces sizes 0 (Fixed 0) (omega arith) forms in
+  -- the first piece is what stands in front of the first section
+  front_ends : address 1 ≡ front_end L
+  unfolding pieces_by pieces_of
+  front_ends =
+      let size : slice_index sizes 0 ≡ front_size slots = form_at pieces sizes 0 (Fixed 0) (omega arith) forms in
       omega (
         arith,
         next_address inputs.map.text pieces sizes 0 (Fixed 0) (omega arith) forms,
@@ -139,34 +147,45 @@ module _ (inputs : Inputs) (none : gather_fault inputs ≡ None) (is_map : IsMap
         first_address inputs.map.text pieces sizes,
       )
 
+  -- it is short
+  front_few : front_size slots ≤ 0x1000
+  front_few = by slots slots_few
+    where
+      by : (all : List (Option Place)) → length all ≤ 256 → front_size all ≤ 0x1000
+      by [] few = omega arith
+      by (slot ∷ all) few = omega (arith, few)
+
   -- ---- bounds
 
   address_even : (k : ℕ) → address k % 2 ≡ 0
-  address_even k = even_address inputs.map.text pieces sizes (all_even inputs none) forms (omega (arith, is_map.text_page)) k
+  address_even k = even_address inputs.map.text pieces sizes (all_even inputs none slots) forms (omega (arith, is_map.text_page)) k
 
   pub address_rises : (j k : ℕ) → j ≤ k → k ≤ length pieces → address j ≤ address k
   address_rises j k le within = ascending inputs.map.text pieces sizes forms j k le within
 
-  address_low : (k : ℕ) → k ≤ length pieces → inputs.map.text ≤ address k
-  address_low k within = omega (arith, address_rises 0 k (omega arith) within, first_address inputs.map.text pieces sizes)
+  address_low : (k : ℕ) → 1 ≤ k → k ≤ length pieces → front_end L ≤ address k
+  address_low k some within = omega (arith, address_rises 1 k some within, front_ends)
 
-  address_few : (k : ℕ) → k ≤ length pieces → address k ≤ inputs.map.text + 0x8_0000
+  address_few : (k : ℕ) → k ≤ length pieces → address k ≤ inputs.map.text + 0x9_0000
   address_few k within =
       omega (
         arith,
         address_rises k (length pieces) within (omega arith),
-        last_address inputs.map.text pieces sizes (all_aligned inputs none) forms,
-        room_few inputs none,
+        last_address inputs.map.text pieces sizes (all_aligned inputs none slots) forms,
+        room_few inputs none slots,
+        front_few,
       )
 
   pub settled_even : (q : Place) (a : ℕ) → A q ≡ Some a → a % 2 ≡ 0
   settled_even q a is = ap (λ n. n % 2) (sym (settled_here q a is)) ∙ address_even (piece_number_at objects q)
 
   pub settled_low : (q : Place) (a : ℕ) → A q ≡ Some a → front_end L ≤ a
-  settled_low q a is = omega (arith, settled_here q a is, address_low (piece_number_at objects q) (number_most p q))
+  settled_low q a is =
+      let some : 1 ≤ piece_number_at objects q = number_some p q (address_target p slots q a is) in
+      omega (arith, settled_here q a is, address_low (piece_number_at objects q) some (number_most p slots q))
 
-  pub settled_few : (q : Place) (a : ℕ) → A q ≡ Some a → a ≤ inputs.map.text + 0x8_0000
-  settled_few q a is = omega (arith, settled_here q a is, address_few (piece_number_at objects q) (number_most p q))
+  pub settled_few : (q : Place) (a : ℕ) → A q ≡ Some a → a ≤ inputs.map.text + 0x9_0000
+  settled_few q a is = omega (arith, settled_here q a is, address_few (piece_number_at objects q) (number_most p slots q))
 
   -- ---- ends
 
@@ -201,21 +220,21 @@ module _ (inputs : Inputs) (none : gather_fault inputs ≡ None) (is_map : IsMap
   ends_before :
       (o i : ℕ) (s : SectionParts) → section_at objects o i ≡ Some s
       → code_end_after L (sections_before objects o i) ≡ address (padding_number objects o i)
-  ends_before = before_each objects EndsThere (sym front_none) ends_more
+  ends_before = before_each objects EndsThere (sym front_ends) ends_more
 
   -- all code ends where the last piece does
   text_ends : text_end L ≡ address (length pieces)
-  text_ends = of_all objects EndsThere (sym front_none) ends_more ∙ ap address (sym (length-pieces_of p))
+  text_ends = of_all objects EndsThere (sym front_ends) ends_more ∙ ap address (sym (length-pieces_of p slots))
 
-  pub end_settled : text_end L ≡ settled_end p
+  pub end_settled : text_end L ≡ settled_end p slots
   unfolding settled_end settled_addresses
   end_settled = text_ends
 
   pub settled_high : (q : Place) (a : ℕ) → A q ≡ Some a → a ≤ text_end L
   settled_high q a is =
-      omega (arith, settled_here q a is, text_ends, address_rises (piece_number_at objects q) (length pieces) (number_most p q) (omega arith))
+      omega (arith, settled_here q a is, text_ends, address_rises (piece_number_at objects q) (length pieces) (number_most p slots q) (omega arith))
 
-  pub settled_short : text_end L ≤ inputs.map.text + 0x8_0000
+  pub settled_short : text_end L ≤ inputs.map.text + 0x9_0000
   settled_short = omega (arith, text_ends, address_few (length pieces) (omega arith))
 
   -- a section begins no earlier than those before it end
@@ -232,5 +251,5 @@ module _ (inputs : Inputs) (none : gather_fault inputs ≡ None) (is_map : IsMap
         arith,
         first,
         ends_before o i s found,
-        address_rises (padding_number objects o i) (padding_number objects o i + 1) (omega arith) (start_within p o i s found code whole),
+        address_rises (padding_number objects o i) (padding_number objects o i + 1) (omega arith) (start_within p slots o i s found code whole),
       )

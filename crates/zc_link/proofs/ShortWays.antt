@@ -23,7 +23,7 @@ way_back b k =
     ap (λ z. z -ℤ pos (b + suc k)) (sym up) ∙ +ℤ-neg_ℤ_cancel (negsuc k) (pos (b + suc k))
 
 -- in two's complement a short way is the difference
-pub way_distance : (a b : ℕ) → a < 2 ^ 32 → b < 2 ^ 32 → b ≤ a + 0x8_0000 → a ≤ b + 0x8_0000 → as_signed (way a b) ≡ pos b -ℤ pos a
+pub way_distance : (a b : ℕ) → a < 2 ^ 32 → b < 2 ^ 32 → b ≤ a + 0x9_0000 → a ≤ b + 0x9_0000 → as_signed (way a b) ≡ pos b -ℤ pos a
 way_distance a b ha hb near back = elim (cases_lt b a) [
   | inr le ↦
       let n = b - a in
@@ -38,7 +38,7 @@ way_distance a b ha hb near back = elim (cases_lt b a) [
 ]
 
 -- a short way between even addresses is one that `jal` may go
-pub way_jumps : (a b : ℕ) → a < 2 ^ 32 → b < 2 ^ 32 → b ≤ a + 0x8_0000 → a ≤ b + 0x8_0000 → a % 2 ≡ 0 → b % 2 ≡ 0 → jal_reach (as_signed (way a b)) ≡ true
+pub way_jumps : (a b : ℕ) → a < 2 ^ 32 → b < 2 ^ 32 → b ≤ a + 0x9_0000 → a ≤ b + 0x9_0000 → a % 2 ≡ 0 → b % 2 ≡ 0 → jal_reach (as_signed (way a b)) ≡ true
 way_jumps a b ha hb near back wa wb = elim (cases_lt b a) [
   | inr le ↦
       let n = b - a in

@@ -9,7 +9,7 @@ use Rattle.block_cut.specs.Items.{after_items, next_at}
 use Rattle.block_cut.specs.declared.item.Item.{Item}
 use Rattle.block_cut.specs.declared.item.Item.TheVariants.{Op, Hi, Lo, PcHi, PcLo, Branch, Jump, Call, Align, Word, Raw, RawPair}
 use Rattle.frame_match.specs.declared.group.Group.{Group}
-use Rattle.shrink_layout.specs.Units.{CodeUnit, OneGroup, OneItem, unit_items}
+use Rattle.shrink_layout.specs.Units.{CodeUnit, OneGroup, OneItem, OneSite, unit_items}
 use Rattle.sym_machine.specs.Conditions.{condition}
 use Rattle.sym_machine.specs.Program.{Program}
 use Rattle.sym_machine.specs.State.{PlainCore, reg_of}
@@ -128,6 +128,7 @@ module _ (L : TextLayout) (laid : IsLaidOut L) where
       by None unit = omega arith
       by (Some (OneItem i)) unit = item_few p s (size_in L s.place) i (λ k is. padding_short s.place k (unit ∙ ap (λ x. Some (OneItem x)) is))
       by (Some (OneGroup g)) unit = omega (arith, group_few g, group_items L laid s.place g unit)
+      by (Some (OneSite slot)) unit = omega arith
 
   -- and each has an item
   pub some : (q : Place) → 0 < span_of (stretch_in L q)
@@ -137,3 +138,4 @@ module _ (L : TextLayout) (laid : IsLaidOut L) where
       by None unit = omega arith
       by (Some (OneItem i)) unit = item_some (size_in L q) i
       by (Some (OneGroup g)) unit = omega (arith, group_items L laid q g unit)
+      by (Some (OneSite slot)) unit = omega arith

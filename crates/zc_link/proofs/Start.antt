@@ -1,13 +1,13 @@
--- The start is sound: registers and memory stand for the machine's as they are loaded, sp is the stack's end, and nothing of the
--- stack is known.
+-- The start is sound, after the stub if there is one: registers and memory stand for the machine's as they are loaded, sp
+-- is the stack's end, and nothing of the stack is known.
 use Rattle.std.proofs.Common.{◌≡◌, ℕ, zero, suc, ◌+◌, ◌-◌, ◌^◌, ◌<◌, ◌≤◌, List, [], length, Some, Bool, true, false, refl, sym, ap, ◌∙◌, subst, inl, ⊎_elim, arith, eqb, leb, get_or, replicate}
 use Rattle.std.specs.Prelude.{◌&&◌, All}
-use Rattle.std.proofs.lemmas.Bool.{and_parts, cases_lt, cond-false, cond-true, cond_both, eq-eqb, leb-true, ne_eqb}
+use Rattle.std.proofs.lemmas.Bool.{and_parts, cases_lt, cond-false, cond_both, leb-true, ne_eqb}
 use Rattle.std.proofs.lemmas.List.{get_or-replicate, get_or_past, length-replicate}
 use Rattle.zc_base.specs.declared.place.Place.{Place}
-use Rattle.interrupt_plan.specs.Plan.{Interrupt}
+use Rattle.interrupt_plan.specs.Plan.{AreInterrupts, Interrupt}
 use Rattle.rv_decode.specs.Memory.{blank, cell_at}
-use Rattle.rv_decode.specs.State.{IsCore, reg_in, start_regs}
+use Rattle.rv_decode.specs.State.{IsCore, ZcState, reg_in, start_regs}
 use Rattle.rv_decode.proofs.MemoryLaws.{get_or_blank}
 use Rattle.rv_decode.proofs.RegisterLaws.{reads}
 use Rattle.sym_machine.specs.declared.word.SymByte.{SymByte}
@@ -17,13 +17,16 @@ use Rattle.sym_machine.specs.State.{first_plain, reg_of}
 use Rattle.sym_machine.specs.Words.{number_of, number_word, undef_word}
 use Rattle.zc_machine.specs.Load.{first_core}
 use Rattle.zc_machine.specs.Run.{first_state}
+use Rattle.zc_link.specs.DataApart.{FromLoad}
 use Rattle.zc_link.specs.Image.{Image, loaded_core}
-use Rattle.zc_link.specs.Laid.{AtEntry, Begins, Laid}
-use Rattle.zc_link.specs.Pace.{lead_from, lead_of, Stretch}
+use Rattle.zc_link.specs.Laid.{AtEntry, Begins, BehindStub, Laid, StubLaid}
+use Rattle.zc_link.specs.Pace.{lead_of, Stretch}
 use Rattle.zc_link.specs.IsSimulation.{Comes}
-use Rattle.zc_link.specs.Sound.{NamesWord, Sound}
+use Rattle.zc_link.specs.Sound.{Alike, NamesWord}
 use Rattle.zc_link.specs.Stands.{WordStands}
 use Rattle.zc_link.specs.Values.{value_in}
+use Rattle.zc_link.proofs.Bare.{Bares, OnBare}
+use Rattle.zc_link.proofs.Stub.{OnStub, lead_bares, none_lead, started, started_alike, stub_comes, stub_lead, stub_leads}
 use Rattle.zc_link.proofs.Words.{number_is, number_names, number_stands, undef_names, undef_stands}
 
 -- what holds of x0, of sp and of the other registers holds of each
@@ -61,12 +64,6 @@ stack_unknown p under a low =
     no_data false h = refl
 
 module _ {p : Program} {Named : Place → Type 0} {e : Image} {piece : Place → Stretch} (laid : Laid p Named e piece) where
-  at_entry : e.address p.entry ≡ Some e.entry
-  at_entry = by_begins laid.begins
-    where
-      by_begins : Begins p e → e.address p.entry ≡ Some e.entry
-      by_begins (AtEntry h) = h
-
   high_same : p.map.stack_high ≡ e.map.stack_high
   high_same = ap (λ m. m.stack_high) (sym laid.room.map)
 
@@ -93,39 +90,85 @@ module _ {p : Program} {Named : Place → Type 0} {e : Image} {piece : Place →
   unfolding first_core
   start_sp input = ap Some (number_is (value_in p e.address) (reg_of (first_plain p input) 2) (reg_in (loaded_core e) 2) _ (start_core.words 2) (start_stands input 2) refl)
 
-  start_sound : (input : List ℕ) → All (λ b. b < 256) input → Sound p Named e (first_plain p input) (first_state (loaded_core e) input)
+  -- the states are alike as if the image started where the program does
+  start_alike :
+      (input : List ℕ) → All (λ b. b < 256) input → (start : ℕ) → e.address p.entry ≡ Some start
+      → Alike p Named (started e start) (first_plain p input) (loaded_core e)
   unfolding first_core
-  start_sound input bytes = record {
-    alike = record {
-      ready = record {
-        running = refl;
-        going = refl;
-        plain = record { count = refl; input = bytes };
-        core = start_core;
-        registers = λ r lt. start_stands input r;
-        memory = laid.first;
-        names = record { registers = λ r lt. start_names input r; memory = laid.names };
-        lies = refl;
-        extents = refl;
-        text = λ a _. refl;
-        table = λ elsewhere. absurd (elsewhere at_entry);
-      };
-      sp = start_sp input;
-      low = omega (arith, laid.room.some, high_same);
-      high = omega (arith, high_same);
-      below = λ a low lt. stack_unknown p laid.room.under a low;
+  start_alike input bytes start at = record {
+    ready = record {
+      running = refl;
+      going = refl;
+      plain = record { count = refl; input = bytes };
+      core = start_core;
+      registers = λ r lt. start_stands input r;
+      memory = laid.first;
+      names = record { registers = λ r lt. start_names input r; memory = laid.names };
+      lies = refl;
+      extents = refl;
+      text = λ a _. refl;
+      table = λ elsewhere. absurd (elsewhere at);
     };
-    input = refl;
-    place = at_entry;
+    sp = start_sp input;
+    low = omega (arith, laid.room.some, high_same);
+    high = omega (arith, high_same);
+    below = λ a low lt. stack_unknown p laid.room.under a low;
   }
 
-  -- no commit comes before it
-  pub no_lead : lead_of p e ≡ 0
-  no_lead = ap (λ o. lead_from o e.entry) at_entry ∙ cond-true (eqb e.entry e.entry) 0 3 (eq-eqb e.entry e.entry refl)
+  -- so many commits lead from the first state to a sound pair
+  abbrev StartsAfter : ℕ → (ℕ → List Interrupt) → List ℕ → Type 0
+  StartsAfter k cuts input =
+      Comes p Named e cuts k (first_state (loaded_core e) input) (record { core = first_plain p input; events = [] })
+
+  starts_at_once :
+      (input : List ℕ) → All (λ b. b < 256) input → (cuts : ℕ → List Interrupt) → e.address p.entry ≡ Some e.entry
+      → StartsAfter 0 cuts input
+  unfolding first_core
+  starts_at_once input bytes cuts at = record {
+    after = first_state (loaded_core e) input;
+    runs = refl;
+    together = inl record {
+      alike = started_alike {z = loaded_core e} e.entry e.entry 0 0 (λ elsewhere. absurd (elsewhere at))
+          (start_alike input bytes e.entry at);
+      input = refl;
+      place = at;
+    };
+    events = refl;
+  }
+
+  -- the program doesn't know t0 at its start
+  starts_behind :
+      (input : List ℕ) → All (λ b. b < 256) input → (cuts : ℕ → List Interrupt) → AreInterrupts cuts
+      → StubLaid p e e.entry → StartsAfter 3 cuts input
+  unfolding first_core
+  starts_behind input bytes cuts are stub =
+      let on : OnStub p Named e cuts (first_plain p input) (first_state (loaded_core e) input) =
+      record { are = are; stub = stub; alike = start_alike input bytes (stub_leads stub) stub.leads } in
+      let past = stub_comes laid.room on in
+      record {
+        after = record (first_state (loaded_core e) input) { core = past.there };
+        runs = past.runs;
+        together = inl record { alike = past.alike; input = refl; place = past.place };
+        events = refl;
+      }
 
   pub starts :
-      (input : List ℕ) → All (λ b. b < 256) input → (cuts : ℕ → List Interrupt)
-      → Comes p Named e cuts (lead_of p e) (first_state (loaded_core e) input) (record { core = first_plain p input; events = [] })
-  starts input bytes cuts =
-      subst (λ k. Comes p Named e cuts k (first_state (loaded_core e) input) (record { core = first_plain p input; events = [] })) (sym no_lead)
-      (record { after = first_state (loaded_core e) input; runs = refl; together = inl (start_sound input bytes); events = refl })
+      (input : List ℕ) → All (λ b. b < 256) input → (cuts : ℕ → List Interrupt) → AreInterrupts cuts
+      → StartsAfter (lead_of p e) cuts input
+  starts input bytes cuts are = by laid.begins
+    where
+      by : Begins p e → StartsAfter (lead_of p e) cuts input
+      by (AtEntry at) =
+          subst (λ k. StartsAfter k cuts input) (sym (none_lead p e at)) (starts_at_once input bytes cuts at)
+      by (BehindStub stub) =
+          subst (λ k. StartsAfter k cuts input) (sym (stub_lead stub)) (starts_behind input bytes cuts are stub)
+
+  -- no commit before the start looks at memory
+  pub lead_bare : (k : ℕ) (z : ZcState) → FromLoad p e k z → OnBare e k z
+  unfolding first_core
+  lead_bare k z from = subst (OnBare e k) (sym from.loads) (record {
+    going = refl;
+    same = record { extents = refl; text = λ a _. refl };
+    bares = subst (λ n. Bares e n (loaded_core e).regs e.entry) (sym from.commits)
+        (lead_bares (loaded_core e).regs laid.begins);
+  })

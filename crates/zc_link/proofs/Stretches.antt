@@ -11,7 +11,7 @@ use Rattle.sym_machine.specs.Run.{plain_turn}
 use Rattle.sym_machine.specs.State.{PlainState}
 use Rattle.zc_link.specs.Image.{Image}
 use Rattle.zc_link.specs.Leads.{Leads}
-use Rattle.zc_link.specs.Pace.{AlignOf, Alone, CallOf, GroupOf, LongOf, Stretch, commits_of, span_of}
+use Rattle.zc_link.specs.Pace.{AlignOf, Alone, CallOf, GroupOf, LongOf, Stretch, TableOf, commits_of, span_of}
 use Rattle.zc_link.specs.Stretches.{StretchLaid}
 use Rattle.zc_link.specs.Room.{Room}
 use Rattle.zc_link.specs.IsSimulation.{Comes, IsInside}
@@ -23,6 +23,7 @@ use Rattle.zc_link.proofs.Items.{item_comes}
 use Rattle.zc_link.proofs.Longs.{long_comes}
 use Rattle.zc_link.proofs.Padding.{align_comes}
 use Rattle.zc_link.proofs.Singles.{FromSound}
+use Rattle.zc_link.proofs.TableJumps.{table_comes}
 
 -- the step of an item alone
 one_turn : (p : Program) (r r' : PlainState) → iterate (plain_turn p) 1 r ≡ Ok r' → plain_turn p r ≡ Ok r'
@@ -46,6 +47,7 @@ stretch_comes {p} {Named} {e} {r} {r'} {z} x room leads cuts are so same laid h 
     by CallOf call g = call_comes room (from g) call (leads.next r.core.place (Call call.rd call.temp call.to) call.item refl)
     by (LongOf op first second) long g = long_comes room (from g) long
     by (GroupOf items commits) group g = group_comes room (record { sound = so; same = same; are = are }) group g
+    by (TableOf slot) table g = table_comes room leads (from g) table
 
 -- a stretch of one item has no place inside, and those inside a group aren't listed
 pub stretch_inside :
@@ -56,3 +58,4 @@ stretch_inside p e a r r' (AlignOf count) k laid some lt running h = absurd (ome
 stretch_inside p e a r r' CallOf k laid some lt running h = absurd (omega (arith, some, lt))
 stretch_inside p e a r r' (LongOf op first second) k laid some lt running h = absurd (omega (arith, some, lt))
 stretch_inside p e a r r' (GroupOf items commits) k laid some lt running h = group_inside k r r' laid some lt running h
+stretch_inside p e a r r' (TableOf slot) k laid some lt running h = absurd (omega (arith, some, lt))

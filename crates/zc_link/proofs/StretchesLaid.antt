@@ -4,6 +4,7 @@ use Rattle.std.specs.Prelude.{All, ◌&&◌}
 use Rattle.std.specs.Option.{is_some, option_map_or}
 use Rattle.std.proofs.Math.IntN.{+ℤ-neg_ℤ_cancel}
 use Rattle.std.proofs.lemmas.Bool.{cases_lt}
+use Rattle.std.proofs.lemmas.Option.{none-some, same_Some, slice_get_within}
 use Rattle.zc_base.specs.MemMap.{IsMap}
 use Rattle.zc_base.specs.declared.place.Place.{Place}
 use Rattle.elf32_write.specs.Parts.{Parts}
@@ -25,28 +26,32 @@ use Rattle.block_cut.specs.declared.item.Item.TheVariants.{Op, Hi, Lo, PcHi, PcL
 use Rattle.block_cut.proofs.ItemLaws.{item_found}
 use Rattle.frame_match.specs.declared.group.Group.{Group}
 use Rattle.shrink_layout.specs.Pieces.{group_size}
-use Rattle.shrink_layout.specs.Units.{CodeUnit, OneGroup, OneItem, unit_items}
+use Rattle.shrink_layout.specs.Units.{CodeUnit, OneGroup, OneItem, OneSite, jump_of, unit_items}
 use Rattle.sym_machine.specs.AddressParts.{pc_target}
 use Rattle.sym_machine.specs.Conditions.{is_solid}
 use Rattle.sym_machine.specs.Program.{Program}
-use Rattle.zc_decode.specs.declared.short.Short.TheVariants.{Base}
+use Rattle.zc_decode.specs.declared.short.Short.TheVariants.{Base, TableJump}
 use Rattle.zc_encode.specs.Halves.{encoded16}
 use Rattle.zc_link.specs.Copied.{bytes_from}
+use Rattle.zc_link.specs.Front.{image_entry}
 use Rattle.zc_link.specs.Image.{Image}
 use Rattle.zc_link.specs.LaidOut.{IsLaidOut}
 use Rattle.zc_link.specs.Pace.{Alone, CallOf, LongOf, commits_in, stretch_of}
-use Rattle.zc_link.specs.Stretches.{AloneLaid, CallLaid, GroupLaid, ItemLaid, LongLaid, StretchLaid, place_on}
+use Rattle.zc_link.specs.Stretches.{AloneLaid, ByCall, ByJump, CallLaid, GoesTo, GroupLaid, ItemLaid, LongLaid, StretchLaid, TableLaid, linked_by, place_on}
 use Rattle.zc_link.specs.TextLayout.{TextLayout, behind, size_in, stretch_in}
-use Rattle.zc_link.specs.Written.{HoldsPlace, HoldsUnit, IsLongBranch, IsSpelled, IsWritten, WithCall, WithWay}
+use Rattle.zc_link.specs.Written.{HoldsFront, HoldsPlace, HoldsUnit, IsLongBranch, IsSpelled, IsWritten, WithCall, WithWay}
 use Rattle.zc_link.specs.Values.{target_value, way}
-use Rattle.zc_link.proofs.Fetched.{StandAt, nops_at, one_at, spelled_at, stand_at, stand_first, stand_next}
+use Rattle.zc_link.proofs.Fetched.{StandAt, half_at_address, nops_at, one_at, spelled_at, stand_at, stand_first, stand_next}
+use Rattle.zc_link.proofs.FrontLaws.{stub_elsewhere}
 use Rattle.zc_link.proofs.GroupItems.{group_known}
 use Rattle.zc_link.proofs.GroupsLaid.{commits_are, group_at}
 use Rattle.zc_link.proofs.ImageMemory.{AreLaidOut, image_of}
 use Rattle.zc_link.proofs.ItemRegisters.{imm_registers, item_registers, upper_registers}
+use Rattle.zc_link.proofs.LaidLaws.{address_small}
 use Rattle.zc_link.proofs.Lookup.{found_holds}
 use Rattle.zc_link.proofs.PartLaws.{call_reaches}
 use Rattle.zc_link.proofs.SizedPieces.{behind_item, size_is}
+use Rattle.zc_link.proofs.TablesLaid.{slot_holds}
 
 -- ---- by how it is spelled
 
@@ -77,12 +82,13 @@ after_word a (pos n) fits = near n (cases_lt n 4)
 
 -- ---- what is laid
 
--- a program of the objects' items in an image that lists these addresses
+-- a program of the objects' items in an image that lists these addresses, and starts where the layout says
 pub record ShowsLayout (L : TextLayout) (program : Program) (e : Image) : Type 0 where
   pub item : program.item ≡ item_at (parsed L.inputs)
   pub next : program.next ≡ next_at (parsed L.inputs).objects
   pub map : program.map ≡ L.inputs.map
   pub listed : e.address ≡ L.address
+  pub entry : e.entry ≡ image_entry L
 
 module _ (L : TextLayout) (is_map : IsMap L.inputs.map) (laid : IsLaidOut L) (program : Program) (parts : Parts) (out : AreLaidOut program parts)
     (shows : ShowsLayout L program (image_of program.map parts)) where
@@ -357,11 +363,56 @@ module _ (L : TextLayout) (is_map : IsMap L.inputs.map) (laid : IsLaidOut L) (pr
         next = ap here.address (places_on g.items q) ∙ listed_at (after_items p.objects g.items q) ∙ ap A (sym last) ∙ h.next;
       }
 
+  -- where a jump or call goes
+  goes_there : (q : Place) (i : Item) (rd : ℕ) (to : Place) → program.item q ≡ Some i → jump_of i ≡ Some (rd, to) → GoesTo program q rd to
+  goes_there q (Op i) rd to at is = absurd (none-some (rd, to) is)
+  goes_there q (Hi i t) rd to at is = absurd (none-some (rd, to) is)
+  goes_there q (Lo i t) rd to at is = absurd (none-some (rd, to) is)
+  goes_there q (PcHi i t) rd to at is = absurd (none-some (rd, to) is)
+  goes_there q (PcLo i from) rd to at is = absurd (none-some (rd, to) is)
+  goes_there q (Branch op first second other) rd to at is = absurd (none-some (rd, to) is)
+  goes_there q (Jump r other) rd to at is =
+      let same = same_Some (r, other) (rd, to) is in
+      ByJump (at ∙ ap (λ (x : ℕ × Place). Some (Jump x.0 x.1)) same)
+  goes_there q (Call r temp other) rd to at is =
+      let same = same_Some (r, other) (rd, to) is in
+      ByCall temp (at ∙ ap (λ (x : ℕ × Place). Some (Call x.0 temp x.1)) same)
+  goes_there q (Align bytes) rd to at is = absurd (none-some (rd, to) is)
+  goes_there q (Word t) rd to at is = absurd (none-some (rd, to) is)
+  goes_there q (Raw word) rd to at is = absurd (none-some (rd, to) is)
+  goes_there q (RawPair first second) rd to at is = absurd (none-some (rd, to) is)
+
+  -- a jump or call through the table
+  site_laid :
+      HoldsFront L parts.text → (q : Place) (a n : ℕ) → A q ≡ Some a → L.unit q ≡ Some (OneSite n) → HoldsUnit L parts.text (q, a) (OneSite n)
+      → TableLaid program here q a n
+  unfolding half_at_address
+  site_laid front q a n at unit h =
+      let lies = laid.each q a (OneSite n) unit at in
+      let site = lies.is in
+      let to = address_of (A site.to) site.listed in
+      let some : 0 < length L.slots = omega (arith, slice_get_within L.slots n (Some site.to) site.leads) in
+      let size : h.size ≡ 2 = sym (size_is L q a h.size at h.next) ∙ size_is L q a lies.size at lies.next ∙ lies.form in
+      let behind_it : behind L q ≡ next_at p.objects q = ap (λ u. after_items p.objects (option_map_or unit_items u 1) q) unit in
+      record {
+        to = site.to;
+        goes = goes_there q site.item (linked_by n) site.to (same_item q site.item site.is) site.goes;
+        at = half_at_address program parts out a h.written.half (bytes_from parts.text (a - L.inputs.map.text) h.size) (TableJump n) (stands_there q a (OneSite n) h)
+            h.written.small h.written.are h.written.spells;
+        entry = slot_holds L program parts out shows.map front n site.to to.0 site.leads to.1 (address_small L is_map laid site.to to.0 to.1) (listed_at site.to ∙ to.1);
+        elsewhere = λ same. stub_elsewhere L is_map laid some program.entry (sym (listed_at program.entry) ∙ same ∙ ap Some shows.entry);
+        next = next_listed q (a + h.size) (ap A (sym behind_it) ∙ h.next) ∙ ap (λ m. Some (a + m)) size;
+      }
+    where
+      address_of : (o : Option ℕ) → is_some o ≡ true → (b : ℕ) × (o ≡ Some b)
+      address_of None some = absurd cc
+      address_of (Some b) some = (b, refl)
+
   -- each listed place's stretch
   pub each :
-      gather_fault L.inputs ≡ None → All (HoldsPlace L parts.text) parts.places → (q : Place) (a : ℕ) → here.address q ≡ Some a
+      gather_fault L.inputs ≡ None → HoldsFront L parts.text → All (HoldsPlace L parts.text) parts.places → (q : Place) (a : ℕ) → here.address q ≡ Some a
       → StretchLaid program here q a (stretch_in L q)
-  each none holds q a listed = by (sym (listed_at q) ∙ listed) (L.unit q) refl
+  each none front holds q a listed = by (sym (listed_at q) ∙ listed) (L.unit q) refl
     where
       by : A q ≡ Some a → (u : Option CodeUnit) → L.unit q ≡ u → StretchLaid program here q a (stretch_of (size_in L q) u)
       by at None unit = subst (ItemLaid program here q a) (λ j. sym shows.item j q) (nothing_there q a at unit (item_at p q) refl)
@@ -369,6 +420,8 @@ module _ (L : TextLayout) (is_map : IsMap L.inputs.map) (laid : IsLaidOut L) (pr
           unit_laid q a item at unit (found_holds (HoldsPlace L parts.text) parts.places q a holds listed (OneItem item) unit)
       by at (Some (OneGroup g)) unit =
           group_laid none q a g at unit (found_holds (HoldsPlace L parts.text) parts.places q a holds listed (OneGroup g) unit)
+      by at (Some (OneSite n)) unit =
+          site_laid front q a n at unit (found_holds (HoldsPlace L parts.text) parts.places q a holds listed (OneSite n) unit)
 
   -- places with room of their own have addresses of their own
   pub distinct : (q r : Place) (a : ℕ) → is_solid (program.item q) ≡ true → is_solid (program.item r) ≡ true → here.address q ≡ Some a → here.address r ≡ Some a → q ≡ r

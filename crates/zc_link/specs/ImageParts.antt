@@ -11,6 +11,7 @@ use Rattle.psabi_sym.specs.Inputs.{ParsedInputs, parsed}
 use Rattle.block_cut.specs.DataWords.{data_words}
 use Rattle.block_cut.specs.Items.{all_targets}
 use Rattle.block_cut.specs.declared.data_word.DataWord.{DataWord}
+use Rattle.zc_link.specs.Front.{image_entry}
 use Rattle.zc_link.specs.TextLayout.{TextLayout}
 use Rattle.zc_link.specs.Values.{target_value}
 
@@ -43,7 +44,7 @@ image_data inputs A = fold (with_data_word inputs A) (data_contents inputs) (dat
 -- the parts of an image with this text; e_flags says whether there are 16-bit instructions (RISC-V ELF psABI, "File Header")
 abbrev pub parts_of : TextLayout → ℕ → List ℕ → Parts
 parts_of L flags text = record {
-  entry = L.entry;
+  entry = image_entry L;
   flags = flags;
   text_at = L.inputs.map.text;
   text = text;

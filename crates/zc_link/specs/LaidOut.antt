@@ -1,5 +1,5 @@
--- What a link needs of a layout: where the places of code lie, and how many bytes what is written at each takes.
-use Rattle.std.specs.Prelude.{◌≡◌, ℕ, ℤ, pos, ◌-ℤ◌, ◌+◌, ◌%◌, ◌<◌, ◌≤◌, ◌⊎◌, ◌&&◌, true, false, IsTrue, if◌then◌else◌, List, [], length, Option, Some, None}
+-- What a link needs of a layout: where the places of code lie, how many bytes what is written at each takes, and what stands in front.
+use Rattle.std.specs.Prelude.{◌≡◌, ℕ, ℤ, pos, ◌-ℤ◌, ◌+◌, ◌%◌, ◌<◌, ◌≤◌, ◌⊎◌, ◌&&◌, true, false, IsTrue, if◌then◌else◌, List, length, slice_get, Option, Some, None}
 use Rattle.std.specs.List.{fold}
 use Rattle.std.specs.Option.{is_some, option_map_or, unwrap_or}
 use Rattle.zc_base.specs.declared.place.Place.{Place}
@@ -22,7 +22,9 @@ use Rattle.frame_match.specs.declared.role.Role.TheVariants.{First}
 use Rattle.sym_machine.specs.Conditions.{is_solid}
 use Rattle.shrink_layout.specs.Halves.{fixed_instr}
 use Rattle.shrink_layout.specs.Pieces.{group_size, is_short}
-use Rattle.shrink_layout.specs.Units.{CodeUnit, OneGroup, OneItem, unit_items}
+use Rattle.shrink_layout.specs.Units.{CodeUnit, OneGroup, OneItem, OneSite, jump_of, unit_items}
+use Rattle.zc_link.specs.Front.{start_address}
+use Rattle.zc_link.specs.Stretches.{linked_by}
 use Rattle.zc_link.specs.TextLayout.{TextLayout, behind, front_end}
 use Rattle.zc_link.specs.Values.{way}
 
@@ -65,15 +67,29 @@ HasForm A a n (Word t) = n ≡ 4
 HasForm A a n (Raw word) = n ≡ 4
 HasForm A a n (RawPair first second) = n ≡ 8
 
--- what is written at a place is the item that starts there, or the group whose first item that is
-abbrev pub IsUnitAt : ParsedInputs → Place → CodeUnit → Type 0
-IsUnitAt inputs q (OneItem i) = item_at inputs q ≡ Some i
-IsUnitAt inputs q (OneGroup g) = role_at inputs q ≡ Some (First g)
+-- ---- units
+
+-- at a place stands a jump or call that links the register that jumps through a slot of the table link, and the slot leads where it
+-- does, which has an address
+pub record IsSiteAt (L : TextLayout) (q : Place) (slot : ℕ) : Type 0 where
+  pub item : Item
+  pub is : item_at (parsed L.inputs) q ≡ Some item
+  pub to : Place
+  pub goes : jump_of item ≡ Some (linked_by slot, to)
+  pub leads : slice_get L.slots slot ≡ Some (Some to)
+  pub listed : is_some (L.address to) ≡ true
+
+-- what is written at a place is the item that starts there, the group whose first item that is, or a jump through the table
+abbrev pub IsUnitAt : TextLayout → Place → CodeUnit → Type 0
+IsUnitAt L q (OneItem i) = item_at (parsed L.inputs) q ≡ Some i
+IsUnitAt L q (OneGroup g) = role_at (parsed L.inputs) q ≡ Some (First g)
+IsUnitAt L q (OneSite slot) = IsSiteAt L q slot
 
 -- it may take n bytes at an address
 abbrev pub UnitForm : (Place → Option ℕ) → ℕ → ℕ → CodeUnit → Type 0
 UnitForm A a n (OneItem i) = HasForm A a n i
 UnitForm A a n (OneGroup g) = n ≡ group_size g
+UnitForm A a n (OneSite slot) = n ≡ 2
 
 -- ---- layouts
 
@@ -84,7 +100,7 @@ HasNoAddress L q = (is_start_at (parsed L.inputs).objects q ≡ true) × (L.addr
 -- what is written at a place takes the bytes up to the place behind it, in a form that it may have there; the places of its further
 -- items have no addresses
 pub record LiesAt (L : TextLayout) (q : Place) (a : ℕ) (u : CodeUnit) : Type 0 where
-  pub is : IsUnitAt (parsed L.inputs) q u
+  pub is : IsUnitAt L q u
   pub size : ℕ
   pub next : L.address (behind L q) ≡ Some (a + size)
   pub form : UnitForm L.address a size u
@@ -114,14 +130,14 @@ pub record IsLaidOut (L : TextLayout) : Type 0 where
   pub leaders : ListsLeaders (parsed L.inputs) L.address
   -- where an item starts at a place with an address, something is written, and nowhere else
   pub written : (q : Place) → is_some (L.unit q) ≡ (is_some (L.address q) && is_start_at (parsed L.inputs).objects q)
-  -- nothing stands in front of the first section, and the image starts where the program does
-  pub front : L.front ≡ []
-  pub entry : L.address (entry_of (parsed L.inputs)) ≡ Some L.entry
+  -- the program's start has an address, and the table few slots
+  pub start : L.address (entry_of (parsed L.inputs)) ≡ Some (start_address L)
+  pub few : length L.slots ≤ 256
   -- addresses are even, and lie in the text, which isn't too long
   pub even : (q : Place) (a : ℕ) → L.address q ≡ Some a → a % 2 ≡ 0
   pub low : (q : Place) (a : ℕ) → L.address q ≡ Some a → front_end L ≤ a
   pub high : (q : Place) (a : ℕ) → L.address q ≡ Some a → a ≤ text_end L
-  pub short : text_end L ≤ L.inputs.map.text + 0x8_0000
+  pub short : text_end L ≤ L.inputs.map.text + 0x9_0000
   -- what is written lies between its place and the place behind it
   pub each : (q : Place) (a : ℕ) (u : CodeUnit) → L.unit q ≡ Some u → L.address q ≡ Some a → LiesAt L q a u
   -- a section begins no earlier than those before it end

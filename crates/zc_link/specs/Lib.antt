@@ -5,6 +5,7 @@ pub mod Stands
 pub mod Sound
 pub mod Pace
 pub mod TextLayout
+pub mod Front
 pub mod DataApart
 pub mod IsSimulation
 pub mod Preserves

@@ -1,15 +1,22 @@
 -- What links give, and what is promised of them.
-use Rattle.std.specs.Prelude.{◌≡◌, ℕ, ◌+◌, IsTrue, List, [], ◌∷◌, filter, All, Some}
+use Rattle.std.specs.Prelude.{◌≡◌, ℕ, ◌+◌, ◌≤◌, IsTrue, List, [], ◌∷◌, filter, All, Option, Some}
 use Rattle.zc_base.specs.declared.counts.Counts.{Counts}
 use Rattle.zc_base.specs.declared.mem_map.MemMap.{MemMap}
+use Rattle.zc_base.specs.declared.place.Place.{Place}
 use Rattle.elf32_read.specs.Places.{place_list}
 use Rattle.elf32_read.specs.Segments.{SegmentData, segments_of}
 use Rattle.elf32_write.specs.Image.{image_bytes}
 use Rattle.psabi_sym.specs.Inputs.{Inputs, parsed}
+use Rattle.pick_check.specs.Best.{NoneSavesMore}
+use Rattle.pick_check.specs.Certified.{Certified, IsAccepted}
+use Rattle.pick_check.specs.declared.saving.Saving.{Saving}
+use Rattle.jumptable_pick.specs.Picked.{picked}
+use Rattle.jumptable_pick.specs.Slots.{slot_places}
 use Rattle.block_cut.specs.PlainLayout.{plain_counts, plain_end}
 use Rattle.shrink_layout.specs.Layout.{IsLayout}
 use Rattle.shrink_layout.specs.Least.{IsLeast}
 use Rattle.shrink_layout.specs.Pieces.{is_unaligned, pieces_of}
+use Rattle.shrink_layout.specs.Savings.{savings_of}
 use Rattle.shrink_layout.specs.Settled.{settled_counts, settled_end, settled_sizes}
 use Rattle.sym_machine.specs.Objects.{program_of}
 use Rattle.zc_link.specs.Copied.{Copied}
@@ -22,9 +29,12 @@ use Rattle.zc_link.specs.Sound.{IsNamed}
 use Rattle.zc_link.specs.TextLayout.{TextLayout, plain_layout, stretch_in, zc_layout}
 use Rattle.zc_link.specs.Written.{GapsAreZero, HoldsFront, HoldsPlace}
 
--- what a link gives: the file of the image, and what the plain layout and the image count
+-- what a link gives: the file of the image, what a table of jumps and calls could save, the certificate of the table that it has,
+-- and what the plain layout and the image count
 pub record Link : Type 0 where
   pub elf : List ℕ
+  pub savings : List Saving
+  pub certificate : Certified
   pub plain : Counts
   pub zc : Counts
 
@@ -66,22 +76,49 @@ pub record IsImageOf (L : TextLayout) (flags end : ℕ) (elf : List ℕ) : Type 
   pub places : place_list elf ≡ listed_places L
   pub text_end : TextEndsAt L.inputs.map elf end
 
+-- ---- tables
+
+-- the certificate of a link without a table
+abbrev pub empty_certificate : Certified
+empty_certificate = record { slots = []; prices = 0 ∷ 0 ∷ 0 ∷ []; net = 0 }
+
+-- the places that the slots of a link's table lead to, of which some may be holes
+abbrev pub slots_of : Link → List (Option Place)
+slots_of link = slot_places link.savings link.certificate.slots
+
+-- the table is the one that is picked for what it could save, and its certificate shows that none saves more
+pub record HasBestTable (inputs : Inputs) (link : Link) : Type 0 where
+  pub savings : link.savings ≡ savings_of (parsed inputs)
+  pub is_picked : link.certificate ≡ picked link.savings
+  pub accepted : IsAccepted link.savings link.certificate
+  pub best : NoneSavesMore link.savings link.certificate.net
+
 -- ---- links
 
--- the link that writes code as it is: its image has the plain layout, and so have the counts
+-- the link that writes code as it is: its image has the plain layout, without a table, and so have the counts
 pub record IsPlainLink (inputs : Inputs) (link : Link) : Type 0 where
   pub image : IsImageOf (plain_layout inputs) 0 (plain_end (parsed inputs)) link.elf
   pub open image use *
+  pub savings : link.savings ≡ []
+  pub certificate : link.certificate ≡ empty_certificate
   pub plain : link.plain ≡ plain_counts (parsed inputs)
   pub zc : link.zc ≡ plain_counts (parsed inputs)
 
--- the link that makes code smaller: its image has the layout of the first round of sizes that fits, which are the least that fit
--- if nothing is aligned above 4 bytes; and what the plain layout and this one count
-pub record IsZcLink (inputs : Inputs) (link : Link) : Type 0 where
-  pub settled : IsLayout inputs.map.text (pieces_of (parsed inputs)) (settled_sizes (parsed inputs))
+-- behind a table of these slots, sizes are those of the first round that fits; if nothing is aligned above 4 bytes, they are the
+-- least that fit, and the text is shorter than without the table, by so many bytes at least
+pub record IsShortest (inputs : Inputs) (slots : List (Option Place)) (net : ℕ) : Type 0 where
+  pub settled : IsLayout inputs.map.text (pieces_of (parsed inputs) slots) (settled_sizes (parsed inputs) slots)
   pub least : IsTrue (is_unaligned (parsed inputs))
-      → IsLeast inputs.map.text (pieces_of (parsed inputs)) (settled_sizes (parsed inputs))
-  pub image : IsImageOf (zc_layout inputs) 1 (settled_end (parsed inputs)) link.elf
+      → IsLeast inputs.map.text (pieces_of (parsed inputs) slots) (settled_sizes (parsed inputs) slots)
+  pub pays : IsTrue (is_unaligned (parsed inputs))
+      → settled_end (parsed inputs) slots + net ≤ settled_end (parsed inputs) []
+
+-- the link that makes code smaller: its image has the settled layout behind the best table; and what the plain layout and this one
+-- count
+pub record IsZcLink (inputs : Inputs) (link : Link) : Type 0 where
+  pub table : HasBestTable inputs link
+  pub layout : IsShortest inputs (slots_of link) link.certificate.net
+  pub image : IsImageOf (zc_layout inputs (slots_of link)) 1 (settled_end (parsed inputs) (slots_of link)) link.elf
   pub open image use *
   pub plain : link.plain ≡ plain_counts (parsed inputs)
-  pub zc : link.zc ≡ settled_counts (parsed inputs)
+  pub zc : link.zc ≡ settled_counts (parsed inputs) (slots_of link)

@@ -4,7 +4,7 @@ use Rattle.zc_base.specs.declared.place.Place.{Place}
 use Rattle.rv_decode.specs.declared.instr.BranchOp.{BranchOp}
 use Rattle.block_cut.specs.declared.item.Item.TheVariants.{Branch, Call, Align}
 use Rattle.frame_match.specs.declared.group.Group.{Group}
-use Rattle.shrink_layout.specs.Units.{CodeUnit, OneGroup, OneItem}
+use Rattle.shrink_layout.specs.Units.{CodeUnit, OneGroup, OneItem, OneSite}
 use Rattle.sym_machine.specs.Conditions.{condition}
 use Rattle.sym_machine.specs.Program.{Program}
 use Rattle.sym_machine.specs.State.{PlainCore, reg_of}
@@ -17,14 +17,15 @@ pub record Pace : Type 0 where
 
 -- ---- stretches
 
--- what starts at a place: an item that is one instruction; an ALIGN of so many; a call of two; a branch of two; or a group of so
--- many items in so many instructions
+-- what starts at a place: an item that is one instruction; an ALIGN of so many; a call of two; a branch of two; a group of
+-- so many items in so many instructions; or a jump or call through a slot of the jump table
 pub data Stretch : Type 0 where
   Alone : Stretch
   AlignOf : (count : ℕ) → Stretch
   CallOf : Stretch
   LongOf : (op : BranchOp) → (first second : ℕ) → Stretch
   GroupOf : (items commits : ℕ) → Stretch
+  TableOf : (slot : ℕ) → Stretch
 
 -- its number of items
 abbrev pub span_of : Stretch → ℕ
@@ -33,6 +34,7 @@ span_of (AlignOf count) = 1
 span_of CallOf = 1
 span_of (LongOf op first second) = 1
 span_of (GroupOf items commits) = items
+span_of (TableOf slot) = 1
 
 -- a branch of two instructions takes both if it is taken, and else goes over the second
 abbrev pub long_commits : Option Bool → ℕ
@@ -47,6 +49,7 @@ commits_of p s (AlignOf count) = count
 commits_of p s CallOf = 2
 commits_of p s (LongOf op first second) = long_commits (condition p op (reg_of s first) (reg_of s second))
 commits_of p s (GroupOf items commits) = commits
+commits_of p s (TableOf slot) = 1
 
 -- the pace of an image in which these stretches start at places
 abbrev pub pace_of : Program → (Place → Stretch) → Pace
@@ -74,6 +77,7 @@ stretch_of n (Some (OneItem (Branch op first second to))) = if n == 8 then LongO
 stretch_of n (Some (OneItem (Call rd temp to))) = if n == 8 then CallOf else Alone
 stretch_of n (Some (OneItem (Align bytes))) = AlignOf (padding_commits n)
 stretch_of n (Some (OneGroup g)) = GroupOf g.items (commits_in g)
+stretch_of n (Some (OneSite slot)) = TableOf slot
 stretch_of n _ = Alone
 
 -- ---- the start

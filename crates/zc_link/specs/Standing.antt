@@ -18,7 +18,8 @@ use Rattle.block_cut.specs.Relocs.{instr_in}
 use Rattle.block_cut.specs.declared.place_number.PlaceNumber.{PlaceNumber}
 use Rattle.block_cut.specs.declared.item.Item.{Item}
 use Rattle.block_cut.specs.declared.item.Item.TheVariants.{Op, Hi, Lo, PcHi, PcLo, Branch, Jump, Call, Align, Word, Raw, RawPair}
-use Rattle.shrink_layout.specs.Units.{CodeUnit, OneItem}
+use Rattle.frame_match.specs.declared.role.Role.{Role}
+use Rattle.shrink_layout.specs.Units.{CodeUnit, OneItem, role_unit}
 use Rattle.zc_decode.specs.declared.short.Short.{Short}
 use Rattle.zc_decode.specs.declared.short.Short.TheVariants.{Base, MoveAs, MoveSa, Pop, PopRet, PopRetz, Push, TableJump}
 use Rattle.zc_encode.specs.Halves.{encoded16}
@@ -124,6 +125,10 @@ pub record StandsHere (L : TextLayout) (code : List ℕ) (q : Place) (item : Ite
 
 -- ---- units
 
+-- with a slot of the table or none, this is what is written for an item that is this to groups
+abbrev pub IsRoleUnit : Option CodeUnit → Option Item → Role → Type 0
+IsRoleUnit unit item role = (slot : Option ℕ) × (unit ≡ role_unit slot item role)
+
 -- what no word spells
 abbrev pub HasNoWord : Short → Type 0
 HasNoWord (Base i) = ⊥
@@ -139,7 +144,7 @@ HasNoWord (TableJump index) = Unit {0}
 abbrev pub HasHalf : Short → Type 0
 HasHalf short = HasNoWord short × IsTrue (is_some (encoded16 short))
 
--- these bytes are what is written for an item or a group
+-- these bytes are what is written in one piece
 pub record WrittenHere (L : TextLayout) (code : List ℕ) (q : Place) (u : CodeUnit) (a n : ℕ) (bytes : List ℕ) : Type 0 where
   pub long : length bytes ≡ n
   pub written : UnitWritten L.address (item_at (parsed L.inputs)) (bytes_from code q.offset) a n u bytes

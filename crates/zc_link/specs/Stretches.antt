@@ -1,5 +1,5 @@
 -- What is laid for what starts at a listed place: its instructions stand at the place's address.
-use Rattle.std.specs.Prelude.{◌≡◌, ℕ, zero, suc, ℤ, pos, ◌+◌, ◌*◌, ◌/◌, ◌%◌, ◌^◌, ◌<◌, ◌⊎◌, List, [], ◌∷◌, length, Option, Some, None}
+use Rattle.std.specs.Prelude.{◌≡◌, ℕ, zero, suc, ℤ, pos, ◌+◌, ◌*◌, ◌/◌, ◌%◌, ◌^◌, ◌<◌, ◌⊎◌, true, nat_lt, if◌then◌else◌, List, [], ◌∷◌, length, Option, Some, None}
 use Rattle.zc_base.specs.declared.place.Place.{Place}
 use Rattle.rv_decode.specs.declared.instr.Instr.{Instr}
 use Rattle.rv_decode.specs.declared.instr.Instr.TheVariants as instr
@@ -8,8 +8,10 @@ use Rattle.rv_decode.specs.declared.instr.BranchOp.{BranchOp}
 use Rattle.rv_decode.specs.declared.instr.ImmOp.TheVariants.{Addi}
 use Rattle.rv_decode.specs.declared.instr.UpperOp.TheVariants.{Auipc}
 use Rattle.rv_decode.specs.Bits.{add32}
+use Rattle.rv_decode.specs.Memory.{extents_of, is_text, lies_in}
 use Rattle.rv_decode.specs.Normal.{SameEffect}
 use Rattle.rv_decode.specs.Registers.{HasRegisters}
+use Rattle.rv_decode.specs.State.{word_at}
 use Rattle.psabi_reloc.specs.Parts.{hi20_of, lo12_of}
 use Rattle.psabi_reloc.specs.Patched.{with_imm, with_upper}
 use Rattle.psabi_sym.specs.declared.target.Target.{Target}
@@ -19,11 +21,11 @@ use Rattle.sym_machine.specs.AddressParts.{pc_target}
 use Rattle.sym_machine.specs.Program.{Program}
 use Rattle.zca_zcb_pass.specs.Forms.{IsOpposite}
 use Rattle.zc_decode.specs.declared.short.Short.{Short}
-use Rattle.zc_decode.specs.declared.short.Short.TheVariants.{Base, MoveAs, MoveSa, Push}
+use Rattle.zc_decode.specs.declared.short.Short.TheVariants.{Base, MoveAs, MoveSa, Push, TableJump}
 use Rattle.zc_machine.specs.Fetch.{Found, fetched_at}
 use Rattle.zc_link.specs.Groups.{Ending, GroupKind, IsGroup, MovesFromSaved, MovesToSaved, PopOf, PushOf, adjust_of, group_commits, group_ops, lower_sp, pop_kind, raise_sp, rest_of}
 use Rattle.zc_link.specs.Image.{Image, loaded_core}
-use Rattle.zc_link.specs.Pace.{Stretch, Alone, AlignOf, CallOf, GroupOf, LongOf}
+use Rattle.zc_link.specs.Pace.{Stretch, Alone, AlignOf, CallOf, GroupOf, LongOf, TableOf}
 use Rattle.zc_link.specs.Values.{target_value, way}
 
 -- ---- instructions
@@ -206,6 +208,38 @@ pub record GroupLaid (p : Program) (e : Image) (q : Place) (a items commits : �
   pub inside : (k : ℕ) → 0 < k → k < items → e.address (place_on p q k) ≡ None
   pub next : e.address (place_on p q items) ≡ Some end
 
+-- ---- the jump table
+
+-- the register that gets the next address: x0 in the slots of jumps, and ra in those of calls (RISC-V Zc specification 1.0,
+-- "Zcmt")
+abbrev pub linked_by : ℕ → ℕ
+linked_by slot = if nat_lt slot 32 then 0 else 1
+
+-- a place's item goes to another place, and puts the next address in this register
+pub data GoesTo (p : Program) (q : Place) (rd : ℕ) (to : Place) : Type 0 where
+  ByJump : p.item q ≡ Some (Jump rd to) → GoesTo p q rd to
+  ByCall : (temp : ℕ) → p.item q ≡ Some (Call rd temp to) → GoesTo p q rd to
+
+-- the address of a slot of the table, with which the text begins
+abbrev pub slot_address : Image → ℕ → ℕ
+slot_address e slot = e.map.text + 4 * slot
+
+-- a slot of the table is a word of the text, which holds a place's address
+pub record SlotHolds (e : Image) (slot : ℕ) (to : Place) : Type 0 where
+  pub small : slot_address e slot < 2 ^ 32
+  pub lies : lies_in is_text (extents_of (loaded_core e).memory) (slot_address e slot) 4 ≡ true
+  pub leads : e.address to ≡ Some (word_at (loaded_core e) (slot_address e slot))
+
+-- a jump or call through a slot of the table; the image doesn't start at the program's start, so that jvt is the table's
+-- address
+pub record TableLaid (p : Program) (e : Image) (q : Place) (a slot : ℕ) : Type 0 where
+  pub to : Place
+  pub goes : GoesTo p q (linked_by slot) to
+  pub at : OneAt e a (TableJump slot)
+  pub entry : SlotHolds e slot to
+  pub elsewhere : e.address p.entry ≡ Some e.entry → ⊥
+  pub next : e.address (p.next q) ≡ Some (a + at.size)
+
 -- ---- stretches
 
 abbrev pub StretchLaid : Program → Image → Place → ℕ → Stretch → Type 0
@@ -214,3 +248,4 @@ StretchLaid p e q a (AlignOf count) = AlignLaid p e q a count
 StretchLaid p e q a CallOf = CallLaid p e q a
 StretchLaid p e q a (LongOf op first second) = LongLaid p e q a op first second
 StretchLaid p e q a (GroupOf items commits) = GroupLaid p e q a items commits
+StretchLaid p e q a (TableOf slot) = TableLaid p e q a slot

@@ -1,22 +1,22 @@
 -- A layout of the text: what is written where.
-use Rattle.std.specs.Prelude.{ℕ, ◌+◌, List, [], length, Option}
-use Rattle.std.specs.Option.{option_map, option_map_or, unwrap_or}
+use Rattle.std.specs.Prelude.{ℕ, ◌+◌, List, [], Option}
+use Rattle.std.specs.Option.{option_map, option_map_or}
 use Rattle.zc_base.specs.declared.place.Place.{Place}
 use Rattle.psabi_sym.specs.Inputs.{Inputs, parsed}
-use Rattle.block_cut.specs.Items.{after_items, entry_of, item_at}
+use Rattle.block_cut.specs.Items.{after_items, item_at}
 use Rattle.block_cut.specs.PlainLayout.{plain_address}
+use Rattle.shrink_layout.specs.Pieces.{unit_at}
 use Rattle.shrink_layout.specs.Settled.{settled_address}
-use Rattle.shrink_layout.specs.Units.{CodeUnit, OneItem, front_bytes, unit_at, unit_items}
+use Rattle.shrink_layout.specs.Units.{CodeUnit, OneItem, front_size, unit_items}
 use Rattle.zc_link.specs.Pace.{Stretch, bytes_between, stretch_of}
 
--- the objects, the addresses of places, what is written at a place in one piece, the bytes in front of the first section (as many
--- as the layout's first piece has), and where the image starts
+-- the objects, the addresses of places, what is written at a place in one piece, and the slots of the table with which the text
+-- begins, each a hole or the place that it leads to; without slots there is no table
 pub record TextLayout : Type 0 where
   pub inputs : Inputs
   pub address : Place → Option ℕ
   pub unit : Place → Option CodeUnit
-  pub front : List ℕ
-  pub entry : ℕ
+  pub slots : List (Option Place)
 
 -- code as it is: each item by itself
 abbrev pub plain_layout : Inputs → TextLayout
@@ -24,23 +24,21 @@ plain_layout inputs = record {
   inputs = inputs;
   address = plain_address (parsed inputs);
   unit = λ q. option_map OneItem (item_at (parsed inputs) q);
-  front = [];
-  entry = unwrap_or (plain_address (parsed inputs) (entry_of (parsed inputs))) inputs.map.text;
+  slots = [];
 }
 
--- code made smaller
-abbrev pub zc_layout : Inputs → TextLayout
-zc_layout inputs = record {
+-- code made smaller, behind a table of these slots
+abbrev pub zc_layout : Inputs → List (Option Place) → TextLayout
+zc_layout inputs slots = record {
   inputs = inputs;
-  address = settled_address (parsed inputs);
-  unit = unit_at (parsed inputs);
-  front = front_bytes;
-  entry = unwrap_or (settled_address (parsed inputs) (entry_of (parsed inputs))) inputs.map.text;
+  address = settled_address (parsed inputs) slots;
+  unit = unit_at (parsed inputs) slots;
+  slots = slots;
 }
 
--- where the first section may begin
+-- where the first section may begin: behind the table and its stub
 abbrev pub front_end : TextLayout → ℕ
-front_end L = L.inputs.map.text + length L.front
+front_end L = L.inputs.map.text + front_size L.slots
 
 -- the place after what is written at a place
 abbrev pub behind : TextLayout → Place → Place

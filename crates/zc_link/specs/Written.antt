@@ -1,5 +1,5 @@
--- What is written in a layout: each item in so many bytes, with what its relocation asks for (RISC-V ELF psABI, "Relocations"), or a
--- group of items as a push, a pop or two moves (RISC-V Zc specification 1.0, "Zcmp").
+-- What is written in a layout: each item in so many bytes, with what its relocation asks for (RISC-V ELF psABI, "Relocations"), a
+-- group of items as a push, a pop or two moves, or a jump or call through the table (RISC-V Zc specification 1.0, "Zcmp" and "Zcmt").
 use Rattle.std.specs.Prelude.{◌≡◌, ℕ, ℤ, pos, ◌-ℤ◌, ◌+◌, ◌-◌, ◌/◌, ◌%◌, ◌^◌, ◌<◌, ◌≤◌, ◌⊎◌, ◌==◌, if◌then◌else◌, List, [], ◌++◌, length, replicate, slice_index, take, All, Option, Some}
 use Rattle.std.specs.List.{flat_map}
 use Rattle.zc_base.specs.Fields.{half_bytes, word_bytes}
@@ -18,15 +18,16 @@ use Rattle.rv_decode.specs.Bits.{add32}
 use Rattle.rv_decode.specs.Decode.{decoded}
 use Rattle.zc_decode.specs.Halfwords.{decoded16}
 use Rattle.zc_decode.specs.declared.short.Short.{Short}
-use Rattle.zc_decode.specs.declared.short.Short.TheVariants.{Base}
+use Rattle.zc_decode.specs.declared.short.Short.TheVariants.{Base, TableJump}
 use Rattle.zc_encode.specs.Halves.{encoded16}
 use Rattle.zca_zcb_pass.specs.Forms.{HasEffectOf, IsOpposite}
 use Rattle.block_cut.specs.Items.{code_at, item_at, targets_of}
 use Rattle.block_cut.specs.declared.item.Item.{Item}
 use Rattle.block_cut.specs.declared.item.Item.TheVariants.{Op, Hi, Lo, PcHi, PcLo, Branch, Jump, Call, Align, Word, Raw, RawPair}
 use Rattle.frame_match.specs.declared.group.Group.{Group}
-use Rattle.shrink_layout.specs.Units.{CodeUnit, OneGroup, OneItem, is_push, rest_instr}
+use Rattle.shrink_layout.specs.Units.{CodeUnit, OneGroup, OneItem, OneSite, front_size, is_push, rest_instr}
 use Rattle.zc_link.specs.Copied.{bytes_from}
+use Rattle.zc_link.specs.Front.{IsFront}
 use Rattle.zc_link.specs.ImageParts.{with_address}
 use Rattle.zc_link.specs.LaidOut.{code_end_after}
 use Rattle.zc_link.specs.TextLayout.{TextLayout, behind, front_end}
@@ -161,6 +162,7 @@ IsGroupWritten n g bytes = ((g.rest ≡ 0) × SpellsHalf bytes g.kind) ⊎ ((0 <
 abbrev pub UnitWritten : (Place → Option ℕ) → (Place → Option Item) → (ℕ → List ℕ) → ℕ → ℕ → CodeUnit → List ℕ → Type 0
 UnitWritten A item own a n (OneItem i) bytes = IsWritten A item own a n i bytes
 UnitWritten A item own a n (OneGroup g) bytes = IsGroupWritten n g bytes
+UnitWritten A item own a n (OneSite slot) bytes = SpellsHalf bytes (TableJump slot)
 
 -- ---- text
 
@@ -181,7 +183,7 @@ HoldsPlace L text e = (u : CodeUnit) → L.unit e.0 ≡ Some u → HoldsUnit L t
 
 -- the text begins with what stands in front
 abbrev pub HoldsFront : TextLayout → List ℕ → Type 0
-HoldsFront L text = take (length L.front) text ≡ L.front
+HoldsFront L text = IsFront L (take (front_size L.slots) text)
 
 -- nothing that is written takes the byte at an address
 abbrev pub IsGap : TextLayout → ℕ → Type 0
@@ -192,7 +194,7 @@ IsGap L a =
 -- such bytes of a text, behind what stands in front, are 0
 abbrev pub GapsAreZero : TextLayout → List ℕ → Type 0
 GapsAreZero L text =
-    (k : ℕ) → length L.front ≤ k → k < length text → IsGap L (L.inputs.map.text + k) → slice_index text k ≡ 0
+    (k : ℕ) → front_size L.slots ≤ k → k < length text → IsGap L (L.inputs.map.text + k) → slice_index text k ≡ 0
 
 -- the text so far: it lists these places, it ends at this address, it holds what stands in front and what is written at the places,
 -- and all else of it is 0

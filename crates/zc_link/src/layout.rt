@@ -1,23 +1,26 @@
 // Layouts of code, as links see them.
 
-ghost use Rattle.std.specs.Prelude.{◌≡◌, ℕ, Some, true};
+ghost use Rattle.std.specs.Prelude.{◌≡◌, [], ℕ, OnOk, Some, true};
 ghost use Rattle.block_cut.specs.Items.{is_start_at, is_target_at, item_at};
 ghost use Rattle.block_cut.specs.Places.{IsPlaceNumber};
 ghost use Rattle.block_cut.specs.declared.item.Item.{Item};
 ghost use Rattle.frame_match.specs.Invariants.Marks.{HasItem};
 ghost use Rattle.psabi_sym.specs.Inputs.{parsed};
-ghost use Rattle.shrink_layout.specs.Halves.{IsHalfOf};
+ghost use Rattle.shrink_layout.specs.Halves.{IsHalfOf, IsSiteHalf};
 ghost use Rattle.shrink_layout.specs.Invariants.Numbers.{HasPlace};
-ghost use Rattle.shrink_layout.specs.Units.{OneItem, role_unit};
+ghost use Rattle.shrink_layout.specs.Units.{OneItem};
 ghost use Rattle.zc_base.specs.declared.place.Place.{Place};
+ghost use Rattle.zc_link.specs.Front.{IsFront, image_entry};
 ghost use Rattle.zc_link.specs.LaidOut.{IsLaidOut};
-ghost use Rattle.zc_link.specs.Standing.{IsReady};
+ghost use Rattle.zc_link.specs.Standing.{IsReady, IsRoleUnit};
 ghost use Rattle.zc_link.specs.TextLayout.{TextLayout, plain_layout, size_in, zc_layout};
 
+use crate::front::{add_front, program_start, stub_address};
 use block_cut::cut::Cut;
 use block_cut::place_number::PlaceNumber;
 use frame_match::role::Role;
 use shrink_layout::settled::Settled;
+use std::alloc::AllocError;
 use zc_base::place::Place;
 
 /// What is written where.
@@ -50,7 +53,14 @@ pub trait Layout {
         requires { HasItem (parsed (layout self.now).inputs).objects number }
         ensures { (q : Place) → is_start_at (parsed (layout self.now).inputs).objects q ≡ true
             → IsPlaceNumber (parsed (layout self.now).inputs).objects q number
-            → (layout self.now).unit q ≡ role_unit (item_at (parsed (layout self.now).inputs) q) result };
+            → IsRoleUnit ((layout self.now).unit q) (item_at (parsed (layout self.now).inputs) q) result };
+
+    /// The halfword of a jump or call through the table, by where its place stands among all; none of other items.
+    fn site_half(&self, number: PlaceNumber) -> Option<u16>
+        requires { HasItem (parsed (layout self.now).inputs).objects number }
+        ensures { (q : Place) → is_start_at (parsed (layout self.now).inputs).objects q ≡ true
+            → IsPlaceNumber (parsed (layout self.now).inputs).objects q number
+            → IsSiteHalf ((layout self.now).unit q) result };
 
     /// The halfword of an item that is written by itself in two bytes and whose instruction doesn't depend on addresses, by
     /// where its place stands among all.
@@ -60,9 +70,14 @@ pub trait Layout {
             → IsPlaceNumber (parsed (layout self.now).inputs).objects q number → size_in (layout self.now) q ≡ 2
             → IsHalfOf item result };
 
+    /// Begins a text with what stands in front of the first section. It takes time linear in the slots of the table.
+    fn add_front(&self, text: &mut Vec<u8>) -> Result<(), AllocError>
+        requires { text.old.items ≡ [] }
+        ensures { OnOk result (IsFront (layout self.now) text.new.items) };
+
     /// Where the image starts.
     fn entry(&self) -> u32
-        ensures { result ≡ (layout self.now).entry };
+        ensures { result ≡ image_entry (layout self.now) };
 }
 
 impl Layout for Cut {
@@ -88,10 +103,18 @@ impl Layout for Cut {
         Role::Alone
     }
 
+    fn site_half(&self, _number: PlaceNumber) -> Option<u16> {
+        None
+    }
+
     fn half_at(&self, _number: PlaceNumber) -> u16 {
         // This call says that the cut is ready for a link: so nothing takes two bytes but padding.
         let _cut = Layout::cut(self);
         0
+    }
+
+    fn add_front(&self, _text: &mut Vec<u8>) -> Result<(), AllocError> {
+        Ok(())
     }
 
     fn entry(&self) -> u32 {
@@ -101,10 +124,11 @@ impl Layout for Cut {
 }
 
 impl Layout for Settled {
-    ghost layout = { λ settled. zc_layout settled };
+    ghost layout = { λ settled. zc_layout settled.inputs settled.slots };
 
     fn cut(&self) -> &Cut {
-        // This call says that a cut is ready for a link.
+        // These calls say that the table has few slots, and that a cut is ready for a link.
+        let _slots = self.slots();
         Layout::cut(self.planned().cut())
     }
 
@@ -120,12 +144,27 @@ impl Layout for Settled {
         self.planned().role_at(number)
     }
 
+    fn site_half(&self, number: PlaceNumber) -> Option<u16> {
+        Settled::site_half(self, number)
+    }
+
     fn half_at(&self, number: PlaceNumber) -> u16 {
         Settled::half_at(self, number)
     }
 
+    fn add_front(&self, text: &mut Vec<u8>) -> Result<(), AllocError> {
+        // This call says that the layout is one that a link may have: so the stub reaches the program's start.
+        let _cut = Layout::cut(self);
+        add_front(self, text)
+    }
+
     fn entry(&self) -> u32 {
-        let cut = self.planned().cut();
-        Settled::address(self, cut.entry()).unwrap_or(cut.objects().map().text)
+        // So does this one.
+        let _cut = Layout::cut(self);
+        if self.slots().is_empty() {
+            program_start(self)
+        } else {
+            stub_address(self)
+        }
     }
 }

@@ -3,6 +3,7 @@
 
 mod code;
 mod extent;
+mod front;
 mod group;
 mod image;
 mod item;

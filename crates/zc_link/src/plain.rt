@@ -8,6 +8,7 @@ ghost use Rattle.zc_link.specs.Links.{IsPlainLink};
 use crate::image::image_of;
 use crate::linked::Linked;
 use block_cut::cut::Cut;
+use pick_check::certificate::Certificate;
 use psabi_sym::link_fault::LinkFault;
 use psabi_sym::objects::Objects;
 use std::alloc::Global;
@@ -22,8 +23,15 @@ pub fn link_plain(alloc: Global, objects: Objects) -> Result<Linked, LinkFault>
     let cut = Cut::new(alloc, objects)?;
     let elf = image_of(alloc, &cut, 0)?;
     let counts = cut.counts();
+    let certificate = Certificate {
+        slots: Vec::new(alloc),
+        prices: [0, 0, 0],
+        net: 0,
+    };
     Ok(Linked {
         elf,
+        savings: Vec::new(alloc),
+        certificate,
         plain: counts,
         zc: counts,
     })

@@ -21,8 +21,8 @@ pub struct Text {
 }
 
 impl Text {
-    /// The text of a layout's code, with all its places. It takes time linear in the code and the number of
-    /// sections.
+    /// The text of a layout's code, with all its places: what stands in front, and then the sections. It takes time
+    /// linear in the code and the number of sections.
     pub fn lay<L: Layout>(alloc: Global, layout: &L) -> Result<Text, AllocError>
         ensures { IfOk result (λ laid. IsTextOf (L.layout layout.now)
             (all_sections (parsed (L.layout layout.now).inputs).objects) laid.text.items laid.places.items) }
@@ -35,6 +35,7 @@ impl Text {
             text: Vec::with_capacity(alloc, counts.text as usize)?,
             places: Vec::with_capacity(alloc, counts.items as usize + sections as usize)?,
         };
+        layout.add_front(&mut laid.text)?;
         for k in 0..sections {
             laid.add_section(layout, k)?;
         }

@@ -1,9 +1,10 @@
-// What is written at a place: an item by itself, or a group at its first.
+// What is written at a place: an item by itself, a group at its first, or a jump through the table.
 
 ghost use Rattle.std.specs.Prelude.{◌≡◌, None, Some, IfNone, IfSome, ℕ};
 ghost use Rattle.shrink_layout.specs.Units.{OneItem};
 ghost use Rattle.zc_link.specs.Codes.{code_bytes};
-ghost use Rattle.zc_link.specs.Standing.{StartsHere, UnitHere};
+ghost use Rattle.zc_link.specs.Standing.{IsRoleUnit, StartsHere, UnitHere};
+ghost use Rattle.frame_match.specs.declared.role.Role.{Role};
 
 use crate::code::Code;
 use crate::extent::{ItemExtent, ItemStart};
@@ -25,9 +26,25 @@ pub fn unit_code<'a, L: Layout>(layout: &L, start: ItemStart<'a>, item: Item) ->
     // This call says that the layout is one that a link may have.
     let _cut = layout.cut();
     match layout.role_at(start.number) {
-        Role::Alone => Some(alone_code(layout, start, item)),
+        Role::Alone => Some(lone_code(layout, start, item)),
         Role::First(group) => Some(group_code(&group)),
         Role::Inside => None,
+    }
+}
+
+// What is written for an item outside groups: a jump or call through the table, or the item by itself.
+fn lone_code<'a, L: Layout>(layout: &L, start: ItemStart<'a>, item: Item) -> Code<'a>
+    requires starts { StartsHere (L.layout layout.now) start.number start.code.now start.at item }
+    requires unit { IsRoleUnit ((L.layout layout.now).unit start.at) (Some item) Role.Alone }
+    requires address { (L.layout layout.now).address start.at ≡ Some start.address }
+    ensures { UnitHere (L.layout layout.now) start.entry.code.now start.entry.at start.entry.address
+        (code_bytes result) }
+{
+    // So does this one.
+    let _cut = layout.cut();
+    match layout.site_half(start.number) {
+        Some(half) => Code::Half(half),
+        None => alone_code(layout, start, item),
     }
 }
 

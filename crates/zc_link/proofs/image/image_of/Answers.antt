@@ -6,6 +6,7 @@ use Rattle.psabi_sym.specs.Data.{data_end, data_file_end}
 use Rattle.psabi_sym.specs.Inputs.{Inputs, parsed}
 use Rattle.zc_base.specs.declared.mem_map.MemMap.{MemMap}
 use Rattle.zc_base.specs.declared.place.Place.{Place}
+use Rattle.zc_link.specs.Front.{image_entry}
 use Rattle.zc_link.specs.ImageParts.{image_data, listed_places, parts_of}
 use Rattle.zc_link.specs.TextLayout.{TextLayout}
 use Rattle.zc_link.proofs.Adds.{AreBytes}
@@ -16,7 +17,7 @@ use Rattle.zc_link.proofs.image.image_of.Goals as goal
 use Rattle.zc_link.proofs.image.image_of.Goals.{After-entry}
 
 -- the parts of a layout's image, from each of them
-parts_same : (L : TextLayout) (flags : ℕ) (map : MemMap) (entry end : ℕ) (text bytes : List ℕ) (places : List (Place × ℕ)) → map ≡ L.inputs.map → entry ≡ L.entry
+parts_same : (L : TextLayout) (flags : ℕ) (map : MemMap) (entry end : ℕ) (text bytes : List ℕ) (places : List (Place × ℕ)) → map ≡ L.inputs.map → entry ≡ image_entry L
     → places ≡ listed_places L → bytes ≡ image_data (parsed L.inputs) L.address → end ≡ data_end (parsed L.inputs) - data_file_end (parsed L.inputs)
     → record { entry = entry; flags = flags; text_at = map.text; text = text; data_at = map.data_low; data_bytes = bytes; zero = end; places = places } ≡ parts_of L flags text
 parts_same L flags map entry end text bytes places is_map is_entry is_places is_bytes is_end =

@@ -1,5 +1,5 @@
 -- The image of the plain layout ends where that layout does, and both count what it counts.
-use Rattle.std.proofs.Common.{ap, subst, ◌∙◌}
+use Rattle.std.proofs.Common.{rules, ap, subst, ◌∙◌}
 use Rattle.psabi_sym.specs.Inputs.{Inputs, parsed}
 use Rattle.block_cut.specs.PlainLayout.{plain_counts}
 use Rattle.zc_link.specs.LaidOut.{text_end}
@@ -18,6 +18,8 @@ returns-clause-link c =
     let counts = c.counts-counts.ensures ∙ ap (λ (x : Inputs). plain_counts (parsed x)) same in
     record {
       image = subst (λ n. IsImageOf (plain_layout inputs) 0 n c.in_ok-elf.elf.items) (plain_end_is inputs ready) image;
+      savings = search rules;
+      certificate = search rules;
       plain = counts;
       zc = counts;
     }

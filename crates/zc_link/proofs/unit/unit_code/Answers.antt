@@ -1,13 +1,14 @@
--- By what the item is to groups: by itself, the first of one, or inside one, where nothing is written.
+-- By what the item is to groups: outside of them, the first of one, or inside one, where nothing is written.
 use Rattle.std.proofs.Common.{◌≡◌, ◌<◌, ◌^◌, Some, None, true, sym, ap, ◌∙◌, subst, arith}
 use Rattle.psabi_sym.specs.Faults.{gather_fault}
 use Rattle.psabi_sym.specs.Inputs.{parsed}
 use Rattle.block_cut.specs.Items.{is_start_at}
 use Rattle.frame_match.specs.declared.group.Group.{Group}
-use Rattle.frame_match.specs.declared.role.Role.TheVariants.{First}
-use Rattle.shrink_layout.specs.Units.{CodeUnit, OneGroup, OneItem, role_unit}
+use Rattle.frame_match.specs.declared.role.Role.{Role}
+use Rattle.frame_match.specs.declared.role.Role.TheVariants.{Alone, First, Inside}
+use Rattle.shrink_layout.specs.Units.{CodeUnit, OneGroup, item_unit}
 use Rattle.zc_link.specs.Codes.{code_bytes}
-use Rattle.zc_link.specs.Standing.{HasHalf}
+use Rattle.zc_link.specs.Standing.{HasHalf, IsRoleUnit}
 use Rattle.zc_link.specs.TextLayout.{TextLayout}
 use Rattle.zc_link.proofs.GroupHalves.{half_there, rest_low}
 use Rattle.zc_link.proofs.GroupItems.{IsKnown, group_known}
@@ -29,11 +30,14 @@ module _ (g : given.Over) (c : After-role_at g) where
   start = alone_start L none c.cut-cut.ensures.ready c.cut-cut.ensures.laid c.args.start.number c.args.start.code.now c.args.start.at c.args.item c.requires.starts
 
   -- what is written there
-  unit_of : L.unit c.args.start.at ≡ role_unit (Some c.args.item) c.role_at.result
+  unit_of : IsRoleUnit (L.unit c.args.start.at) (Some c.args.item) c.role_at.result
   unit_of =
-      c.role_at.ensures c.args.start.at start
-      (alone_number L none c.cut-cut.ensures.ready c.cut-cut.ensures.laid c.args.start.number c.args.start.code.now c.args.start.at c.args.item c.requires.starts)
-      ∙ ap (λ o. role_unit o c.role_at.result) c.requires.starts.is
+      subst (λ o. IsRoleUnit (L.unit c.args.start.at) o c.role_at.result) c.requires.starts.is
+      (c.role_at.ensures c.args.start.at start
+      (alone_number L none c.cut-cut.ensures.ready c.cut-cut.ensures.laid c.args.start.number c.args.start.code.now c.args.start.at c.args.item c.requires.starts))
+
+  unit_by : (role : Role) → c.role_at.result ≡ role → IsRoleUnit (L.unit c.args.start.at) (Some c.args.item) role
+  unit_by role is = subst (IsRoleUnit (L.unit c.args.start.at) (Some c.args.item)) is unit_of
 
   -- has the address at hand
   address_of : (u : CodeUnit) → L.unit c.args.start.at ≡ Some u → L.address c.args.start.at ≡ Some c.args.start.address
@@ -44,7 +48,7 @@ module _ (g : given.Over) (c : After-role_at g) where
   -- a group's halfword and rest
   module _ (group : Group) (is : c.role_at.result ≡ First group) where
     unit : L.unit c.args.start.at ≡ Some (OneGroup group)
-    unit = unit_of ∙ ap (role_unit (Some c.args.item)) is
+    unit = (unit_by (First group) is).1
 
     known : IsKnown L.inputs none c.args.start.at group (c.cut-cut.ensures.laid.each c.args.start.at c.args.start.address (OneGroup group) unit (address_of (OneGroup group) unit)).is
     known = group_known L.inputs none c.args.start.at group (c.cut-cut.ensures.laid.each c.args.start.at c.args.start.address (OneGroup group) unit (address_of (OneGroup group) unit)).is
@@ -63,15 +67,14 @@ role_at-requires g c =
     has_item L (gathered L.inputs c.cut-cut.ensures.ready.faultless) c.cut-cut.ensures.ready c.cut-cut.ensures.laid c.args.start.number c.args.start.code.now c.args.start.at c.args.item
     c.requires.starts
 
-pub alone_code-requires-clause-unit : goal.alone_code-requires-clause-unit
-alone_code-requires-clause-unit g c =
-    let a = (goal.at.alone_code-requires-clause-unit g c).After-role_at in
-    unit_of g a ∙ ap (role_unit (Some c.args.item)) c.in-Alone.is
+pub lone_code-requires-clause-unit : goal.lone_code-requires-clause-unit
+lone_code-requires-clause-unit g c = unit_by g (goal.at.lone_code-requires-clause-unit g c).After-role_at Alone c.in-Alone.is
 
-pub alone_code-requires-clause-address : goal.alone_code-requires-clause-address
-alone_code-requires-clause-address g c =
-    let a = (goal.at.alone_code-requires-clause-address g c).After-role_at in
-    address_of g a (OneItem c.args.item) (unit_of g a ∙ ap (role_unit (Some c.args.item)) c.in-Alone.is)
+pub lone_code-requires-clause-address : goal.lone_code-requires-clause-address
+lone_code-requires-clause-address g c =
+    let a = (goal.at.lone_code-requires-clause-address g c).After-role_at in
+    let unit = unit_by g a Alone c.in-Alone.is in
+    address_of g a (item_unit unit.0 c.args.item) unit.1
 
 pub group_code-requires-clause-half : goal.group_code-requires-clause-half
 group_code-requires-clause-half g c = half g (goal.at.group_code-requires-clause-half g c).After-role_at c.in-First.group c.in-First.is
@@ -90,4 +93,4 @@ returns-in-First-clause-written g c =
 pub returns-in-Inside-clause-inside : goal.returns-in-Inside-clause-inside
 returns-in-Inside-clause-inside g c =
     let a = (goal.at.returns-in-Inside-clause-inside g c).After-role_at in
-    no_address (L g a) c.cut-cut.ensures.laid c.args.start.at (start g a) (unit_of g a ∙ ap (role_unit (Some c.args.item)) c.in-Inside.is)
+    no_address (L g a) c.cut-cut.ensures.laid c.args.start.at (start g a) (unit_by g a Inside c.in-Inside.is).1

@@ -1,31 +1,71 @@
--- The image of the settled layout ends where that layout does, and what each layout counts is handed on.
-use Rattle.std.proofs.Common.{◌≡◌, IsTrue, ap, subst, ◌∙◌}
-use Rattle.psabi_sym.specs.Inputs.{Inputs, parsed}
+-- The table is the one that is picked for the savings, and the image of the layout behind it ends where that does.
+use Rattle.std.proofs.Common.{◌≡◌, ◌∙◌, ◌≤◌, List, [], ◌∷◌, length, Option, true, refl, ap, sym, subst, arith}
+use Rattle.std.specs.Prelude.{All}
+use Rattle.std.specs.List.{list_all}
+use Rattle.std.proofs.lemmas.Bool.{and_from, le-leb}
+use Rattle.std.proofs.lemmas.List.{length-map}
+use Rattle.std.proofs.lemmas.List.Elements.{All-head, All-tail}
+use Rattle.zc_base.specs.declared.place.Place.{Place}
 use Rattle.block_cut.specs.PlainLayout.{plain_counts}
-use Rattle.shrink_layout.specs.Layout.{IsLayout}
-use Rattle.shrink_layout.specs.Least.{IsLeast}
-use Rattle.shrink_layout.specs.Pieces.{is_unaligned, pieces_of}
-use Rattle.shrink_layout.specs.Settled.{settled_counts, settled_sizes}
+use Rattle.jumptable_pick.specs.Picked.{picked}
+use Rattle.jumptable_pick.specs.Ranking.{is_small}
+use Rattle.jumptable_pick.specs.Slots.{slot_place, slot_places}
+use Rattle.pick_check.specs.Best.{NoneSavesMore}
+use Rattle.pick_check.specs.Certified.{Certified, IsAccepted}
+use Rattle.pick_check.specs.declared.saving.Saving.{Saving}
+use Rattle.psabi_sym.specs.Inputs.{Inputs, parsed}
+use Rattle.shrink_layout.specs.Savings.{HasFewSites, savings_of}
+use Rattle.shrink_layout.specs.Settled.{SettledLayout, settled_counts}
 use Rattle.zc_link.specs.LaidOut.{text_end}
-use Rattle.zc_link.specs.Links.{IsImageOf}
+use Rattle.zc_link.specs.Links.{IsImageOf, IsShortest}
 use Rattle.zc_link.specs.Standing.{IsReady}
 use Rattle.zc_link.specs.TextLayout.{zc_layout}
+use Rattle.zc_link.proofs.BestTable.{shortest}
 use Rattle.zc_link.proofs.SettledLaws.{settled_end_is}
 use Rattle.zc_link.proofs.zc.link_zc.Goals as goal
+
+-- savings have as few sites as the picker asks for
+all_small : (savings : List Saving) → All HasFewSites savings → list_all is_small savings ≡ true
+all_small [] few = refl
+all_small (s ∷ savings) few =
+    let own = All-head HasFewSites s savings few in
+    let jumps = own.jumps in
+    let calls = own.calls in
+    and_from (is_small s) (list_all is_small savings) (and_from _ _ (le-leb s.jump_sites 1073741824 (omega (arith, jumps))) (le-leb s.call_sites 1073741824 (omega (arith, calls))))
+    (all_small savings (All-tail HasFewSites s savings few))
+
+pub pick-requires-clause-small : goal.pick-requires-clause-small
+pick-requires-clause-small c =
+    ap (list_all is_small) c.deref.ensures.value ∙ all_small c.in_ok-savings.savings.items c.in_ok-savings.ensures.sites
 
 pub returns-clause-link : goal.returns-clause-link
 returns-clause-link c =
     let inputs = c.args.objects in
     let elf = c.in_ok-elf.elf.items in
-    let planned : c.in_ok-plan.field-0 ≡ inputs = c.in_ok-plan.ensures.same ∙ c.in_ok-cut.ensures.same in
-    let same : c.in_ok-settled.settled ≡ inputs = c.in_ok-settled.ensures.same ∙ planned in
+    let own = c.in_ok-savings.savings.items in
+    let certificate : Certified = c.in_ok-certificate.certificate in
+    let first : c.in_ok-first.first.inputs ≡ inputs = c.in_ok-first.ensures.same ∙ c.in_ok-plan.ensures.same ∙ c.in_ok-cut.ensures.same in
+    let savings : own ≡ savings_of (parsed inputs) = c.in_ok-savings.ensures.value ∙ ap (λ (x : Inputs). savings_of (parsed x)) first in
+    let accepted : IsAccepted own certificate = subst (λ (s : List Saving). IsAccepted s certificate) c.deref.ensures.value c.in_ok-certificate.ensures.accepted in
+    let known : IsAccepted (savings_of (parsed inputs)) certificate = subst (λ (s : List Saving). IsAccepted s certificate) savings accepted in
+    let table : List (Option Place) = slot_places own certificate.slots in
+    let few : length table ≤ 256 = omega (arith, length-map certificate.slots (slot_place own), accepted.assignment.few) in
+    let same : c.in_ok-settled.settled.inputs ≡ inputs = c.in_ok-settled.ensures.same ∙ first in
+    let slots : c.in_ok-settled.settled.slots ≡ table = c.in_ok-settled.ensures.slots ∙ ap (λ (s : List Saving). slot_places s certificate.slots) c.deref-2.ensures.value in
     let ready = subst IsReady same c.in_ok-elf.ensures.ready in
-    let end = settled_end_is inputs ready.faultless ready.is_map in
-    let image = subst (λ (x : Inputs). IsImageOf (zc_layout x) 1 (text_end (zc_layout x)) elf) same c.in_ok-elf.ensures.image in
+    let image : IsImageOf (zc_layout inputs table) 1 (text_end (zc_layout inputs table)) elf =
+    subst (λ (x : SettledLayout). IsImageOf (zc_layout x.inputs x.slots) 1 (text_end (zc_layout x.inputs x.slots)) elf)
+    (λ i. record { inputs = same i; slots = slots i }) c.in_ok-elf.ensures.image in
     record {
-      settled = subst (λ (x : Inputs). IsLayout x.map.text (pieces_of (parsed x)) (settled_sizes (parsed x))) planned c.in_ok-settled.ensures.layout;
-      least = subst (λ (x : Inputs). IsTrue (is_unaligned (parsed x)) → IsLeast x.map.text (pieces_of (parsed x)) (settled_sizes (parsed x))) planned c.in_ok-settled.ensures.least;
-      image = subst (λ n. IsImageOf (zc_layout inputs) 1 n elf) end image;
+      table = record {
+        savings = savings;
+        is_picked = c.in_ok-certificate.ensures.value ∙ ap picked c.deref.ensures.value;
+        accepted = accepted;
+        best = subst (λ (s : List Saving). NoneSavesMore s certificate.net) c.deref.ensures.value c.in_ok-certificate.ensures.best;
+      };
+      layout = subst (λ (s : List Saving). IsShortest inputs (slot_places s certificate.slots) certificate.net) (sym savings)
+          (shortest inputs ready.faultless certificate known ready.is_map);
+      image = subst (λ n. IsImageOf (zc_layout inputs table) 1 n elf) (settled_end_is inputs ready.faultless ready.is_map table few) image;
       plain = c.counts.ensures ∙ ap (λ (x : Inputs). plain_counts (parsed x)) (c.cut.ensures.same ∙ c.planned.ensures.same ∙ same);
-      zc = c.counts-2.ensures ∙ ap (λ (x : Inputs). settled_counts (parsed x)) same;
+      zc = c.counts-2.ensures ∙ (λ i. settled_counts (parsed (same i)) (slots i));
     }

@@ -1,12 +1,11 @@
 -- In two bytes there is nothing but padding, which is no instruction.
 use Rattle.psabi_sym.specs.Inputs.{parsed}
-use Rattle.shrink_layout.specs.Units.{OneItem}
 use Rattle.zc_link.proofs.ItemUnits.{item_unit}
 use Rattle.zc_link.proofs.PlainLaws.{padding_alone}
 use Rattle.zc_link.proofs.layout.CutLayout.half_at.Goals as goal
 
 pub returns : goal.returns
 returns c = λ q item is number two instr fixed short.
-    let own = item_unit (parsed c.args.self.now) q (OneItem item) is in
+    let own = item_unit (parsed c.args.self.now) q item is in
     let none = padding_alone c.args.self.now c.cut-cut.ensures.ready q item own two in
     absurd (cc (none, fixed))

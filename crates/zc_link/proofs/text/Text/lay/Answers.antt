@@ -1,16 +1,15 @@
--- Before the first section there is nothing, and after the last there is all.
+-- Before the first section there is what stands in front, and after the last there is all.
 use Rattle.std.proofs.Common.{◌≤◌, length, ap, ◌∙◌, subst, arith}
 use Rattle.std.proofs.lemmas.List.{take_all}
 use Rattle.psabi_sym.specs.Inputs.{Inputs, parsed}
 use Rattle.psabi_sym.specs.Indexed.{all_sections}
 use Rattle.zc_link.specs.Written.{IsTextOf}
-use Rattle.zc_link.proofs.Sections.{nothing_yet}
+use Rattle.zc_link.proofs.Sections.{front_alone}
 use Rattle.zc_link.proofs.text.Text.lay.Goals as goal
 
 pub loop-k-init : goal.loop-k-init
 loop-k-init g c =
-    nothing_yet (g.L.Layout.layout c.args.layout.now) c.cut-cut.ensures.laid c.in_ok-with_capacity.field-0.items c.in_ok-with_capacity-2.field-0.items c.in_ok-with_capacity.ensures.items
-    c.in_ok-with_capacity-2.ensures.items
+    front_alone (g.L.Layout.layout c.args.layout.now) _ _ c.in_ok-add_front.ensures c.in_ok-with_capacity-2.ensures.items
 
 pub returns : goal.returns
 returns g c =

@@ -1,5 +1,6 @@
--- Where an instruction stands at pc that is no push or pop, an interrupt only writes bytes of the stack, and the instruction still
--- stands there. So on a way of one commit it stands there until that is made, whatever interrupts come and cells are written.
+-- Where an instruction without accesses stands at pc, one that is no push or pop, an interrupt only writes bytes of the
+-- stack, and the instruction still stands there. So on a way of one commit it stands there until that is made, whatever
+-- interrupts come and cells are written.
 use Rattle.std.proofs.Common.{◌≡◌, ℕ, suc, ◌<◌, ◌≤◌, List, [], ◌∷◌, true, refl, sym, ap, ◌∙◌, subst, inl, arith, ltb}
 use Rattle.std.proofs.lemmas.Bool.{and_parts, cond_both}
 use Rattle.interrupt_plan.specs.Plan.{Interrupt}
@@ -8,6 +9,8 @@ use Rattle.rv_decode.specs.Memory.{changed, extents_of, is_data, is_stack, is_te
 use Rattle.rv_decode.specs.State.{ZcCore, ZcState, byte_in, reg_in}
 use Rattle.rv_decode.proofs.MemoryLaws.{cell-changed, extents-changed, is_covered, lies_covered, stack_is_data, untouched}
 use Rattle.sym_machine.specs.Program.{Program}
+use Rattle.zc_decode.specs.Accesses.{accesses_of}
+use Rattle.zc_decode.specs.declared.short.Short.{Short}
 use Rattle.zc_decode.specs.declared.short.Short.TheVariants.{Base}
 use Rattle.zc_machine.specs.Fetch.{Found, fetched_at}
 use Rattle.zc_machine.specs.Interrupt.{all_dirtied, dirtied, interrupted, is_free}
@@ -16,17 +19,31 @@ use Rattle.zc_link.specs.Image.{Image, loaded_core}
 use Rattle.zc_link.specs.Stretches.{OneAt}
 use Rattle.zc_link.specs.Room.{Room}
 use Rattle.zc_link.specs.DataApart.{Cuts, IsCell, OnWay, Pokes, Starts, Turns, poked}
-use Rattle.zc_link.proofs.Cuts.{cut-base}
+use Rattle.zc_link.proofs.Cuts.{cut-none}
 
--- such an instruction stands at pc in the text, which is as it was loaded
-pub record AtBase (e : Image) (y : ZcCore) : Type 0 where
+-- such an instruction stands at an address
+pub record NoAccessAt (e : Image) (a : ℕ) : Type 0 where
+  pub short : Short
+  pub none : (sp : ℕ) → accesses_of short sp ≡ []
+  pub at : OneAt e a short
+
+-- as each of 32 bits, and its short form, is
+abbrev pub base_at : {e : Image} {a : ℕ} {i : Instr} → OneAt e a (Base i) → NoAccessAt e a
+base_at {i = i} at = record { short = Base i; none = λ sp. refl; at = at }
+
+-- it stands at pc in the text, which is as it was loaded
+pub record NoAccess (e : Image) (y : ZcCore) : Type 0 where
   pub text : SameText (loaded_core e) y
-  pub instr : Instr
-  pub at : OneAt e y.pc (Base instr)
+  pub here : NoAccessAt e y.pc
+  pub open here use *
 
 -- so it is fetched
-pub base_fetched : {e : Image} {y : ZcCore} (b : AtBase e y) → fetched_at y y.pc ≡ Found (Base b.instr) b.at.size
-base_fetched {e} {y} b = fetched_same (loaded_core e) y b.text y.pc ∙ b.at.here
+pub here_fetched : {e : Image} {y : ZcCore} (n : NoAccess e y) → fetched_at y y.pc ≡ Found n.short n.at.size
+here_fetched {e} {y} n = fetched_same (loaded_core e) y n.text y.pc ∙ n.at.here
+
+-- and an interrupt only writes its bytes
+pub cut_writes : {e : Image} {y : ZcCore} (c : Interrupt) → NoAccess e y → interrupted c y ≡ all_dirtied c.dirt y
+cut_writes {y = y} c n = cut-none c y n.short n.at.size n.none (here_fetched n)
 
 -- z is y but for memory, whose text is as it was loaded
 pub record KeepsText (e : Image) (y z : ZcCore) : Type 0 where
@@ -34,8 +51,8 @@ pub record KeepsText (e : Image) (y z : ZcCore) : Type 0 where
   pub text : SameText (loaded_core e) z
 
 -- then it still stands there
-base_kept : {e : Image} {y z : ZcCore} → AtBase e y → KeepsText e y z → AtBase e z
-base_kept {e} b kept = record { text = kept.text; instr = b.instr; at = subst (λ x. OneAt e x.pc (Base b.instr)) (sym kept.rest) b.at }
+here_kept : {e : Image} {y z : ZcCore} → NoAccess e y → KeepsText e y z → NoAccess e z
+here_kept {e} n kept = record { text = kept.text; here = subst (λ x. NoAccessAt e x.pc) (sym kept.rest) n.here }
 
 -- ---- bytes of data and stack that are written
 
@@ -83,23 +100,23 @@ module _ {p : Program} {e : Image} (room : Room p e) where
         text = later.text;
       }
 
-  pub cut_kept : (c : Interrupt) (y : ZcCore) → AtBase e y → KeepsText e y (interrupted c y)
-  cut_kept c y b = subst (KeepsText e y) (sym (cut-base c y b.instr b.at.size (base_fetched b))) (all_dirtied_kept c.dirt y b.text)
+  pub cut_kept : (c : Interrupt) (y : ZcCore) → NoAccess e y → KeepsText e y (interrupted c y)
+  cut_kept c y n = subst (KeepsText e y) (sym (cut_writes c n)) (all_dirtied_kept c.dirt y n.text)
 
   -- ---- one commit
 
-  module _ {From : ℕ → ZcState → Type 0} (from : (k : ℕ) (z : ZcState) → From k z → (k ≤ 1) × (0 < k → AtBase e z.core)) where
-    on_way : {k : ℕ} {z : ZcState} → OnWay p From k z → (k ≤ 1) × (0 < k → AtBase e z.core)
+  module _ {From : ℕ → ZcState → Type 0} (from : (k : ℕ) (z : ZcState) → From k z → (k ≤ 1) × (0 < k → NoAccess e z.core)) where
+    on_way : {k : ℕ} {z : ZcState} → OnWay p From k z → (k ≤ 1) × (0 < k → NoAccess e z.core)
     on_way (Starts k z is) = from k z is
     on_way (Cuts k z c is way) =
         let on = on_way way in
         let at = on.1 (omega arith) in
-        (on.0, λ _. base_kept at (cut_kept c z.core at))
+        (on.0, λ _. here_kept at (cut_kept c z.core at))
     on_way (Pokes k z a b is small way) =
         let on = on_way way in
         let at = on.1 (omega arith) in
-        (on.0, λ _. base_kept at (poked_kept a b z is at.text))
+        (on.0, λ _. here_kept at (poked_kept a b z is at.text))
     on_way (Turns k z z' way turn) = let few = (on_way way).0 in (omega (arith, few), λ more. absurd (omega (arith, few, more)))
 
-    pub one_base : (k : ℕ) (z : ZcState) → OnWay p From (suc k) z → AtBase e z.core
-    one_base k z way = (on_way way).1 (omega arith)
+    pub one_no_access : (k : ℕ) (z : ZcState) → OnWay p From (suc k) z → NoAccess e z.core
+    one_no_access k z way = (on_way way).1 (omega arith)
