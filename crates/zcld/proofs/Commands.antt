@@ -5,9 +5,10 @@ use Rattle.zc_outside.specs.World.{World}
 use Rattle.zcld.specs.declared.outcome.Outcome.{Outcome}
 use Rattle.zcld.specs.declared.outcome.Outcome.TheVariants.{Usage}
 use Rattle.zcld.specs.Call.{Answers, Calls, CarriesOut, CountsFaults, IfCommand, Reports, TellsAll, task_of, work_of}
-use Rattle.zcld.specs.Command.{Command, Plain, Run, Trace, Zc}
+use Rattle.zcld.specs.Command.{Check, Command, Plain, Run, Trace, Zc}
 use Rattle.zcld.specs.ErrLine.{err_line}
 use Rattle.zcld.proofs.Answering.{Facts, performed_answers, performed_counts, performed_known}
+use Rattle.zcld.proofs.CheckFacts.{check_facts}
 use Rattle.zcld.proofs.PlainFacts.{plain_facts}
 use Rattle.zcld.proofs.RunFacts.{run_facts}
 use Rattle.zcld.proofs.TraceFacts.{trace_facts}
@@ -18,6 +19,7 @@ facts (Plain out objects) = plain_facts out objects
 facts (Zc out cert objects) = zc_facts out cert objects
 facts (Run plan steps image) = run_facts plan steps image
 facts (Trace steps objects) = trace_facts steps objects
+facts (Check cert) = check_facts cert
 
 module _ (files : List (List ℕ)) (outcome : Outcome) (before left : World) where
   -- Usage is the outcome of words that spell no command

@@ -1,4 +1,5 @@
 pub mod Answering
+pub mod CheckFacts
 pub mod CommandWords
 pub mod Commands
 pub mod FormsHeld

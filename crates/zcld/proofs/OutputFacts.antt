@@ -1,23 +1,45 @@
--- What is known of a command that puts files and writes a text: how that ends, and what it does to the counts.
-use Rattle.std.proofs.Common.{◌≡◌, [], IsTrue, ◌⊎◌, inl, inr, arith}
-use Rattle.zc_outside.specs.Desk.{OnlyWrites}
-use Rattle.zc_outside.specs.Shelf.{OnlyPuts}
-use Rattle.zc_outside.specs.World.{World}
+-- What is known of a command that puts files and writes a text: the text is written after the files were put; how that ends,
+-- and what it does to the counts.
+use Rattle.std.proofs.Common.{◌≡◌, ℕ, List, [], IsTrue, length, refl, ap, ◌⊎◌, inl, inr, arith}
+use Rattle.zc_outside.specs.Desk.{Desk, OnlyWrites}
+use Rattle.zc_outside.specs.Shelf.{OnlyPuts, Shelf}
+use Rattle.zc_outside.specs.World.{World, world}
 use Rattle.zcld.specs.declared.outcome.Outcome.{Outcome}
 use Rattle.zcld.specs.declared.outcome.Outcome.TheVariants.{Done, WriteFault, OutOfMemory}
-use Rattle.zcld.specs.Puts.{Output, PutsInTurn}
+use Rattle.zcld.specs.Puts.{IsUnput, Output, PutsFiles, PutsInTurn, text_alone}
 use Rattle.zcld.specs.Task.{Task}
 use Rattle.zcld.proofs.Answering.{IsAnswer, IsFaulted, Moves}
 
--- a put or a write that failed was counted, at an outside that isn't sure; a command that writes nothing has no text
-module _ (task : Task) (output : Output) (puts : IsTrue task.puts) (writes : IsTrue task.writes ⊎ (output.text ≡ [])) where
+-- not all of no files were put
+none_unput : (output : Output) (before after : World) → output.files ≡ [] → IsUnput output before after → ⊥
+none_unput output before after none unput = omega (arith, unput.part, ap length none)
+
+-- a text that is written after files were put
+pub put_then_printed :
+    (outcome : Outcome) (files : List (List ℕ × List ℕ)) (text : List ℕ) (before between : Shelf) (desk after : Desk) →
+    PutsFiles before.files between.files files → PutsInTurn outcome (text_alone text) (world between desk) (world between after) →
+    PutsInTurn outcome (record { files = files; text = text }) (world before desk) (world between after)
+put_then_printed Done files text before between desk after put printed = record { files = put; out = printed.out; err = printed.err }
+put_then_printed WriteFault files text before between desk after put printed = elim printed [
+  | inl file ↦ absurd (none_unput (text_alone text) (world between desk) (world between after) refl file.0)
+  | inr part ↦ inr (record { files = put; text = part.0.text; out = part.0.out; err = part.0.err }, part.1, part.2)
+]
+put_then_printed OutOfMemory files text before between desk after put printed = elim printed [
+  | inl file ↦ absurd (none_unput (text_alone text) (world between desk) (world between after) refl file)
+  | inr part ↦ inr (record { files = put; text = part.text; out = part.out; err = part.err })
+]
+put_then_printed other files text before between desk after put printed = absurd printed
+
+-- a put or a write that failed was counted, at an outside that isn't sure; a command that puts nothing has no files, and one
+-- that writes nothing no text
+module _ (task : Task) (output : Output) (puts : IsTrue task.puts ⊎ (output.files ≡ [])) (writes : IsTrue task.writes ⊎ (output.text ≡ [])) where
   pub output_ends : (outcome : Outcome) (before after : World) → PutsInTurn outcome output before after → IsAnswer outcome ⊎ IsFaulted task outcome before after
   output_ends Done before after put = inl tt
   output_ends OutOfMemory before after put = inl tt
   output_ends WriteFault before after put = inr (record {
     known = λ e. cc;
     counted = λ clean. elim put [
-      | inl file ↦ clean.put puts file.1
+      | inl file ↦ elim puts [ inl some ↦ clean.put some file.1 | inr none ↦ none_unput output before after none file.0 ]
       | inr text ↦ elim writes [ inl some ↦ clean.written some text.1 | inr none ↦ text.0.text none ]
     ];
     unsure = λ sure. elim put [

@@ -22,7 +22,7 @@ module _ (out : List ℕ) (objects : List (List ℕ)) where
       IsAnswer outcome ⊎ IsFaulted task outcome before after
   plain_ends files outcome before after (inl memory) = inl (no_memory outcome memory.0)
   plain_ends files outcome before after (inr put) =
-      output_ends task (plain_output out put.link.elf (plain_line put.link.plain.text)) refl (inl refl) outcome before after put.done
+      output_ends task (plain_output out put.link.elf (plain_line put.link.plain.text)) (inl refl) (inl refl) outcome before after put.done
 
   plain_moves : (files : List (List ℕ)) (outcome : Outcome) (before after : World) → PlainWork out files outcome before after → Moves before after
   plain_moves files outcome before after (inl memory) = subst (λ w. Moves before w) (sym memory.1) (no_moves before)

@@ -21,8 +21,8 @@ use Rattle.zcld.specs.declared.outcome.Outcome.{Outcome}
 use Rattle.zcld.specs.declared.outcome.Outcome.TheVariants.{BadFile}
 use Rattle.zcld.specs.Call.{task_of}
 use Rattle.zcld.specs.Command.{Run}
-use Rattle.zcld.specs.Run.{RunWork, Runs, first_core_of, first_file, plan_of, plan_refusal, run_outcome, run_refusal}
-use Rattle.zcld.specs.Task.{Task}
+use Rattle.zcld.specs.Run.{RunWork, Runs, first_core_of, plan_of, plan_refusal, run_outcome, run_refusal}
+use Rattle.zcld.specs.Task.{Task, first_file}
 use Rattle.zcld.proofs.Answering.{Facts, IsAnswer, no_memory}
 use Rattle.zcld.proofs.MachineFacts.{IsRefusedWrite, machine_ends, machine_moves, no_writes}
 

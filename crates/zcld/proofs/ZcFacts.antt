@@ -29,7 +29,7 @@ module _ (out cert : List ℕ) (objects : List (List ℕ)) where
       (files : List (List ℕ)) (outcome : Outcome) (before after : World) → ZcWork out cert files outcome before after →
       IsAnswer outcome ⊎ IsFaulted task outcome before after
   zc_ends files outcome before after (inl memory) = inl (no_memory outcome memory.0)
-  zc_ends files outcome before after (inr put) = output_ends task (zc_output out cert put.link.elf) refl (inr refl) outcome before after put.done
+  zc_ends files outcome before after (inr put) = output_ends task (zc_output out cert put.link) (inl refl) (inr refl) outcome before after put.done
 
   zc_moves : (files : List (List ℕ)) (outcome : Outcome) (before after : World) → ZcWork out cert files outcome before after → Moves before after
   zc_moves files outcome before after (inl memory) = subst (λ w. Moves before w) (sym memory.1) (no_moves before)

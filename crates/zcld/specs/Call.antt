@@ -9,7 +9,8 @@ use Rattle.zc_outside.specs.World.{World}
 use Rattle.zcld.specs.declared.input.TheConstants.{INPUT_LIMIT}
 use Rattle.zcld.specs.declared.outcome.Outcome.{Outcome}
 use Rattle.zcld.specs.declared.outcome.Outcome.TheVariants.{Usage, ReadFault, WriteFault, OutOfMemory}
-use Rattle.zcld.specs.Command.{Command, Plain, Run, Trace, Zc}
+use Rattle.zcld.specs.Check.{CheckWork, check_refusal, check_wanted}
+use Rattle.zcld.specs.Command.{Check, Command, Plain, Run, Trace, Zc}
 use Rattle.zcld.specs.ErrLine.{err_line}
 use Rattle.zcld.specs.Input.{IsShortInput, RoseAbove}
 use Rattle.zcld.specs.Objects.{objects_refusal, objects_wanted}
@@ -51,6 +52,13 @@ task_of (Trace steps objects) = record {
   takes = true;
   writes = true;
 }
+task_of (Check cert) = record {
+  wanted = check_wanted cert;
+  refusal = check_refusal;
+  puts = false;
+  takes = false;
+  writes = true;
+}
 
 -- the work of each command, once its files are read and accepted
 abbrev pub work_of : Command → List (List ℕ) → Outcome → World → World → Type 0
@@ -58,6 +66,7 @@ work_of (Plain out objects) = PlainWork out
 work_of (Zc out cert objects) = ZcWork out cert
 work_of (Run plan steps image) = RunWork steps
 work_of (Trace steps objects) = TraceWork steps
+work_of (Check cert) = CheckWork
 
 -- what words do: without a command it is Usage, and nothing is done
 abbrev pub CarriesOut : Option Command → List (List ℕ) → Outcome → World → World → Type 0

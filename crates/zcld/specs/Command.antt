@@ -22,6 +22,7 @@ pub data Command : Type 0 where
   Zc : (out cert : List ℕ) (objects : List (List ℕ)) → Command
   Run : (plan : Option (List ℕ)) (steps : ℕ) (image : List ℕ) → Command
   Trace : (steps : ℕ) (objects : List (List ℕ)) → Command
+  Check : (cert : List ℕ) → Command
 
 -- ---- words
 
@@ -82,6 +83,10 @@ run_form = record { options = optional (codes "--plan") ∷ optional (codes "--s
 -- `trace [--steps N] OBJ...`
 abbrev pub trace_form : Syntax
 trace_form = record { options = optional (codes "--steps") ∷ []; positional = OneOrMore }
+
+-- `check CERT`
+abbrev pub check_form : Syntax
+check_form = record { options = []; positional = Exactly 1 }
 
 -- ---- the words of a form
 
@@ -144,6 +149,11 @@ abbrev pub trace_of : Spelled → Option Command
 trace_of (Words (steps ∷ []) objects) = option_map (λ n. Trace n objects) (steps_given steps)
 trace_of other = None
 
+-- `check` of its one certificate
+abbrev pub check_of : Spelled → Option Command
+check_of (Words [] (cert ∷ [])) = Some (Check cert)
+check_of other = None
+
 -- the command that words spell: by its name, the first word, it has a form and a meaning
 abbrev pub command_of : List (List ℕ) → Option Command
 command_of [] = None
@@ -151,7 +161,8 @@ command_of (name ∷ words) =
     if bytes_eq name (codes "plain") then option_and_then plain_of (spelled_words plain_form words) else
     (if bytes_eq name (codes "zc") then option_and_then zc_of (spelled_words zc_form words) else
     (if bytes_eq name (codes "run") then option_and_then run_of (spelled_words run_form words) else
-    (if bytes_eq name (codes "trace") then option_and_then trace_of (spelled_words trace_form words) else None)))
+    (if bytes_eq name (codes "trace") then option_and_then trace_of (spelled_words trace_form words) else
+    (if bytes_eq name (codes "check") then option_and_then check_of (spelled_words check_form words) else None))))
 
 -- ---- as the program holds them
 
@@ -165,6 +176,7 @@ meant (line.Plain out objects) = Plain out.now (texts objects.now)
 meant (line.Zc out cert objects) = Zc out.now cert.now (texts objects.now)
 meant (line.Run args) = run_meant args
 meant (line.Trace steps objects) = Trace steps (texts objects.now)
+meant (line.Check cert) = Check cert.now
 
 -- an option
 abbrev pub option_of : code_option.OptionForm → OptionForm

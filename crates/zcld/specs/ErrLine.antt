@@ -8,13 +8,15 @@ use Rattle.elf32_read.specs.Parts.{object_parts}
 use Rattle.elf32_read.specs.ImageFault.{image_fault_number}
 use Rattle.interrupt_plan.specs.declared.fault.PlanFault.{PlanFault}
 use Rattle.interrupt_plan.specs.declared.fault.PlanFault.TheVariants as plan
+use Rattle.pick_check.specs.declared.fault.CertFault.{CertFault}
+use Rattle.pick_check.specs.declared.fault.CertFault.TheVariants as cert
 use Rattle.text_lines.specs.Hex.{hex_word}
 use Rattle.zc_base.specs.declared.place.Place.{Place}
 use Rattle.sym_machine.specs.declared.why.Why.{Why}
 use Rattle.sym_machine.specs.Why.{why_name, why_number}
 use Rattle.zc_machine.specs.declared.reason.Reason.{Reason}
 use Rattle.zc_machine.specs.Reason.{reason_name, reason_number}
-use Rattle.zcld.specs.declared.outcome.FileFault.TheVariants.{Image, Plan}
+use Rattle.zcld.specs.declared.outcome.FileFault.TheVariants.{Certificate, Image, Plan, Rejected}
 use Rattle.zcld.specs.declared.outcome.Outcome.{Outcome}
 use Rattle.zcld.specs.declared.outcome.Outcome.TheVariants.{Done, Exited, Usage, Refused, ReadFault, WriteFault, OutOfMemory, BadFile, Stopped, Stuck, Spent}
 
@@ -50,6 +52,12 @@ plan_fault_text (plan.OutOfOrder number) = codes "bad plan order " ++ decimal nu
 plan_fault_text plan.TooLarge = codes "bad plan size"
 plan_fault_text plan.OutOfMemory = codes "out of memory"
 
+-- so does one of a certificate
+abbrev pub certificate_fault_text : CertFault → List ℕ
+certificate_fault_text (cert.BadLine number) = codes "bad certificate line " ++ decimal number
+certificate_fault_text cert.TooLarge = codes "bad certificate size"
+certificate_fault_text cert.OutOfMemory = codes "out of memory"
+
 -- a stop names its reason by number and name, and the program counter
 abbrev pub stop_text : Reason → ℕ → List ℕ
 stop_text reason pc =
@@ -73,6 +81,8 @@ err_line files WriteFault = line (codes "write fault")
 err_line files OutOfMemory = line (codes "out of memory")
 err_line files (BadFile (Image fault)) = line (codes "bad image " ++ decimal (image_fault_number fault))
 err_line files (BadFile (Plan fault)) = line (plan_fault_text fault)
+err_line files (BadFile (Certificate fault)) = line (certificate_fault_text fault)
+err_line files (BadFile Rejected) = line (codes "rejected")
 err_line files (Stopped reason pc) = line (stop_text reason pc)
 err_line files (Stuck place why) = line (stuck_text place why)
 err_line files Spent = line (codes "spent")

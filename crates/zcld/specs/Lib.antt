@@ -10,6 +10,7 @@ pub mod Plain
 pub mod Zc
 pub mod Run
 pub mod Trace
+pub mod Check
 pub mod Call
 pub mod Headline
 pub mod Program

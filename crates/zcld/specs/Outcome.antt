@@ -1,11 +1,13 @@
 -- The outcomes of faults that lower crates give.
 use Rattle.interrupt_plan.specs.declared.fault.PlanFault.{PlanFault}
 use Rattle.interrupt_plan.specs.declared.fault.PlanFault.TheVariants as plan
+use Rattle.pick_check.specs.declared.fault.CertFault.{CertFault}
+use Rattle.pick_check.specs.declared.fault.CertFault.TheVariants as cert
 use Rattle.psabi_sym.specs.declared.link_fault.LinkFault.{LinkFault}
 use Rattle.psabi_sym.specs.declared.link_fault.LinkFault.TheVariants as link
 use Rattle.zc_outside.specs.declared.read_files.ReadFault as files
 use Rattle.zc_outside.specs.declared.read_files.ReadFault.TheVariants as read
-use Rattle.zcld.specs.declared.outcome.FileFault.TheVariants.{Plan}
+use Rattle.zcld.specs.declared.outcome.FileFault.TheVariants.{Certificate, Plan}
 use Rattle.zcld.specs.declared.outcome.Outcome.{Outcome}
 use Rattle.zcld.specs.declared.outcome.Outcome.TheVariants.{Refused, ReadFault, OutOfMemory, BadFile}
 
@@ -25,3 +27,9 @@ plan_outcome (plan.BadLine number) = BadFile (Plan (plan.BadLine number))
 plan_outcome (plan.OutOfOrder number) = BadFile (Plan (plan.OutOfOrder number))
 plan_outcome plan.TooLarge = BadFile (Plan plan.TooLarge)
 plan_outcome plan.OutOfMemory = OutOfMemory
+
+-- a text that is no certificate
+abbrev pub certificate_outcome : CertFault → Outcome
+certificate_outcome (cert.BadLine number) = BadFile (Certificate (cert.BadLine number))
+certificate_outcome cert.TooLarge = BadFile (Certificate cert.TooLarge)
+certificate_outcome cert.OutOfMemory = OutOfMemory

@@ -11,6 +11,10 @@ pub record Output : Type 0 where
   pub files : List (List ℕ × List ℕ)
   pub text : List ℕ
 
+-- a text without files
+abbrev pub text_alone : List ℕ → Output
+text_alone text = record { files = []; text = text }
+
 -- each of these names has its bytes
 abbrev pub HasFiles : Files → List (List ℕ × List ℕ) → Type 0
 HasFiles f [] = ⊤

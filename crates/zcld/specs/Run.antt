@@ -24,6 +24,7 @@ use Rattle.zcld.specs.declared.outcome.FileFault.TheVariants.{Image, Plan}
 use Rattle.zcld.specs.declared.outcome.Outcome.{Outcome}
 use Rattle.zcld.specs.declared.outcome.Outcome.TheVariants.{Exited, WriteFault, OutOfMemory, BadFile, Stopped, Spent}
 use Rattle.zcld.specs.Machines.{MachineWork, Executes}
+use Rattle.zcld.specs.Task.{first_file}
 use Rattle.zc_outside.specs.declared.console.ConsoleFault.TheVariants as console
 use Rattle.zc_machine.specs.declared.run.RunEnd.TheVariants as end
 
@@ -37,11 +38,6 @@ plan_wanted (Some name) = record { name = name; limit = PLAN_LIMIT } ∷ []
 -- the image, and then the plan if there is one, each up to its limit
 abbrev pub run_wanted : Option (List ℕ) → List ℕ → List Wanted
 run_wanted plan image = record { name = image; limit = IMAGE_LIMIT } ∷ plan_wanted plan
-
--- the image, which is the first file
-abbrev pub first_file : List (List ℕ) → List ℕ
-first_file [] = []
-first_file (file ∷ files) = file
 
 -- the plan that the second file spells; without one there are no interrupts
 abbrev pub plan_of : List (List ℕ) → Result (List Entry) PlanFault
@@ -58,7 +54,7 @@ abbrev pub plan_refusal : Result (List Entry) PlanFault → Option Outcome
 plan_refusal (Ok plan) = None
 plan_refusal (Err fault) = Some (BadFile (Plan fault))
 
--- the image's fault is named; the plan's only if the image has none
+-- the image is the first file; its fault is named, and the plan's only if the image has none
 abbrev pub run_refusal : MemMap → List (List ℕ) → Option Outcome
 run_refusal map files = option_or (image_refusal map (first_file files)) (plan_refusal (plan_of files))
 

@@ -1,5 +1,5 @@
 -- How a command goes over its files: they can't be had and judged, or they are refused, or the command does its work.
-use Rattle.std.specs.Prelude.{◌≡◌, ℕ, ◌⊎◌, Bool, List, Option, Some, None, ⊤}
+use Rattle.std.specs.Prelude.{◌≡◌, ℕ, ◌⊎◌, Bool, List, [], ◌∷◌, Option, Some, None, ⊤}
 use Rattle.zc_outside.specs.Shelf.{Shelf}
 use Rattle.zc_outside.specs.Wanted.{AreRead, AreUnread, ReadsAll, Wanted}
 use Rattle.zc_outside.specs.World.{World}
@@ -14,6 +14,11 @@ pub record Task : Type 0 where
   pub puts : Bool
   pub takes : Bool
   pub writes : Bool
+
+-- the first of the files that were read
+abbrev pub first_file : List (List ℕ) → List ℕ
+first_file [] = []
+first_file (file ∷ files) = file
 
 -- the files were read, and nothing else was done
 pub record OnlyRead (wanted : List Wanted) (before after : World) : Type 0 where

@@ -1,30 +1,28 @@
 -- What `zc` does: it links the objects, and puts the image and then the certificate.
-use Rattle.std.specs.Prelude.{◌≡◌, ℕ, ◌⊎◌, List, [], ◌∷◌, ◌++◌, codes}
+use Rattle.std.specs.Prelude.{◌≡◌, ℕ, ◌⊎◌, List, [], ◌∷◌}
 use Rattle.zc_base.specs.MemMap.{standard_map}
+use Rattle.pick_check.specs.Text.{certificate_text}
 use Rattle.zc_outside.specs.Shelf.{OnlyPuts}
 use Rattle.zc_outside.specs.World.{World}
 use Rattle.zc_link.specs.Links.{IsZcLink, Link}
 use Rattle.zcld.specs.declared.outcome.Outcome.{Outcome}
 use Rattle.zcld.specs.declared.outcome.Outcome.TheVariants.{OutOfMemory}
-use Rattle.zcld.specs.ErrLine.{line}
 use Rattle.zcld.specs.Objects.{inputs_of}
 use Rattle.zcld.specs.Puts.{Output, PutsInTurn}
 
--- the certificate of a link without a jump table: nothing to save, and nothing saved
-abbrev pub empty_certificate : List ℕ
-empty_certificate =
-    line (codes "zcld certificate 1") ++ line (codes "price 0 0 0") ++ line (codes "net 0") ++ line (codes "end")
-
--- the image and then the certificate, and no text
-abbrev pub zc_output : List ℕ → List ℕ → List ℕ → Output
-zc_output out cert image = record { files = (out, image) ∷ (cert, empty_certificate) ∷ []; text = [] }
+-- the image and then the certificate of its table, and no text
+abbrev pub zc_output : List ℕ → List ℕ → Link → Output
+zc_output out cert link = record {
+  files = (out, link.elf) ∷ (cert, certificate_text link.savings link.certificate) ∷ [];
+  text = [];
+}
 
 -- the link was made, and its image and the certificate were put, as far as this outcome says
 pub record PutsZc
     (out cert : List ℕ) (files : List (List ℕ)) (outcome : Outcome) (before after : World) : Type 0 where
   pub link : Link
   pub linked : IsZcLink (inputs_of files standard_map) link
-  pub done : PutsInTurn outcome (zc_output out cert link.elf) before after
+  pub done : PutsInTurn outcome (zc_output out cert link) before after
   pub shelf : OnlyPuts before.shelf after.shelf
   pub desk : after.desk ≡ before.desk
 

@@ -7,6 +7,7 @@ ghost use Rattle.zcld.specs.Call.{Calls, DoesWith};
 ghost use Rattle.zcld.specs.Command.{command_of, texts};
 ghost use Rattle.zcld.specs.Headline.{Links};
 
+use crate::check::check;
 use crate::command_line::{CommandLine, read};
 use crate::err_line::write_line;
 use crate::outcome::Outcome;
@@ -57,6 +58,7 @@ fn perform<S: Store, C: Console>(
         Some(CommandLine::Trace { steps, objects }) => {
             trace(alloc, steps, objects, files, store, console)
         }
+        Some(CommandLine::Check { cert }) => check(alloc, cert, store, console),
         None => Outcome::Usage,
     }
 }

@@ -6,7 +6,7 @@ ghost use Rattle.std.specs.List.{list_all, position, zip};
 ghost use Rattle.std.specs.Option.{option_and_then, option_copied, option_map};
 ghost use Rattle.std.specs.Str.{bytes_eq};
 ghost use Rattle.std.specs.String.{string_bytes};
-ghost use Rattle.zcld.specs.Command.{begins_with_dash, command_of, held_words, is_complete, is_number as spells_number, meant, plain_form, plain_of, run_form, run_of, spelled_from, spelled_words, steps_given, steps_of, syntax_of, takes_words, texts, trace_form, trace_of, with_value, zc_form, zc_of};
+ghost use Rattle.zcld.specs.Command.{begins_with_dash, check_form, check_of, command_of, held_words, is_complete, is_number as spells_number, meant, plain_form, plain_of, run_form, run_of, spelled_from, spelled_words, steps_given, steps_of, syntax_of, takes_words, texts, trace_form, trace_of, with_value, zc_form, zc_of};
 
 /// The most digits of a number word.
 pub const MOST_DIGITS: usize = 20;
@@ -42,6 +42,9 @@ pub enum CommandLine<'a> {
     Trace {
         steps: u64,
         objects: &'a [String],
+    },
+    Check {
+        cert: &'a str,
     },
 }
 
@@ -108,6 +111,12 @@ const TRACE: Syntax = Syntax {
     positional: Positional::OneOrMore,
 };
 
+// `check CERT`
+const CHECK: Syntax = Syntax {
+    options: &[],
+    positional: Positional::Exactly(1),
+};
+
 /// The command that the words spell, after the program's own name.
 pub fn read(words: &[String]) -> Option<CommandLine<'_>>
     ensures { option_map meant result ≡ command_of (texts words.now) }
@@ -120,6 +129,7 @@ pub fn read(words: &[String]) -> Option<CommandLine<'_>>
         "zc" => zc(words),
         "run" => run(words),
         "trace" => trace(words),
+        "check" => check(words),
         _ => None,
     }
 }
@@ -171,6 +181,17 @@ fn trace(words: &[String]) -> Option<CommandLine<'_>>
     Some(CommandLine::Trace {
         steps: allowed(steps)?,
         objects,
+    })
+}
+
+fn check(words: &[String]) -> Option<CommandLine<'_>>
+    ensures { option_map meant result ≡ option_and_then check_of (spelled_words check_form (texts words.now)) }
+{
+    let [cert] = read_form(&CHECK, words, &mut [])? else {
+        return None;
+    };
+    Some(CommandLine::Check {
+        cert: cert.as_str(),
     })
 }
 

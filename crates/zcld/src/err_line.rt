@@ -9,7 +9,7 @@ ghost use Rattle.text_lines.specs.Hex.{hex_at, hex_word};
 ghost use Rattle.zc_outside.specs.Desk.{OnlyWrites};
 ghost use Rattle.zc_outside.specs.Streams.{KeepsBytes};
 ghost use Rattle.zcld.specs.Call.{WritesLine};
-ghost use Rattle.zcld.specs.ErrLine.{err_line, fault_symbol_name, line as with_line_feed, name_in, plan_fault_text, refusal_text, stop_text, stuck_text};
+ghost use Rattle.zcld.specs.ErrLine.{certificate_fault_text, err_line, fault_symbol_name, line as with_line_feed, name_in, plan_fault_text, refusal_text, stop_text, stuck_text};
 ghost use Rattle.zcld.specs.declared.outcome.Outcome.TheVariants.{Refused};
 
 use crate::outcome::{FileFault, Outcome};
@@ -18,6 +18,7 @@ use elf32_read::fault::Fault;
 use elf32_read::object::Object;
 use interrupt_plan::fault::PlanFault;
 use itoa::Buffer;
+use pick_check::fault::CertFault;
 use sym_machine::why::Why;
 use zc_base::place::Place;
 use zc_machine::reason::Reason;
@@ -112,14 +113,18 @@ pub fn line_of(outcome: &Outcome) -> ArrayString<ROOM>
 {
     match outcome {
         Outcome::Done => ArrayString::new(),
-        Outcome::Exited(code) => numbered_line("exited ", u32::from(*code)),
+        Outcome::Exited(code) => numbered_line("exited ", u64::from(*code)),
         Outcome::Usage => line("usage"),
         Outcome::Refused(object, fault) => refusal(*object, *fault, "\n"),
         Outcome::ReadFault => line("read fault"),
         Outcome::WriteFault => line("write fault"),
         Outcome::OutOfMemory => line("out of memory"),
-        Outcome::BadFile(FileFault::Image(fault)) => numbered_line("bad image ", fault.number()),
+        Outcome::BadFile(FileFault::Image(fault)) => {
+            numbered_line("bad image ", u64::from(fault.number()))
+        }
         Outcome::BadFile(FileFault::Plan(fault)) => bad_plan(*fault),
+        Outcome::BadFile(FileFault::Certificate(fault)) => bad_certificate(*fault),
+        Outcome::BadFile(FileFault::Rejected) => line("rejected"),
         Outcome::Stopped(reason, pc) => stop(*reason, *pc),
         Outcome::Stuck(place, why) => stuck(*place, *why),
         Outcome::Spent => line("spent"),
@@ -155,8 +160,8 @@ fn refusal(object: u32, fault: Fault, end: &str) -> ArrayString<ROOM>
 }
 
 /// A text, a number and a line feed.
-pub fn numbered_line(text: &str, number: u32) -> ArrayString<ROOM>
-    requires { length text.now ≤ 50 }
+pub fn numbered_line(text: &str, number: u64) -> ArrayString<ROOM>
+    requires { length text.now ≤ 43 }
     ensures { result.bytes ≡ with_line_feed (text.now ++ decimal number) }
 {
     let mut digits = Buffer::new();
@@ -172,10 +177,23 @@ fn bad_plan(fault: PlanFault) -> ArrayString<ROOM>
     ensures { result.bytes ≡ with_line_feed (plan_fault_text fault) }
 {
     match fault {
-        PlanFault::BadLine { number } => numbered_line("bad plan line ", number),
-        PlanFault::OutOfOrder { number } => numbered_line("bad plan order ", number),
+        PlanFault::BadLine { number } => numbered_line("bad plan line ", u64::from(number)),
+        PlanFault::OutOfOrder { number } => numbered_line("bad plan order ", u64::from(number)),
         PlanFault::TooLarge => line("bad plan size"),
         PlanFault::OutOfMemory => line("out of memory"),
+    }
+}
+
+// The line of a fault of a certificate.
+fn bad_certificate(fault: CertFault) -> ArrayString<ROOM>
+    ensures { result.bytes ≡ with_line_feed (certificate_fault_text fault) }
+{
+    match fault {
+        CertFault::BadLine { number } => {
+            numbered_line("bad certificate line ", u64::from(number))
+        }
+        CertFault::TooLarge => line("bad certificate size"),
+        CertFault::OutOfMemory => line("out of memory"),
     }
 }
 

@@ -86,6 +86,36 @@ const PLANS: [(&str, &str); 4] = [
     ("below", "zcld plan 1\ncut 1 d0fffffff:2a\n"),
 ];
 
+// Certificates: one target that 50 calls lead to, for which a table would take more than it saves; the same with a
+// leading zero, and without its last line.
+const CERTIFICATES: [(&str, &str); 3] = [
+    (
+        "single",
+        "zcld certificate 1\nsaving 0 1 0 0 50\nprice 0 0 0\nnet 0\nend\n",
+    ),
+    (
+        "zero",
+        "zcld certificate 1\nsaving 0 1 0 0 050\nprice 0 0 0\nnet 0\nend\n",
+    ),
+    (
+        "cut",
+        "zcld certificate 1\nsaving 0 1 0 0 50\nprice 0 0 0\nnet 0\n",
+    ),
+];
+
+// The front of a certificate of three targets that 30, 50 and 4 calls lead to, with slots behind the 32 for jumps.
+const CALLS: &str = "\
+zcld certificate 1\nsaving 0 1 0 0 30\nsaving 0 1 4 0 50\nsaving 0 1 8 0 4\n\
+slot 0\nslot 0\nslot 0\nslot 0\nslot 0\nslot 0\nslot 0\nslot 0\nslot 0\nslot 0\nslot 0\nslot 0\n\
+slot 0\nslot 0\nslot 0\nslot 0\nslot 0\nslot 0\nslot 0\nslot 0\nslot 0\nslot 0\nslot 0\nslot 0\n\
+slot 0\nslot 0\nslot 0\nslot 0\nslot 0\nslot 0\nslot 0\nslot 0\nslot 2\nslot 1\nslot 3\n";
+
+// What comes behind it: the prices by which no slots save more, and others, whose bound is 237.
+const PRICES: [(&str, &str); 2] = [
+    ("calls", "price 0 0 0\nnet 16\nend\n"),
+    ("dear", "price 0 0 1\nnet 16\nend\n"),
+];
+
 const CERTIFICATE: &str = "zcld certificate 1\nprice 0 0 0\nnet 0\nend\n";
 
 // The number that a hexadecimal digit stands for.
@@ -110,8 +140,8 @@ fn bytes_of(alloc: Global, digits: &str) -> Result<Vec<u8>, Fail> {
 }
 
 // The files of a call: `x` and `z` are the object, `image` is its image, `echo` and `echo.elf` are the other
-// program, `load.elf` is the image that loads, and `bad` is no ELF file; and the plans. The store's calls with these
-// numbers fail.
+// program, `load.elf` is the image that loads, and `bad` is no ELF file; and the plans and certificates. The store's
+// calls with these numbers fail.
 fn store_of(alloc: Global, fails: &[u32]) -> Result<MemStore, Fail> {
     let mut store = MemStore::new(alloc, fails)?;
     let files = [
@@ -127,6 +157,13 @@ fn store_of(alloc: Global, fails: &[u32]) -> Result<MemStore, Fail> {
         store.add(name, bytes_of(alloc, digits)?.as_slice())?;
     }
     for (name, text) in PLANS {
+        store.add(name, text.as_bytes())?;
+    }
+    for (name, text) in CERTIFICATES {
+        store.add(name, text.as_bytes())?;
+    }
+    for (name, end) in PRICES {
+        let text = format!(in alloc; "{CALLS}{end}")?;
         store.add(name, text.as_bytes())?;
     }
     Ok(store)

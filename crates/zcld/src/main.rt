@@ -3,6 +3,7 @@
 #![tactic(auto)]
 
 pub mod call;
+pub mod check;
 pub mod command_line;
 pub mod err_line;
 #[cfg(test)]
@@ -12,6 +13,7 @@ pub mod limits;
 pub mod objects;
 pub mod outcome;
 pub mod plain;
+pub mod print;
 pub mod program;
 pub mod run;
 pub mod trace;

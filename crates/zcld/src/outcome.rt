@@ -6,6 +6,7 @@ ghost use Rattle.zcld.specs.ErrLine.{status_of};
 use elf32_read::fault::Fault;
 use elf32_read::image_fault::ImageFault;
 use interrupt_plan::fault::PlanFault;
+use pick_check::fault::CertFault;
 use psabi_sym::link_fault::LinkFault;
 use std::alloc::AllocError;
 use sym_machine::why::Why;
@@ -13,11 +14,14 @@ use zc_base::place::Place;
 use zc_machine::reason::Reason;
 use zc_outside::read_files::ReadFault;
 
-/// What is wrong with a file that isn't an object.
+/// What is wrong with a file that isn't an object: it is no image, no plan or no certificate, or it is a certificate that
+/// isn't accepted.
 #[derive(Clone, Copy, PartialEq, Eq, Debug)]
 pub enum FileFault {
     Image(ImageFault),
     Plan(PlanFault),
+    Certificate(CertFault),
+    Rejected,
 }
 
 /// How a call ends. A refusal names the object, by its index among those of the command line, and
@@ -88,6 +92,22 @@ impl From<PlanFault> for Outcome {
             PlanFault::OutOfMemory => Outcome::OutOfMemory,
             PlanFault::BadLine { .. } | PlanFault::OutOfOrder { .. } | PlanFault::TooLarge => {
                 Outcome::BadFile(FileFault::Plan(fault))
+            }
+        }
+    }
+}
+
+impl From<CertFault> for Outcome {
+    ghost use Rattle.std.specs.Prelude.{◌≡◌};
+    ghost use Rattle.zcld.specs.Outcome.{certificate_outcome};
+
+    ghost from_gives = { λ fault outcome. outcome ≡ certificate_outcome fault };
+
+    fn from(fault: CertFault) -> Outcome {
+        match fault {
+            CertFault::OutOfMemory => Outcome::OutOfMemory,
+            CertFault::BadLine { .. } | CertFault::TooLarge => {
+                Outcome::BadFile(FileFault::Certificate(fault))
             }
         }
     }

@@ -19,10 +19,11 @@ ghost use Rattle.zcld.specs.Puts.{PutsInTurn};
 use crate::err_line::numbered_line;
 use crate::objects::{gather, read_objects};
 use crate::outcome::Outcome;
+use crate::print::print_line;
 use std::alloc::Global;
 use zc_link::linked::Linked;
 use zc_link::plain::link_plain;
-use zc_outside::console::{Console, ConsoleFault};
+use zc_outside::console::Console;
 use zc_outside::store::{Store, StoreFault};
 
 /// Links the objects under these names to an image `out`, and writes how many bytes its text has.
@@ -42,7 +43,7 @@ pub fn plain<S: Store, C: Console>(
     }
     match link(alloc, files) {
         Ok(linked) => {
-            let line = numbered_line("plain text ", linked.plain.text);
+            let line = numbered_line("plain text ", u64::from(linked.plain.text));
             put_and_print(store, out, linked.elf.as_slice(), line.as_str(), console)
         }
         Err(outcome) => outcome,
@@ -78,14 +79,9 @@ fn put_and_print<S: Store, C: Console>(
     ensures line { NamesNothing result }
 {
     match store.put(out, image) {
-        Ok(()) => {}
-        Err(StoreFault::OutOfMemory) => return Outcome::OutOfMemory,
-        Err(_) => return Outcome::WriteFault,
-    }
-    match console.out(line.as_bytes()) {
-        Ok(()) => Outcome::Done,
-        Err(ConsoleFault::Failed) => Outcome::WriteFault,
-        Err(ConsoleFault::OutOfMemory) => Outcome::OutOfMemory,
+        Ok(()) => print_line(line, console),
+        Err(StoreFault::OutOfMemory) => Outcome::OutOfMemory,
+        Err(_) => Outcome::WriteFault,
     }
 }
 

@@ -10,7 +10,7 @@ const PLACE: Place = Place {
 };
 
 // Statuses from 118 on are kept for `zcld` itself.
-const ROWS: [(Outcome, &str, u8); 9] = [
+const ROWS: [(Outcome, &str, u8); 10] = [
     (Outcome::Exited(117), "exited 117\n", 117),
     (Outcome::Exited(118), "exited 118\n", 118),
     (Outcome::Exited(119), "exited 119\n", 118),
@@ -23,6 +23,11 @@ const ROWS: [(Outcome, &str, u8); 9] = [
     (
         Outcome::BadFile(FileFault::Plan(PlanFault::TooLarge)),
         "bad plan size\n",
+        125,
+    ),
+    (
+        Outcome::BadFile(FileFault::Certificate(CertFault::TooLarge)),
+        "bad certificate size\n",
         125,
     ),
     (

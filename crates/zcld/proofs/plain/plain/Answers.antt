@@ -11,7 +11,7 @@ use Rattle.zcld.proofs.plain.plain.Goals as goal
 pub returns-in-Ok : goal.returns-in-Ok
 returns-in-Ok g c =
     let link : Link = c.in-Ok.linked in
-    let line : c.as_str.result.now ≡ plain_line link.plain.text = c.as_str.ensures.value ∙ c.numbered_line-line.ensures ∙ ap (λ (l : Link). plain_line l.plain.text) c.linked.view_is in
+    let line : c.as_str.result.now ≡ plain_line link.plain.text = c.as_str.ensures.value ∙ c.numbered_line-line.ensures ∙ ap plain_line c.from.ensures ∙ ap (λ (l : Link). plain_line l.plain.text) c.linked.view_is in
     let image : c.as_slice.result.now ≡ link.elf = c.as_slice.ensures.value ∙ ap (λ (l : Link). l.elf) c.linked.view_is in
     let between = world (g.S.Store.shown c.read_objects.new.store) (g.C.Console.shown c.args.console.now) in
     let after = world (g.S.Store.shown c.put_and_print.new.store) (g.C.Console.shown c.put_and_print.new.console) in

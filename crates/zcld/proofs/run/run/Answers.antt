@@ -8,7 +8,8 @@ use Rattle.zc_outside.specs.Desk.{Desk}
 use Rattle.zc_outside.specs.World.{world}
 use Rattle.zcld.specs.declared.outcome.Outcome.{Outcome}
 use Rattle.zcld.specs.Machines.{TakesAndRuns}
-use Rattle.zcld.specs.Run.{Runs, first_core_of, first_file, plan_of, run_refusal}
+use Rattle.zcld.specs.Run.{Runs, first_core_of, plan_of, run_refusal}
+use Rattle.zcld.specs.Task.{first_file}
 use Rattle.zcld.proofs.run.run.Goals as goal
 
 -- the first of the files that were read
