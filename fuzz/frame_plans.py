@@ -7,7 +7,8 @@ PROGRAM is build/zcld if none is given. A case is fixed by the seed and its numb
 any order, change them, and restore them. It goes to `zc` and `trace`, and its image to `run` under a plan that interrupts after
 each access of each push and pop, with bytes written below sp. Checked are:
 
-- the image is the one that `zc_link.py` makes, byte for byte, and its run comes to each push and pop that was asked for;
+- image and certificate are those that `zc_link.py` makes, byte for byte, and the image's run comes to each push and pop that was
+  asked for;
 - the run under the plan writes what the trace writes, and exits as it does.
 
 The status is 1 if a check failed. FOLDER then has the files of those cases.
@@ -121,7 +122,7 @@ class Case:
         frames = [(row, rng.choice(sizes(row)[range_of_sizes]), ending) for row, ending, range_of_sizes in rows]
         self.what = ', '.join('list {} in {} with ending {}'.format(*frame) for frame in frames)
         self.file = made_object(rng, frames)
-        self.image = zc([self.file])[0]
+        self.image, _, self.certificate = zc([self.file])
         interrupts, found = interrupts_of(rng, self.image)
         self.plan, self.found, self.wanted = plan_of(interrupts), found, 2 * len(frames)
 
@@ -132,8 +133,8 @@ def check(program, case, folder):
     write(names['file'], case.file)
     write(names['plan'], case.plan)
     linked = programs.run([program, 'zc', '--out', names['out'], '--cert', names['cert'], names['file']])
-    if linked.status or read(names['out']) != case.image:
-        raise Failed(f'zc ends with {linked}, or the image is another')
+    if linked.status or (read(names['out']), read(names['cert'])) != (case.image, case.certificate):
+        raise Failed(f'zc ends with {linked}, or the image or the certificate is another')
     if case.found != case.wanted:
         raise Failed(f'the run comes to {case.found} pushes and pops, and not to {case.wanted}')
     traced = programs.run([program, 'trace', '--steps', STEPS, names['file']])

@@ -14,7 +14,8 @@ was written to `run`. Checked are:
 - it is an outcome that this command has;
 - after `zc` ended with 0 the image and the certificate are there, and else no file is there or has changed, but
   for the image alone after a write fault or if memory ran out; so it is for the image of `plain`;
-- the image of `zc` is the one that `zc_link.py` makes, and that of `plain` the one of `plain_link.py`, byte for byte;
+- the image and the certificate of `zc` are those that `zc_link.py` makes, and the image of `plain` the one of
+  `plain_link.py`, byte for byte;
 - `zc`, `plain` and `trace` refuse files exactly if they have a fault, and name the first (`object_items.py`);
 - `trace` writes what `symbolic_machine.py` does, and ends as it does;
 - if `trace` isn't stuck, `run` of each image writes what `trace` of the objects does, and ends as it does; if it is,
@@ -49,7 +50,7 @@ from zcld_tools.instructions import (A0, A1, A2, A7, EBREAK, ECALL, EXIT_WORDS, 
                                      OPCODE_IMMEDIATE, OPCODE_LUI, OPCODE_REGISTER, RA, READ_CALL, RET, SP, T0, WRITE_CALL,
                                      ZERO, addi, branch, jal, load, store, words_of)
 from zcld_tools.objects import Strings
-from zcld_tools.programs import CERTIFICATE, Failed as Wrong
+from zcld_tools.programs import Failed as Wrong
 
 STEPS = '2000'
 # As many commits as an image may need for these steps.
@@ -549,9 +550,10 @@ class Case:
 
     def check_files(self, linked, before, after):
         if linked.name == 'done':
-            if after.get('out') != zc_of(self.files)[0]:
+            image, _, certificate = zc_of(self.files)
+            if after.get('out') != image:
                 raise Wrong('zc: done, but the image is another')
-            if after.get('cert') != CERTIFICATE:
+            if after.get('cert') != certificate:
                 raise Wrong('zc: done, but the certificate is another')
         written = {'done': ('out', 'cert'), 'write fault': ('out',), 'out of memory': ('out',)}.get(linked.name, ())
         self.check_others(linked, 'zc', written, before, after)

@@ -74,9 +74,13 @@ class Plain:
         """The places of what is written, in their order."""
         return self.code.places()
 
+    def front(self):
+        """The bytes in front of all code."""
+        return b''
+
     def text(self):
         """The bytes of the text, with zeros between sections."""
-        text = bytearray()
+        text = bytearray(self.front())
         for place in self.places():
             text += bytes(self.addresses[place] - TEXT_AT - len(text))
             text += self.item_bytes(place, self.code.item(place))
@@ -89,10 +93,13 @@ class Plain:
             struct.pack_into('<I', data, at, self.value(target) & 0xFFFFFFFF)
         return bytes(data)
 
+    def start(self):
+        """The address at which a run begins."""
+        return self.addresses[self.code.entry()]
+
     def image(self):
         data = self.code.symbols.data
-        return image_bytes(self.text(), self.addresses, self.data(), data.end - data.file_end,
-                           self.addresses[self.code.entry()], self.flags)
+        return image_bytes(self.text(), self.addresses, self.data(), data.end - data.file_end, self.start(), self.flags)
 
 
 def plain(files):
@@ -101,12 +108,11 @@ def plain(files):
     return made.image(), made.end - TEXT_AT
 
 
-def write_link(name, link):
-    """Writes the image that a link makes of files, under a name, and says how long its text is."""
-    image, length = link(without_fault(sys.argv[2:]))
+def main():
+    image, length = plain(without_fault(sys.argv[2:]))
     write(sys.argv[1], image)
-    print(name, 'text', length)
+    print('plain text', length)
 
 
 if __name__ == '__main__':
-    write_link('plain', plain)
+    main()

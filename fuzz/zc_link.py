@@ -2,9 +2,10 @@
 
     fuzz/zc_link.py OUT FILE...
 
-writes the image of the files under OUT, and says how long the text is and what it is made of, or says their first fault. It
-knows nothing of the program, so that both can be compared. A group (groups.py) is a piece of a fixed size, and what stands
-inside one has no address.
+writes the image of the files under OUT, and says how long the text is and what it is made of, and the certificate of its jump
+table; or it says their first fault. It knows nothing of the program, so that both can be compared. A group (groups.py) is a
+piece of a fixed size, and what stands inside one has no address. The table (tables.py) is the best one (certificates.py) for
+the layout without one, and then all sizes are settled anew.
 """
 import os
 import struct
@@ -12,13 +13,16 @@ import sys
 
 sys.path.insert(0, os.path.join(os.path.dirname(os.path.abspath(__file__)), os.pardir, 'scripts'))
 
+from certificates import best, write_certificate
 from groups import FROM_SAVED, TO_SAVED, groups_of, places_outside
 from halfwords import short_form
 from object_data import CODE, aligned
 from object_faults import Object
-from plain_link import Plain, write_link
+from object_items import without_fault
+from plain_link import Plain
+from tables import Table, savings_of, table_half
 from zc_machine import POP, POPRET, POPRETZ, PUSH
-from zcld_tools.files import read_all
+from zcld_tools.files import write
 from zcld_tools.images import COMPRESSED, TEXT_AT
 from zcld_tools.instructions import NOP, OPCODE_JAL, with_branch, with_high, with_jump, with_low, words_of
 
@@ -28,12 +32,12 @@ REACHES = {'Branch': {2: (-256, 254), 4: (-4096, 4094)}, 'Jump': {2: (-2048, 204
 
 
 class Zc(Plain):
-    """The link of code without a fault that makes it smaller."""
+    """The link of code without a fault that makes it smaller, with a table."""
 
     flags = COMPRESSED
 
-    def __init__(self, objects):
-        self.groups, self.items, self.sizes, self.rounds = {}, {}, {}, 0
+    def __init__(self, objects, table=Table()):
+        self.table, self.groups, self.items, self.sizes, self.rounds = table, {}, {}, {}, 0
         super().__init__(objects)
 
     # forms
@@ -43,6 +47,8 @@ class Zc(Plain):
         word = item.words[0]
         if place in self.groups:
             return [len(self.groups[place].code)]
+        if place in self.table.through:
+            return [2]
         if item.kind == 'Align':
             return []
         if item.kind == 'RawPair':
@@ -68,7 +74,7 @@ class Zc(Plain):
 
     def addresses_now(self):
         """The address of each place at the sizes so far, and where the text ends."""
-        addresses, at = {}, TEXT_AT
+        addresses, at = {}, TEXT_AT + self.table.size
         for (i, k), part in self.code.code_parts():
             at = aligned(at, part.section.align if part.section.align > 4 else 2)
             for place in ((i, k, offset) for offset in part.starts):
@@ -88,7 +94,7 @@ class Zc(Plain):
         self.items = {place: self.code.item(place) for place in places_outside(self.code, self.groups)}
         forms = {place: self.forms(place, item) for place, item in self.items.items() if item.kind != 'Align'}
         self.sizes = {place: sizes[0] for place, sizes in forms.items()}
-        grow = [place for place in forms if self.items[place].kind in REACHES]
+        grow = [place for place in forms if self.items[place].kind in REACHES and place not in self.table.through]
         while True:
             self.rounds += 1
             addresses, end = self.addresses_now()
@@ -103,9 +109,17 @@ class Zc(Plain):
     def places(self):
         return self.items
 
+    def front(self):
+        return self.table.code(self.addresses, super().start()) if self.table.size else b''
+
+    def start(self):
+        return self.table.stub_at() if self.table.size else super().start()
+
     def item_bytes(self, place, item):
         if place in self.groups:
             return self.groups[place].code
+        if place in self.table.through:
+            return struct.pack('<H', table_half(self.table.through[place]))
         if item.kind == 'Align':
             size = -self.addresses[place] % item.target
             return struct.pack('<H', SHORT_NOP) * (size % 4 // 2) + words_of(NOP) * (size // 4)
@@ -118,29 +132,44 @@ class Zc(Plain):
         word = self.call_word(item, self.distance(place, item.target)) if item.kind == 'Call' else self.word(place, item)
         return struct.pack('<H', short_form(word)) if size == 2 else words_of(word)
 
-
     # counts
 
     def counts(self):
-        """How many items there are, items of two bytes outside groups, branches of eight, and groups of each kind."""
+        """How many items there are, items that are written by themselves in two bytes, branches of eight, groups of each kind,
+        and jumps and calls through the table."""
         forms = [group.form for group in self.groups.values()]
-        sizes = [(item.kind, self.sizes.get(place)) for place, item in self.items.items() if place not in self.groups]
+        sizes = [(item.kind, self.sizes.get(place)) for place, item in self.items.items()
+                 if place not in self.groups and place not in self.table.through]
         return {'items': len([*self.code.places()]), 'short': sum(size == 2 for _, size in sizes),
                 'long': sizes.count(('Branch', 8)), 'push': forms.count(PUSH),
                 'pop': sum(form in (POP, POPRET, POPRETZ) for form in forms),
-                'move': sum(form in (TO_SAVED, FROM_SAVED) for form in forms)}
+                'move': sum(form in (TO_SAVED, FROM_SAVED) for form in forms), 'table': len(self.table.through)}
+
+
+def link_of(files):
+    """The link of files without a fault, with the best table, and the text of its certificate."""
+    objects = [Object(data) for data in files]
+    link = Zc(objects)
+    savings = savings_of(link)
+    certificate = best(savings)
+    if certificate.slots:
+        link = Zc(objects, Table(link, savings, certificate.slots))
+    return link, write_certificate(savings, certificate)
 
 
 def zc(files):
-    """The image of files without a fault, and how many bytes of text it has."""
-    made = Zc([Object(data) for data in files])
-    return made.image(), made.end - TEXT_AT
+    """The image of files without a fault, how many bytes of text it has, and the text of its certificate."""
+    link, certificate = link_of(files)
+    return link.image(), link.end - TEXT_AT, certificate
 
 
 def main():
-    write_link('zc', zc)
-    for name, count in Zc([Object(data) for data in read_all(sys.argv[2:])]).counts().items():
+    link, certificate = link_of(without_fault(sys.argv[2:]))
+    write(sys.argv[1], link.image())
+    print('zc text', link.end - TEXT_AT)
+    for name, count in link.counts().items():
         print(name, count)
+    print(certificate.decode(), end='')
 
 
 if __name__ == '__main__':

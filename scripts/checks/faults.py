@@ -4,6 +4,7 @@ import os
 import plain_examples
 from changed_files import WORD, changed, changed_images, changed_objects
 from zcld_tools.instructions import A0, EBREAK, ECALL, NOP, SP, ZERO, addi, branch, jalr, lw, words_of
+from zcld_tools.programs import CERTIFICATE
 
 from checks.made_files import (LARGE, LARGE_IMAGE, MIB, OLD, OTHER, OTHER_TEXT, SHORT_SIZES, THREE, THREE_IMAGE, THREE_TEXT,
                                exit_code, image_of, image_of_several, long_code, object_of)
@@ -21,7 +22,8 @@ COMMANDS = (
     ('run --steps 1000000000 image', 3, 'exited 3'), ('run --steps 00000000000000000003 image', 3, 'exited 3'),
     ('run --steps 00000000000000000002 image', 127, 'spent'), ('trace --steps 3 object', 3, 'exited 3'),
     ('trace --steps 0 object', 127, 'spent'), ('trace --steps 00000000001000000000 object', 3, 'exited 3'),
-    ('trace trace', 122, 'read fault'), ('trace --steps 7 object  object', 122, 'read fault'),
+    ('trace trace', 122, 'read fault'), ('check ', 122, 'read fault'), ('check object', 125, 'bad certificate line 1'),
+    ('trace --steps 7 object  object', 122, 'read fault'),
 )
 
 # Words that spell none. In this order: no command, or none of this name; a required option is missing; an option that isn't the
@@ -33,6 +35,7 @@ frob object
 ZC --out out --cert cert object
 Run image
 object run
+Check plan
 plain object
 plain --cert out object
 zc object
@@ -43,6 +46,8 @@ run --step 3 image
 run --Plan plan image
 zc --out out --cert cert --plan plan object
 trace --plan plan object
+check --cert plan
+check --steps 3 plan
 run --out out image
 trace -steps 3 object
 run steps 3 image
@@ -67,6 +72,8 @@ run -image
 zc --out out --cert cert -object
 zc --out out --cert cert object -object
 trace object object -object
+check -plan
+check --plan
 plain --out out
 trace
 trace --steps 3
@@ -75,12 +82,15 @@ run
 run --plan image
 run --steps 3 --plan plan
 run image image
+check
+check plan plan
 plain object --out out
 zc object --out out --cert cert
 run image --steps 3
 run image --plan plan
 run --plan plan image --steps 3
 trace object --steps 3
+check plan --steps 3
 zc --out out object --cert cert
 zc --out out --cert cert object --out out object
 run --steps  image
@@ -100,6 +110,7 @@ STUCK = ((NOP,), (lw(A0, A0),), (branch(0, A0, ZERO, 8), NOP, NOP), (jalr(ZERO, 
 def statuses(group):
     """each outcome's status and line"""
     folder = group.folder(image=THREE_IMAGE, bad=b'bad', order=b'zcld plan 1\ncut 1\ncut 0\n',
+                          rejected=CERTIFICATE.replace(b'net 0', b'net 1'),
                           unread=object_of(words_of(0)), stuck=object_of(words_of(ECALL)), other=OTHER,
                           illegal=image_of(words_of(0)), broken=image_of(words_of(EBREAK)), past=image_of(words_of(NOP)),
                           **{f'code{k}': object_of(words_of(*it)) for k, it in enumerate(STUCK)},
@@ -118,7 +129,9 @@ def statuses(group):
         ('trace other', 121, 'refused 0 16 NoEntry'), ('trace none', 122, 'read fault'), ('run none', 122, 'read fault'),
         ('zc --out o --cert c none', 122, 'read fault'), ('zc --out none/o --cert c object', 123, 'write fault'),
         ('run object', 125, 'bad image 1'), ('run --plan bad image', 125, 'bad plan line 1'),
-        ('run --plan order image', 125, 'bad plan order 3'), ('run illegal', 126, 'stopped 1 Illegal 00010000'),
+        ('run --plan order image', 125, 'bad plan order 3'), ('check object', 125, 'bad certificate line 1'),
+        ('check rejected', 125, 'rejected'), ('check none', 122, 'read fault'),
+        ('run illegal', 126, 'stopped 1 Illegal 00010000'),
         ('trace stuck', 126, 'stuck 0 1 0 4 ArgumentUnknown'), ('trace unread', 126, 'stuck 0 1 0 8 NoInstruction'),
         ('run broken', 126, 'stopped 4 Break 00010000'), ('run past', 126, 'stopped 2 BadAccess 00010004'),
         ('trace code0', 126, 'stuck 0 1 4 8 NoInstruction'), ('trace other code0', 126, 'stuck 1 1 4 8 NoInstruction'),

@@ -8,6 +8,7 @@ import stat
 import subprocess
 import threading
 
+from certificates import answer
 from plain_link import plain as plain_of
 from zc_link import zc as zc_of
 from zcld_tools import files, programs
@@ -160,10 +161,10 @@ class Group:
         for words in (('run', 'out'), ('trace', *names)):
             self.exits(f'{what}, {words[0]}', folder.run(words, given), status, out)
 
-    def done(self, what, ended, folder, out='out', cert='cert', image=THREE_IMAGE):
+    def done(self, what, ended, folder, out='out', cert='cert', image=THREE_IMAGE, certificate=CERTIFICATE):
         self.ends(what, ended, 0, '')
         self.same(f'{what}: OUT', folder.read(out), image)
-        self.same(f'{what}: CERT', folder.read(cert), CERTIFICATE)
+        self.same(f'{what}: CERT', folder.read(cert), certificate)
 
     def plain_done(self, what, ended, folder, objects, out='out'):
         """A plain link: the image under OUT, and the text's length."""
@@ -194,9 +195,11 @@ class Group:
         return folder, names
 
     def linked_small(self, what, objects):
-        """A folder with the image that `zc` makes of a list under OUT."""
+        """A folder with the image that `zc` makes of a list under OUT, and its certificate under CERT, which `check` accepts."""
         folder = self.folder()
-        self.done(what, folder.link(*folder.write_list(objects)), folder, image=zc_of(objects)[0])
+        image, _, certificate = zc_of(objects)
+        self.done(what, folder.link(*folder.write_list(objects)), folder, image=image, certificate=certificate)
+        self.same(f'{what}: check', folder.run(('check', 'cert')), (0, answer(certificate).encode() + b'\n', b''))
         return folder
 
 

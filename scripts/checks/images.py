@@ -36,7 +36,7 @@ def stored_run(group):
 def programs():
     """What each program is, its files, its input, its status, what it writes, and the length of its text that `zc` makes."""
     return (('three', [THREE], b'', 3, b'', 10), ('hello', plain_examples.hello(), b'', 0, b'hi\n', 32),
-            ('jump table', plain_examples.jump_table(), b'', 7, b'', 4490),
+            ('jump table', plain_examples.jump_table(), b'', 7, b'', 4466),
             *(('echo', plain_examples.echo(), given, 0, given[:4], 38) for given in (b'', b'ab', b'abcdef')))
 
 

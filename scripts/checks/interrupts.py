@@ -3,27 +3,17 @@ import random
 import struct
 
 from groups import BITS, FROM_SAVED, LISTS, MORE, TO_SAVED, frame_half, move_half
-from zc_machine import JVT, OPCODE_SYSTEM, POPRET, POPRETZ, PUSH, SAVED, Frame, Machine, plan_in, plan_of, run
+from tables import swap_jvt, table_half
+from zc_machine import POPRET, POPRETZ, PUSH, SAVED, Frame, Machine, plan_in, plan_of, run
 from zcld_tools.files import random_bytes
 from zcld_tools.images import COMPRESSED, DATA_AT, STACK_HIGH, STACK_LOW, TEXT_AT, image_bytes
 from zcld_tools.instructions import (A0, A1, A2, A7, ECALL, EXIT_WORDS, SP, T0, T1, WRITE_CALL, ZERO, addi, constant, jal, lw,
-                                     of_format_i, sw)
+                                     sw)
 
 from checks.by_chance import random_word
 from checks.made_files import call_of_stack
 
 TABLE = 64
-
-
-# ---- instructions, by the bits of the standard
-
-
-def table_half(index):
-    return 5 << 13 | index << 2 | 2
-
-
-def swap_jvt(to, source):
-    return of_format_i(OPCODE_SYSTEM, 1, to, source, JVT)
 
 
 # ---- programs

@@ -56,16 +56,16 @@ def interrupted_frames(group):
         folder.remove()
 
 
-def plan_of_every_commit(rng):
-    """A plan that interrupts before each of more commits than any of the programs makes. Bytes are written where their frames
-    lie, as far as these are below sp."""
+def plan_of_every_commit(rng, commits):
+    """A plan that interrupts before each of so many commits. Bytes are written where frames lie, as far as these are below
+    sp."""
     return plan_of((commit, rng.sample(range(13), rng.randrange(6)),
-                    [(STACK_HIGH - 1 - rng.randrange(512), rng.randrange(256)) for _ in range(2)]) for commit in range(MOST))
+                    [(STACK_HIGH - 1 - rng.randrange(512), rng.randrange(256)) for _ in range(2)]) for commit in range(commits))
 
 
 def interrupted_c_programs(group):
     """programs that C compilers made, interrupted at every commit: the same output and status"""
-    plan = plan_of_every_commit(random.Random('every commit'))
+    plan = plan_of_every_commit(random.Random('every commit'), MOST)
     for program, status in STATUSES.items():
         for compiler in COMPILERS:
             what = f'{program} by {compiler}'
