@@ -1,0 +1,44 @@
+// Numbers that are drawn from a number.
+
+ghost use Rattle.std.specs.Prelude.{◌≡◌, ◌<◌, ◌^◌};
+ghost use Rattle.zc_base.specs.Draws.{drawn, stepped};
+
+use std::marker::Model;
+
+/// Numbers that look random, and are the same after the same start: a linear congruential generator
+/// modulo 2^64, of which a draw gives the upper 31 bits.
+#[derive(Drop)]
+pub struct Draws {
+    state: u64,
+}
+
+impl Model for Draws {
+    ghost use Rattle.std.specs.Prelude.{ℕ};
+
+    ghost Value = { ℕ };
+
+    ghost view = { λ d. d.state };
+}
+
+impl Draws {
+    /// The draws from this number on.
+    pub fn new(number: u64) -> Draws
+        ensures { result ≡ number }
+    {
+        Draws { state: number }
+    }
+
+    /// The next number.
+    #[tactic(auto, unfolding(crate::specs::Draws::stepped))]
+    pub fn next(&mut self) -> u32
+        ensures value { result ≡ drawn self.new }
+        ensures after { self.new ≡ stepped self.old }
+        ensures small { result < 2 ^ 31 }
+    {
+        self.state = self
+            .state
+            .wrapping_mul(6_364_136_223_846_793_005)
+            .wrapping_add(1_442_695_040_888_963_407);
+        (self.state >> 33) as u32
+    }
+}
