@@ -1,6 +1,13 @@
--- Words by their fields (RISC-V unprivileged manual, "Base Instruction Formats").
-use Rattle.std.specs.Prelude.{ℕ, ◌+◌, ◌*◌, ◌^◌}
+-- The words of instructions (RISC-V unprivileged manual, "Base Instruction Formats" and "RV32/64G Instruction Set Listings").
+use Rattle.std.specs.Prelude.{ℕ, ℤ, pos, negsuc, ◌+◌, ◌-◌, ◌*◌, ◌/◌, ◌^◌, unsigned_abs}
+use Rattle.rv_decode.specs.declared.instr.Instr.{Instr}
+use Rattle.rv_decode.specs.declared.instr.Instr.TheVariants.{Upper, Jal, Jalr, Branch, Load, Store, WithImm, WithReg, Fence, Ecall, Ebreak, Csrrw}
 use Rattle.rv_decode.specs.Bits.{field}
+use Rattle.rv_encode.specs.declared.codes.ImmCode.{ImmCode}
+use Rattle.rv_encode.specs.declared.codes.ImmCode.TheVariants.{Operand, Shift}
+use Rattle.rv_encode.specs.Codes.{branch_funct3, imm_code, load_funct3, reg_funct, store_funct3, upper_opcode}
+
+-- ---- words by their fields
 
 -- R, I, S and B: twelve bits, rs1, funct3, five bits, and the opcode
 abbrev pub fields_word : ℕ → ℕ → ℕ → ℕ → ℕ → ℕ
@@ -25,3 +32,41 @@ branch_five_of bits = field bits 1 4 * 2 + field bits 11 1
 -- J's twenty bits of a distance: 20, 10 to 1, 11, and 19 to 12
 abbrev pub jump_twenty_of : ℕ → ℕ
 jump_twenty_of bits = field bits 20 1 * 2 ^ 19 + field bits 1 10 * 2 ^ 9 + field bits 11 1 * 2 ^ 8 + field bits 12 8
+
+-- a signed number that fits, as so many bits of two's complement
+abbrev pub bits_of : ℕ → ℤ → ℕ
+bits_of bits (pos n) = n
+bits_of bits (negsuc n) = 2 ^ bits - n - 1
+
+-- ---- words of instructions
+
+-- S and B: what stands in front of rs2 and what stands in the place of rd are parts of the immediate
+abbrev pub store_word : ℕ → ℕ → ℕ → ℕ → ℕ
+store_word bits rs2 rs1 funct3 = fields_word (twelve_of (field bits 5 7) rs2) rs1 funct3 (field bits 0 5) 0b0100011
+
+abbrev pub branch_word : ℕ → ℕ → ℕ → ℕ → ℕ
+branch_word bits rs2 rs1 funct3 = fields_word (twelve_of (branch_seven_of bits) rs2) rs1 funct3 (branch_five_of bits) 0b1100011
+
+-- R, and I with the amount of a shift, which stands where rs2 does; ten bits are the funct7 and funct3
+abbrev pub funct_word : ℕ → ℕ → ℕ → ℕ → ℕ → ℕ
+funct_word funct rs2 rs1 rd opcode = fields_word (twelve_of (field funct 3 7) rs2) rs1 (field funct 0 3) rd opcode
+
+-- an operation with an immediate, by its code
+abbrev pub imm_word : ImmCode → ℕ → ℕ → ℤ → ℕ
+imm_word (Operand funct3) rd rs1 imm = fields_word (bits_of 12 imm) rs1 funct3 rd 0b0010011
+imm_word (Shift funct) rd rs1 imm = funct_word funct (unsigned_abs imm) rs1 rd 0b0010011
+
+-- the word of an instruction whose immediate has room in it
+unfoldable pub encoded : Instr → ℕ
+encoded (Upper op rd imm) = upper_word_of imm rd (upper_opcode op)
+encoded (Jal rd distance) = upper_word_of (jump_twenty_of (bits_of 21 distance)) rd 0b1101111
+encoded (Jalr rd base imm) = fields_word (bits_of 12 imm) base 0b000 rd 0b1100111
+encoded (Branch op first second distance) = branch_word (bits_of 13 distance) second first (branch_funct3 op)
+encoded (Load op rd base imm) = fields_word (bits_of 12 imm) base (load_funct3 op) rd 0b0000011
+encoded (Store op source base imm) = store_word (bits_of 12 imm) source base (store_funct3 op)
+encoded (WithImm op rd first imm) = imm_word (imm_code op) rd first imm
+encoded (WithReg op rd first second) = funct_word (reg_funct op) second first rd 0b0110011
+encoded (Fence rest) = upper_word_of (rest / 2 ^ 5 * 2 ^ 3) (field rest 0 5) 0b0001111
+encoded Ecall = 0x00000073
+encoded Ebreak = 0x00100073
+encoded (Csrrw rd source) = fields_word 0x017 source 0b001 rd 0b1110011

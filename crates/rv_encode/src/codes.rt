@@ -1,13 +1,24 @@
 // The fields that tell the operations of a format apart.
 
-ghost use Rattle.std.specs.Prelude.{◌≡◌, ℕ, ◌<◌, ◌^◌, Some};
-ghost use Rattle.rv_decode.specs.Decode.{branch_ops, imm_ops, load_ops, reg_ops, row_of, shift_ops, store_ops};
+ghost use Rattle.std.specs.Prelude.{◌≡◌, ℕ, ◌<◌, ◌^◌};
+ghost use Rattle.rv_encode.specs.Codes.{branch_funct3, imm_code, load_funct3, reg_funct, store_funct3, upper_opcode};
 
-use rv_decode::instr::{BranchOp, ImmOp, LoadOp, RegOp, StoreOp};
+use rv_decode::instr::{BranchOp, ImmOp, LoadOp, RegOp, StoreOp, UpperOp};
+
+/// The opcode of an instruction with an upper immediate.
+pub fn upper_opcode(op: UpperOp) -> u32
+    ensures value { result ≡ upper_opcode op }
+    ensures below { result < 2 ^ 7 }
+{
+    match op {
+        UpperOp::Lui => 0b011_0111,
+        UpperOp::Auipc => 0b001_0111,
+    }
+}
 
 /// The funct3 of a branch.
 pub fn branch_funct3(op: BranchOp) -> u32
-    ensures row { row_of branch_ops result ≡ Some op }
+    ensures value { result ≡ branch_funct3 op }
     ensures below { result < 2 ^ 3 }
 {
     match op {
@@ -22,7 +33,7 @@ pub fn branch_funct3(op: BranchOp) -> u32
 
 /// The funct3 of a load.
 pub fn load_funct3(op: LoadOp) -> u32
-    ensures row { row_of load_ops result ≡ Some op }
+    ensures value { result ≡ load_funct3 op }
     ensures below { result < 2 ^ 3 }
 {
     match op {
@@ -36,7 +47,7 @@ pub fn load_funct3(op: LoadOp) -> u32
 
 /// The funct3 of a store.
 pub fn store_funct3(op: StoreOp) -> u32
-    ensures row { row_of store_ops result ≡ Some op }
+    ensures value { result ≡ store_funct3 op }
     ensures below { result < 2 ^ 3 }
 {
     match op {
@@ -56,9 +67,8 @@ pub enum ImmCode {
 
 /// The code of an operation with an immediate.
 pub fn imm_code(op: ImmOp) -> ImmCode
-    ensures operand { (n : ℕ) → result ≡ ImmCode.Operand n → row_of imm_ops n ≡ Some op }
+    ensures value { result ≡ imm_code op }
     ensures operand_below { (n : ℕ) → result ≡ ImmCode.Operand n → n < 2 ^ 3 }
-    ensures shift { (n : ℕ) → result ≡ ImmCode.Shift n → row_of shift_ops n ≡ Some op }
     ensures shift_below { (n : ℕ) → result ≡ ImmCode.Shift n → n < 2 ^ 10 }
 {
     match op {
@@ -76,7 +86,7 @@ pub fn imm_code(op: ImmOp) -> ImmCode
 
 /// The funct7 and funct3 of an operation on two registers, as one number of ten bits.
 pub fn reg_funct(op: RegOp) -> u32
-    ensures row { row_of reg_ops result ≡ Some op }
+    ensures value { result ≡ reg_funct op }
     ensures below { result < 2 ^ 10 }
 {
     match op {

