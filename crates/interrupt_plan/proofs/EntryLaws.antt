@@ -1,10 +1,10 @@
 -- The lines of a plan are read from the front: the entries so far, and what the other lines spell.
-use Rattle.std.proofs.Common.{◌≡◌, ℕ, ◌+◌, ◌-◌, ◌<◌, ◌≤◌, Some, None, Ok, Err, Bool, true, false, cond, Result, List, [], ◌∷◌, ◌++◌, length, get_or, ltb, eqb, refl, ap, sym, subst, ◌∙◌, append_assoc, length-append, arith}
-use Rattle.std.specs.List.{onto_first, slice_split}
+use Rattle.std.proofs.Common.{◌≡◌, ℕ, ◌+◌, ◌-◌, ◌<◌, ◌≤◌, Some, None, Ok, Err, cond, Result, List, [], ◌∷◌, ◌++◌, length, get_or, ltb, eqb, refl, ap, sym, subst, ◌∙◌, append_assoc, length-append, arith}
 use Rattle.std.proofs.lemmas.Bool.{cond-false, cond-true, le-ltb, lt-ltb}
 use Rattle.std.proofs.lemmas.List.{get_or_push}
 use Rattle.std.proofs.lemmas.List.Sorted.{IsNonDecreasingBy-push}
 use Rattle.text_lines.specs.Lines.{lines_of, words_of}
+use Rattle.text_lines.proofs.SplitLaws.{some_part}
 use Rattle.interrupt_plan.specs.Order.{IsInOrder}
 use Rattle.interrupt_plan.specs.Plan.{Entry}
 use Rattle.interrupt_plan.specs.Text.{entries_in, entry_of_words, entry_then, with_first}
@@ -15,19 +15,6 @@ use Rattle.interrupt_plan.specs.declared.fault.PlanFault.TheVariants.{BadLine, O
 abbrev pub with_entries : List Entry → Result (List Entry) PlanFault → Result (List Entry) PlanFault
 with_entries es (Ok more) = Ok (es ++ more)
 with_entries es (Err fault) = Err fault
-
--- a text has a part at least
-pub some_part : (p : ℕ → Bool) (xs : List ℕ) → (x : List ℕ) × (ys : List (List ℕ)) × (slice_split p xs ≡ x ∷ ys)
-some_part p [] = ([], [], refl)
-some_part p (x ∷ xs) = either (p x)
-  where
-    onto : (parts : List (List ℕ)) → (z : List ℕ) × (ys : List (List ℕ)) × (onto_first x parts ≡ z ∷ ys)
-    onto [] = (x ∷ [], [], refl)
-    onto (y ∷ ys) = (x ∷ y, ys, refl)
-
-    either : (b : Bool) → (z : List ℕ) × (ys : List (List ℕ)) × (cond b ([] ∷ slice_split p xs) (onto_first x (slice_split p xs)) ≡ z ∷ ys)
-    either true = ([], slice_split p xs, refl)
-    either false = onto (slice_split p xs)
 
 -- a line with a line feed, and those behind it
 pub line_step : (number low : ℕ) (line behind : List ℕ) → entries_in number low (line ∷ lines_of behind) ≡ entry_then number low (entry_of_words (words_of line)) (λ at. entries_in (number + 1) at (lines_of behind))

@@ -9,14 +9,14 @@ use Rattle.std.proofs.lemmas.List.Elements.{All-nil, All-push}
 use Rattle.std.proofs.lemmas.List.Splits.{join_with_byte-slice_split, slice_split_at}
 use Rattle.std.proofs.lemmas.Slice.Eq.{bytes_eq-Decides}
 use Rattle.text_lines.specs.Lines.{lines_of, words_of}
-use Rattle.text_lines.proofs.SplitLaws.{split_found, split_none, text_found}
+use Rattle.text_lines.proofs.SplitLaws.{some_part, split_found, split_none, text_found}
 use Rattle.interrupt_plan.specs.Fault.{BeginsAsPlan, IsFault, bad_line, earlier, first_line, large, memory}
 use Rattle.interrupt_plan.specs.Order.{IsInOrder}
 use Rattle.interrupt_plan.specs.Plan.{Entry}
 use Rattle.interrupt_plan.specs.Text.{FitsEntry, entries_behind, entries_in, entry_line, entry_of_words, entry_then, plan_in, plan_text, with_first}
 use Rattle.interrupt_plan.specs.declared.fault.PlanFault.{PlanFault}
 use Rattle.interrupt_plan.specs.declared.fault.PlanFault.TheVariants.{BadLine, OutOfMemory, OutOfOrder, TooLarge}
-use Rattle.interrupt_plan.proofs.EntryLaws.{in_order_pushed, last_pushed, some_part}
+use Rattle.interrupt_plan.proofs.EntryLaws.{in_order_pushed, last_pushed}
 use Rattle.interrupt_plan.proofs.PlainLaws.{no_line_feed, words_back}
 use Rattle.interrupt_plan.proofs.SpellLaws.{entry_back, entry_of_is}
 use Rattle.interrupt_plan.proofs.TextLaws.{ended, title_line}

@@ -1,6 +1,7 @@
 pub mod EntryLaws
 pub mod FaultLaws
 pub mod LineLaws
+pub mod MadeLaws
 pub mod PlainLaws
 pub mod PlanLaws
 pub mod SpellLaws

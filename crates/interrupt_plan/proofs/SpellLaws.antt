@@ -1,5 +1,5 @@
 -- The words of an entry spell it, and no others do.
-use Rattle.std.proofs.Common.{◌≡◌, ℕ, ◌<◌, Some, None, Bool, true, false, cond, Option, List, [], ◌∷◌, ◌++◌, map, get_or, refl, ap, ap₂, subst, ◌∙◌, arith, lit<}
+use Rattle.std.proofs.Common.{◌≡◌, ℕ, ◌<◌, Some, None, Option, List, [], ◌∷◌, ◌++◌, map, get_or, refl, ap, ap₂, subst, ◌∙◌, arith, lit<}
 use Rattle.std.specs.Prelude.{All, bytes_eq, codes}
 use Rattle.std.specs.Fmt.{decimal}
 use Rattle.std.specs.Option.{option_and_then, option_map}
@@ -8,19 +8,10 @@ use Rattle.std.proofs.lemmas.Option.{none-some, option_and_then_some, same_Some}
 use Rattle.std.proofs.lemmas.Slice.Eq.{bytes_eq-Decides}
 use Rattle.text_lines.specs.Number.{decimal_of}
 use Rattle.text_lines.proofs.NumberLaws.{decimal_of-Some, number_of_is}
+use Rattle.text_lines.proofs.OptionLaws.{mapped, picked}
 use Rattle.interrupt_plan.specs.Plan.{Entry, Interrupt}
 use Rattle.interrupt_plan.specs.Text.{FitsByte, FitsEntry, access_of, access_or_bytes, access_word, dirt_of, byte_word, bytes_of, entry, entry_of_words, entry_words, interrupt, interrupt_of, interrupt_words, with_access}
 use Rattle.interrupt_plan.proofs.WordLaws.{access_of-None, access_of-Some, access_of_is, dirt_of-Some, byte_of_is}
-
--- ---- what an option's value came from
-
-mapped : {A B P : Type 0} (f : A → B) (o : Option A) (y : B) → option_map f o ≡ Some y → ((x : A) → o ≡ Some x → f x ≡ y → P) → P
-mapped f None y is then = absurd (none-some y is)
-mapped f (Some x) y is then = then x refl (same_Some (f x) y is)
-
-picked : {A : Type 0} (b : Bool) (o : Option A) (y : A) → cond b o None ≡ Some y → (b ≡ true) × (o ≡ Some y)
-picked true o y is = (refl, is)
-picked false o y is = absurd (none-some y is)
 
 -- ---- words that spell something are its words
 

@@ -7,12 +7,13 @@ use Rattle.std.proofs.lemmas.List.Elements.{All-cons, All-from_recursion, All-he
 use Rattle.std.proofs.lemmas.List.Splits.{join_with_byte-slice_split, slice_split_at}
 use Rattle.std.proofs.lemmas.Slice.Eq.{bytes_eq-Decides}
 use Rattle.text_lines.specs.Lines.{lines_of, words_of}
+use Rattle.text_lines.proofs.SplitLaws.{some_part}
 use Rattle.interrupt_plan.specs.Order.{IsInOrder}
 use Rattle.interrupt_plan.specs.Plan.{Entry, IsInterrupt, IsPlan}
 use Rattle.interrupt_plan.specs.Text.{FitsByte, FitsEntry, IsText, entries_behind, entries_in, entry_line, entry_of_words, entry_then, plan_in, plan_text, with_first}
 use Rattle.interrupt_plan.specs.declared.fault.PlanFault.{PlanFault}
 use Rattle.interrupt_plan.specs.declared.fault.PlanFault.TheVariants.{BadLine, OutOfMemory, OutOfOrder, TooLarge}
-use Rattle.interrupt_plan.proofs.EntryLaws.{line_step, some_part}
+use Rattle.interrupt_plan.proofs.EntryLaws.{line_step}
 use Rattle.interrupt_plan.proofs.PlainLaws.{no_line_feed, words_back}
 use Rattle.interrupt_plan.proofs.SpellLaws.{entry_back, entry_of_is}
 

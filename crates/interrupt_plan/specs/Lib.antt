@@ -2,3 +2,4 @@ pub mod Plan
 pub mod Order
 pub mod Text
 pub mod Fault
+pub mod Made

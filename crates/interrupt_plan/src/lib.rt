@@ -3,6 +3,7 @@
 
 pub mod fault;
 mod line;
+pub mod make_plan;
 pub mod plan;
 pub mod read_plan;
 mod word;

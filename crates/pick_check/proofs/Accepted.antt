@@ -1,11 +1,10 @@
 -- The test of a certificate says whether it is accepted.
-use Rattle.std.proofs.Common.{◌≡◌, ℕ, ◌+◌, ◌≤◌, Bool, true, ◌&&◌, List, length, refl, sym, leb, eqb}
+use Rattle.std.proofs.Common.{◌≡◌, ℕ, ◌+◌, ◌≤◌, Bool, List, length, refl, leb}
 use Rattle.std.proofs.lemmas.Bool.{leb-true, le-leb}
 use Rattle.std.proofs.lemmas.Bool.Decides.{Decides-and, Decides-by_and, Decides-eqb, Decides-like, same_from_decides}
 use Rattle.std.specs.Bool.{Decides}
 use Rattle.std.specs.List.{list_all}
 use Rattle.std.specs.Prelude.{IsTrue, ◌↔◌}
-use Rattle.pick_check.specs.Best.{IsAssignment}
 use Rattle.pick_check.specs.Bound.{bound_of}
 use Rattle.pick_check.specs.Certified.{Certified, IsAccepted, is_accepted}
 use Rattle.pick_check.specs.Saved.{cost_of, saved_of}

@@ -8,14 +8,15 @@ use Rattle.std.proofs.lemmas.List.{drop-append-le, length-map}
 use Rattle.std.proofs.lemmas.List.Elements.{All-cons, All-head, All-nil, All-same, All-tail}
 use Rattle.std.proofs.lemmas.List.Splits.{join_with_byte-slice_split, slice_split_at}
 use Rattle.text_lines.specs.Lines.{lines_of}
+use Rattle.text_lines.proofs.PlainLaws.{IsLine}
+use Rattle.text_lines.proofs.SplitLaws.{some_part}
 use Rattle.pick_check.specs.Certified.{Certified}
 use Rattle.pick_check.specs.Fault.{IsBeginning, IsFault, NoneGoesOn, bad_line, large, memory}
 use Rattle.pick_check.specs.declared.fault.CertFault.{CertFault}
 use Rattle.pick_check.specs.declared.fault.CertFault.TheVariants.{BadLine, OutOfMemory, TooLarge}
 use Rattle.pick_check.specs.declared.saving.Saving.{Saving}
 use Rattle.pick_check.specs.Text.{AreWithin, FitsSaving, FitsSlot, certificate_in, certificate_lines, certificate_of, certified, end_then, ends_here, last_in, last_lines, net_limits, net_line, net_of, net_then, only, price_limits, prices_of, read_first, read_then, read_while, saving_line, saving_of, savings_then, slot_line, slot_of, slots_then}
-use Rattle.pick_check.proofs.LineLaws.{net_read, only_is, prices_read, saving_read, slot_read, some_part}
-use Rattle.pick_check.proofs.PlainLaws.{IsLine}
+use Rattle.pick_check.proofs.LineLaws.{net_read, only_is, prices_read, saving_read, slot_read}
 use Rattle.pick_check.proofs.TextLaws.{behind, behind_more, certificate_read, joined, last_ok, lines_are, lines_back, lines_read_back, no_ok, whole}
 use Rattle.pick_check.proofs.WhileLaws.{all_same, step_first, while_all, while_is, while_same, while_short}
 

@@ -6,9 +6,10 @@ use Rattle.std.specs.List.{join_with_byte}
 use Rattle.std.proofs.lemmas.Bool.{cond-true}
 use Rattle.std.proofs.lemmas.Slice.Eq.{bytes_eq-Decides}
 use Rattle.text_lines.specs.Lines.{lines_of}
+use Rattle.text_lines.proofs.SplitLaws.{some_part}
 use Rattle.pick_check.specs.declared.saving.Saving.{Saving}
 use Rattle.pick_check.specs.Text.{only, read_first, saving_line, saving_numbers, saving_of}
-use Rattle.pick_check.proofs.LineLaws.{saving_read, some_part}
+use Rattle.pick_check.proofs.LineLaws.{saving_read}
 
 pub first_line : {A : Type 0} (read : List ℕ → Option A) (text line rest : List ℕ) → lines_of text ≡ line ∷ lines_of rest → read_first read (lines_of text) ≡ read line
 first_line read text line rest is =

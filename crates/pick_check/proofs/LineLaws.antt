@@ -1,8 +1,8 @@
 -- What the lines of a certificate spell, and that these are their lines.
-use Rattle.std.proofs.Common.{◌≡◌, ℕ, ◌+◌, ◌^◌, ◌<◌, ◌≤◌, Some, None, Bool, true, false, cond, Option, List, [], ◌∷◌, ◌++◌, map, length, get_or, drop, refl, ap, ap₂, sym, subst, ◌∙◌, append_assoc, Bor, eqb}
+use Rattle.std.proofs.Common.{◌≡◌, ℕ, ◌+◌, ◌^◌, ◌<◌, ◌≤◌, Some, None, true, false, Option, List, [], ◌∷◌, ◌++◌, map, length, get_or, drop, refl, ap, ap₂, sym, subst, ◌∙◌, append_assoc, Bor, eqb}
 use Rattle.std.specs.Prelude.{All, bytes_eq, codes, slice_index}
 use Rattle.std.specs.Fmt.{decimal}
-use Rattle.std.specs.List.{join_with_byte, onto_first, slice_split}
+use Rattle.std.specs.List.{join_with_byte}
 use Rattle.std.specs.Option.{is_some, option_and_then, option_copied, option_map}
 use Rattle.std.proofs.lemmas.Bool.{cond-false, cond-true, false≢true}
 use Rattle.std.proofs.lemmas.List.{drop_all, drop_more}
@@ -13,32 +13,12 @@ use Rattle.std.proofs.lemmas.Slice.Eq.{bytes_eq-Decides}
 use Rattle.text_lines.specs.Lines.{words_in, words_of}
 use Rattle.text_lines.specs.Number.{decimal_of}
 use Rattle.text_lines.proofs.NumberLaws.{decimal_of-Some, number_of_is}
+use Rattle.text_lines.proofs.OptionLaws.{mapped, picked}
+use Rattle.text_lines.proofs.PlainLaws.{IsLine, IsPlain}
+use Rattle.text_lines.proofs.SplitLaws.{some_part}
 use Rattle.pick_check.specs.declared.saving.Saving.{Saving}
 use Rattle.pick_check.specs.Text.{AreWithin, FitsSaving, FitsSlot, line_with, net_limits, net_line, net_of, numbers_behind, numbers_in, numbers_of, only, price_limits, price_line, prices_of, saving_limits, saving_line, saving_numbers, saving_of, saving_with, slot_limits, slot_line, slot_of}
-use Rattle.pick_check.proofs.PlainLaws.{IsLine, IsPlain, line_plain, net_plain, net_small, price_plain, price_small, saving_plain, saving_small, slot_plain, slot_small, within_small, words_back}
-
--- ---- what an option's value came from
-
-mapped : {A B P : Type 0} (f : A → B) (o : Option A) (y : B) → option_map f o ≡ Some y → ((x : A) → o ≡ Some x → f x ≡ y → P) → P
-mapped f None y is then = absurd (none-some y is)
-mapped f (Some x) y is then = then x refl (same_Some (f x) y is)
-
-picked : {A : Type 0} (b : Bool) (o : Option A) (y : A) → cond b o None ≡ Some y → (b ≡ true) × (o ≡ Some y)
-picked true o y is = (refl, is)
-picked false o y is = absurd (none-some y is)
-
--- a text has a part at least
-pub some_part : (p : ℕ → Bool) (xs : List ℕ) → (x : List ℕ) × (ys : List (List ℕ)) × (slice_split p xs ≡ x ∷ ys)
-some_part p [] = ([], [], refl)
-some_part p (x ∷ xs) = either (p x)
-  where
-    onto : (parts : List (List ℕ)) → (z : List ℕ) × (ys : List (List ℕ)) × (onto_first x parts ≡ z ∷ ys)
-    onto [] = (x ∷ [], [], refl)
-    onto (y ∷ ys) = (x ∷ y, ys, refl)
-
-    either : (b : Bool) → (z : List ℕ) × (ys : List (List ℕ)) × (cond b ([] ∷ slice_split p xs) (onto_first x (slice_split p xs)) ≡ z ∷ ys)
-    either true = ([], slice_split p xs, refl)
-    either false = onto (slice_split p xs)
+use Rattle.pick_check.proofs.PlainLaws.{line_plain, net_plain, net_small, price_plain, price_small, saving_plain, saving_small, slot_plain, slot_small, within_small, words_back}
 
 -- ---- numbers
 

@@ -8,13 +8,14 @@ use Rattle.std.proofs.lemmas.List.Elements.{All-append, All-cons, All-head, All-
 use Rattle.std.proofs.lemmas.List.Splits.{join_with_byte-slice_split, slice_split_at}
 use Rattle.std.proofs.lemmas.Slice.Eq.{bytes_eq-Decides}
 use Rattle.text_lines.specs.Lines.{lines_of}
+use Rattle.text_lines.proofs.PlainLaws.{IsLine}
 use Rattle.pick_check.specs.Certified.{Certified}
 use Rattle.pick_check.specs.declared.fault.CertFault.{CertFault}
 use Rattle.pick_check.specs.declared.fault.CertFault.TheVariants.{BadLine, OutOfMemory, TooLarge}
 use Rattle.pick_check.specs.declared.saving.Saving.{Saving}
 use Rattle.pick_check.specs.Text.{AreWithin, FitsCertified, FitsSaving, FitsSlot, IsText, certificate_in, certificate_lines, certificate_of, certificate_text, certified, end_then, ends_here, last_in, last_lines, net_limits, net_line, net_of, net_then, only, price_limits, price_line, prices_of, read_first, read_then, read_while, saving_line, saving_of, savings_then, slot_line, slot_of, slots_then, text_of}
 use Rattle.pick_check.proofs.LineLaws.{net_back, net_is_line, net_read, only_is, price_is_line, price_no_saving, price_no_slot, prices_back, prices_read, saving_back, saving_is_line, saving_read, slot_back, slot_is_line, slot_no_saving, slot_read}
-use Rattle.pick_check.proofs.PlainLaws.{IsLine, end_line, title_line}
+use Rattle.pick_check.proofs.PlainLaws.{end_line, title_line}
 use Rattle.pick_check.proofs.WhileLaws.{first_split, step_first, while_all, while_back, while_is}
 
 -- ---- what a result came from

@@ -10,6 +10,7 @@ pub mod fault;
 mod first;
 mod line;
 pub mod part;
+pub mod push_lines;
 pub mod read_certificate;
 pub mod saving;
 pub mod write_certificate;

@@ -1,3 +1,5 @@
 pub mod HexLaws
 pub mod NumberLaws
+pub mod OptionLaws
+pub mod PlainLaws
 pub mod SplitLaws

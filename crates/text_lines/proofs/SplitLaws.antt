@@ -1,6 +1,6 @@
 -- Where the first byte of a kind stands, the parts of a text begin there.
 use Rattle.std.proofs.Common.{◌≡◌, ℕ, ◌+◌, ◌-◌, ◌<◌, Some, None, Bool, true, false, cond, List, [], ◌∷◌, ◌++◌, length, take, drop, get_or, ltb, eqb, refl, ap, sym, ◌∙◌, arith}
-use Rattle.std.specs.List.{position, position_or_len, slice_split}
+use Rattle.std.specs.List.{onto_first, position, position_or_len, slice_split}
 use Rattle.std.proofs.lemmas.Bool.{eqb-true, ltb-true, ltb-false}
 use Rattle.std.proofs.lemmas.Option.{cond_some}
 use Rattle.std.proofs.lemmas.List.{length-drop, take_all}
@@ -41,3 +41,16 @@ split_none p xs is = either (ltb (position_or_len p xs) (length xs)) refl is
     either false past h =
         let end = ltb-false _ _ past in
         slice_split_none p xs (λ k d lt. fails_before_first p xs k d (omega (arith, end, lt)))
+
+-- a text has a part at least
+pub some_part : (p : ℕ → Bool) (xs : List ℕ) → (x : List ℕ) × (ys : List (List ℕ)) × (slice_split p xs ≡ x ∷ ys)
+some_part p [] = ([], [], refl)
+some_part p (x ∷ xs) = either (p x)
+  where
+    onto : (parts : List (List ℕ)) → (z : List ℕ) × (ys : List (List ℕ)) × (onto_first x parts ≡ z ∷ ys)
+    onto [] = (x ∷ [], [], refl)
+    onto (y ∷ ys) = (x ∷ y, ys, refl)
+
+    either : (b : Bool) → (z : List ℕ) × (ys : List (List ℕ)) × (cond b ([] ∷ slice_split p xs) (onto_first x (slice_split p xs)) ≡ z ∷ ys)
+    either true = ([], slice_split p xs, refl)
+    either false = onto (slice_split p xs)

@@ -3,7 +3,7 @@ use Rattle.std.specs.String.{string_bytes}
 use Rattle.std.proofs.lemmas.List.Elements.{All-more}
 use Rattle.pick_check.specs.Text.{FitsSaving, saving_line}
 use Rattle.pick_check.proofs.WriteLaws.{lines_pushed}
-use Rattle.pick_check.proofs.write_certificate.push_savings.Goals as goal
+use Rattle.pick_check.proofs.push_lines.push_savings.Goals as goal
 
 pub loop-saving-preserved : goal.loop-saving-preserved
 loop-saving-preserved c = record {

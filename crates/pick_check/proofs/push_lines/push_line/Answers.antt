@@ -3,7 +3,7 @@ use Rattle.std.specs.Prelude.{flat_map}
 use Rattle.std.specs.String.{string_bytes}
 use Rattle.std.proofs.lemmas.List.{take_all}
 use Rattle.pick_check.proofs.WriteLaws.{line_pushed, spaced}
-use Rattle.pick_check.proofs.write_certificate.push_line.Goals as goal
+use Rattle.pick_check.proofs.push_lines.push_line.Goals as goal
 
 pub loop-number-init : goal.loop-number-init
 loop-number-init c = sym (append-nil (string_bytes c.push_str.new.self))

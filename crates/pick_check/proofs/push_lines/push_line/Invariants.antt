@@ -2,7 +2,7 @@ use Rattle.std.proofs.Common.{◌≡◌, ◌++◌, take}
 use Rattle.std.specs.Prelude.{flat_map}
 use Rattle.std.specs.String.{string_bytes}
 use Rattle.pick_check.proofs.WriteLaws.{spaced}
-use Rattle.pick_check.proofs.write_certificate.push_line.Given as goal
+use Rattle.pick_check.proofs.push_lines.push_line.Given as goal
 
 abbrev pub invariant-loop-number : goal.invariant-loop-number
 invariant-loop-number l = string_bytes l.text ≡ string_bytes l.initial.text ++ flat_map spaced (take l.number-index l.numbers)

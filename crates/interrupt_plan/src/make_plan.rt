@@ -1,0 +1,54 @@
+// Plans that are made from a number.
+
+ghost use Rattle.std.specs.Prelude.{◌≡◌, ◌≤◌, IfOk, OnOk};
+ghost use Rattle.interrupt_plan.specs.Made.{after_dirt, dirt_from, done_of, made_plan};
+
+use crate::plan::{Plan, PlanCut};
+use std::alloc::{AllocError, Global};
+use zc_base::draws::Draws;
+
+/// The plan of so many interrupts that is drawn from a number, at most 63 commits apart.
+#[tactic(auto, unfolding(crate::specs::Made::made_plan), using(crate::proofs::MadeLaws::cuts_more))]
+pub fn make_plan(alloc: Global, number: u64, count: u32) -> Result<Plan, AllocError>
+    requires { count ≤ 10000 }
+    ensures { IfOk result (λ plan. plan ≡ made_plan number count) }
+{
+    let mut cuts = Vec::new(alloc);
+    let mut draws = Draws::new(number);
+    let mut at = 0;
+    for _i in 0..count {
+        at += u64::from(draws.next() % 64);
+        let bits = draws.next();
+        let done = done_of(alloc, bits)?;
+        let dirt = draw_dirt(alloc, 4, &mut draws)?;
+        cuts.push(PlanCut { at, done, dirt })?;
+    }
+    Ok(Plan::new(cuts))
+}
+
+// The accesses that a draw says are done.
+fn done_of(alloc: Global, bits: u32) -> Result<Vec<u8>, AllocError>
+    ensures { IfOk result (λ done. done.items ≡ done_of bits) }
+{
+    let mut done = Vec::new(alloc);
+    for access in 0..13u8 {
+        if (bits >> access) % 2 == 1 {
+            done.push(access)?;
+        }
+    }
+    Ok(done)
+}
+
+// Draws so many bytes near the top of the standard stack.
+fn draw_dirt(alloc: Global, count: u32, draws: &mut Draws) -> Result<Vec<(u32, u8)>, AllocError>
+    ensures dirt { IfOk result (λ dirt. dirt.items ≡ dirt_from count draws.old) }
+    ensures after { OnOk result (draws.new ≡ after_dirt count draws.old) }
+{
+    let mut dirt = Vec::new(alloc);
+    for _k in 0..count {
+        let address = 0x0FFF_F000 + draws.next() % 4096;
+        let byte = (draws.next() % 256) as u8;
+        dirt.push((address, byte))?;
+    }
+    Ok(dirt)
+}
