@@ -12,7 +12,7 @@ use Rattle.pick_check.specs.declared.saving.Saving.{Saving}
 use Rattle.shrink_layout.specs.Savings.{saving_of, sites_to}
 use Rattle.shrink_layout.specs.Units.{is_slot_of}
 use Rattle.shrink_layout.proofs.PremiseLaws.{Each}
-use Rattle.shrink_layout.proofs.TargetNumbers.{same-refl, same_true}
+use Rattle.shrink_layout.proofs.PlaceLaws.{same_place-refl, same_place-true}
 
 -- ---- places apart
 
@@ -22,8 +22,8 @@ same-sym p q = by (same_place p q) refl (same_place q p) refl
     by : (a : Bool) → same_place p q ≡ a → (b : Bool) → same_place q p ≡ b → a ≡ b
     by true is true back = refl
     by false is false back = refl
-    by true is false back = absurd (false≢true (sym back ∙ ap (λ r. same_place r p) (sym (same_true p q is)) ∙ same-refl p))
-    by false is true back = absurd (false≢true (sym is ∙ ap (λ r. same_place r q) (sym (same_true q p back)) ∙ same-refl q))
+    by true is false back = absurd (false≢true (sym back ∙ ap (λ r. same_place r p) (sym (same_place-true p q is)) ∙ same_place-refl p))
+    by false is true back = absurd (false≢true (sym is ∙ ap (λ r. same_place r q) (sym (same_place-true q p back)) ∙ same_place-refl q))
 
 -- none of these places stands twice
 abbrev pub ArePlacesApart : List Place → Type 0
@@ -146,7 +146,7 @@ module _ (rd : ℕ) (numbers : List ℕ) where
       by false = refl
   one_site x sites i (s ∷ rest) apart =
       by (has_slot numbers (i + 1)) (eqb x.0 rd) (same_place x.1 s.target) (slotted numbers (i + 1) rest x.1)
-      (λ same. none_slotted numbers (i + 1) rest x.1 (ap (λ q. list_any (λ (t : Saving). same_place q t.target) rest) (same_true x.1 s.target same) ∙ apart.0))
+      (λ same. none_slotted numbers (i + 1) rest x.1 (ap (λ q. list_any (λ (t : Saving). same_place q t.target) rest) (same_place-true x.1 s.target same) ∙ apart.0))
       (saved_from (at_sites (x ∷ sites)) numbers (i + 1) rest) (saved_from (at_sites sites) numbers (i + 1) rest) (one_site x sites (i + 1) rest apart.1)
     where
       found : List (ℕ × Place)

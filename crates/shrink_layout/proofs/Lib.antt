@@ -18,6 +18,7 @@ pub mod NumberEnds
 pub mod NumberLaws
 pub mod OrderLaws
 pub mod PlaceAddressLaws
+pub mod PlaceLaws
 pub mod PlaceNumberLaws
 pub mod PremiseLaws
 pub mod RoleLaws

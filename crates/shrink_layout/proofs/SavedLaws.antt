@@ -4,7 +4,7 @@ use Rattle.std.proofs.Common.{◌≡◌, ◌∙◌, ℕ, zero, suc, ◌+◌, ◌
 use Rattle.std.specs.Prelude.{◌&&◌, ◌||◌}
 use Rattle.std.specs.List.{flat_map, list_any}
 use Rattle.std.specs.Option.{is_some, option_map, option_map_or, option_to_list}
-use Rattle.std.proofs.lemmas.Bool.{false≢true, or_left, or_right}
+use Rattle.std.proofs.lemmas.Bool.{false≢true}
 use Rattle.std.proofs.lemmas.List.{length-map}
 use Rattle.std.proofs.lemmas.List.Elements.{All-map, All-weaker}
 use Rattle.std.proofs.lemmas.Option.{none-some, same_Some}
@@ -21,12 +21,13 @@ use Rattle.pick_check.specs.declared.saving.Saving.{Saving}
 use Rattle.shrink_layout.specs.Pieces.{piece_number_at, site_at, slot_at, unit_at}
 use Rattle.shrink_layout.specs.Savings.{has_sites, saving_of, savings_of, sites_of}
 use Rattle.shrink_layout.specs.Settled.{is_site, settled_end, settled_sizes, units_with}
-use Rattle.shrink_layout.specs.Table.{AreSlots, IsSlot, TablePays}
+use Rattle.shrink_layout.specs.Table.{TablePays}
 use Rattle.shrink_layout.specs.Units.{AreTargetSlots, IsTargetSlot, CodeUnit, OneGroup, OneItem, OneSite, front_size, is_slot_of, item_unit, slot_for, slot_from}
 use Rattle.shrink_layout.proofs.GroupedSites.{AreApart, AreCounted, AreSlotPlaces, ArePlacesApart, at_sites, kept_apart, kept_counted, slotted, saved_same, sites_saved, any_slotted}
+use Rattle.shrink_layout.proofs.PlaceLaws.{same_place-true}
 use Rattle.shrink_layout.proofs.PremiseLaws.{Each, each-append}
 use Rattle.shrink_layout.proofs.SiteLaws.{site_found, site_unit, slot_nowhere, slot_there}
-use Rattle.shrink_layout.proofs.TargetNumbers.{IsNumbered, got_target, same-refl, same_true}
+use Rattle.shrink_layout.proofs.TargetNumbers.{IsNumbered, got_target}
 use Rattle.shrink_layout.proofs.UnitLaws.{unit_site}
 
 -- ---- lists
@@ -62,12 +63,6 @@ passed_flat {X = X} {Y = Y} f test (x ∷ xs) = by (f x) (passed_flat f test xs)
         tested true = ap suc same
         tested false = same
 
--- one that passes is some
-any_got : {X : Type 0} (test : X → Bool) (xs : List X) (k : ℕ) (x : X) → slice_get xs k ≡ Some x → test x ≡ true → list_any test xs ≡ true
-any_got test [] k x got passes = absurd (none-some x got)
-any_got test (y ∷ ys) zero x got passes = or_left (test y) (list_any test ys) (ap test (same_Some y x got) ∙ passes)
-any_got test (y ∷ ys) (suc k) x got passes = or_right (test y) (list_any test ys) (any_got test ys k x got passes)
-
 -- what holds of each holds of one
 each_got : {X : Type 0} (P : X → Type 0) (xs : List X) (k : ℕ) (x : X) → Each P xs → slice_get xs k ≡ Some x → P x
 each_got P [] k x each got = absurd (none-some x got)
@@ -88,7 +83,7 @@ module _ (inputs : Inputs) (none : gather_fault inputs ≡ None) where
       by (same_place p q) refl (other_number p n (m + 1) qs is (omega (arith, lt)) (λ j r at. let one = each (suc j) r at in record { target = one.target; number = omega (arith, one.number) }))
     where
       by : (b : Bool) → same_place p q ≡ b → list_any (same_place p) qs ≡ false → (b || list_any (same_place p) qs) ≡ false
-      by true same rest = absurd (omega (arith, is.number, (each 0 q refl).number, lt, ap (piece_number_at given.objects) (same_true p q same)))
+      by true same rest = absurd (omega (arith, is.number, (each 0 q refl).number, lt, ap (piece_number_at given.objects) (same_place-true p q same)))
       by false other rest = rest
 
   apart_from : (m : ℕ) (qs : List Place) → ((j : ℕ) (q : Place) → slice_get qs j ≡ Some q → IsNumbered given.objects q (m + j)) → ArePlacesApart qs
@@ -277,22 +272,7 @@ module _ (inputs : Inputs) (none : gather_fault inputs ≡ None) where
     pub net_paid : (net : ℕ) → Saves (savings_of given) numbers net → TablePays given slots → settled_end given slots + net ≤ settled_end given []
     net_paid net saves pays = omega (arith, saves, pays, saved_twice, cost_front)
 
-    -- and the slots are those of a table
-    slot_is : (n : ℕ) → IsSlot given (place n)
-    slot_is zero = subst (IsSlot given) (sym are.hole) tt
-    slot_is (suc k) = subst (IsSlot given) (sym (are.target k)) (by (slice_get (savings_of given) k) refl)
-      where
-        by : (o : Option Saving) → slice_get (savings_of given) k ≡ o → IsSlot given (option_map (λ (s : Saving). s.target) o)
-        by None at = tt
-        by (Some s) at = any_got (λ (t : Saving). same_place t.target s.target) (savings_of given) k s at (same-refl s.target)
-
-    pub slots_are : IsAssignment (savings_of given) numbers → AreSlots given slots
-    slots_are assigned = record {
-      few = omega (arith, length-map numbers place, assigned.few);
-      each = All-map (IsSlot given) place numbers (All-weaker (λ n. n ≤ length (savings_of given)) (λ n. IsSlot given (place n)) (λ n within. slot_is n) numbers assigned.in_range);
-    }
-
-    -- whose places code may lead to
+    -- and the slots lead where code may lead
     target_slot : (n : ℕ) → IsTargetSlot given.objects (place n)
     target_slot zero = subst (IsTargetSlot given.objects) (sym are.hole) tt
     target_slot (suc k) = subst (IsTargetSlot given.objects) (sym (are.target k)) (by (slice_get (savings_of given) k) refl)

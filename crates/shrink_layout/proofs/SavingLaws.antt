@@ -27,8 +27,9 @@ use Rattle.shrink_layout.specs.Savings.{HasFewSites, has_sites, saving_of, savin
 use Rattle.shrink_layout.proofs.PremiseLaws.{Each, all_of}
 use Rattle.shrink_layout.proofs.SectionLaws.{count_few, count_next, flat_next, held_all, places_count}
 use Rattle.shrink_layout.proofs.SiteLaws.{site_found}
+use Rattle.shrink_layout.proofs.PlaceLaws.{same_place-refl, same_place-true}
 use Rattle.shrink_layout.proofs.TargetLaws.{number_some}
-use Rattle.shrink_layout.proofs.TargetNumbers.{all_targets_count, got_target, same-refl, same_true, target_got}
+use Rattle.shrink_layout.proofs.TargetNumbers.{all_targets_count, got_target, target_got}
 
 -- ---- lists
 
@@ -131,7 +132,7 @@ module _ (inputs : Inputs) (none : gather_fault inputs ≡ None) where
         other = false_from_ne_true (same_place jump.1 z) (λ e. ne (omega (
           arith,
           (got_target inputs none j z at).number,
-          ap (piece_number_at objects) (same_true jump.1 z e),
+          ap (piece_number_at objects) (same_place-true jump.1 z e),
           number_some objects jump.1 target,
         )))
 
@@ -146,7 +147,7 @@ module _ (inputs : Inputs) (none : gather_fault inputs ≡ None) where
     own_more : (rd : ℕ) → sites_to (sites ++ jump ∷ []) rd jump.1 ≡ sites_to sites rd jump.1 + cond (eqb jump.0 rd) 1 0
     own_more rd =
         to_more sites jump rd jump.1
-        ∙ ap (λ n. sites_to sites rd jump.1 + n) (ap (λ b. cond {A = ℕ} (eqb jump.0 rd && b) 1 0) (same-refl jump.1) ∙ by (eqb jump.0 rd))
+        ∙ ap (λ n. sites_to sites rd jump.1 + n) (ap (λ b. cond {A = ℕ} (eqb jump.0 rd && b) 1 0) (same_place-refl jump.1) ∙ by (eqb jump.0 rd))
       where
         by : (b : Bool) → cond {A = ℕ} (b && true) 1 0 ≡ cond b 1 0
         by true = refl

@@ -108,7 +108,7 @@ slot_nowhere inputs (slot ∷ slots) q is = ap (option_and_then (slot_for (slot 
 -- ---- where it is written
 
 -- what is left when all before an element is dropped begins with it
-drop_got : {X : Type 0} (xs : List X) (k : ℕ) (y : X) (ys : List X) → drop k xs ≡ y ∷ ys → slice_get xs k ≡ Some y
+pub drop_got : {X : Type 0} (xs : List X) (k : ℕ) (y : X) (ys : List X) → drop k xs ≡ y ∷ ys → slice_get xs k ≡ Some y
 drop_got [] zero y ys is = absurd cc
 drop_got [] (suc k) y ys is = absurd cc
 drop_got (x ∷ xs) zero y ys is = cc

@@ -52,13 +52,25 @@ LeadsWell objects (item.Jump rd to) = is_target_at objects to ≡ true
 LeadsWell objects (item.Call rd temp to) = is_target_at objects to ≡ true
 LeadsWell objects _ = Unit {0}
 
+-- what is so far away from a place, if anything, is where code may lead
+pub away_target : (objects : List ObjectParts) (q to : Place) (distance : ℤ) → target_away objects q distance ≡ Some to → is_target_at objects to ≡ true
+away_target objects q to distance = from (place_away q distance)
+  where
+    only : (r : Place) (b : Bool) → is_target_at objects r ≡ b → cond b (Some r) None ≡ Some to → is_target_at objects to ≡ true
+    only r true is h = let same : r ≡ to = cc in ap (is_target_at objects) (sym same) ∙ is
+    only r false is h = absurd cc
+
+    from : (o : Option Place) → option_and_then (target_only objects) o ≡ Some to → is_target_at objects to ≡ true
+    from None h = absurd cc
+    from (Some r) h = only r (is_target_at objects r) refl h
+
 -- ---- relocations without a fault
 
-not_so : (b : Bool) (f : Fault) → if_so b f ≡ None → b ≡ false
+pub not_so : (b : Bool) (f : Fault) → if_so b f ≡ None → b ≡ false
 not_so true f h = absurd cc
 not_so false f h = refl
 
-mapped_none : {A B : Type 0} (f : A → B) (o : Option A) → option_map f o ≡ None → o ≡ None
+pub mapped_none : {A B : Type 0} (f : A → B) (o : Option A) → option_map f o ≡ None → o ≡ None
 mapped_none f None h = refl
 mapped_none f (Some a) h = absurd cc
 
@@ -99,18 +111,6 @@ module _ (inputs : Inputs) (none : first_fault inputs ≡ None) where
 
   -- ---- items
 
-  -- a place that is so far away is where it may
-  away_target : (q to : Place) (distance : ℤ) → target_away objects q distance ≡ Some to → is_target_at objects to ≡ true
-  away_target q to distance = from (place_away q distance)
-    where
-      only : (r : Place) (b : Bool) → is_target_at objects r ≡ b → cond b (Some r) None ≡ Some to → is_target_at objects to ≡ true
-      only r true is h = let same : r ≡ to = cc in ap (is_target_at objects) (sym same) ∙ is
-      only r false is h = absurd cc
-
-      from : (o : Option Place) → option_and_then (target_only objects) o ≡ Some to → is_target_at objects to ≡ true
-      from None h = absurd cc
-      from (Some r) h = only r (is_target_at objects r) refl h
-
   module _ (q : Place) (size : ℕ) (bytes : List ℕ) where
     abbrev raw : ℕ → Item
     raw n = raw_in n bytes q.offset
@@ -132,12 +132,12 @@ module _ (inputs : Inputs) (none : first_fault inputs ≡ None) where
       where
         by : (o : Option Place) → target_away objects q distance ≡ o → LeadsWell objects (option_map_or (item.Jump rd) o (raw size))
         by None away = tt
-        by (Some to) away = away_target q to distance away
+        by (Some to) away = away_target objects q to distance away
     bare (Some (instr.Branch op first second distance)) = by (target_away objects q distance) refl
       where
         by : (o : Option Place) → target_away objects q distance ≡ o → LeadsWell objects (option_map_or (item.Branch op first second) o (raw size))
         by None away = tt
-        by (Some to) away = away_target q to distance away
+        by (Some to) away = away_target objects q to distance away
 
     -- an instruction with a part of an address
     parted : (f : Instr → Item) (d : Option Instr) → ((i : Instr) → LeadsWell objects (f i)) → LeadsWell objects (of_instr d (raw 4) f)

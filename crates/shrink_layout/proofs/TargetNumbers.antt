@@ -1,15 +1,14 @@
 -- The numbers of the places that code may lead to: 2 and up, in their order. Before the first stand what is in front of all code and one padding, and a
 -- section's end has the number of the next section's padding. So each such place is found by its number (`target_got`), and has it (`got_target`).
 use Rattle.std.proofs.Common.{◌≡◌, ℕ, zero, suc, ◌+◌, ◌-◌, List, [], ◌∷◌, ◌++◌, length, map, take, Bool, true, false, cond, Some, None, slice_get, refl, sym, ap, ◌∙◌, arith, eqb, eq-eqb}
-use Rattle.std.specs.Prelude.{◌||◌, ◌&&◌}
+use Rattle.std.specs.Prelude.{◌||◌}
 use Rattle.std.specs.List.{flat_map, sum_by}
 use Rattle.std.specs.Option.{option_and_then, option_map}
-use Rattle.std.proofs.lemmas.Bool.{and_parts, eqb-true, or_left, or_right}
+use Rattle.std.proofs.lemmas.Bool.{or_left, or_right}
 use Rattle.std.proofs.lemmas.Grind.{flat_map-append}
 use Rattle.std.proofs.lemmas.List.{length-append, length-map}
 use Rattle.std.proofs.lemmas.List.Sums.{sum_by-cons}
 use Rattle.std.proofs.lemmas.Option.{none-some, same_Some, slice_get-map}
-use Rattle.zc_base.specs.Places.{same_place}
 use Rattle.zc_base.specs.declared.place.Place.{Place}
 use Rattle.elf32_read.specs.Parts.{ObjectParts, SectionParts, is_code_section}
 use Rattle.psabi_sym.specs.Faults.{gather_fault}
@@ -27,20 +26,6 @@ use Rattle.shrink_layout.specs.Pieces.{piece_count, piece_number_at}
 use Rattle.shrink_layout.proofs.HeldLaws.{among, got_of, start_index}
 use Rattle.shrink_layout.proofs.NumberLaws.{number-code}
 use Rattle.shrink_layout.proofs.OrderLaws.{target_code}
-
--- ---- places that are the same
-
-pub same-refl : (q : Place) → same_place q q ≡ true
-same-refl q = λ j. eq-eqb q.object q.object refl j && (eq-eqb q.section q.section refl j && eq-eqb q.offset q.offset refl j)
-
-pub same_true : (q r : Place) → same_place q r ≡ true → q ≡ r
-same_true q r is =
-    let two = and_parts (eqb q.object r.object) (eqb q.section r.section && eqb q.offset r.offset) is in
-    let rest = and_parts (eqb q.section r.section) (eqb q.offset r.offset) two.1 in
-    let object = eqb-true q.object r.object two.0 in
-    let section = eqb-true q.section r.section rest.0 in
-    let offset = eqb-true q.offset r.offset rest.1 in
-    λ j. record { object = object j; section = section j; offset = offset j }
 
 -- ---- one list and another
 

@@ -1,25 +1,23 @@
--- What a table is worth: the text with it, beside the text without.
-use Rattle.std.specs.Prelude.{◌+◌, ◌*◌, ◌≤◌, ⊤, All, IsTrue, List, [], length, Option, Some, None}
-use Rattle.std.specs.List.{list_any}
-use Rattle.zc_base.specs.Places.{same_place}
+-- What is promised of the layout behind a table, and what the table is worth.
+use Rattle.std.specs.Prelude.{◌+◌, ◌*◌, ◌≤◌, IsTrue, List, [], Option}
 use Rattle.zc_base.specs.declared.place.Place.{Place}
 use Rattle.psabi_sym.specs.Inputs.{ParsedInputs}
-use Rattle.shrink_layout.specs.Savings.{savings_of}
-use Rattle.shrink_layout.specs.Settled.{is_site, settled_end, units_with}
+use Rattle.shrink_layout.specs.Layout.{IsLayout}
+use Rattle.shrink_layout.specs.Least.{IsLeast}
+use Rattle.shrink_layout.specs.Pieces.{is_unaligned, pieces_of}
+use Rattle.shrink_layout.specs.Settled.{is_site, settled_end, settled_sizes, units_with}
 use Rattle.shrink_layout.specs.Units.{front_size}
-
--- a hole, or a place that some jump or call leads to which the table could serve
-abbrev pub IsSlot : ParsedInputs → Option Place → Type 0
-IsSlot inputs None = ⊤
-IsSlot inputs (Some q) = IsTrue (list_any (λ s. same_place s.target q) (savings_of inputs))
-
--- a table of at most 256 slots, each of which is one of these
-pub record AreSlots (inputs : ParsedInputs) (slots : List (Option Place)) : Type 0 where
-  pub few : length slots ≤ 256
-  pub each : All (IsSlot inputs) slots
 
 -- the text with the table is no longer than that without it, but for the table and its stub, and less 2 bytes for each
 -- jump or call through the table
 abbrev pub TablePays : ParsedInputs → List (Option Place) → Type 0
 TablePays inputs slots =
     settled_end inputs slots + 2 * units_with inputs slots is_site ≤ settled_end inputs [] + front_size slots
+
+-- behind a table of these slots, sizes are those of the first round that fits; if nothing is aligned above 4 bytes, they
+-- are the least that fit, and the table pays
+pub record IsLaidBehind (inputs : ParsedInputs) (slots : List (Option Place)) : Type 0 where
+  pub layout : IsLayout inputs.map.text (pieces_of inputs slots) (settled_sizes inputs slots)
+  pub least : IsTrue (is_unaligned inputs)
+      → IsLeast inputs.map.text (pieces_of inputs slots) (settled_sizes inputs slots)
+  pub pays : IsTrue (is_unaligned inputs) → TablePays inputs slots

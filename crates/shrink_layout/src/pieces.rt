@@ -111,7 +111,8 @@ fn add_places(
 fn add_section(of: &PieceSource, section: u32, made: &mut Pieces) -> Result<(), AllocError>
     requires source { IsSource of.now }
     requires section { section < length (all_sections (source_inputs of.now).objects) }
-    requires so_far { AreMade (source_inputs of.now) (source_slots of.now) section made.old.pieces.items made.old.halves.items }
+    requires so_far { AreMade (source_inputs of.now) (source_slots of.now) section
+        made.old.pieces.items made.old.halves.items }
     ensures { IfOk result (λ _. AreMade (source_inputs of.now) (source_slots of.now) (section + 1)
         made.new.pieces.items made.new.halves.items) }
 {

@@ -4,12 +4,10 @@ ghost use Rattle.std.specs.Prelude.{◌≡◌, ◌<◌, ◌≤◌, ◌+◌, ◌=
 ghost use Rattle.psabi_sym.specs.Inputs.{parsed};
 ghost use Rattle.psabi_sym.specs.Indexed.{all_sections};
 ghost use Rattle.block_cut.specs.Items.{all_targets};
-ghost use Rattle.shrink_layout.specs.Invariants.Numbers.{AreFirstNumbers};
 ghost use Rattle.shrink_layout.specs.Invariants.Sites.{AreOfPlaces, AreSavings, places_before, targets_before};
 ghost use Rattle.shrink_layout.specs.Savings.{HasFewSites, has_sites, saving_of, savings_of};
 ghost use Rattle.zc_base.specs.declared.place.Place.{Place};
 
-use crate::numbers::{first_numbers, piece_number_at};
 use crate::pieces::starts_of;
 use crate::settled::Settled;
 use crate::site::{Site, site_at};
@@ -70,9 +68,8 @@ fn count_site(saving: &mut Saving, site: Site)
 // Counts the site at a place, if there is one, at its target. Targets have numbers from 2 on, in their order: before
 // the first stand what is in front of all code and a padding, and the end of a section has the number of the next
 // one's padding.
-fn count_place(settled: &Settled, starts: &[u32], p: Place, savings: &mut [Saving])
+fn count_place(settled: &Settled, p: Place, savings: &mut [Saving])
     requires unset { settled.now.slots ≡ [] }
-    requires starts { AreFirstNumbers (parsed settled.now.inputs).objects starts.now }
     requires few { AreOfPlaces (parsed settled.now.inputs) savings.old }
     ensures { (qs : List Place) → AreSavings (parsed settled.now.inputs) qs savings.old
         → AreSavings (parsed settled.now.inputs) (qs ++ p ∷ []) savings.new }
@@ -81,15 +78,14 @@ fn count_place(settled: &Settled, starts: &[u32], p: Place, savings: &mut [Savin
         let cut = settled.planned().cut();
         // This call says that no fault stands in the objects.
         let _objects = cut.objects();
-        let number = piece_number_at(cut, starts, site.to);
+        let number = settled.piece_number_at(site.to);
         count_site(&mut savings[(number - 2) as usize], site);
     }
 }
 
 // Counts the sites in the section with this number among all.
-fn count_section(settled: &Settled, starts: &[u32], section: u32, savings: &mut [Saving])
+fn count_section(settled: &Settled, section: u32, savings: &mut [Saving])
     requires unset { settled.now.slots ≡ [] }
-    requires starts { AreFirstNumbers (parsed settled.now.inputs).objects starts.now }
     requires section { section < length (all_sections (parsed settled.now.inputs).objects) }
     requires so_far { AreSavings (parsed settled.now.inputs)
         (places_before (parsed settled.now.inputs).objects section) savings.old }
@@ -105,7 +101,7 @@ fn count_section(settled: &Settled, starts: &[u32], section: u32, savings: &mut 
             section: own.index(),
             offset: place.offset,
         };
-        count_place(settled, starts, at, savings);
+        count_place(settled, at, savings);
     }
 }
 
@@ -126,10 +122,9 @@ impl Settled {
         ensures sites { IfOk result (λ savings. All HasFewSites savings.items) }
     {
         let cut = self.planned().cut();
-        let starts = first_numbers(alloc, cut)?;
         let mut savings = bare_targets(alloc, cut)?;
         for section in 0..cut.objects().section_count() {
-            count_section(self, &starts, section, &mut savings);
+            count_section(self, section, &mut savings);
         }
         savings.retain(|saving| has_sites(saving));
         Ok(savings)

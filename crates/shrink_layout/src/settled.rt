@@ -16,7 +16,7 @@ ghost use Rattle.shrink_layout.specs.Invariants.Numbers.{AreFirstNumbers, HasPla
 ghost use Rattle.shrink_layout.specs.Invariants.Slots.{AreNumbered};
 ghost use Rattle.shrink_layout.specs.Pieces.{is_unaligned, piece_number_at, pieces_of, unit_at};
 ghost use Rattle.shrink_layout.specs.Settled.{is_site, settled_address, settled_addresses, settled_counts, settled_end, settled_size, settled_sizes, units_with};
-ghost use Rattle.shrink_layout.specs.Table.{TablePays};
+ghost use Rattle.shrink_layout.specs.Table.{IsLaidBehind};
 ghost use Rattle.shrink_layout.specs.Units.{AreTargetSlots, OneItem, is_inside};
 ghost use Rattle.zc_base.specs.declared.place.Place.{Place};
 
@@ -153,11 +153,7 @@ fn lay_out(
     requires targets { AreTargetSlots (parsed of.now.planned.now).objects slots.now }
     ensures settled { IfOk result (λ kept. IsSettled of.now.planned.now slots.now
         of.now.starts.now kept.halves.items kept.addresses.items kept.counts) }
-    ensures least { IsTrue (is_unaligned (parsed of.now.planned.now)) → IfOk result
-        (λ _. IsLeast of.now.planned.now.map.text (pieces_of (parsed of.now.planned.now) slots.now)
-        (settled_sizes (parsed of.now.planned.now) slots.now)) }
-    ensures pays { IsTrue (is_unaligned (parsed of.now.planned.now)) → IfOk result
-        (λ _. TablePays (parsed of.now.planned.now) slots.now) }
+    ensures laid { IfOk result (λ _. IsLaidBehind (parsed of.now.planned.now) slots.now) }
 {
     let kept = Slots::new(alloc, of, addresses, slots)?;
     let source = PieceSource {
@@ -243,13 +239,7 @@ pub fn settle_with(
     requires targets { AreTargetSlots (parsed settled.inputs).objects slots.now }
     ensures same { IfOk result (λ r. r.inputs ≡ settled.inputs) }
     ensures slots { IfOk result (λ r. r.slots ≡ slots.now) }
-    ensures layout { IfOk result (λ _. IsLayout settled.inputs.map.text
-        (pieces_of (parsed settled.inputs) slots.now) (settled_sizes (parsed settled.inputs) slots.now)) }
-    ensures least { IsTrue (is_unaligned (parsed settled.inputs)) → IfOk result
-        (λ _. IsLeast settled.inputs.map.text
-        (pieces_of (parsed settled.inputs) slots.now) (settled_sizes (parsed settled.inputs) slots.now)) }
-    ensures pays { IsTrue (is_unaligned (parsed settled.inputs)) → IfOk result
-        (λ _. TablePays (parsed settled.inputs) slots.now) }
+    ensures laid { IfOk result (λ _. IsLaidBehind (parsed settled.inputs) slots.now) }
 {
     let FirstLayout {
         planned,
@@ -316,6 +306,13 @@ impl Settled {
         self.addresses[self.piece_at(number)]
     }
 
+    // The number of the piece at a place where an item starts or a section of code ends; 0 of any other.
+    pub(crate) fn piece_number_at(&self, p: Place) -> u32
+        ensures { result ≡ piece_number_at (parsed self.now.inputs).objects p }
+    {
+        piece_number_at(self.planned.cut(), &self.starts, p)
+    }
+
     // The number of the piece at a place, by where the place stands among all.
     fn piece_at(&self, number: PlaceNumber) -> usize
         requires { HasPlace (parsed self.now.inputs).objects number }
@@ -364,11 +361,10 @@ impl Settled {
     pub fn size(&self, p: Place) -> Option<u32>
         ensures { result ≡ settled_size (parsed self.now.inputs) self.now.slots p }
     {
-        let cut = self.planned.cut();
-        if cut.item(p).is_none() || self.is_inside(p) {
+        if self.planned.cut().item(p).is_none() || self.is_inside(p) {
             return None;
         }
-        let k = piece_number_at(cut, &self.starts, p) as usize;
+        let k = self.piece_number_at(p) as usize;
         Some(self.addresses[k + 1] - self.addresses[k])
     }
 

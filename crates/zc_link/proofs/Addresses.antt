@@ -9,6 +9,7 @@ use Rattle.rv_decode.specs.Bits.{add32}
 use Rattle.rv_decode.specs.Memory.{byte_of}
 use Rattle.psabi_reloc.specs.Parts.{hi20_of, lo12_of}
 use Rattle.psabi_sym.specs.declared.target.Target.{Target}
+use Rattle.shrink_layout.proofs.PlaceLaws.{same_place-true}
 use Rattle.sym_machine.specs.declared.word.Value.{Value}
 use Rattle.sym_machine.specs.declared.word.Value.TheVariants.{Code, AbsHi, PcHi}
 use Rattle.sym_machine.specs.declared.word.SymByte.{SymByte}
@@ -24,22 +25,21 @@ use Rattle.zc_link.specs.Sound.{NamesWord}
 use Rattle.zc_link.specs.Stands.{ByteStands, WordStands}
 use Rattle.zc_link.specs.Values.{target_value, value_in, way}
 use Rattle.zc_link.proofs.PartLaws.{parts_sum, way_sum, pc_upper}
-use Rattle.zc_link.proofs.PlaceLaws.{same_place-true}
 use Rattle.zc_link.proofs.Words.{number_names, number_stands, sum_names, sum_stands, undef_names, undef_stands}
 use Rattle.psabi_sym.specs.declared.target.Target.TheVariants as target
 
 -- ---- values
 
 same_values : (v w : Value) → same_value v w ≡ true → w ≡ v
-same_values (Code q) (Code r) h = ap Code (same_place-true q r h)
+same_values (Code q) (Code r) h = ap Code (sym (same_place-true q r h))
 same_values (Code q) (AbsHi r) h = absurd cc
 same_values (Code q) (PcHi r) h = absurd cc
 same_values (AbsHi q) (Code r) h = absurd cc
-same_values (AbsHi q) (AbsHi r) h = ap AbsHi (same_place-true q r h)
+same_values (AbsHi q) (AbsHi r) h = ap AbsHi (sym (same_place-true q r h))
 same_values (AbsHi q) (PcHi r) h = absurd cc
 same_values (PcHi q) (Code r) h = absurd cc
 same_values (PcHi q) (AbsHi r) h = absurd cc
-same_values (PcHi q) (PcHi r) h = ap PcHi (same_place-true q r h)
+same_values (PcHi q) (PcHi r) h = ap PcHi (sym (same_place-true q r h))
 
 -- words with the same four bytes
 same_word :

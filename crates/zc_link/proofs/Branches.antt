@@ -9,6 +9,7 @@ use Rattle.zc_base.specs.declared.place.Place.{Place}
 use Rattle.rv_decode.specs.declared.instr.BranchOp.{BranchOp}
 use Rattle.rv_decode.specs.declared.instr.BranchOp.TheVariants.{Beq, Bne, Blt, Bge, Bltu, Bgeu}
 use Rattle.rv_decode.specs.Results.{is_taken}
+use Rattle.shrink_layout.proofs.PlaceLaws.{same_place-false, same_place-true}
 use Rattle.sym_machine.specs.declared.known.Known.{Known}
 use Rattle.sym_machine.specs.declared.known.Known.TheVariants.{Number, Code, Unknown}
 use Rattle.sym_machine.specs.declared.word.SymWord.{SymWord}
@@ -21,7 +22,6 @@ use Rattle.zc_link.specs.Room.{Room}
 use Rattle.zc_link.specs.Stands.{WordStands}
 use Rattle.zc_link.specs.Values.{value_in}
 use Rattle.zc_link.proofs.Addresses.{code_is, some_same}
-use Rattle.zc_link.proofs.PlaceLaws.{same_place-false, same_place-true}
 use Rattle.zc_link.proofs.Words.{number_is}
 
 module _ {p : Program} {e : Image} (room : Room p e) where
@@ -68,7 +68,7 @@ module _ {p : Program} {e : Image} (room : Room p e) where
       tested true y u v g =
           let same = same_place-true q r u in
           let is : true ≡ t = cc in
-          eq-eqb m n (some_same (e.address q) n m (ap e.address (sym same) ∙ at_r) at_q) ∙ is
+          eq-eqb m n (some_same (e.address q) n m (ap e.address same ∙ at_r) at_q) ∙ is
       tested false true u v g =
           let solid = and_parts (is_solid (p.item q)) (is_solid (p.item r)) v in
           let is : false ≡ t = cc in

@@ -56,6 +56,28 @@ pub all_cuts_kept :
 all_cuts_kept K each [] z are kept = kept
 all_cuts_kept K each (c ∷ cs) z are kept = all_cuts_kept K each cs (interrupted c z) (All-tail IsInterrupt c cs are) (each c z (All-head IsInterrupt c cs are) kept)
 
+-- ---- a write
+
+-- of bytes leaves bytes
+pub written_are : (at m : ℕ) (given : ℕ → ℕ) (z : ZcCore) → ((i : ℕ) → given i < 256) → ((a : ℕ) → byte_in z a < 256) → (a : ℕ) → cell_at 0 (changed (written at m given) z.memory) a < 256
+written_are at m given z are bytes = cell_kept (written at m given) z.memory 0 (λ c. c < 256) byte (omega arith) bytes
+  where
+    byte : (a c : ℕ) → c < 256 → written at m given a c < 256
+    byte a c lt = cond_both (leb at a && ltb a (at + m)) (given (a - at)) c (λ v. v < 256) (λ _. are (a - at)) (λ _. lt)
+
+-- from low to below n keeps all other bytes
+pub others_kept :
+    (low n at m : ℕ) (given : ℕ → ℕ) (z : ZcCore) → low ≤ at → at + m ≤ n → (a : ℕ) → (low ≤ a → n ≤ a)
+    → cell_at 0 (changed (written at m given) z.memory) a ≡ byte_in z a
+others_kept low n at m given z lower upper a out = ⊎_elim
+    (λ held.
+    cell-changed (written at m given) z.memory a 0 held
+    ∙ untouched at m given a (byte_in z a) (λ l u. let above = out (omega (arith, l, lower)) in omega (arith, above, upper, u)))
+    (λ free.
+    let still = ap (λ es. is_covered es a) (extents-changed (written at m given) z.memory) ∙ free in
+    cell-uncovered (changed (written at m given) z.memory) a 0 still ∙ sym (cell-uncovered z.memory a 0 free))
+    (cases_Bool (is_covered (extents_of z.memory) a))
+
 -- ---- the machine alone
 
 -- at a state y whose stack begins at low or above it, interrupts write from low to below sp
@@ -69,22 +91,9 @@ module _ (low : ℕ) (y : ZcCore) (stack : (a : ℕ) → lies_in is_stack (exten
   written_spoiled at m given z are lower upper k = record {
     rest = ap {A = ZcCore} {B = ZcCore} (λ x. record x { memory = changed (written at m given) z.memory }) k.rest;
     extents = extents-changed (written at m given) z.memory ∙ k.extents;
-    bytes = λ a out. kept a out ∙ k.bytes a out;
-    are_bytes = cell_kept (written at m given) z.memory 0 (λ c. c < 256) byte (omega arith) k.are_bytes;
+    bytes = λ a out. others_kept low (reg_in y 2) at m given z lower upper a out ∙ k.bytes a out;
+    are_bytes = written_are at m given z are k.are_bytes;
   }
-    where
-      byte : (a c : ℕ) → c < 256 → written at m given a c < 256
-      byte a c lt = cond_both (leb at a && ltb a (at + m)) (given (a - at)) c (λ v. v < 256) (λ _. are (a - at)) (λ _. lt)
-
-      kept : (a : ℕ) → (low ≤ a → reg_in y 2 ≤ a) → cell_at 0 (changed (written at m given) z.memory) a ≡ byte_in z a
-      kept a out = ⊎_elim
-          (λ held.
-          cell-changed (written at m given) z.memory a 0 held
-          ∙ untouched at m given a (byte_in z a) (λ l u. let above = out (omega (arith, l, lower)) in omega (arith, above, upper, u)))
-          (λ free.
-          let still = ap (λ es. is_covered es a) (extents-changed (written at m given) z.memory) ∙ free in
-          cell-uncovered (changed (written at m given) z.memory) a 0 still ∙ sym (cell-uncovered z.memory a 0 free))
-          (cases_Bool (is_covered (extents_of z.memory) a))
 
   free_below : (a : ℕ) (z : ZcCore) → IsSpoiled z → is_free z a ≡ true → (low ≤ a) × (a + 1 ≤ reg_in y 2)
   free_below a z k free =

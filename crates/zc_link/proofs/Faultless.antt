@@ -3,7 +3,7 @@
 use Rattle.std.proofs.Common.{◌≡◌, ℕ, List, [], ◌∷◌, ◌++◌, map, Option, Some, None, Bool, true, false, cond, eqb, refl, sym, ap, ◌∙◌}
 use Rattle.std.specs.Prelude.{◌&&◌, ◌||◌, is_none, not}
 use Rattle.std.specs.List.{find, flat_map}
-use Rattle.std.specs.Option.{is_some, option_map, unwrap_or}
+use Rattle.std.specs.Option.{is_some, unwrap_or}
 use Rattle.std.proofs.lemmas.Bool.{eqb-true, not-false, or_left}
 use Rattle.zc_base.specs.declared.place.Place.{Place}
 use Rattle.elf32_read.specs.Parts.{ObjectParts, SectionParts}
@@ -25,6 +25,7 @@ use Rattle.block_cut.specs.Leaders.{is_leader_at}
 use Rattle.block_cut.specs.Relocs.{is_bad_kind, is_bad_place, is_ignored, is_transfer, reloc_on}
 use Rattle.block_cut.proofs.ListedLaws.{cut_at, listed}
 use Rattle.block_cut.proofs.StartLaws.{is_among}
+use Rattle.shrink_layout.proofs.TargetLaws.{mapped_none, not_so}
 use Rattle.zc_link.specs.LaidOut.{ListsLeaders}
 use Rattle.zc_link.specs.Standing.{HasValue}
 use Rattle.zc_link.proofs.Elements.{none_found, none_there}
@@ -32,14 +33,6 @@ use Rattle.zc_link.proofs.Led.{AsksIn, reloc_leader}
 use Rattle.zc_link.proofs.StartLed.{name_leader}
 
 -- ---- what gives nothing
-
-pub mapped_none : {A B : Type 0} (f : A → B) (o : Option A) → option_map f o ≡ None → o ≡ None
-mapped_none f None h = refl
-mapped_none f (Some a) h = absurd cc
-
-not_so : (b : Bool) (fault : Fault) → if_so b fault ≡ None → b ≡ false
-not_so true fault h = absurd cc
-not_so false fault h = refl
 
 -- a search that finds nothing, over parts of a list
 module _ {X : Type 0} (p : X → Bool) where

@@ -2,18 +2,18 @@
 -- the registers of a pop's slots, which it has loaded; all else is as before (SpoiledSlots). So the instruction still stands at pc, and
 -- its commit follows from the state behind the interrupts (Behind).
 use Rattle.std.specs.Option.{option_map_or}
-use Rattle.std.specs.Prelude.{◌⊎◌, ◌&&◌, All, slice_get}
-use Rattle.std.proofs.Common.{◌≡◌, ◌≢◌, ℕ, zero, suc, ◌+◌, ◌-◌, ◌*◌, ◌/◌, ◌%◌, ◌^◌, ◌<◌, ◌≤◌, List, [], ◌∷◌, length, Option, Some, None, true, refl, sym, ap, ap₂, ◌∙◌, subst, arith, leb, ltb, negsuc, ⊎_elim, inl, inr}
-use Rattle.std.proofs.lemmas.Bool.{and_parts, cases_Bool, cases_lt, cond_both, ltb-true}
+use Rattle.std.specs.Prelude.{◌⊎◌, All, slice_get}
+use Rattle.std.proofs.Common.{◌≡◌, ◌≢◌, ℕ, zero, suc, ◌+◌, ◌-◌, ◌*◌, ◌/◌, ◌%◌, ◌^◌, ◌<◌, ◌≤◌, List, [], ◌∷◌, length, Option, Some, None, true, refl, sym, ap, ap₂, ◌∙◌, subst, arith, ltb, negsuc, ⊎_elim, inl, inr}
+use Rattle.std.proofs.lemmas.Bool.{and_parts, cases_lt, cond_both, ltb-true}
 use Rattle.std.proofs.lemmas.List.Elements.{All-head, All-tail}
 use Rattle.zc_base.specs.declared.place.Place.{Place}
 use Rattle.interrupt_plan.specs.Plan.{Interrupt, IsInterrupt}
 use Rattle.rv_decode.specs.declared.instr.RegOp.TheVariants.{Add}
 use Rattle.rv_decode.specs.Bits.{add32}
-use Rattle.rv_decode.specs.Memory.{byte_of, cell_at, changed, extents_of, is_stack, is_text, lies_in, written}
+use Rattle.rv_decode.specs.Memory.{byte_of, changed, extents_of, is_stack, is_text, lies_in, written}
 use Rattle.rv_decode.specs.Results.{reg_result}
 use Rattle.rv_decode.specs.State.{ZcCore, ZcState, byte_in, reg_in, set_reg, word_at}
-use Rattle.rv_decode.proofs.MemoryLaws.{cell-changed, cell-uncovered, cell_kept, extents-changed, is_covered, untouched}
+use Rattle.rv_decode.proofs.MemoryLaws.{extents-changed}
 use Rattle.rv_decode.proofs.RegisterLaws.{length-set_reg, reads-set_reg_other}
 use Rattle.sym_machine.specs.declared.word.SymByte.TheVariants.{Undef}
 use Rattle.sym_machine.specs.Program.{Program}
@@ -34,7 +34,7 @@ use Rattle.zc_link.specs.Image.{Image, loaded_core}
 use Rattle.zc_link.specs.Room.{Room}
 use Rattle.zc_link.specs.Sound.{Alike}
 use Rattle.zc_link.specs.Stretches.{OneAt}
-use Rattle.zc_link.proofs.Cuts.{all_cuts_kept, done-none, stack_within}
+use Rattle.zc_link.proofs.Cuts.{all_cuts_kept, done-none, others_kept, stack_within, written_are}
 use Rattle.zc_link.proofs.Slots.{FrameFacts, IsOneOf}
 
 -- z is y, but for bytes from low to below n, and for the registers of these slots
@@ -124,22 +124,9 @@ module _ (low : ℕ) (ds : List Slot) (no_sp : AvoidSp ds) (y : ZcCore) (stack :
     long = k.long;
     registers = k.registers;
     extents = extents-changed (written at m given) z.memory ∙ k.extents;
-    bytes = λ a out. kept a out ∙ k.bytes a out;
-    are_bytes = cell_kept (written at m given) z.memory 0 (λ c. c < 256) byte (omega arith) k.are_bytes;
+    bytes = λ a out. others_kept low (reg_in y 2) at m given z lower upper a out ∙ k.bytes a out;
+    are_bytes = written_are at m given z are k.are_bytes;
   }
-    where
-      byte : (a c : ℕ) → c < 256 → written at m given a c < 256
-      byte a c lt = cond_both (leb at a && ltb a (at + m)) (given (a - at)) c (λ v. v < 256) (λ _. are (a - at)) (λ _. lt)
-
-      kept : (a : ℕ) → (low ≤ a → reg_in y 2 ≤ a) → cell_at 0 (changed (written at m given) z.memory) a ≡ byte_in z a
-      kept a out = ⊎_elim
-          (λ held.
-          cell-changed (written at m given) z.memory a 0 held
-          ∙ untouched at m given a (byte_in z a) (λ l u. let above = out (omega (arith, l, lower)) in omega (arith, above, upper, u)))
-          (λ free.
-          let still = ap (λ es. is_covered es a) (extents-changed (written at m given) z.memory) ∙ free in
-          cell-uncovered (changed (written at m given) z.memory) a 0 still ∙ sym (cell-uncovered z.memory a 0 free))
-          (cases_Bool (is_covered (extents_of z.memory) a))
 
   byte_kept : (d : ℕ × ℕ) (z : ZcCore) → d.1 < 256 → K z → K (dirtied d z)
   byte_kept d z is_byte k = cond_both (is_free z d.0) (record z { memory = changed (written d.0 1 (λ i. d.1)) z.memory }) z K

@@ -1,5 +1,5 @@
 -- What is written for a group: the bytes of its halfword, alone or with those of the instruction that moves sp by the rest of its frame.
-use Rattle.std.proofs.Common.{◌≡◌, ◌∙◌, ℕ, ◌+◌, ◌-◌, ◌<◌, ◌^◌, inl, inr, ◌++◌, Bool, true, false, cond, eqb, Option, Some, None, refl, sym, ap, subst, arith, pos, negsuc}
+use Rattle.std.proofs.Common.{◌≡◌, ◌∙◌, ℕ, ◌+◌, ◌-◌, ◌<◌, ◌^◌, inl, inr, ◌++◌, Bool, true, false, cond, eqb, Option, Some, None, refl, sym, ap, subst, arith, pos, negsuc, List}
 use Rattle.std.specs.Option.{is_some, option_map, unwrap_or}
 use Rattle.std.proofs.lemmas.Bool.{eqb-true, false_from_ne_true}
 use Rattle.zc_base.specs.Fields.{half_bytes, word_bytes}
@@ -67,6 +67,26 @@ module _ (g : Group) (some : 0 < g.rest) (half : ℕ) (spells : SpellsHalf (half
       no_zero : (m : ℕ) → 0 < m → eqb m 0 ≡ false
       no_zero m lt = false_from_ne_true (eqb m 0) (λ e. omega (arith, lt, eqb-true m 0 e))
 
+  -- bytes of the rest stand behind a push and before a pop
+  module _ (other : List ℕ) (rest : IsSpelled (group_size g - 2) other (rest_instr g)) where
+    rest_behind : is_push g.kind ≡ true → IsSplit (group_size g) g (half_bytes half ++ other)
+    rest_behind push = record {
+      half = half_bytes half;
+      other = other;
+      both = sym (ap (λ b. cond b (half_bytes half ++ other) (other ++ half_bytes half)) push);
+      spells = spells;
+      rest = rest;
+    }
+
+    rest_before : is_push g.kind ≡ false → IsSplit (group_size g) g (other ++ half_bytes half)
+    rest_before pop = record {
+      half = half_bytes half;
+      other = other;
+      both = sym (ap (λ b. cond b (half_bytes half ++ other) (other ++ half_bytes half)) pop);
+      spells = spells;
+      rest = rest;
+    }
+
   -- it has a short form
   module _ (short : ℕ) (small : short < 2 ^ 16) (found : encoded16 (Base (rest_instr g)) ≡ Some short) (same : HasEffectOf (rest_instr g) short) where
     four : group_size g ≡ 4
@@ -76,22 +96,10 @@ module _ (g : Group) (some : 0 < g.rest) (half : ℕ) (spells : SpellsHalf (half
     rest_half = inr (ap (λ n. n - 2) four, record { half = short; small = small; are = refl; first = found; same = same })
 
     pub push_halves : is_push g.kind ≡ true → IsSplit (group_size g) g (half_bytes half ++ half_bytes short)
-    push_halves push = record {
-      half = half_bytes half;
-      other = half_bytes short;
-      both = sym (ap (λ b. cond b (half_bytes half ++ half_bytes short) (half_bytes short ++ half_bytes half)) push);
-      spells = spells;
-      rest = rest_half;
-    }
+    push_halves = rest_behind (half_bytes short) rest_half
 
     pub pop_halves : is_push g.kind ≡ false → IsSplit (group_size g) g (half_bytes short ++ half_bytes half)
-    pop_halves pop = record {
-      half = half_bytes half;
-      other = half_bytes short;
-      both = sym (ap (λ b. cond b (half_bytes half ++ half_bytes short) (half_bytes short ++ half_bytes half)) pop);
-      spells = spells;
-      rest = rest_half;
-    }
+    pop_halves = rest_before (half_bytes short) rest_half
 
     pub halves_long : group_size g ≡ 4
     halves_long = four
@@ -105,22 +113,10 @@ module _ (g : Group) (some : 0 < g.rest) (half : ℕ) (spells : SpellsHalf (half
     rest_word = inl (ap (λ n. n - 2) six, record { word = word; small = small; are = refl; spells = is })
 
     pub push_word : is_push g.kind ≡ true → IsSplit (group_size g) g (half_bytes half ++ word_bytes word)
-    push_word push = record {
-      half = half_bytes half;
-      other = word_bytes word;
-      both = sym (ap (λ b. cond b (half_bytes half ++ word_bytes word) (word_bytes word ++ half_bytes half)) push);
-      spells = spells;
-      rest = rest_word;
-    }
+    push_word = rest_behind (word_bytes word) rest_word
 
     pub pop_word : is_push g.kind ≡ false → IsSplit (group_size g) g (word_bytes word ++ half_bytes half)
-    pop_word pop = record {
-      half = half_bytes half;
-      other = word_bytes word;
-      both = sym (ap (λ b. cond b (half_bytes half ++ word_bytes word) (word_bytes word ++ half_bytes half)) pop);
-      spells = spells;
-      rest = rest_word;
-    }
+    pop_word = rest_before (word_bytes word) rest_word
 
     pub word_long : group_size g ≡ 6
     word_long = six

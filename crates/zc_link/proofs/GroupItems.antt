@@ -24,6 +24,7 @@ use Rattle.frame_match.specs.declared.role.Role.TheVariants.{First, Inside}
 use Rattle.frame_match.proofs.GroupLaws.{StartsGroup, group_starts}
 use Rattle.shrink_layout.proofs.NumberLaws.{behind, starts_cut}
 use Rattle.shrink_layout.proofs.RolePlaces.{own, role-code, roles_many}
+use Rattle.shrink_layout.proofs.SiteLaws.{drop_got}
 use Rattle.shrink_layout.proofs.UnitLaws.{role_found}
 use Rattle.sym_machine.specs.Program.{Program}
 use Rattle.zc_link.specs.Groups.{GroupKind, IsGroup, group_half, group_ops, group_rest}
@@ -32,13 +33,7 @@ use Rattle.zc_link.proofs.GroupsFound.{longest_is}
 
 -- ---- lists
 
--- what a list has from an index on begins with its element there
-drop_got : {X : Type 0} (xs : List X) (k : ℕ) (x : X) (rest : List X) → drop k xs ≡ x ∷ rest → slice_get xs k ≡ Some x
-drop_got [] zero x rest is = absurd cc
-drop_got [] (suc k) x rest is = absurd cc
-drop_got (y ∷ ys) zero x rest is = cc
-drop_got (y ∷ ys) (suc k) x rest is = drop_got ys k x rest is
-
+-- what a list has from an index on goes on with what it has from the next one on
 drop_next : {X : Type 0} (xs : List X) (k : ℕ) (x : X) (rest : List X) → drop k xs ≡ x ∷ rest → drop (suc k) xs ≡ rest
 drop_next [] zero x rest is = absurd cc
 drop_next [] (suc k) x rest is = absurd cc

@@ -73,6 +73,12 @@ module _ (p : Program) (parts : Parts) (out : AreLaidOut p parts) where
   length-cells : length cells ≡ length parts.data_bytes + parts.zero
   length-cells = ap length cells_are ∙ length-data_cells
 
+  abbrev words : List ℕ
+  words = text ++ blank (length text - length text) 0
+
+  length-words : length words ≡ length text
+  length-words = length-append text (blank {X = ℕ} (length text - length text) 0) ∙ (let b = length_blank {X = ℕ} (length text - length text) 0 in omega arith)
+
   -- ---- where it lies
 
   abbrev data_extent : Extent
@@ -107,8 +113,7 @@ module _ (p : Program) (parts : Parts) (out : AreLaidOut p parts) where
   unfolding first_core
   text_apart a h =
       let map = out.is_map in
-      let words = text ++ blank {X = ℕ} (length text - length text) 0 in
-      let size : length words ≡ length text = length-append text (blank {X = ℕ} (length text - length text) 0) ∙ (let b = length_blank {X = ℕ} (length text - length text) 0 in omega arith) in
+      let size = length-words in
       let short = out.short in
       let at = out.text_at in
       let data_at = out.data_at in
@@ -149,8 +154,7 @@ module _ (p : Program) (parts : Parts) (out : AreLaidOut p parts) where
   unfolding first_core
   data_byte a low high =
       let map = out.is_map in
-      let words = text ++ blank {X = ℕ} (length text - length text) 0 in
-      let size : length words ≡ length text = length-append text (blank {X = ℕ} (length text - length text) 0) ∙ (let b = length_blank {X = ℕ} (length text - length text) 0 in omega arith) in
+      let size = length-words in
       let short = out.short in
       let at = out.text_at in
       let data_at = out.data_at in

@@ -1,5 +1,4 @@
 pub mod Examples
-pub mod PlaceLaws
 pub mod PartLaws
 pub mod Words
 pub mod Addresses

@@ -15,11 +15,11 @@ use Rattle.block_cut.specs.Items.{all_targets, code_at, is_target_at, place_of, 
 use Rattle.block_cut.proofs.ListedLaws.{cut_at, listed}
 use Rattle.block_cut.proofs.PlainLaws.{target_on}
 use Rattle.block_cut.proofs.WholeLaws.{code_is_section}
+use Rattle.shrink_layout.proofs.PlaceLaws.{same_place-refl, same_place-true}
 use Rattle.zc_link.specs.Places.{listed_address}
 use Rattle.zc_link.specs.ImageParts.{listed_places, with_address}
 use Rattle.zc_link.specs.TextLayout.{TextLayout}
 use Rattle.zc_link.proofs.Elements.{any_flat, any_offset}
-use Rattle.zc_link.proofs.PlaceLaws.{same_place-refl, same_place-true}
 
 -- what holds of all entries of a list holds of the one that is found
 pub found_holds : (P : Place × ℕ → Type 0) (es : List (Place × ℕ)) (q : Place) (a : ℕ) → All P es → listed_address es q ≡ Some a → P (q, a)
@@ -28,9 +28,9 @@ found_holds P (e ∷ es) q a all found = by (same_place e.0 q) refl found (λ la
   where
     by : (b : Bool) → same_place e.0 q ≡ b → cond b (Some e.1) (listed_address es q) ≡ Some a → (listed_address es q ≡ Some a → P (q, a)) → P (q, a)
     by true is got rest =
-        let place : q ≡ e.0 = same_place-true e.0 q is in
+        let place : e.0 ≡ q = same_place-true e.0 q is in
         let address : e.1 ≡ a = cc in
-        subst P (λ j. (sym place j, address j)) (All-head P e es all)
+        subst P (λ j. (place j, address j)) (All-head P e es all)
     by false is got rest = rest got
 
 -- each entry of a list of places with addresses has its place's address
@@ -63,7 +63,7 @@ among_found L (r ∷ rs) q a is among = by (same_place r q) refl among (λ later
         → (list_any (λ s. same_place s q) rs ≡ true → (b : ℕ) × (listed_address rest q ≡ Some b))
         → (b : ℕ) × (listed_address (with_address L r ++ rest) q ≡ Some b)
     by true same h later =
-        let here : L.address r ≡ Some a = ap L.address (sym (same_place-true r q same)) ∙ is in (
+        let here : L.address r ≡ Some a = ap L.address (same_place-true r q same) ∙ is in (
           a,
           ap (λ o. listed_address (option_to_list (option_map (λ a. (r, a)) o) ++ rest) q) here
               ∙ ap (λ t. cond t (Some a) (listed_address rest q)) same,

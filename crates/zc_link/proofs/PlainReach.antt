@@ -15,7 +15,8 @@ use Rattle.rv_decode.specs.declared.instr.BranchOp.{BranchOp}
 use Rattle.block_cut.proofs.ItemLaws.{item_found}
 use Rattle.block_cut.proofs.ListedLaws.{cut_at, listed}
 use Rattle.block_cut.proofs.WholeLaws.{code_is_section}
-use Rattle.zc_link.proofs.Faultless.{AreFaultless, all_none, find_among, find_flat, mapped_none}
+use Rattle.shrink_layout.proofs.TargetLaws.{mapped_none}
+use Rattle.zc_link.proofs.Faultless.{AreFaultless, all_none, find_among, find_flat}
 
 module _ (inputs : Inputs) (none : first_fault inputs ≡ None) where
   abbrev p : ParsedInputs

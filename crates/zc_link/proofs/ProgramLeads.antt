@@ -28,13 +28,14 @@ use Rattle.block_cut.proofs.ListedLaws.{listed}
 use Rattle.block_cut.proofs.PlainLaws.{next_start}
 use Rattle.block_cut.proofs.SoundLaws.{sound_at}
 use Rattle.block_cut.proofs.WholeLaws.{code_is_section}
+use Rattle.shrink_layout.proofs.PlaceLaws.{same_place-refl}
+use Rattle.shrink_layout.proofs.TargetLaws.{away_target}
 use Rattle.sym_machine.specs.Objects.{program_of}
 use Rattle.sym_machine.specs.Program.{Program}
 use Rattle.zc_link.specs.Leads.{Leads, NamesItem, NamesTarget}
 use Rattle.zc_link.specs.Sound.{IsNamed}
 use Rattle.zc_link.proofs.Faultless.{all_none, reloc_good, target_good}
-use Rattle.zc_link.proofs.Led.{asks_at, away_target, item_leader, leader_named, reloc_leader}
-use Rattle.zc_link.proofs.PlaceLaws.{same_place-refl}
+use Rattle.zc_link.proofs.Led.{asks_at, item_leader, leader_named, reloc_leader}
 
 module _ (inputs : Inputs) (none : first_fault inputs ≡ None) where
   abbrev objects : List ObjectParts

@@ -27,10 +27,10 @@ use Rattle.shrink_layout.specs.Units.{front_size, is_listed_at}
 use Rattle.shrink_layout.proofs.AddressLaws.{ascending, even_address, first_address, form_at, last_address, layout_forms, next_address}
 use Rattle.shrink_layout.proofs.NumberEnds.{padding_number, padding_number-next, number-end, number-start, start_within}
 use Rattle.shrink_layout.proofs.NumberLaws.{length-pieces_of, number-code, number_most}
-use Rattle.shrink_layout.proofs.OrderLaws.{target_code}
 use Rattle.shrink_layout.proofs.PlaceAddressLaws.{address_target, address_there}
 use Rattle.shrink_layout.proofs.RolePlaces.{end_listed, leader_listed, listed_target}
 use Rattle.shrink_layout.proofs.SizesLaws.{sizes_layout}
+use Rattle.shrink_layout.proofs.TargetLaws.{number_some}
 use Rattle.shrink_layout.proofs.PremiseLaws.{all_aligned, all_even, room_few}
 use Rattle.zc_link.specs.LaidOut.{code_end_after, laid_section_end, text_end}
 use Rattle.zc_link.specs.TextLayout.{TextLayout, front_end, zc_layout}
@@ -53,13 +53,6 @@ target_there objects q s at target = target_on objects q s at ∙ by target
     by : (starts_on s q.offset ≡ true) ⊎ (q.offset ≡ length s.bytes) → (starts_on s q.offset || eqb q.offset (length s.bytes)) ≡ true
     by (inl start) = ap (λ b. b || eqb q.offset (length s.bytes)) start
     by (inr end) = ap (λ b. starts_on s q.offset || b) (eq-eqb q.offset (length s.bytes) end) ∙ or_true (starts_on s q.offset)
-
--- what is in front of all code stands before such a place
-number_some : (p : ParsedInputs) (q : Place) → is_target_at p.objects q ≡ true → 1 ≤ piece_number_at p.objects q
-number_some p q target =
-    let at = target_code p.objects q target in
-    let number : piece_number_at p.objects q ≡ pieces_before p.objects q.object q.section at.0 q.offset = number-code p.objects q at.0 target at.1 in
-    omega (arith, number)
 
 -- ---- addresses
 
@@ -181,8 +174,8 @@ module _ (inputs : Inputs) (none : gather_fault inputs ≡ None) (is_map : IsMap
 
   pub settled_low : (q : Place) (a : ℕ) → A q ≡ Some a → front_end L ≤ a
   settled_low q a is =
-      let some : 1 ≤ piece_number_at objects q = number_some p q (address_target p slots q a is) in
-      omega (arith, settled_here q a is, address_low (piece_number_at objects q) some (number_most p slots q))
+      let some = number_some objects q (address_target p slots q a is) in
+      omega (arith, settled_here q a is, address_low (piece_number_at objects q) (omega (arith, some)) (number_most p slots q))
 
   pub settled_few : (q : Place) (a : ℕ) → A q ≡ Some a → a ≤ inputs.map.text + 0x9_0000
   settled_few q a is = omega (arith, settled_here q a is, address_few (piece_number_at objects q) (number_most p slots q))

@@ -27,12 +27,13 @@ use Rattle.block_cut.specs.declared.item.Item.TheVariants.{Hi, Lo, PcHi, PcLo, B
 use Rattle.block_cut.proofs.PlainLaws.{item_here}
 use Rattle.block_cut.proofs.SoundLaws.{rvc_bad, sound_at}
 use Rattle.block_cut.proofs.WholeLaws.{code_is_section}
+use Rattle.shrink_layout.proofs.PlaceLaws.{same_place-refl}
+use Rattle.shrink_layout.proofs.TargetLaws.{away_target}
 use Rattle.zc_link.specs.LaidOut.{ListsLeaders}
 use Rattle.zc_link.specs.Standing.{GoesWith, HasOwnSize, HasValue, IsReady, ItemStands, SpellsKind, SpellsWay, is_lower}
 use Rattle.zc_link.proofs.Faultless.{all_none, leader_listed, reloc_good, reloc_value}
-use Rattle.zc_link.proofs.Led.{asks_at, away_target, item_leader, reloc_leader}
+use Rattle.zc_link.proofs.Led.{asks_at, item_leader, reloc_leader}
 use Rattle.zc_link.proofs.Pairs.{goes_with}
-use Rattle.zc_link.proofs.PlaceLaws.{same_place-refl}
 
 -- objects without a fault have none between them
 pub gathered : (inputs : Inputs) → first_fault inputs ≡ None → gather_fault inputs ≡ None

@@ -18,8 +18,8 @@ use Rattle.psabi_sym.specs.declared.target.Target.TheVariants.{Code, Nowhere}
 use Rattle.psabi_sym.proofs.PlaceLaws.{code_is}
 use Rattle.block_cut.specs.Items.{all_places, is_target_at}
 use Rattle.block_cut.specs.Leaders.{is_leader_at, item_leads, section_leads, symbol_leads}
+use Rattle.shrink_layout.proofs.PlaceLaws.{same_place-refl}
 use Rattle.zc_link.proofs.Elements.{any_found, found_passes}
-use Rattle.zc_link.proofs.PlaceLaws.{same_place-refl}
 
 module _ (p : ParsedInputs) (q : Place) where
   -- a symbol leads into code: it is defined there, in a section of code

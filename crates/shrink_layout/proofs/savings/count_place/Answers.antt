@@ -5,7 +5,6 @@ use Rattle.psabi_sym.specs.Inputs.{parsed}
 use Rattle.pick_check.specs.declared.saving.Saving.{Saving}
 use Rattle.block_cut.specs.Faults.{first_fault}
 use Rattle.shrink_layout.specs.Invariants.Sites.{AreSavings, site_pair}
-use Rattle.shrink_layout.specs.Pieces.{piece_number_at}
 use Rattle.shrink_layout.proofs.SavingLaws.{count_low, site_counted, target_saving, target_within}
 use Rattle.shrink_layout.proofs.TargetLaws.{no_gather_fault}
 use Rattle.shrink_layout.proofs.savings.count_place.Goals as goal
@@ -14,17 +13,13 @@ use Rattle.shrink_layout.proofs.savings.count_place.Goals as goal
 abbrev no_saving : Saving
 no_saving = record { target = record { object = 0; section = 0; offset = 0 }; jump_sites = 0; call_sites = 0 }
 
-pub piece_number_at-number-requires-clause-faultless : goal.piece_number_at-number-requires-clause-faultless
-piece_number_at-number-requires-clause-faultless c = no_gather_fault c.cut-cut.result.now c.objects-objects.ensures.faultless
-
 pub bounds-savings-number : goal.bounds-savings-number
 bounds-savings-number c =
     let inputs = c.args.settled.now.inputs in
     let cut = c.cut-cut.ensures.same ∙ c.planned.ensures.same in
     let none = no_gather_fault inputs (ap first_fault (sym cut) ∙ c.objects-objects.ensures.faultless) in
-    let to = c.in-Some.site.to in
     let is = sym c.site_at.ensures.value ∙ ap (option_map site_pair) c.in-Some.is in
-    let number = c.piece_number_at-number.ensures ∙ ap (λ x. piece_number_at (parsed x).objects to) cut in
+    let number = c.piece_number_at-number.ensures in
     let few = c.requires.few in
     omega (arith, number, target_within inputs none few.0 c.args.p (site_pair c.in-Some.site) is c.in-Some.ensures.target c.args.savings.now few.2)
 
@@ -35,7 +30,7 @@ count_site-requires c =
     let none = no_gather_fault inputs (ap first_fault (sym cut) ∙ c.objects-objects.ensures.faultless) in
     let to = c.in-Some.site.to in
     let is = sym c.site_at.ensures.value ∙ ap (option_map site_pair) c.in-Some.is in
-    let number = c.piece_number_at-number.ensures ∙ ap (λ x. piece_number_at (parsed x).objects to) cut in
+    let number = c.piece_number_at-number.ensures in
     let few = c.requires.few in
     let at = ap (λ n. slice_index_or c.args.savings.now (n - 2) no_saving) number
     ∙ target_saving inputs none few.0 c.args.p (site_pair c.in-Some.site) is c.in-Some.ensures.target c.args.savings.now few.2 no_saving in
@@ -50,10 +45,9 @@ returns-in-Some c = λ qs are.
     let cut = c.cut-cut.ensures.same ∙ c.planned.ensures.same in
     let none = no_gather_fault inputs (ap first_fault (sym cut) ∙ c.objects-objects.ensures.faultless) in
     let rd = c.in-Some.site.rd in
-    let to = c.in-Some.site.to in
     let is = sym c.site_at.ensures.value ∙ ap (option_map site_pair) c.in-Some.is in
     let target = c.in-Some.ensures.target in
-    let number = c.piece_number_at-number.ensures ∙ ap (λ x. piece_number_at (parsed x).objects to) cut in
+    let number = c.piece_number_at-number.ensures in
     let at = ap (λ n. slice_index_or c.args.savings.now (n - 2) no_saving) number
     ∙ target_saving inputs none qs c.args.p (site_pair c.in-Some.site) is target c.args.savings.now are no_saving in
     subst (λ n. AreSavings (parsed inputs) (qs ++ c.args.p ∷ []) (slice_set c.args.savings.now (n - 2) c.count_site.new.saving)) (sym number)

@@ -1,20 +1,22 @@
 -- What `settle_pieces` asks holds of the pieces of inputs without a fault, and what it gives is the layout.
 use Rattle.std.proofs.Common.{◌≡◌, ℕ, ◌-◌, ◌≤◌, ◌%◌, All, List, Option, length, sym, ap, subst, subst₂, ◌∙◌, arith}
 use Rattle.std.specs.List.{sum_by}
-use Rattle.psabi_sym.specs.Inputs.{parsed}
+use Rattle.psabi_sym.specs.Inputs.{ParsedInputs, parsed}
 use Rattle.block_cut.specs.Faults.{first_fault}
 use Rattle.block_cut.specs.PlainLayout.{plain_counts}
 use Rattle.zc_base.specs.declared.place.Place.{Place}
 use Rattle.shrink_layout.specs.Invariants.Made.{AreHalvesOf, all_owners}
 use Rattle.shrink_layout.specs.Counted.{is_long_piece, is_short_piece, pieces_with}
 use Rattle.shrink_layout.specs.Forms.{HasAlignment, IsEvenPiece, longest, target}
-use Rattle.shrink_layout.specs.Layout.{addresses_of, sizes_of}
+use Rattle.shrink_layout.specs.Layout.{IsLayout, addresses_of, sizes_of}
 use Rattle.shrink_layout.specs.Least.{IsLeast, IsTight}
 use Rattle.shrink_layout.specs.Pieces.{pieces_of}
+use Rattle.shrink_layout.specs.Settled.{settled_sizes}
 use Rattle.shrink_layout.specs.declared.piece.Piece.{Piece}
 use Rattle.shrink_layout.proofs.KeptLaws.{end_rises, kept_addresses, kept_end, kept_long, kept_sizes, long_counted, short_counted, sizes_long}
 use Rattle.shrink_layout.proofs.HalfLaws.{all_halves}
 use Rattle.shrink_layout.proofs.PremiseLaws.{all_aligned, all_even, all_tight, front_few, pieces_few, room_few, targets}
+use Rattle.shrink_layout.proofs.SizesLaws.{sizes_layout}
 use Rattle.shrink_layout.proofs.TableLaws.{table_pays_off}
 use Rattle.shrink_layout.proofs.settled.lay_out.Goals as goal
 
@@ -90,17 +92,6 @@ returns-clause-settled c =
       };
     }
 
-pub returns-clause-least : goal.returns-clause-least
-returns-clause-least c = λ unaligned.
-    let inputs = parsed c.args.of.now.planned.now in
-    let none = c.requires.numbered.faultless in
-    let pieces = c.deref.ensures.value ∙ c.in_ok-made.ensures.pieces ∙ ap (pieces_of (parsed c.args.of.now.planned.now)) c.in_ok-kept.ensures.same in
-    let text = ap (λ m. m.text) c.map-text.ensures.value ∙ ap (λ x. x.map.text) (c.objects.ensures.same ∙ c.cut-cut.ensures.same) in
-    let even : c.map-text.result.text % 2 ≡ 0 = omega (arith, c.map-text.ensures.is_map.text_page) in
-    let given = c.in_ok-rounds.ensures.least even (subst (All IsEvenPiece) (sym pieces) (all_even c.args.of.now.planned.now none c.args.slots.now)) (subst (All IsTight) (sym pieces) (all_tight inputs c.args.slots.now unaligned)) in
-    subst (IsLeast inputs.map.text (pieces_of inputs c.args.slots.now)) (kept_sizes inputs c.args.slots.now)
-    (subst₂ (λ (t : ℕ) (ps : List Piece). IsLeast t ps (sizes_of t ps)) text pieces given)
-
 pub count_sites-requires : goal.count_sites-requires
 count_sites-requires c =
     let inputs = parsed c.args.of.now.planned.now in
@@ -113,10 +104,28 @@ count_sites-requires c =
       pieces_few c.args.of.now.planned.now none c.args.slots.now,
     )
 
-pub returns-clause-pays : goal.returns-clause-pays
-returns-clause-pays c = λ unaligned.
-    let inputs = c.args.of.now.planned.now in
+-- the sizes that the definition gives are those of the first round that fits
+first_fitting : (inputs : ParsedInputs) (slots : List (Option Place)) → IsLayout inputs.map.text (pieces_of inputs slots) (settled_sizes inputs slots)
+unfolding settled_sizes
+first_fitting inputs slots = sizes_layout inputs.map.text (pieces_of inputs slots)
+
+pub returns-clause-laid : goal.returns-clause-laid
+returns-clause-laid c =
+    let own = c.args.of.now.planned.now in
+    let inputs = parsed own in
+    let slots = c.args.slots.now in
+    let none = c.requires.numbered.faultless in
+    let pieces = c.deref.ensures.value ∙ c.in_ok-made.ensures.pieces ∙ ap (pieces_of inputs) c.in_ok-kept.ensures.same in
     let text = ap (λ m. m.text) c.map-text.ensures.value ∙ ap (λ x. x.map.text) (c.objects.ensures.same ∙ c.cut-cut.ensures.same) in
-    let none = ap first_fault (sym c.cut-cut.ensures.same) ∙ c.objects.ensures.faultless in
-    let even : inputs.map.text % 2 ≡ 0 = omega (arith, text, c.map-text.ensures.is_map.text_page) in
-    table_pays_off inputs none c.args.slots.now unaligned even
+    let page = c.map-text.ensures.is_map.text_page in
+    let even : c.map-text.result.text % 2 ≡ 0 = omega (arith, page) in
+    let own_even : own.map.text % 2 ≡ 0 = omega (arith, text, page) in
+    let faultless = ap first_fault (sym c.cut-cut.ensures.same) ∙ c.objects.ensures.faultless in
+    record {
+      layout = first_fitting inputs slots;
+      least = λ unaligned.
+          let given = c.in_ok-rounds.ensures.least even (subst (All IsEvenPiece) (sym pieces) (all_even own none slots)) (subst (All IsTight) (sym pieces) (all_tight inputs slots unaligned)) in
+          subst (IsLeast inputs.map.text (pieces_of inputs slots)) (kept_sizes inputs slots)
+          (subst₂ (λ (t : ℕ) (ps : List Piece). IsLeast t ps (sizes_of t ps)) text pieces given);
+      pays = λ unaligned. table_pays_off own faultless slots unaligned own_even;
+    }

@@ -12,7 +12,7 @@ pub returns-clause-value : goal.returns-clause-value
 returns-clause-value c =
     let inputs = c.args.self.now.inputs in
     let cut = c.cut-cut.ensures.same ∙ c.planned.ensures.same in
-    let none = ap gather_fault (sym cut) ∙ c.in_ok-starts.ensures.gathered in
+    let none = ap gather_fault (sym (c.objects.ensures.same ∙ cut)) ∙ c.section_count-section-end.ensures.faultless in
     let count = ap (λ x. length (all_sections (parsed x).objects)) (c.objects.ensures.same ∙ cut) in
     let past : length (all_sections (parsed inputs).objects) ≤ c.loop-section.section = omega (arith, c.loop-section-test.false, c.loop-section.auto.section-end, c.section_count-section-end.ensures.count, count) in
     filter_same _ has_sites _ (λ x b f' k. search rules) c.loop-section.savings.items c.retain.new.self.items c.retain.ensures.filtered
@@ -21,11 +21,11 @@ returns-clause-value c =
 pub returns-clause-few : goal.returns-clause-few
 returns-clause-few c =
     let cut = c.cut-cut.ensures.same ∙ c.planned.ensures.same in
-    let none = ap gather_fault (sym cut) ∙ c.in_ok-starts.ensures.gathered in
+    let none = ap gather_fault (sym (c.objects.ensures.same ∙ cut)) ∙ c.section_count-section-end.ensures.faultless in
     omega (arith, ap length (returns-clause-value c), savings_few c.args.self.now.inputs none)
 
 pub returns-clause-sites : goal.returns-clause-sites
 returns-clause-sites c =
     let cut = c.cut-cut.ensures.same ∙ c.planned.ensures.same in
-    let none = ap gather_fault (sym cut) ∙ c.in_ok-starts.ensures.gathered in
+    let none = ap gather_fault (sym (c.objects.ensures.same ∙ cut)) ∙ c.section_count-section-end.ensures.faultless in
     subst (All HasFewSites) (sym (returns-clause-value c)) (savings_sized c.args.self.now.inputs none)

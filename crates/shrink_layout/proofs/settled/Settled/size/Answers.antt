@@ -14,9 +14,9 @@ index-requires c =
     let own = c.self.inside in
     let is = c.self.invariant in
     let q = c.args.p in
-    let found = c.item.ensures.item ∙ ap (λ x. item_at (parsed x) q) c.cut-cut.ensures.same in
+    let found = c.item.ensures.item ∙ ap (λ x. item_at (parsed x) q) c.cut.ensures.same in
     let below = below_by own.planned is.faultless own.slots.items q (ap is_some (sym found) ∙ c.if-is_none.ensures) in
-    let number = c.piece_number_at-k.ensures ∙ ap (λ x. piece_number_at (parsed x).objects q) c.cut-cut.ensures.same in
+    let number = c.piece_number_at-k.ensures ∙ ap (λ (x : SettledLayout). piece_number_at (parsed x.inputs).objects q) (sym c.self.view_is) in
     omega (arith, number, below, own.addresses.ok, kept_long (parsed own.planned) own.slots.items own.addresses.items is.addresses_are)
 
 pub index-requires-2 : goal.index-requires-2
@@ -24,9 +24,9 @@ index-requires-2 c =
     let own = c.self.inside in
     let is = c.self.invariant in
     let q = c.args.p in
-    let found = c.item.ensures.item ∙ ap (λ x. item_at (parsed x) q) c.cut-cut.ensures.same in
+    let found = c.item.ensures.item ∙ ap (λ x. item_at (parsed x) q) c.cut.ensures.same in
     let below = below_by own.planned is.faultless own.slots.items q (ap is_some (sym found) ∙ c.if-is_none.ensures) in
-    let number = c.piece_number_at-k.ensures ∙ ap (λ x. piece_number_at (parsed x).objects q) c.cut-cut.ensures.same in
+    let number = c.piece_number_at-k.ensures ∙ ap (λ (x : SettledLayout). piece_number_at (parsed x.inputs).objects q) (sym c.self.view_is) in
     omega (arith, number, below, own.addresses.ok, kept_long (parsed own.planned) own.slots.items own.addresses.items is.addresses_are)
 
 pub overflow_sub-result : goal.overflow_sub-result
@@ -36,9 +36,9 @@ overflow_sub-result c =
     let q = c.args.p in
     let k = c.piece_number_at-k.result in
     let inputs = parsed own.planned in
-    let found = c.item.ensures.item ∙ ap (λ x. item_at (parsed x) q) c.cut-cut.ensures.same in
+    let found = c.item.ensures.item ∙ ap (λ x. item_at (parsed x) q) c.cut.ensures.same in
     let below = below_by own.planned is.faultless own.slots.items q (ap is_some (sym found) ∙ c.if-is_none.ensures) in
-    let number = c.piece_number_at-k.ensures ∙ ap (λ x. piece_number_at (parsed x).objects q) c.cut-cut.ensures.same in
+    let number = c.piece_number_at-k.ensures ∙ ap (λ (x : SettledLayout). piece_number_at (parsed x.inputs).objects q) (sym c.self.view_is) in
     let first = c.index-2.ensures ∙ kept_address inputs own.slots.items own.addresses.items is.addresses_are k c.index-2.result.now (omega (arith, number, below)) in
     let second = c.index.ensures ∙ kept_address inputs own.slots.items own.addresses.items is.addresses_are (k + 1) c.index.result.now (omega (arith, number, below)) in
     omega (arith, first, second, addresses_rise inputs own.slots.items k (k + 1) (omega arith) (omega (arith, number, below)))
@@ -48,7 +48,7 @@ returns-then-is_none c =
     let own = c.self.inside in
     let q = c.args.p in
     let given = parsed own.planned in
-    let found = c.item.ensures.item ∙ ap (λ x. item_at (parsed x) q) c.cut-cut.ensures.same in
+    let found = c.item.ensures.item ∙ ap (λ x. item_at (parsed x) q) c.cut.ensures.same in
     let none : settled_size given own.slots.items q ≡ None = elim c.then-is_none.branch [
       | then-is_none-via-then-is_none w ↦ size_without given own.slots.items q (ap is_some (sym found) ∙ c.is_none.ensures ∙ ap not w.if-is_none.true)
       | then-is_none-via-else-is_none+then-is_inside w ↦ size_inside given own.slots.items q (ap (λ (x : SettledLayout). is_inside (parsed x.inputs) q) c.self.view_is ∙ sym w.is_inside.ensures ∙ w.if-is_inside.true)
@@ -62,10 +62,10 @@ returns c =
     let q = c.args.p in
     let k = c.piece_number_at-k.result in
     let inputs = parsed own.planned in
-    let found = c.item.ensures.item ∙ ap (λ x. item_at (parsed x) q) c.cut-cut.ensures.same in
+    let found = c.item.ensures.item ∙ ap (λ x. item_at (parsed x) q) c.cut.ensures.same in
     let some = ap is_some (sym found) ∙ c.if-is_none.ensures in
     let below = below_by own.planned is.faultless own.slots.items q some in
-    let number = c.piece_number_at-k.ensures ∙ ap (λ x. piece_number_at (parsed x).objects q) c.cut-cut.ensures.same in
+    let number = c.piece_number_at-k.ensures ∙ ap (λ (x : SettledLayout). piece_number_at (parsed x.inputs).objects q) (sym c.self.view_is) in
     let first = c.index-2.ensures ∙ kept_address inputs own.slots.items own.addresses.items is.addresses_are k c.index-2.result.now (omega (arith, number, below)) in
     let second = c.index.ensures ∙ kept_address inputs own.slots.items own.addresses.items is.addresses_are (k + 1) c.index.result.now (omega (arith, number, below)) in
     (λ j. Some (second j - first j))
