@@ -1,5 +1,5 @@
 -- Runs of the symbolic machine, one step at a time.
-use Rattle.std.proofs.Common.{◌≡◌, ℕ, zero, suc, ◌+◌, ◌<◌, List, [], ◌∷◌, ◌++◌, Some, None, Ok, Err, refl, ap, sym, ◌∙◌, arith}
+use Rattle.std.proofs.Common.{◌≡◌, ℕ, zero, suc, ◌+◌, ◌-◌, ◌<◌, ◌≤◌, List, [], ◌∷◌, ◌++◌, Option, Some, None, Ok, Err, refl, ap, sym, ◌∙◌, arith}
 use Rattle.std.proofs.lemmas.List.{append-nil}
 use Rattle.std.proofs.lemmas.List.Concat.{flat_map-append}
 use Rattle.zc_base.specs.declared.place.Place.{Place}
@@ -18,7 +18,7 @@ use Rattle.sym_machine.specs.Change.{Change, Does, Goes, Stops, item_does}
 use Rattle.sym_machine.specs.Kept.{IsOf}
 use Rattle.sym_machine.specs.Program.{Program}
 use Rattle.sym_machine.specs.Run.{plain_turn, program_after, recorded}
-use Rattle.sym_machine.specs.RunEnd.{Traced, plain_course}
+use Rattle.sym_machine.specs.RunEnd.{IsCounted, Traced, plain_course}
 use Rattle.sym_machine.specs.State.{PlainCore, PlainState, first_plain}
 use Rattle.sym_machine.specs.Step.{PlainStep, Went, Stuck, after_change, ends, applied, plain_step}
 use Rattle.sym_machine.proofs.StepLaws.{Ended, ended, extents-step, step_past_exit, step_running}
@@ -74,6 +74,23 @@ all_stay p (suc n) r r' status exited h =
     let one = stays p r first.0 status exited first.1 in
     let rest = all_stay p n first.0 r' status (ap (λ s. s.exit) one.0 ∙ exited) first.2 in
     (rest.0 ∙ one.0, rest.1 ∙ one.1)
+
+-- a program that hasn't exited after some steps hadn't before
+pub running_before :
+    (p : Program) (input : List ℕ) (count k : ℕ) (r s : PlainState) → program_after p input count ≡ Ok r → r.core.exit ≡ None → k ≤ count
+    → program_after p input k ≡ Ok s → s.core.exit ≡ None
+unfolding program_after
+running_before p input count k r s at running within before =
+    let start : PlainState = record { core = first_plain p input; events = [] } in
+    let sum : k + (count - k) ≡ count = omega (arith, within) in
+    let rest : iterate (plain_turn p) (count - k) s ≡ Ok r =
+    sym (ap (λ q. q >>= iterate (plain_turn p) (count - k)) before) ∙ sym (iterate-add (plain_turn p) k (count - k) start)
+    ∙ ap (λ n. iterate (plain_turn p) n start) sum ∙ at in
+    by rest s.core.exit refl
+  where
+    by : iterate (plain_turn p) (count - k) s ≡ Ok r → (e : Option ℕ) → s.core.exit ≡ e → s.core.exit ≡ None
+    by rest None is = is
+    by rest (Some status) is = let same = all_stay p (count - k) s r status is rest in ap (λ c. c.exit) (sym same.0) ∙ running
 
 -- ---- a turn, put together
 
@@ -204,6 +221,24 @@ module _ (p : Program) (input : List ℕ) (count : ℕ) (s : PlainCore) (before 
         state = more s' (Exit status) went;
         exit = exit;
         wrote = wrote_more came.events (Exit status) before now now came.wrote (Wrote-none now);
+      }
+
+      -- and no step before it was one
+      pub counted : (s' : PlainCore) (status : ℕ) → s'.exit ≡ Some status → plain_step p s ≡ Went s' (Exit status ∷ [])
+          → IsCounted (plain_course p input steps) (count + 1) status before now
+      counted s' status exit went = record {
+        bytes = written_to 1 (came.events ++ Exit status ∷ []);
+        exits = record {
+          within = omega arith;
+          last = record { core = s'; events = came.events ++ Exit status ∷ [] };
+          state = more s' (Exit status) went;
+          status = exit;
+          bytes = refl;
+          first = λ k r earlier after. running_before p input count k (record { core = s; events = came.events }) r came.so_far came.running (omega (arith, earlier)) after;
+        };
+        events = came.events;
+        event = refl;
+        wrote = (wrote_more came.events (Exit status) before now now came.wrote (Wrote-none now)).out;
       }
 
       -- a step that is stuck

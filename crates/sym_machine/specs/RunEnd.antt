@@ -1,9 +1,11 @@
 -- How a run of the symbolic machine ends, and what it has then written.
-use Rattle.std.specs.Prelude.{ℕ, List}
+use Rattle.std.specs.Prelude.{◌≡◌, ℕ, List, [], ◌∷◌, ◌++◌, ⊤}
 use Rattle.zc_base.specs.declared.place.Place.{Place}
 use Rattle.rv_decode.specs.EventBytes.{written_to}
-use Rattle.zc_outside.specs.Course.{Course, EndsAfter, EndsEarly, EndsWithExit, EndsWithRefusal, EndsWithStop}
+use Rattle.rv_decode.specs.State.{Event, Exit}
+use Rattle.zc_outside.specs.Course.{Course, EndsAfter, EndsEarly, EndsWithExit, EndsWithRefusal, EndsWithStop, ExitsAt}
 use Rattle.zc_outside.specs.Desk.{Desk}
+use Rattle.zc_outside.specs.Streams.{Adds}
 use Rattle.sym_machine.specs.declared.run.TraceEnd.{TraceEnd}
 use Rattle.sym_machine.specs.declared.run.TraceEnd.TheVariants as end
 use Rattle.sym_machine.specs.declared.why.Why.{Why}
@@ -28,3 +30,19 @@ Traced run (end.Stuck place why) before after = EndsWithStop run (place, why) be
 Traced run end.Spent before after = EndsAfter run run.steps before after
 Traced run (end.Console fault) before after = EndsWithRefusal run fault before after
 Traced run end.OutOfMemory before after = EndsEarly run before after
+
+-- the exit came after so many steps and no fewer: it is the last event, and what the program has then written to its output stands
+pub record IsCounted (run : Course PlainState (Place × Why)) (count status : ℕ) (before after : Desk) : Type 0 where
+  pub bytes : List ℕ
+  pub exits : ExitsAt run count (record { bytes = bytes; status = status })
+  pub events : List Event
+  pub event : exits.last.events ≡ events ++ Exit status ∷ []
+  pub wrote : Adds before.out after.out bytes
+
+-- so it is of a run that came to an exit; of other ends the count says nothing
+abbrev pub CountsSteps : Course PlainState (Place × Why) → TraceEnd → ℕ → Desk → Desk → Type 0
+CountsSteps run (end.Exited status) count before after = IsCounted run count status before after
+CountsSteps run (end.Stuck place why) count before after = ⊤
+CountsSteps run end.Spent count before after = ⊤
+CountsSteps run (end.Console fault) count before after = ⊤
+CountsSteps run end.OutOfMemory count before after = ⊤

@@ -4,7 +4,7 @@ ghost use Rattle.std.specs.Prelude.{◌≡◌, true, OnOk, OnErr, IfErr};
 ghost use Rattle.psabi_sym.specs.Inputs.{parsed};
 ghost use Rattle.sym_machine.specs.Change.{is_output};
 ghost use Rattle.sym_machine.specs.Objects.{program_of};
-ghost use Rattle.sym_machine.specs.RunEnd.{Traced, plain_course};
+ghost use Rattle.sym_machine.specs.RunEnd.{CountsSteps, Traced, plain_course};
 ghost use Rattle.sym_machine.specs.State.{first_plain};
 ghost use Rattle.zc_outside.specs.Course.{WrotePart, WroteTo};
 ghost use Rattle.zc_outside.specs.Desk.{OnlyWrites, WriteCause};
@@ -35,22 +35,39 @@ pub fn run<C: Console>(sym: &mut Sym, cut: &Cut, steps: u64, console: &mut C) ->
         (C.shown console.old) (C.shown console.new) }
     ensures writes { OnlyWrites (C.shown console.old) (C.shown console.new) }
 {
-    for _turn in 0..steps {
+    run_counted(sym, cut, steps, console).0
+}
+
+/// Runs the symbolic machine as `run` does, and says how many steps it made, of which an exit is one.
+pub fn run_counted<C: Console>(
+    sym: &mut Sym,
+    cut: &Cut,
+    steps: u64,
+    console: &mut C,
+) -> (TraceEnd, u64)
+    requires start { sym.old ≡ first_plain (program_of (parsed cut.now)) sym.old.input }
+    ensures ran { Traced (plain_course (program_of (parsed cut.now)) sym.old.input steps) result.0
+        (C.shown console.old) (C.shown console.new) }
+    ensures count { CountsSteps (plain_course (program_of (parsed cut.now)) sym.old.input steps) result.0 result.1
+        (C.shown console.old) (C.shown console.new) }
+    ensures writes { OnlyWrites (C.shown console.old) (C.shown console.new) }
+{
+    for turn in 0..steps {
         let Ok(step) = sym.step(cut) else {
-            return TraceEnd::OutOfMemory;
+            return (TraceEnd::OutOfMemory, turn);
         };
         match step {
             SymStep::Done | SymStep::Read { .. } => {}
             SymStep::Wrote { fd, bytes } => {
                 if let Err(fault) = write_to(console, fd, &bytes) {
-                    return TraceEnd::Console(fault);
+                    return (TraceEnd::Console(fault), turn);
                 }
             }
-            SymStep::Exited(status) => return TraceEnd::Exited(status),
-            SymStep::Stuck(place, why) => return TraceEnd::Stuck(place, why),
+            SymStep::Exited(status) => return (TraceEnd::Exited(status), turn + 1),
+            SymStep::Stuck(place, why) => return (TraceEnd::Stuck(place, why), turn),
         }
     }
-    TraceEnd::Spent
+    (TraceEnd::Spent, steps)
 }
 
 // Writes bytes to the stream with a number.

@@ -12,3 +12,4 @@ pub mod FrameLaws
 pub mod TurnLaws
 pub mod OutputLaws
 pub mod RunLaws
+pub mod CountLaws

@@ -1,7 +1,8 @@
 -- The machine's first state (System V gABI, "Program Loading").
 use Rattle.std.specs.Prelude.{ℕ, ◌-◌, if◌then◌else◌, List, [], ◌∷◌, ◌++◌, None, length, map}
 use Rattle.zc_base.specs.declared.mem_map.MemMap.{MemMap}
-use Rattle.elf32_read.specs.Segments.{SegmentData}
+use Rattle.elf32_read.specs.Header.{entry_address}
+use Rattle.elf32_read.specs.Segments.{SegmentData, segments_of}
 use Rattle.rv_decode.specs.Memory.{Region, Text, Data, Stack, blank}
 use Rattle.rv_decode.specs.State.{ZcCore, start_regs}
 
@@ -24,3 +25,7 @@ first_core entry segments m = record {
   commits = 0;
   exit = None;
 }
+
+-- an image's first state in a map
+abbrev pub first_core_of : List ℕ → MemMap → ZcCore
+first_core_of image m = first_core (entry_address image) (segments_of image) m

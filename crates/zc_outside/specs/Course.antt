@@ -68,3 +68,34 @@ pub record EndsWithRefusal {State Stop : Type 0} (run : Course State Stop) (faul
   pub write : (number : ℕ) → run.written next number ≡ run.written early.made.last number ++ sent stream bytes number
   pub wrote : WrotePart stream bytes between after
   pub cause : WriteCause before after fault
+
+-- ---- ends, whatever a console shows of them
+
+-- an exit: what the program has then written to its output, and its status
+pub record Exit : Type 0 where
+  pub bytes : List ℕ
+  pub status : ℕ
+
+-- the program comes to this exit after so many steps and no fewer, within those that it may make
+pub record ExitsAt {State Stop : Type 0} (run : Course State Stop) (count : ℕ) (exit : Exit) : Type 0 where
+  pub within : count ≤ run.steps
+  pub last : State
+  pub state : run.after count ≡ Ok last
+  pub status : run.exit last ≡ Some exit.status
+  pub bytes : run.written last 1 ≡ exit.bytes
+  pub first : (k : ℕ) (s : State) → k < count → run.after k ≡ Ok s → run.exit s ≡ None
+
+-- all steps are made, and the program hasn't exited
+pub record IsSpent {State Stop : Type 0} (run : Course State Stop) : Type 0 where
+  pub last : State
+  pub state : run.after run.steps ≡ Ok last
+  pub running : run.exit last ≡ None
+
+-- fewer steps are made, after which the program hasn't exited, and the next step stops the machine
+pub record StopsWith {State Stop : Type 0} (run : Course State Stop) (stop : Stop) : Type 0 where
+  pub count : ℕ
+  pub within : count < run.steps
+  pub last : State
+  pub state : run.after count ≡ Ok last
+  pub running : run.exit last ≡ None
+  pub next : run.after (count + 1) ≡ Err stop

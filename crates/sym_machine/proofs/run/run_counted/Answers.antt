@@ -12,9 +12,9 @@ use Rattle.sym_machine.specs.Program.{Program}
 use Rattle.sym_machine.specs.RunEnd.{plain_course}
 use Rattle.sym_machine.specs.State.{PlainCore}
 use Rattle.sym_machine.specs.Step.{plain_step}
-use Rattle.sym_machine.proofs.RunLaws.{Came, came_done, came_first, came_read, came_wrote, exited, refused, stuck, traced}
-use Rattle.sym_machine.proofs.run.run.Goals as goal
-use Rattle.sym_machine.proofs.run.run.Goals.{in-Done, in-Wrote+in_default-write_to}
+use Rattle.sym_machine.proofs.RunLaws.{Came, came_done, came_first, came_read, came_wrote, counted, exited, refused, stuck, traced}
+use Rattle.sym_machine.proofs.run.run_counted.Goals as goal
+use Rattle.sym_machine.proofs.run.run_counted.Goals.{in-Done, in-Wrote+in_default-write_to}
 
 pub loop-turn-init : goal.loop-turn-init
 loop-turn-init g c =
@@ -29,7 +29,7 @@ loop-turn-preserved g c =
     let p : Program = program_of (parsed c.args.cut.now) in
     let input = c.args.sym.now.input in
     let shown = g.C.Console.shown in
-    let n = c.loop-turn._turn in
+    let n = c.loop-turn.turn in
     let s : PlainCore = c.loop-turn.sym in
     let s' : PlainCore = c.step.new.self in
     let first = shown c.args.console.now in
@@ -69,7 +69,7 @@ returns-in-Err-clause-ran g c =
     let part : WrotePart fd c.in-Wrote.bytes.items (g.C.Console.shown c.loop-turn.console) (g.C.Console.shown c.write_to.new.console) =
     subst (λ (l : List ℕ). WrotePart fd l (g.C.Console.shown c.loop-turn.console) (g.C.Console.shown c.write_to.new.console)) c.deref.ensures.value c.in-Err.ensures.err in
     let cause = WriteCause-after (g.C.Console.shown c.args.console.now) (g.C.Console.shown c.loop-turn.console) (g.C.Console.shown c.write_to.new.console) c.in-Err.fault c.loop-turn.invariant.writes c.in-Err.ensures.cause in
-    refused p input c.loop-turn._turn s _ _ c.loop-turn.invariant.came c.args.steps (omega arith) c.step.new.self fd c.in-Wrote.bytes.items (g.C.Console.shown c.write_to.new.console) c.in-Err.fault made.1.2 part cause
+    refused p input c.loop-turn.turn s _ _ c.loop-turn.invariant.came c.args.steps (omega arith) c.step.new.self fd c.in-Wrote.bytes.items (g.C.Console.shown c.write_to.new.console) c.in-Err.fault made.1.2 part cause
 
 pub returns-in-Exited-clause-ran : goal.returns-in-Exited-clause-ran
 returns-in-Exited-clause-ran g c =
@@ -79,7 +79,19 @@ returns-in-Exited-clause-ran g c =
     let made : StepAnswers (plain_step p s) (answer.Exited c.in-Exited.status) s c.step.new.self =
     subst (λ (a : SymStep). StepAnswers (plain_step p s) a s c.step.new.self) c.in-Exited.is c.in-Ok.ensures.makes in
     ⊎_elim
-    (λ now. exited p input c.loop-turn._turn s _ _ c.loop-turn.invariant.came c.args.steps (omega arith) c.step.new.self c.in-Exited.status now.1 now.2)
+    (λ now. exited p input c.loop-turn.turn s _ _ c.loop-turn.invariant.came c.args.steps (omega arith) c.step.new.self c.in-Exited.status now.1 now.2)
+    (λ before. absurd (let running = c.loop-turn.invariant.came.running in cc))
+    made
+
+pub returns-in-Exited-clause-count : goal.returns-in-Exited-clause-count
+returns-in-Exited-clause-count g c =
+    let p : Program = program_of (parsed c.args.cut.now) in
+    let input = c.args.sym.now.input in
+    let s : PlainCore = c.loop-turn.sym in
+    let made : StepAnswers (plain_step p s) (answer.Exited c.in-Exited.status) s c.step.new.self =
+    subst (λ (a : SymStep). StepAnswers (plain_step p s) a s c.step.new.self) c.in-Exited.is c.in-Ok.ensures.makes in
+    ⊎_elim
+    (λ now. counted p input c.loop-turn.turn s _ _ c.loop-turn.invariant.came c.args.steps (omega arith) c.step.new.self c.in-Exited.status now.1 now.2)
     (λ before. absurd (let running = c.loop-turn.invariant.came.running in cc))
     made
 
@@ -90,12 +102,12 @@ returns-in-Stuck-clause-ran g c =
     let s : PlainCore = c.loop-turn.sym in
     let made : StepAnswers (plain_step p s) (answer.Stuck c.in-Stuck.place c.in-Stuck.why) s c.step.new.self =
     subst (λ (a : SymStep). StepAnswers (plain_step p s) a s c.step.new.self) c.in-Stuck.is c.in-Ok.ensures.makes in
-    stuck p input c.loop-turn._turn s _ _ c.loop-turn.invariant.came c.args.steps (omega arith) c.in-Stuck.place c.in-Stuck.why made.2 made.3
+    stuck p input c.loop-turn.turn s _ _ c.loop-turn.invariant.came c.args.steps (omega arith) c.in-Stuck.place c.in-Stuck.why made.2 made.3
 
 pub returns-clause-ran : goal.returns-clause-ran
 returns-clause-ran g c =
     let p : Program = program_of (parsed c.args.cut.now) in
     let input = c.args.sym.now.input in
-    let all : c.loop-turn._turn ≡ c.args.steps = omega arith in
+    let all : c.loop-turn.turn ≡ c.args.steps = omega arith in
     subst (λ (n : ℕ). EndsAfter (plain_course p input c.args.steps) n (g.C.Console.shown c.args.console.now) (g.C.Console.shown c.loop-turn.console)) all
-    (traced p input c.loop-turn._turn c.loop-turn.sym _ _ c.loop-turn.invariant.came c.args.steps)
+    (traced p input c.loop-turn.turn c.loop-turn.sym _ _ c.loop-turn.invariant.came c.args.steps)
