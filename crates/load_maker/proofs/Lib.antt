@@ -1,0 +1,13 @@
+pub mod BodyLaws
+pub mod CodeLaws
+pub mod FaultlessLaws
+pub mod FileLaws
+pub mod GatherLaws
+pub mod MadeLaws
+pub mod NamedLaws
+pub mod OperationLaws
+pub mod RelocLaws
+pub mod StartLaws
+pub mod SymbolLaws
+pub mod WritableLaws
+pub mod WrittenLaws

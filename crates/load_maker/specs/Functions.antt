@@ -1,0 +1,95 @@
+-- The generated functions: each by its number, and by the state of the draws before its own.
+use Rattle.std.specs.Prelude.{ℕ, zero, suc, pos, negsuc, ◌+◌, ◌%◌, ◌-ℤ◌, Bool, true, false, ◌&&◌, ◌==◌, nat_lt, if◌then◌else◌, List, [], ◌∷◌, ◌++◌, map}
+use Rattle.zc_base.specs.Draws.{drawn, stepped}
+use Rattle.rv_decode.specs.declared.instr.Instr.{Instr}
+use Rattle.load_maker.specs.Instructions.{add, addi, beq, jalr, lui, lw, slli, srai, sub, sw, xor, xori}
+use Rattle.load_maker.specs.declared.frame.Frame.{Frame}
+use Rattle.load_maker.specs.declared.frame.Frame.TheVariants.{Both, ReturnAddress, Leaf}
+use Rattle.load_maker.specs.declared.register.Register.TheVariants.{Zero, Ra, Sp, S0, A0, A1}
+use Rattle.load_maker.specs.declared.statement.Statement.{Statement}
+use Rattle.load_maker.specs.declared.statement.Statement.TheVariants.{Plain, Call}
+
+-- ---- parts of a function
+
+-- what it keeps on the stack, by a number below 3
+abbrev pub frame_of : ℕ → Frame
+frame_of n = if n == 0 then Both else (if n == 1 then ReturnAddress else Leaf)
+
+-- how it begins
+abbrev pub opening : Frame → List Instr
+opening Both = addi Sp Sp (negsuc 15) ∷ sw S0 (pos 12) Sp ∷ sw Ra (pos 8) Sp ∷ addi S0 A0 (pos 0) ∷ []
+opening ReturnAddress = addi Sp Sp (negsuc 15) ∷ sw Ra (pos 12) Sp ∷ []
+opening Leaf = []
+
+-- an operation on its value, by a number below 6 and one below 2,048
+abbrev pub operation : ℕ → ℕ → List Instr
+operation kind value =
+    if kind == 0 then addi A0 A0 (pos value -ℤ pos 1024) ∷ [] else
+    (if kind == 1 then xori A0 A0 (pos value) ∷ [] else
+    (if kind == 2 then slli A0 A0 (pos (1 + value % 3)) ∷ [] else
+    (if kind == 3 then addi A1 A0 (pos (value % 32)) ∷ add A0 A0 A1 ∷ [] else
+    (if kind == 4 then lui A1 value ∷ sub A0 A0 A1 ∷ [] else
+    srai A0 A0 (pos (1 + value % 3)) ∷ []))))
+
+-- so many operations, each by two draws, and the state after these
+abbrev pub operations : ℕ → ℕ → List Instr
+operations zero x = []
+operations (suc m) x =
+    operation (drawn (stepped x) % 6) (drawn (stepped (stepped x)) % 2048) ++ operations m (stepped (stepped x))
+
+abbrev pub after_operations : ℕ → ℕ → ℕ
+after_operations zero x = x
+after_operations (suc m) x = after_operations m (stepped (stepped x))
+
+-- one more, unless its value is 0
+abbrev pub increment : List Instr
+increment = beq A0 Zero (pos 8) ∷ addi A0 A0 (pos 1) ∷ []
+
+-- it calls another if it keeps ra, and there are functions before it
+abbrev pub keeps_ra : Frame → Bool
+keeps_ra Both = true
+keeps_ra ReturnAddress = true
+keeps_ra Leaf = false
+
+abbrev pub calls : Frame → ℕ → Bool
+calls frame i = keeps_ra frame && nat_lt 0 i
+
+-- the call of a function before it, by one draw, and the state after that
+abbrev pub call : Frame → ℕ → ℕ → List Statement
+call frame i x = if calls frame i then Call (drawn (stepped x) % i) ∷ [] else []
+
+abbrev pub after_call : Frame → ℕ → ℕ → ℕ
+after_call frame i x = if calls frame i then stepped x else x
+
+-- how it ends
+abbrev pub closing : Frame → List Instr
+closing Both = xor A0 A0 S0 ∷ lw S0 (pos 12) Sp ∷ lw Ra (pos 8) Sp ∷ addi Sp Sp (pos 16) ∷ jalr Zero (pos 0) Ra ∷ []
+closing ReturnAddress = lw Ra (pos 12) Sp ∷ addi Sp Sp (pos 16) ∷ jalr Zero (pos 0) Ra ∷ []
+closing Leaf = jalr Zero (pos 0) Ra ∷ []
+
+-- ---- a function
+
+-- its frame is the first draw's, and how many operations it has the second's; then come the operations' draws
+abbrev pub frame_at : ℕ → Frame
+frame_at x = frame_of (drawn (stepped x) % 3)
+
+abbrev pub operation_count : ℕ → ℕ
+operation_count x = 4 + drawn (stepped (stepped x)) % 8
+
+abbrev pub before_call : ℕ → ℕ
+before_call x = after_operations (operation_count x) (stepped (stepped x))
+
+-- its statements
+abbrev pub function_statements : ℕ → ℕ → List Statement
+function_statements i x =
+    map Plain (opening (frame_at x) ++ operations (operation_count x) (stepped (stepped x)) ++ increment)
+    ++ call (frame_at x) i (before_call x) ++ map Plain (closing (frame_at x))
+
+-- the state after it
+abbrev pub after_function : ℕ → ℕ → ℕ
+after_function i x = after_call (frame_at x) i (before_call x)
+
+-- so many functions, from one on
+abbrev pub functions_from : ℕ → ℕ → ℕ → List (List Statement)
+functions_from zero i x = []
+functions_from (suc n) i x = function_statements i x ∷ functions_from n (i + 1) (after_function i x)

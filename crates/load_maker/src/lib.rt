@@ -1,0 +1,14 @@
+//! Objects that are generated from a number: a large valid input.
+#![tactic(auto)]
+
+mod body;
+pub mod fault;
+mod frame;
+mod functions;
+mod instrs;
+pub mod make_objects;
+mod objects;
+mod register;
+mod sections;
+mod statement;
+mod symbols;

@@ -1,0 +1,63 @@
+// A large valid input.
+
+ghost use Rattle.std.specs.Prelude.{◌≡◌, ◌*◌, ◌^◌, ◌<◌, ◌≤◌, length, None, Err, IfOk};
+ghost use Rattle.zc_base.specs.MemMap.{standard_map};
+ghost use Rattle.psabi_sym.specs.Objects.{contents_of};
+ghost use Rattle.block_cut.specs.Faults.{first_fault};
+ghost use Rattle.load_maker.specs.Objects.{group, made_objects};
+ghost use Rattle.load_maker.specs.declared.fault.MakeFault.TheVariants.{TooMany};
+
+use crate::body::Body;
+use crate::fault::MakeFault;
+use crate::functions::functions as make_functions;
+use crate::objects::{function_object, start_object};
+use elf32_write::write_object::write_object;
+use std::alloc::{AllocError, Global};
+
+/// The most functions that are made: they take 200 objects, beside the one where the program starts.
+pub const MOST_FUNCTIONS: u32 = 1600;
+
+// How many functions an object has, if there are as many left.
+const IN_ONE_OBJECT: u32 = 8;
+
+// The functions of an object.
+#[tactic(auto, using(crate::proofs::FileLaws::group_slice))]
+fn group_of(bodies: &[Body], k: u32) -> &[Body]
+    requires small { k < 2 ^ 28 }
+    requires within { 8 * k ≤ length bodies.now }
+    ensures { result.now ≡ group bodies.now k }
+{
+    let first = (IN_ONE_OBJECT * k) as usize;
+    let end = bodies.len().min(first + IN_ONE_OBJECT as usize);
+    &bodies[first..end]
+}
+
+// The files of the objects.
+fn files(alloc: Global, number: u64, functions: u32) -> Result<Vec<Vec<u8>>, AllocError>
+    requires { functions ≤ 1600 }
+    ensures { IfOk result (λ files. contents_of files.items ≡ made_objects number functions) }
+{
+    let bodies = make_functions(alloc, number, functions)?;
+    let mut files = Vec::new(alloc);
+    files.push(write_object(alloc, &start_object(alloc, number, functions)?)?)?;
+    for k in 0..functions.div_ceil(IN_ONE_OBJECT) {
+        let parts = function_object(alloc, IN_ONE_OBJECT * k, group_of(&bodies, k))?;
+        files.push(write_object(alloc, &parts)?)?;
+    }
+    Ok(files)
+}
+
+/// The objects of so many functions, from a number: one where the program starts, which calls them all in order, and
+/// then one for each eight of them.
+pub fn make_objects(alloc: Global, number: u64, functions: u32) -> Result<Vec<Vec<u8>>, MakeFault>
+    ensures objects { IfOk result (λ files. contents_of files.items ≡ made_objects number functions) }
+    ensures faultless { IfOk result (λ files.
+        first_fault (record { files = contents_of files.items; map = standard_map }) ≡ None) }
+    ensures too_many { 1600 < functions → result ≡ Err TooMany }
+    ensures only { result ≡ Err TooMany → 1600 < functions }
+{
+    if functions > MOST_FUNCTIONS {
+        return Err(MakeFault::TooMany);
+    }
+    Ok(files(alloc, number, functions)?)
+}

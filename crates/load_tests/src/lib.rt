@@ -1,0 +1,10 @@
+//! Tests of what the command `make` generates, by the public calls of `load_maker` and `interrupt_plan`, and of
+//! reports. They stand apart, since a crate with tests is proved twice.
+#![tactic(auto)]
+
+#[cfg(test)]
+mod objects;
+#[cfg(test)]
+mod plans;
+#[cfg(test)]
+mod reports;
