@@ -1,0 +1,37 @@
+-- The report of a link, line by line.
+use Rattle.std.specs.Prelude.{ℕ, List, [], ◌∷◌, ◌++◌, codes, length, map}
+use Rattle.zc_base.specs.declared.counts.Counts.{Counts}
+use Rattle.pick_check.specs.declared.saving.Saving.{Saving}
+use Rattle.pick_check.specs.Certified.{Certified}
+use Rattle.pick_check.specs.Text.{line_with, net_line, saving_line, slot_line, text_of}
+
+-- a name and a count
+abbrev pub count_line : List ℕ → ℕ → List ℕ
+count_line name n = line_with name (n ∷ [])
+
+-- the lengths of both texts, and what the Zc link counts
+abbrev pub count_lines : Counts → Counts → List (List ℕ)
+count_lines plain zc =
+    count_line (codes "plain text") plain.text ∷
+    count_line (codes "zc text") zc.text ∷
+    count_line (codes "items") zc.items ∷
+    count_line (codes "short") zc.short ∷
+    count_line (codes "long") zc.long ∷
+    count_line (codes "push") zc.pushes ∷
+    count_line (codes "pop") zc.pops ∷
+    count_line (codes "move") zc.moves ∷
+    count_line (codes "table") zc.table ∷
+    []
+
+-- how many slots the jump table has, holes with them, and what it saves; then the certificate's savings and slots
+abbrev pub table_lines : List Saving → Certified → List (List ℕ)
+table_lines savings certificate =
+    count_line (codes "slots") (length certificate.slots) ∷
+    net_line certificate.net ∷
+    (map saving_line savings ++ map slot_line certificate.slots)
+
+abbrev pub report_lines : Counts → Counts → List Saving → Certified → List (List ℕ)
+report_lines plain zc savings certificate = count_lines plain zc ++ table_lines savings certificate
+
+unfoldable pub report_text : Counts → Counts → List Saving → Certified → List ℕ
+report_text plain zc savings certificate = text_of (report_lines plain zc savings certificate)
