@@ -1,0 +1,145 @@
+-- The command that the words of the command line spell, by clap's own definition of how such a command reads words.
+use Rattle.std.specs.Prelude.{ℕ, ◌-◌, ◌^◌, if◌then◌else◌, List, [], ◌∷◌, ◌++◌, map, find, Option, Some, None, String, unwrap_or}
+use Rattle.std.specs.Option.{option_and_then, option_copied, option_map}
+use Rattle.std.specs.Str.{bytes_eq}
+use Rattle.std.specs.String.{string_bytes}
+use Rattle.clap.specs.Faults.{fault_of}
+use Rattle.clap.specs.Kinds.{Kinds}
+use Rattle.clap.specs.Simple.{App, subcommand_of}
+use Rattle.clap.specs.Walk.{Row, Text, all_of, first_of}
+use Rattle.command_words.specs.declared.command_line.TheConstants.{MOST_FUNCTIONS, MOST_STEPS, USUAL_STEPS}
+use Rattle.command_words.specs.declared.command_line.CommandLine.{CommandLine}
+use Rattle.command_words.specs.declared.command_line.CommandLine.TheVariants as line
+use Rattle.command_words.specs.declared.command_line.MakeArgs.{MakeArgs}
+use Rattle.command_words.specs.declared.command_line.RunArgs.{RunArgs}
+use Rattle.command_words.specs.Number.{number_up_to}
+use Rattle.command_words.specs.Table.{OptionSyntax, PositionalSyntax, Syntax, check_syntax, make_syntax, plain_syntax, program_app, run_syntax, trace_syntax, zc_syntax}
+
+-- a command, with the names of its files and its numbers
+pub data Command : Type 0 where
+  Plain : (out : Text) (objects : List Text) → Command
+  Zc : (out cert : Text) (objects : List Text) → Command
+  Run : (plan : Option Text) (steps : ℕ) (image : Text) → Command
+  Trace : (steps : ℕ) (objects : List Text) → Command
+  Check : (cert : Text) → Command
+  Make : (prefix : Option Text) (number functions : ℕ) → Command
+
+-- ---- what clap reads
+
+-- what is found, if nothing is at fault
+abbrev pub if_faultless : Kinds → Option (Text × List Row) → Option (Text × List Row)
+if_faultless [] found = found
+if_faultless (kind ∷ kinds) found = None
+
+-- the name of the subcommand, and what is found of its arguments, if no step of the reading fails
+unfoldable pub read_by_clap : App → List Text → Option (Text × List Row)
+read_by_clap app words = if_faultless (fault_of app words) (subcommand_of app words)
+
+-- the values of a command's options, in its order, and its positional words
+pub data Spelled : Type 0 where
+  Words : (values : List (Option Text)) (positional : List Text) → Spelled
+
+-- the positional words of one name
+abbrev pub words_at : PositionalSyntax → List Row → List Text
+words_at positional rows =
+    if positional.several then unwrap_or (all_of positional.name rows) []
+    else unwrap_or (option_map (λ word. word ∷ []) (first_of positional.name rows)) []
+
+-- all positional words
+abbrev pub words_in : List PositionalSyntax → List Row → List Text
+words_in [] rows = []
+words_in (p ∷ []) rows = words_at p rows
+words_in (p ∷ q ∷ ps) rows = words_at p rows ++ words_in (q ∷ ps) rows
+
+-- the values of options
+abbrev pub values_in : List OptionSyntax → List Row → List (Option Text)
+values_in options rows = map (λ option. first_of option.name rows) options
+
+-- what is found of a command's options and positional words
+abbrev pub found_in : Syntax → List Row → Spelled
+found_in form rows = Words (values_in form.options rows) (words_in form.positionals rows)
+
+-- ---- what it means
+
+-- the steps that an option's value allows, or the usual ones without it
+abbrev pub steps_given : Option Text → Option ℕ
+steps_given (Some word) = number_up_to MOST_STEPS word
+steps_given None = Some USUAL_STEPS
+
+-- `plain` of its objects
+abbrev pub plain_of : Spelled → Option Command
+plain_of (Words (Some out ∷ []) objects) = Some (Plain out objects)
+plain_of other = None
+
+-- `zc`, whose OUT and CERT differ
+abbrev pub zc_of : Spelled → Option Command
+zc_of (Words (Some out ∷ Some cert ∷ []) objects) = if bytes_eq out cert then None else Some (Zc out cert objects)
+zc_of other = None
+
+-- `run` of its image, under the plan if there is one
+abbrev pub run_of : Spelled → Option Command
+run_of (Words (plan ∷ steps ∷ []) (image ∷ [])) = option_map (λ n. Run plan n image) (steps_given steps)
+run_of other = None
+
+-- `trace` of its objects
+abbrev pub trace_of : Spelled → Option Command
+trace_of (Words (steps ∷ []) objects) = option_map (λ n. Trace n objects) (steps_given steps)
+trace_of other = None
+
+-- `check` of its certificate
+abbrev pub check_of : Spelled → Option Command
+check_of (Words [] (cert ∷ [])) = Some (Check cert)
+check_of other = None
+
+-- `make` from a number of 64 bits
+abbrev pub make_of : Spelled → Option Command
+make_of (Words (prefix ∷ []) (number ∷ functions ∷ [])) =
+    option_and_then (λ n. option_map (λ f. Make prefix n f) (number_up_to MOST_FUNCTIONS functions))
+    (number_up_to (2 ^ 64 - 1) number)
+make_of other = None
+
+-- a command's syntax, and which command it is with these words
+pub record Meaning : Type 0 where
+  pub form : Syntax
+  pub command : Spelled → Option Command
+
+abbrev pub meanings : List Meaning
+meanings =
+    record { form = plain_syntax; command = plain_of } ∷ record { form = zc_syntax; command = zc_of }
+    ∷ record { form = run_syntax; command = run_of } ∷ record { form = trace_syntax; command = trace_of }
+    ∷ record { form = check_syntax; command = check_of } ∷ record { form = make_syntax; command = make_of } ∷ []
+
+-- the meaning of a command's name
+abbrev pub meaning_of : Text → Option Meaning
+meaning_of name = find (λ m. bytes_eq name m.form.name) meanings
+
+-- the command of a subcommand's name and of what is found of its arguments
+abbrev pub meaning : Text → List Row → Option Command
+meaning name rows = option_and_then (λ m. m.command (found_in m.form rows)) (meaning_of name)
+
+-- the command that words spell
+abbrev pub command_of : List Text → Option Command
+command_of words = option_and_then (λ found. meaning found.0 found.1) (read_by_clap program_app words)
+
+-- ---- as the program holds them
+
+-- the words as texts
+abbrev pub texts : {A : Type 0} → List (String A) → List Text
+texts words = map string_bytes words
+
+-- the words of `run`
+abbrev pub run_meant : RunArgs → Command
+run_meant args = Run (option_copied args.plan) args.steps args.image.now
+
+-- the words of `make`
+abbrev pub make_meant : MakeArgs → Command
+make_meant args = Make (option_copied args.prefix) args.number args.functions
+
+-- a command
+abbrev pub meant : CommandLine → Command
+meant (line.Plain out objects) = Plain out.now (texts objects.items)
+meant (line.Zc out cert objects) = Zc out.now cert.now (texts objects.items)
+meant (line.Run args) = run_meant args
+meant (line.Trace steps objects) = Trace steps (texts objects.items)
+meant (line.Check cert) = Check cert.now
+meant (line.Make args) = make_meant args

@@ -1,0 +1,5 @@
+-- Read in this order.
+pub mod Table
+pub mod Number
+pub mod Command
+pub mod PlainForm

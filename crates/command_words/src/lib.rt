@@ -1,0 +1,8 @@
+//! The words of the command line, read with `clap`: the command that they spell, if they spell one.
+#![tactic(auto)]
+
+mod app;
+pub mod command_line;
+mod number;
+pub mod read;
+mod table;

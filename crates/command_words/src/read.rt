@@ -1,0 +1,175 @@
+// The command that words spell.
+
+ghost use Rattle.std.specs.Prelude.{◌≡◌, IfOk, [], codes, map, option_map, unwrap_or};
+ghost use Rattle.std.specs.Option.{option_copied};
+ghost use Rattle.clap.specs.Matches.{found_of};
+ghost use Rattle.clap.specs.Walk.{all_of, first_of, rows_of};
+ghost use Rattle.command_words.specs.Command.{check_of, command_of, found_in, make_of, meaning, meant, plain_of, run_of, steps_given, texts, trace_of, zc_of};
+ghost use Rattle.command_words.specs.PlainForm.{IsReadAsPlain};
+ghost use Rattle.command_words.specs.Table.{check_syntax, make_syntax, plain_syntax, run_syntax, trace_syntax, zc_syntax};
+
+use crate::app::program_app;
+use crate::command_line::{
+    CommandLine, MOST_FUNCTIONS, MOST_STEPS, MakeArgs, RunArgs, USUAL_STEPS,
+};
+use crate::number::number_in;
+use clap::ArgMatches;
+use clap::error::ErrorKind;
+use std::alloc::{AllocError, Global};
+
+/// The command that the words spell, if they spell one. The words are those after the program's own name. Memory
+/// may run out before it is known whether they spell one.
+#[tactic(auto, using(crate::proofs::PlainLaws::read_as_plain))]
+pub fn read(alloc: Global, words: &[String]) -> Result<Option<CommandLine<'_>>, AllocError>
+    ensures spells { IfOk result (λ c. option_map meant c ≡ command_of (texts words.now)) }
+    ensures plain { IsReadAsPlain (texts words.now) }
+{
+    let matches = match program_app(alloc)?.try_get_matches_from(words) {
+        Ok(matches) => matches,
+        Err(error) => {
+            return match error.kind() {
+                ErrorKind::OutOfMemory => Err(AllocError),
+                _ => Ok(None),
+            };
+        }
+    };
+    match matches.subcommand() {
+        Some((name, found)) => by_name(alloc, name, found),
+        None => Ok(None),
+    }
+}
+
+fn by_name<'a>(
+    alloc: Global,
+    name: &str,
+    found: &ArgMatches<'a>,
+) -> Result<Option<CommandLine<'a>>, AllocError>
+    ensures { IfOk result (λ c. option_map meant c ≡ meaning name.now (rows_of (found_of found.now))) }
+{
+    match name {
+        "plain" => plain(alloc, found),
+        "zc" => zc(alloc, found),
+        "run" => Ok(run(found)),
+        "trace" => trace(alloc, found),
+        "check" => Ok(check(found)),
+        "make" => Ok(make(found)),
+        _ => Ok(None),
+    }
+}
+
+fn plain<'a>(alloc: Global, found: &ArgMatches<'a>) -> Result<Option<CommandLine<'a>>, AllocError>
+    ensures { IfOk result (λ c.
+        option_map meant c ≡ plain_of (found_in plain_syntax (rows_of (found_of found.now)))) }
+{
+    let Some(out) = value(found, "out") else {
+        return Ok(None);
+    };
+    let objects = object_names(alloc, found)?;
+    Ok(Some(CommandLine::Plain { out, objects }))
+}
+
+// `zc`, unless the two files that it writes are one.
+fn zc<'a>(alloc: Global, found: &ArgMatches<'a>) -> Result<Option<CommandLine<'a>>, AllocError>
+    ensures { IfOk result (λ c.
+        option_map meant c ≡ zc_of (found_in zc_syntax (rows_of (found_of found.now)))) }
+{
+    let Some(out) = value(found, "out") else {
+        return Ok(None);
+    };
+    let Some(cert) = value(found, "cert") else {
+        return Ok(None);
+    };
+    if out == cert {
+        return Ok(None);
+    }
+    let objects = object_names(alloc, found)?;
+    Ok(Some(CommandLine::Zc { out, cert, objects }))
+}
+
+fn run<'a>(found: &ArgMatches<'a>) -> Option<CommandLine<'a>>
+    ensures { option_map meant result ≡ run_of (found_in run_syntax (rows_of (found_of found.now))) }
+{
+    let image = value(found, "IMAGE")?;
+    let steps = allowed_steps(found)?;
+    Some(CommandLine::Run(RunArgs {
+        plan: value(found, "plan"),
+        steps,
+        image,
+    }))
+}
+
+fn trace<'a>(alloc: Global, found: &ArgMatches<'a>) -> Result<Option<CommandLine<'a>>, AllocError>
+    ensures { IfOk result (λ c.
+        option_map meant c ≡ trace_of (found_in trace_syntax (rows_of (found_of found.now)))) }
+{
+    let Some(steps) = allowed_steps(found) else {
+        return Ok(None);
+    };
+    let objects = object_names(alloc, found)?;
+    Ok(Some(CommandLine::Trace { steps, objects }))
+}
+
+fn check<'a>(found: &ArgMatches<'a>) -> Option<CommandLine<'a>>
+    ensures { option_map meant result ≡ check_of (found_in check_syntax (rows_of (found_of found.now))) }
+{
+    let cert = value(found, "CERT")?;
+    Some(CommandLine::Check { cert })
+}
+
+fn make<'a>(found: &ArgMatches<'a>) -> Option<CommandLine<'a>>
+    ensures { option_map meant result ≡ make_of (found_in make_syntax (rows_of (found_of found.now))) }
+{
+    let number = value(found, "NUMBER")?;
+    let functions = value(found, "FUNCTIONS")?;
+    Some(CommandLine::Make(MakeArgs {
+        prefix: value(found, "out"),
+        number: number_in(number, u64::MAX)?,
+        functions: number_in(functions, MOST_FUNCTIONS)? as u32,
+    }))
+}
+
+// The steps that the option allows, or the usual ones without it.
+fn allowed_steps(found: &ArgMatches) -> Option<u64>
+    ensures { result ≡ steps_given (first_of (codes "steps") (rows_of (found_of found.now))) }
+{
+    match value(found, "steps") {
+        Some(word) => number_in(word, MOST_STEPS),
+        None => Some(USUAL_STEPS),
+    }
+}
+
+// The value of an option, or a positional word.
+fn value<'a>(found: &ArgMatches<'a>, name: &str) -> Option<&'a str>
+    ensures { option_copied result ≡ first_of name.now (rows_of (found_of found.now)) }
+{
+    found.get_str(name)
+}
+
+// The names of the objects.
+fn object_names(alloc: Global, found: &ArgMatches) -> Result<Vec<String>, AllocError>
+    ensures { IfOk result (λ objects.
+        texts objects.items ≡ unwrap_or (all_of (codes "OBJ") (rows_of (found_of found.now))) []) }
+{
+    let Some(words) = values(found, "OBJ") else {
+        return Ok(Vec::new(alloc));
+    };
+    copied(alloc, words)
+}
+
+// The values of a positional word of which there may be several.
+fn values<'a, 'm>(found: &'m ArgMatches<'a>, name: &str) -> Option<&'m [&'a str]>
+    ensures { option_map (λ words. map (λ word. word.now) words.now) result
+        ≡ all_of name.now (rows_of (found_of found.now)) }
+{
+    found.get_strs(name)
+}
+
+fn copied(alloc: Global, words: &[&str]) -> Result<Vec<String>, AllocError>
+    ensures { IfOk result (λ copies. texts copies.items ≡ map (λ word. word.now) words.now) }
+{
+    let mut copies = Vec::with_capacity(alloc, words.len())?;
+    for word in words {
+        copies.push(String::from_str(alloc, word)?)?;
+    }
+    Ok(copies)
+}

@@ -1,0 +1,115 @@
+// The commands, a row each.
+
+/// An option, which takes one value: its name, and whether it must be given.
+pub struct OptionSyntax {
+    pub name: &'static str,
+    pub required: bool,
+}
+
+/// A positional word, which must be given: its name, and whether there may be several of them.
+pub struct PositionalSyntax {
+    pub name: &'static str,
+    pub several: bool,
+}
+
+/// A command: its name, its options in any order, and its positional words in theirs.
+pub struct Syntax {
+    pub name: &'static str,
+    pub options: &'static [OptionSyntax],
+    pub positionals: &'static [PositionalSyntax],
+}
+
+const OUT: OptionSyntax = OptionSyntax {
+    name: "out",
+    required: true,
+};
+
+const CERT: OptionSyntax = OptionSyntax {
+    name: "cert",
+    required: true,
+};
+
+const PLAN: OptionSyntax = OptionSyntax {
+    name: "plan",
+    required: false,
+};
+
+const STEPS: OptionSyntax = OptionSyntax {
+    name: "steps",
+    required: false,
+};
+
+const PREFIX: OptionSyntax = OptionSyntax {
+    name: "out",
+    required: false,
+};
+
+const OBJECTS: PositionalSyntax = PositionalSyntax {
+    name: "OBJ",
+    several: true,
+};
+
+const IMAGE: PositionalSyntax = PositionalSyntax {
+    name: "IMAGE",
+    several: false,
+};
+
+const CERTIFICATE: PositionalSyntax = PositionalSyntax {
+    name: "CERT",
+    several: false,
+};
+
+const NUMBER: PositionalSyntax = PositionalSyntax {
+    name: "NUMBER",
+    several: false,
+};
+
+const FUNCTIONS: PositionalSyntax = PositionalSyntax {
+    name: "FUNCTIONS",
+    several: false,
+};
+
+// `plain --out OUT OBJ...`
+const PLAIN: Syntax = Syntax {
+    name: "plain",
+    options: &[OUT],
+    positionals: &[OBJECTS],
+};
+
+// `zc --out OUT --cert CERT OBJ...`
+const ZC: Syntax = Syntax {
+    name: "zc",
+    options: &[OUT, CERT],
+    positionals: &[OBJECTS],
+};
+
+// `run [--plan PLAN] [--steps N] IMAGE`
+const RUN: Syntax = Syntax {
+    name: "run",
+    options: &[PLAN, STEPS],
+    positionals: &[IMAGE],
+};
+
+// `trace [--steps N] OBJ...`
+const TRACE: Syntax = Syntax {
+    name: "trace",
+    options: &[STEPS],
+    positionals: &[OBJECTS],
+};
+
+// `check CERT`
+const CHECK: Syntax = Syntax {
+    name: "check",
+    options: &[],
+    positionals: &[CERTIFICATE],
+};
+
+// `make [--out PREFIX] NUMBER FUNCTIONS`
+const MAKE: Syntax = Syntax {
+    name: "make",
+    options: &[PREFIX],
+    positionals: &[NUMBER, FUNCTIONS],
+};
+
+/// The commands.
+pub static COMMANDS: [Syntax; 6] = [PLAIN, ZC, RUN, TRACE, CHECK, MAKE];
