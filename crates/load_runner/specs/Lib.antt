@@ -1,0 +1,4 @@
+pub mod Runs
+pub mod Load
+pub mod Cause
+pub mod Summary

@@ -1,0 +1,52 @@
+-- The runs of a load, each over no input: that of the objects' program, and those of images.
+use Rattle.std.specs.Prelude.{◌≡◌, ℕ, List, [], ◌∷◌, ◌++◌, Some, Ok}
+use Rattle.zc_base.specs.MemMap.{standard_map}
+use Rattle.zc_base.specs.declared.place.Place.{Place}
+use Rattle.interrupt_plan.specs.Plan.{Entry}
+use Rattle.psabi_sym.specs.Inputs.{Inputs, parsed}
+use Rattle.rv_decode.specs.State as event
+use Rattle.rv_decode.specs.State.{Event, ZcState}
+use Rattle.sym_machine.specs.Objects.{program_of}
+use Rattle.sym_machine.specs.RunEnd.{plain_course}
+use Rattle.sym_machine.specs.State.{PlainState}
+use Rattle.sym_machine.specs.declared.why.Why.{Why}
+use Rattle.zc_machine.specs.Load.{first_core_of}
+use Rattle.zc_machine.specs.RunEnd.{zc_course}
+use Rattle.zc_machine.specs.declared.reason.Reason.{Reason}
+use Rattle.zc_outside.specs.Course.{Course, Exit, ExitsAt}
+use Rattle.load_runner.specs.declared.run_load.TheConstants.{LOAD_STEPS}
+
+-- objects in the map that the linker uses if it is told no other
+abbrev pub standard_inputs : List (List ℕ) → Inputs
+standard_inputs files = record { files = files; map = standard_map }
+
+-- the run of the objects' program
+abbrev pub trace_run : Inputs → Course PlainState (Place × Why)
+trace_run inputs = plain_course (program_of (parsed inputs)) [] LOAD_STEPS
+
+-- the run of an image under a plan
+abbrev pub image_run : List ℕ → List Entry → Course ZcState Reason
+image_run elf plan = zc_course (first_core_of elf standard_map) [] plan LOAD_STEPS
+
+-- a run comes to this exit, or to any
+abbrev pub ComesTo : {State Stop : Type 0} → Course State Stop → Exit → Type 0
+ComesTo run exit = (count : ℕ) × ExitsAt run count exit
+
+abbrev pub Exits : {State Stop : Type 0} → Course State Stop → Type 0
+Exits run = (exit : Exit) × ComesTo run exit
+
+-- ---- what the runs rest on
+
+-- the program's run exits so, and the exit is its last event
+pub record IsTraced (inputs : Inputs) (count : ℕ) (exit : Exit) : Type 0 where
+  pub exits : ExitsAt (trace_run inputs) count exit
+  pub events : List Event
+  pub event : exits.last.events ≡ events ++ event.Exit exit.status ∷ []
+
+-- an image has exited after so many commits under a plan, however few it may make
+pub record HasExit (elf : List ℕ) (plan : List Entry) : Type 0 where
+  pub count : ℕ
+  pub last : ZcState
+  pub state : (image_run elf plan).after count ≡ Ok last
+  pub status : ℕ
+  pub exit : last.core.exit ≡ Some status

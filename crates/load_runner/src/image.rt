@@ -1,0 +1,46 @@
+// The run of an image.
+
+ghost use Rattle.std.specs.Prelude.{◌≡◌, IfErr, IfOk, None};
+ghost use Rattle.elf32_read.specs.Image.{image_fault};
+ghost use Rattle.load_runner.specs.Cause.{ImageCause};
+ghost use Rattle.load_runner.specs.Runs.{HasExit, image_run};
+ghost use Rattle.zc_base.specs.MemMap.{standard_map};
+ghost use Rattle.zc_outside.specs.Course.{ExitsAt};
+
+use crate::ended::{Ended, exit_of};
+use crate::load_end::LoadEnd;
+use crate::run_load::LOAD_STEPS;
+use elf32_read::image::Image;
+use interrupt_plan::plan::Plan;
+use std::alloc::Global;
+use zc_base::mem_map::MemMap;
+use zc_link::linked::Linked;
+use zc_machine::machine::Machine;
+use zc_machine::run::{RunEnd, run};
+use zc_outside::console::ConsoleFault;
+use zc_outside::mem_console::MemConsole;
+
+/// Runs the image of a link over no input under a plan, up to its exit. An image that has one is never stopped before
+/// it.
+pub fn run_image(alloc: Global, linked: &Linked, plan: &Plan) -> Result<Ended, LoadEnd>
+    requires faultless { image_fault linked.now.elf standard_map ≡ None }
+    requires exits { HasExit linked.now.elf plan.now }
+    ensures ok { IfOk result (λ ended. ExitsAt (image_run linked.now.elf plan.now) ended.count ended.exit) }
+    ensures err { IfErr result (ImageCause linked.now.elf plan.now) }
+{
+    let Ok(image) = Image::read(linked.elf.as_slice(), MemMap::standard()) else {
+        unreachable!();
+    };
+    let mut machine = Machine::load(alloc, &image)?;
+    let mut console = MemConsole::new(alloc, &[], &[])?;
+    match run(&mut machine, plan, &[], LOAD_STEPS, &mut console) {
+        RunEnd::Exit(status) => Ok(Ended {
+            count: machine.commits(),
+            exit: exit_of(alloc, &console, status)?,
+        }),
+        RunEnd::Spent => Err(LoadEnd::Spent),
+        RunEnd::Console(ConsoleFault::OutOfMemory) => Err(LoadEnd::OutOfMemory),
+        RunEnd::Stopped(_) => unreachable!(),
+        RunEnd::Console(ConsoleFault::Failed) => unreachable!(),
+    }
+}

@@ -1,0 +1,37 @@
+// What is known of objects once their program was traced and their images were run.
+
+use std::marker::Model;
+
+/// How a program exited: what it had written to its output, and its status.
+#[derive(Drop)]
+pub struct Exit {
+    pub bytes: Vec<u8>,
+    pub status: u8,
+}
+
+impl Model for Exit {
+    ghost use Rattle.zc_outside.specs.Course.{Exit as ExitOf};
+
+    ghost Value = { ExitOf };
+
+    ghost view = { λ exit. record { bytes = exit.bytes.items; status = exit.status } };
+}
+
+/// The lengths of both texts in bytes, what the Zc image's table of jumps and calls saves by its certificate, and how the
+/// program exited.
+///
+/// `trace` is the exit in the symbolic machine, after so many `steps`. The others are those of images: `plain` that of the
+/// plain image, `zc` that of the Zc image, after so many `commits`, and `cuts` that of the Zc image under interrupts. An exit
+/// is the last of its steps or commits.
+#[derive(Drop)]
+pub struct Load {
+    pub plain_text: u32,
+    pub zc_text: u32,
+    pub net: u64,
+    pub steps: u64,
+    pub commits: u64,
+    pub trace: Exit,
+    pub plain: Exit,
+    pub zc: Exit,
+    pub cuts: Exit,
+}
