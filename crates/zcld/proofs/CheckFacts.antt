@@ -1,5 +1,5 @@
 -- What is known of `check`: its refusals, how its work ends, and what that does to the counts.
-use Rattle.std.proofs.Common.{◌≡◌, ℕ, List, Bool, true, false, Option, Some, None, Result, Ok, Err, refl, sym, subst, ◌⊎◌, inl, inr, if◌then◌else◌}
+use Rattle.std.proofs.Common.{◌≡◌, ℕ, List, Bool, true, false, Some, None, Result, Ok, Err, refl, sym, subst, ◌⊎◌, inl, inr, if◌then◌else◌}
 use Rattle.std.proofs.lemmas.Option.{same_Some, none-some}
 use Rattle.pick_check.specs.Certified.{Certified, is_accepted}
 use Rattle.pick_check.specs.Text.{certificate_in}
@@ -8,12 +8,12 @@ use Rattle.pick_check.specs.declared.saving.Saving.{Saving}
 use Rattle.zc_outside.specs.Shelf.{OnlyPuts}
 use Rattle.zc_outside.specs.World.{World}
 use Rattle.zc_outside.proofs.Shelf.{OnlyPuts-refl}
+use Rattle.command_words.specs.Command.{Check}
 use Rattle.zcld.specs.declared.outcome.FileFault.TheVariants.{Certificate, Rejected}
 use Rattle.zcld.specs.declared.outcome.Outcome.{Outcome}
 use Rattle.zcld.specs.declared.outcome.Outcome.TheVariants.{BadFile}
 use Rattle.zcld.specs.Call.{task_of}
 use Rattle.zcld.specs.Check.{CheckWork, certificate_refusal, check_line}
-use Rattle.zcld.specs.Command.{Check}
 use Rattle.zcld.specs.ErrLine.{NamesNothing}
 use Rattle.zcld.specs.Puts.{text_alone}
 use Rattle.zcld.specs.Task.{Task, first_file}

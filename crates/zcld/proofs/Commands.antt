@@ -1,14 +1,16 @@
 -- The facts of each command, and with them what a call does from what its command does.
-use Rattle.std.proofs.Common.{◌≡◌, ℕ, List, Option, Some, None, refl, sym, ◌↔◌}
+use Rattle.std.proofs.Common.{◌≡◌, ℕ, List, Option, Some, None, refl, sym, ◌⊎◌, inl, inr}
 use Rattle.std.proofs.lemmas.Option.{none-some}
 use Rattle.zc_outside.specs.World.{World}
+use Rattle.zc_outside.proofs.Wanted.{ReadsAll-front, ReadsAll-none}
+use Rattle.command_words.specs.Command.{Check, Command, Make, Plain, Run, Trace, Zc}
 use Rattle.zcld.specs.declared.outcome.Outcome.{Outcome}
-use Rattle.zcld.specs.declared.outcome.Outcome.TheVariants.{Usage}
-use Rattle.zcld.specs.Call.{Answers, Calls, CarriesOut, CountsFaults, IfCommand, Reports, TellsAll, task_of, work_of}
-use Rattle.zcld.specs.Command.{Check, Command, Plain, Run, Trace, Zc}
+use Rattle.zcld.specs.declared.outcome.Outcome.TheVariants.{OutOfMemory, Usage}
+use Rattle.zcld.specs.Call.{Answers, Calls, CarriesOut, CountsFaults, IfCommand, IsUsageOf, Reports, TellsAll, task_of, work_of}
 use Rattle.zcld.specs.ErrLine.{err_line}
 use Rattle.zcld.proofs.Answering.{Facts, performed_answers, performed_counts, performed_known}
 use Rattle.zcld.proofs.CheckFacts.{check_facts}
+use Rattle.zcld.proofs.MakeFacts.{make_facts}
 use Rattle.zcld.proofs.PlainFacts.{plain_facts}
 use Rattle.zcld.proofs.RunFacts.{run_facts}
 use Rattle.zcld.proofs.TraceFacts.{trace_facts}
@@ -20,15 +22,29 @@ facts (Zc out cert objects) = zc_facts out cert objects
 facts (Run plan steps image) = run_facts plan steps image
 facts (Trace steps objects) = trace_facts steps objects
 facts (Check cert) = check_facts cert
+facts (Make prefix number functions) = make_facts prefix number functions
+
+-- memory may run out before anything is done, whatever the words spell
+pub out_of_memory : (command : Option Command) (files : List (List ℕ)) (before : World) → CarriesOut command files OutOfMemory before before
+out_of_memory None files before = (inr refl, refl)
+out_of_memory (Some command) files before = inl (record {
+  only = record { shelf = ReadsAll-front (task_of command).wanted (ReadsAll-none before.shelf); desk = refl };
+  cause = tt;
+})
 
 module _ (files : List (List ℕ)) (outcome : Outcome) (before left : World) where
   -- Usage is the outcome of words that spell no command
-  pub usage_alone : (command : Option Command) → CarriesOut command files outcome before left → (outcome ≡ Usage) ↔ (command ≡ None)
-  usage_alone None does = (λ usage. refl, λ none. does.0)
-  usage_alone (Some command) does = (
-    λ usage. absurd (performed_known (task_of command) (work_of command) (facts command) files outcome before left does usage),
-    λ none. absurd (none-some command (sym none)),
-  )
+  usage_alone : (command : Option Command) → CarriesOut command files outcome before left → outcome ≡ Usage → command ≡ None
+  usage_alone None does usage = refl
+  usage_alone (Some command) does usage = absurd (performed_known (task_of command) (work_of command) (facts command) files outcome before left does usage)
+
+  -- and it is that of all of them, unless memory ran out
+  none_alone : (command : Option Command) → CarriesOut command files outcome before left → command ≡ None → (outcome ≡ Usage) ⊎ (outcome ≡ OutOfMemory)
+  none_alone None does none = does.0
+  none_alone (Some command) does none = absurd (none-some command (sym none))
+
+  pub usage : (command : Option Command) → CarriesOut command files outcome before left → IsUsageOf command outcome
+  usage command does = record { only = usage_alone command does; always = none_alone command does }
 
   module _ (after : World) (line : Reports (err_line files outcome) left after) where
     answers :

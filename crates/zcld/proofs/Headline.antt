@@ -8,10 +8,10 @@ use Rattle.zc_link.specs.Preserves.{Preserves}
 use Rattle.zc_outside.specs.Files.{Files, KeepsFiles}
 use Rattle.zc_outside.specs.Wanted.{AreRead, each_within}
 use Rattle.zc_outside.specs.World.{World}
+use Rattle.command_words.specs.Command.{Command, Plain, Zc}
 use Rattle.zcld.specs.declared.outcome.Outcome.{Outcome}
 use Rattle.zcld.specs.declared.outcome.Outcome.TheVariants.{Done, OutOfMemory, Refused}
 use Rattle.zcld.specs.Call.{Calls, task_of}
-use Rattle.zcld.specs.Command.{Command, Plain, Zc}
 use Rattle.zcld.specs.Headline.{HoldsImage, Links}
 use Rattle.zcld.specs.Objects.{inputs_of, objects_wanted, refused_for}
 use Rattle.zcld.specs.Puts.{PutsFiles}

@@ -1,11 +1,11 @@
 pub mod Answering
 pub mod CheckFacts
-pub mod CommandWords
 pub mod Commands
-pub mod FormsHeld
 pub mod Headline
 pub mod MachineFacts
+pub mod MakeFacts
 pub mod Names
+pub mod ObjectFiles
 pub mod OutputFacts
 pub mod Pieces
 pub mod PlainFacts

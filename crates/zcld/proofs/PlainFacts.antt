@@ -3,9 +3,9 @@ use Rattle.std.proofs.Common.{ℕ, List, refl, sym, subst, ◌⊎◌, inl, inr}
 use Rattle.zc_base.specs.MemMap.{standard_map}
 use Rattle.block_cut.specs.Faults.{first_fault}
 use Rattle.zc_outside.specs.World.{World}
+use Rattle.command_words.specs.Command.{Plain}
 use Rattle.zcld.specs.declared.outcome.Outcome.{Outcome}
 use Rattle.zcld.specs.Call.{task_of}
-use Rattle.zcld.specs.Command.{Plain}
 use Rattle.zcld.specs.Objects.{inputs_of}
 use Rattle.zcld.specs.Plain.{PlainWork, plain_line, plain_output}
 use Rattle.zcld.specs.Task.{Task}

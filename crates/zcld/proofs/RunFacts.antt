@@ -11,17 +11,18 @@ use Rattle.rv_decode.specs.State.{ZcCore, ZcState}
 use Rattle.zc_outside.specs.Course.{Course}
 use Rattle.zc_outside.specs.Desk.{Desk, OnlyWrites}
 use Rattle.zc_outside.specs.declared.console.ConsoleFault.TheVariants as console
+use Rattle.zc_machine.specs.Load.{first_core_of}
 use Rattle.zc_machine.specs.Run.{interrupts_by}
 use Rattle.zc_machine.specs.RunEnd.{Ran, zc_course}
 use Rattle.zc_machine.specs.declared.reason.Reason.{Reason}
 use Rattle.zc_machine.specs.declared.run.RunEnd.{RunEnd}
 use Rattle.zc_machine.specs.declared.run.RunEnd.TheVariants as end
+use Rattle.command_words.specs.Command.{Run}
 use Rattle.zcld.specs.declared.outcome.FileFault.TheVariants.{Image, Plan}
 use Rattle.zcld.specs.declared.outcome.Outcome.{Outcome}
 use Rattle.zcld.specs.declared.outcome.Outcome.TheVariants.{BadFile}
 use Rattle.zcld.specs.Call.{task_of}
-use Rattle.zcld.specs.Command.{Run}
-use Rattle.zcld.specs.Run.{RunWork, Runs, first_core_of, plan_of, plan_refusal, run_outcome, run_refusal}
+use Rattle.zcld.specs.Run.{RunWork, Runs, plan_of, plan_refusal, run_outcome, run_refusal}
 use Rattle.zcld.specs.Task.{Task, first_file}
 use Rattle.zcld.proofs.Answering.{Facts, IsAnswer, no_memory}
 use Rattle.zcld.proofs.MachineFacts.{IsRefusedWrite, machine_ends, machine_moves, no_writes}

@@ -13,9 +13,9 @@ use Rattle.sym_machine.specs.declared.why.Why.{Why}
 use Rattle.zc_outside.specs.Course.{Course}
 use Rattle.zc_outside.specs.Desk.{Desk, OnlyWrites}
 use Rattle.zc_outside.specs.declared.console.ConsoleFault.TheVariants as console
+use Rattle.command_words.specs.Command.{Trace}
 use Rattle.zcld.specs.declared.outcome.Outcome.{Outcome}
 use Rattle.zcld.specs.Call.{task_of}
-use Rattle.zcld.specs.Command.{Trace}
 use Rattle.zcld.specs.Objects.{inputs_of}
 use Rattle.zcld.specs.Trace.{TraceWork, Traces, trace_outcome}
 use Rattle.zcld.specs.Task.{Task}

@@ -1,18 +1,19 @@
 -- What a call of the program does: what its command does up to a world, and from there the outcome's line.
-use Rattle.std.specs.Prelude.{◌≡◌, ℕ, ◌⊎◌, true, false, IsTrue, List, Option, Some, None, ⊤}
+use Rattle.std.specs.Prelude.{◌≡◌, ℕ, ◌⊎◌, true, false, IsTrue, is_some, List, [], Option, Some, None, ⊤}
 use Rattle.zc_base.specs.MemMap.{standard_map}
 use Rattle.zc_outside.specs.Desk.{Desk, OnlyWrites}
 use Rattle.zc_outside.specs.Files.{Files, Rose}
 use Rattle.zc_outside.specs.Streams.{Adds, AddsPart, KeepsBytes}
 use Rattle.zc_outside.specs.Wanted.{AreHeld, AreRead, IsOneLong, Wanted}
 use Rattle.zc_outside.specs.World.{World}
+use Rattle.command_words.specs.Command.{Check, Command, Make, Plain, Run, Trace, Zc}
 use Rattle.zcld.specs.declared.input.TheConstants.{INPUT_LIMIT}
 use Rattle.zcld.specs.declared.outcome.Outcome.{Outcome}
 use Rattle.zcld.specs.declared.outcome.Outcome.TheVariants.{Usage, ReadFault, WriteFault, OutOfMemory}
 use Rattle.zcld.specs.Check.{CheckWork, check_refusal, check_wanted}
-use Rattle.zcld.specs.Command.{Check, Command, Plain, Run, Trace, Zc}
 use Rattle.zcld.specs.ErrLine.{err_line}
 use Rattle.zcld.specs.Input.{IsShortInput, RoseAbove}
+use Rattle.zcld.specs.Make.{MakeWork}
 use Rattle.zcld.specs.Objects.{objects_refusal, objects_wanted}
 use Rattle.zcld.specs.Plain.{PlainWork}
 use Rattle.zcld.specs.Run.{RunWork, run_refusal, run_wanted}
@@ -36,7 +37,7 @@ task_of (Zc out cert objects) = record {
   refusal = objects_refusal standard_map;
   puts = true;
   takes = false;
-  writes = false;
+  writes = true;
 }
 task_of (Run plan steps image) = record {
   wanted = run_wanted plan image;
@@ -59,6 +60,13 @@ task_of (Check cert) = record {
   takes = false;
   writes = true;
 }
+task_of (Make prefix number functions) = record {
+  wanted = [];
+  refusal = λ files. None;
+  puts = is_some prefix;
+  takes = false;
+  writes = true;
+}
 
 -- the work of each command, once its files are read and accepted
 abbrev pub work_of : Command → List (List ℕ) → Outcome → World → World → Type 0
@@ -67,11 +75,17 @@ work_of (Zc out cert objects) = ZcWork out cert
 work_of (Run plan steps image) = RunWork steps
 work_of (Trace steps objects) = TraceWork steps
 work_of (Check cert) = CheckWork
+work_of (Make prefix number functions) = MakeWork prefix number functions
 
--- what words do: without a command it is Usage, and nothing is done
+-- what words do: without a command it is Usage, or memory ran out before that was known, and nothing is done
 abbrev pub CarriesOut : Option Command → List (List ℕ) → Outcome → World → World → Type 0
-CarriesOut None files outcome before after = (outcome ≡ Usage) × (after ≡ before)
+CarriesOut None files outcome before after = ((outcome ≡ Usage) ⊎ (outcome ≡ OutOfMemory)) × (after ≡ before)
 CarriesOut (Some command) files outcome before after = Performs (task_of command) (work_of command) files outcome before after
+
+-- the outcome is Usage only of words that spell no command, and of those always, unless memory ran out
+pub record IsUsageOf (command : Option Command) (outcome : Outcome) : Type 0 where
+  pub only : outcome ≡ Usage → command ≡ None
+  pub always : command ≡ None → (outcome ≡ Usage) ⊎ (outcome ≡ OutOfMemory)
 
 -- the command did this with the files that it read, and the outcome's line is the same for the files that are left
 pub record DoesWith (command : Option Command) (left : List (List ℕ)) (outcome : Outcome) (before after : World) : Type 0 where

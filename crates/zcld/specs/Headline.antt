@@ -3,9 +3,9 @@ use Rattle.std.specs.Prelude.{◌≡◌, ℕ, List, map, Option, Some, ⊤}
 use Rattle.zc_base.specs.MemMap.{standard_map}
 use Rattle.zc_link.specs.Preserves.{Preserves}
 use Rattle.zc_outside.specs.Files.{Files}
+use Rattle.command_words.specs.Command.{Command, Plain, Zc}
 use Rattle.zcld.specs.declared.outcome.Outcome.{Outcome}
 use Rattle.zcld.specs.declared.outcome.Outcome.TheVariants.{Done}
-use Rattle.zcld.specs.Command.{Command, Plain, Zc}
 use Rattle.zcld.specs.Objects.{inputs_of}
 
 -- objects stood under the names, and under OUT stands an image that does what their program does, under every plan of

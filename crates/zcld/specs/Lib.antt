@@ -1,4 +1,3 @@
-pub mod Command
 pub mod ErrLine
 pub mod Input
 pub mod Outcome
@@ -11,6 +10,7 @@ pub mod Zc
 pub mod Run
 pub mod Trace
 pub mod Check
+pub mod Make
 pub mod Call
 pub mod Headline
 pub mod Program

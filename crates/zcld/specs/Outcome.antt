@@ -1,4 +1,6 @@
 -- The outcomes of faults that lower crates give.
+use Rattle.load_runner.specs.declared.load_end.LoadEnd.{LoadEnd}
+use Rattle.load_runner.specs.declared.load_end.LoadEnd.TheVariants as load
 use Rattle.interrupt_plan.specs.declared.fault.PlanFault.{PlanFault}
 use Rattle.interrupt_plan.specs.declared.fault.PlanFault.TheVariants as plan
 use Rattle.pick_check.specs.declared.fault.CertFault.{CertFault}
@@ -9,7 +11,7 @@ use Rattle.zc_outside.specs.declared.read_files.ReadFault as files
 use Rattle.zc_outside.specs.declared.read_files.ReadFault.TheVariants as read
 use Rattle.zcld.specs.declared.outcome.FileFault.TheVariants.{Certificate, Plan}
 use Rattle.zcld.specs.declared.outcome.Outcome.{Outcome}
-use Rattle.zcld.specs.declared.outcome.Outcome.TheVariants.{Refused, ReadFault, OutOfMemory, BadFile}
+use Rattle.zcld.specs.declared.outcome.Outcome.TheVariants.{Refused, ReadFault, OutOfMemory, BadFile, Stuck, Spent}
 
 -- files that can't be had
 abbrev pub read_outcome : files.ReadFault → Outcome
@@ -33,3 +35,9 @@ abbrev pub certificate_outcome : CertFault → Outcome
 certificate_outcome (cert.BadLine number) = BadFile (Certificate (cert.BadLine number))
 certificate_outcome cert.TooLarge = BadFile (Certificate cert.TooLarge)
 certificate_outcome cert.OutOfMemory = OutOfMemory
+
+-- a load that isn't known
+abbrev pub load_outcome : LoadEnd → Outcome
+load_outcome (load.Stuck place why) = Stuck place why
+load_outcome load.Spent = Spent
+load_outcome load.OutOfMemory = OutOfMemory

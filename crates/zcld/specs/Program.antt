@@ -1,13 +1,13 @@
 -- How the program ends.
-use Rattle.std.specs.Prelude.{◌≡◌, ◌↔◌, ℕ, [], None, Result, Ok, Err, String}
+use Rattle.std.specs.Prelude.{◌≡◌, ℕ, [], Result, Ok, Err, String}
 use Rattle.std.specs.Global.{Global, Vec}
 use Rattle.zc_outside.specs.World.{World}
+use Rattle.command_words.specs.Command.{command_of, texts}
 use Rattle.zcld.specs.declared.outcome.Outcome.{Outcome}
 use Rattle.zcld.specs.declared.outcome.Outcome.TheVariants.{OutOfMemory, Usage}
 use Rattle.zcld.specs.declared.program.WordsFault.{WordsFault}
 use Rattle.zcld.specs.declared.program.WordsFault.TheVariants as fault
-use Rattle.zcld.specs.Call.{Calls, Reports}
-use Rattle.zcld.specs.Command.{command_of, texts}
+use Rattle.zcld.specs.Call.{Calls, IsUsageOf, Reports}
 use Rattle.zcld.specs.ErrLine.{err_line, status_of}
 
 -- the outcome without words
@@ -18,8 +18,7 @@ wordless fault.OutOfMemory = OutOfMemory
 -- what is done: the call of these words; or without words only the outcome's line is written
 abbrev pub Acts : Result (Vec (String Global)) WordsFault → Outcome → World → World → Type 0
 Acts (Ok words) outcome before after =
-    ((outcome ≡ Usage) ↔ (command_of (texts words.items) ≡ None))
-    × Calls (command_of (texts words.items)) outcome before after
+    IsUsageOf (command_of (texts words.items)) outcome × Calls (command_of (texts words.items)) outcome before after
 Acts (Err fault) outcome before after =
     (outcome ≡ wordless fault) × Reports (err_line [] (wordless fault)) before after
 

@@ -4,9 +4,7 @@ use Rattle.std.specs.Prelude.{◌≡◌, ℕ, List, [], ◌∷◌, slice_get, Op
 use Rattle.std.specs.Option.{option_map, option_map_or, option_or}
 use Rattle.zc_base.specs.MemMap.{standard_map}
 use Rattle.zc_base.specs.declared.mem_map.MemMap.{MemMap}
-use Rattle.elf32_read.specs.Header.{entry_address}
 use Rattle.elf32_read.specs.Image.{image_fault}
-use Rattle.elf32_read.specs.Segments.{segments_of}
 use Rattle.interrupt_plan.specs.Plan.{Entry}
 use Rattle.interrupt_plan.specs.Text.{plan_in}
 use Rattle.interrupt_plan.specs.declared.fault.PlanFault.{PlanFault}
@@ -15,7 +13,7 @@ use Rattle.rv_decode.specs.State.{ZcCore}
 use Rattle.zc_outside.specs.Desk.{Desk}
 use Rattle.zc_outside.specs.Wanted.{Wanted}
 use Rattle.zc_outside.specs.World.{World}
-use Rattle.zc_machine.specs.Load.{first_core}
+use Rattle.zc_machine.specs.Load.{first_core_of}
 use Rattle.zc_machine.specs.Run.{interrupts_by}
 use Rattle.zc_machine.specs.RunEnd.{Ran, zc_course}
 use Rattle.zc_machine.specs.declared.run.RunEnd.{RunEnd}
@@ -59,10 +57,6 @@ abbrev pub run_refusal : MemMap → List (List ℕ) → Option Outcome
 run_refusal map files = option_or (image_refusal map (first_file files)) (plan_refusal (plan_of files))
 
 -- ---- the run
-
--- an image's first state in a map
-abbrev pub first_core_of : List ℕ → MemMap → ZcCore
-first_core_of image map = first_core (entry_address image) (segments_of image) map
 
 -- the outcome of each end; a stop names the program counter there
 abbrev pub run_outcome : RunEnd → ℕ → Outcome

@@ -1,20 +1,21 @@
 // The top call: a command does its work, and its outcome's line is written.
 
-ghost use Rattle.std.specs.Prelude.{◌≡◌, ◌↔◌, None};
 ghost use Rattle.psabi_sym.specs.Objects.{contents_of};
 ghost use Rattle.zc_outside.specs.World.{world};
-ghost use Rattle.zcld.specs.Call.{Calls, DoesWith};
-ghost use Rattle.zcld.specs.Command.{command_of, texts};
+ghost use Rattle.command_words.specs.Command.{command_of, texts};
+ghost use Rattle.zcld.specs.Call.{Calls, DoesWith, IsUsageOf};
 ghost use Rattle.zcld.specs.Headline.{Links};
 
 use crate::check::check;
-use crate::command_line::{CommandLine, read};
 use crate::err_line::write_line;
+use crate::make::make;
 use crate::outcome::Outcome;
 use crate::plain::plain;
 use crate::run::run;
 use crate::trace::trace;
-use crate::zc::zc;
+use crate::zc::{ZcNames, zc};
+use command_words::command_line::CommandLine;
+use command_words::read::read;
 use std::alloc::Global;
 use zc_outside::console::Console;
 use zc_outside::store::Store;
@@ -27,7 +28,7 @@ pub fn zcld<S: Store, C: Console>(
     store: &mut S,
     console: &mut C,
 ) -> Outcome
-    ensures usage { (result ≡ Outcome.Usage) ↔ (command_of (texts words.now) ≡ None) }
+    ensures usage { IsUsageOf (command_of (texts words.now)) result }
     ensures calls { Calls (command_of (texts words.now)) result
         (world (S.shown store.old) (C.shown console.old)) (world (S.shown store.new) (C.shown console.new)) }
     ensures links { Links (command_of (texts words.now)) result (S.shown store.old).files (S.shown store.new).files }
@@ -49,16 +50,25 @@ fn perform<S: Store, C: Console>(
     ensures { DoesWith (command_of (texts words.now)) (contents_of files.new.items) result
         (world (S.shown store.old) (C.shown console.old)) (world (S.shown store.new) (C.shown console.new)) }
 {
-    match read(words) {
-        Some(CommandLine::Plain { out, objects }) => {
-            plain(alloc, out, objects, files, store, console)
+    match read(alloc, words) {
+        Ok(Some(CommandLine::Plain { out, objects })) => {
+            plain(alloc, out, objects.as_slice(), files, store, console)
         }
-        Some(CommandLine::Zc { out, cert, objects }) => zc(alloc, out, cert, objects, files, store),
-        Some(CommandLine::Run(args)) => run(alloc, args, files, store, console),
-        Some(CommandLine::Trace { steps, objects }) => {
-            trace(alloc, steps, objects, files, store, console)
+        Ok(Some(CommandLine::Zc { out, cert, objects })) => {
+            let names = ZcNames {
+                out,
+                cert,
+                objects: objects.as_slice(),
+            };
+            zc(alloc, names, files, store, console)
         }
-        Some(CommandLine::Check { cert }) => check(alloc, cert, store, console),
-        None => Outcome::Usage,
+        Ok(Some(CommandLine::Run(args))) => run(alloc, args, files, store, console),
+        Ok(Some(CommandLine::Trace { steps, objects })) => {
+            trace(alloc, steps, objects.as_slice(), files, store, console)
+        }
+        Ok(Some(CommandLine::Check { cert })) => check(alloc, cert, store, console),
+        Ok(Some(CommandLine::Make(args))) => make(alloc, args, store, console),
+        Ok(None) => Outcome::Usage,
+        Err(_) => Outcome::OutOfMemory,
     }
 }

@@ -3,9 +3,9 @@
 ghost use Rattle.std.specs.Prelude.{◌≡◌, ◌⊎◌, ℕ, IfOk, IfErr, List, None, Some};
 ghost use Rattle.pick_check.specs.Text.{certificate_in};
 ghost use Rattle.zc_outside.specs.World.{world};
+ghost use Rattle.command_words.specs.Command.{Check};
 ghost use Rattle.zcld.specs.Call.{DoesWith};
 ghost use Rattle.zcld.specs.Check.{Certifies, certificate_refusal};
-ghost use Rattle.zcld.specs.Command.{Check};
 
 use crate::err_line::numbered_line;
 use crate::outcome::{FileFault, Outcome};

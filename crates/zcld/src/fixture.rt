@@ -116,7 +116,11 @@ const PRICES: [(&str, &str); 2] = [
     ("dear", "price 0 0 1\nnet 16\nend\n"),
 ];
 
+// The certificate and the report of what `zc` makes of the object.
 const CERTIFICATE: &str = "zcld certificate 1\nprice 0 0 0\nnet 0\nend\n";
+
+const REPORT: &str = "\
+plain text 12\nzc text 10\nitems 3\nshort 1\nlong 0\npush 0\npop 0\nmove 0\ntable 0\nslots 0\nnet 0\n";
 
 // The number that a hexadecimal digit stands for.
 fn digit(digit: u8) -> u8 {
@@ -126,8 +130,8 @@ fn digit(digit: u8) -> u8 {
     }
 }
 
-// The bytes that lines of hexadecimal digits stand for.
-fn bytes_of(alloc: Global, digits: &str) -> Result<Vec<u8>, Fail> {
+/// The bytes that lines of hexadecimal digits stand for.
+pub fn bytes_of(alloc: Global, digits: &str) -> Result<Vec<u8>, Fail> {
     let mut bytes = Vec::new(alloc);
     for line in digits.lines() {
         for pair in line.as_bytes().chunks(2) {
@@ -169,7 +173,8 @@ fn store_of(alloc: Global, fails: &[u32]) -> Result<MemStore, Fail> {
     Ok(store)
 }
 
-fn words_of(alloc: Global, text: &str) -> Result<Vec<String>, AllocError> {
+/// The words of a call, with one space between two.
+pub fn words_of(alloc: Global, text: &str) -> Result<Vec<String>, AllocError> {
     let mut words = Vec::new(alloc);
     for word in text.split(' ') {
         words.push(String::from_str(alloc, word)?)?;
@@ -200,8 +205,13 @@ fn mark(store: &MemStore, name: &str, wanted: &[u8]) -> char {
     }
 }
 
+// A text, or `report` for the report.
+fn named(text: &str) -> &str {
+    if text == REPORT { "report" } else { text }
+}
+
 // What a call leaves: whether the image `o` and the certificate `c` stand, its status, how many bytes of the
-// input, and what it wrote to standard output and to standard error.
+// input, and what it wrote to standard output, by its name if it has one, and to standard error.
 fn left_by(alloc: Global, call: &str) -> Result<String, Fail> {
     let (words, fails) = call.split_once(" with ").unwrap_or((call, ""));
     let mut store = store_of(alloc, numbers(alloc, fails, "s")?.as_slice())?;
@@ -218,7 +228,7 @@ fn left_by(alloc: Global, call: &str) -> Result<String, Fail> {
     let image = mark(&store, "o", bytes_of(alloc, image)?.as_slice());
     let certificate = mark(&store, "c", CERTIFICATE.as_bytes());
     let status = status(&outcome);
-    let out = str::from_utf8(console.out_bytes())?;
+    let out = named(str::from_utf8(console.out_bytes())?);
     let err = str::from_utf8(console.err_bytes())?;
     Ok(format!(in alloc; "{image}{certificate} {status} {input} {out:?} {err:?}")?)
 }

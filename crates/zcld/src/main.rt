@@ -4,12 +4,12 @@
 
 pub mod call;
 pub mod check;
-pub mod command_line;
 pub mod err_line;
 #[cfg(test)]
 mod fixture;
 pub mod input;
 pub mod limits;
+pub mod make;
 pub mod objects;
 pub mod outcome;
 pub mod plain;

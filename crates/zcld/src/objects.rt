@@ -6,7 +6,7 @@ ghost use Rattle.psabi_sym.specs.LinkFault.{IsRefusal};
 ghost use Rattle.psabi_sym.specs.Objects.{contents_of};
 ghost use Rattle.zc_base.specs.MemMap.{standard_map};
 ghost use Rattle.zc_outside.specs.Wanted.{AreRead, ReadsAll};
-ghost use Rattle.zcld.specs.Command.{texts};
+ghost use Rattle.command_words.specs.Command.{texts};
 ghost use Rattle.zcld.specs.Objects.{inputs_of, objects_wanted};
 ghost use Rattle.zcld.specs.Task.{UnreadCause};
 

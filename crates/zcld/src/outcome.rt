@@ -6,6 +6,7 @@ ghost use Rattle.zcld.specs.ErrLine.{status_of};
 use elf32_read::fault::Fault;
 use elf32_read::image_fault::ImageFault;
 use interrupt_plan::fault::PlanFault;
+use load_runner::load_end::LoadEnd;
 use pick_check::fault::CertFault;
 use psabi_sym::link_fault::LinkFault;
 use std::alloc::AllocError;
@@ -109,6 +110,21 @@ impl From<CertFault> for Outcome {
             CertFault::BadLine { .. } | CertFault::TooLarge => {
                 Outcome::BadFile(FileFault::Certificate(fault))
             }
+        }
+    }
+}
+
+impl From<LoadEnd> for Outcome {
+    ghost use Rattle.std.specs.Prelude.{◌≡◌};
+    ghost use Rattle.zcld.specs.Outcome.{load_outcome};
+
+    ghost from_gives = { λ end outcome. outcome ≡ load_outcome end };
+
+    fn from(end: LoadEnd) -> Outcome {
+        match end {
+            LoadEnd::Stuck(place, why) => Outcome::Stuck(place, why),
+            LoadEnd::Spent => Outcome::Spent,
+            LoadEnd::OutOfMemory => Outcome::OutOfMemory,
         }
     }
 }

@@ -16,7 +16,17 @@ pub fn print_line<C: Console>(line: &str, console: &mut C) -> Outcome
     ensures writes { OnlyWrites (C.shown console.old) (C.shown console.new) }
     ensures line { NamesNothing result }
 {
-    match console.out(line.as_bytes()) {
+    print_text(line.as_bytes(), console)
+}
+
+/// Writes a text to standard output, and says how that ended.
+pub fn print_text<C: Console>(text: &[u8], console: &mut C) -> Outcome
+    ensures done { (shelf : Shelf) → PutsInTurn result (text_alone text.now)
+        (world shelf (C.shown console.old)) (world shelf (C.shown console.new)) }
+    ensures writes { OnlyWrites (C.shown console.old) (C.shown console.new) }
+    ensures line { NamesNothing result }
+{
+    match console.out(text) {
         Ok(()) => Outcome::Done,
         Err(ConsoleFault::Failed) => Outcome::WriteFault,
         Err(ConsoleFault::OutOfMemory) => Outcome::OutOfMemory,

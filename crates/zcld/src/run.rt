@@ -3,18 +3,19 @@
 ghost use Rattle.std.specs.Prelude.{◌≡◌, ◌<◌, ◌⊎◌, IfOk, IfErr, OnOk, Ok, Err, length, option_copied};
 ghost use Rattle.psabi_sym.specs.Objects.{contents_of};
 ghost use Rattle.zc_base.specs.MemMap.{standard_map};
+ghost use Rattle.zc_machine.specs.Load.{first_core_of};
 ghost use Rattle.zc_outside.specs.Wanted.{AreRead, ReadsAll};
 ghost use Rattle.zc_outside.specs.World.{world};
+ghost use Rattle.command_words.specs.Command.{run_meant};
 ghost use Rattle.zcld.specs.Call.{CarriesOut};
-ghost use Rattle.zcld.specs.Command.{run_meant};
 ghost use Rattle.zcld.specs.Machines.{TakesAndRuns};
-ghost use Rattle.zcld.specs.Run.{Runs, first_core_of, plan_of, run_outcome as outcome_of_end, run_wanted};
+ghost use Rattle.zcld.specs.Run.{Runs, plan_of, run_outcome as outcome_of_end, run_wanted};
 ghost use Rattle.zcld.specs.Task.{UnreadCause};
 
-use crate::command_line::RunArgs;
 use crate::input::take_all;
 use crate::limits::IMAGE_LIMIT;
 use crate::outcome::{FileFault, Outcome};
+use command_words::command_line::RunArgs;
 use elf32_read::image::Image;
 use interrupt_plan::fault::PlanFault;
 use interrupt_plan::plan::{Plan, empty_plan};

@@ -1,65 +1,70 @@
-// The command `zc`: objects are linked, and the image and its certificate are written.
+// The command `zc`: objects are linked, the image and its certificate are put, and the report is
+// written.
 
-ghost use Rattle.std.specs.Prelude.{◌≡◌, ◌≢◌, ◌≤◌, IfOk, IfErr, None, length};
+ghost use Rattle.std.specs.Prelude.{◌≡◌, ◌≢◌, ◌≤◌, ℕ, IfOk, IfErr, List, None, length};
 ghost use Rattle.block_cut.specs.Faults.{first_fault};
 ghost use Rattle.psabi_sym.specs.Objects.{contents_of};
 ghost use Rattle.zc_link.specs.Links.{IsZcLink};
-ghost use Rattle.zc_outside.specs.Desk.{Desk};
+ghost use Rattle.zc_outside.specs.Desk.{OnlyWrites};
 ghost use Rattle.zc_outside.specs.Shelf.{OnlyPuts};
 ghost use Rattle.zc_base.specs.MemMap.{standard_map};
 ghost use Rattle.zc_outside.specs.World.{world};
+ghost use Rattle.command_words.specs.Command.{Zc, texts};
 ghost use Rattle.zcld.specs.Call.{DoesWith};
-ghost use Rattle.zcld.specs.Command.{Zc, texts};
 ghost use Rattle.zcld.specs.ErrLine.{NamesNothing, err_line};
 ghost use Rattle.zcld.specs.Objects.{RefusalCause, inputs_of};
 ghost use Rattle.zcld.specs.Puts.{PutsInTurn};
-ghost use Rattle.zcld.specs.Zc.{zc_output};
-ghost use Rattle.pick_check.specs.Text.{certificate_text};
-ghost use Rattle.zc_link.specs.Links.{Link};
+ghost use Rattle.zcld.specs.Zc.{output_of, zc_output};
 
 use crate::objects::{gather, read_objects};
 use crate::outcome::Outcome;
+use crate::print::print_text;
 use pick_check::write_certificate::write_certificate;
-use std::alloc::Global;
+use size_report::report::report;
+use std::alloc::{AllocError, Global};
 use zc_link::linked::Linked;
 use zc_link::zc::link_zc;
+use zc_outside::console::Console;
 use zc_outside::store::{Store, StoreFault};
 
-// The files that are put: an image, and the text of its table's certificate.
+/// The names of the files of `zc`: the image, the certificate, and the objects.
 #[derive(Clone, Copy)]
-struct ZcFiles<'a> {
-    image: &'a [u8],
-    certificate: &'a [u8],
+pub struct ZcNames<'a> {
+    pub out: &'a str,
+    pub cert: &'a str,
+    pub objects: &'a [String],
 }
 
-/// Links the objects under these names to an image `out` with the certificate `cert` of its table.
-pub fn zc<S: Store>(
+// What `zc` puts and writes: an image, the text of its table's certificate, and the report.
+#[derive(Drop)]
+struct ZcResults {
+    image: Vec<u8>,
+    certificate: Vec<u8>,
+    report: Vec<u8>,
+}
+
+/// Links the objects to an image with the certificate of its table, and writes the report.
+pub fn zc<S: Store, C: Console>(
     alloc: Global,
-    out: &str,
-    cert: &str,
-    objects: &[String],
+    names: ZcNames,
     files: &mut Vec<Vec<u8>>,
     store: &mut S,
+    console: &mut C,
 ) -> Outcome
-    requires { out.now ≢ cert.now }
-    ensures { (desk : Desk) → DoesWith (Some (Zc out.now cert.now (texts objects.now)))
-        (contents_of files.new.items) result (world (S.shown store.old) desk) (world (S.shown store.new) desk) }
+    requires { names.out.now ≢ names.cert.now }
+    ensures { DoesWith (Some (Zc names.entry.out.now names.entry.cert.now (texts names.entry.objects.now)))
+        (contents_of files.new.items) result
+        (world (S.shown store.old) (C.shown console.old)) (world (S.shown store.new) (C.shown console.new)) }
 {
-    if let Err(outcome) = read_objects(alloc, objects, files, store) {
+    if let Err(outcome) = read_objects(alloc, names.objects, files, store) {
         return outcome;
     }
     let linked = match link(alloc, files) {
         Ok(linked) => linked,
         Err(outcome) => return outcome,
     };
-    match write_certificate(alloc, linked.savings.as_slice(), &linked.certificate) {
-        Ok(certificate) => {
-            let both = ZcFiles {
-                image: linked.elf.as_slice(),
-                certificate: certificate.as_slice(),
-            };
-            put_both(store, out, cert, both)
-        }
+    match results_of(alloc, linked) {
+        Ok(results) => put_and_report(names, &results, store, console),
         Err(_) => Outcome::OutOfMemory,
     }
 }
@@ -79,23 +84,49 @@ fn link(alloc: Global, files: &mut Vec<Vec<u8>>) -> Result<Linked, Outcome>
     Ok(link_zc(alloc, objects)?)
 }
 
-// Writes the image, then the certificate, and says how that ended.
-fn put_both<S: Store>(store: &mut S, out: &str, cert: &str, both: ZcFiles) -> Outcome
-    requires { out.now ≢ cert.now }
-    ensures done { (desk : Desk) (link : Link) → both.entry.image.now ≡ link.elf
-        → both.entry.certificate.now ≡ certificate_text link.savings link.certificate
-        → PutsInTurn result (zc_output out.now cert.now link)
-        (world (S.shown store.old) desk) (world (S.shown store.new) desk) }
+// What is put and written of a link.
+fn results_of(alloc: Global, linked: Linked) -> Result<ZcResults, AllocError>
+    requires savings { length linked.savings ≤ 0x1_0000 }
+    requires slots { length linked.certificate.slots ≤ 256 }
+    ensures { IfOk result (λ results. (out cert : List ℕ) → output_of out cert results ≡ zc_output out cert linked) }
+{
+    let savings = linked.savings.as_slice();
+    let certificate = write_certificate(alloc, savings, &linked.certificate)?;
+    let report = report(
+        alloc,
+        &linked.plain,
+        &linked.zc,
+        savings,
+        &linked.certificate,
+    )?;
+    Ok(ZcResults {
+        image: linked.elf,
+        certificate,
+        report,
+    })
+}
+
+// Puts the image, then the certificate, then writes the report, and says how that ended.
+fn put_and_report<S: Store, C: Console>(
+    names: ZcNames,
+    results: &ZcResults,
+    store: &mut S,
+    console: &mut C,
+) -> Outcome
+    requires { names.out.now ≢ names.cert.now }
+    ensures done { PutsInTurn result (output_of names.entry.out.now names.entry.cert.now results.now)
+        (world (S.shown store.old) (C.shown console.old)) (world (S.shown store.new) (C.shown console.new)) }
     ensures puts { OnlyPuts (S.shown store.old) (S.shown store.new) }
+    ensures writes { OnlyWrites (C.shown console.old) (C.shown console.new) }
     ensures line { NamesNothing result }
 {
-    match store.put(out, both.image) {
+    match store.put(names.out, results.image.as_slice()) {
         Ok(()) => {}
         Err(StoreFault::OutOfMemory) => return Outcome::OutOfMemory,
         Err(_) => return Outcome::WriteFault,
     }
-    match store.put(cert, both.certificate) {
-        Ok(()) => Outcome::Done,
+    match store.put(names.cert, results.certificate.as_slice()) {
+        Ok(()) => print_text(results.report.as_slice(), console),
         Err(StoreFault::OutOfMemory) => Outcome::OutOfMemory,
         Err(_) => Outcome::WriteFault,
     }

@@ -4,19 +4,21 @@ use crate::fixture::expect;
 use std::test::Fail;
 
 // The store's call 0 reads the object, call 1 puts the image, and call 2 the certificate. The console's call 0
-// writes the line.
+// writes the report, or else a line.
 #[test]
-fn the_image_and_then_the_certificate_are_put(rt: HostRuntime) -> Result<(), Fail> {
+fn files_are_put_in_turn_and_then_the_report_is_written(rt: HostRuntime) -> Result<(), Fail> {
     let lines = r#"zc --out o --cert o x => -- 120 5 "" "usage\n"
-zc --out o --cert c x => ++ 0 5 "" ""
-zc --cert c --out o x with s3 c1 => ++ 0 5 "" ""
+zc --out o --cert c x => ++ 0 5 "report" ""
+zc --cert c --out o x with s3 c2 => ++ 0 5 "report" ""
 zc --out o --cert c y => -- 122 5 "" "read fault\n"
 zc --out o --cert c x with s0 => -- 122 5 "" "read fault\n"
 zc --out o --cert c x with s1 => -- 123 5 "" "write fault\n"
 zc --out o --cert c x with s2 => +- 123 5 "" "write fault\n"
+zc --out o --cert c x with c0 => ++ 123 5 "" "write fault\n"
 zc --out o --cert c x with s0 c0 => -- 122 5 "" ""
 zc --out o --cert c x with s1 c0 => -- 123 5 "" ""
-zc --out o --cert c x with s2 c0 => +- 123 5 "" """#;
+zc --out o --cert c x with s2 c0 => +- 123 5 "" ""
+zc --out o --cert c x with c0 c1 => ++ 123 5 "" """#;
     expect(&rt, lines)
 }
 

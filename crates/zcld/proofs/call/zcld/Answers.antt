@@ -1,10 +1,10 @@
 use Rattle.std.proofs.Common.{rules, refl}
-use Rattle.zcld.proofs.Commands.{calls, usage_alone}
+use Rattle.zcld.proofs.Commands.{calls, usage}
 use Rattle.zcld.proofs.Headline.{links}
 use Rattle.zcld.proofs.call.zcld.Goals as goal
 
 pub returns-clause-usage : goal.returns-clause-usage
-returns-clause-usage g c = usage_alone _ _ _ _ _ c.perform-outcome.ensures.does
+returns-clause-usage g c = usage _ _ _ _ _ c.perform-outcome.ensures.does
 
 pub returns-clause-calls : goal.returns-clause-calls
 returns-clause-calls g c =

@@ -1,14 +1,15 @@
-use Rattle.std.proofs.Common.{◌≡◌, ℕ, ◌<◌, List, [], ◌∷◌, length, get_or, None, Ok, Vec, rules, refl, sym, ap, ◌∙◌, inr, subst, arith}
+use Rattle.std.proofs.Common.{◌≡◌, ℕ, ◌<◌, List, [], ◌∷◌, length, get_or, None, Ok, Vec, rules, refl, ap, ◌∙◌, inr, subst, arith}
 use Rattle.std.specs.declared.alloc.Global.{Global}
 use Rattle.elf32_read.specs.Image.{image_fault}
 use Rattle.interrupt_plan.specs.Plan.{Entry}
 use Rattle.psabi_sym.specs.Objects.{contents_of}
 use Rattle.zc_base.specs.MemMap.{standard_map}
+use Rattle.zc_machine.specs.Load.{first_core_of}
 use Rattle.zc_outside.specs.Desk.{Desk}
 use Rattle.zc_outside.specs.World.{world}
 use Rattle.zcld.specs.declared.outcome.Outcome.{Outcome}
 use Rattle.zcld.specs.Machines.{TakesAndRuns}
-use Rattle.zcld.specs.Run.{Runs, first_core_of, plan_of, run_refusal}
+use Rattle.zcld.specs.Run.{Runs, plan_of, run_refusal}
 use Rattle.zcld.specs.Task.{first_file}
 use Rattle.zcld.proofs.run.run.Goals as goal
 

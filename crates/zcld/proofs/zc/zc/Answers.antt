@@ -1,32 +1,29 @@
-use Rattle.std.proofs.Common.{rules, refl, inr, ap, ◌∙◌}
+-- What is put and written is the link's.
+use Rattle.std.proofs.Common.{rules, refl, inr, subst}
 use Rattle.psabi_sym.specs.Objects.{contents_of}
-use Rattle.pick_check.specs.Text.{certificate_text}
-use Rattle.zc_link.specs.Links.{Link}
 use Rattle.zc_outside.specs.World.{world}
+use Rattle.zcld.specs.Puts.{PutsInTurn}
 use Rattle.zcld.proofs.Refusals.{names_in_none}
 use Rattle.zcld.proofs.zc.zc.Goals as goal
 
-pub returns-in-Ok-write_certificate : goal.returns-in-Ok-write_certificate
-returns-in-Ok-write_certificate g c = λ desk.
-    let image = c.as_slice-in-Ok-write_certificate.ensures.value ∙ ap (λ (l : Link). l.elf) c.linked.view_is in
-    let certificate =
-    c.as_slice-in-Ok-write_certificate-2.ensures.value ∙ c.in-Ok-write_certificate.ensures.text
-    ∙ ap (λ s. certificate_text s c.linked.inside.certificate) c.as_slice.ensures.value
-    ∙ ap (λ (l : Link). certificate_text l.savings l.certificate) c.linked.view_is in
+pub returns-in-Ok-results_of : goal.returns-in-Ok-results_of
+returns-in-Ok-results_of g c =
+    let between = world (g.S.Store.shown c.read_objects.new.store) (g.C.Console.shown c.args.console.now) in
+    let after = world (g.S.Store.shown c.put_and_report.new.store) (g.C.Console.shown c.put_and_report.new.console) in
     record {
       files = contents_of c.read_objects.new.files.items;
-      line = names_in_none c.put_both.result _ _ c.put_both.ensures.line;
+      line = names_in_none c.put_and_report.result _ _ c.put_and_report.ensures.line;
       does = inr (inr (record {
-        between = world (g.S.Store.shown c.read_objects.new.store) desk;
+        between = between;
         only = record { shelf = c.read_objects.ensures.reads; desk = refl };
         read = search rules;
         accepted = search rules;
         work = inr (record {
           link = c.in-Ok.linked;
           linked = search rules;
-          done = c.put_both.ensures.done desk c.in-Ok.linked image certificate;
-          shelf = c.put_both.ensures.puts;
-          desk = refl;
+          done = subst (λ o. PutsInTurn c.put_and_report.result o between after) (c.in-Ok-results_of.ensures c.args.names.out.now c.args.names.cert.now) c.put_and_report.ensures.done;
+          shelf = c.put_and_report.ensures.puts;
+          desk = c.put_and_report.ensures.writes;
         });
       }));
     }

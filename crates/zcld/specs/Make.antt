@@ -1,0 +1,60 @@
+-- What `make` does: it makes objects, links, traces and runs them, puts the objects if they have names, and writes the summary.
+use Rattle.std.specs.Prelude.{◌≡◌, ℕ, suc, ◌⊎◌, ◌++◌, List, [], ◌∷◌, length, codes, decimal, Option, Some, None}
+use Rattle.zc_outside.specs.Desk.{OnlyWrites}
+use Rattle.zc_outside.specs.Shelf.{OnlyPuts}
+use Rattle.zc_outside.specs.World.{World}
+use Rattle.load_maker.specs.Objects.{made_objects}
+use Rattle.load_runner.specs.Cause.{LoadCause}
+use Rattle.load_runner.specs.Load.{IsLoad}
+use Rattle.load_runner.specs.Runs.{standard_inputs}
+use Rattle.load_runner.specs.Summary.{summary_text}
+use Rattle.load_runner.specs.declared.load.Load.{Load}
+use Rattle.load_runner.specs.declared.load_end.LoadEnd.{LoadEnd}
+use Rattle.zcld.specs.declared.outcome.Outcome.{Outcome}
+use Rattle.zcld.specs.Outcome.{load_outcome}
+use Rattle.zcld.specs.Puts.{PutsInTurn}
+
+-- ---- the files
+
+-- the name of the object with this number
+abbrev pub object_name : List ℕ → ℕ → List ℕ
+object_name prefix i = prefix ++ decimal i ++ codes ".o"
+
+-- objects under their names, from a number on
+abbrev pub named_from : List ℕ → ℕ → List (List ℕ) → List (List ℕ × List ℕ)
+named_from prefix i [] = []
+named_from prefix i (object ∷ objects) = (object_name prefix i, object) ∷ named_from prefix (suc i) objects
+
+-- without a prefix they have no names, and aren't put
+abbrev pub object_files : Option (List ℕ) → List (List ℕ) → List (List ℕ × List ℕ)
+object_files None objects = []
+object_files (Some prefix) objects = named_from prefix 0 objects
+
+-- ---- the text
+
+-- the text is the summary of a load of objects with so many functions
+pub record IsSummary (number functions : ℕ) (objects : List (List ℕ)) (text : List ℕ) : Type 0 where
+  pub load : Load
+  pub loaded : IsLoad (standard_inputs objects) number load
+  pub spells : text ≡ summary_text functions (length objects) load
+
+-- no load of the objects is known, for this outcome
+pub record IsUnloaded (number : ℕ) (objects : List (List ℕ)) (outcome : Outcome) : Type 0 where
+  pub end : LoadEnd
+  pub cause : LoadCause (standard_inputs objects) number end
+  pub outcome_is : outcome ≡ load_outcome end
+
+-- ---- the work
+
+-- the objects were put and the summary written, as far as this outcome says
+pub record PutsLoad (prefix : Option (List ℕ)) (number functions : ℕ) (outcome : Outcome) (before after : World) : Type 0 where
+  pub text : List ℕ
+  pub summary : IsSummary number functions (made_objects number functions) text
+  pub done : PutsInTurn outcome (record { files = object_files prefix (made_objects number functions); text = text }) before after
+  pub shelf : OnlyPuts before.shelf after.shelf
+  pub desk : OnlyWrites before.desk after.desk
+
+-- no load of the objects is known, and nothing was done; or that
+abbrev pub MakeWork : Option (List ℕ) → ℕ → ℕ → List (List ℕ) → Outcome → World → World → Type 0
+MakeWork prefix number functions files outcome before after =
+    (IsUnloaded number (made_objects number functions) outcome × (after ≡ before)) ⊎ PutsLoad prefix number functions outcome before after
