@@ -90,10 +90,14 @@ def read_certificate(text):
     return savings, Certificate(slots, prices, net)
 
 
+def lines_of(savings, slots):
+    """The lines of savings and of slots, which a report has too."""
+    return [*(f'saving {" ".join(map(str, it))}' for it in savings), *(f'slot {it}' for it in slots)]
+
+
 def write_certificate(savings, certificate):
     """The text of savings and a certificate."""
-    lines = [HEAD.decode(), *(f'saving {" ".join(map(str, it))}' for it in savings),
-             *(f'slot {it}' for it in certificate.slots), f'price {" ".join(map(str, certificate.prices))}',
+    lines = [HEAD.decode(), *lines_of(savings, certificate.slots), f'price {" ".join(map(str, certificate.prices))}',
              f'net {certificate.net}', 'end']
     return ''.join(line + '\n' for line in lines).encode()
 

@@ -7,8 +7,8 @@ PROGRAM is build/zcld if none is given. A case is fixed by the seed and its numb
 any order, change them, and restore them. It goes to `zc` and `trace`, and its image to `run` under a plan that interrupts after
 each access of each push and pop, with bytes written below sp. Checked are:
 
-- image and certificate are those that `zc_link.py` makes, byte for byte, and the image's run comes to each push and pop that was
-  asked for;
+- image, certificate and report are those that `zc_link.py` and `size_report.py` make, byte for byte, and the image's run comes to
+  each push and pop that was asked for;
 - the run under the plan writes what the trace writes, and exits as it does.
 
 The status is 1 if a check failed. FOLDER then has the files of those cases.
@@ -24,7 +24,7 @@ sys.path.insert(0, os.path.join(os.path.dirname(os.path.abspath(__file__)), os.p
 
 from groups import LISTS
 from made_frames import ENDINGS, GOES_ON, Saved, sizes
-from zc_link import zc
+from size_report import left_by_zc
 from zc_machine import SAVED, Machine, plan_of
 from zcld_tools import programs
 from zcld_tools.files import read, write
@@ -122,8 +122,8 @@ class Case:
         frames = [(row, rng.choice(sizes(row)[range_of_sizes]), ending) for row, ending, range_of_sizes in rows]
         self.what = ', '.join('list {} in {} with ending {}'.format(*frame) for frame in frames)
         self.file = made_object(rng, frames)
-        self.image, _, self.certificate = zc([self.file])
-        interrupts, found = interrupts_of(rng, self.image)
+        self.left = left_by_zc([self.file])
+        interrupts, found = interrupts_of(rng, self.left.image)
         self.plan, self.found, self.wanted = plan_of(interrupts), found, 2 * len(frames)
 
 
@@ -133,7 +133,7 @@ def check(program, case, folder):
     write(names['file'], case.file)
     write(names['plan'], case.plan)
     linked = programs.run([program, 'zc', '--out', names['out'], '--cert', names['cert'], names['file']])
-    if linked.status or (read(names['out']), read(names['cert'])) != (case.image, case.certificate):
+    if linked != (0, case.left.report, b'') or (read(names['out']), read(names['cert'])) != case.left[:2]:
         raise Failed(f'zc ends with {linked}, or the image or the certificate is another')
     if case.found != case.wanted:
         raise Failed(f'the run comes to {case.found} pushes and pops, and not to {case.wanted}')

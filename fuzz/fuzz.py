@@ -9,13 +9,13 @@ and data with relocations (`made_objects.py`). All files go to `zc`, `plain` and
 was written to `run`. Checked are:
 
 - the call ends, by no signal, within its time-out, with a status that has a name and a line of that name at the
-  end of standard error; `zc`, and `run` and `trace` of files that are refused, write nothing else, and `plain` only
-  the text's length;
+  end of standard error; `run` and `trace` of files that are refused write nothing else, and links only their text: `zc`
+  the report, and `plain` the text's length;
 - it is an outcome that this command has;
 - after `zc` ended with 0 the image and the certificate are there, and else no file is there or has changed, but
   for the image alone after a write fault or if memory ran out; so it is for the image of `plain`;
-- the image and the certificate of `zc` are those that `zc_link.py` makes, and the image of `plain` the one of
-  `plain_link.py`, byte for byte;
+- the image, the certificate and the report of `zc` are those that `zc_link.py` and `size_report.py` make, and the image of
+  `plain` the one of `plain_link.py`, byte for byte;
 - `zc`, `plain` and `trace` refuse files exactly if they have a fault, and name the first (`object_items.py`);
 - `trace` writes what `symbolic_machine.py` does, and ends as it does;
 - if `trace` isn't stuck, `run` of each image writes what `trace` of the objects does, and ends as it does; if it is,
@@ -39,8 +39,8 @@ from made_objects import made_list
 from object_faults import NAMES as FAULTS, object_fault, told
 from object_items import first_fault
 from plain_link import plain as plain_of
+from size_report import left_by_zc
 from symbolic_machine import NAMES as WHYS, trace as trace_of
-from zc_link import zc as zc_of
 from zcld_tools import TOP, programs
 from zcld_tools.elf import (ABS, ALIGN, CODE_FLAGS, COMMON, CONSTANT_FLAGS, DATA_FLAGS, HEADER, HI20, INFO_LINK, INIT_ARRAY,
                             MERGE, NOBITS, NONE, PCREL_HI20, PROGBITS, RELA, RELAX, RELOCATABLE, RVC_JUMP, R_32, STRINGS,
@@ -79,7 +79,7 @@ NAMES = {'refused': FAULTS, 'stopped': REASONS, 'stuck': WHYS}
 LINKS = ('zc', 'plain')
 # The outcomes after which the program itself may have written.
 RUNS = ('exited', 'stopped', 'stuck', 'spent', 'write fault', 'out of memory')
-# The outcomes after which `plain` may have written the text's length, or a part of it.
+# The outcomes after which a link may have written its text, or a part of it.
 SHOWS = ('done', 'write fault', 'out of memory')
 
 EDGES = (0, 1, 2, 3, 4, 5, 6, 7, 8, 9, 17, 39, 40, 41, 51, 52, 53, 0x7F, 0x80, 0xFF, 0xFFFE, 0xFFFF, 0x10000, 0x10001,
@@ -371,7 +371,7 @@ class Ended:
         self.out, self.name, self.line, self.err = out, 'done', b'', err
         if (status, err) != (0, b'') or command not in LINKS:
             self.find(command, status, err)
-        may_write = {'zc': (), 'plain': SHOWS}.get(command, RUNS)
+        may_write = SHOWS if command in LINKS else RUNS
         if self.name not in may_write and self.out or (command in LINKS or self.name not in RUNS) and self.err:
             raise Wrong(f'{command}: {self.name}, but it wrote {self.out[:80]!r} and {self.err[:80]!r}')
 
@@ -500,7 +500,10 @@ class Case:
                                  ('plain', '--out', place['plain'], '--out', place['plain'], *names),
                                  ('plain', '--out', place['plain'], '--cert', place['cert'], *names),
                                  ('plain', '--steps', STEPS, '--out', place['plain'], *names),
-                                 ('run', '--step', STEPS, names[0]), ('run', '-' + names[0])))
+                                 ('run', '--step', STEPS, names[0]), ('run', '-' + names[0]), ('run', '--help'),
+                                 ('zc', '-h', *names), ('run', '--', names[0], names[0]), ('trace', '--'),
+                                 ('plain', '--out', '--', *names), ('run', f'--steps={steps}', names[0]),
+                                 ('zc', *names, f'--out={place["out"]}', '--cert', place['out'])))
         before = files_in(folder)
         if program.call(*words).name != 'usage':
             raise Wrong(f'{words}: not refused as usage')
@@ -541,20 +544,19 @@ class Case:
     def check_plain(self, plain, before, after):
         if plain.name == 'done' or plain.out:
             image, length = plain_of(self.files)
-            line = f'plain text {length}\n'.encode()
             if plain.name == 'done' and after.get('plain') != image:
                 raise Wrong('plain: done, but the image is another')
-            if not (plain.out == line if plain.name == 'done' else line.startswith(plain.out)):
-                raise Wrong(f'plain: {plain.name} with {plain.out!r}, but the text has {length} bytes')
+            check_text('plain', plain, b'plain text %d\n' % length)
         self.check_others(plain, 'plain', ('plain',) if plain.name in SHOWS else (), before, after)
 
     def check_files(self, linked, before, after):
-        if linked.name == 'done':
-            image, _, certificate = zc_of(self.files)
-            if after.get('out') != image:
+        if linked.name == 'done' or linked.out:
+            left = left_by_zc(self.files)
+            if linked.name == 'done' and after.get('out') != left.image:
                 raise Wrong('zc: done, but the image is another')
-            if after.get('cert') != certificate:
+            if linked.name == 'done' and after.get('cert') != left.certificate:
                 raise Wrong('zc: done, but the certificate is another')
+            check_text('zc', linked, left.report)
         written = {'done': ('out', 'cert'), 'write fault': ('out',), 'out of memory': ('out',)}.get(linked.name, ())
         self.check_others(linked, 'zc', written, before, after)
 
@@ -564,6 +566,12 @@ class Case:
                          for files in (before, after))
         if before != after:
             raise Wrong(f'{command}: {ended.name}, but a file changed: {sorted(after)}')
+
+
+def check_text(command, ended, text):
+    """A link has written its text, or a part of it if it isn't done."""
+    if not (ended.out == text if ended.name == 'done' else text.startswith(ended.out)):
+        raise Wrong(f'{command}: {ended.name} with {ended.out[:200]!r} in place of {text[:200]!r}')
 
 
 def check_refusal(command, ended, fault, accepted):

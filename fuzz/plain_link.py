@@ -93,6 +93,10 @@ class Plain:
             struct.pack_into('<I', data, at, self.value(target) & 0xFFFFFFFF)
         return bytes(data)
 
+    def length(self):
+        """How many bytes of text there are."""
+        return self.end - TEXT_AT
+
     def start(self):
         """The address at which a run begins."""
         return self.addresses[self.code.entry()]
@@ -105,7 +109,7 @@ class Plain:
 def plain(files):
     """The plain image of files without a fault, and how many bytes of text it has."""
     made = Plain([Object(data) for data in files])
-    return made.image(), made.end - TEXT_AT
+    return made.image(), made.length()
 
 
 def main():

@@ -96,10 +96,11 @@ def holds(f3, a, b):
 
 
 class Machine:
-    """The state of a run: the place, the registers, data and stack, the input, and what was written to each stream."""
+    """The state of a run: the place, the registers, data and stack, the input, what was written to each stream, and the steps so
+    far."""
 
     def __init__(self, objects, given):
-        self.code, self.given = Code(objects), given
+        self.code, self.given, self.steps = Code(objects), given, 0
         self.place = self.code.entry()
         self.registers = [NOTHING] * 32
         self.registers[0], self.registers[SP] = 0, STACK_HIGH
@@ -352,20 +353,24 @@ class Machine:
         return size
 
 
-def trace(files, given, steps):
-    """What `trace` writes to each stream, without its line, and its line."""
-    machine = Machine([Object(data) for data in files], given)
-    line = 'spent'
-    for _ in range(steps):
+def run(machine, steps):
+    """The line that a run of so many steps at most ends with."""
+    while machine.steps < steps:
         try:
             status = machine.step()
         except Stuck as why:
             number, = why.args
-            line = 'stuck {} {} {} {} {}'.format(*machine.place, number, NAMES[number])
-            break
+            return 'stuck {} {} {} {} {}'.format(*machine.place, number, NAMES[number])
+        machine.steps += 1
         if status is not None:
-            line = f'exited {status}'
-            break
+            return f'exited {status}'
+    return 'spent'
+
+
+def trace(files, given, steps):
+    """What `trace` writes to each stream, without its line, and its line."""
+    machine = Machine([Object(data) for data in files], given)
+    line = run(machine, steps)
     return machine.written[1], machine.written[2], line.encode()
 
 

@@ -2,18 +2,19 @@
 
     fuzz/zc_link.py OUT FILE...
 
-writes the image of the files under OUT, and says how long the text is and what it is made of, and the certificate of its jump
-table; or it says their first fault. It knows nothing of the program, so that both can be compared. A group (groups.py) is a
-piece of a fixed size, and what stands inside one has no address. The table (tables.py) is the best one (certificates.py) for
-the layout without one, and then all sizes are settled anew.
+writes the image of the files under OUT, and prints the certificate of its jump table; or it says their first fault. It knows
+nothing of the program, so that both can be compared. A group (groups.py) is a piece of a fixed size, and what stands inside
+one has no address. The table (tables.py) is the best one (certificates.py) for the layout without one, and then all sizes are
+settled anew. What is printed of the sizes is in size_report.py.
 """
 import os
 import struct
 import sys
+from typing import NamedTuple
 
 sys.path.insert(0, os.path.join(os.path.dirname(os.path.abspath(__file__)), os.pardir, 'scripts'))
 
-from certificates import best, write_certificate
+from certificates import Certificate, best, write_certificate
 from groups import FROM_SAVED, TO_SAVED, groups_of, places_outside
 from halfwords import short_form
 from object_data import CODE, aligned
@@ -146,29 +147,37 @@ class Zc(Plain):
                 'move': sum(form in (TO_SAVED, FROM_SAVED) for form in forms), 'table': len(self.table.through)}
 
 
+class Linked(NamedTuple):
+    """The link of some files, with its table: what a table could save, and the certificate of this one, the best."""
+
+    link: Zc
+    savings: list
+    certificate: Certificate
+
+    def certificate_text(self):
+        return write_certificate(self.savings, self.certificate)
+
+
 def link_of(files):
-    """The link of files without a fault, with the best table, and the text of its certificate."""
+    """The link of files without a fault, with the best table."""
     objects = [Object(data) for data in files]
     link = Zc(objects)
     savings = savings_of(link)
     certificate = best(savings)
     if certificate.slots:
         link = Zc(objects, Table(link, savings, certificate.slots))
-    return link, write_certificate(savings, certificate)
+    return Linked(link, savings, certificate)
 
 
 def zc(files):
     """The image of files without a fault, how many bytes of text it has, and the text of its certificate."""
-    link, certificate = link_of(files)
-    return link.image(), link.end - TEXT_AT, certificate
+    linked = link_of(files)
+    return linked.link.image(), linked.link.length(), linked.certificate_text()
 
 
 def main():
-    link, certificate = link_of(without_fault(sys.argv[2:]))
-    write(sys.argv[1], link.image())
-    print('zc text', link.end - TEXT_AT)
-    for name, count in link.counts().items():
-        print(name, count)
+    image, _, certificate = zc(without_fault(sys.argv[2:]))
+    write(sys.argv[1], image)
     print(certificate.decode(), end='')
 
 

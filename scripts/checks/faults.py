@@ -6,14 +6,14 @@ from changed_files import WORD, changed, changed_images, changed_objects
 from zcld_tools.instructions import A0, EBREAK, ECALL, NOP, SP, ZERO, addi, branch, jalr, lw, words_of
 from zcld_tools.programs import CERTIFICATE
 
-from checks.made_files import (LARGE, LARGE_IMAGE, MIB, OLD, OTHER, OTHER_TEXT, SHORT_SIZES, THREE, THREE_IMAGE, THREE_TEXT,
-                               exit_code, image_of, image_of_several, long_code, object_of)
+from checks.made_files import (LARGE, LARGE_LEFT, MIB, OLD, OTHER, OTHER_TEXT, SHORT_SIZES, THREE, THREE_IMAGE, THREE_TEXT,
+                               exit_code, image_of, left_of_several, long_code, object_of)
 
 LATER = object_of(words_of(ECALL), b'later')
 
 # Words that spell a command, and how its call ends. A line has a space between words, so two spaces are an empty word.
 COMMANDS = (
-    ('zc --cert cert --out out object', 0, ''), ('zc --out  --cert cert object', 123, 'write fault'),
+    ('zc --out  --cert cert object', 123, 'write fault'),
     ('zc --out out --cert  object', 123, 'write fault'), ('zc --out out --cert cert object  object', 122, 'read fault'),
     ('plain --out  object', 123, 'write fault'), ('plain --out out object  object', 122, 'read fault'),
     ('run ', 122, 'read fault'), ('run --plan  image', 122, 'read fault'), ('run --plan plan image', 3, 'exited 3'),
@@ -28,8 +28,8 @@ COMMANDS = (
 
 # Words that spell none. In this order: no command, or none of this name; a required option is missing; an option that isn't the
 # command's; one twice; a value that begins with `-`, or none; the two files that are written are one; a positional word that
-# begins with `-`, also as the last of several, or none, or two images; an option after a file; and no number, or one that is too
-# long or too large.
+# begins with `-`, also as the last of several, or none, or two images; an option after a file that isn't the command's, or that
+# was given; and no number, or one that is too long or too large.
 NO_COMMANDS = '''
 frob object
 ZC --out out --cert cert object
@@ -60,11 +60,9 @@ run --plan plan --plan plan image
 run --plan plan --steps 3 --plan plan image
 plain --out -o object
 zc --out -o --cert cert object
-zc --out out --cert - object
 zc --out --cert cert object
 run --steps -1 image
 run --steps
-run --plan - image
 run --plan --steps 3 image
 run --plan
 zc --out out --cert out object
@@ -84,14 +82,7 @@ run --steps 3 --plan plan
 run image image
 check
 check plan plan
-plain object --out out
-zc object --out out --cert cert
-run image --steps 3
-run image --plan plan
-run --plan plan image --steps 3
-trace object --steps 3
 check plan --steps 3
-zc --out out object --cert cert
 zc --out out --cert cert object --out out object
 run --steps  image
 trace --steps  object
@@ -116,7 +107,7 @@ def statuses(group):
                           **{f'code{k}': object_of(words_of(*it)) for k, it in enumerate(STUCK)},
                           **{f'exit{k}': image_of(exit_code(k)) for k in (0, 117, 118, 255)})
     rows = (
-        ('zc --out out --cert cert object', 0, ''), ('run image', 3, 'exited 3'), ('trace object', 3, 'exited 3'),
+        ('run image', 3, 'exited 3'), ('trace object', 3, 'exited 3'),
         ('run exit0', 0, 'exited 0'), ('run exit117', 117, 'exited 117'), ('run exit118', 118, 'exited 118'),
         ('run exit255', 118, 'exited 255'), ('frob', 120, 'usage'), ('zc --out out --cert out object', 120, 'usage'),
         ('run', 120, 'usage'), ('plain object', 120, 'usage'), ('plain --out o', 120, 'usage'),
@@ -144,6 +135,10 @@ def statuses(group):
     for call, status, line in rows:
         group.ends(call, folder.run(call.split()), status, line)
     group.same('no refused call put a file', [folder.read(name) for name in ('o', 'c')], [None, None])
+    group.done('zc', folder.link(), folder)
+    group.plain_done('plain', folder.plain(), folder, [THREE])
+    group.same('check', folder.run(('check', 'cert')), (0, b'net 0\n', b''))
+    group.same('make', folder.run(('make', '5', '0')).status, 0)
 
 
 def words(group):
@@ -155,6 +150,7 @@ def words(group):
     folder = group.folder(image=THREE_IMAGE, plan=b'zcld plan 1\n', out=OLD, cert=OLD)
     for call in NO_COMMANDS.splitlines():
         group.refused(call, folder.run(call.split(' ')), folder, 120, 'usage')
+    group.done('options in another order', folder.run('zc --cert cert --out out object'.split()), folder)
     group.done('the object by its own name', folder.link(out='object'), folder, out='object')
     folder = group.folder(out=OLD, cert=OLD)
     os.rename(folder.path('object'), os.path.join(os.fsencode(folder.place), b'\xff'))
@@ -181,7 +177,7 @@ def inputs(group):
     group.ends('an image over its limit', folder.run(('run', 'image_over')), 122, 'read fault')
     group.done('an object from a pipe', folder.link('/dev/stdin', given=THREE), folder)
     folder.pipes(fifo=LARGE)
-    group.done('an object from a named pipe', folder.link('fifo'), folder, image=LARGE_IMAGE)
+    group.done('an object from a named pipe', folder.link('fifo'), folder, left=LARGE_LEFT)
     for size, status, line in ((0, 3, 'exited 3'), (16 * MIB, 3, 'exited 3'), (16 * MIB + 1, 122, 'read fault')):
         folder.write('input', bytes(size))
         with open(folder.path('input'), 'rb') as given:
@@ -225,8 +221,8 @@ def lists_of_straight_code(group, folder):
     """Lists of objects in several orders, of which each is linked and exits."""
     texts = {'object': (THREE_TEXT, SHORT_SIZES), 'other': (OTHER_TEXT, SHORT_SIZES), 'later': (words_of(ECALL), (4,))}
     for names, entry in ((('object', 'other'), 0), (('other', 'object'), 10), (('later', 'other', 'object'), 14)):
-        image = image_of_several(*zip(*(texts[name] for name in names)), entry)
-        group.done(f'zc {names}', folder.link(*names), folder, image=image)
+        left = left_of_several(*zip(*(texts[name] for name in names)), entry)
+        group.done(f'zc {names}', folder.link(*names), folder, left=left)
         group.exits(f'run {names}', folder.run(('run', 'out')), 3)
         group.exits(f'trace {names}', folder.run(('trace', *names)), 3)
 
@@ -236,8 +232,8 @@ def lists_of_most_objects(group, folder):
     many = [f'many{i}' for i in range(255)]
     for name in many:
         folder.write(name, object_of(words_of(ECALL), name.encode()))
-    image = image_of_several([THREE_TEXT, *[words_of(ECALL)] * 255], [SHORT_SIZES, *[(4,)] * 255], 0)
-    group.done('256 objects', folder.link('object', *many), folder, image=image)
+    left = left_of_several([THREE_TEXT, *[words_of(ECALL)] * 255], [SHORT_SIZES, *[(4,)] * 255], 0)
+    group.done('256 objects', folder.link('object', *many), folder, left=left)
     group.ends('257 objects', folder.link('object', *many, 'other'), 121, 'refused 256 17 TooLarge')
 
 

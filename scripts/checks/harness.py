@@ -10,11 +10,11 @@ import threading
 
 from certificates import answer
 from plain_link import plain as plain_of
-from zc_link import zc as zc_of
+from size_report import left_by_zc
 from zcld_tools import files, programs
-from zcld_tools.programs import CERTIFICATE, limit
+from zcld_tools.programs import limit
 
-from checks.made_files import OLD, THREE, THREE_IMAGE
+from checks.made_files import OLD, THREE, THREE_LEFT
 
 LINK = ('zc', '--out', 'out', '--cert', 'cert')
 
@@ -161,10 +161,15 @@ class Group:
         for words in (('run', 'out'), ('trace', *names)):
             self.exits(f'{what}, {words[0]}', folder.run(words, given), status, out)
 
-    def done(self, what, ended, folder, out='out', cert='cert', image=THREE_IMAGE, certificate=CERTIFICATE):
-        self.ends(what, ended, 0, '')
-        self.same(f'{what}: OUT', folder.read(out), image)
-        self.same(f'{what}: CERT', folder.read(cert), certificate)
+    def reports(self, what, ended, report=THREE_LEFT.report):
+        """A link has printed its report."""
+        self.same(what, ended, (0, report, b''))
+
+    def done(self, what, ended, folder, out='out', cert='cert', left=THREE_LEFT):
+        """The same, and what then stands under OUT and CERT."""
+        self.reports(what, ended, left.report)
+        self.same(f'{what}: OUT', folder.read(out), left.image)
+        self.same(f'{what}: CERT', folder.read(cert), left.certificate)
 
     def plain_done(self, what, ended, folder, objects, out='out'):
         """A plain link: the image under OUT, and the text's length."""
@@ -196,10 +201,9 @@ class Group:
 
     def linked_small(self, what, objects):
         """A folder with the image that `zc` makes of a list under OUT, and its certificate under CERT, which `check` accepts."""
-        folder = self.folder()
-        image, _, certificate = zc_of(objects)
-        self.done(what, folder.link(*folder.write_list(objects)), folder, image=image, certificate=certificate)
-        self.same(f'{what}: check', folder.run(('check', 'cert')), (0, answer(certificate).encode() + b'\n', b''))
+        folder, left = self.folder(), left_by_zc(objects)
+        self.done(what, folder.link(*folder.write_list(objects)), folder, left=left)
+        self.same(f'{what}: check', folder.run(('check', 'cert')), (0, answer(left.certificate).encode() + b'\n', b''))
         return folder
 
 

@@ -1,35 +1,35 @@
 """Images, byte for byte, and that they do what their objects do."""
 import os
-import shutil
 
 import plain_examples
 import zc_examples
 from plain_link import plain as plain_of
 from zc_link import zc as zc_of
 from zcld_tools import TOP
+from zcld_tools.files import read
 from zcld_tools.images import text_of
 from zcld_tools.instructions import words_of
-from zcld_tools.programs import CERTIFICATE
 
 from checks.harness import runs_of
-from checks.made_files import LARGE, LARGE_IMAGE, THREE, THREE_IMAGE, image_of, long_code, object_of
+from checks.load import SMALL
+from checks.made_files import LARGE, LARGE_LEFT, THREE, left_of, long_code, object_of
 
 
 def stored_run(group):
-    """the stored run's files, byte for byte"""
-    with open(os.path.join(TOP, 'crates/zcld/args'), encoding='utf-8') as file:
-        words = file.read().splitlines()
+    """the stored run, which writes no file"""
+    words, printed = (read(os.path.join(TOP, 'crates/zcld', name)) for name in ('args', 'stdout'))
     folder = group.folder()
-    data = os.path.join(TOP, 'crates/zcld/data')
-    for name in os.listdir(data):
-        shutil.copy(os.path.join(data, name), folder.place)
-    group.ends('the stored run', folder.run(words), 0, '')
-    group.same('OUT', folder.read(words[words.index('--out') + 1]), THREE_IMAGE)
-    group.same('CERT', folder.read(words[words.index('--cert') + 1]), CERTIFICATE)
-    # code may take 256 KiB, with its alignment of 4
+    group.same('what it must print', printed, SMALL)
+    group.same('the stored run', folder.run(words.decode().split()), (0, SMALL, b''))
+    group.same('no file', os.listdir(folder.place), ['object'])
+
+
+def large_code(group):
+    """a little code, much, and the most: 256 KiB, with its alignment of 4"""
     folder = group.folder(large=LARGE, most=object_of(long_code(65535)), more=object_of(long_code(65536)))
-    group.done('large code', folder.link('large'), folder, image=LARGE_IMAGE)
-    group.done('the most code', folder.link('most'), folder, image=image_of(long_code(65535)))
+    group.done('three words', folder.link(), folder)
+    group.done('large code', folder.link('large'), folder, left=LARGE_LEFT)
+    group.done('the most code', folder.link('most'), folder, left=left_of(long_code(65535)))
     group.ends('more code', folder.link('more'), 121, 'refused 0 17 TooLarge')
 
 

@@ -8,7 +8,7 @@ from zcld_tools.programs import in_memory, limit
 
 from checks import strace
 from checks.harness import LINK, Skipped
-from checks.made_files import LARGE, LARGE_IMAGE, MIB, OLD, THREE, THREE_IMAGE
+from checks.made_files import LARGE, LARGE_LEFT, MIB, OLD, THREE, THREE_IMAGE
 
 
 def memories(folder):
@@ -29,10 +29,10 @@ def little_memory(group):
         ended = folder.link(first=in_memory(memory))
         seen.add(ended.status)
         if ended.status == 0:
-            group.done(f'{memory} bytes', ended, folder, image=LARGE_IMAGE)
+            group.done(f'{memory} bytes', ended, folder, left=LARGE_LEFT)
         else:
             group.ends(f'{memory} bytes', ended, 124, 'out of memory')
-            group.one_of(f'{memory} bytes: OUT', folder.read('out'), (OLD, LARGE_IMAGE))
+            group.one_of(f'{memory} bytes: OUT', folder.read('out'), (OLD, LARGE_LEFT.image))
             group.one_of(f'{memory} bytes: CERT', folder.read('cert'), (OLD,))
         group.alone(f'{memory} bytes', folder)
         for words in (('run', 'image'), ('run', '--plan', 'plan', 'image')):

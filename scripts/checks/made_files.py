@@ -1,8 +1,10 @@
 """Small objects and images, as docs/FORMATS.md has them, and what a link of them leaves."""
+from size_report import Left
 from zcld_tools.images import COMPRESSED, TEXT_AT, image_bytes
 from zcld_tools.instructions import (A0, A1, A2, A7, ECALL, EXIT_WORDS, READ_CALL, SP, T0, WRITE_CALL, ZERO, addi, branch,
                                      jal, words_of)
 from zcld_tools.objects import object_with
+from zcld_tools.programs import CERTIFICATE
 
 MIB = 1 << 20
 OLD = b'what was there'
@@ -30,6 +32,21 @@ def image_of_several(texts, sizes, entry):
     return image_bytes(b''.join(texts), places, b'', 0, TEXT_AT + entry, COMPRESSED)
 
 
+def left_of_several(texts, sizes, entry):
+    """What `zc` leaves of objects with this code: the image, and a report of items that are written by themselves, of which none
+    is a far jump."""
+    all_sizes = [size for sizes_of_one in sizes for size in sizes_of_one]
+    rows = {'plain text': 4 * len(all_sizes), 'zc text': sum(all_sizes), 'items': len(all_sizes), 'short': all_sizes.count(2),
+            **dict.fromkeys(('long', 'push', 'pop', 'move', 'table', 'slots', 'net'), 0)}
+    report = ''.join(f'{name} {number}\n' for name, number in rows.items()).encode()
+    return Left(image_of_several(texts, sizes, entry), CERTIFICATE, report)
+
+
+def left_of(text, sizes=None):
+    """The same of one object."""
+    return left_of_several([text], [sizes or (4,) * (len(text) // 4)], 0)
+
+
 # ---- programs that exit
 
 EXIT = words_of(*EXIT_WORDS)
@@ -48,8 +65,9 @@ THREE, OTHER = object_of(exit_code(3)), object_of(exit_code(4), b'other')
 # "c.li a0,3" and "c.li a0,4" (Zca), and the rest as it is
 THREE_TEXT, OTHER_TEXT = bytes.fromhex('0d45') + EXIT, bytes.fromhex('1145') + EXIT
 SHORT_SIZES = 2, 4, 4
-THREE_IMAGE = image_of(THREE_TEXT, SHORT_SIZES)
-LARGE, LARGE_IMAGE = object_of(long_code(16384)), image_of(long_code(16384))
+THREE_LEFT = left_of(THREE_TEXT, SHORT_SIZES)
+THREE_IMAGE = THREE_LEFT.image
+LARGE, LARGE_LEFT = object_of(long_code(16384)), left_of(long_code(16384))
 
 
 # ---- programs that read and write

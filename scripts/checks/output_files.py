@@ -11,7 +11,7 @@ from plain_link import plain as plain_of
 from zcld_tools.programs import CERTIFICATE, TIME_OUT, limit
 
 from checks.harness import Folder, Skipped, broken_pipe
-from checks.made_files import LARGE, LARGE_IMAGE, OLD, THREE, THREE_IMAGE
+from checks.made_files import LARGE, LARGE_LEFT, OLD, THREE, THREE_IMAGE, THREE_LEFT
 
 NOBODY = 65534
 # Names under which no file can be put.
@@ -24,10 +24,10 @@ def devices(group):
     null, full = folder.device('null', 3), folder.device('full', 7)
     group.refused('OUT is full', folder.link(out=full), folder)
     group.refused('CERT is full', folder.link(cert=full), folder, out=THREE_IMAGE)
-    group.ends('a device by two names', folder.link(out=null, cert=os.path.join(os.path.dirname(null), '.', 'null')), 0, '')
+    group.reports('a device by two names', folder.link(out=null, cert=os.path.join(os.path.dirname(null), '.', 'null')))
     group.ends('a name below a device', folder.link(out=null, cert=null + '/x'), 123, 'write fault')
     os.symlink(null, folder.path('link'))
-    group.ends('OUT is a link to a device', folder.link(out='link'), 0, '')
+    group.reports('OUT is a link to a device', folder.link(out='link'))
     group.same('the link stays', folder.is_link('link'), True)
     group.same('the device stays', stat.S_ISCHR(os.stat(null).st_mode), True)
     with open(full, 'wb') as err:
@@ -47,19 +47,20 @@ def outputs(group):
     found = []
     reader = threading.Thread(target=lambda: found.append(folder.read('fifo')), daemon=True)
     reader.start()
-    group.ends('a named pipe', folder.link(out='fifo'), 0, '')
+    group.reports('a named pipe', folder.link(out='fifo'))
     if not found:
         reader.join(TIME_OUT)
     group.same('what the pipe gave', found, [THREE_IMAGE])
     stream = folder.stream()
-    group.same('a pipe by the name of a stream', folder.link(out=stream), (0, THREE_IMAGE, b''))
+    group.same('a pipe by the name of a stream', folder.link(out=stream), (0, THREE_IMAGE + THREE_LEFT.report, b''))
     with open(folder.path('gone'), 'w+b') as gone:
         os.remove(folder.path('gone'))
         gone.write(b'x' * 1000)
         gone.flush()
         group.ends('an open file without a name', folder.link(out=stream, stdout=gone), 0, '')
         gone.seek(0)
-        group.same('what stands in it', gone.read(), THREE_IMAGE)
+        # the file was emptied, and standard output goes on where it was
+        group.same('what stands in it', gone.read(), THREE_IMAGE.ljust(1000, b'\0') + THREE_LEFT.report)
     deep = './' * 2045 + 'out'
     group.refused('a name that leaves the hidden name no room', folder.link(out=deep), folder, cert=CERTIFICATE)
 
@@ -225,7 +226,7 @@ def kills(group):
         time.sleep(0.0001 * turn)
         begun.kill()
         killed += begun.wait(TIME_OUT) == -signal.SIGKILL
-        group.one_of('killed: OUT', folder.read('out'), (OLD, LARGE_IMAGE))
+        group.one_of('killed: OUT', folder.read('out'), (OLD, LARGE_LEFT.image))
         group.one_of('killed: CERT', folder.read('cert'), (None, CERTIFICATE))
         folder.remove()
     group.same('some were killed', killed > 0, True)
@@ -235,8 +236,9 @@ def two_runs(group):
     """two runs at once"""
     for turn in range(20):
         folder = group.folder(large=LARGE)
-        begun = [folder.begin_link(name, stderr=subprocess.PIPE) for name in ('object', 'large')]
-        group.same(f'turn {turn}', [(it.communicate(timeout=TIME_OUT)[1], it.returncode) for it in begun], [(b'', 0)] * 2)
-        group.one_of(f'turn {turn}: OUT', folder.read('out'), (THREE_IMAGE, LARGE_IMAGE))
+        begun = [folder.begin_link(name, stdout=subprocess.PIPE, stderr=subprocess.PIPE) for name in ('object', 'large')]
+        ended = [(*it.communicate(timeout=TIME_OUT), it.returncode) for it in begun]
+        group.same(f'turn {turn}', ended, [(left.report, b'', 0) for left in (THREE_LEFT, LARGE_LEFT)])
+        group.one_of(f'turn {turn}: OUT', folder.read('out'), (THREE_IMAGE, LARGE_LEFT.image))
         group.same(f'turn {turn}: CERT', folder.read('cert'), CERTIFICATE)
         group.alone(f'turn {turn}', folder)

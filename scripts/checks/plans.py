@@ -122,7 +122,7 @@ def plan_files(group):
     group.exits('the image is read first', folder.run(('run', '--plan', 'second', 'first')), 3)
     if strace.is_there():
         folder.write('plan', b'bad')
-        calls = strace.calls_of(('run', '--plan', 'plan', 'bad'), folder, 'bad')
+        calls = strace.calls_of(('run', '--plan', 'plan', 'bad'), folder, 'openat', 'bad')
         opened = [call.words.split('"')[1] for call in calls if call.name == 'openat']
         group.same('files that are opened', opened, ['bad', 'plan'])
 

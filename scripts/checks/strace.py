@@ -44,8 +44,8 @@ class Call:
         return f'{self.name} {self.number} ({self.words[:60]})'
 
 
-def calls_of(words, folder, first_file):
-    """The calls of a run, from the one that opens this file on."""
+def calls_of(words, folder, name, first_file):
+    """The calls of a run, from the first of this name on that names this file."""
     log = folder.path('log')
     folder.run(words, before=('strace', '-qq', '-o', log))
     with open(log, encoding='utf-8', errors='replace') as file:
@@ -58,5 +58,5 @@ def calls_of(words, folder, first_file):
             continue
         counts[match[1]] = counts.get(match[1], 0) + 1
         calls.append(Call(match[1], counts[match[1]], match[2]))
-    begins = [i for i, call in enumerate(calls) if call.name == 'openat' and f'"{first_file}"' in call.words]
+    begins = [i for i, call in enumerate(calls) if call.name == name and f'"{first_file}"' in call.words]
     return calls[begins[0]:]

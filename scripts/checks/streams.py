@@ -1,6 +1,9 @@
 """Standard input, output and error: what programs read and write, and streams that are closed, full or broken."""
 import os
 
+from size_report import left_by_zc
+from zcld_tools.programs import CERTIFICATE
+
 from checks import strace
 from checks.harness import broken_pipe
 from checks.made_files import COPY, COPY_IMAGE, MIB, THREE_IMAGE, TWICE
@@ -11,7 +14,7 @@ COPIES, TWO_READS = (('trace', 'copy'), ('run', 'image')), (('trace', 'twice'), 
 def calls(group):
     """programs that read and write, as objects and as images"""
     folder = group.folder(copy=COPY, image=COPY_IMAGE, twice=TWICE)
-    group.ends('zc', folder.link('twice'), 0, '')
+    group.reports('zc', folder.link('twice'), left_by_zc([TWICE]).report)
     for size in (0, 1, 1023, 1024, 1025, 100000, 16 * MIB):
         given = (bytes(range(1, 256)) * (size // 255 + 1))[:size]
         for words in COPIES:
@@ -57,8 +60,10 @@ def streams(group):
     """streams that are closed, full or broken"""
     folder = group.folder(image=THREE_IMAGE)
     group.ends('no input', folder.run(('run', 'image'), first=closing((0,))), 122, 'read fault')
-    for closed in ((0,), (1,), (0, 1), (0, 1, 2)):
-        group.done(f'closed {closed}', folder.link(first=closing(closed)), folder)
+    group.done('closed input', folder.link(first=closing((0,))), folder)
+    for closed in ((1,), (0, 1), (0, 1, 2)):
+        ended = folder.link(first=closing(closed))
+        group.refused(f'closed {closed}', ended, folder, 123, '' if 2 in closed else 'write fault', THREE_IMAGE, CERTIFICATE)
     for closed in ((1,), (2,), (0, 1, 2)):
         ended = folder.link('image', out='o', cert='c', first=closing(closed))
         group.ends(f'a refusal with closed {closed}', ended, 121, '' if 2 in closed else 'refused 0 1 NotElf')

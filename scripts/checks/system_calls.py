@@ -1,58 +1,87 @@
 """Faults at each system call of a run."""
-from zcld_tools.programs import CERTIFICATE
+from typing import NamedTuple
+
+from made_load import made_objects, summary
 
 from checks import strace
 from checks.harness import LINK
-from checks.made_files import OLD, THREE_IMAGE
+from checks.made_files import OLD, THREE_IMAGE, THREE_LEFT
 
 # Calls for memory, which are refused for want of it alone, and calls that a signal may interrupt.
 MEMORY = ('mmap', 'munmap', 'brk', 'mremap', 'madvise', 'mprotect')
 INTERRUPTED = ('read', 'write', 'openat', 'fsync', 'fchmod')
-WORDS = (*LINK, 'object')
+
+
+class Putting(NamedTuple):
+    """A run that puts files: its words, the system call with which its own calls begin, the bytes of each file by its name, in
+    their order, and what it prints after that."""
+
+    words: tuple
+    begins: tuple
+    files: dict
+    out: bytes
+
+
+def runs():
+    objects = {f'p{number}.o': data for number, data in enumerate(made_objects(5, 3))}
+    return (Putting((*LINK, 'object'), ('openat', 'object'), {'out': THREE_LEFT.image, 'cert': THREE_LEFT.certificate},
+                    THREE_LEFT.report),
+            Putting(('make', '--out', 'p', '5', '3'), ('statx', 'p0.o'), objects, summary(5, 3)))
 
 
 def system_calls(group):
-    """faults at each system call of a run"""
+    """faults at each system call of a link, of `make` with PREFIX, and of `run`"""
     strace.need()
-    calls = strace.calls_of(WORDS, group.folder(out=OLD, cert=OLD), 'object')
-    renames = [i for i, call in enumerate(calls) if call.name == 'rename']
-    group.same('two files are renamed', len(renames), 2)
-    group.same('two files and their folder are synced', [call.name for call in calls].count('fsync'), 4)
-    asks = [i for i, call in enumerate(calls) if call.name == 'statx' and '"out"' in call.words][0]
-    for i, call in enumerate(calls):
-        out, cert = (image if i > at else OLD for image, at in zip((THREE_IMAGE, CERTIFICATE), renames))
-        refused = (122, 'read fault') if i < asks else (123, 'write fault')
-        for fault in ('error=EIO', 'error=ENOMEM', 'error=EINTR', 'signal=KILL'):
-            check_fault(group, call, fault, refused, out, cert)
+    for run in runs():
+        faults_of_puts(group, run)
     faults_of_run(group)
 
 
-def check_fault(group, call, fault, refused, out, cert):
-    """Gives this fault to a call of a link, and checks how it ends, and what then stands under OUT and CERT."""
+def faults_of_puts(group, run):
+    """Faults at each system call of a run that puts files, and what then stands under their names."""
+    what, first = run.words[0], next(iter(run.files))
+    calls = strace.calls_of(run.words, group.folder(**dict.fromkeys(run.files, OLD)), *run.begins)
+    renames = [i for i, call in enumerate(calls) if call.name == 'rename']
+    group.same(f'{what}: files that are renamed', len(renames), len(run.files))
+    group.same(f'{what}: files and folders that are synced', [call.name for call in calls].count('fsync'), 2 * len(run.files))
+    asks = [i for i, call in enumerate(calls) if call.name == 'statx' and f'"{first}"' in call.words][0]
+    prints = [i for i, call in enumerate(calls) if call.name == 'write' and call.words.startswith('1, ')]
+    group.same(f'{what}: its text is written once, after the files', len(prints) == 1 and prints[0] > renames[-1], True)
+    for i, call in enumerate(calls):
+        kept = {name: data if i > at else OLD for (name, data), at in zip(run.files.items(), renames)}
+        refused = (122, b'', b'read fault\n') if i < asks else (123, b'', b'write fault\n')
+        for fault in ('error=EIO', 'error=ENOMEM', 'error=EINTR', 'signal=KILL'):
+            check_fault(group, run, call, fault, refused, kept)
+
+
+def check_fault(group, run, call, fault, refused, kept):
+    """Gives this fault to a call of a run that puts files, and checks how it ends, and what then stands under their names."""
     if call.name in MEMORY and fault != 'error=ENOMEM' or fault == 'error=EINTR' and call.name not in INTERRUPTED:
         return
-    folder = group.folder(out=OLD, cert=OLD)
-    what = f'{fault} at {call}'
-    ended = folder.run(WORDS, before=call.fault(fault))
-    if fault == 'signal=KILL':
-        group.one_of(f'{what}: OUT', folder.read('out'), (OLD, THREE_IMAGE))
-        group.one_of(f'{what}: CERT', folder.read('cert'), (OLD, CERTIFICATE))
-    elif call.name in MEMORY:
-        group.one_of(what, (ended.status, ended.err), ((0, b''), (124, b'out of memory\n')))
-        group.one_of(f'{what}: OUT', folder.read('out'), (OLD, THREE_IMAGE))
+    folder = group.folder(**dict.fromkeys(run.files, OLD))
+    what = f'{run.words[0]}, {fault} at {call}'
+    ended, done, no_memory = folder.run(run.words, before=call.fault(fault)), (0, run.out, b''), (124, b'', b'out of memory\n')
+    if call.name in MEMORY:
+        group.one_of(what, ended, (done, no_memory))
+    elif fault == 'signal=KILL':
+        pass    # it may have ended anywhere, and what stands is checked below
     elif fault == 'error=EINTR' or call.name == 'close':
-        group.done(what, ended, folder)
-    elif fault == 'error=ENOMEM':
-        group.refused(what, ended, folder, 124, 'out of memory', out, cert)
+        group.same(what, ended, done)
+        kept = run.files
     else:
-        group.refused(what, ended, folder, *refused, out, cert)
+        group.same(what, ended, no_memory if fault == 'error=ENOMEM' else refused)
+    for name, data in run.files.items():
+        is_free = fault == 'signal=KILL' or call.name in MEMORY
+        group.one_of(f'{what}: {name}', folder.read(name), (OLD, data) if is_free else (kept[name],))
+    if fault != 'signal=KILL':
+        group.alone(what, folder)
     folder.remove()
 
 
 def faults_of_run(group):
     """Faults at each system call of a run of an image under a plan."""
     folder, words = group.folder(image=THREE_IMAGE, plan=b'zcld plan 1\ncut 0\n'), ('run', '--plan', 'plan', 'image')
-    for call in strace.calls_of(words, folder, 'image'):
+    for call in strace.calls_of(words, folder, 'openat', 'image'):
         for error, refusal in (('EIO', (122, b'read fault\n')), ('ENOMEM', (124, b'out of memory\n'))):
             ended = folder.run(words, before=call.fault(f'error={error}'))
             if call.name in MEMORY:

@@ -1,0 +1,116 @@
+"""Lists of words of which one may doubt whether they spell a command, and which: the program does what that command does."""
+from plain_link import plain as plain_of
+from zcld_tools.programs import CERTIFICATE
+
+from checks.made_files import OTHER, THREE, THREE_IMAGE
+
+# What stands under the names in the lists. Objects whose list has two have two names, so that they can be linked.
+FILES = {'x.o': THREE, 'y.o': OTHER, 'zc': THREE, 'help': THREE, '-': THREE, '-x.o': THREE, '--out': THREE, 'b': OTHER,
+         '--': OTHER, 'i': THREE_IMAGE, 'j': THREE_IMAGE, 'p': b'zcld plan 1\n', 'c': CERTIFICATE, 'd': CERTIFICATE}
+
+# Lists that spell no command. A line has a space between words, so two spaces are an empty word. In this order: no command, or
+# none of this name, and words that ask for help or a version; options before the command; an option or a file is missing; a value
+# that begins with `-`; an option twice, or not of this name; help behind a command's name; the two files that are written are one;
+# no number, or one too large or too long; and positional words too many or too few.
+NO_COMMANDS = '''\
+frob
+help
+help zc
+help frob
+-h
+--help
+--version
+-V
+--
+-
+Plain --out a x.o
+plai --out a x.o
+-- plain --out a x.o
+--out a plain x.o
+plain
+plain --out a
+plain x.o
+plain help
+plain --out a --
+plain --out -a x.o
+plain --out -- x.o
+plain --out --out x.o
+plain --out --help x.o
+plain --out a -x.o
+plain --out a -1
+plain --out a --out b x.o
+plain --out a x.o --out=b
+plain --ou a x.o
+plain --OUT a x.o
+plain -out a x.o
+plain -o a x.o
+plain --=a --out a x.o
+plain --cert c --out a x.o
+plain --out a x.o -h
+plain --out a x.o --help
+zc --out a --cert a x.o
+zc --out --cert c x.o
+run --steps 1000000001 i
+run --steps 000000000000000000005 i
+run --steps +5 i
+run --steps -5 i
+run --steps 5 i j
+trace --steps 5
+check
+check c d
+make 5
+make 18446744073709551616 0
+make 5 --out p 1601'''.split('\n')
+
+
+def plain(out, *names):
+    """How a plain link ends, and the file that it leaves."""
+    image, length = plain_of([FILES[name] for name in names])
+    return 0, '', b'plain text %d\n' % length, {out: image}
+
+
+# How a run of the image ends; a link whose OUT or object has no name; and links with a certificate, one of them under another name
+# of the image's file, which isn't overwritten.
+EXITED = 3, 'exited 3', b'', {}
+NO_OUT, NO_OBJECT = (123, 'write fault', b'', {}), (122, 'read fault', b'', {})
+LINKED, ONE_FILE = (0, '', None, {'a': THREE_IMAGE, 'c': CERTIFICATE}), (123, 'write fault', b'', {'a': THREE_IMAGE})
+
+# Lists that spell a command, with the status, the line, the output if it is always the same, and the files. In this order: a value
+# in the option's own word; values and files that are `-`, or nothing, or have a `=`; words behind `--`; options between and behind
+# files; names of commands as files; and numbers.
+COMMANDS = (
+    ('plain --out a x.o', plain('a', 'x.o')), ('plain --out=a x.o', plain('a', 'x.o')), ('plain --out= x.o', NO_OUT),
+    ('plain --out=-a x.o', plain('-a', 'x.o')), ('plain --out=-- x.o', plain('--', 'x.o')),
+    ('plain --out=a=b x.o', plain('a=b', 'x.o')), ('plain --out a=b x.o', plain('a=b', 'x.o')),
+    ('plain --out - x.o', plain('-', 'x.o')), ('plain --out a -', plain('a', '-')), ('plain --out  x.o', NO_OUT),
+    ('plain --out a ', NO_OBJECT),
+    ('plain --out a -- -x.o', plain('a', '-x.o')), ('plain --out a -- --out b', plain('a', '--out', 'b')),
+    ('plain --out a x.o -- y.o', plain('a', 'x.o', 'y.o')), ('plain --out a x.o -- --', plain('a', 'x.o', '--')),
+    ('plain x.o --out a', plain('a', 'x.o')), ('plain x.o --out a y.o', plain('a', 'x.o', 'y.o')),
+    ('zc --out a x.o --cert c', LINKED), ('zc --out a --cert ./a x.o', ONE_FILE),
+    ('zc --cert c --out a x.o x.o', (121, 'refused 1 9 Duplicate _start', b'', {})), ('run i --steps 5', EXITED),
+    ('plain --out help help', plain('help', 'help')), ('plain --out a zc', plain('a', 'zc')),
+    ('run i', EXITED), ('run --steps 5 i', EXITED), ('run --steps 00000000000000000005 i', EXITED),
+    ('run --steps=5 --plan=p i', EXITED), ('run --steps=2 i', (127, 'spent', b'', {})), ('make 5 0', (0, '', None, {})),
+)
+
+
+def odd_words(group):
+    """lists of words that are hardly ever given: which of them spell a command, and which one"""
+    folder = group.folder(**FILES)
+    for words in ([], [''], *(line.split(' ') for line in NO_COMMANDS)):
+        group.ends(f'{words}', folder.run(words), 120, 'usage')
+    group.same('usage: files that changed', changed(folder, {**dict.fromkeys(('a', '-a', 'out', 'zcld.cert')), **FILES}), [])
+    for line, (status, said, out, files) in COMMANDS:
+        folder = group.folder(**FILES)
+        ended = folder.run(line.split(' '))
+        group.same(line, (ended.status, ended.err), (status, said.encode() + b'\n' if said else b''))
+        if out is not None:
+            group.same(f'{line}: output', ended.out, out)
+        group.same(f'{line}: files', changed(folder, {**FILES, **files}), [])
+        folder.remove()
+
+
+def changed(folder, files):
+    """The names under which other bytes stand than these, or any where there should be none."""
+    return [name for name, data in files.items() if folder.read(name) != data]
