@@ -6,7 +6,8 @@ were called in which order, and the exit has that as its status.
 """
 from zc_examples import XORI
 from zcld_tools.elf import ALIGN, BRANCH, CALL, HI20, JAL, LO12_I, LOCAL
-from zcld_tools.instructions import (A0, CALL_WORDS, EXIT_WORDS, RA, RET, SP, T0, ZERO, add, addi, branch, jal, lui, lw, sw)
+from zcld_tools.instructions import (A0, CALL_WORDS, EXIT_WORDS, RA, RET, SP, T0, ZERO, add, addi, branch, jal, jalr, lui, lw,
+                                     sw)
 from zcld_tools.objects import Written, object_with
 
 # Code that no jump of two bytes leads over.
@@ -90,6 +91,18 @@ def other_register():
     return made.files()
 
 
+def address_taken():
+    """A function that is called by its address too, between jumps to it that go through the table."""
+    made = Program(1)
+    for turn in range(10):
+        made.jump(0)
+        if turn % 4 == 1:
+            made.text.reloc(HI20, made.names[0], 0, (lui(T0),))
+            made.text.reloc(LO12_I, made.names[0], 0, (addi(T0, T0),))
+            made.text.words(jalr(RA, T0))
+    return made.files()
+
+
 def aligned():
     """Padding in the code, which the table shifts, and functions at a multiple of 256."""
     made = Program(2, align=256)
@@ -113,7 +126,8 @@ def rows():
             ('a branch that is short by the table', branch_over(22), [1], 28),
             ('a jump that is short by the table', nearer(1), [2], 328),
             ('jumps that would be short, but go through the table', nearer(20), [2, 1], 364),
-            ('another register', other_register(), [], 0), ('aligned code', aligned(), [1], 8))
+            ('another register', other_register(), [], 0), ('an address taken', address_taken(), [1], 4),
+            ('aligned code', aligned(), [1], 8))
 
 
 def random_program(rng):
