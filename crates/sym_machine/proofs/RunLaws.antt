@@ -15,6 +15,7 @@ use Rattle.zc_outside.proofs.Desk.{Wrote-append, Wrote-none}
 use Rattle.sym_machine.specs.declared.run.TraceEnd.TheVariants as end
 use Rattle.sym_machine.specs.declared.why.Why.{Why}
 use Rattle.sym_machine.specs.Change.{Change, Does, Goes, Stops, item_does}
+use Rattle.sym_machine.specs.Advance.{RunsTo}
 use Rattle.sym_machine.specs.Kept.{IsOf}
 use Rattle.sym_machine.specs.Program.{Program}
 use Rattle.sym_machine.specs.Run.{plain_turn, program_after, recorded}
@@ -147,6 +148,41 @@ came_first p input s desk is = record {
   running = ap (λ (t : PlainCore). t.exit) is;
   of = ap (λ (t : PlainCore). extents_of t.memory) is;
   wrote = Wrote-none desk;
+}
+
+-- ---- steps without an event
+
+-- a state comes to itself by none
+pub RunsTo-refl : (p : Program) (s : PlainCore) → IsOf p s → RunsTo p s s 0
+RunsTo-refl p s of = record {
+  exit = refl;
+  of = of;
+  runs = λ input count events so_far. let same : count + 0 ≡ count = omega arith in ap (program_after p input) same ∙ so_far;
+}
+
+-- and by one step more from wherever it came to
+pub RunsTo-more :
+    (p : Program) (s last s2 : PlainCore) (k : ℕ) → RunsTo p s last k → s2.exit ≡ last.exit → plain_step p last ≡ Went s2 [] → RunsTo p s s2 (k + 1)
+RunsTo-more p s last s2 k so_far exit went = record {
+  exit = exit ∙ so_far.exit;
+  of = extents-step p last s2 [] went ∙ so_far.of;
+  runs = λ input count events came.
+      let same : count + (k + 1) ≡ count + k + 1 = omega arith in
+      ap (program_after p input) same
+      ∙ plain_more p input (count + k) (record { core = last; events = events }) (record { core = s2; events = events }) (so_far.runs input count events came)
+      (went_turn p last s2 events [] went ∙ ap (λ l. Ok (record { core = s2; events = l })) (append-nil events));
+}
+
+-- a run that has come to a state comes to where that comes by them, and has written no more
+pub Came-on :
+    (p : Program) (input : List ℕ) (count : ℕ) (s last : PlainCore) (k : ℕ) (before now : Desk) → Came p input count s before now → RunsTo p s last k
+    → Came p input (count + k) last before now
+Came-on p input count s last k before now came on = record {
+  events = came.events;
+  so_far = on.runs input count came.events came.so_far;
+  running = on.exit ∙ came.running;
+  of = on.of;
+  wrote = came.wrote;
 }
 
 module _ (p : Program) (input : List ℕ) (count : ℕ) (s : PlainCore) (before now : Desk) (came : Came p input count s before now) where

@@ -11,3 +11,4 @@ pub mod Run
 pub mod RunEnd
 pub mod Answer
 pub mod Kept
+pub mod Advance

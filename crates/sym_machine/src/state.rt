@@ -138,6 +138,7 @@ impl State {
     }
 
     /// The same if it is a number and the bytes are kept.
+    #[inline(always)]
     pub fn loaded_number(&self, op: LoadOp, a: u32) -> Option<u32>
         ensures there { IfSome result (λ _. in_memory self.now.core a (load_width op) ≡ true) }
         ensures value { IfSome result (λ n. number_word n ≡ load_word op self.now.core a) }
@@ -168,6 +169,7 @@ impl State {
     }
 
     /// Makes one step of the objects that the state is of.
+    #[inline(always)]
     pub fn step(&mut self, cut: &Cut) -> Result<SymStep, AllocError>
         requires { IsOf (program_of (parsed cut.now)) self.old.core }
         ensures { Makes result (plain_step (program_of (parsed cut.now)) self.old.core) self.old.core self.new.core }

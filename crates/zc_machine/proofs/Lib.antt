@@ -1,5 +1,7 @@
 pub mod Examples
 pub mod FetchLaws
+pub mod WriteLaws
+pub mod PoolLaws
 pub mod RegionLaws
 pub mod ReachLaws
 pub mod AccessLaws

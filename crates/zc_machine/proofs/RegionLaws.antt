@@ -1,15 +1,18 @@
 -- Regions without a common address: what spans an access is the one region there, and a write changes no other.
-use Rattle.std.proofs.Common.{◌≡◌, ℕ, zero, suc, ◌+◌, ◌-◌, ◌^◌, ◌<◌, ◌≤◌, List, [], ◌∷◌, ◌++◌, Bool, true, false, cond, length, get_or, set, take, drop, refl, sym, subst, ap, ap₂, ◌∙◌, arith, leb, ltb, length-append, length-drop, slice_index, ◌⊎◌, inl, inr}
+use Rattle.std.proofs.Common.{◌≡◌, ℕ, zero, suc, ◌+◌, ◌-◌, ◌^◌, ◌<◌, ◌≤◌, List, [], ◌∷◌, Bool, true, false, cond, length, min, get_or, set, take, drop, refl, sym, subst, ap, ap₂, ◌∙◌, arith, leb, ltb, length-drop, ◌⊎◌, ⊎_elim}
 use Rattle.std.specs.Prelude.{◌&&◌, ◌||◌, All}
-use borrow.Rule.Slice.PartMut.{put_mid}
-use Rattle.std.proofs.lemmas.Bool.{and_from, and_parts, and_right, both_ways, cases_lt, cond-false, cond-true, false_from_ne_true, false≢true, le-leb, leb-true, lt-leb, lt-ltb, ltb-true, or_from}
-use Rattle.std.proofs.lemmas.List.{get_or-drop, get_or_default, get_or-append_right, get_or-take, get_or_append_left, length-take-le, same_lists}
+use Rattle.std.proofs.lemmas.Bool.{and_from, and_parts, and_right, both_ways, cond-false, cond-true, false_from_ne_true, false≢true, le-leb, leb-true, lt-leb, ltb-true, or_cases, or_from}
+use Rattle.std.proofs.lemmas.List.{get_or-drop, get_or-take, length-take, take_all}
 use Rattle.std.proofs.lemmas.List.Elements.{All-head, All-tail}
-use Rattle.rv_decode.specs.Memory.{Extent, Kind, Region, cell_at, cells_changed, changed, extent_of, extents_of, lies_in, spans, written}
-use Rattle.rv_decode.proofs.MemoryLaws.{extents-changed, get_or-cells_changed, is_covered, length-cells_changed, lies_covered, lies_inside, spans_inside, untouched}
-use Rattle.zc_machine.specs.Memory.{Apart, AreApart, Reaches}
-use Rattle.zc_machine.specs.Region.{allowed}
+use Rattle.rv_decode.specs.Memory.{Extent, Kind, Region, Text, Data, Stack, cell_at, cells_changed, changed, extent_of, extents_of, lies_in, spans, written}
+use Rattle.rv_decode.proofs.MemoryLaws.{extents-changed, is_covered, lies_covered, lies_inside, spans_inside, untouched}
+use Rattle.zc_machine.specs.Memory.{Apart, AreApart, Reaches, most_at_once}
+use Rattle.zc_machine.specs.Region.{allowed, cells_by, kind_of_region, part_from}
 use Rattle.zc_machine.specs.declared.region.AccessKind.{AccessKind}
+use Rattle.zc_machine.specs.declared.region.AccessKind.TheVariants as access
+use Rattle.zc_machine.specs.declared.region.RegionKind.{RegionKind}
+use Rattle.zc_machine.specs.declared.region.RegionKind.TheVariants as region
+use Rattle.zc_machine.proofs.WriteLaws.{cells_written_at, cells_written_none}
 
 -- two tests agree if each holds where the other does
 same_tests : (b c : Bool) → (b ≡ true → c ≡ true) → (c ≡ true → b ≡ true) → b ≡ c
@@ -63,6 +66,14 @@ below_at [] i d apart lt = absurd (omega arith)
 below_at (r ∷ rs) zero d apart lt = apart.0
 below_at (r ∷ rs) (suc i) d apart lt = below_at rs i d apart.2 (omega arith)
 
+-- what lies in one of them ends there too
+pub lies_below : (fits : Kind → Bool) (es : List Extent) (a n : ℕ) → AreApart es → lies_in fits es a n ≡ true → a + n ≤ 2 ^ 32
+lies_below fits [] a n apart lies = absurd cc
+lies_below fits (e ∷ es) a n apart lies = ⊎_elim
+    (λ here. let p = spans_bounds e a n (and_parts (fits e.kind) (spans e a n) here).1 in omega (arith, p, apart.0))
+    (λ later. lies_below fits es a n apart.2 later)
+    (or_cases (fits e.kind && spans e a n) (lies_in fits es a n) lies)
+
 -- ---- the one region at an address
 
 -- an access from there lies in memory if it lies in that region
@@ -93,46 +104,72 @@ cell_at_at (r ∷ rs) (suc i) d x apart lt here =
 
 -- ---- what an access reaches
 
--- the rest of the region there
+-- what can be looked at in one piece is what such an access reaches at most
+part_reached : (way : AccessKind) (kind : Kind) (a : ℕ) (cells : List ℕ) → allowed way kind ≡ true → length cells ≤ 2 ^ 32 → part_from kind a cells ≡ take (most_at_once way a) cells
+part_reached access.Fetch Text a cells fits small = sym (take_all (2 ^ 32) cells small)
+part_reached access.Fetch Data a cells fits small = absurd cc
+part_reached access.Fetch Stack a cells fits small = absurd cc
+part_reached access.Data Text a cells fits small = absurd cc
+part_reached access.Data Data a cells fits small = refl
+part_reached access.Data Stack a cells fits small = refl
+part_reached access.Interrupt Text a cells fits small = absurd cc
+part_reached access.Interrupt Data a cells fits small = absurd cc
+part_reached access.Interrupt Stack a cells fits small = refl
+
+-- the rest of the region there, up to so many cells
 reached :
-    (access : AccessKind) (rs : List (Region ℕ)) (i : ℕ) (d : Region ℕ) (a : ℕ) → AreApart (extents_of rs) → i < length rs → (allowed access (get_or rs i d).kind && spans (extent_of (get_or rs i d)) a 1) ≡ true
-    → Reaches access rs a (drop (a - (get_or rs i d).at) (get_or rs i d).cells)
-reached access rs i d a apart lt holds = record {
-  lies = λ n some. lies_at (allowed access) rs i d a n apart lt q.0 q.1 some ∙ same_tests (spans (extent_of r) a n) (leb n (length (drop (a - r.at) r.cells)))
-      (λ h. let s = spans_bounds (extent_of r) a n h in le-leb n (length (drop (a - r.at) r.cells)) (omega (arith, size, s)))
-      (λ h. let s = leb-true n (length (drop (a - r.at) r.cells)) h in spans_from (extent_of r) a n p.0 (omega (arith, size, s, p)));
+    (way : AccessKind) (rs : List (Region ℕ)) (i : ℕ) (d : Region ℕ) (a : ℕ) → AreApart (extents_of rs) → i < length rs → (allowed way (get_or rs i d).kind && spans (extent_of (get_or rs i d)) a 1) ≡ true
+    → Reaches way rs a (part_from (get_or rs i d).kind a (drop (a - (get_or rs i d).at) (get_or rs i d).cells))
+reached way rs i d a apart lt holds = subst (Reaches way rs a) (sym (part_reached way r.kind a rest q.0 (omega (arith, whole, p, end)))) record {
+  lies = λ n some few. lies_at (allowed way) rs i d a n apart lt q.0 q.1 some ∙ same_tests (spans (extent_of r) a n) (leb n (length (take most rest)))
+      (λ h. let s = spans_bounds (extent_of r) a n h in le-leb n (length (take most rest)) (omega (arith, size, whole, s, few)))
+      (λ h. let s = leb-true n (length (take most rest)) h in spans_from (extent_of r) a n p.0 (omega (arith, size, whole, s, p)));
+  within = omega (arith, size);
   holds = λ k less.
-      let here = spans_from (extent_of r) (a + k) 1 (omega (arith, p)) (omega (arith, size, less, p)) in
+      let here = spans_from (extent_of r) (a + k) 1 (omega (arith, p)) (omega (arith, size, whole, less, p)) in
       let same : a + k - r.at ≡ a - r.at + k = omega (arith, p) in
-      cell_at_at rs i d (a + k) apart lt here ∙ ap (λ j. get_or r.cells j 0) same ∙ sym (get_or-drop (a - r.at) r.cells k 0);
-  below = omega (arith, size, p, below_at rs i d apart lt);
+      cell_at_at rs i d (a + k) apart lt here ∙ ap (λ j. get_or r.cells j 0) same ∙ sym (get_or-take most rest k 0 (omega (arith, size, less)) ∙ get_or-drop (a - r.at) r.cells k 0);
+  below = omega (arith, size, whole, p, end);
 }
   where
     r : Region ℕ
     r = get_or rs i d
 
-    q : (allowed access r.kind ≡ true) × (spans (extent_of r) a 1 ≡ true)
-    q = and_parts (allowed access r.kind) (spans (extent_of r) a 1) holds
+    q : (allowed way r.kind ≡ true) × (spans (extent_of r) a 1 ≡ true)
+    q = and_parts (allowed way r.kind) (spans (extent_of r) a 1) holds
 
     p : (r.at ≤ a) × (a + 1 ≤ r.at + length r.cells)
     p = spans_bounds (extent_of r) a 1 q.1
 
-    size : length (drop (a - r.at) r.cells) ≡ length r.cells - (a - r.at)
-    size = length-drop (a - r.at) r.cells
+    end : r.at + length r.cells ≤ 2 ^ 32
+    end = below_at rs i d apart lt
+
+    rest : List ℕ
+    rest = drop (a - r.at) r.cells
+
+    most : ℕ
+    most = most_at_once way a
+
+    whole : length rest ≡ length r.cells - (a - r.at)
+    whole = length-drop (a - r.at) r.cells
+
+    size : length (take most rest) ≡ min most (length rest)
+    size = length-take most rest
 
 pub item_reached :
-    (access : AccessKind) (rs : List (Region ℕ)) (i : ℕ) (r : Region ℕ) (a : ℕ) → AreApart (extents_of rs) → i < length rs → r ≡ get_or rs i r → (allowed access r.kind && spans (extent_of r) a 1) ≡ true
-    → Reaches access rs a (drop (a - r.at) r.cells)
-item_reached access rs i r a apart lt is holds =
-    subst (λ (x : Region ℕ). Reaches access rs a (drop (a - x.at) x.cells)) (sym is)
-    (reached access rs i r a apart lt (ap (λ (x : Region ℕ). allowed access x.kind && spans (extent_of x) a 1) (sym is) ∙ holds))
+    (way : AccessKind) (rs : List (Region ℕ)) (i : ℕ) (r : Region ℕ) (a : ℕ) → AreApart (extents_of rs) → i < length rs → r ≡ get_or rs i r → (allowed way r.kind && spans (extent_of r) a 1) ≡ true
+    → Reaches way rs a (part_from r.kind a (drop (a - r.at) r.cells))
+item_reached way rs i r a apart lt is holds =
+    subst (λ (x : Region ℕ). Reaches way rs a (part_from x.kind a (drop (a - x.at) x.cells))) (sym is)
+    (reached way rs i r a apart lt (ap (λ (x : Region ℕ). allowed way x.kind && spans (extent_of x) a 1) (sym is) ∙ holds))
 
 -- nothing, if no region has such a byte there
-pub unreached : (access : AccessKind) (rs : List (Region ℕ)) (a : ℕ) → a < 2 ^ 32 → lies_in (allowed access) (extents_of rs) a 1 ≡ false → Reaches access rs a []
-unreached access rs a small none = record {
-  lies = λ n some.
-      false_from_ne_true (lies_in (allowed access) (extents_of rs) a n) (λ h. false≢true (sym none ∙ lies_inside (allowed access) (extents_of rs) a n a 1 h (omega arith) (omega arith)))
+pub unreached : (way : AccessKind) (rs : List (Region ℕ)) (a : ℕ) → a < 2 ^ 32 → lies_in (allowed way) (extents_of rs) a 1 ≡ false → Reaches way rs a []
+unreached way rs a small none = record {
+  lies = λ n some few.
+      false_from_ne_true (lies_in (allowed way) (extents_of rs) a n) (λ h. false≢true (sym none ∙ lies_inside (allowed way) (extents_of rs) a n a 1 h (omega arith) (omega arith)))
       ∙ sym (lt-leb n 0 some);
+  within = omega arith;
   holds = λ i less. absurd (omega arith);
   below = omega arith;
 }
@@ -178,51 +215,20 @@ module _ (a n : ℕ) (given : ℕ → ℕ) where
   item_changed rs i r apart lt is here =
       ap (λ x. set rs i (written_region x)) is ∙ changed_at rs i r apart lt (ap (λ (x : Region ℕ). spans (extent_of x) a n) (sym is) ∙ here)
 
--- the cells of a region after bytes were written to it
-module _ (a : ℕ) (bytes : List ℕ) where
-  abbrev n : ℕ
-  n = length bytes
+-- a region that keeps its cells by its kind, after bytes were written to those that it has
+pub region_written :
+    (kind : RegionKind) (at a n : ℕ) (given : ℕ → ℕ) (code pages code' pages' : List ℕ) (r : Region ℕ)
+    → record { kind = kind_of_region kind; at = at; cells = cells_by kind code pages } ≡ r → spans (extent_of r) a n ≡ true
+    → cells_by kind code' pages' ≡ cells_changed (written (a - at) n given) 0 (cells_by kind code pages)
+    → record { kind = kind_of_region kind; at = at; cells = cells_by kind code' pages' } ≡ written_region a n given r
+region_written kind at a n given code pages code' pages' r seen here change =
+    let low : at ≤ a = omega (arith, (spans_bounds (extent_of r) a n here).0, ap (λ (x : Region ℕ). x.at) seen) in
+    let cells = change ∙ cells_written_at at a n given (cells_by kind code pages) low in
+    (λ i. record { kind = kind_of_region kind; at = at; cells = cells i }) ∙ ap (written_region a n given) seen
 
-  after : (x old : ℕ) → a ≤ x → x < a + n → written a n (slice_index bytes) x old ≡ slice_index bytes (x - a)
-  after x old low high = cond-true (leb a x && ltb x (a + n)) (slice_index bytes (x - a)) old (and_from (leb a x) (ltb x (a + n)) (le-leb a x low) (lt-ltb x (a + n) high))
-
-  pub cells_written : (at : ℕ) (cs : List ℕ) → at ≤ a → a + n ≤ at + length cs → put_mid (a - at) n cs bytes ≡ cells_changed (written a n (slice_index bytes)) at cs
-  cells_written at cs low high = same_lists _ _ (sum ∙ sym (length-cells_changed (written a n (slice_index bytes)) at cs)) each
-    where
-      start : ℕ
-      start = a - at
-
-      front : length (take start cs) ≡ start
-      front = length-take-le start cs (omega (arith, low, high))
-
-      rest : List ℕ
-      rest = drop n (drop start cs)
-
-      sum : length (take start cs ++ (bytes ++ rest)) ≡ length cs
-      sum = omega (arith, length-append (take start cs) (bytes ++ rest), length-append bytes rest, front, length-drop n (drop start cs), length-drop start cs, low, high)
-
-      each : (k d : ℕ) → k < length (take start cs ++ (bytes ++ rest)) → get_or (take start cs ++ (bytes ++ rest)) k d ≡ get_or (cells_changed (written a n (slice_index bytes)) at cs) k d
-      each k d lt = by_part (cases_lt k start) (cases_lt k (start + n)) ∙ sym (get_or-cells_changed (written a n (slice_index bytes)) at k cs d (omega (arith, lt, sum)))
-        where
-          by_part : (k < start) ⊎ (start ≤ k) → (k < start + n) ⊎ (start + n ≤ k) → get_or (take start cs ++ (bytes ++ rest)) k d ≡ written a n (slice_index bytes) (at + k) (get_or cs k d)
-          by_part (inl before) within =
-              get_or_append_left (take start cs) (bytes ++ rest) d k (omega (arith, before, front))
-              ∙ get_or-take start cs k d before
-              ∙ sym (untouched a n (slice_index bytes) (at + k) (get_or cs k d) (λ l h. omega (arith, l, before)))
-          by_part (inr later) (inl within) =
-              let same : at + k - a ≡ k - start = omega (arith, low, later) in
-              get_or-append_right (take start cs) (bytes ++ rest) start k d front later
-              ∙ get_or_append_left bytes rest d (k - start) (omega (arith, within, later))
-              ∙ get_or_default bytes (k - start) d 0 (omega (arith, within, later))
-              ∙ sym (after (at + k) (get_or cs k d) (omega (arith, later, low)) (omega (arith, within, low)) ∙ ap (slice_index bytes) same)
-          by_part (inr later) (inr past) =
-              let same : start + (n + (k - start - n)) ≡ k = omega (arith, past) in
-              get_or-append_right (take start cs) (bytes ++ rest) start k d front later
-              ∙ get_or-append_right bytes rest n (k - start) d refl (omega (arith, past))
-              ∙ get_or-drop n (drop start cs) (k - start - n) d
-              ∙ get_or-drop start cs (n + (k - start - n)) d
-              ∙ ap (λ j. get_or cs j d) same
-              ∙ sym (untouched a n (slice_index bytes) (at + k) (get_or cs k d) (λ l h. omega (arith, h, past, low)))
+-- the cells of a region of data or of the stack are those in pages
+pub cells_in_pages : (kind : RegionKind) (code pages : List ℕ) → (kind ≡ region.Data) ⊎ (kind ≡ region.Stack) → cells_by kind code pages ≡ pages
+cells_in_pages kind code pages is = ⊎_elim (λ data_kind. ap (λ k. cells_by k code pages) data_kind) (λ stack_kind. ap (λ k. cells_by k code pages) stack_kind) is
 
 -- ---- changes that are the same
 
@@ -236,15 +242,6 @@ written-same a n f g same x c = either (leb a x && ltb x (a + n)) refl
         same (x - a) (omega (arith, leb-true a x q.0, ltb-true x (a + n) q.1))
     either false h = refl
 
--- a change that leaves each cell as it is
-cells_changed-none : (f : ℕ → ℕ → ℕ) → ((x c : ℕ) → f x c ≡ c) → (at : ℕ) (cs : List ℕ) → cells_changed f at cs ≡ cs
-cells_changed-none f stays at [] = refl
-cells_changed-none f stays at (c ∷ cs) = ap₂ (λ x xs. x ∷ xs) (stays at c) (cells_changed-none f stays (suc at) cs)
-
-changed-none : (f : ℕ → ℕ → ℕ) → ((x c : ℕ) → f x c ≡ c) → (rs : List (Region ℕ)) → changed f rs ≡ rs
-changed-none f stays [] = refl
-changed-none f stays (r ∷ rs) = ap₂ (λ cs xs. record r { cells = cs } ∷ xs) (cells_changed-none f stays r.at r.cells) (changed-none f stays rs)
-
 -- where regions lie stays, if a change is made or not
 pub extents-either : (f : ℕ → ℕ → ℕ) (rs : List (Region ℕ)) (b : Bool) → extents_of (cond b (changed f rs) rs) ≡ extents_of rs
 extents-either f rs true = extents-changed f rs
@@ -252,7 +249,8 @@ extents-either f rs false = refl
 
 -- no byte is written
 pub changed-written_none : (a : ℕ) (given : ℕ → ℕ) (rs : List (Region ℕ)) → changed (written a 0 given) rs ≡ rs
-changed-written_none a given rs = changed-none (written a 0 given) (λ x c. untouched a 0 given x c (λ low high. omega (arith, low, high))) rs
+changed-written_none a given [] = refl
+changed-written_none a given (r ∷ rs) = ap₂ (λ cs xs. record r { cells = cs } ∷ xs) (cells_written_none a given r.at r.cells) (changed-written_none a given rs)
 
 -- a write that is made if any byte is written
 pub changed-made : (a n : ℕ) (given : ℕ → ℕ) (rs : List (Region ℕ)) (b : Bool) → (0 < n → b ≡ true) → cond b (changed (written a n given) rs) rs ≡ changed (written a n given) rs

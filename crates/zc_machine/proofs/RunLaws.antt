@@ -1,5 +1,5 @@
 -- A run by its turns: how far it has come, and where each kind of step leads.
-use Rattle.std.proofs.Common.{◌≡◌, ℕ, ◌+◌, ◌<◌, List, [], ◌∷◌, ◌++◌, take, drop, Some, None, Ok, Err, refl, sym, ap, ap₂, ◌∙◌, arith}
+use Rattle.std.proofs.Common.{◌≡◌, ℕ, ◌+◌, ◌<◌, List, [], ◌∷◌, ◌++◌, take, drop, Some, None, Ok, Err, refl, sym, ap, ap₂, subst, ◌≤◌, ◌∙◌, arith}
 use Rattle.rv_decode.specs.State as event
 use Rattle.rv_decode.specs.State.{Event, ZcCore, ZcState}
 use Rattle.rv_decode.specs.EventBytes.{written_to}
@@ -9,9 +9,11 @@ use Rattle.zc_outside.specs.declared.console.ConsoleFault.{ConsoleFault}
 use Rattle.zc_outside.proofs.Desk.{OnlyWrites-refl, OnlyWrites-trans, WriteCause-after, Wrote-none}
 use Rattle.zc_machine.specs.declared.answer.EnvCall.{EnvCall}
 use Rattle.zc_machine.specs.declared.answer.EnvCall.TheVariants.{Exit, Read, Write}
+use Rattle.zc_machine.specs.declared.answer.Step.{Step}
 use Rattle.zc_machine.specs.declared.answer.Step.TheVariants as answer
 use Rattle.zc_machine.specs.declared.reason.Reason.{Reason}
 use Rattle.zc_machine.specs.declared.run.RunEnd.TheVariants as end
+use Rattle.zc_machine.specs.Advance.{Advanced, RunsTo}
 use Rattle.zc_machine.specs.Answer.{answer_of, core_after, exited, has_read, has_written}
 use Rattle.zc_machine.specs.Buffer.{bytes_at}
 use Rattle.zc_machine.specs.Run.{committed, first_state, machine_after, turn}
@@ -103,6 +105,79 @@ pub record Happened (happens : ℕ → ZcCore → ZcCore) (z z' : ZcCore) : Type
 pub happened :
     {made happens : ℕ → ZcCore → ZcCore} {z z' : ZcCore} → made ≡ happens → z' ≡ made z.commits z → z'.commits ≡ z.commits → z'.exit ≡ z.exit → Happened happens z z'
 happened {z = z} same here commits exit = record { made = here ∙ ap (λ h. h z.commits z) same; commits = commits; exit = exit }
+
+-- ---- commits alone
+
+-- a machine comes to itself
+pub RunsTo-refl : (happens : ℕ → ZcCore → ZcCore) (z : ZcCore) → RunsTo happens z z
+RunsTo-refl happens z = record { exit = refl; on = omega arith; runs = λ first input left events so_far. so_far }
+
+-- and by one commit more from wherever it came to
+pub RunsTo-more :
+    (happens : ℕ → ZcCore → ZcCore) (z0 z z' z2 : ZcCore) → z0.exit ≡ None → RunsTo happens z0 z → Happened happens z z' → answer.Committed ≡ answer_of (zc_step z')
+    → z2 ≡ core_after (zc_step z') z' → RunsTo happens z0 z2 × (z2.commits ≡ z.commits + 1)
+unfolding machine_after
+RunsTo-more happens z0 z z' z2 running so_far had answers is =
+    let q = committed_step z' (zc_step z') (step_shows z') answers in
+    let counts : z2.commits ≡ z.commits + 1 = ap (λ y. y.commits) is ∙ q.counts ∙ ap (λ k. k + 1) had.commits in (
+      record {
+        exit = ap (λ y. y.exit) is ∙ q.exit ∙ had.exit ∙ so_far.exit;
+        on = omega (arith, counts, so_far.on);
+        runs = λ first input left events came.
+            let here : ZcState = record { core = z; input = left; events = events } in
+            let turned : turn (happens z.commits) here ≡ Ok (record { core = z2; input = left; events = events }) =
+            turn-running (happens z.commits) here (so_far.exit ∙ running)
+            ∙ sym (ap (λ y. committed (zc_step y) (record { core = y; input = left; events = events })) had.made)
+            ∙ q.made (record { core = z'; input = left; events = events })
+            ∙ sym (ap (λ y. Ok (record { core = y; input = left; events = events })) is) in
+            ap (machine_after first input happens) counts
+            ∙ turns-more happens z.commits (first_state first input) here (record { core = z2; input = left; events = events }) (so_far.runs first input left events came) turned;
+      },
+      counts,
+    )
+
+-- a run that has come to a machine comes to where that comes by commits alone, and has written no more
+pub Came-on :
+    (first : ZcCore) (input : List ℕ) (happens : ℕ → ZcCore → ZcCore) (z z2 : ZcCore) (left : List ℕ) (before now : Desk) → Came first input happens z left before now
+    → RunsTo happens z z2 → Came first input happens z2 left before now
+Came-on first input happens z z2 left before now came on = record {
+  events = came.events;
+  so_far = on.runs first input left came.events came.so_far;
+  running = on.exit ∙ came.running;
+  wrote = came.wrote;
+  only = came.only;
+}
+
+-- what a run of commits says of its last step
+pub record Stepped (first : ZcCore) (input : List ℕ) (happens : ℕ → ZcCore → ZcCore) (z z2 : ZcCore) (left : List ℕ) (before now : Desk) (k steps : ℕ) (step : Step) : Type 0 where
+  pub last : ZcCore
+  pub acted : ZcCore
+  pub came : Came first input happens last left before now
+  pub had : Happened happens last acted
+  pub count : last.commits ≡ k
+  pub on : z.commits ≤ last.commits
+  pub within : last.commits < steps
+  pub answers : step ≡ answer_of (zc_step acted)
+  pub left_as : z2 ≡ core_after (zc_step acted) acted
+  pub all : step ≡ answer.Committed → steps ≤ z2.commits
+
+pub stepped :
+    {first : ZcCore} {input : List ℕ} {made happens : ℕ → ZcCore → ZcCore} {z z2 : ZcCore} {left : List ℕ} {before now : Desk} {k steps : ℕ} {step : Step} → made ≡ happens
+    → Came first input happens z left before now → Advanced made z z2 k steps step → Stepped first input happens z z2 left before now k steps step
+stepped {first = first} {input = input} {happens = happens} {z = z} {z2 = z2} {left = left} {before = before} {now = now} {k = k} {steps = steps} {step = step} same came by =
+    let adv : Advanced happens z z2 k steps step = subst (λ h. Advanced h z z2 k steps step) same by in
+    record {
+      last = adv.last;
+      acted = adv.acted;
+      came = Came-on first input happens z adv.last left before now came adv.runs;
+      had = record { made = adv.made ∙ ap (λ n. happens n adv.last) (sym adv.count); commits = adv.commits ∙ sym adv.count; exit = adv.exit };
+      count = adv.count;
+      on = adv.runs.on;
+      within = subst (λ n. n < steps) (sym adv.count) adv.within;
+      answers = adv.answers;
+      left_as = adv.left;
+      all = adv.all;
+    }
 
 -- ---- a turn from there, where what happens leads to z'
 

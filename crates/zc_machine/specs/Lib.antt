@@ -1,6 +1,8 @@
 pub mod Reason
 pub mod Region
+pub mod Pages
 pub mod Memory
+pub mod Invariants
 pub mod Fetch
 pub mod Cells
 pub mod Step
@@ -10,6 +12,7 @@ pub mod Buffer
 pub mod Interrupt
 pub mod Cursor
 pub mod Run
+pub mod Advance
 pub mod RunEnd
 pub mod Load
 pub use Rattle.elf32_read.specs.Header

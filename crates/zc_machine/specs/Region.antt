@@ -1,5 +1,5 @@
 -- The regions of an image's memory, and what reaches them.
-use Rattle.std.specs.Prelude.{Bool}
+use Rattle.std.specs.Prelude.{ℕ, ◌-◌, ◌%◌, Bool, List, take}
 use Rattle.rv_decode.specs.Memory.{Kind, Text, Data, Stack, is_data, is_stack, is_text}
 use Rattle.zc_machine.specs.declared.region.AccessKind.{AccessKind}
 use Rattle.zc_machine.specs.declared.region.AccessKind.TheVariants as access
@@ -17,3 +17,16 @@ abbrev pub allowed : AccessKind → Kind → Bool
 allowed access.Fetch = is_text
 allowed access.Data = is_data
 allowed access.Interrupt = is_stack
+
+-- the cells of a region of this kind, of which those of code are kept in one piece, and all others in pages
+abbrev pub cells_by : RegionKind → List ℕ → List ℕ → List ℕ
+cells_by region.Text code pages = code
+cells_by region.Data code pages = pages
+cells_by region.Stack code pages = pages
+
+-- how much of the cells from an address on is kept in one piece: of code all, and of data what comes before the next multiple
+-- of 4,096
+abbrev pub part_from : Kind → ℕ → List ℕ → List ℕ
+part_from Text a cells = cells
+part_from Data a cells = take (4096 - a % 4096) cells
+part_from Stack a cells = take (4096 - a % 4096) cells

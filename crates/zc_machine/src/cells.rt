@@ -40,6 +40,7 @@ pub fn first_word(cells: &[u8]) -> Option<u32>
 }
 
 /// What a load gives of these cells, or none if they are too few.
+#[inline(always)]
 pub fn loaded(op: LoadOp, cells: &[u8]) -> Option<u32>
     ensures { result ≡ loaded op cells.now }
 {

@@ -9,6 +9,7 @@ mod load;
 pub mod machine;
 mod memory;
 mod output;
+mod pages;
 mod plan_cursor;
 pub mod reason;
 mod region;

@@ -1,11 +1,10 @@
 // The memory of a machine at its start (System V gABI, "Program Loading").
 
-ghost use Rattle.std.specs.Prelude.{◌≡◌, ◌-◌, ◌++◌, IfOk, if◌then◌else◌, length};
+ghost use Rattle.std.specs.Prelude.{◌≡◌, ◌-◌, ◌++◌, IfOk, length};
 ghost use Rattle.elf32_read.specs.Segment.{segment_data};
 ghost use Rattle.elf32_read.specs.Segments.{segments_of};
-ghost use Rattle.rv_decode.specs.Memory.{Stack, Text, Data, blank};
+ghost use Rattle.rv_decode.specs.Memory.{Stack, blank};
 ghost use Rattle.zc_machine.specs.Load.{first_memory, region_of};
-ghost use Rattle.zc_machine.specs.Region.{kind_of_region};
 
 use crate::region::{Region, RegionKind};
 use elf32_read::image::Image;
@@ -29,27 +28,25 @@ pub fn first_regions(alloc: Global, image: &Image) -> Result<Vec<Region>, AllocE
 fn segment_region(alloc: Global, segment: &Segment) -> Result<Region, AllocError>
     ensures { IfOk result (λ region. region ≡ region_of (segment_data segment.now)) }
 {
-    let cells = padded(alloc, segment.bytes, segment.size)?;
-    Ok(Region::new(kind_for(segment.code), segment.at, cells))
+    if segment.code {
+        let code = padded(alloc, segment.bytes, segment.size)?;
+        Region::of_code(alloc, segment.at, code)
+    } else {
+        Region::of_data(alloc, RegionKind::Data, segment)
+    }
 }
 
 fn stack(alloc: Global, map: &MemMap) -> Result<Region, AllocError>
     ensures { IfOk result (λ region. region
         ≡ record { kind = Stack; at = map.now.stack_low; cells = blank (map.now.stack_high - map.now.stack_low) 0 }) }
 {
-    let size = map.stack_high.saturating_sub(map.stack_low);
-    let cells = padded(alloc, &[], size)?;
-    Ok(Region::new(RegionKind::Stack, map.stack_low, cells))
-}
-
-fn kind_for(code: bool) -> RegionKind
-    ensures { kind_of_region result ≡ (if code then Text else Data) }
-{
-    if code {
-        RegionKind::Text
-    } else {
-        RegionKind::Data
-    }
+    let segment = Segment {
+        at: map.stack_low,
+        size: map.stack_high.saturating_sub(map.stack_low),
+        code: false,
+        bytes: &[],
+    };
+    Region::of_data(alloc, RegionKind::Stack, &segment)
 }
 
 // The bytes, and zeros after them up to this size.

@@ -109,6 +109,7 @@ impl Machine {
     }
 
     /// Makes one step: commits an instruction, or changes nothing and says why.
+    #[inline(always)]
     #[tactic(auto, unfolding(crate::specs::Step::zc_step))]
     pub fn step(&mut self) -> Step
         requires { self.old.commits < 2 ^ 64 - 1 }
@@ -134,6 +135,7 @@ impl Machine {
     }
 
     // Makes the step of an instruction of this size.
+    #[inline(always)]
     fn execute(&mut self, short: Short, size: u32) -> Step
         requires { self.old.commits < 2 ^ 64 - 1 }
         ensures answer { result ≡ answer_of (effect_step (short_effect short size self.old) self.old) }
@@ -152,6 +154,7 @@ impl Machine {
     }
 
     // The same for an instruction that a word spells too.
+    #[inline(always)]
     fn execute_base(&mut self, instr: Instr, size: u32) -> Step
         requires { self.old.commits < 2 ^ 64 - 1 }
         ensures answer { result ≡ answer_of (effect_step (effect instr size self.old) self.old) }
@@ -208,6 +211,7 @@ impl Machine {
     }
 
     // The sum of a register's word and an immediate.
+    #[inline(always)]
     fn address(&self, base: Reg, imm: i32) -> u32
         ensures { result ≡ add32 (reg_in self.now base) imm }
     {
@@ -215,6 +219,7 @@ impl Machine {
     }
 
     // The address after an instruction of this size.
+    #[inline(always)]
     fn after(&self, size: u32) -> u32
         ensures { result ≡ after self.now size }
     {
@@ -222,6 +227,7 @@ impl Machine {
     }
 
     // Gives a value to a register.
+    #[inline(always)]
     fn set(&mut self, rd: Reg, value: u32)
         ensures { self.new ≡ record self.old { regs = set_reg self.old.regs rd value } }
     {
@@ -231,6 +237,7 @@ impl Machine {
     }
 
     // Commits an instruction after which the program goes on at an address.
+    #[inline(always)]
     fn commit(&mut self, pc: u32) -> Step
         requires { self.old.commits < 2 ^ 64 - 1 }
         ensures answer { result ≡ Step.Committed }
@@ -242,6 +249,7 @@ impl Machine {
     }
 
     // Commits an instruction of this size that changes nothing else.
+    #[inline(always)]
     fn go_on(&mut self, size: u32) -> Step
         requires { self.old.commits < 2 ^ 64 - 1 }
         ensures answer { result ≡ Step.Committed }
@@ -251,6 +259,7 @@ impl Machine {
     }
 
     // Commits an instruction of this size that gives a value to a register.
+    #[inline(always)]
     fn give(&mut self, value: u32, rd: Reg, size: u32) -> Step
         requires { self.old.commits < 2 ^ 64 - 1 }
         ensures answer { result ≡ answer_of (effect_step (gives value rd size self.old) self.old) }

@@ -1,6 +1,6 @@
 // The machine's memory.
 
-ghost use Rattle.std.specs.Prelude.{◌≡◌, if◌then◌else◌, length, slice_index};
+ghost use Rattle.std.specs.Prelude.{◌≡◌, ◌+◌, ◌<◌, ◌≤◌, ◌^◌, if◌then◌else◌, true, length, slice_index};
 ghost use Rattle.rv_decode.specs.Memory.{changed, extents_of, lies_in, written};
 ghost use Rattle.zc_machine.specs.Memory.{AreApart, Reaches};
 ghost use Rattle.zc_machine.specs.Region.{allowed};
@@ -35,7 +35,18 @@ impl Memory {
         Memory { regions }
     }
 
-    /// The cells from an address on that an access may reach at once.
+    /// Whether so many cells from an address on lie in one region, and an access may reach them.
+    #[inline(always)]
+    pub fn holds(&self, access: AccessKind, address: u32, count: usize) -> bool
+        requires { count < 2 ^ 63 }
+        ensures is { result ≡ lies_in (allowed access) (extents_of self.now) address count }
+        ensures below { result ≡ true → address + count ≤ 2 ^ 32 }
+    {
+        holds(self.regions.as_slice(), access, address, count)
+    }
+
+    /// The cells from an address on that an access may reach at once: of data none beyond a page.
+    #[inline(always)]
     pub fn reach(&self, access: AccessKind, address: u32) -> &[u8]
         ensures { Reaches access self.now address result.now }
     {
@@ -43,6 +54,7 @@ impl Memory {
     }
 
     /// Writes bytes from an address on, if an access may reach them, and says whether it may.
+    #[inline(always)]
     pub fn write(&mut self, access: AccessKind, address: u32, bytes: &[u8]) -> bool
         ensures reached { result ≡ lies_in (allowed access) (extents_of self.old) address (length bytes.now) }
         ensures after { self.new ≡ (if result then changed (written address (length bytes.now)
@@ -52,6 +64,20 @@ impl Memory {
     }
 }
 
+#[inline(always)]
+fn holds(regions: &[Region], access: AccessKind, address: u32, count: usize) -> bool
+    requires { count < 2 ^ 63 }
+    ensures { result ≡ lies_in (allowed access) (extents_of regions.now) address count }
+{
+    for region in regions {
+        if region.holds(access, address, count) {
+            return true;
+        }
+    }
+    false
+}
+
+#[inline(always)]
 fn reach(regions: &[Region], access: AccessKind, address: u32) -> &[u8]
     requires { AreApart (extents_of regions.now) }
     ensures { Reaches access regions.now address result.now }
@@ -64,6 +90,7 @@ fn reach(regions: &[Region], access: AccessKind, address: u32) -> &[u8]
     &[]
 }
 
+#[inline(always)]
 fn write(regions: &mut [Region], access: AccessKind, address: u32, bytes: &[u8]) -> bool
     requires { AreApart (extents_of regions.old) }
     ensures reached { result ≡ lies_in (allowed access) (extents_of regions.old) address (length bytes.now) }

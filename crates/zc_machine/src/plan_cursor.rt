@@ -30,6 +30,7 @@ impl BetweenCommits for PlanCursor<'_> {
 
     ghost HasComeTo = { λ cursor. IsAt cursor.plan.now cursor.next };
 
+    #[inline(always)]
     fn act_on(&mut self, machine: &mut Machine) {
         let plan = self.plan;
         let count = plan.cut_count();

@@ -1,9 +1,12 @@
 // The regions of the machine's memory.
 
-ghost use Rattle.std.specs.Prelude.{◌≡◌, ◌+◌, ◌-◌, ◌≤◌, ◌&&◌, true, drop, length, slice_index};
-ghost use Rattle.rv_decode.specs.Memory.{cells_changed, extent_of, spans, written};
-ghost use Rattle.zc_machine.specs.Region.{allowed, kind_of_region};
+ghost use Rattle.std.specs.Prelude.{◌≡◌, ◌+◌, ◌-◌, ◌^◌, ◌<◌, ◌≤◌, ◌&&◌, ◌++◌, IfOk, true, drop, length, slice_index};
+ghost use Rattle.rv_decode.specs.Memory.{Text, blank, cells_changed, extent_of, is_data, spans, written};
+ghost use Rattle.zc_machine.specs.Region.{allowed, kind_of_region, part_from};
 
+use crate::pages::{Pages, write_cells};
+use elf32_read::segment::Segment;
+use std::alloc::{AllocError, Global};
 use std::marker::Model;
 
 /// What a region is for.
@@ -50,60 +53,113 @@ impl RegionKind {
 pub struct Region {
     kind: RegionKind,
     at: u32,
-    cells: Vec<u8>,
+    // The cells of a region of code, and those of any other.
+    code: Vec<u8>,
+    pages: Pages,
 }
 
 impl Model for Region {
     ghost use Rattle.std.specs.Prelude.{ℕ};
     ghost use Rattle.rv_decode.specs.Memory.{Region as RegionOf};
-    ghost use Rattle.zc_machine.specs.Region.{kind_of_region};
+    ghost use Rattle.std.specs.Prelude.{◌≡◌, ◌%◌};
+    ghost use Rattle.zc_machine.specs.Region.{cells_by, kind_of_region};
 
     ghost Value = { RegionOf ℕ };
 
-    ghost view = { λ r. record { kind = kind_of_region r.kind; at = r.at; cells = r.cells.items } };
+    ghost view = { λ r. record {
+      kind = kind_of_region r.kind;
+      at = r.at;
+      cells = cells_by r.kind r.code.items r.pages.cells;
+    } };
+
+    ghost invariant = { λ r. r.pages.skip ≡ r.at % 4096 };
 }
 
 impl Region {
-    /// The region with these cells.
-    pub fn new(kind: RegionKind, at: u32, cells: Vec<u8>) -> Region
-        ensures { result ≡ record { kind = kind_of_region kind; at = at; cells = cells.items } }
+    /// The region of code with these cells.
+    pub fn of_code(alloc: Global, at: u32, code: Vec<u8>) -> Result<Region, AllocError>
+        ensures { IfOk result (λ region. region ≡ record { kind = Text; at = at; cells = code.items }) }
     {
-        Region { kind, at, cells }
+        let pages = Pages::new(alloc, at, &[], 0)?;
+        Ok(Region {
+            kind: RegionKind::Text,
+            at,
+            code,
+            pages,
+        })
+    }
+
+    /// The region of data or of the stack that a segment describes.
+    pub fn of_data(alloc: Global, kind: RegionKind, segment: &Segment) -> Result<Region, AllocError>
+        requires { is_data (kind_of_region kind) ≡ true }
+        ensures { IfOk result (λ region. region ≡ record {
+          kind = kind_of_region kind;
+          at = segment.now.at;
+          cells = segment.now.bytes.now ++ blank (segment.now.size - length segment.now.bytes.now) 0;
+        }) }
+    {
+        let pages = Pages::new(alloc, segment.at, segment.bytes, segment.size)?;
+        Ok(Region {
+            kind,
+            at: segment.at,
+            code: Vec::new(alloc),
+            pages,
+        })
+    }
+
+    // How many cells there are.
+    #[inline(always)]
+    fn size(&self) -> usize
+        ensures { result ≡ length self.now.cells }
+    {
+        match self.kind {
+            RegionKind::Text => self.code.len(),
+            RegionKind::Data | RegionKind::Stack => self.pages.len(),
+        }
     }
 
     /// Whether the cell at an address lies in the region, and an access may reach it.
+    #[inline(always)]
     pub fn has(&self, access: AccessKind, address: u32) -> bool
         ensures { result ≡ (allowed access self.now.kind && spans (extent_of self.now) address 1) }
     {
         self.kind.allows(access)
             && self.at <= address
-            && ((address - self.at) as usize) < self.cells.len()
+            && ((address - self.at) as usize) < self.size()
     }
 
     /// The same of so many cells from an address on.
+    #[inline(always)]
     pub fn holds(&self, access: AccessKind, address: u32, count: usize) -> bool
+        requires { count < 2 ^ 63 }
         ensures { result ≡ (allowed access self.now.kind && spans (extent_of self.now) address count) }
     {
         self.kind.allows(access) && self.spans(address, count)
     }
 
     // Whether so many cells from an address on lie in the region.
+    #[inline(always)]
     fn spans(&self, address: u32, count: usize) -> bool
+        requires { count < 2 ^ 63 }
         ensures { result ≡ spans (extent_of self.now) address count }
     {
-        let size = self.cells.len();
-        self.at <= address && count <= size && (address - self.at) as usize <= size - count
+        self.at <= address && (address - self.at) as usize + count <= self.size()
     }
 
-    /// The cells from an address of the region on.
+    /// The cells from an address of the region on: of code all, and of data those up to the page's end.
+    #[inline(always)]
     pub fn cells_from(&self, address: u32) -> &[u8]
         requires { spans (extent_of self.now) address 1 ≡ true }
-        ensures { result.now ≡ drop (address - self.now.at) self.now.cells }
+        ensures { result.now ≡ part_from self.now.kind address (drop (address - self.now.at) self.now.cells) }
     {
-        &self.cells[(address - self.at) as usize..]
+        match self.kind {
+            RegionKind::Text => &self.code[(address - self.at) as usize..],
+            RegionKind::Data | RegionKind::Stack => self.pages.cells_from(address - self.at),
+        }
     }
 
     /// Writes bytes from an address on.
+    #[inline(always)]
     pub fn write(&mut self, address: u32, bytes: &[u8])
         requires { spans (extent_of self.old) address (length bytes.now) ≡ true }
         ensures { self.new ≡ record self.old {
@@ -111,16 +167,15 @@ impl Region {
               (slice_index bytes.now)) self.old.at self.old.cells;
         } }
     {
-        write_cells(self.cells.as_mut_slice(), self.at, address, bytes);
+        match self.kind {
+            RegionKind::Text => {
+                write_cells(
+                    self.code.as_mut_slice(),
+                    (address - self.at) as usize,
+                    bytes,
+                );
+            }
+            RegionKind::Data | RegionKind::Stack => self.pages.write(address - self.at, bytes),
+        }
     }
-}
-
-// Writes bytes to cells of which the first has the address `at`.
-fn write_cells(cells: &mut [u8], at: u32, address: u32, bytes: &[u8])
-    requires low { at ≤ address }
-    requires high { address + length bytes.now ≤ at + length cells.old }
-    ensures { cells.new ≡ cells_changed (written address (length bytes.now) (slice_index bytes.now)) at cells.old }
-{
-    let start = (address - at) as usize;
-    cells[start..start + bytes.len()].copy_from_slice(bytes);
 }

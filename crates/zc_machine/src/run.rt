@@ -1,6 +1,7 @@
 // Runs of the machine.
 
-ghost use Rattle.std.specs.Prelude.{◌≡◌, None};
+ghost use Rattle.std.specs.Prelude.{◌≡◌, ℕ, ◌+◌, ◌<◌, None};
+ghost use Rattle.zc_machine.specs.Advance.{Advanced};
 ghost use Rattle.zc_machine.specs.Run.{interrupts_by};
 ghost use Rattle.zc_machine.specs.RunEnd.{Ran, course_of, zc_course};
 ghost use Rattle.zc_outside.specs.Desk.{OnlyWrites};
@@ -60,8 +61,7 @@ pub fn run_with<B: BetweenCommits + Drop, C: Console>(
 {
     let mut left = input;
     while machine.commits() < steps {
-        between.act_on(machine);
-        match machine.step() {
+        match advance(machine, &mut between, steps) {
             Step::Committed => {}
             Step::Wants(EnvCall::Read { len, .. }) => {
                 let (front, rest) = left.split_at((len as usize).min(left.len()));
@@ -83,4 +83,28 @@ pub fn run_with<B: BetweenCommits + Drop, C: Console>(
         }
     }
     RunEnd::Spent
+}
+
+// Makes steps until so many instructions were committed, or up to one that answers something else. A program has
+// this loop once, whatever consoles it runs machines with.
+#[inline(never)]
+fn advance<B: BetweenCommits>(machine: &mut Machine, between: &mut B, steps: u64) -> Step
+    requires running { machine.old.exit ≡ None }
+    requires below { machine.old.commits < steps }
+    requires at { B.HasComeTo between.old machine.old.commits }
+    ensures advanced { (k : ℕ) × Advanced (B.happens between.old) machine.old machine.new k steps result
+        × B.HasComeTo between.new (k + 1) }
+    ensures same { B.happens between.new ≡ B.happens between.old }
+{
+    loop {
+        between.act_on(machine);
+        match machine.step() {
+            Step::Committed => {
+                if machine.commits() >= steps {
+                    return Step::Committed;
+                }
+            }
+            other => return other,
+        }
+    }
 }

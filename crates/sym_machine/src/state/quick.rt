@@ -25,6 +25,7 @@ use zc_base::reg::Reg;
 impl State {
     // Makes the step of an item, with the place after it, if it is one by numbers alone, and else
     // changes nothing.
+    #[inline(always)]
     pub(super) fn quick_item(&mut self, item: &Item, next: Place) -> bool
         requires { self.old.core.exit ≡ None }
         ensures made { OnTrue result ((p : Program) → RunsOn
@@ -60,6 +61,7 @@ impl State {
     }
 
     // The same of an instruction without relocation.
+    #[inline(always)]
     fn quick_op(&mut self, instr: &Instr, next: Place) -> bool
         requires { self.old.core.exit ≡ None }
         ensures made { OnTrue result (RunsOn (applied self.old.map self.old.core (op_does instr.now self.old.core next))
@@ -102,6 +104,7 @@ impl State {
     }
 
     // The number that a register holds, if the register tells it without a look at bytes.
+    #[inline(always)]
     fn plain(&self, r: Reg) -> Option<u32>
         ensures is { IfSome result (λ n. reg_of self.now.core r ≡ number_word n) }
         ensures below { IfSome result (λ n. n < 2 ^ 32) }
@@ -113,6 +116,7 @@ impl State {
     }
 
     // The place whose address a register holds, told in the same way.
+    #[inline(always)]
     fn plain_code(&self, r: Reg) -> Option<Place>
         ensures { IfSome result (λ q. reg_of self.now.core r ≡ code_word q) }
     {
@@ -123,6 +127,7 @@ impl State {
     }
 
     // The number that an operation on a register and an immediate gives, if it is known.
+    #[inline(always)]
     fn quick_imm(&self, op: ImmOp, first: Reg, imm: i32) -> Option<u32>
         ensures { IfSome result (λ n. number_word n ≡ imm_word op (reg_of self.now.core first) imm) }
     {
@@ -130,6 +135,7 @@ impl State {
     }
 
     // The same of an operation on two registers.
+    #[inline(always)]
     fn quick_reg(&self, op: RegOp, first: Reg, second: Reg) -> Option<u32>
         ensures { IfSome result (λ n. number_word n
             ≡ reg_word op first second (reg_of self.now.core first) (reg_of self.now.core second)) }
@@ -138,6 +144,7 @@ impl State {
     }
 
     // A `jalr` to the place whose address a register holds.
+    #[inline(always)]
     fn quick_return(&mut self, rd: Reg, base: Reg, imm: i32, next: Place) -> bool
         requires { self.old.core.exit ≡ None }
         ensures made { OnTrue result (RunsOn (applied self.old.map self.old.core (op_does (Jalr rd base imm)
@@ -154,6 +161,7 @@ impl State {
     }
 
     // Whether a condition on two registers holds, if it is known.
+    #[inline(always)]
     fn quick_compare(&self, op: BranchOp, first: Reg, second: Reg) -> Option<bool>
         ensures { (p : Program) → IfSome result (λ holds.
             condition p op (reg_of self.now.core first) (reg_of self.now.core second) ≡ Some holds) }
@@ -163,6 +171,7 @@ impl State {
 
     // The address of an access by a register and an immediate, if it is known and is a multiple of the
     // access's width.
+    #[inline(always)]
     fn quick_address(&self, base: Reg, imm: i32, width: u32) -> Option<u32>
         requires { 0 < width }
         ensures known { IfSome result (λ a. number_of (sum_word (reg_of self.now.core base) imm) ≡ Some a) }
@@ -173,6 +182,7 @@ impl State {
     }
 
     // The number that a load gives, if it is known.
+    #[inline(always)]
     fn quick_load(&self, op: LoadOp, base: Reg, imm: i32) -> Option<u32>
         ensures { (rd : ℕ) (next : Place) → IfSome result (λ n.
             op_does (Load op rd base imm) self.now.core next ≡ Goes (sets rd (number_word n) next)) }
@@ -181,6 +191,7 @@ impl State {
     }
 
     // A store.
+    #[inline(always)]
     fn quick_store(&mut self, op: StoreOp, source: Reg, base: Reg, imm: i32, next: Place) -> bool
         requires { self.old.core.exit ≡ None }
         ensures made { OnTrue result (RunsOn (applied self.old.map self.old.core (op_does (Store op source base imm)

@@ -17,6 +17,7 @@ use zc_base::reg::Reg;
 
 impl Machine {
     // Loads from an address into a register.
+    #[inline(always)]
     pub(super) fn load_to(&mut self, op: LoadOp, a: u32, rd: Reg, size: u32) -> Step
         requires { self.old.commits < 2 ^ 64 - 1 }
         ensures answer { result ≡ answer_of (effect_step (loads op a rd size self.old) self.old) }
@@ -32,6 +33,7 @@ impl Machine {
     }
 
     // Stores the low bytes of a word at an address.
+    #[inline(always)]
     pub(super) fn store(&mut self, op: StoreOp, a: u32, word: u32, size: u32) -> Step
         requires { self.old.commits < 2 ^ 64 - 1 }
         ensures answer { result ≡ answer_of (effect_step (stores op a word size self.old) self.old) }
@@ -49,6 +51,7 @@ impl Machine {
 }
 
 // Writes the low bytes of a word, if they lie in memory for data, and says whether they do.
+#[inline(always)]
 pub(super) fn put(memory: &mut Memory, op: StoreOp, a: u32, word: u32) -> bool
     ensures reached { result ≡ lies_in is_data (extents_of memory.old) a (store_width op) }
     ensures after { memory.new ≡ (if result then changed (written a (store_width op)

@@ -52,7 +52,7 @@ impl Machine {
         self.commits += 1;
     }
 
-    /// The first of so many bytes at an address, up to where they end or to a multiple of 4,096, or
+    /// The first of so many bytes at an address, up to where they end or to the next multiple of 4,096, or
     /// none if they don't lie in one segment of data or in the stack.
     pub fn piece(&self, at: u32, len: u32) -> Option<&[u8]>
         requires { 0 < len }
@@ -60,12 +60,11 @@ impl Machine {
         ensures below { OnSome result (at + len ≤ 2 ^ 32) }
         ensures some { IfSome result (λ piece. IsPiece self.now at len piece.now) }
     {
-        let cells = self.memory.reach(AccessKind::Data, at);
-        if cells.len() < len as usize {
+        if !self.memory.holds(AccessKind::Data, at, len as usize) {
             return None;
         }
         let count = len.min(PAGE - at % PAGE);
-        Some(&cells[..count as usize])
+        Some(&self.memory.reach(AccessKind::Data, at)[..count as usize])
     }
 
     // The environment call that the registers spell.
@@ -88,8 +87,8 @@ impl Machine {
     fn buffered(&self, call: EnvCall) -> Step
         ensures { result ≡ answer_of (buffered self.now call) }
     {
-        let cells = self.memory.reach(AccessKind::Data, self.regs[11]);
-        if self.regs[12] as usize <= cells.len() {
+        let (at, len) = (self.regs[11], self.regs[12]);
+        if len == 0 || self.memory.holds(AccessKind::Data, at, len as usize) {
             Step::Wants(call)
         } else {
             Step::Stopped(Reason::BadAccess)

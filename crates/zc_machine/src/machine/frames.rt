@@ -271,10 +271,10 @@ impl Machine {
     {
         if at % 4 != 0 {
             Some(Reason::Misaligned)
-        } else if self.memory.reach(AccessKind::Data, at).len() < 4 {
-            Some(Reason::BadAccess)
-        } else {
+        } else if self.memory.holds(AccessKind::Data, at, 4) {
             None
+        } else {
+            Some(Reason::BadAccess)
         }
     }
 }

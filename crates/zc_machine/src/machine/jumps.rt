@@ -17,6 +17,7 @@ use zc_base::reg::Reg;
 
 impl Machine {
     // Commits a jump of this size to an address, with the one after it in a register.
+    #[inline(always)]
     pub(super) fn jump(&mut self, to: u32, rd: Reg, size: u32) -> Step
         requires { self.old.commits < 2 ^ 64 - 1 }
         ensures answer { result ≡ answer_of (effect_step (jumps to rd size self.old) self.old) }
@@ -28,6 +29,7 @@ impl Machine {
     }
 
     // Commits a branch of this size.
+    #[inline(always)]
     pub(super) fn branch(&mut self, taken: bool, distance: i32, size: u32) -> Step
         requires { self.old.commits < 2 ^ 64 - 1 }
         ensures answer { result ≡ answer_of (effect_step (branches taken distance size self.old) self.old) }

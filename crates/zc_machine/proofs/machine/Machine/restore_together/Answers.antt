@@ -13,7 +13,7 @@ pub returns-clause-why : goal.returns-clause-why
 returns-clause-why c = λ _.
     let end = 4 * length c.args.registers.now in
     free_at c.args.registers.now (c.args.top - end) end c.args.top _ c.args.self.now (omega arith) (omega arith) (omega arith) (omega arith) c.self.view_is
-    (λ some. c.reach-cells.ensures.lies end some ∙ le-leb end (length c.reach-cells.result.now) (omega arith))
+    (λ some. c.reach-cells.ensures.lies end some (omega (arith, c.reach-cells.ensures.within)) ∙ le-leb end (length c.reach-cells.result.now) (omega arith))
 
 pub returns-clause-after : goal.returns-clause-after
 returns-clause-after c =

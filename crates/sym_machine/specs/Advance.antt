@@ -1,0 +1,25 @@
+-- How far the machine comes by steps without an event.
+use Rattle.std.specs.Prelude.{◌≡◌, ℕ, ◌+◌, List, Result, Ok}
+use Rattle.std.specs.declared.alloc.AllocError.{AllocError}
+use Rattle.rv_decode.specs.State.{Event}
+use Rattle.sym_machine.specs.declared.answer.SymStep.{SymStep}
+use Rattle.sym_machine.specs.Answer.{Makes}
+use Rattle.sym_machine.specs.Kept.{IsOf}
+use Rattle.sym_machine.specs.Program.{Program}
+use Rattle.sym_machine.specs.Run.{program_after}
+use Rattle.sym_machine.specs.State.{PlainCore}
+use Rattle.sym_machine.specs.Step.{plain_step}
+
+-- whichever run has come to this state comes to the other one by so many steps more, none of which is an event
+pub record RunsTo (p : Program) (s s2 : PlainCore) (k : ℕ) : Type 0 where
+  pub exit : s2.exit ≡ s.exit
+  pub of : IsOf p s2
+  pub runs : (input : List ℕ) (count : ℕ) (events : List Event)
+      → program_after p input count ≡ Ok (record { core = s; events = events })
+      → program_after p input (count + k) ≡ Ok (record { core = s2; events = events })
+
+-- so many steps without an event, and then one of which this is the answer and the state after it
+pub record Advanced (p : Program) (s s2 : PlainCore) (k : ℕ) (step : Result SymStep AllocError) : Type 0 where
+  pub last : PlainCore
+  pub runs : RunsTo p s last k
+  pub makes : Makes step (plain_step p last) last s2
