@@ -1,22 +1,24 @@
--- The layout as it is kept: its sizes, how many addresses there are, that they rise, and what is counted.
-use Rattle.std.proofs.Common.{◌≡◌, ℕ, ◌+◌, ◌-◌, ◌*◌, ◌<◌, ◌≤◌, List, Option, Some, None, true, false, is_some, get_or, length, slice_index, refl, ap, ◌∙◌, arith}
-use Rattle.std.proofs.lemmas.List.{get_or_default}
+-- The layout as it is kept: its sizes, the bytes that pieces take, whose sums are addresses, that these rise, and what is counted.
+use Rattle.std.proofs.Common.{◌≡◌, ℕ, ◌+◌, ◌-◌, ◌*◌, ◌<◌, ◌≤◌, List, Option, Some, None, true, false, is_some, length, slice_index, take, refl, ap, arith}
+use Rattle.std.specs.List.{sum}
 use Rattle.zc_base.specs.declared.place.Place.{Place}
 use Rattle.psabi_sym.specs.Faults.{gather_fault}
 use Rattle.psabi_sym.specs.Inputs.{Inputs, ParsedInputs, parsed}
 use Rattle.block_cut.specs.Items.{item_at}
 use Rattle.block_cut.specs.declared.item.Item.{Item}
 use Rattle.shrink_layout.specs.Counted.{is_long_piece, is_short_piece, pieces_with}
-use Rattle.shrink_layout.specs.Layout.{addresses_of, sizes_of}
+use Rattle.shrink_layout.specs.Layout.{sizes_of, widths_of}
 use Rattle.shrink_layout.specs.Least.{AreForms}
 use Rattle.shrink_layout.specs.Pieces.{piece_number_at, pieces_of}
-use Rattle.shrink_layout.specs.Settled.{is_long, is_sized, settled_addresses, settled_end, settled_size, settled_sizes, units_with}
+use Rattle.shrink_layout.specs.Settled.{is_long, is_sized, settled_addresses, settled_end, settled_size, settled_sizes, settled_widths, units_with}
 use Rattle.shrink_layout.specs.Units.{is_inside}
-use Rattle.shrink_layout.proofs.AddressLaws.{ascending, first_address, length_addresses}
+use Rattle.shrink_layout.proofs.AddressLaws.{ascending, first_address, last_address}
 use Rattle.shrink_layout.proofs.CountLaws.{unit_long, unit_short, units_counted}
 use Rattle.shrink_layout.proofs.NumberLaws.{number_below}
 use Rattle.shrink_layout.proofs.PlaceAddressLaws.{size_outside}
+use Rattle.shrink_layout.proofs.PremiseLaws.{all_aligned, front_few, room_few}
 use Rattle.shrink_layout.proofs.RoundLaws.{length_forms, round_forms}
+use Rattle.shrink_layout.proofs.WidthLaws.{address_by_widths, width_between, widths_count}
 
 module _ (inputs : ParsedInputs) (slots : List (Option Place)) where
   -- each size is a form
@@ -27,11 +29,6 @@ module _ (inputs : ParsedInputs) (slots : List (Option Place)) where
   -- there is one for each piece
   pub sizes_long : length (settled_sizes inputs slots) ≡ length (pieces_of inputs slots)
   sizes_long = length_forms (pieces_of inputs slots) (settled_sizes inputs slots) settled_forms
-
-  -- there is an address for each piece, and for the end
-  pub addresses_long : length (settled_addresses inputs slots) ≡ length (pieces_of inputs slots) + 1
-  unfolding settled_addresses
-  addresses_long = length_addresses inputs.map.text (pieces_of inputs slots) (settled_sizes inputs slots) settled_forms
 
   -- addresses rise
   pub addresses_rise : (i j : ℕ) → i ≤ j → j ≤ length (pieces_of inputs slots) → slice_index (settled_addresses inputs slots) i ≤ slice_index (settled_addresses inputs slots) j
@@ -48,27 +45,60 @@ module _ (inputs : ParsedInputs) (slots : List (Option Place)) where
   unfolding settled_end
   end_rises = omega (arith, address_first, addresses_rise 0 (length (pieces_of inputs slots)) (omega arith) (omega arith))
 
-  -- those of the pieces are kept
+  -- the sizes are those that are kept
   pub kept_sizes : sizes_of inputs.map.text (pieces_of inputs slots) ≡ settled_sizes inputs slots
   unfolding settled_sizes
   kept_sizes = refl
 
-  pub kept_addresses : addresses_of inputs.map.text (pieces_of inputs slots) (sizes_of inputs.map.text (pieces_of inputs slots)) ≡ settled_addresses inputs slots
-  unfolding settled_addresses settled_sizes
-  kept_addresses = refl
+  -- so are the bytes that pieces take
+  pub kept_widths : widths_of inputs.map.text (pieces_of inputs slots) (sizes_of inputs.map.text (pieces_of inputs slots)) ≡ settled_widths inputs slots
+  unfolding settled_widths settled_sizes
+  kept_widths = refl
 
-  module _ (addresses : List ℕ) (are : addresses ≡ settled_addresses inputs slots) where
-    pub kept_long : length addresses ≡ length (pieces_of inputs slots) + 1
-    kept_long = ap length are ∙ addresses_long
+  -- of which there are as many as pieces
+  pub widths_long : length (settled_widths inputs slots) ≡ length (pieces_of inputs slots)
+  unfolding settled_widths
+  widths_long = widths_count inputs.map.text (pieces_of inputs slots) (settled_sizes inputs slots) sizes_long
 
-    -- one of them, however it is read
-    pub kept_address : (k d : ℕ) → k ≤ length (pieces_of inputs slots) → get_or addresses k d ≡ slice_index (settled_addresses inputs slots) k
-    kept_address k d le = get_or_default addresses k d 0 (omega (arith, le, kept_long)) ∙ ap (λ l. slice_index l k) are
+  -- an address is where the text begins and the sum of the bytes before it
+  pub address_summed : (k : ℕ) → k ≤ length (pieces_of inputs slots) → slice_index (settled_addresses inputs slots) k ≡ inputs.map.text + sum (take k (settled_widths inputs slots))
+  unfolding settled_addresses settled_widths
+  address_summed k le = address_by_widths inputs.map.text (pieces_of inputs slots) (settled_sizes inputs slots) k sizes_long le
 
-    -- that of the end is the last
-    pub kept_end : (k d : ℕ) → k ≡ length (pieces_of inputs slots) → get_or addresses k d ≡ settled_end inputs slots
-    unfolding settled_end
-    kept_end k d last = kept_address k d (omega (arith, last)) ∙ ap (slice_index (settled_addresses inputs slots)) last
+  -- the bytes of a piece lead to the next address
+  pub settled_between : (k : ℕ) → k < length (pieces_of inputs slots)
+      → slice_index (settled_addresses inputs slots) (k + 1) ≡ slice_index (settled_addresses inputs slots) k + slice_index (settled_widths inputs slots) k
+  unfolding settled_addresses settled_widths
+  settled_between k lt = width_between inputs.map.text (pieces_of inputs slots) (settled_sizes inputs slots) k sizes_long lt
+
+  pub width_is : (k : ℕ) → k < length (pieces_of inputs slots)
+      → slice_index (settled_widths inputs slots) k ≡ slice_index (settled_addresses inputs slots) (k + 1) - slice_index (settled_addresses inputs slots) k
+  width_is k lt = omega (arith, settled_between k lt)
+
+  -- all together are the text's
+  pub text_summed : (k : ℕ) → k ≡ length (settled_widths inputs slots) → sum (take k (settled_widths inputs slots)) ≡ settled_end inputs slots - inputs.map.text
+  unfolding settled_end
+  text_summed k all =
+      let last : k ≡ length (pieces_of inputs slots) = omega (arith, all, widths_long) in
+      omega (arith, address_summed k (omega (arith, last)), ap (slice_index (settled_addresses inputs slots)) last)
+
+  -- the text ends where the last piece does
+  pub end_is : (k : ℕ) → k ≡ length (pieces_of inputs slots) → slice_index (settled_addresses inputs slots) k ≡ settled_end inputs slots
+  unfolding settled_end
+  end_is k last = ap (slice_index (settled_addresses inputs slots)) last
+
+-- no address is far from the text's start
+pub address_few : (inputs : Inputs) → gather_fault inputs ≡ None → (slots : List (Option Place)) → length slots ≤ 256 → (k : ℕ) → k ≤ length (pieces_of (parsed inputs) slots)
+    → slice_index (settled_addresses (parsed inputs) slots) k ≤ inputs.map.text + 0x9_0000
+unfolding settled_addresses
+address_few inputs none slots few k le =
+    omega (
+      arith,
+      addresses_rise (parsed inputs) slots k (length (pieces_of (parsed inputs) slots)) le (omega arith),
+      last_address inputs.map.text (pieces_of (parsed inputs) slots) (settled_sizes (parsed inputs) slots) (all_aligned inputs none slots) (settled_forms (parsed inputs) slots),
+      room_few inputs none slots,
+      front_few slots few,
+    )
 
 -- ---- by what is found
 

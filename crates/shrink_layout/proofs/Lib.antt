@@ -1,6 +1,7 @@
 pub mod AddressLaws
-pub mod AddressSteps
+pub mod AnewLaws
 pub mod BlockLaws
+pub mod ChangeLaws
 pub mod CountLaws
 pub mod Distances
 pub mod FormLaws
@@ -13,6 +14,7 @@ pub mod HeldLaws
 pub mod KeptLaws
 pub mod LaidLaws
 pub mod LeastLaws
+pub mod LowPowers
 pub mod MoveLaws
 pub mod NumberEnds
 pub mod NumberLaws
@@ -32,9 +34,14 @@ pub mod SiteCounts
 pub mod SiteLaws
 pub mod SizesLaws
 pub mod SlotLaws
+pub mod SumChanges
+pub mod SumLaws
+pub mod SumNodes
 pub mod TableLaws
 pub mod TablePieces
 pub mod TargetLaws
 pub mod TargetNumbers
 pub mod TestLaws
+pub mod TurnLaws
 pub mod UnitLaws
+pub mod WidthLaws

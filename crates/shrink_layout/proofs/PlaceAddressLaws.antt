@@ -104,6 +104,14 @@ module _ (inputs : ParsedInputs) (slots : List (Option Place)) (q : Place) where
       → settled_size inputs slots q ≡ Some (slice_index (settled_addresses inputs slots) (piece_number_at inputs.objects q + 1) - slice_index (settled_addresses inputs slots) (piece_number_at inputs.objects q))
   size_there u is = ap (option_map (λ v. way_on inputs slots q)) is
 
+  -- which an item has that starts there
+  pub size_found : (size : ℕ) → settled_size inputs slots q ≡ Some size → (is_start_at inputs.objects q ≡ true) × (way_on inputs slots q ≡ size)
+  size_found size is = by (unit_at inputs slots q) refl is
+    where
+      by : (o : Option CodeUnit) → unit_at inputs slots q ≡ o → option_map (λ u. way_on inputs slots q) o ≡ Some size → (is_start_at inputs.objects q ≡ true) × (way_on inputs slots q ≡ size)
+      by None at h = absurd cc
+      by (Some u) at h = (found_start inputs q (unit_found inputs (slot_at inputs slots) q u at), cc)
+
   -- and elsewhere there is no size
   pub size_nowhere : unit_at inputs slots q ≡ None → settled_size inputs slots q ≡ None
   size_nowhere is = ap (option_map (λ v. way_on inputs slots q)) is

@@ -4,10 +4,23 @@ use Rattle.std.specs.Prelude.{slice_index}
 use Rattle.std.proofs.lemmas.Bool.{cases_lt, cases_Bool, cond-true, cond-false, true≢false}
 use Rattle.std.proofs.lemmas.List.Elements.{All-set}
 use Rattle.shrink_layout.specs.declared.piece.Piece.{Piece}
-use Rattle.shrink_layout.specs.Invariants.Blocks.{AreTested, HaveGrownIn, IsNear, IsSpanned, IsStill, IsUnchanged, OthersFit, block_size, grown_size, nth_piece}
+use Rattle.shrink_layout.specs.Invariants.Blocks.{HaveGrownIn, IsNear, IsNearAt, IsSpanned, IsStill, IsUnchanged, block_fits, block_size, grown_size, nth_piece}
 use Rattle.shrink_layout.specs.Forms.{holds, longer, target}
 use Rattle.shrink_layout.specs.Layout.{fit_from, grown_from, holds_at}
 use Rattle.shrink_layout.proofs.GrownLaws.{fit_is, fit_is_not, grown_is}
+
+-- after a test, the pieces of blocks of which none grew fit
+abbrev pub AreTested : List ℕ → List Piece → List ℕ → List Bool → List ℕ → List ℕ → Type 0
+AreTested addresses pieces sizes grown lows highs =
+    (k : ℕ) → k < length pieces
+    → (IsUnchanged grown (k / block_size) → block_fits addresses pieces sizes k ≡ true) × IsNearAt pieces sizes lows highs k
+
+-- before the next, those of blocks near which nothing changed do
+abbrev pub OthersFit : List ℕ → List Piece → List ℕ → List ℕ → List ℕ → List ℕ → Type 0
+OthersFit addresses pieces sizes changes lows highs =
+    (k : ℕ) → k < length pieces
+    → IsStill changes (slice_index lows (k / block_size)) (slice_index highs (k / block_size))
+    → (block_fits addresses pieces sizes k ≡ true) × IsNearAt pieces sizes lows highs k
 
 -- the pieces of the blocks before this one, those before number n, have the sizes of the round
 pub record AreGrown (a : List ℕ) (pieces : List Piece) (old sizes old_lows lows old_highs highs : List ℕ) (grown : List Bool) (block n : ℕ) (fitted : Bool) : Type 0 where

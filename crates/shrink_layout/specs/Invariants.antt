@@ -1,5 +1,6 @@
 -- What the tables of the code stand for. Only invariants and proofs name these; nothing that must be believed does.
 pub mod Blocks
+pub mod Widths
 pub mod Numbers
 pub mod Slots
 pub mod Rounds

@@ -9,3 +9,4 @@ pub mod Table
 pub mod Units
 pub mod Halves
 pub mod Counted
+pub mod Sums

@@ -9,7 +9,7 @@ use Rattle.zc_decode.specs.declared.short.Short.TheVariants.{Pop, PopRet, PopRet
 use Rattle.block_cut.specs.Items.{all_items, all_places}
 use Rattle.block_cut.specs.declared.item.Item.TheVariants as item
 use Rattle.frame_match.specs.Groups.{groups_of}
-use Rattle.shrink_layout.specs.Layout.{addresses_of, sizes_of}
+use Rattle.shrink_layout.specs.Layout.{addresses_of, sizes_of, widths_of}
 use Rattle.shrink_layout.specs.Pieces.{piece_number_at, pieces_of, unit_at}
 use Rattle.shrink_layout.specs.Units.{CodeUnit, OneGroup, OneItem, OneSite, is_listed_at, is_push}
 
@@ -21,6 +21,11 @@ pub record SettledLayout : Type 0 where
 -- the sizes of the pieces
 unfoldable pub settled_sizes : ParsedInputs → List (Option Place) → List ℕ
 settled_sizes inputs slots = sizes_of inputs.map.text (pieces_of inputs slots)
+
+-- the bytes that each piece takes: first what stands in front, the table with its stub, then for each section of code its
+-- padding and what is written for its items; a group's first item has the bytes of all of it, and its others have none
+unfoldable pub settled_widths : ParsedInputs → List (Option Place) → List ℕ
+settled_widths inputs slots = widths_of inputs.map.text (pieces_of inputs slots) (settled_sizes inputs slots)
 
 -- ---- addresses
 

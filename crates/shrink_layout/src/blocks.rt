@@ -1,7 +1,7 @@
 // What is kept of each block of pieces from round to round.
 
-ghost use Rattle.std.specs.Prelude.{◌≡◌, ℕ, ◌+◌, ◌*◌, ◌<◌, IfOk, List, length, min};
-ghost use Rattle.shrink_layout.specs.Invariants.Blocks.{AreMultiples, IsMovedBy, OthersFit, block_count, block_size};
+ghost use Rattle.std.specs.Prelude.{◌≡◌, ℕ, ◌+◌, ◌*◌, ◌<◌, IfOk, List, length, min, slice_index};
+ghost use Rattle.shrink_layout.specs.Invariants.Blocks.{AreMultiples, IsMovedBy, block_count, block_size};
 ghost use Rattle.shrink_layout.specs.Invariants.Rounds.{AreBlocks};
 ghost use Rattle.shrink_layout.specs.declared.piece.Piece.{Piece};
 ghost use Rattle.shrink_layout.specs.declared.piece.Piece.TheVariants.{Align};
@@ -46,9 +46,6 @@ pub struct Blocks {
     pub lows: Vec<usize>,
     /// The last of these.
     pub highs: Vec<usize>,
-    /// How many blocks before it changed in the last round, as those do of which a piece may take another number of
-    /// bytes. One more entry counts all.
-    pub changes: Vec<usize>,
 }
 
 /// A multiple of this number and of an alignment; 0 if neither is one of the other.
@@ -68,27 +65,23 @@ pub fn multiple_with(multiple: u32, alignment: u32) -> u32
 }
 
 impl Blocks {
-    /// The blocks before the first round, by the multiples of each. Near each one counts as changed, so that every piece
-    /// is tested.
+    /// The blocks before the first round, by the multiples of each. The first block is named for each, in which pieces
+    /// changed, so that each block is tested.
     pub fn new(alloc: Global, multiples: Vec<u32>) -> Result<Blocks, AllocError>
         ensures blocks { (pieces : List Piece) → length multiples.items ≡ block_count pieces
             → AreMultiples pieces multiples.items → IfOk result (AreBlocks pieces) }
-        ensures untested { (pieces : List Piece) → length multiples.items ≡ block_count pieces
-            → IfOk result (λ b. (addresses sizes : List ℕ)
-            → OthersFit addresses pieces sizes b.changes.items b.lows.items b.highs.items) }
+        ensures lows { IfOk result (λ b. (k : ℕ) → slice_index b.lows.items k ≡ 0) }
+        ensures highs { IfOk result (λ b. (k : ℕ) → slice_index b.highs.items k ≡ 0) }
     {
         let count = multiples.len();
         let grown = vec![in alloc; false; count]?;
         let lows = vec![in alloc; 0; count]?;
         let highs = vec![in alloc; 0; count]?;
-        let mut changes = vec![in alloc; 0; count + 1]?;
-        changes[0] = 1;
         Ok(Blocks {
             multiples,
             grown,
             lows,
             highs,
-            changes,
         })
     }
 }

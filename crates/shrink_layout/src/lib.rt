@@ -20,4 +20,6 @@ mod shortest;
 pub mod site;
 mod sites;
 mod slots;
+pub mod sums;
 mod table_halves;
+mod widths;

@@ -1,42 +1,80 @@
-// Addresses after a round: those of blocks that only moved are moved, and those of other blocks are laid anew.
+// The bytes of pieces after a round: blocks that only moved keep them, and others are laid anew.
 
-ghost use Rattle.std.specs.Prelude.{◌≡◌, ℕ, ◌+◌, ◌^◌, ◌%◌, ◌<◌, ◌≤◌, true, length, slice_index};
-ghost use Rattle.shrink_layout.specs.Invariants.Blocks.{AreNewIn, AreSteps, HaveRoom, IsUnchanged, IsWithin};
+ghost use Rattle.std.specs.Prelude.{◌≡◌, ◌+◌, ◌*◌, ◌^◌, ◌%◌, ◌<◌, true, false, length, min, slice_index, slice_set};
+ghost use Rattle.std.specs.List.{sum};
+ghost use Rattle.shrink_layout.specs.Invariants.Blocks.{IsUnchanged, block_count, block_size};
+ghost use Rattle.shrink_layout.specs.Invariants.Widths.{CanBeLaidAnew, IsAscending, IsCleared, IsLaid, IsMoved};
 ghost use Rattle.shrink_layout.specs.Invariants.Rounds.{AreLaid, HaveGrown};
 
-use crate::blocks::{Blocks, PieceSpan};
+use crate::blocks::{BLOCK, Blocks, PieceSpan};
 use crate::piece::Piece;
+use crate::sums::Sums;
+use crate::widths::Widths;
 
-// The addresses of a block's pieces, each after the bytes of the one before it.
-fn lay_anew(addresses: &mut [u32], pieces: &[Piece], sizes: &[u16], span: PieceSpan)
-    requires within { IsWithin span (length pieces.now) }
-    requires room { HaveRoom pieces.now sizes.now addresses.old span.first }
-    ensures others { AreNewIn addresses.old addresses.new span.first span.end }
-    ensures steps { AreSteps pieces.now sizes.now addresses.new span.first span.end }
+// Writes that none of a block's pieces changed, of which the first has this number.
+fn clear(within: &mut [u8], first: usize)
+    requires first { first < length within.old }
+    requires ascend { IsAscending within.old first }
+    ensures { IsCleared within.old within.new first }
 {
-    let mut at = addresses[span.first];
-    for k in span.first..span.end {
-        at += pieces[k].width(sizes[k], at);
-        addresses[k + 1] = at;
+    let end = within.len().min(first + BLOCK);
+    if within[end - 1] != 0 {
+        for k in first..end {
+            within[k] = 0;
+        }
     }
 }
 
-// Moves the addresses after the first of a block by as much as that one, which was here before.
-fn shift(addresses: &mut [u32], span: PieceSpan, here: u32)
-    requires order { span.first ≤ span.end }
-    requires within { span.end < length addresses.old }
-    requires room { (k : ℕ) → span.first < k → k ≤ span.end → (here ≤ slice_index addresses.old k)
-        × (slice_index addresses.old span.first + slice_index addresses.old k < here + 2 ^ 32) }
-    ensures others { AreNewIn addresses.old addresses.new span.first span.end }
-    ensures moved { (k : ℕ) → span.first < k → k ≤ span.end
-        → slice_index addresses.new k + here ≡ slice_index addresses.old k + slice_index addresses.old span.first }
+// Changes the bytes that a piece takes, and says whether it took others before.
+fn change(sums: &mut Sums, k: usize, width: u32) -> bool
+    requires within { k < length sums.old }
+    requires room { sum (slice_set sums.old k width) < 2 ^ 32 }
+    ensures sums { sums.new ≡ slice_set sums.old k width }
+    ensures same { result ≡ false → slice_index sums.old k ≡ width }
 {
-    let at = addresses[span.first];
-    if at != here {
-        for k in span.first..span.end {
-            addresses[k + 1] = at + (addresses[k + 1] - here);
-        }
+    let changed = sums.size(k) != width;
+    if changed {
+        sums.set(k, width);
     }
+    changed
+}
+
+// Lays the pieces of a block anew, and counts those that take other bytes than before as changed.
+fn lay_anew(pieces: &[Piece], sizes: &[u16], widths: &mut Widths, block: usize)
+    requires within { block < block_count pieces.now }
+    requires can { CanBeLaidAnew pieces.now sizes.now widths.old block }
+    ensures { IsLaid (slice_index widths.old.starts.items 0) pieces.now sizes.now widths.old widths.new block
+        (block * block_size) (min (length pieces.now) (block * block_size + block_size)) }
+{
+    let span = PieceSpan::of_block(pieces, block);
+    let mut at = widths.starts[block];
+    let mut changed: u8 = 0;
+    for k in span.first..span.end {
+        let width = pieces[k].width(sizes[k], at);
+        widths.within[k] = changed;
+        if change(&mut widths.sums, k, width) {
+            changed += 1;
+        }
+        at += width;
+    }
+    if span.end % BLOCK != 0 {
+        widths.within[span.end] = changed;
+    }
+    widths.starts[block + 1] = at;
+    widths.changes[block + 1] = widths.changes[block] + usize::from(changed);
+}
+
+// Moves a block as a whole: its pieces take as many bytes as before, this many in all.
+fn move_block(widths: &mut Widths, block: usize, taken: u32)
+    requires within { (block + 1 < length widths.old.starts.items) × (block + 1 < length widths.old.changes.items) }
+    requires first { block * block_size < length widths.old.within.items }
+    requires ascend { IsAscending widths.old.within.items (block * block_size) }
+    requires room { slice_index widths.old.starts.items block + taken < 2 ^ 32 }
+    ensures { IsMoved widths.old widths.new block taken }
+{
+    clear(&mut widths.within, block * BLOCK);
+    widths.starts[block + 1] = widths.starts[block] + taken;
+    widths.changes[block + 1] = widths.changes[block];
 }
 
 // Whether two addresses are apart by a multiple of this number.
@@ -60,27 +98,21 @@ fn can_move(blocks: &Blocks, block: usize, here: u32, at: u32) -> bool
     !blocks.grown[block] && are_alike(here, at, blocks.multiples[block])
 }
 
-/// The addresses after a round in which the pieces of some blocks grew: blocks that can be moved as a whole are
-/// moved, and others are laid anew. Of these a piece may take another number of bytes than before, so each counts
-/// as changed.
-pub fn move_on(pieces: &[Piece], sizes: &[u16], addresses: &mut [u32], blocks: &mut Blocks)
-    requires grown { HaveGrown pieces.now sizes.now addresses.old blocks.old }
-    ensures text { slice_index addresses.new 0 ≡ slice_index addresses.old 0 }
-    ensures laid { AreLaid pieces.now sizes.now addresses.new blocks.new }
+/// The bytes of pieces after a round in which the pieces of some blocks grew, and how many changed: blocks that can be
+/// moved as a whole are moved, so that none of their pieces changed, and others are laid anew.
+pub fn move_on(pieces: &[Piece], sizes: &[u16], widths: &mut Widths, blocks: &Blocks)
+    requires grown { HaveGrown pieces.now sizes.now widths.old blocks.now }
+    ensures text { slice_index widths.new.starts.items 0 ≡ slice_index widths.old.starts.items 0 }
+    ensures laid { AreLaid pieces.now sizes.now widths.new blocks.now }
 {
-    let mut here = addresses[0];
-    let mut count = 0;
-    blocks.changes[0] = 0;
+    let mut here = widths.starts[0];
     for block in 0..blocks.grown.len() {
-        let span = PieceSpan::of_block(pieces, block);
-        let next = addresses[span.end];
-        if can_move(blocks, block, here, addresses[span.first]) {
-            shift(addresses, span, here);
+        let next = widths.starts[block + 1];
+        if can_move(blocks, block, here, widths.starts[block]) {
+            move_block(widths, block, next - here);
         } else {
-            lay_anew(addresses, pieces, sizes, span);
-            count += 1;
+            lay_anew(pieces, sizes, widths, block);
         }
-        blocks.changes[block + 1] = count;
         here = next;
     }
 }

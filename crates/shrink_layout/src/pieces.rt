@@ -133,9 +133,9 @@ fn add_section(of: &PieceSource, section: u32, made: &mut Pieces) -> Result<(), 
     add_places(of, &starts, made)
 }
 
-/// How many pieces objects that are cut have at most: what stands in front of all code, the padding before each section,
-/// and the items.
-pub fn most_pieces(cut: &Cut) -> usize
+// How many pieces objects that are cut have at most: what stands in front of all code, the padding before each section,
+// and the items.
+fn most_pieces(cut: &Cut) -> usize
     ensures { result < 2 ^ 34 }
 {
     1 + cut.objects().section_count() as usize + cut.counts().items as usize

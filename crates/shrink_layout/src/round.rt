@@ -1,22 +1,27 @@
 // One round.
 
-ghost use Rattle.std.specs.Prelude.{◌≡◌, ◌<◌, false, length, slice_index};
-ghost use Rattle.shrink_layout.specs.Invariants.Blocks.{AreNear, CanBeTested, HaveGrownIn, IsWithin, ReachesAll};
-ghost use Rattle.shrink_layout.specs.Forms.{target};
-ghost use Rattle.shrink_layout.specs.Layout.{all_fit, holds_at, next_sizes};
+ghost use Rattle.std.specs.Prelude.{◌≡◌, ◌+◌, ◌*◌, ◌<◌, ◌≤◌, ◌^◌, false, length, min, slice_index};
+ghost use Rattle.std.specs.List.{sum};
+ghost use Rattle.shrink_layout.specs.Forms.{holds, near_limit, target};
+ghost use Rattle.shrink_layout.specs.Invariants.Blocks.{HaveGrownIn, ReachesAll, block_count, block_size};
 ghost use Rattle.shrink_layout.specs.Invariants.Rounds.{AreLaid, HaveGrown};
+ghost use Rattle.shrink_layout.specs.Invariants.Widths.{CanBeTested, OthersFitFrom, addresses_in};
+ghost use Rattle.shrink_layout.specs.Layout.{all_fit, next_sizes};
 
 use crate::blocks::{BLOCK, Blocks, PieceSpan};
 use crate::piece::Piece;
+use crate::widths::Widths;
 
-// Whether the form of the piece with number k reaches.
-fn fits(addresses: &[u32], k: usize, piece: Piece, size: u16) -> bool
-    requires near { AreNear addresses.now }
-    requires piece_addressed { k < length addresses.now }
-    requires target_addressed { target piece < length addresses.now }
-    ensures { result ≡ holds_at addresses.now k piece size }
+// Whether a form reaches from an address to the target.
+fn reaches(widths: &Widths, at: u32, piece: Piece, size: u16) -> bool
+    requires text { 0 < length widths.now.starts.items }
+    requires within { target piece ≤ length widths.now.sums }
+    requires room { slice_index widths.now.starts.items 0 + sum widths.now.sums < 2 ^ 32 }
+    requires near { at < slice_index (addresses_in widths.now) (target piece) + near_limit }
+    requires near_back { slice_index (addresses_in widths.now) (target piece) < at + near_limit }
+    ensures { result ≡ holds piece size at (slice_index (addresses_in widths.now) (target piece)) }
 {
-    piece.holds(size, addresses[k], addresses[piece.target() as usize])
+    piece.holds(size, at, widths.address(piece.target() as usize))
 }
 
 // Whether there is a longer form. If not, this one reaches everywhere.
@@ -39,46 +44,50 @@ struct Tested {
     high: usize,
 }
 
-// Gives the next longer form to just those pieces of a block that don't fit.
-fn grow_block(pieces: &[Piece], addresses: &[u32], sizes: &mut [u16], span: PieceSpan) -> Tested
+// Gives the next longer form to just those pieces of a block that don't fit. A piece is tested only if it changed in
+// the last round, or a piece between it and its target did: all others fit.
+fn grow_block(pieces: &[Piece], sizes: &mut [u16], widths: &Widths, block: usize) -> Tested
     requires sized { length sizes.old ≡ length pieces.now }
-    requires testable { CanBeTested pieces.now addresses.now }
-    requires within { IsWithin span (length pieces.now) }
-    ensures { HaveGrownIn addresses.now pieces.now sizes.old sizes.new span.first span.end
-        result.fitted result.low result.high }
+    requires testable { CanBeTested pieces.now widths.now }
+    requires within { block < block_count pieces.now }
+    requires others { OthersFitFrom (block * block_size) pieces.now sizes.old widths.now }
+    ensures { HaveGrownIn (addresses_in widths.now) pieces.now sizes.old sizes.new (block * block_size)
+        (min (length pieces.now) (block * block_size + block_size)) result.fitted result.low result.high }
 {
+    let span = PieceSpan::of_block(pieces, block);
     let mut fitted = true;
     let mut low = span.first;
     let mut high = span.first;
+    let mut at = widths.starts[block];
     for k in span.first..span.end {
         let piece = pieces[k];
         if can_grow(piece, sizes[k]) {
-            if !fits(addresses, k, piece, sizes[k]) {
+            let to = piece.target() as usize;
+            if widths.changed(to.min(k), to.max(k + 1)) && !reaches(widths, at, piece, sizes[k]) {
                 sizes[k] = piece.longer(sizes[k]);
                 fitted = false;
             }
-            let to = piece.target() as usize;
             low = low.min(to);
             high = high.max(to);
         }
+        at += widths.sums.size(k);
     }
     Tested { fitted, low, high }
 }
 
-/// One round: gives the next longer form to just those pieces that don't fit, and says whether all fitted. Only
-/// the pieces of blocks are tested near which something changed, since all others fit.
-pub fn grow(pieces: &[Piece], addresses: &[u32], sizes: &mut [u16], blocks: &mut Blocks) -> bool
-    requires laid { AreLaid pieces.now sizes.old addresses.now blocks.old }
-    ensures fitted { result ≡ all_fit (slice_index addresses.now 0) pieces.now sizes.old }
-    ensures sizes { sizes.new ≡ next_sizes (slice_index addresses.now 0) pieces.now sizes.old }
-    ensures grown { HaveGrown pieces.now sizes.new addresses.now blocks.new }
+/// One round: gives the next longer form to just those pieces that don't fit, and says whether all fitted. A block is
+/// passed over if no piece changed in the last round of those on which it depends whether its pieces fit.
+pub fn grow(pieces: &[Piece], sizes: &mut [u16], widths: &Widths, blocks: &mut Blocks) -> bool
+    requires laid { AreLaid pieces.now sizes.old widths.now blocks.old }
+    ensures fitted { result ≡ all_fit (slice_index widths.now.starts.items 0) pieces.now sizes.old }
+    ensures sizes { sizes.new ≡ next_sizes (slice_index widths.now.starts.items 0) pieces.now sizes.old }
+    ensures grown { HaveGrown pieces.now sizes.new widths.now blocks.new }
 {
     let mut fitted = true;
     for block in 0..blocks.grown.len() {
         blocks.grown[block] = false;
-        if blocks.changes[blocks.lows[block]] != blocks.changes[blocks.highs[block] + 1] {
-            let span = PieceSpan::of_block(pieces, block);
-            let tested = grow_block(pieces, addresses, sizes, span);
+        if widths.changes[blocks.lows[block]] != widths.changes[blocks.highs[block] + 1] {
+            let tested = grow_block(pieces, sizes, widths, block);
             blocks.grown[block] = !tested.fitted;
             blocks.lows[block] = tested.low / BLOCK;
             blocks.highs[block] = tested.high / BLOCK;

@@ -2,7 +2,7 @@
 
 ghost use Rattle.std.specs.Prelude.{◌≡◌, ◌%◌, All, IfOk};
 ghost use Rattle.shrink_layout.specs.Forms.{IsEvenPiece};
-ghost use Rattle.shrink_layout.specs.Layout.{IsLayout, addresses_of, all_fit, sizes_of};
+ghost use Rattle.shrink_layout.specs.Layout.{IsLayout, all_fit, sizes_of, widths_of};
 ghost use Rattle.shrink_layout.specs.Least.{IsLeast, IsTight};
 ghost use Rattle.shrink_layout.specs.Invariants.Rounds.{CanBeLaid, next_pieces, shortest_pieces};
 
@@ -10,15 +10,17 @@ use crate::blocks::Blocks;
 use crate::moves::move_on;
 use crate::piece::Piece;
 use crate::round::grow;
-use crate::shortest::lay_shortest;
+use crate::shortest::{find_multiples, lay_shortest};
+use crate::sums::Sums;
+use crate::widths::Widths;
 use std::alloc::{AllocError, Global};
 use std::marker::Model;
 
-/// The size of each piece, and the address of each piece and of the end.
+/// The size of each piece, and the bytes that each takes.
 #[derive(Drop)]
 pub struct PieceLayout {
     pub sizes: Vec<u16>,
-    pub addresses: Vec<u32>,
+    pub sums: Sums,
 }
 
 // Pieces at the sizes that the rounds so far gave them.
@@ -26,7 +28,7 @@ pub struct PieceLayout {
 struct Rounds<'a> {
     pieces: &'a [Piece],
     sizes: Vec<u16>,
-    addresses: Vec<u32>,
+    widths: Widths,
     blocks: Blocks,
 }
 
@@ -37,31 +39,27 @@ impl<'a> Model for Rounds<'a> {
     ghost Value = { LaidPieces };
 
     ghost view = { λ r. record {
-      text = slice_index r.addresses.items 0;
+      text = slice_index r.widths.starts.items 0;
       pieces = r.pieces.now;
       sizes = r.sizes.items;
     } };
 
-    ghost invariant = { λ r. AreLaid r.pieces.now r.sizes.items r.addresses.items r.blocks };
+    ghost invariant = { λ r. AreLaid r.pieces.now r.sizes.items r.widths r.blocks };
 }
 
 impl<'a> Rounds<'a> {
-    // The shortest forms, with the addresses in place of what a vector holds.
-    fn new(
-        alloc: Global,
-        text: u32,
-        pieces: &'a [Piece],
-        addresses: Vec<u32>,
-    ) -> Result<Rounds<'a>, AllocError>
+    // The shortest forms.
+    fn new(alloc: Global, text: u32, pieces: &'a [Piece]) -> Result<Rounds<'a>, AllocError>
         requires { CanBeLaid text pieces.now }
         ensures { IfOk result (λ r. r ≡ shortest_pieces text pieces.now) }
     {
-        let first = lay_shortest(alloc, text, pieces, addresses)?;
-        let blocks = Blocks::new(alloc, first.multiples)?;
+        let first = lay_shortest(alloc, text, pieces)?;
+        let widths = Widths::new(alloc, first.sums, first.starts)?;
+        let blocks = Blocks::new(alloc, find_multiples(alloc, pieces)?)?;
         Ok(Rounds {
             pieces,
             sizes: first.sizes,
-            addresses: first.addresses,
+            widths,
             blocks,
         })
     }
@@ -71,52 +69,36 @@ impl<'a> Rounds<'a> {
         ensures fitted { result ≡ all_fit self.old.text self.old.pieces self.old.sizes }
         ensures next { self.new ≡ next_pieces self.old }
     {
-        if grow(
-            self.pieces,
-            &self.addresses,
-            &mut self.sizes,
-            &mut self.blocks,
-        ) {
+        if grow(self.pieces, &mut self.sizes, &self.widths, &mut self.blocks) {
             return true;
         }
-        move_on(
-            self.pieces,
-            &self.sizes,
-            &mut self.addresses,
-            &mut self.blocks,
-        );
+        move_on(self.pieces, &self.sizes, &mut self.widths, &self.blocks);
         false
     }
 
-    // The sizes and addresses.
+    // The sizes, and the bytes that the pieces take.
     fn layout(self) -> PieceLayout
         ensures sizes { result.sizes.items ≡ self.entry.sizes }
-        ensures addresses { result.addresses.items ≡ addresses_of self.entry.text self.entry.pieces self.entry.sizes }
+        ensures sums { result.sums ≡ widths_of self.entry.text self.entry.pieces self.entry.sizes }
     {
         PieceLayout {
             sizes: self.sizes,
-            addresses: self.addresses,
+            sums: self.widths.sums,
         }
     }
 }
 
 /// The layout of pieces from an address on: rounds, each of which gives the next longer form to the pieces that
-/// don't fit, until all do. The addresses take the place of what a vector holds.
-pub fn settle_pieces(
-    alloc: Global,
-    text: u32,
-    pieces: &[Piece],
-    addresses: Vec<u32>,
-) -> Result<PieceLayout, AllocError>
+/// don't fit, until all do.
+pub fn settle_pieces(alloc: Global, text: u32, pieces: &[Piece]) -> Result<PieceLayout, AllocError>
     requires { CanBeLaid text pieces.now }
     ensures layout { IfOk result (λ _. IsLayout text pieces.now (sizes_of text pieces.now)) }
     ensures sizes { IfOk result (λ r. r.sizes.items ≡ sizes_of text pieces.now) }
-    ensures addresses { IfOk result
-        (λ r. r.addresses.items ≡ addresses_of text pieces.now (sizes_of text pieces.now)) }
+    ensures sums { IfOk result (λ r. r.sums ≡ widths_of text pieces.now (sizes_of text pieces.now)) }
     ensures least { text % 2 ≡ 0 → All IsEvenPiece pieces.now → All IsTight pieces.now
         → IfOk result (λ _. IsLeast text pieces.now (sizes_of text pieces.now)) }
 {
-    let mut rounds = Rounds::new(alloc, text, pieces, addresses)?;
+    let mut rounds = Rounds::new(alloc, text, pieces)?;
     loop {
         if rounds.next() {
             return Ok(rounds.layout());

@@ -1,6 +1,6 @@
 // The objects with the layout of their code.
 
-ghost use Rattle.std.specs.Prelude.{◌≡◌, ◌≤◌, ℕ, ◌^◌, ◌<◌, if◌then◌else◌, IfOk, IsTrue, Some, None, [], length, true};
+ghost use Rattle.std.specs.Prelude.{◌≡◌, ◌≤◌, ℕ, ◌^◌, ◌<◌, if◌then◌else◌, IfOk, IsTrue, Some, None, [], length, slice_index, true};
 ghost use Rattle.psabi_sym.specs.Faults.{gather_fault};
 ghost use Rattle.psabi_sym.specs.Inputs.{ParsedInputs, parsed};
 ghost use Rattle.block_cut.specs.Items.{is_start_at, is_target_at};
@@ -15,7 +15,7 @@ ghost use Rattle.shrink_layout.specs.Invariants.Made.{AreHalvesOf, all_owners};
 ghost use Rattle.shrink_layout.specs.Invariants.Numbers.{AreFirstNumbers, HasPlace, IsSettled};
 ghost use Rattle.shrink_layout.specs.Invariants.Slots.{AreNumbered};
 ghost use Rattle.shrink_layout.specs.Pieces.{is_unaligned, piece_number_at, pieces_of, unit_at};
-ghost use Rattle.shrink_layout.specs.Settled.{is_site, settled_address, settled_addresses, settled_counts, settled_end, settled_size, settled_sizes, units_with};
+ghost use Rattle.shrink_layout.specs.Settled.{is_site, settled_address, settled_addresses, settled_counts, settled_end, settled_size, settled_sizes, settled_widths, units_with};
 ghost use Rattle.shrink_layout.specs.Table.{IsLaidBehind};
 ghost use Rattle.shrink_layout.specs.Units.{AreTargetSlots, OneItem, is_inside};
 ghost use Rattle.zc_base.specs.declared.place.Place.{Place};
@@ -23,9 +23,10 @@ ghost use Rattle.zc_base.specs.declared.place.Place.{Place};
 use crate::group_counts::count_groups;
 use crate::numbers::{first_numbers, piece_number, piece_number_at};
 use crate::piece::Piece;
-use crate::pieces::{make_pieces, most_pieces};
+use crate::pieces::{Pieces, make_pieces};
 use crate::rounds::settle_pieces;
 use crate::slots::{Numbered, PieceSource, Slots};
+use crate::sums::Sums;
 use crate::table_halves::{count_table_halves, is_table_jump};
 use block_cut::place_number::PlaceNumber;
 use frame_match::planned::Planned;
@@ -36,14 +37,14 @@ use zc_base::counts::Counts;
 use zc_base::place::Place;
 
 /// The layout of objects' code that is made smaller: the slots of its table, the number of each section's first place,
-/// and for each piece its halfword, if that is known before the layout, and its address.
+/// and for each piece its halfword, if that is known before the layout, and its bytes, whose sums give addresses.
 #[derive(Drop)]
 pub struct Settled {
     planned: Planned,
     slots: Vec<Option<Place>>,
     starts: Vec<u32>,
     halves: Vec<u16>,
-    addresses: Vec<u32>,
+    sums: Sums,
     counts: Counts,
 }
 
@@ -51,7 +52,7 @@ pub struct Settled {
 #[derive(Drop)]
 struct KeptLayout {
     halves: Vec<u16>,
-    addresses: Vec<u32>,
+    sums: Sums,
     counts: Counts,
 }
 
@@ -60,7 +61,7 @@ struct KeptLayout {
 struct FirstLayout {
     planned: Planned,
     starts: Vec<u32>,
-    addresses: Vec<u32>,
+    sums: Sums,
 }
 
 impl Model for Settled {
@@ -72,7 +73,7 @@ impl Model for Settled {
     ghost view = { λ settled. record { inputs = settled.planned; slots = settled.slots.items } };
 
     ghost invariant = { λ settled. IsSettled settled.planned settled.slots.items
-        settled.starts.items settled.halves.items settled.addresses.items settled.counts };
+        settled.starts.items settled.halves.items settled.sums settled.counts };
 }
 
 // One for a piece of one item that isn't padding and takes two bytes, and else none.
@@ -139,37 +140,52 @@ fn count_sites(slots: &[Option<Place>], halves: &[u16]) -> u32
     }
 }
 
-// The layout with a table of slots. The addresses are those of the layout without it if there are any, and the new ones
-// take their place.
-fn lay_out(
+// The pieces of all code, with a table of slots. If there are any, the sums are those of the layout without it, which
+// aren't needed any longer.
+fn pieces_behind(
     alloc: Global,
     of: &Numbered,
-    addresses: Vec<u32>,
+    first: Sums,
     slots: &[Option<Place>],
-) -> Result<KeptLayout, AllocError>
+) -> Result<Pieces, AllocError>
     requires numbered { AreNumbered of.now }
-    requires addresses { 0 < length slots.now
-        → addresses.items ≡ settled_addresses (parsed of.now.planned.now) [] }
+    requires first { 0 < length slots.now → first ≡ settled_widths (parsed of.now.planned.now) [] }
     requires targets { AreTargetSlots (parsed of.now.planned.now).objects slots.now }
-    ensures settled { IfOk result (λ kept. IsSettled of.now.planned.now slots.now
-        of.now.starts.now kept.halves.items kept.addresses.items kept.counts) }
-    ensures laid { IfOk result (λ _. IsLaidBehind (parsed of.now.planned.now) slots.now) }
+    ensures pieces { IfOk result (λ made. made.pieces.items ≡ pieces_of (parsed of.now.planned.now) slots.now) }
+    ensures halves { IfOk result
+        (λ made. AreHalvesOf (all_owners (parsed of.now.planned.now) slots.now) made.halves.items) }
 {
-    let kept = Slots::new(alloc, of, addresses, slots)?;
+    let kept = Slots::new(alloc, of, first, slots)?;
     let source = PieceSource {
         planned: of.planned,
         starts: of.starts,
         slots: &kept,
     };
-    let made = make_pieces(alloc, &source)?;
+    make_pieces(alloc, &source)
+}
+
+// The layout with a table of slots. If there are any, the sums are those of the layout without it.
+fn lay_out(
+    alloc: Global,
+    of: &Numbered,
+    first: Sums,
+    slots: &[Option<Place>],
+) -> Result<KeptLayout, AllocError>
+    requires numbered { AreNumbered of.now }
+    requires first { 0 < length slots.now → first ≡ settled_widths (parsed of.now.planned.now) [] }
+    requires targets { AreTargetSlots (parsed of.now.planned.now).objects slots.now }
+    ensures settled { IfOk result (λ kept. IsSettled of.now.planned.now slots.now
+        of.now.starts.now kept.halves.items kept.sums kept.counts) }
+    ensures laid { IfOk result (λ _. IsLaidBehind (parsed of.now.planned.now) slots.now) }
+{
+    let made = pieces_behind(alloc, of, first, slots)?;
     let cut = of.planned.cut();
     let text = cut.objects().map().text;
-    let rounds = settle_pieces(alloc, text, &made.pieces, kept.into_addresses())?;
-    let end = rounds.addresses[made.pieces.len()];
-    let sizes = count_sizes(&made.pieces, &rounds.sizes);
+    let layout = settle_pieces(alloc, text, &made.pieces)?;
+    let sizes = count_sizes(&made.pieces, &layout.sizes);
     let groups = count_groups(of.planned);
     let counts = Counts {
-        text: end - text,
+        text: layout.sums.before(layout.sums.count()),
         items: cut.counts().items,
         short: sizes.short,
         long: sizes.long,
@@ -180,7 +196,7 @@ fn lay_out(
     };
     Ok(KeptLayout {
         halves: made.halves,
-        addresses: rounds.addresses,
+        sums: layout.sums,
         counts,
     })
 }
@@ -197,19 +213,17 @@ pub fn settle(alloc: Global, planned: Planned) -> Result<Settled, AllocError>
     let cut = planned.cut();
     let slots = Vec::new(alloc);
     let starts = first_numbers(alloc, cut)?;
-    // What is kept is allocated before the pieces, so that what they take is given back as a whole.
-    let addresses = Vec::with_capacity(alloc, most_pieces(cut) + 1)?;
     let of = Numbered {
         planned: &planned,
         starts: &starts,
     };
-    let kept = lay_out(alloc, &of, addresses, &slots)?;
+    let kept = lay_out(alloc, &of, Sums::of(alloc, &[])?, &slots)?;
     Ok(Settled {
         planned,
         slots,
         starts,
         halves: kept.halves,
-        addresses: kept.addresses,
+        sums: kept.sums,
         counts: kept.counts,
     })
 }
@@ -219,12 +233,12 @@ fn first_layout(settled: Settled) -> FirstLayout
     ensures same { result.planned ≡ settled.inputs }
     ensures faultless { gather_fault settled.inputs ≡ None }
     ensures starts { AreFirstNumbers (parsed settled.inputs).objects result.starts.items }
-    ensures addresses { result.addresses.items ≡ settled_addresses (parsed settled.inputs) settled.slots }
+    ensures sums { result.sums ≡ settled_widths (parsed settled.inputs) settled.slots }
 {
     FirstLayout {
         planned: settled.planned,
         starts: settled.starts,
-        addresses: settled.addresses,
+        sums: settled.sums,
     }
 }
 
@@ -244,20 +258,20 @@ pub fn settle_with(
     let FirstLayout {
         planned,
         starts,
-        addresses,
+        sums,
     } = first_layout(settled);
     let kept_slots = Vec::from_slice(alloc, slots)?;
     let of = Numbered {
         planned: &planned,
         starts: &starts,
     };
-    let kept = lay_out(alloc, &of, addresses, slots)?;
+    let kept = lay_out(alloc, &of, sums, slots)?;
     Ok(Settled {
         planned,
         slots: kept_slots,
         starts,
         halves: kept.halves,
-        addresses: kept.addresses,
+        sums: kept.sums,
         counts: kept.counts,
     })
 }
@@ -279,8 +293,16 @@ impl Settled {
         matches!(self.planned.role_by(number), Some(Role::Inside))
     }
 
-    /// The address of a place that images list; a place inside a group has none. It takes constant time, as does all
-    /// that follows.
+    // The address of the piece with a number, or of the text's end.
+    fn piece_address(&self, k: usize) -> u32
+        requires { k ≤ length (pieces_of (parsed self.now.inputs) self.now.slots) }
+        ensures { result ≡ slice_index (settled_addresses (parsed self.now.inputs) self.now.slots) k }
+    {
+        self.planned.cut().objects().map().text + self.sums.before(k)
+    }
+
+    /// The address of a place that images list; a place inside a group has none. It takes time logarithmic in the
+    /// items, as do `address_at` and `text_end`; what else follows takes constant time.
     pub fn address(&self, p: Place) -> Option<u32>
         ensures { result ≡ settled_address (parsed self.now.inputs) self.now.slots p }
     {
@@ -303,7 +325,7 @@ impl Settled {
         ensures { (q : Place) (address : ℕ) → settled_address (parsed self.now.inputs) self.now.slots q ≡ Some address
             → IsPlaceNumber (parsed self.now.inputs).objects q number → result ≡ address }
     {
-        self.addresses[self.piece_at(number)]
+        self.piece_address(self.piece_at(number))
     }
 
     // The number of the piece at a place where an item starts or a section of code ends; 0 of any other.
@@ -317,6 +339,8 @@ impl Settled {
     fn piece_at(&self, number: PlaceNumber) -> usize
         requires { HasPlace (parsed self.now.inputs).objects number }
         ensures most { result ≤ length (pieces_of (parsed self.now.inputs) self.now.slots) }
+        ensures item { HasItem (parsed self.now.inputs).objects number
+            → result < length (pieces_of (parsed self.now.inputs) self.now.slots) }
         ensures known { (q : Place) → is_target_at (parsed self.now.inputs).objects q ≡ true
             → IsPlaceNumber (parsed self.now.inputs).objects q number
             → result ≡ piece_number_at (parsed self.now.inputs).objects q }
@@ -365,14 +389,31 @@ impl Settled {
             return None;
         }
         let k = self.piece_number_at(p) as usize;
-        Some(self.addresses[k + 1] - self.addresses[k])
+        Some(self.sums.size(k))
+    }
+
+    /// The bytes of what is written at a place where an item starts, by where the place stands among all.
+    pub fn size_at(&self, number: PlaceNumber) -> u32
+        requires { HasItem (parsed self.now.inputs).objects number }
+        ensures { (q : Place) (size : ℕ) → settled_size (parsed self.now.inputs) self.now.slots q ≡ Some size
+            → IsPlaceNumber (parsed self.now.inputs).objects q number → result ≡ size }
+    {
+        self.sums.size(self.piece_at(number))
+    }
+
+    /// The tree of the bytes that pieces take: first what stands in front, the table with its stub, then for each
+    /// section of code its padding and what is written for its items.
+    pub fn sums(&self) -> &Sums
+        ensures { result.now ≡ settled_widths (parsed self.now.inputs) self.now.slots }
+    {
+        &self.sums
     }
 
     /// Where the text ends.
     pub fn text_end(&self) -> u32
         ensures { result ≡ settled_end (parsed self.now.inputs) self.now.slots }
     {
-        self.addresses[self.addresses.len() - 1]
+        self.piece_address(self.sums.count())
     }
 
     /// What the layout counts.

@@ -25,9 +25,8 @@ fn jump_slot(of: &PieceSource, at: Place, rd: Reg, to: Place) -> Option<u8>
         return None;
     }
     let cut = of.planned.cut();
-    let addresses = &of.slots.addresses;
     let k = piece_number_at(cut, of.starts, at) as usize;
-    if addresses[k + 1] - addresses[k] != 4 {
+    if of.slots.first.size(k) != 4 {
         return None;
     }
     let to = piece_number_at(cut, of.starts, to) as usize;

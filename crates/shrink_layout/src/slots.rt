@@ -4,10 +4,11 @@ ghost use Rattle.std.specs.Prelude.{◌≡◌, ◌+◌, ◌<◌, ◌≤◌, All,
 ghost use Rattle.psabi_sym.specs.Inputs.{parsed};
 ghost use Rattle.shrink_layout.specs.Invariants.Slots.{AreFirstSlots, AreNumbered, AreSlotsOf};
 ghost use Rattle.shrink_layout.specs.Pieces.{pieces_of};
-ghost use Rattle.shrink_layout.specs.Settled.{settled_addresses};
+ghost use Rattle.shrink_layout.specs.Settled.{settled_widths};
 ghost use Rattle.shrink_layout.specs.Units.{AreTargetSlots, IsTargetSlot};
 
 use crate::numbers::piece_number_at;
+use crate::sums::Sums;
 use frame_match::planned::Planned;
 use std::alloc::{AllocError, Global};
 use zc_base::place::Place;
@@ -27,8 +28,8 @@ pub struct Numbered<'a> {
 #[derive(Drop)]
 pub struct Slots<'a> {
     pub slots: &'a [Option<Place>],
-    /// If there are slots, the addresses in the layout without the table.
-    pub addresses: Vec<u32>,
+    /// If there are slots, the bytes of each piece in the layout without the table.
+    pub first: Sums,
     /// If there are slots, the first for jumps to each place, by the number of the place's piece.
     pub jumps: Vec<Option<u8>>,
     /// The first for calls.
@@ -77,21 +78,25 @@ fn first_slots(
 }
 
 impl<'a> Slots<'a> {
-    /// The slots of a table. If there are any, the addresses are those of the layout without it.
+    /// The slots of a table. If there are any, the sums are those of the layout without it.
     pub fn new(
         alloc: Global,
         of: &Numbered,
-        addresses: Vec<u32>,
+        first: Sums,
         slots: &'a [Option<Place>],
     ) -> Result<Slots<'a>, AllocError>
         requires numbered { AreNumbered of.now }
-        requires addresses { 0 < length slots.now
-            → addresses.items ≡ settled_addresses (parsed of.now.planned.now) [] }
+        requires first { 0 < length slots.now → first ≡ settled_widths (parsed of.now.planned.now) [] }
         requires targets { AreTargetSlots (parsed of.now.planned.now).objects slots.now }
         ensures same { IfOk result (λ kept. kept.slots.now ≡ slots.now) }
         ensures kept { IfOk result (AreSlotsOf (parsed of.now.planned.now)) }
     {
-        let count = addresses.len();
+        // There is an entry for each piece, and for the end.
+        let count = if slots.is_empty() {
+            0
+        } else {
+            first.count() + 1
+        };
         let middle = slots.len().min(JUMP_SLOTS);
         let jumps = SlotPart {
             first: 0,
@@ -105,14 +110,7 @@ impl<'a> Slots<'a> {
             slots,
             jumps: first_slots(alloc, of, jumps, count)?,
             calls: first_slots(alloc, of, calls, count)?,
-            addresses,
+            first,
         })
-    }
-
-    /// The addresses, once the slots aren't needed any more.
-    pub fn into_addresses(self) -> Vec<u32>
-        ensures { result.items ≡ self.entry.addresses.items }
-    {
-        self.addresses
     }
 }

@@ -1,13 +1,10 @@
--- Blocks of pieces. A round tests only the pieces of blocks near which something changed in the round before, and moves
--- the addresses of a block as a whole where its pieces take as many bytes as before.
-use Rattle.std.specs.Prelude.{◌≡◌, ℕ, ◌+◌, ◌/◌, ◌%◌, ◌<◌, ◌≤◌, ◌^◌, ◌⊎◌, All, Bool, true, false, if◌then◌else◌, List, drop, length, slice_index, slice_index_or}
-use Rattle.std.specs.List.{sum_by}
-use Rattle.shrink_layout.specs.declared.blocks.PieceSpan.{PieceSpan}
+-- Blocks of pieces. A round passes over blocks near which no piece changed in the round before, and moves a block as a
+-- whole where its pieces take as many bytes as before.
+use Rattle.std.specs.Prelude.{◌≡◌, ℕ, ◌+◌, ◌/◌, ◌%◌, ◌<◌, ◌≤◌, ◌⊎◌, All, Bool, true, false, if◌then◌else◌, List, length, slice_index, slice_index_or}
 use Rattle.shrink_layout.specs.declared.piece.Piece.{Piece}
 use Rattle.shrink_layout.specs.declared.piece.Piece.TheVariants.{Fixed, Joined, Align, Branch, Jump}
-use Rattle.shrink_layout.specs.Forms.{HasAlignment, holds, longer, longest, near_limit, target, width}
+use Rattle.shrink_layout.specs.Forms.{holds, longer, near_limit, target}
 use Rattle.shrink_layout.specs.Layout.{holds_at}
-use Rattle.shrink_layout.specs.Least.{AreForms}
 
 -- how many pieces a block has; the last one may have fewer
 abbrev pub block_size : ℕ
@@ -21,40 +18,7 @@ block_count pieces = length pieces / block_size + 1
 abbrev pub nth_piece : List Piece → ℕ → Piece
 nth_piece pieces k = slice_index_or pieces k (Fixed 0)
 
--- the numbers from one up to another are those of some of so many pieces
-abbrev pub IsWithin : PieceSpan → ℕ → Type 0
-IsWithin span count = (span.first ≤ span.end) × (span.end ≤ count)
-
--- ---- addresses
-
--- the address after the piece with number k is its own and the bytes that it takes
-abbrev pub IsStep : List Piece → List ℕ → List ℕ → ℕ → Type 0
-IsStep pieces sizes addresses k =
-    slice_index addresses (k + 1)
-    ≡ slice_index addresses k + width (nth_piece pieces k) (slice_index sizes k) (slice_index addresses k)
-
--- so it is for the pieces with numbers from first on, before end
-abbrev pub AreSteps : List Piece → List ℕ → List ℕ → ℕ → ℕ → Type 0
-AreSteps pieces sizes addresses first end = (k : ℕ) → first ≤ k → k < end → IsStep pieces sizes addresses k
-
--- only addresses after the one with number first, up to the one with number end, may have changed
-pub record AreNewIn (old new : List ℕ) (first end : ℕ) : Type 0 where
-  pub same : length new ≡ length old
-  pub before : (k : ℕ) → k ≤ first → slice_index new k ≡ slice_index old k
-  pub after : (k : ℕ) → end < k → slice_index new k ≡ slice_index old k
-
--- whatever forms the pieces from number first on take, they end below 2^32
-pub record HaveRoom (pieces : List Piece) (sizes addresses : List ℕ) (first : ℕ) : Type 0 where
-  pub alignments : All HasAlignment pieces
-  pub forms : AreForms pieces sizes
-  pub long : length addresses ≡ length pieces + 1
-  pub room : slice_index addresses first + sum_by longest (drop first pieces) < 2 ^ 32
-
 -- ---- blocks that are moved as a whole
-
--- the piece with number k takes as many bytes at its old and its new address
-abbrev pub IsSameStep : List ℕ → List ℕ → ℕ → Type 0
-IsSameStep old new k = slice_index new (k + 1) + slice_index old k ≡ slice_index old (k + 1) + slice_index new k
 
 -- padding takes as many bytes if it is moved by a multiple of n
 abbrev pub IsMovedBy : ℕ → Piece → Type 0
@@ -79,12 +43,6 @@ IsUnchanged grown block = slice_index_or grown block false ≡ false
 -- any two addresses are less than 2 GiB apart
 abbrev pub AreNear : List ℕ → Type 0
 AreNear addresses = All (λ a. All (λ b. a < b + near_limit) addresses) addresses
-
--- each piece and each target has an address, and these are near
-pub record CanBeTested (pieces : List Piece) (addresses : List ℕ) : Type 0 where
-  pub long : length addresses ≡ length pieces + 1
-  pub near : AreNear addresses
-  pub targets : All (λ p. target p ≤ length pieces) pieces
 
 -- whether the piece with number k reaches its target
 abbrev pub block_fits : List ℕ → List Piece → List ℕ → ℕ → Bool
@@ -119,7 +77,7 @@ pub record HaveGrownIn (addresses : List ℕ) (pieces : List Piece) (old sizes :
   pub high_least : first ≤ high
   pub high_most : high ≤ length pieces
 
--- ---- pieces that need no test
+-- ---- blocks that are passed over
 
 -- the block of the piece is one from low to high, and so is that of its target, if that may get out of reach
 abbrev pub IsNear : Piece → ℕ → ℕ → ℕ → ℕ → Type 0
@@ -133,19 +91,6 @@ IsNearAt pieces sizes lows highs k =
     IsNear (nth_piece pieces k) (slice_index sizes k) (k / block_size)
     (slice_index lows (k / block_size)) (slice_index highs (k / block_size))
 
--- no block from low to high changed; for each block it is counted how many before it did
+-- no piece of a block from low to high changed; for each block it is counted how many pieces before it did
 abbrev pub IsStill : List ℕ → ℕ → ℕ → Type 0
 IsStill changes low high = slice_index changes low ≡ slice_index changes (high + 1)
-
--- after a test, the pieces of blocks of which none grew fit
-abbrev pub AreTested : List ℕ → List Piece → List ℕ → List Bool → List ℕ → List ℕ → Type 0
-AreTested addresses pieces sizes grown lows highs =
-    (k : ℕ) → k < length pieces
-    → (IsUnchanged grown (k / block_size) → block_fits addresses pieces sizes k ≡ true) × IsNearAt pieces sizes lows highs k
-
--- before the next, those of blocks near which nothing changed do
-abbrev pub OthersFit : List ℕ → List Piece → List ℕ → List ℕ → List ℕ → List ℕ → Type 0
-OthersFit addresses pieces sizes changes lows highs =
-    (k : ℕ) → k < length pieces
-    → IsStill changes (slice_index lows (k / block_size)) (slice_index highs (k / block_size))
-    → (block_fits addresses pieces sizes k ≡ true) × IsNearAt pieces sizes lows highs k

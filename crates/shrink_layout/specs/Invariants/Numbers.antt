@@ -17,7 +17,7 @@ use Rattle.block_cut.specs.declared.item.Item.{Item}
 use Rattle.block_cut.specs.declared.place_number.PlaceNumber.{PlaceNumber}
 use Rattle.shrink_layout.specs.Halves.{IsHalfOf}
 use Rattle.shrink_layout.specs.Pieces.{piece_count, piece_number_at, pieces_of, unit_at}
-use Rattle.shrink_layout.specs.Settled.{settled_addresses, settled_counts}
+use Rattle.shrink_layout.specs.Settled.{settled_counts, settled_widths}
 use Rattle.shrink_layout.specs.Units.{AreTargetSlots, CodeUnit, OneGroup, OneItem, OneSite}
 
 -- ---- numbers
@@ -69,10 +69,10 @@ AreHalves inputs slots halves =
 
 -- a layout of inputs without a fault, with a table of these slots, as it is kept
 pub record IsSettled
-    (inputs : Inputs) (slots : List (Option Place)) (starts halves addresses : List ℕ) (counts : Counts) : Type 0 where
+    (inputs : Inputs) (slots : List (Option Place)) (starts halves sums : List ℕ) (counts : Counts) : Type 0 where
   pub faultless : gather_fault inputs ≡ None
   pub targets : AreTargetSlots (parsed inputs).objects slots
   pub starts_are : AreFirstNumbers (parsed inputs).objects starts
   pub halves_are : AreHalves (parsed inputs) slots halves
-  pub addresses_are : addresses ≡ settled_addresses (parsed inputs) slots
+  pub sums_are : sums ≡ settled_widths (parsed inputs) slots
   pub counts_are : counts ≡ settled_counts (parsed inputs) slots

@@ -1,11 +1,13 @@
--- What rounds do with pieces, and what is kept of them from round to round: their sizes and addresses, and blocks.
-use Rattle.std.specs.Prelude.{◌≡◌, ℕ, ◌+◌, ◌^◌, ◌/◌, ◌<◌, ◌≤◌, All, List, length, map, slice_index}
+-- What rounds do with pieces, and what is kept of them from round to round: sizes, bytes and blocks.
+use Rattle.std.specs.Prelude.{◌≡◌, ℕ, ◌+◌, ◌^◌, ◌/◌, ◌<◌, ◌≤◌, All, true, List, length, map, slice_index}
 use Rattle.std.specs.List.{sum_by}
 use Rattle.shrink_layout.specs.declared.blocks.Blocks.{Blocks}
 use Rattle.shrink_layout.specs.declared.piece.Piece.{Piece}
-use Rattle.shrink_layout.specs.Invariants.Blocks.{AreMultiples, AreTested, IsStep, IsUnchanged, OthersFit, block_count, block_size}
+use Rattle.shrink_layout.specs.declared.widths.Widths.{Widths}
+use Rattle.shrink_layout.specs.Invariants.Blocks.{AreMultiples, IsNearAt, IsStill, IsUnchanged, block_count, block_fits, block_size}
+use Rattle.shrink_layout.specs.Invariants.Widths.{AreCounted, AreStarts, OthersFitFrom, addresses_in}
 use Rattle.shrink_layout.specs.Forms.{HasAlignment, longest, near_limit, shortest, target}
-use Rattle.shrink_layout.specs.Layout.{addresses_of, next_sizes}
+use Rattle.shrink_layout.specs.Layout.{addresses_of, next_sizes, widths_of}
 use Rattle.shrink_layout.specs.Least.{AreForms}
 
 -- ---- pieces at sizes
@@ -40,25 +42,38 @@ pub record AreBlocks (pieces : List Piece) (blocks : Blocks) : Type 0 where
   pub grown_count : length blocks.grown.items ≡ block_count pieces
   pub lows_count : length blocks.lows.items ≡ block_count pieces
   pub highs_count : length blocks.highs.items ≡ block_count pieces
-  pub changes_count : length blocks.changes.items ≡ block_count pieces + 1
   pub multiples : AreMultiples pieces blocks.multiples.items
   pub low : All (λ b. b < block_count pieces) blocks.lows.items
   pub high : All (λ b. b < block_count pieces) blocks.highs.items
 
--- before a round: the addresses are those at the sizes, and where nothing changed near a block, its pieces fit
-pub record AreLaid (pieces : List Piece) (sizes addresses : List ℕ) (blocks : Blocks) : Type 0 where
-  pub can : CanBeLaid (slice_index addresses 0) pieces
+-- pieces at sizes: the bytes that each takes, and the address of each block
+pub record ArePlaced (pieces : List Piece) (sizes : List ℕ) (w : Widths) : Type 0 where
+  pub can : CanBeLaid (slice_index w.starts.items 0) pieces
   pub forms : AreForms pieces sizes
-  pub addressed : addresses ≡ addresses_of (slice_index addresses 0) pieces sizes
-  pub blocks_are : AreBlocks pieces blocks
-  pub others : OthersFit addresses pieces sizes blocks.changes.items blocks.lows.items blocks.highs.items
+  pub sums : w.sums ≡ widths_of (slice_index w.starts.items 0) pieces sizes
+  pub starts : AreStarts (addresses_of (slice_index w.starts.items 0) pieces sizes) (length pieces) w.starts.items
+  pub counted : AreCounted w
 
--- in the midst of a round: pieces grew, and the addresses are still those at the sizes before. Those of blocks of which
--- no piece grew follow one another, and these pieces fit
-pub record HaveGrown (pieces : List Piece) (sizes addresses : List ℕ) (blocks : Blocks) : Type 0 where
-  pub can : CanBeLaid (slice_index addresses 0) pieces
-  pub forms : AreForms pieces sizes
-  pub long : length addresses ≡ length pieces + 1
+-- before a round: a piece fits if neither it nor one between it and its target changed in the last round; and if none
+-- changed in the blocks that are kept of a block, these are all on which it depends whether its pieces fit
+pub record AreLaid (pieces : List Piece) (sizes : List ℕ) (w : Widths) (blocks : Blocks) : Type 0 where
+  pub placed : ArePlaced pieces sizes w
   pub blocks_are : AreBlocks pieces blocks
-  pub steps : (k : ℕ) → k < length pieces → IsUnchanged blocks.grown.items (k / block_size) → IsStep pieces sizes addresses k
-  pub tested : AreTested addresses pieces sizes blocks.grown.items blocks.lows.items blocks.highs.items
+  pub others : OthersFitFrom 0 pieces sizes w
+  pub near : (k : ℕ) → k < length pieces
+      → IsStill w.changes.items (slice_index blocks.lows.items (k / block_size))
+      (slice_index blocks.highs.items (k / block_size))
+      → IsNearAt pieces sizes blocks.lows.items blocks.highs.items k
+
+-- in the midst of a round: pieces grew, and bytes and addresses are still those at the sizes before. Pieces that didn't
+-- grow fit
+pub record HaveGrown (pieces : List Piece) (sizes : List ℕ) (w : Widths) (blocks : Blocks) : Type 0 where
+  pub old : List ℕ
+  pub placed : ArePlaced pieces old w
+  pub forms : AreForms pieces sizes
+  pub blocks_are : AreBlocks pieces blocks
+  pub kept : (k : ℕ) → k < length pieces → IsUnchanged blocks.grown.items (k / block_size)
+      → slice_index sizes k ≡ slice_index old k
+  pub fit : (k : ℕ) → k < length pieces → slice_index sizes k ≡ slice_index old k
+      → block_fits (addresses_in w) pieces old k ≡ true
+  pub near : (k : ℕ) → k < length pieces → IsNearAt pieces sizes blocks.lows.items blocks.highs.items k

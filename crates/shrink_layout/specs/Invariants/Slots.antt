@@ -6,7 +6,7 @@ use Rattle.psabi_sym.specs.Faults.{gather_fault}
 use Rattle.psabi_sym.specs.Inputs.{ParsedInputs, parsed}
 use Rattle.shrink_layout.specs.Invariants.Numbers.{AreFirstNumbers}
 use Rattle.shrink_layout.specs.Pieces.{piece_at, piece_number_at, pieces_of, slot_at, unit_at}
-use Rattle.shrink_layout.specs.Settled.{settled_addresses}
+use Rattle.shrink_layout.specs.Settled.{settled_widths}
 use Rattle.shrink_layout.specs.Units.{AreTargetSlots, CodeUnit, slot_from}
 use Rattle.shrink_layout.specs.declared.piece.Piece.{Piece}
 use Rattle.shrink_layout.specs.declared.slots.Numbered.{Numbered}
@@ -22,10 +22,10 @@ AreFirstSlots objects first part firsts =
 abbrev pub HasAll : {X : Type 0} → ParsedInputs → List X → Type 0
 HasAll inputs xs = length xs ≡ length (pieces_of inputs []) + 1
 
--- the slots of a table by where they lead; if there are any, the addresses are those of the layout without the table
+-- the slots of a table by where they lead; if there are any, the bytes of pieces are those of the layout without the table
 pub record AreSlotsOf (inputs : ParsedInputs) (kept : Slots) : Type 0 where
   pub targets : AreTargetSlots inputs.objects kept.slots.now
-  pub addresses : 0 < length kept.slots.now → kept.addresses.items ≡ settled_addresses inputs []
+  pub first : 0 < length kept.slots.now → kept.first ≡ settled_widths inputs []
   pub all_jumps : 0 < length kept.slots.now → HasAll inputs kept.jumps.items
   pub all_calls : 0 < length kept.slots.now → HasAll inputs kept.calls.items
   pub jumps : AreFirstSlots inputs.objects 0 (take 32 kept.slots.now) kept.jumps.items

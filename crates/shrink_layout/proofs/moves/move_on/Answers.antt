@@ -1,75 +1,104 @@
-use Rattle.std.proofs.Common.{◌≡◌, ◌+◌, ◌*◌, ◌<◌, List, ℕ, length, min, set, refl, sym, subst, arith}
+use Rattle.std.proofs.Common.{◌+◌, ◌-◌, ◌*◌, ◌/◌, ◌%◌, ◌<◌, length, min, refl, sym, ap, ◌∙◌, subst, arith}
 use Rattle.std.specs.Prelude.{slice_index}
-use Rattle.shrink_layout.specs.Invariants.Blocks.{AreMultiples, IsUnchanged, block_size}
-use Rattle.shrink_layout.proofs.LaidLaws.{moved_laid}
-use Rattle.shrink_layout.proofs.MoveLaws.{IsMovedOn, can_shift, laid_anew, shifted, stood}
+use Rattle.shrink_layout.specs.declared.widths.Widths.{Widths}
+use Rattle.shrink_layout.specs.Invariants.Blocks.{block_size}
+use Rattle.shrink_layout.specs.Invariants.Widths.{IsMoved}
+use Rattle.shrink_layout.proofs.AddressLaws.{first_address}
+use Rattle.shrink_layout.proofs.ChangeLaws.{index_is, placed_long}
+use Rattle.shrink_layout.proofs.LaidLaws.{moved_laid, moved_text}
+use Rattle.shrink_layout.proofs.MoveLaws.{IsMovedOn, none_moved}
+use Rattle.shrink_layout.proofs.TurnLaws.{anew, clears, lays_anew, moved_whole, order, room}
 use Rattle.shrink_layout.proofs.moves.move_on.Goals as goal
 use Rattle.shrink_layout.proofs.moves.move_on.Goals.{then-can_move, else-can_move}
 
-pub shift-requires-clause-room : goal.shift-requires-clause-room
-shift-requires-clause-room c =
+pub loop-block-init : goal.loop-block-init
+loop-block-init c =
+    let old = c.args.widths.now in
+    let grown = c.requires.grown in
     let pieces = c.args.pieces.now in
-    let sizes = c.args.sizes.now in
-    let old = c.args.addresses.now in
-    let grown = c.args.blocks.now.grown.items in
-    let now = c.loop-block in
-    let before = c.requires.grown in
-    let span = c.of_block-span in
-    let count = before.blocks_are.grown_count in
-    let in_grown : now.block < length grown = omega (arith, c.loop-block-test.true, c.len-block-end.ensures) in
-    let kept : IsUnchanged grown now.block = subst (λ l. IsUnchanged l now.block) now.invariant.grown_same (c.if-can_move.ensures.kept refl) in
-    can_shift pieces sizes old now.addresses grown now.blocks.changes.items now.block span.result.first span.result.end now.here now.count before.can.alignments before.forms before.long count in_grown
-    span.ensures.first span.ensures.end now.invariant.moved before.can.room
-    (stood pieces sizes old now.addresses grown now.blocks.changes.items now.block span.result.first span.result.end now.here now.count before.can.alignments before.forms before.long count in_grown
-    span.ensures.first span.ensures.end now.invariant.moved before.steps kept)
+    let here = index_is old.starts.items 0 _ c.index-here.result.now (omega (arith, grown.placed.starts.long)) c.index-here.ensures in
+    subst (IsMovedOn pieces c.args.sizes.now old old 0 (min (length pieces) 0)) (sym here)
+    (none_moved pieces c.args.sizes.now grown.old old (min (length pieces) 0) grown.placed (placed_long pieces grown.old old grown.placed) (omega arith) (first_address _ pieces c.args.sizes.now))
+
+pub overflow_sub-next : goal.overflow_sub-next
+overflow_sub-next c =
+    let pieces = c.args.pieces.now in
+    let now = c.loop-block.invariant in
+    let grown = c.requires.grown in
+    let in_blocks : c.loop-block.block < length pieces / block_size + 1 = omega (arith, c.loop-block-test.true, c.len-block-end.ensures, grown.blocks_are.grown_count) in
+    let next = index_is c.loop-block.widths.starts.items (c.loop-block.block + 1) _ c.index-next.result.now (omega (arith, now.starts_count, in_blocks)) c.index-next.ensures in
+    omega (arith, next, order pieces c.args.sizes.now c.args.widths.now c.loop-block.widths c.args.blocks.now c.loop-block.block c.loop-block.here grown in_blocks now)
+
+pub move_block-requires-clause-ascend : goal.move_block-requires-clause-ascend
+move_block-requires-clause-ascend c =
+    let grown = c.requires.grown in
+    clears c.args.pieces.now c.args.sizes.now c.args.widths.now c.loop-block.widths c.args.blocks.now c.loop-block.block c.loop-block.here grown
+    (omega (arith, c.loop-block-test.true, c.len-block-end.ensures, grown.blocks_are.grown_count)) c.loop-block.invariant
+
+pub lay_anew-requires-clause-can : goal.lay_anew-requires-clause-can
+lay_anew-requires-clause-can c =
+    let grown = c.requires.grown in
+    lays_anew c.args.pieces.now c.args.sizes.now c.args.widths.now c.loop-block.widths c.args.blocks.now c.loop-block.block c.loop-block.here grown
+    (omega (arith, c.loop-block-test.true, c.len-block-end.ensures, grown.blocks_are.grown_count)) c.loop-block.invariant
+
+pub move_block-requires-clause-room : goal.move_block-requires-clause-room
+move_block-requires-clause-room c =
+    let pieces = c.args.pieces.now in
+    let blocks = c.args.blocks.now in
+    let w = c.loop-block.widths in
+    let block = c.loop-block.block in
+    let now = c.loop-block.invariant in
+    let grown = c.requires.grown in
+    let can = c.if-can_move.ensures in
+    let in_blocks : block < length pieces / block_size + 1 = omega (arith, c.loop-block-test.true, c.len-block-end.ensures, grown.blocks_are.grown_count) in
+    let next = index_is w.starts.items (block + 1) _ c.index-next.result.now (omega (arith, now.starts_count, in_blocks)) c.index-next.ensures in
+    let at = index_is w.starts.items block _ c.index.result.now (omega (arith, now.starts_count, in_blocks)) c.index.ensures in
+    let multiple = slice_index blocks.multiples.items block in
+    omega (
+      arith,
+      next,
+      room pieces c.args.sizes.now c.args.widths.now w blocks block c.loop-block.here grown in_blocks now
+          multiple (can.kept refl) refl (can.some refl) (can.alike refl ∙ ap (λ m. m % multiple) at),
+    )
 
 pub loop-block-preserved : goal.loop-block-preserved
 loop-block-preserved c =
     let pieces = c.args.pieces.now in
     let sizes = c.args.sizes.now in
-    let old = c.args.addresses.now in
-    let grown = c.args.blocks.now.grown.items in
-    let now = c.loop-block in
-    let is = now.invariant in
-    let changes = now.blocks.changes.items in
-    let before = c.requires.grown in
-    let span = c.of_block-span in
-    let first = span.result.first in
-    let end = span.result.end in
-    let count = before.blocks_are.grown_count in
-    let in_grown : now.block < length grown = omega (arith, c.loop-block-test.true, c.len-block-end.ensures) in
-    let n : ℕ = min (length pieces) (block_size * (now.block + 1)) in
-    let next = slice_index now.addresses end in
-    let moved : IsMovedOn pieces sizes old c.if-can_move.addresses grown (set changes (now.block + 1) c.if-can_move.count) (now.block + 1) n next c.if-can_move.count = elim c.if-can_move.branch [
-      | then-can_move w ↦
-          let can = w.if-can_move.ensures in
-          let kept : IsUnchanged grown now.block = subst (λ l. IsUnchanged l now.block) is.grown_same (can.kept refl) in
-          let steps = stood pieces sizes old now.addresses grown changes now.block first end now.here now.count before.can.alignments before.forms before.long count in_grown
-          span.ensures.first span.ensures.end is.moved before.steps kept in
-          let multiples = now.blocks.multiples.items in
-          let all = shifted pieces sizes old now.addresses grown changes now.block first end now.here now.count before.can.alignments before.forms before.long count in_grown
-          span.ensures.first span.ensures.end is.moved w.shift.new.addresses multiples steps (subst (AreMultiples pieces) (sym is.multiples_same) before.blocks_are.multiples)
-          (can.some refl) (can.alike refl) kept w.shift.ensures.others w.shift.ensures.moved in
-          subst (λ m. IsMovedOn pieces sizes old c.if-can_move.addresses grown (set changes (now.block + 1) m) (now.block + 1) n next m) (sym w.count-is)
-          (subst (λ (l : List ℕ). IsMovedOn pieces sizes old l grown (set changes (now.block + 1) now.count) (now.block + 1) n next now.count) (sym w.addresses-is) all)
-      | else-can_move w ↦
-          let all = laid_anew pieces sizes old now.addresses grown changes now.block first end now.here now.count before.can.alignments before.forms before.long count in_grown
-          span.ensures.first span.ensures.end is.moved w.lay_anew.new.addresses w.lay_anew.ensures.others w.lay_anew.ensures.steps in
-          subst (λ m. IsMovedOn pieces sizes old c.if-can_move.addresses grown (set changes (now.block + 1) m) (now.block + 1) n next m) (sym w.count-is)
-          (subst (λ (l : List ℕ). IsMovedOn pieces sizes old l grown (set changes (now.block + 1) (now.count + 1)) (now.block + 1) n next (now.count + 1)) (sym w.addresses-is) all)
+    let old = c.args.widths.now in
+    let blocks = c.args.blocks.now in
+    let w = c.loop-block.widths in
+    let w' = c.if-can_move.widths in
+    let block = c.loop-block.block in
+    let here = c.loop-block.here in
+    let now = c.loop-block.invariant in
+    let grown = c.requires.grown in
+    let in_blocks : block < length pieces / block_size + 1 = omega (arith, c.loop-block-test.true, c.len-block-end.ensures, grown.blocks_are.grown_count) in
+    let next = index_is w.starts.items (block + 1) _ c.index-next.result.now (omega (arith, now.starts_count, in_blocks)) c.index-next.ensures in
+    let at = index_is w.starts.items block _ c.index.result.now (omega (arith, now.starts_count, in_blocks)) c.index.ensures in
+    let multiple = slice_index blocks.multiples.items block in
+    let turned : IsMovedOn pieces sizes old w' (block + 1) (min (length pieces) ((block + 1) * block_size)) (slice_index w.starts.items (block + 1)) = elim c.if-can_move.branch [
+      | then-can_move v ↦
+          let can = v.if-can_move.ensures in
+          let moved = subst (λ m. IsMoved w v.move_block.new.widths block (m - here)) next v.move_block.ensures in
+          subst (λ (x : Widths). IsMovedOn pieces sizes old x (block + 1) (min (length pieces) ((block + 1) * block_size)) (slice_index w.starts.items (block + 1))) (sym v.widths-is)
+          (moved_whole pieces sizes old w blocks block here grown in_blocks now multiple (can.kept refl) refl (can.some refl) (can.alike refl ∙ ap (λ m. m % multiple) at) v.move_block.new.widths moved)
+      | else-can_move v ↦
+          subst (λ (x : Widths). IsMovedOn pieces sizes old x (block + 1) (min (length pieces) ((block + 1) * block_size)) (slice_index w.starts.items (block + 1))) (sym v.widths-is)
+          (anew pieces sizes old w blocks block here grown in_blocks now v.lay_anew.new.widths v.lay_anew.ensures)
     ] in
-    record {
-      multiples_same = is.multiples_same;
-      grown_same = is.grown_same;
-      lows_same = is.lows_same;
-      highs_same = is.highs_same;
-      moved = moved;
-    }
+    subst (IsMovedOn pieces sizes old w' (block + 1) (min (length pieces) ((block + 1) * block_size))) (sym next) turned
+
+pub returns-clause-text : goal.returns-clause-text
+returns-clause-text c =
+    let pieces = c.args.pieces.now in
+    let grown = c.requires.grown in
+    moved_text pieces c.args.sizes.now c.args.widths.now c.loop-block.widths c.args.blocks.now c.loop-block.block _ c.loop-block.here grown
+    (omega (arith, c.loop-block-test.false, c.len-block-end.ensures, grown.blocks_are.grown_count)) (omega (arith, c.loop-block-test.false, c.len-block-end.ensures, grown.blocks_are.grown_count)) c.loop-block.invariant
 
 pub returns-clause-laid : goal.returns-clause-laid
 returns-clause-laid c =
-    let is = c.loop-block.invariant in
-    let grown = c.args.blocks.now.grown.items in
-    let all : c.loop-block.block ≡ length grown = omega (arith, c.loop-block-test.false, c.len-block-end.ensures, is.moved.changes_same, is.moved.few) in
-    moved_laid c.args.pieces.now c.args.sizes.now c.args.addresses.now c.loop-block.addresses c.args.blocks.now c.loop-block.blocks _ _ c.loop-block.here c.loop-block.count c.requires.grown
-    is.multiples_same is.grown_same is.lows_same is.highs_same all (omega (arith, all, c.requires.grown.blocks_are.grown_count)) is.moved
+    let pieces = c.args.pieces.now in
+    let grown = c.requires.grown in
+    moved_laid pieces c.args.sizes.now c.args.widths.now c.loop-block.widths c.args.blocks.now c.loop-block.block _ c.loop-block.here grown
+    (omega (arith, c.loop-block-test.false, c.len-block-end.ensures, grown.blocks_are.grown_count)) (omega (arith, c.loop-block-test.false, c.len-block-end.ensures, grown.blocks_are.grown_count)) c.loop-block.invariant

@@ -1,5 +1,5 @@
 use Rattle.std.proofs.Common.{◌<◌, sym, ap, ◌∙◌, subst}
-use Rattle.shrink_layout.specs.Layout.{addresses_of, sizes_of}
+use Rattle.shrink_layout.specs.Layout.{sizes_of, widths_of}
 use Rattle.shrink_layout.specs.Invariants.Rounds.{LaidPieces}
 use Rattle.shrink_layout.proofs.RoundLaws.{slack_of}
 use Rattle.shrink_layout.proofs.SizesLaws.{AreOfRound, next_fits, next_less, next_of_round, shortest_of_round, sizes_layout, sizes_least}
@@ -38,13 +38,13 @@ returns-then-next-clause-sizes c =
     c.layout.ensures.sizes ∙ ap (λ r. r.sizes) c.next.ensures.next
     ∙ next_fits c.loop-rounds.rounds now.round (sym c.next.ensures.fitted ∙ c.if-next.true) ∙ (λ i. sizes_of (now.text_same i) (now.pieces_same i))
 
-pub returns-then-next-clause-addresses : goal.returns-then-next-clause-addresses
-returns-then-next-clause-addresses c =
+pub returns-then-next-clause-sums : goal.returns-then-next-clause-sums
+returns-then-next-clause-sums c =
     let now = c.loop-rounds.invariant in
     let is = c.next.ensures.next in
     let sizes = sym c.layout.ensures.sizes ∙ returns-then-next-clause-sizes c in
-    c.layout.ensures.addresses ∙ (λ i. addresses_of (is i).text (is i).pieces c.next.new.self.sizes)
-    ∙ (λ i. addresses_of (now.text_same i) (now.pieces_same i) (sizes i))
+    c.layout.ensures.sums ∙ (λ i. widths_of (is i).text (is i).pieces c.next.new.self.sizes)
+    ∙ (λ i. widths_of (now.text_same i) (now.pieces_same i) (sizes i))
 
 pub returns-then-next-clause-least : goal.returns-then-next-clause-least
 returns-then-next-clause-least c even all_even tight = sizes_least c.args.text c.args.pieces.now even all_even tight c.requires.targets

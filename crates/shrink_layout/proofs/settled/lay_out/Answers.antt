@@ -1,6 +1,6 @@
 -- What `settle_pieces` asks holds of the pieces of inputs without a fault, and what it gives is the layout.
-use Rattle.std.proofs.Common.{◌≡◌, ℕ, ◌-◌, ◌≤◌, ◌%◌, All, List, Option, length, sym, ap, subst, subst₂, ◌∙◌, arith}
-use Rattle.std.specs.List.{sum_by}
+use Rattle.std.proofs.Common.{◌≡◌, ℕ, ◌≤◌, ◌%◌, All, List, Option, length, take, sym, ap, subst, subst₂, ◌∙◌, arith}
+use Rattle.std.specs.List.{sum, sum_by}
 use Rattle.psabi_sym.specs.Inputs.{ParsedInputs, parsed}
 use Rattle.block_cut.specs.Faults.{first_fault}
 use Rattle.block_cut.specs.PlainLayout.{plain_counts}
@@ -8,12 +8,12 @@ use Rattle.zc_base.specs.declared.place.Place.{Place}
 use Rattle.shrink_layout.specs.Invariants.Made.{AreHalvesOf, all_owners}
 use Rattle.shrink_layout.specs.Counted.{is_long_piece, is_short_piece, pieces_with}
 use Rattle.shrink_layout.specs.Forms.{HasAlignment, IsEvenPiece, longest, target}
-use Rattle.shrink_layout.specs.Layout.{IsLayout, addresses_of, sizes_of}
+use Rattle.shrink_layout.specs.Layout.{IsLayout, sizes_of, widths_of}
 use Rattle.shrink_layout.specs.Least.{IsLeast, IsTight}
 use Rattle.shrink_layout.specs.Pieces.{pieces_of}
 use Rattle.shrink_layout.specs.Settled.{settled_sizes}
 use Rattle.shrink_layout.specs.declared.piece.Piece.{Piece}
-use Rattle.shrink_layout.proofs.KeptLaws.{end_rises, kept_addresses, kept_end, kept_long, kept_sizes, long_counted, short_counted, sizes_long}
+use Rattle.shrink_layout.proofs.KeptLaws.{kept_sizes, kept_widths, long_counted, short_counted, sizes_long, text_summed}
 use Rattle.shrink_layout.proofs.HalfLaws.{all_halves}
 use Rattle.shrink_layout.proofs.PremiseLaws.{all_aligned, all_even, all_tight, front_few, pieces_few, room_few, targets}
 use Rattle.shrink_layout.proofs.SizesLaws.{sizes_layout}
@@ -23,7 +23,7 @@ use Rattle.shrink_layout.proofs.settled.lay_out.Goals as goal
 pub settle_pieces-requires : goal.settle_pieces-requires
 settle_pieces-requires c =
     let none = c.requires.numbered.faultless in
-    let pieces = c.deref.ensures.value ∙ c.in_ok-made.ensures.pieces ∙ ap (pieces_of (parsed c.args.of.now.planned.now)) c.in_ok-kept.ensures.same in
+    let pieces = c.deref.ensures.value ∙ c.in_ok-made.ensures.pieces in
     let map = c.map-text.ensures.is_map in
     record {
       alignments = subst (All HasAlignment) (sym pieces) (all_aligned c.args.of.now.planned.now none c.args.slots.now);
@@ -32,63 +32,43 @@ settle_pieces-requires c =
       near = omega (arith, ap (sum_by longest) pieces, room_few c.args.of.now.planned.now none c.args.slots.now, front_few c.args.slots.now c.requires.targets.few);
     }
 
-pub index-end-requires : goal.index-end-requires
-index-end-requires c =
-    let inputs = parsed c.args.of.now.planned.now in
-    let pieces = c.deref.ensures.value ∙ c.in_ok-made.ensures.pieces ∙ ap (pieces_of (parsed c.args.of.now.planned.now)) c.in_ok-kept.ensures.same in
-    let text = ap (λ m. m.text) c.map-text.ensures.value ∙ ap (λ x. x.map.text) (c.objects.ensures.same ∙ c.cut-cut.ensures.same) in
-    let are = c.in_ok-rounds.ensures.addresses ∙ (λ j. addresses_of (text j) (pieces j) (sizes_of (text j) (pieces j))) ∙ kept_addresses inputs c.args.slots.now in
-    omega (arith, c.len.ensures, c.in_ok-made.made.pieces.ok, c.in_ok-rounds.rounds.addresses.ok, ap length (c.in_ok-made.ensures.pieces ∙ ap (pieces_of inputs) c.in_ok-kept.ensures.same), kept_long inputs c.args.slots.now c.in_ok-rounds.rounds.addresses.items are)
-
-pub overflow_sub-counts : goal.overflow_sub-counts
-overflow_sub-counts c =
-    let inputs = parsed c.args.of.now.planned.now in
-    let pieces = c.deref.ensures.value ∙ c.in_ok-made.ensures.pieces ∙ ap (pieces_of (parsed c.args.of.now.planned.now)) c.in_ok-kept.ensures.same in
-    let text = ap (λ m. m.text) c.map-text.ensures.value ∙ ap (λ x. x.map.text) (c.objects.ensures.same ∙ c.cut-cut.ensures.same) in
-    let are = c.in_ok-rounds.ensures.addresses ∙ (λ j. addresses_of (text j) (pieces j) (sizes_of (text j) (pieces j))) ∙ kept_addresses inputs c.args.slots.now in
-    let last : c.len.result ≡ length (pieces_of inputs c.args.slots.now) = omega (arith, c.len.ensures, c.in_ok-made.made.pieces.ok, ap length (c.in_ok-made.ensures.pieces ∙ ap (pieces_of inputs) c.in_ok-kept.ensures.same)) in
-    let end = c.index-end.ensures ∙ kept_end inputs c.args.slots.now c.in_ok-rounds.rounds.addresses.items are c.len.result c.index-end.result.now last in
-    omega (arith, end, text, end_rises inputs c.args.slots.now)
-
 pub count_sizes-sizes-requires-clause-same : goal.count_sizes-sizes-requires-clause-same
 count_sizes-sizes-requires-clause-same c =
     let inputs = parsed c.args.of.now.planned.now in
-    let pieces = c.deref.ensures.value ∙ c.in_ok-made.ensures.pieces ∙ ap (pieces_of (parsed c.args.of.now.planned.now)) c.in_ok-kept.ensures.same in
+    let pieces = c.deref.ensures.value ∙ c.in_ok-made.ensures.pieces in
     let text = ap (λ m. m.text) c.map-text.ensures.value ∙ ap (λ x. x.map.text) (c.objects.ensures.same ∙ c.cut-cut.ensures.same) in
-    let sizes = c.deref-3.ensures.value ∙ c.in_ok-rounds.ensures.sizes ∙ (λ j. sizes_of (text j) (pieces j)) ∙ kept_sizes inputs c.args.slots.now in
-    ap length sizes ∙ sizes_long inputs c.args.slots.now ∙ ap length (sym (c.deref-2.ensures.value ∙ c.in_ok-made.ensures.pieces ∙ ap (pieces_of (parsed c.args.of.now.planned.now)) c.in_ok-kept.ensures.same))
+    let sizes = c.deref-3.ensures.value ∙ c.in_ok-layout.ensures.sizes ∙ (λ j. sizes_of (text j) (pieces j)) ∙ kept_sizes inputs c.args.slots.now in
+    ap length sizes ∙ sizes_long inputs c.args.slots.now ∙ ap length (sym (c.deref-2.ensures.value ∙ c.in_ok-made.ensures.pieces))
 
 pub count_sizes-sizes-requires-clause-few : goal.count_sizes-sizes-requires-clause-few
 count_sizes-sizes-requires-clause-few c =
-    omega (arith, ap length (c.deref-2.ensures.value ∙ c.in_ok-made.ensures.pieces ∙ ap (pieces_of (parsed c.args.of.now.planned.now)) c.in_ok-kept.ensures.same), pieces_few c.args.of.now.planned.now c.requires.numbered.faultless c.args.slots.now)
+    omega (arith, ap length (c.deref-2.ensures.value ∙ c.in_ok-made.ensures.pieces), pieces_few c.args.of.now.planned.now c.requires.numbered.faultless c.args.slots.now)
 
 pub returns-clause-settled : goal.returns-clause-settled
 returns-clause-settled c =
     let none = c.requires.numbered.faultless in
     let inputs = parsed c.args.of.now.planned.now in
-    let pieces = c.deref.ensures.value ∙ c.in_ok-made.ensures.pieces ∙ ap (pieces_of (parsed c.args.of.now.planned.now)) c.in_ok-kept.ensures.same in
+    let pieces = c.deref.ensures.value ∙ c.in_ok-made.ensures.pieces in
     let text = ap (λ m. m.text) c.map-text.ensures.value ∙ ap (λ x. x.map.text) (c.objects.ensures.same ∙ c.cut-cut.ensures.same) in
-    let are = c.in_ok-rounds.ensures.addresses ∙ (λ j. addresses_of (text j) (pieces j) (sizes_of (text j) (pieces j))) ∙ kept_addresses inputs c.args.slots.now in
-    let sizes = c.deref-3.ensures.value ∙ c.in_ok-rounds.ensures.sizes ∙ (λ j. sizes_of (text j) (pieces j)) ∙ kept_sizes inputs c.args.slots.now in
-    let last : c.len.result ≡ length (pieces_of inputs c.args.slots.now) = omega (arith, c.len.ensures, c.in_ok-made.made.pieces.ok, ap length (c.in_ok-made.ensures.pieces ∙ ap (pieces_of inputs) c.in_ok-kept.ensures.same)) in
-    let end = c.index-end.ensures ∙ kept_end inputs c.args.slots.now c.in_ok-rounds.rounds.addresses.items are c.len.result c.index-end.result.now last in
-    let listed = c.deref-2.ensures.value ∙ c.in_ok-made.ensures.pieces ∙ ap (pieces_of (parsed c.args.of.now.planned.now)) c.in_ok-kept.ensures.same in
-    let owners = subst (λ (xs : List (Option Place)). AreHalvesOf (all_owners inputs xs) c.in_ok-made.made.halves.items) c.in_ok-kept.ensures.same c.in_ok-made.ensures.halves in
+    let are = c.in_ok-layout.ensures.sums ∙ (λ j. widths_of (text j) (pieces j) (sizes_of (text j) (pieces j))) ∙ kept_widths inputs c.args.slots.now in
+    let sizes = c.deref-3.ensures.value ∙ c.in_ok-layout.ensures.sizes ∙ (λ j. sizes_of (text j) (pieces j)) ∙ kept_sizes inputs c.args.slots.now in
+    let long = c.before-2.ensures ∙ ap (λ l. sum (take c.count.result l)) are ∙ text_summed inputs c.args.slots.now c.count.result (c.count.ensures ∙ ap length are) in
+    let listed = c.deref-2.ensures.value ∙ c.in_ok-made.ensures.pieces in
     record {
       faultless = none;
       targets = c.requires.targets;
       starts_are = c.requires.numbered.starts;
-      halves_are = all_halves c.args.of.now.planned.now none c.args.slots.now c.in_ok-made.made.halves.items owners;
-      addresses_are = are;
+      halves_are = all_halves c.args.of.now.planned.now none c.args.slots.now c.in_ok-made.made.halves.items c.in_ok-made.ensures.halves;
+      sums_are = are;
       counts_are = λ j. record {
-        text = end j - text j;
+        text = long j;
         items = ((c.counts.ensures ∙ ap (λ x. plain_counts (parsed x)) c.cut-cut.ensures.same) j).items;
         short = (c.count_sizes-sizes.ensures.short ∙ (λ i. pieces_with is_short_piece (listed i) (sizes i)) ∙ short_counted c.args.of.now.planned.now none c.args.slots.now) j;
         long = (c.count_sizes-sizes.ensures.long ∙ (λ i. pieces_with is_long_piece (listed i) (sizes i)) ∙ long_counted c.args.of.now.planned.now none c.args.slots.now) j;
         pushes = c.count_groups-groups.ensures.pushes j;
         pops = c.count_groups-groups.ensures.pops j;
         moves = c.count_groups-groups.ensures.moves j;
-        table = (c.count_sites.ensures inputs (subst (AreHalvesOf (all_owners inputs c.args.slots.now)) (sym c.deref-4.ensures.value) owners)) j;
+        table = (c.count_sites.ensures inputs (subst (AreHalvesOf (all_owners inputs c.args.slots.now)) (sym c.deref-4.ensures.value) c.in_ok-made.ensures.halves)) j;
       };
     }
 
@@ -96,11 +76,10 @@ pub count_sites-requires : goal.count_sites-requires
 count_sites-requires c =
     let inputs = parsed c.args.of.now.planned.now in
     let none = c.requires.numbered.faultless in
-    let owners = subst (λ (xs : List (Option Place)). AreHalvesOf (all_owners inputs xs) c.in_ok-made.made.halves.items) c.in_ok-kept.ensures.same c.in_ok-made.ensures.halves in
     omega (
       arith,
       ap length c.deref-4.ensures.value,
-      (all_halves c.args.of.now.planned.now none c.args.slots.now c.in_ok-made.made.halves.items owners).0,
+      (all_halves c.args.of.now.planned.now none c.args.slots.now c.in_ok-made.made.halves.items c.in_ok-made.ensures.halves).0,
       pieces_few c.args.of.now.planned.now none c.args.slots.now,
     )
 
@@ -115,7 +94,7 @@ returns-clause-laid c =
     let inputs = parsed own in
     let slots = c.args.slots.now in
     let none = c.requires.numbered.faultless in
-    let pieces = c.deref.ensures.value ∙ c.in_ok-made.ensures.pieces ∙ ap (pieces_of inputs) c.in_ok-kept.ensures.same in
+    let pieces = c.deref.ensures.value ∙ c.in_ok-made.ensures.pieces in
     let text = ap (λ m. m.text) c.map-text.ensures.value ∙ ap (λ x. x.map.text) (c.objects.ensures.same ∙ c.cut-cut.ensures.same) in
     let page = c.map-text.ensures.is_map.text_page in
     let even : c.map-text.result.text % 2 ≡ 0 = omega (arith, page) in
@@ -124,7 +103,7 @@ returns-clause-laid c =
     record {
       layout = first_fitting inputs slots;
       least = λ unaligned.
-          let given = c.in_ok-rounds.ensures.least even (subst (All IsEvenPiece) (sym pieces) (all_even own none slots)) (subst (All IsTight) (sym pieces) (all_tight inputs slots unaligned)) in
+          let given = c.in_ok-layout.ensures.least even (subst (All IsEvenPiece) (sym pieces) (all_even own none slots)) (subst (All IsTight) (sym pieces) (all_tight inputs slots unaligned)) in
           subst (IsLeast inputs.map.text (pieces_of inputs slots)) (kept_sizes inputs slots)
           (subst₂ (λ (t : ℕ) (ps : List Piece). IsLeast t ps (sizes_of t ps)) text pieces given);
       pays = λ unaligned. table_pays_off own faultless slots unaligned own_even;

@@ -9,9 +9,9 @@ use Rattle.psabi_sym.specs.Inputs.{ParsedInputs, parsed}
 use Rattle.block_cut.specs.declared.item.Item.{Item}
 use Rattle.block_cut.specs.Items.{item_at}
 use Rattle.shrink_layout.specs.Pieces.{piece_number_at, pieces_of, site_at, slot_at}
-use Rattle.shrink_layout.specs.Settled.{settled_addresses}
+use Rattle.shrink_layout.specs.Settled.{settled_addresses, settled_widths}
 use Rattle.shrink_layout.specs.Units.{jump_of}
-use Rattle.shrink_layout.proofs.KeptLaws.{addresses_rise, kept_address, kept_long}
+use Rattle.shrink_layout.proofs.KeptLaws.{width_is, widths_long}
 use Rattle.shrink_layout.proofs.NumberLaws.{number_below, number_most}
 use Rattle.shrink_layout.proofs.SlotLaws.{no_slot_for, slot_is, slot_linking, slot_of_call, slot_of_jump, slot_unsized}
 use Rattle.shrink_layout.proofs.sites.jump_slot.Goals as goal
@@ -42,34 +42,24 @@ module _ (c : After-piece_number_at-k) where
   some : 0 < length c.args.of.now.slots.now.slots.now
   some = some_of (length c.args.of.now.slots.now.slots.now) (sym c.is_empty.ensures ∙ c.if-is_empty.false)
 
-  are : c.args.of.now.slots.now.addresses.items ≡ settled_addresses given []
-  are = c.requires.source.slots.addresses some
+  are : c.args.of.now.slots.now.first ≡ settled_widths given []
+  are = c.requires.source.slots.first some
 
   below : c.piece_number_at-k.result < length (pieces_of given [])
   below =
       let i = item_of (item_at given c.args.at) (c.args.rd, c.args.to) c.requires.jump in
       omega (arith, number, number_below c.args.of.now.planned.now c.requires.source.faultless [] c.args.at i.0 i.1)
 
-pub index-requires : goal.index-requires
-index-requires c =
-    let kept = c.args.of.now.slots.now.addresses in
-    omega (arith, below c, kept.ok, kept_long (parsed c.args.of.now.planned.now) [] kept.items (are c))
+  -- what is read is the bytes that the jump or call takes without the table
+  way : (read : ℕ) → read ≡ slice_index c.args.of.now.slots.now.first c.piece_number_at-k.result
+      → read
+      ≡ slice_index (settled_addresses given []) (piece_number_at given.objects c.args.at + 1) - slice_index (settled_addresses given []) (piece_number_at given.objects c.args.at)
+  way read is =
+      is ∙ ap (λ l. slice_index l c.piece_number_at-k.result) are ∙ width_is given [] c.piece_number_at-k.result below
+      ∙ ap (λ n. slice_index (settled_addresses given []) (n + 1) - slice_index (settled_addresses given []) n) number
 
-pub index-requires-2 : goal.index-requires-2
-index-requires-2 c =
-    let a = (goal.at.index-requires-2 c).After-piece_number_at-k in
-    let kept = c.args.of.now.slots.now.addresses in
-    omega (arith, below a, kept.ok, kept_long (parsed c.args.of.now.planned.now) [] kept.items (are a))
-
-pub overflow_sub-index : goal.overflow_sub-index
-overflow_sub-index c =
-    let a = (goal.at.overflow_sub-index c).After-piece_number_at-k in
-    let kept = c.args.of.now.slots.now.addresses in
-    let inputs = parsed c.args.of.now.planned.now in
-    let k = c.piece_number_at-k.result in
-    let second = c.index.ensures ∙ kept_address inputs [] kept.items (are a) (k + 1) c.index.result.now (omega (arith, below a)) in
-    let one = c.index-2.ensures ∙ kept_address inputs [] kept.items (are a) k c.index-2.result.now (omega (arith, below a)) in
-    omega (arith, second, one, addresses_rise inputs [] k (k + 1) (omega arith) (omega (arith, below a)))
+pub size-requires : goal.size-requires
+size-requires c = omega (arith, below c, ap length (are c), widths_long (parsed c.args.of.now.planned.now) [])
 
 pub returns-then-is_empty : goal.returns-then-is_empty
 returns-then-is_empty c =
@@ -81,22 +71,15 @@ returns-then-is_empty c =
           sym (slot_linking inputs c.requires.source.faultless slots c.args.at c.args.rd c.args.to c.requires.alone c.requires.jump (omega (arith, w.number.ensures.value, w.if-number-gt1.true)))
     ]
 
-pub returns-then-index-ne4 : goal.returns-then-index-ne4
-returns-then-index-ne4 c =
-    let a = (goal.at.returns-then-index-ne4 c).After-piece_number_at-k in
-    let kept = c.args.of.now.slots.now.addresses in
-    let inputs = parsed c.args.of.now.planned.now in
-    let A = settled_addresses inputs [] in
-    let k = c.piece_number_at-k.result in
-    let second = c.index.ensures ∙ kept_address inputs [] kept.items (are a) (k + 1) c.index.result.now (omega (arith, below a)) in
-    let one = c.index-2.ensures ∙ kept_address inputs [] kept.items (are a) k c.index-2.result.now (omega (arith, below a)) in
-    let way = (λ j. second j - one j) ∙ ap (λ n. slice_index A (n + 1) - slice_index A n) (number a) in
+pub returns-then-size-ne4 : goal.returns-then-size-ne4
+returns-then-size-ne4 c =
+    let a = (goal.at.returns-then-size-ne4 c).After-piece_number_at-k in
     sym (slot_unsized c.args.of.now.planned.now c.requires.source.faultless c.args.of.now.slots.now.slots.now c.args.at c.args.rd c.args.to c.requires.alone c.requires.jump
-    (λ e. c.if-index-ne4.true (way ∙ e)))
+    (λ e. c.if-size-ne4.true (way a c.size.result c.size.ensures ∙ e)))
 
-pub index-requires-then-number-eq0 : goal.index-requires-then-number-eq0
-index-requires-then-number-eq0 c =
-    let a = (goal.at.index-requires-then-number-eq0 c).After-piece_number_at-k in
+pub index-requires : goal.index-requires
+index-requires c =
+    let a = (goal.at.index-requires c).After-piece_number_at-k in
     let inputs = parsed c.args.of.now.planned.now in
     let to = c.piece_number_at-to.ensures ∙ ap (λ x. piece_number_at (parsed x).objects c.args.to) c.cut-cut.ensures.same in
     omega (arith, to, number_most inputs [] c.args.to, c.args.of.now.slots.now.jumps.ok, c.requires.source.slots.all_jumps (some a))
@@ -111,34 +94,22 @@ index-requires-else-number-eq0 c =
 pub returns-then-number-eq0 : goal.returns-then-number-eq0
 returns-then-number-eq0 c =
     let a = (goal.at.returns-then-number-eq0 c).After-piece_number_at-k in
-    let kept = c.args.of.now.slots.now.addresses in
     let jumps = c.args.of.now.slots.now.jumps in
     let inputs = parsed c.args.of.now.planned.now in
-    let A = settled_addresses inputs [] in
-    let k = c.piece_number_at-k.result in
-    let second = c.index.ensures ∙ kept_address inputs [] kept.items (are a) (k + 1) c.index.result.now (omega (arith, below a)) in
-    let one = c.index-2.ensures ∙ kept_address inputs [] kept.items (are a) k c.index-2.result.now (omega (arith, below a)) in
-    let way = (λ j. second j - one j) ∙ ap (λ n. slice_index A (n + 1) - slice_index A n) (number a) in
     let to = c.piece_number_at-to.ensures ∙ ap (λ x. piece_number_at (parsed x).objects c.args.to) c.cut-cut.ensures.same in
-    c.index-then-number-eq0.ensures
-    ∙ get_or_default jumps.items c.piece_number_at-to.result c.index-then-number-eq0.result.now None
+    c.index.ensures
+    ∙ get_or_default jumps.items c.piece_number_at-to.result c.index.result.now None
     (omega (arith, to, number_most inputs [] c.args.to, c.requires.source.slots.all_jumps (some a)))
     ∙ ap (λ n. get_or jumps.items n None) to
     ∙ c.requires.source.slots.jumps c.args.to
     ∙ sym (slot_of_jump c.args.of.now.planned.now c.requires.source.faultless c.args.of.now.slots.now.slots.now c.args.at c.args.rd c.args.to c.requires.alone c.requires.jump
-    (sym way ∙ c.if-index-ne4.false) (sym c.number-2.ensures.value ∙ c.if-number-eq0.true))
+    (sym (way a c.size.result c.size.ensures) ∙ c.if-size-ne4.false) (sym c.number-2.ensures.value ∙ c.if-number-eq0.true))
 
 pub returns-else-number-eq0 : goal.returns-else-number-eq0
 returns-else-number-eq0 c =
     let a = (goal.at.returns-else-number-eq0 c).After-piece_number_at-k in
-    let kept = c.args.of.now.slots.now.addresses in
     let calls = c.args.of.now.slots.now.calls in
     let inputs = parsed c.args.of.now.planned.now in
-    let A = settled_addresses inputs [] in
-    let k = c.piece_number_at-k.result in
-    let second = c.index.ensures ∙ kept_address inputs [] kept.items (are a) (k + 1) c.index.result.now (omega (arith, below a)) in
-    let one = c.index-2.ensures ∙ kept_address inputs [] kept.items (are a) k c.index-2.result.now (omega (arith, below a)) in
-    let way = (λ j. second j - one j) ∙ ap (λ n. slice_index A (n + 1) - slice_index A n) (number a) in
     let to = c.piece_number_at-to.ensures ∙ ap (λ x. piece_number_at (parsed x).objects c.args.to) c.cut-cut.ensures.same in
     c.index-else-number-eq0.ensures
     ∙ get_or_default calls.items c.piece_number_at-to.result c.index-else-number-eq0.result.now None
@@ -146,4 +117,4 @@ returns-else-number-eq0 c =
     ∙ ap (λ n. get_or calls.items n None) to
     ∙ c.requires.source.slots.calls c.args.to
     ∙ sym (slot_of_call c.args.of.now.planned.now c.requires.source.faultless c.args.of.now.slots.now.slots.now c.args.at c.args.rd c.args.to c.requires.alone c.requires.jump
-    (sym way ∙ c.if-index-ne4.false) (λ e. c.if-number-eq0.false (c.number-2.ensures.value ∙ e)) (omega (arith, c.number.ensures.value, c.if-number-gt1.false)))
+    (sym (way a c.size.result c.size.ensures) ∙ c.if-size-ne4.false) (λ e. c.if-number-eq0.false (c.number-2.ensures.value ∙ e)) (omega (arith, c.number.ensures.value, c.if-number-gt1.false)))

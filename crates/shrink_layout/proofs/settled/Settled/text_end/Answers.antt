@@ -1,25 +1,24 @@
-use Rattle.std.proofs.Common.{◌-◌, ap, ◌∙◌, arith}
+-- The text ends where the last piece does.
+use Rattle.std.proofs.Common.{◌≡◌, ◌∙◌, length, ap, arith}
 use Rattle.psabi_sym.specs.Inputs.{parsed}
-use Rattle.shrink_layout.specs.Settled.{SettledLayout, settled_end}
-use Rattle.shrink_layout.proofs.KeptLaws.{kept_end, kept_long}
+use Rattle.shrink_layout.specs.Pieces.{pieces_of}
+use Rattle.shrink_layout.specs.Settled.{SettledLayout}
+use Rattle.shrink_layout.proofs.KeptLaws.{end_is, widths_long}
 use Rattle.shrink_layout.proofs.settled.Settled.text_end.Goals as goal
+use Rattle.shrink_layout.proofs.settled.Settled.text_end.Goals.{After-count}
 
-pub overflow_sub-len : goal.overflow_sub-len
-overflow_sub-len c =
+all : (c : After-count) → c.count.result ≡ length (pieces_of (parsed c.args.self.now.inputs) c.args.self.now.slots)
+all c =
     let own = c.self.inside in
-    omega (arith, c.len.ensures, own.addresses.ok, kept_long (parsed own.planned) own.slots.items own.addresses.items c.self.invariant.addresses_are)
+    c.count.ensures ∙ ap length c.self.invariant.sums_are ∙ widths_long (parsed own.planned) own.slots.items
+    ∙ ap (λ (x : SettledLayout). length (pieces_of (parsed x.inputs) x.slots)) c.self.view_is
 
-pub index-requires : goal.index-requires
-index-requires c =
-    let own = c.self.inside in
-    omega (arith, c.len.ensures, own.addresses.ok, kept_long (parsed own.planned) own.slots.items own.addresses.items c.self.invariant.addresses_are)
+pub piece_address-requires : goal.piece_address-requires
+piece_address-requires c = omega (arith, all c)
 
 pub returns : goal.returns
 returns c =
-    let own = c.self.inside in
-    let inputs = parsed own.planned in
-    let are = c.self.invariant.addresses_are in
-    c.index.ensures
-    ∙ kept_end inputs own.slots.items own.addresses.items are (c.len.result - 1) c.index.result.now
-    (omega (arith, c.len.ensures, own.addresses.ok, kept_long inputs own.slots.items own.addresses.items are))
-    ∙ ap (λ (x : SettledLayout). settled_end (parsed x.inputs) x.slots) c.self.view_is
+    let a = (goal.at.returns c).After-count in
+    let inputs = parsed c.args.self.now.inputs in
+    let slots = c.args.self.now.slots in
+    c.piece_address.ensures ∙ end_is inputs slots c.count.result (all a)
