@@ -1,6 +1,6 @@
--- What is written where an item starts: the item by itself, up to the next place (`alone_here`), its group, up to the place behind that
+-- What is written where an item starts: the item by itself, up to the next place (`alone_here`, `alone_next`), its group, up to the place behind that
 -- (`group_here`), or a jump or call through the table (`site_here`).
-use Rattle.std.proofs.Common.{◌≡◌, ℕ, ◌+◌, ◌-◌, ◌<◌, ◌^◌, inl, List, length, Some, None, true, false, refl, sym, ap, ◌∙◌, subst, arith}
+use Rattle.std.proofs.Common.{◌≡◌, ℕ, ◌+◌, ◌<◌, ◌^◌, inl, List, length, Some, None, true, false, refl, sym, ap, ◌∙◌, subst, arith}
 use Rattle.std.specs.Prelude.{slice_index}
 use Rattle.std.specs.Option.{is_some, option_map_or}
 use Rattle.std.proofs.lemmas.Bool.{lt-ltb}
@@ -24,7 +24,7 @@ use Rattle.zc_encode.specs.Halves.{encoded16}
 use Rattle.zc_encode.proofs.EncodingLaws.{encoding-table}
 use Rattle.zc_link.specs.LaidOut.{IsLaidOut}
 use Rattle.zc_link.specs.Standing.{IsReady, StandsHere, StartsHere, UnitHere, WrittenHere}
-use Rattle.zc_link.specs.TextLayout.{TextLayout, behind}
+use Rattle.zc_link.specs.TextLayout.{TextLayout, behind, size_in}
 use Rattle.zc_link.specs.Written.{IsGroupWritten, SpellsHalf}
 use Rattle.zc_link.proofs.Adds.{half_are}
 use Rattle.zc_link.proofs.GroupBytes.{half_spells}
@@ -84,25 +84,33 @@ module _
     pub takes : TakesHere L none ready laid number.section l starts.listed starts.code n item is_here (ap L.unit starts.place ∙ unit) a (ap L.address starts.place ∙ listed)
     takes = takes_here L none ready laid number.section l starts.listed starts.code n item is_here (ap L.unit starts.place ∙ unit) a (ap L.address starts.place ∙ listed)
 
-    module _ (next : ℕ) (found : GivesAddress L number.section (number.index + 1) next) where
-      pub alone_next : next ≡ a + takes.size
-      alone_next =
-          let m = after L none ready laid number.section l starts.listed starts.code n item is_here in
+    takes_in : takes.size ≡ size_in L q
+    takes_in = sym takes.stands.takes ∙ ap (size_in L) starts.place
+
+    -- the next place has the address behind it
+    pub alone_next : (next : ℕ) → GivesAddress L number.section (number.index + 1) next → next ≡ a + size_in L q
+    alone_next next found =
+        let m = after L none ready laid number.section l starts.listed starts.code n item is_here in
+        omega (
+          arith,
+          takes_in,
           found (place_of l m) (a + takes.size) takes.next
-          (subst (λ i. IsPlaceNumber p.objects (place_of l m) (record { section = number.section; index = i })) (sym next_index)
-          (number_there L none ready laid number.section l starts.listed starts.code m next_target))
+              (subst (λ i. IsPlaceNumber p.objects (place_of l m) (record { section = number.section; index = i })) (sym next_index)
+              (number_there L none ready laid number.section l starts.listed starts.code m next_target)),
+        )
 
-      size_is : takes.size ≡ next - a
-      size_is = omega (arith, alone_next)
+    module _ (size : ℕ) (sized : size ≡ size_in L q) where
+      size_is : takes.size ≡ size
+      size_is = takes_in ∙ sym sized
 
-      pub alone_stands : StandsHere L code q item a (next - a)
+      pub alone_stands : StandsHere L code q item a size
       alone_stands =
           subst (StandsHere L code q item a) size_is
           (subst (λ r. StandsHere L code r item a takes.size) starts.place (subst (λ c. StandsHere L c (place_of l n) item a takes.size) starts.own takes.stands))
 
-      pub alone_here : (bytes : List ℕ) → WrittenHere L code q (OneItem item) a (next - a) bytes → UnitHere L code q a bytes
+      pub alone_here : (bytes : List ℕ) → WrittenHere L code q (OneItem item) a size bytes → UnitHere L code q a bytes
       alone_here bytes written =
-          let long : next - a ≡ length bytes = sym written.long in
+          let long : size ≡ length bytes = sym written.long in
           let far : a + takes.size ≡ a + length bytes = omega (arith, size_is, written.long) in
           record {
             unit = OneItem item;

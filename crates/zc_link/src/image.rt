@@ -17,8 +17,8 @@ use psabi_sym::objects::Objects;
 use std::alloc::{AllocError, Global};
 use zc_base::fields::put_u32;
 
-/// The file of the image of a layout, with these e_flags (RISC-V ELF psABI, "File Header"). It takes time
-/// linear in the code, the data and the places.
+/// The file of the image of a layout, with these e_flags (RISC-V ELF psABI, "File Header"). It takes time near-linear
+/// in the code, the data and the places.
 pub fn image_of<L: Layout>(alloc: Global, layout: &L, flags: u32) -> Result<Vec<u8>, AllocError>
     requires { flags ≤ 1 }
     ensures ready { IfOk result (λ _. IsReady (L.layout layout.now).inputs) }

@@ -166,7 +166,8 @@ fn own_bytes(code: &[u8], offset: usize, count: usize) -> &[u8]
     &code[offset..offset + count]
 }
 
-/// What is written for an item where it lies. It takes constant time.
+/// What is written for an item where it lies. It takes constant time beside that of the addresses of places that it
+/// leads to.
 pub fn item_code<'a, L: Layout>(layout: &L, extent: ItemExtent<'a>, item: Item) -> Code<'a>
     requires stands { StandsHere (L.layout layout.now) extent.code.now extent.at item extent.address extent.size }
     requires number { IsPlaceNumber (parsed (L.layout layout.now).inputs).objects extent.at extent.number }

@@ -8,7 +8,7 @@ ghost use Rattle.frame_match.specs.Invariants.Marks.{HasItem};
 ghost use Rattle.psabi_sym.specs.Inputs.{parsed};
 ghost use Rattle.shrink_layout.specs.Halves.{IsHalfOf, IsSiteHalf};
 ghost use Rattle.shrink_layout.specs.Invariants.Numbers.{HasPlace};
-ghost use Rattle.shrink_layout.specs.Units.{OneItem};
+ghost use Rattle.shrink_layout.specs.Units.{CodeUnit, OneItem};
 ghost use Rattle.zc_base.specs.declared.place.Place.{Place};
 ghost use Rattle.zc_link.specs.Front.{IsFront, image_entry};
 ghost use Rattle.zc_link.specs.LaidOut.{IsLaidOut};
@@ -47,6 +47,13 @@ pub trait Layout {
         requires { HasPlace (parsed (layout self.now).inputs).objects number }
         ensures { (q : Place) (address : ℕ) → (layout self.now).address q ≡ Some address
             → IsPlaceNumber (parsed (layout self.now).inputs).objects q number → result ≡ address };
+
+    /// The bytes of what is written at a place where an item starts, by where the place stands among all. It takes
+    /// constant time.
+    fn size_at(&self, number: PlaceNumber) -> u32
+        requires { HasItem (parsed (layout self.now).inputs).objects number }
+        ensures { (q : Place) (unit : CodeUnit) → (layout self.now).unit q ≡ Some unit
+            → IsPlaceNumber (parsed (layout self.now).inputs).objects q number → result ≡ size_in (layout self.now) q };
 
     /// What an item is to the layout's groups, by where its place stands among all.
     fn role_at(&self, number: PlaceNumber) -> Role
@@ -99,6 +106,16 @@ impl Layout for Cut {
         cut.places(number.section)[number.index as usize].address
     }
 
+    fn size_at(&self, number: PlaceNumber) -> u32 {
+        // So does this one.
+        let _cut = Layout::cut(self);
+        let next = PlaceNumber {
+            section: number.section,
+            index: number.index + 1,
+        };
+        Layout::address_at(self, next) - Layout::address_at(self, number)
+    }
+
     fn role_at(&self, _number: PlaceNumber) -> Role {
         Role::Alone
     }
@@ -138,6 +155,12 @@ impl Layout for Settled {
 
     fn address_at(&self, number: PlaceNumber) -> u32 {
         Settled::address_at(self, number)
+    }
+
+    fn size_at(&self, number: PlaceNumber) -> u32 {
+        // This call says that no fault stands between the objects.
+        let _cut = Layout::cut(self);
+        Settled::size_at(self, number)
     }
 
     fn role_at(&self, number: PlaceNumber) -> Role {

@@ -22,7 +22,8 @@ pub struct Text {
 
 impl Text {
     /// The text of a layout's code, with all its places: what stands in front, and then the sections. It takes time
-    /// linear in the code and the number of sections.
+    /// linear in the code and the number of sections, beside that of an address for each section and for each place that
+    /// an item leads to.
     pub fn lay<L: Layout>(alloc: Global, layout: &L) -> Result<Text, AllocError>
         ensures { IfOk result (λ laid. IsTextOf (L.layout layout.now)
             (all_sections (parsed (L.layout layout.now).inputs).objects) laid.text.items laid.places.items) }

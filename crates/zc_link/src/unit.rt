@@ -12,10 +12,10 @@ use crate::group::group_code;
 use crate::item::item_code;
 use crate::layout::Layout;
 use block_cut::item::Item;
-use block_cut::place_number::PlaceNumber;
 use frame_match::role::Role;
 
-/// What is written at a place where an item starts, or none inside a group. It takes constant time.
+/// What is written at a place where an item starts, or none inside a group. It takes constant time beside that of the
+/// addresses of places that an item leads to.
 pub fn unit_code<'a, L: Layout>(layout: &L, start: ItemStart<'a>, item: Item) -> Option<Code<'a>>
     requires starts { StartsHere (L.layout layout.now) start.number start.code.now start.at item }
     requires address { (b : ℕ) → (L.layout layout.now).address start.at ≡ Some b → start.address ≡ b }
@@ -48,7 +48,7 @@ fn lone_code<'a, L: Layout>(layout: &L, start: ItemStart<'a>, item: Item) -> Cod
     }
 }
 
-// What is written for an item by itself: up to the next place.
+// What is written for an item by itself.
 fn alone_code<'a, L: Layout>(layout: &L, start: ItemStart<'a>, item: Item) -> Code<'a>
     requires starts { StartsHere (L.layout layout.now) start.number start.code.now start.at item }
     requires unit { (L.layout layout.now).unit start.at ≡ Some (OneItem item) }
@@ -58,16 +58,12 @@ fn alone_code<'a, L: Layout>(layout: &L, start: ItemStart<'a>, item: Item) -> Co
 {
     // So does this one.
     let _cut = layout.cut();
-    let next = layout.address_at(PlaceNumber {
-        section: start.number.section,
-        index: start.number.index + 1,
-    });
     let extent = ItemExtent {
         at: start.at,
         number: start.number,
         code: start.code,
         address: start.address,
-        size: next - start.address,
+        size: layout.size_at(start.number),
     };
     item_code(layout, extent, item)
 }

@@ -1,40 +1,33 @@
--- The item goes up to the next place, whose number is the next one.
-use Rattle.std.proofs.Common.{arith}
+-- The item takes the bytes that the layout has for its place.
+use Rattle.std.proofs.Common.{◌≡◌}
+use Rattle.shrink_layout.specs.Units.{OneItem}
 use Rattle.zc_link.specs.Codes.{code_bytes}
-use Rattle.zc_link.proofs.ItemStarts.{alone_few, alone_has, alone_here, alone_next, alone_number, alone_stands}
+use Rattle.zc_link.specs.TextLayout.{size_in}
+use Rattle.zc_link.proofs.ItemStarts.{alone_here, alone_number, alone_stands, has_item}
 use Rattle.zc_link.proofs.Standing.{gathered}
+use Rattle.zc_link.proofs.unit.alone_code.Given as given
 use Rattle.zc_link.proofs.unit.alone_code.Goals as goal
+use Rattle.zc_link.proofs.unit.alone_code.Goals.{After-size_at}
 
-pub overflow_add-start : goal.overflow_add-start
-overflow_add-start g c =
+sized : (g : given.Over) (c : After-size_at g) → c.size_at.result ≡ size_in (g.L.Layout.layout c.args.layout.now) c.args.start.at
+sized g c =
     let L = g.L.Layout.layout c.args.layout.now in
     let cut = c.cut-cut.ensures in
-    record {
-      fits = omega (arith, alone_few L (gathered L.inputs cut.ready.faultless) cut.ready cut.laid c.args.start.number c.args.start.code.now c.args.start.at c.args.item c.requires.starts);
-    }
+    c.size_at.ensures c.args.start.at (OneItem c.args.item) c.requires.unit
+    (alone_number L (gathered L.inputs cut.ready.faultless) cut.ready cut.laid c.args.start.number c.args.start.code.now c.args.start.at c.args.item c.requires.starts)
 
-pub address_at-next-requires : goal.address_at-next-requires
-address_at-next-requires g c =
+pub size_at-requires : goal.size_at-requires
+size_at-requires g c =
     let L = g.L.Layout.layout c.args.layout.now in
     let cut = c.cut-cut.ensures in
-    alone_has L (gathered L.inputs cut.ready.faultless) cut.ready cut.laid c.args.start.number c.args.start.code.now c.args.start.at c.args.item c.requires.starts
-
-pub overflow_sub-extent : goal.overflow_sub-extent
-overflow_sub-extent g c =
-    let L = g.L.Layout.layout c.args.layout.now in
-    let cut = c.cut-cut.ensures in
-    omega (
-      arith,
-      alone_next L (gathered L.inputs cut.ready.faultless) cut.ready cut.laid c.args.start.number c.args.start.code.now c.args.start.at c.args.item c.requires.starts
-          c.requires.unit c.args.start.address c.requires.address c.address_at-next.result c.address_at-next.ensures,
-    )
+    has_item L (gathered L.inputs cut.ready.faultless) cut.ready cut.laid c.args.start.number c.args.start.code.now c.args.start.at c.args.item c.requires.starts
 
 pub item_code-requires-clause-stands : goal.item_code-requires-clause-stands
 item_code-requires-clause-stands g c =
     let L = g.L.Layout.layout c.args.layout.now in
     let cut = c.cut-cut.ensures in
     alone_stands L (gathered L.inputs cut.ready.faultless) cut.ready cut.laid c.args.start.number c.args.start.code.now c.args.start.at c.args.item c.requires.starts
-    c.requires.unit c.args.start.address c.requires.address c.address_at-next.result c.address_at-next.ensures
+    c.requires.unit c.args.start.address c.requires.address c.size_at.result (sized g (goal.at.item_code-requires-clause-stands g c).After-size_at)
 
 pub item_code-requires-clause-number : goal.item_code-requires-clause-number
 item_code-requires-clause-number g c =
@@ -47,4 +40,4 @@ returns g c =
     let L = g.L.Layout.layout c.args.layout.now in
     let cut = c.cut-cut.ensures in
     alone_here L (gathered L.inputs cut.ready.faultless) cut.ready cut.laid c.args.start.number c.args.start.code.now c.args.start.at c.args.item c.requires.starts
-    c.requires.unit c.args.start.address c.requires.address c.address_at-next.result c.address_at-next.ensures (code_bytes c.item_code.result) c.item_code.ensures
+    c.requires.unit c.args.start.address c.requires.address c.size_at.result (sized g (goal.at.returns g c).After-size_at) (code_bytes c.item_code.result) c.item_code.ensures

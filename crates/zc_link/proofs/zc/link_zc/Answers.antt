@@ -1,12 +1,15 @@
 -- The table is the one that is picked for the savings, and the image of the layout behind it ends where that does.
-use Rattle.std.proofs.Common.{◌≡◌, ◌∙◌, ◌≤◌, List, [], ◌∷◌, length, Option, true, refl, ap, sym, subst, arith}
+use Rattle.std.proofs.Common.{◌≡◌, ◌∙◌, ◌≤◌, ℕ, List, [], ◌∷◌, length, Option, Result, Ok, Err, true, refl, ap, sym, subst, arith}
 use Rattle.std.specs.Prelude.{All}
 use Rattle.std.specs.List.{list_all}
+use Rattle.std.specs.Result.{IfErr, IsErrAnd}
 use Rattle.std.proofs.lemmas.Bool.{and_from, le-leb}
 use Rattle.std.proofs.lemmas.List.{length-map}
 use Rattle.std.proofs.lemmas.List.Elements.{All-head, All-tail}
 use Rattle.zc_base.specs.declared.place.Place.{Place}
+use Rattle.block_cut.specs.Faults.{first_fault}
 use Rattle.block_cut.specs.PlainLayout.{plain_counts}
+use Rattle.elf32_read.specs.declared.fault.Fault.{Fault}
 use Rattle.jumptable_pick.specs.Picked.{picked}
 use Rattle.jumptable_pick.specs.Ranking.{is_small}
 use Rattle.jumptable_pick.specs.Slots.{slot_place, slot_places}
@@ -14,6 +17,9 @@ use Rattle.pick_check.specs.Best.{NoneSavesMore}
 use Rattle.pick_check.specs.Certified.{Certified, IsAccepted}
 use Rattle.pick_check.specs.declared.saving.Saving.{Saving}
 use Rattle.psabi_sym.specs.Inputs.{Inputs, parsed}
+use Rattle.psabi_sym.specs.LinkFault.{IsRefusal}
+use Rattle.psabi_sym.specs.declared.link_fault.LinkFault.{LinkFault}
+use Rattle.psabi_sym.specs.declared.link_fault.LinkFault.TheVariants.{OutOfMemory}
 use Rattle.shrink_layout.specs.Savings.{HasFewSites, savings_of}
 use Rattle.shrink_layout.specs.Settled.{SettledLayout, settled_counts}
 use Rattle.zc_link.specs.LaidOut.{text_end}
@@ -69,3 +75,11 @@ returns-clause-link c =
       plain = c.counts.ensures ∙ ap (λ (x : Inputs). plain_counts (parsed x)) (c.cut.ensures.same ∙ c.planned.ensures.same ∙ same);
       zc = c.counts-2.ensures ∙ (λ i. settled_counts (parsed (same i)) (slots i));
     }
+
+-- of want of memory a refusal says nothing
+memory_refused : {X : Type 0} (first : Option (ℕ × Fault)) (r : Result X LinkFault) → IsErrAnd r (λ fault. fault ≡ OutOfMemory) → IfErr r (λ fault. IsRefusal first fault)
+memory_refused first (Ok x) is = tt
+memory_refused first (Err fault) is = subst (IsRefusal first) (sym is) tt
+
+pub returns-in_err-elf-clause-err : goal.returns-in_err-elf-clause-err
+returns-in_err-elf-clause-err c = memory_refused (first_fault c.args.objects) c.from_residual-in_err-elf.result c.from_residual-in_err-elf.ensures.1
