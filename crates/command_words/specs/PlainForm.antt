@@ -1,5 +1,5 @@
--- Words in the plain form, read without clap: a command's name, its options in any order, each with its value in the next word,
--- and then its positional words. No value and no positional word begins with `-`.
+-- Words in the plain form, read without clap: a command's name, its options in any order, each with its value in the
+-- next word, and then its positional words. No value and no positional word begins with `-`.
 use Rattle.std.specs.Prelude.{◌≡◌, ◌≤◌, Bool, true, false, not, ◌&&◌, ◌||◌, ◌==◌, nat_le, if◌then◌else◌, ℕ, List, [], ◌∷◌, length, map, Option, Some, None, is_some, slice_index_or, slice_set}
 use Rattle.std.specs.Option.{option_and_then, option_map_or}
 use Rattle.std.specs.List.{list_all, list_any, position, zip}

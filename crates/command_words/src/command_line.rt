@@ -6,7 +6,7 @@ pub const MOST_STEPS: u64 = 1_000_000_000;
 /// The steps that are allowed if no word says.
 pub const USUAL_STEPS: u64 = 10_000_000;
 
-/// The most functions that a word may ask for.
+/// The most functions that a word may ask for: as many as `load_maker` makes at most.
 pub const MOST_FUNCTIONS: u64 = 1_600;
 
 /// What `run` runs: an image, and the plan of its interrupts if there is one, by their names, for at most

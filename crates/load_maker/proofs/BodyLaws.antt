@@ -11,15 +11,15 @@ use Rattle.zc_base.specs.Draws.{drawn, stepped}
 use Rattle.rv_decode.specs.declared.instr.Instr.{Instr}
 use Rattle.rv_decode.specs.Bits.{FitsIn}
 use Rattle.rv_decode.specs.Immediates.{InRange}
-use Rattle.load_maker.specs.Functions.{after_function, before_call, call, calls, closing, frame_at, function_statements, functions_from, increment, keeps_ra, opening, operation, operation_count, operations}
+use Rattle.load_maker.specs.Functions.{after_function, before_call, call, calls, epilogue, saved_at, function_statements, functions_from, increment, saves_ra, prologue, operation, operation_count, operations}
 use Rattle.load_maker.specs.Instructions.{add, addi, lui, slli, srai, sub, xori}
 use Rattle.load_maker.specs.Objects.{group}
 use Rattle.load_maker.specs.Statements.{code_size, size_of}
-use Rattle.load_maker.specs.declared.frame.Frame.{Frame}
-use Rattle.load_maker.specs.declared.frame.Frame.TheVariants.{Both, ReturnAddress, Leaf}
+use Rattle.load_maker.specs.declared.saved_registers.SavedRegisters.{SavedRegisters}
+use Rattle.load_maker.specs.declared.saved_registers.SavedRegisters.TheVariants.{Both, ReturnAddress, Neither}
 use Rattle.load_maker.specs.declared.register.Register.TheVariants.{A0, A1}
 use Rattle.load_maker.specs.declared.statement.Statement.{Statement}
-use Rattle.load_maker.specs.declared.statement.Statement.TheVariants.{Plain, Call, OfResult}
+use Rattle.load_maker.specs.declared.statement.Statement.TheVariants.{Plain, Call, WithAddress}
 
 -- ---- statements of functions
 
@@ -27,7 +27,7 @@ use Rattle.load_maker.specs.declared.statement.Statement.TheVariants.{Plain, Cal
 abbrev pub IsInner : ℕ → Statement → Type 0
 IsInner n (Plain i) = InRange i
 IsInner n (Call i) = i < n
-IsInner n (OfResult kind i) = ⊥
+IsInner n (WithAddress kind i) = ⊥
 
 plain_inner : (n : ℕ) (instrs : List Instr) → All InRange instrs → All (IsInner n) (map Plain instrs)
 plain_inner n instrs range = All-map (IsInner n) Plain instrs range
@@ -57,10 +57,10 @@ one_of_two : (most : ℕ) (b : Bool) (xs ys : List Instr) → AreShort most xs �
 one_of_two most true xs ys one two = one
 one_of_two most false xs ys one two = two
 
-opening_short : (frame : Frame) → AreShort 4 (opening frame)
-opening_short Both = record { short = omega arith; range = All-from_recursion InRange (opening Both) (omega arith, (omega arith, (omega arith, (omega arith, tt)))) }
-opening_short ReturnAddress = record { short = omega arith; range = All-from_recursion InRange (opening ReturnAddress) (omega arith, (omega arith, tt)) }
-opening_short Leaf = record { short = omega arith; range = All-nil InRange }
+prologue_short : (saved : SavedRegisters) → AreShort 4 (prologue saved)
+prologue_short Both = record { short = omega arith; range = All-from_recursion InRange (prologue Both) (omega arith, (omega arith, (omega arith, (omega arith, tt)))) }
+prologue_short ReturnAddress = record { short = omega arith; range = All-from_recursion InRange (prologue ReturnAddress) (omega arith, (omega arith, tt)) }
+prologue_short Neither = record { short = omega arith; range = All-nil InRange }
 
 operation_short : (kind v : ℕ) → v < 2048 → AreShort 2 (operation kind v)
 operation_short kind v lt =
@@ -92,10 +92,10 @@ operations_short (suc m) x =
 increment_short : AreShort 2 increment
 increment_short = record { short = omega arith; range = All-from_recursion InRange increment ((omega arith, refl), (omega arith, tt)) }
 
-closing_short : (frame : Frame) → AreShort 5 (closing frame)
-closing_short Both = record { short = omega arith; range = All-from_recursion InRange (closing Both) (tt, (omega arith, (omega arith, (omega arith, (omega arith, tt))))) }
-closing_short ReturnAddress = record { short = omega arith; range = All-from_recursion InRange (closing ReturnAddress) (omega arith, (omega arith, (omega arith, tt))) }
-closing_short Leaf = record { short = omega arith; range = All-from_recursion InRange (closing Leaf) (omega arith, tt) }
+epilogue_short : (saved : SavedRegisters) → AreShort 5 (epilogue saved)
+epilogue_short Both = record { short = omega arith; range = All-from_recursion InRange (epilogue Both) (tt, (omega arith, (omega arith, (omega arith, (omega arith, tt))))) }
+epilogue_short ReturnAddress = record { short = omega arith; range = All-from_recursion InRange (epilogue ReturnAddress) (omega arith, (omega arith, (omega arith, tt))) }
+epilogue_short Neither = record { short = omega arith; range = All-from_recursion InRange (epilogue Neither) (omega arith, tt) }
 
 -- ---- a function
 
@@ -104,28 +104,28 @@ pub record IsBody (n : ℕ) (body : List Statement) : Type 0 where
   pub short : code_size body ≤ 140
   pub inner : All (IsInner n) body
 
-call_body : (n : ℕ) (frame : Frame) (i x : ℕ) → i ≤ n → (code_size (call frame i x) ≤ 8) × All (IsInner n) (call frame i x)
-call_body n frame i x le = by (calls frame i) refl
+call_body : (n : ℕ) (saved : SavedRegisters) (i x : ℕ) → i ≤ n → (code_size (call saved i x) ≤ 8) × All (IsInner n) (call saved i x)
+call_body n saved i x le = by (calls saved i) refl
   where
-    by : (b : Bool) → calls frame i ≡ b → (code_size (cond b (Call (drawn (stepped x) % i) ∷ []) []) ≤ 8) × All (IsInner n) (cond b (Call (drawn (stepped x) % i) ∷ []) [])
+    by : (b : Bool) → calls saved i ≡ b → (code_size (cond b (Call (drawn (stepped x) % i) ∷ []) []) ≤ 8) × All (IsInner n) (cond b (Call (drawn (stepped x) % i) ∷ []) [])
     by true is =
-        let some = ltb-true 0 i (and_parts (keeps_ra frame) (ltb 0 i) is).1 in
+        let some = ltb-true 0 i (and_parts (saves_ra saved) (ltb 0 i) is).1 in
         (omega arith, All-from_recursion (IsInner n) (Call (drawn (stepped x) % i) ∷ []) (omega (arith, some, le), tt))
     by false is = (omega arith, All-nil (IsInner n))
 
 function_body : (n i x : ℕ) → i ≤ n → IsBody n (function_statements i x)
 function_body n i x le =
-    let frame = frame_at x in
-    let first = opening frame in
+    let saved = saved_at x in
+    let first = prologue saved in
     let middle = operations (operation_count x) (stepped (stepped x)) in
     let begin : List Instr = (first ++ middle) ++ increment in
-    let own = call frame i (before_call x) in
-    let last = closing frame in
+    let own = call saved i (before_call x) in
+    let last = epilogue saved in
     let count : operation_count x ≤ 11 = omega arith in
-    let a = opening_short frame in
+    let a = prologue_short saved in
     let b = operations_short (operation_count x) (stepped (stepped x)) in
-    let c = call_body n frame i (before_call x) le in
-    let d = closing_short frame in
+    let c = call_body n saved i (before_call x) le in
+    let d = epilogue_short saved in
     record {
       short = omega (
         arith,

@@ -20,26 +20,27 @@ use Rattle.psabi_sym.specs.declared.target.Target.TheVariants.{Code, Nowhere}
 use Rattle.block_cut.specs.Faults.{first_fault, reloc_fault}
 use Rattle.block_cut.specs.Items.{entry_in, start_only, starts_on}
 use Rattle.block_cut.proofs.RoomLaws.{code_room_is}
-use Rattle.sound_objects.specs.Parts.{AreSound, files_of, parts_code, parts_data}
-use Rattle.sound_objects.specs.Pieces.{Piece, IsMadeOf, pieces_size}
-use Rattle.sound_objects.specs.Reach.{AreStill}
-use Rattle.sound_objects.specs.Sound.{BranchesReach, HasSection, HasStrong, RelocsAreRight}
+use Rattle.sound_objects.specs.Parts.{AreWellFormed, files_of, parts_code, parts_data}
+use Rattle.sound_objects.specs.Fragments.{Fragment, IsMadeOf, fragments_size}
+use Rattle.sound_objects.specs.Reach.{HaveNoBranchOrAlign}
+use Rattle.sound_objects.specs.WellFormed.{BranchesReach, HasSection, HasStrong, RelocsAreRight}
 use Rattle.sound_objects.proofs.NameLaws.{defined_strong, strong_found, strong_there}
 use Rattle.sound_objects.proofs.NearLaws.{branchless_reach, parts_short_reach}
 use Rattle.sound_objects.proofs.PartsLaws.{IsSectionIn, are_faultless, section_in}
 use Rattle.sound_objects.proofs.PartsLaws.IsSectionIn.{Given, Bare}
-use Rattle.sound_objects.proofs.PieceLaws.{start_at}
-use Rattle.sound_objects.proofs.StillLaws.{made_branchless, made_roomless, made_short as short_pieces}
+use Rattle.sound_objects.proofs.FragmentLaws.{start_at}
+use Rattle.sound_objects.proofs.ReachLaws.{made_branchless, made_roomless, made_short as short_fragments}
 use Rattle.load_maker.specs.Functions.{functions_from}
 use Rattle.load_maker.specs.Objects.{group_count, group_object, made_objects, made_parts, result_section, result_symbol, start_object, start_statements, start_symbol, symbol_of, text_section, undefined_symbol}
 use Rattle.load_maker.specs.Statements.{code_size}
+use Rattle.load_maker.specs.declared.make_objects.TheConstants.{FUNCTION_LIMIT}
 use Rattle.load_maker.proofs.BodyLaws.{code_of, group_short}
-use Rattle.load_maker.proofs.CodeLaws.{code_sized, code_still}
+use Rattle.load_maker.proofs.CodeLaws.{code_sized, code_no_branch}
 use Rattle.load_maker.proofs.MadeLaws.{IsDefined, IsObject, all_defined, function_named, not_start, object_at, objects, single, strong_is}
 use Rattle.load_maker.proofs.MadeLaws.IsDefined.{AtStart, AtFunction}
 use Rattle.load_maker.proofs.MadeLaws.IsObject.{First, Later}
-use Rattle.load_maker.proofs.RelocLaws.{group_made, group_relocs, home_is, made, named_in, pieces_in, start_made, start_named, start_pieces, start_relocs, start_whole}
-use Rattle.load_maker.proofs.StartLaws.{start_calm, start_right, start_size}
+use Rattle.load_maker.proofs.RelocLaws.{group_made, group_relocs, home_is, made, named_in, fragments_in, start_made, start_named, start_fragments, start_relocs, start_whole}
+use Rattle.load_maker.proofs.StartLaws.{start_no_bare_branch, start_right, start_size}
 use Rattle.load_maker.proofs.SymbolLaws.{none_common}
 use Rattle.load_maker.proofs.WrittenLaws.{all_groups, group_right, group_symbols, made_count, made_short, made_written, start_others, sum_most}
 
@@ -58,12 +59,12 @@ map_is = record {
 -- ---- the room of sections
 
 -- code without ALIGN
-text_room : (pieces : List Piece) → IsMadeOf pieces (text_section pieces) → AreStill pieces → code_room (text_section pieces) ≡ pieces_size pieces + 4
-text_room pieces is_made still = omega (arith, code_room_is (text_section pieces) refl, made_roomless pieces (text_section pieces) is_made still)
+text_room : (fragments : List Fragment) → IsMadeOf fragments (text_section fragments) → HaveNoBranchOrAlign fragments → code_room (text_section fragments) ≡ fragments_size fragments + 4
+text_room fragments is_made no_branch = omega (arith, code_room_is (text_section fragments) refl, made_roomless fragments (text_section fragments) is_made no_branch)
 
-text_data : (pieces : List Piece) → data_room (text_section pieces) ≡ 0
+text_data : (fragments : List Fragment) → data_room (text_section fragments) ≡ 0
 unfolding role_of
-text_data pieces = refl
+text_data fragments = refl
 
 result_code : code_room result_section ≡ 0
 unfolding role_of
@@ -73,17 +74,17 @@ result_data : data_room result_section ≡ 8
 unfolding role_of
 result_data = refl
 
-module _ (number n : ℕ) (few : n ≤ 1600) where
+module _ (number n : ℕ) (few : n ≤ FUNCTION_LIMIT) where
   abbrev all : ParsedInputs
   all = made number n few
 
-  start_still : AreStill (start_pieces number n few)
-  start_still = code_still n (symbol_of 2 (start_named number n few)) (start_statements number n) (start_right number n)
+  start_no_branch : HaveNoBranchOrAlign (start_fragments number n few)
+  start_no_branch = code_no_branch n (symbol_of 2 (start_named number n few)) (start_statements number n) (start_right number n)
 
-  group_still : (k : ℕ) → k < group_count n → AreStill (pieces_in number n few k)
-  group_still k within = code_still n (symbol_of 0 (named_in number n few k)) (code_of number n k) (group_right number n k few within)
+  group_no_branch : (k : ℕ) → k < group_count n → HaveNoBranchOrAlign (fragments_in number n few k)
+  group_no_branch k within = code_no_branch n (symbol_of 0 (named_in number n few k)) (code_of number n k) (group_right number n k few within)
 
-  group_size : (k : ℕ) → pieces_size (pieces_in number n few k) ≤ 1120
+  group_size : (k : ℕ) → fragments_size (fragments_in number n few k) ≤ 1120
   group_size k = omega (arith, code_sized (symbol_of 0 (named_in number n few k)) (code_of number n k), group_short number n k)
 
   -- ---- sections
@@ -91,15 +92,15 @@ module _ (number n : ℕ) (few : n ≤ 1600) where
   -- one without code and relocations, or the code of an object
   data IsMadeSection (l : IndexedSection) : Type 0 where
     Other : is_code_section l.section ≡ false → l.section.relocs ≡ [] → IsMadeSection l
-    OfStart : l ≡ record { object = 0; index = 1; section = text_section (start_pieces number n few) } → IsMadeSection l
-    OfGroup : (k : ℕ) → k < group_count n → l ≡ record { object = suc k; index = 1; section = text_section (pieces_in number n few k) } → IsMadeSection l
+    OfStart : l ≡ record { object = 0; index = 1; section = text_section (start_fragments number n few) } → IsMadeSection l
+    OfGroup : (k : ℕ) → k < group_count n → l ≡ record { object = suc k; index = 1; section = text_section (fragments_in number n few k) } → IsMadeSection l
 
   section_made : (l : IndexedSection) → HasSection all.objects l → IsMadeSection l
   section_made l has = by (section_in (made_parts number n) (made_written number n few) l has)
     where
       of_start : (j : ℕ) → l.object ≡ 0 → l.index ≡ suc j → slice_get (start_object number n).sections j ≡ Some l.section → IsMadeSection l
       of_start zero object index at =
-          let same : text_section (start_pieces number n few) ≡ l.section = cc in
+          let same : text_section (start_fragments number n few) ≡ l.section = cc in
           OfStart (λ i. record { object = object i; index = index i; section = sym same i })
       of_start (suc zero) object index at =
           let same : result_section ≡ l.section = cc in
@@ -108,7 +109,7 @@ module _ (number n : ℕ) (few : n ≤ 1600) where
 
       of_group : (k j : ℕ) → k < group_count n → l.object ≡ suc k → l.index ≡ suc j → slice_get (group_object (functions_from n 0 number) k).sections j ≡ Some l.section → IsMadeSection l
       of_group k zero within object index at =
-          let same : text_section (pieces_in number n few k) ≡ l.section = cc in
+          let same : text_section (fragments_in number n few k) ≡ l.section = cc in
           OfGroup k within (λ i. record { object = object i; index = index i; section = sym same i })
       of_group k (suc j) within object index at = absurd cc
 
@@ -138,15 +139,15 @@ module _ (number n : ℕ) (few : n ≤ 1600) where
       by : IsMadeSection l → BranchesReach all l
       by (Other other bare) = absurd (cc (code, other))
       by (OfStart is) =
-          let start : IndexedSection = record { object = 0; index = 1; section = text_section (start_pieces number n few) } in
+          let start : IndexedSection = record { object = 0; index = 1; section = text_section (start_fragments number n few) } in
           subst (BranchesReach all) (sym is)
           (branchless_reach all start (subst (HasSection all.objects) is has) refl
-          (made_branchless start (start_pieces number n few) (start_made number n few) start_still (start_whole number n few) (start_calm (symbol_of 2 (start_named number n few)) number n)))
+          (made_branchless start (start_fragments number n few) (start_made number n few) start_no_branch (start_whole number n few) (start_no_bare_branch (symbol_of 2 (start_named number n few)) number n)))
       by (OfGroup k within is) =
-          let group : IndexedSection = record { object = suc k; index = 1; section = text_section (pieces_in number n few k) } in
+          let group : IndexedSection = record { object = suc k; index = 1; section = text_section (fragments_in number n few k) } in
           subst (BranchesReach all) (sym is)
           (parts_short_reach standard_map (made_parts number n) (made_written number n few) none map_is group (subst (HasSection all.objects) is has) refl
-          (short_pieces group (pieces_in number n few k) (group_made number n few k within) (group_still k within) all (omega (arith, group_size k))))
+          (short_fragments group (fragments_in number n few k) (group_made number n few k within) (group_no_branch k within) all (omega (arith, group_size k))))
 
   -- ---- the start
 
@@ -171,12 +172,12 @@ module _ (number n : ℕ) (few : n ≤ 1600) where
       by : (l : IndexedSymbol) → strong_definition (objects number n) start_name ≡ Some l → l.symbol.name ≡ start_name → IsDefined number n few l → name_target all start_name ≡ Code start_place
       by l defined named (AtStart object index is) =
           ap (λ x. option_map_or (definition_target all (pos 0)) x Nowhere) (defined_strong all start_name l defined)
-          ∙ (λ i. home_target all (object i) (is i) (pos 0)) ∙ home_is number n few 0 0 start_symbol (start_pieces number n few) refl (omega arith) refl refl
+          ∙ (λ i. home_target all (object i) (is i) (pos 0)) ∙ home_is number n few 0 0 start_symbol (start_fragments number n few) refl (omega arith) refl refl
       by l defined named (AtFunction k j within object index small lt at) =
           absurd (not_start number n few (8 * k + j) (sym named ∙ function_named number n few k j l.symbol at))
 
-  start_starts : starts_on (text_section (start_pieces number n few)) 0 ≡ true
-  start_starts = start_at (start_pieces number n few) (text_section (start_pieces number n few)) (start_made number n few) (start_whole number n few) [] _ _ refl
+  start_starts : starts_on (text_section (start_fragments number n few)) 0 ≡ true
+  start_starts = start_at (start_fragments number n few) (text_section (start_fragments number n few)) (start_made number n few) (start_whole number n few) [] _ _ refl
 
   start_found : entry_in all ≡ Some start_place
   start_found = ap (start_only all.objects) start_leads ∙ ap (λ b. cond b (Some start_place) None) start_starts
@@ -190,8 +191,8 @@ module _ (number n : ℕ) (few : n ≤ 1600) where
   group_code k within =
       omega (
         arith,
-        sum_by-cons code_room (text_section (pieces_in number n few k)) [],
-        text_room (pieces_in number n few k) (group_made number n few k within) (group_still k within),
+        sum_by-cons code_room (text_section (fragments_in number n few k)) [],
+        text_room (fragments_in number n few k) (group_made number n few k within) (group_no_branch k within),
         group_size k,
       )
 
@@ -199,8 +200,8 @@ module _ (number n : ℕ) (few : n ≤ 1600) where
   group_data k within =
       omega (
         arith,
-        sum_by-cons data_room (text_section (pieces_in number n few k)) [],
-        text_data (pieces_in number n few k),
+        sum_by-cons data_room (text_section (fragments_in number n few k)) [],
+        text_data (fragments_in number n few k),
         none_common (code_size (code_of number n k)) (group_object (functions_from n 0 number) k).symbols (group_symbols number n k few within),
       )
 
@@ -210,10 +211,10 @@ module _ (number n : ℕ) (few : n ≤ 1600) where
         arith,
         few,
         sum_by-cons parts_code (start_object number n) groups,
-        sum_by-cons code_room (text_section (start_pieces number n few)) (result_section ∷ []),
+        sum_by-cons code_room (text_section (start_fragments number n few)) (result_section ∷ []),
         sum_by-cons code_room result_section [],
         result_code,
-        text_room (start_pieces number n few) (start_made number n few) start_still,
+        text_room (start_fragments number n few) (start_made number n few) start_no_branch,
         code_sized (symbol_of 2 (start_named number n few)) (start_statements number n),
         start_size number n,
         sum_most parts_code 1124 groups (all_groups (λ p. parts_code p ≤ 1124) number n group_code 0 (group_count n) (omega arith)),
@@ -227,10 +228,10 @@ module _ (number n : ℕ) (few : n ≤ 1600) where
         arith,
         few,
         sum_by-cons parts_data (start_object number n) groups,
-        sum_by-cons data_room (text_section (start_pieces number n few)) (result_section ∷ []),
+        sum_by-cons data_room (text_section (start_fragments number n few)) (result_section ∷ []),
         sum_by-cons data_room result_section [],
         result_data,
-        text_data (start_pieces number n few),
+        text_data (start_fragments number n few),
         sum_by-cons common_room result_symbol (start_symbol ∷ others),
         sum_by-cons common_room start_symbol others,
         none_common (code_size (start_statements number n)) others (start_others number n few),
@@ -240,7 +241,7 @@ module _ (number n : ℕ) (few : n ≤ 1600) where
 
   -- ---- the whole
 
-  made_sound : AreSound standard_map (made_parts number n)
+  made_sound : AreWellFormed standard_map (made_parts number n)
   made_sound = record {
     written = made_written number n few;
     few = omega (arith, made_count number n, few);
@@ -253,6 +254,6 @@ module _ (number n : ℕ) (few : n ≤ 1600) where
     near = all_near;
   }
 
-pub files_faultless : (number n : ℕ) (files : List (List ℕ)) → n ≤ 1600 → files ≡ made_objects number n → first_fault (record { files = files; map = standard_map }) ≡ None
+pub files_faultless : (number n : ℕ) (files : List (List ℕ)) → n ≤ FUNCTION_LIMIT → files ≡ made_objects number n → first_fault (record { files = files; map = standard_map }) ≡ None
 unfolding made_objects
 files_faultless number n files few are = ap (λ l. first_fault (record { files = l; map = standard_map })) are ∙ are_faultless standard_map (made_parts number n) (made_sound number n few)

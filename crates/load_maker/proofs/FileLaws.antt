@@ -1,4 +1,5 @@
--- The files of the objects, one more.
+-- The loop that writes the objects' files: each turn adds the file of the next group of functions, and after the last group
+-- the files are those of `made_objects`.
 use Rattle.std.proofs.Common.{◌≡◌, ℕ, ◌+◌, ◌-◌, ◌*◌, List, [], ◌∷◌, ◌++◌, length, map, min, take, drop, Vec, sym, ap, ◌∙◌, arith}
 use Rattle.std.specs.List.{range_with_len}
 use Rattle.std.specs.declared.alloc.Global.{Global}

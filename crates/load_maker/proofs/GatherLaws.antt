@@ -5,11 +5,11 @@ use Rattle.std.proofs.lemmas.List.{drop_more}
 use Rattle.std.proofs.lemmas.List.Sums.{sum_by-cons}
 use Rattle.elf32_read.specs.declared.reloc.Reloc.{Reloc}
 use Rattle.rv_decode.specs.declared.instr.Instr.{Instr}
-use Rattle.sound_objects.specs.Pieces.{relocs_from}
+use Rattle.sound_objects.specs.Fragments.{relocs_from}
 use Rattle.load_maker.specs.Objects.{symbol_of}
-use Rattle.load_maker.specs.Statements.{code_size, named_by, piece_of, size_of, with_number}
+use Rattle.load_maker.specs.Statements.{code_size, named_by, fragment_of, size_of, with_number}
 use Rattle.load_maker.specs.declared.statement.Statement.{Statement}
-use Rattle.load_maker.specs.declared.statement.Statement.TheVariants.{Plain, Call, OfResult}
+use Rattle.load_maker.specs.declared.statement.Statement.TheVariants.{Plain, Call, WithAddress}
 use Rattle.load_maker.proofs.NamedLaws.{call_symbol, with_few}
 
 module _ (others : ℕ) (first : List ℕ) (statements : List Statement) where
@@ -18,7 +18,7 @@ module _ (others : ℕ) (first : List ℕ) (statements : List Statement) where
   all_named = named_by first statements
 
   abbrev pub all_relocs : ℕ → List Statement → List Reloc
-  all_relocs at rest = relocs_from at (map (piece_of (symbol_of others all_named)) rest)
+  all_relocs at rest = relocs_from at (map (fragment_of (symbol_of others all_named)) rest)
 
   -- the functions that are named so far, the relocations so far, and where the rest of the statements stands
   pub record Gathers (named : List ℕ) (relocs : List Reloc) (at : ℕ) (rest : List Statement) : Type 0 where
@@ -44,13 +44,13 @@ module _ (others : ℕ) (first : List ℕ) (statements : List Statement) where
         let now = next (Plain i) same in
         record { names = now.names; are = now.are; size = omega (arith, now.size, sum_by-cons size_of (Plain i) rest); few = omega (arith, now.few) }
 
-    pub result_step : (kind : ℕ) (i : Instr) → s ≡ OfResult kind i → Gathers named (relocs ++ record { offset = at; symbol = 1; kind = kind; addend = pos 0 } ∷ []) (at + 4) rest
+    pub result_step : (kind : ℕ) (i : Instr) → s ≡ WithAddress kind i → Gathers named (relocs ++ record { offset = at; symbol = 1; kind = kind; addend = pos 0 } ∷ []) (at + 4) rest
     result_step kind i same =
-        let now = next (OfResult kind i) same in
+        let now = next (WithAddress kind i) same in
         record {
           names = now.names;
           are = append_assoc relocs (record { offset = at; symbol = 1; kind = kind; addend = pos 0 } ∷ []) (all_relocs (at + 4) rest) ∙ now.are;
-          size = omega (arith, now.size, sum_by-cons size_of (OfResult kind i) rest);
+          size = omega (arith, now.size, sum_by-cons size_of (WithAddress kind i) rest);
           few = omega (arith, now.few);
         }
 

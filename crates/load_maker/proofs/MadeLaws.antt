@@ -14,12 +14,13 @@ use Rattle.psabi_sym.specs.Resolve.{Definition, name_definition}
 use Rattle.psabi_sym.specs.Resolve.Definition.{InObject}
 use Rattle.zc_base.specs.declared.mem_map.MemMap.{MemMap}
 use Rattle.sound_objects.specs.Parts.{objects_of, read_of}
-use Rattle.sound_objects.specs.Sound.{AreDefined, AreSingle, HasStrong}
+use Rattle.sound_objects.specs.WellFormed.{AreDefined, AreSingle, HasStrong}
 use Rattle.sound_objects.proofs.NameLaws.{defined_strong, strong_there}
 use Rattle.sound_objects.proofs.PartsLaws.{symbol_in}
 use Rattle.load_maker.specs.Functions.{functions_from}
 use Rattle.load_maker.specs.Objects.{function_name, function_symbols, group_count, group_object, made_parts, result_symbol, start_object, start_statements, start_symbol, undefined_symbol}
 use Rattle.load_maker.specs.Statements.{named_by}
+use Rattle.load_maker.specs.declared.make_objects.TheConstants.{FUNCTION_LIMIT}
 use Rattle.load_maker.proofs.BodyLaws.{bodies_of, code_of, group_long}
 use Rattle.load_maker.proofs.SymbolLaws.{IsFunctionAt, function_at, function_there, length-function_symbols}
 use Rattle.load_maker.proofs.WrittenLaws.{are_named, group_right}
@@ -107,7 +108,7 @@ called_at n [] k s all at = absurd cc
 called_at n (j ∷ js) zero s all at = let same : undefined_symbol j ≡ s = cc in (j, All-head (λ i. i < n) j js all, sym same)
 called_at n (j ∷ js) (suc k) s all at = called_at n js k s (All-tail (λ i. i < n) j js all) at
 
-module _ (number n : ℕ) (few : n ≤ 1600) where
+module _ (number n : ℕ) (few : n ≤ FUNCTION_LIMIT) where
   start_symbol_made : (i : ℕ) (s : SymbolParts) → slice_get (start_object number n).symbols i ≡ Some s → IsMade number n 0 i s
   start_symbol_made zero s at = let same : result_symbol ≡ s = cc in Result (sym same)
   start_symbol_made (suc zero) s at = let same : start_symbol ≡ s = cc in Start refl refl (sym same)

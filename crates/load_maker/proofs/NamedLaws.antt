@@ -10,7 +10,7 @@ use Rattle.std.proofs.lemmas.List.FromFn.{length-range_with_len, map-range_with_
 use Rattle.load_maker.specs.Objects.{symbol_of}
 use Rattle.load_maker.specs.Statements.{all_called, named_by, with_number}
 use Rattle.load_maker.specs.declared.statement.Statement.{Statement}
-use Rattle.load_maker.specs.declared.statement.Statement.TheVariants.{Plain, Call, OfResult}
+use Rattle.load_maker.specs.declared.statement.Statement.TheVariants.{Plain, Call, WithAddress}
 
 -- ---- where a number stands
 
@@ -108,7 +108,7 @@ called_named xs [] back i =
     ap (list_any (λ j. eqb i j)) more.are ∙ any_left (with_number xs i) more.rest i (any_added xs i)
 called_named xs (Plain w ∷ front) back i = called_named xs front back i
 called_named xs (Call j ∷ front) back i = called_named (with_number xs j) front back i
-called_named xs (OfResult k w ∷ front) back i = called_named xs front back i
+called_named xs (WithAddress k w ∷ front) back i = called_named xs front back i
 
 pub called_has : (defined : List ℕ) (statements front back : List Statement) (i : ℕ) → statements ≡ front ++ Call i ∷ back → HasNumber (named_by defined statements) i
 called_has defined statements front back i split =
@@ -145,7 +145,7 @@ called_few : (statements : List Statement) → length (all_called statements) �
 called_few [] = omega arith
 called_few (Plain i ∷ rest) = omega (arith, called_few rest)
 called_few (Call i ∷ rest) = omega (arith, called_few rest)
-called_few (OfResult k i ∷ rest) = omega (arith, called_few rest)
+called_few (WithAddress k i ∷ rest) = omega (arith, called_few rest)
 
 pub named_many : (numbers : List ℕ) (statements : List Statement) → length numbers ≤ length (named_by numbers statements)
 named_many numbers statements =

@@ -1,4 +1,5 @@
--- Operations and functions, one more of each.
+-- The loops that append operations and functions: those so far, followed by those that are left, are all of them. Each turn
+-- appends the next one, and at the end none are left.
 use Rattle.std.proofs.Common.{◌≡◌, ℕ, suc, ◌+◌, ◌-◌, ◌%◌, ◌<◌, ◌≤◌, List, [], ◌∷◌, ◌++◌, map, sym, ap, ◌∙◌, arith, append-nil, append_assoc}
 use Rattle.std.proofs.lemmas.List.{map-append}
 use Rattle.zc_base.specs.Draws.{drawn, stepped}

@@ -1,4 +1,4 @@
--- The generated objects: the code of each is made of pieces, and each relocation leads somewhere.
+-- The generated objects: the code of each is made of fragments, and each relocation leads somewhere.
 use Rattle.std.proofs.Common.{◌≡◌, ℕ, suc, ◌+◌, ◌-◌, ◌*◌, ◌<◌, ◌≤◌, ◌⊎◌, inl, inr, pos, ◌+ℤ◌, List, [], ◌∷◌, ◌++◌, length, map, drop, Bool, true, false, cond, Some, None, slice_get, refl, sym, ap, subst, ◌∙◌, arith, eqb, eq-eqb, get_or}
 use Rattle.std.specs.Prelude.{All, ◌||◌}
 use Rattle.std.specs.List.{flat_map, range_with_len}
@@ -29,19 +29,20 @@ use Rattle.block_cut.specs.Relocs.{is_transfer}
 use Rattle.block_cut.specs.Whole.{IsWhole}
 use Rattle.block_cut.proofs.PlainLaws.{target_on}
 use Rattle.sound_objects.specs.Parts.{objects_of, read_of}
-use Rattle.sound_objects.specs.Pieces.{IsMadeOf, Piece, PieceReloc, pieces_size, reloc_at}
-use Rattle.sound_objects.specs.Sound.{RelocsAreRight}
+use Rattle.sound_objects.specs.Fragments.{IsMadeOf, Fragment, FragmentReloc, fragments_size, reloc_at}
+use Rattle.sound_objects.specs.WellFormed.{RelocsAreRight}
 use Rattle.sound_objects.proofs.NameLaws.{defined_strong, strong_found}
 use Rattle.sound_objects.proofs.PartsLaws.{written_whole}
-use Rattle.sound_objects.proofs.PieceLaws.{edge_after, relocs_right}
+use Rattle.sound_objects.proofs.FragmentLaws.{edge_after, relocs_right}
 use Rattle.sound_objects.proofs.RelocLaws.{LeadsRight}
 use Rattle.load_maker.specs.Functions.{functions_from}
 use Rattle.load_maker.specs.Objects.{function_name, function_symbols, group_count, group_object, made_parts, start_object, start_statements, symbol_of, text_section, undefined_symbol}
-use Rattle.load_maker.specs.Statements.{named_by, piece_of, reloc_to}
+use Rattle.load_maker.specs.Statements.{named_by, fragment_of, reloc_to}
+use Rattle.load_maker.specs.declared.make_objects.TheConstants.{FUNCTION_LIMIT}
 use Rattle.load_maker.specs.declared.statement.Statement.{Statement}
-use Rattle.load_maker.specs.declared.statement.Statement.TheVariants.{Plain, Call, OfResult}
+use Rattle.load_maker.specs.declared.statement.Statement.TheVariants.{Plain, Call, WithAddress}
 use Rattle.load_maker.proofs.BodyLaws.{IsInner, bodies_of, code_of, group_inner}
-use Rattle.load_maker.proofs.CodeLaws.{IsRight, TakesPart, code_made, code_sized, piece_from}
+use Rattle.load_maker.proofs.CodeLaws.{IsRight, TakesPart, code_made, code_sized, fragment_from}
 use Rattle.load_maker.proofs.MadeLaws.{IsDefined, function_defined, later_there, not_start, objects, slice_drop, slice_left, slice_right, strong_is, symbol_there}
 use Rattle.load_maker.proofs.MadeLaws.IsDefined.{AtStart, AtFunction}
 use Rattle.load_maker.proofs.NamedLaws.{HasNumber, called_has}
@@ -64,14 +65,14 @@ resolved_there : (inputs : ParsedInputs) (o k : ℕ) (s : SymbolParts) → symbo
 unfolding resolved
 resolved_there inputs o k s at = ap (λ x. option_map_or (λ symbol. symbol_target inputs o symbol (pos 0)) x Nowhere) at
 
-text_role : (pieces : List Piece) → role_of (text_section pieces) ≡ role.Code
+text_role : (fragments : List Fragment) → role_of (text_section fragments) ≡ role.Code
 unfolding role_of
-text_role pieces = refl
+text_role fragments = refl
 
 within_size : (size v : ℕ) → v ≤ size → offset_within size (pos v +ℤ pos 0) ≡ Some v
 within_size size v le = ap (offset_within size) (+ℤ_idr (pos v)) ∙ ap (λ b. cond b (Some v) None) (le-leb v size le)
 
-module _ (number n : ℕ) (few : n ≤ 1600) where
+module _ (number n : ℕ) (few : n ≤ FUNCTION_LIMIT) where
   abbrev pub made : ParsedInputs
   made = objects_of standard_map (made_parts number n)
 
@@ -80,32 +81,32 @@ module _ (number n : ℕ) (few : n ≤ 1600) where
   abbrev pub start_named : List ℕ
   start_named = named_by [] (start_statements number n)
 
-  abbrev pub start_pieces : List Piece
-  start_pieces = map (piece_of (symbol_of 2 start_named)) (start_statements number n)
+  abbrev pub start_fragments : List Fragment
+  start_fragments = map (fragment_of (symbol_of 2 start_named)) (start_statements number n)
 
   abbrev pub named_in : ℕ → List ℕ
   named_in k = named_by (range_with_len (8 * k) (length (bodies_of number n k))) (code_of number n k)
 
-  abbrev pub pieces_in : ℕ → List Piece
-  pieces_in k = map (piece_of (symbol_of 0 (named_in k))) (code_of number n k)
+  abbrev pub fragments_in : ℕ → List Fragment
+  fragments_in k = map (fragment_of (symbol_of 0 (named_in k))) (code_of number n k)
 
-  pub start_made : IsMadeOf start_pieces (text_section start_pieces)
+  pub start_made : IsMadeOf start_fragments (text_section start_fragments)
   start_made = code_made n (symbol_of 2 start_named) (start_statements number n) (start_right number n)
 
-  pub start_whole : IsWhole (text_section start_pieces)
-  start_whole = written_whole (start_object number n) (start_written number n few) 1 (text_section start_pieces) refl refl
+  pub start_whole : IsWhole (text_section start_fragments)
+  start_whole = written_whole (start_object number n) (start_written number n few) 1 (text_section start_fragments) refl refl
 
   module _ (k : ℕ) (within : k < group_count n) where
-    pub text_there : section_at made.objects (suc k) 1 ≡ Some (text_section (pieces_in k))
+    pub text_there : section_at made.objects (suc k) 1 ≡ Some (text_section (fragments_in k))
     text_there =
         ap (option_and_then (λ (object : ObjectParts). slice_get object.sections 1))
         (slice_get-map read_of (made_parts number n) (suc k) ∙ ap (option_map read_of) (later_there number n k within))
 
-    pub group_made : IsMadeOf (pieces_in k) (text_section (pieces_in k))
+    pub group_made : IsMadeOf (fragments_in k) (text_section (fragments_in k))
     group_made = code_made n (symbol_of 0 (named_in k)) (code_of number n k) (group_right number n k few within)
 
-    pub group_whole : IsWhole (text_section (pieces_in k))
-    group_whole = written_whole (group_object (functions_from n 0 number) k) (group_written number n k few within) 1 (text_section (pieces_in k)) refl refl
+    pub group_whole : IsWhole (text_section (fragments_in k))
+    group_whole = written_whole (group_object (functions_from n 0 number) k) (group_written number n k few within) 1 (text_section (fragments_in k)) refl refl
 
   -- ---- where a name leads
 
@@ -113,13 +114,13 @@ module _ (number n : ℕ) (few : n ≤ 1600) where
   abbrev place_in : ℕ → ℕ → Place
   place_in o v = record { object = o; section = 1; offset = v }
 
-  pub home_is : (o v : ℕ) (s : SymbolParts) (pieces : List Piece) → section_at made.objects o 1 ≡ Some (text_section pieces) → v ≤ pieces_size pieces → s.home ≡ 1 → s.value ≡ v
+  pub home_is : (o v : ℕ) (s : SymbolParts) (fragments : List Fragment) → section_at made.objects o 1 ≡ Some (text_section fragments) → v ≤ fragments_size fragments → s.home ≡ 1 → s.value ≡ v
       → home_target made o s (pos 0) ≡ Code (place_in o v)
-  home_is o v s pieces at le home value =
+  home_is o v s fragments at le home value =
       (λ j. cond (eqb (home j) 0xFFF1) (Rattle.psabi_sym.specs.Resolve.number_target (value j) (pos 0)) (option_map_or (λ section. role_target made o (home j) (value j) (pos 0) section (role_of section)) (section_at made.objects o (home j)) Nowhere))
       ∙ ap (λ x. option_map_or (λ section. role_target made o 1 v (pos 0) section (role_of section)) x Nowhere) at
-      ∙ ap (role_target made o 1 v (pos 0) (text_section pieces)) (text_role pieces)
-      ∙ ap (λ x. option_map_or (λ m. Code (place_in o m)) x Nowhere) (within_size (pieces_size pieces) v le)
+      ∙ ap (role_target made o 1 v (pos 0) (text_section fragments)) (text_role fragments)
+      ∙ ap (λ x. option_map_or (λ m. Code (place_in o m)) x Nowhere) (within_size (fragments_size fragments) v le)
 
   -- what a call leads to
   record Lands (i : ℕ) : Type 0 where
@@ -133,31 +134,31 @@ module _ (number n : ℕ) (few : n ≤ 1600) where
       own : (l : IndexedSymbol) × (strong_definition (objects number n) (function_name i) ≡ Some l)
       own = function_defined number n few i lt
 
-      found : Rattle.sound_objects.specs.Sound.HasStrong (objects number n) own.0 × (own.0.symbol.name ≡ function_name i)
+      found : Rattle.sound_objects.specs.WellFormed.HasStrong (objects number n) own.0 × (own.0.symbol.name ≡ function_name i)
       found = strong_found (objects number n) (function_name i) own.0 own.1
 
       by : (l : IndexedSymbol) → strong_definition (objects number n) (function_name i) ≡ Some l → IsDefined number n few l → Lands i
       by l defined (AtStart object index is) =
           absurd (not_start number n few i (sym (ap (λ (x : SymbolParts). x.name) is) ∙ (strong_found (objects number n) (function_name i) l defined).1))
       by l defined (AtFunction k j within object index small number_lt at) =
-          let piece = piece_of (symbol_of 0 (named_in k)) in
+          let fragment = fragment_of (symbol_of 0 (named_in k)) in
           let before = flat_map (λ b. b) at.front in
           let after = flat_map (λ b. b) (at.body ∷ at.back) in
           let flat : code_of number n k ≡ before ++ after = ap (flat_map (λ b. b)) at.split ∙ flat_map-append (λ b. b) at.front (at.body ∷ at.back) in
-          let split : pieces_in k ≡ map piece before ++ map piece after = ap (map piece) flat ∙ map-append piece before after in
-          let v : ℕ = pieces_size (map piece before) in
-          let le : v ≤ pieces_size (pieces_in k) = omega (arith, ap pieces_size split, sum_by-append Rattle.sound_objects.specs.Pieces.piece_size (map piece before) (map piece after)) in
+          let split : fragments_in k ≡ map fragment before ++ map fragment after = ap (map fragment) flat ∙ map-append fragment before after in
+          let v : ℕ = fragments_size (map fragment before) in
+          let le : v ≤ fragments_size (fragments_in k) = omega (arith, ap fragments_size split, sum_by-append Rattle.sound_objects.specs.Fragments.fragment_size (map fragment before) (map fragment after)) in
           let q = place_in (suc k) v in
-          let text = text_section (pieces_in k) in
+          let text = text_section (fragments_in k) in
           let value : l.symbol.value ≡ v = omega (arith, ap (λ (x : SymbolParts). x.value) at.is, code_sized (symbol_of 0 (named_in k)) before) in
-          let home : home_target made (suc k) l.symbol (pos 0) ≡ Code q = home_is (suc k) v l.symbol (pieces_in k) (text_there k within) le (ap (λ (x : SymbolParts). x.home) at.is) value in
+          let home : home_target made (suc k) l.symbol (pos 0) ≡ Code q = home_is (suc k) v l.symbol (fragments_in k) (text_there k within) le (ap (λ (x : SymbolParts). x.home) at.is) value in
           let code : code_at made.objects q ≡ Some text = ap (option_and_then code_only) (text_there k within) in
           record {
             place = q;
             leads = λ other.
                 ap (λ x. option_map_or (definition_target made (pos 0)) x other) (defined_strong made (function_name i) l defined)
                 ∙ ap (λ o. home_target made o l.symbol (pos 0)) object ∙ home;
-            lands = target_on made.objects q text code ∙ edge text v (edge_after (pieces_in k) text (group_made k within) (group_whole k within) (map piece before) (map piece after) split);
+            lands = target_on made.objects q text code ∙ edge text v (edge_after (fragments_in k) text (group_made k within) (group_whole k within) (map fragment before) (map fragment after) split);
           }
         where
           edge : (s : SectionParts) (v : ℕ) → (starts_on s v ≡ true) ⊎ (v ≡ length s.bytes) → (starts_on s v || eqb v (length s.bytes)) ≡ true
@@ -238,47 +239,47 @@ module _ (number n : ℕ) (few : n ≤ 1600) where
   -- ---- relocations
 
   -- those of code whose calls and parts of addresses lead somewhere
-  text_right : (o : ℕ) (symbol : ℕ → ℕ) (statements : List Statement) → IsMadeOf (map (piece_of symbol) statements) (text_section (map (piece_of symbol) statements))
+  text_right : (o : ℕ) (symbol : ℕ → ℕ) (statements : List Statement) → IsMadeOf (map (fragment_of symbol) statements) (text_section (map (fragment_of symbol) statements))
       → ((before after : List Statement) (i : ℕ) → statements ≡ before ++ Call i ∷ after → is_bad_target made.objects true (resolved made o (symbol i) (pos 0)) ≡ false)
-      → ((before after : List Statement) (kind : ℕ) (i : Rattle.rv_decode.specs.declared.instr.Instr.Instr) → statements ≡ before ++ OfResult kind i ∷ after
+      → ((before after : List Statement) (kind : ℕ) (i : Rattle.rv_decode.specs.declared.instr.Instr.Instr) → statements ≡ before ++ WithAddress kind i ∷ after
       → TakesPart kind i × (is_bad_target made.objects (is_transfer (kind_of kind)) (resolved made o 1 (pos 0)) ≡ false))
-      → RelocsAreRight made (record { object = o; index = 1; section = text_section (map (piece_of symbol) statements) })
-  text_right o symbol statements is_made calls parts = relocs_right made l pieces is_made each
+      → RelocsAreRight made (record { object = o; index = 1; section = text_section (map (fragment_of symbol) statements) })
+  text_right o symbol statements is_made calls parts = relocs_right made l fragments is_made each
     where
-      pieces : List Piece
-      pieces = map (piece_of symbol) statements
+      fragments : List Fragment
+      fragments = map (fragment_of symbol) statements
 
       l : IndexedSection
-      l = record { object = o; index = 1; section = text_section (map (piece_of symbol) statements) }
+      l = record { object = o; index = 1; section = text_section (map (fragment_of symbol) statements) }
 
-      of_statement : (before after : List Statement) (s : Statement) → statements ≡ before ++ s ∷ after → (at : ℕ) (r : PieceReloc) → (piece_of symbol s).reloc ≡ Some r → LeadsRight made l (reloc_at at r)
+      of_statement : (before after : List Statement) (s : Statement) → statements ≡ before ++ s ∷ after → (at : ℕ) (r : FragmentReloc) → (fragment_of symbol s).reloc ≡ Some r → LeadsRight made l (reloc_at at r)
       of_statement before after (Plain i) split at r is = absurd cc
       of_statement before after (Call i) split at r is =
           let same : reloc_to 18 (symbol i) ≡ r = cc in
           subst (λ x. LeadsRight made l (reloc_at at x)) same (record { paired = refl; leads = calls before after i split })
-      of_statement before after (OfResult kind i) split at r is =
+      of_statement before after (WithAddress kind i) split at r is =
           let same : reloc_to kind 1 ≡ r = cc in
           let two = parts before after kind i split in
           subst (λ x. LeadsRight made l (reloc_at at x)) same (record { paired = and_left _ _ two.0.lone; leads = and_right _ _ two.1 })
 
-      each : (front : List Piece) (p : Piece) (back : List Piece) (r : PieceReloc) → pieces ≡ front ++ p ∷ back → p.reloc ≡ Some r → LeadsRight made l (reloc_at (pieces_size front) r)
+      each : (front : List Fragment) (p : Fragment) (back : List Fragment) (r : FragmentReloc) → fragments ≡ front ++ p ∷ back → p.reloc ≡ Some r → LeadsRight made l (reloc_at (fragments_size front) r)
       each front p back r split is =
-          let own = piece_from symbol statements front p back split in
-          of_statement own.before own.after own.statement own.split (pieces_size front) r (ap (λ (q : Piece). q.reloc) (sym own.is) ∙ is)
+          let own = fragment_from symbol statements front p back split in
+          of_statement own.before own.after own.statement own.split (fragments_size front) r (ap (λ (q : Fragment). q.reloc) (sym own.is) ∙ is)
 
-  pub start_relocs : RelocsAreRight made (record { object = 0; index = 1; section = text_section start_pieces })
+  pub start_relocs : RelocsAreRight made (record { object = 0; index = 1; section = text_section start_fragments })
   start_relocs =
       text_right 0 (symbol_of 2 start_named) (start_statements number n) start_made
       (λ before after i split.
       start_call i (at_split (IsRight n) (start_statements number n) before after (Call i) split (start_right number n)) (called_has [] (start_statements number n) before after i split))
       (λ before after kind i split.
-      let takes : TakesPart kind i = at_split (IsRight n) (start_statements number n) before after (OfResult kind i) split (start_right number n) in
+      let takes : TakesPart kind i = at_split (IsRight n) (start_statements number n) before after (WithAddress kind i) split (start_right number n) in
       (takes, result_target (is_transfer (kind_of kind)) takes.stays))
 
-  pub group_relocs : (k : ℕ) → k < group_count n → RelocsAreRight made (record { object = suc k; index = 1; section = text_section (pieces_in k) })
+  pub group_relocs : (k : ℕ) → k < group_count n → RelocsAreRight made (record { object = suc k; index = 1; section = text_section (fragments_in k) })
   group_relocs k within =
       text_right (suc k) (symbol_of 0 (named_in k)) (code_of number n k) (group_made k within)
       (λ before after i split.
       group_call k within i (at_split (IsRight n) (code_of number n k) before after (Call i) split (group_right number n k few within))
       (called_has (range_with_len (8 * k) (length (bodies_of number n k))) (code_of number n k) before after i split))
-      (λ before after kind i split. absurd (at_split (IsInner n) (code_of number n k) before after (OfResult kind i) split (group_inner number n k)))
+      (λ before after kind i split. absurd (at_split (IsInner n) (code_of number n k) before after (WithAddress kind i) split (group_inner number n k)))

@@ -11,15 +11,15 @@ use Rattle.rv_decode.specs.Decode.{decoded, imm_ops, row_of}
 use Rattle.rv_decode.specs.Formats.{funct3_of, imm_i_of, opcode_of, rd_of, rs1_of}
 use Rattle.rv_decode.proofs.DecodeLaws.{OfImm, format-decoded}
 use Rattle.rv_encode.specs.Words.{encoded}
-use Rattle.sound_objects.specs.Pieces.{Piece}
-use Rattle.sound_objects.specs.Reach.{AreCalm, is_branch, is_calm}
-use Rattle.sound_objects.proofs.StillLaws.{calm_word}
+use Rattle.sound_objects.specs.Fragments.{Fragment}
+use Rattle.sound_objects.specs.Reach.{HaveNoBareBranch, is_branch, is_no_bare_branch}
+use Rattle.sound_objects.proofs.ReachLaws.{word_no_bare_branch}
 use Rattle.load_maker.specs.Instructions.{addi, lui, sw}
 use Rattle.load_maker.specs.Objects.{start_end, start_statements}
-use Rattle.load_maker.specs.Statements.{code_size, piece_of, size_of}
+use Rattle.load_maker.specs.Statements.{code_size, fragment_of, size_of}
 use Rattle.load_maker.specs.declared.register.Register.TheVariants.{Zero, Temp1, A0, A1}
 use Rattle.load_maker.specs.declared.statement.Statement.{Statement}
-use Rattle.load_maker.specs.declared.statement.Statement.TheVariants.{Plain, Call, OfResult}
+use Rattle.load_maker.specs.declared.statement.Statement.TheVariants.{Plain, Call, WithAddress}
 use Rattle.load_maker.proofs.CodeLaws.{IsRight, takes_store, takes_sum, takes_upper}
 
 -- ---- its length
@@ -70,15 +70,15 @@ record IsStraight (i : Instr) : Type 0 where
   pub small : encoded i < 2 ^ 32
   pub straight : is_branch (decoded (encoded i)) ≡ false
 
-abbrev IsCalm : Statement → Type 0
-IsCalm (Plain i) = IsStraight i
-IsCalm (Call i) = Unit {0}
-IsCalm (OfResult kind i) = Unit {0}
+abbrev IsNoBareBranch : Statement → Type 0
+IsNoBareBranch (Plain i) = IsStraight i
+IsNoBareBranch (Call i) = Unit {0}
+IsNoBareBranch (WithAddress kind i) = Unit {0}
 
-calm : (symbol : ℕ → ℕ) (s : Statement) → IsCalm s → is_calm (piece_of symbol s).reloc (piece_of symbol s).bytes ≡ true
-calm symbol (Plain i) is = calm_word (encoded i) is.small is.straight
-calm symbol (Call i) is = refl
-calm symbol (OfResult kind i) is = refl
+no_bare_branch : (symbol : ℕ → ℕ) (s : Statement) → IsNoBareBranch s → is_no_bare_branch (fragment_of symbol s).reloc (fragment_of symbol s).bytes ≡ true
+no_bare_branch symbol (Plain i) is = word_no_bare_branch (encoded i) is.small is.straight
+no_bare_branch symbol (Call i) is = refl
+no_bare_branch symbol (WithAddress kind i) is = refl
 
 addi_straight : (m : ℕ) → m < 2048 → IsStraight (addi A0 Zero (pos m))
 unfolding encoded
@@ -93,9 +93,9 @@ ecall_straight : IsStraight Ecall
 unfolding decoded encoded
 ecall_straight = record { small = omega arith; straight = refl }
 
-end_calm : All IsCalm start_end
+end_no_bare_branch : All IsNoBareBranch start_end
 unfolding decoded encoded
-end_calm = All-from_recursion IsCalm start_end (
+end_no_bare_branch = All-from_recursion IsNoBareBranch start_end (
   tt,
   (
     tt,
@@ -115,17 +115,17 @@ end_calm = All-from_recursion IsCalm start_end (
   ),
 )
 
-calls_calm : (a m : ℕ) → All IsCalm (map Call (range_with_len a m))
-calls_calm a zero = All-nil IsCalm
-calls_calm a (suc m) = All-cons IsCalm (Call a) (map Call (range_with_len (a + 1) m)) tt (calls_calm (a + 1) m)
+calls_no_bare_branch : (a m : ℕ) → All IsNoBareBranch (map Call (range_with_len a m))
+calls_no_bare_branch a zero = All-nil IsNoBareBranch
+calls_no_bare_branch a (suc m) = All-cons IsNoBareBranch (Call a) (map Call (range_with_len (a + 1) m)) tt (calls_no_bare_branch (a + 1) m)
 
-start_straight : (number n : ℕ) → All IsCalm (start_statements number n)
+start_straight : (number n : ℕ) → All IsNoBareBranch (start_statements number n)
 start_straight number n =
     let first = Plain (addi A0 Zero (pos (number % 2048))) in
     let calls : List Statement = map Call (range_with_len 0 n) in
-    All-append IsCalm (first ∷ calls) start_end (All-cons IsCalm first calls (addi_straight (number % 2048) (omega arith)) (calls_calm 0 n)) end_calm
+    All-append IsNoBareBranch (first ∷ calls) start_end (All-cons IsNoBareBranch first calls (addi_straight (number % 2048) (omega arith)) (calls_no_bare_branch 0 n)) end_no_bare_branch
 
-pub start_calm : (symbol : ℕ → ℕ) (number n : ℕ) → AreCalm (map (piece_of symbol) (start_statements number n))
-start_calm symbol number n =
-    All-map (λ (p : Piece). is_calm p.reloc p.bytes ≡ true) (piece_of symbol) (start_statements number n)
-    (λ k d lt. calm symbol _ (start_straight number n k d lt))
+pub start_no_bare_branch : (symbol : ℕ → ℕ) (number n : ℕ) → HaveNoBareBranch (map (fragment_of symbol) (start_statements number n))
+start_no_bare_branch symbol number n =
+    All-map (λ (p : Fragment). is_no_bare_branch p.reloc p.bytes ≡ true) (fragment_of symbol) (start_statements number n)
+    (λ k d lt. no_bare_branch symbol _ (start_straight number n k d lt))

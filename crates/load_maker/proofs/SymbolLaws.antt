@@ -16,6 +16,7 @@ use Rattle.psabi_sym.specs.Faults.{common_room}
 use Rattle.sound_objects.proofs.SizeLaws.{symbol_name_room}
 use Rattle.load_maker.specs.Objects.{function_name, function_symbol, function_symbols, undefined_symbol}
 use Rattle.load_maker.specs.Statements.{code_size, size_of}
+use Rattle.load_maker.specs.declared.make_objects.TheConstants.{FUNCTION_LIMIT}
 use Rattle.load_maker.specs.declared.statement.Statement.{Statement}
 
 -- ---- symbols of functions
@@ -73,15 +74,15 @@ no_zero = decimal_by_steps (λ n ds. list_any (λ byte. eqb byte 0) ds ≡ false
 is_function_name : (i : ℕ) → i < 2 ^ 64 → is_name (function_name i) ≡ true
 is_function_name i lt = ap not (no_zero i lt)
 
-short_name : (i : ℕ) → i < 1600 → length (function_name i) ≤ 5
+short_name : (i : ℕ) → i < FUNCTION_LIMIT → length (function_name i) ≤ 5
 short_name i lt = omega (arith, length-decimal-le 4 i (omega arith) (omega (arith, lt)) (omega (arith, lt)))
 
 -- ---- symbols that can be written
 
 -- a function's, that lies in a section 1 of this size, or one that is undefined
 pub data IsOfFunction (size : ℕ) (s : SymbolParts) : Type 0 where
-  Defined : (i at : ℕ) (body : List Statement) → i < 1600 → at ≤ size → code_size body < 2 ^ 32 → s ≡ function_symbol i at body → IsOfFunction size s
-  Undefined : (i : ℕ) → i < 1600 → s ≡ undefined_symbol i → IsOfFunction size s
+  Defined : (i at : ℕ) (body : List Statement) → i < FUNCTION_LIMIT → at ≤ size → code_size body < 2 ^ 32 → s ≡ function_symbol i at body → IsOfFunction size s
+  Undefined : (i : ℕ) → i < FUNCTION_LIMIT → s ≡ undefined_symbol i → IsOfFunction size s
 
 pub home_small : (p : ObjectParts) (s : SymbolParts) → s.home < 4 → has_home p s ≡ true
 home_small p s lt =
@@ -135,13 +136,13 @@ none_common size (s ∷ ss) all =
 
 -- ---- those of an object
 
-pub undefined_are : (n size : ℕ) → n ≤ 1600 → (js : List ℕ) → All (λ j. j < n) js → All (IsOfFunction size) (map undefined_symbol js)
+pub undefined_are : (n size : ℕ) → n ≤ FUNCTION_LIMIT → (js : List ℕ) → All (λ j. j < n) js → All (IsOfFunction size) (map undefined_symbol js)
 undefined_are n size le [] all = All-nil (IsOfFunction size)
 undefined_are n size le (j ∷ js) all =
     All-cons (IsOfFunction size) (undefined_symbol j) (map undefined_symbol js)
     (Undefined j (omega (arith, le, All-head (λ i. i < n) j js all)) refl) (undefined_are n size le js (All-tail (λ i. i < n) j js all))
 
-pub functions_are : (size i at : ℕ) (bodies : List (List Statement)) → i + length bodies ≤ 1600 → at + code_size (flat_map (λ body. body) bodies) ≤ size → size < 2 ^ 32
+pub functions_are : (size i at : ℕ) (bodies : List (List Statement)) → i + length bodies ≤ FUNCTION_LIMIT → at + code_size (flat_map (λ body. body) bodies) ≤ size → size < 2 ^ 32
     → All (IsOfFunction size) (function_symbols i at bodies)
 functions_are size i at [] le room small = All-nil (IsOfFunction size)
 functions_are size i at (body ∷ rest) le room small =

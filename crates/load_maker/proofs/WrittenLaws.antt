@@ -11,13 +11,14 @@ use Rattle.elf32_write.specs.ObjectFile.{object_size}
 use Rattle.elf32_write.specs.Ranges.{IsRelocSized, IsSectionSized, IsSymbolSized}
 use Rattle.elf32_write.specs.Writable.{IsWritableSection, IsWritableSymbol}
 use Rattle.sound_objects.specs.Parts.{CanBeWritten}
-use Rattle.sound_objects.proofs.PieceLaws.{bytes_sized}
+use Rattle.sound_objects.proofs.FragmentLaws.{bytes_sized}
 use Rattle.sound_objects.proofs.SizeLaws.{bytes_room, count_most, rela_name_room, relocs_room, section_name_room, size_most, symbol_name_room}
 use Rattle.load_maker.specs.Functions.{functions_from}
-use Rattle.load_maker.specs.Objects.{function_symbols, group_count, group_object, made_parts, result_section, result_symbol, start_object, start_statements, start_symbol, symbol_of, text_of, undefined_symbol}
-use Rattle.load_maker.specs.Statements.{all_called, code_size, named_by, piece_of}
+use Rattle.load_maker.specs.Objects.{function_symbols, group_count, group_object, made_parts, result_section, result_symbol, start_object, start_statements, start_symbol, symbol_of, text_section_of, undefined_symbol}
+use Rattle.load_maker.specs.Statements.{all_called, code_size, named_by, fragment_of}
+use Rattle.load_maker.specs.declared.make_objects.TheConstants.{FUNCTION_LIMIT}
 use Rattle.load_maker.specs.declared.statement.Statement.{Statement}
-use Rattle.load_maker.specs.declared.statement.Statement.TheVariants.{Plain, Call, OfResult}
+use Rattle.load_maker.specs.declared.statement.Statement.TheVariants.{Plain, Call, WithAddress}
 use Rattle.load_maker.proofs.BodyLaws.{bodies_of, code_of, group_inner, group_long, group_short}
 use Rattle.load_maker.proofs.CodeLaws.{IsRight, code_sized, few_relocs, few_statements, inner_right}
 use Rattle.load_maker.proofs.NamedLaws.{IsMore, folded, named_few}
@@ -32,7 +33,7 @@ called_below n [] right = All-nil (λ j. j < n)
 called_below n (Plain i ∷ rest) right = called_below n rest (All-tail (IsRight n) (Plain i) rest right)
 called_below n (Call i ∷ rest) right =
     All-cons (λ j. j < n) i (all_called rest) (All-head (IsRight n) (Call i) rest right) (called_below n rest (All-tail (IsRight n) (Call i) rest right))
-called_below n (OfResult kind i ∷ rest) right = called_below n rest (All-tail (IsRight n) (OfResult kind i) rest right)
+called_below n (WithAddress kind i ∷ rest) right = called_below n rest (All-tail (IsRight n) (WithAddress kind i) rest right)
 
 -- they are those that it defines, and others below a number
 pub names_more : (n : ℕ) (defined : List ℕ) (statements : List Statement) → All (IsRight n) statements → IsMore (λ j. j < n) defined (named_by defined statements)
@@ -54,7 +55,7 @@ are_named n first count statements right =
 
 -- ---- the first object
 
-module _ (number n : ℕ) (few : n ≤ 1600) where
+module _ (number n : ℕ) (few : n ≤ FUNCTION_LIMIT) where
   abbrev statements : List Statement
   statements = start_statements number n
 
@@ -62,7 +63,7 @@ module _ (number n : ℕ) (few : n ≤ 1600) where
   named = named_by [] statements
 
   abbrev text : SectionParts
-  text = text_of 2 named statements
+  text = text_section_of 2 named statements
 
   abbrev others : List SymbolParts
   others = map undefined_symbol named
@@ -90,7 +91,7 @@ module _ (number n : ℕ) (few : n ≤ 1600) where
         sum_by-cons relocs_room result_section [],
         sum_by-cons section_name_room result_section [],
         sum_by-cons rela_name_room result_section [],
-        bytes_sized (map (piece_of (symbol_of 2 named)) statements),
+        bytes_sized (map (fragment_of (symbol_of 2 named)) statements),
         code_sized (symbol_of 2 named) statements,
         few_relocs (symbol_of 2 named) 0 statements,
         few_statements statements,
@@ -150,7 +151,7 @@ module _ (number n : ℕ) (few : n ≤ 1600) where
 
 -- ---- the others
 
-module _ (number n k : ℕ) (few : n ≤ 1600) (within : k < group_count n) where
+module _ (number n k : ℕ) (few : n ≤ FUNCTION_LIMIT) (within : k < group_count n) where
   abbrev bodies : List (List Statement)
   bodies = bodies_of number n k
 
@@ -164,7 +165,7 @@ module _ (number n k : ℕ) (few : n ≤ 1600) (within : k < group_count n) wher
   group_named = named_by (range_with_len (8 * k) (length bodies)) code
 
   abbrev group_text : SectionParts
-  group_text = text_of 0 group_named code
+  group_text = text_section_of 0 group_named code
 
   abbrev called : List SymbolParts
   called = map undefined_symbol (drop (length bodies) group_named)
@@ -199,7 +200,7 @@ module _ (number n k : ℕ) (few : n ≤ 1600) (within : k < group_count n) wher
         sum_by-cons relocs_room group_text [],
         sum_by-cons section_name_room group_text [],
         sum_by-cons rela_name_room group_text [],
-        bytes_sized (map (piece_of (symbol_of 0 group_named)) code),
+        bytes_sized (map (fragment_of (symbol_of 0 group_named)) code),
         code_sized (symbol_of 0 group_named) code,
         group_short number n k,
         few_relocs (symbol_of 0 group_named) 0 code,
@@ -243,7 +244,7 @@ all_groups P number n each a (suc m) le =
     All-cons P (group_object (functions_from n 0 number) a) (map (group_object (functions_from n 0 number)) (range_with_len (a + 1) m))
     (each a (omega (arith, le))) (all_groups P number n each (a + 1) m (omega (arith, le)))
 
-pub made_written : (number n : ℕ) → n ≤ 1600 → All CanBeWritten (made_parts number n)
+pub made_written : (number n : ℕ) → n ≤ FUNCTION_LIMIT → All CanBeWritten (made_parts number n)
 made_written number n few =
     All-cons CanBeWritten (start_object number n) (map (group_object (functions_from n 0 number)) (range_with_len 0 (group_count n)))
     (start_written number n few) (all_groups CanBeWritten number n (λ k within. group_written number n k few within) 0 (group_count n) (omega arith))
@@ -256,7 +257,7 @@ sum_most f most (p ∷ ps) all =
 pub made_count : (number n : ℕ) → length (made_parts number n) ≡ 1 + group_count n
 made_count number n = omega (arith, length-map (range_with_len 0 (group_count n)) (group_object (functions_from n 0 number)), length-range_with_len 0 (group_count n))
 
-pub made_short : (number n : ℕ) → n ≤ 1600 → sum_by object_size (made_parts number n) ≤ 0x200_0000
+pub made_short : (number n : ℕ) → n ≤ FUNCTION_LIMIT → sum_by object_size (made_parts number n) ≤ 0x200_0000
 made_short number n few =
     let groups = map (group_object (functions_from n 0 number)) (range_with_len 0 (group_count n)) in
     omega (

@@ -3,23 +3,23 @@ use Rattle.std.specs.Prelude.{ℕ, zero, suc, pos, negsuc, ◌+◌, ◌%◌, ◌
 use Rattle.zc_base.specs.Draws.{drawn, stepped}
 use Rattle.rv_decode.specs.declared.instr.Instr.{Instr}
 use Rattle.load_maker.specs.Instructions.{add, addi, beq, jalr, lui, lw, slli, srai, sub, sw, xor, xori}
-use Rattle.load_maker.specs.declared.frame.Frame.{Frame}
-use Rattle.load_maker.specs.declared.frame.Frame.TheVariants.{Both, ReturnAddress, Leaf}
+use Rattle.load_maker.specs.declared.saved_registers.SavedRegisters.{SavedRegisters}
+use Rattle.load_maker.specs.declared.saved_registers.SavedRegisters.TheVariants.{Both, ReturnAddress, Neither}
 use Rattle.load_maker.specs.declared.register.Register.TheVariants.{Zero, Ra, Sp, S0, A0, A1}
 use Rattle.load_maker.specs.declared.statement.Statement.{Statement}
 use Rattle.load_maker.specs.declared.statement.Statement.TheVariants.{Plain, Call}
 
 -- ---- parts of a function
 
--- what it keeps on the stack, by a number below 3
-abbrev pub frame_of : ℕ → Frame
-frame_of n = if n == 0 then Both else (if n == 1 then ReturnAddress else Leaf)
+-- what it saves on the stack, by a number below 3
+abbrev pub saved_of : ℕ → SavedRegisters
+saved_of n = if n == 0 then Both else (if n == 1 then ReturnAddress else Neither)
 
 -- how it begins
-abbrev pub opening : Frame → List Instr
-opening Both = addi Sp Sp (negsuc 15) ∷ sw S0 (pos 12) Sp ∷ sw Ra (pos 8) Sp ∷ addi S0 A0 (pos 0) ∷ []
-opening ReturnAddress = addi Sp Sp (negsuc 15) ∷ sw Ra (pos 12) Sp ∷ []
-opening Leaf = []
+abbrev pub prologue : SavedRegisters → List Instr
+prologue Both = addi Sp Sp (negsuc 15) ∷ sw S0 (pos 12) Sp ∷ sw Ra (pos 8) Sp ∷ addi S0 A0 (pos 0) ∷ []
+prologue ReturnAddress = addi Sp Sp (negsuc 15) ∷ sw Ra (pos 12) Sp ∷ []
+prologue Neither = []
 
 -- an operation on its value, by a number below 6 and one below 2,048
 abbrev pub operation : ℕ → ℕ → List Instr
@@ -45,33 +45,33 @@ after_operations (suc m) x = after_operations m (stepped (stepped x))
 abbrev pub increment : List Instr
 increment = beq A0 Zero (pos 8) ∷ addi A0 A0 (pos 1) ∷ []
 
--- it calls another if it keeps ra, and there are functions before it
-abbrev pub keeps_ra : Frame → Bool
-keeps_ra Both = true
-keeps_ra ReturnAddress = true
-keeps_ra Leaf = false
+-- it calls another if it saves ra, and there are functions before it
+abbrev pub saves_ra : SavedRegisters → Bool
+saves_ra Both = true
+saves_ra ReturnAddress = true
+saves_ra Neither = false
 
-abbrev pub calls : Frame → ℕ → Bool
-calls frame i = keeps_ra frame && nat_lt 0 i
+abbrev pub calls : SavedRegisters → ℕ → Bool
+calls saved i = saves_ra saved && nat_lt 0 i
 
 -- the call of a function before it, by one draw, and the state after that
-abbrev pub call : Frame → ℕ → ℕ → List Statement
-call frame i x = if calls frame i then Call (drawn (stepped x) % i) ∷ [] else []
+abbrev pub call : SavedRegisters → ℕ → ℕ → List Statement
+call saved i x = if calls saved i then Call (drawn (stepped x) % i) ∷ [] else []
 
-abbrev pub after_call : Frame → ℕ → ℕ → ℕ
-after_call frame i x = if calls frame i then stepped x else x
+abbrev pub after_call : SavedRegisters → ℕ → ℕ → ℕ
+after_call saved i x = if calls saved i then stepped x else x
 
 -- how it ends
-abbrev pub closing : Frame → List Instr
-closing Both = xor A0 A0 S0 ∷ lw S0 (pos 12) Sp ∷ lw Ra (pos 8) Sp ∷ addi Sp Sp (pos 16) ∷ jalr Zero (pos 0) Ra ∷ []
-closing ReturnAddress = lw Ra (pos 12) Sp ∷ addi Sp Sp (pos 16) ∷ jalr Zero (pos 0) Ra ∷ []
-closing Leaf = jalr Zero (pos 0) Ra ∷ []
+abbrev pub epilogue : SavedRegisters → List Instr
+epilogue Both = xor A0 A0 S0 ∷ lw S0 (pos 12) Sp ∷ lw Ra (pos 8) Sp ∷ addi Sp Sp (pos 16) ∷ jalr Zero (pos 0) Ra ∷ []
+epilogue ReturnAddress = lw Ra (pos 12) Sp ∷ addi Sp Sp (pos 16) ∷ jalr Zero (pos 0) Ra ∷ []
+epilogue Neither = jalr Zero (pos 0) Ra ∷ []
 
 -- ---- a function
 
--- its frame is the first draw's, and how many operations it has the second's; then come the operations' draws
-abbrev pub frame_at : ℕ → Frame
-frame_at x = frame_of (drawn (stepped x) % 3)
+-- what it saves is the first draw's, and how many operations it has the second's; then come the operations' draws
+abbrev pub saved_at : ℕ → SavedRegisters
+saved_at x = saved_of (drawn (stepped x) % 3)
 
 abbrev pub operation_count : ℕ → ℕ
 operation_count x = 4 + drawn (stepped (stepped x)) % 8
@@ -82,12 +82,12 @@ before_call x = after_operations (operation_count x) (stepped (stepped x))
 -- its statements
 abbrev pub function_statements : ℕ → ℕ → List Statement
 function_statements i x =
-    map Plain (opening (frame_at x) ++ operations (operation_count x) (stepped (stepped x)) ++ increment)
-    ++ call (frame_at x) i (before_call x) ++ map Plain (closing (frame_at x))
+    map Plain (prologue (saved_at x) ++ operations (operation_count x) (stepped (stepped x)) ++ increment)
+    ++ call (saved_at x) i (before_call x) ++ map Plain (epilogue (saved_at x))
 
 -- the state after it
 abbrev pub after_function : ℕ → ℕ → ℕ
-after_function i x = after_call (frame_at x) i (before_call x)
+after_function i x = after_call (saved_at x) i (before_call x)
 
 -- so many functions, from one on
 abbrev pub functions_from : ℕ → ℕ → ℕ → List (List Statement)

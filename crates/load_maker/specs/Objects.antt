@@ -1,17 +1,17 @@
--- The generated objects: the first has `_start` and `result`, and each of the others eight functions, the last maybe fewer
--- (System V gABI, "Sections" and "Symbol Table").
+-- The generated objects: the first has `_start` and `result`, and each of the others eight functions, the last maybe
+-- fewer (System V gABI, "Sections" and "Symbol Table").
 use Rattle.std.specs.Prelude.{ℕ, pos, ◌+◌, ◌*◌, ◌/◌, ◌%◌, ◌==◌, false, List, [], ◌∷◌, ◌++◌, length, map, drop, take, codes, decimal}
 use Rattle.std.specs.List.{flat_map, position_or_len, range_with_len}
 use Rattle.elf32_read.specs.Parts.{ObjectParts, SectionParts, SymbolParts}
 use Rattle.elf32_write.specs.ObjectFile.{object_bytes}
 use Rattle.rv_decode.specs.declared.instr.Instr.TheVariants.{Ecall}
-use Rattle.sound_objects.specs.Pieces.{Piece, pieces_bytes, pieces_size, relocs_from}
+use Rattle.sound_objects.specs.Fragments.{Fragment, fragments_bytes, fragments_size, relocs_from}
 use Rattle.load_maker.specs.Functions.{functions_from}
 use Rattle.load_maker.specs.Instructions.{addi, lui, sw}
-use Rattle.load_maker.specs.Statements.{code_size, named_by, piece_of}
+use Rattle.load_maker.specs.Statements.{code_size, named_by, fragment_of}
 use Rattle.load_maker.specs.declared.register.Register.TheVariants.{Zero, Temp1, A0, A1, A2, A7}
 use Rattle.load_maker.specs.declared.statement.Statement.{Statement}
-use Rattle.load_maker.specs.declared.statement.Statement.TheVariants.{Plain, Call, OfResult}
+use Rattle.load_maker.specs.declared.statement.Statement.TheVariants.{Plain, Call, WithAddress}
 
 -- ---- symbols
 
@@ -29,12 +29,14 @@ start_symbol = record { name = codes "_start"; value = 0; size = 0; bind = 1; ki
 
 -- a function (2), global, at an offset of section 1
 abbrev pub function_symbol : ℕ → ℕ → List Statement → SymbolParts
-function_symbol i at body = record { name = function_name i; value = at; size = code_size body; bind = 1; kind = 2; home = 1 }
+function_symbol i at body =
+    record { name = function_name i; value = at; size = code_size body; bind = 1; kind = 2; home = 1 }
 
 -- functions one after another, from a number and an offset on
 abbrev pub function_symbols : ℕ → ℕ → List (List Statement) → List SymbolParts
 function_symbols i at [] = []
-function_symbols i at (body ∷ bodies) = function_symbol i at body ∷ function_symbols (i + 1) (at + code_size body) bodies
+function_symbols i at (body ∷ bodies) =
+    function_symbol i at body ∷ function_symbols (i + 1) (at + code_size body) bodies
 
 -- a function of another object, global and undefined (0)
 abbrev pub undefined_symbol : ℕ → SymbolParts
@@ -43,15 +45,15 @@ undefined_symbol i = record { name = function_name i; value = 0; size = 0; bind 
 -- ---- sections
 
 -- the code: PROGBITS (1), with ALLOC (2) and EXECINSTR (4)
-abbrev pub text_section : List Piece → SectionParts
-text_section pieces = record {
+abbrev pub text_section : List Fragment → SectionParts
+text_section fragments = record {
   name = codes ".text";
   kind = 1;
   flags = 6;
   align = 4;
-  size = pieces_size pieces;
-  bytes = pieces_bytes pieces;
-  relocs = relocs_from 0 pieces;
+  size = fragments_size fragments;
+  bytes = fragments_bytes fragments;
+  relocs = relocs_from 0 fragments;
   compressed = false;
 }
 
@@ -75,19 +77,19 @@ abbrev pub symbol_of : ℕ → List ℕ → ℕ → ℕ
 symbol_of others named i = 1 + others + position_or_len (λ j. i == j) named
 
 -- the code of an object that names these functions
-abbrev pub text_of : ℕ → List ℕ → List Statement → SectionParts
-text_of others named statements = text_section (map (piece_of (symbol_of others named)) statements)
+abbrev pub text_section_of : ℕ → List ℕ → List Statement → SectionParts
+text_section_of others named statements = text_section (map (fragment_of (symbol_of others named)) statements)
 
 -- ---- the first object
 
--- how `_start` ends: `result` gets what the last function gave, by its address's parts HI20 (26), LO12_S (28) and LO12_I (27);
--- its 4 bytes are written to stream 1, and the program exits with 0
+-- how `_start` ends: `result` gets what the last function gave, by its address's parts HI20 (26), LO12_S (28) and
+-- LO12_I (27); its 4 bytes are written to stream 1, and the program exits with 0
 abbrev pub start_end : List Statement
 start_end =
-    OfResult 26 (lui Temp1 0) ∷
-    OfResult 28 (sw A0 (pos 0) Temp1) ∷
-    OfResult 26 (lui A1 0) ∷
-    OfResult 27 (addi A1 A1 (pos 0)) ∷
+    WithAddress 26 (lui Temp1 0) ∷
+    WithAddress 28 (sw A0 (pos 0) Temp1) ∷
+    WithAddress 26 (lui A1 0) ∷
+    WithAddress 27 (addi A1 A1 (pos 0)) ∷
     Plain (addi A0 Zero (pos 1)) ∷
     Plain (addi A2 Zero (pos 4)) ∷
     Plain (addi A7 Zero (pos 64)) ∷
@@ -107,7 +109,7 @@ start_object number functions =
     let statements = start_statements number functions in
     let named = named_by [] statements in record {
       flags = 0;
-      sections = text_of 2 named statements ∷ result_section ∷ [];
+      sections = text_section_of 2 named statements ∷ result_section ∷ [];
       symbols = result_symbol ∷ start_symbol ∷ map undefined_symbol named;
     }
 
@@ -119,7 +121,7 @@ function_object first bodies =
     let statements = flat_map (λ body. body) bodies in
     let named = named_by (range_with_len first (length bodies)) statements in record {
       flags = 0;
-      sections = text_of 0 named statements ∷ [];
+      sections = text_section_of 0 named statements ∷ [];
       symbols = function_symbols first 0 bodies ++ map undefined_symbol (drop (length bodies) named);
     }
 
@@ -138,7 +140,8 @@ group_count functions = (functions + 7) / 8
 -- what they are made of
 abbrev pub made_parts : ℕ → ℕ → List ObjectParts
 made_parts number functions =
-    start_object number functions ∷ map (group_object (functions_from functions 0 number)) (range_with_len 0 (group_count functions))
+    start_object number functions
+    ∷ map (group_object (functions_from functions 0 number)) (range_with_len 0 (group_count functions))
 
 -- and their files
 unfoldable pub made_objects : ℕ → ℕ → List (List ℕ)

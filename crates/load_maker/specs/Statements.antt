@@ -3,28 +3,29 @@ use Rattle.std.specs.Prelude.{ℕ, pos, ◌==◌, if◌then◌else◌, List, [],
 use Rattle.std.specs.List.{flat_map, fold, list_any, sum_by}
 use Rattle.rv_decode.specs.Immediates.{InRange}
 use Rattle.rv_encode.specs.Words.{encoded}
-use Rattle.sound_objects.specs.Pieces.{Piece, PieceReloc, pair_under, word_piece, word_under}
+use Rattle.sound_objects.specs.Fragments.{Fragment, FragmentReloc, pair_under, word_fragment, word_under}
 use Rattle.load_maker.specs.Instructions.{auipc, jalr}
 use Rattle.load_maker.specs.declared.register.Register.TheVariants.{Ra}
 use Rattle.load_maker.specs.declared.statement.Statement.{Statement}
-use Rattle.load_maker.specs.declared.statement.Statement.TheVariants.{Plain, Call, OfResult}
+use Rattle.load_maker.specs.declared.statement.Statement.TheVariants.{Plain, Call, WithAddress}
 
 -- the relocation of a type to a symbol
-abbrev pub reloc_to : ℕ → ℕ → PieceReloc
+abbrev pub reloc_to : ℕ → ℕ → FragmentReloc
 reloc_to kind symbol = record { kind = kind; symbol = symbol; addend = pos 0 }
 
--- what a statement becomes, by the symbol of each function: a call has the type CALL (18), and `result` is symbol 1 (RISC-V ELF
--- psABI, "Relocations")
-abbrev pub piece_of : (ℕ → ℕ) → Statement → Piece
-piece_of symbol (Plain i) = word_piece (encoded i)
-piece_of symbol (Call function) = pair_under (reloc_to 18 (symbol function)) (encoded (auipc Ra 0)) (encoded (jalr Ra (pos 0) Ra))
-piece_of symbol (OfResult kind i) = word_under (reloc_to kind 1) (encoded i)
+-- what a statement becomes, by the symbol of each function: a call has the type CALL (18), and `result` is symbol 1
+-- (RISC-V ELF psABI, "Relocations")
+abbrev pub fragment_of : (ℕ → ℕ) → Statement → Fragment
+fragment_of symbol (Plain i) = word_fragment (encoded i)
+fragment_of symbol (Call function) =
+    pair_under (reloc_to 18 (symbol function)) (encoded (auipc Ra 0)) (encoded (jalr Ra (pos 0) Ra))
+fragment_of symbol (WithAddress kind i) = word_under (reloc_to kind 1) (encoded i)
 
 -- how many bytes it becomes
 abbrev pub size_of : Statement → ℕ
 size_of (Plain i) = 4
 size_of (Call function) = 8
-size_of (OfResult kind i) = 4
+size_of (WithAddress kind i) = 4
 
 abbrev pub code_size : List Statement → ℕ
 code_size statements = sum_by size_of statements
@@ -33,7 +34,7 @@ code_size statements = sum_by size_of statements
 abbrev pub called_by : Statement → List ℕ
 called_by (Plain i) = []
 called_by (Call function) = function ∷ []
-called_by (OfResult kind i) = []
+called_by (WithAddress kind i) = []
 
 abbrev pub all_called : List Statement → List ℕ
 all_called statements = flat_map called_by statements
@@ -50,4 +51,4 @@ named_by numbers statements = fold with_number numbers (all_called statements)
 abbrev pub IsInRange : Statement → Type 0
 IsInRange (Plain i) = InRange i
 IsInRange (Call function) = Unit {0}
-IsInRange (OfResult kind i) = InRange i
+IsInRange (WithAddress kind i) = InRange i

@@ -6,7 +6,7 @@ use thiserror::Error;
 /// Why no objects are made.
 #[derive(Clone, Copy, PartialEq, Eq, Debug, Error)]
 pub enum MakeFault {
-    /// More than `MOST_FUNCTIONS`.
+    /// More than `FUNCTION_LIMIT`.
     #[error("too many functions")]
     TooMany,
     #[error("out of memory")]

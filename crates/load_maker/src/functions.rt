@@ -1,13 +1,13 @@
 // The generated functions.
 
 ghost use Rattle.std.specs.Prelude.{◌≡◌, ◌<◌, [], ◌∷◌, ◌++◌, map, IfOk, MatchOption, OnOk};
-ghost use Rattle.load_maker.specs.Functions.{after_call, after_function, after_operations, call, closing, function_statements, functions_from, opening, operation, operations};
+ghost use Rattle.load_maker.specs.Functions.{after_call, after_function, after_operations, call, epilogue, function_statements, functions_from, prologue, operation, operations};
 ghost use Rattle.load_maker.specs.declared.statement.Statement.TheVariants.{Plain, Call};
 
 use crate::body::Body;
-use crate::frame::Frame;
 use crate::instrs::{add, addi, beq, immediate, jalr, lui, lw, slli, srai, sub, sw, xor, xori};
 use crate::register::Register::{A0, A1, Ra, S0, Sp, Zero};
+use crate::saved_registers::SavedRegisters;
 use crate::statement::Statement;
 use rv_decode::instr::Instr;
 use std::alloc::{AllocError, Global};
@@ -23,11 +23,11 @@ pub fn push_all(out: &mut Vec<Statement>, instrs: &[Instr]) -> Result<(), AllocE
     Ok(())
 }
 
-fn push_opening(out: &mut Vec<Statement>, frame: Frame) -> Result<(), AllocError>
-    ensures { OnOk result (out.new.items ≡ out.old.items ++ map Plain (opening frame)) }
+fn push_prologue(out: &mut Vec<Statement>, saved: SavedRegisters) -> Result<(), AllocError>
+    ensures { OnOk result (out.new.items ≡ out.old.items ++ map Plain (prologue saved)) }
 {
-    match frame {
-        Frame::Both => push_all(
+    match saved {
+        SavedRegisters::Both => push_all(
             out,
             &[
                 addi(Sp, Sp, -16),
@@ -36,8 +36,8 @@ fn push_opening(out: &mut Vec<Statement>, frame: Frame) -> Result<(), AllocError
                 addi(S0, A0, 0),
             ],
         ),
-        Frame::ReturnAddress => push_all(out, &[addi(Sp, Sp, -16), sw(Ra, 12, Sp)]),
-        Frame::Leaf => Ok(()),
+        SavedRegisters::ReturnAddress => push_all(out, &[addi(Sp, Sp, -16), sw(Ra, 12, Sp)]),
+        SavedRegisters::Neither => Ok(()),
     }
 }
 
@@ -75,22 +75,22 @@ fn push_operations(
 }
 
 // The function before this one that it calls, if it calls one.
-fn callee(frame: Frame, i: u32, draws: &mut Draws) -> Option<u32>
-    ensures called { MatchOption result (call frame i draws.old ≡ []) (λ j. call frame i draws.old ≡ Call j ∷ []) }
-    ensures after { draws.new ≡ after_call frame i draws.old }
+fn callee(saved: SavedRegisters, i: u32, draws: &mut Draws) -> Option<u32>
+    ensures called { MatchOption result (call saved i draws.old ≡ []) (λ j. call saved i draws.old ≡ Call j ∷ []) }
+    ensures after { draws.new ≡ after_call saved i draws.old }
 {
-    if frame.keeps_ra() && 0 < i {
+    if saved.saves_ra() && 0 < i {
         Some(draws.next() % i)
     } else {
         None
     }
 }
 
-fn push_closing(out: &mut Vec<Statement>, frame: Frame) -> Result<(), AllocError>
-    ensures { OnOk result (out.new.items ≡ out.old.items ++ map Plain (closing frame)) }
+fn push_epilogue(out: &mut Vec<Statement>, saved: SavedRegisters) -> Result<(), AllocError>
+    ensures { OnOk result (out.new.items ≡ out.old.items ++ map Plain (epilogue saved)) }
 {
-    match frame {
-        Frame::Both => push_all(
+    match saved {
+        SavedRegisters::Both => push_all(
             out,
             &[
                 xor(A0, A0, S0),
@@ -100,11 +100,11 @@ fn push_closing(out: &mut Vec<Statement>, frame: Frame) -> Result<(), AllocError
                 jalr(Zero, 0, Ra),
             ],
         ),
-        Frame::ReturnAddress => push_all(
+        SavedRegisters::ReturnAddress => push_all(
             out,
             &[lw(Ra, 12, Sp), addi(Sp, Sp, 16), jalr(Zero, 0, Ra)],
         ),
-        Frame::Leaf => push_all(out, &[jalr(Zero, 0, Ra)]),
+        SavedRegisters::Neither => push_all(out, &[jalr(Zero, 0, Ra)]),
     }
 }
 
@@ -113,16 +113,16 @@ fn function(alloc: Global, i: u32, draws: &mut Draws) -> Result<Body, AllocError
     ensures statements { IfOk result (λ body. body ≡ function_statements i draws.old) }
     ensures after { OnOk result (draws.new ≡ after_function i draws.old) }
 {
-    let frame = Frame::of(draws.next() % 3);
+    let saved = SavedRegisters::of(draws.next() % 3);
     let count = 4 + draws.next() % 8;
     let mut statements = Vec::new(alloc);
-    push_opening(&mut statements, frame)?;
+    push_prologue(&mut statements, saved)?;
     push_operations(&mut statements, count, draws)?;
     push_all(&mut statements, &[beq(A0, Zero, 8), addi(A0, A0, 1)])?;
-    if let Some(j) = callee(frame, i, draws) {
+    if let Some(j) = callee(saved, i, draws) {
         statements.push(Statement::Call(j))?;
     }
-    push_closing(&mut statements, frame)?;
+    push_epilogue(&mut statements, saved)?;
     Ok(Body { statements })
 }
 

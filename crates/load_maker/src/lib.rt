@@ -3,12 +3,12 @@
 
 mod body;
 pub mod fault;
-mod frame;
 mod functions;
 mod instrs;
 pub mod make_objects;
 mod objects;
 mod register;
+mod saved_registers;
 mod sections;
 mod statement;
 mod symbols;

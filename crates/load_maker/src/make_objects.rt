@@ -6,6 +6,7 @@ ghost use Rattle.psabi_sym.specs.Objects.{contents_of};
 ghost use Rattle.block_cut.specs.Faults.{first_fault};
 ghost use Rattle.load_maker.specs.Objects.{group, made_objects};
 ghost use Rattle.load_maker.specs.declared.fault.MakeFault.TheVariants.{TooMany};
+ghost use Rattle.load_maker.specs.declared.make_objects.TheConstants.{FUNCTION_LIMIT};
 
 use crate::body::Body;
 use crate::fault::MakeFault;
@@ -15,7 +16,7 @@ use elf32_write::write_object::write_object;
 use std::alloc::{AllocError, Global};
 
 /// The most functions that are made: they take 200 objects, beside the one where the program starts.
-pub const MOST_FUNCTIONS: u32 = 1600;
+pub const FUNCTION_LIMIT: u32 = 1600;
 
 // How many functions an object has, if there are as many left.
 const IN_ONE_OBJECT: u32 = 8;
@@ -34,7 +35,7 @@ fn group_of(bodies: &[Body], k: u32) -> &[Body]
 
 // The files of the objects.
 fn files(alloc: Global, number: u64, functions: u32) -> Result<Vec<Vec<u8>>, AllocError>
-    requires { functions ≤ 1600 }
+    requires { functions ≤ FUNCTION_LIMIT }
     ensures { IfOk result (λ files. contents_of files.items ≡ made_objects number functions) }
 {
     let bodies = make_functions(alloc, number, functions)?;
@@ -53,10 +54,10 @@ pub fn make_objects(alloc: Global, number: u64, functions: u32) -> Result<Vec<Ve
     ensures objects { IfOk result (λ files. contents_of files.items ≡ made_objects number functions) }
     ensures faultless { IfOk result (λ files.
         first_fault (record { files = contents_of files.items; map = standard_map }) ≡ None) }
-    ensures too_many { 1600 < functions → result ≡ Err TooMany }
-    ensures only { result ≡ Err TooMany → 1600 < functions }
+    ensures too_many { FUNCTION_LIMIT < functions → result ≡ Err TooMany }
+    ensures only { result ≡ Err TooMany → FUNCTION_LIMIT < functions }
 {
-    if functions > MOST_FUNCTIONS {
+    if functions > FUNCTION_LIMIT {
         return Err(MakeFault::TooMany);
     }
     Ok(files(alloc, number, functions)?)

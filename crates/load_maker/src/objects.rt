@@ -4,6 +4,7 @@ ghost use Rattle.std.specs.Prelude.{◌≡◌, ◌^◌, ◌<◌, ◌≤◌, ◌+
 ghost use Rattle.std.specs.List.{flat_map, range_with_len};
 ghost use Rattle.load_maker.specs.Objects.{function_object, start_object, start_statements};
 ghost use Rattle.load_maker.specs.Statements.{IsInRange, code_size};
+ghost use Rattle.load_maker.specs.declared.make_objects.TheConstants.{FUNCTION_LIMIT};
 
 use crate::body::Body;
 use crate::functions::push_all;
@@ -32,10 +33,10 @@ fn start_statements(
         statements.push(Statement::Call(i))?;
     }
     statements.extend_from_slice(&[
-        Statement::OfResult(HI20, lui(Temp1, 0)),
-        Statement::OfResult(LO12_S, sw(A0, 0, Temp1)),
-        Statement::OfResult(HI20, lui(A1, 0)),
-        Statement::OfResult(LO12_I, addi(A1, A1, 0)),
+        Statement::WithAddress(HI20, lui(Temp1, 0)),
+        Statement::WithAddress(LO12_S, sw(A0, 0, Temp1)),
+        Statement::WithAddress(HI20, lui(A1, 0)),
+        Statement::WithAddress(LO12_I, addi(A1, A1, 0)),
     ])?;
     push_all(
         &mut statements,
@@ -54,7 +55,7 @@ fn start_statements(
 
 /// The first object.
 pub fn start_object(alloc: Global, number: u64, functions: u32) -> Result<ObjectParts, AllocError>
-    requires { functions ≤ 1600 }
+    requires { functions ≤ FUNCTION_LIMIT }
     ensures { IfOk result (λ parts. parts ≡ start_object number functions) }
 {
     let statements = start_statements(alloc, number, functions)?;

@@ -4,9 +4,9 @@ ghost use Rattle.std.specs.Prelude.{◌≡◌, ◌<◌, ◌^◌, ◌+◌, ◌++�
 ghost use Rattle.zc_base.specs.Fields.{word_bytes};
 ghost use Rattle.rv_decode.specs.Immediates.{InRange};
 ghost use Rattle.rv_encode.specs.Words.{encoded};
-ghost use Rattle.sound_objects.specs.Pieces.{pieces_bytes, relocs_from};
-ghost use Rattle.load_maker.specs.Objects.{result_section, symbol_of, text_of};
-ghost use Rattle.load_maker.specs.Statements.{IsInRange, code_size, named_by, piece_of};
+ghost use Rattle.sound_objects.specs.Fragments.{fragments_bytes, relocs_from};
+ghost use Rattle.load_maker.specs.Objects.{result_section, symbol_of, text_section_of};
+ghost use Rattle.load_maker.specs.Statements.{IsInRange, code_size, named_by, fragment_of};
 
 use crate::instrs::{auipc, jalr};
 use crate::register::Register::Ra;
@@ -39,12 +39,12 @@ fn push_instr(out: &mut Vec<u8>, i: Instr) -> Result<(), AllocError>
 // The bytes of code, whatever symbols its functions have.
 fn bytes_of(alloc: Global, statements: &[Statement]) -> Result<Vec<u8>, AllocError>
     requires { All IsInRange statements.now }
-    ensures { IfOk result (λ bytes. bytes.items ≡ pieces_bytes (map (piece_of (λ function. 0)) statements.now)) }
+    ensures { IfOk result (λ bytes. bytes.items ≡ fragments_bytes (map (fragment_of (λ function. 0)) statements.now)) }
 {
     let mut bytes = Vec::new(alloc);
     for statement in statements {
         match *statement {
-            Statement::Plain(i) | Statement::OfResult(_, i) => push_instr(&mut bytes, i)?,
+            Statement::Plain(i) | Statement::WithAddress(_, i) => push_instr(&mut bytes, i)?,
             Statement::Call(_) => {
                 push_instr(&mut bytes, auipc(Ra, 0))?;
                 push_instr(&mut bytes, jalr(Ra, 0, Ra))?;
@@ -66,7 +66,7 @@ fn relocs_of(
     requires symbols { 1 + others + length named.old.keys + length statements.now < 2 ^ 32 }
     ensures named { OnOk result (named.new.keys ≡ named_by named.old.keys statements.now) }
     ensures relocs { let symbol = symbol_of others (named_by named.old.keys statements.now) in
-        IfOk result (λ relocs. relocs.items ≡ relocs_from 0 (map (piece_of symbol) statements.now)) }
+        IfOk result (λ relocs. relocs.items ≡ relocs_from 0 (map (fragment_of symbol) statements.now)) }
 {
     let mut relocs = Vec::new(alloc);
     let mut at = 0;
@@ -85,7 +85,7 @@ fn relocs_of(
                 })?;
                 at += 8;
             }
-            Statement::OfResult(kind, _) => {
+            Statement::WithAddress(kind, _) => {
                 relocs.push(Reloc {
                     offset: at,
                     symbol: RESULT,
@@ -99,8 +99,8 @@ fn relocs_of(
     Ok(relocs)
 }
 
-/// The section of code. The functions that it calls are added to those that are named; their symbols stand after so many
-/// others.
+/// The section of code. The functions that it calls are added to those that are named; their symbols stand after so
+/// many others.
 pub fn text_section(
     alloc: Global,
     others: u32,
@@ -112,7 +112,7 @@ pub fn text_section(
     requires symbols { 1 + others + length named.old.keys + length statements.now < 2 ^ 32 }
     ensures named { OnOk result (named.new.keys ≡ named_by named.old.keys statements.now) }
     ensures text { let named = named_by named.old.keys statements.now in
-        IfOk result (λ section. section ≡ text_of others named statements.now) }
+        IfOk result (λ section. section ≡ text_section_of others named statements.now) }
 {
     let name = Vec::from_slice(alloc, b".text")?;
     let bytes = bytes_of(alloc, statements)?;

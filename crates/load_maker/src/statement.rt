@@ -17,5 +17,5 @@ pub const LO12_S: u8 = 28;
 pub enum Statement {
     Plain(Instr),
     Call(u32),
-    OfResult(u8, Instr),
+    WithAddress(u8, Instr),
 }

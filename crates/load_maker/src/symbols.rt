@@ -70,7 +70,7 @@ fn code_size(statements: &[Statement]) -> u32
     let mut size = 0;
     for statement in statements {
         size += match *statement {
-            Statement::Plain(_) | Statement::OfResult(_, _) => 4,
+            Statement::Plain(_) | Statement::WithAddress(_, _) => 4,
             Statement::Call(_) => 8,
         };
     }

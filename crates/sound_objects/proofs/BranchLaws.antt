@@ -56,44 +56,44 @@ module _ (objects : List ObjectParts) (q : Place) (raw : Item) (none : branch_pl
   spelled_in (Some instr.Ebreak) = Nowhere refl
   spelled_in (Some (instr.Csrrw rd source)) = Nowhere none
 
-  pub spelled_quiet : (first : Option Instr) → is_branch first ≡ false → branch_place (spelled_item objects q first raw) ≡ None
-  spelled_quiet None quiet = none
-  spelled_quiet (Some (instr.Upper op rd imm)) quiet = refl
-  spelled_quiet (Some (instr.Jal rd distance)) quiet = jumps rd (target_away objects q distance)
-  spelled_quiet (Some (instr.Jalr rd base imm)) quiet = refl
-  spelled_quiet (Some (instr.Branch op left right distance)) quiet = absurd cc
-  spelled_quiet (Some (instr.Load op rd base imm)) quiet = refl
-  spelled_quiet (Some (instr.Store op source base imm)) quiet = refl
-  spelled_quiet (Some (instr.WithImm op rd left imm)) quiet = refl
-  spelled_quiet (Some (instr.WithReg op rd left right)) quiet = refl
-  spelled_quiet (Some (instr.Fence rest)) quiet = refl
-  spelled_quiet (Some instr.Ecall) quiet = refl
-  spelled_quiet (Some instr.Ebreak) quiet = refl
-  spelled_quiet (Some (instr.Csrrw rd source)) quiet = none
+  pub spelled_no_branch : (first : Option Instr) → is_branch first ≡ false → branch_place (spelled_item objects q first raw) ≡ None
+  spelled_no_branch None no_branch = none
+  spelled_no_branch (Some (instr.Upper op rd imm)) no_branch = refl
+  spelled_no_branch (Some (instr.Jal rd distance)) no_branch = jumps rd (target_away objects q distance)
+  spelled_no_branch (Some (instr.Jalr rd base imm)) no_branch = refl
+  spelled_no_branch (Some (instr.Branch op left right distance)) no_branch = absurd cc
+  spelled_no_branch (Some (instr.Load op rd base imm)) no_branch = refl
+  spelled_no_branch (Some (instr.Store op source base imm)) no_branch = refl
+  spelled_no_branch (Some (instr.WithImm op rd left imm)) no_branch = refl
+  spelled_no_branch (Some (instr.WithReg op rd left right)) no_branch = refl
+  spelled_no_branch (Some (instr.Fence rest)) no_branch = refl
+  spelled_no_branch (Some instr.Ecall) no_branch = refl
+  spelled_no_branch (Some instr.Ebreak) no_branch = refl
+  spelled_no_branch (Some (instr.Csrrw rd source)) no_branch = none
 
 -- ---- with one
 
 module _ (t : Target) (raw : Item) (none : branch_place raw ≡ None) where
   -- an item that leads where its target does, if that is a place
   led : (item : Place → Item) → ((to : Place) → branch_place (item to) ≡ None) → branch_place (to_place t item raw) ≡ None
-  led item quiet = by t
+  led item no_branch = by t
     where
       by : (u : Target) → branch_place (to_place u item raw) ≡ None
-      by (target.Code to) = quiet to
+      by (target.Code to) = no_branch to
       by (target.Number n) = none
       by (target.Absent n) = none
       by target.Nowhere = none
 
-  of_quiet : (first : Option Instr) (item : Instr → Item) → ((i : Instr) → branch_place (item i) ≡ None) → branch_place (of_instr first raw item) ≡ None
-  of_quiet None item quiet = none
-  of_quiet (Some i) item quiet = quiet i
+  of_no_branch : (first : Option Instr) (item : Instr → Item) → ((i : Instr) → branch_place (item i) ≡ None) → branch_place (of_instr first raw item) ≡ None
+  of_no_branch None item no_branch = none
+  of_no_branch (Some i) item no_branch = no_branch i
 
-  jal_quiet : (first second : Option Instr) → fits kind.Jal first second ≡ true → branch_place (of_instr first raw (λ i. to_place t (transfer_item i raw) raw)) ≡ None
-  jal_quiet (Some (instr.Jal rd distance)) second is = led (Jump rd) (λ to. refl)
-  jal_quiet first second is = absurd cc
+  jal_no_branch : (first second : Option Instr) → fits kind.Jal first second ≡ true → branch_place (of_instr first raw (λ i. to_place t (transfer_item i raw) raw)) ≡ None
+  jal_no_branch (Some (instr.Jal rd distance)) second is = led (Jump rd) (λ to. refl)
+  jal_no_branch first second is = absurd cc
 
-  call_quiet : (first second : Option Instr) → branch_place (to_place t (call_item first second raw) raw) ≡ None
-  call_quiet first second = led (call_item first second raw) (by first second)
+  call_no_branch : (first second : Option Instr) → branch_place (to_place t (call_item first second raw) raw) ≡ None
+  call_no_branch first second = led (call_item first second raw) (by first second)
     where
       by : (a b : Option Instr) (to : Place) → branch_place (call_item a b raw to) ≡ None
       by (Some (instr.Upper op temp upper)) (Some (instr.Jalr rd base lower)) to = refl
@@ -124,25 +124,25 @@ module _ (s : SectionParts) (n : ℕ) (addend : ℤ) (t : Target) where
   first = instr_in 4 s.bytes n
 
   -- what stands under a relocation of no branch isn't one, if the relocation fits it
-  pub known_quiet : (k : Option RelocKind) → is_branch_kind k ≡ false → fits_at s n addend k ≡ true → branch_place (known_item k addend t s.bytes n) ≡ None
-  known_quiet None other is = refl
-  known_quiet (Some kind.Ignored) other is = refl
-  known_quiet (Some kind.Word) other is = refl
-  known_quiet (Some kind.Branch) other is = absurd cc
-  known_quiet (Some kind.Jal) other is = jal_quiet t raw refl first (instr_in 4 s.bytes (n + 4)) is
-  known_quiet (Some kind.Call) other is = call_quiet t (raw_pair s.bytes n) refl first (instr_in 4 s.bytes (n + 4))
-  known_quiet (Some kind.PcrelHi20) other is = of_quiet t raw refl first (λ i. PcHi i t) (λ i. refl)
-  known_quiet (Some kind.PcrelLo12I) other is = of_quiet t raw refl first (λ i. to_place t (PcLo i) raw) (λ i. led t raw refl (PcLo i) (λ to. refl))
-  known_quiet (Some kind.PcrelLo12S) other is = of_quiet t raw refl first (λ i. to_place t (PcLo i) raw) (λ i. led t raw refl (PcLo i) (λ to. refl))
-  known_quiet (Some kind.Hi20) other is = of_quiet t raw refl first (λ i. Hi i t) (λ i. refl)
-  known_quiet (Some kind.Lo12I) other is = of_quiet t raw refl first (λ i. Lo i t) (λ i. refl)
-  known_quiet (Some kind.Lo12S) other is = of_quiet t raw refl first (λ i. Lo i t) (λ i. refl)
-  known_quiet (Some kind.RvcBranch) other is = refl
-  known_quiet (Some kind.RvcJump) other is = refl
-  known_quiet (Some kind.Align) other is = refl
+  pub known_no_branch : (k : Option RelocKind) → is_branch_kind k ≡ false → fits_at s n addend k ≡ true → branch_place (known_item k addend t s.bytes n) ≡ None
+  known_no_branch None other is = refl
+  known_no_branch (Some kind.Ignored) other is = refl
+  known_no_branch (Some kind.Word) other is = refl
+  known_no_branch (Some kind.Branch) other is = absurd cc
+  known_no_branch (Some kind.Jal) other is = jal_no_branch t raw refl first (instr_in 4 s.bytes (n + 4)) is
+  known_no_branch (Some kind.Call) other is = call_no_branch t (raw_pair s.bytes n) refl first (instr_in 4 s.bytes (n + 4))
+  known_no_branch (Some kind.PcrelHi20) other is = of_no_branch t raw refl first (λ i. PcHi i t) (λ i. refl)
+  known_no_branch (Some kind.PcrelLo12I) other is = of_no_branch t raw refl first (λ i. to_place t (PcLo i) raw) (λ i. led t raw refl (PcLo i) (λ to. refl))
+  known_no_branch (Some kind.PcrelLo12S) other is = of_no_branch t raw refl first (λ i. to_place t (PcLo i) raw) (λ i. led t raw refl (PcLo i) (λ to. refl))
+  known_no_branch (Some kind.Hi20) other is = of_no_branch t raw refl first (λ i. Hi i t) (λ i. refl)
+  known_no_branch (Some kind.Lo12I) other is = of_no_branch t raw refl first (λ i. Lo i t) (λ i. refl)
+  known_no_branch (Some kind.Lo12S) other is = of_no_branch t raw refl first (λ i. Lo i t) (λ i. refl)
+  known_no_branch (Some kind.RvcBranch) other is = refl
+  known_no_branch (Some kind.RvcJump) other is = refl
+  known_no_branch (Some kind.Align) other is = refl
 
   -- and a branch leads where its target is
   pub known_in : (q : Place) (k : Option RelocKind) → (is_branch_kind k ≡ true → (to : Place) → t ≡ target.Code to → (to.object ≡ q.object) × (to.section ≡ q.section))
       → fits_at s n addend k ≡ true → LeadsIn q (branch_place (known_item k addend t s.bytes n))
   known_in q (Some kind.Branch) stays is = branch_in t raw refl q (stays refl) first
-  known_in q k stays is = Nowhere (known_quiet k refl is)
+  known_in q k stays is = Nowhere (known_no_branch k refl is)

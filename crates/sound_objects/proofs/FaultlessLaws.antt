@@ -18,7 +18,7 @@ use Rattle.psabi_sym.specs.Inputs.{Inputs, parsed}
 use Rattle.block_cut.specs.Faults.{first_fault, is_out_of_reach, reloc_fault, relocs_fault, section_fault}
 use Rattle.block_cut.specs.Items.{all_places, place_of, places_of, starts_in}
 use Rattle.block_cut.proofs.FaultLaws.{no_fault}
-use Rattle.sound_objects.specs.Sound.{AreSmall, HasSection, IsSound}
+use Rattle.sound_objects.specs.WellFormed.{AreSmall, HasSection, IsWellFormed}
 use Rattle.sound_objects.proofs.ListLaws.{all_flat, all_range, find_none, first_none}
 use Rattle.sound_objects.proofs.ListedLaws.{all_by_section}
 use Rattle.sound_objects.proofs.NameLaws.{no_duplicate, no_undefined}
@@ -50,7 +50,7 @@ no_sum files small =
 
 -- ---- sections
 
-module _ (inputs : Inputs) (sound : IsSound inputs) where
+module _ (inputs : Inputs) (sound : IsWellFormed inputs) where
   no_gather : gather_fault inputs ≡ None
   unfolding gather_fault
   no_gather =
@@ -89,6 +89,6 @@ module _ (inputs : Inputs) (sound : IsSound inputs) where
       find_none (is_out_of_reach (parsed inputs)) (all_places (parsed inputs).objects)
       (all_flat IsNear places_of (all_sections (parsed inputs).objects) (all_by_section (parsed inputs).objects (λ l. All IsNear (places_of l)) near_in))
 
-pub sound_faultless : (inputs : Inputs) → IsSound inputs → first_fault inputs ≡ None
-sound_faultless inputs sound =
+pub well_formed_faultless : (inputs : Inputs) → IsWellFormed inputs → first_fault inputs ≡ None
+well_formed_faultless inputs sound =
     no_fault inputs sound.entry (no_gather inputs sound) (no_reloc inputs sound) sound.entry_found (no_range inputs sound)

@@ -1,14 +1,13 @@
 mod BranchLaws
 pub mod FaultlessLaws
-pub mod IdleLaws
+pub mod IgnoredLaws
 mod ListLaws
 pub mod ListedLaws
 pub mod NameLaws
 pub mod NearLaws
 pub mod PartsLaws
-pub mod PieceLaws
+pub mod FragmentLaws
 pub mod RelocLaws
 pub mod SizeLaws
-pub mod SoundLaws
-pub mod StillLaws
+pub mod ReachLaws
 pub mod UnderLaws

@@ -26,8 +26,8 @@ use Rattle.block_cut.proofs.RoomLaws.{after_starts-ge, items_fit, section_end-co
 use Rattle.block_cut.proofs.SoundLaws.{sound_at}
 use Rattle.sound_objects.specs.Parts.{CanBeWritten, files_of, objects_of}
 use Rattle.sound_objects.specs.Reach.{IsBranchless, IsShort, StaysIn, is_branch_kind}
-use Rattle.sound_objects.specs.Sound.{BranchesReach, HasSection}
-use Rattle.sound_objects.proofs.BranchLaws.{LeadsIn, known_in, known_quiet, spelled_in, spelled_quiet}
+use Rattle.sound_objects.specs.WellFormed.{BranchesReach, HasSection}
+use Rattle.sound_objects.proofs.BranchLaws.{LeadsIn, known_in, known_no_branch, spelled_in, spelled_no_branch}
 use Rattle.sound_objects.proofs.BranchLaws.LeadsIn.{Nowhere, To}
 use Rattle.sound_objects.proofs.ListLaws.{all_found}
 use Rattle.sound_objects.proofs.PartsLaws.{parsed_is}
@@ -63,8 +63,8 @@ near_reach a b one two low high = elim (cases_lt b a) [
 
 module _ (inputs : ParsedInputs) (q : Place) (i : Item) (is : item_at inputs q ≡ Some i) where
   -- what leads nowhere isn't out of reach
-  quiet_near : branch_place i ≡ None → is_out_of_reach inputs q ≡ false
-  quiet_near quiet = ap (λ x. option_map_or (is_far inputs q) (option_and_then branch_place x) false) is ∙ ap (λ x. option_map_or (is_far inputs q) x false) quiet
+  no_branch_near : branch_place i ≡ None → is_out_of_reach inputs q ≡ false
+  no_branch_near no_branch = ap (λ x. option_map_or (is_far inputs q) (option_and_then branch_place x) false) is ∙ ap (λ x. option_map_or (is_far inputs q) x false) no_branch
 
   -- nor is what leads to a place that is near if both have addresses
   led_near : (to : Place) → branch_place i ≡ Some to → ((a b : ℕ) → plain_address inputs q ≡ Some a → plain_address inputs to ≡ Some b → branch_reach (pos b -ℤ pos a) ≡ true)
@@ -95,12 +95,12 @@ module _ (inputs : ParsedInputs) (l : IndexedSection) (has : HasSection inputs.o
   -- a section without branches
   pub branchless_reach : IsBranchless l → BranchesReach inputs l
   branchless_reach none n start =
-      quiet_near inputs (place_of l n) (item_in inputs l.section (place_of l n)) (item_here n start) (by (reloc_on l.section n) refl)
+      no_branch_near inputs (place_of l n) (item_in inputs l.section (place_of l n)) (item_here n start) (by (reloc_on l.section n) refl)
     where
       by : (o : Option Reloc) → reloc_on l.section n ≡ o → branch_place (item_under inputs (place_of l n) o (size_on l.section n) l.section.bytes) ≡ None
-      by None is = spelled_quiet inputs.objects (place_of l n) (raw_in (size_on l.section n) l.section.bytes n) refl (instr_in (size_on l.section n) l.section.bytes n) (none.bare n start is)
+      by None is = spelled_no_branch inputs.objects (place_of l n) (raw_in (size_on l.section n) l.section.bytes n) refl (instr_in (size_on l.section n) l.section.bytes n) (none.bare n start is)
       by (Some r) is =
-          known_quiet l.section n r.addend (target_of inputs l.object r) (kind_of r.kind)
+          known_no_branch l.section n r.addend (target_of inputs l.object r) (kind_of r.kind)
           (all_on (λ t. is_branch_kind (kind_of t.kind) ≡ false) n r none.relocs is) (sound_at l.section n r code is).fits
 
   -- where the branches of a section lead that stay in it
@@ -161,7 +161,7 @@ module _ (inputs : Inputs) (none : gather_fault inputs ≡ None) (is_map : IsMap
       is = item_here (parsed inputs) l has code n start
 
       by : LeadsIn (place_of l n) (branch_place (item_in (parsed inputs) l.section (place_of l n))) → is_out_of_reach (parsed inputs) (place_of l n) ≡ false
-      by (Nowhere quiet) = quiet_near (parsed inputs) (place_of l n) (item_in (parsed inputs) l.section (place_of l n)) is quiet
+      by (Nowhere no_branch) = no_branch_near (parsed inputs) (place_of l n) (item_in (parsed inputs) l.section (place_of l n)) is no_branch
       by (To to leads object section) =
           led_near (parsed inputs) (place_of l n) (item_in (parsed inputs) l.section (place_of l n)) is to leads
           (λ a b one two. both_near (place_of l n) to l.section a b (code_here (parsed inputs) l has code n) object section short.room one two)

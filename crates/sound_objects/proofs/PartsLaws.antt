@@ -27,9 +27,9 @@ use Rattle.block_cut.specs.Faults.{first_fault}
 use Rattle.block_cut.specs.Items.{entry_in}
 use Rattle.block_cut.specs.Whole.{IsWhole}
 use Rattle.block_cut.proofs.WholeLaws.{file_whole}
-use Rattle.sound_objects.specs.Parts.{AreSound, CanBeWritten, files_of, objects_of, parts_code, parts_data, read_of}
-use Rattle.sound_objects.specs.Sound.{AllBranchesReach, AllRelocsAreRight, AreDefined, AreSingle, HasSection}
-use Rattle.sound_objects.proofs.FaultlessLaws.{sound_faultless}
+use Rattle.sound_objects.specs.Parts.{AreWellFormed, CanBeWritten, files_of, objects_of, parts_code, parts_data, read_of}
+use Rattle.sound_objects.specs.WellFormed.{AllBranchesReach, AllRelocsAreRight, AreDefined, AreSingle, HasSection}
+use Rattle.sound_objects.proofs.FaultlessLaws.{well_formed_faultless}
 use Rattle.sound_objects.proofs.ListLaws.{all_at}
 
 -- ---- reading back
@@ -181,8 +181,8 @@ written_whole p can i s at code =
 
 -- ---- the whole
 
-pub are_faultless : (memory : MemMap) (parts : List ObjectParts) → AreSound memory parts → first_fault (files_of memory parts) ≡ None
-are_faultless memory parts sound = sound_faultless (files_of memory parts) (record {
+pub are_faultless : (memory : MemMap) (parts : List ObjectParts) → AreWellFormed memory parts → first_fault (files_of memory parts) ≡ None
+are_faultless memory parts sound = well_formed_faultless (files_of memory parts) (record {
   few = omega (arith, length-map parts object_bytes, sound.few);
   readable =
       All-map (λ f. object_fault f ≡ None) object_bytes parts

@@ -1,4 +1,4 @@
--- Pieces that can stand in code: a word, a call, and a word under a part of an address.
+-- Fragments that can stand in code: a word, a call, and a word under a part of an address.
 use Rattle.std.proofs.Common.{◌≡◌, ℕ, ◌+◌, ◌<◌, ◌^◌, ℤ, List, ◌++◌, length, Bool, true, false, Option, refl, sym, ap, ◌∙◌, arith, append_assoc, length-append}
 use Rattle.zc_base.specs.Fields.{word_bytes, word_in}
 use Rattle.elf32_read.specs.Parts.{SectionParts, is_code_section}
@@ -7,8 +7,8 @@ use Rattle.psabi_reloc.specs.Kinds.{field_length, is_call, is_lui, is_store, is_
 use Rattle.rv_decode.specs.Decode.{decoded}
 use Rattle.rv_decode.specs.declared.instr.Instr.{Instr}
 use Rattle.block_cut.specs.Relocs.{fits_at, is_bad_kind, is_ignored}
-use Rattle.sound_objects.specs.Pieces.{CanStand, PieceReloc, pair_under, word_piece, word_under}
-use Rattle.sound_objects.specs.Pieces.CanStand.{Alone, Under}
+use Rattle.sound_objects.specs.Fragments.{CanStand, FragmentReloc, pair_under, word_fragment, word_under}
+use Rattle.sound_objects.specs.Fragments.CanStand.{Alone, Under}
 
 -- a word is read where it stands
 pub word_there : (s : SectionParts) (front back : List ℕ) (n w : ℕ) → w < 2 ^ 32 → s.bytes ≡ front ++ (word_bytes w ++ back) → length front ≡ n → word_in s.bytes n ≡ w
@@ -16,14 +16,14 @@ unfolding word_in
 word_there s front back n w small are start =
     ap (λ l. word_in l n) are ∙ word_in-append front (word_bytes w ++ back) n 0 (sym start ∙ omega arith) ∙ word_of_bytes w small
 
-pub word_stands : (w : ℕ) → CanStand (word_piece w)
+pub word_stands : (w : ℕ) → CanStand (word_fragment w)
 word_stands w = Alone refl refl
 
 -- ---- a word under a relocation
 
 module _ (symbol : ℕ) (addend : ℤ) (w : ℕ) (small : w < 2 ^ 32) where
   -- the relocation of a type
-  abbrev of_type : ℕ → PieceReloc
+  abbrev of_type : ℕ → FragmentReloc
   of_type kind = record { kind = kind; symbol = symbol; addend = addend }
 
   -- a type of 4 bytes whose test of the instruction passes

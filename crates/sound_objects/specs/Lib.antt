@@ -1,4 +1,4 @@
 pub mod Parts
-pub mod Pieces
+pub mod Fragments
 pub mod Reach
-pub mod Sound
+pub mod WellFormed

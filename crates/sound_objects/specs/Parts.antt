@@ -11,7 +11,7 @@ use Rattle.psabi_sym.specs.Faults.{code_room, common_room, data_room, gather_fau
 use Rattle.psabi_sym.specs.Inputs.{Inputs, ParsedInputs}
 use Rattle.psabi_sym.specs.declared.sums.Sums.{Sums}
 use Rattle.block_cut.specs.Items.{entry_in}
-use Rattle.sound_objects.specs.Sound.{AllBranchesReach, AllRelocsAreRight, AreDefined, AreSingle, AreSmall}
+use Rattle.sound_objects.specs.WellFormed.{AllBranchesReach, AllRelocsAreRight, AreDefined, AreSingle, AreSmall}
 
 -- ---- files
 
@@ -26,7 +26,11 @@ files_of memory parts = record { files = map object_bytes parts; map = memory }
 
 -- what a file of parts reads as: section 0 and symbol 0 come first, and the sections that are added last
 abbrev pub read_of : ObjectParts → ObjectParts
-read_of p = record { flags = p.flags; sections = null_part ∷ p.sections ++ added_parts p; symbols = null_symbol_part ∷ p.symbols }
+read_of p = record {
+  flags = p.flags;
+  sections = null_part ∷ p.sections ++ added_parts p;
+  symbols = null_symbol_part ∷ p.symbols;
+}
 
 -- what the files read as
 abbrev pub objects_of : MemMap → List ObjectParts → ParsedInputs
@@ -51,8 +55,8 @@ parts_sums parts = record {
 
 -- ---- the whole
 
--- parts whose files have no fault: they can be written, and then it is what `IsSound` says
-pub record AreSound (memory : MemMap) (parts : List ObjectParts) : Type 0 where
+-- parts whose files have no fault: they can be written, and then it is what `IsWellFormed` says
+pub record AreWellFormed (memory : MemMap) (parts : List ObjectParts) : Type 0 where
   pub written : All CanBeWritten parts
   pub few : length parts ≤ most_objects
   pub small : AreSmall (parts_sums parts)

@@ -14,7 +14,7 @@ use Rattle.rv_decode.specs.declared.instr.Instr.{Instr}
 use Rattle.rv_decode.specs.declared.instr.Instr.TheVariants as instr
 use Rattle.block_cut.specs.Items.{starts_on, target_of}
 use Rattle.block_cut.specs.Relocs.{instr_in, reloc_on}
-use Rattle.sound_objects.specs.Pieces.{Piece, PieceReloc}
+use Rattle.sound_objects.specs.Fragments.{Fragment, FragmentReloc}
 
 -- the kind of a branch, and a branch
 abbrev pub is_branch_kind : Option RelocKind → Bool
@@ -37,26 +37,30 @@ pub record IsShort (inputs : ParsedInputs) (l : IndexedSection) : Type 0 where
   pub room : length l.section.bytes + sum_by reloc_room l.section.relocs ≤ 4094
   pub stay : All (StaysIn inputs l) l.section.relocs
 
--- a section has no branches: none of its relocations is a branch's, and where an item has none its instruction is no branch
+-- a section has no branches: none of its relocations is a branch's, and where an item has no relocation its instruction
+-- is no branch
 pub record IsBranchless (l : IndexedSection) : Type 0 where
   pub relocs : All (λ r. is_branch_kind (kind_of r.kind) ≡ false) l.section.relocs
-  pub bare : (n : ℕ) → starts_on l.section n ≡ true → reloc_on l.section n ≡ None → is_branch (instr_in 4 l.section.bytes n) ≡ false
+  pub bare :
+      (n : ℕ) → starts_on l.section n ≡ true → reloc_on l.section n ≡ None
+      → is_branch (instr_in 4 l.section.bytes n) ≡ false
 
--- ---- pieces
+-- ---- fragments
 
--- the relocation of a piece is no branch's, nor ALIGN (43)
-abbrev pub is_still : Option PieceReloc → Bool
-is_still None = true
-is_still (Some r) = not (is_branch_kind (kind_of r.kind)) && not (r.kind == 43)
+-- a fragment has no relocation that is a branch's or ALIGN (43)
+abbrev pub is_no_branch_or_align : Option FragmentReloc → Bool
+is_no_branch_or_align None = true
+is_no_branch_or_align (Some r) = not (is_branch_kind (kind_of r.kind)) && not (r.kind == 43)
 
--- a piece without a relocation isn't a branch
-abbrev pub is_calm : Option PieceReloc → List ℕ → Bool
-is_calm None bytes = not (is_branch (instr_in 4 bytes 0))
-is_calm (Some r) bytes = true
+-- a fragment isn't a branch without a relocation
+abbrev pub is_no_bare_branch : Option FragmentReloc → List ℕ → Bool
+is_no_bare_branch None bytes = not (is_branch (instr_in 4 bytes 0))
+is_no_bare_branch (Some r) bytes = true
 
--- pieces have no relocation of a branch and no ALIGN; and they have no branches either
-abbrev pub AreStill : List Piece → Type 0
-AreStill pieces = All (λ p. is_still p.reloc ≡ true) pieces
+-- no fragment has such a relocation
+abbrev pub HaveNoBranchOrAlign : List Fragment → Type 0
+HaveNoBranchOrAlign fragments = All (λ p. is_no_branch_or_align p.reloc ≡ true) fragments
 
-abbrev pub AreCalm : List Piece → Type 0
-AreCalm pieces = All (λ p. is_calm p.reloc p.bytes ≡ true) pieces
+-- no fragment is such a branch
+abbrev pub HaveNoBareBranch : List Fragment → Type 0
+HaveNoBareBranch fragments = All (λ p. is_no_bare_branch p.reloc p.bytes ≡ true) fragments

@@ -1,6 +1,6 @@
 use Rattle.std.proofs.Common.{length, map, drop, [], ◌∷◌, ◌++◌, ap, ◌∙◌, arith}
 use Rattle.std.proofs.lemmas.List.FromFn.{length-range_with_len}
-use Rattle.load_maker.specs.Objects.{function_symbols, text_of, undefined_symbol}
+use Rattle.load_maker.specs.Objects.{function_symbols, text_section_of, undefined_symbol}
 use Rattle.load_maker.specs.Statements.{code_size, named_by}
 use Rattle.load_maker.proofs.CodeLaws.{few_statements}
 use Rattle.load_maker.proofs.NamedLaws.{named_many}
@@ -33,7 +33,7 @@ returns c =
     let bodies = c.args.bodies.now in
     let statements = c.deref.ensures.value ∙ c.in_ok-statements.ensures in
     let numbers = c.in_ok-named.ensures in
-    let text = c.in_ok-text_section.ensures.text ∙ (λ j. text_of 0 (named_by (numbers j) (statements j)) (statements j)) in
+    let text = c.in_ok-text_section.ensures.text ∙ (λ j. text_section_of 0 (named_by (numbers j) (statements j)) (statements j)) in
     let sections = c.in_ok-push.ensures.items ∙ (λ j. c.new-sections.ensures.items j ++ text j ∷ []) in
     let named = c.as_slice.ensures.keys ∙ c.in_ok-text_section.ensures.named ∙ (λ j. named_by (numbers j) (statements j)) in
     let symbols = c.in_ok-symbols.ensures ∙ (λ j. function_symbols c.args.first 0 bodies ++ map undefined_symbol (drop (length bodies) (named j))) in

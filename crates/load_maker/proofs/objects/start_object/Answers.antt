@@ -1,6 +1,6 @@
 use Rattle.std.proofs.Common.{length, map, [], ◌∷◌, ◌++◌, ap, ◌∙◌, arith}
 use Rattle.std.proofs.lemmas.List.Elements.{All-same}
-use Rattle.load_maker.specs.Objects.{result_section, start_statements, text_of, undefined_symbol}
+use Rattle.load_maker.specs.Objects.{result_section, start_statements, text_section_of, undefined_symbol}
 use Rattle.load_maker.specs.Statements.{IsInRange, code_size, named_by}
 use Rattle.load_maker.proofs.CodeLaws.{few_statements, right_range}
 use Rattle.load_maker.proofs.StartLaws.{start_right, start_size}
@@ -29,7 +29,7 @@ pub returns : goal.returns
 returns c =
     let statements = c.deref.ensures.value ∙ c.in_ok-statements.ensures in
     let none = c.new-named.ensures.empty in
-    let text = c.in_ok-text_section.ensures.text ∙ (λ j. text_of 2 (named_by (none j) (statements j)) (statements j)) in
+    let text = c.in_ok-text_section.ensures.text ∙ (λ j. text_section_of 2 (named_by (none j) (statements j)) (statements j)) in
     let sections =
     c.in_ok-push-2.ensures.items ∙ (λ j. c.in_ok-push.ensures.items j ++ c.in_ok-result_section.ensures j ∷ [])
     ∙ (λ j. (c.new-sections.ensures.items j ++ text j ∷ []) ++ result_section ∷ []) in

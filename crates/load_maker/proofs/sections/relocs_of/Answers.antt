@@ -1,7 +1,7 @@
 use Rattle.std.proofs.Common.{◌+◌, ap, ◌∙◌, arith}
 use Rattle.load_maker.proofs.GatherLaws.{call_step, moved, plain_step, result_step}
 use Rattle.load_maker.proofs.sections.relocs_of.Goals as goal
-use Rattle.load_maker.proofs.sections.relocs_of.Goals.{in-Plain, in-Call+in_ok-k-in-Call+in_ok-push-in-Call, in-OfResult+in_ok-push-in-OfResult}
+use Rattle.load_maker.proofs.sections.relocs_of.Goals.{in-Plain, in-Call+in_ok-k-in-Call+in_ok-push-in-Call, in-WithAddress+in_ok-push-in-WithAddress}
 
 pub loop-statement-preserved : goal.loop-statement-preserved
 loop-statement-preserved c =
@@ -21,7 +21,7 @@ loop-statement-preserved c =
           moved others first statements _ _ _ _ (at + 8) _ _ (ap (λ n. n.keys) w.named-is ∙ w.in_ok-k-in-Call.ensures.keys) (ap (λ v. v.items) w.relocs-is ∙ w.in_ok-push-in-Call.ensures.items) w.at-is
           (call_step others first statements named relocs at k s (omega arith) c.statement-item.is c.loop-statement.invariant w.in-Call.function _ w.in-Call.is
           (ap (λ n. 1 + others + n) w.in_ok-k-in-Call.ensures.index))
-      | in-OfResult+in_ok-push-in-OfResult w ↦
-          moved others first statements named _ _ _ (at + 4) _ _ (ap (λ n. n.keys) w.named-is) (ap (λ v. v.items) w.relocs-is ∙ w.in_ok-push-in-OfResult.ensures.items) w.at-is
-          (result_step others first statements named relocs at k s (omega arith) c.statement-item.is c.loop-statement.invariant w.in-OfResult.kind w.in-OfResult.field-1 w.in-OfResult.is)
+      | in-WithAddress+in_ok-push-in-WithAddress w ↦
+          moved others first statements named _ _ _ (at + 4) _ _ (ap (λ n. n.keys) w.named-is) (ap (λ v. v.items) w.relocs-is ∙ w.in_ok-push-in-WithAddress.ensures.items) w.at-is
+          (result_step others first statements named relocs at k s (omega arith) c.statement-item.is c.loop-statement.invariant w.in-WithAddress.kind w.in-WithAddress.field-1 w.in-WithAddress.is)
     ]

@@ -1,38 +1,22 @@
-use Rattle.std.proofs.Common.{◌≡◌, length, map, false, ap, ◌∙◌, arith}
-use Rattle.sound_objects.specs.Pieces.{pieces_size}
-use Rattle.sound_objects.proofs.PieceLaws.{bytes_sized}
+use Rattle.std.proofs.Common.{◌≡◌, map, false, ◌∙◌, arith}
+use Rattle.sound_objects.specs.Fragments.{fragments_size}
 use Rattle.load_maker.specs.Objects.{symbol_of}
-use Rattle.load_maker.specs.Statements.{named_by, piece_of}
-use Rattle.load_maker.proofs.CodeLaws.{bytes_any, code_sized}
+use Rattle.load_maker.specs.Statements.{named_by, fragment_of}
+use Rattle.load_maker.proofs.CodeLaws.{bytes_any, bytes_long, code_sized}
 use Rattle.load_maker.proofs.sections.text_section.Goals as goal
 
 pub overflow_cast-result : goal.overflow_cast-result
 overflow_cast-result c =
-    let statements = c.args.statements.now in
-    omega (
-      arith,
-      c.len.ensures,
-      c.in_ok-bytes.bytes.ok,
-      ap length c.in_ok-bytes.ensures,
-      bytes_sized (map (piece_of (λ function. 0)) statements),
-      code_sized (λ function. 0) statements,
-      c.requires.size,
-    )
+    let long = bytes_long c.args.statements.now _ c.in_ok-bytes.ensures in
+    omega (arith, c.len.ensures, c.in_ok-bytes.bytes.ok, long, c.requires.size)
 
 pub returns-clause-text : goal.returns-clause-text
 returns-clause-text c =
     let statements = c.args.statements.now in
     let symbol = symbol_of c.args.others (named_by c.args.named.now.keys statements) in
-    let size : c.len.result ≡ pieces_size (map (piece_of symbol) statements) =
-    omega (
-      arith,
-      c.len.ensures,
-      c.in_ok-bytes.bytes.ok,
-      ap length c.in_ok-bytes.ensures,
-      bytes_sized (map (piece_of (λ function. 0)) statements),
-      code_sized (λ function. 0) statements,
-      code_sized symbol statements,
-    ) in
+    let long = bytes_long statements _ c.in_ok-bytes.ensures in
+    let size : c.len.result ≡ fragments_size (map (fragment_of symbol) statements) =
+    omega (arith, c.len.ensures, c.in_ok-bytes.bytes.ok, long, code_sized symbol statements) in
     let bytes = c.in_ok-bytes.ensures ∙ bytes_any (λ function. 0) symbol statements in
     λ j. record {
       name = c.in_ok-name.ensures.items j;

@@ -46,7 +46,9 @@ AreSingle objects = (l m : IndexedSymbol) → HasStrong objects l → HasStrong 
 
 -- each symbol that needs a definition has one
 abbrev pub AreDefined : ParsedInputs → Type 0
-AreDefined inputs = (l : IndexedSymbol) → HasNeeded inputs.objects l → (d : Definition) × (name_definition inputs l.symbol.name ≡ Some d)
+AreDefined inputs =
+    (l : IndexedSymbol) → HasNeeded inputs.objects l
+    → (d : Definition) × (name_definition inputs l.symbol.name ≡ Some d)
 
 -- ---- sections
 
@@ -66,14 +68,15 @@ abbrev pub BranchesReach : ParsedInputs → IndexedSection → Type 0
 BranchesReach inputs l = (n : ℕ) → starts_on l.section n ≡ true → is_out_of_reach inputs (place_of l n) ≡ false
 
 abbrev pub AllBranchesReach : ParsedInputs → Type 0
-AllBranchesReach inputs = (l : IndexedSection) → HasSection inputs.objects l → is_code_section l.section ≡ true → BranchesReach inputs l
+AllBranchesReach inputs =
+    (l : IndexedSection) → HasSection inputs.objects l → is_code_section l.section ≡ true → BranchesReach inputs l
 
 -- ---- the whole
 
--- inputs without a fault. The objects are few, each can be read, and together they are small. No name has two strong definitions,
--- and each that is needed has a definition. Relocations are right, and the program starts where an item does. Branches reach; here
--- it may be assumed that the objects can be gathered, as the laws of addresses do
-pub record IsSound (inputs : Inputs) : Type 0 where
+-- inputs without a fault. The objects are few, each can be read, and together they are small. No name has two strong
+-- definitions, and each that is needed has a definition. Relocations are right, and the program starts where an item
+-- does. Branches reach; here it may be assumed that the objects can be gathered, as the laws of addresses do
+pub record IsWellFormed (inputs : Inputs) : Type 0 where
   pub few : length inputs.files ≤ most_objects
   pub readable : All (λ file. object_fault file ≡ None) inputs.files
   pub small : AreSmall (sums_of inputs.files)

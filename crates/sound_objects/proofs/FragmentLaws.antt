@@ -1,5 +1,5 @@
--- A section that is made of pieces: its relocations stand right, items start where pieces begin and nowhere else, and each piece's
--- relocation says what its item is. A piece is named by the pieces before and behind it, and its offset is the size of those before.
+-- A section that is made of fragments: its relocations stand right, items start where fragments begin and nowhere else, and each fragment's
+-- relocation says what its item is. A fragment is named by the fragments before and behind it, and its offset is the size of those before.
 use Rattle.std.proofs.Common.{◌≡◌, ℕ, ◌+◌, ◌%◌, ◌<◌, ◌≤◌, ◌⊎◌, inl, inr, List, [], ◌∷◌, ◌++◌, length, filter, max, min, Bool, true, false, cond, Option, Some, None, refl, sym, ap, subst, ◌∙◌, arith, eqb, ltb, eq-eqb, append_assoc, length-append}
 use Rattle.std.specs.Prelude.{All, ◌&&◌, ◌||◌, not}
 use Rattle.std.specs.List.{find}
@@ -22,86 +22,86 @@ use Rattle.block_cut.specs.Resolved.{asks}
 use Rattle.block_cut.specs.Whole.{IsWhole}
 use Rattle.block_cut.proofs.StartLaws.{Above, Among, IsStep, along, among, is_among, start_first, start_is}
 use Rattle.block_cut.proofs.StartLaws.Among.{Here, There}
-use Rattle.sound_objects.specs.Pieces.{CanStand, IsMadeOf, IsPieceAt, IsUnder, Piece, PieceReloc, piece_size, pieces_bytes, pieces_size, reloc_at, relocs_at, relocs_from}
-use Rattle.sound_objects.specs.Pieces.CanStand.{Alone, Under}
-use Rattle.sound_objects.specs.Sound.{RelocsAreRight}
-use Rattle.sound_objects.proofs.IdleLaws.{asking_kept, found-kept, overlaps-kept}
+use Rattle.sound_objects.specs.Fragments.{CanStand, IsMadeOf, IsFragmentAt, IsUnder, Fragment, FragmentReloc, fragment_size, fragments_bytes, fragments_size, reloc_at, relocs_at, relocs_from}
+use Rattle.sound_objects.specs.Fragments.CanStand.{Alone, Under}
+use Rattle.sound_objects.specs.WellFormed.{RelocsAreRight}
+use Rattle.sound_objects.proofs.IgnoredLaws.{found_asking, overlaps_asking}
 use Rattle.sound_objects.proofs.ListLaws.{all_left, all_right, filter_all, find_none, one_at_most}
 use Rattle.sound_objects.proofs.RelocLaws.{LeadsRight, ignored_right, no_reloc_fault}
 
 -- ---- sizes
 
--- a piece has some whole words
+-- a fragment has some whole words
 pub record IsSize (n : ℕ) : Type 0 where
   pub some : 4 ≤ n
   pub words : n % 4 ≡ 0
 
-pub piece_sized : (p : Piece) → CanStand p → IsSize (piece_size p)
-piece_sized p (Alone none size) = record { some = omega (arith, size); words = ap (λ n. n % 4) size }
-piece_sized p (Under r is under) = record { some = under.some; words = under.words }
+pub fragment_sized : (p : Fragment) → CanStand p → IsSize (fragment_size p)
+fragment_sized p (Alone none size) = record { some = omega (arith, size); words = ap (λ n. n % 4) size }
+fragment_sized p (Under r is under) = record { some = under.some; words = under.words }
 
-pub bytes_sized : (ps : List Piece) → length (pieces_bytes ps) ≡ pieces_size ps
+pub bytes_sized : (ps : List Fragment) → length (fragments_bytes ps) ≡ fragments_size ps
 bytes_sized [] = refl
-bytes_sized (p ∷ ps) = omega (arith, length-append p.bytes (pieces_bytes ps), bytes_sized ps, sum_by-cons piece_size p ps)
+bytes_sized (p ∷ ps) = omega (arith, length-append p.bytes (fragments_bytes ps), bytes_sized ps, sum_by-cons fragment_size p ps)
 
-pub size_words : (ps : List Piece) → All CanStand ps → pieces_size ps % 4 ≡ 0
+pub size_words : (ps : List Fragment) → All CanStand ps → fragments_size ps % 4 ≡ 0
 size_words [] all = refl
 size_words (p ∷ ps) all =
-    omega (arith, sum_by-cons piece_size p ps, (piece_sized p (All-head CanStand p ps all)).words, size_words ps (All-tail CanStand p ps all))
+    omega (arith, sum_by-cons fragment_size p ps, (fragment_sized p (All-head CanStand p ps all)).words, size_words ps (All-tail CanStand p ps all))
 
--- one piece more
-pub pieces_size-push : (xs : List Piece) (p : Piece) → pieces_size (xs ++ p ∷ []) ≡ pieces_size xs + piece_size p
-pieces_size-push xs p = omega (arith, sum_by-append piece_size xs (p ∷ []), sum_by-cons piece_size p [])
+-- one fragment more
+pub fragments_size-push : (xs : List Fragment) (p : Fragment) → fragments_size (xs ++ p ∷ []) ≡ fragments_size xs + fragment_size p
+fragments_size-push xs p = omega (arith, sum_by-append fragment_size xs (p ∷ []), sum_by-cons fragment_size p [])
 
--- ---- relocations of pieces
+-- ---- relocations of fragments
 
-pub relocs_from-append : (at : ℕ) (xs ys : List Piece) → relocs_from at (xs ++ ys) ≡ relocs_from at xs ++ relocs_from (at + pieces_size xs) ys
+pub relocs_from-append : (at : ℕ) (xs ys : List Fragment) → relocs_from at (xs ++ ys) ≡ relocs_from at xs ++ relocs_from (at + fragments_size xs) ys
 relocs_from-append at [] ys = ap (λ n. relocs_from n ys) (omega arith)
 relocs_from-append at (x ∷ xs) ys =
-    ap (λ l. relocs_at at x.reloc ++ l) (relocs_from-append (at + piece_size x) xs ys)
-    ∙ sym (append_assoc (relocs_at at x.reloc) (relocs_from (at + piece_size x) xs) (relocs_from (at + piece_size x + pieces_size xs) ys))
-    ∙ ap (λ n. (relocs_at at x.reloc ++ relocs_from (at + piece_size x) xs) ++ relocs_from n ys) (omega (arith, sum_by-cons piece_size x xs))
+    ap (λ l. relocs_at at x.reloc ++ l) (relocs_from-append (at + fragment_size x) xs ys)
+    ∙ sym (append_assoc (relocs_at at x.reloc) (relocs_from (at + fragment_size x) xs) (relocs_from (at + fragment_size x + fragments_size xs) ys))
+    ∙ ap (λ n. (relocs_at at x.reloc ++ relocs_from (at + fragment_size x) xs) ++ relocs_from n ys) (omega (arith, sum_by-cons fragment_size x xs))
 
--- where a relocation of pieces lies, and that it asks for something
+-- where a relocation of fragments lies, and that it asks for something
 pub record LiesIn (from to : ℕ) (t : Reloc) : Type 0 where
   pub low : from ≤ t.offset
   pub below : t.offset < to
   pub end : field_end t ≤ to
   pub busy : asks t ≡ true
 
--- each lies in its piece
-pub relocs_lie : (at : ℕ) (ps : List Piece) → All CanStand ps → All (LiesIn at (at + pieces_size ps)) (relocs_from at ps)
+-- each lies in its fragment
+pub relocs_lie : (at : ℕ) (ps : List Fragment) → All CanStand ps → All (LiesIn at (at + fragments_size ps)) (relocs_from at ps)
 relocs_lie at [] all = All-nil (LiesIn at (at + 0))
 relocs_lie at (p ∷ ps) all =
-    let more = sum_by-cons piece_size p ps in
-    All-append (LiesIn at (at + pieces_size (p ∷ ps))) (relocs_at at p.reloc) (relocs_from (at + piece_size p) ps)
+    let more = sum_by-cons fragment_size p ps in
+    All-append (LiesIn at (at + fragments_size (p ∷ ps))) (relocs_at at p.reloc) (relocs_from (at + fragment_size p) ps)
     (here (All-head CanStand p ps all))
-    (All-weaker (LiesIn (at + piece_size p) (at + piece_size p + pieces_size ps)) (LiesIn at (at + pieces_size (p ∷ ps)))
+    (All-weaker (LiesIn (at + fragment_size p) (at + fragment_size p + fragments_size ps)) (LiesIn at (at + fragments_size (p ∷ ps)))
     (λ t lies. record { low = omega (arith, lies.low); below = omega (arith, lies.below, more); end = omega (arith, lies.end, more); busy = lies.busy })
-    (relocs_from (at + piece_size p) ps) (relocs_lie (at + piece_size p) ps (All-tail CanStand p ps all)))
+    (relocs_from (at + fragment_size p) ps) (relocs_lie (at + fragment_size p) ps (All-tail CanStand p ps all)))
   where
-    here : CanStand p → All (LiesIn at (at + pieces_size (p ∷ ps))) (relocs_at at p.reloc)
-    here (Alone none size) = subst (λ o. All (LiesIn at (at + pieces_size (p ∷ ps))) (relocs_at at o)) (sym none) (All-nil (LiesIn at (at + pieces_size (p ∷ ps))))
+    here : CanStand p → All (LiesIn at (at + fragments_size (p ∷ ps))) (relocs_at at p.reloc)
+    here (Alone none size) = subst (λ o. All (LiesIn at (at + fragments_size (p ∷ ps))) (relocs_at at o)) (sym none) (All-nil (LiesIn at (at + fragments_size (p ∷ ps))))
     here (Under r is under) =
-        let more = sum_by-cons piece_size p ps in
-        subst (λ o. All (LiesIn at (at + pieces_size (p ∷ ps))) (relocs_at at o)) (sym is)
-        (All-cons (LiesIn at (at + pieces_size (p ∷ ps))) (reloc_at at r) [] (record {
+        let more = sum_by-cons fragment_size p ps in
+        subst (λ o. All (LiesIn at (at + fragments_size (p ∷ ps))) (relocs_at at o)) (sym is)
+        (All-cons (LiesIn at (at + fragments_size (p ∷ ps))) (reloc_at at r) [] (record {
           low = omega arith;
           below = omega (arith, more, under.some);
           end = omega (arith, more, under.long);
           busy = not_from_false (is_ignored (kind_of r.kind)) under.asks;
-        }) (All-nil (LiesIn at (at + pieces_size (p ∷ ps)))))
+        }) (All-nil (LiesIn at (at + fragments_size (p ∷ ps)))))
 
 -- a section with just these relocations
-pub made_of : (pieces : List Piece) (s : SectionParts) → is_code_section s ≡ true → s.bytes ≡ pieces_bytes pieces → s.size ≡ pieces_size pieces → s.relocs ≡ relocs_from 0 pieces → All CanStand pieces
-    → IsMadeOf pieces s
-made_of pieces s code bytes size relocs stand = record {
+pub made_of : (fragments : List Fragment) (s : SectionParts) → is_code_section s ≡ true → s.bytes ≡ fragments_bytes fragments → s.size ≡ fragments_size fragments → s.relocs ≡ relocs_from 0 fragments → All CanStand fragments
+    → IsMadeOf fragments s
+made_of fragments s code bytes size relocs stand = record {
   code = code;
   bytes = bytes;
   size = size;
   relocs =
       ap (filter asks) relocs
-      ∙ filter_all asks (relocs_from 0 pieces) (All-weaker (LiesIn 0 (0 + pieces_size pieces)) (λ t. asks t ≡ true) (λ t lies. lies.busy) (relocs_from 0 pieces) (relocs_lie 0 pieces stand));
+      ∙ filter_all asks (relocs_from 0 fragments) (All-weaker (LiesIn 0 (0 + fragments_size fragments)) (λ t. asks t ≡ true) (λ t lies. lies.busy) (relocs_from 0 fragments) (relocs_lie 0 fragments stand));
   stand = stand;
 }
 
@@ -121,23 +121,23 @@ pub record IsFine (s : SectionParts) (r : Reloc) : Type 0 where
   pub placed : is_bad_place s r ≡ false
   pub sound : is_sound s r ≡ true
 
-module _ (pieces : List Piece) (s : SectionParts) (made : IsMadeOf pieces s) where
-  module _ (front : List Piece) (p : Piece) (back : List Piece) (split : pieces ≡ front ++ p ∷ back) where
-    -- where the piece stands, and the relocations before and behind it
+module _ (fragments : List Fragment) (s : SectionParts) (made : IsMadeOf fragments s) where
+  module _ (front : List Fragment) (p : Fragment) (back : List Fragment) (split : fragments ≡ front ++ p ∷ back) where
+    -- where the fragment stands, and the relocations before and behind it
     abbrev at : ℕ
-    at = pieces_size front
+    at = fragments_size front
 
     abbrev before : List Reloc
     before = relocs_from 0 front
 
     abbrev after : List Reloc
-    after = relocs_from (at + piece_size p) back
+    after = relocs_from (at + fragment_size p) back
 
     abbrev IsBefore : Reloc → Type 0
     IsBefore = LiesIn 0 (0 + at)
 
     abbrev IsAfter : Reloc → Type 0
-    IsAfter = LiesIn (at + piece_size p) (at + piece_size p + pieces_size back)
+    IsAfter = LiesIn (at + fragment_size p) (at + fragment_size p + fragments_size back)
 
     all_stand : All CanStand (front ++ p ∷ back)
     all_stand = subst (All CanStand) split made.stand
@@ -149,23 +149,23 @@ module _ (pieces : List Piece) (s : SectionParts) (made : IsMadeOf pieces s) whe
     lie_before = relocs_lie 0 front (all_left CanStand front (p ∷ back) all_stand)
 
     lie_after : All IsAfter after
-    lie_after = relocs_lie (at + piece_size p) back (All-tail CanStand p back (all_right CanStand front (p ∷ back) all_stand))
+    lie_after = relocs_lie (at + fragment_size p) back (All-tail CanStand p back (all_right CanStand front (p ∷ back) all_stand))
 
-    size_all : s.size ≡ at + (piece_size p + pieces_size back)
-    size_all = made.size ∙ ap pieces_size split ∙ sum_by-append piece_size front (p ∷ back) ∙ ap (λ n. at + n) (sum_by-cons piece_size p back)
+    size_all : s.size ≡ at + (fragment_size p + fragments_size back)
+    size_all = made.size ∙ ap fragments_size split ∙ sum_by-append fragment_size front (p ∷ back) ∙ ap (λ n. at + n) (sum_by-cons fragment_size p back)
 
     relocs_are : filter asks s.relocs ≡ before ++ (relocs_at at p.reloc ++ after)
     relocs_are = made.relocs ∙ ap (relocs_from 0) split ∙ relocs_from-append 0 front (p ∷ back) ∙ ap (λ n. before ++ relocs_from n (p ∷ back)) (omega arith)
 
-    pub there : IsPieceAt s at p
+    pub there : IsFragmentAt s at p
     there = record {
-      front = pieces_bytes front;
-      back = pieces_bytes back;
-      bytes = made.bytes ∙ ap pieces_bytes split ∙ flat_map-append (λ (q : Piece). q.bytes) front (p ∷ back);
+      front = fragments_bytes front;
+      back = fragments_bytes back;
+      bytes = made.bytes ∙ ap fragments_bytes split ∙ flat_map-append (λ (q : Fragment). q.bytes) front (p ∷ back);
       start = bytes_sized front;
     }
 
-    -- no relocation of another piece stands at its offset
+    -- no relocation of another fragment stands at its offset
     abbrev stands_at : Reloc → Bool
     stands_at t = is_sound s t && eqb t.offset at
 
@@ -174,18 +174,18 @@ module _ (pieces : List Piece) (s : SectionParts) (made : IsMadeOf pieces s) whe
 
     not_after : All (λ t. stands_at t ≡ false) after
     not_after =
-        let some = (piece_sized p stands).some in
+        let some = (fragment_sized p stands).some in
         All-weaker IsAfter (λ t. stands_at t ≡ false) (λ t lies. and_right (is_sound s t) (eqb t.offset at) (ne_eqb t.offset at (λ e. omega (arith, e, lies.low, some)))) after lie_after
 
-    -- a piece without a relocation
+    -- a fragment without a relocation
     pub none_on : p.reloc ≡ None → reloc_on s at ≡ None
     none_on none =
-        sym (found-kept asks asking_kept s at made.code)
+        sym (found_asking s at made.code)
         ∙ ap (find stands_at) (relocs_are ∙ ap (λ o. before ++ (relocs_at at o ++ after)) none)
         ∙ find_none stands_at (before ++ after) (All-append (λ t. stands_at t ≡ false) before after not_before not_after)
 
-    -- a piece with one
-    module _ (r : PieceReloc) (is : p.reloc ≡ Some r) where
+    -- a fragment with one
+    module _ (r : FragmentReloc) (is : p.reloc ≡ Some r) where
       abbrev own : Reloc
       own = reloc_at at r
 
@@ -199,12 +199,12 @@ module _ (pieces : List Piece) (s : SectionParts) (made : IsMadeOf pieces s) whe
       relocs_with : filter asks s.relocs ≡ before ++ own ∷ after
       relocs_with = relocs_are ∙ ap (λ o. before ++ (relocs_at at o ++ after)) is
 
-      ends : field_end own ≡ at + piece_size p
+      ends : field_end own ≡ at + fragment_size p
       ends = ap (λ n. at + n) under.long
 
       alone : overlaps_another s.relocs own ≡ false
       alone =
-          sym (overlaps-kept asks asking_kept s.relocs own)
+          sym (overlaps_asking s.relocs own)
           ∙ ap (λ l. overlaps_another l own) relocs_with
           ∙ one_at_most (overlap own) before own after
           (All-weaker IsBefore (λ t. overlap own t ≡ false) (λ t lies. near_apart own t (omega (arith, lies.end))) before lie_before)
@@ -238,7 +238,7 @@ module _ (pieces : List Piece) (s : SectionParts) (made : IsMadeOf pieces s) whe
       pub one_on : reloc_on s at ≡ Some own
       one_on =
           let passes : stands_at own ≡ true = and_from (is_sound s own) (eqb at at) fine.sound (eq-eqb at at refl) in
-          sym (found-kept asks asking_kept s at made.code)
+          sym (found_asking s at made.code)
           ∙ ap (find stands_at) relocs_with
           ∙ find-append stands_at before (own ∷ after)
           ∙ ap (λ o. option_or o (cond (stands_at own) (Some own) (find stands_at after))) (find_none stands_at before not_before)
@@ -246,11 +246,11 @@ module _ (pieces : List Piece) (s : SectionParts) (made : IsMadeOf pieces s) whe
 
     -- ---- where items start
 
-    -- the item at a piece is as long as the piece
-    pub size_at_piece : size_on s at ≡ piece_size p
-    size_at_piece = by stands
+    -- the item at a fragment is as long as the fragment
+    pub size_at_fragment : size_on s at ≡ fragment_size p
+    size_at_fragment = by stands
       where
-        by : CanStand p → size_on s at ≡ piece_size p
+        by : CanStand p → size_on s at ≡ fragment_size p
         by (Alone none size) = ap (λ o. option_map_or field_of o (own_size s.compressed s.bytes at)) (none_on none) ∙ sym size
         by (Under r is fits) = ap (λ o. option_map_or field_of o (own_size s.compressed s.bytes at)) (one_on r is) ∙ fits.long
 
@@ -259,77 +259,77 @@ module _ (pieces : List Piece) (s : SectionParts) (made : IsMadeOf pieces s) whe
         omega (
           arith,
           ap length made.bytes,
-          bytes_sized pieces,
-          ap pieces_size split,
-          sum_by-append piece_size front (p ∷ back),
-          sum_by-cons piece_size p back,
-          (piece_sized p stands).some,
+          bytes_sized fragments,
+          ap fragments_size split,
+          sum_by-append fragment_size front (p ∷ back),
+          sum_by-cons fragment_size p back,
+          (fragment_sized p stands).some,
         )
 
   -- an item starts at an offset, or the section ends there
   abbrev pub IsEdge : ℕ → Type 0
   IsEdge n = (starts_on s n ≡ true) ⊎ (n ≡ length s.bytes)
 
-  -- the split behind a piece
-  next_split : (front : List Piece) (p : Piece) (back : List Piece) → pieces ≡ front ++ p ∷ back → pieces ≡ (front ++ p ∷ []) ++ back
+  -- the split behind a fragment
+  next_split : (front : List Fragment) (p : Fragment) (back : List Fragment) → fragments ≡ front ++ p ∷ back → fragments ≡ (front ++ p ∷ []) ++ back
   next_split front p back split = split ∙ sym (append_assoc front (p ∷ []) back)
 
   module _ (whole : IsWhole s) where
-    edges_on : (front mid back : List Piece) → pieces ≡ front ++ (mid ++ back) → IsEdge (pieces_size front) → IsEdge (pieces_size front + pieces_size mid)
+    edges_on : (front mid back : List Fragment) → fragments ≡ front ++ (mid ++ back) → IsEdge (fragments_size front) → IsEdge (fragments_size front + fragments_size mid)
     edges_on front [] back split edge = subst IsEdge (omega arith) edge
     edges_on front (p ∷ mid) back split edge =
-        let long = pieces_size-push front p in
-        subst IsEdge (omega (arith, long, sum_by-cons piece_size p mid))
+        let long = fragments_size-push front p in
+        subst IsEdge (omega (arith, long, sum_by-cons fragment_size p mid))
         (edges_on (front ++ p ∷ []) mid back (next_split front p (mid ++ back) split) (subst IsEdge (sym long) (over edge)))
       where
-        over : IsEdge (pieces_size front) → IsEdge (pieces_size front + piece_size p)
-        over (inl start) = subst (λ n. IsEdge (pieces_size front + n)) (size_at_piece front p (mid ++ back) split) (start_is s made.code whole (pieces_size front) start).next
+        over : IsEdge (fragments_size front) → IsEdge (fragments_size front + fragment_size p)
+        over (inl start) = subst (λ n. IsEdge (fragments_size front + n)) (size_at_fragment front p (mid ++ back) split) (start_is s made.code whole (fragments_size front) start).next
         over (inr end) = absurd (omega (arith, end, inside front p (mid ++ back) split))
 
-    -- behind each piece
-    pub edge_after : (front back : List Piece) → pieces ≡ front ++ back → IsEdge (pieces_size front)
+    -- behind each fragment
+    pub edge_after : (front back : List Fragment) → fragments ≡ front ++ back → IsEdge (fragments_size front)
     edge_after front back split = subst IsEdge (omega arith) (edges_on [] front back split (start_first s made.code whole))
 
-    -- an item starts at each piece
-    pub start_at : (front : List Piece) (p : Piece) (back : List Piece) → pieces ≡ front ++ p ∷ back → starts_on s (pieces_size front) ≡ true
+    -- an item starts at each fragment
+    pub start_at : (front : List Fragment) (p : Fragment) (back : List Fragment) → fragments ≡ front ++ p ∷ back → starts_on s (fragments_size front) ≡ true
     start_at front p back split = by (edge_after front (p ∷ back) split)
       where
-        by : IsEdge (pieces_size front) → starts_on s (pieces_size front) ≡ true
+        by : IsEdge (fragments_size front) → starts_on s (fragments_size front) ≡ true
         by (inl start) = start
         by (inr end) = absurd (omega (arith, end, inside front p back split))
 
     -- and nowhere else
-    pub record IsPiece (k : ℕ) : Type 0 where
-      pub front : List Piece
-      pub piece : Piece
-      pub back : List Piece
-      pub split : pieces ≡ front ++ piece ∷ back
-      pub is : k ≡ pieces_size front
+    pub record IsFragment (k : ℕ) : Type 0 where
+      pub front : List Fragment
+      pub fragment : Fragment
+      pub back : List Fragment
+      pub split : fragments ≡ front ++ fragment ∷ back
+      pub is : k ≡ fragments_size front
 
-    pub piece_on : (k : ℕ) → starts_on s k ≡ true → IsPiece k
-    piece_on k start =
-        along s made.code whole (λ n xs. (front back : List Piece) → pieces ≡ front ++ back → n ≡ pieces_size front → (k : ℕ) → is_among k xs ≡ true → IsPiece k)
-        (λ front back split is k among. absurd cc) each [] pieces refl refl k start
+    pub fragment_on : (k : ℕ) → starts_on s k ≡ true → IsFragment k
+    fragment_on k start =
+        along s made.code whole (λ n xs. (front back : List Fragment) → fragments ≡ front ++ back → n ≡ fragments_size front → (k : ℕ) → is_among k xs ≡ true → IsFragment k)
+        (λ front back split is k among. absurd cc) each [] fragments refl refl k start
       where
         each : (n : ℕ) (xs : List ℕ) → n < length s.bytes → n % code_step s.compressed ≡ 0 → IsStep s n → Above (n + size_on s n) xs
-            → ((front back : List Piece) → pieces ≡ front ++ back → n + size_on s n ≡ pieces_size front → (k : ℕ) → is_among k xs ≡ true → IsPiece k)
-            → (front back : List Piece) → pieces ≡ front ++ back → n ≡ pieces_size front → (k : ℕ) → is_among k (n ∷ xs) ≡ true → IsPiece k
+            → ((front back : List Fragment) → fragments ≡ front ++ back → n + size_on s n ≡ fragments_size front → (k : ℕ) → is_among k xs ≡ true → IsFragment k)
+            → (front back : List Fragment) → fragments ≡ front ++ back → n ≡ fragments_size front → (k : ℕ) → is_among k (n ∷ xs) ≡ true → IsFragment k
         each n xs lt words step above rest front [] split is k there =
-            absurd (omega (arith, lt, is, ap length made.bytes, bytes_sized pieces, ap pieces_size split, sum_by-append piece_size front []))
+            absurd (omega (arith, lt, is, ap length made.bytes, bytes_sized fragments, ap fragments_size split, sum_by-append fragment_size front []))
         each n xs lt words step above rest front (p ∷ back) split is k there = by (among n k xs there)
           where
-            by : Among n k xs → IsPiece k
-            by (Here e) = record { front = front; piece = p; back = back; split = split; is = sym e ∙ is }
+            by : Among n k xs → IsFragment k
+            by (Here e) = record { front = front; fragment = p; back = back; split = split; is = sym e ∙ is }
             by (There more) =
                 rest (front ++ p ∷ []) back (next_split front p back split)
-                (ap (λ m. m + size_on s m) is ∙ ap (λ m. pieces_size front + m) (size_at_piece front p back split) ∙ sym (pieces_size-push front p)) k more
+                (ap (λ m. m + size_on s m) is ∙ ap (λ m. fragments_size front + m) (size_at_fragment front p back split) ∙ sym (fragments_size-push front p)) k more
 
   -- ---- all relocations
 
-  -- what holds of those that ask for nothing and of each piece's holds of all
+  -- what holds of those that ask for nothing and of each fragment's holds of all
   pub relocs_each : (Q : Reloc → Type 0) → ((r : Reloc) → is_ignored (kind_of r.kind) ≡ true → Q r)
-      → ((front : List Piece) (p : Piece) (back : List Piece) (r : PieceReloc) → pieces ≡ front ++ p ∷ back → p.reloc ≡ Some r → Q (reloc_at (pieces_size front) r)) → All Q s.relocs
-  relocs_each Q ignored each = with_idle s.relocs (subst (All Q) (sym made.relocs) (walk [] pieces refl))
+      → ((front : List Fragment) (p : Fragment) (back : List Fragment) (r : FragmentReloc) → fragments ≡ front ++ p ∷ back → p.reloc ≡ Some r → Q (reloc_at (fragments_size front) r)) → All Q s.relocs
+  relocs_each Q ignored each = with_idle s.relocs (subst (All Q) (sym made.relocs) (walk [] fragments refl))
     where
       with_idle : (relocs : List Reloc) → All Q (filter asks relocs) → All Q relocs
       with_idle [] all = All-nil Q
@@ -339,24 +339,24 @@ module _ (pieces : List Piece) (s : SectionParts) (made : IsMadeOf pieces s) whe
           by true idle rest all = All-cons Q r rs (ignored r idle) (rest all)
           by false busy rest all = All-cons Q r rs (All-head Q r (filter asks rs) all) (rest (All-tail Q r (filter asks rs) all))
 
-      of_piece : (n : ℕ) (o : Option PieceReloc) → ((r : PieceReloc) → o ≡ Some r → Q (reloc_at n r)) → All Q (relocs_at n o)
-      of_piece n None holds = All-nil Q
-      of_piece n (Some r) holds = All-cons Q (reloc_at n r) [] (holds r refl) (All-nil Q)
+      of_fragment : (n : ℕ) (o : Option FragmentReloc) → ((r : FragmentReloc) → o ≡ Some r → Q (reloc_at n r)) → All Q (relocs_at n o)
+      of_fragment n None holds = All-nil Q
+      of_fragment n (Some r) holds = All-cons Q (reloc_at n r) [] (holds r refl) (All-nil Q)
 
-      walk : (front back : List Piece) → pieces ≡ front ++ back → All Q (relocs_from (pieces_size front) back)
+      walk : (front back : List Fragment) → fragments ≡ front ++ back → All Q (relocs_from (fragments_size front) back)
       walk front [] split = All-nil Q
       walk front (p ∷ back) split =
-          All-append Q (relocs_at (pieces_size front) p.reloc) (relocs_from (pieces_size front + piece_size p) back)
-          (of_piece (pieces_size front) p.reloc (λ r is. each front p back r split is))
-          (subst (λ n. All Q (relocs_from n back)) (pieces_size-push front p) (walk (front ++ p ∷ []) back (next_split front p back split)))
+          All-append Q (relocs_at (fragments_size front) p.reloc) (relocs_from (fragments_size front + fragment_size p) back)
+          (of_fragment (fragments_size front) p.reloc (λ r is. each front p back r split is))
+          (subst (λ n. All Q (relocs_from n back)) (fragments_size-push front p) (walk (front ++ p ∷ []) back (next_split front p back split)))
 
 -- so all are right that lead right
-pub relocs_right : (inputs : ParsedInputs) (l : IndexedSection) (pieces : List Piece) → IsMadeOf pieces l.section
-    → ((front : List Piece) (p : Piece) (back : List Piece) (r : PieceReloc) → pieces ≡ front ++ p ∷ back → p.reloc ≡ Some r → LeadsRight inputs l (reloc_at (pieces_size front) r))
+pub relocs_right : (inputs : ParsedInputs) (l : IndexedSection) (fragments : List Fragment) → IsMadeOf fragments l.section
+    → ((front : List Fragment) (p : Fragment) (back : List Fragment) (r : FragmentReloc) → fragments ≡ front ++ p ∷ back → p.reloc ≡ Some r → LeadsRight inputs l (reloc_at (fragments_size front) r))
     → RelocsAreRight inputs l
-relocs_right inputs l pieces made each =
-    relocs_each pieces l.section made (λ r. reloc_fault inputs l r ≡ None) (ignored_right inputs l)
+relocs_right inputs l fragments made each =
+    relocs_each fragments l.section made (λ r. reloc_fault inputs l r ≡ None) (ignored_right inputs l)
     (λ front p back r split is.
-    let own = fine pieces l.section made front p back split r is in
+    let own = fine fragments l.section made front p back split r is in
     let right = each front p back r split is in
-    no_reloc_fault inputs l (reloc_at (pieces_size front) r) own.known own.placed right.paired right.leads)
+    no_reloc_fault inputs l (reloc_at (fragments_size front) r) own.known own.placed right.paired right.leads)
