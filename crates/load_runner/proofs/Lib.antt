@@ -1,3 +1,3 @@
-pub mod Exits
+pub mod ExitLaws
 pub mod Causes
 pub mod SummaryLaws

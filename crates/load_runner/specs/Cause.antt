@@ -30,13 +30,15 @@ ImageCause elf plan OutOfMemory = ⊤
 pub data IsOneSpent (inputs : Inputs) (number : ℕ) : Type 0 where
   in_trace : IsSpent (trace_run inputs) → IsOneSpent inputs number
   in_plain :
-      Exits (trace_run inputs) → (links : BothLinks inputs) → IsSpent (image_run links.plain.elf []) → IsOneSpent inputs number
+      Exits (trace_run inputs) → (links : BothLinks inputs) → IsSpent (image_run links.plain.elf [])
+      → IsOneSpent inputs number
   in_zc :
       Exits (trace_run inputs) → (links : BothLinks inputs) → Exits (image_run links.plain.elf [])
       → IsSpent (image_run links.zc.elf []) → IsOneSpent inputs number
   in_cuts :
       Exits (trace_run inputs) → (links : BothLinks inputs) → Exits (image_run links.plain.elf [])
-      → Exits (image_run links.zc.elf []) → IsSpent (image_run links.zc.elf (made_plan number LOAD_CUTS)) → IsOneSpent inputs number
+      → Exits (image_run links.zc.elf []) → IsSpent (image_run links.zc.elf (made_plan number LOAD_CUTS))
+      → IsOneSpent inputs number
 
 -- the program's run is stuck there, or one isn't enough; want of memory may come at any
 abbrev pub LoadCause : Inputs → ℕ → LoadEnd → Type 0

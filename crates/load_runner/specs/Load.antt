@@ -4,7 +4,7 @@ use Rattle.interrupt_plan.specs.Made.{made_plan}
 use Rattle.psabi_sym.specs.Inputs.{Inputs}
 use Rattle.zc_link.specs.Links.{IsPlainLink, IsZcLink, Link}
 use Rattle.zc_outside.specs.Course.{ExitsAt}
-use Rattle.load_runner.specs.Runs.{ComesTo, image_run, trace_run}
+use Rattle.load_runner.specs.Runs.{ExitsWith, image_run, trace_run}
 use Rattle.load_runner.specs.declared.load.Load.{Load}
 use Rattle.load_runner.specs.declared.run_load.TheConstants.{LOAD_CUTS}
 
@@ -15,14 +15,14 @@ pub record BothLinks (inputs : Inputs) : Type 0 where
   pub is_plain : IsPlainLink inputs plain
   pub is_zc : IsZcLink inputs zc
 
--- the numbers are those of the links, and so many steps and commits come to the exits: the program's, the plain image's, the Zc
--- image's, and the Zc image's under the plan that is made from a number
+-- the numbers are those of the links, and so many steps and commits come to the exits: the program's, the plain
+-- image's, the Zc image's, and the Zc image's under the plan that is made from a number
 pub record IsLoad (inputs : Inputs) (number : ℕ) (load : Load) : Type 0 where
   pub links : BothLinks inputs
   pub plain_text : load.plain_text ≡ links.plain.plain.text
   pub zc_text : load.zc_text ≡ links.zc.zc.text
   pub net : load.net ≡ links.zc.certificate.net
   pub trace : ExitsAt (trace_run inputs) load.steps load.trace
-  pub plain : ComesTo (image_run links.plain.elf []) load.plain
+  pub plain : ExitsWith (image_run links.plain.elf []) load.plain
   pub zc : ExitsAt (image_run links.zc.elf []) load.commits load.zc
-  pub cuts : ComesTo (image_run links.zc.elf (made_plan number LOAD_CUTS)) load.cuts
+  pub cuts : ExitsWith (image_run links.zc.elf (made_plan number LOAD_CUTS)) load.cuts

@@ -28,12 +28,13 @@ trace_run inputs = plain_course (program_of (parsed inputs)) [] LOAD_STEPS
 abbrev pub image_run : List ℕ → List Entry → Course ZcState Reason
 image_run elf plan = zc_course (first_core_of elf standard_map) [] plan LOAD_STEPS
 
--- a run comes to this exit, or to any
-abbrev pub ComesTo : {State Stop : Type 0} → Course State Stop → Exit → Type 0
-ComesTo run exit = (count : ℕ) × ExitsAt run count exit
+-- a run comes to this exit
+abbrev pub ExitsWith : {State Stop : Type 0} → Course State Stop → Exit → Type 0
+ExitsWith run exit = (count : ℕ) × ExitsAt run count exit
 
+-- a run comes to some exit
 abbrev pub Exits : {State Stop : Type 0} → Course State Stop → Type 0
-Exits run = (exit : Exit) × ComesTo run exit
+Exits run = (exit : Exit) × ExitsWith run exit
 
 -- ---- what the runs rest on
 
@@ -43,8 +44,8 @@ pub record IsTraced (inputs : Inputs) (count : ℕ) (exit : Exit) : Type 0 where
   pub events : List Event
   pub event : exits.last.events ≡ events ++ event.Exit exit.status ∷ []
 
--- an image has exited after so many commits under a plan, however few it may make
-pub record HasExit (elf : List ℕ) (plan : List Entry) : Type 0 where
+-- under a plan an image exits at some commit, however many it takes
+pub record EventuallyExits (elf : List ℕ) (plan : List Entry) : Type 0 where
   pub count : ℕ
   pub last : ZcState
   pub state : (image_run elf plan).after count ≡ Ok last

@@ -3,7 +3,7 @@
 ghost use Rattle.std.specs.Prelude.{◌≡◌, IfErr, IfOk, None};
 ghost use Rattle.elf32_read.specs.Image.{image_fault};
 ghost use Rattle.load_runner.specs.Cause.{ImageCause};
-ghost use Rattle.load_runner.specs.Runs.{HasExit, image_run};
+ghost use Rattle.load_runner.specs.Runs.{EventuallyExits, image_run};
 ghost use Rattle.zc_base.specs.MemMap.{standard_map};
 ghost use Rattle.zc_outside.specs.Course.{ExitsAt};
 
@@ -24,7 +24,7 @@ use zc_outside::mem_console::MemConsole;
 /// it.
 pub fn run_image(alloc: Global, linked: &Linked, plan: &Plan) -> Result<Ended, LoadEnd>
     requires faultless { image_fault linked.now.elf standard_map ≡ None }
-    requires exits { HasExit linked.now.elf plan.now }
+    requires exits { EventuallyExits linked.now.elf plan.now }
     ensures ok { IfOk result (λ ended. ExitsAt (image_run linked.now.elf plan.now) ended.count ended.exit) }
     ensures err { IfErr result (ImageCause linked.now.elf plan.now) }
 {

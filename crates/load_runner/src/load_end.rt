@@ -11,7 +11,7 @@ pub enum LoadEnd {
     /// The symbolic machine is stuck at a place.
     #[error("the program is stuck")]
     Stuck(Place, Why),
-    /// The first run that isn't at its exit by then made `LOAD_STEPS` steps or commits.
+    /// A run made `LOAD_STEPS` steps or commits without coming to its exit. The runs before it came to theirs.
     #[error("the program doesn't exit in time")]
     Spent,
     #[error("out of memory")]

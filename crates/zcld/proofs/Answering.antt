@@ -106,7 +106,7 @@ clean_within task a b c d first last clean = record {
     λ rose. (clean.taken takes).0 (omega (arith, first.input, last.input, rose)),
     λ rose. (clean.taken takes).1 (omega (arith, first.taken, last.taken, rose)),
   );
-  written = λ writes rose. clean.written writes (omega (arith, first.output, last.output, rose));
+  written = λ rose. clean.written (omega (arith, first.output, last.output, rose));
 }
 
 -- nothing was done
@@ -207,8 +207,8 @@ module _ (task : Task) (Work : List (List ℕ) → Outcome → World → World �
         counted = λ clean. fault.counted (clean_within task before worked.between left left (read_grows task.wanted before worked.between worked.only) (moves_grow left left (no_moves left)) clean);
         unsure = λ told tells sure. fault.unsure (record {
           store = worked.only.shelf.sure ∙ sure.store;
-          console = λ takes. subst (λ d. IsTrue d.sure × IsShortInput d.input) (sym worked.only.desk) (sure.console takes);
-          output = λ writes. subst (λ d. IsTrue d.sure) (sym worked.only.desk) (sure.output writes);
+          console = ap (λ d. d.sure) worked.only.desk ∙ sure.console;
+          input = λ takes. subst (λ d. IsShortInput d.input) (sym worked.only.desk) (sure.input takes);
         });
       })
     ]

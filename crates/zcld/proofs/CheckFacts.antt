@@ -1,5 +1,5 @@
 -- What is known of `check`: its refusals, how its work ends, and what that does to the counts.
-use Rattle.std.proofs.Common.{◌≡◌, ℕ, List, Bool, true, false, Some, None, Result, Ok, Err, refl, sym, subst, ◌⊎◌, inl, inr, if◌then◌else◌}
+use Rattle.std.proofs.Common.{◌≡◌, ℕ, List, Bool, true, false, Some, None, Result, Ok, Err, refl, sym, subst, ◌⊎◌, inr, if◌then◌else◌}
 use Rattle.std.proofs.lemmas.Option.{same_Some, none-some}
 use Rattle.pick_check.specs.Certified.{Certified, is_accepted}
 use Rattle.pick_check.specs.Text.{certificate_in}
@@ -43,7 +43,7 @@ module _ (cert : List ℕ) where
   task = task_of (Check cert)
 
   check_ends : (files : List (List ℕ)) (outcome : Outcome) (before after : World) → CheckWork files outcome before after → IsAnswer outcome ⊎ IsFaulted task outcome before after
-  check_ends files outcome before after work = output_ends task (text_alone (check_line work.net)) (inr refl) (inl refl) outcome before after work.printed
+  check_ends files outcome before after work = output_ends task (text_alone (check_line work.net)) (inr refl) outcome before after work.printed
 
   check_moves : (files : List (List ℕ)) (outcome : Outcome) (before after : World) → CheckWork files outcome before after → Moves before after
   check_moves files outcome before after work =

@@ -1,7 +1,7 @@
 -- The headline from what a call does: of an outcome that is Done, only the case is left in which the command did its work.
 use Rattle.std.proofs.Common.{◌≡◌, ℕ, List, [], ◌∷◌, map, Option, Some, None, refl, sym, ap, subst, ◌∙◌, inl, inr}
 use Rattle.std.proofs.lemmas.Option.{same_Some, none-some}
-use Rattle.zc_base.specs.MemMap.{standard_map}
+use Rattle.load_runner.specs.Runs.{standard_inputs}
 use Rattle.elf32_read.specs.declared.fault.Fault.{Fault}
 use Rattle.block_cut.specs.Faults.{first_fault}
 use Rattle.zc_link.specs.Preserves.{Preserves}
@@ -13,7 +13,7 @@ use Rattle.zcld.specs.declared.outcome.Outcome.{Outcome}
 use Rattle.zcld.specs.declared.outcome.Outcome.TheVariants.{Done, OutOfMemory, Refused}
 use Rattle.zcld.specs.Call.{Calls, task_of}
 use Rattle.zcld.specs.Headline.{HoldsImage, Links}
-use Rattle.zcld.specs.Objects.{inputs_of, objects_wanted, refused_for}
+use Rattle.zcld.specs.Objects.{objects_wanted, refused_for}
 use Rattle.zcld.specs.Puts.{PutsFiles}
 use Rattle.zcld.specs.Plain.{PlainWork}
 use Rattle.zcld.specs.Task.{IsWorked, OnlyRead, Performs, Task}
@@ -62,7 +62,7 @@ module _ (before after : World) where
       (out : List ℕ) (names : List (List ℕ)) (f g : Files) (files : List (List ℕ)) (elf : List ℕ) (others : List (List ℕ × List ℕ)) (between left : World) →
       before.shelf.files ≡ Some f → after.shelf.files ≡ Some g → after.shelf ≡ left.shelf →
       OnlyRead (objects_wanted names) before between → AreRead before.shelf.files (objects_wanted names) files →
-      PutsFiles between.shelf.files left.shelf.files ((out, elf) ∷ others) → Preserves (inputs_of files standard_map) elf →
+      PutsFiles between.shelf.files left.shelf.files ((out, elf) ∷ others) → Preserves (standard_inputs files) elf →
       HoldsImage out names f g
   holds_image out names f g files elf others between left told tells same only read puts preserves =
       let kept : KeepsFiles (Some f) between.shelf.files = subst (λ a. KeepsFiles a between.shelf.files) told only.shelf.files in
@@ -80,7 +80,7 @@ module _ (before after : World) where
       (command : Option Command) (outcome : Outcome) (a b : Option Files) → before.shelf.files ≡ a → after.shelf.files ≡ b →
       Calls command outcome before after → Links command outcome a b
   by_cases (Some (Zc out cert names)) Done (Some f) (Some g) told tells calls =
-      let undone = refused_undone (first_fault (inputs_of calls.files standard_map)) in
+      let undone = refused_undone (first_fault (standard_inputs calls.files)) in
       let worked = done_worked (task_of (Zc out cert names)) (ZcWork out cert) calls.files before calls.left undone calls.does in
       elim worked.work [
         | inl memory ↦ absurd (done_not_memory memory.0)
@@ -88,7 +88,7 @@ module _ (before after : World) where
             holds_image out names f g calls.files put.link.elf _ worked.between calls.left told tells calls.line.shelf worked.only worked.read put.done.files put.linked.image.preserves
       ]
   by_cases (Some (Plain out names)) Done (Some f) (Some g) told tells calls =
-      let undone = refused_undone (first_fault (inputs_of calls.files standard_map)) in
+      let undone = refused_undone (first_fault (standard_inputs calls.files)) in
       let worked = done_worked (task_of (Plain out names)) (PlainWork out) calls.files before calls.left undone calls.does in
       elim worked.work [
         | inl memory ↦ absurd (done_not_memory memory.0)

@@ -22,9 +22,8 @@ not_both : (told : Option (List ℕ)) → IsShortInput told → IsLongInput told
 not_both None short long = short
 not_both (Some xs) short long = omega (arith, short, long)
 
--- the command writes, and the console refused that: the refusal was counted, and the console isn't sure
-pub record IsRefusedWrite (task : Task) (outcome : Outcome) (before after : Desk) : Type 0 where
-  pub writes : IsTrue task.writes
+-- the console refused a write: the refusal was counted, and the console isn't sure
+pub record IsRefusedWrite (outcome : Outcome) (before after : Desk) : Type 0 where
   pub known : outcome ≢ Usage
   pub counted : Rose before.write_faults after.write_faults
   pub unsure : IsTrue before.sure → ⊥
@@ -39,13 +38,13 @@ module _ (task : Task) (takes : IsTrue task.takes) where
     known = λ e. cc;
     counted = λ clean. elim cause [ inl failed ↦ (clean.taken takes).0 failed.0 | inr long ↦ (clean.taken takes).1 long.0 ];
     unsure = λ sure. elim cause [
-      | inl failed ↦ failed.1 (sure.console takes).0
-      | inr long ↦ not_both before.desk.input (sure.console takes).1 long.1
+      | inl failed ↦ failed.1 sure.console
+      | inr long ↦ not_both before.desk.input (sure.input takes) long.1
     ];
   })
   untaken_ends other before after cause = absurd cause
 
-  module _ (Runs : List ℕ → Outcome → Desk → Desk → Type 0) (run_ends : (input : List ℕ) (outcome : Outcome) (before after : Desk) → Runs input outcome before after → IsAnswer outcome ⊎ IsRefusedWrite task outcome before after) where
+  module _ (Runs : List ℕ → Outcome → Desk → Desk → Type 0) (run_ends : (input : List ℕ) (outcome : Outcome) (before after : Desk) → Runs input outcome before after → IsAnswer outcome ⊎ IsRefusedWrite outcome before after) where
     pub machine_ends : (outcome : Outcome) (before after : World) → MachineWork Runs outcome before after → IsAnswer outcome ⊎ IsFaulted task outcome before after
     machine_ends outcome before after work = elim work.desk [
       | inl untaken ↦ untaken_ends outcome before after untaken.cause
@@ -53,8 +52,8 @@ module _ (task : Task) (takes : IsTrue task.takes) where
         | inl answer ↦ inl answer
         | inr refused ↦ inr (record {
           known = refused.known;
-          counted = λ clean. clean.written refused.writes (subst (λ n. Rose n after.desk.write_faults) run.takes.only.writes refused.counted);
-          unsure = λ sure. refused.unsure (run.takes.only.sure ∙ (sure.console takes).0);
+          counted = λ clean. clean.written (subst (λ n. Rose n after.desk.write_faults) run.takes.only.writes refused.counted);
+          unsure = λ sure. refused.unsure (run.takes.only.sure ∙ sure.console);
         })
       ]
     ]

@@ -30,9 +30,8 @@ put_then_printed OutOfMemory files text before between desk after put printed = 
 ]
 put_then_printed other files text before between desk after put printed = absurd printed
 
--- a put or a write that failed was counted, at an outside that isn't sure; a command that puts nothing has no files, and one
--- that writes nothing no text
-module _ (task : Task) (output : Output) (puts : IsTrue task.puts ⊎ (output.files ≡ [])) (writes : IsTrue task.writes ⊎ (output.text ≡ [])) where
+-- a put or a write that failed was counted, at an outside that isn't sure; a command that puts nothing has no files
+module _ (task : Task) (output : Output) (puts : IsTrue task.puts ⊎ (output.files ≡ [])) where
   pub output_ends : (outcome : Outcome) (before after : World) → PutsInTurn outcome output before after → IsAnswer outcome ⊎ IsFaulted task outcome before after
   output_ends Done before after put = inl tt
   output_ends OutOfMemory before after put = inl tt
@@ -40,12 +39,9 @@ module _ (task : Task) (output : Output) (puts : IsTrue task.puts ⊎ (output.fi
     known = λ e. cc;
     counted = λ clean. elim put [
       | inl file ↦ elim puts [ inl some ↦ clean.put some file.1 | inr none ↦ none_unput output before after none file.0 ]
-      | inr text ↦ elim writes [ inl some ↦ clean.written some text.1 | inr none ↦ text.0.text none ]
+      | inr text ↦ clean.written text.1
     ];
-    unsure = λ sure. elim put [
-      | inl file ↦ file.2 sure.store
-      | inr text ↦ elim writes [ inl some ↦ text.2 (sure.output some) | inr none ↦ text.0.text none ]
-    ];
+    unsure = λ sure. elim put [ inl file ↦ file.2 sure.store | inr text ↦ text.2 sure.console ];
   })
   output_ends other before after put = absurd put
 

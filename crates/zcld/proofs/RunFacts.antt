@@ -46,20 +46,20 @@ module _ (plan : Option (List ℕ)) (steps : ℕ) (image : List ℕ) where
   end_of_run :
       (happens : ℕ → ZcCore → ZcCore) (run : Course ZcState Reason) (answer : RunEnd) (machine : ZcCore) (before after : Desk) →
       Ran happens run answer machine before after →
-      IsAnswer (run_outcome answer machine.pc) ⊎ IsRefusedWrite task (run_outcome answer machine.pc) before after
+      IsAnswer (run_outcome answer machine.pc) ⊎ IsRefusedWrite (run_outcome answer machine.pc) before after
   end_of_run happens run (end.Exit code) machine before after ran = inl tt
   end_of_run happens run (end.Stopped reason) machine before after ran = inl tt
   end_of_run happens run end.Spent machine before after ran = inl tt
-  end_of_run happens run (end.Console console.Failed) machine before after ran = inr (record { writes = refl; known = λ e. cc; counted = ran.cause.0; unsure = ran.cause.1 })
+  end_of_run happens run (end.Console console.Failed) machine before after ran = inr (record { known = λ e. cc; counted = ran.cause.0; unsure = ran.cause.1 })
   end_of_run happens run (end.Console console.OutOfMemory) machine before after ran = inl tt
 
   module _ (first : ZcCore) (entries : List Entry) where
     runs_end :
         (input : List ℕ) (outcome : Outcome) (before after : Desk) → Runs first entries steps input outcome before after →
-        IsAnswer outcome ⊎ IsRefusedWrite task outcome before after
+        IsAnswer outcome ⊎ IsRefusedWrite outcome before after
     runs_end input outcome before after (inl memory) = inl (no_memory outcome memory.0)
     runs_end input outcome before after (inr run) =
-        subst (λ o. IsAnswer o ⊎ IsRefusedWrite task o before after) (sym run.outcome_is)
+        subst (λ o. IsAnswer o ⊎ IsRefusedWrite o before after) (sym run.outcome_is)
         (end_of_run (interrupts_by entries) (zc_course first input entries steps) run.answer.0 run.answer.1 before after run.ended)
 
     runs_write : (input : List ℕ) (outcome : Outcome) (before after : Desk) → Runs first entries steps input outcome before after → OnlyWrites before after

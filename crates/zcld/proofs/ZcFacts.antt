@@ -1,7 +1,7 @@
 -- What is known of `zc`: its refusals, how its work ends, and what that does to the counts.
 use Rattle.std.proofs.Common.{◌≡◌, ℕ, List, Option, Some, None, refl, sym, subst, ◌⊎◌, inl, inr}
 use Rattle.std.proofs.lemmas.Option.{same_Some, none-some}
-use Rattle.zc_base.specs.MemMap.{standard_map}
+use Rattle.load_runner.specs.Runs.{standard_inputs}
 use Rattle.elf32_read.specs.declared.fault.Fault.{Fault}
 use Rattle.block_cut.specs.Faults.{first_fault}
 use Rattle.zc_outside.specs.World.{World}
@@ -9,7 +9,7 @@ use Rattle.command_words.specs.Command.{Zc}
 use Rattle.zcld.specs.declared.outcome.Outcome.{Outcome}
 use Rattle.zcld.specs.declared.outcome.Outcome.TheVariants.{Refused}
 use Rattle.zcld.specs.Call.{task_of}
-use Rattle.zcld.specs.Objects.{inputs_of, refused_for}
+use Rattle.zcld.specs.Objects.{refused_for}
 use Rattle.zcld.specs.Task.{Task}
 use Rattle.zcld.specs.Zc.{ZcWork, zc_output}
 use Rattle.zcld.proofs.Answering.{Facts, IsAnswer, IsFaulted, Moves, no_memory, no_moves}
@@ -28,11 +28,11 @@ module _ (out cert : List ℕ) (objects : List (List ℕ)) where
       (files : List (List ℕ)) (outcome : Outcome) (before after : World) → ZcWork out cert files outcome before after →
       IsAnswer outcome ⊎ IsFaulted task outcome before after
   zc_ends files outcome before after (inl memory) = inl (no_memory outcome memory.0)
-  zc_ends files outcome before after (inr put) = output_ends task (zc_output out cert put.link) (inl refl) (inl refl) outcome before after put.done
+  zc_ends files outcome before after (inr put) = output_ends task (zc_output out cert put.link) (inl refl) outcome before after put.done
 
   zc_moves : (files : List (List ℕ)) (outcome : Outcome) (before after : World) → ZcWork out cert files outcome before after → Moves before after
   zc_moves files outcome before after (inl memory) = subst (λ w. Moves before w) (sym memory.1) (no_moves before)
   zc_moves files outcome before after (inr put) = output_moves before after put.shelf put.desk
 
   pub zc_facts : Facts task (ZcWork out cert)
-  zc_facts = record { refuses = λ files. fault_refuses (first_fault (inputs_of files standard_map)); ends = zc_ends; moves = zc_moves }
+  zc_facts = record { refuses = λ files. fault_refuses (first_fault (standard_inputs files)); ends = zc_ends; moves = zc_moves }

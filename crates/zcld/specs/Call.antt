@@ -23,49 +23,43 @@ use Rattle.zcld.specs.Zc.{ZcWork}
 
 -- ---- the commands
 
--- what each command does outside; the standard map is that of all of them
+-- what each command does outside; all of them use the standard map
 abbrev pub task_of : Command → Task
 task_of (Plain out objects) = record {
   wanted = objects_wanted objects;
-  refusal = objects_refusal standard_map;
+  refusal = objects_refusal;
   puts = true;
   takes = false;
-  writes = true;
 }
 task_of (Zc out cert objects) = record {
   wanted = objects_wanted objects;
-  refusal = objects_refusal standard_map;
+  refusal = objects_refusal;
   puts = true;
   takes = false;
-  writes = true;
 }
 task_of (Run plan steps image) = record {
   wanted = run_wanted plan image;
   refusal = run_refusal standard_map;
   puts = false;
   takes = true;
-  writes = true;
 }
 task_of (Trace steps objects) = record {
   wanted = objects_wanted objects;
-  refusal = objects_refusal standard_map;
+  refusal = objects_refusal;
   puts = false;
   takes = true;
-  writes = true;
 }
 task_of (Check cert) = record {
   wanted = check_wanted cert;
   refusal = check_refusal;
   puts = false;
   takes = false;
-  writes = true;
 }
 task_of (Make prefix number functions) = record {
   wanted = [];
   refusal = λ files. None;
   puts = is_some prefix;
   takes = false;
-  writes = true;
 }
 
 -- the work of each command, once its files are read and accepted
@@ -80,7 +74,8 @@ work_of (Make prefix number functions) = MakeWork prefix number functions
 -- what words do: without a command it is Usage, or memory ran out before that was known, and nothing is done
 abbrev pub CarriesOut : Option Command → List (List ℕ) → Outcome → World → World → Type 0
 CarriesOut None files outcome before after = ((outcome ≡ Usage) ⊎ (outcome ≡ OutOfMemory)) × (after ≡ before)
-CarriesOut (Some command) files outcome before after = Performs (task_of command) (work_of command) files outcome before after
+CarriesOut (Some command) files outcome before after =
+    Performs (task_of command) (work_of command) files outcome before after
 
 -- the outcome is Usage only of words that spell no command, and of those always, unless memory ran out
 pub record IsUsageOf (command : Option Command) (outcome : Outcome) : Type 0 where
@@ -88,7 +83,8 @@ pub record IsUsageOf (command : Option Command) (outcome : Outcome) : Type 0 whe
   pub always : command ≡ None → (outcome ≡ Usage) ⊎ (outcome ≡ OutOfMemory)
 
 -- the command did this with the files that it read, and the outcome's line is the same for the files that are left
-pub record DoesWith (command : Option Command) (left : List (List ℕ)) (outcome : Outcome) (before after : World) : Type 0 where
+pub record DoesWith
+    (command : Option Command) (left : List (List ℕ)) (outcome : Outcome) (before after : World) : Type 0 where
   pub files : List (List ℕ)
   pub does : CarriesOut command files outcome before after
   pub line : err_line left outcome ≡ err_line files outcome
@@ -129,14 +125,14 @@ pub record IsClean (task : Task) (before after : World) : Type 0 where
       IsTrue task.takes →
       (¬ Rose before.desk.read_faults after.desk.read_faults)
       × (¬ RoseAbove INPUT_LIMIT before.desk.taken after.desk.taken)
-  pub written : IsTrue task.writes → ¬ Rose before.desk.write_faults after.desk.write_faults
+  pub written : ¬ Rose before.desk.write_faults after.desk.write_faults
 
--- the store is sure, and so is the console, if the command writes to it or takes its input, of which it then tells that
--- it isn't too long
+-- the store and the console are sure; and if the command takes the console's input, the console tells that it isn't too
+-- long
 pub record IsSure (task : Task) (before : World) : Type 0 where
   pub store : IsTrue before.shelf.sure
-  pub console : IsTrue task.takes → IsTrue before.desk.sure × IsShortInput before.desk.input
-  pub output : IsTrue task.writes → IsTrue before.desk.sure
+  pub console : IsTrue before.desk.sure
+  pub input : IsTrue task.takes → IsShortInput before.desk.input
 
 -- the outcome is no fault of the outside
 pub record IsNoFault (outcome : Outcome) : Type 0 where

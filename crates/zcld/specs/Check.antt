@@ -1,5 +1,5 @@
--- What `check` does: it reads a certificate, and if that is accepted, it writes what the slots save, which is the most that any
--- slots save.
+-- What `check` does: it reads a certificate, and if that is accepted, it writes what the slots save, which is the most
+-- that any slots save.
 use Rattle.std.specs.Prelude.{◌≡◌, ℕ, ◌++◌, if◌then◌else◌, List, [], ◌∷◌, codes, decimal, Option, Some, None, Result, Ok, Err}
 use Rattle.pick_check.specs.Best.{NoneSavesMore}
 use Rattle.pick_check.specs.Certified.{Certified, IsAccepted, is_accepted}

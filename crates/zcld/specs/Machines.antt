@@ -7,19 +7,22 @@ use Rattle.zcld.specs.declared.outcome.Outcome.TheVariants.{OutOfMemory}
 use Rattle.zcld.specs.Input.{IsUntaken, TakesInput}
 
 -- a machine came to one of its ends, which is this outcome, and the console was only written to
-pub record HasEnded {End : Type 0} (Ends : End → Desk → Desk → Type 0) (outcome_of : End → Outcome) (outcome : Outcome) (before after : Desk) : Type 0 where
+pub record HasEnded
+    {End : Type 0} (Ends : End → Desk → Desk → Type 0) (outcome_of : End → Outcome) (outcome : Outcome)
+    (before after : Desk) : Type 0 where
   pub answer : End
   pub ended : Ends answer before after
   pub outcome_is : outcome ≡ outcome_of answer
   pub only : OnlyWrites before after
 
--- no memory for the machine, or that
+-- there was no memory for the machine, or it came to one of its ends
 abbrev pub Executes : {End : Type 0} → (End → Desk → Desk → Type 0) → (End → Outcome) → Outcome → Desk → Desk → Type 0
 Executes Ends outcome_of outcome before after =
     ((outcome ≡ OutOfMemory) × (after ≡ before)) ⊎ HasEnded Ends outcome_of outcome before after
 
 -- the whole input was taken, and the machine ran over it
-pub record HasRun (Runs : List ℕ → Outcome → Desk → Desk → Type 0) (outcome : Outcome) (before after : Desk) : Type 0 where
+pub record HasRun
+    (Runs : List ℕ → Outcome → Desk → Desk → Type 0) (outcome : Outcome) (before after : Desk) : Type 0 where
   pub input : List ℕ
   pub between : Desk
   pub takes : TakesInput input before between
@@ -30,6 +33,7 @@ abbrev pub TakesAndRuns : (List ℕ → Outcome → Desk → Desk → Type 0) �
 TakesAndRuns Runs outcome before after = IsUntaken outcome before after ⊎ HasRun Runs outcome before after
 
 -- the input and the machine's run, and the store isn't touched
-pub record MachineWork (Runs : List ℕ → Outcome → Desk → Desk → Type 0) (outcome : Outcome) (before after : World) : Type 0 where
+pub record MachineWork
+    (Runs : List ℕ → Outcome → Desk → Desk → Type 0) (outcome : Outcome) (before after : World) : Type 0 where
   pub shelf : after.shelf ≡ before.shelf
   pub desk : TakesAndRuns Runs outcome before.desk after.desk

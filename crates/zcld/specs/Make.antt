@@ -1,4 +1,5 @@
--- What `make` does: it makes objects, links, traces and runs them, puts the objects if they have names, and writes the summary.
+-- What `make` does: it makes objects, links, traces and runs them, puts the objects if they have names, and writes the
+-- summary.
 use Rattle.std.specs.Prelude.{◌≡◌, ℕ, suc, ◌⊎◌, ◌++◌, List, [], ◌∷◌, length, codes, decimal, Option, Some, None}
 use Rattle.zc_outside.specs.Desk.{OnlyWrites}
 use Rattle.zc_outside.specs.Shelf.{OnlyPuts}
@@ -47,14 +48,19 @@ pub record IsUnloaded (number : ℕ) (objects : List (List ℕ)) (outcome : Outc
 -- ---- the work
 
 -- the objects were put and the summary written, as far as this outcome says
-pub record PutsLoad (prefix : Option (List ℕ)) (number functions : ℕ) (outcome : Outcome) (before after : World) : Type 0 where
+pub record PutsLoad
+    (prefix : Option (List ℕ)) (number functions : ℕ) (outcome : Outcome) (before after : World) : Type 0 where
   pub text : List ℕ
   pub summary : IsSummary number functions (made_objects number functions) text
-  pub done : PutsInTurn outcome (record { files = object_files prefix (made_objects number functions); text = text }) before after
+  pub done :
+      PutsInTurn outcome (record { files = object_files prefix (made_objects number functions); text = text })
+      before after
   pub shelf : OnlyPuts before.shelf after.shelf
   pub desk : OnlyWrites before.desk after.desk
 
--- no load of the objects is known, and nothing was done; or that
+-- the work of `make`: no load of the objects is known, and nothing was done; or one is, and the objects were put and
+-- its summary was written
 abbrev pub MakeWork : Option (List ℕ) → ℕ → ℕ → List (List ℕ) → Outcome → World → World → Type 0
 MakeWork prefix number functions files outcome before after =
-    (IsUnloaded number (made_objects number functions) outcome × (after ≡ before)) ⊎ PutsLoad prefix number functions outcome before after
+    (IsUnloaded number (made_objects number functions) outcome × (after ≡ before))
+    ⊎ PutsLoad prefix number functions outcome before after

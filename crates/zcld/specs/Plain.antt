@@ -1,7 +1,7 @@
 -- What `plain` does: it links the objects with their instructions as they are, puts the image, and writes how long its
 -- text is.
 use Rattle.std.specs.Prelude.{◌≡◌, ℕ, ◌⊎◌, ◌++◌, List, [], ◌∷◌, codes, decimal}
-use Rattle.zc_base.specs.MemMap.{standard_map}
+use Rattle.load_runner.specs.Runs.{standard_inputs}
 use Rattle.zc_outside.specs.Desk.{OnlyWrites}
 use Rattle.zc_outside.specs.Shelf.{OnlyPuts}
 use Rattle.zc_outside.specs.World.{World}
@@ -9,7 +9,6 @@ use Rattle.zc_link.specs.Links.{IsPlainLink, Link}
 use Rattle.zcld.specs.declared.outcome.Outcome.{Outcome}
 use Rattle.zcld.specs.declared.outcome.Outcome.TheVariants.{OutOfMemory}
 use Rattle.zcld.specs.ErrLine.{line}
-use Rattle.zcld.specs.Objects.{inputs_of}
 use Rattle.zcld.specs.Puts.{Output, PutsInTurn}
 
 -- the line on how many bytes the text has
@@ -24,7 +23,7 @@ plain_output out image text = record { files = (out, image) ∷ []; text = text 
 pub record PutsPlain
     (out : List ℕ) (files : List (List ℕ)) (outcome : Outcome) (before after : World) : Type 0 where
   pub link : Link
-  pub linked : IsPlainLink (inputs_of files standard_map) link
+  pub linked : IsPlainLink (standard_inputs files) link
   pub done : PutsInTurn outcome (plain_output out link.elf (plain_line link.plain.text)) before after
   pub shelf : OnlyPuts before.shelf after.shelf
   pub desk : OnlyWrites before.desk after.desk

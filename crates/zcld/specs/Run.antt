@@ -1,5 +1,5 @@
--- What `run` does: it reads an image and a plan of interrupts, takes the console's whole input, and makes commits of the Zc
--- machine under the plan.
+-- What `run` does: it reads an image and a plan of interrupts, takes the console's whole input, and makes commits of
+-- the Zc machine under the plan.
 use Rattle.std.specs.Prelude.{◌≡◌, ℕ, List, [], ◌∷◌, slice_get, Option, Some, None, Result, Ok, Err}
 use Rattle.std.specs.Option.{option_map, option_map_or, option_or}
 use Rattle.zc_base.specs.MemMap.{standard_map}

@@ -6,14 +6,13 @@ use Rattle.zc_outside.specs.World.{World}
 use Rattle.zcld.specs.declared.outcome.Outcome.{Outcome}
 use Rattle.zcld.specs.declared.outcome.Outcome.TheVariants.{Done, Exited, Usage, Refused, ReadFault, WriteFault, OutOfMemory, BadFile, Stopped, Stuck, Spent}
 
--- what a command does outside: it reads these files, and refuses them by their bytes, or not; it puts files, takes the
--- console's input and writes to the console, or not
+-- what a command does outside: it reads these files, and refuses them by their bytes, or not; it puts files, or not; it
+-- takes the console's input, or not; and it writes to the console
 pub record Task : Type 0 where
   pub wanted : List Wanted
   pub refusal : List (List ℕ) → Option Outcome
   pub puts : Bool
   pub takes : Bool
-  pub writes : Bool
 
 -- the first of the files that were read
 abbrev pub first_file : List (List ℕ) → List ℕ

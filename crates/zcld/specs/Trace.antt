@@ -1,6 +1,6 @@
 -- What `trace` does: it reads objects, takes the console's whole input, and makes steps of the symbolic machine.
 use Rattle.std.specs.Prelude.{ℕ, List}
-use Rattle.zc_base.specs.MemMap.{standard_map}
+use Rattle.load_runner.specs.Runs.{standard_inputs}
 use Rattle.psabi_sym.specs.Inputs.{Inputs, parsed}
 use Rattle.sym_machine.specs.Objects.{program_of}
 use Rattle.sym_machine.specs.RunEnd.{Traced, plain_course}
@@ -12,7 +12,6 @@ use Rattle.zc_outside.specs.declared.console.ConsoleFault.TheVariants as console
 use Rattle.zcld.specs.declared.outcome.Outcome.{Outcome}
 use Rattle.zcld.specs.declared.outcome.Outcome.TheVariants.{Exited, WriteFault, OutOfMemory, Stuck, Spent}
 use Rattle.zcld.specs.Machines.{Executes, MachineWork}
-use Rattle.zcld.specs.Objects.{inputs_of}
 
 -- the outcome of each end
 abbrev pub trace_outcome : TraceEnd → Outcome
@@ -29,4 +28,5 @@ Traces inputs steps input = Executes (Traced (plain_course (program_of (parsed i
 
 -- the work of `trace`, in the standard map
 abbrev pub TraceWork : ℕ → List (List ℕ) → Outcome → World → World → Type 0
-TraceWork steps files outcome before after = MachineWork (Traces (inputs_of files standard_map) steps) outcome before after
+TraceWork steps files outcome before after =
+    MachineWork (Traces (standard_inputs files) steps) outcome before after

@@ -1,6 +1,6 @@
 -- What `zc` does: it links the objects, puts the image and then the certificate, and writes the report.
 use Rattle.std.specs.Prelude.{◌≡◌, ℕ, ◌⊎◌, List, [], ◌∷◌}
-use Rattle.zc_base.specs.MemMap.{standard_map}
+use Rattle.load_runner.specs.Runs.{standard_inputs}
 use Rattle.pick_check.specs.Text.{certificate_text}
 use Rattle.size_report.specs.Report.{report_text}
 use Rattle.zc_outside.specs.Desk.{OnlyWrites}
@@ -10,7 +10,6 @@ use Rattle.zc_link.specs.Links.{IsZcLink, Link}
 use Rattle.zcld.specs.declared.outcome.Outcome.{Outcome}
 use Rattle.zcld.specs.declared.outcome.Outcome.TheVariants.{OutOfMemory}
 use Rattle.zcld.specs.declared.zc.ZcResults.{ZcResults}
-use Rattle.zcld.specs.Objects.{inputs_of}
 use Rattle.zcld.specs.Puts.{Output, PutsInTurn}
 
 -- the image and then the certificate of its table, and the report of the link
@@ -31,7 +30,7 @@ output_of out cert results = record {
 pub record PutsZc
     (out cert : List ℕ) (files : List (List ℕ)) (outcome : Outcome) (before after : World) : Type 0 where
   pub link : Link
-  pub linked : IsZcLink (inputs_of files standard_map) link
+  pub linked : IsZcLink (standard_inputs files) link
   pub done : PutsInTurn outcome (zc_output out cert link) before after
   pub shelf : OnlyPuts before.shelf after.shelf
   pub desk : OnlyWrites before.desk after.desk

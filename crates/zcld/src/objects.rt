@@ -1,13 +1,13 @@
 // The files of the objects that a command links or traces.
 
 ghost use Rattle.std.specs.Prelude.{◌≡◌, IfErr, IfOk, None, OnOk};
+ghost use Rattle.load_runner.specs.Runs.{standard_inputs};
 ghost use Rattle.psabi_sym.specs.Faults.{gather_fault};
 ghost use Rattle.psabi_sym.specs.LinkFault.{IsRefusal};
 ghost use Rattle.psabi_sym.specs.Objects.{contents_of};
-ghost use Rattle.zc_base.specs.MemMap.{standard_map};
 ghost use Rattle.zc_outside.specs.Wanted.{AreRead, ReadsAll};
 ghost use Rattle.command_words.specs.Command.{texts};
-ghost use Rattle.zcld.specs.Objects.{inputs_of, objects_wanted};
+ghost use Rattle.zcld.specs.Objects.{objects_wanted};
 ghost use Rattle.zcld.specs.Task.{UnreadCause};
 
 use crate::limits::OBJECT_LIMIT;
@@ -39,10 +39,10 @@ pub fn read_objects<S: Store>(
 /// The objects in these files, or why they aren't gathered. They are a copy, so the files are let go, unless the
 /// fault may name something in them.
 pub fn gather(alloc: Global, files: &mut Vec<Vec<u8>>) -> Result<Objects, LinkFault>
-    ensures ok { IfOk result (λ objects. objects ≡ inputs_of (contents_of files.old.items) standard_map) }
-    ensures faultless { IfOk result (λ _. gather_fault (inputs_of (contents_of files.old.items) standard_map) ≡ None) }
+    ensures ok { IfOk result (λ objects. objects ≡ standard_inputs (contents_of files.old.items)) }
+    ensures faultless { IfOk result (λ _. gather_fault (standard_inputs (contents_of files.old.items)) ≡ None) }
     ensures err { IfErr result (λ fault.
-        IsRefusal (gather_fault (inputs_of (contents_of files.old.items) standard_map)) fault) }
+        IsRefusal (gather_fault (standard_inputs (contents_of files.old.items))) fault) }
     ensures kept { IfErr result (λ _. files.new.items ≡ files.old.items) }
 {
     let objects = Objects::gather(alloc, files.as_slice(), MemMap::standard())?;

@@ -15,8 +15,8 @@ use zc_base::place::Place;
 use zc_machine::reason::Reason;
 use zc_outside::read_files::ReadFault;
 
-/// What is wrong with a file that isn't an object: it is no image, no plan or no certificate, or it is a certificate that
-/// isn't accepted.
+/// What is wrong with a file that isn't an object: it is no image, no plan or no certificate, or it is a certificate
+/// that isn't accepted.
 #[derive(Clone, Copy, PartialEq, Eq, Debug)]
 pub enum FileFault {
     Image(ImageFault),

@@ -2,17 +2,17 @@
 // length of its text are written.
 
 ghost use Rattle.std.specs.Prelude.{◌≡◌, IfOk, IfErr, None};
+ghost use Rattle.load_runner.specs.Runs.{standard_inputs};
 ghost use Rattle.psabi_sym.specs.Objects.{contents_of};
 ghost use Rattle.block_cut.specs.Faults.{first_fault};
 ghost use Rattle.zc_link.specs.Links.{IsPlainLink};
 ghost use Rattle.zc_outside.specs.Desk.{OnlyWrites};
 ghost use Rattle.zc_outside.specs.Shelf.{OnlyPuts};
-ghost use Rattle.zc_base.specs.MemMap.{standard_map};
 ghost use Rattle.zc_outside.specs.World.{world};
 ghost use Rattle.command_words.specs.Command.{Plain, texts};
 ghost use Rattle.zcld.specs.Call.{DoesWith};
 ghost use Rattle.zcld.specs.ErrLine.{NamesNothing, err_line};
-ghost use Rattle.zcld.specs.Objects.{RefusalCause, inputs_of};
+ghost use Rattle.zcld.specs.Objects.{RefusalCause};
 ghost use Rattle.zcld.specs.Plain.{plain_output};
 ghost use Rattle.zcld.specs.Puts.{PutsInTurn};
 
@@ -53,10 +53,9 @@ pub fn plain<S: Store, C: Console>(
 // What the objects in these files are linked to, or how the call ends without that.
 #[tactic(auto, using(crate::proofs::Refusals::gather_refuses, crate::proofs::Refusals::same_line))]
 fn link(alloc: Global, files: &mut Vec<Vec<u8>>) -> Result<Linked, Outcome>
-    ensures faultless { IfOk result (λ linked. first_fault (inputs_of (contents_of files.old.items) standard_map)
-        ≡ None) }
-    ensures ok { IfOk result (λ linked. IsPlainLink (inputs_of (contents_of files.old.items) standard_map) linked) }
-    ensures err { IfErr result (RefusalCause (first_fault (inputs_of (contents_of files.old.items) standard_map))) }
+    ensures faultless { IfOk result (λ linked. first_fault (standard_inputs (contents_of files.old.items)) ≡ None) }
+    ensures ok { IfOk result (λ linked. IsPlainLink (standard_inputs (contents_of files.old.items)) linked) }
+    ensures err { IfErr result (RefusalCause (first_fault (standard_inputs (contents_of files.old.items)))) }
     ensures line { IfErr result (λ outcome.
         err_line (contents_of files.new.items) outcome ≡ err_line (contents_of files.old.items) outcome) }
 {

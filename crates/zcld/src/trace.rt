@@ -1,14 +1,14 @@
 // The command `trace`: objects are read, and the symbolic machine runs them.
 
 ghost use Rattle.std.specs.Prelude.{◌≡◌, IfOk, IfErr, None};
+ghost use Rattle.load_runner.specs.Runs.{standard_inputs};
 ghost use Rattle.psabi_sym.specs.Objects.{contents_of};
 ghost use Rattle.block_cut.specs.Faults.{first_fault};
-ghost use Rattle.zc_base.specs.MemMap.{standard_map};
 ghost use Rattle.zc_outside.specs.World.{world};
 ghost use Rattle.command_words.specs.Command.{Trace, texts};
 ghost use Rattle.zcld.specs.Call.{CarriesOut};
 ghost use Rattle.zcld.specs.Machines.{TakesAndRuns};
-ghost use Rattle.zcld.specs.Objects.{RefusalCause, inputs_of};
+ghost use Rattle.zcld.specs.Objects.{RefusalCause};
 ghost use Rattle.zcld.specs.Trace.{Traces, trace_outcome as outcome_of_end};
 
 use crate::input::take_all;
@@ -48,9 +48,9 @@ pub fn trace<S: Store, C: Console>(
 // The objects in these files, cut into items, or how the call ends without that.
 #[tactic(auto, using(crate::proofs::Refusals::gather_refuses))]
 fn cut_files(alloc: Global, files: &[Vec<u8>]) -> Result<Cut, Outcome>
-    ensures faultless { IfOk result (λ cut. first_fault (inputs_of (contents_of files.now) standard_map) ≡ None) }
-    ensures ok { IfOk result (λ cut. cut ≡ inputs_of (contents_of files.now) standard_map) }
-    ensures err { IfErr result (RefusalCause (first_fault (inputs_of (contents_of files.now) standard_map))) }
+    ensures faultless { IfOk result (λ cut. first_fault (standard_inputs (contents_of files.now)) ≡ None) }
+    ensures ok { IfOk result (λ cut. cut ≡ standard_inputs (contents_of files.now)) }
+    ensures err { IfErr result (RefusalCause (first_fault (standard_inputs (contents_of files.now)))) }
 {
     let objects = Objects::gather(alloc, files, MemMap::standard())?;
     Ok(Cut::new(alloc, objects)?)

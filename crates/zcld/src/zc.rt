@@ -3,16 +3,16 @@
 
 ghost use Rattle.std.specs.Prelude.{◌≡◌, ◌≢◌, ◌≤◌, ℕ, IfOk, IfErr, List, None, length};
 ghost use Rattle.block_cut.specs.Faults.{first_fault};
+ghost use Rattle.load_runner.specs.Runs.{standard_inputs};
 ghost use Rattle.psabi_sym.specs.Objects.{contents_of};
 ghost use Rattle.zc_link.specs.Links.{IsZcLink};
 ghost use Rattle.zc_outside.specs.Desk.{OnlyWrites};
 ghost use Rattle.zc_outside.specs.Shelf.{OnlyPuts};
-ghost use Rattle.zc_base.specs.MemMap.{standard_map};
 ghost use Rattle.zc_outside.specs.World.{world};
 ghost use Rattle.command_words.specs.Command.{Zc, texts};
 ghost use Rattle.zcld.specs.Call.{DoesWith};
 ghost use Rattle.zcld.specs.ErrLine.{NamesNothing, err_line};
-ghost use Rattle.zcld.specs.Objects.{RefusalCause, inputs_of};
+ghost use Rattle.zcld.specs.Objects.{RefusalCause};
 ghost use Rattle.zcld.specs.Puts.{PutsInTurn};
 ghost use Rattle.zcld.specs.Zc.{output_of, zc_output};
 
@@ -72,11 +72,10 @@ pub fn zc<S: Store, C: Console>(
 // What the objects in these files are linked to, or how the call ends without that.
 #[tactic(auto, using(crate::proofs::Refusals::gather_refuses, crate::proofs::Refusals::same_line))]
 fn link(alloc: Global, files: &mut Vec<Vec<u8>>) -> Result<Linked, Outcome>
-    ensures faultless { IfOk result (λ linked. first_fault (inputs_of (contents_of files.old.items) standard_map)
-        ≡ None) }
-    ensures ok { IfOk result (λ linked. IsZcLink (inputs_of (contents_of files.old.items) standard_map) linked) }
+    ensures faultless { IfOk result (λ linked. first_fault (standard_inputs (contents_of files.old.items)) ≡ None) }
+    ensures ok { IfOk result (λ linked. IsZcLink (standard_inputs (contents_of files.old.items)) linked) }
     ensures few { IfOk result (λ linked. length linked.savings ≤ 0x1_0000) }
-    ensures err { IfErr result (RefusalCause (first_fault (inputs_of (contents_of files.old.items) standard_map))) }
+    ensures err { IfErr result (RefusalCause (first_fault (standard_inputs (contents_of files.old.items)))) }
     ensures line { IfErr result (λ outcome.
         err_line (contents_of files.new.items) outcome ≡ err_line (contents_of files.old.items) outcome) }
 {

@@ -7,7 +7,7 @@ use Rattle.zc_machine.specs.Load.{first_core, first_core_of}
 use Rattle.zc_outside.specs.Course.{ExitsAt}
 use Rattle.zc_outside.specs.MemConsole.{ConsoleState}
 use Rattle.load_runner.specs.Runs.{image_run}
-use Rattle.load_runner.proofs.Exits.{run_exits, run_goes_on}
+use Rattle.load_runner.proofs.ExitLaws.{run_exits, run_goes_on}
 use Rattle.load_runner.proofs.image.run_image.Goals as goal
 use Rattle.load_runner.proofs.image.run_image.Goals.{After-run}
 

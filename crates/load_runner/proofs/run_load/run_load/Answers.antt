@@ -10,11 +10,11 @@ use Rattle.zc_link.specs.Links.{Link}
 use Rattle.zc_outside.specs.Course.{ExitsAt}
 use Rattle.load_runner.specs.Cause.{ImageCause, LoadCause}
 use Rattle.load_runner.specs.Load.{BothLinks}
-use Rattle.load_runner.specs.Runs.{HasExit, IsTraced, image_run, standard_inputs}
+use Rattle.load_runner.specs.Runs.{EventuallyExits, IsTraced, image_run, standard_inputs}
 use Rattle.load_runner.specs.declared.load_end.LoadEnd.TheVariants.{OutOfMemory}
 use Rattle.load_runner.specs.declared.run_load.TheConstants.{LOAD_CUTS}
 use Rattle.load_runner.proofs.Causes.{cuts_cause, handed_on, plain_cause, zc_cause}
-use Rattle.load_runner.proofs.Exits.{has_exit, image_faultless}
+use Rattle.load_runner.proofs.ExitLaws.{eventually_exits, image_faultless}
 use Rattle.load_runner.proofs.run_load.run_load.Goals as goal
 use Rattle.load_runner.proofs.run_load.run_load.Goals.{In_ok-plain_ended, In_ok-traced, In_ok-zc_ended}
 
@@ -33,11 +33,11 @@ traced_of c = subst (λ inputs. IsTraced inputs c.in_ok-traced.traced.count c.in
 no_plan : (c : In_ok-traced) → IsPlan c.empty_plan-no_cuts.result
 no_plan c = subst IsPlan (sym c.empty_plan-no_cuts.ensures) (All-nil (λ e. IsInterrupt e.cut))
 
-plain_exits : (c : In_ok-traced) → HasExit c.in_ok-plain.field-0.elf c.empty_plan-no_cuts.result
-plain_exits c = has_exit (contents_of c.args.objects.now) c.in_ok-plain.field-0.elf c.in_ok-plain.ensures.ok.image.preserves _ _ (traced_of c) c.empty_plan-no_cuts.result (no_plan c)
+plain_exits : (c : In_ok-traced) → EventuallyExits c.in_ok-plain.field-0.elf c.empty_plan-no_cuts.result
+plain_exits c = eventually_exits (contents_of c.args.objects.now) c.in_ok-plain.field-0.elf c.in_ok-plain.ensures.ok.image.preserves _ _ (traced_of c) c.empty_plan-no_cuts.result (no_plan c)
 
-zc_exits : (c : In_ok-traced) (plan : List Entry) → IsPlan plan → HasExit c.in_ok-zc.field-0.elf plan
-zc_exits c = has_exit (contents_of c.args.objects.now) c.in_ok-zc.field-0.elf c.in_ok-zc.ensures.ok.image.preserves _ _ (traced_of c)
+zc_exits : (c : In_ok-traced) (plan : List Entry) → IsPlan plan → EventuallyExits c.in_ok-zc.field-0.elf plan
+zc_exits c = eventually_exits (contents_of c.args.objects.now) c.in_ok-zc.field-0.elf c.in_ok-zc.ensures.ok.image.preserves _ _ (traced_of c)
 
 pub returns-in_err-cuts-clause-err : goal.returns-in_err-cuts-clause-err
 returns-in_err-cuts-clause-err c =

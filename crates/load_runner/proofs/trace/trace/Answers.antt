@@ -1,7 +1,7 @@
 use Rattle.std.proofs.Common.{ap, sym, subst}
 use Rattle.zc_outside.specs.MemConsole.{ConsoleState}
 use Rattle.load_runner.specs.Runs.{IsTraced}
-use Rattle.load_runner.proofs.Exits.{trace_exits}
+use Rattle.load_runner.proofs.ExitLaws.{trace_exits}
 use Rattle.load_runner.proofs.trace.trace.Goals as goal
 
 pub returns-in-Exited-clause-ok : goal.returns-in-Exited-clause-ok

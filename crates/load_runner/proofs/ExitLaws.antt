@@ -37,7 +37,7 @@ use Rattle.zc_outside.specs.Course.{EndsWithStop, Exit, ExitsAt}
 use Rattle.zc_outside.specs.Desk.{Desk}
 use Rattle.zc_outside.specs.MemConsole.{ConsoleState, desk_of}
 use Rattle.load_runner.specs.declared.run_load.TheConstants.{LOAD_STEPS}
-use Rattle.load_runner.specs.Runs.{HasExit, IsTraced, image_run, standard_inputs, trace_run}
+use Rattle.load_runner.specs.Runs.{EventuallyExits, IsTraced, image_run, standard_inputs, trace_run}
 
 -- ---- refusals
 
@@ -102,7 +102,7 @@ module _ (elf : List ℕ) (plan : List Entry) (first : ZcCore) (is : first ≡ f
 
   -- with an exit there is no stop
   pub run_goes_on :
-      (reason : Reason) (now : ZcCore) (before after : Desk) → HasExit elf plan
+      (reason : Reason) (now : ZcCore) (before after : Desk) → EventuallyExits elf plan
       → Ran (interrupts_by plan) (zc_course first [] plan LOAD_STEPS) (end.Stopped reason) now before after → ⊥
   run_goes_on reason now before after has ran =
       let here = subst (λ z. EndsWithStop (zc_course z [] plan LOAD_STEPS) reason before after) is ran.0 in
@@ -110,10 +110,10 @@ module _ (elf : List ℕ) (plan : List Entry) (first : ZcCore) (is : first ≡ f
 
 -- ---- its exit
 
-pub has_exit :
+pub eventually_exits :
     (files : List (List ℕ)) (elf : List ℕ) → Preserves (standard_inputs files) elf → (count : ℕ) (exit : Exit)
-    → IsTraced (standard_inputs files) count exit → (plan : List Entry) → IsPlan plan → HasExit elf plan
-has_exit files elf preserves count exit traced plan is_plan =
+    → IsTraced (standard_inputs files) count exit → (plan : List Entry) → IsPlan plan → EventuallyExits elf plan
+eventually_exits files elf preserves count exit traced plan is_plan =
     let follows = preserves.follows [] count traced.exits.last (All-nil (λ b. b < 256)) traced.exits.state in
     let under = follows.2 plan is_plan in
     let core = image_core elf standard_map preserves.image preserves.read in
