@@ -171,7 +171,20 @@ fn settled_numbers(settled: &Settled, at: u32, to: u32) -> [u32; 9] {
     ]
 }
 
+// How many nodes the tree of a layout's sizes has, the first four, and the last.
+fn nodes_text(alloc: Global, settled: &Settled) -> Result<String, Fail> {
+    let nodes = settled.sums().nodes();
+    let [first, second, third, fourth, .., last] = nodes else {
+        return Err("few nodes".into());
+    };
+    let count = nodes.len();
+    Ok(format!(in alloc; "{count} {first} {second} {third} {fourth} {last}")?)
+}
+
 fn settled_text(alloc: Global, settled: &Settled, offsets: &str) -> Result<String, Fail> {
+    if offsets == "nodes" {
+        return nodes_text(alloc, settled);
+    }
     let (at, to) = offsets.split_once(':').ok_or("no offsets")?;
     let mut text = String::new(alloc);
     for number in settled_numbers(settled, at.parse::<u32>()?, to.parse::<u32>()?) {

@@ -83,7 +83,7 @@ pub const DATA: &str = "
 
 /// The bytes of what is written at an offset when the code is made smaller, how far another offset then lies from the
 /// text's start, each 99 if there is none, and the counts: the text's bytes, items, short ones, long branches, pushes, pops
-/// and moves.
+/// and moves. `nodes` are those of the tree of sizes: how many there are, the first four, and the last.
 pub const SETTLED: &str = "
 alone 327779*1 19*126 115*1 0:0:1:16:508 @ settled 0:508 = 2 254 258 128 127 0 0 0 0 | a short branch just reaches
 alone 327779*1 19*127 115*1 0:0:1:16:512 @ settled 0:512 = 4 258 262 129 127 0 0 0 0 | and doesn't
@@ -93,6 +93,9 @@ alone 19*1024 111*1 115*1 0:4096:1:17:0 @ settled 4096:0 = 2 0 2054 1026 1025 0 
 alone 19*1025 111*1 115*1 0:4100:1:17:0 @ settled 4100:0 = 4 0 2058 1027 1025 0 0 0 0 | too far back
 alone 327779*1 111*1 19*1022 115*1 0:0:1:16:508 1:4:1:17:4096 @ settled 0:508 = 2 254 2052 1025 1024 0 0 0 0 | a branch over a short jump
 alone 327779*1 111*1 19*1023 115*1 0:0:1:16:508 1:4:1:17:4100 @ settled 0:508 = 4 258 2058 1026 1023 0 0 0 0 | the jump grows and pushes the branch
+alone 327779*1 111*1 19*1023 115*1 0:0:1:16:508 1:4:1:17:4100 @ settled 4:4100 = 4 2054 2058 1026 1023 0 0 0 0 | to here
+alone 327779*1 111*1 19*1023 115*1 0:0:1:16:508 1:4:1:17:4100 @ settled nodes = 1028 0 0 4 8 10 | sizes are 0, 0, 4, 4, then 2s, and 4
+alone 327779*1 111*1 19*1023 115*1 0:0:1:16:508 1:4:1:17:4100 @ zc start = 0163 1005 006f 0030 | both are words
 alone 19*2 11862115*1 97862931*1 19*3 97862931*1021 115*1 0:8:1:16:4112 1:16:0:43:12 @ settled 8:4112 = 8 4100 4104 1027 2 1 0 0 0 | padding pushes a branch to 8 bytes
 alone 4278255891*1 8463907*1 1123363*1 8462467*1 12657667*1 16843027*1 32871*1 115*1 19*4 @ settled 0:12 = 2 2 16 12 4 0 1 1 0 | a push, and a pop that returns
 alone 4278255891*1 8463907*1 1123363*1 8462467*1 12657667*1 16843027*1 32871*1 115*1 19*4 @ settled 4:8 = 99 99 16 12 4 0 1 1 0 | nothing is written inside a push

@@ -37,7 +37,7 @@ fn counts_text(alloc: Global, linked: &Linked) -> Result<String, Fail> {
     Ok(format!(in alloc; "{texts} {sizes} {} {} {}", zc.pushes, zc.pops, zc.moves)?)
 }
 
-/// What is asked of a link: its `text`, its `places`, or its `counts`.
+/// What is asked of a link: its `text`, the first eight bytes of it as its `start`, its `places`, or its `counts`.
 pub fn image_text(alloc: Global, linked: &Linked, asked: &str) -> Result<String, Fail> {
     let image = Image::read(linked.elf.as_slice(), MemMap::standard())?;
     if image.segment_count() == 0 {
@@ -45,6 +45,10 @@ pub fn image_text(alloc: Global, linked: &Linked, asked: &str) -> Result<String,
     }
     match asked {
         "text" => halves_text(alloc, image.segment(0).bytes),
+        "start" => {
+            let start = image.segment(0).bytes.get(..8).ok_or("no start")?;
+            halves_text(alloc, start)
+        }
         "places" => places_text(alloc, &image),
         "counts" => counts_text(alloc, linked),
         _ => Err("no question".into()),

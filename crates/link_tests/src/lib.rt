@@ -5,6 +5,8 @@
 #[cfg(test)]
 mod answers;
 #[cfg(test)]
+mod changed_fields;
+#[cfg(test)]
 mod cut_rows;
 #[cfg(test)]
 mod cuts;

@@ -1,5 +1,5 @@
-// The generated plans: a hash of their interrupts (FNV-1a of 64 bits, a number at a time). The hashes were computed by a
-// program in another language.
+// The generated plans: a hash of their interrupts (FNV-1a of 64 bits, a number at a time). The hashes were computed by
+// a program in another language.
 
 ghost use Rattle.std.specs.Prelude.{◌≤◌};
 

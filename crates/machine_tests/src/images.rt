@@ -3,13 +3,15 @@
 
 ghost use Rattle.std.specs.Prelude.{◌≡◌, IfOk, None};
 
+mod file;
 mod frames;
 mod rows;
 
 use crate::row::{bytes_of, column, end_of, number_of, shown};
 use elf32_read::image::Image;
+use file::file_of;
 use interrupt_plan::plan::empty_plan;
-use rows::{HALFWORDS, PROGRAMS, STEPS};
+use rows::{HALFWORDS, PAGES, PROGRAMS, STEPS};
 use std::alloc::{AllocError, Global};
 use std::process::Abort;
 use std::test::Fail;
@@ -21,24 +23,21 @@ use zc_machine::reason::Reason;
 use zc_machine::run::{RunEnd, run};
 use zc_outside::mem_console::MemConsole;
 
-// A file's header and a program header, up to the sizes: of code at 0x10000 that comes after them.
-const HEADERS: &str = "
-464C457F 00010101 00000000 00000000 00F30002 00000001 00010000
-00000034 00000000 00000001 00200034 00280001 00000000
-00000001 00000054 00010000 00010000";
-
-// The machine with this text. Halfwords have four digits, and words eight.
+// The machine with this text and these segments of data, as `file_of` takes them.
 #[tactic(auto, unfolding(zc_machine::specs::Load::first_core))]
+fn load_with(alloc: Global, text: &str, data: &str) -> Result<Machine, Fail>
+    ensures { IfOk result (λ machine. (machine.exit ≡ None) × (machine.commits ≡ 0)) }
+{
+    let file = file_of(alloc, text, data)?;
+    let image = Image::read(file.as_slice(), MemMap::standard())?;
+    Ok(Machine::load(alloc, &image)?)
+}
+
+// The same without data.
 fn load(alloc: Global, text: &str) -> Result<Machine, Fail>
     ensures { IfOk result (λ machine. (machine.exit ≡ None) × (machine.commits ≡ 0)) }
 {
-    let text = bytes_of(alloc, text)?;
-    let size = u32::try_from(text.len())?;
-    let sizes = format!(in alloc; "{HEADERS} {size:08x} {size:08x} 00000005 00000004")?;
-    let mut file = bytes_of(alloc, sizes.as_str())?;
-    file.extend_from_slice(text.as_slice())?;
-    let image = Image::read(file.as_slice(), MemMap::standard())?;
-    Ok(Machine::load(alloc, &image)?)
+    load_with(alloc, text, "")
 }
 
 // Loads and runs the text of a row, and says how the run ended and what it left.
@@ -47,7 +46,7 @@ fn ran(alloc: Global, row: &str) -> Result<String, Fail> {
     let fails = [number_of(row, "fails")?];
     let input = bytes_of(alloc, column(row, "in"))?;
     let mut console = MemConsole::new(alloc, b"", &fails)?;
-    let mut machine = load(alloc, column(row, "text"))?;
+    let mut machine = load_with(alloc, column(row, "text"), column(row, "data"))?;
     let plan = empty_plan(alloc);
     let end = run(&mut machine, &plan, input.as_slice(), steps, &mut console);
     let a0 = machine.register(Reg::new(10).ok_or("no register")?);
@@ -87,6 +86,21 @@ fn halfwords_do_what_they_stand_for(rt: HostRuntime) -> Result<(), Fail> {
 #[test]
 fn programs_end_with_their_status_or_reason(rt: HostRuntime) -> Result<(), Fail> {
     expect_runs(&rt, PROGRAMS, "")
+}
+
+#[test]
+fn memory_in_pages_is_that_of_its_addresses(rt: HostRuntime) -> Result<(), Fail> {
+    expect_runs(&rt, PAGES, "")
+}
+
+#[test]
+fn a_piece_ends_with_its_page(rt: HostRuntime) -> Result<(), Fail> {
+    let machine = load_with(rt.alloc(), "0001", "00100000 00002000 0FFE 61 62 63 64;")?;
+    assert_eq!(rt;
+        machine.piece(0x0010_0FFE, 4).ok_or("no memory")?,
+        b"ab".as_slice()
+    );
+    Ok(())
 }
 
 // The numbers are those of `fuzz/frames.py`.

@@ -1,4 +1,5 @@
-// Texts of plans, and what is read: `|` stands for a line feed, and `^` for a carriage return.
+// Texts of plans, and what is read: `|` stands for a line feed, `^` for a carriage return, `~` for a tab, and `%`
+// for a byte of zero.
 
 use interrupt_plan::plan::Plan;
 use interrupt_plan::read_plan::read_plan;
@@ -11,6 +12,11 @@ zcld plan 1| =
 zcld plan 2| = line 1 isn't one of a plan
 zcld plan 1 | = line 1 isn't one of a plan
 zcld plan 1^| = line 1 isn't one of a plan
+zcld plan 1%| = line 1 isn't one of a plan
+zcld plan 01| = line 1 isn't one of a plan
+zcld  plan 1| = line 1 isn't one of a plan
+zcld certificate 1| = line 1 isn't one of a plan
+þzcld plan 1| = line 1 isn't one of a plan
 |zcld plan 1| = line 1 isn't one of a plan
 cut 3| = line 1 isn't one of a plan
 zcld plan 1|cut 3 = line 2 isn't one of a plan
@@ -29,6 +35,12 @@ cut  3 = bad
  cut 3 = bad
 cut 3  = bad
 cut 3^ = bad
+cut~3 = bad
+cut 3% = bad
+% = bad
+cut 3 þ = bad
+cut -1 = bad
+cut 0x3 = bad
 cut 03 = bad
 cut +3 = bad
 cut 0 = 0 [] [];
@@ -37,6 +49,8 @@ cut 18446744073709551616 = bad
 cut 3 a0 a255 = 3 [0, 255] [];
 cut 3 a256 = bad
 cut 3 a01 = bad
+cut 3 a-1 = bad
+cut 3 a4294967297 = bad
 cut 3 a = bad
 cut 3 A1 = bad
 cut 3 a1 d00000fff:0a = 3 [1] [(4095, 10)];
@@ -70,10 +84,17 @@ fn answer(alloc: Global, text: &str) -> Result<String, AllocError> {
         bytes.push(match byte {
             b'|' => b'\n',
             b'^' => b'\r',
+            b'~' => b'\t',
+            b'%' => 0,
             _ => byte,
         })?;
     }
-    match read_plan(alloc, bytes.as_slice()) {
+    read(alloc, bytes.as_slice())
+}
+
+// What is read of a text.
+fn read(alloc: Global, text: &[u8]) -> Result<String, AllocError> {
+    match read_plan(alloc, text) {
         Ok(plan) => told(alloc, &plan),
         Err(fault) => format!(in alloc; " {fault}"),
     }
@@ -104,6 +125,16 @@ fn a_line_is_read_or_bad(rt: HostRuntime) -> Result<(), Fail> {
             "{line}"
         );
     }
+    Ok(())
+}
+
+#[test]
+fn a_text_above_the_limit_is_too_large(rt: HostRuntime) -> Result<(), Fail> {
+    let feeds = vec![in rt.alloc(); b'\n'; 8_388_609]?;
+    let within = read(rt.alloc(), &feeds[1..])?;
+    let above = read(rt.alloc(), feeds.as_slice())?;
+    assert_eq!(rt; within.as_str(), " line 1 isn't one of a plan");
+    assert_eq!(rt; above.as_str(), " the plan is too large");
     Ok(())
 }
 

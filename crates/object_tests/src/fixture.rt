@@ -33,7 +33,7 @@ fn place_of(text: &str) -> Result<usize, Fail> {
 }
 
 /// A file after the changes of a line: of its words, those with a colon each write a word of the file, as
-/// `408+4:11` writes 0x11 at 412.
+/// `408+4:11` writes 0x11 at 412, and `<51` leaves the first 51 bytes.
 pub fn changed(alloc: Global, file: &str, line: &str) -> Result<Vec<u8>, Fail> {
     let mut bytes = bytes_of(alloc, file)?;
     for word in line.split_whitespace() {
@@ -44,6 +44,8 @@ pub fn changed(alloc: Global, file: &str, line: &str) -> Result<Vec<u8>, Fail> {
                 return Err(Fail::new("no word"));
             }
             put_u32(&mut bytes, at, value);
+        } else if let Some(length) = word.strip_prefix("<") {
+            bytes.truncate(length.parse::<usize>()?);
         }
     }
     Ok(bytes)

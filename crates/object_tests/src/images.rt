@@ -34,6 +34,7 @@ const IMAGE: &str = "
 // Each line: the number of the fault, or 0 for none, the changes, and what they make.
 const FAULTS: &str = "0 as it is
 0 36:11 both known flags
+1 <51 a header that is cut off
 1 36:2 an unknown flag
 1 36:101 an unknown high flag
 1 16:f30001 an object
@@ -41,6 +42,8 @@ const FAULTS: &str = "0 as it is
 1 44:290002 section headers of 41 bytes
 0 44:290002 48:50000 section headers of 41 bytes, none
 2 44:28000d program headers past the end
+2 28:ffffffff program headers far out
+2 <459 section headers that are cut off
 2 48:50007 section headers past the end
 2 56:274 text past the end
 2 400:230 places past the end
@@ -51,8 +54,10 @@ const FAULTS: &str = "0 as it is
 3 60:0 text below its place
 0 72:f0000 text up to the data
 3 72:f0001 text into the data
+3 72:ffffffff text over all memory
 0 104:400000 data of 4 MiB
 3 104:400001 data of 4 MiB and a byte
+3 104:ffffffff data over all memory
 3 92:f0000 data below its place
 0 92:10004 108:5 an empty code segment in the text
 3 92:10009 108:5 104:2 a code segment over the text's end
@@ -69,6 +74,7 @@ const FAULTS: &str = "0 as it is
 4 400:2f a list with a part of an entry
 4 144:0 the same place twice
 4 136:0 an address below the text
+4 136:200000 an address above the data's start
 0 172:100000 an address at the data
 4 172:100001 an address past it";
 
@@ -86,6 +92,7 @@ fn the_first_fault_of_an_image_is_numbered(rt: HostRuntime) -> Result<(), Fail> 
         let (fault, _) = line.split_once(" ").ok_or("no fault")?;
         assert_eq!(rt; fault_of(&bytes), fault.parse::<u32>()?, "{line}");
     }
+    assert_eq!(rt; bytes_of(rt.alloc(), IMAGE)?.len(), 460);
     let zeros = vec![in rt.alloc(); 0; 0x80_0001]?;
     assert_eq!(rt; (fault_of(&zeros), fault_of(&zeros[1..])), (5, 1));
     Ok(())

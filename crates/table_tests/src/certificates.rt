@@ -1,6 +1,7 @@
 // Texts of certificates, and what is said of them.
 //
-// In a row `|` stands for a line feed, `_` for a line `slot 0`, and `~` for eight of these.
+// In a row `|` stands for a line feed, `^` for a carriage return, `%` for a byte of zero, `_` for a line `slot 0`,
+// and `~` for eight of these.
 
 use crate::rows::expect;
 use pick_check::accepts::accepts;
@@ -18,6 +19,8 @@ fn bytes_of(alloc: Global, row: &str) -> Result<Vec<u8>, AllocError> {
     for byte in row.bytes() {
         match byte {
             b'|' => bytes.push(b'\n')?,
+            b'^' => bytes.push(b'\r')?,
+            b'%' => bytes.push(0)?,
             b'_' => bytes.extend_from_slice(b"slot 0\n")?,
             b'~' => bytes.extend_from_slice(HOLES.as_bytes())?,
             _ => bytes.push(byte)?,
@@ -97,6 +100,11 @@ zcld certificate 1| = line 2
 zcld certificate 2|price 0 0 0|net 0|end| = line 1
 |zcld certificate 1|price 0 0 0|net 0|end| = line 1
 zcld certificate 1 |price 0 0 0|net 0|end| = line 1
+zcld certificate 1^|price 0 0 0|net 0|end| = line 1
+zcld certificate 1%|price 0 0 0|net 0|end| = line 1
+zcld certificate 01|price 0 0 0|net 0|end| = line 1
+zcld plan 1| = line 1
+þzcld certificate 1|price 0 0 0|net 0|end| = line 1
 zcld certificate 1|zcld certificate 1|price 0 0 0|net 0|end| = line 2
 zcld certificate 1|price 0 0 0| = line 3
 zcld certificate 1|price 0 0 0|net 0 = line 3
@@ -105,6 +113,9 @@ zcld certificate 1|price 0 0 0|net 0|end = line 4
 zcld certificate 1|price 0 0 0|net 0|end | = line 4
 zcld certificate 1|price 0 0 0|net 0|end|| = line 5
 zcld certificate 1|price 0 0 0|net 0|end| . = line 5
+zcld certificate 1|price 0 0 0|net 0|end|% = line 5
+zcld certificate 1|price 0 0 0|net 18446744073709551616|end| = line 3
+zcld certificate 1|price 0 0 0|net -1|end| = line 3
 zcld certificate 1|price 0 0 0|net 0|end|end| = line 5
 zcld certificate 1|net 0|price 0 0 0|end| = line 2
 zcld certificate 1|price 0 0 0|price 0 0 0|net 0|end| = line 3
@@ -135,6 +146,12 @@ saving  0 1 0 0 50 = line 2
 saving 0 1 0 0 +50 = line 2
 saving 0 1 0 0 -1 = line 2
 saving 0 1 0 0 0x5 = line 2
+saving 0 1 0 0 50^ = line 2
+saving 0 1 0 0 50% = line 2
+saving 0 1 0 0 99999999999999999999 = line 2
+% = line 2
+ = line 2
+þ = line 2
 Saving 0 1 0 0 50 = line 2
  saving 0 1 0 0 50 = line 2
 saving0 1 0 0 50 = line 2

@@ -1,5 +1,6 @@
-//! Tests of certificates, of the choice of a jump table and of the code that sets its base, by the public calls of
-//! `pick_check`, `jumptable_pick` and `entry_stub`. They stand apart, since a crate with tests is proved twice.
+//! Tests of certificates, of the choice of a jump table, of the code that sets its base and of the tree of sums, by the
+//! public calls of `pick_check`, `jumptable_pick`, `entry_stub` and `shrink_layout`. They stand apart, since a crate
+//! with tests is proved twice.
 #![tactic(auto)]
 
 #[cfg(test)]
@@ -10,3 +11,5 @@ mod picks;
 mod rows;
 #[cfg(test)]
 mod stubs;
+#[cfg(test)]
+mod sums;

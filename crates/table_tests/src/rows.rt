@@ -6,6 +6,7 @@
 use crate::certificates;
 use crate::picks::{certificate, places};
 use crate::stubs::stub_bytes;
+use crate::sums::steps;
 use std::alloc::Global;
 use std::process::Abort;
 use std::test::Fail;
@@ -16,6 +17,7 @@ fn answer(alloc: Global, call: &str, given: &str) -> Result<String, Fail> {
         "pick" => certificate(alloc, given),
         "slot_places" => places(alloc, given),
         "stub" => stub_bytes(alloc, given),
+        "sums" => steps(alloc, given),
         _ => certificates::answer(alloc, call, given),
     }
 }

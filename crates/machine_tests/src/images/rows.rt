@@ -99,6 +99,23 @@ FC000313 01731073 A042 | steps 3 | ends stopped 2 BadAccess 10008 0
 0FFFF5B7 FFE58593 00500613 03F00893 00000073 00100513 04000893 00000073 05D00893 00000073 | in 61 62 63 64 65 | fails 1 | out 61 62 | ends fault 1001c 1
 0FFFF5B7 FFE58593 00500613 03F00893 00000073 00100513 04000893 00000073 05D00893 00000073 | in 61 62 63 64 65 | fails 0 | ends fault 1001c 1";
 
+/// Programs as in `PROGRAMS`, with segments of data.
+pub const PAGES: &str = "
+# four bytes over a page's end are written: lui a1,0x101; addi a1,a1,-2; addi a2,x0,4; addi a0,x0,1; addi a7,x0,64; ecall; addi a7,x0,93; ecall
+001015B7 FFE58593 00400613 00100513 04000893 00000073 05D00893 00000073 | data 00100000 00002000 0FFE 61 62 63 64; | out 61 62 63 64 | ends exited 4 1001c 4
+# a push and a pop over a page's end: lui sp,0xFFFF; addi sp,sp,8; c.li s0,9; c.li s1,7; cm.push {ra, s0-s4}, -48; c.li s0,0; c.li s1,0; cm.pop {ra, s0-s4}, 48; c.mv a0,s0; c.add a0,s1
+0FFFF137 00810113 4425 449D B896 4401 4481 BA96 8522 9526 | steps 10 | ends spent 10018 10
+# words are stored before and after a page's end in turn: lui a1,0x101; addi t1,x0,1; sw t1,-4(a1); addi t1,x0,2; sw t1,0(a1); addi t1,x0,3; sw t1,-8(a1); addi t1,x0,4; sw t1,4(a1); addi a1,a1,-8; addi a2,x0,16; addi a0,x0,1; addi a7,x0,64; ecall; addi a7,x0,93; ecall
+001015B7 00100313 FE65AE23 00200313 0065A023 00300313 FE65AC23 00400313 0065A223 FF858593 01000613 00100513 04000893 00000073 05D00893 00000073 | data 00100000 00002000 0; | out 03 00 00 00 01 00 00 00 02 00 00 00 04 00 00 00 | ends exited 16 1003c 10
+# a word is stored in a page of zeros, and loaded from there, from the next page, or from the stack: lui a1,0x100; addi t1,x0,1; sw t1,0(a1); lui a1,0x100 (or 0x101, or 0xFF00); lw a0,0(a1)
+001005B7 00100313 0065A023 001005B7 0005A503 | data 00100000 00002000 0; | steps 5 | ends spent 10014 1
+001005B7 00100313 0065A023 001015B7 0005A503 | data 00100000 00002000 0; | steps 5 | ends spent 10014 0
+001005B7 00100313 0065A023 0FF005B7 0005A503 | data 00100000 00002000 0; | steps 5 | ends spent 10014 0
+# a word is stored in each page of four: lui a1,0x100; lui a2,0x104; lui t1,1; sw a1,0(a1); add a1,a1,t1; bne a1,a2,-8; lui a1,0x103; lw a0,0(a1)
+001005B7 00104637 00001337 00B5A023 006585B3 FEC59CE3 001035B7 0005A503 | data 00100000 00004000 0; | steps 17 | ends spent 10020 103000
+# the byte at the start of the last of 16 segments is loaded: lui a1,0x11C; lbu a0,0(a1)
+0011C5B7 0005C503 | data 00100000 00000010 0 01; 00102000 00000010 0 02; 00104000 00000010 0 03; 00106000 00000010 0 04; 00108000 00000010 0 05; 0010A000 00000010 0 06; 0010C000 00000010 0 07; 0010E000 00000010 0 08; 00110000 00000010 0 09; 00112000 00000010 0 0A; 00114000 00000010 0 0B; 00116000 00000010 0 0C; 00118000 00000010 0 0D; 0011A000 00000010 0 0E; 0011C000 00000010 0 0F; | steps 2 | ends spent 10008 f";
+
 /// Each program, and what its steps answer, one after another.
 pub const STEPS: &str = "
 # c.li a0,3; addi a7,x0,93; ecall
