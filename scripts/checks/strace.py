@@ -44,8 +44,8 @@ class Call:
         return f'{self.name} {self.number} ({self.words[:60]})'
 
 
-def calls_of(words, folder, name, first_file):
-    """The calls of a run, from the first of this name on that names this file."""
+def all_calls(words, folder):
+    """The calls of a run, in their order."""
     log = folder.path('log')
     folder.run(words, before=('strace', '-qq', '-o', log))
     with open(log, encoding='utf-8', errors='replace') as file:
@@ -58,5 +58,11 @@ def calls_of(words, folder, name, first_file):
             continue
         counts[match[1]] = counts.get(match[1], 0) + 1
         calls.append(Call(match[1], counts[match[1]], match[2]))
+    return calls
+
+
+def calls_of(words, folder, name, first_file):
+    """The calls of a run, from the first of this name on that names this file."""
+    calls = all_calls(words, folder)
     begins = [i for i, call in enumerate(calls) if call.name == name and f'"{first_file}"' in call.words]
     return calls[begins[0]:]

@@ -2,7 +2,8 @@
 
 `elf` has the numbers and records of the file format, and lays files out; over it `objects` writes objects, and `images` writes
 images and reads the segments of executables. `instructions` puts instructions together and takes them apart, `files` reads and
-writes files, `programs` runs programs and says how they ended, and `measured` measures how long they take.
+writes files, `programs` runs programs and says how they ended, `allocations` refuses them memory, and `measured` measures how
+long they take.
 
 Nothing here comes from the program that is checked, so the models in fuzz/ stand on it too.
 """

@@ -1,0 +1,237 @@
+#!/usr/bin/env python3
+"""Compiles random C programs, links them, runs and traces them, and compares them with GNU ld's link under qemu-riscv32.
+
+    fuzz/c_programs.py [--seed S] [--count N] [--seconds T] [--only CASE] [--flags FLAGS]... [--keep FOLDER] [PROGRAM]
+
+PROGRAM is build/zcld if none is given. It needs csmith with its headers (Debian: csmith, libcsmith-dev), GCC and GNU ld for
+RISC-V, qemu-riscv32, and Clang for its flags. A case is fixed by the seed and its number: the program that csmith generates
+from their sum, and one of the lists of flags in turn, or of those that are given, as `gcc -O2` or `clang -Os -mrelax`. The
+program is joined with what it needs of libgcc by `ld -r`, and linked with the start of examples/firmware and with c_runtime/.
+Checked are:
+
+- `plain`, `zc` and `trace` refuse the objects alike;
+- the images of both links write what the same objects write that GNU ld links with relaxation and qemu-riscv32 runs, and exit as
+  they do; csmith's programs write a checksum of their global variables;
+- `trace` writes and ends so too, or is stuck, and then has written the beginning of that.
+
+Of a program that is stuck in `trace` nothing is promised, so it is no failure if an image does something else; but it is
+counted. It says how many programs did alike, and why others were refused, stuck or left out: those that aren't compiled, that
+qemu-riscv32 doesn't end within some seconds of the processor, and that take more commits than a run may make. It stops at the
+first difference, with status 1, and FOLDER then has the source, the objects and the images.
+"""
+import argparse
+import collections
+import os
+import re
+import resource
+import shutil
+import signal
+import sys
+import tempfile
+import time
+
+sys.path.insert(0, os.path.join(os.path.dirname(os.path.abspath(__file__)), os.pardir, 'scripts'))
+
+from zcld_tools import TOP, programs
+from zcld_tools.files import read
+from zcld_tools.programs import Failed
+
+RUNTIME, FIRMWARE = os.path.join(TOP, 'fuzz', 'c_runtime'), os.path.join(TOP, 'examples', 'firmware')
+CSMITH_HEADERS = os.path.join(os.sep, 'usr', 'include', 'csmith')
+ARCH = ('-march=rv32im', '-mabi=ilp32')
+USUAL = (*ARCH, '-ffreestanding', '-fno-pic', '-w', '-isystem', RUNTIME, '-isystem', CSMITH_HEADERS)
+COMPILERS = {'gcc': (tuple(prefix + 'gcc' for prefix in programs.PREFIXES), ()),
+             'clang': (('clang-19', 'clang'), ('--target=riscv32-unknown-elf', '-Wno-unused-command-line-argument'))}
+FLAGS = ('gcc -Og', 'clang -O0', 'gcc -O1', 'clang -O1', 'gcc -O2', 'clang -O2 -mrelax', 'gcc -O3', 'clang -O3',
+         'gcc -Os', 'clang -Os -mrelax', 'gcc -Os -fno-section-anchors', 'clang -Oz -ffunction-sections -fdata-sections',
+         'gcc -O2 -fno-section-anchors -ffunction-sections -fdata-sections', 'clang -O1 -fno-jump-tables -mcmodel=medany',
+         'gcc -O3 -fno-section-anchors -funroll-loops', 'clang -Os -msmall-data-limit=8 -mrelax',
+         'gcc -Os -fno-section-anchors -mno-relax -msmall-data-limit=0', 'clang -O3 -mno-relax -ffunction-sections',
+         'gcc -Os -fno-section-anchors -msave-restore', 'clang -O2 -mno-relax')
+STEPS = 50_000_000
+QEMU = 'qemu-riscv32'
+# The seconds of the processor that csmith or a compiler may take, those of qemu-riscv32, and those by the clock.
+MOST, MOST_OF_QEMU, BY_CLOCK = 10, 2, 120
+
+
+class Left(Exception):
+    """Why nothing is compared of a program."""
+
+
+class Differs(Exception):
+    """Two answers that aren't the same."""
+
+
+def in_time(seconds=MOST):
+    programs.limit(resource.RLIMIT_CPU, seconds)
+
+
+class Tools:
+    """The programs that are called, and the objects that all programs are linked with."""
+
+    def __init__(self, program, folder):
+        self.program, self.folder = program, folder
+        self.linker = programs.found(*programs.GNU_LINKERS)
+        self.compilers = {name: programs.found(*names) for name, (names, _) in COMPILERS.items()}
+        for what in (self.linker, self.compilers['gcc'], programs.found('csmith'), programs.found(QEMU)):
+            if what is None:
+                sys.exit('it needs csmith, GCC and GNU ld for RISC-V, and qemu-riscv32')
+        self.libgcc = programs.told([self.compilers['gcc'], *ARCH, '-print-libgcc-file-name']).strip()
+        sources = os.path.join(FIRMWARE, 'start.s'), os.path.join(FIRMWARE, 'support.c'), os.path.join(RUNTIME, 'runtime.c')
+        self.shared = [self.compiled('gcc -Os -fno-tree-loop-distribute-patterns', source) for source in sources]
+
+    def path(self, name):
+        return os.path.join(self.folder, name)
+
+    def compiled(self, flags, source):
+        """The object of a source file. Flags begin with the compiler's name."""
+        compiler, *words = flags.split()
+        out = self.path(os.path.splitext(os.path.basename(source))[0] + '.o')
+        programs.told([self.compilers[compiler], *COMPILERS[compiler][1], *USUAL, *words, '-c', source, '-o', out],
+                      first=in_time)
+        return out
+
+    def made(self, number, flags):
+        """The object of the program with this number, joined with what it needs of libgcc."""
+        source, joined = self.path('program.c'), self.path('joined.o')
+        try:
+            programs.told(['csmith', '--no-argc', '--seed', str(number), '--output', source], cwd=self.folder, first=in_time)
+            made = self.compiled(flags, source)
+            programs.told([self.linker, *programs.FORMAT, '-r', '-o', joined, made, self.libgcc])
+        except Failed as why:
+            raise Left(f'not generated or compiled: {os.path.basename(str(why).split()[0])}') from None
+        return joined
+
+    def reference(self, objects):
+        """What qemu-riscv32 makes of GNU ld's link: the status and the output."""
+        out = self.path('reference')
+        programs.told([self.linker, *programs.FORMAT, '-T', os.path.join(RUNTIME, 'memory.ld'), '-o', out, *objects])
+        try:
+            ended = programs.run([QEMU, out], first=lambda: in_time(MOST_OF_QEMU))
+        except Failed:
+            raise Left(f'no end under {QEMU}') from None
+        if ended.status < 0:
+            is_long = ended.status in (-signal.SIGXCPU, -signal.SIGKILL)
+            raise Left(f'no end under {QEMU}' if is_long else f'signal {-ended.status} under {QEMU}')
+        return ended.status, ended.out
+
+    def call(self, *words):
+        return programs.run([self.program, *words])
+
+
+def last_line(ended):
+    return ended.err.decode('latin-1').rstrip('\n').rsplit('\n', 1)[-1]
+
+
+def refusal(tools, objects):
+    """Links the objects both ways, and gives the line of the refusal, or none."""
+    plain = tools.call('plain', '--out', tools.path('plain'), *objects)
+    zc = tools.call('zc', '--out', tools.path('zc'), '--cert', tools.path('cert'), *objects)
+    if (plain.status, plain.err) != (zc.status, zc.err):
+        raise Differs(f'plain ends with {plain.status} and {last_line(plain)}, zc with {zc.status} and {last_line(zc)}')
+    if plain.status not in (0, 121):
+        raise Differs(f'plain ends with {plain.status} and {last_line(plain)}')
+    return plain.err or None
+
+
+def check_image(tools, name, wanted):
+    """An image's run writes and exits as the reference does."""
+    ran = tools.call('run', '--steps', str(STEPS), tools.path(name))
+    if ran == (127, wanted[1][:len(ran.out)], b'spent\n'):
+        raise Left(f'more than {STEPS} commits')
+    if (ran.out, ran.err) != (wanted[1], b'exited %d\n' % wanted[0]):
+        raise Differs(f'run of {name} ends with {ran}, and not with {wanted}')
+
+
+def traced(tools, objects, wanted):
+    """Why `trace` doesn't come to the end of the reference, or none."""
+    ended = tools.call('trace', '--steps', str(STEPS), *objects)
+    line = last_line(ended)
+    if (ended.out, ended.err) == (wanted[1], b'exited %d\n' % wanted[0]):
+        return None
+    if line == 'spent':
+        raise Left(f'more than {STEPS} steps')
+    if line.startswith('stuck ') and wanted[1].startswith(ended.out):
+        return 'stuck in trace: ' + line.split()[-1]
+    raise Differs(f'trace ends with {ended}, and not with {wanted}')
+
+
+def case(tools, number, flags):
+    """What one program comes to."""
+    joined = tools.made(number, flags)
+    objects = [*tools.shared, joined]
+    line = refusal(tools, objects)
+    if line:
+        ended = tools.call('trace', *objects)
+        if ended != (121, b'', line):
+            raise Differs(f'trace ends with {ended}, and plain with {line}')
+        why = re.sub(r'^refused \d+ \d+ ', '', line.decode().strip())
+        anchors = ', with section anchors' if 'BadSymbol' in why and b'.LANCHOR' in read(joined) else ''
+        return f'refused: {why}{anchors}'
+    wanted = tools.reference(objects)
+    stuck, differ = traced(tools, objects, wanted), []
+    for name in ('plain', 'zc'):
+        try:
+            check_image(tools, name, wanted)
+        except Differs:
+            if not stuck:
+                raise
+            differ.append(name)
+    return (stuck or 'alike') + ''.join(f', and the image of {name} does something else' for name in differ)
+
+
+def keep(tools, folder, name):
+    """Keeps the files of a case."""
+    place = os.path.join(folder, name)
+    shutil.copytree(tools.folder, place, dirs_exist_ok=True)
+    return place
+
+
+def say(counts, alike, begun):
+    """Prints the figures, of all programs and of each list of flags."""
+    total = sum(counts.values())
+    print(f'{total} programs in {time.monotonic() - begun:.0f} s')
+    for what, count in counts.most_common():
+        print(f'{count:6} {what}')
+    for flags, (same, tried) in sorted(alike.items()):
+        print(f'{same:6} of {tried:4} alike: {flags}')
+
+
+def main():
+    arguments = argparse.ArgumentParser(description='Compares random C programs with GNU ld and qemu-riscv32.')
+    arguments.add_argument('program', nargs='?', default=programs.BUILT)
+    arguments.add_argument('--seed', type=int, default=1)
+    arguments.add_argument('--count', type=int, default=1000)
+    arguments.add_argument('--seconds', type=float, default=3600)
+    arguments.add_argument('--only', type=int, help='one case, by its number')
+    arguments.add_argument('--flags', action='append', help='a compiler and its flags, in place of the usual lists')
+    arguments.add_argument('--keep', default=os.path.join('build', 'fuzz'))
+    given = arguments.parse_args()
+    counts, alike, begun, wrong = collections.Counter(), {}, time.monotonic(), 0
+    programs.TIME_OUT = BY_CLOCK
+    with tempfile.TemporaryDirectory() as folder:
+        tools = Tools(programs.built(given.program), folder)
+        lists = given.flags or [flags for flags in FLAGS if tools.compilers[flags.split()[0]]]
+        for number in range(given.count) if given.only is None else (given.only,):
+            if time.monotonic() - begun > given.seconds:
+                break
+            flags = lists[number % len(lists)]
+            try:
+                told = case(tools, given.seed + number, flags)
+            except Left as why:
+                told = f'left out: {why}'
+            except (Differs, Failed) as why:
+                wrong += 1
+                print(f'WRONG: case {number}, {flags}: {why}; files: {keep(tools, given.keep, f"c-{given.seed}-{number}")}')
+                break
+            counts[told] += 1
+            same, tried = alike.get(flags, (0, 0))
+            alike[flags] = same + told.startswith('alike'), tried + 1
+            print(f'case {number}, {flags}: {told}', file=sys.stderr)
+    say(counts, alike, begun)
+    print(f'{wrong} wrong')
+    return wrong > 0
+
+
+if __name__ == '__main__':
+    sys.exit(main())

@@ -1,0 +1,450 @@
+#!/usr/bin/env python3
+"""Calls all six commands with mutated objects, lists, images, plans, certificates and words.
+
+    fuzz/campaign.py [--seed S] [--compare N] [--look N] [--seconds T] [--only CASE] [--limit T] [--keep FOLDER] [PROGRAM]
+
+PROGRAM is build/zcld if none is given. A case is fixed by the seed, by whether it is compared or looked at, and by its number.
+It takes files of the corpus, or makes some, and mutates them or not: the objects in examples/, those that the other scripts
+here make, the images of both links, texts of plans and certificates, and lists of words that scripts/checks has.
+
+N cases are compared with the models: `plain` and `zc` with plain_link.py, zc_link.py and size_report.py, their refusals and
+that of `trace` with object_items.py, `trace` with symbolic_machine.py, `run` of an image that wasn't mutated with
+zc_machine.py, faults of a plan with `plan_fault` below, `check` with certificates.py, words with `is_command` below, and `make`
+with made_load.py; a file that is too long is a read fault. Of N more cases only this is looked at: the call ends by itself
+within the limit of seconds by the clock, and its status has its line at the end of standard error (docs/FORMATS.md, "Messages
+on standard error, and the status").
+
+Half of T seconds at most goes to cases that are compared, if both are asked for. It prints how many calls came to what. The
+status is 1 if a case failed. FOLDER then has its files.
+"""
+import argparse
+import collections
+import glob
+import os
+import random
+import re
+import shlex
+import sys
+import tempfile
+import time
+
+sys.path.insert(0, os.path.join(os.path.dirname(os.path.abspath(__file__)), os.pardir, 'scripts'))
+
+import made_load
+import zc_machine
+from certificates import answer, made_text
+from checks.plans import BAD_LINES, BAD_TEXTS, PLANS
+from checks.words import COMMANDS, NO_COMMANDS
+from far_lists import far_list
+from frame_plans import made_object as object_of_frames
+from fuzz import IMAGE_LIMIT, MUTATIONS, OBJECT_LIMIT, made_object
+from groups import LISTS
+from made_frames import ENDINGS, sizes
+from made_objects import made_list
+from object_faults import told
+from object_items import first_fault
+from plain_link import plain as plain_of
+from size_report import left_by_zc
+from symbolic_machine import trace as trace_of
+from zcld_tools import TOP, programs
+from zcld_tools.files import files_in, random_bytes, read, read_all, write, write_list
+from zcld_tools.programs import Failed
+
+TITLE = b'zcld plan 1\n'
+STEPS, STEPS_LOOKED_AT, BY_OBJECTS = '2000', '50000', ('plain', 'zc', 'trace')
+# The commands, as often as they are called.
+OFTEN = ('plain', 'zc', 'trace', 'run', 'run', 'check', 'words') * 6 + ('make',)
+
+# For each status of the program itself: its lines, and the commands that have them.
+LINES = ((0, r'', ('plain', 'zc', 'check', 'make')), (120, r'usage\n', None),
+         (121, r'refused \d+ \d+ [A-Z]\w+(?s:.*)\n', BY_OBJECTS),
+         (122, r'read fault\n', ('plain', 'zc', 'run', 'trace', 'check')), (123, r'write fault\n', None),
+         (124, r'out of memory\n', None), (125, r'bad image [1-4]\n', ('run',)), (125, r'bad plan (line|order) \d+\n', ('run',)),
+         (125, r'(bad certificate line \d+|rejected)\n', ('check',)), (126, r'stopped [1-5] [A-Z]\w+ [0-9a-f]{8}\n', ('run',)),
+         (126, r'stuck \d+ \d+ \d+ [1-9] [A-Z]\w+\n', ('trace', 'make')), (127, r'spent\n', ('run', 'trace', 'make')))
+
+
+# ---- what the models say
+
+
+def plan_fault(text):
+    """What is said of a plan's text: nothing, or its first fault."""
+    *lines, rest = text.split(b'\n')
+    before = 0
+    for number, line in enumerate(lines, 1):
+        found = re.fullmatch(rb'cut (0|[1-9][0-9]{0,19})((?: a[0-9]{1,3})*)(?: d[0-9a-f]{8}:[0-9a-f]{2})*', line)
+        if number == 1 and line == TITLE[:-1]:
+            continue
+        if number == 1 or found is None or not numbers_fit(found):
+            return f'line {number}'
+        if int(found[1]) < before:
+            return f'order {number}'
+        before = int(found[1])
+    return f'line {len(lines) + 1}' if rest or not lines else None
+
+
+def numbers_fit(found):
+    """The number of a commit and those of accesses aren't too large, and have no leading zeros."""
+    accesses = [word[1:] for word in found[2].split()]
+    return int(found[1]) < 1 << 64 and all(int(it) < 256 and str(int(it)).encode() == it for it in accesses)
+
+
+# Each command: its options, those that it must have, and how many other words it takes, at least and at most.
+GIVEN = {'plain': (('--out',), ('--out',), 1, None), 'zc': (('--out', '--cert'), ('--out', '--cert'), 1, None),
+         'run': (('--plan', '--steps'), (), 1, 1), 'trace': (('--steps',), (), 1, None), 'check': ((), (), 1, 1),
+         'make': (('--out',), (), 2, 2)}
+
+
+def is_number(word, most):
+    return re.fullmatch('[0-9]{1,20}', word) is not None and int(word) <= most
+
+
+def is_command(words):
+    """Whether words spell a command (docs/FORMATS.md, "The command line")."""
+    if not words or words[0] not in GIVEN:
+        return False
+    options, needed, least, most = GIVEN[words[0]]
+    values, others, rest = {}, [], list(words[1:])
+    while rest:
+        word = rest.pop(0)
+        name, is_joined, value = word.partition('=')
+        if word == '--':
+            others, rest = others + rest, []
+        elif word == '-' or not word.startswith('-'):
+            others.append(word)
+        elif name not in options or name in values:
+            return False
+        elif is_joined:
+            values[name] = value
+        elif not rest or rest[0].startswith('-') and rest[0] != '-':
+            return False
+        else:
+            values[name] = rest.pop(0)
+    return (all(name in values for name in needed) and least <= len(others) <= (most or len(others))
+            and is_number(values.get('--steps', '0'), 10**9) and (words[0] != 'zc' or values['--out'] != values['--cert'])
+            and (words[0] != 'make' or is_number(others[0], (1 << 64) - 1) and is_number(others[1], 1600)))
+
+
+# ---- the corpus
+
+
+class Corpus:
+    """Lists of objects, and their images, which cases begin with."""
+
+    def __init__(self):
+        examples = os.path.join(TOP, 'examples')
+        lists = [glob.glob(os.path.join(examples, program, compiler, '*.o')) + glob.glob(
+            os.path.join(examples, 'firmware', compiler, '*.o'))
+                 for program in ('monitor', 'events', 'numbers') for compiler in ('gcc', 'clang')]
+        self.lists = [read_all(sorted(paths)) for paths in lists] + [[read(os.path.join(examples, 'exit3.o'))]]
+        self.images = [image for files in self.lists for image in (plain_of(files)[0], left_by_zc(files).image)]
+
+    def objects(self, rng):
+        """A list of objects that has no fault, most likely."""
+        which = rng.randrange(10)
+        if which < 2:
+            return list(rng.choice(self.lists))
+        if which < 5:
+            return made_list(rng, rng.random() < 0.5)
+        if which < 8:
+            return [made_object(rng, rng.random() < 0.5, k == 0) for k in range(rng.choice((1, 1, 2, 3)))]
+        if which < 9:
+            return far_list(rng)
+        number = rng.choice(LISTS)
+        return [object_of_frames(rng, [(number, rng.choice(sizes(number)[rng.randrange(3)]), rng.choice(ENDINGS))])]
+
+    def image(self, rng):
+        """An image of a link."""
+        if rng.random() < 0.5:
+            return rng.choice(self.images)
+        files = self.objects(rng)
+        return rng.choice(self.images) if first_fault(files) else (plain_of(files)[0] if rng.random() < 0.5
+                                                                   else left_by_zc(files).image)
+
+
+class Pool(Corpus):
+    """A corpus whose lists and images are made once, since no model needs to know more of them."""
+
+    def __init__(self, seed):
+        super().__init__()
+        rng = random.Random(f'pool {seed}')
+        self.pool = self.lists + [super(Pool, self).objects(rng) for _ in range(120)]
+        self.images += [super(Pool, self).image(rng) for _ in range(30)]
+
+    def objects(self, rng):
+        return list(rng.choice(self.pool))
+
+    def image(self, rng):
+        return rng.choice(self.images)
+
+
+def mutated(rng, data, most=3):
+    """A file with some mutations of fuzz.py."""
+    made = bytearray(data)
+    for _ in range(rng.randrange(1, most + 1)):
+        rng.choice(MUTATIONS)(rng, made)
+    return bytes(made)
+
+
+def interrupt(rng):
+    """A line of a plan, in few words."""
+    words = [f'a{rng.randrange(14)}' for _ in range(rng.choice((0, 0, 1, 3)))]
+    words += [f'd{0x0FFFFF00 + rng.randrange(256):08x}:{rng.randrange(256):02x}' for _ in range(rng.choice((0, 1, 4)))]
+    return ''.join(' ' + word for word in words)
+
+
+def plan(rng):
+    """The text of a plan, or of none."""
+    which = rng.randrange(6)
+    if which == 0:
+        return TITLE + rng.choice(PLANS).encode() + b'\n'
+    if which == 1:
+        return TITLE + rng.choice(BAD_LINES).encode('latin-1') + b'\n'
+    if which == 2:
+        return rng.choice(BAD_TEXTS)[0]
+    commits = sorted(rng.randrange(rng.choice((5, 200, 3000))) for _ in range(rng.choice((0, 1, 5, 60))))
+    text = TITLE + ''.join(f'cut {at}{interrupt(rng)}\n' for at in commits).encode()
+    return text if rng.random() < 0.6 else with_slip(rng, text)
+
+
+def with_slip(rng, text):
+    """A text with a byte or some that are changed, added, left out, or doubled."""
+    at, size = rng.randrange(len(text) + 1), rng.choice((1, 1, 2, 9))
+    added = rng.choice((b'\n', b' ', b'0', b'cut ', b' a1', b'\r', b'\0', b':', random_bytes(rng, size), text[at:at + size]))
+    return text[:at] + added + text[at + rng.choice((0, 0, len(added), size)):]
+
+
+def words_by_chance(rng):
+    """A list of words that spell a command or nearly do. No list asks for a program of more than 20 functions."""
+    lines = [line.split(' ') for line in NO_COMMANDS] + [line.split(' ') for line, _ in COMMANDS]
+    words = list(rng.choice(lines))
+    several = sorted({word for line in lines for word in line} | {'0', '007', '1000000000', '18446744073709551615', '--steps=3',
+                                                                  '--plan', '--plan=p', '--cert=c', '\n', 'é', 'a' * 300})
+    for _ in range(rng.choice((0, 1, 1, 2, 3))):
+        at = rng.randrange(len(words) + 1)
+        words[at:at + rng.choice((0, 0, 1))] = rng.choice(([], [rng.choice(several)], words[at:at + 1] * 2))
+    return words
+
+
+# ---- calls
+
+
+class Case:
+    """A call, with the files that it takes, and what is to be compared."""
+
+    def __init__(self, corpus, mode, seed, number):
+        rng = random.Random(f'{mode} {seed} {number}')
+        self.is_compared, self.command, self.files = mode == 'compare', rng.choice(OFTEN), {}
+        self.steps = STEPS if self.is_compared else STEPS_LOOKED_AT
+        self.given, self.words = rng.choice((b'', b'input', random_bytes(rng, rng.randrange(40)))), []
+        getattr(self, f'take_{"objects" if self.command in BY_OBJECTS else self.command}')(rng, corpus)
+
+    def take_objects(self, rng, corpus):
+        files = corpus.objects(rng)
+        for _ in range(rng.choice((0, 0, 1, 1, 2))):
+            k = rng.randrange(len(files))
+            files[k] = mutated(rng, files[k])
+        if rng.random() < 0.1:
+            files.insert(rng.randrange(len(files) + 1), rng.choice(files))
+        if rng.random() < 0.1:
+            rng.shuffle(files)
+        self.objects = files
+        self.files = {f'{k}.o': data for k, data in enumerate(files)}
+        options = {'plain': ('--out', 'out'), 'zc': ('--out', 'out', '--cert', 'cert'), 'trace': ('--steps', self.steps)}
+        self.words = [self.command, *options[self.command], *self.files]
+
+    def take_run(self, rng, corpus):
+        image, self.is_whole = corpus.image(rng), rng.random() < (0.7 if self.is_compared else 0.2)
+        self.files = {'image': image if self.is_whole else mutated(rng, image)}
+        if rng.random() < 0.5:
+            self.files['plan'] = plan(rng)
+        self.words = ['run', *(('--plan', 'plan') if 'plan' in self.files else ()), '--steps', self.steps, 'image']
+
+    def take_check(self, rng, _):
+        text = made_text(rng)
+        self.files = {'cert': mutated(rng, text) if rng.random() < 0.2 else text}
+        self.words = ['check', 'cert']
+
+    def take_make(self, rng, _):
+        self.words = ['make', str(rng.getrandbits(64)), str(rng.randrange(8 if self.is_compared else 60))]
+
+    def take_words(self, rng, corpus):
+        self.words = words_by_chance(rng)
+        self.files = dict(zip(('x.o', 'y.o', 'i', 'c', 'p'), (*corpus.lists[-1] * 2, corpus.images[-1], programs.CERTIFICATE,
+                                                              TITLE)))
+
+    def call(self, program, folder, limit):
+        programs.TIME_OUT = limit
+        for name, data in self.files.items():
+            write(os.path.join(folder, name), data)
+        return programs.run([program, *self.words], self.given, cwd=folder)
+
+    def kind(self, ended):
+        """What the call came to, by the line at the end of standard error. Without one that its status may have, it failed."""
+        err = ended.err.decode('latin-1')
+        command = self.words[0] if self.words else ''
+        if ended.status <= 118 and ended.status >= 0 and command in ('run', 'trace'):
+            found = re.search(r'(?:exited) (\d+)\n\Z', err)
+            if found and min(int(found[1]), 118) == ended.status and int(found[1]) < 256:
+                return 'exited'
+        for status, line, commands in LINES:
+            found = re.search(line + r'\Z', err)
+            if status == ended.status and found and (commands is None or command in commands):
+                if line == '' and err or command not in ('run', 'trace') and found.start():
+                    break
+                return 'done' if line == '' else re.sub(r' [0-9a-f]{8}$|(?<=line|rder) \d+$', '', name_of(found[0]))
+        raise Failed(f'signal {-ended.status}' if ended.status < 0 else f'status {ended.status} with {ended.err[-200:]!r}')
+
+    # what is compared
+
+    def compare(self, ended, folder):
+        most = OBJECT_LIMIT if self.command in BY_OBJECTS else IMAGE_LIMIT
+        if any(len(data) > most for data in self.files.values()):
+            self.wanted(ended, 122, b'', b'read fault\n')
+        else:
+            getattr(self, f'compare_{self.command}', self.compare_link)(ended, files_in(folder))
+
+    def wanted(self, ended, status, out, line):
+        """The call ended so."""
+        if ended != (status, out, line):
+            raise Failed(f'{self.command} ends with {ended}, and the model with {(status, out, line)!r}')
+
+    def is_refused(self, ended, left):
+        """The objects have a fault, which is named, and nothing was written."""
+        fault = first_fault(self.objects)
+        if fault:
+            self.wanted(ended, 121, b'', told(fault) + b'\n')
+            if set(left) - set(self.files):
+                raise Failed(f'refused, but there are {sorted(left)}')
+        return fault is not None
+
+    def compare_link(self, ended, left):
+        if self.is_refused(ended, left):
+            return
+        if self.command == 'plain':
+            image, length = plain_of(self.objects)
+            self.wanted(ended, 0, b'plain text %d\n' % length, b'')
+            files = {'out': image}
+        else:
+            image, cert, report = left_by_zc(self.objects)
+            self.wanted(ended, 0, report, b'')
+            files = {'out': image, 'cert': cert}
+        for name, data in {**self.files, **files}.items():
+            if left.get(name) != data:
+                raise Failed(f'the file {name} is another')
+
+    def compare_trace(self, ended, left):
+        if not self.is_refused(ended, left):
+            out, err, line = trace_of(self.objects, self.given, int(STEPS))
+            self.wanted(ended, status_of(line), out, err + line + b'\n')
+
+    def compare_run(self, ended, _):
+        fault = plan_fault(self.files.get('plan', TITLE))
+        if not self.is_whole:
+            return
+        if fault:
+            self.wanted(ended, 125, b'', f'bad plan {fault}\n'.encode())
+            return
+        machine = zc_machine.Machine(self.files['image'], self.given)
+        line = zc_machine.run(machine, zc_machine.plan_in(self.files.get('plan', TITLE)), int(STEPS)).encode()
+        self.wanted(ended, status_of(line), machine.written[1], machine.written[2] + line + b'\n')
+
+    def compare_check(self, ended, _):
+        said = answer(self.files['cert']).encode() + b'\n'
+        if said.startswith(b'net '):
+            self.wanted(ended, 0, said, b'')
+        else:
+            self.wanted(ended, 125, b'', said)
+
+    def compare_make(self, ended, _):
+        self.wanted(ended, 0, made_load.summary(*map(int, self.words[1:])), b'')
+
+    def compare_words(self, ended, left):
+        if is_command(self.words) == (ended.status == 120 and ended.err == b'usage\n'):
+            raise Failed(f'{shlex.join(self.words)} ends with {ended}')
+        if ended.status == 120 and left != self.files:
+            raise Failed(f'usage, but there are {sorted(left)}')
+
+
+def status_of(line):
+    """The status that goes with a line of `run` or `trace`."""
+    word, *rest = line.split()
+    return min(118, int(rest[0])) if word == b'exited' else {b'stuck': 126, b'stopped': 126, b'spent': 127}[word]
+
+
+def name_of(line):
+    """A line without numbers that tell of a place, and without the name of a symbol."""
+    return re.sub(r'^(refused|stuck|stopped) [\d ]+(\w+)(?s:.*)$', r'\1: \2', line.rstrip('\n'))
+
+
+# ---- the run
+
+
+class Campaign:
+    """The counts of how calls ended, and the cases that failed."""
+
+    def __init__(self, program, given):
+        self.program, self.given = program, given
+        self.counts, self.made, self.wrong, self.slowest = collections.Counter(), collections.Counter(), 0, (0, '')
+
+    def make(self, mode, corpus, number):
+        case = Case(corpus, mode, self.given.seed, number)
+        with tempfile.TemporaryDirectory() as folder:
+            try:
+                begun = time.monotonic()
+                ended = case.call(self.program, folder, self.given.limit)
+                self.slowest = max(self.slowest, (time.monotonic() - begun, f'{mode} {number}'))
+                self.counts[case.command, case.kind(ended)] += 1
+                if case.is_compared:
+                    case.compare(ended, folder)
+            except Failed as why:
+                self.wrong += 1
+                print(f'WRONG: {mode} {number}, {shlex.join(case.words)[:200]}: {str(why)[:1000]}; '
+                      f'files: {self.keep(case, mode, number)}', flush=True)
+        self.made[mode] += 1
+
+    def keep(self, case, mode, number):
+        folder = os.path.join(self.given.keep, f'campaign-{mode}-{self.given.seed}-{number}')
+        os.makedirs(folder, exist_ok=True)
+        for name, data in {**case.files, 'input': case.given, 'words': shlex.join(case.words).encode()}.items():
+            write(os.path.join(folder, name), data)
+        return folder
+
+    def all(self, mode, corpus, count, seconds):
+        end = time.monotonic() + seconds
+        for number in range(count) if self.given.only is None else (self.given.only,):
+            if time.monotonic() > end:
+                break
+            self.make(mode, corpus, number)
+
+    def say(self, seconds):
+        print(f'seed {self.given.seed}: {self.made["compare"]} calls compared and {self.made["look"]} looked at in '
+              f'{seconds:.0f} s, the longest {self.slowest[0] * 1000:.0f} ms by the clock ({self.slowest[1]})')
+        for (command, kind), count in sorted(self.counts.items()):
+            print(f'{command:6} {kind:32} {count:8}')
+        print(f'{self.wrong} wrong')
+
+
+def main():
+    arguments = argparse.ArgumentParser(description='Calls all commands with mutated files and words.')
+    arguments.add_argument('program', nargs='?', default=programs.BUILT)
+    arguments.add_argument('--seed', type=int, default=1)
+    arguments.add_argument('--compare', type=int, default=1000, metavar='N')
+    arguments.add_argument('--look', type=int, default=1000, metavar='N')
+    arguments.add_argument('--seconds', type=float, default=600)
+    arguments.add_argument('--only', type=int, help='one case of each, by its number')
+    arguments.add_argument('--limit', type=float, default=20, help='the seconds by the clock that a call may take')
+    arguments.add_argument('--keep', default=os.path.join('build', 'fuzz'))
+    given = arguments.parse_args()
+    begun = time.monotonic()
+    campaign = Campaign(programs.built(given.program), given)
+    if given.compare:
+        campaign.all('compare', Corpus(), given.compare, given.seconds / 2 if given.look else given.seconds)
+    if given.look:
+        campaign.all('look', Pool(given.seed), given.look, given.seconds - (time.monotonic() - begun))
+    campaign.say(time.monotonic() - begun)
+    return campaign.wrong > 0
+
+
+if __name__ == '__main__':
+    sys.exit(main())

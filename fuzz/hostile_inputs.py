@@ -1,0 +1,255 @@
+#!/usr/bin/env python3
+"""Gives the program inputs that are made to cost time or memory, and odd files and streams, each under limits.
+
+    fuzz/hostile_inputs.py [--only NAME]... [--seconds T] [--memory M] [--memory-steps N] [PROGRAM]
+
+PROGRAM is build/zcld if none is given. Each call may take T seconds of the processor (2) and M million bytes of memory (300):
+the system ends it beyond the first, and refuses memory beyond the second. It prints what each call came to, and the processor's
+seconds and the KiB at most that it took, if GNU time is installed. The status is 1 if a call ended by a signal or for want of
+memory or time, or if its status isn't one of the program's. Limits of memory follow: N calls of `zc`, each with 10 KiB more than
+the one before, end with 0 or 124, but for those that are too small to start the program in.
+"""
+import argparse
+import collections
+import os
+import random
+import resource
+import shutil
+import sys
+import tempfile
+import threading
+
+sys.path.insert(0, os.path.join(os.path.dirname(os.path.abspath(__file__)), os.pardir, 'scripts'))
+
+from zcld_tools import programs
+from zcld_tools.elf import (ALIGN, DATA_FLAGS, EXECUTABLE, EXECUTE, HEADER, LOCAL, PCREL_HI20, PCREL_LO12_I, PROGRAM_HEADER,
+                            READABLE, RELAX, R_32, WRITABLE, Part, file_header)
+from zcld_tools.files import read, write
+from zcld_tools.images import DATA_AT, TEXT_AT, image_bytes, load_header
+from zcld_tools.instructions import A0, EXIT_WORDS, NOP, ZERO, addi, auipc, words_of
+from zcld_tools.objects import Reloc, Written, object_with
+from zcld_tools.programs import Failed
+
+WORDS = addi(A0, ZERO, 3), *EXIT_WORDS
+EXIT = words_of(*WORDS)
+PLACES, HEADERS, MEMORY_STEP, OBJECT_LIMIT = 698_000, 65_535, 10 << 10, 4 << 20
+
+
+# ---- objects
+
+
+def low_parts():
+    """65,000 lower parts of one `auipc`."""
+    made, text = object_with()
+    data = made.section(b'.data', flags=DATA_FLAGS)
+    data.words(0)
+    target, label = made.symbol(b'x', data, 0, LOCAL), made.symbol(b'high', text, 0, LOCAL)
+    text.reloc(PCREL_HI20, target, words=(auipc(A0),))
+    for _ in range(65_000):
+        text.reloc(PCREL_LO12_I, label, words=(addi(A0, A0),))
+    text.words(*WORDS)
+    return [made.bytes()]
+
+
+def alignments():
+    """21,000 paddings."""
+    made, text = object_with()
+    for _ in range(21_000):
+        text.reloc(ALIGN, None, 4, (NOP,))
+    text.words(*WORDS)
+    return [made.bytes()]
+
+
+def aligned_sections():
+    """1,000 sections aligned to 256."""
+    made, _ = object_with(*WORDS)
+    for k in range(1000):
+        made.section(b'.text.%d' % k, align=256).words(NOP)
+    return [made.bytes()]
+
+
+def data_words(order):
+    """An exit, and 4 objects of 260,000 words of data, each with a relocation, in an order."""
+    made = Written()
+    data = made.section(b'.data', flags=DATA_FLAGS)
+    data.content, target = bytearray(4 * 260_000), made.symbol(b'x', data, 0, LOCAL)
+    data.relocs = [Reloc(4 * k, R_32, target, k) for k in range(260_000)]
+    order(data.relocs)
+    return [object_with(*WORDS)[0].bytes(), *[made.bytes()] * 4]
+
+
+def hints():
+    """An exit, and 8 objects of 345,000 hints for relaxation, all at one offset."""
+    made = Written()
+    text = made.section(b'.text')
+    text.words(NOP)
+    text.relocs = [Reloc(0, RELAX, None, 0)] * 345_000
+    return [object_with(*WORDS)[0].bytes(), *[made.bytes()] * 8]
+
+
+OBJECTS = {
+    '65,000 low parts': low_parts, '21,000 paddings': alignments, '1,000 sections aligned to 256': aligned_sections,
+    'data words upwards': lambda: data_words(lambda relocs: None), 'data words downwards': lambda: data_words(list.reverse),
+    'data words in random order': lambda: data_words(random.Random(1).shuffle), '2.76 million hints': hints}
+
+
+# ---- images
+
+
+def many_places():
+    """An image with 698,000 places, each at the exit or at its end."""
+    return image_bytes(EXIT, {(0, 1, 4 * k): TEXT_AT + min(4 * k, len(EXIT)) for k in range(PLACES)}, b'', 0, TEXT_AT, 0)
+
+
+def many_headers():
+    """An executable with 65,535 program headers, of which two are of segments that are loaded."""
+    start = HEADER + HEADERS * PROGRAM_HEADER
+    loads = (load_header(Part(content=EXIT, address=TEXT_AT), start, 0, READABLE | EXECUTE, 4)
+             + load_header(Part(address=DATA_AT), start + len(EXIT), 0, READABLE | WRITABLE, 4))
+    header = file_header(EXECUTABLE, 0, 0, 0, entry=TEXT_AT, segments=HEADERS)
+    return header + loads.ljust(HEADERS * PROGRAM_HEADER, b'\0') + EXIT
+
+
+def many_sections():
+    """An image whose header tells of 65,535 sections, which are all zeros."""
+    made = bytearray(image_bytes(EXIT, {(0, 1, 0): TEXT_AT}, b'', 0, TEXT_AT, 0))
+    made[32:36], made[48:50] = len(made).to_bytes(4, 'little'), HEADERS.to_bytes(2, 'little')
+    return bytes(made) + bytes(40 * HEADERS)
+
+
+IMAGES = {'698,000 places': many_places, '65,535 program headers': many_headers, '65,535 section headers': many_sections}
+
+
+# ---- calls
+
+Call = collections.namedtuple('Call', 'status err cost')
+
+
+class Calls:
+    """Calls of the program in a folder, under limits, with how many went beyond them."""
+
+    def __init__(self, program, given, folder):
+        self.program, self.given, self.folder, self.wrong, self.timer = program, given, folder, 0, shutil.which('time')
+
+    def limited(self, closed=()):
+        """What is done in the new process."""
+        resource.setrlimit(resource.RLIMIT_CPU, (self.given.seconds, self.given.seconds))
+        programs.limit(resource.RLIMIT_AS, self.given.memory * 1_000_000)
+        for stream in closed:
+            os.close(stream)
+
+    def call(self, words, closed=(), **how):
+        told = os.path.join(self.folder, 'told')
+        # GNU time would open its file in the place of a stream that is closed
+        is_timed = self.timer and not closed
+        timer = [self.timer, '-q', '-f', '%U %S %M', '-o', told] if is_timed else []
+        ended = programs.run([*timer, self.program, *words], first=lambda: self.limited(closed), cwd=self.folder, **how)
+        user, system, kib = read(told).split()[-3:] if is_timed else (0, 0, 0)
+        # GNU time gives 128 and a signal's number as the status
+        return Call(ended.status, ended.err, f'{float(user) + float(system):.2f} s {int(kib)} KiB' if is_timed else '')
+
+    def say(self, what, words, **how):
+        """Makes a call, and prints what it came to."""
+        try:
+            ended = self.call(words, **how)
+        except Failed as why:
+            self.wrong += 1
+            print(f'WRONG: {what}: {why}')
+            return
+        is_right = 0 <= ended.status <= 127 and ended.status not in (119, 124)
+        self.wrong += not is_right
+        line = ended.err.decode('latin-1').strip()[-60:] or f'status {ended.status}'
+        print(f'{"" if is_right else "WRONG: "}{what:42} {words[0]:6} {line:32} {ended.cost:>20}', flush=True)
+
+    def links(self, what, names):
+        self.say(what, ['plain', '--out', 'plain', *names])
+        self.say(what, ['zc', '--out', 'out', '--cert', 'cert', *names])
+        self.say(what, ['trace', *names])
+        if os.path.exists(os.path.join(self.folder, 'out')):
+            self.say(what, ['run', 'out'])
+
+
+def odd_files(calls):
+    """Files that are none: pipes, devices, folders and links that lead to each other."""
+    folder = calls.folder
+    path = {name: os.path.join(folder, name) for name in ('pipe', 'loop', 'other')}
+    os.mkfifo(path['pipe'])
+    os.symlink('other', path['loop'])
+    os.symlink('loop', path['other'])
+    for name in ('/dev/null', '/dev/zero', '/dev/full', '/dev', '.', 'loop', 'three.o/x', 'n' * 300):
+        for words in (['plain', '--out', 'out', name], ['zc', '--out', 'out', '--cert', 'cert', 'three.o', name], ['run', name],
+                      ['run', '--plan', name, 'three'], ['trace', name], ['check', name]):
+            calls.say(f'{name[:20]} is read', words)
+    for name in ('/dev/full', '/dev', '.', 'loop', 'three.o/x', 'n' * 300):
+        calls.say(f'{name[:20]} is written', ['plain', '--out', name, 'three.o'])
+        calls.say(f'{name[:20]} is written', ['zc', '--out', 'out', '--cert', name, 'three.o'])
+    for words in (['plain', '--out', 'out', 'pipe'], ['trace', 'pipe']):
+        data = read(os.path.join(folder, 'three.o'))
+        threading.Thread(target=write, args=(path['pipe'], data), daemon=True).start()
+        calls.say('a pipe is read', words)
+
+
+def streams(calls):
+    """Each stream closed, alone and together, and an output that is full."""
+    for which in range(1, 8):
+        closed = tuple(stream for stream in range(3) if which >> stream & 1)
+        for words in (['plain', '--out', 'out', 'three.o'], ['zc', '--out', 'out', '--cert', 'cert', 'three.o'],
+                      ['run', 'three'], ['trace', 'three.o'], ['make', '5', '0'], ['frob']):
+            calls.say(f'without streams {closed}', words, closed=closed)
+    with open('/dev/full', 'wb') as full:
+        for words in (['plain', '--out', 'out', 'three.o'], ['make', '5', '0']):
+            calls.say('an output that is full', words, stdout=full)
+
+
+def memory_limits(calls, count):
+    """Counts how calls of `zc` end under limits of memory that grow."""
+    ends = collections.Counter()
+    for step in range(count):
+        size = (step + 1) * MEMORY_STEP
+        ended = programs.run([calls.program, 'zc', '--out', 'out', '--cert', 'cert', 'three.o'], first=programs.in_memory(size),
+                             cwd=calls.folder)
+        # below what the program's file needs, the system ends it before its first instruction, or its loader says so
+        ends[ended.status if ended.status in (0, 124) else 'not started'] += 1
+        if ended.status not in (0, 124) and ends[124] + ends[0]:
+            calls.wrong += 1
+            print(f'WRONG: status {ended.status} in {size} bytes of memory')
+    print(f'limits of memory: {dict(ends)}')
+
+
+def main():
+    arguments = argparse.ArgumentParser(description='Gives the program inputs that are made to cost time or memory.')
+    arguments.add_argument('program', nargs='?', default=programs.BUILT)
+    arguments.add_argument('--only', action='append', help='an input by its name, or `files`, `streams` or `memory`')
+    arguments.add_argument('--seconds', type=int, default=2)
+    arguments.add_argument('--memory', type=int, default=300)
+    arguments.add_argument('--memory-steps', type=int, default=1900)
+    given = arguments.parse_args()
+    programs.TIME_OUT = 300
+
+    def is_asked(name):
+        return not given.only or name in given.only
+    with tempfile.TemporaryDirectory() as folder:
+        calls = Calls(programs.built(given.program), given, folder)
+        write(os.path.join(folder, 'three.o'), object_with(*WORDS)[0].bytes())
+        write(os.path.join(folder, 'three'), image_bytes(EXIT, {(0, 1, 0): TEXT_AT}, b'', 0, TEXT_AT, 0))
+        for name in filter(is_asked, OBJECTS):
+            files = OBJECTS[name]()
+            assert all(len(data) <= OBJECT_LIMIT for data in files), name
+            names = [f'{k}.o' for k in range(len(files))]
+            for file, data in zip(names, files):
+                write(os.path.join(folder, file), data)
+            calls.links(name, names)
+        for name in filter(is_asked, IMAGES):
+            write(os.path.join(folder, 'image'), IMAGES[name]())
+            calls.say(name, ['run', 'image'])
+        for name, more in (('files', odd_files), ('streams', streams)):
+            if is_asked(name):
+                more(calls)
+        if is_asked('memory'):
+            memory_limits(calls, given.memory_steps)
+    print(f'{calls.wrong} wrong')
+    return calls.wrong > 0
+
+
+if __name__ == '__main__':
+    sys.exit(main())
