@@ -54,8 +54,8 @@ pub fn make_objects(alloc: Global, number: u64, functions: u32) -> Result<Vec<Ve
     ensures objects { IfOk result (λ files. contents_of files.items ≡ made_objects number functions) }
     ensures faultless { IfOk result (λ files.
         first_fault (record { files = contents_of files.items; map = standard_map }) ≡ None) }
-    ensures too_many { FUNCTION_LIMIT < functions → result ≡ Err TooMany }
-    ensures only { result ≡ Err TooMany → FUNCTION_LIMIT < functions }
+    ensures too_many { 1600 < functions → result ≡ Err TooMany }
+    ensures only { result ≡ Err TooMany → 1600 < functions }
 {
     if functions > FUNCTION_LIMIT {
         return Err(MakeFault::TooMany);

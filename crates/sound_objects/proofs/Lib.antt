@@ -11,3 +11,4 @@ pub mod RelocLaws
 pub mod SizeLaws
 pub mod ReachLaws
 pub mod UnderLaws
+pub mod WellFormedLaws

@@ -1,14 +1,15 @@
--- Lists: what holds of each element of a list holds of its parts and of what is found in it.
+-- Lists: what holds of each element of a list holds of its parts, of what is found in it, and the other way round.
 use Rattle.std.proofs.Common.{◌≡◌, ℕ, ◌+◌, ◌<◌, List, [], ◌∷◌, ◌++◌, length, get_or, map, filter, Bool, true, false, cond, Option, Some, None, slice_get, refl, sym, ap, subst, ◌∙◌, arith}
 use Rattle.std.specs.Prelude.{All, nat_lt}
 use Rattle.std.specs.List.{find, flat_map, range_with_len}
-use Rattle.std.specs.Option.{option_or}
+use Rattle.std.specs.Option.{option_map, option_or}
 use Rattle.std.proofs.lemmas.List.{get_or-append-add, get_or_append_left, length-append}
 use Rattle.std.proofs.lemmas.List.Elements.{All-append, All-cons, All-head, All-nil, All-tail}
 use Rattle.std.proofs.lemmas.List.Folds.{find_at}
 use Rattle.std.proofs.lemmas.List.FromFn.{get_or-range_with_len, length-range_with_len}
-use Rattle.std.proofs.lemmas.Option.{get_or_from_slice_get, slice_get-get_or, slice_get_within}
+use Rattle.std.proofs.lemmas.Option.{get_or_from_slice_get, slice_get-get_or, slice_get-map, slice_get_within}
 use Rattle.psabi_sym.specs.Faults.{first_some}
+use Rattle.block_cut.proofs.FirstLaws.{none_at}
 
 module _ {X : Type 0} (P : X → Type 0) where
   -- an element
@@ -34,6 +35,14 @@ module _ {X : Type 0} (P : X → Type 0) where
   all_flat f [] all = All-nil P
   all_flat f (y ∷ ys) all =
       All-append P (f y) (flat_map f ys) (All-head (λ z. All P (f z)) y ys all) (all_flat f ys (All-tail (λ z. All P (f z)) y ys all))
+
+  pub flat_all : {Y : Type 0} (f : Y → List X) (ys : List Y) → All P (flat_map f ys) → All (λ y. All P (f y)) ys
+  flat_all f [] all = All-nil (λ y. All P (f y))
+  flat_all f (y ∷ ys) all =
+      All-cons (λ z. All P (f z)) y ys (all_left (f y) (flat_map f ys) all) (flat_all f ys (all_right (f y) (flat_map f ys) all))
+
+  pub map_all : {Y : Type 0} (f : Y → X) (ys : List Y) → All P (map f ys) → All (λ y. P (f y)) ys
+  map_all f ys all = λ k d lt. all_at (map f ys) k (f (get_or ys k d)) all (slice_get-map f ys k ∙ ap (option_map f) (slice_get-get_or ys k d lt))
 
 -- ---- searches
 
@@ -74,11 +83,18 @@ module _ {X : Type 0} (p : X → Bool) where
       ∙ one_at_most xs x ys (All-tail (λ z. p z ≡ false) y xs before) after
 
 module _ {X Y : Type 0} (f : X → Option Y) where
-  -- none is the first if there is none
+  -- none is the first exactly if there is none
   pub first_none : (xs : List X) → All (λ x. f x ≡ None) xs → first_some (map f xs) ≡ None
   first_none [] all = refl
   first_none (x ∷ xs) all =
       ap (λ o. option_or o (first_some (map f xs))) (All-head (λ y. f y ≡ None) x xs all) ∙ first_none xs (All-tail (λ y. f y ≡ None) x xs all)
+
+  pub none_first : (xs : List X) → first_some (map f xs) ≡ None → All (λ x. f x ≡ None) xs
+  none_first xs none = from_each (λ x. f x ≡ None) xs (λ k x at. none_at f xs k x at none)
+
+pub unmapped : {X Y : Type 0} (f : X → Y) (o : Option X) → option_map f o ≡ None → o ≡ None
+unmapped f None none = refl
+unmapped f (Some x) none = absurd cc
 
 -- ---- ranges
 
@@ -86,3 +102,6 @@ pub all_range : (P : ℕ → Type 0) (a n : ℕ) → ((k : ℕ) → k < n → P 
 all_range P a n each = λ k d lt.
     let inside : k < n = omega (arith, lt, length-range_with_len a n) in
     subst P (sym (get_or-range_with_len a n k d inside)) (each k inside)
+
+pub range_all : (P : ℕ → Type 0) (a n k : ℕ) → k < n → All P (range_with_len a n) → P (a + k)
+range_all P a n k lt all = subst P (get_or-range_with_len a n k 0 lt) (all k 0 (omega (arith, lt, length-range_with_len a n)))

@@ -1,4 +1,4 @@
--- What holds of each section and symbol by its place holds of all in order; for symbols also the other way round.
+-- What holds of each section and symbol by its place holds of all in order, and the other way round.
 use Rattle.std.proofs.Common.{◌≡◌, ℕ, zero, suc, ◌+◌, List, [], ◌∷◌, map, drop, Option, Some, None, slice_get, refl, sym, ap, subst, ◌∙◌, arith}
 use Rattle.std.specs.Prelude.{All}
 use Rattle.std.specs.List.{enumerate_from, flat_map}
@@ -8,13 +8,18 @@ use Rattle.elf32_read.specs.Parts.{ObjectParts, SymbolParts}
 use Rattle.psabi_sym.specs.Indexed.{IndexedSection, IndexedSymbol, all_sections, all_symbols, symbol_at, symbols_in}
 use Rattle.psabi_sym.specs.Invariants.Rows.{symbol_starts}
 use Rattle.psabi_sym.proofs.PlaceLaws.{symbol_there}
-use Rattle.psabi_sym.proofs.SectionNumbers.{listed_at}
+use Rattle.psabi_sym.proofs.SectionNumbers.{listed_at, number_of_section}
 use Rattle.sound_objects.specs.WellFormed.{HasSection, HasSymbol}
-use Rattle.sound_objects.proofs.ListLaws.{from_each}
+use Rattle.sound_objects.proofs.ListLaws.{all_at, from_each}
 
 module _ (objects : List ObjectParts) (P : IndexedSection → Type 0) where
   pub all_by_section : ((l : IndexedSection) → HasSection objects l → P l) → All P (all_sections objects)
   all_by_section each = from_each P (all_sections objects) (λ k l at. each l (listed_at objects k l at))
+
+  pub section_by_all : All P (all_sections objects) → (l : IndexedSection) → HasSection objects l → P l
+  section_by_all all l has =
+      let there = number_of_section objects l.object l.index l.section has in
+      all_at P (all_sections objects) there.0 l all there.1
 
 -- a symbol with its object's index and its own
 abbrev pub indexed : ℕ → ℕ → SymbolParts → IndexedSymbol

@@ -1,7 +1,8 @@
--- Names: the strong definition that is found is one of those that stand in the objects; no name has a fault if strong
--- definitions of one name are one symbol, and each name that is needed has a definition.
-use Rattle.std.proofs.Common.{◌≡◌, ℕ, List, Bool, true, false, Option, Some, None, is_none, refl, ap, eqb, eq-eqb}
+-- Names: the strong definition that is found is one of those that stand in the objects; names that are defined once and names that
+-- are needed have no fault, and the other way round.
+use Rattle.std.proofs.Common.{◌≡◌, ℕ, List, Bool, true, false, Option, Some, None, is_none, refl, sym, ap, ◌∙◌, eqb, eq-eqb}
 use Rattle.std.specs.Prelude.{◌&&◌, not}
+use Rattle.std.specs.List.{find}
 use Rattle.std.specs.Option.{option_map, option_map_or, option_or}
 use Rattle.std.proofs.lemmas.Bool.{and_from, and_left, and_parts, and_right, eqb-true}
 use Rattle.elf32_read.specs.Parts.{ObjectParts}
@@ -12,12 +13,12 @@ use Rattle.psabi_sym.specs.Faults.{duplicate_fault, is_missing, is_second, is_us
 use Rattle.psabi_sym.specs.Indexed.{IndexedSymbol, all_symbols}
 use Rattle.psabi_sym.specs.Inputs.{ParsedInputs}
 use Rattle.psabi_sym.specs.Names.{is_strong, same_name, strong_definition, weak_definition}
-use Rattle.psabi_sym.specs.Resolve.{linker_number, linker_numbers, name_definition}
+use Rattle.psabi_sym.specs.Resolve.{Definition, linker_number, linker_numbers, name_definition}
 use Rattle.psabi_sym.specs.Resolve.Definition.{AtNumber, InObject}
 use Rattle.psabi_sym.proofs.NumberLaws.{same_is, same_self}
 use Rattle.block_cut.proofs.SoundLaws.{found_passes}
 use Rattle.sound_objects.specs.WellFormed.{AreDefined, AreSingle, HasStrong, HasSymbol}
-use Rattle.sound_objects.proofs.ListLaws.{all_found, find_none, none_found}
+use Rattle.sound_objects.proofs.ListLaws.{all_found, find_none, none_found, unmapped}
 use Rattle.sound_objects.proofs.ListedLaws.{all_by_symbol, symbol_by_all}
 
 -- ---- strong definitions
@@ -78,6 +79,32 @@ no_duplicate objects single =
     ap (option_map {U = ℕ × Fault} (λ (l : IndexedSymbol). (l.object, Duplicate l.index)))
     (find_none (is_second objects) (all_symbols objects) (all_by_symbol objects (λ l. is_second objects l ≡ false) (not_second objects single)))
 
+pub no_duplicate_single : (objects : List ObjectParts) → duplicate_fault objects ≡ None → AreSingle objects
+unfolding duplicate_fault
+no_duplicate_single objects none l m one two same = both (strong_there objects l one)
+  where
+    fails : (k : IndexedSymbol) → HasSymbol objects k → is_second objects k ≡ false
+    fails = symbol_by_all objects (λ k. is_second objects k ≡ false)
+        (none_found (is_second objects) (all_symbols objects) (unmapped {Y = ℕ × Fault} (λ (k : IndexedSymbol). (k.object, Duplicate k.index)) (find (is_second objects) (all_symbols objects)) none))
+
+    -- the first of a name is the symbol itself
+    own : (k first : IndexedSymbol) → HasStrong objects k → strong_definition objects k.symbol.name ≡ Some first → (first.object ≡ k.object) × (first.index ≡ k.index)
+    own k first is found =
+        let tested : (true && not (same_symbol first k)) ≡ false =
+        (λ j. sym is.strong j && option_map_or (λ f. not (same_symbol f k)) (sym found j) false) ∙ fails k is.has in
+        let two = and_parts (eqb first.object k.object) (eqb first.index k.index) (not_false (same_symbol first k) tested) in
+        (eqb-true first.object k.object two.0, eqb-true first.index k.index two.1)
+      where
+        not_false : (b : Bool) → not b ≡ false → b ≡ true
+        not_false true h = refl
+        not_false false h = absurd cc
+
+    both : (first : IndexedSymbol) × (strong_definition objects l.symbol.name ≡ Some first) → (l.object ≡ m.object) × (l.index ≡ m.index)
+    both found =
+        let a = own l found.0 one found.1 in
+        let b = own m found.0 two (ap (strong_definition objects) (sym same) ∙ found.1) in
+        (sym a.0 ∙ b.0, sym a.1 ∙ b.1)
+
 -- ---- each name that is needed is defined
 
 module _ (inputs : ParsedInputs) where
@@ -101,3 +128,23 @@ module _ (inputs : ParsedInputs) where
   no_undefined defined =
       ap (option_map {U = ℕ × Fault} (λ (l : IndexedSymbol). (l.object, Undefined l.index)))
       (find_none (is_missing inputs) (all_symbols inputs.objects) (all_by_symbol inputs.objects (λ l. is_missing inputs l ≡ false) (not_missing defined)))
+
+  pub no_undefined_defined : undefined_fault inputs ≡ None → AreDefined inputs
+  unfolding undefined_fault
+  no_undefined_defined none l is = by (name_definition inputs l.symbol.name) refl
+    where
+      fails : is_missing inputs l ≡ false
+      fails =
+          symbol_by_all inputs.objects (λ k. is_missing inputs k ≡ false)
+          (none_found (is_missing inputs) (all_symbols inputs.objects) (unmapped {Y = ℕ × Fault} (λ (k : IndexedSymbol). (k.object, Undefined k.index)) (find (is_missing inputs) (all_symbols inputs.objects)) none))
+          l is.has
+
+      by : (o : Option Definition) → name_definition inputs l.symbol.name ≡ o → (d : Definition) × (o ≡ Some d)
+      by (Some d) found = (d, refl)
+      by None found =
+          let missing : is_missing inputs l ≡ true =
+          and_from ((eqb l.symbol.bind 1 && eqb l.symbol.home 0) && is_used inputs.objects l) (is_none (name_definition inputs l.symbol.name))
+          (and_from (eqb l.symbol.bind 1 && eqb l.symbol.home 0) (is_used inputs.objects l)
+          (and_from (eqb l.symbol.bind 1) (eqb l.symbol.home 0) (eq-eqb l.symbol.bind 1 is.global) (eq-eqb l.symbol.home 0 is.undefined)) is.used)
+          (ap is_none found) in
+          absurd (cc (missing, fails))

@@ -4,7 +4,6 @@ ghost use Rattle.std.specs.Prelude.{◌≡◌, ◌≤◌, ℕ, IfOk, IfErr, List
 ghost use Rattle.std.specs.String.{string_bytes};
 ghost use Rattle.block_cut.specs.Faults.{first_fault};
 ghost use Rattle.command_words.specs.Command.{make_meant};
-ghost use Rattle.load_maker.specs.declared.make_objects.TheConstants.{FUNCTION_LIMIT};
 ghost use Rattle.load_runner.specs.Runs.{standard_inputs};
 ghost use Rattle.psabi_sym.specs.Objects.{contents_of};
 ghost use Rattle.zc_outside.specs.Desk.{Desk};
@@ -34,7 +33,7 @@ pub fn make<S: Store, C: Console>(
     store: &mut S,
     console: &mut C,
 ) -> Outcome
-    requires { args.functions ≤ FUNCTION_LIMIT }
+    requires { args.functions ≤ 1600 }
     ensures { (left : List (List ℕ)) → DoesWith (Some (make_meant args.entry)) left result
         (world (S.shown store.old) (C.shown console.old)) (world (S.shown store.new) (C.shown console.new)) }
 {
