@@ -11,7 +11,7 @@ use Rattle.shrink_layout.specs.declared.widths.Widths.{Widths}
 use Rattle.shrink_layout.specs.Forms.{IsForm, longest, target, width}
 use Rattle.shrink_layout.specs.Invariants.Blocks.{IsStill, block_fits, block_size, nth_piece}
 use Rattle.shrink_layout.specs.Invariants.Rounds.{ArePlaced}
-use Rattle.shrink_layout.specs.Invariants.Widths.{AreCounted, IsUntouched, addresses_by, addresses_in, count_before}
+use Rattle.shrink_layout.specs.Invariants.Widths.{AreCounted, AreStarts, IsUntouched, addresses_by, addresses_in, count_before}
 use Rattle.shrink_layout.specs.Layout.{addresses_of, holds_at, widths_of}
 use Rattle.shrink_layout.proofs.AddressLaws.{form_at}
 use Rattle.shrink_layout.proofs.BlockLaws.{IsSameStep, still_holds, way_between}
@@ -29,6 +29,13 @@ pub by_widths : (at : ℕ) (pieces : List Piece) (sizes : List ℕ) → addresse
 by_widths at [] sizes = refl
 by_widths at (p ∷ pieces) [] = refl
 by_widths at (p ∷ pieces) (size ∷ sizes) = ap (λ l. at ∷ l) (by_widths (at + width p size at) pieces sizes)
+
+-- a piece's block begins at its start
+pub block_start : (addresses : List ℕ) (count : ℕ) (starts : List ℕ) (k : ℕ) → AreStarts addresses count starts → k ≤ count
+    → slice_index starts (k / block_size) ≡ slice_index addresses (k / block_size * block_size)
+block_start addresses count starts k are within =
+    let first : min count (k / block_size * block_size) ≡ k / block_size * block_size = omega (arith, within) in
+    are.each (k / block_size) (omega (arith, within)) ∙ ap (slice_index addresses) first
 
 -- the first is where all begin
 pub by_first : (at : ℕ) (widths : List ℕ) → slice_index (addresses_by at widths) 0 ≡ at

@@ -7,7 +7,7 @@ use Rattle.psabi_sym.specs.Inputs.{Inputs, ParsedInputs, parsed}
 use Rattle.block_cut.specs.Items.{item_at}
 use Rattle.block_cut.specs.declared.item.Item.{Item}
 use Rattle.shrink_layout.specs.Counted.{is_long_piece, is_short_piece, pieces_with}
-use Rattle.shrink_layout.specs.Layout.{sizes_of, widths_of}
+use Rattle.shrink_layout.specs.Layout.{addresses_of, sizes_of, widths_of}
 use Rattle.shrink_layout.specs.Least.{AreForms}
 use Rattle.shrink_layout.specs.Pieces.{piece_number_at, pieces_of}
 use Rattle.shrink_layout.specs.Settled.{is_long, is_sized, settled_addresses, settled_end, settled_size, settled_sizes, settled_widths, units_with}
@@ -64,6 +64,11 @@ module _ (inputs : ParsedInputs) (slots : List (Option Place)) where
   pub address_summed : (k : ℕ) → k ≤ length (pieces_of inputs slots) → slice_index (settled_addresses inputs slots) k ≡ inputs.map.text + sum (take k (settled_widths inputs slots))
   unfolding settled_addresses settled_widths
   address_summed k le = address_by_widths inputs.map.text (pieces_of inputs slots) (settled_sizes inputs slots) k sizes_long le
+
+  -- and so are addresses
+  pub kept_addresses : addresses_of inputs.map.text (pieces_of inputs slots) (sizes_of inputs.map.text (pieces_of inputs slots)) ≡ settled_addresses inputs slots
+  unfolding settled_addresses
+  kept_addresses = ap (addresses_of inputs.map.text (pieces_of inputs slots)) kept_sizes
 
   -- the bytes of a piece lead to the next address
   pub settled_between : (k : ℕ) → k < length (pieces_of inputs slots)

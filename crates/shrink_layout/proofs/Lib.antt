@@ -23,6 +23,7 @@ pub mod PlaceAddressLaws
 pub mod PlaceLaws
 pub mod PlaceNumberLaws
 pub mod PremiseLaws
+pub mod PutLaws
 pub mod RoleLaws
 pub mod RolePlaces
 pub mod RoundLaws
@@ -37,6 +38,7 @@ pub mod SlotLaws
 pub mod SumChanges
 pub mod SumLaws
 pub mod SumNodes
+pub mod TableBits
 pub mod TableLaws
 pub mod TablePieces
 pub mod TargetLaws

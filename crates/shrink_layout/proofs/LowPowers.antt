@@ -48,6 +48,23 @@ low_some i b is = subst (λ n. 0 < n) (sym is.power) (pow_pos is.exponent)
 pub low_within : (i b : ℕ) → IsLowPower i b → b ≤ i
 low_within i b is = let le : 1 * b ≤ (2 * is.half + 1) * b = mul-le-mul_right b (omega arith) in omega (arith, le, is.odd)
 
+-- within a block it is no more than the way from the block's first number
+pub low_in_block : (i b : ℕ) → IsLowPower i b → (i % 64 ≡ 0 → ⊥) → b ≤ i % 64
+low_in_block i b is some = by is.exponent is.power
+  where
+    by : (e : ℕ) → b ≡ 2 ^ e → b ≤ i % 64
+    by zero e = let odd : i ≡ (2 * is.half + 1) * 1 = is.odd ∙ ap (λ n. (2 * is.half + 1) * n) e in omega (arith, odd, e)
+    by (suc zero) e = let odd : i ≡ (2 * is.half + 1) * 2 = is.odd ∙ ap (λ n. (2 * is.half + 1) * n) e in omega (arith, odd, e)
+    by (suc (suc zero)) e = let odd : i ≡ (2 * is.half + 1) * 4 = is.odd ∙ ap (λ n. (2 * is.half + 1) * n) e in omega (arith, odd, e)
+    by (suc (suc (suc zero))) e = let odd : i ≡ (2 * is.half + 1) * 8 = is.odd ∙ ap (λ n. (2 * is.half + 1) * n) e in omega (arith, odd, e)
+    by (suc (suc (suc (suc zero)))) e = let odd : i ≡ (2 * is.half + 1) * 16 = is.odd ∙ ap (λ n. (2 * is.half + 1) * n) e in omega (arith, odd, e)
+    by (suc (suc (suc (suc (suc zero))))) e = let odd : i ≡ (2 * is.half + 1) * 32 = is.odd ∙ ap (λ n. (2 * is.half + 1) * n) e in omega (arith, odd, e)
+    by (suc (suc (suc (suc (suc (suc d)))))) e =
+        let power : 2 ^ (d + 6) ≡ 2 ^ d * 64 = pow-add 2 d 6 in
+        let same : d + 6 ≡ suc (suc (suc (suc (suc (suc d))))) = omega arith in
+        let whole : i ≡ (2 * is.half + 1) * 2 ^ d * 64 = is.odd ∙ ap (λ n. (2 * is.half + 1) * n) (e ∙ ap (λ n. 2 ^ n) (sym same) ∙ power) ∙ sym (mul_assoc (2 * is.half + 1) (2 ^ d) 64) in
+        absurd (some (omega (arith, whole)))
+
 -- where all lower bits are 0 the power of two divides
 low_bits : (n t : ℕ) → ((i : ℕ) → i < t → bit_at n i ≡ 0) → n % 2 ^ t ≡ 0
 low_bits n zero zeros = mod-one n

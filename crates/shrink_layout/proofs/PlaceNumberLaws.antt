@@ -1,6 +1,7 @@
 -- The number of a place by where it stands among all: that of its section's first place, and its index (`piece_number_is`).
 use Rattle.std.proofs.Common.{◌≡◌, ℕ, ◌+◌, ◌<◌, ◌≤◌, List, Option, length, true, slice_index, sym, ap, ◌∙◌, arith}
 use Rattle.std.specs.List.{sum_by}
+use Rattle.std.proofs.lemmas.Bool.{or_left}
 use Rattle.std.proofs.lemmas.List.FromFn.{get_or-map-range_with_len, length-map-range_with_len}
 use Rattle.std.proofs.lemmas.Option.{slice_get_within}
 use Rattle.zc_base.specs.declared.place.Place.{Place}
@@ -8,7 +9,7 @@ use Rattle.elf32_read.specs.Parts.{ObjectParts}
 use Rattle.psabi_sym.specs.Inputs.{Inputs, parsed}
 use Rattle.psabi_sym.specs.Indexed.{all_sections}
 use Rattle.psabi_sym.proofs.SectionNumbers.{before_number, has_number, number_of_section}
-use Rattle.block_cut.specs.Items.{is_target_at}
+use Rattle.block_cut.specs.Items.{is_end_at, is_start_at, is_target_at}
 use Rattle.block_cut.specs.Places.{IsPlaceNumber}
 use Rattle.block_cut.specs.declared.place_number.PlaceNumber.{PlaceNumber}
 use Rattle.block_cut.proofs.ListedLaws.{listed}
@@ -52,6 +53,10 @@ module _ (objects : List ObjectParts) (starts : List ℕ) (are : AreFirstNumbers
           has.index_is,
         );
       }
+
+  -- so it is where an item starts
+  pub start_told : (q : Place) (number : PlaceNumber) → is_start_at objects q ≡ true → IsPlaceNumber objects q number → IsToldBy objects starts q number
+  start_told q number start has = piece_number_is q number (or_left (is_start_at objects q) (is_end_at objects q) start) has
 
 -- the number that is read for a place is the place's
 pub number_read : (objects : List ObjectParts) (starts read : List ℕ) (q : Place) (number : PlaceNumber) (k : ℕ) → AreFirstNumbers objects starts → read ≡ starts

@@ -116,7 +116,7 @@ module _ (inputs : Inputs) (none : gather_fault inputs ≡ None) where
 
     -- ---- what is no code
 
-    no_code : eqb (length (code_places given l)) 0 ≡ true → is_code_section l.section ≡ false
+    pub no_code : eqb (length (code_places given l)) 0 ≡ true → is_code_section l.section ≡ false
     no_code none = by (is_code_section l.section) refl
       where
         by : (b : Bool) → is_code_section l.section ≡ b → is_code_section l.section ≡ false
@@ -124,14 +124,14 @@ module _ (inputs : Inputs) (none : gather_fault inputs ≡ None) where
         by false other = other
 
     -- it adds no pieces
-    pub none_next : (slot : Place → Option ℕ) → eqb (length (code_places given l)) 0 ≡ true → pieces_in given slot (take k all) ≡ pieces_in given slot (take (k + 1) all)
-    none_next slot none =
-        let own : section_pieces given slot l ≡ [] = ap (λ b. cond b (Align (section_alignment l.section) ∷ map (piece_at given slot) (places_of l)) []) (no_code none) in
+    pub none_next : (slot : Place → Option ℕ) → is_code_section l.section ≡ false → pieces_in given slot (take k all) ≡ pieces_in given slot (take (k + 1) all)
+    none_next slot other =
+        let own : section_pieces given slot l ≡ [] = ap (λ b. cond b (Align (section_alignment l.section) ∷ map (piece_at given slot) (places_of l)) []) other in
         sym (flat_next (section_pieces given slot) all k l is ∙ ap (λ ps. pieces_in given slot (take k all) ++ ps) own ∙ append-nil (pieces_in given slot (take k all)))
 
-    pub no_owners_next : (slot : Place → Option ℕ) → eqb (length (code_places given l)) 0 ≡ true → owners_in given slot (take k all) ≡ owners_in given slot (take (k + 1) all)
-    no_owners_next slot none =
-        let own : section_owners given slot l ≡ [] = ap (λ b. cond b (None ∷ map (unit_by given slot) (places_of l)) []) (no_code none) in
+    pub no_owners_next : (slot : Place → Option ℕ) → is_code_section l.section ≡ false → owners_in given slot (take k all) ≡ owners_in given slot (take (k + 1) all)
+    no_owners_next slot other =
+        let own : section_owners given slot l ≡ [] = ap (λ b. cond b (None ∷ map (unit_by given slot) (places_of l)) []) other in
         sym (flat_next (section_owners given slot) all k l is ∙ ap (λ xs. owners_in given slot (take k all) ++ xs) own ∙ append-nil (owners_in given slot (take k all)))
 
     -- ---- what is code
@@ -144,26 +144,22 @@ module _ (inputs : Inputs) (none : gather_fault inputs ≡ None) where
         by false other = absurd (omega (arith, not_none (length (code_places given l)) some, places_count, ap (λ b. cond b (1 + length (starts_in l.section)) 0) other))
 
     -- it adds its padding and the pieces of its places
-    pub some_next : (slot : Place → Option ℕ) → eqb (length (code_places given l)) 0 ≡ false
-        → (pieces_in given slot (take k all) ++ Align (section_alignment l.section) ∷ []) ++ map (piece_at given slot) (places_held l (take (length (code_places given l) - 1) (code_places given l)))
+    pub some_next : (slot : Place → Option ℕ) → is_code_section l.section ≡ true
+        → (pieces_in given slot (take k all) ++ Align (section_alignment l.section) ∷ []) ++ map (piece_at given slot) (places_of l)
         ≡ pieces_in given slot (take (k + 1) all)
-    some_next slot some =
-        let code = some_code some in
+    some_next slot code =
         let front = pieces_in given slot (take k all) in
         let pad = Align (section_alignment l.section) in
         let own : section_pieces given slot l ≡ pad ∷ map (piece_at given slot) (places_of l) = ap (λ b. cond b (pad ∷ map (piece_at given slot) (places_of l)) []) code in
-        append_assoc front (pad ∷ []) (map (piece_at given slot) (places_held l (take (length (code_places given l) - 1) (code_places given l))))
-        ∙ ap (λ ps. front ++ pad ∷ map (piece_at given slot) ps) (held_all code)
+        append_assoc front (pad ∷ []) (map (piece_at given slot) (places_of l))
         ∙ sym (flat_next (section_pieces given slot) all k l is ∙ ap (λ ps. front ++ ps) own)
 
-    pub owners_next : (slot : Place → Option ℕ) → eqb (length (code_places given l)) 0 ≡ false
-        → (owners_in given slot (take k all) ++ None ∷ []) ++ map (unit_by given slot) (places_held l (take (length (code_places given l) - 1) (code_places given l))) ≡ owners_in given slot (take (k + 1) all)
-    owners_next slot some =
-        let code = some_code some in
+    pub owners_next : (slot : Place → Option ℕ) → is_code_section l.section ≡ true
+        → (owners_in given slot (take k all) ++ None ∷ []) ++ map (unit_by given slot) (places_of l) ≡ owners_in given slot (take (k + 1) all)
+    owners_next slot code =
         let front = owners_in given slot (take k all) in
         let own : section_owners given slot l ≡ None ∷ map (unit_by given slot) (places_of l) = ap (λ b. cond b (None ∷ map (unit_by given slot) (places_of l)) []) code in
-        append_assoc front (None ∷ []) (map (unit_by given slot) (places_held l (take (length (code_places given l) - 1) (code_places given l))))
-        ∙ ap (λ ps. front ++ None ∷ map (unit_by given slot) ps) (held_all code)
+        append_assoc front (None ∷ []) (map (unit_by given slot) (places_of l))
         ∙ sym (flat_next (section_owners given slot) all k l is ∙ ap (λ xs. front ++ xs) own)
 
 -- ---- what a section's places count

@@ -1,11 +1,11 @@
--- The slots of jumps and calls, by what is kept of a table: the first slot of each place is found by the number of its piece (`slot_noted`), and how many
--- bytes a jump or call takes without the table by addresses (`site_width`).
-use Rattle.std.proofs.Common.{◌≡◌, ◌∙◌, ℕ, ◌+◌, ◌-◌, ◌<◌, ◌≤◌, zero, suc, List, [], ◌∷◌, drop, length, replicate, take, set, get_or, get_or-set_same, get_or-set_other, Bool, true, false, cond, Option, Some, None, slice_index, refl, sym, ap, subst, arith, eqb, ltb}
-use Rattle.std.specs.Prelude.{◌&&◌}
-use Rattle.std.specs.Option.{option_and_then, option_map}
+-- The slots of jumps and calls, by what is kept of a table: the first slot of each place is found by the number of its piece (`slot_noted`), and whether
+-- a jump or call has one by its piece and its bytes without the table (`slot_by_width`).
+use Rattle.std.proofs.Common.{◌≡◌, ◌∙◌, ℕ, ◌+◌, ◌<◌, zero, suc, List, [], ◌∷◌, drop, length, replicate, set, get_or, get_or-set_same, get_or-set_other, Bool, true, false, cond, Option, Some, None, slice_index, refl, sym, ap, subst, arith, eqb, ltb}
+use Rattle.std.specs.Prelude.{◌&&◌, pos}
+use Rattle.std.specs.Option.{is_some, option_and_then}
 use Rattle.std.proofs.lemmas.Bool.{eq-eqb, le-ltb, lt-ltb, ne_eqb}
 use Rattle.std.proofs.lemmas.List.{drop_more}
-use Rattle.std.proofs.lemmas.Option.{none-some}
+use Rattle.std.proofs.lemmas.Option.{none-some, same_Some}
 use Rattle.zc_base.specs.Places.{same_place}
 use Rattle.zc_base.specs.declared.place.Place.{Place}
 use Rattle.elf32_read.specs.Parts.{ObjectParts}
@@ -16,15 +16,19 @@ use Rattle.block_cut.specs.declared.item.Item.{Item}
 use Rattle.block_cut.specs.declared.item.Item.TheVariants as item
 use Rattle.block_cut.proofs.LedLaws.{same_is}
 use Rattle.frame_match.specs.Groups.{role_at}
-use Rattle.frame_match.specs.declared.role.Role.TheVariants.{Alone}
-use Rattle.shrink_layout.specs.Forms.{width}
-use Rattle.shrink_layout.specs.Invariants.Slots.{AreFirstSlots}
-use Rattle.shrink_layout.specs.Pieces.{first_sizes, is_short_jump, jump_piece, piece_number_at, piece_of, pieces_by, pieces_of, site_at, site_only, slot_at, unit_at}
-use Rattle.shrink_layout.specs.Settled.{settled_addresses, settled_sizes}
-use Rattle.shrink_layout.specs.Units.{OneItem, item_unit, jump_of, slot_for, slot_from}
-use Rattle.shrink_layout.proofs.GroupAddresses.{unit_ends}
+use Rattle.zc_encode.specs.Halves.{jump_half}
+use Rattle.shrink_layout.specs.Invariants.Sites.{is_four}
+use Rattle.shrink_layout.specs.Invariants.Slots.{AreFirstSlots, first_piece, put_unit}
+use Rattle.shrink_layout.specs.Pieces.{first_sizes, is_short_jump, jump_piece, piece_number_at, piece_of, site_at, site_only, slot_at, unit_at, unit_piece}
+use Rattle.shrink_layout.specs.Settled.{settled_size, settled_widths}
+use Rattle.shrink_layout.specs.Units.{CodeUnit, OneGroup, OneItem, OneSite, item_unit, jump_of, role_unit, slot_for, slot_from}
+use Rattle.shrink_layout.specs.declared.piece.Piece.TheVariants.{Jump}
+use Rattle.shrink_layout.proofs.KeptLaws.{width_is}
+use Rattle.shrink_layout.proofs.NumberLaws.{number_below}
 use Rattle.shrink_layout.proofs.OrderLaws.{numbers_apart}
-use Rattle.shrink_layout.proofs.UnitLaws.{unit-alone}
+use Rattle.shrink_layout.proofs.PlaceAddressLaws.{size_there}
+use Rattle.shrink_layout.proofs.SiteLaws.{site_by_size, site_found, site_unit, slot_found, slot_nowhere}
+use Rattle.shrink_layout.proofs.UnitLaws.{unit_item}
 
 -- ---- the first slot of each place
 
@@ -99,12 +103,6 @@ unfolding slot_at
 slot_is inputs [] q = sym (no_slot_for (site_at inputs q))
 slot_is inputs (slot ∷ slots) q = refl
 
--- a jump or call that the table could serve takes so many bytes without it
-pub site_is : (inputs : ParsedInputs) (q : Place) (jump : ℕ × Place) → option_and_then jump_of (item_at inputs q) ≡ Some jump
-    → site_at inputs q ≡ site_only (slice_index (first_sizes inputs) (piece_number_at inputs.objects q)) jump
-unfolding site_at
-site_is inputs q jump leads = ap (option_and_then (site_only (slice_index (first_sizes inputs) (piece_number_at inputs.objects q)))) leads
-
 -- another item has no slot
 pub no_jump_slot : (inputs : ParsedInputs) (slots : List (Option Place)) (q : Place) → option_and_then jump_of (item_at inputs q) ≡ None → slot_at inputs slots q ≡ None
 unfolding site_at
@@ -112,99 +110,99 @@ no_jump_slot inputs slots q other =
     slot_is inputs slots q
     ∙ ap (λ o. option_and_then (slot_for slots) (option_and_then (site_only (slice_index (first_sizes inputs) (piece_number_at inputs.objects q))) o)) other
 
--- the sizes of the layout without a table are those without slots
-pub first_sizes_are : (inputs : ParsedInputs) → first_sizes inputs ≡ settled_sizes inputs []
-unfolding first_sizes settled_sizes pieces_by pieces_of slot_at
-first_sizes_are inputs = refl
+-- ---- the slot of one, by its piece without the table
 
--- wherever it lies, a jump or call takes its size
-jump_width : (objects : List ObjectParts) (i : Item) (jump : ℕ × Place) → jump_of i ≡ Some jump → (size at : ℕ) → width (piece_of objects i) size at ≡ size
-jump_width objects (item.Op i) jump is size at = absurd (none-some jump is)
-jump_width objects (item.Hi i t) jump is size at = absurd (none-some jump is)
-jump_width objects (item.Lo i t) jump is size at = absurd (none-some jump is)
-jump_width objects (item.PcHi i t) jump is size at = absurd (none-some jump is)
-jump_width objects (item.PcLo i q) jump is size at = absurd (none-some jump is)
-jump_width objects (item.Branch op first second to) jump is size at = absurd (none-some jump is)
-jump_width objects (item.Jump rd to) jump is size at = by (is_short_jump rd)
-  where
-    by : (b : Bool) → width (jump_piece objects to b) size at ≡ size
-    by true = refl
-    by false = refl
-jump_width objects (item.Call rd temp to) jump is size at = by (is_short_jump rd)
-  where
-    by : (b : Bool) → width (jump_piece objects to b) size at ≡ size
-    by true = refl
-    by false = refl
-jump_width objects (item.Align bytes) jump is size at = absurd (none-some jump is)
-jump_width objects (item.Word t) jump is size at = absurd (none-some jump is)
-jump_width objects (item.Raw word) jump is size at = absurd (none-some jump is)
-jump_width objects (item.RawPair first second) jump is size at = absurd (none-some jump is)
+-- a jump or call has a short form if it links no register or ra
+short_jump : (rd : ℕ) → is_short_jump rd ≡ ltb rd 2
+short_jump zero = refl
+short_jump (suc zero) = refl
+short_jump (suc (suc n)) =
+    let other : (k : ℕ) → k < 2 → eqb (suc (suc n)) k ≡ false = λ k lt. ne_eqb (suc (suc n)) k (λ e. omega (arith, lt, e)) in
+    (λ j. is_some (cond (other 1 (omega arith) j) (jump_half 0b001_01 (pos 0)) (cond (other 0 (omega arith) j) (jump_half 0b101_01 (pos 0)) None)))
+    ∙ sym (le-ltb (suc (suc n)) 2 (omega arith))
 
--- so its size is the way to the next address
-pub site_width : (inputs : Inputs) → gather_fault inputs ≡ None → (q : Place) (jump : ℕ × Place) → role_at (parsed inputs) q ≡ Some Alone
-    → option_and_then jump_of (item_at (parsed inputs) q) ≡ Some jump
-    → slice_index (first_sizes (parsed inputs)) (piece_number_at (parsed inputs).objects q)
-    ≡ slice_index (settled_addresses (parsed inputs) []) (piece_number_at (parsed inputs).objects q + 1) - slice_index (settled_addresses (parsed inputs) []) (piece_number_at (parsed inputs).objects q)
-unfolding slot_at
-site_width inputs none q jump alone leads = by (item_at (parsed inputs) q) refl leads
-  where
-    given : ParsedInputs
-    given = parsed inputs
+-- the piece of one leads to its target
+piece_of_jump : (objects : List ObjectParts) (i : Item) (jump : ℕ × Place) → jump_of i ≡ Some jump → piece_of objects i ≡ jump_piece objects jump.1 (is_short_jump jump.0)
+piece_of_jump objects (item.Op i) jump leads = absurd (none-some jump leads)
+piece_of_jump objects (item.Hi i t) jump leads = absurd (none-some jump leads)
+piece_of_jump objects (item.Lo i t) jump leads = absurd (none-some jump leads)
+piece_of_jump objects (item.PcHi i t) jump leads = absurd (none-some jump leads)
+piece_of_jump objects (item.PcLo i q) jump leads = absurd (none-some jump leads)
+piece_of_jump objects (item.Branch op first second to) jump leads = absurd (none-some jump leads)
+piece_of_jump objects (item.Jump rd to) jump leads = ap (λ (x : ℕ × Place). jump_piece objects x.1 (is_short_jump x.0)) (same_Some (rd, to) jump leads)
+piece_of_jump objects (item.Call rd temp to) jump leads = ap (λ (x : ℕ × Place). jump_piece objects x.1 (is_short_jump x.0)) (same_Some (rd, to) jump leads)
+piece_of_jump objects (item.Align bytes) jump leads = absurd (none-some jump leads)
+piece_of_jump objects (item.Word t) jump leads = absurd (none-some jump leads)
+piece_of_jump objects (item.Raw word) jump leads = absurd (none-some jump leads)
+piece_of_jump objects (item.RawPair first second) jump leads = absurd (none-some jump leads)
 
-    k : ℕ
-    k = piece_number_at given.objects q
+module _ (inputs : Inputs) (none : gather_fault inputs ≡ None) (q : Place) where
+  abbrev given : ParsedInputs
+  given = parsed inputs
 
-    by : (o : Option Item) → item_at given q ≡ o → option_and_then jump_of o ≡ Some jump
-        → slice_index (first_sizes given) k ≡ slice_index (settled_addresses given []) (k + 1) - slice_index (settled_addresses given []) k
-    by None at h = absurd (none-some jump h)
-    by (Some i) at h =
-        let unit : unit_at given [] q ≡ Some (OneItem i) = unit-alone given (slot_at given []) q alone ∙ ap (option_map (item_unit None)) at in
-        let ends = unit_ends inputs none [] q (OneItem i) unit in
-        let own = jump_width given.objects i jump h (slice_index (settled_sizes given []) k) (slice_index (settled_addresses given []) k) in
-        omega (arith, ends, own, ap (λ l. slice_index l k) (first_sizes_are given))
-
--- ---- the slot of one
-
--- the slot of a jump or call that takes so many bytes without a table
-abbrev slot_sized : List (Option Place) → ℕ → ℕ × Place → Option ℕ
-slot_sized slots size jump = option_and_then (slot_for slots) (site_only size jump)
-
-module _ (inputs : Inputs) (none : gather_fault inputs ≡ None) (slots : List (Option Place)) (q : Place) (rd : ℕ) (to : Place) (alone : role_at (parsed inputs) q ≡ Some Alone)
-    (leads : option_and_then jump_of (item_at (parsed inputs) q) ≡ Some (rd, to)) where
-  -- the bytes that it takes without the table
-  abbrev size : ℕ
-  size =
-      slice_index (settled_addresses (parsed inputs) []) (piece_number_at (parsed inputs).objects q + 1)
-      - slice_index (settled_addresses (parsed inputs) []) (piece_number_at (parsed inputs).objects q)
-
-  slot_by : slot_at (parsed inputs) slots q ≡ slot_sized slots size (rd, to)
-  slot_by =
-      slot_is (parsed inputs) slots q
-      ∙ ap (option_and_then (slot_for slots)) (site_is (parsed inputs) q (rd, to) leads ∙ ap (λ n. site_only n (rd, to)) (site_width inputs none q (rd, to) alone leads))
-
-  chosen : (x y : Bool) → eqb size 4 ≡ x → ltb rd 2 ≡ y → slot_at (parsed inputs) slots q ≡ option_and_then (slot_for slots) (cond (x && y) (Some (rd, to)) None)
-  chosen x y four low = slot_by ∙ (λ j. option_and_then (slot_for slots) (cond (four j && low j) (Some (rd, to)) None))
-
-  -- of another size it has none
-  pub slot_unsized : (size ≡ 4 → ⊥) → slot_at (parsed inputs) slots q ≡ None
-  slot_unsized other = chosen false (ltb rd 2) (ne_eqb size 4 other) refl
-
-  -- nor if it links another register
-  pub slot_linking : 1 < rd → slot_at (parsed inputs) slots q ≡ None
-  slot_linking above = chosen (eqb size 4) false refl (le-ltb rd 2 (omega (arith, above))) ∙ by (eqb size 4)
+  -- what is written with a table differs from what is written without it just where a jump or call has a slot
+  pub unit_put : (slots : List (Option Place)) → unit_at given slots q ≡ put_unit (slot_at given slots q) (unit_at given [] q)
+  unfolding slot_at
+  unit_put slots = by (slot_at given slots q) refl
     where
-      by : (x : Bool) → option_and_then (slot_for slots) (cond (x && false) (Some (rd, to)) None) ≡ None
-      by true = refl
-      by false = refl
+      by : (n : Option ℕ) → slot_at given slots q ≡ n → unit_at given slots q ≡ put_unit n (unit_at given [] q)
+      by None at = ap (λ n. option_and_then (role_unit n (item_at given q)) (role_at given q)) at
+      by (Some n) at =
+          let slot = slot_found given slots q n at in
+          let site = site_found given q slot.jump slot.site in
+          site_unit inputs none q slot.jump site (slot_at given slots) ∙ ap (λ m. Some (item_unit m site.item)) at
 
-  -- a jump has the first of its target below 32
-  pub slot_of_jump : size ≡ 4 → rd ≡ 0 → slot_at (parsed inputs) slots q ≡ slot_from 0 to (take 32 slots)
-  slot_of_jump four zero_is =
-      chosen true true (eq-eqb size 4 four) (lt-ltb rd 2 (omega (arith, zero_is)))
-      ∙ ap (λ b. cond b (slot_from 0 to (take 32 slots)) (slot_from 32 to (drop 32 slots))) (eq-eqb rd 0 zero_is)
+  -- its piece without the table is that of a jump to its target
+  site_piece : (jump : ℕ × Place) → site_at given q ≡ Some jump → first_piece given q ≡ Jump (piece_number_at given.objects jump.1)
+  unfolding slot_at
+  site_piece jump at =
+      let site = site_found given q jump at in
+      ap (unit_piece given.objects) (site_unit inputs none q jump site (slot_at given []))
+      ∙ piece_of_jump given.objects site.item jump site.leads
+      ∙ ap (jump_piece given.objects jump.1) (short_jump jump.0 ∙ lt-ltb jump.0 2 site.links)
 
-  -- and a call that from 32 on
-  pub slot_of_call : size ≡ 4 → (rd ≡ 0 → ⊥) → rd ≤ 1 → slot_at (parsed inputs) slots q ≡ slot_from 32 to (drop 32 slots)
-  slot_of_call four some most =
-      chosen true true (eq-eqb size 4 four) (lt-ltb rd 2 (omega (arith, most)))
-      ∙ ap (λ b. cond b (slot_from 0 to (take 32 slots)) (slot_from 32 to (drop 32 slots))) (ne_eqb rd 0 some)
+  -- so where another piece is, there is no slot
+  pub slot_elsewhere : (slots : List (Option Place)) → ((n : ℕ) → first_piece given q ≡ Jump n → ⊥) → slot_at given slots q ≡ None
+  slot_elsewhere slots other = by (site_at given q) refl
+    where
+      by : (o : Option (ℕ × Place)) → site_at given q ≡ o → slot_at given slots q ≡ None
+      by None at = slot_nowhere given slots q at
+      by (Some jump) at = absurd (other (piece_number_at given.objects jump.1) (site_piece jump at))
+
+  module _ (i : Item) (is : item_at given q ≡ Some i) (jump : ℕ × Place) (leads : jump_of i ≡ Some jump) (n : ℕ) (piece : first_piece given q ≡ Jump n) where
+    -- where it is, a jump or call is written by itself, which links no register or ra
+    pub record IsShortJump : Type 0 where
+      pub unit : unit_at given [] q ≡ Some (OneItem i)
+      pub links : ltb jump.0 2 ≡ true
+      pub target : n ≡ piece_number_at given.objects jump.1
+
+    pub short_there : IsShortJump
+    unfolding slot_at
+    short_there = by (unit_at given [] q) refl piece
+      where
+        item : (b : Bool) → is_short_jump jump.0 ≡ b → jump_piece given.objects jump.1 b ≡ Jump n → (ltb jump.0 2 ≡ true) × (n ≡ piece_number_at given.objects jump.1)
+        item true short same = (sym (short_jump jump.0) ∙ short, cc same)
+        item false long same = absurd cc
+
+        by : (o : Option CodeUnit) → unit_at given [] q ≡ o → unit_piece given.objects o ≡ Jump n → IsShortJump
+        by None at same = absurd cc
+        by (Some (OneItem j)) at same =
+            let own : j ≡ i = same_Some j i (sym (unit_item given (slot_at given []) q j at).1 ∙ is) in
+            let two = item (is_short_jump jump.0) refl (sym (piece_of_jump given.objects i jump leads) ∙ ap (piece_of given.objects) (sym own) ∙ same) in
+            record { unit = at ∙ ap (λ k. Some (OneItem k)) own; links = two.0; target = two.1 }
+        by (Some (OneGroup g)) at same = absurd cc
+        by (Some (OneSite m)) at same = absurd cc
+
+    -- it has a slot if it takes four bytes and its target has one
+    pub slot_by_width : (slots : List (Option Place)) (width : ℕ) → width ≡ slice_index (settled_widths given []) (piece_number_at given.objects q)
+        → slot_at given slots q ≡ option_and_then (slot_for slots) (cond (eqb width 4) (Some jump) None)
+    slot_by_width slots width read =
+        let taken = read ∙ width_is given [] (piece_number_at given.objects q) (number_below inputs none [] q i is) in
+        let four : is_four (settled_size given [] q) ≡ eqb width 4 = ap is_four (size_there given [] q (OneItem i) short_there.unit) ∙ ap (λ k. eqb k 4) (sym taken) in
+        slot_is given slots q
+        ∙ ap (option_and_then (slot_for slots))
+        (site_by_size inputs none q i is jump leads ∙ (λ k. cond (four k && short_there.links k) (Some jump) None) ∙ and_yes (eqb width 4))
+      where
+        and_yes : (b : Bool) → cond (b && true) (Some jump) None ≡ cond b (Some jump) None
+        and_yes true = refl
+        and_yes false = refl

@@ -5,4 +5,5 @@ pub mod Numbers
 pub mod Slots
 pub mod Rounds
 pub mod Made
+pub mod Kept
 pub mod Sites

@@ -1,18 +1,19 @@
 // The pieces of all code.
 
-ghost use Rattle.std.specs.Prelude.{◌≡◌, ◌<◌, ◌≤◌, ◌+◌, ◌-◌, ◌^◌, ◌++◌, ◌∷◌, [], List, Option, IfOk, if◌then◌else◌, length, map, nat_le, take};
-ghost use Rattle.psabi_sym.specs.Inputs.{parsed};
+ghost use Rattle.std.specs.Prelude.{◌≡◌, ◌<◌, ◌≤◌, ◌+◌, ◌-◌, ◌^◌, ◌++◌, ◌∷◌, [], List, None, Option, Some, IfOk, IfSome, if◌then◌else◌, length, map, nat_le, slice_get, take};
+ghost use Rattle.psabi_sym.specs.Faults.{gather_fault};
+ghost use Rattle.psabi_sym.specs.Inputs.{ParsedInputs, parsed};
 ghost use Rattle.psabi_sym.specs.Indexed.{all_sections};
-ghost use Rattle.shrink_layout.specs.Invariants.Made.{AreHalvesOf, AreHeld, AreMade, all_owners, places_held};
-ghost use Rattle.shrink_layout.specs.Invariants.Slots.{IsSource, source_inputs, source_piece, source_slots, source_unit};
-ghost use Rattle.shrink_layout.specs.Pieces.{pieces_of};
-ghost use Rattle.shrink_layout.specs.Units as units;
+ghost use Rattle.block_cut.specs.Items.{place_of};
+ghost use Rattle.block_cut.specs.declared.code_place.CodePlace.{CodePlace};
+ghost use Rattle.shrink_layout.specs.Invariants.Made.{AreHalvesOf, AreHeld, AreMade, ArePiecesOf, AreStartsOf, IsItemPlace, IsNoCode, places_held};
+ghost use Rattle.shrink_layout.specs.Invariants.Slots.{AreNumbered, first_piece, first_unit};
 ghost use Rattle.shrink_layout.specs.Units.{CodeUnit};
 
 use crate::instr_piece::{ItemPiece, without_half};
 use crate::piece::Piece;
 use crate::place_piece::{ItemPlace, place_piece};
-use crate::slots::PieceSource;
+use crate::slots::Numbered;
 use block_cut::code_place::CodePlace;
 use block_cut::cut::Cut;
 use block_cut::place_number::PlaceNumber;
@@ -39,12 +40,58 @@ impl Pieces {
     }
 }
 
-// Places of a section, which has this number among all.
+/// Places of a section, which has this number among all.
 #[derive(Drop)]
-struct SectionPlaces<'a> {
-    number: u32,
-    section: SectionRef<'a>,
-    places: &'a [CodePlace],
+pub struct SectionPlaces<'a> {
+    pub number: u32,
+    pub section: SectionRef<'a>,
+    pub places: &'a [CodePlace],
+}
+
+impl<'a> SectionPlaces<'a> {
+    /// The places where the items of the section with a number among all start, or none if it isn't code.
+    pub fn of(cut: &'a Cut, number: u32) -> Option<SectionPlaces<'a>>
+        requires faultless { gather_fault cut.now ≡ None }
+        requires section { number < length (all_sections (parsed cut.now).objects) }
+        ensures none { result ≡ None → IsNoCode (parsed cut.now) number }
+        ensures some { IfSome result (AreStartsOf (parsed cut.now)) }
+        ensures number { IfSome result (λ s. s.number ≡ number) }
+    {
+        let places = cut.places(number);
+        if places.is_empty() {
+            return None;
+        }
+        Some(SectionPlaces {
+            number,
+            section: cut.objects().section(number),
+            places: starts_of(places),
+        })
+    }
+
+    /// One of them.
+    pub fn item_place(&self, i: usize) -> ItemPlace<'a>
+        requires within { i < length self.now.places.now }
+        requires few { length self.now.places.now < 2 ^ 32 }
+        ensures at { (p : CodePlace) → slice_get self.now.places.now i ≡ Some p
+            → result.at ≡ place_of self.now.section p.offset }
+        ensures number { result.number ≡ record { section = self.now.number; index = i } }
+        ensures held { (inputs : ParsedInputs) → AreHeld inputs self.now.number self.now.section self.now.places.now
+            → IsItemPlace inputs result.at result.number result.item.now }
+    {
+        let place = &self.places[i];
+        ItemPlace {
+            at: Place {
+                object: self.section.object(),
+                section: self.section.index(),
+                offset: place.offset,
+            },
+            number: PlaceNumber {
+                section: self.number,
+                index: i as u32,
+            },
+            item: &place.item,
+        }
+    }
 }
 
 // The alignment of the padding before a section: up to 4 it is that of instructions, which may take two
@@ -62,74 +109,36 @@ pub fn starts_of(places: &[CodePlace]) -> &[CodePlace]
     &places[..places.len().saturating_sub(1)]
 }
 
-// The bytes of the table of some slots and of the stub behind it.
-fn front_size(slots: &[Option<Place>]) -> u16
-    requires { length slots.now ≤ 256 }
-    ensures { result ≡ units.front_size slots.now }
-{
-    match slots {
-        [] => 0,
-        [_, ..] => 4 * slots.len() as u16 + 12,
-    }
-}
-
 // Adds the pieces of places of a section.
-fn add_places(
-    of: &PieceSource,
-    section: &SectionPlaces,
-    made: &mut Pieces,
-) -> Result<(), AllocError>
-    requires source { IsSource of.now }
-    requires held { AreHeld (source_inputs of.now) section.now.number section.now.section section.now.places.now }
+fn add_places(of: &Numbered, section: &SectionPlaces, made: &mut Pieces) -> Result<(), AllocError>
+    requires numbered { AreNumbered of.now }
+    requires held { AreHeld (parsed of.now.planned.now) section.now.number section.now.section section.now.places.now }
     requires few { length section.now.places.now < 2 ^ 32 }
     ensures pieces { IfOk result (λ _. made.new.pieces.items ≡ made.old.pieces.items
-        ++ map (source_piece of.now) (places_held section.now.section section.now.places.now)) }
+        ++ map (first_piece (parsed of.now.planned.now)) (places_held section.now.section section.now.places.now)) }
     ensures halves { IfOk result (λ _. (owners : List (Option CodeUnit)) → AreHalvesOf owners made.old.halves.items
-        → AreHalvesOf (owners ++ map (source_unit of.now) (places_held section.now.section section.now.places.now))
-        made.new.halves.items) }
+        → AreHalvesOf (owners ++ map (first_unit (parsed of.now.planned.now))
+        (places_held section.now.section section.now.places.now)) made.new.halves.items) }
 {
     for i in 0..section.places.len() {
-        let place = &section.places[i];
-        let at = ItemPlace {
-            at: Place {
-                object: section.section.object(),
-                section: section.section.index(),
-                offset: place.offset,
-            },
-            number: PlaceNumber {
-                section: section.number,
-                index: i as u32,
-            },
-            item: &place.item,
-        };
-        made.push(place_piece(of, &at))?;
+        made.push(place_piece(of, &section.item_place(i)))?;
     }
     Ok(())
 }
 
 // Adds the pieces of the section with this number among all: its padding, and those of the places where items start.
-fn add_section(of: &PieceSource, section: u32, made: &mut Pieces) -> Result<(), AllocError>
-    requires source { IsSource of.now }
-    requires section { section < length (all_sections (source_inputs of.now).objects) }
-    requires so_far { AreMade (source_inputs of.now) (source_slots of.now) section
-        made.old.pieces.items made.old.halves.items }
-    ensures { IfOk result (λ _. AreMade (source_inputs of.now) (source_slots of.now) (section + 1)
-        made.new.pieces.items made.new.halves.items) }
+fn add_section(of: &Numbered, section: u32, made: &mut Pieces) -> Result<(), AllocError>
+    requires numbered { AreNumbered of.now }
+    requires section { section < length (all_sections (parsed of.now.planned.now).objects) }
+    requires so_far { AreMade (parsed of.now.planned.now) section made.old }
+    ensures { IfOk result (λ _. AreMade (parsed of.now.planned.now) (section + 1) made.new) }
 {
-    let cut = of.planned.cut();
-    let places = cut.places(section);
-    if places.is_empty() {
+    let Some(starts) = SectionPlaces::of(of.planned.cut(), section) else {
         return Ok(());
-    }
-    let own = cut.objects().section(section);
-    made.push(without_half(Piece::Align {
-        alignment: padding(own.align()),
-    }))?;
-    let starts = SectionPlaces {
-        number: section,
-        section: own,
-        places: starts_of(places),
     };
+    made.push(without_half(Piece::Align {
+        alignment: padding(starts.section.align()),
+    }))?;
     add_places(of, &starts, made)
 }
 
@@ -141,26 +150,21 @@ fn most_pieces(cut: &Cut) -> usize
     1 + cut.objects().section_count() as usize + cut.counts().items as usize
 }
 
-/// The pieces of objects that are cut, with a table of slots. A jump may lead to a place that comes later, so the
-/// numbers of all places are known before the first piece is made.
-pub fn make_pieces(alloc: Global, of: &PieceSource) -> Result<Pieces, AllocError>
-    requires source { IsSource of.now }
-    ensures pieces { IfOk result (λ made. made.pieces.items ≡ pieces_of (source_inputs of.now) (source_slots of.now)) }
-    ensures halves { IfOk result
-        (λ made. AreHalvesOf (all_owners (source_inputs of.now) (source_slots of.now)) made.halves.items) }
+/// The pieces of objects that are cut, without a table. A jump may lead to a place that comes later, so the numbers of
+/// all places are known before the first piece is made.
+pub fn make_pieces(alloc: Global, of: &Numbered) -> Result<Pieces, AllocError>
+    requires numbered { AreNumbered of.now }
+    ensures { IfOk result (ArePiecesOf (parsed of.now.planned.now) []) }
 {
     let cut = of.planned.cut();
     let sections = cut.objects().section_count();
     let most = most_pieces(cut);
-    // The halfwords are kept longer.
     let halves = Vec::with_capacity(alloc, most)?;
     let mut made = Pieces {
         pieces: Vec::with_capacity(alloc, most)?,
         halves,
     };
-    made.push(without_half(Piece::Fixed {
-        size: front_size(of.slots.slots),
-    }))?;
+    made.push(without_half(Piece::Fixed { size: 0 }))?;
     for section in 0..sections {
         add_section(of, section, &mut made)?;
     }

@@ -5,7 +5,7 @@ ghost use Rattle.std.specs.List.{sum};
 ghost use Rattle.shrink_layout.specs.Forms.{holds, near_limit, target};
 ghost use Rattle.shrink_layout.specs.Invariants.Blocks.{HaveGrownIn, ReachesAll, block_count, block_size};
 ghost use Rattle.shrink_layout.specs.Invariants.Rounds.{AreLaid, HaveGrown};
-ghost use Rattle.shrink_layout.specs.Invariants.Widths.{CanBeTested, OthersFitFrom, addresses_in};
+ghost use Rattle.shrink_layout.specs.Invariants.Widths.{AreStarts, CanBeTested, OthersFitFrom, addresses_in};
 ghost use Rattle.shrink_layout.specs.Layout.{all_fit, next_sizes};
 
 use crate::blocks::{BLOCK, Blocks, PieceSpan};
@@ -14,7 +14,7 @@ use crate::widths::Widths;
 
 // Whether a form reaches from an address to the target.
 fn reaches(widths: &Widths, at: u32, piece: Piece, size: u16) -> bool
-    requires text { 0 < length widths.now.starts.items }
+    requires starts { AreStarts (addresses_in widths.now) (length widths.now.sums) widths.now.starts.items }
     requires within { target piece ≤ length widths.now.sums }
     requires room { slice_index widths.now.starts.items 0 + sum widths.now.sums < 2 ^ 32 }
     requires near { at < slice_index (addresses_in widths.now) (target piece) + near_limit }

@@ -1,10 +1,11 @@
 // The layout of pieces: rounds, of which the first that fits is taken.
 
-ghost use Rattle.std.specs.Prelude.{◌≡◌, ◌%◌, All, IfOk};
+ghost use Rattle.std.specs.Prelude.{◌≡◌, ◌%◌, All, IfOk, length};
 ghost use Rattle.shrink_layout.specs.Forms.{IsEvenPiece};
-ghost use Rattle.shrink_layout.specs.Layout.{IsLayout, all_fit, sizes_of, widths_of};
+ghost use Rattle.shrink_layout.specs.Layout.{IsLayout, addresses_of, all_fit, sizes_of, widths_of};
 ghost use Rattle.shrink_layout.specs.Least.{IsLeast, IsTight};
 ghost use Rattle.shrink_layout.specs.Invariants.Rounds.{CanBeLaid, next_pieces, shortest_pieces};
+ghost use Rattle.shrink_layout.specs.Invariants.Widths.{AreStarts};
 
 use crate::blocks::Blocks;
 use crate::moves::move_on;
@@ -16,11 +17,12 @@ use crate::widths::Widths;
 use std::alloc::{AllocError, Global};
 use std::marker::Model;
 
-/// The size of each piece, and the bytes that each takes.
+/// The size of each piece, the bytes that each takes, and the address of each block and of the end.
 #[derive(Drop)]
 pub struct PieceLayout {
     pub sizes: Vec<u16>,
     pub sums: Sums,
+    pub block_starts: Vec<u32>,
 }
 
 // Pieces at the sizes that the rounds so far gave them.
@@ -76,14 +78,17 @@ impl<'a> Rounds<'a> {
         false
     }
 
-    // The sizes, and the bytes that the pieces take.
+    // What is kept once all pieces fit.
     fn layout(self) -> PieceLayout
         ensures sizes { result.sizes.items ≡ self.entry.sizes }
         ensures sums { result.sums ≡ widths_of self.entry.text self.entry.pieces self.entry.sizes }
+        ensures starts { AreStarts (addresses_of self.entry.text self.entry.pieces self.entry.sizes)
+            (length self.entry.pieces) result.block_starts.items }
     {
         PieceLayout {
             sizes: self.sizes,
             sums: self.widths.sums,
+            block_starts: self.widths.starts,
         }
     }
 }
@@ -95,6 +100,8 @@ pub fn settle_pieces(alloc: Global, text: u32, pieces: &[Piece]) -> Result<Piece
     ensures layout { IfOk result (λ _. IsLayout text pieces.now (sizes_of text pieces.now)) }
     ensures sizes { IfOk result (λ r. r.sizes.items ≡ sizes_of text pieces.now) }
     ensures sums { IfOk result (λ r. r.sums ≡ widths_of text pieces.now (sizes_of text pieces.now)) }
+    ensures starts { IfOk result (λ r. AreStarts (addresses_of text pieces.now (sizes_of text pieces.now))
+        (length pieces.now) r.block_starts.items) }
     ensures least { text % 2 ≡ 0 → All IsEvenPiece pieces.now → All IsTight pieces.now
         → IfOk result (λ _. IsLeast text pieces.now (sizes_of text pieces.now)) }
 {

@@ -11,8 +11,9 @@ ghost use Rattle.shrink_layout.specs.Counted.{is_long_piece, is_short_piece, pie
 ghost use Rattle.shrink_layout.specs.Halves.{IsHalfOf, IsSiteHalf};
 ghost use Rattle.shrink_layout.specs.Layout.{IsLayout};
 ghost use Rattle.shrink_layout.specs.Least.{IsLeast};
-ghost use Rattle.shrink_layout.specs.Invariants.Made.{AreHalvesOf, all_owners};
-ghost use Rattle.shrink_layout.specs.Invariants.Numbers.{AreFirstNumbers, HasPlace, IsSettled};
+ghost use Rattle.shrink_layout.specs.Invariants.Kept.{IsSettled};
+ghost use Rattle.shrink_layout.specs.Invariants.Made.{AreHalvesOf, ArePiecesOf, all_owners};
+ghost use Rattle.shrink_layout.specs.Invariants.Numbers.{AreFirstNumbers, HasPlace};
 ghost use Rattle.shrink_layout.specs.Invariants.Slots.{AreNumbered};
 ghost use Rattle.shrink_layout.specs.Pieces.{is_unaligned, piece_number_at, pieces_of, unit_at};
 ghost use Rattle.shrink_layout.specs.Settled.{is_site, settled_address, settled_addresses, settled_counts, settled_end, settled_size, settled_sizes, settled_widths, units_with};
@@ -20,11 +21,13 @@ ghost use Rattle.shrink_layout.specs.Table.{IsLaidBehind};
 ghost use Rattle.shrink_layout.specs.Units.{AreTargetSlots, OneItem, is_inside};
 ghost use Rattle.zc_base.specs.declared.place.Place.{Place};
 
+use crate::blocks::BLOCK;
 use crate::group_counts::count_groups;
 use crate::numbers::{first_numbers, piece_number, piece_number_at};
 use crate::piece::Piece;
 use crate::pieces::{Pieces, make_pieces};
 use crate::rounds::settle_pieces;
+use crate::sites::put_sites;
 use crate::slots::{Numbered, PieceSource, Slots};
 use crate::sums::Sums;
 use crate::table_halves::{count_table_halves, is_table_jump};
@@ -37,35 +40,39 @@ use zc_base::counts::Counts;
 use zc_base::place::Place;
 
 /// The layout of objects' code that is made smaller: the slots of its table, the number of each section's first place,
-/// and for each piece its halfword, if that is known before the layout, and its bytes, whose sums give addresses.
+/// the pieces, each with its halfword if that is known before the layout, the bytes of each, whose sums give addresses,
+/// and the address of each block of pieces.
 #[derive(Drop)]
 pub struct Settled {
     planned: Planned,
     slots: Vec<Option<Place>>,
     starts: Vec<u32>,
-    halves: Vec<u16>,
+    made: Pieces,
     sums: Sums,
+    block_starts: Vec<u32>,
     counts: Counts,
 }
 
 // What is kept of a layout beside the objects, the slots and the numbers.
 #[derive(Drop)]
 struct KeptLayout {
-    halves: Vec<u16>,
+    made: Pieces,
     sums: Sums,
+    block_starts: Vec<u32>,
     counts: Counts,
 }
 
-// What is left of a layout once its halfwords aren't needed any more.
+// What a layout behind a table is made from: one without it.
 #[derive(Drop)]
 struct FirstLayout {
     planned: Planned,
     starts: Vec<u32>,
+    made: Pieces,
     sums: Sums,
 }
 
 impl Model for Settled {
-    ghost use Rattle.shrink_layout.specs.Invariants.Numbers.{IsSettled};
+    ghost use Rattle.shrink_layout.specs.Invariants.Kept.{IsSettled};
     ghost use Rattle.shrink_layout.specs.Settled.{SettledLayout};
 
     ghost Value = { SettledLayout };
@@ -73,7 +80,7 @@ impl Model for Settled {
     ghost view = { λ settled. record { inputs = settled.planned; slots = settled.slots.items } };
 
     ghost invariant = { λ settled. IsSettled settled.planned settled.slots.items
-        settled.starts.items settled.halves.items settled.sums settled.counts };
+        settled.starts.items settled.made settled.sums settled.block_starts.items settled.counts };
 }
 
 // One for a piece of one item that isn't padding and takes two bytes, and else none.
@@ -140,45 +147,20 @@ fn count_sites(slots: &[Option<Place>], halves: &[u16]) -> u32
     }
 }
 
-// The pieces of all code, with a table of slots. If there are any, the sums are those of the layout without it, which
-// aren't needed any longer.
-fn pieces_behind(
-    alloc: Global,
-    of: &Numbered,
-    first: Sums,
-    slots: &[Option<Place>],
-) -> Result<Pieces, AllocError>
-    requires numbered { AreNumbered of.now }
-    requires first { 0 < length slots.now → first ≡ settled_widths (parsed of.now.planned.now) [] }
-    requires targets { AreTargetSlots (parsed of.now.planned.now).objects slots.now }
-    ensures pieces { IfOk result (λ made. made.pieces.items ≡ pieces_of (parsed of.now.planned.now) slots.now) }
-    ensures halves { IfOk result
-        (λ made. AreHalvesOf (all_owners (parsed of.now.planned.now) slots.now) made.halves.items) }
-{
-    let kept = Slots::new(alloc, of, first, slots)?;
-    let source = PieceSource {
-        planned: of.planned,
-        starts: of.starts,
-        slots: &kept,
-    };
-    make_pieces(alloc, &source)
-}
-
-// The layout with a table of slots. If there are any, the sums are those of the layout without it.
+// The layout of pieces with a table of slots.
 fn lay_out(
     alloc: Global,
     of: &Numbered,
-    first: Sums,
+    made: Pieces,
     slots: &[Option<Place>],
 ) -> Result<KeptLayout, AllocError>
     requires numbered { AreNumbered of.now }
-    requires first { 0 < length slots.now → first ≡ settled_widths (parsed of.now.planned.now) [] }
     requires targets { AreTargetSlots (parsed of.now.planned.now).objects slots.now }
+    requires made { ArePiecesOf (parsed of.now.planned.now) slots.now made }
     ensures settled { IfOk result (λ kept. IsSettled of.now.planned.now slots.now
-        of.now.starts.now kept.halves.items kept.sums kept.counts) }
+        of.now.starts.now kept.made kept.sums kept.block_starts.items kept.counts) }
     ensures laid { IfOk result (λ _. IsLaidBehind (parsed of.now.planned.now) slots.now) }
 {
-    let made = pieces_behind(alloc, of, first, slots)?;
     let cut = of.planned.cut();
     let text = cut.objects().map().text;
     let layout = settle_pieces(alloc, text, &made.pieces)?;
@@ -195,8 +177,9 @@ fn lay_out(
         table: count_sites(slots, &made.halves),
     };
     Ok(KeptLayout {
-        halves: made.halves,
+        made,
         sums: layout.sums,
+        block_starts: layout.block_starts,
         counts,
     })
 }
@@ -217,27 +200,32 @@ pub fn settle(alloc: Global, planned: Planned) -> Result<Settled, AllocError>
         planned: &planned,
         starts: &starts,
     };
-    let kept = lay_out(alloc, &of, Sums::of(alloc, &[])?, &slots)?;
+    let made = make_pieces(alloc, &of)?;
+    let kept = lay_out(alloc, &of, made, &slots)?;
     Ok(Settled {
         planned,
         slots,
         starts,
-        halves: kept.halves,
+        made: kept.made,
         sums: kept.sums,
+        block_starts: kept.block_starts,
         counts: kept.counts,
     })
 }
 
-// Lets the halfwords of a layout go.
+// The parts of a layout that the next one is made from.
 fn first_layout(settled: Settled) -> FirstLayout
+    requires without { settled.slots ≡ [] }
     ensures same { result.planned ≡ settled.inputs }
     ensures faultless { gather_fault settled.inputs ≡ None }
     ensures starts { AreFirstNumbers (parsed settled.inputs).objects result.starts.items }
-    ensures sums { result.sums ≡ settled_widths (parsed settled.inputs) settled.slots }
+    ensures made { ArePiecesOf (parsed settled.inputs) [] result.made }
+    ensures sums { result.sums ≡ settled_widths (parsed settled.inputs) [] }
 {
     FirstLayout {
         planned: settled.planned,
         starts: settled.starts,
+        made: settled.made,
         sums: settled.sums,
     }
 }
@@ -258,6 +246,7 @@ pub fn settle_with(
     let FirstLayout {
         planned,
         starts,
+        mut made,
         sums,
     } = first_layout(settled);
     let kept_slots = Vec::from_slice(alloc, slots)?;
@@ -265,13 +254,15 @@ pub fn settle_with(
         planned: &planned,
         starts: &starts,
     };
-    let kept = lay_out(alloc, &of, sums, slots)?;
+    put_sites(&of, Slots::new(alloc, &of, sums, slots)?, &mut made);
+    let kept = lay_out(alloc, &of, made, slots)?;
     Ok(Settled {
         planned,
         slots: kept_slots,
         starts,
-        halves: kept.halves,
+        made: kept.made,
         sums: kept.sums,
+        block_starts: kept.block_starts,
         counts: kept.counts,
     })
 }
@@ -298,11 +289,13 @@ impl Settled {
         requires { k ≤ length (pieces_of (parsed self.now.inputs) self.now.slots) }
         ensures { result ≡ slice_index (settled_addresses (parsed self.now.inputs) self.now.slots) k }
     {
-        self.planned.cut().objects().map().text + self.sums.before(k)
+        // This call says that the map has room for the text.
+        let _map = self.planned.cut().objects().map();
+        self.block_starts[k / BLOCK] + self.sums.in_block(k)
     }
 
-    /// The address of a place that images list; a place inside a group has none. It takes time logarithmic in the
-    /// items, as do `address_at` and `text_end`; what else follows takes constant time.
+    /// The address of a place that images list; a place inside a group has none. It takes at most seven sums, as do
+    /// `address_at` and `text_end`; what else follows takes constant time.
     pub fn address(&self, p: Place) -> Option<u32>
         ensures { result ≡ settled_address (parsed self.now.inputs) self.now.slots p }
     {
@@ -357,8 +350,8 @@ impl Settled {
     {
         let k = self.piece_at(number);
         // No piece stands at the end of all code.
-        if k < self.halves.len() {
-            self.halves[k]
+        if k < self.made.halves.len() {
+            self.made.halves[k]
         } else {
             0
         }
@@ -372,7 +365,7 @@ impl Settled {
             → IsPlaceNumber (parsed self.now.inputs).objects q number
             → IsSiteHalf (unit_at (parsed self.now.inputs) self.now.slots q) result }
     {
-        let half = self.halves[self.piece_at(number)];
+        let half = self.made.halves[self.piece_at(number)];
         if is_table_jump(half) {
             Some(half)
         } else {

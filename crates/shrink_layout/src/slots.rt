@@ -28,15 +28,15 @@ pub struct Numbered<'a> {
 #[derive(Drop)]
 pub struct Slots<'a> {
     pub slots: &'a [Option<Place>],
-    /// If there are slots, the bytes of each piece in the layout without the table.
+    /// The bytes of each piece in the layout without the table.
     pub first: Sums,
-    /// If there are slots, the first for jumps to each place, by the number of the place's piece.
+    /// The first for jumps to each place, by the number of the place's piece.
     pub jumps: Vec<Option<u8>>,
     /// The first for calls.
     pub calls: Vec<Option<u8>>,
 }
 
-/// What pieces are made from: the objects, and the slots of a table.
+/// What pieces behind a table are made from: the objects, and the slots.
 #[derive(Drop)]
 pub struct PieceSource<'a> {
     pub planned: &'a Planned,
@@ -62,7 +62,7 @@ fn first_slots(
     requires numbered { AreNumbered of.now }
     requires few { part.first + length part.slots.now ≤ 256 }
     requires targets { All (IsTargetSlot (parsed of.now.planned.now).objects) part.slots.now }
-    requires count { 0 < length part.slots.now → count ≡ length (pieces_of (parsed of.now.planned.now) []) + 1 }
+    requires count { count ≡ length (pieces_of (parsed of.now.planned.now) []) + 1 }
     ensures long { IfOk result (λ firsts. length firsts.items ≡ count) }
     ensures firsts { IfOk result (λ firsts.
         AreFirstSlots (parsed of.now.planned.now).objects part.entry.first part.entry.slots.now firsts.items) }
@@ -78,7 +78,7 @@ fn first_slots(
 }
 
 impl<'a> Slots<'a> {
-    /// The slots of a table. If there are any, the sums are those of the layout without it.
+    /// The slots of a table, with the sums of the layout without it.
     pub fn new(
         alloc: Global,
         of: &Numbered,
@@ -86,17 +86,13 @@ impl<'a> Slots<'a> {
         slots: &'a [Option<Place>],
     ) -> Result<Slots<'a>, AllocError>
         requires numbered { AreNumbered of.now }
-        requires first { 0 < length slots.now → first ≡ settled_widths (parsed of.now.planned.now) [] }
+        requires first { first ≡ settled_widths (parsed of.now.planned.now) [] }
         requires targets { AreTargetSlots (parsed of.now.planned.now).objects slots.now }
         ensures same { IfOk result (λ kept. kept.slots.now ≡ slots.now) }
         ensures kept { IfOk result (AreSlotsOf (parsed of.now.planned.now)) }
     {
         // There is an entry for each piece, and for the end.
-        let count = if slots.is_empty() {
-            0
-        } else {
-            first.count() + 1
-        };
+        let count = first.count() + 1;
         let middle = slots.len().min(JUMP_SLOTS);
         let jumps = SlotPart {
             first: 0,

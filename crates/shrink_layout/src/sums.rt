@@ -1,9 +1,11 @@
 // A binary indexed tree of sizes.
 
-ghost use Rattle.std.specs.Prelude.{◌≡◌, ◌+◌, ◌<◌, ◌≤◌, ◌^◌, IfOk, length, slice_index, slice_set, take};
+ghost use Rattle.std.specs.Prelude.{◌≡◌, ◌+◌, ◌*◌, ◌/◌, ◌<◌, ◌≤◌, ◌^◌, IfOk, length, slice_index, slice_set, take};
 ghost use Rattle.std.specs.List.{sum};
+ghost use Rattle.shrink_layout.specs.Invariants.Blocks.{block_size};
 ghost use Rattle.shrink_layout.specs.Sums.{IsLowPower, IsTree};
 
+use crate::blocks::BLOCK;
 use std::alloc::{AllocError, Global};
 use std::marker::Model;
 
@@ -92,6 +94,22 @@ impl Sums {
             k -= step;
         }
         before
+    }
+
+    /// The sum of the sizes from the first one of the index's block on, in at most six steps.
+    #[tactic(auto, using(crate::proofs::LowPowers::low_in_block))]
+    pub(crate) fn in_block(&self, i: usize) -> u32
+        requires { i ≤ length self.now }
+        ensures { sum (take (i / block_size * block_size) self.now) + result ≡ sum (take i self.now) }
+    {
+        let mut sum = 0;
+        let mut k = i;
+        while k % BLOCK != 0 {
+            let step = low_power(k);
+            sum += self.nodes[k - 1];
+            k -= step;
+        }
+        sum
     }
 
     /// The size with this index.

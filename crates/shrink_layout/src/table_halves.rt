@@ -5,7 +5,6 @@ ghost use Rattle.shrink_layout.specs.Invariants.Numbers.{is_table_half};
 ghost use Rattle.zc_decode.specs.declared.short.Short.TheVariants.{TableJump};
 ghost use Rattle.zc_encode.specs.Halves.{encoded16};
 
-use zc_decode::decode16::decode16;
 use zc_decode::short::Short;
 use zc_encode::encode16::encode16;
 
@@ -16,11 +15,13 @@ pub fn table_half(slot: u8) -> u16
     encode16(Short::TableJump { index: slot }).unwrap()
 }
 
-/// Whether a halfword is one of a jump or call through the table. It takes constant time.
+/// Whether a halfword is one of a jump or call through the table, by its bits (RISC-V Zc specification 1.0, "cm.jt" and
+/// "cm.jalt").
+#[tactic(auto, using(crate::proofs::TableBits::table_bits))]
 pub fn is_table_jump(half: u16) -> bool
     ensures { result ≡ is_table_half half }
 {
-    matches!(decode16(half), Some(Short::TableJump { .. }))
+    half / 1024 == 0b101_000 && half % 4 == 0b10
 }
 
 /// How many halfwords are.

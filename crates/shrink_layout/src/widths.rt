@@ -3,7 +3,7 @@
 ghost use Rattle.std.specs.Prelude.{◌≡◌, ℕ, ◌+◌, ◌*◌, ◌<◌, ◌≤◌, ◌^◌, ◌%◌, false, IfOk, length, slice_index};
 ghost use Rattle.std.specs.List.{sum};
 ghost use Rattle.shrink_layout.specs.Invariants.Blocks.{block_size};
-ghost use Rattle.shrink_layout.specs.Invariants.Widths.{AreCounted, addresses_in, count_before};
+ghost use Rattle.shrink_layout.specs.Invariants.Widths.{AreCounted, AreStarts, addresses_in, count_before};
 
 use crate::blocks::BLOCK;
 use crate::sums::Sums;
@@ -70,12 +70,12 @@ impl Widths {
 
     /// The address of a piece, or of the end.
     pub fn address(&self, k: usize) -> u32
-        requires text { 0 < length self.now.starts.items }
+        requires starts { AreStarts (addresses_in self.now) (length self.now.sums) self.now.starts.items }
         requires within { k ≤ length self.now.sums }
         requires room { slice_index self.now.starts.items 0 + sum self.now.sums < 2 ^ 32 }
         ensures { result ≡ slice_index (addresses_in self.now) k }
     {
-        self.starts[0] + self.sums.before(k)
+        self.starts[k / BLOCK] + self.sums.in_block(k)
     }
 
     // How many pieces before this one changed, or before the end.

@@ -1,5 +1,6 @@
--- Pieces and halfwords as they are made: section by section, and of a section place by place.
-use Rattle.std.specs.Prelude.{◌≡◌, ℕ, true, if◌then◌else◌, List, [], ◌∷◌, map, take, slice_get, Option, Some, None}
+-- Pieces and halfwords as they are made, and as those behind a table are put in their place: section by section, and of a
+-- section place by place.
+use Rattle.std.specs.Prelude.{◌≡◌, ℕ, ◌+◌, ◌<◌, ◌^◌, true, false, if◌then◌else◌, List, [], ◌∷◌, ◌++◌, drop, length, map, take, slice_get, Option, Some, None}
 use Rattle.std.specs.List.{flat_map}
 use Rattle.elf32_read.specs.Parts.{is_code_section}
 use Rattle.psabi_sym.specs.Inputs.{ParsedInputs}
@@ -11,10 +12,11 @@ use Rattle.block_cut.specs.declared.place_number.PlaceNumber.{PlaceNumber}
 use Rattle.zc_base.specs.declared.place.Place.{Place}
 use Rattle.block_cut.specs.declared.code_place.CodePlace.{CodePlace}
 use Rattle.shrink_layout.specs.Invariants.Numbers.{IsHalfAt}
-use Rattle.shrink_layout.specs.Pieces.{pieces_in, slot_at}
+use Rattle.shrink_layout.specs.Pieces.{piece_at, pieces_in, pieces_of, section_alignment, slot_at}
 use Rattle.shrink_layout.specs.Units.{CodeUnit, front_size, unit_by}
-use Rattle.shrink_layout.specs.declared.piece.Piece.{Piece}
-use Rattle.shrink_layout.specs.declared.piece.Piece.TheVariants.{Fixed}
+use Rattle.shrink_layout.specs.declared.piece.Piece.TheVariants.{Align, Fixed}
+use Rattle.shrink_layout.specs.declared.pieces.Pieces.{Pieces}
+use Rattle.shrink_layout.specs.declared.pieces.SectionPlaces.{SectionPlaces}
 
 -- places of a section
 abbrev pub places_held : IndexedSection → List CodePlace → List Place
@@ -31,6 +33,19 @@ abbrev pub AreHeld : ParsedInputs → ℕ → IndexedSection → List CodePlace 
 AreHeld inputs k l places =
     (i : ℕ) (p : CodePlace) → slice_get places i ≡ Some p
     → IsItemPlace inputs (place_of l p.offset) (record { section = k; index = i }) p.item
+
+-- these places of a section of code, with its number among all, are those where its items start
+pub record AreStartsOf (inputs : ParsedInputs) (s : SectionPlaces) : Type 0 where
+  pub at : slice_get (all_sections inputs.objects) s.number ≡ Some s.section
+  pub code : is_code_section s.section.section ≡ true
+  pub held : AreHeld inputs s.number s.section s.places.now
+  pub are : places_held s.section s.places.now ≡ places_of s.section
+  pub few : length s.places.now < 2 ^ 32
+
+-- the section with a number among all is no code
+abbrev pub IsNoCode : ParsedInputs → ℕ → Type 0
+IsNoCode inputs k =
+    (l : IndexedSection) → slice_get (all_sections inputs.objects) k ≡ Some l → is_code_section l.section ≡ false
 
 -- what is written for each piece of a section; its padding is for nothing
 abbrev pub section_owners : ParsedInputs → (Place → Option ℕ) → IndexedSection → List (Option CodeUnit)
@@ -51,10 +66,40 @@ AreHalvesOf [] (half ∷ halves) = ⊥
 AreHalvesOf (owner ∷ owners) [] = ⊥
 AreHalvesOf (owner ∷ owners) (half ∷ halves) = IsHalfAt owner half × AreHalvesOf owners halves
 
--- the pieces up to the section with a number among all, with a table of these slots, and their halfwords
-pub record AreMade
-    (inputs : ParsedInputs) (slots : List (Option Place)) (k : ℕ) (pieces : List Piece) (halves : List ℕ) : Type 0 where
-  pub pieces_are : pieces
-      ≡ Fixed (front_size slots) ∷ pieces_in inputs (slot_at inputs slots) (take k (all_sections inputs.objects))
+-- the pieces of inputs with a table of these slots, and the halfwords of what is written for them
+pub record ArePiecesOf (inputs : ParsedInputs) (slots : List (Option Place)) (made : Pieces) : Type 0 where
+  pub pieces_are : made.pieces.items ≡ pieces_of inputs slots
+  pub halves_are : AreHalvesOf (all_owners inputs slots) made.halves.items
+
+-- those up to the section with a number among all, without a table
+pub record AreMade (inputs : ParsedInputs) (k : ℕ) (made : Pieces) : Type 0 where
+  pub pieces_are : made.pieces.items
+      ≡ Fixed 0 ∷ pieces_in inputs (slot_at inputs []) (take k (all_sections inputs.objects))
   pub halves_are :
-      AreHalvesOf (None ∷ owners_in inputs (slot_at inputs slots) (take k (all_sections inputs.objects))) halves
+      AreHalvesOf (None ∷ owners_in inputs (slot_at inputs []) (take k (all_sections inputs.objects))) made.halves.items
+
+-- ---- behind a table
+
+-- all pieces and their halfwords: up to the section with a number among all with a table of these slots, and from there
+-- on without it
+pub record ArePut (inputs : ParsedInputs) (slots : List (Option Place)) (k : ℕ) (made : Pieces) : Type 0 where
+  pub pieces_are : made.pieces.items
+      ≡ Fixed (front_size slots) ∷ (pieces_in inputs (slot_at inputs slots) (take k (all_sections inputs.objects))
+      ++ pieces_in inputs (slot_at inputs []) (drop k (all_sections inputs.objects)))
+  pub halves_are :
+      AreHalvesOf (None ∷ (owners_in inputs (slot_at inputs slots) (take k (all_sections inputs.objects))
+      ++ owners_in inputs (slot_at inputs []) (drop k (all_sections inputs.objects)))) made.halves.items
+
+-- the same in the midst of this section of code: up to the last of some places, and from the first of the others on
+pub record ArePutIn (inputs : ParsedInputs) (slots : List (Option Place)) (k : ℕ) (l : IndexedSection)
+    (before after : List Place) (made : Pieces) : Type 0 where
+  pub pieces_are : made.pieces.items
+      ≡ Fixed (front_size slots) ∷ (pieces_in inputs (slot_at inputs slots) (take k (all_sections inputs.objects))
+      ++ Align (section_alignment l.section) ∷ (map (piece_at inputs (slot_at inputs slots)) before
+      ++ (map (piece_at inputs (slot_at inputs [])) after
+      ++ pieces_in inputs (slot_at inputs []) (drop (k + 1) (all_sections inputs.objects)))))
+  pub halves_are :
+      AreHalvesOf (None ∷ (owners_in inputs (slot_at inputs slots) (take k (all_sections inputs.objects))
+      ++ None ∷ (map (unit_by inputs (slot_at inputs slots)) before
+      ++ (map (unit_by inputs (slot_at inputs [])) after
+      ++ owners_in inputs (slot_at inputs []) (drop (k + 1) (all_sections inputs.objects)))))) made.halves.items

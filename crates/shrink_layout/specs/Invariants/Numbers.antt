@@ -1,11 +1,9 @@
--- The number of each place of code, and what the layout keeps beside it.
+-- The number of each place of code, and the halfword of what is written there.
 use Rattle.std.specs.Prelude.{◌≡◌, ℕ, ◌+◌, Bool, false, List, length, map, take, slice_index, true, Option, None, Some}
 use Rattle.std.specs.List.{range_with_len, sum_by}
-use Rattle.zc_base.specs.declared.counts.Counts.{Counts}
 use Rattle.zc_base.specs.declared.place.Place.{Place}
 use Rattle.elf32_read.specs.Parts.{ObjectParts}
-use Rattle.psabi_sym.specs.Faults.{gather_fault}
-use Rattle.psabi_sym.specs.Inputs.{Inputs, ParsedInputs, parsed}
+use Rattle.psabi_sym.specs.Inputs.{ParsedInputs}
 use Rattle.psabi_sym.specs.Indexed.{all_sections}
 use Rattle.zc_decode.specs.Halfwords.{decoded16}
 use Rattle.zc_decode.specs.declared.short.Short.{Short}
@@ -17,8 +15,7 @@ use Rattle.block_cut.specs.declared.item.Item.{Item}
 use Rattle.block_cut.specs.declared.place_number.PlaceNumber.{PlaceNumber}
 use Rattle.shrink_layout.specs.Halves.{IsHalfOf}
 use Rattle.shrink_layout.specs.Pieces.{piece_count, piece_number_at, pieces_of, unit_at}
-use Rattle.shrink_layout.specs.Settled.{settled_counts, settled_widths}
-use Rattle.shrink_layout.specs.Units.{AreTargetSlots, CodeUnit, OneGroup, OneItem, OneSite}
+use Rattle.shrink_layout.specs.Units.{CodeUnit, OneGroup, OneItem, OneSite}
 
 -- ---- numbers
 
@@ -64,15 +61,3 @@ AreHalves inputs slots halves =
     (length halves ≡ length (pieces_of inputs slots))
     × ((q : Place) (item : Item) → item_at inputs q ≡ Some item
     → IsHalfAt (unit_at inputs slots q) (slice_index halves (piece_number_at inputs.objects q)))
-
--- ---- the whole
-
--- a layout of inputs without a fault, with a table of these slots, as it is kept
-pub record IsSettled
-    (inputs : Inputs) (slots : List (Option Place)) (starts halves sums : List ℕ) (counts : Counts) : Type 0 where
-  pub faultless : gather_fault inputs ≡ None
-  pub targets : AreTargetSlots (parsed inputs).objects slots
-  pub starts_are : AreFirstNumbers (parsed inputs).objects starts
-  pub halves_are : AreHalves (parsed inputs) slots halves
-  pub sums_are : sums ≡ settled_widths (parsed inputs) slots
-  pub counts_are : counts ≡ settled_counts (parsed inputs) slots

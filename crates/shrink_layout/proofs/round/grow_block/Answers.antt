@@ -4,7 +4,7 @@ use Rattle.shrink_layout.specs.declared.piece.Piece.{Piece}
 use Rattle.shrink_layout.specs.declared.piece.Piece.TheVariants.{Fixed}
 use Rattle.shrink_layout.specs.declared.widths.Widths.{Widths}
 use Rattle.shrink_layout.specs.Invariants.Blocks.{HaveGrownIn, IsSpanned, ReachesAll, block_size, nth_piece}
-use Rattle.shrink_layout.specs.Invariants.Widths.{CanBeTested, IsUntouched, addresses_in, count_before}
+use Rattle.shrink_layout.specs.Invariants.Widths.{AreStarts, CanBeTested, IsUntouched, addresses_in, count_before}
 use Rattle.shrink_layout.specs.Forms.{holds, near_limit, target}
 use Rattle.shrink_layout.specs.Layout.{holds_at}
 use Rattle.shrink_layout.proofs.ChangeLaws.{by_long, by_next, by_top}
@@ -18,6 +18,11 @@ near_two : (pieces : List Piece) (w : Widths) (i j : ℕ) → CanBeTested pieces
 near_two pieces w i j can in_i in_j =
     let long = by_long (slice_index w.starts.items 0) w.sums in
     can.near i 0 (omega (arith, long, can.long, in_i)) j 0 (omega (arith, long, can.long, in_j))
+
+pub reaches-requires-clause-starts : goal.reaches-requires-clause-starts
+reaches-requires-clause-starts c =
+    let w = c.args.widths.now in
+    subst (λ n. AreStarts (addresses_in w) n w.starts.items) (sym c.requires.testable.long) c.requires.testable.starts
 
 pub reaches-requires-clause-near : goal.reaches-requires-clause-near
 reaches-requires-clause-near c =

@@ -1,6 +1,7 @@
-use Rattle.std.proofs.Common.{◌<◌, sym, ap, ◌∙◌, subst}
-use Rattle.shrink_layout.specs.Layout.{sizes_of, widths_of}
+use Rattle.std.proofs.Common.{ℕ, ◌<◌, List, length, sym, ap, ◌∙◌, subst, subst₂}
+use Rattle.shrink_layout.specs.Layout.{addresses_of, sizes_of, widths_of}
 use Rattle.shrink_layout.specs.Invariants.Rounds.{LaidPieces}
+use Rattle.shrink_layout.specs.Invariants.Widths.{AreStarts}
 use Rattle.shrink_layout.proofs.RoundLaws.{slack_of}
 use Rattle.shrink_layout.proofs.SizesLaws.{AreOfRound, next_fits, next_less, next_of_round, shortest_of_round, sizes_layout, sizes_least}
 use Rattle.shrink_layout.proofs.rounds.settle_pieces.Goals as goal
@@ -45,6 +46,16 @@ returns-then-next-clause-sums c =
     let sizes = sym c.layout.ensures.sizes ∙ returns-then-next-clause-sizes c in
     c.layout.ensures.sums ∙ (λ i. widths_of (is i).text (is i).pieces c.next.new.self.sizes)
     ∙ (λ i. widths_of (now.text_same i) (now.pieces_same i) (sizes i))
+
+pub returns-then-next-clause-starts : goal.returns-then-next-clause-starts
+returns-then-next-clause-starts c =
+    let now = c.loop-rounds.invariant in
+    let is = c.next.ensures.next in
+    let sizes = sym c.layout.ensures.sizes ∙ returns-then-next-clause-sizes c in
+    let pieces = ap (λ r. r.pieces) is ∙ now.pieces_same in
+    subst₂ (λ (addresses : List ℕ) (count : ℕ). AreStarts addresses count c.layout.result.block_starts.items)
+    ((λ i. addresses_of (is i).text (is i).pieces c.next.new.self.sizes) ∙ (λ i. addresses_of (now.text_same i) (now.pieces_same i) (sizes i)))
+    (ap length pieces) c.layout.ensures.starts
 
 pub returns-then-next-clause-least : goal.returns-then-next-clause-least
 returns-then-next-clause-least c even all_even tight = sizes_least c.args.text c.args.pieces.now even all_even tight c.requires.targets

@@ -12,8 +12,7 @@ pub index_mut-requires : goal.index_mut-requires
 index_mut-requires c =
     let to = c.in-Some.to in
     let number = c.piece_number_at-number.ensures ∙ ap (λ x. piece_number_at (parsed x).objects to) c.cut.ensures.same in
-    let some : 0 < length c.args.part.slots.now = omega (arith, c.loop-k-test.true, c.loop-k.auto.k) in
-    omega (arith, number, number_most (parsed c.args.of.now.planned.now) [] to, c.loop-k.firsts.ok, c.loop-k.invariant.long, c.requires.count some)
+    omega (arith, number, number_most (parsed c.args.of.now.planned.now) [] to, c.loop-k.firsts.ok, c.loop-k.invariant.long, c.requires.count)
 
 pub loop-k-preserved-in-Some : goal.loop-k-preserved-in-Some
 loop-k-preserved-in-Some c =
@@ -25,12 +24,11 @@ loop-k-preserved-in-Some c =
     let firsts = c.loop-k.firsts.items in
     let k = c.loop-k.k - 1 in
     let number = c.piece_number_at-number.ensures ∙ ap (λ x. piece_number_at (parsed x).objects to) c.cut.ensures.same in
-    let some : 0 < length part = omega (arith, c.loop-k-test.true, c.loop-k.auto.k) in
     let within : k < length part = omega (arith, c.loop-k-test.true, c.loop-k.auto.k) in
     let next : c.loop-k.k ≡ k + 1 = omega (arith, c.loop-k-test.true) in
     let are = subst (λ m. AreFirstSlots objects (first + m) (drop m part) firsts) next c.loop-k.invariant.firsts in
     let target = subst (IsTargetSlot objects) c.in-Some.is (c.requires.targets k None within) in
-    let there : piece_number_at objects to < length firsts = omega (arith, number_most (parsed inputs) [] to, c.loop-k.invariant.long, c.requires.count some) in
+    let there : piece_number_at objects to < length firsts = omega (arith, number_most (parsed inputs) [] to, c.loop-k.invariant.long, c.requires.count) in
     record {
       long = length-set firsts c.piece_number_at-number.result (Some (first + k)) ∙ c.loop-k.invariant.long;
       firsts = subst (λ m. AreFirstSlots objects (first + k) (drop k part) (set firsts m (Some (first + k)))) (sym number)
