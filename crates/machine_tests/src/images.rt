@@ -11,7 +11,7 @@ use crate::row::{bytes_of, column, end_of, number_of, shown};
 use elf32_read::image::Image;
 use file::file_of;
 use interrupt_plan::plan::empty_plan;
-use rows::{HALFWORDS, PAGES, PROGRAMS, STEPS};
+use rows::{AGAIN, HALFWORDS, PAGES, PROGRAMS, STEPS};
 use std::alloc::{AllocError, Global};
 use std::process::Abort;
 use std::test::Fail;
@@ -91,6 +91,11 @@ fn programs_end_with_their_status_or_reason(rt: HostRuntime) -> Result<(), Fail>
 #[test]
 fn memory_in_pages_is_that_of_its_addresses(rt: HostRuntime) -> Result<(), Fail> {
     expect_runs(&rt, PAGES, "")
+}
+
+#[test]
+fn an_instruction_is_decoded_at_its_own_address(rt: HostRuntime) -> Result<(), Fail> {
+    expect_runs(&rt, AGAIN, "")
 }
 
 #[test]
@@ -196,7 +201,7 @@ fn step_text(alloc: Global, machine: &mut Machine) -> Result<String, AllocError>
 
 // Makes the steps of a row after an interrupt that writes these bytes: they should answer as the row says.
 fn expect_steps<R: Abort + AllocGlobal>(rt: &R, row: &str, dirt: &[(u32, u8)]) -> Result<(), Fail> {
-    let mut machine = load(rt.alloc(), column(row, "text"))?;
+    let mut machine = load_with(rt.alloc(), column(row, "text"), column(row, "data"))?;
     machine.cut(&[], dirt);
     for want in column(row, "answers").split(';') {
         let answer = step_text(rt.alloc(), &mut machine)?;

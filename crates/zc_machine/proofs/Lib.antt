@@ -2,6 +2,7 @@ pub mod Examples
 pub mod FetchLaws
 pub mod WriteLaws
 pub mod PoolLaws
+pub mod KeptLaws
 pub mod RegionLaws
 pub mod ReachLaws
 pub mod AccessLaws

@@ -1,13 +1,20 @@
 -- Regions without a common address: what spans an access is the one region there, and a write changes no other.
-use Rattle.std.proofs.Common.{◌≡◌, ℕ, zero, suc, ◌+◌, ◌-◌, ◌^◌, ◌<◌, ◌≤◌, List, [], ◌∷◌, Bool, true, false, cond, length, min, get_or, set, take, drop, refl, sym, subst, ap, ap₂, ◌∙◌, arith, leb, ltb, length-drop, ◌⊎◌, ⊎_elim}
+use Rattle.std.proofs.Common.{◌≡◌, ℕ, zero, suc, ◌+◌, ◌-◌, ◌^◌, ◌<◌, ◌≤◌, List, [], ◌∷◌, Bool, true, false, cond, length, min, get_or, set, take, drop, refl, sym, subst, ap, ap₂, ◌∙◌, arith, leb, ltb, length-drop, ⊎_elim}
 use Rattle.std.specs.Prelude.{◌&&◌, ◌||◌, All}
 use Rattle.std.proofs.lemmas.Bool.{and_from, and_parts, and_right, both_ways, cond-false, cond-true, false_from_ne_true, false≢true, le-leb, leb-true, lt-leb, ltb-true, or_cases, or_from}
 use Rattle.std.proofs.lemmas.List.{get_or-drop, get_or-take, length-take, take_all}
 use Rattle.std.proofs.lemmas.List.Elements.{All-head, All-tail}
-use Rattle.rv_decode.specs.Memory.{Extent, Kind, Region, Text, Data, Stack, cell_at, cells_changed, changed, extent_of, extents_of, lies_in, spans, written}
+use Rattle.rv_decode.specs.Memory.{Extent, Kind, Region, Text, Data, Stack, cell_at, cells_changed, changed, extent_of, extents_of, is_data, is_text, lies_in, spans, written}
 use Rattle.rv_decode.proofs.MemoryLaws.{extents-changed, is_covered, lies_covered, lies_inside, spans_inside, untouched}
-use Rattle.zc_machine.specs.Memory.{Apart, AreApart, Reaches, most_at_once}
-use Rattle.zc_machine.specs.Region.{allowed, cells_by, kind_of_region, part_from}
+use Rattle.zc_decode.specs.declared.short.Short.{Short}
+use Rattle.zc_machine.specs.Cells.{instruction}
+use Rattle.zc_machine.specs.Fetch.{Fetched, Found, Missing}
+use Rattle.zc_machine.specs.Invariants.Kept.{IsEntry}
+use Rattle.zc_machine.specs.Memory.{Apart, AreApart, Fetches, Reaches, most_at_once}
+use Rattle.zc_machine.specs.Region.{allowed, cells_by, has_code, kind_of_region, part_from}
+use Rattle.zc_machine.specs.declared.reason.Reason.TheVariants.{BadAccess}
+use Rattle.zc_machine.specs.declared.code.Kept.{Kept}
+use Rattle.zc_machine.specs.declared.code.Kept.TheVariants.{Known}
 use Rattle.zc_machine.specs.declared.region.AccessKind.{AccessKind}
 use Rattle.zc_machine.specs.declared.region.AccessKind.TheVariants as access
 use Rattle.zc_machine.specs.declared.region.RegionKind.{RegionKind}
@@ -174,6 +181,37 @@ unreached way rs a small none = record {
   below = omega arith;
 }
 
+-- ---- what is fetched
+
+-- each region ends at 2^32 or before
+pub item_below : (rs : List (Region ℕ)) (i : ℕ) (r : Region ℕ) → AreApart (extents_of rs) → i < length rs → r ≡ get_or rs i r → r.at + length r.cells ≤ 2 ^ 32
+item_below rs i r apart lt is = subst (λ (x : Region ℕ). x.at + length x.cells ≤ 2 ^ 32) (sym is) (below_at rs i r apart lt)
+
+-- the cells of code are kept in one piece
+text_whole : (kind : Kind) (a : ℕ) (cells : List ℕ) → is_text kind ≡ true → part_from kind a cells ≡ cells
+text_whole Text a cells is = refl
+text_whole Data a cells is = absurd cc
+text_whole Stack a cells is = absurd cc
+
+-- what the region there has
+pub item_fetched :
+    (rs : List (Region ℕ)) (i : ℕ) (r : Region ℕ) (a : ℕ) (found : Fetched) → AreApart (extents_of rs) → i < length rs → r ≡ get_or rs i r → has_code r a ≡ true
+    → found ≡ instruction (drop (a - r.at) r.cells) → Fetches rs a found
+item_fetched rs i r a found apart lt is has stands =
+    let text = (and_parts (is_text r.kind) (spans (extent_of r) a 1) has).0 in
+    (drop (a - r.at) r.cells, subst (Reaches access.Fetch rs a) (text_whole r.kind a (drop (a - r.at) r.cells) text) (item_reached access.Fetch rs i r a apart lt is has), stands)
+
+pub known_fetched :
+    (rs : List (Region ℕ)) (i : ℕ) (r : Region ℕ) (a size : ℕ) (short : Short) (entry : Kept) → AreApart (extents_of rs) → i < length rs → r ≡ get_or rs i r
+    → IsEntry r a entry → entry ≡ Known size short → Fetches rs a (Found short size)
+known_fetched rs i r a size short entry apart lt is stands known =
+    let it : IsEntry r a (Known size short) = subst (IsEntry r a) known stands in
+    item_fetched rs i r a (Found short size) apart lt is it.0 (sym it.1)
+
+-- nothing, if no region has code there
+pub none_fetched : (rs : List (Region ℕ)) (a : ℕ) → a < 2 ^ 32 → lies_in is_text (extents_of rs) a 1 ≡ false → Fetches rs a (Missing BadAccess)
+none_fetched rs a small none = ([], unreached access.Fetch rs a small none, refl)
+
 -- ---- a write
 
 module _ (a n : ℕ) (given : ℕ → ℕ) where
@@ -227,8 +265,18 @@ region_written kind at a n given code pages code' pages' r seen here change =
     (λ i. record { kind = kind_of_region kind; at = at; cells = cells i }) ∙ ap (written_region a n given) seen
 
 -- the cells of a region of data or of the stack are those in pages
-pub cells_in_pages : (kind : RegionKind) (code pages : List ℕ) → (kind ≡ region.Data) ⊎ (kind ≡ region.Stack) → cells_by kind code pages ≡ pages
-cells_in_pages kind code pages is = ⊎_elim (λ data_kind. ap (λ k. cells_by k code pages) data_kind) (λ stack_kind. ap (λ k. cells_by k code pages) stack_kind) is
+pub cells_in_pages : (kind : RegionKind) (code pages : List ℕ) → is_data (kind_of_region kind) ≡ true → cells_by kind code pages ≡ pages
+cells_in_pages region.Text code pages is = absurd cc
+cells_in_pages region.Data code pages is = refl
+cells_in_pages region.Stack code pages is = refl
+
+-- a write never reaches code
+pub writes_data : (way : AccessKind) (kind : Kind) → allowed way Text ≡ false → allowed way kind ≡ true → is_data kind ≡ true
+writes_data access.Fetch kind none is = absurd cc
+writes_data access.Data kind none is = is
+writes_data access.Interrupt Text none is = absurd cc
+writes_data access.Interrupt Data none is = absurd cc
+writes_data access.Interrupt Stack none is = refl
 
 -- ---- changes that are the same
 

@@ -1,6 +1,8 @@
 -- Where the regions of the machine's memory lie, and what an access reaches at once.
 use Rattle.std.specs.Prelude.{◌≡◌, ℕ, ◌+◌, ◌-◌, ◌%◌, ◌^◌, ◌<◌, ◌≤◌, min, max, nat_le, List, [], ◌∷◌, length, All, slice_index}
 use Rattle.rv_decode.specs.Memory.{Extent, Region, cell_at, extents_of, lies_in}
+use Rattle.zc_machine.specs.Cells.{instruction}
+use Rattle.zc_machine.specs.Fetch.{Fetched}
 use Rattle.zc_machine.specs.Region.{allowed}
 use Rattle.zc_machine.specs.declared.region.AccessKind.{AccessKind}
 use Rattle.zc_machine.specs.declared.region.AccessKind.TheVariants as access
@@ -28,3 +30,7 @@ pub record Reaches (way : AccessKind) (memory : List (Region ℕ)) (a : ℕ) (ce
   pub within : length cells ≤ most_at_once way a
   pub holds : (i : ℕ) → i < length cells → cell_at 0 memory (a + i) ≡ slice_index cells i
   pub below : a + length cells ≤ 2 ^ 32
+
+-- this is what the cells that a fetch reaches at an address begin with
+abbrev pub Fetches : List (Region ℕ) → ℕ → Fetched → Type 0
+Fetches memory a found = (cells : List ℕ) × Reaches access.Fetch memory a cells × (found ≡ instruction cells)

@@ -1,6 +1,6 @@
 -- The regions of an image's memory, and what reaches them.
-use Rattle.std.specs.Prelude.{ℕ, ◌-◌, ◌%◌, Bool, List, take}
-use Rattle.rv_decode.specs.Memory.{Kind, Text, Data, Stack, is_data, is_stack, is_text}
+use Rattle.std.specs.Prelude.{ℕ, ◌-◌, ◌%◌, ◌&&◌, Bool, List, take}
+use Rattle.rv_decode.specs.Memory.{Kind, Region, Text, Data, Stack, extent_of, is_data, is_stack, is_text, spans}
 use Rattle.zc_machine.specs.declared.region.AccessKind.{AccessKind}
 use Rattle.zc_machine.specs.declared.region.AccessKind.TheVariants as access
 use Rattle.zc_machine.specs.declared.region.RegionKind.{RegionKind}
@@ -17,6 +17,10 @@ abbrev pub allowed : AccessKind → Kind → Bool
 allowed access.Fetch = is_text
 allowed access.Data = is_data
 allowed access.Interrupt = is_stack
+
+-- whether the cell at an address lies in a region, and the region is one of code
+abbrev pub has_code : Region ℕ → ℕ → Bool
+has_code r a = is_text r.kind && spans (extent_of r) a 1
 
 -- the cells of a region of this kind, of which those of code are kept in one piece, and all others in pages
 abbrev pub cells_by : RegionKind → List ℕ → List ℕ → List ℕ

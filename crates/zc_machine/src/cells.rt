@@ -54,8 +54,7 @@ pub fn loaded(op: LoadOp, cells: &[u8]) -> Option<u32>
 }
 
 /// The instruction that these cells begin with, and its size in bytes.
-#[inline(always)]
-pub fn instruction(cells: &[u8]) -> Result<(Short, u32), Reason>
+pub fn instruction(cells: &[u8]) -> Result<(Short, u8), Reason>
     ensures { fetched_as result ≡ instruction cells.now }
 {
     let Some(half) = first_half(cells) else {
@@ -71,8 +70,7 @@ pub fn instruction(cells: &[u8]) -> Result<(Short, u32), Reason>
 }
 
 // The instruction of four bytes that a word spells, if all its bytes are there.
-#[inline(always)]
-fn word_spells(word: Option<u32>) -> Result<(Short, u32), Reason>
+fn word_spells(word: Option<u32>) -> Result<(Short, u8), Reason>
     ensures { fetched_as result ≡ word_spells word }
 {
     let Some(word) = word else {

@@ -5,6 +5,7 @@
 pub mod answer;
 pub mod between;
 mod cells;
+mod code;
 mod load;
 pub mod machine;
 mod memory;

@@ -20,11 +20,9 @@ mod interrupts;
 mod jumps;
 
 use crate::answer::Step;
-use crate::cells::instruction;
 use crate::load::first_regions;
 use crate::memory::Memory;
 use crate::reason::Reason;
-use crate::region::AccessKind;
 use elf32_read::image::Image;
 use jumps::even;
 use rv_decode::instr::Instr;
@@ -120,7 +118,7 @@ impl Machine {
             return Step::Ended(status);
         }
         match self.fetch() {
-            Ok((short, size)) => self.execute(short, size),
+            Ok((short, size)) => self.execute(short, u32::from(size)),
             Err(reason) => Step::Stopped(reason),
         }
     }
@@ -128,10 +126,11 @@ impl Machine {
     // The instruction at the program counter with its size in bytes. Each step calls it, and as a call of its own it would
     // hand the instruction over in memory.
     #[inline(always)]
-    fn fetch(&self) -> Result<(Short, u32), Reason>
-        ensures { fetched_as result ≡ fetched_at self.now self.now.pc }
+    fn fetch(&mut self) -> Result<(Short, u8), Reason>
+        ensures found { fetched_as result ≡ fetched_at self.old self.old.pc }
+        ensures same { self.new ≡ self.old }
     {
-        instruction(self.memory.reach(AccessKind::Fetch, self.pc))
+        self.memory.fetch(self.pc)
     }
 
     // Makes the step of an instruction of this size.

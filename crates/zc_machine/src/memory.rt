@@ -1,17 +1,24 @@
 // The machine's memory.
 
-ghost use Rattle.std.specs.Prelude.{◌≡◌, ◌+◌, ◌<◌, ◌≤◌, ◌^◌, if◌then◌else◌, true, length, slice_index};
-ghost use Rattle.rv_decode.specs.Memory.{changed, extents_of, lies_in, written};
-ghost use Rattle.zc_machine.specs.Memory.{AreApart, Reaches};
+ghost use Rattle.std.specs.Prelude.{◌≡◌, ◌+◌, ◌<◌, ◌≤◌, ◌^◌, if◌then◌else◌, IfSome, false, true, length, slice_index};
+ghost use Rattle.rv_decode.specs.Memory.{Text, changed, extents_of, lies_in, written};
+ghost use Rattle.zc_machine.specs.Answer.{fetched_as};
+ghost use Rattle.zc_machine.specs.Fetch.{Found};
+ghost use Rattle.zc_machine.specs.Memory.{AreApart, Fetches, Reaches};
 ghost use Rattle.zc_machine.specs.Region.{allowed};
 
+use crate::code::Kept;
+use crate::reason::Reason;
 use crate::region::{AccessKind, Region};
 use std::marker::Model;
+use zc_decode::short::Short;
 
 /// Regions without a common address.
 #[derive(Drop)]
 pub struct Memory {
     regions: Vec<Region>,
+    // The number of the region in which an instruction was last searched for: most often the next one stands there too.
+    last: usize,
 }
 
 impl Model for Memory {
@@ -32,7 +39,7 @@ impl Memory {
         requires { AreApart (extents_of regions.items) }
         ensures { result ≡ regions.items }
     {
-        Memory { regions }
+        Memory { regions, last: 0 }
     }
 
     /// Whether so many cells from an address on lie in one region, and an access may reach them.
@@ -53,9 +60,32 @@ impl Memory {
         reach(self.regions.as_slice(), access, address)
     }
 
+    /// The instruction at an address of code and its size in bytes, or why there is none.
+    #[inline(always)]
+    pub fn fetch(&mut self, address: u32) -> Result<(Short, u8), Reason>
+        ensures found { Fetches self.old address (fetched_as result) }
+        ensures same { self.new ≡ self.old }
+    {
+        match known(self.regions.as_slice(), self.last, address) {
+            Some(found) => Ok(found),
+            None => self.search(address),
+        }
+    }
+
+    // The same of what isn't kept in the region of the last one.
+    #[cold]
+    #[inline(never)]
+    fn search(&mut self, address: u32) -> Result<(Short, u8), Reason>
+        ensures found { Fetches self.old address (fetched_as result) }
+        ensures same { self.new ≡ self.old }
+    {
+        search(self.regions.as_mut_slice(), &mut self.last, address)
+    }
+
     /// Writes bytes from an address on, if an access may reach them, and says whether it may.
     #[inline(always)]
     pub fn write(&mut self, access: AccessKind, address: u32, bytes: &[u8]) -> bool
+        requires { allowed access Text ≡ false }
         ensures reached { result ≡ lies_in (allowed access) (extents_of self.old) address (length bytes.now) }
         ensures after { self.new ≡ (if result then changed (written address (length bytes.now)
             (slice_index bytes.now)) self.old else self.old) }
@@ -90,9 +120,36 @@ fn reach(regions: &[Region], access: AccessKind, address: u32) -> &[u8]
     &[]
 }
 
+// The instruction at an address and its size in bytes, if the region with this number keeps them.
+#[inline(always)]
+fn known(regions: &[Region], last: usize, address: u32) -> Option<(Short, u8)>
+    requires { AreApart (extents_of regions.now) }
+    ensures { IfSome result (λ found. Fetches regions.now address (Found found.0 found.1)) }
+{
+    match regions.get(last)?.entry(address)? {
+        Kept::Known { size, short } => Some((*short, *size)),
+        Kept::Unknown => None,
+    }
+}
+
+fn search(regions: &mut [Region], last: &mut usize, address: u32) -> Result<(Short, u8), Reason>
+    requires { AreApart (extents_of regions.old) }
+    ensures found { Fetches regions.old address (fetched_as result) }
+    ensures same { regions.new ≡ regions.old }
+{
+    for i in 0..regions.len() {
+        if regions[i].has(AccessKind::Fetch, address) {
+            *last = i;
+            return regions[i].fetch(address);
+        }
+    }
+    Err(Reason::BadAccess)
+}
+
 #[inline(always)]
 fn write(regions: &mut [Region], access: AccessKind, address: u32, bytes: &[u8]) -> bool
-    requires { AreApart (extents_of regions.old) }
+    requires apart { AreApart (extents_of regions.old) }
+    requires data { allowed access Text ≡ false }
     ensures reached { result ≡ lies_in (allowed access) (extents_of regions.old) address (length bytes.now) }
     ensures after { regions.new ≡ (if result then changed (written address (length bytes.now)
         (slice_index bytes.now)) regions.old else regions.old) }

@@ -194,9 +194,9 @@ fn take_page(table: &mut [usize], pool: &mut Vec<u8>, number: usize) -> usize
     page
 }
 
-/// Writes bytes from an index on.
+// Writes bytes from an index on.
 #[inline(always)]
-pub fn write_cells(cells: &mut [u8], index: usize, bytes: &[u8])
+fn write_cells(cells: &mut [u8], index: usize, bytes: &[u8])
     requires { index + length bytes.now ≤ length cells.old }
     ensures { cells.new ≡ cells_changed (written index (length bytes.now) (slice_index bytes.now)) 0 cells.old }
 {

@@ -1,13 +1,19 @@
 // The regions of the machine's memory.
 
-ghost use Rattle.std.specs.Prelude.{◌≡◌, ◌+◌, ◌-◌, ◌^◌, ◌<◌, ◌≤◌, ◌&&◌, ◌++◌, IfOk, true, drop, length, slice_index};
+ghost use Rattle.std.specs.Prelude.{◌≡◌, ◌+◌, ◌-◌, ◌^◌, ◌<◌, ◌≤◌, ◌&&◌, ◌++◌, IfOk, IfSome, true, drop, length, slice_index};
 ghost use Rattle.rv_decode.specs.Memory.{Text, blank, cells_changed, extent_of, is_data, spans, written};
-ghost use Rattle.zc_machine.specs.Region.{allowed, kind_of_region, part_from};
+ghost use Rattle.zc_machine.specs.Answer.{fetched_as};
+ghost use Rattle.zc_machine.specs.Cells.{instruction};
+ghost use Rattle.zc_machine.specs.Invariants.Kept.{IsEntry};
+ghost use Rattle.zc_machine.specs.Region.{allowed, has_code, kind_of_region, part_from};
 
-use crate::pages::{Pages, write_cells};
+use crate::code::{Code, Kept};
+use crate::pages::Pages;
+use crate::reason::Reason;
 use elf32_read::segment::Segment;
 use std::alloc::{AllocError, Global};
 use std::marker::Model;
+use zc_decode::short::Short;
 
 /// What a region is for.
 #[derive(Clone, Copy)]
@@ -54,14 +60,13 @@ pub struct Region {
     kind: RegionKind,
     at: u32,
     // The cells of a region of code, and those of any other.
-    code: Vec<u8>,
+    code: Code,
     pages: Pages,
 }
 
 impl Model for Region {
-    ghost use Rattle.std.specs.Prelude.{ℕ};
-    ghost use Rattle.rv_decode.specs.Memory.{Region as RegionOf};
-    ghost use Rattle.std.specs.Prelude.{◌≡◌, ◌%◌};
+    ghost use Rattle.std.specs.Prelude.{◌≡◌, ℕ, ◌%◌, [], true};
+    ghost use Rattle.rv_decode.specs.Memory.{Region as RegionOf, is_data};
     ghost use Rattle.zc_machine.specs.Region.{cells_by, kind_of_region};
 
     ghost Value = { RegionOf ℕ };
@@ -69,10 +74,11 @@ impl Model for Region {
     ghost view = { λ r. record {
       kind = kind_of_region r.kind;
       at = r.at;
-      cells = cells_by r.kind r.code.items r.pages.cells;
+      cells = cells_by r.kind r.code r.pages.cells;
     } };
 
-    ghost invariant = { λ r. r.pages.skip ≡ r.at % 4096 };
+    // A region of data or of the stack has no code, so that no instruction is kept of it.
+    ghost invariant = { λ r. (r.pages.skip ≡ r.at % 4096) × (is_data (kind_of_region r.kind) ≡ true → r.code ≡ []) };
 }
 
 impl Region {
@@ -80,6 +86,7 @@ impl Region {
     pub fn of_code(alloc: Global, at: u32, code: Vec<u8>) -> Result<Region, AllocError>
         ensures { IfOk result (λ region. region ≡ record { kind = Text; at = at; cells = code.items }) }
     {
+        let code = Code::new(alloc, code)?;
         let pages = Pages::new(alloc, at, &[], 0)?;
         Ok(Region {
             kind: RegionKind::Text,
@@ -98,11 +105,12 @@ impl Region {
           cells = segment.now.bytes.now ++ blank (segment.now.size - length segment.now.bytes.now) 0;
         }) }
     {
+        let code = Code::new(alloc, Vec::new(alloc))?;
         let pages = Pages::new(alloc, segment.at, segment.bytes, segment.size)?;
         Ok(Region {
             kind,
             at: segment.at,
-            code: Vec::new(alloc),
+            code,
             pages,
         })
     }
@@ -153,29 +161,39 @@ impl Region {
         ensures { result.now ≡ part_from self.now.kind address (drop (address - self.now.at) self.now.cells) }
     {
         match self.kind {
-            RegionKind::Text => &self.code[(address - self.at) as usize..],
+            RegionKind::Text => self.code.bytes_from(address - self.at),
             RegionKind::Data | RegionKind::Stack => self.pages.cells_from(address - self.at),
         }
     }
 
-    /// Writes bytes from an address on.
+    /// What is kept of the halfword at an address, if there is an entry for it.
+    #[inline(always)]
+    pub fn entry(&self, address: u32) -> Option<&Kept>
+        requires below { self.now.at + length self.now.cells ≤ 2 ^ 32 }
+        ensures { IfSome result (λ entry. IsEntry self.now address entry.now) }
+    {
+        self.code.entry(address.wrapping_sub(self.at))
+    }
+
+    /// The instruction at an address of code, and its size in bytes. Both are kept.
+    pub fn fetch(&mut self, address: u32) -> Result<(Short, u8), Reason>
+        requires { has_code self.old address ≡ true }
+        ensures found { fetched_as result ≡ instruction (drop (address - self.old.at) self.old.cells) }
+        ensures same { self.new ≡ self.old }
+    {
+        self.code.fetch(address - self.at)
+    }
+
+    /// Writes bytes from an address on, in a region of data or of the stack.
     #[inline(always)]
     pub fn write(&mut self, address: u32, bytes: &[u8])
-        requires { spans (extent_of self.old) address (length bytes.now) ≡ true }
+        requires data { is_data self.old.kind ≡ true }
+        requires within { spans (extent_of self.old) address (length bytes.now) ≡ true }
         ensures { self.new ≡ record self.old {
           cells = cells_changed (written address (length bytes.now)
               (slice_index bytes.now)) self.old.at self.old.cells;
         } }
     {
-        match self.kind {
-            RegionKind::Text => {
-                write_cells(
-                    self.code.as_mut_slice(),
-                    (address - self.at) as usize,
-                    bytes,
-                );
-            }
-            RegionKind::Data | RegionKind::Stack => self.pages.write(address - self.at, bytes),
-        }
+        self.pages.write(address - self.at, bytes);
     }
 }

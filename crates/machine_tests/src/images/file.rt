@@ -10,8 +10,8 @@ const HEADER: &str = "
 00000034 00000000 00000001 00200034";
 
 /// The file of an image with this text at 0x10000, and with segments of data, each of which ends with `;`: an address, a
-/// size in memory, how many zeros come first in the file, and then bytes. Numbers are hexadecimal: bytes have two digits,
-/// halfwords four, and words eight.
+/// size in memory, how many zeros come first in the file, and then bytes. A segment of code begins with that word. Numbers
+/// are hexadecimal: bytes have two digits, halfwords four, and words eight.
 pub fn file_of(alloc: Global, text: &str, data: &str) -> Result<Vec<u8>, Fail> {
     let mut content = bytes_of(alloc, text)?;
     let count = u32::try_from(data.split(';').count())?;
@@ -39,7 +39,11 @@ fn segment_of(
     start: u32,
     content: &mut Vec<u8>,
 ) -> Result<String, Fail> {
-    let (at, rest) = segment.trim().split_once(' ').ok_or("no size")?;
+    let (flags, segment) = match segment.trim().strip_prefix("code ") {
+        Some(rest) => (5, rest),
+        None => (6, segment.trim()),
+    };
+    let (at, rest) = segment.split_once(' ').ok_or("no size")?;
     let (memory, rest) = rest.split_once(' ').ok_or("no zeros")?;
     let (zeros, rest) = rest.split_once(' ').unwrap_or((rest, ""));
     let offset = start.wrapping_add(u32::try_from(content.len())?);
@@ -50,5 +54,7 @@ fn segment_of(
     }
     content.extend_from_slice(bytes.as_slice())?;
     let size = zeros.wrapping_add(u32::try_from(bytes.len())?);
-    Ok(format!(in alloc; " 00000001 {offset:08x} {at} {at} {size:08x} {memory} 00000006 00000001")?)
+    Ok(format!(in alloc;
+        " 00000001 {offset:08x} {at} {at} {size:08x} {memory} {flags:08x} 00000001"
+    )?)
 }

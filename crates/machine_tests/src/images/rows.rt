@@ -116,12 +116,32 @@ pub const PAGES: &str = "
 # the byte at the start of the last of 16 segments is loaded: lui a1,0x11C; lbu a0,0(a1)
 0011C5B7 0005C503 | data 00100000 00000010 0 01; 00102000 00000010 0 02; 00104000 00000010 0 03; 00106000 00000010 0 04; 00108000 00000010 0 05; 0010A000 00000010 0 06; 0010C000 00000010 0 07; 0010E000 00000010 0 08; 00110000 00000010 0 09; 00112000 00000010 0 0A; 00114000 00000010 0 0B; 00116000 00000010 0 0C; 00118000 00000010 0 0D; 0011A000 00000010 0 0E; 0011C000 00000010 0 0F; | steps 2 | ends spent 10008 f";
 
+/// Programs as in `PAGES`, whose instructions are executed again where others stand close by.
+pub const AGAIN: &str = "
+# a word and the halfword in its middle, in turn: addi t0,x0,4; lui a1,0x5050, with c.addi a0,1 in its middle; c.add a0,a1; c.li a1,0; addi t0,t0,-1; beq t0,x0,.+16; andi t1,t0,1; beq t1,x0,.-20, to the word; jal x0,.-22, to its middle; c.ebreak
+00400293 050505B7 952E 4581 FFF28293 00028863 0012F313 FE0306E3 FEBFF06F 9002 | ends stopped 4 Break 10020 a0a0002
+# a loop up to the end of the text: addi t0,x0,3; c.addi a0,2; addi t0,t0,-1; bne t0,x0,.-6
+00300293 0509 FFF28293 FE029DE3 | ends stopped 2 BadAccess 1000e 6
+# c.addi a0,1; jal x0,0x20000; and there c.addi a0,4; jal x0,0x10000
+0505 7FF0F06F | data code 00020000 00000006 0 0511 FFFEF06F; | steps 8 | ends spent 10000 a
+# the same with data between them in the file
+0505 7FF0F06F | data 00100000 00000010 0 01; code 00020000 00000006 0 0511 FFFEF06F; | steps 8 | ends spent 10000 a
+# the same with a second region that begins at an odd address, a byte before its first instruction: jal x0,0x20002
+0505 0001006F | data code 00020001 00000007 0 00 0511 FFDEF06F; | steps 8 | ends spent 10000 a
+# c.nop; a word whose second halfword lies in the next region of code, where c.nop comes after it
+0001 0513 | data code 00010004 00000004 0 0050 0001; | ends stopped 2 BadAccess 10002 0
+# c.li a0,3; half a halfword
+450D 01 | ends stopped 2 BadAccess 10002 3";
+
 /// Each program, and what its steps answer, one after another.
 pub const STEPS: &str = "
 # c.li a0,3; addi a7,x0,93; ecall
 text 450D 05D00893 00000073 | answers committed; committed; wants exit 3; wants exit 3
 # c.li a0,3, and the end of the text
 text 450D | answers committed; stopped 2 BadAccess; stopped 2 BadAccess
+# the same with half a word after it, also where the other half is in the next region of code
+text 450D 0893 | answers committed; stopped 2 BadAccess; stopped 2 BadAccess
+text 450D 0893 | data code 00010004 00000002 0 0300; | answers committed; stopped 2 BadAccess; stopped 2 BadAccess
 # addi a7,x0,63; addi a1,sp,-16; ecall: a read of no bytes, as a2 is 0
 text 03F00893 FF010593 00000073 | answers committed; committed; wants read ffffff0 0; wants read ffffff0 0
 # c.li a0,2; addi a7,x0,64; addi a1,sp,-16; addi a2,x0,4; ecall

@@ -16,4 +16,4 @@ returns-then-holds-clause-after c =
     let is : r ≡ get_or c.args.regions.now i r = c.region-item.is ∙ ap (λ rs. get_or rs i r) same in
     ap (λ rs. set rs i c.write.new.self) same
     ∙ ap (set c.args.regions.now i) (c.write.ensures ∙ ap (written_region c.args.address n given) (sym c.region-item.is))
-    ∙ item_changed c.args.address n given c.args.regions.now i r c.requires (omega arith) is here.1
+    ∙ item_changed c.args.address n given c.args.regions.now i r c.requires.apart (omega arith) is here.1
