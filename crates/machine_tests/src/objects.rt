@@ -16,7 +16,7 @@ use block_cut::cut::Cut;
 use object::object_of;
 use psabi_sym::objects::Objects;
 use relocated::RELOCATED;
-use rows::{BRANCHES, CALLS, PROGRAMS, RESULTS, STEPS};
+use rows::{BRANCHES, CALLS, PAGES, PROGRAMS, RESULTS, STEPS};
 use std::alloc::{AllocError, Global};
 use std::process::Abort;
 use std::test::Fail;
@@ -131,6 +131,11 @@ fn branches_are_taken_by_their_conditions(rt: HostRuntime) -> Result<(), Fail> {
 #[test]
 fn programs_end_with_their_status_or_cause(rt: HostRuntime) -> Result<(), Fail> {
     expect_runs(&rt, "", PROGRAMS, "")
+}
+
+#[test]
+fn pages_keep_each_kind_of_byte_until_sp_rises(rt: HostRuntime) -> Result<(), Fail> {
+    expect_runs(&rt, "", PAGES, "")
 }
 
 #[test]

@@ -1,4 +1,5 @@
 pub mod StepLaws
+pub mod PageLaws
 pub mod MemoryLaws
 mod NumberLaws
 pub mod StateLaws

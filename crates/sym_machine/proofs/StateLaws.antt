@@ -3,10 +3,10 @@ use Rattle.std.proofs.Common.{◌≡◌, ◌≢◌, ℕ, ◌-◌, ◌%◌, ◌<�
 use Rattle.std.specs.Prelude.{slice_index_or, nat_le, ◌&&◌}
 use Rattle.std.proofs.lemmas.Bool.{cond-false, cond-true, ne_eqb}
 use Rattle.std.proofs.lemmas.Bool.Decides.{eqb_tells}
-use Rattle.std.proofs.lemmas.List.{get_or_default, map-set, same_lists}
+use Rattle.std.proofs.lemmas.List.{map-set}
 use Rattle.zc_base.specs.declared.mem_map.MemMap.{MemMap}
 use Rattle.zc_base.specs.declared.place.Place.{Place}
-use Rattle.rv_decode.specs.Memory.{Extent, Stack, blank, changed, extents_of, written}
+use Rattle.rv_decode.specs.Memory.{Extent, Stack, changed, extents_of, written}
 use Rattle.rv_decode.specs.State.{Event, Exit, Read, Write, set_reg}
 use Rattle.sym_machine.specs.declared.arguments.Arguments.{Arguments}
 use Rattle.sym_machine.specs.declared.held.Held.{Held}
@@ -18,14 +18,14 @@ use Rattle.sym_machine.specs.declared.word.SymByte.TheVariants.{Num, Undef}
 use Rattle.sym_machine.specs.declared.word.SymWord.{SymWord}
 use Rattle.sym_machine.specs.Answer.{StepAnswers}
 use Rattle.sym_machine.specs.Change.{Change, Goes, Stops, call_to, exit_does, sets, continues, item_does, puts, read_does}
-use Rattle.sym_machine.specs.Kept.{IsChanged, IsKept, IsWorking, Kept, above_only, kept_from, regions_of, stack_cells, word_of, words_of}
+use Rattle.sym_machine.specs.Kept.{IsChanged, IsKept, IsWorking, Kept, above_only, kept_from, regions_of, word_of, words_of}
 use Rattle.sym_machine.specs.Program.{Program, start_memory}
 use Rattle.sym_machine.specs.State.{PlainCore, reg_of}
 use Rattle.sym_machine.specs.Step.{Stuck, Went, after_change, ends, applied, plain_step, undefined_below}
 use Rattle.sym_machine.specs.Words.{code_word, number_of, number_word, undef_word}
-use Rattle.rv_decode.proofs.MemoryLaws.{get_or_blank, length_blank}
+use Rattle.rv_decode.proofs.MemoryLaws.{length_blank}
 use Rattle.rv_decode.proofs.RegisterLaws.{length-set_reg}
-use Rattle.sym_machine.proofs.MemoryLaws.{changed-after, get_or-stack_cells, length-stack_cells, settled_stays}
+use Rattle.sym_machine.proofs.MemoryLaws.{changed-after, settled_stays}
 use Rattle.sym_machine.proofs.StepLaws.{ends_outside, ends_unknown, ends_within, made_by, step_running}
 
 -- ---- registers
@@ -82,14 +82,14 @@ module _ (k : Kept) (is : IsKept k) where
   -- neither sp nor memory changes
   kept_ends : (s : PlainCore) (events : List Event) → number_of (reg_of s 2) ≡ Some (kept_from k) → s.memory ≡ regions_of k → ends k.map s events ≡ Went s events
   kept_ends s events sp memory =
-      ends_within k.map (kept_from k) s events sp (omega (arith, is.within)) (omega arith)
+      ends_within k.map (kept_from k) s events sp is.low is.high
       ∙ ap (λ m. Went (record s { memory = m }) events) (ap (changed (undefined_below k.map (kept_from k))) memory ∙ settled_stays k is ∙ sym memory)
 
   -- memory changes, and sp doesn't
   changed_ends : (f : ℕ → SymByte → SymByte) (k' : Kept) → IsChanged f k k' → (s : PlainCore) (events : List Event) → number_of (reg_of s 2) ≡ Some (kept_from k)
       → s.memory ≡ changed f (regions_of k) → ends k.map s events ≡ Went (record s { memory = regions_of k' }) events
   changed_ends f k' new s events sp memory =
-      ends_within k.map (kept_from k) s events sp (omega (arith, is.within)) (omega arith)
+      ends_within k.map (kept_from k) s events sp is.low is.high
       ∙ ap (λ m. Went (record s { memory = m }) events)
       (ap (changed (undefined_below k.map (kept_from k))) memory
       ∙ changed-after (undefined_below k.map (kept_from k)) f (above_only k f) (λ x c. refl) (regions_of k) ∙ sym new.regions)
@@ -254,20 +254,9 @@ module _ (k : Kept) (is : IsKept k) (p : Program) (of : extents_of (regions_of k
 
   high_is : k.map.stack_high ≡ p.map.stack_high
   high_is =
-      let sizes : k.map.stack_high - k.map.stack_low ≡ p.map.stack_high - p.map.stack_low = sym (length-stack_cells k.map k.above) ∙ ap (λ es. (second es).size) of ∙ length_blank (p.map.stack_high - p.map.stack_low) Undef in
+      let sizes : k.map.stack_high - k.map.stack_low ≡ p.map.stack_high - p.map.stack_low = sym is.size ∙ ap (λ es. (second es).size) of ∙ length_blank (p.map.stack_high - p.map.stack_low) Undef in
       omega (arith, is.stack, low_is, sizes)
 
   -- so a step is the program's
   pub step_of : (s : PlainCore) → s.exit ≡ None → plain_step p s ≡ applied k.map s (item_does p (p.item s.place) s (p.next s.place))
   step_of s running = step_running p s running ∙ made_by p.map k.map s (item_does p (p.item s.place) s (p.next s.place)) (sym low_is) (sym high_is)
-
--- a stack that nothing was written to
-pub bare_stack : (map : MemMap) → stack_cells map [] ≡ blank (map.stack_high - map.stack_low) Undef
-bare_stack map =
-    let size = map.stack_high - map.stack_low in
-    same_lists _ _ (length-stack_cells map [] ∙ sym (length_blank size Undef))
-    (λ i d lt. let within : i < size = omega (arith, length-stack_cells map [], lt) in
-    get_or-stack_cells map [] i d within ∙ sym (get_or_blank_at size i d within))
-  where
-    get_or_blank_at : (n i : ℕ) (d : SymByte) → i < n → get_or (blank n Undef) i d ≡ Undef
-    get_or_blank_at n i d lt = get_or_default (blank n Undef) i d Undef (omega (arith, length_blank n Undef, lt)) ∙ get_or_blank n i Undef

@@ -1,8 +1,7 @@
 -- What the machine keeps of a state, and the state that this stands for.
 use Rattle.std.specs.Prelude.{◌≡◌, ℕ, ◌+◌, ◌-◌, ◌<◌, ◌≤◌, List, [], ◌∷◌, length, map, Some, slice_index_or}
-use Rattle.std.specs.List.{range_with_len}
 use Rattle.zc_base.specs.declared.mem_map.MemMap.{MemMap}
-use Rattle.rv_decode.specs.Memory.{Region, Data, Stack, cell_at, changed, extents_of, written}
+use Rattle.rv_decode.specs.Memory.{Region, Data, Stack, cell_at, changed, extents_of}
 use Rattle.sym_machine.specs.declared.held.Held.{Held}
 use Rattle.sym_machine.specs.declared.held.Held.TheVariants as held
 use Rattle.sym_machine.specs.declared.span.Span.{Span}
@@ -29,33 +28,32 @@ words_of registers = map word_of registers
 
 -- ---- memory
 
--- the map, the bytes of data, and those of the stack from sp up, from the stack's end downwards
+-- the map, the bytes of data and of the stack, and the address from which on those of the stack are kept
 pub record Kept : Type 0 where
   pub map : MemMap
   pub bytes : List SymByte
-  pub above : List SymByte
-
--- all bytes of the stack; those that aren't kept are undefined
-unfoldable pub stack_cells : MemMap → List SymByte → List SymByte
-stack_cells m above =
-    map (λ i. slice_index_or above (m.stack_high - m.stack_low - 1 - i) Undef) (range_with_len 0 (m.stack_high - m.stack_low))
+  pub stack : List SymByte
+  pub from : ℕ
 
 -- the memory that they are
 abbrev pub regions_of : Kept → List (Region SymByte)
 regions_of k =
     record { kind = Data; at = k.map.data_low; cells = k.bytes }
-    ∷ record { kind = Stack; at = k.map.stack_low; cells = stack_cells k.map k.above }
+    ∷ record { kind = Stack; at = k.map.stack_low; cells = k.stack }
     ∷ []
 
 -- the lowest address whose byte is kept
 abbrev pub kept_from : Kept → ℕ
-kept_from k = k.map.stack_high - length k.above
+kept_from k = k.from
 
--- the bytes that are kept are the stack's, and data lie below the stack
+-- the stack is as long as the map says, its bytes below the address are undefined, and data lie below it
 pub record IsKept (k : Kept) : Type 0 where
   pub stack : k.map.stack_low < k.map.stack_high
-  pub within : k.map.stack_low + length k.above ≤ k.map.stack_high
+  pub size : length k.stack ≡ k.map.stack_high - k.map.stack_low
+  pub low : k.map.stack_low ≤ k.from
+  pub high : k.from ≤ k.map.stack_high
   pub apart : k.map.data_low + length k.bytes ≤ k.map.stack_low
+  pub below : (i : ℕ) → k.map.stack_low + i < k.from → slice_index_or k.stack i Undef ≡ Undef
 
 -- a change of each byte, after which the stack below what is kept is undefined, as it was
 abbrev pub above_only : Kept → (ℕ → SymByte → SymByte) → ℕ → SymByte → SymByte
@@ -71,18 +69,14 @@ pub record IsChanged (f : ℕ → SymByte → SymByte) (old new : Kept) : Type 0
 -- where n bytes from an address on are kept
 abbrev pub IsSpan : Kept → ℕ → ℕ → Span → Type 0
 IsSpan k a n (span.Data i) = (a ≡ k.map.data_low + i) × (i + n ≤ length k.bytes)
-IsSpan k a n (span.Stack i) = (a + i ≡ k.map.stack_high) × (n ≤ i) × (i ≤ length k.above)
+IsSpan k a n (span.Stack i) = (a ≡ k.map.stack_low + i) × (i + n ≤ length k.stack) × (k.from ≤ a)
+IsSpan k a n span.Below = (k.map.stack_low ≤ a) × (a + n ≤ k.from)
 IsSpan k a n span.Elsewhere = k ≡ k
 
 -- the word of the four bytes from an address on
 abbrev pub sym_word_at : List (Region SymByte) → ℕ → SymWord
 sym_word_at memory a =
     record { b0 = cell_at Undef memory a; b1 = cell_at Undef memory (a + 1); b2 = cell_at Undef memory (a + 2); b3 = cell_at Undef memory (a + 3) }
-
--- cells after these bytes were written from an address on, by the address of each cell
-abbrev pub AreCellsWritten : (ℕ → ℕ) → ℕ → List SymByte → List SymByte → List SymByte → Type 0
-AreCellsWritten at a bytes old new =
-    (j : ℕ) (d : SymByte) → j < length old → slice_index_or new j d ≡ written a (length bytes) (λ i. slice_index_or bytes i Undef) (at j) (slice_index_or old j d)
 
 -- ---- states
 

@@ -12,3 +12,4 @@ pub mod RunEnd
 pub mod Answer
 pub mod Kept
 pub mod Advance
+pub mod Pages

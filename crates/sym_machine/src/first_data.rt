@@ -10,6 +10,7 @@ ghost use Rattle.sym_machine.specs.AddressParts.{bytes_of};
 ghost use Rattle.sym_machine.specs.Objects.{data_bytes, unfilled_bytes, with_target_word};
 
 use crate::address_parts::target_word;
+use crate::pages::Pages;
 use crate::word::SymByte;
 use block_cut::cut::Cut;
 use psabi_sym::objects::Objects;
@@ -18,34 +19,29 @@ use std::alloc::{AllocError, Global};
 
 /// The bytes of data, with each word that holds an address filled in.
 #[tactic(auto, unfolding(crate::specs::Objects::data_bytes))]
-pub fn first_data(alloc: Global, cut: &Cut) -> Result<Vec<SymByte>, AllocError>
-    ensures bytes { IfOk result (λ bytes. bytes.items ≡ data_bytes (parsed cut.now)) }
-    ensures most { IfOk result (λ bytes. length bytes.items ≤ 0x40_0000) }
+pub fn first_data(alloc: Global, cut: &Cut) -> Result<Pages, AllocError>
+    ensures bytes { IfOk result (λ bytes. bytes ≡ data_bytes (parsed cut.now)) }
+    ensures most { IfOk result (λ bytes. length bytes ≤ 0x40_0000) }
 {
     let mut bytes = unfilled(alloc, cut.objects())?;
-    fill(cut, bytes.as_mut_slice());
+    fill(cut, &mut bytes);
     Ok(bytes)
 }
 
 // The bytes of data that files hold, and zeros from there to the data's end.
-fn unfilled(alloc: Global, objects: &Objects) -> Result<Vec<SymByte>, AllocError>
-    ensures bytes { IfOk result (λ bytes. bytes.items ≡ unfilled_bytes (parsed objects.now)) }
-    ensures most { IfOk result (λ bytes. length bytes.items ≤ 0x40_0000) }
+fn unfilled(alloc: Global, objects: &Objects) -> Result<Pages, AllocError>
+    ensures bytes { IfOk result (λ bytes. bytes ≡ unfilled_bytes (parsed objects.now)) }
+    ensures most { IfOk result (λ bytes. length bytes ≤ 0x40_0000) }
 {
     let contents = objects.data_contents(alloc)?;
     let zeros = objects.data_end() - objects.data_file_end();
-    let size = contents.len() + zeros as usize;
-    let mut bytes = Vec::with_capacity(alloc, size)?;
-    for byte in &contents {
-        bytes.push(SymByte::Num(*byte))?;
-    }
-    bytes.resize(size, SymByte::Num(0))?;
-    Ok(bytes)
+    Pages::numbers(alloc, &contents, contents.len() + zeros as usize)
 }
 
 // Puts the words of data over bytes.
-fn fill(cut: &Cut, bytes: &mut [SymByte])
-    ensures { bytes.new ≡ fold (with_target_word (parsed cut.now)) bytes.old (data_words (parsed cut.now)) }
+fn fill(cut: &Cut, bytes: &mut Pages)
+    ensures len { length bytes.new ≡ length bytes.old }
+    ensures words { bytes.new ≡ fold (with_target_word (parsed cut.now)) bytes.old (data_words (parsed cut.now)) }
 {
     let low = cut.objects().map().data_low;
     for word in cut.data_words() {
@@ -66,11 +62,12 @@ fn target_bytes(target: Target) -> [SymByte; 4]
 }
 
 // Puts bytes over others from an index on, as far as these go.
-fn overlay(new: &[SymByte], at: usize, old: &mut [SymByte])
-    ensures { old.new ≡ overlaid at new.now old.old }
+fn overlay(new: &[SymByte], at: usize, old: &mut Pages)
+    ensures len { length old.new ≡ length old.old }
+    ensures bytes { old.new ≡ overlaid at new.now old.old }
 {
     if at < old.len() {
         let count = new.len().min(old.len() - at);
-        old[at..at + count].copy_from_slice(&new[..count]);
+        old.write_cells(at, &new[..count]);
     }
 }

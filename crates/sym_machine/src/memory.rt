@@ -1,7 +1,7 @@
 // The memory of the symbolic machine.
 
-ghost use Rattle.std.specs.Prelude.{◌≡◌, ◌≤◌, ◌+◌, ◌<◌, ◌^◌, ◌&&◌, nat_le, [], OnOk, OnErr, length, slice_index_or};
-ghost use Rattle.rv_decode.specs.Memory.{Kind, cell_at, changed, extents_of, is_data, lies_in, spans};
+ghost use Rattle.std.specs.Prelude.{◌≡◌, ◌≤◌, ◌+◌, ◌-◌, ◌<◌, ◌^◌, ◌&&◌, nat_le, IfOk, length};
+ghost use Rattle.rv_decode.specs.Memory.{Kind, blank, cell_at, changed, extents_of, is_data, lies_in, spans};
 ghost use Rattle.sym_machine.specs.Kept.{IsKept, IsSpan, kept_from, regions_of};
 ghost use Rattle.sym_machine.specs.Step.{undefined_below};
 ghost use Rattle.sym_machine.specs.declared.word.SymByte.TheVariants.{Undef};
@@ -9,19 +9,20 @@ ghost use Rattle.sym_machine.specs.declared.word.SymByte.TheVariants.{Undef};
 mod reads;
 mod writes;
 
+use crate::pages::Pages;
 use crate::span::Span;
 use crate::word::SymByte;
 use std::alloc::{AllocError, Global};
 use std::marker::Model;
 use zc_base::mem_map::MemMap;
 
-/// The bytes of data, and those of the stack from an address up: all below it are undefined, and take
-/// no room. The stack's bytes stand from its end downwards.
+/// The bytes of data and of the stack. Those of the stack below an address are undefined.
 #[derive(Drop)]
 pub struct SymMemory {
     map: MemMap,
-    bytes: Vec<SymByte>,
-    above: Vec<SymByte>,
+    bytes: Pages,
+    stack: Pages,
+    from: u32,
 }
 
 impl Model for SymMemory {
@@ -29,23 +30,30 @@ impl Model for SymMemory {
 
     ghost Value = { Kept };
 
-    ghost view = { λ m. record { map = m.map; bytes = m.bytes.items; above = m.above.items } };
+    ghost view = { λ m. record { map = m.map; bytes = m.bytes; stack = m.stack; from = m.from } };
 
-    ghost invariant = { λ m. IsKept (record { map = m.map; bytes = m.bytes.items; above = m.above.items }) };
+    ghost invariant = { λ m. IsKept (record { map = m.map; bytes = m.bytes; stack = m.stack; from = m.from }) };
 }
 
 impl SymMemory {
     /// Memory with these bytes of data, and a stack that nothing was written to.
-    pub fn new(alloc: Global, map: MemMap, bytes: Vec<SymByte>) -> SymMemory
+    pub fn new(alloc: Global, map: MemMap, bytes: Pages) -> Result<SymMemory, AllocError>
         requires stack { map.stack_low < map.stack_high }
-        requires apart { map.data_low + length bytes.items ≤ map.stack_low }
-        ensures { result ≡ record { map = map; bytes = bytes.items; above = [] } }
+        requires apart { map.data_low + length bytes ≤ map.stack_low }
+        ensures { IfOk result (λ m. m ≡ record {
+          map = map;
+          bytes = bytes;
+          stack = blank (map.stack_high - map.stack_low) Undef;
+          from = map.stack_high;
+        }) }
     {
-        SymMemory {
+        let stack = Pages::undefined(alloc, (map.stack_high - map.stack_low) as usize)?;
+        Ok(SymMemory {
             map,
             bytes,
-            above: Vec::new(alloc),
-        }
+            stack,
+            from: map.stack_high,
+        })
     }
 
     /// Whether so many bytes from an address on lie in data, or in the stack.
@@ -54,7 +62,7 @@ impl SymMemory {
     {
         let map = &self.map;
         let data = self.bytes.len() as u64;
-        let stack = u64::from(map.stack_high - map.stack_low);
+        let stack = self.stack.len() as u64;
         spans(map.data_low, data, a, n) || spans(map.stack_low, stack, a, n)
     }
 
@@ -67,17 +75,15 @@ impl SymMemory {
 
     /// The byte at an address.
     pub fn byte(&self, a: u64) -> SymByte
+        requires { a < 2 ^ 33 }
         ensures { result ≡ cell_at Undef (regions_of self.now) a }
     {
         let map = &self.map;
         if u64::from(map.stack_low) <= a {
-            if a < u64::from(map.stack_high) {
-                return byte_in(&self.above, u64::from(map.stack_high) - 1 - a);
-            }
-            return SymByte::Undef;
+            return self.stack.cell((a - u64::from(map.stack_low)) as usize);
         }
         if u64::from(map.data_low) <= a {
-            return byte_in(&self.bytes, a - u64::from(map.data_low));
+            return self.bytes.cell((a - u64::from(map.data_low)) as usize);
         }
         SymByte::Undef
     }
@@ -85,42 +91,40 @@ impl SymMemory {
     // Where so many bytes from an address on are kept.
     #[inline(always)]
     fn span(&self, a: u32, n: usize) -> Span
+        requires { n < 2 ^ 63 }
         ensures { IsSpan self.now a n result }
     {
         let map = &self.map;
-        if map.stack_low <= a {
-            if a <= map.stack_high {
-                let i = (map.stack_high - a) as usize;
-                if n <= i && i <= self.above.len() {
-                    return Span::Stack(i);
-                }
+        if self.from <= a {
+            let i = (a - map.stack_low) as usize;
+            if i + n <= self.stack.len() {
+                return Span::Stack(i);
             }
             return Span::Elsewhere;
         }
         if map.data_low <= a {
             let i = (a - map.data_low) as usize;
-            let size = self.bytes.len();
-            if n <= size && i <= size - n {
+            if i + n <= self.bytes.len() {
                 return Span::Data(i);
+            }
+            if map.stack_low <= a && n <= (self.from - a) as usize {
+                return Span::Below;
             }
         }
         Span::Elsewhere
     }
 
     /// Makes the bytes of the stack below an address undefined, and keeps those from it up.
-    pub fn settle(&mut self, sp: u32) -> Result<(), AllocError>
+    pub fn settle(&mut self, sp: u32)
         requires low { self.old.map.stack_low ≤ sp }
         requires high { sp ≤ self.old.map.stack_high }
-        ensures kept { OnOk result (IsKept self.new) }
-        ensures map { OnOk result (self.new.map ≡ self.old.map) }
-        ensures from { OnOk result (kept_from self.new ≡ sp) }
-        ensures regions { OnOk result (regions_of self.new ≡ changed (undefined_below self.old.map sp)
-            (regions_of self.old)) }
-        ensures err { OnErr result (self.new ≡ self.old) }
+        ensures kept { IsKept self.new }
+        ensures map { self.new.map ≡ self.old.map }
+        ensures from { kept_from self.new ≡ sp }
+        ensures regions { regions_of self.new ≡ changed (undefined_below self.old.map sp) (regions_of self.old) }
     {
-        let count = (self.map.stack_high - sp) as usize;
-        self.above.resize(count, SymByte::Undef)?;
-        Ok(())
+        self.stack.clear_below((sp - self.map.stack_low) as usize);
+        self.from = sp;
     }
 }
 
@@ -131,14 +135,4 @@ fn spans(at: u32, size: u64, a: u32, n: u32) -> bool
 {
     let (at, first, end) = (u64::from(at), u64::from(a), u64::from(a) + u64::from(n));
     at <= first && end <= at + size
-}
-
-// The byte with an index, and an undefined one past the end.
-fn byte_in(bytes: &[SymByte], i: u64) -> SymByte
-    ensures { result ≡ slice_index_or bytes.now i Undef }
-{
-    match bytes.get(i as usize) {
-        Some(byte) => *byte,
-        None => SymByte::Undef,
-    }
 }

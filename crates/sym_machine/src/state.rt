@@ -73,6 +73,7 @@ impl State {
     {
         let map = cut.objects().map();
         let data = first_data(alloc, cut)?;
+        let memory = SymMemory::new(alloc, map, data)?;
         let input = Vec::from_slice(alloc, input)?;
         let mut registers = [Held::UNDEFINED; 32];
         registers[0] = Held::Number(0);
@@ -80,7 +81,7 @@ impl State {
         Ok(State {
             place: cut.entry(),
             registers,
-            memory: SymMemory::new(alloc, map, data),
+            memory,
             input,
             taken: 0,
             exit: None,

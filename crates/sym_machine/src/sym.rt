@@ -39,8 +39,9 @@ impl Sym {
     }
 
     /// Makes one step of the objects that the machine was started with, in constant time but for a
-    /// call's buffer and for the room by which sp falls. After the exit, and if the machine is stuck,
-    /// each step answers the same again.
+    /// call's buffer, for a page that is written first, and, where sp rises, for the pages from the
+    /// lowest byte that was written up to it. After the exit, and if the machine is stuck, each step
+    /// answers the same again.
     #[inline(always)]
     pub fn step(&mut self, cut: &Cut) -> Result<SymStep, AllocError>
         requires { IsOf (program_of (parsed cut.now)) self.old }

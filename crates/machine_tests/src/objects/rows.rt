@@ -201,6 +201,40 @@ FFF11503 | ends stuck 0:1:0 6 Misaligned
 00300513 05D00893 00000073 | steps 3 | ends exited 3
 00300513 05D00893 00000073 | steps 4 | ends exited 3";
 
+/// The same of pages that hold numbers and other bytes, and of a stack pointer that falls and rises. Data has 32 bytes, and
+/// the stack 1 MiB.
+pub const PAGES: &str = "
+# lui t0,0x100; sb s0,16(t0); lbu a0,3(t0); addi a7,x0,93; ecall
+001002B7 00828823 0032C503 05D00893 00000073 | ends exited 84
+# lui t0,0x100; sb s0,16(t0); lbu a0,17(t0); addi a7,x0,93; ecall
+001002B7 00828823 0112C503 05D00893 00000073 | ends exited 0
+# lui t0,0x100; sb s0,16(t0); lbu a0,16(t0); addi a7,x0,93; ecall
+001002B7 00828823 0102C503 05D00893 00000073 | ends stuck 0:1:10 4 ArgumentUnknown
+# lui t0,0x100; addi t1,x0,6; sb s0,16(t0); sb t1,16(t0); lbu a0,16(t0); addi a7,x0,93; ecall
+001002B7 00600313 00828823 00628823 0102C503 05D00893 00000073 | ends exited 6
+# jal ra,4; lui t0,0x100; sw ra,0(t0); lbu a0,4(t0); addi a7,x0,93; ecall
+004000EF 001002B7 0012A023 0042C503 05D00893 00000073 | ends exited 5
+# jal ra,4; lui t0,0x100; sw ra,0(t0); lbu a0,0(t0); addi a7,x0,93; ecall
+004000EF 001002B7 0012A023 0002C503 05D00893 00000073 | ends stuck 0:1:14 4 ArgumentUnknown
+# jal ra,4; lui t0,0x100; addi t1,x0,7; sw ra,0(t0); sw t1,0(t0); lw a0,0(t0); addi a7,x0,93; ecall
+004000EF 001002B7 00700313 0012A023 0062A023 0002A503 05D00893 00000073 | ends exited 7
+# lui t0,0x100; addi t1,x0,8; sb t1,31(t0); lbu a0,31(t0); addi a7,x0,93; ecall
+001002B7 00800313 00628FA3 01F2C503 05D00893 00000073 | ends exited 8
+# addi t1,x0,9; addi sp,sp,-4; sb t1,3(sp); lbu a0,3(sp); addi a7,x0,93; ecall
+00900313 FFC10113 006101A3 00314503 05D00893 00000073 | ends exited 9
+# lui t1,0x100; addi t2,x0,10; sub sp,sp,t1; sw t2,0(sp); lw a0,0(sp); addi a7,x0,93; ecall
+00100337 00A00393 40610133 00712023 00012503 05D00893 00000073 | ends exited a
+# lui t1,0x100; addi t2,x0,10; sub sp,sp,t1; sw t2,0(sp); add sp,sp,t1; sub sp,sp,t1; lw a0,0(sp); addi a7,x0,93; ecall
+00100337 00A00393 40610133 00712023 00610133 40610133 00012503 05D00893 00000073 | ends stuck 0:1:20 4 ArgumentUnknown
+# lui t1,1; addi t2,x0,11; addi sp,sp,-16; sw t2,0(sp); sub sp,sp,t1; sw t2,0(sp); add sp,sp,t1; lw a0,0(sp); addi a7,x0,93; ecall
+00001337 00B00393 FF010113 00712023 40610133 00712023 00610133 00012503 05D00893 00000073 | ends exited b
+# lui t1,1; addi t2,x0,12; sub sp,sp,t1; sub sp,sp,t1; sw t2,0(sp); add sp,sp,t1; sub sp,sp,t1; lw a0,0(sp); addi a7,x0,93; ecall
+00001337 00C00393 40610133 40610133 00712023 00610133 40610133 00012503 05D00893 00000073 | ends stuck 0:1:24 4 ArgumentUnknown
+# addi t2,x0,13; addi sp,sp,-16; sw t2,8(sp); sw t2,4(sp); addi sp,sp,8; addi sp,sp,-8; lw a0,8(sp); addi a7,x0,93; ecall
+00D00393 FF010113 00712423 00712223 00810113 FF810113 00812503 05D00893 00000073 | ends exited d
+# addi t2,x0,13; addi sp,sp,-16; sw t2,8(sp); sw t2,4(sp); addi sp,sp,8; addi sp,sp,-8; lw a0,4(sp); addi a7,x0,93; ecall
+00D00393 FF010113 00712423 00712223 00810113 FF810113 00412503 05D00893 00000073 | ends stuck 0:1:20 4 ArgumentUnknown";
+
 /// The same with the input, and with what comes to the output and to the output for errors.
 pub const CALLS: &str = "
 # addi a0,x0,1; lui a1,0x100; addi a2,x0,3; addi a7,x0,64; ecall; addi a7,x0,93; ecall
@@ -241,6 +275,8 @@ pub const CALLS: &str = "
 00000513 001005B7 00400613 03F00893 00000073 00050613 00100513 04000893 00000073 05D00893 00000073 | in 61 62 63 64 65 66 | out 61 62 63 64 | ends exited 4
 # addi a0,x0,0; lui a1,0x100; addi a2,x0,4; addi a7,x0,63; ecall; addi a2,a0,0; addi a0,x0,1; addi a7,x0,64; ecall; addi a7,x0,93; ecall
 00000513 001005B7 00400613 03F00893 00000073 00050613 00100513 04000893 00000073 05D00893 00000073 | ends exited 0
+# a buffer over a page's end: lui t1,1; sub sp,sp,t1; addi sp,sp,-8; addi a0,x0,0; addi a1,sp,4; addi a2,x0,8; addi a7,x0,63; ecall; addi a0,x0,1; addi a7,x0,64; ecall; lbu a0,8(sp); addi a7,x0,93; ecall
+00001337 40610133 FF810113 00000513 00410593 00800613 03F00893 00000073 00100513 04000893 00000073 00814503 05D00893 00000073 | in 61 62 63 64 65 66 67 68 | out 61 62 63 64 65 66 67 68 | ends exited 65
 # the byte 1 to the output, and then to the output for errors: addi a0,x0,1; lui a1,0x100; addi a2,x0,1; addi a7,x0,64; ecall; addi a0,x0,2; ecall; addi a7,x0,93; ecall
 00100513 001005B7 00100613 04000893 00000073 00200513 00000073 05D00893 00000073 | out 01 | err 01 | ends exited 1
 # the same over a console whose first call fails, or whose second

@@ -1,13 +1,12 @@
 // What is written to memory.
 
 ghost use Rattle.std.specs.Bool.{OnFalse, OnTrue};
-ghost use Rattle.std.specs.Prelude.{◌≡◌, true, length, map, slice_index_or, slice_set};
+ghost use Rattle.std.specs.Prelude.{◌≡◌, ◌<◌, ◌^◌, true, length, map, slice_index_or};
 ghost use Rattle.rv_decode.specs.Memory.{extents_of, is_data, lies_in, written};
 ghost use Rattle.sym_machine.specs.Kept.{IsChanged, regions_of};
 ghost use Rattle.sym_machine.specs.declared.word.SymByte.TheVariants.{Num, Undef};
 
 use super::SymMemory;
-use crate::cells::{copy_down, copy_up, write_down, write_up};
 use crate::span::Span;
 use crate::word::SymByte;
 
@@ -23,14 +22,14 @@ impl SymMemory {
     {
         match self.span(a, numbers.len()) {
             Span::Data(i) => {
-                write_up(self.bytes.as_mut_slice(), i, numbers);
+                self.bytes.write_numbers(i, numbers);
                 true
             }
             Span::Stack(i) => {
-                write_down(self.above.as_mut_slice(), i, numbers);
+                self.stack.write_numbers(i, numbers);
                 true
             }
-            Span::Elsewhere => false,
+            Span::Below | Span::Elsewhere => false,
         }
     }
 
@@ -40,8 +39,9 @@ impl SymMemory {
         ensures { IsChanged (written a (length bytes.now) (λ i. slice_index_or bytes.now i Undef)) self.old self.new }
     {
         match self.span(a, bytes.len()) {
-            Span::Data(i) => copy_up(self.bytes.as_mut_slice(), i, bytes),
-            Span::Stack(i) => copy_down(self.above.as_mut_slice(), i, bytes),
+            Span::Data(i) => self.bytes.write_cells(i, bytes),
+            Span::Stack(i) => self.stack.write_cells(i, bytes),
+            Span::Below => {}
             Span::Elsewhere => self.put_each(a, bytes),
         }
     }
@@ -82,22 +82,15 @@ impl SymMemory {
         ensures { IsChanged (written a 1 (λ _. byte)) self.old self.new }
     {
         if u64::from(self.map.stack_low) <= a {
-            if a < u64::from(self.map.stack_high) {
-                let i = u64::from(self.map.stack_high) - 1 - a;
-                put_in(&mut self.above, i, byte);
+            let i = a - u64::from(self.map.stack_low);
+            if u64::from(self.from) <= a && i < self.stack.len() as u64 {
+                self.stack.write(i as usize, byte);
             }
         } else if u64::from(self.map.data_low) <= a {
             let i = a - u64::from(self.map.data_low);
-            put_in(&mut self.bytes, i, byte);
+            if i < self.bytes.len() as u64 {
+                self.bytes.write(i as usize, byte);
+            }
         }
-    }
-}
-
-// Writes the byte with an index, if there is one.
-fn put_in(bytes: &mut Vec<SymByte>, i: u64, byte: SymByte)
-    ensures { bytes.new.items ≡ slice_set bytes.old.items i byte }
-{
-    if i < bytes.len() as u64 {
-        bytes[i as usize] = byte;
     }
 }

@@ -80,8 +80,7 @@ impl State {
         }
     }
 
-    // Moves sp to an address, and goes on to a place; not if the address isn't in the stack, or there is
-    // no room for the bytes from it up.
+    // Moves sp to an address, and goes on to a place; not if the address isn't in the stack.
     fn move_sp(&mut self, sp: u32, to: Place) -> bool
         requires { self.old.core.exit ≡ None }
         ensures made { OnTrue result (RunsOn (applied self.old.map self.old.core (Goes (sets 2
@@ -92,14 +91,10 @@ impl State {
         if !self.memory.has_sp(sp) {
             return false;
         }
-        match self.memory.settle(sp) {
-            Ok(()) => {
-                self.registers[2] = Held::Number(sp);
-                self.place = to;
-                true
-            }
-            Err(_) => false,
-        }
+        self.memory.settle(sp);
+        self.registers[2] = Held::Number(sp);
+        self.place = to;
+        true
     }
 
     // Jumps to a place, with the next place's address in a register; not if that is sp.
@@ -151,7 +146,7 @@ impl State {
         if !self.memory.has_sp(sp) {
             return Ok(self.stuck(Why::StackPointer));
         }
-        self.memory.settle(sp)?;
+        self.memory.settle(sp);
         self.registers[2] = *word;
         self.place = to;
         Ok(SymStep::Done)

@@ -1,17 +1,23 @@
-use Rattle.std.proofs.Common.{◌≡◌, ℕ, ◌+◌, ◌-◌, ◌<◌, get_or, ap, sym, ◌∙◌, arith}
-use Rattle.std.proofs.lemmas.Result.{IfOk-weaker}
+use Rattle.std.proofs.Common.{◌≡◌, ◌+◌, ap₂, ap, sym, ◌∙◌, arith, Some}
 use Rattle.rv_decode.specs.Memory.{cell_at}
 use Rattle.sym_machine.specs.declared.word.SymByte.TheVariants.{Undef}
+use Rattle.sym_machine.specs.Change.{then_number}
 use Rattle.sym_machine.specs.Kept.{regions_of}
-use Rattle.sym_machine.proofs.SpanLaws.{stack_cell}
+use Rattle.sym_machine.proofs.NumberLaws.{no_number, numbers_more, numbers_none}
 use Rattle.sym_machine.proofs.memory.SymMemory.numbers.Goals as goal
 
-pub returns-in-Stack : goal.returns-in-Stack
-returns-in-Stack c =
+pub returns-in-Part : goal.returns-in-Part
+returns-in-Part c =
     let memory = regions_of c.args.self.now in
-    let a = c.args.a in
-    let i = c.in-Stack.i in
-    let each : (m : ℕ) → m < c.args.n → cell_at Undef memory (a + m) ≡ get_or c.deref-in-Stack.result.now (i - 1 - m) Undef = λ m few.
-    sym (stack_cell c.self.view_is c.self.invariant a c.args.n i c.in-Stack.ensures (a + m) (i - 1 - m) Undef (omega arith) (omega (arith, c.in-Stack.ensures, few)))
-    ∙ ap (λ l. get_or l (i - 1 - m) Undef) (sym c.deref-in-Stack.ensures.value) in
-    IfOk-weaker c.numbers_down.result _ _ (λ found all. all memory a each) c.numbers_down.ensures
+    let at : c.args.a + c.loop-i.i ≡ c.from.result + c.from-in-loop-i.result = ap₂ (λ m n. m + n) (sym c.from.ensures) (sym c.from-in-loop-i.ensures) in
+    let byte = ap (cell_at Undef memory) at ∙ sym c.byte.ensures in
+    numbers_none memory c.args.a c.loop-i.i c.args.n
+    (λ o. ap (λ b. then_number b o) byte ∙ no_number c.byte.result o c.in-Part.is)
+    (omega arith)
+
+pub loop-i-preserved : goal.loop-i-preserved
+loop-i-preserved c =
+    let memory = regions_of c.args.self.now in
+    let at : c.args.a + c.loop-i.i ≡ c.from.result + c.from-in-loop-i.result = ap₂ (λ m n. m + n) (sym c.from.ensures) (sym c.from-in-loop-i.ensures) in
+    numbers_more memory c.args.a c.loop-i.i c.loop-i.bytes.items c.in-Num.byte c.loop-i.invariant (ap (cell_at Undef memory) at ∙ sym c.byte.ensures ∙ c.in-Num.is)
+    ∙ ap Some (sym c.in_ok-push-in-Num.ensures.items)

@@ -1,47 +1,61 @@
 -- A byte goes where its address lies.
-use Rattle.std.proofs.Common.{◌≡◌, ℕ, ◌-◌, ◌<◌, ◌≤◌, List, set, ap, sym, ◌∙◌, arith, subst}
+use Rattle.std.proofs.Common.{◌≡◌, ◌-◌, ◌∷◌, [], length, ap, subst, arith}
 use Rattle.rv_decode.specs.Memory.{written}
-use Rattle.sym_machine.specs.declared.word.SymByte.{SymByte}
 use Rattle.sym_machine.specs.Kept.{IsChanged, Kept}
-use Rattle.sym_machine.proofs.MemoryLaws.{put_below, put_in_data, put_in_stack, put_nowhere}
+use Rattle.sym_machine.proofs.MemoryLaws.{stored_nowhere}
+use Rattle.sym_machine.proofs.SpanLaws.{written_byte, written_in_data, written_in_stack}
 use Rattle.sym_machine.proofs.memory.SymMemory.put.Goals as goal
+use Rattle.sym_machine.proofs.memory.SymMemory.put.Goals.{else-from-a-2-via-then-from-a-2+else-i-len, else-from-a-2-via-else-from-a-2}
 
-pub returns-then-a-from : goal.returns-then-a-from
-returns-then-a-from c =
-    let k : Kept = record { map = c.self.inside.map; bytes = c.self.inside.bytes.items; above = c.self.inside.above.items } in
-    let a = c.args.a in
-    let b = c.args.byte in
-    let f : ℕ → SymByte → SymByte = written a 1 (λ _. b) in
-    let low : k.map.stack_low ≤ a = omega (arith, c.from.ensures, c.if-from-a.true) in
-    let high : a < k.map.stack_high = omega (arith, c.from-then-from-a.ensures, c.if-a-from.true) in
-    let index : c.from-then-a-from.result - 1 - a ≡ k.map.stack_high - 1 - a = ap (λ n. n - 1 - a) c.from-then-a-from.ensures in
-    let is : c.put_in.new.bytes.items ≡ set k.above (k.map.stack_high - 1 - a) b = c.put_in.ensures ∙ ap (λ n. set k.above n b) index in
-    subst (λ (m : Kept). IsChanged f m (record { map = k.map; bytes = k.bytes; above = c.put_in.new.bytes.items })) c.self.view_is
-    (subst (λ (l : List SymByte). IsChanged f k (record { map = k.map; bytes = k.bytes; above = l })) (sym is) (put_in_stack k a b c.self.invariant low high))
+pub returns-then-i-len : goal.returns-then-i-len
+returns-then-i-len c =
+    let k : Kept = record { map = c.self.inside.map; bytes = c.self.inside.bytes; stack = c.self.inside.stack; from = c.self.inside.from } in
+    let now = c.args.self.now in
+    let map : k.map.stack_low ≡ now.map.stack_low = ap (λ (m : Kept). m.map.stack_low) c.self.view_is in
+    let from : k.from ≡ now.from = ap (λ (m : Kept). m.from) c.self.view_is in
+    let new : Kept = record { map = k.map; bytes = k.bytes; stack = c.write.new.self; from = k.from } in
+    written_byte now new c.args.a c.args.byte
+    (written_in_stack c.self.view_is c.self.invariant c.args.a (c.args.a - c.from-then-from-a.result) (c.args.byte ∷ []) c.write.new.self
+    (omega (arith, map, c.from.ensures, c.from-then-from-a.ensures, c.if-from-a.true)) (omega (arith, from, c.from-then-from-a-2.ensures, c.if-from-a-2.true)) c.write.ensures.len c.write.ensures.each)
 
-pub returns-else-a-from : goal.returns-else-a-from
-returns-else-a-from c =
-    let k : Kept = record { map = c.self.inside.map; bytes = c.self.inside.bytes.items; above = c.self.inside.above.items } in
-    let f : ℕ → SymByte → SymByte = written c.args.a 1 (λ _. c.args.byte) in
-    subst (λ (m : Kept). IsChanged f m m) c.self.view_is
-    (put_nowhere k c.args.a c.args.byte c.self.invariant (omega (arith, c.from-then-from-a.ensures, c.if-a-from.false)))
-
-pub returns-then-from-a-2 : goal.returns-then-from-a-2
-returns-then-from-a-2 c =
-    let k : Kept = record { map = c.self.inside.map; bytes = c.self.inside.bytes.items; above = c.self.inside.above.items } in
-    let a = c.args.a in
-    let b = c.args.byte in
-    let f : ℕ → SymByte → SymByte = written a 1 (λ _. b) in
-    let low : k.map.data_low ≤ a = omega (arith, c.from-else-from-a.ensures, c.if-from-a-2.true) in
-    let high : a < k.map.stack_low = omega (arith, c.from.ensures, c.if-from-a.false) in
-    let index : a - c.from-then-from-a-2.result ≡ a - k.map.data_low = ap (λ n. a - n) c.from-then-from-a-2.ensures in
-    let is : c.put_in-then-from-a-2.new.bytes.items ≡ set k.bytes (a - k.map.data_low) b = c.put_in-then-from-a-2.ensures ∙ ap (λ n. set k.bytes n b) index in
-    subst (λ (m : Kept). IsChanged f m (record { map = k.map; bytes = c.put_in-then-from-a-2.new.bytes.items; above = k.above })) c.self.view_is
-    (subst (λ (l : List SymByte). IsChanged f k (record { map = k.map; bytes = l; above = k.above })) (sym is) (put_in_data k a b c.self.invariant low high))
+pub returns-then-i-len-2 : goal.returns-then-i-len-2
+returns-then-i-len-2 c =
+    let k : Kept = record { map = c.self.inside.map; bytes = c.self.inside.bytes; stack = c.self.inside.stack; from = c.self.inside.from } in
+    let now = c.args.self.now in
+    let write = c.write-then-i-len-2 in
+    let map : k.map.data_low ≡ now.map.data_low = ap (λ (m : Kept). m.map.data_low) c.self.view_is in
+    let size : length k.bytes ≡ length now.bytes = ap (λ (m : Kept). length m.bytes) c.self.view_is in
+    let new : Kept = record { map = k.map; bytes = write.new.self; stack = k.stack; from = k.from } in
+    written_byte now new c.args.a c.args.byte
+    (written_in_data c.self.view_is c.self.invariant c.args.a (c.args.a - c.from-then-from-a-3.result) (c.args.byte ∷ []) write.new.self
+    (omega (arith, map, c.from-else-from-a.ensures, c.from-then-from-a-3.ensures, c.if-from-a-3.true)) (omega (arith, size, c.len-then-from-a-3.ensures.value, c.if-i-len-2.true)) write.ensures.len write.ensures.each)
 
 pub returns-else-from-a-2 : goal.returns-else-from-a-2
 returns-else-from-a-2 c =
-    let k : Kept = record { map = c.self.inside.map; bytes = c.self.inside.bytes.items; above = c.self.inside.above.items } in
-    let f : ℕ → SymByte → SymByte = written c.args.a 1 (λ _. c.args.byte) in
-    subst (λ (m : Kept). IsChanged f m m) c.self.view_is
-    (put_below k c.args.a c.args.byte c.self.invariant (omega (arith, c.from-else-from-a.ensures, c.if-from-a-2.false)))
+    let k : Kept = record { map = c.self.inside.map; bytes = c.self.inside.bytes; stack = c.self.inside.stack; from = c.self.inside.from } in
+    let is = c.self.invariant in
+    subst (λ (m : Kept). IsChanged (written c.args.a 1 (λ _. c.args.byte)) m m) c.self.view_is
+    (stored_nowhere k is c.args.a 1 (λ _. c.args.byte)
+    (λ j lt l h. omega (arith, c.from.ensures, c.if-from-a.true, is.apart, lt, h, l))
+    (λ j lt kept l h. elim c.else-from-a-2.branch [
+      | else-from-a-2-via-then-from-a-2+else-i-len w ↦ omega (arith, c.from.ensures, c.from-then-from-a.ensures, w.len.ensures.value, w.if-i-len.false, lt, l, h)
+      | else-from-a-2-via-else-from-a-2 w ↦ omega (arith, c.from-then-from-a-2.ensures, w.if-from-a-2.false, kept, h)
+    ]))
+
+pub returns-else-i-len-2 : goal.returns-else-i-len-2
+returns-else-i-len-2 c =
+    let k : Kept = record { map = c.self.inside.map; bytes = c.self.inside.bytes; stack = c.self.inside.stack; from = c.self.inside.from } in
+    let is = c.self.invariant in
+    subst (λ (m : Kept). IsChanged (written c.args.a 1 (λ _. c.args.byte)) m m) c.self.view_is
+    (stored_nowhere k is c.args.a 1 (λ _. c.args.byte)
+    (λ j lt l h. omega (arith, c.from-else-from-a.ensures, c.from-then-from-a-3.ensures, c.len-then-from-a-3.ensures.value, c.if-i-len-2.false, lt, l, h))
+    (λ j lt kept l h. omega (arith, c.from.ensures, c.if-from-a.false, h)))
+
+pub returns-else-from-a-3 : goal.returns-else-from-a-3
+returns-else-from-a-3 c =
+    let k : Kept = record { map = c.self.inside.map; bytes = c.self.inside.bytes; stack = c.self.inside.stack; from = c.self.inside.from } in
+    let is = c.self.invariant in
+    subst (λ (m : Kept). IsChanged (written c.args.a 1 (λ _. c.args.byte)) m m) c.self.view_is
+    (stored_nowhere k is c.args.a 1 (λ _. c.args.byte)
+    (λ j lt l h. omega (arith, c.from-else-from-a.ensures, c.if-from-a-3.false, h))
+    (λ j lt kept l h. omega (arith, c.from.ensures, c.if-from-a.false, h)))

@@ -1,8 +1,9 @@
-use Rattle.std.proofs.Common.{sym}
-use Rattle.sym_machine.proofs.SpanLaws.{stack_word}
+use Rattle.std.proofs.Common.{◌∙◌}
+use Rattle.sym_machine.proofs.SpanLaws.{data_word, stack_word}
 use Rattle.sym_machine.proofs.memory.SymMemory.word.Goals as goal
 
+pub returns-in-Data : goal.returns-in-Data
+returns-in-Data c = c.word.ensures ∙ data_word c.self.view_is c.args.a c.in-Data.i c.in-Data.ensures
+
 pub returns-in-Stack : goal.returns-in-Stack
-returns-in-Stack c =
-    sym (stack_word c.self.view_is c.self.invariant c.args.a c.in-Stack.i c.in-Stack.ensures
-    c.index-in-Stack.ensures c.index-in-Stack-2.ensures c.index-in-Stack-3.ensures c.index-in-Stack-4.ensures)
+returns-in-Stack c = c.word-in-Stack.ensures ∙ stack_word c.self.view_is c.self.invariant c.args.a c.in-Stack.i c.in-Stack.ensures

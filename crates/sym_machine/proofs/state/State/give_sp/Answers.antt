@@ -26,10 +26,10 @@ returns-then-not-has_sp c =
     subst (λ (st : PlainStep). StepAnswers st c.stuck-then-not-has_sp.result s s)
     (sym (sp_outside c.args.self.now.map s many (word_of c.args.word.now) c.args.to c.in-Some.sp (sym c.number.ensures ∙ c.in-Some.is) out)) c.stuck-then-not-has_sp.ensures
 
-pub invariant_of-self-2 : goal.invariant_of-self-2
-invariant_of-self-2 c =
+pub invariant_of-self : goal.invariant_of-self
+invariant_of-self c =
     let i = c.self.inside in
-    (working_sp i.registers i.memory c.settle.new.self c.args.word.now c.in-Some.sp c.self.invariant.0 c.in_ok-settle.ensures.kept c.in_ok-settle.ensures.from (sym c.number.ensures ∙ c.in-Some.is), c.self.invariant.1)
+    (working_sp i.registers i.memory c.settle.new.self c.args.word.now c.in-Some.sp c.self.invariant.0 c.settle.ensures.kept c.settle.ensures.from (sym c.number.ensures ∙ c.in-Some.is), c.self.invariant.1)
 
 pub returns : goal.returns
 returns c =
@@ -41,4 +41,4 @@ returns c =
     let low = leb-true i.memory.map.stack_low sp has.0 in
     let high = leb-true sp i.memory.map.stack_high has.1 in
     subst (λ (w : Working). StepAnswers (applied w.map w.core (Goes (sets 2 (word_of c.args.word.now) c.args.to))) answer.Done w.core (core_of c.args.to (set i.registers 2 c.args.word.now) c.settle.new.self input i.exit)) c.self.view_is
-    (gives_sp i.memory i.registers c.self.invariant.0 i.place c.args.to input i.exit running c.args.word.now sp c.settle.new.self (sym c.number.ensures ∙ c.in-Some.is) low high c.in_ok-settle.ensures.regions)
+    (gives_sp i.memory i.registers c.self.invariant.0 i.place c.args.to input i.exit running c.args.word.now sp c.settle.new.self (sym c.number.ensures ∙ c.in-Some.is) low high c.settle.ensures.regions)

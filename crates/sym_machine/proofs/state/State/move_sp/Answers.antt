@@ -14,10 +14,10 @@ use Rattle.sym_machine.proofs.state.State.move_sp.Goals as goal
 pub invariant_of-self : goal.invariant_of-self
 invariant_of-self c =
     let i = c.self.inside in
-    (working_sp i.registers i.memory c.settle.new.self (held.Number c.args.sp) c.args.sp c.self.invariant.0 c.in-Ok.ensures.kept c.in-Ok.ensures.from (number_back c.args.sp (omega arith)), c.self.invariant.1)
+    (working_sp i.registers i.memory c.settle.new.self (held.Number c.args.sp) c.args.sp c.self.invariant.0 c.settle.ensures.kept c.settle.ensures.from (number_back c.args.sp (omega arith)), c.self.invariant.1)
 
-pub returns-in-Ok-clause-made : goal.returns-in-Ok-clause-made
-returns-in-Ok-clause-made c =
+pub returns-clause-made : goal.returns-clause-made
+returns-clause-made c =
     let i = c.self.inside in
     let running : i.exit ≡ None = ap (λ (w : Working). w.core.exit) c.self.view_is ∙ c.requires in
     let input = drop i.taken i.input.items in
@@ -26,4 +26,4 @@ returns-in-Ok-clause-made c =
     let low = leb-true i.memory.map.stack_low sp has.0 in
     let high = leb-true sp i.memory.map.stack_high has.1 in
     subst (λ (w : Working). RunsOn (applied w.map w.core (Goes (sets 2 (number_word sp) c.args.to))) [] w.core (core_of c.args.to (set i.registers 2 (held.Number sp)) c.settle.new.self input i.exit)) c.self.view_is
-    (gives_sp i.memory i.registers c.self.invariant.0 i.place c.args.to input i.exit running (held.Number sp) sp c.settle.new.self (number_back sp (omega arith)) low high c.in-Ok.ensures.regions)
+    (gives_sp i.memory i.registers c.self.invariant.0 i.place c.args.to input i.exit running (held.Number sp) sp c.settle.new.self (number_back sp (omega arith)) low high c.settle.ensures.regions)

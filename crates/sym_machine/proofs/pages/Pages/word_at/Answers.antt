@@ -1,0 +1,24 @@
+use Rattle.std.proofs.Common.{◌≡◌, ℕ, ◌+◌, ◌<◌, length, subst, arith}
+use Rattle.std.specs.Prelude.{IfSome}
+use Rattle.sym_machine.specs.declared.word.SymByte.TheVariants.{Undef}
+use Rattle.sym_machine.specs.declared.word.SymWord.{SymWord}
+use Rattle.sym_machine.specs.Words.{number_word}
+use Rattle.sym_machine.proofs.PageLaws.{cell_seen, size_seen}
+use Rattle.sym_machine.proofs.pages.Pages.word_at.Goals as goal
+
+pub number_word-requires-clause-within : goal.number_word-requires-clause-within
+number_word-requires-clause-within c =
+    let i = c.self.inside in
+    let now = c.args.self.now in
+    let size : i.size ≡ length now = size_seen i.pool i.size now c.self.view_is in
+    omega (arith, size, c.requires, c.self.invariant.covered)
+
+pub returns : goal.returns
+returns c =
+    let i = c.self.inside in
+    let now = c.args.self.now in
+    let size : i.size ≡ length now = size_seen i.pool i.size now c.self.view_is in
+    let read = λ (k : ℕ) (lt : k < 4). cell_seen i.pool i.size now c.self.view_is (c.args.i + k) Undef (omega (arith, c.requires, lt)) in
+    let first = cell_seen i.pool i.size now c.self.view_is c.args.i Undef (omega (arith, c.requires)) in
+    subst (λ (w : SymWord). IfSome c.number_word.result (λ n. number_word n ≡ w))
+    (λ j. record { b0 = first j; b1 = read 1 (omega arith) j; b2 = read 2 (omega arith) j; b3 = read 3 (omega arith) j }) c.number_word.ensures
