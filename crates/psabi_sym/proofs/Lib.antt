@@ -10,6 +10,7 @@ pub mod FoundLaws
 pub mod Gathered
 pub mod NumberLaws
 pub mod KeyLaws
+pub mod LongLaws
 pub mod LongNames
 pub mod NumberedLaws
 pub mod PartLaws

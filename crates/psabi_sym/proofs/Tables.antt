@@ -3,13 +3,15 @@ use Rattle.std.proofs.Common.{◌≡◌, ℕ, ◌+◌, ◌<◌, ◌≢◌, Bool,
 use Rattle.std.specs.List.{range_with_len}
 use Rattle.std.specs.Option.{option_or}
 use Rattle.std.proofs.lemmas.Bool.{cases_eq, eq-eqb, ne_eqb, and_right}
-use Rattle.std.proofs.lemmas.List.{append-nil, get_or-replicate, length-replicate, map_push, take_more}
+use Rattle.std.proofs.lemmas.List.{append-nil, get_or-map, get_or-replicate, length-replicate, map-set, map_push, take_more}
 use Rattle.std.proofs.lemmas.List.Elements.{filter_more}
 use Rattle.std.proofs.lemmas.List.Folds.{find-append}
 use Rattle.std.proofs.lemmas.Grind.{fold-append}
 use Rattle.std.proofs.lemmas.List.FromFn.{fill_by_all, get_or-map-range_with_len, length-map-range_with_len}
 use Rattle.psabi_sym.specs.declared.block.Block.{Block}
+use Rattle.psabi_sym.specs.declared.meaning.Meaning.{Meaning}
 use Rattle.psabi_sym.specs.declared.symbol_row.SymbolRow.{SymbolRow}
+use Rattle.psabi_sym.specs.Invariants.Meanings.{first_found, row_meaning}
 use Rattle.psabi_sym.specs.Invariants.Rows.{common_rows, first_of_both, first_row, grown_block, row_common_block, row_defines, row_is_common}
 
 -- a table that is one value throughout
@@ -76,6 +78,30 @@ first_row_same bind rows i d n within other =
     sym (first_row_more bind rows i d k within ∙ ap (λ b. option_or (first_row bind (take i rows) k) (cond (b && eqb r.name k) (Some r) None)) other
     ∙ or_none (first_row bind (take i rows) k)) in
     λ j. map (λ k. same k j) (range_with_len 0 n)
+
+-- the same two laws of a table of meanings
+pub weak_step : (rows : List SymbolRow) (i : ℕ) (d : SymbolRow) (n : ℕ) (e : Meaning) → i < length rows → (get_or rows i d).name < n → row_defines 2 (get_or rows i d) ≡ true
+    → set (map row_meaning (map (first_row 2 (take i rows)) (range_with_len 0 n))) (get_or rows i d).name
+    (first_found (get_or (map row_meaning (map (first_row 2 (take i rows)) (range_with_len 0 n))) (get_or rows i d).name e) (get_or rows i d))
+    ≡ map row_meaning (map (first_row 2 (take (i + 1) rows)) (range_with_len 0 n))
+weak_step rows i d n e within named defines =
+    let r = get_or rows i d in
+    let table = map (first_row 2 (take i rows)) (range_with_len 0 n) in
+    let o = get_or table r.name None in
+    let there : r.name < length table = omega (arith, length-map-range_with_len (first_row 2 (take i rows)) 0 n) in
+    let here : get_or (map row_meaning table) r.name e ≡ row_meaning o = get_or-map row_meaning table r.name None e there in
+    ap (λ m. set (map row_meaning table) r.name (first_found m r)) here
+    ∙ ap (set (map row_meaning table) r.name) (by o)
+    ∙ sym (map-set row_meaning table r.name (first_of_both 2 o r))
+    ∙ ap (map row_meaning) (first_row_step 2 rows i d n None within named)
+  where
+    by : (o : Option SymbolRow) → first_found (row_meaning o) (get_or rows i d) ≡ row_meaning (first_of_both 2 o (get_or rows i d))
+    by None = ap (λ b. row_meaning (cond b (Some (get_or rows i d)) None)) (sym defines)
+    by (Some r) = refl
+
+pub weak_same : (rows : List SymbolRow) (i : ℕ) (d : SymbolRow) (n : ℕ) → i < length rows → row_defines 2 (get_or rows i d) ≡ false
+    → map row_meaning (map (first_row 2 (take i rows)) (range_with_len 0 n)) ≡ map row_meaning (map (first_row 2 (take (i + 1) rows)) (range_with_len 0 n))
+weak_same rows i d n within other = ap (map row_meaning) (first_row_same 2 rows i d n within other)
 
 -- the room of common symbols
 abbrev block_of : List SymbolRow → Block

@@ -1,5 +1,6 @@
 -- Why objects aren't linked.
-use Rattle.std.specs.Prelude.{◌≡◌, ℕ, Option, Some}
+use Rattle.std.specs.Prelude.{◌≡◌, ℕ, Option, Some, None}
+use Rattle.elf32_read.specs.Fault.{fault_symbol}
 use Rattle.elf32_read.specs.declared.fault.Fault.{Fault}
 use Rattle.psabi_sym.specs.declared.link_fault.LinkFault.{LinkFault}
 use Rattle.psabi_sym.specs.declared.link_fault.LinkFault.TheVariants.{Object, OutOfMemory}
@@ -8,3 +9,8 @@ use Rattle.psabi_sym.specs.declared.link_fault.LinkFault.TheVariants.{Object, Ou
 abbrev pub IsRefusal : Option (ℕ × Fault) → LinkFault → Type 0
 IsRefusal first (Object index fault) = first ≡ Some (index, fault)
 IsRefusal first OutOfMemory = Unit {0}
+
+-- it names no symbol
+abbrev pub IsNameless : LinkFault → Type 0
+IsNameless (Object index fault) = fault_symbol fault ≡ None
+IsNameless OutOfMemory = Unit {0}

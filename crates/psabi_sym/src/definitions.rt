@@ -16,11 +16,10 @@ use crate::commons::place_commons;
 use crate::layout::lay_out;
 use crate::loaded::Loaded;
 use crate::meaning::{LinkerNumbers, Meaning, NameTables, meanings};
-use crate::name_tables::first_definitions;
+use crate::name_tables::weak_meanings;
 use crate::section_row::SectionRow;
 use crate::start::start_meaning;
 use crate::symbol_row::SymbolRow;
-use elf32_read::symbol::WEAK;
 use std::alloc::{AllocError, Global};
 use zc_base::mem_map::MemMap;
 
@@ -72,7 +71,7 @@ pub fn define(
         names,
         strong,
     } = *kept;
-    let weak = first_definitions(alloc, symbols, names.len(), WEAK)?;
+    let weak = weak_meanings(alloc, symbols, names.len())?;
     let layout = lay_out(alloc, sections, memory.data_low)?;
     let commons = place_commons(alloc, symbols, strong, layout.ends.end)?;
     let numbers = LinkerNumbers {
@@ -84,9 +83,8 @@ pub fn define(
     let tables = NameTables {
         strong,
         commons: &commons.addresses,
-        weak: &weak,
     };
-    let meanings = meanings(alloc, names, &tables, &numbers)?;
+    let meanings = meanings(names, weak, &tables, &numbers);
     let start = start_meaning(names, &meanings);
     Ok(Definitions {
         addresses: layout.addresses,

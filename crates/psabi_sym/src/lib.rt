@@ -11,6 +11,7 @@ mod key;
 mod layout;
 pub mod link_fault;
 mod loaded;
+pub mod long_files;
 mod lookups;
 pub mod meaning;
 mod name_ends;

@@ -1,18 +1,17 @@
 // What names stand for.
 
-ghost use Rattle.std.specs.Prelude.{◌≡◌, ◌&&◌, ◌==◌, ◌<◌, ℕ, All, IfOk, None, false, not, true, length, map, slice_index_or, [], List};
+ghost use Rattle.std.specs.Prelude.{◌≡◌, ◌&&◌, ◌==◌, ◌<◌, ℕ, All, Option, None, false, not, true, length, map, slice_index_or, [], List};
 ghost use Rattle.std.specs.List.{find, range_with_len, zip};
 ghost use Rattle.std.specs.Option.{option_map, option_map_or};
 ghost use Rattle.psabi_sym.specs.declared.meaning.Meaning.{Meaning};
 ghost use Rattle.psabi_sym.specs.declared.meaning.Meaning.TheVariants.{Nothing};
-ghost use Rattle.psabi_sym.specs.Invariants.Meanings.{meaning_at, meaning_of, row_is_missing};
+ghost use Rattle.psabi_sym.specs.Invariants.Meanings.{meaning_at, meaning_of, row_is_missing, row_meaning};
 ghost use Rattle.psabi_sym.specs.Resolve.{linker_number};
 ghost use Rattle.psabi_sym.specs.Invariants.Rows.{first_row, row_defines, row_is_second};
 ghost use Rattle.psabi_sym.specs.declared.symbol_row.SymbolRow.{SymbolRow};
 
 use crate::symbol_row::SymbolRow;
 use elf32_read::symbol::{GLOBAL, UNDEF};
-use std::alloc::{AllocError, Global};
 
 /// What a name stands for: a symbol that defines it, a number, which is an address of data or a value
 /// of the linker's, or nothing.
@@ -52,15 +51,15 @@ fn linker_number(numbers: &LinkerNumbers, name: &[u8]) -> Option<u32>
     None
 }
 
-// What a name is, by its first strong definition, its address if it is common, its first weak
-// definition, and its number if it is the linker's.
+// What a name is, by its first strong definition, its address if it is common, its first weak definition or nothing, and
+// its number if it is the linker's.
 fn meaning_of(
     strong: Option<SymbolRow>,
     common: Option<u32>,
-    weak: Option<SymbolRow>,
+    weak: Meaning,
     linker: Option<u32>,
 ) -> Meaning
-    ensures { result ≡ meaning_of strong common weak linker }
+    ensures { (o : Option SymbolRow) → weak ≡ row_meaning o → result ≡ meaning_of strong common o linker }
 {
     if let Some(row) = strong {
         return Meaning::Symbol(row);
@@ -68,43 +67,39 @@ fn meaning_of(
     if let Some(address) = common {
         return Meaning::Number(address);
     }
-    if let Some(row) = weak {
-        return Meaning::Symbol(row);
-    }
-    match linker {
-        Some(number) => Meaning::Number(number),
-        None => Meaning::Nothing,
+    match (weak, linker) {
+        (Meaning::Nothing, Some(number)) => Meaning::Number(number),
+        (weak, _) => weak,
     }
 }
 
-/// What defines each name, by the name's number: its first strong definition, its address if it is
-/// common, and its first weak definition.
+/// What defines each name, by the name's number: its first strong definition, and its address if it is common.
 #[derive(Clone, Copy)]
 pub struct NameTables<'a> {
     pub strong: &'a [Option<SymbolRow>],
     pub commons: &'a [Option<u32>],
-    pub weak: &'a [Option<SymbolRow>],
 }
 
-/// What each name is, by tables with an entry for each name.
+/// What each name is, by tables with an entry for each name. It takes the place of its first weak definition.
 pub fn meanings(
-    alloc: Global,
     names: &[&[u8]],
+    weak: Vec<Meaning>,
     tables: &NameTables<'_>,
     numbers: &LinkerNumbers,
-) -> Result<Vec<Meaning>, AllocError>
+) -> Vec<Meaning>
     requires strong { length tables.now.strong.now ≡ length names.now }
     requires commons { length tables.now.commons.now ≡ length names.now }
-    requires weak { length tables.now.weak.now ≡ length names.now }
-    ensures { IfOk result (λ meanings. meanings.items ≡ map (meaning_at (map (λ name. name.now) names.now)
-        tables.now.strong.now tables.now.commons.now tables.now.weak.now numbers.now) (range_with_len 0 (length names.now))) }
+    requires weak { length weak.items ≡ length names.now }
+    ensures { (found : List (Option SymbolRow)) → weak.items ≡ map row_meaning found
+        → result.items ≡ map (meaning_at (map (λ name. name.now) names.now)
+        tables.now.strong.now tables.now.commons.now found numbers.now) (range_with_len 0 (length names.now)) }
 {
-    let mut meanings = Vec::with_capacity(alloc, names.len())?;
+    let mut meanings = weak;
     for k in 0..names.len() {
         let linker = linker_number(numbers, names[k]);
-        meanings.push(meaning_of(tables.strong[k], tables.commons[k], tables.weak[k], linker))?;
+        meanings[k] = meaning_of(tables.strong[k], tables.commons[k], meanings[k], linker);
     }
-    Ok(meanings)
+    meanings
 }
 
 // A definition was found, and it is another symbol.

@@ -2,11 +2,14 @@
 
 ghost use Rattle.std.specs.Prelude.{◌≡◌, ◌<◌, ℕ, true, IfOk, map, All};
 ghost use Rattle.std.specs.List.{range_with_len};
+ghost use Rattle.psabi_sym.specs.Invariants.Meanings.{first_found, row_meaning};
 ghost use Rattle.psabi_sym.specs.Invariants.Rows.{first_of_both, first_row, grown_block, no_block, row_common_block, row_defines, row_is_common};
 ghost use Rattle.psabi_sym.specs.declared.symbol_row.SymbolRow.{SymbolRow};
 
 use crate::block::Block;
+use crate::meaning::Meaning;
 use crate::symbol_row::SymbolRow;
+use elf32_read::symbol::WEAK;
 use std::alloc::{AllocError, Global};
 
 // The definition that was found before a symbol, or else the symbol, if it is one.
@@ -48,6 +51,37 @@ pub fn first_definitions(
         if row.defines(bind) {
             let name = row.name as usize;
             table[name] = first_of(table[name], row, bind);
+        }
+    }
+    Ok(table)
+}
+
+// What was found before a symbol, or else the symbol.
+fn first_found(found: Meaning, row: &SymbolRow) -> Meaning
+    ensures { result ≡ first_found found row.now }
+{
+    match found {
+        Meaning::Nothing => Meaning::Symbol(*row),
+        Meaning::Symbol(_) | Meaning::Number(_) => found,
+    }
+}
+
+/// Of each name below `count`, its first weak definition, or nothing.
+#[tactic(auto, using(crate::proofs::Tables::weak_step, crate::proofs::Tables::weak_same))]
+pub fn weak_meanings(
+    alloc: Global,
+    rows: &[SymbolRow],
+    count: usize,
+) -> Result<Vec<Meaning>, AllocError>
+    requires { All (λ r. row_defines 2 r ≡ true → r.name < count) rows.now }
+    ensures { IfOk result (λ table. table.items
+        ≡ map row_meaning (map (first_row 2 rows.now) (range_with_len 0 count))) }
+{
+    let mut table = vec![in alloc; Meaning::Nothing; count]?;
+    for row in rows {
+        if row.defines(WEAK) {
+            let name = row.name as usize;
+            table[name] = first_found(table[name], row);
         }
     }
     Ok(table)

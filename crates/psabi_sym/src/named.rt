@@ -49,7 +49,8 @@ pub fn name_objects(
 {
     let mut names = Names::new(alloc);
     let symbols = Symbols::new(alloc, objects, &mut names)?;
-    let names = names.as_slice();
+    let texts = names.into_texts();
+    let names = texts.as_slice();
     let strong = first_definitions(alloc, &symbols.rows, names.len(), GLOBAL)?;
     if let Some((index, symbol)) = first_duplicate(&symbols.rows, &strong) {
         return Err(LinkFault::Object {

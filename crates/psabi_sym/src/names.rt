@@ -62,10 +62,12 @@ impl<'a> Names<'a> {
         Ok(number as u32)
     }
 
-    /// The names, by their numbers.
-    pub fn as_slice(&self) -> &[&'a [u8]]
-        ensures { lent result.now ≡ names_of self.now }
+    /// The names, by their numbers. What they were numbered by is let go.
+    pub fn into_texts(self) -> Vec<&'a [u8]>
+        ensures { lent result.items ≡ names_of self.entry }
     {
-        self.names.texts.as_slice()
+        let Names { names, .. } = self;
+        let Texts { texts, .. } = names;
+        texts
     }
 }

@@ -37,7 +37,8 @@ use std::alloc::{AllocError, Global};
 use std::marker::Model;
 use zc_base::mem_map::MemMap;
 
-const MOST_OBJECTS: usize = 256;
+/// The most objects of a link.
+pub const MOST_OBJECTS: usize = 256;
 
 /// The objects of a link, in their order, and the memory map. They have no fault of their own, and
 /// none between them.
@@ -288,8 +289,8 @@ impl Objects {
     }
 }
 
-// The first object that can't be read, with its first fault.
-fn first_unreadable(files: &[Vec<u8>]) -> Option<(u32, Fault)>
+/// The first object that can't be read, with its first fault.
+pub(crate) fn first_unreadable(files: &[Vec<u8>]) -> Option<(u32, Fault)>
     requires { length files.now ≤ 256 }
     ensures { result ≡ fault_from 0 (contents_of files.now) }
 {
@@ -301,8 +302,8 @@ fn first_unreadable(files: &[Vec<u8>]) -> Option<(u32, Fault)>
     None
 }
 
-// A copy of each object.
-fn load(alloc: Global, files: &[Vec<u8>]) -> Result<Vec<Loaded>, AllocError>
+/// A copy of each object.
+pub(crate) fn load(alloc: Global, files: &[Vec<u8>]) -> Result<Vec<Loaded>, AllocError>
     requires { fault_from 0 (contents_of files.now) ≡ None }
     ensures { IfOk result (λ objects. objects.items ≡ contents_of files.now) }
 {

@@ -15,7 +15,8 @@ use elf32_read::relocs::Relocs;
 use elf32_read::symbol::COMMON;
 use elf32_read::symbol_entry::SymbolEntry;
 
-const MOST_BYTES: u64 = 0x200_0000;
+/// The most bytes that the files of a link have.
+pub const MOST_BYTES: u64 = 0x200_0000;
 
 const MOST_CODE: u64 = 0x4_0000;
 

@@ -1,8 +1,7 @@
-// The files that a command reads, whole and one after another.
+// The files that a command reads, each of them whole.
 
-ghost use Rattle.std.specs.Prelude.{◌<◌, ◌-◌, ◌^◌, [], ◌∷◌, map, IfErr, IfOk, OnOk};
-ghost use Rattle.std.specs.String.{string_bytes};
-ghost use Rattle.zc_outside.specs.Wanted.{AreRead, IsRead, ReadCause, ReadsAll, each_within};
+ghost use Rattle.std.specs.Prelude.{◌<◌, ◌-◌, ◌^◌, [], ◌∷◌, IfErr, IfOk};
+ghost use Rattle.zc_outside.specs.Wanted.{IsRead, ReadCause, ReadsAll};
 
 use crate::store::{Store, StoreFault};
 use std::alloc::Global;
@@ -35,29 +34,4 @@ pub fn read_file<S: Store>(
         StoreFault::OutOfMemory => ReadFault::OutOfMemory,
         StoreFault::Failed | StoreFault::TooLong { .. } => ReadFault::Unread,
     })
-}
-
-/// Makes `files` the bytes of the files with these names, each of at most `limit` bytes.
-///
-/// Stops at the first file that can't be had. Then `files` may hold anything.
-pub fn read_files<S: Store>(
-    alloc: Global,
-    names: &[String],
-    limit: u32,
-    files: &mut Vec<Vec<u8>>,
-    store: &mut S,
-) -> Result<(), ReadFault>
-    requires { limit < 2 ^ 32 - 1 }
-    ensures ok { OnOk result (AreRead (S.shown store.old).files (each_within limit (map string_bytes names.now))
-        (map (λ file. file.items) files.new.items)) }
-    ensures cause { IfErr result (ReadCause (each_within limit (map string_bytes names.now))
-        (S.shown store.old) (S.shown store.new)) }
-    ensures reads { ReadsAll (each_within limit (map string_bytes names.now)) (S.shown store.old) (S.shown store.new) }
-{
-    files.clear();
-    for name in names {
-        let file = read_file(alloc, name.as_str(), limit, store)?;
-        files.push(file).map_err(|_| ReadFault::OutOfMemory)?;
-    }
-    Ok(())
 }

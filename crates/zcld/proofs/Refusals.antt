@@ -6,11 +6,11 @@ use Rattle.elf32_read.specs.Fault.{fault_symbol}
 use Rattle.elf32_read.specs.declared.fault.Fault.{Fault}
 use Rattle.psabi_sym.specs.Faults.{first_some, gather_fault}
 use Rattle.psabi_sym.specs.Inputs.{Inputs, parsed}
-use Rattle.psabi_sym.specs.LinkFault.{IsRefusal}
+use Rattle.psabi_sym.specs.LinkFault.{IsNameless, IsRefusal}
 use Rattle.psabi_sym.specs.declared.link_fault.LinkFault.{LinkFault}
 use Rattle.psabi_sym.specs.declared.link_fault.LinkFault.TheVariants.{Object, OutOfMemory}
 use Rattle.block_cut.specs.Faults.{entry_fault, first_fault, range_fault, relocs_fault}
-use Rattle.block_cut.proofs.NamelessFaults.{IsNameless, fault_of, first_nameless}
+use Rattle.block_cut.proofs.NamelessFaults.{IsNameless as HasNoName, fault_of, first_nameless}
 use Rattle.zcld.specs.ErrLine.{NamesNothing, after_space, err_line, fault_symbol_name, line, name_in, refusal_text}
 use Rattle.zcld.specs.Outcome.{link_outcome}
 use Rattle.zcld.specs.declared.outcome.Outcome.{Outcome}
@@ -33,11 +33,15 @@ no_name files i fault is = by (slice_get files i)
 line_without_name : (files : List (List ℕ)) (i : ℕ) (fault : Fault) → fault_symbol fault ≡ None → err_line files (link_outcome (Object i fault)) ≡ line (refusal_text i fault ++ [])
 line_without_name files i fault is = ap (λ name. line (refusal_text i fault ++ after_space name)) (no_name files i fault is)
 
+-- a fault that names no symbol
+pub names_none : (fault : LinkFault) → IsNameless fault → NamesNothing (link_outcome fault)
+names_none OutOfMemory none = λ files. refl
+names_none (Object index fault) none = λ files. line_without_name files index fault none ∙ sym (line_without_name [] index fault none)
+
 pub names_nothing : (inputs : Inputs) (fault : LinkFault) → gather_fault inputs ≡ None → IsRefusal (first_fault inputs) fault → NamesNothing (link_outcome fault)
-names_nothing inputs OutOfMemory gathered is = λ files. refl
+names_nothing inputs OutOfMemory gathered is = names_none OutOfMemory tt
 names_nothing inputs (Object index fault) gathered is =
-    let nameless : fault_symbol fault ≡ None = subst (λ o. IsNameless fault_of o) is (first_nameless inputs gathered) in
-    λ files. line_without_name files index fault nameless ∙ sym (line_without_name [] index fault nameless)
+    names_none (Object index fault) (subst (λ o. HasNoName fault_of o) is (first_nameless inputs gathered))
 
 -- such a line is the same for any files
 pub names_in_none : (outcome : Outcome) (left files : List (List ℕ)) → NamesNothing outcome → err_line left outcome ≡ err_line files outcome

@@ -1,10 +1,14 @@
 -- The objects that a command links or traces, and why they are refused.
 use Rattle.std.specs.Prelude.{◌≡◌, ℕ, ◌⊎◌, List, Option, Some}
 use Rattle.std.specs.Option.{option_map}
-use Rattle.zc_outside.specs.Wanted.{Wanted, each_within}
+use Rattle.zc_outside.specs.Files.{Files}
+use Rattle.zc_outside.specs.Shelf.{Shelf}
+use Rattle.zc_outside.specs.Wanted.{AreRead, Wanted, each_within}
 use Rattle.block_cut.specs.Faults.{first_fault}
 use Rattle.elf32_read.specs.declared.fault.Fault.{Fault}
 use Rattle.load_runner.specs.Runs.{standard_inputs}
+use Rattle.zcld.specs.ErrLine.{err_line}
+use Rattle.zcld.specs.Task.{UnreadCause}
 use Rattle.zcld.specs.declared.outcome.Outcome.{Outcome}
 use Rattle.zcld.specs.declared.outcome.Outcome.TheVariants.{Refused, OutOfMemory}
 use Rattle.zcld.specs.declared.limits.TheConstants.{OBJECT_LIMIT}
@@ -24,3 +28,15 @@ objects_wanted names = each_within OBJECT_LIMIT names
 -- why objects that were read go no further: they are refused for this fault, or memory ran out
 abbrev pub RefusalCause : Option (ℕ × Fault) → Outcome → Type 0
 RefusalCause fault outcome = (refused_for fault ≡ Some outcome) ⊎ (outcome ≡ OutOfMemory)
+
+-- these are the files' bytes, and they are refused, with the same line for the files that are left
+pub record AreRefused (names left : List (List ℕ)) (outcome : Outcome) (store : Option Files) : Type 0 where
+  pub files : List (List ℕ)
+  pub read : AreRead store (objects_wanted names) files
+  pub refused : objects_refusal files ≡ Some outcome
+  pub line : err_line left outcome ≡ err_line files outcome
+
+-- how a command ends without its objects: they can't be had, or they are refused
+abbrev pub EndsWithout : List (List ℕ) → List (List ℕ) → Outcome → Shelf → Shelf → Type 0
+EndsWithout names left outcome before after =
+    UnreadCause (objects_wanted names) before after outcome ⊎ AreRefused names left outcome before.files

@@ -1,25 +1,100 @@
 // The files of the objects that a command links or traces.
 
-ghost use Rattle.std.specs.Prelude.{◌≡◌, IfErr, IfOk, None, OnOk};
+ghost use Rattle.std.specs.Prelude.{◌≡◌, ◌<◌, ◌+◌, ◌++◌, ◌∷◌, ◌^◌, [], false, List, ℕ, IfErr, IfOk, IfSome, None, OnOk, length, nat_lt};
+ghost use Rattle.std.specs.Option.{option_map, option_or};
+ghost use Rattle.elf32_read.specs.Object.{object_fault};
 ghost use Rattle.load_runner.specs.Runs.{standard_inputs};
 ghost use Rattle.psabi_sym.specs.Faults.{gather_fault};
-ghost use Rattle.psabi_sym.specs.LinkFault.{IsRefusal};
+ghost use Rattle.psabi_sym.specs.LinkFault.{IsNameless, IsRefusal};
 ghost use Rattle.psabi_sym.specs.Objects.{contents_of};
 ghost use Rattle.zc_outside.specs.Wanted.{AreRead, ReadsAll};
 ghost use Rattle.command_words.specs.Command.{texts};
-ghost use Rattle.zcld.specs.Objects.{objects_wanted};
-ghost use Rattle.zcld.specs.Task.{UnreadCause};
+ghost use Rattle.zcld.specs.Objects.{EndsWithout, objects_wanted};
+ghost use Rattle.zcld.specs.Reading.{Keeps};
 
 use crate::limits::OBJECT_LIMIT;
 use crate::outcome::Outcome;
+use elf32_read::fault::Fault;
+use elf32_read::object::Object;
 use psabi_sym::link_fault::LinkFault;
-use psabi_sym::objects::Objects;
-use std::alloc::Global;
+use psabi_sym::long_files::long_files_refusal;
+use psabi_sym::objects::{MOST_OBJECTS, Objects};
+use psabi_sym::sums::MOST_BYTES;
+use std::alloc::{AllocError, Global};
 use zc_base::mem_map::MemMap;
-use zc_outside::read_files::read_files;
+use zc_outside::read_files::read_file;
 use zc_outside::store::Store;
 
-/// Makes `files` the objects under these names, or says how the call ends without them.
+/// What is known of objects so far: whether there are too many for a link, how many bytes those that are kept have, and
+/// the first fault of reading one of the others. Once it is known that they are refused, no more of them are kept.
+#[derive(Clone, Copy)]
+pub struct Reading {
+    pub are_many: bool,
+    pub bytes: u64,
+    pub later: Option<(u32, Fault)>,
+}
+
+// The fault that was found before, or else that of an object, with its index.
+fn first_fault(before: Option<(u32, Fault)>, index: u32, file: &[u8]) -> Option<(u32, Fault)>
+    ensures { result ≡ option_or before (option_map (λ fault. (index, fault)) (object_fault file.now)) }
+{
+    if before.is_some() {
+        return before;
+    }
+    match Object::read(file) {
+        Ok(_) => None,
+        Err(fault) => Some((index, fault)),
+    }
+}
+
+impl Reading {
+    // Keeps one more object if that is needed, and judges it if it isn't kept.
+    fn add(
+        &mut self,
+        index: usize,
+        file: Vec<u8>,
+        files: &mut Vec<Vec<u8>>,
+    ) -> Result<(), AllocError>
+        requires few { self.old.are_many ≡ false → index < 2 ^ 32 }
+        ensures keeps { IfOk result (λ _. (read : List (List ℕ)) → Keeps read (contents_of files.old.items) self.old
+            → length read ≡ index → Keeps (read ++ file.items ∷ []) (contents_of files.new.items) self.new) }
+        ensures many { self.new.are_many ≡ self.old.are_many }
+    {
+        if self.are_many {
+            return Ok(());
+        }
+        if MOST_BYTES < self.bytes {
+            self.later = first_fault(self.later, index as u32, &file);
+            return Ok(());
+        }
+        self.bytes += file.len() as u64;
+        files.push(file)?;
+        Ok(())
+    }
+
+    // Why the objects, of which these are kept, aren't linked, if they are too many or have too many bytes.
+    fn refusal(self, alloc: Global, files: &[Vec<u8>]) -> Option<LinkFault>
+        requires { (read : List (List ℕ)) × Keeps read (contents_of files.now) self × (self.are_many ≡ nat_lt 256 (length read)) }
+        ensures none { result ≡ None → (read : List (List ℕ)) → Keeps read (contents_of files.now) self → read ≡ contents_of files.now }
+        ensures some { IfSome result (λ fault. (read : List (List ℕ)) → Keeps read (contents_of files.now) self
+            → self.are_many ≡ nat_lt 256 (length read)
+            → IsRefusal (gather_fault (standard_inputs read)) fault × IsNameless fault) }
+    {
+        if self.are_many {
+            return Some(LinkFault::Object {
+                index: MOST_OBJECTS as u32,
+                fault: Fault::TooLarge,
+            });
+        }
+        if MOST_BYTES < self.bytes {
+            return Some(long_files_refusal(alloc, files, self.later));
+        }
+        None
+    }
+}
+
+/// Makes `files` the objects under these names, or says how the call ends without them. Each is read, and no more are
+/// kept than a link takes, and one.
 pub fn read_objects<S: Store>(
     alloc: Global,
     names: &[String],
@@ -28,12 +103,24 @@ pub fn read_objects<S: Store>(
 ) -> Result<(), Outcome>
     ensures ok { OnOk result (AreRead (S.shown store.old).files (objects_wanted (texts names.now))
         (contents_of files.new.items)) }
-    ensures err { IfErr result (UnreadCause (objects_wanted (texts names.now))
+    ensures err { IfErr result (λ outcome. EndsWithout (texts names.now) (contents_of files.new.items) outcome
         (S.shown store.old) (S.shown store.new)) }
     ensures reads { ReadsAll (objects_wanted (texts names.now)) (S.shown store.old) (S.shown store.new) }
 {
-    read_files(alloc, names, OBJECT_LIMIT, files, store)?;
-    Ok(())
+    files.clear();
+    let mut reading = Reading {
+        are_many: MOST_OBJECTS < names.len(),
+        bytes: 0,
+        later: None,
+    };
+    for (i, name) in names.iter().enumerate() {
+        let file = read_file(alloc, name.as_str(), OBJECT_LIMIT, store)?;
+        reading.add(i, file, files)?;
+    }
+    match reading.refusal(alloc, files.as_slice()) {
+        None => Ok(()),
+        Some(fault) => Err(Outcome::from(fault)),
+    }
 }
 
 /// The objects in these files, or why they aren't gathered. They are a copy, so the files are let go, unless the

@@ -6,7 +6,7 @@ ghost use Rattle.psabi_sym.specs.Objects.{contents_of};
 ghost use Rattle.block_cut.specs.Faults.{first_fault};
 ghost use Rattle.zc_outside.specs.World.{world};
 ghost use Rattle.command_words.specs.Command.{Trace, texts};
-ghost use Rattle.zcld.specs.Call.{CarriesOut};
+ghost use Rattle.zcld.specs.Call.{DoesWith};
 ghost use Rattle.zcld.specs.Machines.{TakesAndRuns};
 ghost use Rattle.zcld.specs.Objects.{RefusalCause};
 ghost use Rattle.zcld.specs.Trace.{Traces, trace_outcome as outcome_of_end};
@@ -33,7 +33,7 @@ pub fn trace<S: Store, C: Console>(
     store: &mut S,
     console: &mut C,
 ) -> Outcome
-    ensures { CarriesOut (Some (Trace steps (texts objects.now))) (contents_of files.new.items) result
+    ensures { DoesWith (Some (Trace steps (texts objects.now))) (contents_of files.new.items) result
         (world (S.shown store.old) (C.shown console.old)) (world (S.shown store.new) (C.shown console.new)) }
 {
     if let Err(outcome) = read_objects(alloc, objects, files, store) {

@@ -16,6 +16,17 @@ meaning_of None None (Some r) linker = Symbol r
 meaning_of None None None (Some n) = Number n
 meaning_of None None None None = Nothing
 
+-- a definition, or nothing
+abbrev pub row_meaning : Option SymbolRow → Meaning
+row_meaning None = Nothing
+row_meaning (Some r) = Symbol r
+
+-- what was found before, or else a row
+abbrev pub first_found : Meaning → SymbolRow → Meaning
+first_found Nothing row = Symbol row
+first_found (Symbol r) row = Symbol r
+first_found (Number n) row = Number n
+
 -- the name with a number, by the tables
 abbrev pub meaning_at : List (List ℕ) → List (Option SymbolRow) → List (Option ℕ) → List (Option SymbolRow) → LinkerNumbers → ℕ → Meaning
 meaning_at names strong commons weak numbers k =

@@ -1,7 +1,8 @@
-use Rattle.std.proofs.Common.{◌≡◌, ◌+◌, ◌<◌, ◌^◌, ℕ, List, Bor, length, get_or, map, ap, sym, ◌∙◌, arith, refl, inl, inr}
+use Rattle.std.proofs.Common.{◌≡◌, ◌+◌, ◌<◌, ◌^◌, ℕ, List, Bor, Option, length, get_or, map, ap, sym, ◌∙◌, arith, refl, inl, inr}
 use Rattle.std.specs.List.{range_with_len, sum_by}
 use Rattle.std.proofs.lemmas.Bool.{cases_lt}
 use Rattle.std.proofs.lemmas.List.{get_or_past, length-map}
+use Rattle.std.proofs.lemmas.List.FromFn.{length-map-range_with_len}
 use Rattle.elf32_read.specs.Parts.{object_parts}
 use Rattle.psabi_sym.specs.declared.data_class.DataClass.TheVariants.{SmallData, SmallZero, Zero, Common}
 use Rattle.psabi_sym.specs.declared.meaning.LinkerNumbers.{LinkerNumbers}
@@ -11,9 +12,9 @@ use Rattle.psabi_sym.specs.Blocks.{aligned_up, end_from, placed_from}
 use Rattle.psabi_sym.specs.Data.{class_end, class_start}
 use Rattle.psabi_sym.specs.Inputs.{ParsedInputs}
 use Rattle.psabi_sym.specs.Indexed.{all_symbols}
-use Rattle.psabi_sym.specs.Invariants.Meanings.{meaning_at, meaning_row}
+use Rattle.psabi_sym.specs.Invariants.Meanings.{meaning_at, meaning_row, row_meaning}
 use Rattle.psabi_sym.specs.Resolve.{linker_numbers, name_definition}
-use Rattle.psabi_sym.specs.Invariants.Rows.{first_row, name_number, placed_rows, row_address_of, row_blocks, row_common_block, row_common_room, row_data_room, row_defines, row_is_common, row_room, row_start, symbol_row}
+use Rattle.psabi_sym.specs.Invariants.Rows.{first_row, name_number, placed_rows, row_address_of, row_blocks, row_common_room, row_data_room, row_defines, row_is_common, row_room, row_start, symbol_row}
 use Rattle.psabi_sym.specs.Start.{start_name}
 use Rattle.psabi_sym.proofs.DefinedLaws.{class_end_common, common_start_is, file_end_is, meaning_at_is, rooms_fit, small_data_is, small_zero_is}
 use Rattle.psabi_sym.proofs.NumberLaws.{common_row_goes, definition_row_goes}
@@ -87,10 +88,14 @@ module _ (c : After-start_meaning-start) where
   strong_are : c.args.kept.now.strong.now ≡ map (first_row 1 rows) (range_with_len 0 (length names))
   strong_are = c.requires.strong ∙ (λ j. map (first_row 1 (c.requires.symbols.rows_are j)) (range_with_len 0 (sym (names_count c.args.kept.now.names.now) j)))
 
-  weak_are : c.deref-2.result.now ≡ map (first_row 2 rows) (range_with_len 0 (length names))
+  -- the first weak definition of each name
+  abbrev weak : List (Option SymbolRow)
+  weak = map (first_row 2 rows) (range_with_len 0 (length names))
+
+  weak_are : c.in_ok-weak.weak.items ≡ map row_meaning weak
   weak_are =
-      c.deref-2.ensures.value ∙ c.in_ok-weak.ensures
-      ∙ (λ j. map (first_row 2 (c.requires.symbols.rows_are j)) (range_with_len 0 (sym (names_count c.args.kept.now.names.now) j)))
+      c.in_ok-weak.ensures
+      ∙ (λ j. map row_meaning (map (first_row 2 (c.requires.symbols.rows_are j)) (range_with_len 0 (sym (names_count c.args.kept.now.names.now) j))))
 
   commons_are : c.deref.result.now ≡ map (row_address_of (placed_from (row_room rows) (class_start inputs Common) (placed_rows rows rows))) (range_with_len 0 (length names))
   commons_are =
@@ -98,27 +103,30 @@ module _ (c : After-start_meaning-start) where
       ∙ (λ j. let r = c.requires.symbols.rows_are j in
       map (row_address_of (placed_from (row_room r) (commons_start j) (placed_rows r r))) (range_with_len 0 ((table_count _ c.requires.strong ∙ sym (names_count c.args.kept.now.names.now)) j)))
 
-  meanings_count : length c.in_ok-meanings.meanings.items ≡ length names
-  meanings_count = table_count _ c.in_ok-meanings.ensures ∙ sym (names_count c.args.kept.now.names.now)
+  meanings_are : c.meanings-meanings.result.items ≡ map (meaning_at names c.args.kept.now.strong.now c.deref.result.now weak numbers) (range_with_len 0 (length c.args.kept.now.names.now))
+  meanings_are = c.meanings-meanings.ensures weak weak_are
+
+  meanings_count : length c.meanings-meanings.result.items ≡ length names
+  meanings_count = table_count _ meanings_are ∙ sym (names_count c.args.kept.now.names.now)
 
   -- what a name with a number stands for
-  meant : (name : List ℕ) → name_number names name < length names → get_or c.in_ok-meanings.meanings.items (name_number names name) Nothing ≡ meaning_row names (name_definition inputs name)
+  meant : (name : List ℕ) → name_number names name < length names → get_or c.meanings-meanings.result.items (name_number names name) Nothing ≡ meaning_row names (name_definition inputs name)
   meant name there =
-      table_at (meaning_at names c.args.kept.now.strong.now c.deref.result.now c.deref-2.result.now numbers) c.in_ok-meanings.meanings.items (length c.args.kept.now.names.now) (name_number names name) Nothing c.in_ok-meanings.ensures
+      table_at (meaning_at names c.args.kept.now.strong.now c.deref.result.now weak numbers) c.meanings-meanings.result.items (length c.args.kept.now.names.now) (name_number names name) Nothing meanings_are
       (omega (arith, there, names_count c.args.kept.now.names.now))
-      ∙ meaning_at_is names inputs c.requires.symbols.numbered c.args.kept.now.strong.now c.deref-2.result.now c.deref.result.now numbers name there strong_are weak_are commons_are numbers_are
+      ∙ meaning_at_is names inputs c.requires.symbols.numbered c.args.kept.now.strong.now weak c.deref.result.now numbers name there strong_are refl commons_are numbers_are
 
   -- and `_start`, which may have none
-  start_meant : get_or c.in_ok-meanings.meanings.items (name_number names start_name) Nothing ≡ meaning_row names (name_definition inputs start_name)
+  start_meant : get_or c.meanings-meanings.result.items (name_number names start_name) Nothing ≡ meaning_row names (name_definition inputs start_name)
   start_meant = elim (cases_lt (name_number names start_name) (length names)) [
     | inl there ↦ meant start_name there
     | inr past ↦
-        get_or_past c.in_ok-meanings.meanings.items (name_number names start_name) Nothing (omega (arith, past, meanings_count))
+        get_or_past c.meanings-meanings.result.items (name_number names start_name) Nothing (omega (arith, past, meanings_count))
         ∙ sym (ap (meaning_row names) (no_start names inputs c.requires.symbols.numbered past))
   ]
 
-pub first_definitions-requires : goal.first_definitions-requires
-first_definitions-requires c = named_rows (row_defines 2) (definition_row_goes 2 refl) c.requires.symbols refl (names_count c.args.kept.now.names.now)
+pub weak_meanings-requires : goal.weak_meanings-requires
+weak_meanings-requires c = named_rows (row_defines 2) (definition_row_goes 2 refl) c.requires.symbols refl (names_count c.args.kept.now.names.now)
 
 pub lay_out-requires : goal.lay_out-requires
 lay_out-requires c = omega (arith, room (goal.at.lay_out-requires c).In_ok-weak)
@@ -137,18 +145,23 @@ place_commons-requires-clause-room c = omega (arith, room (goal.at.place_commons
 pub overflow_add-numbers : goal.overflow_add-numbers
 overflow_add-numbers c = omega (arith, room (goal.at.overflow_add-numbers c).In_ok-weak, c.in_ok-layout.ensures.ends.small_data_most)
 
-pub meanings-requires-clause-strong : goal.meanings-requires-clause-strong
-meanings-requires-clause-strong c = table_count _ c.requires.strong
+pub meanings-meanings-requires-clause-strong : goal.meanings-meanings-requires-clause-strong
+meanings-meanings-requires-clause-strong c = table_count _ c.requires.strong
 
-pub meanings-requires-clause-commons : goal.meanings-requires-clause-commons
-meanings-requires-clause-commons c =
+pub meanings-meanings-requires-clause-commons : goal.meanings-meanings-requires-clause-commons
+meanings-meanings-requires-clause-commons c =
     table_count _ (c.deref.ensures.value ∙ c.in_ok-commons.ensures.addresses) ∙ table_count _ c.requires.strong
 
-pub meanings-requires-clause-weak : goal.meanings-requires-clause-weak
-meanings-requires-clause-weak c = table_count _ (c.deref-2.ensures.value ∙ c.in_ok-weak.ensures)
+pub meanings-meanings-requires-clause-weak : goal.meanings-meanings-requires-clause-weak
+meanings-meanings-requires-clause-weak c =
+    let own = first_row 2 c.args.kept.now.symbols.now in
+    let count = length c.args.kept.now.names.now in
+    ap length c.in_ok-weak.ensures ∙ length-map (map own (range_with_len 0 count)) row_meaning ∙ length-map-range_with_len own 0 count
 
 pub start_meaning-start-requires : goal.start_meaning-start-requires
-start_meaning-start-requires c = table_count _ (c.deref-3.ensures.value ∙ c.in_ok-meanings.ensures)
+start_meaning-start-requires c =
+    ap length c.deref-2.ensures.value
+    ∙ table_count _ (c.meanings-meanings.ensures (map (first_row 2 c.args.kept.now.symbols.now) (range_with_len 0 (length c.args.kept.now.names.now))) c.in_ok-weak.ensures)
 
 pub returns : goal.returns
 returns c =
@@ -167,6 +180,6 @@ returns c =
       },
       record {
         names = names a;
-        start_is = c.start_meaning-start.ensures ∙ ap (λ l. get_or l (name_number (names a) start_name) Nothing) c.deref-3.ensures.value ∙ start_meant a;
+        start_is = c.start_meaning-start.ensures ∙ ap (λ l. get_or l (name_number (names a) start_name) Nothing) c.deref-2.ensures.value ∙ start_meant a;
       },
     )

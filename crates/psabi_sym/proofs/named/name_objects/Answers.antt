@@ -7,7 +7,7 @@ use Rattle.elf32_read.specs.declared.fault.Fault.TheVariants.{Duplicate, Undefin
 use Rattle.elf32_read.specs.Parts.{ObjectParts, object_parts}
 use Rattle.psabi_sym.specs.Faults.{duplicate_fault, is_missing, is_second, is_used, undefined_fault}
 use Rattle.psabi_sym.specs.Inputs.{ParsedInputs}
-use Rattle.psabi_sym.specs.Invariants.Keys.{names_of}
+use Rattle.psabi_sym.specs.Invariants.Keys.{lent, names_of}
 use Rattle.psabi_sym.specs.Indexed.{all_symbols}
 use Rattle.psabi_sym.specs.Invariants.Meanings.{row_is_missing}
 use Rattle.psabi_sym.specs.Invariants.Numbered.{IsNumbered}
@@ -48,7 +48,7 @@ undefined {inputs} {meanings = meanings} named same_rows same_meanings used sear
     ∙ is)
 
 names_count : (c : After-deref) → length (names_of c.new.new.names) ≡ length c.as_slice-names.result.now
-names_count c = sym (ap length c.as_slice-names.ensures) ∙ length-map c.as_slice-names.result.now (λ (name : Bor (List ℕ)). name.now)
+names_count c = sym (ap length (ap lent c.as_slice-names.ensures.value ∙ c.into_texts-texts.ensures)) ∙ length-map c.as_slice-names.result.now (λ (name : Bor (List ℕ)). name.now)
 
 pub first_definitions-requires : goal.first_definitions-requires
 first_definitions-requires c = named_rows (row_defines 1) (definition_row_goes 1 refl) c.in_ok-symbols.ensures.rows c.deref.ensures.value (names_count (goal.at.first_definitions-requires c).After-deref)

@@ -1,12 +1,17 @@
 use Rattle.std.proofs.Common.{rules, refl, inr}
+use Rattle.psabi_sym.specs.Objects.{contents_of}
 use Rattle.zc_outside.specs.World.{world}
 use Rattle.zcld.proofs.trace.trace.Goals as goal
 
 pub returns-in-Ok : goal.returns-in-Ok
-returns-in-Ok g c = inr (inr (record {
-  between = world (g.S.Store.shown c.read_objects.new.store) (g.C.Console.shown c.args.console.now);
-  only = record { shelf = c.read_objects.ensures.reads; desk = refl };
-  read = search rules;
-  accepted = search rules;
-  work = record { shelf = refl; desk = search rules };
-}))
+returns-in-Ok g c = record {
+  files = contents_of c.read_objects.new.files.items;
+  line = refl;
+  does = inr (inr (record {
+    between = world (g.S.Store.shown c.read_objects.new.store) (g.C.Console.shown c.args.console.now);
+    only = record { shelf = c.read_objects.ensures.reads; desk = refl };
+    read = search rules;
+    accepted = search rules;
+    work = record { shelf = refl; desk = search rules };
+  }));
+}
