@@ -6,6 +6,7 @@
 
 use crate::call::zcld;
 use crate::outcome::status;
+use load_maker::make_objects::make_objects;
 use std::alloc::{AllocError, Global};
 use std::process::Abort;
 use std::test::Fail;
@@ -51,6 +52,23 @@ const PLAIN_IMAGE: &str = "\
 000000000d00000008000000030000000000100080000000000000000000000000000000040000000000000012000000
 0100000000000000000000008000000030000000000000000000000004000000000000001f0000000300000000000000
 00000000b00000002900000000000000000000000100000000000000";
+
+// What `zc` makes of two objects, of which the first calls a function of the second, and exits with 0. The function
+// writes `hi` and a line feed to standard output.
+const HELLO_IMAGE: &str = "\
+7f454c460101010000000000000000000200f3000100000000000100340000006c010000010000003400200002002800
+060005000100000074000000000001000000010020000000200000000500000004000000010000009400000000001000
+000010001000000010000000060000000400000029209308d0057300000042b80545b7051000ae850d46930800047300
+000042bc68690a0000000000000000000000000000000100000000000000010000000100080000000200010000000100
+0c0000000600010000000100100000000a00010001000100000000000a00010001000100080000000c00010001000100
+0c0000000e00010001000100100000001200010001000100140000001400010001000100180000001600010001000100
+1c0000001a00010001000100200000001e000100010001003000000020000100002e74657874002e64617461002e6273
+73002e7a636c642e706c61636573002e7368737472746162000000000000000000000000000000000000000000000000
+000000000000000000000000000000000000000001000000010000000600000000000100740000002000000000000000
+000000000400000000000000070000000100000003000000000010009400000010000000000000000000000004000000
+000000000d000000080000000300000010001000a4000000000000000000000000000000040000000000000012000000
+010000000000000000000000a40000009c000000000000000000000004000000000000001f0000000300000000000000
+00000000400100002900000000000000000000000100000000000000";
 
 // An object that reads four bytes to the stack, and writes as many as were read to standard output; then the
 // same again, to standard error; and then the exit.
@@ -122,6 +140,16 @@ const CERTIFICATE: &str = "zcld certificate 1\nprice 0 0 0\nnet 0\nend\n";
 const REPORT: &str = "\
 plain text 12\nzc text 10\nitems 3\nshort 1\nlong 0\npush 0\npop 0\nmove 0\ntable 0\nslots 0\nnet 0\n";
 
+/// What `make` writes of the object that it makes from 5 without functions.
+pub const SUMMARY: &str = "\
+functions 0\nobjects 1\nplain text 48\nzc text 38\nnet 0\nsteps 12\ncommits 12\n\
+trace 05000000 0\nplain 05000000 0\nzc 05000000 0\ncuts 05000000 0\n";
+
+// The same of the two objects with one function.
+const SUMMARY_OF_TWO: &str = "\
+functions 1\nobjects 2\nplain text 136\nzc text 86\nnet 0\nsteps 33\ncommits 30\n\
+trace bf153ffe 0\nplain bf153ffe 0\nzc bf153ffe 0\ncuts bf153ffe 0\n";
+
 // The number that a hexadecimal digit stands for.
 fn digit(digit: u8) -> u8 {
     match digit {
@@ -143,15 +171,34 @@ pub fn bytes_of(alloc: Global, digits: &str) -> Result<Vec<u8>, Fail> {
     Ok(bytes)
 }
 
-// The files of a call: `x` and `z` are the object, `image` is its image, `echo` and `echo.elf` are the other
-// program, `load.elf` is the image that loads, and `bad` is no ELF file; and the plans and certificates. The store's
-// calls with these numbers fail.
-fn store_of(alloc: Global, fails: &[u32]) -> Result<MemStore, Fail> {
-    let mut store = MemStore::new(alloc, fails)?;
+// The numbers after this letter in words like `s1`, which say what is special of a call.
+fn numbers(alloc: Global, special: &str, letter: &str) -> Result<Vec<u32>, Fail> {
+    let mut numbers = Vec::new(alloc);
+    for word in special.split(' ') {
+        if let Some(number) = word.strip_prefix(letter) {
+            numbers.push(number.parse::<u32>()?)?;
+        }
+    }
+    Ok(numbers)
+}
+
+// As many zeros as the number after this letter says, and none without it.
+fn zeros(alloc: Global, special: &str, letter: &str) -> Result<Vec<u8>, Fail> {
+    let numbers = numbers(alloc, special, letter)?;
+    let count = numbers.first().copied().unwrap_or(0);
+    Ok(vec![in alloc; 0; count as usize]?)
+}
+
+// The files of a call: `x` and `z` are the object, `image` is its image, `hello.elf` is the image that writes, `echo`
+// and `echo.elf` are the program that reads, `load.elf` is the image that loads, `bad` is no ELF file, and `zeros` has
+// as many zeros as `f` says; and the plans and certificates. The calls that `s` numbers fail.
+fn store_of(alloc: Global, special: &str) -> Result<MemStore, Fail> {
+    let mut store = MemStore::new(alloc, numbers(alloc, special, "s")?.as_slice())?;
     let files = [
         ("x", OBJECT),
         ("z", OBJECT),
         ("image", IMAGE),
+        ("hello.elf", HELLO_IMAGE),
         ("echo", ECHO),
         ("echo.elf", ECHO_IMAGE),
         ("load.elf", LOAD_IMAGE),
@@ -170,7 +217,20 @@ fn store_of(alloc: Global, fails: &[u32]) -> Result<MemStore, Fail> {
         let text = format!(in alloc; "{CALLS}{end}")?;
         store.add(name, text.as_bytes())?;
     }
+    store.add("zeros", zeros(alloc, special, "f")?.as_slice())?;
     Ok(store)
+}
+
+// The console of a call. Its input is `input`, or as many zeros as `i` says. The calls that `c` numbers fail.
+fn console_of(alloc: Global, special: &str) -> Result<MemConsole, Fail> {
+    let fails = numbers(alloc, special, "c")?;
+    let zeros = zeros(alloc, special, "i")?;
+    let input = if special.contains("i") {
+        zeros.as_slice()
+    } else {
+        b"input".as_slice()
+    };
+    Ok(MemConsole::new(alloc, input, fails.as_slice())?)
 }
 
 /// The words of a call, with one space between two.
@@ -182,20 +242,6 @@ pub fn words_of(alloc: Global, text: &str) -> Result<Vec<String>, AllocError> {
     Ok(words)
 }
 
-// The numbers after this letter, of one digit each: those of calls that fail, of the store after `s`, of the
-// console after `c`.
-fn numbers(alloc: Global, fails: &str, letter: &str) -> Result<Vec<u32>, Fail> {
-    let mut numbers = Vec::new(alloc);
-    for word in fails.as_bytes().chunks(3) {
-        if let [first, number, ..] = word {
-            if letter.as_bytes().first() == Some(first) {
-                numbers.push(u32::from(digit(*number)))?;
-            }
-        }
-    }
-    Ok(numbers)
-}
-
 // What stands under a name: nothing, what should stand there, or anything else.
 fn mark(store: &MemStore, name: &str, wanted: &[u8]) -> char {
     match store.file(name) {
@@ -205,36 +251,65 @@ fn mark(store: &MemStore, name: &str, wanted: &[u8]) -> char {
     }
 }
 
-// A text, or `report` for the report.
-fn named(text: &str) -> &str {
-    if text == REPORT { "report" } else { text }
+// Whether the two objects stand that `make` puts: those from 5, with the one function that the call says or without.
+fn object_marks(alloc: Global, call: &str, store: &MemStore) -> Result<(char, char), Fail> {
+    let objects = make_objects(alloc, 5, u32::from(call.contains(" 5 1")))?;
+    let first = objects.first().ok_or("no object")?;
+    let second = objects.get(1).unwrap_or(first);
+    Ok((
+        mark(store, "p0.o", first.as_slice()),
+        mark(store, "p1.o", second.as_slice()),
+    ))
 }
 
-// What a call leaves: whether the image `o` and the certificate `c` stand, its status, how many bytes of the
-// input, and what it wrote to standard output, by its name if it has one, and to standard error.
-fn left_by(alloc: Global, call: &str) -> Result<String, Fail> {
-    let (words, fails) = call.split_once(" with ").unwrap_or((call, ""));
-    let mut store = store_of(alloc, numbers(alloc, fails, "s")?.as_slice())?;
-    let console_fails = numbers(alloc, fails, "c")?;
-    let mut console = MemConsole::new(alloc, b"input", console_fails.as_slice())?;
-    let words = words_of(alloc, words)?;
-    let outcome = zcld(alloc, words.as_slice(), &mut store, &mut console);
-    let input = console.take(&mut [0; 8])?;
+// Whether the image `o` and the certificate `c` stand; in a call of `make` the objects `p0.o` and `p1.o`.
+fn marks(alloc: Global, call: &str, store: &MemStore) -> Result<(char, char), Fail> {
+    if call.starts_with("make") {
+        return object_marks(alloc, call, store);
+    }
     let image = if call.starts_with("plain") {
         PLAIN_IMAGE
     } else {
         IMAGE
     };
-    let image = mark(&store, "o", bytes_of(alloc, image)?.as_slice());
-    let certificate = mark(&store, "c", CERTIFICATE.as_bytes());
+    Ok((
+        mark(store, "o", bytes_of(alloc, image)?.as_slice()),
+        mark(store, "c", CERTIFICATE.as_bytes()),
+    ))
+}
+
+// A text, or its name if it is the report or a summary.
+fn named(text: &str) -> &str {
+    if text == REPORT {
+        "report"
+    } else if text == SUMMARY {
+        "summary"
+    } else if text == SUMMARY_OF_TWO {
+        "summary of two"
+    } else {
+        text
+    }
+}
+
+// What a call leaves: whether the files that it may put stand, its status, how many bytes of the input, of at most
+// eight, and what it wrote to standard output, by its name if it has one, and to standard error.
+fn left_by(alloc: Global, call: &str) -> Result<String, Fail> {
+    let (words, special) = call.split_once(" with ").unwrap_or((call, ""));
+    let mut store = store_of(alloc, special)?;
+    let mut console = console_of(alloc, special)?;
+    let words = words_of(alloc, words)?;
+    let outcome = zcld(alloc, words.as_slice(), &mut store, &mut console);
+    let input = console.take(&mut [0; 8])?;
+    let (first, second) = marks(alloc, call, &store)?;
     let status = status(&outcome);
     let out = named(str::from_utf8(console.out_bytes())?);
     let err = str::from_utf8(console.err_bytes())?;
-    Ok(format!(in alloc; "{image}{certificate} {status} {input} {out:?} {err:?}")?)
+    Ok(format!(in alloc; "{first}{second} {status} {input} {out:?} {err:?}")?)
 }
 
-/// Makes the call of each line, which should leave what stands after its arrow, as `left_by` says it. The calls of
-/// the store and of the console that fail stand after `with`. The console has an input of five bytes.
+/// Makes the call of each line, which should leave what stands after its arrow, as `left_by` says it. What is special
+/// of a call stands after `with`: which calls of the store and of the console fail, and how long the file `zeros` and
+/// the input are, as in `s1 c0 f4194305 i0`. Without `i` the input has five bytes.
 pub fn expect<R: Abort + AllocGlobal>(rt: &R, lines: &str) -> Result<(), Fail> {
     for line in lines.lines() {
         let (call, wanted) = line.split_once(" => ").ok_or("no arrow")?;

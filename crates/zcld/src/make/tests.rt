@@ -1,16 +1,12 @@
 // What the command `make` puts, writes and says.
 
 use crate::call::zcld;
-use crate::fixture::{bytes_of, expect, words_of};
+use crate::fixture::{SUMMARY, bytes_of, expect, words_of};
 use crate::outcome::status;
 use std::alloc::Global;
 use std::test::Fail;
 use zc_outside::mem_console::MemConsole;
 use zc_outside::mem_store::MemStore;
-
-const SUMMARY: &str = "\
-functions 0\nobjects 1\nplain text 48\nzc text 38\nnet 0\nsteps 12\ncommits 12\n\
-trace 05000000 0\nplain 05000000 0\nzc 05000000 0\ncuts 05000000 0\n";
 
 // The status of a call over this store, and what it wrote to standard output.
 fn call(alloc: Global, words: &str, store: &mut MemStore) -> Result<(u8, Vec<u8>), Fail> {
@@ -91,11 +87,25 @@ fn last_lines(summary: &str) -> Option<(u64, &str)> {
     Some((commits?, exit?))
 }
 
-// The store's call 0 puts the object, and the console's call 0 writes the summary, or else a line.
+// The store's calls put the objects, one each, and the console's call 0 writes the summary, or else a line.
 #[test]
-fn the_objects_are_put_before_the_summary_is_written(rt: HostRuntime) -> Result<(), Fail> {
-    let lines = r#"make --out p 5 0 with s0 => -- 123 5 "" "write fault\n"
-make --out p 5 0 with c0 => -- 123 5 "" "write fault\n"
-make 5 0 with c0 c1 => -- 123 5 "" """#;
+fn the_objects_are_put_in_turn_and_then_the_summary_is_written(
+    rt: HostRuntime,
+) -> Result<(), Fail> {
+    let lines = r#"make --out p 5 0 => +- 0 5 "summary" ""
+make --out p 5 0 with s1 c2 => +- 0 5 "summary" ""
+make --out p 5 0 with s0 => -- 123 5 "" "write fault\n"
+make --out p 5 0 with c0 => +- 123 5 "" "write fault\n"
+make --out p 5 0 with s0 c0 => -- 123 5 "" ""
+make --out p 5 0 with c0 c1 => +- 123 5 "" ""
+make --out p 5 1 with s2 c2 => ++ 0 5 "summary of two" ""
+make --out p 5 1 with s0 => -- 123 5 "" "write fault\n"
+make --out p 5 1 with s1 => +- 123 5 "" "write fault\n"
+make --out p 5 1 with c0 => ++ 123 5 "" "write fault\n"
+make --out p 5 1 with s1 c0 => +- 123 5 "" ""
+make 5 0 with s0 => -- 0 5 "summary" ""
+make 5 0 with c0 => -- 123 5 "" "write fault\n"
+make 5 0 with c0 c1 => -- 123 5 "" ""
+make 5 1601 with c0 => -- 120 5 "" """#;
     expect(&rt, lines)
 }

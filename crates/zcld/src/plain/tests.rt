@@ -13,6 +13,7 @@ plain --out o y => -- 122 5 "" "read fault\n"
 plain --out o x with s0 => -- 122 5 "" "read fault\n"
 plain --out o x with s1 => -- 123 5 "" "write fault\n"
 plain --out o x with c0 => +- 123 5 "" "write fault\n"
+plain --out o bad with c0 => -- 121 5 "" ""
 plain --out o x with s0 c0 => -- 122 5 "" ""
 plain --out o x with s1 c0 => -- 123 5 "" ""
 plain --out o x with c0 c1 => +- 123 5 "" """#;

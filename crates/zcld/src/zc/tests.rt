@@ -8,6 +8,7 @@ use std::test::Fail;
 #[test]
 fn files_are_put_in_turn_and_then_the_report_is_written(rt: HostRuntime) -> Result<(), Fail> {
     let lines = r#"zc --out o --cert o x => -- 120 5 "" "usage\n"
+zc --out o --cert o x with c0 => -- 120 5 "" ""
 zc --out o --cert c x => ++ 0 5 "report" ""
 zc --cert c --out o x with s3 c2 => ++ 0 5 "report" ""
 zc --out o --cert c y => -- 122 5 "" "read fault\n"
@@ -28,6 +29,12 @@ fn all_objects_are_read_and_then_judged(rt: HostRuntime) -> Result<(), Fail> {
     let lines = r#"zc --out o --cert c bad x with s1 => -- 122 5 "" "read fault\n"
 plain --out o bad x with s1 => -- 122 5 "" "read fault\n"
 trace bad x with s1 => -- 122 5 "" "read fault\n"
+zc --out o --cert c zeros with f4194304 => -- 121 5 "" "refused 0 1 NotElf\n"
+zc --out o --cert c zeros with f4194305 => -- 122 5 "" "read fault\n"
+plain --out o zeros with f4194304 => -- 121 5 "" "refused 0 1 NotElf\n"
+plain --out o zeros with f4194305 => -- 122 5 "" "read fault\n"
+trace zeros with f4194304 => -- 121 5 "" "refused 0 1 NotElf\n"
+trace zeros with f4194305 => -- 122 5 "" "read fault\n"
 zc --out o --cert c x bad => -- 121 5 "" "refused 1 1 NotElf\n"
 zc --out o --cert c x bad with c0 => -- 121 5 "" ""
 zc --out o --cert c x z => -- 121 5 "" "refused 1 9 Duplicate _start\n"
