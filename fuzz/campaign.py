@@ -1,7 +1,8 @@
 #!/usr/bin/env python3
 """Calls all six commands with mutated objects, lists, images, plans, certificates and words.
 
-    fuzz/campaign.py [--seed S] [--compare N] [--look N] [--seconds T] [--only CASE] [--limit T] [--keep FOLDER] [PROGRAM]
+    fuzz/campaign.py [--seed S] [--compare N] [--look N] [--seconds T] [--jobs N] [--only CASE] [--limit T] [--keep FOLDER]
+                     [PROGRAM]
 
 PROGRAM is build/zcld if none is given. A case is fixed by the seed, by whether it is compared or looked at, and by its number.
 It takes files of the corpus, or makes some, and mutates them or not: the objects in examples/, those that the other scripts
@@ -14,12 +15,14 @@ with made_load.py; a file that is too long is a read fault. Of N more cases only
 within the limit of seconds by the clock, and its status has its line at the end of standard error (docs/FORMATS.md, "Messages
 on standard error, and the status").
 
-Half of T seconds at most goes to cases that are compared, if both are asked for. It prints how many calls came to what. The
-status is 1 if a case failed. FOLDER then has its files.
+Half of T seconds at most goes to cases that are compared, if both are asked for. N processes share the cases, one if none is
+given; files of calls are in the system's folder for these ($TMPDIR), and calls end sooner if that is in memory. It prints how
+many calls came to what. The status is 1 if a case failed. FOLDER then has its files.
 """
 import argparse
 import collections
 import glob
+import multiprocessing
 import os
 import random
 import re
@@ -410,12 +413,18 @@ class Campaign:
             write(os.path.join(folder, name), data)
         return folder
 
-    def all(self, mode, corpus, count, seconds):
+    def all(self, mode, corpus, numbers, seconds):
         end = time.monotonic() + seconds
-        for number in range(count) if self.given.only is None else (self.given.only,):
+        for number in numbers:
             if time.monotonic() > end:
                 break
             self.make(mode, corpus, number)
+
+    def add(self, other):
+        """Adds the counts of another one."""
+        self.counts.update(other.counts)
+        self.made.update(other.made)
+        self.wrong, self.slowest = self.wrong + other.wrong, max(self.slowest, other.slowest)
 
     def say(self, seconds):
         print(f'seed {self.given.seed}: {self.made["compare"]} calls compared and {self.made["look"]} looked at in '
@@ -425,6 +434,20 @@ class Campaign:
         print(f'{self.wrong} wrong')
 
 
+def share(program, given, job):
+    """The campaign of one of the processes: of each kind the cases with its number, and then every N-th."""
+    campaign, begun = Campaign(program, given), time.monotonic()
+
+    def numbers(count):
+        return range(job, count, given.jobs) if given.only is None else (given.only,)
+
+    if given.compare:
+        campaign.all('compare', Corpus(), numbers(given.compare), given.seconds / 2 if given.look else given.seconds)
+    if given.look:
+        campaign.all('look', Pool(given.seed), numbers(given.look), given.seconds - (time.monotonic() - begun))
+    return campaign
+
+
 def main():
     arguments = argparse.ArgumentParser(description='Calls all commands with mutated files and words.')
     arguments.add_argument('program', nargs='?', default=programs.BUILT)
@@ -432,16 +455,17 @@ def main():
     arguments.add_argument('--compare', type=int, default=1000, metavar='N')
     arguments.add_argument('--look', type=int, default=1000, metavar='N')
     arguments.add_argument('--seconds', type=float, default=600)
+    arguments.add_argument('--jobs', type=int, default=1, metavar='N')
     arguments.add_argument('--only', type=int, help='one case of each, by its number')
     arguments.add_argument('--limit', type=float, default=20, help='the seconds by the clock that a call may take')
     arguments.add_argument('--keep', default=os.path.join('build', 'fuzz'))
     given = arguments.parse_args()
-    begun = time.monotonic()
-    campaign = Campaign(programs.built(given.program), given)
-    if given.compare:
-        campaign.all('compare', Corpus(), given.compare, given.seconds / 2 if given.look else given.seconds)
-    if given.look:
-        campaign.all('look', Pool(given.seed), given.look, given.seconds - (time.monotonic() - begun))
+    given.jobs = given.jobs if given.only is None else 1
+    begun, program = time.monotonic(), programs.built(given.program)
+    campaign = Campaign(program, given)
+    with multiprocessing.Pool(given.jobs) as pool:
+        for part in pool.starmap(share, [(program, given, job) for job in range(given.jobs)]):
+            campaign.add(part)
     campaign.say(time.monotonic() - begun)
     return campaign.wrong > 0
 

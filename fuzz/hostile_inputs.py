@@ -21,6 +21,7 @@ import threading
 
 sys.path.insert(0, os.path.join(os.path.dirname(os.path.abspath(__file__)), os.pardir, 'scripts'))
 
+from costly_objects import WITHIN, write_list
 from zcld_tools import programs
 from zcld_tools.elf import (ALIGN, DATA_FLAGS, EXECUTABLE, EXECUTE, HEADER, LOCAL, PCREL_HI20, PCREL_LO12_I, PROGRAM_HEADER,
                             READABLE, RELAX, R_32, WRITABLE, Part, file_header)
@@ -87,7 +88,7 @@ def hints():
     return [object_with(*WORDS)[0].bytes(), *[made.bytes()] * 8]
 
 
-OBJECTS = {
+OBJECTS = WITHIN | {
     '65,000 low parts': low_parts, '21,000 paddings': alignments, '1,000 sections aligned to 256': aligned_sections,
     'data words upwards': lambda: data_words(lambda relocs: None), 'data words downwards': lambda: data_words(list.reverse),
     'data words in random order': lambda: data_words(random.Random(1).shuffle), '2.76 million hints': hints}
@@ -235,10 +236,7 @@ def main():
         for name in filter(is_asked, OBJECTS):
             files = OBJECTS[name]()
             assert all(len(data) <= OBJECT_LIMIT for data in files), name
-            names = [f'{k}.o' for k in range(len(files))]
-            for file, data in zip(names, files):
-                write(os.path.join(folder, file), data)
-            calls.links(name, names)
+            calls.links(name, write_list(folder, files))
         for name in filter(is_asked, IMAGES):
             write(os.path.join(folder, 'image'), IMAGES[name]())
             calls.say(name, ['run', 'image'])

@@ -167,7 +167,8 @@ def check_memory(group):
     objects = made_objects(7, 40)
     done, folder, seen = (0, summary(7, 40), b''), group.folder(), set()
     start = memories(folder)[0]
-    for memory in range(start, start + 8 * MIB, MIB // 8):
+    # the symbolic machine reserves addresses for all pages of its stack, which are 22 MiB
+    for memory in (*range(start, start + 8 * MIB, MIB // 8), *range(start + 8 * MIB, start + 40 * MIB, MIB)):
         for name in named('p', objects):
             folder.write(name, OLD)
         ended = make(folder, 7, 40, '--out', 'p', first=in_memory(memory))
