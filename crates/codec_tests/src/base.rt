@@ -1,5 +1,8 @@
 // Fields of bytes, the memory map, and the order of places.
 
+use crate::rows::{cut, expect, word};
+use std::alloc::Global;
+use std::test::Fail;
 use zc_base::fields::{put_u16, put_u32, u16_at, u32_at};
 use zc_base::mem_map::MemMap;
 use zc_base::place::Place;
@@ -19,6 +22,39 @@ fn the_standard_map_has_room_for_text_and_a_stack_of_a_megabyte(rt: HostRuntime)
     let map = MemMap::standard();
     let (text, stack) = (map.data_low - map.text, map.stack_high - map.stack_low);
     assert!(rt; text == 0xF_0000 && stack == 0x10_0000);
+}
+
+/// Where text, data and both ends of the stack lie in the map of three addresses, or none.
+pub fn map_of(alloc: Global, given: &str) -> Result<String, Fail> {
+    let (text, rest) = cut(given);
+    let (data_low, stack) = cut(rest);
+    let Some(map) = MemMap::checked(word(text)?, word(data_low)?, word(stack)?) else {
+        return Ok(String::from_str(alloc, "none")?);
+    };
+    let code = format!(in alloc; "{:08X} {:08X}", map.text, map.data_low)?;
+    Ok(format!(in alloc; "{code} {:08X} {:08X}", map.stack_low, map.stack_high)?)
+}
+
+const MAPS: &str =
+    "00010000 00100000 10000000 = 00010000 00100000 0FF00000 10000000 | the standard map
+20000000 80000000 80500000 = 20000000 80000000 80400000 80500000 | flash, and RAM above 2 GiB
+00001000 000F1000 005F1000 = 00001000 000F1000 004F1000 005F1000 | the lowest
+FFA0F000 FFAFF000 FFFFF000 = FFA0F000 FFAFF000 FFEFF000 FFFFF000 | the highest
+00001000 000F1000 FFFFF000 = 00001000 000F1000 FFEFF000 FFFFF000 | the most room
+00000000 000F1000 005F1000 = none | text at address 0
+00001000 000F0000 005F1000 = none | a page too few for code
+00001000 000F1000 005F0000 = none | and for data
+00001800 000F2000 005F2000 = none | text amid a page
+00001000 000F1004 005F2000 = none | data amid a page
+00001000 000F1000 005F1800 = none | a stack that ends amid a page
+FFF20000 00010000 10000000 = none | room for code passes the end of the addresses
+00010000 FFC00000 10000000 = none | room for data does
+10000000 00100000 20000000 = none | data below text
+00010000 20000000 10000000 = none | the stack below data";
+
+#[test]
+fn three_addresses_give_a_map_if_everything_has_room(rt: HostRuntime) -> Result<(), Fail> {
+    expect(&rt, "map", MAPS)
 }
 
 fn place(object: u16, section: u16, offset: u32) -> Place {

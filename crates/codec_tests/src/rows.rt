@@ -3,6 +3,7 @@
 // The check proves each test, and pays there for each assertion and each row of a table. So rows are lines of
 // a text, and what is asserted of them stands here.
 
+use crate::base::map_of;
 use crate::forms::long_form;
 use crate::halfwords::{halfword, spelled};
 use crate::relocs::{call_with, fitting, kind, parts, put, reaching};
@@ -36,6 +37,7 @@ fn answer(alloc: Global, call: &str, given: &str) -> Result<String, Fail> {
         "parts" => parts(alloc, given),
         "reaches" => reaching(alloc, given),
         "put_call" => call_with(alloc, given),
+        "map" => map_of(alloc, given),
         _ => put(alloc, call, given),
     }
 }

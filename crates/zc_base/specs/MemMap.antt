@@ -1,5 +1,5 @@
 -- Where the memory of a program lies.
-use Rattle.std.specs.Prelude.{◌≡◌, ◌+◌, ◌%◌, ◌^◌, ◌<◌, ◌≤◌}
+use Rattle.std.specs.Prelude.{◌≡◌, ℕ, ◌+◌, ◌-◌, ◌%◌, ◌^◌, ◌<◌, ◌≤◌, Bool, ◌&&◌, ◌==◌, nat_le, if◌then◌else◌, Option, Some, None}
 use Rattle.zc_base.specs.declared.mem_map.MemMap.{MemMap}
 
 -- the map that the linker uses if it is told no other
@@ -17,3 +17,20 @@ pub record IsMap (map : MemMap) : Type 0 where
   pub data_room : map.data_low + 0x0050_0000 ≤ map.stack_high
   pub stack : map.stack_low + 0x0010_0000 ≡ map.stack_high
   pub top : map.stack_high < 2 ^ 32
+
+-- where a page begins
+abbrev pub is_page : ℕ → Bool
+is_page address = address % 4096 == 0
+
+-- a map for code, data and the top of the stack: each at a page, code not at address 0 and with its room below data, and data with
+-- theirs below the top of the stack
+abbrev pub is_map_at : ℕ → ℕ → ℕ → Bool
+is_map_at text data_low stack =
+    is_page text && is_page data_low && is_page stack && nat_le 1 text && nat_le (text + 0x000F_0000) data_low
+    && nat_le (data_low + 0x0050_0000) stack
+
+-- the map that these three addresses give, if they give one: its stack is the 1 MiB below the top
+unfoldable pub checked_map : ℕ → ℕ → ℕ → Option MemMap
+checked_map text data_low stack =
+    if is_map_at text data_low stack then
+    Some (record { text = text; data_low = data_low; stack_low = stack - 0x0010_0000; stack_high = stack }) else None
