@@ -1,7 +1,10 @@
 -- What lines of words spell, and that others spell nothing.
 use Rattle.std.proofs.Common.{◌≡◌, refl, ℕ, List, [], ◌∷◌, map, Some, None, codes, if◌then◌else◌}
-use Rattle.std.specs.Prelude.{◌==◌}
+use Rattle.std.specs.Prelude.{◌==◌, ◌-◌}
 use Rattle.clap.specs.Walk.{Text}
+use Rattle.text_lines.specs.Number.{if_text_of}
+use Rattle.zc_base.specs.MemMap.{checked_map, standard_map}
+use Rattle.zc_base.specs.declared.mem_map.MemMap.{MemMap}
 use Rattle.clap.proofs.OnLiterals.{clap_on_literals}
 use Rattle.command_words.specs.Command.{Check, Command, Make, Plain, Run, Trace, Zc, command_of, read_by_clap}
 use Rattle.command_words.specs.Table.{program_app}
@@ -32,28 +35,57 @@ none =
     ∷ codes "run --steps 1000000001 i" ∷ codes "run --steps 000000000000000000005 i" ∷ codes "trace --steps 5" ∷ codes "check c d"
     ∷ codes "make 5" ∷ codes "make 5 0 0" ∷ codes "make 18446744073709551616 0" ∷ codes "make 5 1601" ∷ codes "make --steps 5 5 0" ∷ []
 
+-- addresses that have another form, or that give no map, and options that are given twice or that a command doesn't have
+abbrev no_map : List Text
+no_map =
+    codes "run --text 00000000 i" ∷ codes "run --text 0000f800 i" ∷ codes "run --text 00011000 i" ∷ codes "run --text 08000000 --data 080e0000 i"
+    ∷ codes "run --data 0fb01000 i" ∷ codes "run --stack 1 i" ∷ codes "run --stack 0ffff800 i" ∷ codes "run --stack= i" ∷ codes "run --stack 000100000 i"
+    ∷ codes "run --stack 0FF00000 i" ∷ codes "run --stack +ff00000 i" ∷ codes "run --stack 0xff0000 i" ∷ codes "run --text fff20000 --data 00010000 i"
+    ∷ codes "plain --text 0001000 --out a x.o" ∷ codes "zc --data 0010000g --out a --cert c x.o" ∷ codes "trace --stack 00001000 x.o"
+    ∷ codes "trace --text 00010000 --text 00010000 x.o" ∷ codes "run --data --stack i" ∷ codes "check --text 00010000 c" ∷ codes "make --data 00100000 5 0" ∷ []
+
 none_spelled : map (λ line. command_of (words_of line)) none ≡ map (λ line. None) none
-unfolding program_app read_by_clap clap_on_literals
+unfolding program_app read_by_clap clap_on_literals checked_map if_text_of
 none_spelled = refl
+
+no_map_spelled : map (λ line. command_of (words_of line)) no_map ≡ map (λ line. None) no_map
+unfolding program_app read_by_clap clap_on_literals checked_map if_text_of
+no_map_spelled = refl
 
 abbrev some : List (Text × Command)
 some =
-    (codes "plain --out a x.o", Plain (codes "a") (codes "x.o" ∷ []))
-    ∷ (codes "plain x.o --out=a y.o", Plain (codes "a") (codes "x.o" ∷ codes "y.o" ∷ []))
-    ∷ (codes "plain --out= x.o", Plain [] (codes "x.o" ∷ []))
-    ∷ (codes "plain --out=-a x.o", Plain (codes "-a") (codes "x.o" ∷ []))
-    ∷ (codes "plain --out - -", Plain (codes "-") (codes "-" ∷ []))
-    ∷ (codes "plain --out a -- --out b", Plain (codes "a") (codes "--out" ∷ codes "b" ∷ []))
-    ∷ (codes "plain --out help zc", Plain (codes "help") (codes "zc" ∷ []))
-    ∷ (codes "zc --cert ./a --out a x.o x.o", Zc (codes "a") (codes "./a") (codes "x.o" ∷ codes "x.o" ∷ []))
-    ∷ (codes "run i", Run None 10000000 (codes "i"))
-    ∷ (codes "run --steps=0 i --plan p", Run (Some (codes "p")) 0 (codes "i"))
-    ∷ (codes "run --steps 00000000001000000000 i", Run None 1000000000 (codes "i"))
-    ∷ (codes "trace --steps 5 x.o", Trace 5 (codes "x.o" ∷ []))
+    (codes "plain --out a x.o", Plain standard_map (codes "a") (codes "x.o" ∷ []))
+    ∷ (codes "plain x.o --out=a y.o", Plain standard_map (codes "a") (codes "x.o" ∷ codes "y.o" ∷ []))
+    ∷ (codes "plain --out= x.o", Plain standard_map [] (codes "x.o" ∷ []))
+    ∷ (codes "plain --out=-a x.o", Plain standard_map (codes "-a") (codes "x.o" ∷ []))
+    ∷ (codes "plain --out - -", Plain standard_map (codes "-") (codes "-" ∷ []))
+    ∷ (codes "plain --out a -- --out b", Plain standard_map (codes "a") (codes "--out" ∷ codes "b" ∷ []))
+    ∷ (codes "plain --out help zc", Plain standard_map (codes "help") (codes "zc" ∷ []))
+    ∷ (codes "zc --cert ./a --out a x.o x.o", Zc standard_map (codes "a") (codes "./a") (codes "x.o" ∷ codes "x.o" ∷ []))
+    ∷ (codes "run i", Run standard_map None 10000000 (codes "i"))
+    ∷ (codes "run --steps=0 i --plan p", Run standard_map (Some (codes "p")) 0 (codes "i"))
+    ∷ (codes "run --steps 00000000001000000000 i", Run standard_map None 1000000000 (codes "i"))
+    ∷ (codes "trace --steps 5 x.o", Trace standard_map 5 (codes "x.o" ∷ []))
     ∷ (codes "check c", Check (codes "c"))
     ∷ (codes "make 5 0", Make None 5 0)
     ∷ (codes "make --out p 18446744073709551615 1600", Make (Some (codes "p")) 18446744073709551615 1600) ∷ []
 
 some_spelled : map (λ row. command_of (words_of row.0)) some ≡ map (λ row. Some row.1) some
-unfolding program_app read_by_clap clap_on_literals
+unfolding program_app read_by_clap clap_on_literals checked_map if_text_of
 some_spelled = refl
+
+-- the map with the stack in the MiB below an address
+abbrev map_at : ℕ → ℕ → ℕ → MemMap
+map_at text low stack = record { text = text; data_low = low; stack_low = stack - 0x0010_0000; stack_high = stack }
+
+abbrev some_map : List (Text × Command)
+some_map =
+    (codes "plain --text 08000000 --data 20000000 --stack 20600000 --out a x.o", Plain (map_at 0x0800_0000 0x2000_0000 0x2060_0000) (codes "a") (codes "x.o" ∷ []))
+    ∷ (codes "zc --out a x.o --stack=005f1000 --cert c --data=000f1000 --text=00001000", Zc (map_at 0x1000 0x000F_1000 0x005F_1000) (codes "a") (codes "c") (codes "x.o" ∷ []))
+    ∷ (codes "run --stack fffff000 i", Run (map_at 0x0001_0000 0x0010_0000 0xFFFF_F000) None 10000000 (codes "i"))
+    ∷ (codes "run --text ffa0f000 --data ffaff000 --stack fffff000 i", Run (map_at 0xFFA0_F000 0xFFAF_F000 0xFFFF_F000) None 10000000 (codes "i"))
+    ∷ (codes "trace --text 00010000 --data 00100000 x.o --stack 10000000", Trace standard_map 10000000 (codes "x.o" ∷ [])) ∷ []
+
+some_map_spelled : map (λ row. command_of (words_of row.0)) some_map ≡ map (λ row. Some row.1) some_map
+unfolding program_app read_by_clap clap_on_literals checked_map if_text_of
+some_map_spelled = refl

@@ -1,5 +1,5 @@
 -- The command that the words of the command line spell, by clap's own definition of how such a command reads words.
-use Rattle.std.specs.Prelude.{ℕ, ◌-◌, ◌^◌, if◌then◌else◌, List, [], ◌∷◌, ◌++◌, map, find, Option, Some, None, String, unwrap_or}
+use Rattle.std.specs.Prelude.{ℕ, ⊤, ◌-◌, ◌^◌, if◌then◌else◌, List, [], ◌∷◌, ◌++◌, map, find, Option, Some, None, String, unwrap_or}
 use Rattle.std.specs.Option.{option_and_then, option_copied, option_map}
 use Rattle.std.specs.Str.{bytes_eq}
 use Rattle.std.specs.String.{string_bytes}
@@ -7,20 +7,23 @@ use Rattle.clap.specs.Faults.{fault_of}
 use Rattle.clap.specs.Kinds.{Kinds}
 use Rattle.clap.specs.Simple.{App, subcommand_of}
 use Rattle.clap.specs.Walk.{Row, Text, all_of, first_of}
+use Rattle.zc_base.specs.MemMap.{IsMap}
+use Rattle.zc_base.specs.declared.mem_map.MemMap.{MemMap}
 use Rattle.command_words.specs.declared.command_line.TheConstants.{MOST_FUNCTIONS, MOST_STEPS, USUAL_STEPS}
 use Rattle.command_words.specs.declared.command_line.CommandLine.{CommandLine}
 use Rattle.command_words.specs.declared.command_line.CommandLine.TheVariants as line
 use Rattle.command_words.specs.declared.command_line.MakeArgs.{MakeArgs}
 use Rattle.command_words.specs.declared.command_line.RunArgs.{RunArgs}
+use Rattle.command_words.specs.MapWords.{map_given}
 use Rattle.command_words.specs.Number.{number_up_to}
 use Rattle.command_words.specs.Table.{OptionSyntax, PositionalSyntax, Syntax, check_syntax, make_syntax, plain_syntax, program_app, run_syntax, trace_syntax, zc_syntax}
 
--- a command, with the names of its files and its numbers
+-- a command, with the memory map that it works in, the names of its files, and its numbers
 pub data Command : Type 0 where
-  Plain : (out : Text) (objects : List Text) → Command
-  Zc : (out cert : Text) (objects : List Text) → Command
-  Run : (plan : Option Text) (steps : ℕ) (image : Text) → Command
-  Trace : (steps : ℕ) (objects : List Text) → Command
+  Plain : (map : MemMap) (out : Text) (objects : List Text) → Command
+  Zc : (map : MemMap) (out cert : Text) (objects : List Text) → Command
+  Run : (map : MemMap) (plan : Option Text) (steps : ℕ) (image : Text) → Command
+  Trace : (map : MemMap) (steps : ℕ) (objects : List Text) → Command
   Check : (cert : Text) → Command
   Make : (prefix : Option Text) (number functions : ℕ) → Command
 
@@ -66,24 +69,28 @@ abbrev pub steps_given : Option Text → Option ℕ
 steps_given (Some word) = number_up_to MOST_STEPS word
 steps_given None = Some USUAL_STEPS
 
--- `plain` of its objects
+-- `plain` of its objects, in the map of its options
 abbrev pub plain_of : Spelled → Option Command
-plain_of (Words (Some out ∷ []) objects) = Some (Plain out objects)
+plain_of (Words (text ∷ low ∷ stack ∷ Some out ∷ []) objects) =
+    option_map (λ memory. Plain memory out objects) (map_given text low stack)
 plain_of other = None
 
--- `zc`, whose OUT and CERT differ
+-- `zc` of its objects in that map; OUT and CERT differ
 abbrev pub zc_of : Spelled → Option Command
-zc_of (Words (Some out ∷ Some cert ∷ []) objects) = if bytes_eq out cert then None else Some (Zc out cert objects)
+zc_of (Words (text ∷ low ∷ stack ∷ Some out ∷ Some cert ∷ []) objects) =
+    if bytes_eq out cert then None else option_map (λ memory. Zc memory out cert objects) (map_given text low stack)
 zc_of other = None
 
--- `run` of its image, under the plan if there is one
+-- `run` of its image in that map, under the plan if there is one
 abbrev pub run_of : Spelled → Option Command
-run_of (Words (plan ∷ steps ∷ []) (image ∷ [])) = option_map (λ n. Run plan n image) (steps_given steps)
+run_of (Words (text ∷ low ∷ stack ∷ plan ∷ steps ∷ []) (image ∷ [])) =
+    option_and_then (λ memory. option_map (λ n. Run memory plan n image) (steps_given steps)) (map_given text low stack)
 run_of other = None
 
--- `trace` of its objects
+-- `trace` of its objects in that map
 abbrev pub trace_of : Spelled → Option Command
-trace_of (Words (steps ∷ []) objects) = option_map (λ n. Trace n objects) (steps_given steps)
+trace_of (Words (text ∷ low ∷ stack ∷ steps ∷ []) objects) =
+    option_and_then (λ memory. option_map (λ n. Trace memory n objects) (steps_given steps)) (map_given text low stack)
 trace_of other = None
 
 -- `check` of its certificate
@@ -129,7 +136,7 @@ texts words = map string_bytes words
 
 -- the words of `run`
 abbrev pub run_meant : RunArgs → Command
-run_meant args = Run (option_copied args.plan) args.steps args.image.now
+run_meant args = Run args.map (option_copied args.plan) args.steps args.image.now
 
 -- the words of `make`
 abbrev pub make_meant : MakeArgs → Command
@@ -137,9 +144,18 @@ make_meant args = Make (option_copied args.prefix) args.number args.functions
 
 -- a command
 abbrev pub meant : CommandLine → Command
-meant (line.Plain out objects) = Plain out.now (texts objects.items)
-meant (line.Zc out cert objects) = Zc out.now cert.now (texts objects.items)
+meant (line.Plain memory out objects) = Plain memory out.now (texts objects.items)
+meant (line.Zc memory out cert objects) = Zc memory out.now cert.now (texts objects.items)
 meant (line.Run args) = run_meant args
-meant (line.Trace steps objects) = Trace steps (texts objects.items)
+meant (line.Trace memory steps objects) = Trace memory steps (texts objects.items)
 meant (line.Check cert) = Check cert.now
 meant (line.Make args) = make_meant args
+
+-- a command's map, if it has one, is one that a link may be made for
+abbrev pub HasMap : CommandLine → Type 0
+HasMap (line.Plain memory out objects) = IsMap memory
+HasMap (line.Zc memory out cert objects) = IsMap memory
+HasMap (line.Run args) = IsMap args.map
+HasMap (line.Trace memory steps objects) = IsMap memory
+HasMap (line.Check cert) = ⊤
+HasMap (line.Make args) = ⊤

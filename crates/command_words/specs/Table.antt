@@ -41,35 +41,39 @@ one name = record { name = name; several = false }
 abbrev pub several : Text → PositionalSyntax
 several name = record { name = name; several = true }
 
--- `plain --out OUT OBJ...`
+-- `[--text A] [--data A] [--stack A]`, before other options
+abbrev pub with_map : List OptionSyntax → List OptionSyntax
+with_map options = optional (codes "text") ∷ optional (codes "data") ∷ optional (codes "stack") ∷ options
+
+-- `plain [--text A] [--data A] [--stack A] --out OUT OBJ...`
 abbrev pub plain_syntax : Syntax
 plain_syntax = record {
   name = codes "plain";
-  options = required (codes "out") ∷ [];
+  options = with_map (required (codes "out") ∷ []);
   positionals = several (codes "OBJ") ∷ [];
 }
 
--- `zc --out OUT --cert CERT OBJ...`
+-- `zc [--text A] [--data A] [--stack A] --out OUT --cert CERT OBJ...`
 abbrev pub zc_syntax : Syntax
 zc_syntax = record {
   name = codes "zc";
-  options = required (codes "out") ∷ required (codes "cert") ∷ [];
+  options = with_map (required (codes "out") ∷ required (codes "cert") ∷ []);
   positionals = several (codes "OBJ") ∷ [];
 }
 
--- `run [--plan PLAN] [--steps N] IMAGE`
+-- `run [--text A] [--data A] [--stack A] [--plan PLAN] [--steps N] IMAGE`
 abbrev pub run_syntax : Syntax
 run_syntax = record {
   name = codes "run";
-  options = optional (codes "plan") ∷ optional (codes "steps") ∷ [];
+  options = with_map (optional (codes "plan") ∷ optional (codes "steps") ∷ []);
   positionals = one (codes "IMAGE") ∷ [];
 }
 
--- `trace [--steps N] OBJ...`
+-- `trace [--text A] [--data A] [--stack A] [--steps N] OBJ...`
 abbrev pub trace_syntax : Syntax
 trace_syntax = record {
   name = codes "trace";
-  options = optional (codes "steps") ∷ [];
+  options = with_map (optional (codes "steps") ∷ []);
   positionals = several (codes "OBJ") ∷ [];
 }
 

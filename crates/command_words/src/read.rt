@@ -1,12 +1,14 @@
 // The command that words spell.
 
-ghost use Rattle.std.specs.Prelude.{◌≡◌, IfOk, [], codes, map, option_map, unwrap_or};
+ghost use Rattle.std.specs.Prelude.{◌≡◌, IfOk, IfSome, [], codes, map, option_map, unwrap_or};
 ghost use Rattle.std.specs.Option.{option_copied};
 ghost use Rattle.clap.specs.Matches.{found_of};
 ghost use Rattle.clap.specs.Walk.{all_of, first_of, rows_of};
-ghost use Rattle.command_words.specs.Command.{check_of, command_of, found_in, make_of, meaning, meant, plain_of, run_of, steps_given, texts, trace_of, zc_of};
+ghost use Rattle.command_words.specs.Command.{HasMap, check_of, command_of, found_in, make_of, meaning, meant, plain_of, run_of, steps_given, texts, trace_of, zc_of};
+ghost use Rattle.command_words.specs.MapWords.{address_given, map_given};
 ghost use Rattle.command_words.specs.PlainForm.{IsReadAsPlain};
 ghost use Rattle.command_words.specs.Table.{check_syntax, make_syntax, plain_syntax, run_syntax, trace_syntax, zc_syntax};
+ghost use Rattle.zc_base.specs.MemMap.{IsMap};
 
 use crate::app::program_app;
 use crate::command_line::{
@@ -16,6 +18,8 @@ use crate::number::number_in;
 use clap::ArgMatches;
 use clap::error::ErrorKind;
 use std::alloc::{AllocError, Global};
+use text_lines::hex::read_hex_word;
+use zc_base::mem_map::MemMap;
 
 /// The command that the words spell, if they spell one. The words are those after the program's own name. Memory
 /// may run out before it is known whether they spell one.
@@ -23,6 +27,7 @@ use std::alloc::{AllocError, Global};
 pub fn read(alloc: Global, words: &[String]) -> Result<Option<CommandLine<'_>>, AllocError>
     ensures spells { IfOk result (λ c. option_map meant c ≡ command_of (texts words.now)) }
     ensures plain { IsReadAsPlain (texts words.now) }
+    ensures maps { IfOk result (λ c. IfSome c HasMap) }
 {
     let matches = match program_app(alloc)?.try_get_matches_from(words) {
         Ok(matches) => matches,
@@ -44,7 +49,8 @@ fn by_name<'a>(
     name: &str,
     found: &ArgMatches<'a>,
 ) -> Result<Option<CommandLine<'a>>, AllocError>
-    ensures { IfOk result (λ c. option_map meant c ≡ meaning name.now (rows_of (found_of found.now))) }
+    ensures spells { IfOk result (λ c. option_map meant c ≡ meaning name.now (rows_of (found_of found.now))) }
+    ensures maps { IfOk result (λ c. IfSome c HasMap) }
 {
     match name {
         "plain" => plain(alloc, found),
@@ -58,21 +64,29 @@ fn by_name<'a>(
 }
 
 fn plain<'a>(alloc: Global, found: &ArgMatches<'a>) -> Result<Option<CommandLine<'a>>, AllocError>
-    ensures { IfOk result (λ c.
+    ensures spells { IfOk result (λ c.
         option_map meant c ≡ plain_of (found_in plain_syntax (rows_of (found_of found.now)))) }
+    ensures maps { IfOk result (λ c. IfSome c HasMap) }
 {
+    let Some(map) = given_map(found) else {
+        return Ok(None);
+    };
     let Some(out) = value(found, "out") else {
         return Ok(None);
     };
     let objects = object_names(alloc, found)?;
-    Ok(Some(CommandLine::Plain { out, objects }))
+    Ok(Some(CommandLine::Plain { map, out, objects }))
 }
 
 // `zc`, unless the two files that it writes are one.
 fn zc<'a>(alloc: Global, found: &ArgMatches<'a>) -> Result<Option<CommandLine<'a>>, AllocError>
-    ensures { IfOk result (λ c.
+    ensures spells { IfOk result (λ c.
         option_map meant c ≡ zc_of (found_in zc_syntax (rows_of (found_of found.now)))) }
+    ensures maps { IfOk result (λ c. IfSome c HasMap) }
 {
+    let Some(map) = given_map(found) else {
+        return Ok(None);
+    };
     let Some(out) = value(found, "out") else {
         return Ok(None);
     };
@@ -83,15 +97,23 @@ fn zc<'a>(alloc: Global, found: &ArgMatches<'a>) -> Result<Option<CommandLine<'a
         return Ok(None);
     }
     let objects = object_names(alloc, found)?;
-    Ok(Some(CommandLine::Zc { out, cert, objects }))
+    Ok(Some(CommandLine::Zc {
+        map,
+        out,
+        cert,
+        objects,
+    }))
 }
 
 fn run<'a>(found: &ArgMatches<'a>) -> Option<CommandLine<'a>>
-    ensures { option_map meant result ≡ run_of (found_in run_syntax (rows_of (found_of found.now))) }
+    ensures spells { option_map meant result ≡ run_of (found_in run_syntax (rows_of (found_of found.now))) }
+    ensures maps { IfSome result HasMap }
 {
+    let map = given_map(found)?;
     let image = value(found, "IMAGE")?;
     let steps = allowed_steps(found)?;
     Some(CommandLine::Run(RunArgs {
+        map,
         plan: value(found, "plan"),
         steps,
         image,
@@ -99,25 +121,35 @@ fn run<'a>(found: &ArgMatches<'a>) -> Option<CommandLine<'a>>
 }
 
 fn trace<'a>(alloc: Global, found: &ArgMatches<'a>) -> Result<Option<CommandLine<'a>>, AllocError>
-    ensures { IfOk result (λ c.
+    ensures spells { IfOk result (λ c.
         option_map meant c ≡ trace_of (found_in trace_syntax (rows_of (found_of found.now)))) }
+    ensures maps { IfOk result (λ c. IfSome c HasMap) }
 {
+    let Some(map) = given_map(found) else {
+        return Ok(None);
+    };
     let Some(steps) = allowed_steps(found) else {
         return Ok(None);
     };
     let objects = object_names(alloc, found)?;
-    Ok(Some(CommandLine::Trace { steps, objects }))
+    Ok(Some(CommandLine::Trace {
+        map,
+        steps,
+        objects,
+    }))
 }
 
 fn check<'a>(found: &ArgMatches<'a>) -> Option<CommandLine<'a>>
-    ensures { option_map meant result ≡ check_of (found_in check_syntax (rows_of (found_of found.now))) }
+    ensures spells { option_map meant result ≡ check_of (found_in check_syntax (rows_of (found_of found.now))) }
+    ensures maps { IfSome result HasMap }
 {
     let cert = value(found, "CERT")?;
     Some(CommandLine::Check { cert })
 }
 
 fn make<'a>(found: &ArgMatches<'a>) -> Option<CommandLine<'a>>
-    ensures { option_map meant result ≡ make_of (found_in make_syntax (rows_of (found_of found.now))) }
+    ensures spells { option_map meant result ≡ make_of (found_in make_syntax (rows_of (found_of found.now))) }
+    ensures maps { IfSome result HasMap }
 {
     let number = value(found, "NUMBER")?;
     let functions = value(found, "FUNCTIONS")?;
@@ -126,6 +158,29 @@ fn make<'a>(found: &ArgMatches<'a>) -> Option<CommandLine<'a>>
         number: number_in(number, u64::MAX)?,
         functions: number_in(functions, MOST_FUNCTIONS)? as u32,
     }))
+}
+
+// The memory map that the options give: a missing one has the standard map's address.
+fn given_map(found: &ArgMatches) -> Option<MemMap>
+    ensures value { let rows = rows_of (found_of found.now) in result
+        ≡ map_given (first_of (codes "text") rows) (first_of (codes "data") rows) (first_of (codes "stack") rows) }
+    ensures valid { IfSome result IsMap }
+{
+    let usual = MemMap::standard();
+    let text = address(found, "text", usual.text)?;
+    let data_low = address(found, "data", usual.data_low)?;
+    let stack = address(found, "stack", usual.stack_high)?;
+    MemMap::checked(text, data_low, stack)
+}
+
+// The address that an option says, or the usual one without it.
+fn address(found: &ArgMatches, name: &str, usual: u32) -> Option<u32>
+    ensures { result ≡ address_given usual (first_of name.now (rows_of (found_of found.now))) }
+{
+    match value(found, name) {
+        Some(word) => read_hex_word(word.as_bytes()),
+        None => Some(usual),
+    }
 }
 
 // The steps that the option allows, or the usual ones without it.

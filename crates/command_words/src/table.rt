@@ -19,6 +19,21 @@ pub struct Syntax {
     pub positionals: &'static [PositionalSyntax],
 }
 
+const TEXT: OptionSyntax = OptionSyntax {
+    name: "text",
+    required: false,
+};
+
+const DATA: OptionSyntax = OptionSyntax {
+    name: "data",
+    required: false,
+};
+
+const STACK: OptionSyntax = OptionSyntax {
+    name: "stack",
+    required: false,
+};
+
 const OUT: OptionSyntax = OptionSyntax {
     name: "out",
     required: true,
@@ -69,31 +84,31 @@ const FUNCTIONS: PositionalSyntax = PositionalSyntax {
     several: false,
 };
 
-// `plain --out OUT OBJ...`
+// `plain [--text A] [--data A] [--stack A] --out OUT OBJ...`
 const PLAIN: Syntax = Syntax {
     name: "plain",
-    options: &[OUT],
+    options: &[TEXT, DATA, STACK, OUT],
     positionals: &[OBJECTS],
 };
 
-// `zc --out OUT --cert CERT OBJ...`
+// `zc [--text A] [--data A] [--stack A] --out OUT --cert CERT OBJ...`
 const ZC: Syntax = Syntax {
     name: "zc",
-    options: &[OUT, CERT],
+    options: &[TEXT, DATA, STACK, OUT, CERT],
     positionals: &[OBJECTS],
 };
 
-// `run [--plan PLAN] [--steps N] IMAGE`
+// `run [--text A] [--data A] [--stack A] [--plan PLAN] [--steps N] IMAGE`
 const RUN: Syntax = Syntax {
     name: "run",
-    options: &[PLAN, STEPS],
+    options: &[TEXT, DATA, STACK, PLAN, STEPS],
     positionals: &[IMAGE],
 };
 
-// `trace [--steps N] OBJ...`
+// `trace [--text A] [--data A] [--stack A] [--steps N] OBJ...`
 const TRACE: Syntax = Syntax {
     name: "trace",
-    options: &[STEPS],
+    options: &[TEXT, DATA, STACK, STEPS],
     positionals: &[OBJECTS],
 };
 

@@ -16,7 +16,7 @@ returns-in-Err-clause-spells c =
 pub returns-in-Some-clause-spells : goal.returns-in-Some-clause-spells
 returns-in-Some-clause-spells c =
     let spells = ok_spells _ (texts c.args.words.now) c.in-Ok.matches c.in_ok-program_app.ensures c.in-Ok.ensures.kinds c.in-Ok.ensures.matches _ _ c.in-Some.ensures.name c.in-Some.ensures.rows in
-    subst (λ (x : Option Command). IfOk c.by_name.result (λ r. option_map meant r ≡ x)) (sym spells) c.by_name.ensures
+    subst (λ (x : Option Command). IfOk c.by_name.result (λ r. option_map meant r ≡ x)) (sym spells) c.by_name.ensures.spells
 
 pub returns-clause-spells : goal.returns-clause-spells
 returns-clause-spells c =
