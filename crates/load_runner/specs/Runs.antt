@@ -3,7 +3,7 @@ use Rattle.std.specs.Prelude.{◌≡◌, ℕ, List, [], ◌∷◌, ◌++◌, Som
 use Rattle.zc_base.specs.MemMap.{standard_map}
 use Rattle.zc_base.specs.declared.place.Place.{Place}
 use Rattle.interrupt_plan.specs.Plan.{Entry}
-use Rattle.psabi_sym.specs.Inputs.{Inputs, parsed}
+use Rattle.psabi_sym.specs.Inputs.{Inputs, inputs_in, parsed}
 use Rattle.rv_decode.specs.State as event
 use Rattle.rv_decode.specs.State.{Event, ZcState}
 use Rattle.sym_machine.specs.Objects.{program_of}
@@ -18,7 +18,7 @@ use Rattle.load_runner.specs.declared.run_load.TheConstants.{LOAD_STEPS}
 
 -- objects in the map that the linker uses if it is told no other
 abbrev pub standard_inputs : List (List ℕ) → Inputs
-standard_inputs files = record { files = files; map = standard_map }
+standard_inputs files = inputs_in standard_map files
 
 -- the run of the objects' program
 abbrev pub trace_run : Inputs → Course PlainState (Place × Why)

@@ -8,6 +8,10 @@ pub record Inputs : Type 0 where
   pub files : List (List ℕ)
   pub map : MemMap
 
+-- these files in this map
+abbrev pub inputs_in : MemMap → List (List ℕ) → Inputs
+inputs_in memory files = record { files = files; map = memory }
+
 -- the same with each object as what its file reads as
 pub record ParsedInputs : Type 0 where
   pub objects : List ObjectParts
@@ -19,4 +23,4 @@ parsed inputs = record { objects = map object_parts inputs.files; map = inputs.m
 
 -- the same by the files and the map
 abbrev pub read_from : List (List ℕ) → MemMap → ParsedInputs
-read_from files memory = parsed (record { files = files; map = memory })
+read_from files memory = parsed (inputs_in memory files)

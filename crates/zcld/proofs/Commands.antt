@@ -17,10 +17,10 @@ use Rattle.zcld.proofs.TraceFacts.{trace_facts}
 use Rattle.zcld.proofs.ZcFacts.{zc_facts}
 
 facts : (command : Command) → Facts (task_of command) (work_of command)
-facts (Plain out objects) = plain_facts out objects
-facts (Zc out cert objects) = zc_facts out cert objects
-facts (Run plan steps image) = run_facts plan steps image
-facts (Trace steps objects) = trace_facts steps objects
+facts (Plain map out objects) = plain_facts map out objects
+facts (Zc map out cert objects) = zc_facts map out cert objects
+facts (Run map plan steps image) = run_facts map plan steps image
+facts (Trace map steps objects) = trace_facts map steps objects
 facts (Check cert) = check_facts cert
 facts (Make prefix number functions) = make_facts prefix number functions
 

@@ -1,7 +1,8 @@
 -- The headline from what a call does: of an outcome that is Done, only the case is left in which the command did its work.
 use Rattle.std.proofs.Common.{◌≡◌, ℕ, List, [], ◌∷◌, map, Option, Some, None, refl, sym, ap, subst, ◌∙◌, inl, inr}
 use Rattle.std.proofs.lemmas.Option.{same_Some, none-some}
-use Rattle.load_runner.specs.Runs.{standard_inputs}
+use Rattle.psabi_sym.specs.Inputs.{inputs_in}
+use Rattle.zc_base.specs.declared.mem_map.MemMap.{MemMap}
 use Rattle.elf32_read.specs.declared.fault.Fault.{Fault}
 use Rattle.block_cut.specs.Faults.{first_fault}
 use Rattle.zc_link.specs.Preserves.{Preserves}
@@ -56,14 +57,14 @@ done_worked task Work files before left undone does = elim does [
   | inr (inr worked) ↦ worked
 ]
 
-module _ (before after : World) where
+module _ (memory : MemMap) (before after : World) where
   -- objects were read, and an image that preserves them is the first file that was put
   holds_image :
       (out : List ℕ) (names : List (List ℕ)) (f g : Files) (files : List (List ℕ)) (elf : List ℕ) (others : List (List ℕ × List ℕ)) (between left : World) →
       before.shelf.files ≡ Some f → after.shelf.files ≡ Some g → after.shelf ≡ left.shelf →
       OnlyRead (objects_wanted names) before between → AreRead before.shelf.files (objects_wanted names) files →
-      PutsFiles between.shelf.files left.shelf.files ((out, elf) ∷ others) → Preserves (standard_inputs files) elf →
-      HoldsImage out names f g
+      PutsFiles between.shelf.files left.shelf.files ((out, elf) ∷ others) → Preserves (inputs_in memory files) elf →
+      HoldsImage memory out names f g
   holds_image out names f g files elf others between left told tells same only read puts preserves =
       let kept : KeepsFiles (Some f) between.shelf.files = subst (λ a. KeepsFiles a between.shelf.files) told only.shelf.files in
       let there : left.shelf.files ≡ Some g = sym (ap (λ s. s.files) same) ∙ tells in
@@ -76,24 +77,25 @@ module _ (before after : World) where
         preserves,
       )
 
+module _ (before after : World) where
   by_cases :
       (command : Option Command) (outcome : Outcome) (a b : Option Files) → before.shelf.files ≡ a → after.shelf.files ≡ b →
       Calls command outcome before after → Links command outcome a b
-  by_cases (Some (Zc out cert names)) Done (Some f) (Some g) told tells calls =
-      let undone = refused_undone (first_fault (standard_inputs calls.files)) in
-      let worked = done_worked (task_of (Zc out cert names)) (ZcWork out cert) calls.files before calls.left undone calls.does in
+  by_cases (Some (Zc memory out cert names)) Done (Some f) (Some g) told tells calls =
+      let undone = refused_undone (first_fault (inputs_in memory calls.files)) in
+      let worked = done_worked (task_of (Zc memory out cert names)) (ZcWork memory out cert) calls.files before calls.left undone calls.does in
       elim worked.work [
-        | inl memory ↦ absurd (done_not_memory memory.0)
+        | inl lack ↦ absurd (done_not_memory lack.0)
         | inr put ↦
-            holds_image out names f g calls.files put.link.elf _ worked.between calls.left told tells calls.line.shelf worked.only worked.read put.done.files put.linked.image.preserves
+            holds_image memory before after out names f g calls.files put.link.elf _ worked.between calls.left told tells calls.line.shelf worked.only worked.read put.done.files put.linked.image.preserves
       ]
-  by_cases (Some (Plain out names)) Done (Some f) (Some g) told tells calls =
-      let undone = refused_undone (first_fault (standard_inputs calls.files)) in
-      let worked = done_worked (task_of (Plain out names)) (PlainWork out) calls.files before calls.left undone calls.does in
+  by_cases (Some (Plain memory out names)) Done (Some f) (Some g) told tells calls =
+      let undone = refused_undone (first_fault (inputs_in memory calls.files)) in
+      let worked = done_worked (task_of (Plain memory out names)) (PlainWork memory out) calls.files before calls.left undone calls.does in
       elim worked.work [
-        | inl memory ↦ absurd (done_not_memory memory.0)
+        | inl lack ↦ absurd (done_not_memory lack.0)
         | inr put ↦
-            holds_image out names f g calls.files put.link.elf _ worked.between calls.left told tells calls.line.shelf worked.only worked.read put.done.files put.linked.image.preserves
+            holds_image memory before after out names f g calls.files put.link.elf _ worked.between calls.left told tells calls.line.shelf worked.only worked.read put.done.files put.linked.image.preserves
       ]
   by_cases command outcome a b told tells calls = tt
 

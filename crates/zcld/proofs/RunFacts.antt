@@ -2,7 +2,7 @@
 use Rattle.std.proofs.Common.{◌≡◌, ℕ, List, Option, Some, None, Result, Ok, Err, refl, sym, subst, ◌⊎◌, inl, inr}
 use Rattle.std.proofs.lemmas.Option.{same_Some, none-some}
 use Rattle.std.specs.Option.{option_map, option_or}
-use Rattle.zc_base.specs.MemMap.{standard_map}
+use Rattle.zc_base.specs.declared.mem_map.MemMap.{MemMap}
 use Rattle.elf32_read.specs.declared.image_fault.ImageFault.{ImageFault}
 use Rattle.elf32_read.specs.Image.{image_fault}
 use Rattle.interrupt_plan.specs.Plan.{Entry}
@@ -28,8 +28,8 @@ use Rattle.zcld.proofs.Answering.{Facts, IsAnswer, no_memory}
 use Rattle.zcld.proofs.MachineFacts.{IsRefusedWrite, machine_ends, machine_moves, no_writes}
 
 -- a refusal of an image or a plan is an answer
-run_refuses : (files : List (List ℕ)) (outcome : Outcome) → run_refusal standard_map files ≡ Some outcome → IsAnswer outcome
-run_refuses files outcome is = by_faults (image_fault (first_file files) standard_map) (plan_of files) is
+run_refuses : (map : MemMap) (files : List (List ℕ)) (outcome : Outcome) → run_refusal map files ≡ Some outcome → IsAnswer outcome
+run_refuses map files outcome is = by_faults (image_fault (first_file files) map) (plan_of files) is
   where
     by_faults :
         (image : Option ImageFault) (plan : Result (List Entry) PlanFault) →
@@ -38,9 +38,9 @@ run_refuses files outcome is = by_faults (image_fault (first_file files) standar
     by_faults None (Err fault) some = subst IsAnswer (same_Some (BadFile (Plan fault)) outcome some) tt
     by_faults (Some fault) plan some = subst IsAnswer (same_Some (BadFile (Image fault)) outcome some) tt
 
-module _ (plan : Option (List ℕ)) (steps : ℕ) (image : List ℕ) where
+module _ (map : MemMap) (plan : Option (List ℕ)) (steps : ℕ) (image : List ℕ) where
   abbrev task : Task
-  task = task_of (Run plan steps image)
+  task = task_of (Run map plan steps image)
 
   -- each end but a write that was refused is an answer
   end_of_run :
@@ -67,11 +67,11 @@ module _ (plan : Option (List ℕ)) (steps : ℕ) (image : List ℕ) where
     runs_write input outcome before after (inr run) = run.only
 
   abbrev first_of : List (List ℕ) → ZcCore
-  first_of files = first_core_of (first_file files) standard_map
+  first_of files = first_core_of (first_file files) map
 
-  pub run_facts : Facts task (RunWork steps)
+  pub run_facts : Facts task (RunWork map steps)
   run_facts = record {
-    refuses = run_refuses;
+    refuses = run_refuses map;
     ends = λ files outcome before after work.
         machine_ends task refl (Runs (first_of files) work.plan steps) (runs_end (first_of files) work.plan) outcome before after work.run;
     moves = λ files outcome before after work.

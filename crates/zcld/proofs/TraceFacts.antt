@@ -1,8 +1,8 @@
 -- What is known of `trace`: its refusals, how its work ends, and what that does to the counts.
 use Rattle.std.proofs.Common.{ℕ, List, refl, sym, subst, ◌⊎◌, inl, inr}
-use Rattle.load_runner.specs.Runs.{standard_inputs}
+use Rattle.zc_base.specs.declared.mem_map.MemMap.{MemMap}
 use Rattle.zc_base.specs.declared.place.Place.{Place}
-use Rattle.psabi_sym.specs.Inputs.{Inputs, parsed}
+use Rattle.psabi_sym.specs.Inputs.{Inputs, inputs_in, parsed}
 use Rattle.block_cut.specs.Faults.{first_fault}
 use Rattle.sym_machine.specs.Objects.{program_of}
 use Rattle.sym_machine.specs.RunEnd.{Traced, plain_course}
@@ -22,9 +22,9 @@ use Rattle.zcld.proofs.Answering.{Facts, IsAnswer, no_memory}
 use Rattle.zcld.proofs.MachineFacts.{IsRefusedWrite, machine_ends, machine_moves, no_writes}
 use Rattle.zcld.proofs.ZcFacts.{fault_refuses}
 
-module _ (steps : ℕ) (objects : List (List ℕ)) where
+module _ (map : MemMap) (steps : ℕ) (objects : List (List ℕ)) where
   abbrev task : Task
-  task = task_of (Trace steps objects)
+  task = task_of (Trace map steps objects)
 
   -- each end but a write that was refused is an answer
   end_of_trace :
@@ -49,9 +49,9 @@ module _ (steps : ℕ) (objects : List (List ℕ)) where
   traces_write inputs input outcome before after (inl memory) = no_writes before after memory.1
   traces_write inputs input outcome before after (inr run) = run.only
 
-  pub trace_facts : Facts task (TraceWork steps)
+  pub trace_facts : Facts task (TraceWork map steps)
   trace_facts = record {
-    refuses = λ files. fault_refuses (first_fault (standard_inputs files));
-    ends = λ files. machine_ends task refl (Traces (standard_inputs files) steps) (traces_end (standard_inputs files));
-    moves = λ files. machine_moves task refl (Traces (standard_inputs files) steps) (traces_write (standard_inputs files));
+    refuses = λ files. fault_refuses (first_fault (inputs_in map files));
+    ends = λ files. machine_ends task refl (Traces (inputs_in map files) steps) (traces_end (inputs_in map files));
+    moves = λ files. machine_moves task refl (Traces (inputs_in map files) steps) (traces_write (inputs_in map files));
   }

@@ -1,6 +1,5 @@
 -- What a call of the program does: what its command does up to a world, and from there the outcome's line.
 use Rattle.std.specs.Prelude.{◌≡◌, ℕ, ◌⊎◌, true, false, IsTrue, is_some, List, [], Option, Some, None, ⊤}
-use Rattle.zc_base.specs.MemMap.{standard_map}
 use Rattle.zc_outside.specs.Desk.{Desk, OnlyWrites}
 use Rattle.zc_outside.specs.Files.{Files, Rose}
 use Rattle.zc_outside.specs.Streams.{Adds, AddsPart, KeepsBytes}
@@ -23,29 +22,29 @@ use Rattle.zcld.specs.Zc.{ZcWork}
 
 -- ---- the commands
 
--- what each command does outside; all of them use the standard map
+-- what each command does outside, in the map that its words give
 abbrev pub task_of : Command → Task
-task_of (Plain out objects) = record {
+task_of (Plain map out objects) = record {
   wanted = objects_wanted objects;
-  refusal = objects_refusal;
+  refusal = objects_refusal map;
   puts = true;
   takes = false;
 }
-task_of (Zc out cert objects) = record {
+task_of (Zc map out cert objects) = record {
   wanted = objects_wanted objects;
-  refusal = objects_refusal;
+  refusal = objects_refusal map;
   puts = true;
   takes = false;
 }
-task_of (Run plan steps image) = record {
+task_of (Run map plan steps image) = record {
   wanted = run_wanted plan image;
-  refusal = run_refusal standard_map;
+  refusal = run_refusal map;
   puts = false;
   takes = true;
 }
-task_of (Trace steps objects) = record {
+task_of (Trace map steps objects) = record {
   wanted = objects_wanted objects;
-  refusal = objects_refusal;
+  refusal = objects_refusal map;
   puts = false;
   takes = true;
 }
@@ -64,10 +63,10 @@ task_of (Make prefix number functions) = record {
 
 -- the work of each command, once its files are read and accepted
 abbrev pub work_of : Command → List (List ℕ) → Outcome → World → World → Type 0
-work_of (Plain out objects) = PlainWork out
-work_of (Zc out cert objects) = ZcWork out cert
-work_of (Run plan steps image) = RunWork steps
-work_of (Trace steps objects) = TraceWork steps
+work_of (Plain map out objects) = PlainWork map out
+work_of (Zc map out cert objects) = ZcWork map out cert
+work_of (Run map plan steps image) = RunWork map steps
+work_of (Trace map steps objects) = TraceWork map steps
 work_of (Check cert) = CheckWork
 work_of (Make prefix number functions) = MakeWork prefix number functions
 

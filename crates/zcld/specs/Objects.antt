@@ -6,7 +6,8 @@ use Rattle.zc_outside.specs.Shelf.{Shelf}
 use Rattle.zc_outside.specs.Wanted.{AreRead, Wanted, each_within}
 use Rattle.block_cut.specs.Faults.{first_fault}
 use Rattle.elf32_read.specs.declared.fault.Fault.{Fault}
-use Rattle.load_runner.specs.Runs.{standard_inputs}
+use Rattle.psabi_sym.specs.Inputs.{inputs_in}
+use Rattle.zc_base.specs.declared.mem_map.MemMap.{MemMap}
 use Rattle.zcld.specs.ErrLine.{err_line}
 use Rattle.zcld.specs.Task.{UnreadCause}
 use Rattle.zcld.specs.declared.outcome.Outcome.{Outcome}
@@ -17,9 +18,9 @@ use Rattle.zcld.specs.declared.limits.TheConstants.{OBJECT_LIMIT}
 abbrev pub refused_for : Option (ℕ × Fault) → Option Outcome
 refused_for fault = option_map (λ found. Refused found.0 found.1) fault
 
--- the refusal of objects
-abbrev pub objects_refusal : List (List ℕ) → Option Outcome
-objects_refusal files = refused_for (first_fault (standard_inputs files))
+-- the refusal of objects in a map
+abbrev pub objects_refusal : MemMap → List (List ℕ) → Option Outcome
+objects_refusal map files = refused_for (first_fault (inputs_in map files))
 
 -- objects are read up to their limit
 abbrev pub objects_wanted : List (List ℕ) → List Wanted
@@ -30,13 +31,14 @@ abbrev pub RefusalCause : Option (ℕ × Fault) → Outcome → Type 0
 RefusalCause fault outcome = (refused_for fault ≡ Some outcome) ⊎ (outcome ≡ OutOfMemory)
 
 -- these are the files' bytes, and they are refused, with the same line for the files that are left
-pub record AreRefused (names left : List (List ℕ)) (outcome : Outcome) (store : Option Files) : Type 0 where
+pub record AreRefused
+    (map : MemMap) (names left : List (List ℕ)) (outcome : Outcome) (store : Option Files) : Type 0 where
   pub files : List (List ℕ)
   pub read : AreRead store (objects_wanted names) files
-  pub refused : objects_refusal files ≡ Some outcome
+  pub refused : objects_refusal map files ≡ Some outcome
   pub line : err_line left outcome ≡ err_line files outcome
 
 -- how a command ends without its objects: they can't be had, or they are refused
-abbrev pub EndsWithout : List (List ℕ) → List (List ℕ) → Outcome → Shelf → Shelf → Type 0
-EndsWithout names left outcome before after =
-    UnreadCause (objects_wanted names) before after outcome ⊎ AreRefused names left outcome before.files
+abbrev pub EndsWithout : MemMap → List (List ℕ) → List (List ℕ) → Outcome → Shelf → Shelf → Type 0
+EndsWithout map names left outcome before after =
+    UnreadCause (objects_wanted names) before after outcome ⊎ AreRefused map names left outcome before.files

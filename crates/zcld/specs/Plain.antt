@@ -1,7 +1,8 @@
 -- What `plain` does: it links the objects with their instructions as they are, puts the image, and writes how long its
 -- text is.
 use Rattle.std.specs.Prelude.{◌≡◌, ℕ, ◌⊎◌, ◌++◌, List, [], ◌∷◌, codes, decimal}
-use Rattle.load_runner.specs.Runs.{standard_inputs}
+use Rattle.psabi_sym.specs.Inputs.{inputs_in}
+use Rattle.zc_base.specs.declared.mem_map.MemMap.{MemMap}
 use Rattle.zc_outside.specs.Desk.{OnlyWrites}
 use Rattle.zc_outside.specs.Shelf.{OnlyPuts}
 use Rattle.zc_outside.specs.World.{World}
@@ -19,16 +20,16 @@ plain_line n = line (codes "plain text " ++ decimal n)
 abbrev pub plain_output : List ℕ → List ℕ → List ℕ → Output
 plain_output out image text = record { files = (out, image) ∷ []; text = text }
 
--- the link was made, its image was put, and the length of its text written, as far as this outcome says
+-- the link in the map was made, its image was put, and the length of its text written, as far as this outcome says
 pub record PutsPlain
-    (out : List ℕ) (files : List (List ℕ)) (outcome : Outcome) (before after : World) : Type 0 where
+    (map : MemMap) (out : List ℕ) (files : List (List ℕ)) (outcome : Outcome) (before after : World) : Type 0 where
   pub link : Link
-  pub linked : IsPlainLink (standard_inputs files) link
+  pub linked : IsPlainLink (inputs_in map files) link
   pub done : PutsInTurn outcome (plain_output out link.elf (plain_line link.plain.text)) before after
   pub shelf : OnlyPuts before.shelf after.shelf
   pub desk : OnlyWrites before.desk after.desk
 
 -- no memory for the link, and nothing was done; or that
-abbrev pub PlainWork : List ℕ → List (List ℕ) → Outcome → World → World → Type 0
-PlainWork out files outcome before after =
-    ((outcome ≡ OutOfMemory) × (after ≡ before)) ⊎ PutsPlain out files outcome before after
+abbrev pub PlainWork : MemMap → List ℕ → List (List ℕ) → Outcome → World → World → Type 0
+PlainWork map out files outcome before after =
+    ((outcome ≡ OutOfMemory) × (after ≡ before)) ⊎ PutsPlain map out files outcome before after

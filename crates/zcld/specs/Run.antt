@@ -2,7 +2,6 @@
 -- the Zc machine under the plan.
 use Rattle.std.specs.Prelude.{◌≡◌, ℕ, List, [], ◌∷◌, slice_get, Option, Some, None, Result, Ok, Err}
 use Rattle.std.specs.Option.{option_map, option_map_or, option_or}
-use Rattle.zc_base.specs.MemMap.{standard_map}
 use Rattle.zc_base.specs.declared.mem_map.MemMap.{MemMap}
 use Rattle.elf32_read.specs.Image.{image_fault}
 use Rattle.interrupt_plan.specs.Plan.{Entry}
@@ -72,8 +71,9 @@ Runs first plan steps input =
     Executes (λ (end : RunEnd × ZcCore). Ran (interrupts_by plan) (zc_course first input plan steps) end.0 end.1)
     (λ end. run_outcome end.0 end.1.pc)
 
--- the work of `run`: the image in the standard map, under the plan
-pub record RunWork (steps : ℕ) (files : List (List ℕ)) (outcome : Outcome) (before after : World) : Type 0 where
+-- the work of `run`: the image in the map, under the plan
+pub record RunWork
+    (map : MemMap) (steps : ℕ) (files : List (List ℕ)) (outcome : Outcome) (before after : World) : Type 0 where
   pub plan : List Entry
   pub spelled : plan_of files ≡ Ok plan
-  pub run : MachineWork (Runs (first_core_of (first_file files) standard_map) plan steps) outcome before after
+  pub run : MachineWork (Runs (first_core_of (first_file files) map) plan steps) outcome before after

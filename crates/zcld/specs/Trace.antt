@@ -1,11 +1,11 @@
 -- What `trace` does: it reads objects, takes the console's whole input, and makes steps of the symbolic machine.
 use Rattle.std.specs.Prelude.{ℕ, List}
-use Rattle.load_runner.specs.Runs.{standard_inputs}
-use Rattle.psabi_sym.specs.Inputs.{Inputs, parsed}
+use Rattle.psabi_sym.specs.Inputs.{Inputs, inputs_in, parsed}
 use Rattle.sym_machine.specs.Objects.{program_of}
 use Rattle.sym_machine.specs.RunEnd.{Traced, plain_course}
 use Rattle.sym_machine.specs.declared.run.TraceEnd.{TraceEnd}
 use Rattle.sym_machine.specs.declared.run.TraceEnd.TheVariants as end
+use Rattle.zc_base.specs.declared.mem_map.MemMap.{MemMap}
 use Rattle.zc_outside.specs.Desk.{Desk}
 use Rattle.zc_outside.specs.World.{World}
 use Rattle.zc_outside.specs.declared.console.ConsoleFault.TheVariants as console
@@ -26,7 +26,7 @@ trace_outcome end.OutOfMemory = OutOfMemory
 abbrev pub Traces : Inputs → ℕ → List ℕ → Outcome → Desk → Desk → Type 0
 Traces inputs steps input = Executes (Traced (plain_course (program_of (parsed inputs)) input steps)) trace_outcome
 
--- the work of `trace`, in the standard map
-abbrev pub TraceWork : ℕ → List (List ℕ) → Outcome → World → World → Type 0
-TraceWork steps files outcome before after =
-    MachineWork (Traces (standard_inputs files) steps) outcome before after
+-- the work of `trace`, in the map
+abbrev pub TraceWork : MemMap → ℕ → List (List ℕ) → Outcome → World → World → Type 0
+TraceWork map steps files outcome before after =
+    MachineWork (Traces (inputs_in map files) steps) outcome before after

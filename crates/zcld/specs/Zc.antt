@@ -1,6 +1,7 @@
 -- What `zc` does: it links the objects, puts the image and then the certificate, and writes the report.
 use Rattle.std.specs.Prelude.{◌≡◌, ℕ, ◌⊎◌, List, [], ◌∷◌}
-use Rattle.load_runner.specs.Runs.{standard_inputs}
+use Rattle.psabi_sym.specs.Inputs.{inputs_in}
+use Rattle.zc_base.specs.declared.mem_map.MemMap.{MemMap}
 use Rattle.pick_check.specs.Text.{certificate_text}
 use Rattle.size_report.specs.Report.{report_text}
 use Rattle.zc_outside.specs.Desk.{OnlyWrites}
@@ -26,16 +27,18 @@ output_of out cert results = record {
   text = results.report.items;
 }
 
--- the link was made, its image and the certificate were put, and the report was written, as far as this outcome says
+-- the link in the map was made, its image and the certificate were put, and the report was written, as far as this
+-- outcome says
 pub record PutsZc
-    (out cert : List ℕ) (files : List (List ℕ)) (outcome : Outcome) (before after : World) : Type 0 where
+    (map : MemMap) (out cert : List ℕ) (files : List (List ℕ)) (outcome : Outcome) (before after : World)
+    : Type 0 where
   pub link : Link
-  pub linked : IsZcLink (standard_inputs files) link
+  pub linked : IsZcLink (inputs_in map files) link
   pub done : PutsInTurn outcome (zc_output out cert link) before after
   pub shelf : OnlyPuts before.shelf after.shelf
   pub desk : OnlyWrites before.desk after.desk
 
 -- no memory for the link, and nothing was done; or that
-abbrev pub ZcWork : List ℕ → List ℕ → List (List ℕ) → Outcome → World → World → Type 0
-ZcWork out cert files outcome before after =
-    ((outcome ≡ OutOfMemory) × (after ≡ before)) ⊎ PutsZc out cert files outcome before after
+abbrev pub ZcWork : MemMap → List ℕ → List ℕ → List (List ℕ) → Outcome → World → World → Type 0
+ZcWork map out cert files outcome before after =
+    ((outcome ≡ OutOfMemory) × (after ≡ before)) ⊎ PutsZc map out cert files outcome before after

@@ -10,10 +10,10 @@ use crate::check::check;
 use crate::err_line::write_line;
 use crate::make::make;
 use crate::outcome::Outcome;
-use crate::plain::plain;
+use crate::plain::{PlainArgs, plain};
 use crate::run::run;
-use crate::trace::trace;
-use crate::zc::{ZcNames, zc};
+use crate::trace::{TraceArgs, trace};
+use crate::zc::{ZcArgs, zc};
 use command_words::command_line::CommandLine;
 use command_words::read::read;
 use std::alloc::Global;
@@ -51,20 +51,48 @@ fn perform<S: Store, C: Console>(
         (world (S.shown store.old) (C.shown console.old)) (world (S.shown store.new) (C.shown console.new)) }
 {
     match read(alloc, words) {
-        Ok(Some(CommandLine::Plain { out, objects })) => {
-            plain(alloc, out, objects.as_slice(), files, store, console)
+        Ok(Some(CommandLine::Plain { map, out, objects })) => {
+            let args = PlainArgs {
+                map,
+                out,
+                objects: objects.as_slice(),
+            };
+            plain(alloc, args, files, store, console)
         }
-        Ok(Some(CommandLine::Zc { out, cert, objects })) => {
-            let names = ZcNames {
+        Ok(
+            Some(
+                CommandLine::Zc {
+                    map,
+                    out,
+                    cert,
+                    objects,
+                },
+            ),
+        ) => {
+            let args = ZcArgs {
+                map,
                 out,
                 cert,
                 objects: objects.as_slice(),
             };
-            zc(alloc, names, files, store, console)
+            zc(alloc, args, files, store, console)
         }
         Ok(Some(CommandLine::Run(args))) => run(alloc, args, files, store, console),
-        Ok(Some(CommandLine::Trace { steps, objects })) => {
-            trace(alloc, steps, objects.as_slice(), files, store, console)
+        Ok(
+            Some(
+                CommandLine::Trace {
+                    map,
+                    steps,
+                    objects,
+                },
+            ),
+        ) => {
+            let args = TraceArgs {
+                map,
+                steps,
+                objects: objects.as_slice(),
+            };
+            trace(alloc, args, files, store, console)
         }
         Ok(Some(CommandLine::Check { cert })) => check(alloc, cert, store, console),
         Ok(Some(CommandLine::Make(args))) => make(alloc, args, store, console),

@@ -3,10 +3,12 @@
 ghost use Rattle.std.specs.Prelude.{◌≡◌, ◌<◌, ◌+◌, ◌++◌, ◌∷◌, ◌^◌, [], false, List, ℕ, IfErr, IfOk, IfSome, None, OnOk, length, nat_lt};
 ghost use Rattle.std.specs.Option.{option_map, option_or};
 ghost use Rattle.elf32_read.specs.Object.{object_fault};
-ghost use Rattle.load_runner.specs.Runs.{standard_inputs};
 ghost use Rattle.psabi_sym.specs.Faults.{gather_fault};
+ghost use Rattle.psabi_sym.specs.Inputs.{inputs_in};
 ghost use Rattle.psabi_sym.specs.LinkFault.{IsNameless, IsRefusal};
 ghost use Rattle.psabi_sym.specs.Objects.{contents_of};
+ghost use Rattle.zc_base.specs.MemMap.{IsMap};
+ghost use Rattle.zc_base.specs.declared.mem_map.MemMap.{MemMap};
 ghost use Rattle.zc_outside.specs.Wanted.{AreRead, ReadsAll};
 ghost use Rattle.command_words.specs.Command.{texts};
 ghost use Rattle.zcld.specs.Objects.{EndsWithout, objects_wanted};
@@ -72,13 +74,13 @@ impl Reading {
         Ok(())
     }
 
-    // Why the objects, of which these are kept, aren't linked, if they are too many or have too many bytes.
+    // Why the objects, of which these are kept, aren't linked in any map, if they are too many or have too many bytes.
     fn refusal(self, alloc: Global, files: &[Vec<u8>]) -> Option<LinkFault>
         requires { (read : List (List ℕ)) × Keeps read (contents_of files.now) self × (self.are_many ≡ nat_lt 256 (length read)) }
         ensures none { result ≡ None → (read : List (List ℕ)) → Keeps read (contents_of files.now) self → read ≡ contents_of files.now }
         ensures some { IfSome result (λ fault. (read : List (List ℕ)) → Keeps read (contents_of files.now) self
-            → self.are_many ≡ nat_lt 256 (length read)
-            → IsRefusal (gather_fault (standard_inputs read)) fault × IsNameless fault) }
+            → self.are_many ≡ nat_lt 256 (length read) → (map : MemMap)
+            → IsRefusal (gather_fault (inputs_in map read)) fault × IsNameless fault) }
     {
         if self.are_many {
             return Some(LinkFault::Object {
@@ -103,8 +105,8 @@ pub fn read_objects<S: Store>(
 ) -> Result<(), Outcome>
     ensures ok { OnOk result (AreRead (S.shown store.old).files (objects_wanted (texts names.now))
         (contents_of files.new.items)) }
-    ensures err { IfErr result (λ outcome. EndsWithout (texts names.now) (contents_of files.new.items) outcome
-        (S.shown store.old) (S.shown store.new)) }
+    ensures err { IfErr result (λ outcome. (map : MemMap) → EndsWithout map (texts names.now)
+        (contents_of files.new.items) outcome (S.shown store.old) (S.shown store.new)) }
     ensures reads { ReadsAll (objects_wanted (texts names.now)) (S.shown store.old) (S.shown store.new) }
 {
     files.clear();
@@ -123,16 +125,17 @@ pub fn read_objects<S: Store>(
     }
 }
 
-/// The objects in these files, or why they aren't gathered. They are a copy, so the files are let go, unless the
-/// fault may name something in them.
-pub fn gather(alloc: Global, files: &mut Vec<Vec<u8>>) -> Result<Objects, LinkFault>
-    ensures ok { IfOk result (λ objects. objects ≡ standard_inputs (contents_of files.old.items)) }
-    ensures faultless { IfOk result (λ _. gather_fault (standard_inputs (contents_of files.old.items)) ≡ None) }
+/// The objects in these files, in the map, or why they aren't gathered. They are a copy, so the files are let go, unless
+/// the fault may name something in them.
+pub fn gather(alloc: Global, files: &mut Vec<Vec<u8>>, map: MemMap) -> Result<Objects, LinkFault>
+    requires { IsMap map }
+    ensures ok { IfOk result (λ objects. objects ≡ inputs_in map (contents_of files.old.items)) }
+    ensures faultless { IfOk result (λ _. gather_fault (inputs_in map (contents_of files.old.items)) ≡ None) }
     ensures err { IfErr result (λ fault.
-        IsRefusal (gather_fault (standard_inputs (contents_of files.old.items))) fault) }
+        IsRefusal (gather_fault (inputs_in map (contents_of files.old.items))) fault) }
     ensures kept { IfErr result (λ _. files.new.items ≡ files.old.items) }
 {
-    let objects = Objects::gather(alloc, files.as_slice(), MemMap::standard())?;
+    let objects = Objects::gather(alloc, files.as_slice(), map)?;
     files.clear();
     Ok(objects)
 }

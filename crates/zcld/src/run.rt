@@ -2,7 +2,7 @@
 
 ghost use Rattle.std.specs.Prelude.{◌≡◌, ◌<◌, ◌⊎◌, IfOk, IfErr, OnOk, Ok, Err, length, option_copied};
 ghost use Rattle.psabi_sym.specs.Objects.{contents_of};
-ghost use Rattle.zc_base.specs.MemMap.{standard_map};
+ghost use Rattle.zc_base.specs.MemMap.{IsMap};
 ghost use Rattle.zc_machine.specs.Load.{first_core_of};
 ghost use Rattle.zc_outside.specs.Wanted.{AreRead, ReadsAll};
 ghost use Rattle.zc_outside.specs.World.{world};
@@ -21,7 +21,6 @@ use interrupt_plan::fault::PlanFault;
 use interrupt_plan::plan::{Plan, empty_plan};
 use interrupt_plan::read_plan::{PLAN_LIMIT, read_plan};
 use std::alloc::Global;
-use zc_base::mem_map::MemMap;
 use zc_machine::machine::Machine;
 use zc_machine::run::{RunEnd, run as run_machine};
 use zc_outside::console::{Console, ConsoleFault};
@@ -37,13 +36,14 @@ pub fn run<S: Store, C: Console>(
     store: &mut S,
     console: &mut C,
 ) -> Outcome
+    requires { IsMap args.map }
     ensures { CarriesOut (Some (run_meant args.entry)) (contents_of files.new.items) result
         (world (S.shown store.old) (C.shown console.old)) (world (S.shown store.new) (C.shown console.new)) }
 {
     if let Err(outcome) = read_both(alloc, args, files, store) {
         return outcome;
     }
-    let image = match Image::read(files[0].as_slice(), MemMap::standard()) {
+    let image = match Image::read(files[0].as_slice(), args.map) {
         Ok(image) => image,
         Err(fault) => return Outcome::BadFile(FileFault::Image(fault)),
     };
@@ -90,7 +90,7 @@ fn plan_of(alloc: Global, files: &[Vec<u8>]) -> Result<Plan, PlanFault>
     }
 }
 
-// Runs an image over the console's whole input, under a plan.
+// Runs an image in the map that it was read under, over the console's whole input and under a plan.
 fn execute<C: Console>(
     alloc: Global,
     image: &Image,
@@ -98,8 +98,8 @@ fn execute<C: Console>(
     steps: u64,
     console: &mut C,
 ) -> Outcome
-    requires { image.now.1 ≡ standard_map }
-    ensures { TakesAndRuns (Runs (first_core_of image.now.0 standard_map) plan.now steps) result
+    requires { IsMap image.now.1 }
+    ensures { TakesAndRuns (Runs (first_core_of image.now.0 image.now.1) plan.now steps) result
         (C.shown console.old) (C.shown console.new) }
 {
     let input = match take_all(alloc, console) {

@@ -1,9 +1,10 @@
 // The command `trace`: objects are read, and the symbolic machine runs them.
 
 ghost use Rattle.std.specs.Prelude.{◌≡◌, IfOk, IfErr, None};
-ghost use Rattle.load_runner.specs.Runs.{standard_inputs};
+ghost use Rattle.psabi_sym.specs.Inputs.{inputs_in};
 ghost use Rattle.psabi_sym.specs.Objects.{contents_of};
 ghost use Rattle.block_cut.specs.Faults.{first_fault};
+ghost use Rattle.zc_base.specs.MemMap.{IsMap};
 ghost use Rattle.zc_outside.specs.World.{world};
 ghost use Rattle.command_words.specs.Command.{Trace, texts};
 ghost use Rattle.zcld.specs.Call.{DoesWith};
@@ -23,36 +24,45 @@ use zc_base::mem_map::MemMap;
 use zc_outside::console::{Console, ConsoleFault};
 use zc_outside::store::Store;
 
-/// Runs the objects under these names at the places of their own code, over the console's whole input,
-/// for at most so many steps.
+/// What `trace` runs: objects by their names, with data and stack in the map, for at most so many steps.
+#[derive(Clone, Copy)]
+pub struct TraceArgs<'a> {
+    pub map: MemMap,
+    pub steps: u64,
+    pub objects: &'a [String],
+}
+
+/// Runs the objects at the places of their own code, over the console's whole input.
 pub fn trace<S: Store, C: Console>(
     alloc: Global,
-    steps: u64,
-    objects: &[String],
+    args: TraceArgs,
     files: &mut Vec<Vec<u8>>,
     store: &mut S,
     console: &mut C,
 ) -> Outcome
-    ensures { DoesWith (Some (Trace steps (texts objects.now))) (contents_of files.new.items) result
+    requires { IsMap args.map }
+    ensures { DoesWith (Some (Trace args.entry.map args.entry.steps (texts args.entry.objects.now)))
+        (contents_of files.new.items) result
         (world (S.shown store.old) (C.shown console.old)) (world (S.shown store.new) (C.shown console.new)) }
 {
-    if let Err(outcome) = read_objects(alloc, objects, files, store) {
+    if let Err(outcome) = read_objects(alloc, args.objects, files, store) {
         return outcome;
     }
-    match cut_files(alloc, files.as_slice()) {
-        Ok(cut) => execute(alloc, &cut, steps, console),
+    match cut_files(alloc, files.as_slice(), args.map) {
+        Ok(cut) => execute(alloc, &cut, args.steps, console),
         Err(outcome) => outcome,
     }
 }
 
-// The objects in these files, cut into items, or how the call ends without that.
+// The objects in these files, in the map, cut into items, or how the call ends without that.
 #[tactic(auto, using(crate::proofs::Refusals::gather_refuses))]
-fn cut_files(alloc: Global, files: &[Vec<u8>]) -> Result<Cut, Outcome>
-    ensures faultless { IfOk result (λ cut. first_fault (standard_inputs (contents_of files.now)) ≡ None) }
-    ensures ok { IfOk result (λ cut. cut ≡ standard_inputs (contents_of files.now)) }
-    ensures err { IfErr result (RefusalCause (first_fault (standard_inputs (contents_of files.now)))) }
+fn cut_files(alloc: Global, files: &[Vec<u8>], map: MemMap) -> Result<Cut, Outcome>
+    requires { IsMap map }
+    ensures faultless { IfOk result (λ cut. first_fault (inputs_in map (contents_of files.now)) ≡ None) }
+    ensures ok { IfOk result (λ cut. cut ≡ inputs_in map (contents_of files.now)) }
+    ensures err { IfErr result (RefusalCause (first_fault (inputs_in map (contents_of files.now)))) }
 {
-    let objects = Objects::gather(alloc, files, MemMap::standard())?;
+    let objects = Objects::gather(alloc, files, map)?;
     Ok(Cut::new(alloc, objects)?)
 }
 

@@ -49,6 +49,21 @@ run hello.elf with c3 => -- 0 0 "hi\n" """#;
     expect(&rt, lines)
 }
 
+// An image that lies elsewhere has a segment out of its place in the standard map. The plan's byte lies below sp in the
+// standard map alone.
+#[test]
+fn an_image_runs_in_the_map_of_the_words(rt: HostRuntime) -> Result<(), Fail> {
+    let lines = r#"run elsewhere.elf => -- 125 5 "" "bad image 3\n"
+run --text 08000000 --data 20000000 --stack 20600000 elsewhere.elf => -- 0 0 "hi\n" "exited 0\n"
+run --text 08000000 --data 20000000 --stack 20600000 hello.elf => -- 125 5 "" "bad image 3\n"
+run --data 00200000 hello.elf => -- 125 5 "" "bad image 3\n"
+run --stack 10500000 hello.elf => -- 0 0 "hi\n" "exited 0\n"
+run --stack 10500000 --plan below load.elf => -- 0 0 "" "exited 0\n"
+run --text 00000000 image => -- 120 5 "" "usage\n"
+run --stack 1 image => -- 120 5 "" "usage\n""#;
+    expect(&rt, lines)
+}
+
 // The store's call 0 reads the image, and call 1 the plan.
 #[test]
 fn an_image_runs_under_a_plan_that_is_judged_after_it(rt: HostRuntime) -> Result<(), Fail> {

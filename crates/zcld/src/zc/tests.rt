@@ -23,6 +23,18 @@ zc --out o --cert c x with c0 c1 => ++ 123 5 "" """#;
     expect(&rt, lines)
 }
 
+// Of the addresses that spell no command, text is at 0, data begins too near to it, and one has a single digit.
+#[test]
+fn an_image_lies_in_the_map_of_the_words(rt: HostRuntime) -> Result<(), Fail> {
+    let lines = r#"plain --text 00000000 --out o x => -- 120 5 "" "usage\n"
+plain --text 08000000 --data 20000000 --stack 20600000 --out o x => +- 0 5 "plain text 12\n" ""
+zc --text 08000000 --data 20000000 --stack 20600000 --out o --cert c start main => ++ 0 5 "report of two" ""
+trace --text 08000000 --data 20000000 --stack 20600000 start main => -- 0 0 "hi\n" "exited 0\n"
+zc --text 08000000 --data 080e0000 --out o --cert c x => -- 120 5 "" "usage\n"
+trace --stack 1 x => -- 120 5 "" "usage\n""#;
+    expect(&rt, lines)
+}
+
 // The line is written in three pieces, of which the second is the symbol's name.
 #[test]
 fn all_objects_are_read_and_then_judged(rt: HostRuntime) -> Result<(), Fail> {

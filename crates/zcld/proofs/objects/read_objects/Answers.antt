@@ -4,13 +4,14 @@ use Rattle.std.proofs.Common.{◌≡◌, ◌++◌, ◌∷◌, [], ℕ, List, len
 use Rattle.std.proofs.lemmas.List.{take_all}
 use Rattle.std.proofs.lemmas.Result.{err_from_is_err_and}
 use Rattle.command_words.specs.Command.{texts}
-use Rattle.load_runner.specs.Runs.{standard_inputs}
+use Rattle.zc_base.specs.declared.mem_map.MemMap.{MemMap}
 use Rattle.zc_outside.specs.Shelf.{Shelf}
 use Rattle.zc_outside.specs.Wanted.{AreRead, ReadCause, Wanted}
 use Rattle.zc_outside.specs.declared.read_files.ReadFault.{ReadFault}
 use Rattle.zc_outside.specs.declared.read_files.ReadFault.TheVariants.{OutOfMemory, Unread}
 use Rattle.zc_outside.proofs.Wanted.{AreRead-more, ReadCause-stop, ReadsAll-more, ReadsAll-stop}
 use Rattle.psabi_sym.specs.Faults.{gather_fault}
+use Rattle.psabi_sym.specs.Inputs.{inputs_in}
 use Rattle.psabi_sym.specs.LinkFault.{IsNameless, IsRefusal}
 use Rattle.psabi_sym.specs.Objects.{contents_of}
 use Rattle.psabi_sym.specs.declared.link_fault.LinkFault.{LinkFault}
@@ -29,13 +30,13 @@ unread wanted before after Unread cause = cause
 unread wanted before after OutOfMemory cause = tt
 
 -- a refusal by the bytes of all
-refused : (names left read : List (List ℕ)) (fault : LinkFault) (before after : Shelf) → AreRead before.files (objects_wanted names) read → IsRefusal (gather_fault (standard_inputs read)) fault
-    → IsNameless fault → EndsWithout names left (link_outcome fault) before after
-refused names left read link.OutOfMemory before after are is none = inl tt
-refused names left read (link.Object index fault) before after are is none = inr (record {
+refused : (map : MemMap) (names left read : List (List ℕ)) (fault : LinkFault) (before after : Shelf) → AreRead before.files (objects_wanted names) read
+    → IsRefusal (gather_fault (inputs_in map read)) fault → IsNameless fault → EndsWithout map names left (link_outcome fault) before after
+refused map names left read link.OutOfMemory before after are is none = inl tt
+refused map names left read (link.Object index fault) before after are is none = inr (record {
   files = read;
   read = are;
-  refused = ap refused_for (gather_refuses (standard_inputs read) (link.Object index fault) is);
+  refused = ap refused_for (gather_refuses (inputs_in map read) (link.Object index fault) is);
   line = names_in_none (link_outcome (link.Object index fault)) left read (names_none (link.Object index fault) none);
 })
 
@@ -47,7 +48,7 @@ returns-in_err-file-clause-err g c =
     let cause = ReadCause-stop OBJECT_LIMIT c.args.names.now c.loop-i.i c.index-names-i.result c.loop-i-test.true c.index-names-i.is
     (shown c.args.store.now) (shown c.loop-i.store) (shown c.read_file.new.store) fault c.loop-i.invariant.reads own in
     let p = err_from_is_err_and c.from_residual.result c.from_residual.ensures.1 in
-    rw (p.1, p.2) (inl (unread (objects_wanted (texts c.args.names.now)) (shown c.args.store.now) (shown c.read_file.new.store) fault cause))
+    rw (p.1, p.2) (λ map. inl (unread (objects_wanted (texts c.args.names.now)) (shown c.args.store.now) (shown c.read_file.new.store) fault cause))
 
 pub returns-in_err-file-clause-reads : goal.returns-in_err-file-clause-reads
 returns-in_err-file-clause-reads g c =
@@ -98,4 +99,4 @@ returns-in-Some-clause-err g c =
     let count : length c.args.names.now ≡ length so_far.0 = omega (arith, so_far.3) in
     let is = c.in-Some.ensures.some so_far.0 keeps (c.loop-i.invariant.many ∙ ap (ltb 256) count) in
     let read = subst (λ names. AreRead before.files (objects_wanted (texts names)) so_far.0) all so_far.1 in
-    rw c.from.ensures (refused (texts c.args.names.now) (contents_of c.loop-i.files.items) so_far.0 c.in-Some.fault before (g.S.Store.shown c.loop-i.store) read is.0 is.1)
+    rw c.from.ensures (λ map. refused map (texts c.args.names.now) (contents_of c.loop-i.files.items) so_far.0 c.in-Some.fault before (g.S.Store.shown c.loop-i.store) read (is map).0 (is map).1)

@@ -7,7 +7,7 @@ use Rattle.zc_outside.specs.Files.{Files, KeepsFiles, PutsFile}
 use Rattle.zc_outside.specs.Shelf.{OnlyPuts, PutCause, Shelf}
 use Rattle.zc_outside.specs.World.{world}
 use Rattle.zcld.specs.declared.outcome.Outcome.TheVariants.{WriteFault}
-use Rattle.zcld.specs.Puts.{PutsFiles, PutsInTurn, text_alone}
+use Rattle.zcld.specs.Puts.{IsUnput, PutsFiles, PutsInTurn, text_alone}
 use Rattle.zcld.specs.Zc.{output_of}
 use Rattle.zcld.proofs.OutputFacts.{put_then_printed}
 use Rattle.zcld.proofs.zc.put_and_report.Goals as goal
@@ -28,6 +28,17 @@ one_kept (Some f) None d out image first kept = absurd first
 one_kept (Some f) (Some g) None out image first kept = absurd kept
 one_kept (Some f) (Some g) (Some h) out image first kept = ((kept out ∙ first.0, tt), λ q other. kept q ∙ first.1 q other.0)
 
+first_alone :
+    (before between after : Shelf) (desk : Desk) (out image cert certificate text : List ℕ) →
+    PutsFile before.files between.files out image → KeepsFiles between.files after.files →
+    IsUnput (record { files = (out, image) ∷ (cert, certificate) ∷ []; text = text }) (world before desk) (world after desk)
+first_alone before between after desk out image cert certificate text first kept = record {
+  count = 1;
+  part = omega arith;
+  files = one_kept before.files between.files after.files out image first kept;
+  desk = refl;
+}
+
 refused_second :
     (before between after : Shelf) (desk : Desk) (fault : StoreFault) (out image cert certificate text : List ℕ) →
     PutsFile before.files between.files out image → OnlyPuts before between → KeepsFiles between.files after.files →
@@ -35,12 +46,7 @@ refused_second :
     PutsInTurn WriteFault (record { files = (out, image) ∷ (cert, certificate) ∷ []; text = text }) (world before desk) (world after desk)
 refused_second before between after desk Failed out image cert certificate text first puts kept cause other =
     inl (
-      record {
-        count = 1;
-        part = omega arith;
-        files = one_kept before.files between.files after.files out image first kept;
-        desk = refl;
-      },
+      first_alone before between after desk out image cert certificate text first kept,
       omega (arith, puts.writes, cause.0),
       λ sure. cause.1 (puts.sure ∙ sure),
     )
@@ -49,7 +55,7 @@ refused_second before between after desk OutOfMemory out image cert certificate 
 
 pub returns-in-Ok-put-clause-done : goal.returns-in-Ok-put-clause-done
 returns-in-Ok-put-clause-done g c =
-    let names = c.args.names in
+    let names = c.args.args in
     let results = c.args.results.now in
     let before = g.S.Store.shown c.args.store.now in
     let between = g.S.Store.shown c.put.new.self in
@@ -64,7 +70,7 @@ returns-in-Ok-put-clause-done g c =
 
 pub returns-in-Err-put-clause-done : goal.returns-in-Err-put-clause-done
 returns-in-Err-put-clause-done g c =
-    let names = c.args.names in
+    let names = c.args.args in
     let results = c.args.results.now in
     let before = g.S.Store.shown c.args.store.now in
     let between = g.S.Store.shown c.put.new.self in
@@ -74,3 +80,14 @@ returns-in-Err-put-clause-done g c =
     refused_second before between after (g.C.Console.shown c.args.console.now) c.in-Err-put.field-0
     names.out.now results.image.items names.cert.now results.certificate.items results.report.items
     first c.put.ensures.puts c.in-Err-put.ensures.err c.in-Err-put.ensures.cause other
+
+pub returns-in-Err-OutOfMemory-put-clause-done : goal.returns-in-Err-OutOfMemory-put-clause-done
+returns-in-Err-OutOfMemory-put-clause-done g c =
+    let names = c.args.args in
+    let results = c.args.results.now in
+    let before = g.S.Store.shown c.args.store.now in
+    let between = g.S.Store.shown c.put.new.self in
+    let after = g.S.Store.shown c.put-2.new.self in
+    let first = subst (λ e. PutsFile before.files between.files names.out.now e) c.as_slice.ensures.value c.in-Ok.ensures.ok in
+    inl (first_alone before between after (g.C.Console.shown c.args.console.now) names.out.now results.image.items names.cert.now results.certificate.items results.report.items
+    first c.in-Err-OutOfMemory-put.ensures.err)
