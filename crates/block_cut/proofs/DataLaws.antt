@@ -29,7 +29,7 @@ use Rattle.psabi_sym.specs.declared.section_row.SectionRole.TheVariants.{Code, I
 use Rattle.psabi_sym.specs.declared.section_row.SectionRole.{SectionRole}
 use Rattle.psabi_sym.proofs.ContentLaws.{address_of_data, none_of_code, none_of_dropped}
 use Rattle.psabi_sym.proofs.PlaceLaws.{not_common}
-use Rattle.block_cut.specs.Faults.{if_so, reloc_fault, section_fault}
+use Rattle.block_cut.specs.Faults.{if_so, is_stray, reloc_fault, section_fault}
 use Rattle.block_cut.specs.Relocs.{field_end, is_bad_kind, is_bad_place, overlaps_another, is_ignored, is_placed, is_word}
 use Rattle.block_cut.specs.DataWords.{data_word, data_words, held_address, resolved_word, words_in}
 use Rattle.block_cut.specs.Resolved.{asks, resolved_reloc, resolved_relocs}
@@ -147,7 +147,7 @@ module _ (inputs : ParsedInputs) (o i : ℕ) (s : SectionParts) (found : section
 
   -- so its place is one that it can have
   place_none : (r : Reloc) → reloc_fault inputs (listed o i s) r ≡ None → is_bad_place s r ≡ false
-  place_none r none = by (is_bad_kind s (kind_of r.kind)) (is_bad_place s r) (KindFault i r.offset) (RelocPlace i r.offset) _ none
+  place_none r none = (or_parts (is_bad_place s r) (is_stray s r) (by (is_bad_kind s (kind_of r.kind)) (is_bad_place s r || is_stray s r) (KindFault i r.offset) (RelocPlace i r.offset) _ none)).0
     where
       by : (a b : Bool) (f g : Fault) (x : Option Fault) → option_or (if_so a f) (option_or (if_so b g) x) ≡ None → b ≡ false
       by a false f g x none = refl

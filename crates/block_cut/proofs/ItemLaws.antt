@@ -18,13 +18,14 @@ use Rattle.rv_decode.specs.declared.instr.Instr.{Instr}
 use Rattle.rv_decode.specs.declared.instr.Instr.TheVariants as instr
 use Rattle.block_cut.specs.declared.item.Item.{Item}
 use Rattle.block_cut.specs.declared.item.Item.TheVariants.{Branch, Jump, Align}
-use Rattle.block_cut.specs.Items.{call_item, code_at, instr_item, item_at, item_in, item_under, known_item, of_instr, raw_in, raw_pair, size_on, spelled_item, starts_on, target_away, target_of, to_place, transfer_item}
+use Rattle.block_cut.specs.Items.{call_item, code_at, instr_item, item_at, item_in, item_under, known_item, of_instr, raw_in, raw_pair, size_on, spelled_item, starts_on, target_away, target_of, to_place, transfer_item, transfer_under}
 use Rattle.block_cut.specs.PlainLayout.{after_item, padding_of}
 use Rattle.block_cut.specs.CodeSizes.{own_size, code_step}
 use Rattle.block_cut.specs.Relocs.{field_of, fits_at, instr_in, is_bad_kind, is_filling, is_ignored, is_padding, reloc_on}
 use Rattle.psabi_sym.proofs.BlockLaws.{aligned_up-lt}
-use Rattle.block_cut.proofs.SoundLaws.{rvc_bad, sound_at}
+use Rattle.block_cut.proofs.SoundLaws.{sound_at}
 use Rattle.block_cut.proofs.CodeSizeLaws.{step_even}
+use Rattle.block_cut.proofs.RawLaws.{raw_by}
 
 -- ---- the item at a place
 
@@ -148,8 +149,11 @@ own_plain objects q size bytes = by (instr_in size bytes q.offset)
     raw : Item
     raw = raw_in size bytes q.offset
 
+    unread : padding_of raw ≡ None
+    unread = raw_by (λ i. padding_of i ≡ None) (λ h. refl) (λ w. refl) size bytes q.offset
+
     goes : (o : Option Place) (f : Place → Item) → ((p : Place) → padding_of (f p) ≡ None) → padding_of (option_map_or f o raw) ≡ None
-    goes None f is = refl
+    goes None f is = unread
     goes (Some p) f is = is p
 
     of : (i : Instr) → padding_of (instr_item objects q i raw) ≡ None
@@ -164,10 +168,10 @@ own_plain objects q size bytes = by (instr_in size bytes q.offset)
     of (instr.Fence rest) = refl
     of instr.Ecall = refl
     of instr.Ebreak = refl
-    of (instr.Csrrw rd source) = refl
+    of (instr.Csrrw rd source) = unread
 
     by : (o : Option Instr) → padding_of (Rattle.block_cut.specs.Items.spelled_item objects q o raw) ≡ None
-    by None = refl
+    by None = unread
     by (Some i) = of i
 
 instr_plain : (o : Option Instr) (raw : Item) (f : Instr → Item) → padding_of raw ≡ None → ((i : Instr) → padding_of (f i) ≡ None) → padding_of (of_instr o raw f) ≡ None
@@ -194,6 +198,11 @@ transfer_plain instr.Ecall other p is = is
 transfer_plain instr.Ebreak other p is = is
 transfer_plain (instr.Csrrw rd source) other p is = is
 
+transfer_under_plain : (size : ℕ) (t : Target) (bytes : List ℕ) (n : ℕ) → padding_of (transfer_under size t bytes n) ≡ None
+transfer_under_plain size t bytes n =
+    let unread = raw_by (λ i. padding_of i ≡ None) (λ h. refl) (λ w. refl) size bytes n in
+    instr_plain (instr_in size bytes n) (raw_in size bytes n) _ unread (λ i. place_plain t _ (raw_in size bytes n) (λ p. transfer_plain i (raw_in size bytes n) p unread) unread)
+
 call_plain : (first second : Option Instr) (other : Item) (p : Place) → padding_of other ≡ None → padding_of (call_item first second other p) ≡ None
 call_plain (Some (instr.Upper op temp upper)) (Some (instr.Jalr rd base lower)) other p is = refl
 call_plain first second other p is = is
@@ -210,8 +219,8 @@ module _ (s : SectionParts) (t : Target) (bytes : List ℕ) (n : ℕ) where
   reloc_takes None addend asks known fits = absurd cc
   reloc_takes (Some kind.Ignored) addend asks known fits = absurd cc
   reloc_takes (Some kind.Word) addend asks known fits = Field refl
-  reloc_takes (Some kind.Branch) addend asks known fits = Field (instr_plain (instr_in 4 bytes n) _ _ refl (λ i. place_plain t _ _ (λ p. transfer_plain i _ p refl) refl))
-  reloc_takes (Some kind.Jal) addend asks known fits = Field (instr_plain (instr_in 4 bytes n) _ _ refl (λ i. place_plain t _ _ (λ p. transfer_plain i _ p refl) refl))
+  reloc_takes (Some kind.Branch) addend asks known fits = Field (transfer_under_plain 4 t bytes n)
+  reloc_takes (Some kind.Jal) addend asks known fits = Field (transfer_under_plain 4 t bytes n)
   reloc_takes (Some kind.Call) addend asks known fits = Field (place_plain t _ (raw_pair bytes n) (λ p. call_plain (instr_in 4 bytes n) (instr_in 4 bytes (n + 4)) _ p refl) refl)
   reloc_takes (Some kind.PcrelHi20) addend asks known fits = Field (instr_plain (instr_in 4 bytes n) _ _ refl (λ i. refl))
   reloc_takes (Some kind.PcrelLo12I) addend asks known fits = Field (instr_plain (instr_in 4 bytes n) _ _ refl (λ i. place_plain t _ _ (λ p. refl) refl))
@@ -219,8 +228,8 @@ module _ (s : SectionParts) (t : Target) (bytes : List ℕ) (n : ℕ) where
   reloc_takes (Some kind.Hi20) addend asks known fits = Field (instr_plain (instr_in 4 bytes n) _ _ refl (λ i. refl))
   reloc_takes (Some kind.Lo12I) addend asks known fits = Field (instr_plain (instr_in 4 bytes n) _ _ refl (λ i. refl))
   reloc_takes (Some kind.Lo12S) addend asks known fits = Field (instr_plain (instr_in 4 bytes n) _ _ refl (λ i. refl))
-  reloc_takes (Some kind.RvcBranch) addend asks known fits = absurd (rvc_bad s kind.RvcBranch refl known)
-  reloc_takes (Some kind.RvcJump) addend asks known fits = absurd (rvc_bad s kind.RvcJump refl known)
+  reloc_takes (Some kind.RvcBranch) addend asks known fits = Field (transfer_under_plain 2 t bytes n)
+  reloc_takes (Some kind.RvcJump) addend asks known fits = Field (transfer_under_plain 2 t bytes n)
   reloc_takes (Some kind.Align) addend asks known fits = by addend fits
     where
       by : (z : ℤ) → is_padding s.compressed z ≡ true → TakesBy (Some kind.Align) z (Align (padding_length z))

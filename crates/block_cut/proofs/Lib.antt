@@ -3,6 +3,7 @@ pub mod DataLaws
 pub mod FaultLaws
 pub mod FieldLaws
 pub mod FirstLaws
+pub mod InstrLaws
 pub mod ItemLaws
 pub mod JudgeLaws
 pub mod LedLaws
@@ -12,6 +13,7 @@ pub mod OrderLaws
 mod PlaceLaws
 pub mod PlaceOrder
 pub mod PlainLaws
+pub mod RawLaws
 pub mod ReachLaws
 pub mod RelocTargetLaws
 pub mod ResolvedLaws
@@ -19,6 +21,7 @@ pub mod RoomLaws
 pub mod SizeLaws
 pub mod SoundLaws
 pub mod StartLaws
+pub mod StrayLaws
 pub mod TableLaws
 pub mod TakeLaws
 pub mod TextLaws

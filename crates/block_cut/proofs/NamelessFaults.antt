@@ -1,5 +1,6 @@
 -- Faults of code name no symbol: those of relocations, of the start and of branches.
 use Rattle.std.proofs.Common.{◌≡◌, ℕ, Bool, true, false, List, [], ◌∷◌, Option, Some, None, map, cond, is_none, refl, sym, subst}
+use Rattle.std.specs.Prelude.{◌||◌}
 use Rattle.std.specs.List.{find}
 use Rattle.std.specs.Option.{option_map, option_or}
 use Rattle.zc_base.specs.declared.place.Place.{Place}
@@ -11,7 +12,7 @@ use Rattle.psabi_reloc.specs.Kinds.{kind_of}
 use Rattle.psabi_sym.specs.Faults.{first_some, gather_fault}
 use Rattle.psabi_sym.specs.Inputs.{Inputs, ParsedInputs, parsed}
 use Rattle.psabi_sym.specs.Indexed.{IndexedSection, all_sections}
-use Rattle.block_cut.specs.Faults.{entry_fault, first_fault, has_bad_target, if_so, is_out_of_reach, lacks_pcrel_hi, range_fault, reloc_fault, relocs_fault, section_fault}
+use Rattle.block_cut.specs.Faults.{entry_fault, first_fault, has_bad_target, if_so, is_out_of_reach, is_stray, lacks_pcrel_hi, range_fault, reloc_fault, relocs_fault, section_fault}
 use Rattle.block_cut.specs.Items.{all_places, entry_in}
 use Rattle.block_cut.specs.Relocs.{is_bad_kind, is_bad_place}
 
@@ -40,7 +41,7 @@ by_tests section at false false false false = tt
 
 reloc_nameless : (inputs : ParsedInputs) (l : IndexedSection) (r : Reloc) → IsNameless fault_alone (reloc_fault inputs l r)
 reloc_nameless inputs l r =
-    by_tests l.index r.offset (is_bad_kind l.section (kind_of r.kind)) (is_bad_place l.section r) (lacks_pcrel_hi inputs l r) (has_bad_target inputs l r)
+    by_tests l.index r.offset (is_bad_kind l.section (kind_of r.kind)) (is_bad_place l.section r || is_stray l.section r) (lacks_pcrel_hi inputs l r) (has_bad_target inputs l r)
 
 all_nameless : {A B : Type 0} (f : A → Fault) (g : B → Option A) → ((x : B) → IsNameless f (g x)) → (xs : List B) → IsNameless f (first_some (map g xs))
 all_nameless f g each [] = tt

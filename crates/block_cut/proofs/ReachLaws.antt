@@ -1,25 +1,25 @@
 -- The first place of a branch that doesn't reach: a test of each place of code, section after section.
-use Rattle.std.proofs.Common.{◌≡◌, ℕ, ◌+◌, ◌≤◌, List, [], ◌∷◌, ◌++◌, length, drop, map, not, take, Bool, true, false, cond, Option, IfSome, Some, None, slice_get, refl, sym, ap, ◌∙◌, arith}
+use Rattle.std.proofs.Common.{◌≡◌, ◌≢◌, ℕ, ◌+◌, ◌≤◌, List, [], ◌∷◌, ◌++◌, length, drop, map, not, take, Bool, true, false, cond, eqb, Option, IfSome, Some, None, slice_get, refl, sym, ap, ◌∙◌, arith}
 use Rattle.std.specs.List.{find, flat_map}
-use Rattle.std.specs.Option.{option_and_then, option_map, option_map_or, option_or}
+use Rattle.std.specs.Option.{option_map, option_map_or, option_or}
+use Rattle.std.proofs.lemmas.Bool.{ne_eqb}
 use Rattle.std.proofs.lemmas.List.{append-nil}
 use Rattle.std.proofs.lemmas.List.Concat.{flat_map-append}
 use Rattle.std.proofs.lemmas.List.Folds.{find-append}
 use Rattle.std.proofs.lemmas.Option.{slice_get-map}
 use Rattle.zc_base.specs.declared.place.Place.{Place}
-use Rattle.zc_base.specs.declared.reg.Reg.{Reg}
 use Rattle.elf32_read.specs.Parts.{SectionParts, is_code_section}
-use Rattle.psabi_reloc.specs.Reaches.{branch_reach}
+use Rattle.psabi_reloc.specs.Reaches.{branch_reach, short_branch_reach}
 use Rattle.psabi_sym.specs.Faults.{gather_fault}
 use Rattle.psabi_sym.specs.Inputs.{Inputs, ParsedInputs, parsed}
 use Rattle.psabi_sym.specs.Indexed.{IndexedSection, section_at}
-use Rattle.rv_decode.specs.declared.instr.BranchOp.{BranchOp}
-use Rattle.block_cut.specs.Faults.{branch_place, distance_between, is_far, is_out_of_reach}
-use Rattle.block_cut.specs.Items.{item_at, item_in, place_of, places_of, starts_in, targets_in}
+use Rattle.block_cut.specs.Faults.{distance_between, is_far, is_out_of_reach, plain_distance, reaches, way_place}
+use Rattle.block_cut.specs.Items.{item_at, item_in, place_of, places_of, size_at, starts_in, targets_in}
 use Rattle.block_cut.specs.Places.{code_place, code_places}
 use Rattle.block_cut.specs.PlainLayout.{plain_address}
 use Rattle.block_cut.specs.declared.code_place.CodePlace.{CodePlace}
-use Rattle.block_cut.specs.declared.item.Item.TheVariants.{Branch}
+use Rattle.block_cut.specs.declared.item.Item.{Item}
+use Rattle.block_cut.specs.declared.item.Item.TheVariants.{Op, Hi, Lo, PcHi, PcLo, Branch, Jump, Call, Align, Word, Raw, RawShort, RawPair}
 use Rattle.block_cut.proofs.ItemLaws.{item_at-code}
 use Rattle.block_cut.proofs.PlainLaws.{address_range}
 use Rattle.block_cut.proofs.RoomLaws.{plain_end-fits}
@@ -28,10 +28,53 @@ use Rattle.block_cut.proofs.WordLaws.{code_here, end_other, found_next, or_none}
 
 -- ---- a place
 
--- a branch that doesn't reach, by the two addresses
-pub branch_there : (inputs : ParsedInputs) (q to : Place) (op : BranchOp) (first second : Reg) → item_at inputs q ≡ Some (Branch op first second to)
-    → is_out_of_reach inputs q ≡ option_map_or (λ d. not (branch_reach d)) (distance_between (plain_address inputs q) (plain_address inputs to)) false
-branch_there inputs q to op first second at = ap (λ o. option_map_or (is_far inputs q) (option_and_then branch_place o) false) at
+-- whether it is out of reach, by its item
+abbrev out_by : ParsedInputs → Place → Option Item → Bool
+out_by inputs q o = option_map_or (λ i. option_map_or (is_far inputs q (size_at inputs.objects q) i) (way_place (size_at inputs.objects q) i) false) o false
+
+-- what leads nowhere that it has to reach isn't
+pub no_way : (inputs : ParsedInputs) (q : Place) (i : Item) → item_at inputs q ≡ Some i → way_place (size_at inputs.objects q) i ≡ None → is_out_of_reach inputs q ≡ false
+no_way inputs q i at none = ap (out_by inputs q) at ∙ ap (λ o. option_map_or (is_far inputs q (size_at inputs.objects q) i) o false) none
+
+-- and else it is by the two addresses
+pub way_there : (inputs : ParsedInputs) (q to : Place) (i : Item) → item_at inputs q ≡ Some i → way_place (size_at inputs.objects q) i ≡ Some to
+    → is_out_of_reach inputs q ≡ option_map_or (λ d. not (reaches (size_at inputs.objects q) i d)) (distance_between (plain_address inputs q) (plain_address inputs to)) false
+way_there inputs q to i at leads = ap (out_by inputs q) at ∙ ap (λ o. option_map_or (is_far inputs q (size_at inputs.objects q) i) o false) leads
+
+-- the branch that an item is leads here
+abbrev pub branch_place : Item → Option Place
+branch_place (Branch op first second to) = Some to
+branch_place item = None
+
+-- it is too far for a branch of 4 bytes
+abbrev pub is_far_branch : ParsedInputs → Place → Place → Bool
+is_far_branch inputs q to = option_map_or (λ d. not (branch_reach d)) (plain_distance inputs q to) false
+
+-- what has another size than 2 is out of reach if it is such a branch
+pub out_plain : (inputs : ParsedInputs) (q : Place) (i : Item) → item_at inputs q ≡ Some i → size_at inputs.objects q ≢ 2
+    → is_out_of_reach inputs q ≡ option_map_or (is_far_branch inputs q) (branch_place i) false
+out_plain inputs q i at long = ap (out_by inputs q) at ∙ by i
+  where
+    size : ℕ
+    size = size_at inputs.objects q
+
+    other : eqb size 2 ≡ false
+    other = ne_eqb size 2 long
+
+    by : (i : Item) → option_map_or (is_far inputs q size i) (way_place size i) false ≡ option_map_or (is_far_branch inputs q) (branch_place i) false
+    by (Op i) = refl
+    by (Hi i t) = refl
+    by (Lo i t) = refl
+    by (PcHi i t) = refl
+    by (PcLo i from) = refl
+    by (Branch op first second to) = ap (λ b. option_map_or (λ d. not (cond b (short_branch_reach d) (branch_reach d))) (plain_distance inputs q to) false) other
+    by (Jump rd to) = ap (λ b. option_map_or (is_far inputs q size (Jump rd to)) (cond b (Some to) None) false) other
+    by (Call rd temp to) = refl
+    by (Align bytes) = refl
+    by (Word t) = refl
+    by (Raw word) = refl
+    by (RawShort half) = refl
+    by (RawPair one two) = refl
 
 -- an address is near the text's start
 pub in_range : (inputs : Inputs) → gather_fault inputs ≡ None → (q : Place) → IfSome (plain_address (parsed inputs) q) (λ a. (inputs.map.text ≤ a) × (a ≤ inputs.map.text + 0x4_0000))
@@ -74,7 +117,7 @@ first_on inputs l none found = by (is_code_section l.section) refl
         let n = length s.bytes in
         let nothing : item_at (parsed inputs) (place_of l n) ≡ None =
         item_at-code (parsed inputs) (place_of l n) s (here.at n) ∙ ap (λ b. cond b (Some (item_in (parsed inputs) s (place_of l n))) None) (end_other s code here.whole) in
-        let reaches : out (place_of l n) ≡ false = ap (λ o. option_map_or (is_far (parsed inputs) (place_of l n)) (option_and_then branch_place o) false) nothing in
+        let reaches : out (place_of l n) ≡ false = ap (out_by (parsed inputs) (place_of l n)) nothing in
         let all : find (λ m. out (place_of l m)) (targets_in s) ≡ find (λ m. out (place_of l m)) (starts_in s) =
         find-append (λ m. out (place_of l m)) (starts_in s) (n ∷ []) ∙ ap (λ b. option_or (find (λ m. out (place_of l m)) (starts_in s)) (cond b (Some n) None)) reaches
         ∙ or_none (find (λ m. out (place_of l m)) (starts_in s)) in

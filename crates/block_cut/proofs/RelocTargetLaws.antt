@@ -23,12 +23,13 @@ use Rattle.block_cut.specs.Faults.{if_so, is_bad_target, section_fault}
 use Rattle.block_cut.specs.Items.{code_only, is_target_at, place_of}
 use Rattle.block_cut.specs.Leaders.{is_place, section_leads}
 use Rattle.block_cut.specs.Relocs.{is_transfer}
-use Rattle.block_cut.specs.Resolved.{code_relocs, fault_of, resolved_fault, resolved_relocs}
+use Rattle.block_cut.specs.Resolved.{code_relocs, fault_of, resolved_fault, placed_relocs}
 use Rattle.block_cut.specs.Invariants.SectionText.{by_halfword, number_on, numbers_in}
 use Rattle.block_cut.specs.declared.resolved_reloc.RelocFault.{RelocFault}
 use Rattle.block_cut.specs.declared.resolved_reloc.ResolvedReloc.{ResolvedReloc}
 use Rattle.block_cut.proofs.JudgeLaws.{section_resolved}
-use Rattle.block_cut.proofs.LedLaws.{or_assoc, or_false, relocs_lead}
+use Rattle.block_cut.proofs.LedLaws.{or_assoc, or_false}
+use Rattle.block_cut.proofs.StrayLaws.{placed_lead}
 use Rattle.block_cut.proofs.WordLaws.{number_got, some_target}
 
 -- ---- lists
@@ -101,20 +102,20 @@ fine_all objects i (d ∷ ds) right leads =
 pub fine_section : (inputs : ParsedInputs) (l : IndexedSection) → is_code_section l.section ≡ true → list_any is_wrong (code_relocs inputs l) ≡ false
     → ((q : Place) → code_leads inputs q l ≡ true → is_target_at inputs.objects q ≡ true) → section_fault inputs l ≡ None
 fine_section inputs l code right leads =
-    let own : code_relocs inputs l ≡ resolved_relocs inputs l = ap (λ b. cond b (resolved_relocs inputs l) []) code in
+    let own : code_relocs inputs l ≡ placed_relocs inputs l = ap (λ b. cond b (placed_relocs inputs l) []) code in
     let none = fine_all inputs.objects l.index (code_relocs inputs l) right leads in
     sym (section_resolved inputs l)
     ∙ ap (option_map {U = ℕ × Fault} (λ (f : Fault). (l.object, f))) (ap (λ ds. first_some (map (resolved_fault inputs.objects l.index) ds)) (sym own) ∙ none)
 
 -- ---- one section after another
 
-module _ (inputs : ParsedInputs) (l : IndexedSection) (b : Bool) (own : List ResolvedReloc) (is : own ≡ cond b [] (resolved_relocs inputs l)) where
+module _ (inputs : ParsedInputs) (l : IndexedSection) (b : Bool) (own : List ResolvedReloc) (is : own ≡ cond b [] (placed_relocs inputs l)) where
   -- what is left to be judged of a section has its first fault, if what isn't left has none
   pub left_judged : (b ≡ true → section_fault inputs l ≡ None) → option_map {U = ℕ × Fault} (λ (f : Fault). (l.object, f)) (first_some (map (resolved_fault inputs.objects l.index) own)) ≡ section_fault inputs l
   left_judged fine = ap (λ ds. option_map {U = ℕ × Fault} (λ (f : Fault). (l.object, f)) (first_some (map (resolved_fault inputs.objects l.index) ds))) is ∙ by b fine
     where
       by : (b : Bool) → (b ≡ true → section_fault inputs l ≡ None)
-          → option_map {U = ℕ × Fault} (λ (f : Fault). (l.object, f)) (first_some (map (resolved_fault inputs.objects l.index) (cond b [] (resolved_relocs inputs l)))) ≡ section_fault inputs l
+          → option_map {U = ℕ × Fault} (λ (f : Fault). (l.object, f)) (first_some (map (resolved_fault inputs.objects l.index) (cond b [] (placed_relocs inputs l)))) ≡ section_fault inputs l
       by true fine = sym (fine refl)
       by false fine = section_resolved inputs l
 
@@ -130,13 +131,13 @@ module _ (inputs : ParsedInputs) (l : IndexedSection) (b : Bool) (own : List Res
       skipped false false true kept = kept refl
 
       by : (b : Bool) → (b ≡ true → section_leads inputs q l ≡ true → before ≡ true)
-          → ((before || rest) || list_any (λ d. is_place q d.target) (cond b [] (resolved_relocs inputs l))) ≡ (before || (rest || section_leads inputs q l))
+          → ((before || rest) || list_any (λ d. is_place q d.target) (cond b [] (placed_relocs inputs l))) ≡ (before || (rest || section_leads inputs q l))
       by true kept = skipped before rest (section_leads inputs q l) (kept refl)
-      by false kept = or_assoc before rest _ ∙ ap (λ h. before || (rest || h)) (relocs_lead inputs l q)
+      by false kept = or_assoc before rest _ ∙ ap (λ h. before || (rest || h)) (placed_lead inputs l q)
 
 -- the relocations of code lead where all of its section do
 pub code_lead : (inputs : ParsedInputs) (q : Place) (l : IndexedSection) → is_code_section l.section ≡ true → code_leads inputs q l ≡ section_leads inputs q l
-code_lead inputs q l code = ap (λ b. list_any (λ d. is_place q d.target) (cond b (resolved_relocs inputs l) [])) code ∙ relocs_lead inputs l q
+code_lead inputs q l code = ap (λ b. list_any (λ d. is_place q d.target) (cond b (placed_relocs inputs l) [])) code ∙ placed_lead inputs l q
 
 -- so no place is added by them that isn't by all
 pub code_led : (inputs : ParsedInputs) (q : Place) (ls : List IndexedSection) → (list_any (code_leads inputs q) ls || list_any (section_leads inputs q) ls) ≡ list_any (section_leads inputs q) ls
@@ -149,8 +150,8 @@ code_led inputs q ls = both (list_any (code_leads inputs q) ls) (list_any (secti
     one : (l : IndexedSection) → code_leads inputs q l ≡ true → section_leads inputs q l ≡ true
     one l leads = by (is_code_section l.section) refl leads
       where
-        by : (b : Bool) → is_code_section l.section ≡ b → list_any (λ d. is_place q d.target) (cond b (resolved_relocs inputs l) []) ≡ true → section_leads inputs q l ≡ true
-        by true code leads = sym (relocs_lead inputs l q) ∙ leads
+        by : (b : Bool) → is_code_section l.section ≡ b → list_any (λ d. is_place q d.target) (cond b (placed_relocs inputs l) []) ≡ true → section_leads inputs q l ≡ true
+        by true code leads = sym (placed_lead inputs l q) ∙ leads
         by false other leads = absurd cc
 
 -- one of the elements settles a test of all

@@ -2,7 +2,7 @@
 use Rattle.std.proofs.Common.{◌≡◌, ℕ, ◌+◌, ◌%◌, ◌≤◌, ℤ, pos, negsuc, List, [], ◌∷◌, Bool, true, false, cond, Option, Some, None, eqb, ltb, refl, sym, ap, ◌∙◌, arith}
 use Rattle.std.specs.Prelude.{◌&&◌, ◌||◌, not}
 use Rattle.std.specs.List.{find}
-use Rattle.std.proofs.lemmas.Bool.{and_parts, or_parts, not-true, eqb-true, ltb-true, ltb-false}
+use Rattle.std.proofs.lemmas.Bool.{and_parts, or_parts, not-false, not-true, eqb-true, ltb-true, ltb-false}
 use Rattle.elf32_read.specs.Parts.{SectionParts, is_code_section}
 use Rattle.elf32_read.specs.declared.reloc.Reloc.{Reloc}
 use Rattle.psabi_reloc.specs.Kinds.{field_length, kind_of}
@@ -44,12 +44,17 @@ four c = record { some = omega arith; words = step_four c 4 refl; short = omega 
 eight : (c : Bool) → IsField c 8
 eight c = record { some = omega arith; words = step_four c 8 refl; short = omega arith }
 
--- what changes an instruction of 2 bytes can't stand
-pub rvc_bad : (s : SectionParts) (k : RelocKind) → is_rvc (Some k) ≡ true → is_bad_kind s (Some k) ≡ false → ⊥
-rvc_bad s k rvc known =
-    let two = or_parts (not (is_code_section s) && (not (is_ignored (Some k)) && not (is_word (Some k)))) (is_rvc (Some k)) known in
-    let e : true ≡ false = sym rvc ∙ two.1 in
-    absurd cc
+-- what changes an instruction of 2 bytes stands in compressed objects alone
+pub rvc_compressed : (s : SectionParts) (k : RelocKind) → is_rvc (Some k) ≡ true → is_bad_kind s (Some k) ≡ false → s.compressed ≡ true
+rvc_compressed s k rvc known =
+    let parts = or_parts (not (is_code_section s) && (not (is_ignored (Some k)) && not (is_word (Some k)))) (is_rvc (Some k) && not s.compressed) known in
+    not-false s.compressed (ap (λ b. b && not s.compressed) (sym rvc) ∙ parts.1)
+
+pub rvc_bad : (s : SectionParts) (k : RelocKind) → s.compressed ≡ false → is_rvc (Some k) ≡ true → is_bad_kind s (Some k) ≡ false → ⊥
+rvc_bad s k plain rvc known = let both = rvc_compressed s k rvc known in absurd (cc (plain, both))
+
+two : (c : Bool) → c ≡ true → IsField c 2
+two c is = record { some = omega arith; words = ap (λ b. 2 % code_step b) is; short = omega arith }
 
 -- the field of a kind that is known and asks for something
 kind_field : (s : SectionParts) (n : ℕ) (addend : ℤ) (k : Option RelocKind) → is_ignored k ≡ false → is_bad_kind s k ≡ false → fits_at s n addend k ≡ true → IsField s.compressed (field_length k addend)
@@ -65,8 +70,8 @@ kind_field s n addend (Some PcrelLo12S) ignored bad fits = four s.compressed
 kind_field s n addend (Some Hi20) ignored bad fits = four s.compressed
 kind_field s n addend (Some Lo12I) ignored bad fits = four s.compressed
 kind_field s n addend (Some Lo12S) ignored bad fits = four s.compressed
-kind_field s n addend (Some RvcBranch) ignored bad fits = absurd (rvc_bad s RvcBranch refl bad)
-kind_field s n addend (Some RvcJump) ignored bad fits = absurd (rvc_bad s RvcJump refl bad)
+kind_field s n addend (Some RvcBranch) ignored bad fits = two s.compressed (rvc_compressed s RvcBranch refl bad)
+kind_field s n addend (Some RvcJump) ignored bad fits = two s.compressed (rvc_compressed s RvcJump refl bad)
 kind_field s n addend (Some Align) ignored bad fits = padding_field s.compressed addend fits
 
 -- a sound relocation at an offset of code

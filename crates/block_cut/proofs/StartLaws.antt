@@ -11,7 +11,7 @@ use Rattle.elf32_read.specs.declared.reloc.Reloc.{Reloc}
 use Rattle.block_cut.specs.Items.{size_on, starts_from, starts_in, starts_on}
 use Rattle.block_cut.specs.Relocs.{field_of, reloc_on}
 use Rattle.block_cut.specs.CodeSizes.{own_size, code_step}
-use Rattle.block_cut.proofs.CodeSizeLaws.{own_short, own_sized, step_sum}
+use Rattle.block_cut.proofs.CodeSizeLaws.{own_short, own_sized, step_four, step_sum}
 use Rattle.block_cut.proofs.SoundLaws.{sound_at}
 use Rattle.block_cut.specs.Whole.{IsWhole}
 
@@ -176,7 +176,7 @@ module _ (s : SectionParts) (code : is_code_section s ≡ true) (whole : IsWhole
       → ((n : ℕ) (xs : List ℕ) → n < length s.bytes → n % code_step s.compressed ≡ 0 → IsStep s n → Above (n + size_on s n) xs → P (n + size_on s n) xs → P n (n ∷ xs))
       → P 0 (starts_in s)
   unfolding starts_in
-  along P last each = along_from P last each (length s.bytes) 0 refl (omega arith) (omega arith)
+  along P last each = along_from P last each (length s.bytes) 0 (step_four s.compressed 0 refl) (omega arith) (omega arith)
 
   -- ---- starts
 

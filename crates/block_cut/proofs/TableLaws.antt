@@ -128,10 +128,14 @@ table_all relocs count k table past is = record {
 -- ---- what the relocation at an offset says
 
 -- how many bytes what stands there has
-pub sized_on : (inputs : ParsedInputs) (l : IndexedSection) (n : ℕ) → is_code_section l.section ≡ true → option_map_or (λ d. d.size) (find (is_right_at n) (resolved_relocs inputs l)) 4 ≡ size_on l.section n
-sized_on inputs l n code = ap (λ o. option_map_or (λ (d : ResolvedReloc). d.size) o 4) (resolved_on inputs l n) ∙ by (reloc_on l.section n) refl
+pub sized_on : (inputs : ParsedInputs) (l : IndexedSection) (n : ℕ) → is_code_section l.section ≡ true
+    → option_map_or (λ d. d.size) (find (is_right_at n) (resolved_relocs inputs l)) (own_size l.section.compressed l.section.bytes n) ≡ size_on l.section n
+sized_on inputs l n code = ap (λ o. option_map_or (λ (d : ResolvedReloc). d.size) o own) (resolved_on inputs l n) ∙ by (reloc_on l.section n) refl
   where
-    by : (o : Option Reloc) → reloc_on l.section n ≡ o → option_map_or (λ (d : ResolvedReloc). d.size) (option_map (resolved_reloc inputs l) o) 4 ≡ option_map_or field_of o (own_size l.section.compressed l.section.bytes n)
+    own : ℕ
+    own = own_size l.section.compressed l.section.bytes n
+
+    by : (o : Option Reloc) → reloc_on l.section n ≡ o → option_map_or (λ (d : ResolvedReloc). d.size) (option_map (resolved_reloc inputs l) o) own ≡ option_map_or field_of o own
     by None at = refl
     by (Some r) at = (resolved_at inputs l n r code at).size
 
@@ -149,9 +153,12 @@ item_with inputs l n d code found = by (reloc_on l.section n) refl (sym (resolve
 
 -- and without one
 pub item_without : (inputs : ParsedInputs) (l : IndexedSection) (n : ℕ) → find (is_right_at n) (resolved_relocs inputs l) ≡ None
-    → item_under inputs (place_of l n) None (size_on l.section n) l.section.bytes ≡ item_in inputs l.section (place_of l n)
+    → item_under inputs (place_of l n) None (own_size l.section.compressed l.section.bytes n) l.section.bytes ≡ item_in inputs l.section (place_of l n)
 item_without inputs l n found = by (reloc_on l.section n) refl (sym (resolved_on inputs l n) ∙ found)
   where
-    by : (o : Option Reloc) → reloc_on l.section n ≡ o → option_map (resolved_reloc inputs l) o ≡ None → item_under inputs (place_of l n) None (size_on l.section n) l.section.bytes ≡ item_in inputs l.section (place_of l n)
-    by None at is = ap (λ o. item_under inputs (place_of l n) o (size_on l.section n) l.section.bytes) (sym at)
+    own : ℕ
+    own = own_size l.section.compressed l.section.bytes n
+
+    by : (o : Option Reloc) → reloc_on l.section n ≡ o → option_map (resolved_reloc inputs l) o ≡ None → item_under inputs (place_of l n) None own l.section.bytes ≡ item_in inputs l.section (place_of l n)
+    by None at is = ap (λ o. item_under inputs (place_of l n) o (option_map_or field_of o own) l.section.bytes) (sym at)
     by (Some r) at is = absurd cc

@@ -1,5 +1,5 @@
 -- The places of a section of code, halfword after halfword: which there are and where they lie; and how far code comes with each section.
-use Rattle.std.proofs.Common.{◌≡◌, ◌≢◌, ℕ, ◌+◌, ◌-◌, ◌*◌, ◌/◌, ◌%◌, ◌<◌, ◌≤◌, List, [], ◌∷◌, ◌++◌, length, filter, get_or, map, drop, take, Bool, true, false, cond, Option, IfSome, Some, None, refl, sym, ap, subst, ◌∙◌, arith, eqb, ltb, inl, inr, slice_get}
+use Rattle.std.proofs.Common.{◌≡◌, ◌≢◌, ℕ, ◌+◌, ◌-◌, ◌*◌, ◌/◌, ◌%◌, ◌<◌, ◌≤◌, List, [], ◌∷◌, ◌++◌, length, filter, get_or, map, drop, take, Bool, true, false, cond, ℤ, Option, Some, None, refl, sym, ap, subst, ◌∙◌, arith, eqb, ltb, inl, inr, slice_get}
 use Rattle.std.specs.Prelude.{◌||◌}
 use Rattle.std.specs.List.{find, flat_map}
 use Rattle.std.specs.Option.{option_and_then, option_map, option_map_or, unwrap_or}
@@ -13,7 +13,8 @@ use Rattle.zc_base.specs.declared.place.Place.{Place}
 use Rattle.elf32_read.specs.Parts.{ObjectParts, SectionParts, is_code_section}
 use Rattle.elf32_read.specs.declared.reloc.Reloc.{Reloc}
 use Rattle.psabi_reloc.specs.Kinds.{field_length, kind_of}
-use Rattle.psabi_reloc.specs.declared.kind.RelocKind.TheVariants.{Call}
+use Rattle.psabi_reloc.specs.declared.kind.RelocKind.{RelocKind}
+use Rattle.psabi_reloc.specs.declared.kind.RelocKind.TheVariants as kind
 use Rattle.psabi_sym.specs.Faults.{code_room, gather_fault}
 use Rattle.psabi_sym.specs.Inputs.{Inputs, ParsedInputs, parsed}
 use Rattle.psabi_sym.specs.Indexed.{IndexedSection, all_sections, section_at, sections_before}
@@ -22,9 +23,10 @@ use Rattle.block_cut.specs.Invariants.CodeSection.{IsCodeSection}
 use Rattle.block_cut.specs.Items.{code_at, code_only, index_on, is_target_at, item_in, items_in, place_of, size_at, size_on, starts_in, starts_on, targets_in}
 use Rattle.block_cut.specs.Places.{IsPlaceNumber, code_place, code_places}
 use Rattle.block_cut.specs.PlainLayout.{address_on, after_item, after_start, after_starts, plain_address, plain_end_of, plain_start, section_end, starts_before}
-use Rattle.block_cut.specs.Relocs.{field_of, reloc_on}
+use Rattle.block_cut.specs.CodeSizes.{code_step, own_size}
+use Rattle.block_cut.specs.Relocs.{is_bad_kind, is_ignored, reloc_on}
 use Rattle.block_cut.specs.Resolved.{asks, is_right_at, resolved_reloc, resolved_relocs}
-use Rattle.block_cut.specs.Invariants.SectionText.{HasRoom, SectionTables, by_halfword, number_on, numbered, numbers_in, section_tables}
+use Rattle.block_cut.specs.Invariants.SectionText.{HasRoom, SectionTables, by_halfword, number_on, numbered, numbers_in, read_length, section_tables}
 use Rattle.block_cut.specs.Invariants.CodeTables.{IsCodeSpan}
 use Rattle.block_cut.specs.Whole.{IsWhole}
 use Rattle.block_cut.specs.declared.code_place.CodePlace.{CodePlace}
@@ -36,9 +38,9 @@ use Rattle.block_cut.proofs.PlainLaws.{offset_end, offset_rises, place_address, 
 use Rattle.block_cut.proofs.ResolvedLaws.{resolved_on}
 use Rattle.block_cut.proofs.RoomLaws.{AreWhole, all_whole, code_room_is, items_in-code, items_in-other, plain_end-fits, rooms, rooms_few, section_end-ge, section_end-other}
 use Rattle.block_cut.proofs.SoundLaws.{sound_at}
-use Rattle.block_cut.proofs.StartLaws.{along, before_end_all, before_first_none, start_is}
+use Rattle.block_cut.proofs.StartLaws.{IsStart, along, before_end_all, before_first_none, start_is}
 use Rattle.block_cut.proofs.TakeLaws.{take_next}
-use Rattle.block_cut.proofs.CodeSizeLaws.{step_even}
+use Rattle.block_cut.proofs.CodeSizeLaws.{own_sized, step_even}
 use Rattle.block_cut.proofs.WholeLaws.{inputs_whole}
 use Rattle.block_cut.proofs.WordLaws.{IsCodeHere, before_other, before_start, code_here, end_other, last_got, no_target, number_target, some_target, target_got, target_nowhere}
 
@@ -52,25 +54,48 @@ reloc_found inputs l section n reloc is words inside got =
     ap (λ m. find (is_right_at m) (resolved_relocs (parsed inputs) l)) (sym even) ∙ ap (find (is_right_at (2 * (n / 2)))) (sym is.relocs_are)
     ∙ sym (is.table_is.each (n / 2) (omega (arith, inside))) ∙ sym got
 
+-- what says which item stands with a kind that is known lies in the bytes that it changes
+read_inside : (k : Option RelocKind) (addend : ℤ) (s : SectionParts) → is_ignored k ≡ false → is_bad_kind s k ≡ false → read_length k ≤ field_length k addend
+read_inside None addend s asks known = absurd cc
+read_inside (Some kind.Ignored) addend s asks known = absurd cc
+read_inside (Some kind.Word) addend s asks known = omega arith
+read_inside (Some kind.Branch) addend s asks known = omega arith
+read_inside (Some kind.Jal) addend s asks known = omega arith
+read_inside (Some kind.Call) addend s asks known = omega arith
+read_inside (Some kind.PcrelHi20) addend s asks known = omega arith
+read_inside (Some kind.PcrelLo12I) addend s asks known = omega arith
+read_inside (Some kind.PcrelLo12S) addend s asks known = omega arith
+read_inside (Some kind.Hi20) addend s asks known = omega arith
+read_inside (Some kind.Lo12I) addend s asks known = omega arith
+read_inside (Some kind.Lo12S) addend s asks known = omega arith
+read_inside (Some kind.RvcBranch) addend s asks known = omega arith
+read_inside (Some kind.RvcJump) addend s asks known = omega arith
+read_inside (Some kind.Align) addend s asks known = omega arith
+
 -- an item has room where one starts, by that relocation
 pub room_there : (inputs : Inputs) (l : IndexedSection) (section : CodeSection) (n : ℕ) (reloc : Option ResolvedReloc) → IsCodeSection inputs l section → IsWhole l.section → starts_on l.section n ≡ true
     → reloc ≡ numbered section.relocs.now (get_or section.table.now (n / 2) 0) → HasRoom section.content n reloc
 room_there inputs l section n reloc is whole start got =
-    let s = l.section in
-    let own = start_is s is.code whole n start in
-    let long = ap length is.content_is in
     let found = reloc_found inputs l section n reloc is (step_even s.compressed n own.words) (omega (arith, own.inside)) got in
-    record { word = omega (arith, own.inside, own.words, whole.words, long); second = by (reloc_on s n) refl reloc (sym (resolved_on (parsed inputs) l n) ∙ found) }
+    let room : n + option_map_or (λ (d : ResolvedReloc). read_length d.kind) reloc (own_size s.compressed s.bytes n) ≤ length s.bytes = by (reloc_on s n) refl reloc (sym (resolved_on (parsed inputs) l n) ∙ found) in
+    subst (λ bytes. n + option_map_or (λ (d : ResolvedReloc). read_length d.kind) reloc (own_size section.content.compressed bytes n) ≤ length bytes) (sym is.bytes_are)
+    (subst (λ c. n + option_map_or (λ (d : ResolvedReloc). read_length d.kind) reloc (own_size c s.bytes n) ≤ length s.bytes) (sym is.compressed_is) room)
   where
-    by : (o : Option Reloc) → reloc_on l.section n ≡ o → (d : Option ResolvedReloc) → option_map (resolved_reloc (parsed inputs) l) o ≡ d → IfSome d (λ x. x.kind ≡ Some Call → n + 8 ≤ length section.content)
-    by None at None is_none = tt
+    s : SectionParts
+    s = l.section
+
+    own : IsStart s (starts_in s) n
+    own = start_is s is.code whole n start
+
+    by : (o : Option Reloc) → reloc_on s n ≡ o → (d : Option ResolvedReloc) → option_map (resolved_reloc (parsed inputs) l) o ≡ d
+        → n + option_map_or (λ (x : ResolvedReloc). read_length x.kind) d (own_size s.compressed s.bytes n) ≤ length s.bytes
+    by None at None none = (own_sized s.compressed s.bytes n own.words own.inside whole.words).inside
     by None at (Some d) same = absurd cc
     by (Some r) at None same = absurd cc
-    by (Some r) at (Some d) same = λ call.
+    by (Some r) at (Some d) same =
         let own : resolved_reloc (parsed inputs) l r ≡ d = cc in
-        let kind : kind_of r.kind ≡ Some Call = ap (λ x. x.kind) own ∙ call in
-        let eight : field_of r ≡ 8 = ap (λ x. field_length x r.addend) kind in
-        omega (arith, (sound_at l.section n r is.code at).inside, eight, whole.bytes, ap length is.content_is)
+        let sound = sound_at s n r is.code at in
+        omega (arith, sound.inside, whole.bytes, read_inside (kind_of r.kind) r.addend s sound.asks sound.known, ap (λ x. read_length x.kind) (sym own))
 
 -- relocations that ask for something are no more than all
 pub resolved_few : (inputs : ParsedInputs) (l : IndexedSection) → length (resolved_relocs inputs l) ≤ length l.section.relocs
@@ -87,13 +112,13 @@ resolved_few inputs l = omega (arith, length-map (filter asks l.section.relocs) 
 -- ---- what starts at a halfword
 
 module _ (s : SectionParts) (code : is_code_section s ≡ true) (whole : IsWhole s) (n : ℕ) (is : (starts_on s n || eqb n (length s.bytes)) ≡ true) where
-  -- it is a word
-  pub target_word : n % 4 ≡ 0
-  target_word = by (starts_on s n) refl is
+  -- it is a step of the code
+  pub target_step : n % code_step s.compressed ≡ 0
+  target_step = by (starts_on s n) refl is
     where
-      by : (b : Bool) → starts_on s n ≡ b → (b || eqb n (length s.bytes)) ≡ true → n % 4 ≡ 0
+      by : (b : Bool) → starts_on s n ≡ b → (b || eqb n (length s.bytes)) ≡ true → n % code_step s.compressed ≡ 0
       by true start is = (start_is s code whole n start).words
-      by false other is = ap (λ m. m % 4) (eqb-true n (length s.bytes) is) ∙ whole.words
+      by false other is = ap (λ m. m % code_step s.compressed) (eqb-true n (length s.bytes) is) ∙ whole.words
 
   -- and an item if it isn't the end
   pub target_start : n ≢ length s.bytes → starts_on s n ≡ true

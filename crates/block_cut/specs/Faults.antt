@@ -1,9 +1,9 @@
 -- Why objects are refused: the first fault that stands in them, with its object's index.
 use Rattle.std.specs.Prelude.{ℕ, ℤ, pos, negsuc, ◌-ℤ◌, Bool, true, false, not, ◌&&◌, ◌||◌, ◌==◌, is_none, if◌then◌else◌, List, [], ◌∷◌, map, Option, Some, None}
 use Rattle.std.specs.List.{find}
-use Rattle.std.specs.Option.{option_map, option_map_or, option_and_then}
+use Rattle.std.specs.Option.{option_map, option_map_or}
 use Rattle.zc_base.specs.declared.place.Place.{Place}
-use Rattle.elf32_read.specs.Parts.{ObjectParts}
+use Rattle.elf32_read.specs.Parts.{ObjectParts, SectionParts, is_code_section}
 use Rattle.elf32_read.specs.declared.fault.Fault.{Fault}
 use Rattle.elf32_read.specs.declared.fault.Fault.TheVariants.{RelocKind, RelocPlace, LoPair, BadTarget, Range, NoEntry}
 use Rattle.elf32_read.specs.declared.reloc.Reloc.{Reloc}
@@ -14,12 +14,12 @@ use Rattle.psabi_sym.specs.Resolve.{resolved}
 use Rattle.psabi_sym.specs.declared.target.Target.{Target}
 use Rattle.psabi_sym.specs.declared.target.Target.TheVariants.{Code, Number, Absent, Nowhere}
 use Rattle.psabi_reloc.specs.Kinds.{kind_of}
-use Rattle.psabi_reloc.specs.Reaches.{branch_reach}
-use Rattle.block_cut.specs.Items.{all_places, entry_in, is_target_at, item_at, target_of}
+use Rattle.psabi_reloc.specs.Reaches.{branch_reach, jal_reach, short_branch_reach, short_jump_reach}
+use Rattle.block_cut.specs.Items.{all_places, entry_in, is_target_at, item_at, size_at, starts_on, target_of}
 use Rattle.block_cut.specs.PlainLayout.{plain_address}
 use Rattle.block_cut.specs.Relocs.{is_bad_kind, is_bad_place, is_ignored, is_pcrel_lo, is_transfer, has_pcrel_hi_at}
 use Rattle.block_cut.specs.declared.item.Item.{Item}
-use Rattle.block_cut.specs.declared.item.Item.TheVariants.{Branch}
+use Rattle.block_cut.specs.declared.item.Item.TheVariants.{Branch, Jump}
 
 -- ---- relocations
 
@@ -56,11 +56,15 @@ abbrev pub if_so : Bool → Fault → Option Fault
 if_so true fault = Some fault
 if_so false fault = None
 
+-- a relocation in code that asks for something stands where no item starts
+abbrev pub is_stray : SectionParts → Reloc → Bool
+is_stray s r = is_code_section s && (not (is_ignored (kind_of r.kind)) && not (starts_on s r.offset))
+
 -- the first fault of a relocation
 abbrev pub reloc_fault : ParsedInputs → IndexedSection → Reloc → Option Fault
 reloc_fault inputs l r = first_some (
     if_so (is_bad_kind l.section (kind_of r.kind)) (RelocKind l.index r.offset)
-    ∷ if_so (is_bad_place l.section r) (RelocPlace l.index r.offset)
+    ∷ if_so (is_bad_place l.section r || is_stray l.section r) (RelocPlace l.index r.offset)
     ∷ if_so (lacks_pcrel_hi inputs l r) (LoPair l.index r.offset)
     ∷ if_so (has_bad_target inputs l r) (BadTarget l.index r.offset)
     ∷ [])
@@ -91,18 +95,27 @@ distance_between (Some from) (Some to) = Some (pos to -ℤ pos from)
 abbrev pub plain_distance : ParsedInputs → Place → Place → Option ℤ
 plain_distance inputs q to = distance_between (plain_address inputs q) (plain_address inputs to)
 
--- where a branch leads
-abbrev pub branch_place : Item → Option Place
-branch_place (Branch op first second to) = Some to
-branch_place item = None
+-- where an item of so many bytes leads that has to reach: a branch, or a jump of 2 bytes; code is too short for each other to be far
+abbrev pub way_place : ℕ → Item → Option Place
+way_place size (Branch op first second to) = Some to
+way_place size (Jump rd to) = if size == 2 then Some to else None
+way_place size item = None
 
--- a branch at a place that doesn't reach so far
-abbrev pub is_far : ParsedInputs → Place → Place → Bool
-is_far inputs q to = option_map_or (λ d. not (branch_reach d)) (plain_distance inputs q to) false
+-- a branch or jump of so many bytes reaches so far
+abbrev pub reaches : ℕ → Item → ℤ → Bool
+reaches size (Branch op first second to) distance = if size == 2 then short_branch_reach distance else branch_reach distance
+reaches size (Jump rd to) distance = if size == 2 then short_jump_reach distance else jal_reach distance
+reaches size item distance = true
 
--- a branch stands at a place that doesn't reach in the plain layout
+-- an item of so many bytes at a place doesn't reach another
+abbrev pub is_far : ParsedInputs → Place → ℕ → Item → Place → Bool
+is_far inputs q size i to = option_map_or (λ d. not (reaches size i d)) (plain_distance inputs q to) false
+
+-- what stands at a place doesn't reach in the plain layout where it has to
 abbrev pub is_out_of_reach : ParsedInputs → Place → Bool
-is_out_of_reach inputs q = option_map_or (is_far inputs q) (option_and_then branch_place (item_at inputs q)) false
+is_out_of_reach inputs q =
+    let size = size_at inputs.objects q in
+    option_map_or (λ i. option_map_or (is_far inputs q size i) (way_place size i) false) (item_at inputs q) false
 
 -- the first such place
 unfoldable pub range_fault : ParsedInputs → Option (ℕ × Fault)

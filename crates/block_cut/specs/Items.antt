@@ -3,7 +3,7 @@
 use Rattle.std.specs.Prelude.{ℕ, zero, suc, ◌+◌, ℤ, pos, negsuc, ◌+ℤ◌, Bool, false, ◌||◌, ◌==◌, nat_lt, if◌then◌else◌, List, [], ◌∷◌, ◌++◌, filter, length, map, Option, Some, None}
 use Rattle.std.specs.List.{flat_map, list_any}
 use Rattle.std.specs.Option.{option_and_then, option_map_or, unwrap_or}
-use Rattle.zc_base.specs.Fields.{word_in}
+use Rattle.zc_base.specs.Fields.{half_in, word_in}
 use Rattle.zc_base.specs.declared.place.Place.{Place}
 use Rattle.elf32_read.specs.Parts.{ObjectParts, SectionParts, is_code_section}
 use Rattle.elf32_read.specs.declared.reloc.Reloc.{Reloc}
@@ -21,7 +21,7 @@ use Rattle.rv_decode.specs.declared.instr.Instr.TheVariants as instr
 use Rattle.block_cut.specs.Relocs.{field_of, instr_in, reloc_on}
 use Rattle.block_cut.specs.CodeSizes.{own_size}
 use Rattle.block_cut.specs.declared.item.Item.{Item}
-use Rattle.block_cut.specs.declared.item.Item.TheVariants.{Op, Hi, Lo, PcHi, PcLo, Branch, Jump, Call, Align, Word, Raw, RawPair}
+use Rattle.block_cut.specs.declared.item.Item.TheVariants.{Op, Hi, Lo, PcHi, PcLo, Branch, Jump, Call, Align, Word, Raw, RawShort, RawPair}
 
 -- ---- sections of code
 
@@ -100,9 +100,9 @@ target_only objects p = if is_target_at objects p then Some p else None
 abbrev pub target_away : List ObjectParts → Place → ℤ → Option Place
 target_away objects q distance = option_and_then (target_only objects) (place_away q distance)
 
--- so many bytes that are copied unread; so far 4
+-- so many bytes that are copied unread: 2 or 4
 abbrev pub raw_in : ℕ → List ℕ → ℕ → Item
-raw_in size bytes n = Raw (word_in bytes n)
+raw_in size bytes n = if size == 2 then RawShort (half_in bytes n) else Raw (word_in bytes n)
 
 -- what the instruction at a place is: a branch or `jal` goes to a place, or else its bytes are copied unread; so is a write to jvt;
 -- all others stand for themselves
@@ -145,6 +145,11 @@ transfer_item (instr.Branch op first second distance) other to = Branch op first
 transfer_item (instr.Jal rd distance) other to = Jump rd to
 transfer_item i other to = other
 
+-- the branch or jump to a target that so many bytes are
+abbrev pub transfer_under : ℕ → Target → List ℕ → ℕ → Item
+transfer_under size t bytes n =
+    of_instr (instr_in size bytes n) (raw_in size bytes n) (λ i. to_place t (transfer_item i (raw_in size bytes n)) (raw_in size bytes n))
+
 -- the call that an `auipc` and a `jalr` are
 abbrev pub call_item : Option Instr → Option Instr → Item → Place → Item
 call_item (Some (instr.Upper op temp upper)) (Some (instr.Jalr rd base lower)) other to = Call rd temp to
@@ -159,10 +164,8 @@ abbrev pub known_item : Option RelocKind → ℤ → Target → List ℕ → ℕ
 known_item None addend t bytes n = raw_in 4 bytes n
 known_item (Some kind.Ignored) addend t bytes n = raw_in 4 bytes n
 known_item (Some kind.Word) addend t bytes n = Word t
-known_item (Some kind.Branch) addend t bytes n =
-    of_instr (instr_in 4 bytes n) (raw_in 4 bytes n) (λ i. to_place t (transfer_item i (raw_in 4 bytes n)) (raw_in 4 bytes n))
-known_item (Some kind.Jal) addend t bytes n =
-    of_instr (instr_in 4 bytes n) (raw_in 4 bytes n) (λ i. to_place t (transfer_item i (raw_in 4 bytes n)) (raw_in 4 bytes n))
+known_item (Some kind.Branch) addend t bytes n = transfer_under 4 t bytes n
+known_item (Some kind.Jal) addend t bytes n = transfer_under 4 t bytes n
 known_item (Some kind.Call) addend t bytes n =
     to_place t (call_item (instr_in 4 bytes n) (instr_in 4 bytes (n + 4)) (raw_pair bytes n)) (raw_pair bytes n)
 known_item (Some kind.PcrelHi20) addend t bytes n = of_instr (instr_in 4 bytes n) (raw_in 4 bytes n) (λ i. PcHi i t)
@@ -173,8 +176,8 @@ known_item (Some kind.PcrelLo12S) addend t bytes n =
 known_item (Some kind.Hi20) addend t bytes n = of_instr (instr_in 4 bytes n) (raw_in 4 bytes n) (λ i. Hi i t)
 known_item (Some kind.Lo12I) addend t bytes n = of_instr (instr_in 4 bytes n) (raw_in 4 bytes n) (λ i. Lo i t)
 known_item (Some kind.Lo12S) addend t bytes n = of_instr (instr_in 4 bytes n) (raw_in 4 bytes n) (λ i. Lo i t)
-known_item (Some kind.RvcBranch) addend t bytes n = raw_in 4 bytes n
-known_item (Some kind.RvcJump) addend t bytes n = raw_in 4 bytes n
+known_item (Some kind.RvcBranch) addend t bytes n = transfer_under 2 t bytes n
+known_item (Some kind.RvcJump) addend t bytes n = transfer_under 2 t bytes n
 known_item (Some kind.Align) addend t bytes n = Align (padding_length addend)
 
 -- ---- items

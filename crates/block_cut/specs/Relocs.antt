@@ -1,14 +1,18 @@
 -- Relocations of a section: which field each has, which say what an item is, and which can't (RISC-V ELF psABI, "Relocations").
-use Rattle.std.specs.Prelude.{ℕ, ℤ, pos, negsuc, ◌+◌, ◌%◌, Bool, true, false, not, ◌&&◌, ◌||◌, ◌==◌, nat_lt, nat_le, max, min, List, length, filter, Option, Some, None}
+use Rattle.std.specs.Prelude.{ℕ, ℤ, pos, negsuc, ◌+◌, ◌%◌, Bool, true, false, not, ◌&&◌, ◌||◌, ◌==◌, if◌then◌else◌, nat_lt, nat_le, max, min, List, length, filter, Option, Some, None}
 use Rattle.std.specs.List.{find, list_any}
-use Rattle.zc_base.specs.Fields.{word_in}
+use Rattle.zc_base.specs.Fields.{half_in, word_in}
 use Rattle.elf32_read.specs.Parts.{SectionParts, is_code_section}
 use Rattle.elf32_read.specs.declared.reloc.Reloc.{Reloc}
 use Rattle.psabi_reloc.specs.Kinds.{field_length, fits, is_auipc, kind_of}
 use Rattle.psabi_reloc.specs.declared.kind.RelocKind.{RelocKind}
 use Rattle.psabi_reloc.specs.declared.kind.RelocKind.TheVariants.{Ignored, Word, Branch, Jal, Call, PcrelHi20, PcrelLo12I, PcrelLo12S, RvcBranch, RvcJump, Align}
 use Rattle.rv_decode.specs.Decode.{decoded}
+use Rattle.rv_decode.specs.Normal.{normal_of}
 use Rattle.rv_decode.specs.declared.instr.Instr.{Instr}
+use Rattle.zc_decode.specs.Halfwords.{decoded16}
+use Rattle.zc_decode.specs.declared.short.Short.{Short}
+use Rattle.zc_decode.specs.declared.short.Short.TheVariants.{Base}
 use Rattle.block_cut.specs.CodeSizes.{code_step}
 
 -- ---- fields
@@ -59,7 +63,7 @@ is_transfer (Some RvcBranch) = true
 is_transfer (Some RvcJump) = true
 is_transfer other = false
 
--- one that changes an instruction of 2 bytes, which no object has yet
+-- one that changes an instruction of 2 bytes
 abbrev pub is_rvc : Option RelocKind → Bool
 is_rvc (Some RvcBranch) = true
 is_rvc (Some RvcJump) = true
@@ -67,11 +71,11 @@ is_rvc other = false
 
 -- ---- what can't stand
 
--- a kind that isn't known, or not in data, or that changes an instruction of 2 bytes
+-- a kind that isn't known, or not in data, or that changes an instruction of 2 bytes where all have 4
 abbrev pub is_bad_kind : SectionParts → Option RelocKind → Bool
 is_bad_kind s None = true
 is_bad_kind s (Some k) =
-    not (is_code_section s) && (not (is_ignored (Some k)) && not (is_word (Some k))) || is_rvc (Some k)
+    not (is_code_section s) && (not (is_ignored (Some k)) && not (is_word (Some k))) || is_rvc (Some k) && not s.compressed
 
 -- 1 to 255 bytes
 abbrev pub is_filling : ℤ → Bool
@@ -83,16 +87,21 @@ abbrev pub is_padding : Bool → ℤ → Bool
 is_padding compressed (pos n) = nat_lt 0 n && (nat_lt n 256 && (n % code_step compressed == 0))
 is_padding compressed (negsuc n) = false
 
--- the instruction of so many bytes at an offset; so far all have 4
-abbrev pub instr_in : ℕ → List ℕ → ℕ → Option Instr
-instr_in size bytes n = decoded (word_in bytes n)
+-- the instruction that a halfword spells, if a word spells it too, in its normal form
+abbrev pub base_of : Option Short → Option Instr
+base_of (Some (Base i)) = Some (normal_of i)
+base_of other = None
 
--- what a kind asks of the addend and of the instructions at an offset; one that can't stand asks for nothing
+-- the instruction of so many bytes at an offset
+abbrev pub instr_in : ℕ → List ℕ → ℕ → Option Instr
+instr_in size bytes n = if size == 2 then base_of (decoded16 (half_in bytes n)) else decoded (word_in bytes n)
+
+-- what a kind asks of the addend and of the instructions at an offset
 abbrev pub fits_at : SectionParts → ℕ → ℤ → Option RelocKind → Bool
 fits_at s n addend None = true
 fits_at s n addend (Some Align) = is_padding s.compressed addend
-fits_at s n addend (Some RvcBranch) = true
-fits_at s n addend (Some RvcJump) = true
+fits_at s n addend (Some RvcBranch) = fits RvcBranch (instr_in 2 s.bytes n) None
+fits_at s n addend (Some RvcJump) = fits RvcJump (instr_in 2 s.bytes n) None
 fits_at s n addend (Some k) = fits k (instr_in 4 s.bytes n) (instr_in 4 s.bytes (n + 4))
 
 -- in code a relocation begins at a step, and changes what is of its kind

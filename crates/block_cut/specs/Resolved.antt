@@ -1,6 +1,6 @@
 -- Relocations as they are decided once: what each asks for, what it resolves to, and what is wrong with it by itself.
 use Rattle.std.specs.Prelude.{ℕ, pos, Bool, true, false, not, ◌&&◌, ◌==◌, min, if◌then◌else◌, List, [], filter, map, Option, Some, None}
-use Rattle.elf32_read.specs.Parts.{ObjectParts, is_code_section}
+use Rattle.elf32_read.specs.Parts.{ObjectParts, SectionParts, is_code_section}
 use Rattle.elf32_read.specs.declared.fault.Fault.{Fault}
 use Rattle.elf32_read.specs.declared.fault.Fault.TheVariants.{RelocKind, RelocPlace, LoPair, BadTarget}
 use Rattle.elf32_read.specs.declared.reloc.Reloc.{Reloc}
@@ -8,7 +8,7 @@ use Rattle.psabi_sym.specs.Inputs.{ParsedInputs}
 use Rattle.psabi_sym.specs.Indexed.{IndexedSection}
 use Rattle.psabi_reloc.specs.Kinds.{kind_of}
 use Rattle.block_cut.specs.Faults.{if_so, is_bad_target, lacks_pcrel_hi}
-use Rattle.block_cut.specs.Items.{known_item, target_of}
+use Rattle.block_cut.specs.Items.{known_item, starts_on, target_of}
 use Rattle.block_cut.specs.Relocs.{field_of, is_bad_kind, is_bad_place, is_ignored, is_transfer}
 use Rattle.block_cut.specs.declared.item.Item.{Item}
 use Rattle.block_cut.specs.declared.resolved_reloc.RelocFault.{RelocFault}
@@ -19,7 +19,7 @@ use Rattle.block_cut.specs.declared.resolved_reloc.ResolvedReloc.{ResolvedReloc}
 abbrev pub asks : Reloc → Bool
 asks r = not (is_ignored (kind_of r.kind))
 
--- what is wrong with a relocation by itself
+-- what is wrong with a relocation by itself, whatever starts where it stands
 abbrev pub own_fault : ParsedInputs → IndexedSection → Reloc → Option RelocFault
 own_fault inputs l r =
     if is_bad_kind l.section (kind_of r.kind) then Some Kind
@@ -39,9 +39,21 @@ resolved_reloc inputs l r = record {
 abbrev pub resolved_relocs : ParsedInputs → IndexedSection → List ResolvedReloc
 resolved_relocs inputs l = map (resolved_reloc inputs l) (filter asks l.section.relocs)
 
+-- what is wrong with one where items start is known: its place is, if none starts there
+abbrev pub placed_fault : Bool → Option RelocFault → Option RelocFault
+placed_fault strays (Some Kind) = Some Kind
+placed_fault strays other = if strays then Some Place else other
+
+abbrev pub placed_reloc : SectionParts → ResolvedReloc → ResolvedReloc
+placed_reloc s d = record d { fault = placed_fault (is_code_section s && not (starts_on s d.offset)) d.fault }
+
+-- those of a section with all that is wrong with them by themselves
+abbrev pub placed_relocs : ParsedInputs → IndexedSection → List ResolvedReloc
+placed_relocs inputs l = map (placed_reloc l.section) (resolved_relocs inputs l)
+
 -- those that are kept until all code is cut: what isn't code has none
 abbrev pub code_relocs : ParsedInputs → IndexedSection → List ResolvedReloc
-code_relocs inputs l = if is_code_section l.section then resolved_relocs inputs l else []
+code_relocs inputs l = if is_code_section l.section then placed_relocs inputs l else []
 
 -- a fault by what is wrong at an offset of a section; another if nothing is
 abbrev pub fault_of : Option RelocFault → Option Fault → ℕ → ℕ → Option Fault

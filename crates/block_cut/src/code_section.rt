@@ -1,6 +1,6 @@
 // Sections of code whose places are numbered.
 
-ghost use Rattle.std.specs.Prelude.{◌≡◌, ◌≢◌, ◌*◌, ◌+◌, ◌/◌, ◌%◌, ◌<◌, ◌^◌, ◌||◌, ◌==◌, if◌then◌else◌, None, Some, length, slice_index_or, true};
+ghost use Rattle.std.specs.Prelude.{◌≡◌, ◌≢◌, ◌*◌, ◌+◌, ◌/◌, ◌%◌, ◌<◌, ◌^◌, ◌||◌, ◌==◌, if◌then◌else◌, None, Some, false, length, slice_index_or, true};
 ghost use Rattle.psabi_sym.specs.Faults.{gather_fault};
 ghost use Rattle.psabi_sym.specs.Inputs.{parsed, Inputs};
 ghost use Rattle.psabi_sym.specs.Indexed.{IndexedSection};
@@ -32,7 +32,7 @@ pub struct CodeSection<'a> {
 impl<'a> CodeSection<'a> {
     // The item that starts at an offset, by the relocation that stands there.
     fn item(&self, at: u32, reloc: Option<ResolvedReloc>) -> Item
-        requires whole { at % 4 ≡ 0 }
+        requires aligned { self.now.content.compressed ≡ false → at % 4 ≡ 0 }
         requires room { HasRoom self.now.content at reloc }
         ensures { (inputs : Inputs) (l : IndexedSection) → gather_fault inputs ≡ None → IsCodeSection inputs l self.now
             → reloc ≡ numbered self.now.relocs.now (slice_index_or self.now.table.now (at / 2) 0)
@@ -47,17 +47,18 @@ impl<'a> CodeSection<'a> {
                     offset: at,
                 };
                 let offset = at as usize;
-                let instr = self.content.instr(offset);
-                item_of(self.numbers, q, instr, self.content.word(offset))
+                let size = self.content.own_size(offset);
+                let instr = self.content.instr(size, offset);
+                item_of(self.numbers, q, instr, self.content.raw(size, offset))
             }
         }
     }
 
     /// The place at an offset where an item starts or the section ends, by its address in the plain layout.
     pub fn place(&self, at: u32, address: u32) -> CodePlace
-        requires whole { at % 4 ≡ 0 }
+        requires aligned { self.now.content.compressed ≡ false → at % 4 ≡ 0 }
         requires inside { at / 2 < length self.now.table.now }
-        requires room { at ≢ length self.now.content
+        requires room { at ≢ length self.now.content.bytes
             → HasRoom self.now.content at
             (numbered self.now.relocs.now (slice_index_or self.now.table.now (at / 2) 0)) }
         ensures { (inputs : Inputs) (l : IndexedSection) → gather_fault inputs ≡ None → IsCodeSection inputs l self.now
@@ -80,7 +81,7 @@ impl<'a> CodeSection<'a> {
             },
             address,
             offset: at,
-            size: size_with(reloc),
+            size: size_with(&self.content, at as usize, reloc),
         }
     }
 }

@@ -11,7 +11,7 @@ ghost use Rattle.block_cut.specs.Invariants.Led.{has_place, mark_in};
 ghost use Rattle.block_cut.specs.Items.{is_target_at, item_at};
 ghost use Rattle.block_cut.specs.Places.{IsPlaceNumber, code_places, place_there};
 ghost use Rattle.block_cut.specs.PlainLayout.{plain_address};
-ghost use Rattle.block_cut.specs.Invariants.SectionText.{no_tables};
+ghost use Rattle.block_cut.specs.Invariants.SectionText.{no_tables, numbers_in};
 
 use crate::code_place::CodePlace;
 use crate::code_span::CodeSpan;
@@ -68,6 +68,16 @@ impl CodeTables {
             → result.now ≡ code_places (parsed inputs) l }
     {
         self.sections[section as usize].places()
+    }
+
+    /// The numbers of the places of a section, by its number among all.
+    pub fn numbers(&self, section: u32) -> &[u32]
+        requires { section < length self.now.sections.items }
+        ensures { (inputs : Inputs) (l : IndexedSection) → AreCodeTables (parsed inputs) self.now
+            → slice_get (all_sections (parsed inputs).objects) section ≡ Some l
+            → result.now ≡ numbers_in l.section }
+    {
+        self.sections[section as usize].numbers()
     }
 
     /// The place here, if an item starts here or a section of code ends here. It takes constant time, as do all that

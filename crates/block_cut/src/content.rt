@@ -1,63 +1,108 @@
 // The content of a section of code.
 
-ghost use Rattle.std.specs.Prelude.{◌≡◌, ◌≤◌, ◌+◌, ◌%◌, length};
-ghost use Rattle.rv_decode.specs.Decode.{decoded};
-ghost use Rattle.zc_base.specs.Fields.{word_in};
+ghost use Rattle.std.specs.Prelude.{◌≡◌, ◌≤◌, ◌+◌, ◌%◌, ◌==◌, false, if◌then◌else◌, length};
+ghost use Rattle.block_cut.specs.CodeSizes.{is_long_at, own_size};
 ghost use Rattle.block_cut.specs.Instrs.{instrs_in};
+ghost use Rattle.block_cut.specs.Items.{raw_in};
+ghost use Rattle.block_cut.specs.Relocs.{instr_in};
+ghost use Rattle.zc_base.specs.Fields.{word_in};
 
+use crate::item::Item;
+use crate::kinds::{instr_at, short_instr_at};
 use crate::section_words::instr_on;
 use rv_decode::instr::Instr;
 use std::marker::Model;
-use zc_base::fields::u32_at;
+use zc_base::fields::{u16_at, u32_at};
 
-/// The bytes of a section of code, with the instruction that each of its words spells, by the offset / 4.
+/// The bytes of a section of code, with the instruction that each of its words spells, by the offset / 4. Where the
+/// object is compressed, an instruction may begin at any halfword, so the words say nothing.
 #[derive(Drop)]
 pub struct Content<'a> {
     bytes: &'a [u8],
     words: &'a [Option<Instr>],
+    compressed: bool,
 }
 
 impl<'a> Model for Content<'a> {
-    ghost use Rattle.std.specs.Prelude.{◌≡◌, List, ℕ};
-    ghost use Rattle.block_cut.specs.Instrs.{instrs_in};
+    ghost use Rattle.std.specs.Prelude.{◌≡◌, false};
+    ghost use Rattle.block_cut.specs.Instrs.{instrs_in, CodeBytes};
 
-    ghost Value = { List ℕ };
+    ghost Value = { CodeBytes };
 
-    ghost view = { λ content. content.bytes.now };
+    ghost view = { λ content. record { bytes = content.bytes.now; compressed = content.compressed } };
 
-    ghost invariant = { λ content. content.words.now ≡ instrs_in content.bytes.now };
+    ghost invariant = { λ content. content.compressed ≡ false → content.words.now ≡ instrs_in content.bytes.now };
+}
+
+// Whether four bytes are left at an offset, of which the first says that the instruction has so many.
+fn is_long_at(bytes: &[u8], at: usize) -> bool
+    ensures { result ≡ is_long_at bytes.now at }
+{
+    4 <= bytes.len() && at <= bytes.len() - 4 && bytes[at] % 4 == 3
 }
 
 impl<'a> Content<'a> {
-    /// These bytes, with what their words spell.
-    pub fn new(bytes: &'a [u8], words: &'a [Option<Instr>]) -> Content<'a>
-        requires { words.now ≡ instrs_in bytes.now }
-        ensures { result ≡ bytes.now }
+    /// These bytes, with what their words spell unless the object is compressed.
+    pub fn new(bytes: &'a [u8], words: &'a [Option<Instr>], compressed: bool) -> Content<'a>
+        requires { compressed ≡ false → words.now ≡ instrs_in bytes.now }
+        ensures { result ≡ record { bytes = bytes.now; compressed = compressed } }
     {
-        Content { bytes, words }
+        Content {
+            bytes,
+            words,
+            compressed,
+        }
     }
 
     /// How many bytes there are.
     pub fn len(&self) -> usize
-        ensures { result ≡ length self.now }
+        ensures { result ≡ length self.now.bytes }
     {
         self.bytes.len()
     }
 
+    /// How many bytes what stands at an offset without a relocation has.
+    #[inline(always)]
+    pub fn own_size(&self, at: usize) -> u8
+        ensures { result ≡ own_size self.now.compressed self.now.bytes at }
+    {
+        if self.compressed && !is_long_at(self.bytes, at) {
+            return 2;
+        }
+        4
+    }
+
     /// The word at an offset.
     pub fn word(&self, at: usize) -> u32
-        requires { at + 4 ≤ length self.now }
-        ensures { result ≡ word_in self.now at }
+        requires { at + 4 ≤ length self.now.bytes }
+        ensures { result ≡ word_in self.now.bytes at }
     {
         u32_at(self.bytes, at)
     }
 
-    /// The instruction that the word at an offset spells.
-    pub fn instr(&self, at: usize) -> Option<Instr>
-        requires aligned { at % 4 ≡ 0 }
-        requires inside { at + 4 ≤ length self.now }
-        ensures { result ≡ decoded (word_in self.now at) }
+    /// So many bytes at an offset, copied unread.
+    pub fn raw(&self, size: u8, at: usize) -> Item
+        requires { at + (if size == 2 then 2 else 4) ≤ length self.now.bytes }
+        ensures { result ≡ raw_in size self.now.bytes at }
     {
+        if size == 2 {
+            return Item::RawShort(u16_at(self.bytes, at));
+        }
+        Item::Raw(u32_at(self.bytes, at))
+    }
+
+    /// The instruction that so many bytes at an offset spell.
+    pub fn instr(&self, size: u8, at: usize) -> Option<Instr>
+        requires aligned { self.now.compressed ≡ false → at % 4 ≡ 0 }
+        requires inside { at + (if size == 2 then 2 else 4) ≤ length self.now.bytes }
+        ensures { result ≡ instr_in size self.now.bytes at }
+    {
+        if size == 2 {
+            return short_instr_at(self.bytes, at);
+        }
+        if self.compressed {
+            return instr_at(self.bytes, at);
+        }
         instr_on(self.words, at)
     }
 }

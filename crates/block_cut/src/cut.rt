@@ -9,6 +9,7 @@ ghost use Rattle.block_cut.specs.Faults.{first_fault};
 ghost use Rattle.block_cut.specs.Items.{entry_of, is_target_at, item_at, start_only};
 ghost use Rattle.block_cut.specs.Leaders.{is_leader_at};
 ghost use Rattle.block_cut.specs.Invariants.CodeTables.{AreCodeTables};
+ghost use Rattle.block_cut.specs.Invariants.SectionText.{numbers_in};
 ghost use Rattle.block_cut.specs.Places.{IsPlaceNumber, code_places, place_there};
 ghost use Rattle.block_cut.specs.PlainLayout.{plain_address, plain_counts};
 
@@ -132,6 +133,16 @@ impl Cut {
             → result.now ≡ code_places (parsed self.now) l }
     {
         self.tables.places(section)
+    }
+
+    /// The numbers of those places, from 1 on, by the halfword that they stand at; 0 where no item starts and the
+    /// section doesn't end.
+    pub fn numbers(&self, section: u32) -> &[u32]
+        requires { section < length (all_sections (parsed self.now).objects) }
+        ensures { (l : IndexedSection) → slice_get (all_sections (parsed self.now).objects) section ≡ Some l
+            → result.now ≡ numbers_in l.section }
+    {
+        self.tables.numbers(section)
     }
 
     /// The place where the program starts.

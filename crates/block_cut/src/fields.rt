@@ -208,6 +208,7 @@ impl Fields {
     }
 
     /// Whether a byte that one of the relocations changes, which is of this kind, is changed by another as well.
+    #[inline(always)]
     pub fn overlaps_another(&self, reloc: Reloc, kind: Option<RelocKind>) -> bool
         requires { kind ≡ kind_of reloc.kind }
         ensures { (relocs : List Reloc) → AreFields relocs self.now → Contains relocs reloc

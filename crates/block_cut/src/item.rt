@@ -18,6 +18,7 @@ use zc_base::reg::Reg;
 /// | `Align` | so many bytes of padding |
 /// | `Word` | a word of data in code that holds the target |
 /// | `Raw` | a word that is copied unread |
+/// | `RawShort` | two bytes that are copied unread |
 /// | `RawPair` | the two words of a call to a weak symbol that no object defines |
 #[derive(Clone, Copy)]
 pub enum Item {
@@ -44,5 +45,6 @@ pub enum Item {
     Align(u16),
     Word(Target),
     Raw(u32),
+    RawShort(u16),
     RawPair(u32, u32),
 }

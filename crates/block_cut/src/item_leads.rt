@@ -48,6 +48,7 @@ fn ends_block(item: &Item) -> bool
         | Item::Align(_)
         | Item::Word(_)
         | Item::Raw(_)
+        | Item::RawShort(_)
         | Item::RawPair(..) => false,
     }
 }
@@ -66,6 +67,7 @@ fn target_of(item: &Item) -> Option<Place>
         | Item::Align(_)
         | Item::Word(_)
         | Item::Raw(_)
+        | Item::RawShort(_)
         | Item::RawPair(..) => None,
     }
 }

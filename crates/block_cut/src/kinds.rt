@@ -1,19 +1,16 @@
 // What kinds of relocations ask of a section, and of the words that they change.
 
-ghost use Rattle.std.specs.Prelude.{◌≡◌, ◌+◌, ◌%◌, ◌≤◌, if◌then◌else◌, length, nat_le, Bool, None, Some};
-ghost use Rattle.elf32_read.specs.Parts.{SectionParts};
-ghost use Rattle.psabi_reloc.specs.Kinds.{field_length};
-ghost use Rattle.rv_decode.specs.Decode.{decoded};
-ghost use Rattle.zc_base.specs.Fields.{word_in};
-ghost use Rattle.block_cut.specs.Relocs.{fits_at, is_ignored, is_padding, is_pcrel_hi, is_pcrel_lo, is_rvc, is_transfer, is_word};
-ghost use Rattle.block_cut.specs.Instrs.{instrs_in};
+ghost use Rattle.std.specs.Prelude.{◌≡◌, ◌+◌, ◌%◌, ◌==◌, if◌then◌else◌, length, nat_le, None};
+ghost use Rattle.block_cut.specs.CodeSizes.{code_step};
+ghost use Rattle.block_cut.specs.Relocs.{base_of, instr_in, is_ignored, is_padding, is_pcrel_hi, is_pcrel_lo, is_rvc, is_transfer, is_word};
 
-use crate::section_words::instr_on;
-use elf32_read::reloc::Reloc;
 use psabi_reloc::kind::RelocKind;
 use rv_decode::decode::decode;
 use rv_decode::instr::Instr;
-use zc_base::fields::u32_at;
+use rv_decode::normal::normal;
+use zc_base::fields::{u16_at, u32_at};
+use zc_decode::decode16::decode16;
+use zc_decode::short::Short;
 
 /// Whether a kind asks for nothing.
 pub fn is_ignored(kind: Option<RelocKind>) -> bool
@@ -66,19 +63,27 @@ pub fn is_rvc(kind: Option<RelocKind>) -> bool
     matches!(kind, Some(RelocKind::RvcBranch | RelocKind::RvcJump))
 }
 
-/// What the starts and sizes of items are multiples of.
-pub const STEP: u32 = 4;
-
-// Whether padding may have so many bytes: 1 to 255, in whole steps.
-fn is_padding(addend: i32) -> bool
-    ensures { (compressed : Bool) → result ≡ is_padding compressed addend }
+/// Whether items may start at an offset and have so many bytes, by whether their object is compressed.
+#[inline(always)]
+pub fn is_step(compressed: bool, n: u32) -> bool
+    ensures { result ≡ (n % code_step compressed == 0) }
 {
-    0 < addend && addend < 256 && addend as u32 % STEP == 0
+    if compressed {
+        return n % 2 == 0;
+    }
+    n % 4 == 0
+}
+
+/// Whether padding may have so many bytes: 1 to 255, in whole steps.
+pub fn is_padding(compressed: bool, addend: i32) -> bool
+    ensures { result ≡ is_padding compressed addend }
+{
+    0 < addend && addend < 256 && is_step(compressed, addend as u32)
 }
 
 /// The instruction that the word at an offset spells; none if there is no whole word.
 pub fn instr_at(bytes: &[u8], at: usize) -> Option<Instr>
-    ensures { result ≡ (if nat_le (at + 4) (length bytes.now) then decoded (word_in bytes.now at) else None) }
+    ensures { result ≡ (if nat_le (at + 4) (length bytes.now) then instr_in 4 bytes.now at else None) }
 {
     if bytes.len() < 4 || bytes.len() - 4 < at {
         return None;
@@ -86,27 +91,31 @@ pub fn instr_at(bytes: &[u8], at: usize) -> Option<Instr>
     decode(u32_at(bytes, at))
 }
 
-/// Whether the words that a relocation of this kind changes, which begin at a multiple of 4, are of its kind, or
-/// else its addend; by what each word of its section spells.
-#[inline(always)]
-pub fn fits_at(words: &[Option<Instr>], reloc: Reloc, kind: RelocKind) -> bool
-    requires { reloc.offset % 4 ≡ 0 }
-    ensures { (s : SectionParts) → words.now ≡ instrs_in s.bytes
-        → reloc.offset + field_length (Some kind) reloc.addend ≤ length s.bytes
-        → result ≡ fits_at s reloc.offset reloc.addend (Some kind) }
+// The instruction that a halfword spells, if a word spells it too, in its normal form.
+fn base_of(short: Option<Short>) -> Option<Instr>
+    ensures { result ≡ base_of short }
 {
-    let at = reloc.offset as usize;
-    match kind {
-        RelocKind::Align => is_padding(reloc.addend),
-        RelocKind::Ignored | RelocKind::Word | RelocKind::RvcBranch | RelocKind::RvcJump => true,
-        RelocKind::Call => kind.fits(instr_on(words, at), instr_on(words, at + 4)),
-        RelocKind::Branch
-        | RelocKind::Jal
-        | RelocKind::PcrelHi20
-        | RelocKind::PcrelLo12I
-        | RelocKind::PcrelLo12S
-        | RelocKind::Hi20
-        | RelocKind::Lo12I
-        | RelocKind::Lo12S => kind.fits(instr_on(words, at), None),
+    match short {
+        Some(Short::Base(instr)) => Some(normal(instr)),
+        Some(
+            Short::Push { .. }
+            | Short::Pop { .. }
+            | Short::PopRet { .. }
+            | Short::PopRetz { .. }
+            | Short::MoveSa { .. }
+            | Short::MoveAs { .. }
+            | Short::TableJump { .. },
+        )
+        | None => None,
     }
+}
+
+/// The instruction that the halfword at an offset spells; none if there is no whole halfword.
+pub fn short_instr_at(bytes: &[u8], at: usize) -> Option<Instr>
+    ensures { result ≡ (if nat_le (at + 2) (length bytes.now) then instr_in 2 bytes.now at else None) }
+{
+    if bytes.len() < 2 || bytes.len() - 2 < at {
+        return None;
+    }
+    base_of(decode16(u16_at(bytes, at)))
 }

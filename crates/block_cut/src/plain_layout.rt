@@ -37,6 +37,7 @@ pub fn after_item(at: u32, size: u8, item: &Item) -> u32
         | Item::Call { .. }
         | Item::Word(_)
         | Item::Raw(_)
+        | Item::RawShort(_)
         | Item::RawPair(..) => at + u32::from(size),
     }
 }

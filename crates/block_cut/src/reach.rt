@@ -1,38 +1,96 @@
-// Branches that don't reach in the plain layout.
+// Branches and jumps that don't reach in the plain layout.
 
 ghost use Rattle.std.specs.Prelude.{◌≡◌, ◌≤◌, ◌+◌, ℕ, false, not, IfSome, None, Some};
 ghost use Rattle.std.specs.List.{find};
 ghost use Rattle.std.specs.Option.{option_map, option_map_or};
-ghost use Rattle.psabi_reloc.specs.Reaches.{branch_reach};
 ghost use Rattle.psabi_sym.specs.Faults.{gather_fault};
 ghost use Rattle.psabi_sym.specs.Inputs.{parsed};
 ghost use Rattle.psabi_sym.specs.Indexed.{IndexedSection, section_at};
 ghost use Rattle.zc_base.specs.declared.place.Place.{Place};
 ghost use Rattle.block_cut.specs.Invariants.CodeTables.{AreCodeTables};
-ghost use Rattle.block_cut.specs.Faults.{distance_between, is_out_of_reach};
+ghost use Rattle.block_cut.specs.Faults.{distance_between, is_out_of_reach, reaches, way_place};
 ghost use Rattle.block_cut.specs.Items.{all_places, place_of, places_of};
 ghost use Rattle.block_cut.specs.Places.{code_places, place_there};
 
 use crate::code_place::CodePlace;
 use crate::code_tables::CodeTables;
 use crate::item::Item;
-use psabi_reloc::reaches::branch_reaches;
+use psabi_reloc::reaches::{branch_reaches, jal_reaches, short_branch_reaches, short_jump_reaches};
 use psabi_sym::objects::Objects;
 use zc_base::place::Place;
 
-// Whether a branch doesn't reach from an address to another, if that is known.
-fn is_far(from: u32, to: Option<u32>) -> bool
-    ensures { (least : ℕ) → (least ≤ from) × (from ≤ least + 0x4_0000)
+// Where an item of so many bytes leads that has to reach: a branch, or a jump of 2 bytes.
+fn way_place(size: u8, item: &Item) -> Option<Place>
+    ensures { result ≡ way_place size item.now }
+{
+    match item {
+        Item::Branch { to, .. } => Some(*to),
+        Item::Jump { to, .. } => {
+            if size == 2 {
+                return Some(*to);
+            }
+            None
+        }
+        Item::Op(_)
+        | Item::Hi(..)
+        | Item::Lo(..)
+        | Item::PcHi(..)
+        | Item::PcLo(..)
+        | Item::Call { .. }
+        | Item::Align(_)
+        | Item::Word(_)
+        | Item::Raw(_)
+        | Item::RawShort(_)
+        | Item::RawPair(..) => None,
+    }
+}
+
+// Whether a branch or jump of so many bytes reaches so far.
+fn reaches(size: u8, item: &Item, distance: i32) -> bool
+    ensures { result ≡ reaches size item.now distance }
+{
+    match item {
+        Item::Branch { .. } => {
+            if size == 2 {
+                return short_branch_reaches(distance);
+            }
+            branch_reaches(distance)
+        }
+        Item::Jump { .. } => {
+            if size == 2 {
+                return short_jump_reaches(distance);
+            }
+            jal_reaches(distance)
+        }
+        Item::Op(_)
+        | Item::Hi(..)
+        | Item::Lo(..)
+        | Item::PcHi(..)
+        | Item::PcLo(..)
+        | Item::Call { .. }
+        | Item::Align(_)
+        | Item::Word(_)
+        | Item::Raw(_)
+        | Item::RawShort(_)
+        | Item::RawPair(..) => true,
+    }
+}
+
+// Whether an item at a place doesn't reach an address, if that is known.
+fn is_far(place: &CodePlace, item: &Item, to: Option<u32>) -> bool
+    ensures { (least : ℕ) → (least ≤ place.now.address) × (place.now.address ≤ least + 0x4_0000)
         → IfSome to (λ a. (least ≤ a) × (a ≤ least + 0x4_0000))
-        → result ≡ option_map_or (λ d. not (branch_reach d)) (distance_between (Some from) to) false }
+        → result ≡ option_map_or (λ d. not (reaches place.now.size item.now d))
+        (distance_between (Some place.now.address) to) false }
 {
     let Some(to) = to else {
         return false;
     };
-    !branch_reaches(to.wrapping_sub(from).cast_signed())
+    let distance = to.wrapping_sub(place.address).cast_signed();
+    !reaches(place.size, item, distance)
 }
 
-// Whether a branch stands at a place that doesn't reach so far.
+// Whether what stands at a place doesn't reach where it has to.
 fn is_out_of_reach(objects: &Objects, tables: &CodeTables, place: &CodePlace) -> bool
     requires faultless { gather_fault objects.now ≡ None }
     requires tables { AreCodeTables (parsed objects.now) tables.now }
@@ -42,10 +100,10 @@ fn is_out_of_reach(objects: &Objects, tables: &CodeTables, place: &CodePlace) ->
     let Some(item) = &place.item else {
         return false;
     };
-    let Item::Branch { to, .. } = item else {
+    let Some(to) = way_place(place.size, item) else {
         return false;
     };
-    is_far(place.address, tables.address(objects, *to))
+    is_far(place, item, tables.address(objects, to))
 }
 
 // The offset of the first such place among those of a section.
@@ -64,7 +122,7 @@ fn first_offset(objects: &Objects, tables: &CodeTables, places: &[CodePlace]) ->
     None
 }
 
-/// The first place of a branch that doesn't reach in the plain layout. It looks at each place once.
+/// The first place of a branch or jump that doesn't reach in the plain layout. It looks at each place once.
 pub fn first_out_of_reach(objects: &Objects, tables: &CodeTables) -> Option<Place>
     requires { AreCodeTables (parsed objects.now) tables.now }
     ensures { result ≡ find (is_out_of_reach (parsed objects.now)) (all_places (parsed objects.now).objects) }

@@ -1,13 +1,11 @@
-// What words with a relocation spell.
+// What bytes with a relocation spell.
 
-ghost use Rattle.std.specs.Prelude.{◌≡◌, ◌≤◌, ◌+◌, ◌%◌, length, Some};
-ghost use Rattle.psabi_reloc.specs.declared.kind.RelocKind.TheVariants.{Call};
-ghost use Rattle.rv_decode.specs.Decode.{decoded};
-ghost use Rattle.zc_base.specs.Fields.{word_in};
+ghost use Rattle.std.specs.Prelude.{◌≡◌, ◌≤◌, ◌+◌, ◌%◌, ◌==◌, false, if◌then◌else◌, length, Some};
 ghost use Rattle.block_cut.specs.Invariants.SectionText.{HasRoom};
-ghost use Rattle.block_cut.specs.Items.{call_item, of_instr, raw_pair, to_place, transfer_item};
+ghost use Rattle.block_cut.specs.Items.{call_item, of_instr, raw_in, raw_pair, to_place, transfer_item, transfer_under};
+ghost use Rattle.block_cut.specs.Relocs.{instr_in};
 ghost use Rattle.block_cut.specs.Resolved.{resolved_item};
-ghost use Rattle.block_cut.specs.declared.item.Item.TheVariants.{PcLo, Raw, RawPair};
+ghost use Rattle.block_cut.specs.declared.item.Item.TheVariants.{Hi, Lo, PcHi, PcLo, RawPair};
 
 use crate::content::Content;
 use crate::item::Item;
@@ -17,9 +15,9 @@ use psabi_sym::target::Target;
 use rv_decode::instr::Instr;
 use zc_base::place::Place;
 
-// The branch or jump to a place that an instruction is, or else its word.
-fn transfer_item(instr: Instr, word: u32, to: Place) -> Item
-    ensures { result ≡ transfer_item instr (Raw word) to }
+// The branch or jump to a place that an instruction is, or else another item.
+fn transfer_item(instr: Instr, other: Item, to: Place) -> Item
+    ensures { result ≡ transfer_item instr other to }
 {
     match instr {
         Instr::Branch {
@@ -43,7 +41,7 @@ fn transfer_item(instr: Instr, word: u32, to: Place) -> Item
         | Instr::Fence { .. }
         | Instr::Ecall
         | Instr::Ebreak
-        | Instr::Csrrw { .. } => Item::Raw(word),
+        | Instr::Csrrw { .. } => other,
     }
 }
 
@@ -73,67 +71,105 @@ fn call_item(first: Option<Instr>, second: Option<Instr>, other: Item, to: Place
     }
 }
 
-// A branch or jump to a target, by its instruction and its word.
-fn transfer_to(instr: Option<Instr>, word: u32, target: Target) -> Item
-    ensures { result ≡ of_instr instr (Raw word) (λ i. to_place target (transfer_item i (Raw word)) (Raw word)) }
+// The branch or jump to a target that so many bytes at an offset are.
+fn transfer_under(content: &Content, size: u8, at: usize, target: Target) -> Item
+    requires aligned { content.now.compressed ≡ false → at % 4 ≡ 0 }
+    requires inside { at + (if size == 2 then 2 else 4) ≤ length content.now.bytes }
+    ensures { result ≡ transfer_under size target content.now.bytes at }
 {
-    match (instr, target) {
-        (Some(instr), Target::Code(to)) => transfer_item(instr, word, to),
-        _ => Item::Raw(word),
+    let raw = content.raw(size, at);
+    match (content.instr(size, at), target) {
+        (Some(instr), Target::Code(to)) => transfer_item(instr, raw, to),
+        _ => raw,
     }
 }
 
-// The lower part that goes with the upper part at a place, by its instruction and its word.
-fn lower_item(instr: Option<Instr>, word: u32, target: Target) -> Item
-    ensures { result ≡ of_instr instr (Raw word) (λ i. to_place target (PcLo i) (Raw word)) }
+// The upper part of a target that the word at an offset is, PC-relative or not.
+fn upper_item(content: &Content, at: usize, relative: bool, target: Target) -> Item
+    requires aligned { content.now.compressed ≡ false → at % 4 ≡ 0 }
+    requires inside { at + 4 ≤ length content.now.bytes }
+    ensures { result ≡ of_instr (instr_in 4 content.now.bytes at) (raw_in 4 content.now.bytes at)
+        (λ i. if relative then PcHi i target else Hi i target) }
 {
-    match (instr, target) {
+    match content.instr(4, at) {
+        None => content.raw(4, at),
+        Some(instr) => {
+            if relative {
+                Item::PcHi(instr, target)
+            } else {
+                Item::Hi(instr, target)
+            }
+        }
+    }
+}
+
+// The lower part of a target that the word at an offset is.
+fn lower_item(content: &Content, at: usize, target: Target) -> Item
+    requires aligned { content.now.compressed ≡ false → at % 4 ≡ 0 }
+    requires inside { at + 4 ≤ length content.now.bytes }
+    ensures { result ≡ of_instr (instr_in 4 content.now.bytes at) (raw_in 4 content.now.bytes at) (λ i. Lo i target) }
+{
+    match content.instr(4, at) {
+        None => content.raw(4, at),
+        Some(instr) => Item::Lo(instr, target),
+    }
+}
+
+// The lower part that goes with the upper part at a place, which the word at an offset is.
+fn paired_item(content: &Content, at: usize, target: Target) -> Item
+    requires aligned { content.now.compressed ≡ false → at % 4 ≡ 0 }
+    requires inside { at + 4 ≤ length content.now.bytes }
+    ensures { result ≡ of_instr (instr_in 4 content.now.bytes at) (raw_in 4 content.now.bytes at)
+        (λ i. to_place target (PcLo i) (raw_in 4 content.now.bytes at)) }
+{
+    match (content.instr(4, at), target) {
         (Some(instr), Target::Code(from)) => Item::PcLo(instr, from),
-        _ => Item::Raw(word),
+        _ => content.raw(4, at),
     }
 }
 
 // The call that the two words at an offset are, if it goes to a place.
 fn calling_item(content: &Content, at: u32, target: Target) -> Item
-    requires whole { at % 4 ≡ 0 }
-    requires inside { at + 8 ≤ length content.now }
+    requires aligned { content.now.compressed ≡ false → at % 4 ≡ 0 }
+    requires inside { at + 8 ≤ length content.now.bytes }
     ensures { result ≡ to_place target
-        (call_item (decoded (word_in content.now at)) (decoded (word_in content.now (at + 4)))
-        (raw_pair content.now at)) (raw_pair content.now at) }
+        (call_item (instr_in 4 content.now.bytes at) (instr_in 4 content.now.bytes (at + 4))
+        (raw_pair content.now.bytes at)) (raw_pair content.now.bytes at) }
 {
     let first = at as usize;
     let second = first + 4;
     let raw = Item::RawPair(content.word(first), content.word(second));
     match target {
-        Target::Code(to) => call_item(content.instr(first), content.instr(second), raw, to),
+        Target::Code(to) => call_item(content.instr(4, first), content.instr(4, second), raw, to),
         Target::Number(_) | Target::Absent(_) | Target::Nowhere => raw,
     }
 }
 
 /// The item at an offset of a section of code, by the relocation that stands there.
 pub fn reloc_item(reloc: &ResolvedReloc, content: &Content, at: u32) -> Item
-    requires whole { at % 4 ≡ 0 }
+    requires aligned { content.now.compressed ≡ false → at % 4 ≡ 0 }
     requires room { HasRoom content.now at (Some reloc.now) }
-    ensures { result ≡ resolved_item reloc.now content.now at }
+    ensures { result ≡ resolved_item reloc.now content.now.bytes at }
 {
-    let word = content.word(at as usize);
-    let instr = content.instr(at as usize);
+    let offset = at as usize;
     let target = reloc.target;
     let Some(kind) = reloc.kind else {
-        return Item::Raw(word);
+        return content.raw(4, offset);
     };
-    match (kind, instr) {
-        (RelocKind::Ignored | RelocKind::RvcBranch | RelocKind::RvcJump, _) => Item::Raw(word),
-        (RelocKind::Word, _) => Item::Word(target),
-        (RelocKind::Branch | RelocKind::Jal, _) => transfer_to(instr, word, target),
-        (RelocKind::Call, _) => calling_item(content, at, target),
-        (RelocKind::PcrelLo12I | RelocKind::PcrelLo12S, _) => lower_item(instr, word, target),
-        (RelocKind::PcrelHi20, Some(instr)) => Item::PcHi(instr, target),
-        (RelocKind::Hi20, Some(instr)) => Item::Hi(instr, target),
-        (RelocKind::Lo12I | RelocKind::Lo12S, Some(instr)) => Item::Lo(instr, target),
-        (RelocKind::PcrelHi20 | RelocKind::Hi20 | RelocKind::Lo12I | RelocKind::Lo12S, None) => {
-            Item::Raw(word)
-        }
-        (RelocKind::Align, _) => Item::Align(u16::from(reloc.size)),
+    match kind {
+        RelocKind::Ignored => content.raw(4, offset),
+        RelocKind::Word => Item::Word(target),
+        RelocKind::Branch => transfer_under(content, 4, offset, target),
+        RelocKind::Jal => transfer_under(content, 4, offset, target),
+        RelocKind::Call => calling_item(content, at, target),
+        RelocKind::PcrelHi20 => upper_item(content, offset, true, target),
+        RelocKind::PcrelLo12I => paired_item(content, offset, target),
+        RelocKind::PcrelLo12S => paired_item(content, offset, target),
+        RelocKind::Hi20 => upper_item(content, offset, false, target),
+        RelocKind::Lo12I => lower_item(content, offset, target),
+        RelocKind::Lo12S => lower_item(content, offset, target),
+        RelocKind::RvcBranch => transfer_under(content, 2, offset, target),
+        RelocKind::RvcJump => transfer_under(content, 2, offset, target),
+        RelocKind::Align => Item::Align(u16::from(reloc.size)),
     }
 }

@@ -1,15 +1,16 @@
 // Where all relocations lead, and which words of data they fill in.
 
-ghost use Rattle.std.specs.Prelude.{◌≡◌, ◌&&◌, ℕ, [], IfOk, IfErr, None, Some, true, if◌then◌else◌, slice_get};
+ghost use Rattle.std.specs.Prelude.{◌≡◌, ◌<◌, ◌&&◌, ℕ, [], IfOk, IfErr, IfSome, None, Some, is_none, true, if◌then◌else◌, length, slice_get};
 ghost use Rattle.elf32_read.specs.Parts.{is_code_section};
 ghost use Rattle.psabi_sym.specs.Faults.{gather_fault};
-ghost use Rattle.psabi_sym.specs.Inputs.{parsed};
+ghost use Rattle.psabi_sym.specs.Inputs.{parsed, Inputs};
 ghost use Rattle.psabi_sym.specs.LinkFault.{IsRefusal};
 ghost use Rattle.psabi_sym.specs.Indexed.{all_sections, section_at, IndexedSection};
 ghost use Rattle.block_cut.specs.Invariants.CodeTargets.{AreCodeTargets};
 ghost use Rattle.block_cut.specs.Faults.{relocs_fault, section_fault};
 ghost use Rattle.block_cut.specs.Invariants.RelocTargets.{AreRelocTargets};
-ghost use Rattle.block_cut.specs.Resolved.{resolved_relocs};
+ghost use Rattle.block_cut.specs.Invariants.SectionText.{numbers_in};
+ghost use Rattle.block_cut.specs.Resolved.{placed_relocs};
 ghost use Rattle.block_cut.specs.Invariants.CodeTables.{AreCodeTables};
 
 use crate::code_tables::CodeTables;
@@ -22,6 +23,7 @@ use crate::leads::add_relocs;
 use crate::relocated::resolve_relocs;
 use crate::resolved_reloc::ResolvedReloc;
 use crate::section_words::decode_words;
+use crate::walk::place_relocs;
 use elf32_read::fault::Fault;
 use psabi_sym::link_fault::LinkFault;
 use psabi_sym::objects::Objects;
@@ -49,27 +51,46 @@ fn is_fine(objects: &Objects, tables: &CodeTables, targets: &CodeTargets) -> boo
     tables.has_targets(objects, &targets.leaders)
 }
 
-// The relocations of a section that are to be judged, resolved; none of code if that is fine.
+// The relocations of a section that are to be judged, by the numbers of its places; none of code that isn't to be.
 fn relocs_left(
     alloc: Global,
     objects: &Objects,
     section: &SectionRef,
-    fine: bool,
+    numbers: Option<&[u32]>,
 ) -> Result<Vec<ResolvedReloc>, AllocError>
     requires gathered { gather_fault objects.now ≡ None }
     requires section { section_at (parsed objects.now).objects section.now.object section.now.index
         ≡ Some section.now.section }
-    ensures { IfOk result (λ relocs. relocs.items ≡ (if is_code_section section.now.section && fine then []
-        else resolved_relocs (parsed objects.now) section.now)) }
+    requires numbers { IfSome numbers (λ ns. ns.now ≡ numbers_in section.now.section) }
+    ensures { IfOk result (λ relocs. relocs.items ≡ (if is_code_section section.now.section && is_none numbers.entry then []
+        else placed_relocs (parsed objects.now) section.now)) }
 {
     if !section.is_code() {
-        return resolve_relocs(alloc, objects, section, &[]);
+        let data = resolve_relocs(alloc, objects, section, &[])?;
+        return Ok(data);
     }
-    if fine {
+    let Some(numbers) = numbers else {
         return Ok(Vec::new(alloc));
+    };
+    let compressed = section.is_compressed();
+    let words = decode_words(alloc, compressed, section.bytes())?;
+    let relocs = resolve_relocs(alloc, objects, section, &words)?;
+    let placed = place_relocs(alloc, compressed, relocs, numbers)?;
+    Ok(placed)
+}
+
+// The numbers of the places of a section, by its number among all, if relocations of code are to be judged.
+fn numbers_left(tables: &CodeTables, section: u32, fine: bool) -> Option<&[u32]>
+    requires { section < length tables.now.sections.items }
+    ensures fine { is_none result ≡ fine }
+    ensures numbers { (inputs : Inputs) (l : IndexedSection) → AreCodeTables (parsed inputs) tables.now
+        → slice_get (all_sections (parsed inputs).objects) section ≡ Some l
+        → IfSome result (λ ns. ns.now ≡ numbers_in l.section) }
+{
+    if fine {
+        return None;
     }
-    let words = decode_words(alloc, section.bytes())?;
-    resolve_relocs(alloc, objects, section, &words)
+    Some(tables.numbers(section))
 }
 
 impl RelocTargets {
@@ -93,7 +114,8 @@ impl RelocTargets {
         let mut leaders = targets.leaders;
         for k in 0..objects.section_count() {
             let section = objects.section(k);
-            let own = relocs_left(alloc, objects, &section, fine)?;
+            let numbers = numbers_left(tables, k, fine);
+            let own = relocs_left(alloc, objects, &section, numbers)?;
             if let Some(fault) = section_fault(objects, tables, section.index(), &own) {
                 return Err(LinkFault::Object {
                     index: u32::from(section.object()),

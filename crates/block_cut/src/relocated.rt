@@ -1,9 +1,9 @@
 // Sections whose relocations are decided.
 
-ghost use Rattle.std.specs.Prelude.{◌≡◌, ◌+◌, ◌≤◌, Contains, List, Some, None, IfOk, IfSome, false, if◌then◌else◌, length, nat_le, true};
+ghost use Rattle.std.specs.Prelude.{◌≡◌, ◌+◌, ◌%◌, ◌≤◌, Contains, List, Some, None, IfOk, IfSome, false, if◌then◌else◌, length, nat_le, true};
 ghost use Rattle.elf32_read.specs.Parts.{is_code_section};
 ghost use Rattle.elf32_read.specs.declared.reloc.Reloc.{Reloc};
-ghost use Rattle.psabi_reloc.specs.Kinds.{kind_of};
+ghost use Rattle.psabi_reloc.specs.Kinds.{field_length, kind_of};
 ghost use Rattle.psabi_sym.specs.Faults.{gather_fault};
 ghost use Rattle.psabi_sym.specs.Inputs.{parsed, Inputs};
 ghost use Rattle.psabi_sym.specs.Indexed.{IndexedSection, section_at};
@@ -11,12 +11,15 @@ ghost use Rattle.block_cut.specs.Faults.{is_pair_at};
 ghost use Rattle.block_cut.specs.Items.{target_of};
 ghost use Rattle.block_cut.specs.Invariants.Fields.{AreFields};
 ghost use Rattle.block_cut.specs.Invariants.Relocated.{IsRelocated, with_relocs};
-ghost use Rattle.block_cut.specs.Relocs.{field_end, instr_in, is_bad_kind, is_bad_place, is_ignored, is_placed, has_pcrel_hi_at};
+ghost use Rattle.block_cut.specs.CodeSizes.{code_step};
+ghost use Rattle.block_cut.specs.Relocs.{field_end, fits_at, instr_in, is_bad_kind, is_bad_place, is_ignored, is_placed, has_pcrel_hi_at};
 ghost use Rattle.block_cut.specs.Resolved.{own_fault, resolved_reloc, resolved_relocs};
 ghost use Rattle.block_cut.specs.Instrs.{instrs_in};
 
 use crate::fields::{Fields, field_end, field_length};
-use crate::kinds::{STEP, fits_at, instr_at, is_ignored, is_pcrel_lo, is_rvc, is_word};
+use crate::kinds::{
+    instr_at, is_ignored, is_padding, is_pcrel_lo, is_rvc, is_step, is_word, short_instr_at,
+};
 use crate::resolved_reloc::{RelocFault, ResolvedReloc};
 use crate::section_words::instr_on;
 use elf32_read::reloc::Reloc;
@@ -28,7 +31,8 @@ use rv_decode::instr::Instr;
 use std::alloc::{AllocError, Global};
 
 /// A section with what its relocations change: its object's index and its own, whether it is code, its size in
-/// memory, its content, what its words spell if it is code, and the fields of its relocations.
+/// memory, its content, whether its object is compressed, what its words spell if it is code and that isn't, and the
+/// fields of its relocations.
 #[derive(Drop)]
 pub struct Relocated<'a> {
     pub object: u16,
@@ -36,6 +40,7 @@ pub struct Relocated<'a> {
     pub is_code: bool,
     pub size: u32,
     pub bytes: &'a [u8],
+    pub is_compressed: bool,
     pub words: &'a [Option<Instr>],
     pub fields: Fields,
 }
@@ -43,7 +48,8 @@ pub struct Relocated<'a> {
 impl<'a> Relocated<'a> {
     // A section, by what its words spell if it is code, with the fields of some relocations.
     fn new(section: &SectionRef<'a>, words: &'a [Option<Instr>], fields: Fields) -> Relocated<'a>
-        requires words { is_code_section section.now.section ≡ true → words.now ≡ instrs_in section.now.section.bytes }
+        requires words { is_code_section section.now.section ≡ true → section.now.section.compressed ≡ false
+            → words.now ≡ instrs_in section.now.section.bytes }
         ensures is { (inputs : Inputs) (relocs : List Reloc) → gather_fault inputs ≡ None
             → section_at (parsed inputs).objects section.now.object section.now.index ≡ Some section.now.section
             → AreFields relocs fields → IsRelocated (with_relocs relocs section.now) result }
@@ -55,6 +61,7 @@ impl<'a> Relocated<'a> {
             is_code: section.is_code(),
             size: section.size(),
             bytes: section.bytes(),
+            is_compressed: section.is_compressed(),
             words,
             fields,
         }
@@ -66,7 +73,51 @@ impl<'a> Relocated<'a> {
     {
         match kind {
             None => true,
-            Some(_) => (!self.is_code && !is_ignored(kind) && !is_word(kind)) || is_rvc(kind),
+            Some(_) => {
+                (!self.is_code && !is_ignored(kind) && !is_word(kind))
+                    || (is_rvc(kind) && !self.is_compressed)
+            }
+        }
+    }
+
+    // What the word at a step of code spells; nothing if there is no whole word.
+    #[inline(always)]
+    fn word_at(&self, at: usize) -> Option<Instr>
+        ensures { (l : IndexedSection) → IsRelocated l self.now → self.now.is_code ≡ true
+            → at % code_step l.section.compressed ≡ 0
+            → result ≡ (if nat_le (at + 4) (length l.section.bytes) then instr_in 4 l.section.bytes at else None) }
+    {
+        if self.is_compressed {
+            return instr_at(self.bytes, at);
+        }
+        instr_on(self.words, at)
+    }
+
+    // Whether the instructions that a relocation of this kind changes, which begin at a step of code, are of its kind,
+    // or else its addend.
+    #[inline(always)]
+    fn fits_at(&self, reloc: Reloc, kind: RelocKind) -> bool
+        ensures { (l : IndexedSection) → IsRelocated l self.now → self.now.is_code ≡ true
+            → reloc.offset % code_step l.section.compressed ≡ 0
+            → reloc.offset + field_length (Some kind) reloc.addend ≤ length l.section.bytes
+            → result ≡ fits_at l.section reloc.offset reloc.addend (Some kind) }
+    {
+        let at = reloc.offset as usize;
+        match kind {
+            RelocKind::Align => is_padding(self.is_compressed, reloc.addend),
+            RelocKind::Ignored | RelocKind::Word => true,
+            RelocKind::RvcBranch | RelocKind::RvcJump => {
+                kind.fits(short_instr_at(self.bytes, at), None)
+            }
+            RelocKind::Call => kind.fits(self.word_at(at), self.word_at(at + 4)),
+            RelocKind::Branch
+            | RelocKind::Jal
+            | RelocKind::PcrelHi20
+            | RelocKind::PcrelLo12I
+            | RelocKind::PcrelLo12S
+            | RelocKind::Hi20
+            | RelocKind::Lo12I
+            | RelocKind::Lo12S => kind.fits(self.word_at(at), None),
         }
     }
 
@@ -80,12 +131,12 @@ impl<'a> Relocated<'a> {
         if !self.is_code {
             return true;
         }
-        if reloc.offset % STEP != 0 {
+        if !is_step(self.is_compressed, reloc.offset) {
             return false;
         }
         match kind {
             None => true,
-            Some(kind) => fits_at(self.words, reloc, kind),
+            Some(kind) => self.fits_at(reloc, kind),
         }
     }
 
@@ -109,7 +160,7 @@ impl<'a> Relocated<'a> {
             → result
             ≡ (if nat_le (offset + 4) (length l.section.bytes) then instr_in 4 l.section.bytes offset else None) }
     {
-        if self.is_code && offset % 4 == 0 {
+        if self.is_code && !self.is_compressed && offset % 4 == 0 {
             return instr_on(self.words, offset);
         }
         instr_at(self.bytes, offset)
@@ -184,7 +235,8 @@ fn resolve_in_order(
     requires gathered { gather_fault objects.now ≡ None }
     requires section { section_at (parsed objects.now).objects section.now.object section.now.index
         ≡ Some section.now.section }
-    requires words { is_code_section section.now.section ≡ true → words.now ≡ instrs_in section.now.section.bytes }
+    requires words { is_code_section section.now.section ≡ true → section.now.section.compressed ≡ false
+        → words.now ≡ instrs_in section.now.section.bytes }
     ensures { IfOk result (λ o. IfSome o (λ relocs.
         relocs.items ≡ resolved_relocs (parsed objects.now) section.now)) }
 {
@@ -219,7 +271,8 @@ pub fn resolve_relocs(
     requires gathered { gather_fault objects.now ≡ None }
     requires section { section_at (parsed objects.now).objects section.now.object section.now.index
         ≡ Some section.now.section }
-    requires words { is_code_section section.now.section ≡ true → words.now ≡ instrs_in section.now.section.bytes }
+    requires words { is_code_section section.now.section ≡ true → section.now.section.compressed ≡ false
+        → words.now ≡ instrs_in section.now.section.bytes }
     ensures { IfOk result (λ relocs. relocs.items ≡ resolved_relocs (parsed objects.now) section.now) }
 {
     if let Some(relocs) = resolve_in_order(alloc, objects, section, words)? {

@@ -19,7 +19,7 @@ use crate::plain_layout::begin_after;
 use crate::relocated::resolve_relocs;
 use crate::resolved_reloc::ResolvedReloc;
 use crate::section_words::decode_words;
-use crate::walk::{number_at, place_count, place_numbers, relocs_by_halfword};
+use crate::walk::{number_at, place_count, place_numbers, place_relocs, relocs_by_halfword};
 use psabi_sym::objects::Objects;
 use psabi_sym::section_ref::SectionRef;
 use std::alloc::{AllocError, Global};
@@ -63,7 +63,8 @@ fn data_section(alloc: Global) -> CutSection
     }
 }
 
-// A section of code, where the code before it ends at an address. It decodes each word once.
+// A section of code, where the code before it ends at an address. It decodes each word once, or where the object is
+// compressed each instruction at most twice.
 fn code_section(
     alloc: Global,
     objects: &Objects,
@@ -75,16 +76,18 @@ fn code_section(
     ensures { IfOk result (IsCutSection (parsed objects.now) section.now) }
 {
     let bytes = section.bytes();
-    let words = decode_words(alloc, bytes)?;
+    let compressed = section.is_compressed();
+    let words = decode_words(alloc, compressed, bytes)?;
     let relocs = resolve_relocs(alloc, objects, section, &words)?;
     // There are no more, so no number is too large.
     let _most = section.reloc_count();
     let table = relocs_by_halfword(alloc, bytes.len() / 2 + 1, &relocs)?;
-    let numbers = place_numbers(alloc, &relocs, &table)?;
+    let content = Content::new(bytes, &words, compressed);
+    let numbers = place_numbers(alloc, &content, &relocs, &table)?;
     let code = CodeSection {
         object: section.object(),
         index: section.index(),
-        content: Content::new(bytes, &words),
+        content,
         relocs: &relocs,
         table: &table,
         numbers: &numbers,
@@ -98,9 +101,10 @@ fn code_section(
             places.push(place)?;
         }
     }
+    let placed = place_relocs(alloc, compressed, relocs, &numbers)?;
     Ok(CutSection {
         text: SectionText { numbers, places },
-        relocs,
+        relocs: placed,
     })
 }
 
@@ -128,6 +132,13 @@ impl SectionText {
         ensures { result.now ≡ self.now.places }
     {
         &self.places
+    }
+
+    /// The numbers of its places by the offset / 2, from 1 on, with 0 where nothing starts.
+    pub fn numbers(&self) -> &[u32]
+        ensures { result.now ≡ self.now.numbers }
+    {
+        &self.numbers
     }
 
     /// The place at an offset, if an item starts there or the section ends there. It takes constant time.

@@ -1,6 +1,6 @@
 // What the words of a section of code spell.
 
-ghost use Rattle.std.specs.Prelude.{◌≡◌, ◌+◌, ◌%◌, ℕ, IfOk, List, None, if◌then◌else◌, length, nat_le};
+ghost use Rattle.std.specs.Prelude.{◌≡◌, ◌+◌, ◌%◌, ℕ, IfOk, List, None, false, if◌then◌else◌, length, nat_le};
 ghost use Rattle.block_cut.specs.Relocs.{instr_in};
 ghost use Rattle.block_cut.specs.Instrs.{instrs_in};
 
@@ -9,10 +9,18 @@ use rv_decode::instr::Instr;
 use std::alloc::{AllocError, Global};
 use zc_base::fields::u32_at;
 
-/// The instruction that each word of these bytes spells, by offset / 4. It decodes each word once.
-pub fn decode_words(alloc: Global, bytes: &[u8]) -> Result<Vec<Option<Instr>>, AllocError>
-    ensures { IfOk result (λ words. words.items ≡ instrs_in bytes.now) }
+/// The instruction that each word of these bytes spells, by offset / 4. It decodes each word once, and none of a
+/// compressed object, where an instruction may begin at any halfword.
+pub fn decode_words(
+    alloc: Global,
+    compressed: bool,
+    bytes: &[u8],
+) -> Result<Vec<Option<Instr>>, AllocError>
+    ensures { IfOk result (λ words. compressed ≡ false → words.items ≡ instrs_in bytes.now) }
 {
+    if compressed {
+        return Ok(Vec::new(alloc));
+    }
     let count = bytes.len() / 4;
     let mut words = Vec::with_capacity(alloc, count)?;
     for k in 0..count {

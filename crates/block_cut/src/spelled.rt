@@ -1,13 +1,11 @@
-// What words without a relocation spell.
+// What bytes without a relocation spell.
 
-ghost use Rattle.std.specs.Prelude.{◌≡◌, ◌<◌, ◌^◌, ◌+ℤ◌, ◌-◌, pos, List, None, Some};
+ghost use Rattle.std.specs.Prelude.{◌≡◌, ◌<◌, ◌^◌, ◌+ℤ◌, ◌-◌, pos, IfSome, List, None, Some};
 ghost use Rattle.elf32_read.specs.Parts.{ObjectParts, SectionParts};
 ghost use Rattle.psabi_sym.specs.Resolve.{offset_within};
-ghost use Rattle.rv_decode.specs.Decode.{decoded};
 ghost use Rattle.rv_decode.specs.Immediates.{InRange};
 ghost use Rattle.zc_base.specs.declared.place.Place.{Place};
 ghost use Rattle.block_cut.specs.Invariants.SectionText.{by_halfword, number_on};
-ghost use Rattle.block_cut.specs.declared.item.Item.TheVariants.{Raw};
 ghost use Rattle.block_cut.specs.Items.{code_at, instr_item, spelled_item, target_away};
 ghost use Rattle.block_cut.specs.Whole.{IsWhole};
 
@@ -43,16 +41,16 @@ fn target_away(numbers: &[u32], q: Place, distance: i32) -> Option<Place>
     Some(to)
 }
 
-// The item of an instruction at a place, and of its word.
-fn instr_item(numbers: &[u32], q: Place, instr: Instr, word: u32) -> Item
+// The item of an instruction at a place, or else its bytes unread.
+fn instr_item(numbers: &[u32], q: Place, instr: Instr, raw: Item) -> Item
     requires { InRange instr }
     ensures { (objects : List ObjectParts) (s : SectionParts) → code_at objects q ≡ Some s → IsWhole s
-        → numbers.now ≡ by_halfword (number_on s) s → result ≡ instr_item objects q instr (Raw word) }
+        → numbers.now ≡ by_halfword (number_on s) s → result ≡ instr_item objects q instr raw }
 {
     match instr {
         Instr::Jal { rd, distance } => match target_away(numbers, q, distance) {
             Some(to) => Item::Jump { rd, to },
-            None => Item::Raw(word),
+            None => raw,
         },
         Instr::Branch {
             op,
@@ -66,9 +64,9 @@ fn instr_item(numbers: &[u32], q: Place, instr: Instr, word: u32) -> Item
                 second,
                 to,
             },
-            None => Item::Raw(word),
+            None => raw,
         },
-        Instr::Csrrw { .. } => Item::Raw(word),
+        Instr::Csrrw { .. } => raw,
         Instr::Upper { .. }
         | Instr::Jalr { .. }
         | Instr::Load { .. }
@@ -81,15 +79,15 @@ fn instr_item(numbers: &[u32], q: Place, instr: Instr, word: u32) -> Item
     }
 }
 
-/// The item of a word without a relocation at a place, by the numbers of its section's places and by the
-/// instruction that it spells, if it is one.
-pub fn item_of(numbers: &[u32], q: Place, instr: Option<Instr>, word: u32) -> Item
-    requires { instr ≡ decoded word }
+/// The item of bytes without a relocation at a place, by the numbers of its section's places, by the instruction that
+/// they spell, if they are one, and by what they are unread.
+pub fn item_of(numbers: &[u32], q: Place, instr: Option<Instr>, raw: Item) -> Item
+    requires { IfSome instr InRange }
     ensures { (objects : List ObjectParts) (s : SectionParts) → code_at objects q ≡ Some s → IsWhole s
-        → numbers.now ≡ by_halfword (number_on s) s → result ≡ spelled_item objects q instr (Raw word) }
+        → numbers.now ≡ by_halfword (number_on s) s → result ≡ spelled_item objects q instr raw }
 {
     match instr {
-        None => Item::Raw(word),
-        Some(instr) => instr_item(numbers, q, instr, word),
+        None => raw,
+        Some(instr) => instr_item(numbers, q, instr, raw),
     }
 }

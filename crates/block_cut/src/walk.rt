@@ -1,14 +1,17 @@
 // A walk over the halfwords of a section of code.
 
-ghost use Rattle.std.specs.Prelude.{◌≡◌, ◌+◌, ◌-◌, ◌/◌, ◌<◌, ◌^◌, ◌==◌, ℕ, if◌then◌else◌, IfOk, [], true, length, slice_get, slice_index_or};
+ghost use Rattle.std.specs.Prelude.{◌≡◌, ◌+◌, ◌-◌, ◌/◌, ◌<◌, ◌^◌, ◌==◌, ℕ, if◌then◌else◌, IfOk, [], true, length, map, slice_get, slice_index_or};
 ghost use Rattle.std.specs.Option.{option_map_or, unwrap_or};
 ghost use Rattle.elf32_read.specs.Parts.{SectionParts, is_code_section};
 ghost use Rattle.psabi_sym.specs.Inputs.{ParsedInputs};
 ghost use Rattle.psabi_sym.specs.Indexed.{IndexedSection};
+ghost use Rattle.block_cut.specs.CodeSizes.{own_size};
 ghost use Rattle.block_cut.specs.Invariants.SectionText.{by_halfword, number_on, numbered, IsRelocTable};
-ghost use Rattle.block_cut.specs.Resolved.{is_right, resolved_relocs};
+ghost use Rattle.block_cut.specs.Items.{starts_on};
+ghost use Rattle.block_cut.specs.Resolved.{is_right, placed_fault, placed_reloc, resolved_relocs};
 ghost use Rattle.block_cut.specs.Whole.{IsWhole};
 
+use crate::content::Content;
 use crate::resolved_reloc::{RelocFault, ResolvedReloc};
 use std::alloc::{AllocError, Global};
 
@@ -63,12 +66,12 @@ pub fn numbered(relocs: &[ResolvedReloc], number: u32) -> Option<ResolvedReloc>
     }
 }
 
-/// How many bytes what stands at a halfword has, by the relocation that says it.
-pub fn size_with(reloc: Option<ResolvedReloc>) -> u8
-    ensures { result ≡ option_map_or (λ d. d.size) reloc 4 }
+/// How many bytes what stands at an offset has, by the relocation that says it.
+pub fn size_with(content: &Content, at: usize, reloc: Option<ResolvedReloc>) -> u8
+    ensures { result ≡ option_map_or (λ d. d.size) reloc (own_size content.now.compressed content.now.bytes at) }
 {
     match reloc {
-        None => 4,
+        None => content.own_size(at),
         Some(reloc) => reloc.size,
     }
 }
@@ -98,23 +101,25 @@ fn next_number(left: u8, before: u32) -> u32
 /// stands there; 0 where no item starts and the section doesn't end.
 pub fn place_numbers(
     alloc: Global,
+    content: &Content,
     relocs: &[ResolvedReloc],
     table: &[u32],
 ) -> Result<Vec<u32>, AllocError>
     requires { length table.now < 2 ^ 31 }
     ensures { IfOk result (λ numbers. (inputs : ParsedInputs) (l : IndexedSection) → is_code_section l.section ≡ true
         → IsWhole l.section
+        → content.now.bytes ≡ l.section.bytes → content.now.compressed ≡ l.section.compressed
         → relocs.now ≡ resolved_relocs inputs l → IsRelocTable relocs.now (length l.section.bytes / 2 + 1) table.now
         → numbers.items ≡ by_halfword (number_on l.section) l.section) }
 {
     let mut numbers = Vec::with_capacity(alloc, table.len())?;
     let mut before = 0;
     let mut left = 0;
-    for reloc in table {
+    for (k, reloc) in table.iter().enumerate() {
         let number = next_number(left, before);
         numbers.push(number)?;
         before = before.max(number);
-        left = left_after(left, size_with(numbered(relocs, *reloc)));
+        left = left_after(left, size_with(content, 2 * k, numbered(relocs, *reloc)));
     }
     Ok(numbers)
 }
@@ -134,6 +139,60 @@ pub fn number_at(numbers: &[u32], offset: u32) -> u32
         None => 0,
         Some(number) => *number,
     }
+}
+
+// Whether an item starts at an offset, by the numbers of its section's places, of which the last is the end's.
+fn starts_on(numbers: &[u32], offset: u32) -> bool
+    ensures { (s : SectionParts) → is_code_section s ≡ true → IsWhole s → numbers.now ≡ by_halfword (number_on s) s
+        → result ≡ starts_on s offset }
+{
+    if number_at(numbers, offset) == 0 {
+        return false;
+    }
+    offset as usize / 2 + 1 < numbers.len()
+}
+
+// What is wrong with a relocation of code, once it is known whether an item starts where it stands.
+fn placed_fault(strays: bool, fault: Option<RelocFault>) -> Option<RelocFault>
+    ensures { result ≡ placed_fault strays fault }
+{
+    match fault {
+        Some(RelocFault::Kind) => Some(RelocFault::Kind),
+        Some(RelocFault::Place | RelocFault::Pair) | None => {
+            if strays {
+                return Some(RelocFault::Place);
+            }
+            fault
+        }
+    }
+}
+
+/// The relocations of a section of code, with what is wrong with those that stand where no item starts, by the numbers
+/// of its places. Where the object isn't compressed, these have a fault already.
+pub fn place_relocs(
+    alloc: Global,
+    compressed: bool,
+    relocs: Vec<ResolvedReloc>,
+    numbers: &[u32],
+) -> Result<Vec<ResolvedReloc>, AllocError>
+    ensures { IfOk result (λ placed. (s : SectionParts) → is_code_section s ≡ true → IsWhole s
+        → numbers.now ≡ by_halfword (number_on s) s
+        → placed.items ≡ (if compressed then map (placed_reloc s) relocs.items else relocs.items)) }
+{
+    if !compressed {
+        return Ok(relocs);
+    }
+    let mut placed = Vec::with_capacity(alloc, relocs.len())?;
+    for reloc in &relocs {
+        placed.push(ResolvedReloc {
+            target: reloc.target,
+            offset: reloc.offset,
+            size: reloc.size,
+            kind: reloc.kind,
+            fault: placed_fault(!starts_on(numbers, reloc.offset), reloc.fault),
+        })?;
+    }
+    Ok(placed)
 }
 
 /// How many places there are, by the numbers at all halfwords of a section of code: the last is the end's.

@@ -38,6 +38,7 @@ pub enum RelocKind {
 
 impl RelocKind {
     /// The kind of a type; none if it isn't known.
+    #[inline(always)]
     pub fn of(number: u8) -> Option<RelocKind>
         ensures { result ≡ kind_of number }
     {

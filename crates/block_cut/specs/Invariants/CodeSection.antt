@@ -13,7 +13,8 @@ pub record IsCodeSection (inputs : Inputs) (l : IndexedSection) (section : CodeS
   pub code : is_code_section l.section ≡ true
   pub object_is : section.object ≡ l.object
   pub index_is : section.index ≡ l.index
-  pub content_is : section.content ≡ l.section.bytes
+  pub bytes_are : section.content.bytes ≡ l.section.bytes
+  pub compressed_is : section.content.compressed ≡ l.section.compressed
   pub relocs_are : section.relocs.now ≡ resolved_relocs (parsed inputs) l
   pub table_is : IsRelocTable section.relocs.now (length l.section.bytes / 2 + 1) section.table.now
   pub numbers_are : section.numbers.now ≡ by_halfword (number_on l.section) l.section

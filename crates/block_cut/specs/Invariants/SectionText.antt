@@ -1,10 +1,14 @@
 -- What the code keeps of a section: the numbers of its places by halfwords, and these.
-use Rattle.std.specs.Prelude.{◌≡◌, ℕ, ◌+◌, ◌-◌, ◌*◌, ◌/◌, ◌<◌, ◌||◌, ◌==◌, if◌then◌else◌, IfSome, List, [], length, map, slice_get, slice_index_or, ◌≤◌, Option, Some, None}
+use Rattle.std.specs.Prelude.{◌≡◌, ℕ, ◌+◌, ◌-◌, ◌*◌, ◌/◌, ◌<◌, ◌||◌, ◌==◌, if◌then◌else◌, List, [], length, map, slice_get, slice_index_or, ◌≤◌, Option, Some, None}
 use Rattle.std.specs.List.{find, range_with_len}
+use Rattle.std.specs.Option.{option_map_or}
 use Rattle.elf32_read.specs.Parts.{SectionParts, is_code_section}
 use Rattle.psabi_sym.specs.Inputs.{ParsedInputs}
 use Rattle.psabi_sym.specs.Indexed.{IndexedSection}
-use Rattle.psabi_reloc.specs.declared.kind.RelocKind.TheVariants.{Call}
+use Rattle.psabi_reloc.specs.declared.kind.RelocKind.{RelocKind}
+use Rattle.psabi_reloc.specs.declared.kind.RelocKind.TheVariants.{Align, Call, RvcBranch, RvcJump}
+use Rattle.block_cut.specs.CodeSizes.{own_size}
+use Rattle.block_cut.specs.Instrs.{CodeBytes}
 use Rattle.block_cut.specs.Items.{starts_on}
 use Rattle.block_cut.specs.Places.{code_places}
 use Rattle.block_cut.specs.PlainLayout.{starts_before}
@@ -35,10 +39,18 @@ number_on s n = if starts_on s n || n == length s.bytes then length (starts_befo
 abbrev pub numbers_in : SectionParts → List ℕ
 numbers_in s = if is_code_section s then by_halfword (number_on s) s else []
 
--- the bytes of a section have room for an item at an offset, by its relocation
-pub record HasRoom (bytes : List ℕ) (n : ℕ) (reloc : Option ResolvedReloc) : Type 0 where
-  pub word : n + 4 ≤ length bytes
-  pub second : IfSome reloc (λ d. d.kind ≡ Some Call → n + 8 ≤ length bytes)
+-- the bytes that say what an item with a relocation of this kind is; those of padding say nothing
+abbrev pub read_length : Option RelocKind → ℕ
+read_length (Some Call) = 8
+read_length (Some RvcBranch) = 2
+read_length (Some RvcJump) = 2
+read_length (Some Align) = 0
+read_length other = 4
+
+-- a section has the bytes that say which item stands at an offset, by its relocation
+abbrev pub HasRoom : CodeBytes → ℕ → Option ResolvedReloc → Type 0
+HasRoom content n reloc =
+    n + option_map_or (λ d. read_length d.kind) reloc (own_size content.compressed content.bytes n) ≤ length content.bytes
 
 -- ---- sections
 

@@ -47,6 +47,7 @@ loop-k-preserved c =
       code = before.is.code;
       size = before.is.size;
       bytes = before.is.bytes;
+      compressed = before.is.compressed;
       words = before.is.words;
       fields = in_order (take (k + 1) all) c.add.new.self holds some;
       whole = before.is.whole;

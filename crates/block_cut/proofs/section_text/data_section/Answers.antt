@@ -1,7 +1,7 @@
 use Rattle.std.proofs.Common.{[], cond, map, sym, ap, ◌∙◌}
 use Rattle.block_cut.specs.Items.{targets_in}
 use Rattle.block_cut.specs.Places.{code_place}
-use Rattle.block_cut.specs.Resolved.{resolved_relocs}
+use Rattle.block_cut.specs.Resolved.{placed_relocs}
 use Rattle.block_cut.specs.Invariants.SectionText.{by_halfword, number_on, section_tables}
 use Rattle.block_cut.proofs.section_text.data_section.Goals as goal
 
@@ -12,5 +12,5 @@ returns c = λ inputs l other. record {
     numbers = (c.new.ensures.items ∙ sym (ap (λ b. cond b (by_halfword (number_on l.section) l.section) []) other)) j;
     places = (c.new-2.ensures.items ∙ sym (ap (λ b. cond b (map (code_place inputs l) (targets_in l.section)) []) other)) j;
   };
-  relocs_are = c.new-3.ensures.items ∙ sym (ap (λ b. cond b (resolved_relocs inputs l) []) other);
+  relocs_are = c.new-3.ensures.items ∙ sym (ap (λ b. cond b (placed_relocs inputs l) []) other);
 }

@@ -3,7 +3,7 @@ use Rattle.std.specs.Option.{option_map_or}
 use Rattle.std.proofs.lemmas.Int.{to_z-of_z}
 use Rattle.rv_decode.specs.Bits.{FitsIn}
 use Rattle.rv_decode.specs.Immediates.{InRange}
-use Rattle.block_cut.specs.declared.item.Item.TheVariants.{Branch, Jump, Raw}
+use Rattle.block_cut.specs.declared.item.Item.TheVariants.{Branch, Jump}
 use Rattle.block_cut.specs.Items.{instr_item, target_away}
 use Rattle.block_cut.proofs.spelled.instr_item.Goals as goal
 
@@ -19,33 +19,33 @@ far (negsuc n) lt = omega (arith, lt)
 pub returns-in-Some : goal.returns-in-Some
 returns-in-Some c = λ objects s at whole are.
     let q = c.args.q in
-    let word = c.args.word in
+    let raw = c.args.raw in
     let same = read_back c.in-Jal.distance (subst InRange c.in-Jal.is c.requires).0 in
     let found = ap (target_away objects q) (sym same) ∙ sym (c.target_away.ensures objects s at whole are) ∙ c.in-Some.is in
-    sym (ap (λ i. instr_item objects q i (Raw word)) c.in-Jal.is ∙ ap (λ t. option_map_or (Jump c.in-Jal.rd) t (Raw word)) found)
+    sym (ap (λ i. instr_item objects q i raw) c.in-Jal.is ∙ ap (λ t. option_map_or (Jump c.in-Jal.rd) t raw) found)
 
 pub returns-in-None : goal.returns-in-None
 returns-in-None c = λ objects s at whole are.
     let q = c.args.q in
-    let word = c.args.word in
+    let raw = c.args.raw in
     let same = read_back c.in-Jal.distance (subst InRange c.in-Jal.is c.requires).0 in
     let found = ap (target_away objects q) (sym same) ∙ sym (c.target_away.ensures objects s at whole are) ∙ c.in-None.is in
-    sym (ap (λ i. instr_item objects q i (Raw word)) c.in-Jal.is ∙ ap (λ t. option_map_or (Jump c.in-Jal.rd) t (Raw word)) found)
+    sym (ap (λ i. instr_item objects q i raw) c.in-Jal.is ∙ ap (λ t. option_map_or (Jump c.in-Jal.rd) t raw) found)
 
 pub returns-in-Some-target_away : goal.returns-in-Some-target_away
 returns-in-Some-target_away c = λ objects s at whole are.
     let q = c.args.q in
-    let word = c.args.word in
+    let raw = c.args.raw in
     let b = c.in-Branch in
     let same = read_back b.distance (far b.distance (subst InRange b.is c.requires).0) in
     let found = ap (target_away objects q) (sym same) ∙ sym (c.target_away-in-Branch.ensures objects s at whole are) ∙ c.in-Some-target_away.is in
-    sym (ap (λ i. instr_item objects q i (Raw word)) b.is ∙ ap (λ t. option_map_or (Branch b.op b.first b.second) t (Raw word)) found)
+    sym (ap (λ i. instr_item objects q i raw) b.is ∙ ap (λ t. option_map_or (Branch b.op b.first b.second) t raw) found)
 
 pub returns-in-None-target_away : goal.returns-in-None-target_away
 returns-in-None-target_away c = λ objects s at whole are.
     let q = c.args.q in
-    let word = c.args.word in
+    let raw = c.args.raw in
     let b = c.in-Branch in
     let same = read_back b.distance (far b.distance (subst InRange b.is c.requires).0) in
     let found = ap (target_away objects q) (sym same) ∙ sym (c.target_away-in-Branch.ensures objects s at whole are) ∙ c.in-None-target_away.is in
-    sym (ap (λ i. instr_item objects q i (Raw word)) b.is ∙ ap (λ t. option_map_or (Branch b.op b.first b.second) t (Raw word)) found)
+    sym (ap (λ i. instr_item objects q i raw) b.is ∙ ap (λ t. option_map_or (Branch b.op b.first b.second) t raw) found)

@@ -1,6 +1,6 @@
-use Rattle.std.proofs.Common.{sym, ◌∙◌}
-use Rattle.rv_decode.proofs.DecodeLaws.{decoded-in_range}
+use Rattle.std.proofs.Common.{IfSome, subst}
+use Rattle.rv_decode.specs.Immediates.{InRange}
 use Rattle.block_cut.proofs.spelled.item_of.Goals as goal
 
 pub instr_item-requires : goal.instr_item-requires
-instr_item-requires c = decoded-in_range c.args.word c.in-Some.instr (sym c.requires ∙ c.in-Some.is)
+instr_item-requires c = subst (λ o. IfSome o InRange) c.in-Some.is c.requires

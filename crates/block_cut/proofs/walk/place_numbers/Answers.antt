@@ -7,6 +7,7 @@ use Rattle.std.proofs.lemmas.Bool.{cases_eq, ne_eqb}
 use Rattle.std.proofs.lemmas.List.{length-append}
 use Rattle.std.proofs.lemmas.List.FromFn.{map-range_with_len_more}
 use Rattle.elf32_read.specs.Parts.{SectionParts, is_code_section}
+use Rattle.block_cut.specs.CodeSizes.{own_size}
 use Rattle.block_cut.specs.Items.{size_on, starts_on}
 use Rattle.block_cut.specs.PlainLayout.{starts_before}
 use Rattle.block_cut.specs.Resolved.{is_right_at, resolved_relocs}
@@ -68,36 +69,36 @@ module _ (s : SectionParts) (code : is_code_section s ≡ true) (whole : IsWhole
           ap (λ n. length (starts_before s n)) next ∙ ap length (before_other s code whole (2 * k) (omega arith) other) in
           omega (arith, new_is, own, was, same)
 
-pub loop-reloc-init : goal.loop-reloc-init
-loop-reloc-init c = record {
+pub loop-k-init : goal.loop-k-init
+loop-k-init c = record {
   most = omega arith;
-  each = λ inputs m code whole are table. (
+  each = λ inputs m code whole held compressed are table. (
     c.in_ok-numbers.ensures.items,
     λ le. (next_first m.section code whole, sym (ap length (before_first_none m.section code whole))),
   );
 }
 
-pub loop-reloc-preserved : goal.loop-reloc-preserved
-loop-reloc-preserved c =
-    let k = c.loop-reloc.reloc-index in
-    let left = c.loop-reloc.left in
-    let before = c.loop-reloc.before in
+pub loop-k-preserved : goal.loop-k-preserved
+loop-k-preserved c =
+    let k = c.loop-k.k in
+    let left = c.loop-k.left in
+    let before = c.loop-k.before in
     let number = c.next_number-number.result in
     let few : number ≤ before + 1 = elim (cases_eq left 0) [
       | inl e ↦ omega (arith, c.next_number-number.ensures, ap (λ b. cond b (before + 1) 0) (eq-eqb left 0 e))
       | inr ne ↦ omega (arith, c.next_number-number.ensures, ap (λ b. cond b (before + 1) 0) (ne_eqb left 0 ne))
     ] in
     record {
-      most = omega (arith, c.max-before.ensures, few, c.loop-reloc.invariant.most);
-      each = λ inputs m code whole are table.
+      most = omega (arith, c.max-before.ensures, few, c.loop-k.invariant.most);
+      each = λ inputs m code whole held compressed are table.
           let s = m.section in
-          let inv = c.loop-reloc.invariant.each inputs m code whole are table in
-          let within : k ≤ length s.bytes / 2 = omega (arith, table.count_is, c.loop-reloc-test.true) in
+          let inv = c.loop-k.invariant.each inputs m code whole held compressed are table in
+          let within : k ≤ length s.bytes / 2 = omega (arith, table.count_is, c.loop-k-test.true) in
           let next = (inv.1 within).0 in
           let reloc : c.numbered.result ≡ find (is_right_at (2 * k)) (resolved_relocs inputs m) =
           c.numbered.ensures ∙ table.each k (omega (arith, within)) ∙ ap (find (is_right_at (2 * k))) are in
           let size : c.size_with.result ≡ size_on s (2 * k) =
-          c.size_with.ensures ∙ ap (λ o. option_map_or (λ (d : ResolvedReloc). d.size) o 4) reloc ∙ sized_on inputs m (2 * k) code in
+          c.size_with.ensures ∙ (λ j. option_map_or (λ (d : ResolvedReloc). d.size) (reloc j) (own_size (compressed j) (held j) (2 * k))) ∙ sized_on inputs m (2 * k) code in
           let is : number ≡ number_on s (2 * k) = c.next_number-number.ensures ∙ (λ j. cond (starts_now s code whole k left next j) ((inv.1 within).1 j + 1) 0) in (
             c.in_ok-push.ensures.items ∙ ap (λ l. l ++ number ∷ []) inv.0 ∙ ap (λ x. map (λ j. number_on s (2 * j)) (range_with_len 0 k) ++ x ∷ []) is
                 ∙ sym (map-range_with_len_more (λ j. number_on s (2 * j)) 0 k k (omega arith)),
@@ -109,6 +110,6 @@ loop-reloc-preserved c =
     }
 
 pub returns : goal.returns
-returns c = λ inputs m code whole are table.
-    let end : c.loop-reloc.reloc-index ≡ length m.section.bytes / 2 + 1 = omega (arith, table.count_is, c.loop-reloc-test.false, c.loop-reloc.auto.reloc-index-end) in
-    (c.loop-reloc.invariant.each inputs m code whole are table).0 ∙ ap (λ n. map (λ j. number_on m.section (2 * j)) (range_with_len 0 n)) end
+returns c = λ inputs m code whole held compressed are table.
+    let end : c.loop-k.k ≡ length m.section.bytes / 2 + 1 = omega (arith, table.count_is, c.loop-k-test.false, c.loop-k.auto.k-end) in
+    (c.loop-k.invariant.each inputs m code whole held compressed are table).0 ∙ ap (λ n. map (λ j. number_on m.section (2 * j)) (range_with_len 0 n)) end

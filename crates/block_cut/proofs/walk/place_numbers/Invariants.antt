@@ -10,10 +10,10 @@ use Rattle.block_cut.specs.Whole.{IsWhole}
 use Rattle.block_cut.proofs.WordLaws.{IsNext}
 use Rattle.block_cut.proofs.walk.place_numbers.Given as goal
 
-abbrev pub invariant-loop-reloc : goal.invariant-loop-reloc
-invariant-loop-reloc l = record {
-  most : l.before ≤ l.reloc-index;
-  each : (inputs : ParsedInputs) (m : IndexedSection) → is_code_section m.section ≡ true → IsWhole m.section → l.relocs ≡ resolved_relocs inputs m → IsRelocTable l.relocs (length m.section.bytes / 2 + 1) l.table
-      → (l.numbers.items ≡ map (λ k. number_on m.section (2 * k)) (range_with_len 0 l.reloc-index))
-      × (l.reloc-index ≤ length m.section.bytes / 2 → IsNext m.section (2 * l.reloc-index) (2 * l.reloc-index + l.left) × (l.before ≡ length (starts_before m.section (2 * l.reloc-index))));
+abbrev pub invariant-loop-k : goal.invariant-loop-k
+invariant-loop-k l = record {
+  most : l.before ≤ l.k;
+  each : (inputs : ParsedInputs) (m : IndexedSection) → is_code_section m.section ≡ true → IsWhole m.section → l.content.bytes ≡ m.section.bytes → l.content.compressed ≡ m.section.compressed → l.relocs ≡ resolved_relocs inputs m → IsRelocTable l.relocs (length m.section.bytes / 2 + 1) l.table
+      → (l.numbers.items ≡ map (λ k. number_on m.section (2 * k)) (range_with_len 0 l.k))
+      × (l.k ≤ length m.section.bytes / 2 → IsNext m.section (2 * l.k) (2 * l.k + l.left) × (l.before ≡ length (starts_before m.section (2 * l.k))));
 }

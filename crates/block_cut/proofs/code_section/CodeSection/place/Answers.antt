@@ -5,6 +5,7 @@ use Rattle.std.specs.Option.{option_map_or}
 use Rattle.std.proofs.lemmas.Bool.{eqb-true, ne_eqb}
 use Rattle.elf32_read.specs.Parts.{SectionParts, is_code_section}
 use Rattle.psabi_sym.specs.Inputs.{parsed}
+use Rattle.block_cut.specs.CodeSizes.{own_size}
 use Rattle.block_cut.specs.Items.{item_in, place_of, size_on, starts_on}
 use Rattle.block_cut.specs.Whole.{IsWhole}
 use Rattle.block_cut.specs.declared.resolved_reloc.ResolvedReloc.{ResolvedReloc}
@@ -34,10 +35,12 @@ returns c = λ inputs l none is target.
     let n = c.args.at in
     let s = l.section in
     let whole = inputs_whole inputs l.object l.index s none is.found is.code in
-    let long = c.len.ensures ∙ ap length is.content_is in
+    let long = c.len.ensures ∙ ap length is.bytes_are in
     let lies : (n ≤ length s.bytes) × (n % 2 ≡ 0) = inside s is.code whole n (starts_on s n) refl target in
     let size : c.size_with.result ≡ size_on s n =
-    c.size_with.ensures ∙ ap (λ o. option_map_or (λ (d : ResolvedReloc). d.size) o 4) (sym (reloc_found inputs l c.args.self.now n c.numbered-reloc.result is lies.1 lies.0 c.numbered-reloc.ensures))
+    c.size_with.ensures
+    ∙ (λ j. option_map_or (λ (d : ResolvedReloc). d.size) (sym (reloc_found inputs l c.args.self.now n c.numbered-reloc.result is lies.1 lies.0 c.numbered-reloc.ensures) j)
+    (own_size (is.compressed_is j) (is.bytes_are j) n))
     ∙ sized_on (parsed inputs) l n is.code in
     let item : c.if-is_end.result ≡ cond (starts_on s n) (Some (item_in (parsed inputs) s (place_of l n))) None = elim c.if-is_end.branch [
       | then-is_end w ↦

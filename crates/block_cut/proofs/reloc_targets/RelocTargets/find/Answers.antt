@@ -13,11 +13,12 @@ use Rattle.block_cut.specs.Invariants.CodeTargets.{code_leads}
 use Rattle.block_cut.specs.DataWords.{words_in}
 use Rattle.block_cut.specs.Faults.{relocs_fault, section_fault}
 use Rattle.block_cut.specs.Leaders.{is_place, section_leads}
-use Rattle.block_cut.specs.Resolved.{resolved_fault, resolved_relocs}
+use Rattle.block_cut.specs.Resolved.{placed_relocs, resolved_fault}
 use Rattle.block_cut.proofs.DataLaws.{words_next}
 use Rattle.block_cut.proofs.FirstLaws.{none_next, some_next}
 use Rattle.block_cut.proofs.LedLaws.{any_next, or_false}
 use Rattle.block_cut.proofs.RelocTargetLaws.{any_here, code_lead, code_led, left_judged, left_leads, when_both}
+use Rattle.block_cut.proofs.StrayLaws.{placed_data}
 use Rattle.block_cut.proofs.reloc_targets.RelocTargets.find.Goals as goal
 
 pub loop-k-init : goal.loop-k-init
@@ -30,6 +31,9 @@ loop-k-init c = record {
 pub relocs_left-requires-clause-section : goal.relocs_left-requires-clause-section
 relocs_left-requires-clause-section c = listed_at (parsed c.args.objects.now).objects c.loop-k.k c.section-section.result c.section-section.ensures
 
+pub relocs_left-requires-clause-numbers : goal.relocs_left-requires-clause-numbers
+relocs_left-requires-clause-numbers c = c.numbers_left-numbers.ensures.numbers c.args.objects.now c.section-section.result c.requires.tables c.section-section.ensures
+
 pub returns-in-Some-clause-err : goal.returns-in-Some-clause-err
 unfolding relocs_fault
 returns-in-Some-clause-err c =
@@ -38,7 +42,7 @@ returns-in-Some-clause-err c =
     let k = c.loop-k.k in
     let l = c.section-section.result in
     let at = c.section-section.ensures in
-    let own = c.in_ok-own.ensures in
+    let own = c.in_ok-own.ensures ∙ ap (λ b. cond (is_code_section l.section && b) [] (placed_relocs inputs l)) c.numbers_left-numbers.ensures.fine in
     let here : section_fault inputs l ≡ Some (l.object, c.in-Some.fault) =
     sym (left_judged inputs l (is_code_section l.section && c.is_fine-fine.result) c.in_ok-own.own.items own (λ is. when_both (is_code_section l.section) c.is_fine-fine.result is (λ code fine. c.is_fine-fine.ensures fine k l at code)))
     ∙ ap (λ o. option_map {U = ℕ × Fault} (λ (f : Fault). (l.object, f)) o) ((λ j. first_some (map (resolved_fault inputs.objects (sym c.index.ensures j)) (sym c.deref.ensures.value j))) ∙ sym c.section_fault.ensures ∙ c.in-Some.is) in
@@ -54,7 +58,8 @@ add_section_words-requires-clause-relocs c =
     let k = c.loop-k.k in
     let l = c.section-section.result in
     let at = c.section-section.ensures in
-    λ other. c.deref-in-loop-k.ensures.value ∙ c.in_ok-own.ensures ∙ ap (λ b. cond (b && c.is_fine-fine.result) [] (resolved_relocs inputs l)) other
+    let own = c.in_ok-own.ensures ∙ ap (λ b. cond (is_code_section l.section && b) [] (placed_relocs inputs l)) c.numbers_left-numbers.ensures.fine in
+    λ other. c.deref-in-loop-k.ensures.value ∙ own ∙ ap (λ b. cond (b && c.is_fine-fine.result) [] (placed_relocs inputs l)) other ∙ placed_data inputs l other
 
 pub add_section_words-requires-clause-faultless : goal.add_section_words-requires-clause-faultless
 add_section_words-requires-clause-faultless c =
@@ -63,7 +68,7 @@ add_section_words-requires-clause-faultless c =
     let k = c.loop-k.k in
     let l = c.section-section.result in
     let at = c.section-section.ensures in
-    let own = c.in_ok-own.ensures in
+    let own = c.in_ok-own.ensures ∙ ap (λ b. cond (is_code_section l.section && b) [] (placed_relocs inputs l)) c.numbers_left-numbers.ensures.fine in
     sym (left_judged inputs l (is_code_section l.section && c.is_fine-fine.result) c.in_ok-own.own.items own (λ is. when_both (is_code_section l.section) c.is_fine-fine.result is (λ code fine. c.is_fine-fine.ensures fine k l at code)))
     ∙ ap (λ o. option_map {U = ℕ × Fault} (λ (f : Fault). (l.object, f)) o) ((λ j. first_some (map (resolved_fault inputs.objects (sym c.index.ensures j)) (sym c.deref.ensures.value j))) ∙ sym c.section_fault.ensures ∙ c.in_default.is)
 
@@ -74,7 +79,7 @@ loop-k-preserved c =
     let k = c.loop-k.k in
     let l = c.section-section.result in
     let at = c.section-section.ensures in
-    let own = c.in_ok-own.ensures in
+    let own = c.in_ok-own.ensures ∙ ap (λ b. cond (is_code_section l.section && b) [] (placed_relocs inputs l)) c.numbers_left-numbers.ensures.fine in
     let here : section_fault inputs l ≡ None =
     sym (left_judged inputs l (is_code_section l.section && c.is_fine-fine.result) c.in_ok-own.own.items own (λ is. when_both (is_code_section l.section) c.is_fine-fine.result is (λ code fine. c.is_fine-fine.ensures fine k l at code)))
     ∙ ap (λ o. option_map {U = ℕ × Fault} (λ (f : Fault). (l.object, f)) o) ((λ j. first_some (map (resolved_fault inputs.objects (sym c.index.ensures j)) (sym c.deref.ensures.value j))) ∙ sym c.section_fault.ensures ∙ c.in_default.is) in

@@ -11,7 +11,8 @@ returns-clause-is c = λ inputs relocs none found are.
       code = c.is_code.ensures;
       size = c.size.ensures;
       bytes = c.bytes.ensures;
-      words = λ yes. c.requires.words (sym c.is_code.ensures ∙ yes);
+      compressed = c.is_compressed.ensures;
+      words = λ yes plain. c.requires.words (sym c.is_code.ensures ∙ yes) (sym c.is_compressed.ensures ∙ plain);
       fields = are;
       whole = λ yes. (inputs_whole inputs l.object l.index l.section none found (sym c.is_code.ensures ∙ yes)).bytes;
     }
