@@ -81,6 +81,7 @@ fn item_text(alloc: Global, item: Item) -> Result<String, AllocError> {
         Item::Align(bytes) => format!(in alloc; "Align {bytes}"),
         Item::Word(to) => format!(in alloc; "Word {}", target_text(alloc, to)?),
         Item::Raw(word) => format!(in alloc; "Raw {word}"),
+        Item::RawShort(half) => format!(in alloc; "RawShort {half}"),
         Item::RawPair(first, second) => format!(in alloc; "RawPair {first} {second}"),
     }
 }

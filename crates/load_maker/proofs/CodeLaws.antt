@@ -115,7 +115,7 @@ module _ (n : ℕ) (symbol : ℕ → ℕ) where
     -- a section of such code is made of its fragments, none of which is ALIGN or leads a branch
     pub code_made : IsMadeOf (map (fragment_of symbol) statements) (text_section (map (fragment_of symbol) statements))
     code_made =
-        made_of (map (fragment_of symbol) statements) (text_section (map (fragment_of symbol) statements)) refl refl refl refl
+        made_of (map (fragment_of symbol) statements) (text_section (map (fragment_of symbol) statements)) refl refl refl refl refl
         (All-map CanStand (fragment_of symbol) statements (All-weaker (IsRight n) (λ s. CanStand (fragment_of symbol s)) stands statements right))
 
     pub code_no_branch : HaveNoBranchOrAlign (map (fragment_of symbol) statements)

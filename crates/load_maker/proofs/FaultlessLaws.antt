@@ -141,7 +141,7 @@ module _ (number n : ℕ) (few : n ≤ FUNCTION_LIMIT) where
       by (OfStart is) =
           let start : IndexedSection = record { object = 0; index = 1; section = text_section (start_fragments number n few) } in
           subst (BranchesReach all) (sym is)
-          (branchless_reach all start (subst (HasSection all.objects) is has) refl
+          (branchless_reach all start (subst (HasSection all.objects) is has) refl refl
           (made_branchless start (start_fragments number n few) (start_made number n few) start_no_branch (start_whole number n few) (start_no_bare_branch (symbol_of 2 (start_named number n few)) number n)))
       by (OfGroup k within is) =
           let group : IndexedSection = record { object = suc k; index = 1; section = text_section (fragments_in number n few k) } in

@@ -240,11 +240,12 @@ module _ (number n : ℕ) (few : n ≤ FUNCTION_LIMIT) where
 
   -- those of code whose calls and parts of addresses lead somewhere
   text_right : (o : ℕ) (symbol : ℕ → ℕ) (statements : List Statement) → IsMadeOf (map (fragment_of symbol) statements) (text_section (map (fragment_of symbol) statements))
+      → IsWhole (text_section (map (fragment_of symbol) statements))
       → ((before after : List Statement) (i : ℕ) → statements ≡ before ++ Call i ∷ after → is_bad_target made.objects true (resolved made o (symbol i) (pos 0)) ≡ false)
       → ((before after : List Statement) (kind : ℕ) (i : Rattle.rv_decode.specs.declared.instr.Instr.Instr) → statements ≡ before ++ WithAddress kind i ∷ after
       → TakesPart kind i × (is_bad_target made.objects (is_transfer (kind_of kind)) (resolved made o 1 (pos 0)) ≡ false))
       → RelocsAreRight made (record { object = o; index = 1; section = text_section (map (fragment_of symbol) statements) })
-  text_right o symbol statements is_made calls parts = relocs_right made l fragments is_made each
+  text_right o symbol statements is_made whole calls parts = relocs_right made l fragments is_made whole each
     where
       fragments : List Fragment
       fragments = map (fragment_of symbol) statements
@@ -269,7 +270,7 @@ module _ (number n : ℕ) (few : n ≤ FUNCTION_LIMIT) where
 
   pub start_relocs : RelocsAreRight made (record { object = 0; index = 1; section = text_section start_fragments })
   start_relocs =
-      text_right 0 (symbol_of 2 start_named) (start_statements number n) start_made
+      text_right 0 (symbol_of 2 start_named) (start_statements number n) start_made start_whole
       (λ before after i split.
       start_call i (at_split (IsRight n) (start_statements number n) before after (Call i) split (start_right number n)) (called_has [] (start_statements number n) before after i split))
       (λ before after kind i split.
@@ -278,7 +279,7 @@ module _ (number n : ℕ) (few : n ≤ FUNCTION_LIMIT) where
 
   pub group_relocs : (k : ℕ) → k < group_count n → RelocsAreRight made (record { object = suc k; index = 1; section = text_section (fragments_in k) })
   group_relocs k within =
-      text_right (suc k) (symbol_of 0 (named_in k)) (code_of number n k) (group_made k within)
+      text_right (suc k) (symbol_of 0 (named_in k)) (code_of number n k) (group_made k within) (group_whole k within)
       (λ before after i split.
       group_call k within i (at_split (IsRight n) (code_of number n k) before after (Call i) split (group_right number n k few within))
       (called_has (range_with_len (8 * k) (length (bodies_of number n k))) (code_of number n k) before after i split))

@@ -78,6 +78,7 @@ module _ (objects : List ObjectParts) where
   item_counts (item.Align bytes) size = (refl, refl)
   item_counts (item.Word t) size = (refl, refl)
   item_counts (item.Raw word) size = (refl, refl)
+  item_counts (item.RawShort half) size = (refl, refl)
   item_counts (item.RawPair first second) size = (refl, refl)
 
 module _ (objects : List ObjectParts) where

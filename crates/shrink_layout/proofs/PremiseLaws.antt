@@ -25,9 +25,11 @@ use Rattle.block_cut.specs.PlainLayout.{padding_of}
 use Rattle.block_cut.specs.Whole.{IsWhole}
 use Rattle.block_cut.specs.declared.item.Item.{Item}
 use Rattle.block_cut.specs.declared.item.Item.TheVariants as item
+use Rattle.block_cut.proofs.CodeSizeLaws.{step_plain}
 use Rattle.block_cut.proofs.ItemLaws.{Takes, Bytes, Padding, item_takes}
 use Rattle.block_cut.proofs.RoomLaws.{AreWhole, all_whole, code_room_is, items_in-code, rooms, rooms_few}
 use Rattle.block_cut.proofs.StartLaws.{along}
+use Rattle.block_cut.proofs.WholeLaws.{inputs_plain}
 use Rattle.shrink_layout.specs.Forms.{HasAlignment, IsEvenPiece, longest, target}
 use Rattle.shrink_layout.specs.Least.{IsTight}
 use Rattle.frame_match.specs.declared.group.Group.{Group}
@@ -146,6 +148,7 @@ module _ (inputs : ParsedInputs) (slots : List (Option Place)) where
       by (item.Align bytes) e = align bytes e
       by (item.Word t) e = four
       by (item.Raw word) e = four
+      by (item.RawShort half) e = two
       by (item.RawPair first second) e = eight
 
   -- alignments of items are at least 1
@@ -259,7 +262,8 @@ module _ (inputs : ParsedInputs) (slots : List (Option Place)) where
 
   -- ---- room
 
-  module _ (l : IndexedSection) (here : section_at objects l.object l.index ≡ Some l.section) (code : is_code_section l.section ≡ true) (whole : IsWhole l.section) where
+  module _ (l : IndexedSection) (here : section_at objects l.object l.index ≡ Some l.section) (code : is_code_section l.section ≡ true) (whole : IsWhole l.section)
+      (plain : l.section.compressed ≡ false) where
     abbrev s : SectionParts
     s = l.section
 
@@ -275,7 +279,7 @@ module _ (inputs : ParsedInputs) (slots : List (Option Place)) where
             (λ n xs lt words st above rest. omega (
               arith,
               sum_by-cons longest (piece_on n) (map piece_on xs),
-              place_longest (place_of l n) s (size_on s n) (there inputs l here code n) (omega (arith, st.words, st.some)) (item_takes inputs s (place_of l n) code),
+              place_longest (place_of l n) s (size_on s n) (there inputs l here code n) (omega (arith, step_plain s.compressed (size_on s n) plain st.words, st.some)) (item_takes inputs s (place_of l n) code),
               rest,
             ))
 
@@ -283,14 +287,17 @@ module _ (inputs : ParsedInputs) (slots : List (Option Place)) where
     starts_few : 4 * length (starts_in s) ≤ length s.bytes
     starts_few =
         let all : 4 * length (starts_in s) + 0 ≤ length s.bytes =
-        along s code whole (λ n xs. 4 * length xs + n ≤ length s.bytes) (omega arith) (λ n xs lt words st above rest. omega (arith, st.some, st.words, rest)) in
+        along s code whole (λ n xs. 4 * length xs + n ≤ length s.bytes) (omega arith)
+        (λ n xs lt words st above rest. omega (arith, st.some, step_plain s.compressed (size_on s n) plain st.words, rest)) in
         omega arith
 
   -- the pieces of sections have twice their room, and are no more than the words of it
   sections_longest : (ls : List IndexedSection) → ((k : ℕ) (l : IndexedSection) → slice_get ls k ≡ Some l → section_at objects l.object l.index ≡ Some l.section) → AreWhole ls
+      → ((k : ℕ) (l : IndexedSection) → slice_get ls k ≡ Some l → l.section.compressed ≡ false)
       → (sum_by longest (pieces_in inputs slot ls) ≤ 2 * rooms ls) × (4 * length (pieces_in inputs slot ls) ≤ rooms ls)
-  sections_longest [] here whole = (omega arith, omega arith)
-  sections_longest (l ∷ ls) here whole = by (is_code_section l.section) refl (sections_longest ls (λ k m is. here (suc k) m is) whole.1)
+  sections_longest [] here whole plain = (omega arith, omega arith)
+  sections_longest (l ∷ ls) here whole plain =
+      by (is_code_section l.section) refl (sections_longest ls (λ k m is. here (suc k) m is) whole.1 (λ k m is. plain (suc k) m is))
     where
       ps : List Piece
       ps = pieces_in inputs slot ls
@@ -302,14 +309,14 @@ module _ (inputs : ParsedInputs) (slots : List (Option Place)) where
           let own = section_pieces-code l code in
           let places = map (λ m. piece_at inputs slot (place_of l m)) (starts_in s) in
           let room = code_room_is s code in
-          let few = starts_few l (here 0 l refl) code (whole.0 code) in (
+          let few = starts_few l (here 0 l refl) code (whole.0 code) (plain 0 l refl) in (
             omega (
               arith,
               sum_by-append longest (section_pieces inputs slot l) (pieces_in inputs slot ls),
               ap (sum_by longest) own,
               sum_by-cons longest (Align (section_alignment s)) places,
               (padding_is s (whole.0 code)).most,
-              places_longest l (here 0 l refl) code (whole.0 code),
+              places_longest l (here 0 l refl) code (whole.0 code) (plain 0 l refl),
               room,
               (whole.0 code).bytes,
               sum_by-cons (λ (m : IndexedSection). code_room m.section) l ls,
@@ -391,6 +398,10 @@ module _ (inputs : Inputs) (none : gather_fault inputs ≡ None) (slots : List (
   pub targets : All (λ p. target p ≤ length (pieces_of given slots)) (pieces_of given slots)
   targets = all_pieces (λ p. target p ≤ length (pieces_of given slots)) (omega arith) (λ s whole. omega arith) (place_leads given slots)
 
+  -- no section is of a compressed object
+  all_plain : (k : ℕ) (l : IndexedSection) → slice_get sections k ≡ Some l → l.section.compressed ≡ false
+  all_plain k l is = inputs_plain inputs l.object l.index l.section none (listed_at given.objects k l is)
+
   -- the longest forms take little room, beside what stands in front
   pub room_few : sum_by longest (pieces_of given slots) ≤ 0x8_0000 + front_size slots
   room_few =
@@ -398,14 +409,14 @@ module _ (inputs : Inputs) (none : gather_fault inputs ≡ None) (slots : List (
         arith,
         ap (sum_by longest) (pieces_are given slots),
         sum_by-cons longest (Fixed (front_size slots)) (pieces_in given given_slot sections),
-        (sections_longest given slots sections (λ k l is. listed_at given.objects k l is) (all_whole inputs none)).0,
+        (sections_longest given slots sections (λ k l is. listed_at given.objects k l is) (all_whole inputs none) all_plain).0,
         rooms_few inputs none,
       )
 
   -- and there are few pieces
   pub pieces_few : 4 * length (pieces_of given slots) ≤ 0x4_0004
   pieces_few =
-      omega (arith, ap length (pieces_are given slots), (sections_longest given slots sections (λ k l is. listed_at given.objects k l is) (all_whole inputs none)).1, rooms_few inputs none)
+      omega (arith, ap length (pieces_are given slots), (sections_longest given slots sections (λ k l is. listed_at given.objects k l is) (all_whole inputs none) all_plain).1, rooms_few inputs none)
 
 -- if nothing is aligned above 4 bytes, all are tight
 pub all_tight : (inputs : ParsedInputs) (slots : List (Option Place)) → is_unaligned inputs ≡ true → All IsTight (pieces_of inputs slots)

@@ -134,6 +134,7 @@ module _ (inputs : Inputs) (none : gather_fault inputs ≡ None) (q : Place) (ju
       by (item.Align bytes) h = refl
       by (item.Word t) h = refl
       by (item.Raw word) h = refl
+      by (item.RawShort half) h = refl
       by (item.RawPair first second) h = refl
 
   -- it isn't inside a group, where pieces have no bytes
@@ -208,6 +209,7 @@ jump_target objects (item.Call rd temp to) jump h well = ap (λ (x : ℕ × Plac
 jump_target objects (item.Align bytes) jump h well = absurd (none-some jump h)
 jump_target objects (item.Word t) jump h well = absurd (none-some jump h)
 jump_target objects (item.Raw word) jump h well = absurd (none-some jump h)
+jump_target objects (item.RawShort half) jump h well = absurd (none-some jump h)
 jump_target objects (item.RawPair first second) jump h well = absurd (none-some jump h)
 
 module _ (inputs : Inputs) (none : gather_fault inputs ≡ None) (q : Place) (i : Item) (is : item_at (parsed inputs) q ≡ Some i) (jump : ℕ × Place) (leads : jump_of i ≡ Some jump) where
@@ -234,6 +236,7 @@ module _ (inputs : Inputs) (none : gather_fault inputs ≡ None) (q : Place) (i 
   item_width (item.Align bytes) size at h = absurd (none-some jump h)
   item_width (item.Word t) size at h = refl
   item_width (item.Raw word) size at h = refl
+  item_width (item.RawShort half) size at h = refl
   item_width (item.RawPair first second) size at h = refl
 
   unit_width : (u : CodeUnit) (size at : ℕ) → unit_at own_inputs [] q ≡ Some u → width (unit_piece own_inputs.objects (Some u)) size at ≡ size

@@ -134,6 +134,7 @@ piece_of_jump objects (item.Call rd temp to) jump leads = ap (λ (x : ℕ × Pla
 piece_of_jump objects (item.Align bytes) jump leads = absurd (none-some jump leads)
 piece_of_jump objects (item.Word t) jump leads = absurd (none-some jump leads)
 piece_of_jump objects (item.Raw word) jump leads = absurd (none-some jump leads)
+piece_of_jump objects (item.RawShort half) jump leads = absurd (none-some jump leads)
 piece_of_jump objects (item.RawPair first second) jump leads = absurd (none-some jump leads)
 
 module _ (inputs : Inputs) (none : gather_fault inputs ≡ None) (q : Place) where

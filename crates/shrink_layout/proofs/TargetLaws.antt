@@ -1,7 +1,7 @@
 -- Where items lead: in inputs without a fault, a branch, a jump or a call leads to a place where an item starts or a section of code ends
 -- (`item_leads`). Such a place has a number behind that of the front (`number_some`).
 use Rattle.std.proofs.Common.{◌≡◌, ℕ, ◌+◌, ◌≤◌, List, map, Bool, true, false, cond, Option, Some, None, refl, sym, ap, ◌∙◌, subst, arith}
-use Rattle.std.specs.Prelude.{ℤ, ◌==◌, ◌&&◌, not}
+use Rattle.std.specs.Prelude.{ℤ, ◌==◌, ◌&&◌, ◌||◌, not}
 use Rattle.std.specs.List.{position_or_len}
 use Rattle.std.specs.Option.{option_and_then, option_map, option_map_or}
 use Rattle.std.proofs.lemmas.Bool.{not-false}
@@ -22,7 +22,7 @@ use Rattle.psabi_sym.specs.declared.target.Target.TheVariants.{Code, Number, Abs
 use Rattle.psabi_sym.proofs.FaultLaws.{neither}
 use Rattle.rv_decode.specs.declared.instr.Instr.{Instr}
 use Rattle.rv_decode.specs.declared.instr.Instr.TheVariants as instr
-use Rattle.block_cut.specs.Faults.{first_fault, has_bad_target, if_so, is_bad_target, lacks_pcrel_hi, reloc_fault, relocs_fault, section_fault}
+use Rattle.block_cut.specs.Faults.{first_fault, has_bad_target, if_so, is_bad_target, is_stray, lacks_pcrel_hi, reloc_fault, relocs_fault, section_fault}
 use Rattle.block_cut.specs.Items.{call_item, code_at, is_target_at, item_at, item_under, known_item, of_instr, place_away, raw_in, raw_pair, size_on, spelled_item, target_away, target_of, target_only, to_place, transfer_item}
 use Rattle.block_cut.specs.Relocs.{instr_in, is_bad_kind, is_bad_place, is_ignored, is_sound, is_transfer, reloc_on}
 use Rattle.block_cut.specs.declared.item.Item.{Item}
@@ -30,6 +30,7 @@ use Rattle.block_cut.specs.declared.item.Item.TheVariants as item
 use Rattle.block_cut.proofs.FirstLaws.{none_at, none_within}
 use Rattle.block_cut.proofs.ItemLaws.{item_found}
 use Rattle.block_cut.proofs.ListedLaws.{cut_at, listed}
+use Rattle.block_cut.proofs.RawLaws.{raw_by}
 use Rattle.block_cut.proofs.SoundLaws.{sound_at}
 use Rattle.block_cut.proofs.WholeLaws.{code_is_section}
 use Rattle.shrink_layout.specs.Pieces.{is_short_jump, jump_piece, piece_number_at, piece_of}
@@ -103,7 +104,7 @@ module _ (inputs : Inputs) (none : first_fault inputs ≡ None) where
       let test = λ (x : Reloc). is_sound s x && x.offset == n in
       let here = none_at (reloc_fault given l) s.relocs (position_or_len test s.relocs) r (sym (find_at test s.relocs) ∙ on) all in
       let one = neither (if_so (is_bad_kind s (kind_of r.kind)) (fault.RelocKind i r.offset)) _ here in
-      let two = neither (if_so (is_bad_place s r) (fault.RelocPlace i r.offset)) _ one.1 in
+      let two = neither (if_so (is_bad_place s r || is_stray s r) (fault.RelocPlace i r.offset)) _ one.1 in
       let three = neither (if_so (lacks_pcrel_hi given l r) (fault.LoPair i r.offset)) _ two.1 in
       let four = neither (if_so (has_bad_target given l r) (fault.BadTarget i r.offset)) _ three.1 in
       ap (λ b. not b && is_bad_target objects (is_transfer (kind_of r.kind)) (target_of given o r)) (sym asks)
@@ -115,9 +116,13 @@ module _ (inputs : Inputs) (none : first_fault inputs ≡ None) where
     abbrev raw : ℕ → Item
     raw n = raw_in n bytes q.offset
 
+    -- what is copied unread leads nowhere
+    raw_well : LeadsWell objects (raw size)
+    raw_well = raw_by (LeadsWell objects) (λ half. tt) (λ word. tt) size bytes q.offset
+
     -- an item without a relocation
     bare : (d : Option Instr) → LeadsWell objects (spelled_item objects q d (raw size))
-    bare None = tt
+    bare None = raw_well
     bare (Some (instr.Upper op rd imm)) = tt
     bare (Some (instr.Jalr rd base imm)) = tt
     bare (Some (instr.Load op rd base imm)) = tt
@@ -127,34 +132,37 @@ module _ (inputs : Inputs) (none : first_fault inputs ≡ None) where
     bare (Some (instr.Fence rest)) = tt
     bare (Some instr.Ecall) = tt
     bare (Some instr.Ebreak) = tt
-    bare (Some (instr.Csrrw rd source)) = tt
+    bare (Some (instr.Csrrw rd source)) = raw_well
     bare (Some (instr.Jal rd distance)) = by (target_away objects q distance) refl
       where
         by : (o : Option Place) → target_away objects q distance ≡ o → LeadsWell objects (option_map_or (item.Jump rd) o (raw size))
-        by None away = tt
+        by None away = raw_well
         by (Some to) away = away_target objects q to distance away
     bare (Some (instr.Branch op first second distance)) = by (target_away objects q distance) refl
       where
         by : (o : Option Place) → target_away objects q distance ≡ o → LeadsWell objects (option_map_or (item.Branch op first second) o (raw size))
-        by None away = tt
+        by None away = raw_well
         by (Some to) away = away_target objects q to distance away
 
+    raw_leads : (m : ℕ) → LeadsWell objects (raw m)
+    raw_leads m = raw_by (LeadsWell objects) (λ half. tt) (λ word. tt) m bytes q.offset
+
     -- an instruction with a part of an address
-    parted : (f : Instr → Item) (d : Option Instr) → ((i : Instr) → LeadsWell objects (f i)) → LeadsWell objects (of_instr d (raw 4) f)
-    parted f None each = tt
-    parted f (Some i) each = each i
+    parted : (m : ℕ) (f : Instr → Item) (d : Option Instr) → ((i : Instr) → LeadsWell objects (f i)) → LeadsWell objects (of_instr d (raw m) f)
+    parted m f None each = raw_leads m
+    parted m f (Some i) each = each i
 
     -- a branch or a jump
-    transferred : (i : Instr) (to : Place) → is_target_at objects to ≡ true → LeadsWell objects (transfer_item i (raw 4) to)
-    transferred (instr.Branch op first second distance) to target = target
-    transferred (instr.Jal rd distance) to target = target
-    transferred i to target = tt
+    transferred : (m : ℕ) (i : Instr) (to : Place) → is_target_at objects to ≡ true → LeadsWell objects (transfer_item i (raw m) to)
+    transferred m (instr.Branch op first second distance) to target = target
+    transferred m (instr.Jal rd distance) to target = target
+    transferred m i to target = raw_leads m
 
-    led : (t : Target) → is_bad_target objects true t ≡ false → (i : Instr) → LeadsWell objects (to_place t (transfer_item i (raw 4)) (raw 4))
-    led (Code to) well i = transferred i to (not-false (is_target_at objects to) well)
-    led (Number n) well i = tt
-    led (Absent n) well i = tt
-    led Nowhere well i = tt
+    led : (m : ℕ) (t : Target) → is_bad_target objects true t ≡ false → (i : Instr) → LeadsWell objects (to_place t (transfer_item i (raw m)) (raw m))
+    led m (Code to) well i = transferred m i to (not-false (is_target_at objects to) well)
+    led m (Number n) well i = raw_leads m
+    led m (Absent n) well i = raw_leads m
+    led m Nowhere well i = raw_leads m
 
     -- a call
     called : (d d2 : Option Instr) (t : Target) → is_bad_target objects true t ≡ false → LeadsWell objects (to_place t (call_item d d2 (raw_pair bytes q.offset)) (raw_pair bytes q.offset))
@@ -177,17 +185,17 @@ module _ (inputs : Inputs) (none : first_fault inputs ≡ None) where
     known None addend t well = tt
     known (Some kind.Ignored) addend t well = tt
     known (Some kind.Word) addend t well = tt
-    known (Some kind.Branch) addend t well = parted (λ i. to_place t (transfer_item i (raw 4)) (raw 4)) (instr_in 4 bytes q.offset) (led t well)
-    known (Some kind.Jal) addend t well = parted (λ i. to_place t (transfer_item i (raw 4)) (raw 4)) (instr_in 4 bytes q.offset) (led t well)
+    known (Some kind.Branch) addend t well = parted 4 (λ i. to_place t (transfer_item i (raw 4)) (raw 4)) (instr_in 4 bytes q.offset) (led 4 t well)
+    known (Some kind.Jal) addend t well = parted 4 (λ i. to_place t (transfer_item i (raw 4)) (raw 4)) (instr_in 4 bytes q.offset) (led 4 t well)
     known (Some kind.Call) addend t well = called (instr_in 4 bytes q.offset) (instr_in 4 bytes (q.offset + 4)) t well
-    known (Some kind.PcrelHi20) addend t well = parted (λ i. item.PcHi i t) (instr_in 4 bytes q.offset) (λ i. tt)
-    known (Some kind.PcrelLo12I) addend t well = parted (λ i. to_place t (item.PcLo i) (raw 4)) (instr_in 4 bytes q.offset) (lowered t)
-    known (Some kind.PcrelLo12S) addend t well = parted (λ i. to_place t (item.PcLo i) (raw 4)) (instr_in 4 bytes q.offset) (lowered t)
-    known (Some kind.Hi20) addend t well = parted (λ i. item.Hi i t) (instr_in 4 bytes q.offset) (λ i. tt)
-    known (Some kind.Lo12I) addend t well = parted (λ i. item.Lo i t) (instr_in 4 bytes q.offset) (λ i. tt)
-    known (Some kind.Lo12S) addend t well = parted (λ i. item.Lo i t) (instr_in 4 bytes q.offset) (λ i. tt)
-    known (Some kind.RvcBranch) addend t well = tt
-    known (Some kind.RvcJump) addend t well = tt
+    known (Some kind.PcrelHi20) addend t well = parted 4 (λ i. item.PcHi i t) (instr_in 4 bytes q.offset) (λ i. tt)
+    known (Some kind.PcrelLo12I) addend t well = parted 4 (λ i. to_place t (item.PcLo i) (raw 4)) (instr_in 4 bytes q.offset) (lowered t)
+    known (Some kind.PcrelLo12S) addend t well = parted 4 (λ i. to_place t (item.PcLo i) (raw 4)) (instr_in 4 bytes q.offset) (lowered t)
+    known (Some kind.Hi20) addend t well = parted 4 (λ i. item.Hi i t) (instr_in 4 bytes q.offset) (λ i. tt)
+    known (Some kind.Lo12I) addend t well = parted 4 (λ i. item.Lo i t) (instr_in 4 bytes q.offset) (λ i. tt)
+    known (Some kind.Lo12S) addend t well = parted 4 (λ i. item.Lo i t) (instr_in 4 bytes q.offset) (λ i. tt)
+    known (Some kind.RvcBranch) addend t well = parted 2 (λ i. to_place t (transfer_item i (raw 2)) (raw 2)) (instr_in 2 bytes q.offset) (led 2 t well)
+    known (Some kind.RvcJump) addend t well = parted 2 (λ i. to_place t (transfer_item i (raw 2)) (raw 2)) (instr_in 2 bytes q.offset) (led 2 t well)
     known (Some kind.Align) addend t well = tt
 
   -- each item
@@ -222,4 +230,5 @@ module _ (inputs : Inputs) (none : first_fault inputs ≡ None) where
   item_past (item.Align bytes) well = tt
   item_past (item.Word t) well = tt
   item_past (item.Raw word) well = tt
+  item_past (item.RawShort half) well = tt
   item_past (item.RawPair first second) well = tt

@@ -87,6 +87,7 @@ piece_of objects (item.Call rd temp to) = jump_piece objects to (is_short_jump r
 piece_of objects (item.Align bytes) = Align (power_above bytes)
 piece_of objects (item.Word t) = Fixed 4
 piece_of objects (item.Raw word) = Fixed 4
+piece_of objects (item.RawShort half) = Fixed 2
 piece_of objects (item.RawPair first second) = Fixed 8
 
 -- the size of a group: a halfword, and the instruction that moves sp by the rest of its frame
@@ -172,6 +173,7 @@ is_align (item.Call rd temp to) = false
 is_align (item.Align bytes) = true
 is_align (item.Word t) = false
 is_align (item.Raw word) = false
+is_align (item.RawShort half) = false
 is_align (item.RawPair first second) = false
 
 -- code that is aligned above 4 bytes

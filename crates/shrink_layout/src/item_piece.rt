@@ -87,6 +87,7 @@ pub fn item_piece(cut: &Cut, starts: &[u32], item: &Item) -> ItemPiece
             alignment: power_above(*bytes),
         }),
         Item::PcHi(..) | Item::PcLo(..) | Item::Word(_) | Item::Raw(_) => fixed(4),
+        Item::RawShort(_) => fixed(2),
         Item::RawPair(..) => fixed(8),
     }
 }

@@ -36,6 +36,7 @@ fn jump_of(item: &Item) -> Option<Site>
         | Item::Align(_)
         | Item::Word(_)
         | Item::Raw(_)
+        | Item::RawShort(_)
         | Item::RawPair(..) => None,
     }
 }

@@ -11,7 +11,7 @@ use Rattle.psabi_reloc.specs.declared.kind.RelocKind.{RelocKind}
 use Rattle.psabi_reloc.specs.declared.kind.RelocKind.TheVariants as kind
 use Rattle.rv_decode.specs.declared.instr.Instr.{Instr}
 use Rattle.rv_decode.specs.declared.instr.Instr.TheVariants as instr
-use Rattle.block_cut.specs.Faults.{branch_place}
+use Rattle.block_cut.proofs.ReachLaws.{branch_place}
 use Rattle.block_cut.specs.Items.{call_item, is_target_at, known_item, of_instr, place_on, raw_in, raw_pair, spelled_item, target_away, target_only, to_place, transfer_item}
 use Rattle.block_cut.specs.Relocs.{fits_at, instr_in}
 use Rattle.block_cut.specs.declared.item.Item.{Item}
@@ -88,6 +88,10 @@ module _ (t : Target) (raw : Item) (none : branch_place raw ≡ None) where
   of_no_branch None item no_branch = none
   of_no_branch (Some i) item no_branch = no_branch i
 
+  rvc_no_branch : (first second : Option Instr) → fits kind.RvcJump first second ≡ true → branch_place (of_instr first raw (λ i. to_place t (transfer_item i raw) raw)) ≡ None
+  rvc_no_branch (Some (instr.Jal rd distance)) second is = led (Jump rd) (λ to. refl)
+  rvc_no_branch first second is = absurd cc
+
   jal_no_branch : (first second : Option Instr) → fits kind.Jal first second ≡ true → branch_place (of_instr first raw (λ i. to_place t (transfer_item i raw) raw)) ≡ None
   jal_no_branch (Some (instr.Jal rd distance)) second is = led (Jump rd) (λ to. refl)
   jal_no_branch first second is = absurd cc
@@ -137,12 +141,13 @@ module _ (s : SectionParts) (n : ℕ) (addend : ℤ) (t : Target) where
   known_no_branch (Some kind.Hi20) other is = of_no_branch t raw refl first (λ i. Hi i t) (λ i. refl)
   known_no_branch (Some kind.Lo12I) other is = of_no_branch t raw refl first (λ i. Lo i t) (λ i. refl)
   known_no_branch (Some kind.Lo12S) other is = of_no_branch t raw refl first (λ i. Lo i t) (λ i. refl)
-  known_no_branch (Some kind.RvcBranch) other is = refl
-  known_no_branch (Some kind.RvcJump) other is = refl
+  known_no_branch (Some kind.RvcBranch) other is = absurd cc
+  known_no_branch (Some kind.RvcJump) other is = rvc_no_branch t (raw_in 2 s.bytes n) refl (instr_in 2 s.bytes n) None is
   known_no_branch (Some kind.Align) other is = refl
 
   -- and a branch leads where its target is
   pub known_in : (q : Place) (k : Option RelocKind) → (is_branch_kind k ≡ true → (to : Place) → t ≡ target.Code to → (to.object ≡ q.object) × (to.section ≡ q.section))
       → fits_at s n addend k ≡ true → LeadsIn q (branch_place (known_item k addend t s.bytes n))
   known_in q (Some kind.Branch) stays is = branch_in t raw refl q (stays refl) first
+  known_in q (Some kind.RvcBranch) stays is = branch_in t (raw_in 2 s.bytes n) refl q (stays refl) (instr_in 2 s.bytes n)
   known_in q k stays is = Nowhere (known_no_branch k refl is)

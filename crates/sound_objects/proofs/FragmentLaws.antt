@@ -27,7 +27,8 @@ use Rattle.sound_objects.specs.Fragments.CanStand.{Alone, Under}
 use Rattle.sound_objects.specs.WellFormed.{RelocsAreRight}
 use Rattle.sound_objects.proofs.IgnoredLaws.{found_asking, overlaps_asking}
 use Rattle.sound_objects.proofs.ListLaws.{all_left, all_right, filter_all, find_none, one_at_most}
-use Rattle.sound_objects.proofs.RelocLaws.{LeadsRight, ignored_right, no_reloc_fault}
+use Rattle.sound_objects.proofs.RelocLaws.{LeadsRight, ignored_right, no_reloc_fault, starts_right}
+use Rattle.block_cut.proofs.CodeSizeLaws.{own_plain, step_four}
 
 -- ---- sizes
 
@@ -93,10 +94,11 @@ relocs_lie at (p ∷ ps) all =
         }) (All-nil (LiesIn at (at + fragments_size (p ∷ ps)))))
 
 -- a section with just these relocations
-pub made_of : (fragments : List Fragment) (s : SectionParts) → is_code_section s ≡ true → s.bytes ≡ fragments_bytes fragments → s.size ≡ fragments_size fragments → s.relocs ≡ relocs_from 0 fragments → All CanStand fragments
+pub made_of : (fragments : List Fragment) (s : SectionParts) → is_code_section s ≡ true → s.compressed ≡ false → s.bytes ≡ fragments_bytes fragments → s.size ≡ fragments_size fragments → s.relocs ≡ relocs_from 0 fragments → All CanStand fragments
     → IsMadeOf fragments s
-made_of fragments s code bytes size relocs stand = record {
+made_of fragments s code plain bytes size relocs stand = record {
   code = code;
+  plain = plain;
   bytes = bytes;
   size = size;
   relocs =
@@ -212,7 +214,7 @@ module _ (fragments : List Fragment) (s : SectionParts) (made : IsMadeOf fragmen
 
       placed : is_placed s own ≡ true
       placed =
-          let words : eqb (at % code_step s.compressed) 0 ≡ true = eq-eqb (at % code_step s.compressed) 0 (size_words front (all_left CanStand front (p ∷ back) all_stand)) in
+          let words : eqb (at % code_step s.compressed) 0 ≡ true = eq-eqb (at % code_step s.compressed) 0 (step_four s.compressed at (size_words front (all_left CanStand front (p ∷ back) all_stand))) in
           let both = and_from (eqb (at % code_step s.compressed) 0) (fits_at s at r.addend (kind_of r.kind)) words (under.fits s at there) in
           ap (λ b. not b || (eqb (at % code_step s.compressed) 0 && fits_at s at r.addend (kind_of r.kind))) made.code ∙ both
 
@@ -251,7 +253,7 @@ module _ (fragments : List Fragment) (s : SectionParts) (made : IsMadeOf fragmen
     size_at_fragment = by stands
       where
         by : CanStand p → size_on s at ≡ fragment_size p
-        by (Alone none size) = ap (λ o. option_map_or field_of o (own_size s.compressed s.bytes at)) (none_on none) ∙ sym size
+        by (Alone none size) = ap (λ o. option_map_or field_of o (own_size s.compressed s.bytes at)) (none_on none) ∙ own_plain s.compressed s.bytes at made.plain ∙ sym size
         by (Under r is fits) = ap (λ o. option_map_or field_of o (own_size s.compressed s.bytes at)) (one_on r is) ∙ fits.long
 
     inside : at < length s.bytes
@@ -351,12 +353,13 @@ module _ (fragments : List Fragment) (s : SectionParts) (made : IsMadeOf fragmen
           (subst (λ n. All Q (relocs_from n back)) (fragments_size-push front p) (walk (front ++ p ∷ []) back (next_split front p back split)))
 
 -- so all are right that lead right
-pub relocs_right : (inputs : ParsedInputs) (l : IndexedSection) (fragments : List Fragment) → IsMadeOf fragments l.section
+pub relocs_right : (inputs : ParsedInputs) (l : IndexedSection) (fragments : List Fragment) → IsMadeOf fragments l.section → IsWhole l.section
     → ((front : List Fragment) (p : Fragment) (back : List Fragment) (r : FragmentReloc) → fragments ≡ front ++ p ∷ back → p.reloc ≡ Some r → LeadsRight inputs l (reloc_at (fragments_size front) r))
     → RelocsAreRight inputs l
-relocs_right inputs l fragments made each =
+relocs_right inputs l fragments made whole each =
     relocs_each fragments l.section made (λ r. reloc_fault inputs l r ≡ None) (ignored_right inputs l)
     (λ front p back r split is.
     let own = fine fragments l.section made front p back split r is in
     let right = each front p back r split is in
-    no_reloc_fault inputs l (reloc_at (fragments_size front) r) own.known own.placed right.paired right.leads)
+    let start = start_at fragments l.section made whole front p back split in
+    no_reloc_fault inputs l (reloc_at (fragments_size front) r) own.known own.placed (starts_right inputs l (reloc_at (fragments_size front) r) start) right.paired right.leads)

@@ -15,13 +15,17 @@ use Rattle.psabi_sym.specs.Indexed.{IndexedSection, sections_before}
 use Rattle.psabi_sym.specs.Inputs.{Inputs, ParsedInputs, parsed}
 use Rattle.psabi_reloc.specs.Kinds.{kind_of}
 use Rattle.psabi_reloc.specs.Reaches.{branch_reach}
-use Rattle.block_cut.specs.Faults.{branch_place, distance_between, is_far, is_out_of_reach}
-use Rattle.block_cut.specs.Items.{code_at, code_only, item_at, item_in, item_under, place_of, raw_in, size_on, starts_on, target_of}
+use Rattle.block_cut.specs.Faults.{distance_between, is_out_of_reach}
+use Rattle.block_cut.proofs.ReachLaws.{branch_place, is_far_branch, out_plain}
+use Rattle.block_cut.proofs.SizeLaws.{words_at}
+use Rattle.block_cut.proofs.WholeLaws.{inputs_plain}
+use Rattle.block_cut.specs.Items.{code_at, code_only, item_at, item_in, item_under, place_of, raw_in, size_at, size_on, starts_on, target_of}
 use Rattle.block_cut.specs.PlainLayout.{plain_address, plain_end_of, plain_start, starts_before}
 use Rattle.block_cut.specs.Relocs.{instr_in, is_sound, reloc_on}
 use Rattle.block_cut.specs.declared.item.Item.{Item}
 use Rattle.block_cut.proofs.ItemLaws.{item_there}
 use Rattle.block_cut.proofs.PlainLaws.{IsHere, address_bounds, here, offset_end, offset_rises, spot}
+use Rattle.block_cut.proofs.RawLaws.{raw_by}
 use Rattle.block_cut.proofs.RoomLaws.{after_starts-ge, items_fit, section_end-code}
 use Rattle.block_cut.proofs.SoundLaws.{sound_at}
 use Rattle.sound_objects.specs.Parts.{CanBeWritten, files_of, objects_of}
@@ -61,17 +65,19 @@ near_reach a b one two low high = elim (cases_lt b a) [
 
 -- ---- items
 
-module _ (inputs : ParsedInputs) (q : Place) (i : Item) (is : item_at inputs q ≡ Some i) where
+module _ (inputs : ParsedInputs) (q : Place) (i : Item) (is : item_at inputs q ≡ Some i) (words : size_at inputs.objects q % 4 ≡ 0) where
+  -- whether what has no 2 bytes is out of reach, by where it leads if it is a branch
+  out_is : (o : Option Place) → branch_place i ≡ o → is_out_of_reach inputs q ≡ option_map_or (is_far_branch inputs q) o false
+  out_is o leads = out_plain inputs q i is (λ e. omega (arith, e, words)) ∙ ap (λ x. option_map_or (is_far_branch inputs q) x false) leads
+
   -- what leads nowhere isn't out of reach
   no_branch_near : branch_place i ≡ None → is_out_of_reach inputs q ≡ false
-  no_branch_near no_branch = ap (λ x. option_map_or (is_far inputs q) (option_and_then branch_place x) false) is ∙ ap (λ x. option_map_or (is_far inputs q) x false) no_branch
+  no_branch_near no_branch = out_is None no_branch
 
   -- nor is what leads to a place that is near if both have addresses
   led_near : (to : Place) → branch_place i ≡ Some to → ((a b : ℕ) → plain_address inputs q ≡ Some a → plain_address inputs to ≡ Some b → branch_reach (pos b -ℤ pos a) ≡ true)
       → is_out_of_reach inputs q ≡ false
-  led_near to leads near =
-      ap (λ x. option_map_or (is_far inputs q) (option_and_then branch_place x) false) is ∙ ap (λ x. option_map_or (is_far inputs q) x false) leads
-      ∙ by (plain_address inputs q) (plain_address inputs to) refl refl
+  led_near to leads near = out_is (Some to) leads ∙ by (plain_address inputs q) (plain_address inputs to) refl refl
     where
       by : (x y : Option ℕ) → plain_address inputs q ≡ x → plain_address inputs to ≡ y → option_map_or (λ d. not (branch_reach d)) (distance_between x y) false ≡ false
       by None y one two = refl
@@ -92,13 +98,21 @@ module _ (inputs : ParsedInputs) (l : IndexedSection) (has : HasSection inputs.o
   unfolding reloc_on
   all_on P n r all is = all_found P (λ t. is_sound l.section t && eqb t.offset n) l.section.relocs r all is
 
+  -- what is copied unread is no branch
+  raw_leads : (n : ℕ) → branch_place (raw_in (size_on l.section n) l.section.bytes n) ≡ None
+  raw_leads n = raw_by (λ i. branch_place i ≡ None) (λ half. refl) (λ word. refl) (size_on l.section n) l.section.bytes n
+
+  -- where no object is compressed, sizes are whole words
+  words_here : l.section.compressed ≡ false → (n : ℕ) → size_at inputs.objects (place_of l n) % 4 ≡ 0
+  words_here plain n = words_at inputs.objects (place_of l n) l.section (code_here n) code plain
+
   -- a section without branches
-  pub branchless_reach : IsBranchless l → BranchesReach inputs l
-  branchless_reach none n start =
-      no_branch_near inputs (place_of l n) (item_in inputs l.section (place_of l n)) (item_here n start) (by (reloc_on l.section n) refl)
+  pub branchless_reach : l.section.compressed ≡ false → IsBranchless l → BranchesReach inputs l
+  branchless_reach plain none n start =
+      no_branch_near inputs (place_of l n) (item_in inputs l.section (place_of l n)) (item_here n start) (words_here plain n) (by (reloc_on l.section n) refl)
     where
       by : (o : Option Reloc) → reloc_on l.section n ≡ o → branch_place (item_under inputs (place_of l n) o (size_on l.section n) l.section.bytes) ≡ None
-      by None is = spelled_no_branch inputs.objects (place_of l n) (raw_in (size_on l.section n) l.section.bytes n) refl (instr_in (size_on l.section n) l.section.bytes n) (none.bare n start is)
+      by None is = spelled_no_branch inputs.objects (place_of l n) (raw_in (size_on l.section n) l.section.bytes n) (raw_leads n) (instr_in (size_on l.section n) l.section.bytes n) (none.bare n start is)
       by (Some r) is =
           known_no_branch l.section n r.addend (target_of inputs l.object r) (kind_of r.kind)
           (all_on (λ t. is_branch_kind (kind_of t.kind) ≡ false) n r none.relocs is) (sound_at l.section n r code is).fits
@@ -108,7 +122,7 @@ module _ (inputs : ParsedInputs) (l : IndexedSection) (has : HasSection inputs.o
   leads_in stay n = by (reloc_on l.section n) refl
     where
       by : (o : Option Reloc) → reloc_on l.section n ≡ o → LeadsIn (place_of l n) (branch_place (item_under inputs (place_of l n) o (size_on l.section n) l.section.bytes))
-      by None is = spelled_in inputs.objects (place_of l n) (raw_in (size_on l.section n) l.section.bytes n) refl (instr_in (size_on l.section n) l.section.bytes n)
+      by None is = spelled_in inputs.objects (place_of l n) (raw_in (size_on l.section n) l.section.bytes n) (raw_leads n) (instr_in (size_on l.section n) l.section.bytes n)
       by (Some r) is =
           known_in l.section n r.addend (target_of inputs l.object r) (place_of l n) (kind_of r.kind)
           (all_on (StaysIn inputs l) n r stay is) (sound_at l.section n r code is).fits
@@ -160,10 +174,13 @@ module _ (inputs : Inputs) (none : gather_fault inputs ≡ None) (is_map : IsMap
       is : item_at (parsed inputs) (place_of l n) ≡ Some (item_in (parsed inputs) l.section (place_of l n))
       is = item_here (parsed inputs) l has code n start
 
+      words : size_at (parsed inputs).objects (place_of l n) % 4 ≡ 0
+      words = words_here (parsed inputs) l has code (inputs_plain inputs l.object l.index l.section none has) n
+
       by : LeadsIn (place_of l n) (branch_place (item_in (parsed inputs) l.section (place_of l n))) → is_out_of_reach (parsed inputs) (place_of l n) ≡ false
-      by (Nowhere no_branch) = no_branch_near (parsed inputs) (place_of l n) (item_in (parsed inputs) l.section (place_of l n)) is no_branch
+      by (Nowhere no_branch) = no_branch_near (parsed inputs) (place_of l n) (item_in (parsed inputs) l.section (place_of l n)) is words no_branch
       by (To to leads object section) =
-          led_near (parsed inputs) (place_of l n) (item_in (parsed inputs) l.section (place_of l n)) is to leads
+          led_near (parsed inputs) (place_of l n) (item_in (parsed inputs) l.section (place_of l n)) is words to leads
           (λ a b one two. both_near (place_of l n) to l.section a b (code_here (parsed inputs) l has code n) object section short.room one two)
 
 -- a short section of parts that are written

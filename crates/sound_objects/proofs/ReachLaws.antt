@@ -18,8 +18,11 @@ use Rattle.psabi_reloc.specs.Kinds.{kind_of}
 use Rattle.psabi_reloc.specs.declared.kind.RelocKind.{RelocKind}
 use Rattle.psabi_reloc.specs.declared.kind.RelocKind.TheVariants.{Ignored}
 use Rattle.rv_decode.specs.Decode.{decoded}
-use Rattle.block_cut.specs.Items.{starts_on}
-use Rattle.block_cut.specs.Relocs.{instr_in, is_ignored, reloc_on}
+use Rattle.block_cut.specs.Items.{size_on, starts_on}
+use Rattle.std.specs.Option.{option_map_or}
+use Rattle.block_cut.specs.CodeSizes.{own_size}
+use Rattle.block_cut.specs.Relocs.{field_of, instr_in, is_ignored, reloc_on}
+use Rattle.block_cut.proofs.CodeSizeLaws.{own_plain}
 use Rattle.block_cut.specs.Whole.{IsWhole}
 use Rattle.sound_objects.specs.Fragments.{CanStand, IsMadeOf, IsFragmentAt, Fragment, FragmentReloc, fragment_size, fragments_size, reloc_at}
 use Rattle.sound_objects.specs.Fragments.CanStand.{Alone, Under}
@@ -96,9 +99,12 @@ module _ (fragments : List Fragment) (s : SectionParts) (made : IsMadeOf fragmen
   pub made_roomless : sum_by reloc_room s.relocs ≡ 0
   made_roomless = roomless s.relocs made_no_branch
 
-  bare_no_branch : IsWhole s → HaveNoBareBranch fragments → (n : ℕ) → starts_on s n ≡ true → reloc_on s n ≡ None → is_branch (instr_in 4 s.bytes n) ≡ false
-  bare_no_branch whole no_bare_branch n start none = of_fragment (fragment_on fragments s made whole n start)
+  bare_no_branch : IsWhole s → HaveNoBareBranch fragments → (n : ℕ) → starts_on s n ≡ true → reloc_on s n ≡ None → is_branch (instr_in (size_on s n) s.bytes n) ≡ false
+  bare_no_branch whole no_bare_branch n start none = ap (λ m. is_branch (instr_in m s.bytes n)) four ∙ of_fragment (fragment_on fragments s made whole n start)
     where
+      four : size_on s n ≡ 4
+      four = ap (λ o. option_map_or field_of o (own_size s.compressed s.bytes n)) none ∙ own_plain s.compressed s.bytes n made.plain
+
       of_fragment : IsFragment fragments s made whole n → is_branch (instr_in 4 s.bytes n) ≡ false
       of_fragment at = by (stands fragments s made at.front at.fragment at.back at.split)
         where

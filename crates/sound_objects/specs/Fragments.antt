@@ -84,9 +84,11 @@ pub data CanStand (p : Fragment) : Type 0 where
 
 -- ---- sections
 
--- a section is code that is made of fragments; between their relocations there may be some that ask for nothing
+-- a section is code of an object that isn't compressed, and is made of fragments; between their relocations there may be some that
+-- ask for nothing
 pub record IsMadeOf (fragments : List Fragment) (s : SectionParts) : Type 0 where
   pub code : is_code_section s ≡ true
+  pub plain : s.compressed ≡ false
   pub bytes : s.bytes ≡ fragments_bytes fragments
   pub size : s.size ≡ fragments_size fragments
   pub relocs : filter asks s.relocs ≡ relocs_from 0 fragments

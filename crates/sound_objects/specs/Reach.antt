@@ -12,13 +12,14 @@ use Rattle.psabi_sym.specs.Inputs.{ParsedInputs}
 use Rattle.psabi_sym.specs.declared.target.Target.TheVariants.{Code}
 use Rattle.rv_decode.specs.declared.instr.Instr.{Instr}
 use Rattle.rv_decode.specs.declared.instr.Instr.TheVariants as instr
-use Rattle.block_cut.specs.Items.{starts_on, target_of}
+use Rattle.block_cut.specs.Items.{size_on, starts_on, target_of}
 use Rattle.block_cut.specs.Relocs.{instr_in, reloc_on}
 use Rattle.sound_objects.specs.Fragments.{Fragment, FragmentReloc}
 
 -- the kind of a branch, and a branch
 abbrev pub is_branch_kind : Option RelocKind → Bool
 is_branch_kind (Some kind.Branch) = true
+is_branch_kind (Some kind.RvcBranch) = true
 is_branch_kind other = false
 
 abbrev pub is_branch : Option Instr → Bool
@@ -43,7 +44,7 @@ pub record IsBranchless (l : IndexedSection) : Type 0 where
   pub relocs : All (λ r. is_branch_kind (kind_of r.kind) ≡ false) l.section.relocs
   pub bare :
       (n : ℕ) → starts_on l.section n ≡ true → reloc_on l.section n ≡ None
-      → is_branch (instr_in 4 l.section.bytes n) ≡ false
+      → is_branch (instr_in (size_on l.section n) l.section.bytes n) ≡ false
 
 -- ---- fragments
 

@@ -1,9 +1,9 @@
 -- Bytes of words, of padding and of objects: how many there are, and that they are bytes.
-use Rattle.std.proofs.Common.{◌≡◌, ℕ, zero, suc, ◌+◌, ◌*◌, ◌/◌, ◌%◌, ◌<◌, ◌≤◌, List, [], ◌∷◌, ◌++◌, length, Bool, true, false, cond, eqb, refl, sym, ap, ◌∙◌, arith, get_or, length-append, take, drop}
+use Rattle.std.proofs.Common.{◌≡◌, ℕ, zero, suc, ◌+◌, ◌*◌, ◌/◌, ◌%◌, ◌^◌, ◌<◌, ◌≤◌, List, [], ◌∷◌, ◌++◌, length, Bool, true, false, cond, eqb, refl, sym, ap, ◌∙◌, arith, get_or, length-append, take, drop}
 use Rattle.std.specs.Prelude.{replicate}
 use Rattle.std.proofs.lemmas.Bool.{eqb-false, eqb-true}
 use Rattle.std.proofs.lemmas.List.{drop-append-le, length-drop, length-take-le, take-append-le}
-use Rattle.zc_base.specs.Fields.{half_bytes, word_bytes}
+use Rattle.zc_base.specs.Fields.{half_bytes, half_in, word_bytes}
 use Rattle.zc_link.specs.Copied.{bytes_from}
 use Rattle.zc_link.specs.Written.{copies, nop, padding, short_nop}
 
@@ -77,3 +77,23 @@ length-bytes_from bytes at n within = length-take-le n (drop at bytes) (omega (a
 pub first_bytes : (text more : List ℕ) (at n : ℕ) → at + n ≤ length text → bytes_from (text ++ more) at n ≡ bytes_from text at n
 first_bytes text more at n within =
     ap (take n) (drop-append-le at text more (omega arith)) ∙ take-append-le n (drop at text) more (omega (arith, length-drop at text))
+
+-- ---- the halfword at an offset
+
+pub half_small : (code : List ℕ) (n : ℕ) → AreBytes code → half_in code n < 2 ^ 16
+unfolding half_in
+half_small code n bytes = omega (arith, bytes n, bytes (n + 1))
+
+-- its bytes are those from there on
+pub own_half : (code : List ℕ) (n : ℕ) → n + 2 ≤ length code → AreBytes code → bytes_from code n 2 ≡ half_bytes (half_in code n)
+unfolding half_in
+own_half [] n le bytes = absurd (omega (arith, le))
+own_half (x ∷ []) zero le bytes = absurd (omega (arith, le))
+own_half (x ∷ y ∷ code) zero le bytes =
+    let low : x ≡ (x + 256 * y) % 256 = omega (arith, bytes 0, bytes 1) in
+    let high : y ≡ (x + 256 * y) / 256 % 256 = omega (arith, bytes 0, bytes 1) in
+    λ i. low i ∷ high i ∷ []
+own_half (x ∷ code) (suc n) le bytes =
+    let next : suc (n + 1) ≡ suc n + 1 = omega arith in
+    own_half code n (omega (arith, le)) (λ k. bytes (suc k))
+    ∙ ap (λ m. half_bytes (get_or (x ∷ code) (suc n) 0 + 256 * get_or (x ∷ code) m 0)) next

@@ -4,7 +4,7 @@ use Rattle.std.proofs.Common.{◌≡◌, ℕ, List, [], ◌∷◌, ◌++◌, map
 use Rattle.std.specs.Prelude.{◌&&◌, ◌||◌, is_none, not}
 use Rattle.std.specs.List.{find, flat_map}
 use Rattle.std.specs.Option.{is_some, unwrap_or}
-use Rattle.std.proofs.lemmas.Bool.{eqb-true, not-false, or_left}
+use Rattle.std.proofs.lemmas.Bool.{eqb-true, not-false, or_left, or_parts}
 use Rattle.zc_base.specs.declared.place.Place.{Place}
 use Rattle.elf32_read.specs.Parts.{ObjectParts, SectionParts}
 use Rattle.elf32_read.specs.declared.fault.Fault.{Fault}
@@ -19,7 +19,7 @@ use Rattle.psabi_sym.specs.Start.{start_name}
 use Rattle.psabi_sym.specs.declared.target.Target.{Target}
 use Rattle.psabi_sym.specs.declared.target.Target.TheVariants.{Code, Number, Absent, Nowhere}
 use Rattle.psabi_sym.proofs.FaultLaws.{neither}
-use Rattle.block_cut.specs.Faults.{entry_fault, first_fault, if_so, has_bad_target, lacks_pcrel_hi, is_bad_target, range_fault, reloc_fault, relocs_fault, section_fault}
+use Rattle.block_cut.specs.Faults.{entry_fault, first_fault, if_so, has_bad_target, is_stray, lacks_pcrel_hi, is_bad_target, range_fault, reloc_fault, relocs_fault, section_fault}
 use Rattle.block_cut.specs.Items.{entry_in, entry_of, is_end_at, is_start_at, is_target_at, start_only, target_of}
 use Rattle.block_cut.specs.Leaders.{is_leader_at}
 use Rattle.block_cut.specs.Relocs.{is_bad_kind, is_bad_place, is_ignored, is_transfer, reloc_on}
@@ -92,10 +92,10 @@ pub good : (inputs : ParsedInputs) (l : IndexedSection) (r : Reloc) → reloc_fa
 good inputs l r none =
     let n = r.offset in
     let one = neither (if_so (is_bad_kind l.section (kind_of r.kind)) (RelocKind l.index n)) _ none in
-    let two = neither (if_so (is_bad_place l.section r) (RelocPlace l.index n)) _ one.1 in
+    let two = neither (if_so (is_bad_place l.section r || is_stray l.section r) (RelocPlace l.index n)) _ one.1 in
     let three = neither (if_so (lacks_pcrel_hi inputs l r) (LoPair l.index n)) _ two.1 in
     let four = neither (if_so (has_bad_target inputs l r) (BadTarget l.index n)) _ three.1 in
-    record { known = not_so _ _ one.0; placed = not_so _ _ two.0; paired = not_so _ _ three.0; leads = not_so _ _ four.0 }
+    record { known = not_so _ _ one.0; placed = (or_parts (is_bad_place l.section r) (is_stray l.section r) (not_so _ _ two.0)).0; paired = not_so _ _ three.0; leads = not_so _ _ four.0 }
 
 module _ (inputs : Inputs) (none : first_fault inputs ≡ None) where
   abbrev p : ParsedInputs

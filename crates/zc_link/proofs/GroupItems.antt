@@ -12,7 +12,7 @@ use Rattle.psabi_sym.specs.Inputs.{Inputs, ParsedInputs, parsed}
 use Rattle.rv_decode.specs.declared.instr.Instr.{Instr}
 use Rattle.block_cut.specs.Items.{after_items, code_at, index_on, is_end_at, is_start_at, item_at, next_at, size_on, starts_in, starts_on}
 use Rattle.block_cut.specs.declared.item.Item.{Item}
-use Rattle.block_cut.specs.declared.item.Item.TheVariants.{Op, Hi, Lo, PcHi, PcLo, Branch, Jump, Call, Align, Word, Raw, RawPair}
+use Rattle.block_cut.specs.declared.item.Item.TheVariants.{Op, Hi, Lo, PcHi, PcLo, Branch, Jump, Call, Align, Word, Raw, RawShort, RawPair}
 use Rattle.block_cut.proofs.ItemLaws.{item_found, item_there}
 use Rattle.block_cut.proofs.PlainLaws.{next_start}
 use Rattle.block_cut.proofs.StartLaws.{before_end_all, before_next_start, start_is}
@@ -117,6 +117,7 @@ module _ (inputs : Inputs) (none : gather_fault inputs ≡ None) where
       by (Some (Align n)) at h = absurd cc
       by (Some (Word t)) at h = absurd cc
       by (Some (Raw w)) at h = absurd cc
+      by (Some (RawShort w)) at h = absurd cc
       by (Some (RawPair v w)) at h = absurd cc
 
   -- the spot of a place where an item starts

@@ -20,9 +20,9 @@ use Rattle.psabi_sym.specs.Indexed.{all_sections}
 use Rattle.psabi_sym.proofs.ContentLaws.{data_file_end-le, data_low-le}
 use Rattle.rv_decode.specs.Memory.{cell_at}
 use Rattle.rv_decode.specs.State.{byte_in}
-use Rattle.block_cut.specs.Items.{code_at, entry_of, item_at}
+use Rattle.block_cut.specs.Items.{code_at, entry_of, item_at, size_at}
 use Rattle.block_cut.specs.declared.item.Item.{Item}
-use Rattle.block_cut.specs.declared.item.Item.TheVariants.{Op, Hi, Lo, PcHi, PcLo, Branch, Jump, Call, Align, Word, Raw, RawPair}
+use Rattle.block_cut.specs.declared.item.Item.TheVariants.{Op, Hi, Lo, PcHi, PcLo, Branch, Jump, Call, Align, Word, Raw, RawShort, RawPair}
 use Rattle.shrink_layout.specs.Units.{CodeUnit, OneGroup, OneItem, OneSite, jump_of}
 use Rattle.zc_link.proofs.GroupItems.{group_op}
 use Rattle.sym_machine.specs.Objects.{data_bytes, program_of}
@@ -70,19 +70,21 @@ HasDataRoom p = data_end p ≤ p.map.data_low + 0x40_0000
 -- ---- what is copied
 
 -- where bytes are those of the objects, or an address, they are copied as they should be
-copied_item : (A B : Place → Option ℕ) (items : Place → Option Item) (own bytes : ℕ → List ℕ) (a n : ℕ) (item : Item) → A ≡ B → HasForm A a n item → IsWritten A items own a n item (bytes n) → ItemCopied B own bytes item
-copied_item A B items own bytes a n (Op i) same form w = tt
-copied_item A B items own bytes a n (Hi i t) same form w = tt
-copied_item A B items own bytes a n (Lo i t) same form w = tt
-copied_item A B items own bytes a n (PcHi i t) same form w = tt
-copied_item A B items own bytes a n (PcLo i from) same form w = tt
-copied_item A B items own bytes a n (Branch op first second to) same form w = tt
-copied_item A B items own bytes a n (Jump rd to) same form w = tt
-copied_item A B items own bytes a n (Call rd temp to) same form w = tt
-copied_item A B items own bytes a n (Align k) same form w = tt
-copied_item A B items own bytes a n (Word t) same form w = (w.value, ap (λ f. target_value f t) (sym same) ∙ w.is, ap bytes (sym form) ∙ w.holds)
-copied_item A B items own bytes a n (Raw word) same form w = ap bytes (sym form) ∙ w
-copied_item A B items own bytes a n (RawPair first second) same form w = ap bytes (sym form) ∙ w
+copied_item : (A B : Place → Option ℕ) (items : Place → Option Item) (own bytes : ℕ → List ℕ) (a size n : ℕ) (item : Item) → A ≡ B → HasForm A a size n item
+    → IsWritten A items own a n item (bytes n) → ItemCopied B own bytes item
+copied_item A B items own bytes a size n (Op i) same form w = tt
+copied_item A B items own bytes a size n (Hi i t) same form w = tt
+copied_item A B items own bytes a size n (Lo i t) same form w = tt
+copied_item A B items own bytes a size n (PcHi i t) same form w = tt
+copied_item A B items own bytes a size n (PcLo i from) same form w = tt
+copied_item A B items own bytes a size n (Branch op first second to) same form w = tt
+copied_item A B items own bytes a size n (Jump rd to) same form w = tt
+copied_item A B items own bytes a size n (Call rd temp to) same form w = tt
+copied_item A B items own bytes a size n (Align k) same form w = tt
+copied_item A B items own bytes a size n (Word t) same form w = (w.value, ap (λ f. target_value f t) (sym same) ∙ w.is, ap bytes (sym form) ∙ w.holds)
+copied_item A B items own bytes a size n (Raw word) same form w = ap bytes (sym form) ∙ w
+copied_item A B items own bytes a size n (RawShort half) same form w = ap bytes (sym form) ∙ w
+copied_item A B items own bytes a size n (RawPair first second) same form w = ap bytes (sym form) ∙ w
 
 -- so are jumps and calls, of which nothing is copied
 jump_copied :
@@ -98,6 +100,7 @@ jump_copied B own bytes (Call r temp at) rd to is = tt
 jump_copied B own bytes (Align k) rd to is = tt
 jump_copied B own bytes (Word t) rd to is = absurd (none-some (rd, to) is)
 jump_copied B own bytes (Raw word) rd to is = absurd (none-some (rd, to) is)
+jump_copied B own bytes (RawShort half) rd to is = absurd (none-some (rd, to) is)
 jump_copied B own bytes (RawPair first second) rd to is = absurd (none-some (rd, to) is)
 
 -- ---- the image
@@ -391,8 +394,8 @@ module _ (L : TextLayout) (ready : IsReady L.inputs) (lies : IsLaidOut L) (flags
           let same : h.section ≡ s = cc (sym h.here ∙ at) in
           let one : i ≡ item = cc (sym form.is ∙ is) in
           subst (ItemCopied (listed_address (place_list (image_bytes parts))) (bytes_from s.bytes q.offset) (bytes_from text (a - inputs.map.text))) one
-          (copied_item A (listed_address (place_list (image_bytes parts))) (item_at p3) (bytes_from s.bytes q.offset) (bytes_from text (a - inputs.map.text)) a h.size i addresses
-          (subst (λ n. HasForm A a n i) size form.form)
+          (copied_item A (listed_address (place_list (image_bytes parts))) (item_at p3) (bytes_from s.bytes q.offset) (bytes_from text (a - inputs.map.text)) a (size_at p3.objects q) h.size i addresses
+          (subst (λ n. HasForm A a (size_at p3.objects q) n i) size form.form)
           (subst (λ t. IsWritten A (item_at p3) (bytes_from t.bytes q.offset) a h.size i (bytes_from text (a - inputs.map.text) h.size)) same h.written))
       of q a s item (OneGroup g) at is form h =
           let first = group_op inputs none q g form.is in

@@ -1,14 +1,16 @@
 -- What is written for an item, by what it is: so many bytes, which are what the item asks for.
-use Rattle.std.proofs.Common.{◌≡◌, ℕ, ℤ, ◌+◌, ◌^◌, ◌<◌, ◌⊎◌, inl, inr, List, ◌++◌, length, Option, Some, true, false, refl, sym, ap, ◌∙◌, subst, arith, take, drop}
+use Rattle.std.proofs.Common.{◌≡◌, ℕ, ℤ, ◌+◌, ◌^◌, ◌<◌, ◌≤◌, ◌⊎◌, inl, inr, List, ◌++◌, length, Option, Some, None, true, false, refl, sym, ap, ◌∙◌, subst, arith, take, drop}
 use Rattle.std.specs.Prelude.{IsTrue}
 use Rattle.std.proofs.lemmas.List.{take-append-drop}
-use Rattle.zc_base.specs.Fields.{half_bytes}
+use Rattle.zc_base.specs.Fields.{half_bytes, half_in, word_bytes, word_in}
 use Rattle.zc_base.specs.declared.place.Place.{Place}
 use Rattle.psabi_reloc.specs.Parts.{hi20_of, lo12_of}
 use Rattle.psabi_reloc.specs.Patched.{with_imm, with_upper}
 use Rattle.psabi_sym.specs.Inputs.{parsed}
 use Rattle.psabi_sym.specs.declared.target.Target.TheVariants.{Code, Number, Absent, Nowhere}
 use Rattle.rv_decode.specs.Bits.{add32, as_signed}
+use Rattle.rv_decode.specs.Decode.{decoded}
+use Rattle.rv_decode.specs.Immediates.{InRange}
 use Rattle.rv_decode.specs.declared.instr.BranchOp.{BranchOp}
 use Rattle.rv_decode.specs.declared.instr.Instr.{Instr}
 use Rattle.rv_decode.specs.declared.instr.Instr.TheVariants as instr
@@ -16,20 +18,21 @@ use Rattle.rv_decode.specs.declared.instr.UpperOp.TheVariants.{Auipc}
 use Rattle.block_cut.specs.Items.{item_at, size_at}
 use Rattle.block_cut.specs.Relocs.{instr_in}
 use Rattle.block_cut.specs.declared.item.Item.{Item}
-use Rattle.block_cut.specs.declared.item.Item.TheVariants.{Op, Hi, Lo, PcHi, PcLo, Branch, Jump, Call, Align, Word, Raw, RawPair}
-use Rattle.shrink_layout.specs.Halves.{IsHalfOf}
-use Rattle.shrink_layout.specs.Pieces.{is_short}
+use Rattle.block_cut.specs.declared.item.Item.TheVariants.{Op, Hi, Lo, PcHi, PcLo, Branch, Jump, Call, Align, Word, Raw, RawShort, RawPair}
+use Rattle.block_cut.proofs.InstrLaws.{in_range_in}
+use Rattle.shrink_layout.specs.Halves.{fixed_instr}
 use Rattle.shrink_layout.specs.Units.{OneItem}
 use Rattle.zc_decode.specs.declared.short.Short.TheVariants.{Base}
 use Rattle.zc_encode.specs.Halves.{encoded16}
 use Rattle.zca_zcb_pass.specs.Forms.{HasEffectOf}
 use Rattle.zc_link.specs.Copied.{bytes_from}
-use Rattle.zc_link.specs.LaidOut.{HasBranchSize, HasCallSize, HasForm}
-use Rattle.zc_link.specs.Standing.{HasOwnSize, ItemStands, SpellsCall, SpellsWay, StandsHere, WrittenHere, is_patched}
+use Rattle.zc_link.specs.LaidOut.{HasBranchSize, HasCallSize, HasForm, HasSize}
+use Rattle.zc_link.specs.Standing.{HasOwnSize, IsHalfHere, ItemStands, SpellsCall, SpellsWay, StandsHere, WrittenHere, is_patched}
 use Rattle.zc_link.specs.TextLayout.{TextLayout}
 use Rattle.zc_link.specs.Values.{way}
-use Rattle.zc_link.specs.Written.{IsBranchSpelled, IsSpelled, IsWritten, SpellsWord, padding}
-use Rattle.zc_link.proofs.Adds.{AreBytes, bytes_append, drop_are, half_are, length-bytes_from, length-padding, padding_are, take_are, word_are}
+use Rattle.zc_link.specs.Written.{IsBranchSpelled, IsCopied, IsSpelled, IsWritten, SpellsWord, padding}
+use Rattle.zc_link.proofs.HalfNormals.{normal_in}
+use Rattle.zc_link.proofs.Adds.{AreBytes, bytes_append, drop_are, half_are, half_small, length-bytes_from, length-padding, own_half, padding_are, take_are, word_are}
 
 -- ---- bytes that spell
 
@@ -67,6 +70,9 @@ module _ (L : TextLayout) (code : List ℕ) (q : Place) (item : Item) (a n : ℕ
   abbrev own : ℕ → List ℕ
   own = bytes_from code q.offset
 
+  abbrev size : ℕ
+  size = size_at (parsed L.inputs).objects q
+
   abbrev Here : List ℕ → Type 0
   Here bytes = WrittenHere L code q (OneItem item) a n bytes
 
@@ -79,35 +85,41 @@ module _ (L : TextLayout) (code : List ℕ) (q : Place) (item : Item) (a n : ℕ
       made (padding n) (length-padding n here.even, padding_are n) (subst (λ i. IsWritten L.address it own a n i (padding n)) (sym is) refl)
 
   -- what is copied unread
-  pub raw_written : (w : ℕ) (bytes : List ℕ) → item ≡ Raw w → bytes ≡ own 4 → AreBytes code → Here bytes
-  raw_written w bytes is are octets =
-      let four : n ≡ 4 = subst (HasForm L.address a n) is here.form in
-      let size : size_at (parsed L.inputs).objects q ≡ 4 = subst (λ i. HasOwnSize i (size_at (parsed L.inputs).objects q)) is here.size in
+  copied :
+      (m : ℕ) (bytes : List ℕ) → n ≡ m → size ≡ m → IsWritten L.address it own a n item bytes → bytes ≡ own m → AreBytes code
+      → Here bytes
+  copied m bytes takes sized written are octets =
       made bytes (
-        ap length are ∙ length-bytes_from code q.offset 4 (omega (arith, here.within, size)) ∙ sym four,
-        subst AreBytes (sym are) (take_are 4 (drop q.offset code) (drop_are q.offset code octets)),
+        ap length are ∙ length-bytes_from code q.offset m (omega (arith, here.within, sized)) ∙ sym takes,
+        subst AreBytes (sym are) (take_are m (drop q.offset code) (drop_are q.offset code octets)),
       )
-      (subst (λ i. IsWritten L.address it own a n i bytes) (sym is) are)
+      written
 
-  pub pair_written : (w v : ℕ) (bytes : List ℕ) → item ≡ RawPair w v → bytes ≡ own 8 → AreBytes code → Here bytes
-  pair_written w v bytes is are octets =
-      let eight : n ≡ 8 = subst (HasForm L.address a n) is here.form in
-      let size : size_at (parsed L.inputs).objects q ≡ 8 = subst (λ i. HasOwnSize i (size_at (parsed L.inputs).objects q)) is here.size in
-      made bytes (
-        ap length are ∙ length-bytes_from code q.offset 8 (omega (arith, here.within, size)) ∙ sym eight,
-        subst AreBytes (sym are) (take_are 8 (drop q.offset code) (drop_are q.offset code octets)),
-      )
-      (subst (λ i. IsWritten L.address it own a n i bytes) (sym is) are)
+  module _ (bytes : List ℕ) (octets : AreBytes code) where
+    pub raw_written : (w : ℕ) → item ≡ Raw w → bytes ≡ own 4 → Here bytes
+    raw_written w is are =
+        copied 4 bytes (subst (HasForm L.address a size n) is here.form) (subst (λ i. HasOwnSize i size) is here.size)
+        (subst (λ i. IsWritten L.address it own a n i bytes) (sym is) are) are octets
+
+    pub short_written : (h : ℕ) → item ≡ RawShort h → bytes ≡ own 2 → Here bytes
+    short_written h is are =
+        copied 2 bytes (subst (HasForm L.address a size n) is here.form) (subst (λ i. HasOwnSize i size) is here.size)
+        (subst (λ i. IsWritten L.address it own a n i bytes) (sym is) are) are octets
+
+    pub pair_written : (w v : ℕ) → item ≡ RawPair w v → bytes ≡ own 8 → Here bytes
+    pair_written w v is are =
+        copied 8 bytes (subst (HasForm L.address a size n) is here.form) (subst (λ i. HasOwnSize i size) is here.size)
+        (subst (λ i. IsWritten L.address it own a n i bytes) (sym is) are) are octets
 
   -- ---- branches, jumps and calls
 
   module _ (op : BranchOp) (first second : ℕ) (to : Place) (is : item ≡ Branch op first second to) where
-    pub branch_stands : SpellsWay L.address (instr_in (size_at (parsed L.inputs).objects q) code q.offset) (instr.Branch op first second) to
+    pub branch_stands : SpellsWay L.address (instr_in size code q.offset) (instr.Branch op first second) to
     branch_stands = subst (ItemStands L.address it _ _) is here.stands
 
     -- in so many bytes it reaches
     pub branch_form : HasBranchSize (instr.Branch op first second) n (as_signed (way a branch_stands.address))
-    branch_form = subst (HasForm L.address a n) is here.form branch_stands.address branch_stands.listed
+    branch_form = subst (HasForm L.address a size n) is here.form branch_stands.address branch_stands.listed
 
     pub branch_written : (d : ℤ) (bytes : List ℕ) → L.address to ≡ Some (add32 a d) → IsBranchSpelled n bytes op first second d → Here bytes
     branch_written d bytes leads spelled =
@@ -115,7 +127,7 @@ module _ (L : TextLayout) (code : List ℕ) (q : Place) (item : Item) (a n : ℕ
         (subst (λ i. IsWritten L.address it own a n i bytes) (sym is) (record { distance = d; leads = leads; holds = spelled }))
 
   module _ (rd : ℕ) (to : Place) (is : item ≡ Jump rd to) where
-    pub jump_stands : SpellsWay L.address (instr_in (size_at (parsed L.inputs).objects q) code q.offset) (instr.Jal rd) to
+    pub jump_stands : SpellsWay L.address (instr_in size code q.offset) (instr.Jal rd) to
     jump_stands = subst (ItemStands L.address it _ _) is here.stands
 
     pub jump_written : (d : ℤ) (bytes : List ℕ) → L.address to ≡ Some (add32 a d) → IsSpelled n bytes (instr.Jal rd d) → Here bytes
@@ -125,11 +137,11 @@ module _ (L : TextLayout) (code : List ℕ) (q : Place) (item : Item) (a n : ℕ
 
   module _ (rd temp : ℕ) (to : Place) (is : item ≡ Call rd temp to) where
     pub call_stands :
-        SpellsCall L.address (instr_in (size_at (parsed L.inputs).objects q) code q.offset) (instr_in 4 code (q.offset + 4)) rd temp to
+        SpellsCall L.address (instr_in size code q.offset) (instr_in 4 code (q.offset + 4)) rd temp to
     call_stands = subst (ItemStands L.address it _ _) is here.stands
 
     pub call_form : HasCallSize rd n (as_signed (way a call_stands.address))
-    call_form = subst (HasForm L.address a n) is here.form call_stands.address call_stands.listed
+    call_form = subst (HasForm L.address a size n) is here.form call_stands.address call_stands.listed
 
     -- as one jump
     pub call_jump_written : (d : ℤ) (bytes : List ℕ) → L.address to ≡ Some (add32 a d) → IsSpelled n bytes (instr.Jal rd d) → Here bytes
@@ -160,46 +172,152 @@ module _ (L : TextLayout) (code : List ℕ) (q : Place) (item : Item) (a n : ℕ
 
   -- ---- all others
 
-  -- in two bytes: the halfword that was found before the layout
-  pub half_written : (half : ℕ) → half < 2 ^ 16 → is_patched item ≡ true → n ≡ 2 → IsHalfOf item half → Here (half_bytes half)
-  half_written half small patched two found =
-      made (half_bytes half) (sym two, half_are half) (by item patched here.form found)
-    where
-      short : (i : Instr) → IsTrue (is_short i) → ((j : Instr) → Some i ≡ Some j → IsTrue (is_short j) → (encoded16 (Base j) ≡ Some half) × HasEffectOf j half) → IsSpelled n (half_bytes half) i
-      short i has each = let got = each i refl has in inr (two, record { half = half; small = small; are = refl; first = got.0; same = got.1 })
+  -- an instruction without relocation, in four bytes
+  module _ (i : Instr) (is : item ≡ Op i) where
+    pub op_stands : instr_in size code q.offset ≡ Some i
+    op_stands = subst (ItemStands L.address it _ _) is here.stands
 
-      fixed : (i : Instr) → ((n ≡ 4) ⊎ ((n ≡ 2) × IsTrue (is_short i))) → IsTrue (is_short i)
-      fixed i (inl four) = absurd (omega (arith, two, four))
-      fixed i (inr has) = has.1
+    op_size : (size ≡ 2) ⊎ (size ≡ 4)
+    op_size = subst (λ x. HasOwnSize x size) is here.size
 
-      unfixed : {X : Type 0} → ((n ≡ 4) ⊎ ((n ≡ 2) × IsTrue false)) → X
-      unfixed (inl four) = absurd (omega (arith, two, four))
-      unfixed (inr has) = absurd cc
+    -- which fits a word
+    pub op_range : InRange i
+    op_range = in_range_in size code q.offset i op_stands
 
-      by : (i : Item) → is_patched i ≡ true → HasForm L.address a n i → IsHalfOf i half → IsWritten L.address it own a n i (half_bytes half)
-      by (Op i) p form each = short i (fixed i form) each
-      by (Hi i (Number x)) p form each = record { value = x; is = refl; holds = short (with_upper i (hi20_of x)) (fixed (with_upper i (hi20_of x)) form) each }
-      by (Hi i (Absent x)) p form each = record { value = x; is = refl; holds = short (with_upper i (hi20_of x)) (fixed (with_upper i (hi20_of x)) form) each }
-      by (Hi i (Code to)) p form each = unfixed form
-      by (Hi i Nowhere) p form each = unfixed form
-      by (Lo i (Number x)) p form each = record { value = x; is = refl; holds = short (with_imm i (lo12_of x)) (fixed (with_imm i (lo12_of x)) form) each }
-      by (Lo i (Absent x)) p form each = record { value = x; is = refl; holds = short (with_imm i (lo12_of x)) (fixed (with_imm i (lo12_of x)) form) each }
-      by (Lo i (Code to)) p form each = unfixed form
-      by (Lo i Nowhere) p form each = unfixed form
-      by (PcHi i t) p form each = absurd (omega (arith, two, form))
-      by (PcLo i from) p form each = absurd (omega (arith, two, form))
-      by (Word t) p form each = absurd (omega (arith, two, form))
-      by i p form each = absurd cc
+    -- and has its own if it has more than two bytes
+    long_own : (size ≡ 2 → ⊥) → size ≡ 4
+    long_own long = by op_size
+      where
+        by : (size ≡ 2) ⊎ (size ≡ 4) → size ≡ 4
+        by (inl two) = absurd (long two)
+        by (inr four) = four
+
+    pub op_within : (size ≡ 2 → ⊥) → q.offset + 4 ≤ length code
+    op_within long = omega (arith, here.within, long_own long)
+
+    pub op_spells : (size ≡ 2 → ⊥) → decoded (word_in code q.offset) ≡ Some i
+    op_spells long = subst (λ m. instr_in m code q.offset ≡ Some i) (long_own long) op_stands
+
+    pub op_written : (word : ℕ) → word < 2 ^ 32 → (n ≡ 2 → ⊥) → decoded word ≡ Some i → Here (word_bytes word)
+    op_written word small long spells =
+        let four : n ≡ 4 = by (subst (HasForm L.address a size n) is here.form) in
+        let spelled : SpellsWord (word_bytes word) i = record { word = word; small = small; are = refl; spells = spells } in
+        made (word_bytes word) (sym four, word_are word) (subst (λ x. IsWritten L.address it own a n x (word_bytes word)) (sym is) (inl (inl (four, spelled))))
+      where
+        by : (n ≡ size) ⊎ HasSize (Op i) n → n ≡ 4
+        by (inl same) = let longer : size ≡ 2 → ⊥ = λ two. long (same ∙ two) in same ∙ long_own longer
+        by (inr (inl four)) = four
+        by (inr (inr two)) = absurd (long two.0)
+
+  -- one whose instruction is known before the layout has its own bytes, of which there are two at least
+  patched_size : (i : Item) → is_patched i ≡ true → HasOwnSize i size → 2 ≤ size
+  patched_size (Op i) p (inl two) = omega (arith, two)
+  patched_size (Op i) p (inr four) = omega (arith, four)
+  patched_size (Hi i t) p four = omega (arith, four)
+  patched_size (Lo i t) p four = omega (arith, four)
+  patched_size (PcHi i t) p four = omega (arith, four)
+  patched_size (PcLo i from) p four = omega (arith, four)
+  patched_size (Word t) p four = omega (arith, four)
+  patched_size i p own = absurd cc
+
+  pub patched_within : is_patched item ≡ true → q.offset + 2 ≤ length code
+  patched_within patched = omega (arith, here.within, patched_size item patched here.size)
+
+  -- of four bytes it stands there as their word spells it
+  pub patched_stands : size ≡ 4 → ItemStands L.address it (instr_in 4 code q.offset) (instr_in 4 code (q.offset + 4)) item
+  patched_stands four = subst (λ m. ItemStands L.address it (instr_in m code q.offset) (instr_in 4 code (q.offset + 4)) item) four here.stands
+
+  -- but an instruction without relocation these have four bytes
+  patched_four : (i : Item) → ((j : Instr) → i ≡ Op j → ⊥) → is_patched i ≡ true → HasOwnSize i size → size ≡ 4
+  patched_four (Op i) other p own = absurd (other i refl)
+  patched_four (Hi i t) other p four = four
+  patched_four (Lo i t) other p four = four
+  patched_four (PcHi i t) other p four = four
+  patched_four (PcLo i from) other p four = four
+  patched_four (Word t) other p four = four
+  patched_four i other p own = absurd cc
+
+  pub patched_own : ((j : Instr) → item ≡ Op j → ⊥) → is_patched item ≡ true → size ≡ 4
+  patched_own other patched = patched_four item other patched here.size
+
+  -- in two bytes
+  module _ (patched : is_patched item ≡ true) (two : n ≡ 2) where
+    unfixed : {X : Type 0} → ((n ≡ 4) ⊎ ((n ≡ 2) × IsTrue false)) → X
+    unfixed (inl four) = absurd (omega (arith, two, four))
+    unfixed (inr has) = absurd cc
+
+    -- the halfword that was found before the layout
+    pub half_written : (half : ℕ) → IsHalfHere size item (Some half) → Here (half_bytes half)
+    half_written half found = made (half_bytes half) (sym two, half_are half) (by item patched here.form found.1)
+      where
+        short :
+            (i : Instr) → ((j : Instr) → Some i ≡ Some j → (encoded16 (Base j) ≡ Some half) × HasEffectOf j half) → IsSpelled n (half_bytes half) i
+        short i each = let got = each i refl in inr (two, record { half = half; small = found.0; are = refl; first = got.0; same = got.1 })
+
+        by :
+            (i : Item) → is_patched i ≡ true → HasForm L.address a size n i
+            → ((j : Instr) → fixed_instr i ≡ Some j → (encoded16 (Base j) ≡ Some half) × HasEffectOf j half) → IsWritten L.address it own a n i (half_bytes half)
+        by (Op i) p form each = inl (short i each)
+        by (Hi i (Number x)) p form each = record { value = x; is = refl; holds = short (with_upper i (hi20_of x)) each }
+        by (Hi i (Absent x)) p form each = record { value = x; is = refl; holds = short (with_upper i (hi20_of x)) each }
+        by (Hi i (Code to)) p form each = unfixed form
+        by (Hi i Nowhere) p form each = unfixed form
+        by (Lo i (Number x)) p form each = record { value = x; is = refl; holds = short (with_imm i (lo12_of x)) each }
+        by (Lo i (Absent x)) p form each = record { value = x; is = refl; holds = short (with_imm i (lo12_of x)) each }
+        by (Lo i (Code to)) p form each = unfixed form
+        by (Lo i Nowhere) p form each = unfixed form
+        by (PcHi i t) p form each = absurd (omega (arith, two, form))
+        by (PcLo i from) p form each = absurd (omega (arith, two, form))
+        by (Word t) p form each = absurd (omega (arith, two, form))
+        by i p form each = absurd cc
+
+    -- or its own bytes
+    pub own_written : (bytes : List ℕ) → bytes ≡ own 2 → AreBytes code → IsHalfHere size item None → Here bytes
+    own_written bytes are octets found = by item refl patched here.form found
+      where
+        half : ℕ
+        half = half_in code q.offset
+
+        halved : bytes ≡ half_bytes half
+        halved = are ∙ own_half code q.offset (patched_within patched) octets
+
+        op : (i : Instr) → item ≡ Op i → size ≡ 2 → Here bytes
+        op i is short =
+            let normal = normal_in code q.offset i (subst (λ m. instr_in m code q.offset ≡ Some i) short (op_stands i is)) in
+            let copies : IsCopied own bytes i =
+            record { copies = are; half = half; small = half_small code q.offset octets; are = halved; spelled = normal.spelled; spells = normal.spells; normal = normal.normal } in
+            made bytes (ap length halved ∙ sym two, subst AreBytes (sym halved) (half_are half))
+            (subst (λ x. IsWritten L.address it own a n x bytes) (sym is) (inr (two, copies)))
+
+        other : {X : Type 0} → (i : Item) (j : Instr) → fixed_instr i ≡ Some j → ((k : Instr) → i ≡ Op k → ⊥) → IsHalfHere size i None → X
+        other i j fixed unlike each = absurd (unlike j (each j fixed).1)
+
+        by : (i : Item) → item ≡ i → is_patched i ≡ true → HasForm L.address a size n i → IsHalfHere size i None → Here bytes
+        by (Op i) is p form each = op i is (each i refl).0
+        by (Hi i (Number x)) is p form each = other (Hi i (Number x)) (with_upper i (hi20_of x)) refl (λ k same. cc) each
+        by (Hi i (Absent x)) is p form each = other (Hi i (Absent x)) (with_upper i (hi20_of x)) refl (λ k same. cc) each
+        by (Hi i (Code to)) is p form each = unfixed form
+        by (Hi i Nowhere) is p form each = unfixed form
+        by (Lo i (Number x)) is p form each = other (Lo i (Number x)) (with_imm i (lo12_of x)) refl (λ k same. cc) each
+        by (Lo i (Absent x)) is p form each = other (Lo i (Absent x)) (with_imm i (lo12_of x)) refl (λ k same. cc) each
+        by (Lo i (Code to)) is p form each = unfixed form
+        by (Lo i Nowhere) is p form each = unfixed form
+        by (PcHi i t) is p form each = absurd (omega (arith, two, form))
+        by (PcLo i from) is p form each = absurd (omega (arith, two, form))
+        by (Word t) is p form each = absurd (omega (arith, two, form))
+        by i is p form each = absurd cc
 
 -- what is neither of these has a word of its own
 pub patched_left :
     (item : Item) → ((op : BranchOp) (first second : ℕ) (to : Place) → item ≡ Branch op first second to → ⊥)
     → ((rd : ℕ) (to : Place) → item ≡ Jump rd to → ⊥) → ((rd temp : ℕ) (to : Place) → item ≡ Call rd temp to → ⊥)
-    → ((k : ℕ) → item ≡ Align k → ⊥) → ((w : ℕ) → item ≡ Raw w → ⊥) → ((w v : ℕ) → item ≡ RawPair w v → ⊥) → is_patched item ≡ true
-patched_left (Branch op first second to) branch jump call align raw pair = absurd (branch op first second to refl)
-patched_left (Jump rd to) branch jump call align raw pair = absurd (jump rd to refl)
-patched_left (Call rd temp to) branch jump call align raw pair = absurd (call rd temp to refl)
-patched_left (Align k) branch jump call align raw pair = absurd (align k refl)
-patched_left (Raw w) branch jump call align raw pair = absurd (raw w refl)
-patched_left (RawPair w v) branch jump call align raw pair = absurd (pair w v refl)
-patched_left other branch jump call align raw pair = refl
+    → ((k : ℕ) → item ≡ Align k → ⊥) → ((w : ℕ) → item ≡ Raw w → ⊥) → ((h : ℕ) → item ≡ RawShort h → ⊥) → ((w v : ℕ) → item ≡ RawPair w v → ⊥)
+    → is_patched item ≡ true
+patched_left (Branch op first second to) branch jump call align raw short pair = absurd (branch op first second to refl)
+patched_left (Jump rd to) branch jump call align raw short pair = absurd (jump rd to refl)
+patched_left (Call rd temp to) branch jump call align raw short pair = absurd (call rd temp to refl)
+patched_left (Align k) branch jump call align raw short pair = absurd (align k refl)
+patched_left (Raw w) branch jump call align raw short pair = absurd (raw w refl)
+patched_left (RawShort h) branch jump call align raw short pair = absurd (short h refl)
+patched_left (RawPair w v) branch jump call align raw short pair = absurd (pair w v refl)
+patched_left other branch jump call align raw short pair = refl

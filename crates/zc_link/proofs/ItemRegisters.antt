@@ -16,11 +16,13 @@ use Rattle.rv_decode.specs.Registers.{HasRegisters}
 use Rattle.rv_decode.specs.declared.instr.Instr.{Instr}
 use Rattle.rv_decode.specs.declared.instr.Instr.TheVariants as instr
 use Rattle.rv_decode.proofs.DecodeLaws.{decoded-registers}
-use Rattle.block_cut.specs.Items.{call_item, item_at, item_under, known_item, of_instr, raw_in, raw_pair, size_on, spelled_item, target_away, target_of, to_place, transfer_item}
+use Rattle.block_cut.specs.Items.{call_item, item_at, item_under, known_item, of_instr, raw_in, raw_pair, size_on, spelled_item, target_away, target_of, to_place, transfer_item, transfer_under}
 use Rattle.block_cut.specs.Relocs.{instr_in, reloc_on}
 use Rattle.block_cut.specs.declared.item.Item.{Item}
-use Rattle.block_cut.specs.declared.item.Item.TheVariants.{Op, Hi, Lo, PcHi, PcLo, Branch, Jump, Call, Align, Word, Raw, RawPair}
+use Rattle.block_cut.specs.declared.item.Item.TheVariants.{Op, Hi, Lo, PcHi, PcLo, Branch, Jump, Call, Align, Word, Raw, RawShort, RawPair}
+use Rattle.block_cut.proofs.InstrLaws.{registers_in}
 use Rattle.block_cut.proofs.ItemLaws.{item_found}
+use Rattle.block_cut.proofs.RawLaws.{raw_by}
 
 -- an item's registers
 abbrev pub ItemRegisters : Item → Type 0
@@ -35,6 +37,7 @@ ItemRegisters (Call rd temp to) = rd < 32
 ItemRegisters (Align bytes) = Unit {0}
 ItemRegisters (Word t) = Unit {0}
 ItemRegisters (Raw word) = Unit {0}
+ItemRegisters (RawShort half) = Unit {0}
 ItemRegisters (RawPair first second) = Unit {0}
 
 -- an instruction keeps its registers with another upper immediate
@@ -122,6 +125,17 @@ module _ (bytes : List ℕ) (n : ℕ) where
   called (Some (instr.Upper op temp upper)) (Some (instr.Jalr rd base imm)) to e = (decoded-registers (word_in bytes (n + 4)) (instr.Jalr rd base imm) e).0
   called d d2 to e = tt
 
+  -- a branch or a jump of 2 bytes
+  short : (t : Target) → ItemRegisters (transfer_under 2 t bytes n)
+  short t = by (instr_in 2 bytes n) refl
+    where
+      half : Item
+      half = raw_in 2 bytes n
+
+      by : (d : Option Instr) → instr_in 2 bytes n ≡ d → ItemRegisters (of_instr d half (λ i. to_place t (transfer_item i half) half))
+      by None e = tt
+      by (Some i) e = placed t (transfer_item i half) half (λ to. transferred i half to (registers_in 2 bytes n i e) tt) tt
+
   -- by the relocation's kind
   by_kind : (k : Option RelocKind) (addend : ℤ) (t : Target) → ItemRegisters (known_item k addend t bytes n)
   by_kind None addend t = tt
@@ -139,8 +153,8 @@ module _ (bytes : List ℕ) (n : ℕ) where
   by_kind (Some kind.Hi20) addend t = parted (λ i. Hi i t) (instr_in 4 bytes n) refl (λ i h. h)
   by_kind (Some kind.Lo12I) addend t = parted (λ i. Lo i t) (instr_in 4 bytes n) refl (λ i h. h)
   by_kind (Some kind.Lo12S) addend t = parted (λ i. Lo i t) (instr_in 4 bytes n) refl (λ i h. h)
-  by_kind (Some kind.RvcBranch) addend t = tt
-  by_kind (Some kind.RvcJump) addend t = tt
+  by_kind (Some kind.RvcBranch) addend t = short t
+  by_kind (Some kind.RvcJump) addend t = short t
   by_kind (Some kind.Align) addend t = tt
 
 -- ---- all items
@@ -155,5 +169,6 @@ item_registers p q item is =
     by : (s : SectionParts) (o : Option Reloc) → ItemRegisters (item_under p q o (size_on s q.offset) s.bytes)
     by s None =
         let own = size_on s q.offset in
-        bare p.objects q (raw_in own s.bytes q.offset) (instr_in own s.bytes q.offset) tt (λ i e. decoded-registers (word_in s.bytes q.offset) i e)
+        bare p.objects q (raw_in own s.bytes q.offset) (instr_in own s.bytes q.offset)
+        (raw_by ItemRegisters (λ half. tt) (λ word. tt) own s.bytes q.offset) (λ i e. registers_in own s.bytes q.offset i e)
     by s (Some r) = by_kind s.bytes q.offset (kind_of r.kind) r.addend (target_of p q.object r)

@@ -12,7 +12,7 @@ use Rattle.rv_decode.specs.declared.instr.Instr.TheVariants as instr
 use Rattle.rv_decode.specs.Bits.{add32}
 use Rattle.rv_decode.specs.State.{ZcCore, ZcState, reg_in}
 use Rattle.block_cut.specs.declared.item.Item.{Item}
-use Rattle.block_cut.specs.declared.item.Item.TheVariants.{Op, Hi, Lo, PcHi, PcLo, Branch, Jump, Call, Align, Word, Raw, RawPair}
+use Rattle.block_cut.specs.declared.item.Item.TheVariants.{Op, Hi, Lo, PcHi, PcLo, Branch, Jump, Call, Align, Word, Raw, RawShort, RawPair}
 use Rattle.sym_machine.specs.AddressParts.{pc_target}
 use Rattle.sym_machine.specs.Change.{Goes, branch_does, jump_does, op_does, item_does}
 use Rattle.sym_machine.specs.Conditions.{condition}
@@ -51,6 +51,7 @@ pc_named {p} {Named} leads q t h = by (p.item q) refl h
     by (Some (Align bytes)) is g = absurd cc
     by (Some (Word u)) is g = absurd cc
     by (Some (Raw word)) is g = absurd cc
+    by (Some (RawShort half)) is g = absurd cc
     by (Some (RawPair first second)) is g = absurd cc
 
 module _ {p : Program} {Named : Place → Type 0} {e : Image} {r r' : PlainState} {cuts : ℕ → List Interrupt} {z : ZcState} (room : Room p e) (leads : Leads p Named) (from : FromSound p Named e r r' cuts z) where
@@ -145,4 +146,5 @@ module _ {p : Program} {Named : Place → Type 0} {e : Image} {r r' : PlainState
   item_comes (Some (Align bytes)) item laid h = absurd laid
   item_comes (Some (Word t)) item laid h = absurd cc
   item_comes (Some (Raw word)) item laid h = absurd cc
+  item_comes (Some (RawShort half)) item laid h = absurd cc
   item_comes (Some (RawPair first second)) item laid h = absurd cc

@@ -84,6 +84,7 @@ pub mod Lookup
 pub mod ItemRegisters
 pub mod SizedPieces
 pub mod TablesLaid
+pub mod HalfNormals
 pub mod StretchesLaid
 pub mod Within
 pub mod ImageData

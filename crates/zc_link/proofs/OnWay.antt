@@ -13,7 +13,7 @@ use Rattle.rv_decode.specs.Run.{iterate}
 use Rattle.rv_decode.specs.State.{ZcCore, ZcState}
 use Rattle.rv_decode.proofs.RunLaws.{bind_ok}
 use Rattle.block_cut.specs.declared.item.Item.{Item}
-use Rattle.block_cut.specs.declared.item.Item.TheVariants.{Op, Hi, Lo, PcHi, PcLo, Branch, Jump, Call, Align, Word, Raw, RawPair}
+use Rattle.block_cut.specs.declared.item.Item.TheVariants.{Op, Hi, Lo, PcHi, PcLo, Branch, Jump, Call, Align, Word, Raw, RawShort, RawPair}
 use Rattle.sym_machine.specs.Change.{Change, Goes, item_does}
 use Rattle.sym_machine.specs.Program.{Program}
 use Rattle.sym_machine.specs.Run.{plain_turn}
@@ -50,6 +50,7 @@ item_alone p q next s (Some (Call rd temp to)) laid goes = base_at laid.laid.at
 item_alone p q next s (Some (Align bytes)) laid goes = absurd laid
 item_alone p q next s (Some (Word t)) laid goes = absurd cc
 item_alone p q next s (Some (Raw word)) laid goes = absurd cc
+item_alone p q next s (Some (RawShort half)) laid goes = absurd cc
 item_alone p q next s (Some (RawPair first second)) laid goes = absurd cc
 
 -- a stretch that is no group

@@ -1,28 +1,33 @@
 -- The plain layout is one that a link may have, if no fault stands: its addresses are those of its places, each item has its longest
 -- form, and branches reach.
-use Rattle.std.proofs.Common.{◌≡◌, ℕ, ◌+◌, ◌-◌, ◌≤◌, length, max, Bool, true, false, cond, Option, Some, None, refl, sym, ap, ◌∙◌, inl, arith, eqb}
+use Rattle.std.proofs.Common.{◌≡◌, ℕ, ℤ, pos, ◌-ℤ◌, ◌+◌, ◌-◌, ◌<◌, ◌≤◌, length, max, Bool, true, false, cond, Option, Some, None, refl, sym, ap, ◌∙◌, subst, inl, inr, arith, eqb}
 use Rattle.std.specs.Prelude.{◌||◌}
 use Rattle.std.specs.Option.{is_some, option_map, option_map_or, unwrap_or}
+use Rattle.std.proofs.lemmas.Option.{none-some, same_Some}
 use Rattle.zc_base.specs.declared.place.Place.{Place}
 use Rattle.elf32_read.specs.Parts.{SectionParts, is_code_section}
-use Rattle.psabi_reloc.specs.Reaches.{branch_reach, jal_reach}
+use Rattle.psabi_reloc.specs.Reaches.{branch_reach, jal_reach, short_branch_reach, short_jump_reach}
 use Rattle.psabi_sym.specs.Blocks.{aligned_up}
 use Rattle.psabi_sym.specs.Faults.{gather_fault, power_above}
 use Rattle.psabi_sym.specs.Inputs.{Inputs, ParsedInputs, parsed}
 use Rattle.psabi_sym.specs.Indexed.{section_at, sections_before}
 use Rattle.rv_decode.specs.declared.instr.BranchOp.{BranchOp}
+use Rattle.rv_decode.specs.declared.instr.Instr.{Instr}
+use Rattle.rv_decode.specs.declared.instr.Instr.TheVariants as instr
 use Rattle.rv_decode.specs.Bits.{as_signed}
 use Rattle.block_cut.specs.Invariants.Cut.{place_at}
-use Rattle.block_cut.specs.Items.{code_at, is_target_at, item_at, next_at, size_at, starts_on}
+use Rattle.block_cut.specs.Items.{code_at, is_target_at, item_at, next_at, size_at, size_on, starts_on}
 use Rattle.block_cut.specs.PlainLayout.{address_on, after_item, starts_before, plain_address, plain_end, plain_end_of, plain_start}
+use Rattle.block_cut.specs.Relocs.{instr_in}
 use Rattle.block_cut.specs.declared.item.Item.{Item}
-use Rattle.block_cut.specs.declared.item.Item.TheVariants.{Op, Hi, Lo, PcHi, PcLo, Branch, Jump, Call, Align, Word, Raw, RawPair}
-use Rattle.block_cut.proofs.PlainLaws.{AreBounds, AtEnd, Coincide, FirstFlat, InPadding, IsFlat, Same, SecondFlat, address_bounds, apart, next_address, place_address, spot}
+use Rattle.block_cut.specs.declared.item.Item.TheVariants.{Op, Hi, Lo, PcHi, PcLo, Branch, Jump, Call, Align, Word, Raw, RawShort, RawPair}
+use Rattle.block_cut.proofs.PlainLaws.{AreBounds, AtEnd, Coincide, FirstFlat, InPadding, IsFlat, Same, SecondFlat, address_bounds, apart, item_here, next_address, place_address, spot}
 use Rattle.block_cut.proofs.RoomLaws.{after_starts-ge, aligned_up-ge, plain_end-fits}
 use Rattle.block_cut.proofs.StartLaws.{start_first}
 use Rattle.block_cut.proofs.WholeLaws.{code_whole}
 use Rattle.sym_machine.specs.Conditions.{is_solid}
 use Rattle.shrink_layout.specs.Halves.{fixed_instr}
+use Rattle.shrink_layout.specs.Pieces.{is_short}
 use Rattle.shrink_layout.specs.Units.{CodeUnit, OneGroup, OneItem, OneSite}
 use Rattle.zc_link.specs.LaidOut.{IsLaidOut, LiesAt, ListsLeaders, code_end_after, text_end}
 use Rattle.zc_link.specs.Pace.{bytes_between}
@@ -34,9 +39,10 @@ use Rattle.zc_link.proofs.ItemUnits.{item_behind, item_unit, item_written, no_gr
 use Rattle.zc_link.proofs.SizedPieces.{size_is}
 use Rattle.zc_link.proofs.PlainEnds as ends
 use Rattle.zc_link.proofs.PlainEnds.{code_found}
-use Rattle.zc_link.proofs.PlainReach.{branch_reaches}
+use Rattle.zc_link.proofs.HalfNormals.{IsHalfNormal, link_short, normal_there, zero_short}
+use Rattle.zc_link.proofs.PlainReach.{branch_near, branch_reaches, jump_near}
 use Rattle.zc_link.proofs.ShortWays.{way_distance, way_jumps}
-use Rattle.zc_link.proofs.Standing.{item_own}
+use Rattle.zc_link.proofs.Standing.{item_own, item_stands}
 
 -- a place has an address just if code may lead there
 pub plain_listed : (p : ParsedInputs) (q : Place) → is_some (plain_address p q) ≡ is_target_at p.objects q
@@ -87,17 +93,41 @@ module _ (inputs : Inputs) (ready : IsReady inputs) where
       way_jumps a b (omega (arith, one.few, map.code, map.data_room, map.top)) (omega (arith, two.few, map.code, map.data_room, map.top))
       (omega (arith, two.few, one.low)) (omega (arith, one.few, two.low)) (omega (arith, one.words)) (omega (arith, two.words))
 
-  -- and a branch, since no fault stands there
-  branches :
-      (q to : Place) (op : BranchOp) (first second : ℕ) (a b : ℕ) → item_at p q ≡ Some (Branch op first second to) → A q ≡ Some a → A to ≡ Some b
-      → branch_reach (as_signed (way a b)) ≡ true
-  branches q to op first second a b is from there =
-      let one = bounds q a from in
-      let two = bounds to b there in
-      let map = ready.is_map in
-      ap branch_reach (way_distance a b (omega (arith, one.few, map.code, map.data_room, map.top)) (omega (arith, two.few, map.code, map.data_room, map.top))
-      (omega (arith, two.few, one.low)) (omega (arith, one.few, two.low)))
-      ∙ branch_reaches inputs ready.faultless q op first second to a b is from there
+  -- and a branch, since no fault stands there; so do branches and jumps of two bytes in these
+  module _ (q to : Place) (a b : ℕ) (from : A q ≡ Some a) (there : A to ≡ Some b) where
+    way_is : as_signed (way a b) ≡ pos b -ℤ pos a
+    way_is =
+        let one = bounds q a from in
+        let two = bounds to b there in
+        let map = ready.is_map in
+        way_distance a b (omega (arith, one.few, map.code, map.data_room, map.top)) (omega (arith, two.few, map.code, map.data_room, map.top))
+        (omega (arith, two.few, one.low)) (omega (arith, one.few, two.low))
+
+    -- what two bytes spell at the place
+    spelled_there : (item : Item) (is : item_at p q ≡ Some item) (i : ℤ → Instr) (d : ℤ) → size_at p.objects q ≡ 2
+        → instr_in (size_on (item_here inputs none q item is).section q.offset) (item_here inputs none q item is).section.bytes q.offset ≡ Some (i d) → IsHalfNormal (i d)
+    spelled_there item is i d two spells =
+        let here = item_here inputs none q item is in
+        normal_there here.section.bytes q.offset (i d) (subst (λ m. instr_in m here.section.bytes q.offset ≡ Some (i d)) (sym here.size ∙ two) spells)
+
+    module _ (op : BranchOp) (first second : ℕ) (is : item_at p q ≡ Some (Branch op first second to)) where
+      branches : size_at p.objects q ≡ 4 → branch_reach (as_signed (way a b)) ≡ true
+      branches four = ap branch_reach way_is ∙ branch_reaches inputs ready.faultless q to a b from there op first second is four
+
+      short_branches : size_at p.objects q ≡ 2 → is_short (instr.Branch op first second (as_signed (way a b))) ≡ true
+      short_branches two =
+          let here = item_here inputs none q (Branch op first second to) is in
+          let stands = (item_stands inputs none ready A leaders q here.section here.code (Branch op first second to) is).0 in
+          zero_short op first second (as_signed (way a b)) (spelled_there (Branch op first second to) is (instr.Branch op first second) stands.distance two stands.spells)
+          (ap short_branch_reach way_is ∙ branch_near inputs ready.faultless q to a b from there op first second is two)
+
+    module _ (rd : ℕ) (is : item_at p q ≡ Some (Jump rd to)) where
+      short_jumps : size_at p.objects q ≡ 2 → is_short (instr.Jal rd (as_signed (way a b))) ≡ true
+      short_jumps two =
+          let here = item_here inputs none q (Jump rd to) is in
+          let stands = (item_stands inputs none ready A leaders q here.section here.code (Jump rd to) is).0 in
+          link_short rd (as_signed (way a b)) (spelled_there (Jump rd to) is (instr.Jal rd) stands.distance two stands.spells)
+          (ap short_jump_reach way_is ∙ jump_near inputs ready.faultless q to a b from there rd is two)
 
   -- the place behind what is written is the one after the item
   behind_is : (q : Place) → behind L q ≡ next_at p.objects q
@@ -106,51 +136,71 @@ module _ (inputs : Inputs) (ready : IsReady inputs) where
   -- each has its longest form: as many bytes as in its object, but for padding
   lies_item : (q : Place) (a : ℕ) (item : Item) → item_at p q ≡ Some item → A q ≡ Some a → LiesAt L q a (OneItem item)
   lies_item q a item is at =
-      by item (size_at p.objects q) is (ap A (behind_is q) ∙ next_address inputs none q item a is at)
+      by item (size_at p.objects q) refl is (ap A (behind_is q) ∙ next_address inputs none q item a is at)
       (item_own inputs none ready A leaders q item is)
     where
-      by : (i : Item) (own : ℕ) → item_at p q ≡ Some i → A (behind L q) ≡ Some (after_item a own i) → HasOwnSize i own → LiesAt L q a (OneItem i)
-      by (Op i) own h next size = record { inside = single_inside L q; is = h; size = own; next = next; form = inl size }
-      by (Hi i t) own h next size = record { inside = single_inside L q; is = h; size = own; next = next; form = inl size }
-      by (Lo i t) own h next size = record { inside = single_inside L q; is = h; size = own; next = next; form = inl size }
-      by (PcHi i t) own h next size = record { inside = single_inside L q; is = h; size = own; next = next; form = size }
-      by (PcLo i from) own h next size = record { inside = single_inside L q; is = h; size = own; next = next; form = size }
-      by (Branch op first second to) own h next size =
-          record { inside = single_inside L q; is = h; size = own; next = next; form = λ b there. inl (size, branches q to op first second a b h at there) }
-      by (Jump rd to) own h next size = record { inside = single_inside L q; is = h; size = own; next = next; form = λ b there. inl (size, jumps q to a b at there) }
-      by (Call rd temp to) own h next size = record { inside = single_inside L q; is = h; size = own; next = next; form = λ b there. inl size }
-      by (Align n) own h next size =
+      by : (i : Item) (own : ℕ) → own ≡ size_at p.objects q → item_at p q ≡ Some i → A (behind L q) ≡ Some (after_item a own i) → HasOwnSize i own → LiesAt L q a (OneItem i)
+      by (Op i) own same h next size = record { inside = single_inside L q; is = h; size = own; next = next; form = inl same }
+      by (Hi i t) own same h next size = record { inside = single_inside L q; is = h; size = own; next = next; form = inl size }
+      by (Lo i t) own same h next size = record { inside = single_inside L q; is = h; size = own; next = next; form = inl size }
+      by (PcHi i t) own same h next size = record { inside = single_inside L q; is = h; size = own; next = next; form = size }
+      by (PcLo i from) own same h next size = record { inside = single_inside L q; is = h; size = own; next = next; form = size }
+      by (Branch op first second to) own same h next (inl two) =
+          record {
+            inside = single_inside L q;
+            is = h;
+            size = own;
+            next = next;
+            form = λ b there. inr (inl (two, short_branches q to a b at there op first second h (sym same ∙ two)));
+          }
+      by (Branch op first second to) own same h next (inr four) =
+          record { inside = single_inside L q; is = h; size = own; next = next; form = λ b there. inl (four, branches q to a b at there op first second h (sym same ∙ four)) }
+      by (Jump rd to) own same h next (inl two) =
+          record { inside = single_inside L q; is = h; size = own; next = next; form = λ b there. inr (two, short_jumps q to a b at there rd h (sym same ∙ two)) }
+      by (Jump rd to) own same h next (inr four) =
+          record { inside = single_inside L q; is = h; size = own; next = next; form = λ b there. inl (four, jumps q to a b at there) }
+      by (Call rd temp to) own same h next size = record { inside = single_inside L q; is = h; size = own; next = next; form = λ b there. inl size }
+      by (Align n) own same h next size =
           let up : a + (aligned_up (power_above n) a - a) ≡ aligned_up (power_above n) a = omega (arith, aligned_up-ge (power_above n) a) in
           record { inside = single_inside L q; is = h; size = aligned_up (power_above n) a - a; next = next ∙ ap Some (sym up); form = up }
-      by (Word t) own h next size = record { inside = single_inside L q; is = h; size = own; next = next; form = size }
-      by (Raw word) own h next size = record { inside = single_inside L q; is = h; size = own; next = next; form = size }
-      by (RawPair first second) own h next size = record { inside = single_inside L q; is = h; size = own; next = next; form = size }
+      by (Word t) own same h next size = record { inside = single_inside L q; is = h; size = own; next = next; form = size }
+      by (Raw word) own same h next size = record { inside = single_inside L q; is = h; size = own; next = next; form = size }
+      by (RawShort half) own same h next size = record { inside = single_inside L q; is = h; size = own; next = next; form = size }
+      by (RawPair first second) own same h next size = record { inside = single_inside L q; is = h; size = own; next = next; form = size }
 
   lies : (q : Place) (a : ℕ) (u : CodeUnit) → L.unit q ≡ Some u → A q ≡ Some a → LiesAt L q a u
   lies q a (OneItem item) unit at = lies_item q a item (item_unit p q item unit) at
   lies q a (OneGroup g) unit at = absurd (no_group (item_at p q) g unit)
   lies q a (OneSite slot) unit at = absurd (no_site (item_at p q) slot unit)
 
-  -- so in two bytes there is nothing but padding
-  pub padding_alone : (q : Place) (item : Item) → item_at p q ≡ Some item → size_in L q ≡ 2 → fixed_instr item ≡ None
-  padding_alone q item is two = by (A q) refl
+  -- so in two bytes an instruction that is known before the layout has two bytes of its own
+  pub copied_alone :
+      (q : Place) (item : Item) → item_at p q ≡ Some item → size_in L q ≡ 2 → (i : Instr) → fixed_instr item ≡ Some i
+      → (size_at p.objects q ≡ 2) × (item ≡ Op i)
+  copied_alone q item is two = by (A q) refl
     where
-      of :
-          (a : ℕ) → A q ≡ Some a → (i : Item) (own : ℕ) → A (behind L q) ≡ Some (after_item a own i) → HasOwnSize i own → fixed_instr i ≡ None
-      of a at (Op i) own next size = absurd (omega (arith, size, two, size_is L q a own at next))
-      of a at (Hi i t) own next size = absurd (omega (arith, size, two, size_is L q a own at next))
-      of a at (Lo i t) own next size = absurd (omega (arith, size, two, size_is L q a own at next))
-      of a at (PcHi i t) own next size = refl
-      of a at (PcLo i from) own next size = refl
-      of a at (Branch op first second to) own next size = refl
-      of a at (Jump rd to) own next size = refl
-      of a at (Call rd temp to) own next size = refl
-      of a at (Align n) own next size = refl
-      of a at (Word t) own next size = refl
-      of a at (Raw word) own next size = refl
-      of a at (RawPair first second) own next size = refl
+      -- what has another size of its own takes another
+      other : {X : Type 0} (a own m : ℕ) → A q ≡ Some a → A (behind L q) ≡ Some (a + own) → own ≡ m → 2 < m → X
+      other a own m at next size more = absurd (omega (arith, size, more, two, size_is L q a own at next))
 
-      by : (o : Option ℕ) → A q ≡ o → fixed_instr item ≡ None
+      of :
+          (a : ℕ) → A q ≡ Some a → (x : Item) (own : ℕ) → A (behind L q) ≡ Some (after_item a own x) → HasOwnSize x own → (i : Instr) → fixed_instr x ≡ Some i
+          → (own ≡ 2) × (x ≡ Op i)
+      of a at (Op j) own next size i fixed = (sym (size_is L q a own at next) ∙ two, ap Op (same_Some j i fixed))
+      of a at (Hi j t) own next size i fixed = other a own 4 at next size (omega arith)
+      of a at (Lo j t) own next size i fixed = other a own 4 at next size (omega arith)
+      of a at (PcHi j t) own next size i fixed = absurd (none-some i fixed)
+      of a at (PcLo j from) own next size i fixed = absurd (none-some i fixed)
+      of a at (Branch op first second to) own next size i fixed = absurd (none-some i fixed)
+      of a at (Jump rd to) own next size i fixed = absurd (none-some i fixed)
+      of a at (Call rd temp to) own next size i fixed = absurd (none-some i fixed)
+      of a at (Align n) own next size i fixed = absurd (none-some i fixed)
+      of a at (Word t) own next size i fixed = absurd (none-some i fixed)
+      of a at (Raw word) own next size i fixed = absurd (none-some i fixed)
+      of a at (RawShort half) own next size i fixed = absurd (none-some i fixed)
+      of a at (RawPair first second) own next size i fixed = absurd (none-some i fixed)
+
+      by : (o : Option ℕ) → A q ≡ o → (i : Instr) → fixed_instr item ≡ Some i → (size_at p.objects q ≡ 2) × (item ≡ Op i)
       by None at = absurd (cc (ap (λ o. bytes_between o (A (behind L q))) at, two))
       by (Some a) at =
           of a at item (size_at p.objects q) (ap A (behind_is q) ∙ next_address inputs none q item a is at)

@@ -26,6 +26,7 @@ use Rattle.block_cut.specs.Relocs.{instr_in, is_ignored, reloc_on}
 use Rattle.block_cut.proofs.ItemLaws.{item_found}
 use Rattle.block_cut.proofs.ListedLaws.{listed}
 use Rattle.block_cut.proofs.PlainLaws.{next_start}
+use Rattle.block_cut.proofs.RawLaws.{raw_by}
 use Rattle.block_cut.proofs.SoundLaws.{sound_at}
 use Rattle.block_cut.proofs.WholeLaws.{code_is_section}
 use Rattle.shrink_layout.proofs.PlaceLaws.{same_place-refl}
@@ -112,8 +113,10 @@ module _ (inputs : Inputs) (none : first_fault inputs ≡ None) where
     kind_named (Some kind.Hi20) addend = instr_named one raw _ tt (λ i. target_named t place)
     kind_named (Some kind.Lo12I) addend = instr_named one raw _ tt (λ i. target_named t place)
     kind_named (Some kind.Lo12S) addend = instr_named one raw _ tt (λ i. target_named t place)
-    kind_named (Some kind.RvcBranch) addend = tt
-    kind_named (Some kind.RvcJump) addend = tt
+    kind_named (Some kind.RvcBranch) addend =
+        instr_named (instr_in 2 bytes n) (raw_in 2 bytes n) _ tt (λ i. place_named t _ (raw_in 2 bytes n) (λ to is. transfer_named i (raw_in 2 bytes n) to (place to is) tt) tt)
+    kind_named (Some kind.RvcJump) addend =
+        instr_named (instr_in 2 bytes n) (raw_in 2 bytes n) _ tt (λ i. place_named t _ (raw_in 2 bytes n) (λ to is. transfer_named i (raw_in 2 bytes n) to (place to is) tt) tt)
     kind_named (Some kind.Align) addend = tt
 
   -- ---- items without
@@ -171,7 +174,8 @@ module _ (inputs : Inputs) (none : first_fault inputs ≡ None) where
       by s at None on here =
           let own = size_on s q.offset in
           subst (λ o. NamesItem Named (item_under (parsed inputs) q o own s.bytes)) (sym on)
-          (bare_named q (instr_in own s.bytes q.offset) (raw_in own s.bytes q.offset) tt (here ∙ ap (λ o. Some (item_under (parsed inputs) q o own s.bytes)) on))
+          (bare_named q (instr_in own s.bytes q.offset) (raw_in own s.bytes q.offset)
+          (raw_by (NamesItem Named) (λ half. tt) (λ word. tt) own s.bytes q.offset) (here ∙ ap (λ o. Some (item_under (parsed inputs) q o own s.bytes)) on))
       by s at (Some r) on here =
           let asks = (sound_at s q.offset r (code_is_section objects q s at).1 on).asks in
           subst (λ o. NamesItem Named (item_under (parsed inputs) q o (size_on s q.offset) s.bytes)) (sym on)

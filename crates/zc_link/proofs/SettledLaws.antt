@@ -12,16 +12,17 @@ use Rattle.elf32_read.specs.Parts.{ObjectParts}
 use Rattle.psabi_sym.specs.Faults.{gather_fault}
 use Rattle.psabi_sym.specs.Inputs.{Inputs, parsed}
 use Rattle.block_cut.specs.Faults.{first_fault}
-use Rattle.block_cut.specs.Items.{after_items, is_start_at, item_at}
+use Rattle.block_cut.specs.Items.{after_items, is_start_at, item_at, size_at}
 use Rattle.block_cut.specs.declared.item.Item.{Item}
-use Rattle.block_cut.specs.declared.item.Item.TheVariants.{Op, Hi, Lo, PcHi, PcLo, Branch, Jump, Call, Align, Word, Raw, RawPair}
+use Rattle.block_cut.specs.declared.item.Item.TheVariants.{Op, Hi, Lo, PcHi, PcLo, Branch, Jump, Call, Align, Word, Raw, RawShort, RawPair}
 use Rattle.block_cut.proofs.ItemLaws.{item_found}
 use Rattle.block_cut.proofs.PlaceOrder.{same_or_before}
 use Rattle.sym_machine.specs.Conditions.{is_solid}
 use Rattle.shrink_layout.specs.declared.piece.Piece.{Piece}
 use Rattle.shrink_layout.specs.declared.piece.Piece.TheVariants.{Fixed, Joined}
+use Rattle.shrink_layout.specs.Halves.{fixed_instr}
 use Rattle.shrink_layout.specs.Forms.{HasAlignment, IsForm, holds, target, width}
-use Rattle.shrink_layout.specs.Pieces.{group_size, instr_size, piece_number_at, piece_of, pieces_of, slot_at, unit_at, unit_piece}
+use Rattle.shrink_layout.specs.Pieces.{group_size, instr_size, is_short, piece_number_at, piece_of, pieces_of, slot_at, unit_at, unit_piece}
 use Rattle.shrink_layout.specs.Settled.{settled_address, settled_addresses, settled_end, settled_sizes}
 use Rattle.frame_match.specs.declared.group.Group.{Group}
 use Rattle.frame_match.specs.declared.role.Role.TheVariants.{Inside}
@@ -38,13 +39,14 @@ use Rattle.rv_decode.specs.declared.instr.Instr.{Instr}
 use Rattle.zc_link.specs.LaidOut.{IsLaidOut, LiesAt, ListsLeaders, text_end}
 use Rattle.zc_link.specs.Standing.{IsReady, ItemStands}
 use Rattle.zc_link.specs.Stretches.{linked_by}
-use Rattle.zc_link.specs.TextLayout.{behind, zc_layout}
+use Rattle.zc_link.specs.TextLayout.{behind, size_in, zc_layout}
 use Rattle.zc_link.proofs.Faultless.{start_listed}
 use Rattle.zc_link.proofs.GroupItems.{inside_role}
 use Rattle.zc_link.proofs.ItemUnits.{single_inside}
 use Rattle.zc_link.proofs.SlotLaws.{slot_leads}
+use Rattle.zc_link.proofs.SizedPieces.{size_is}
 use Rattle.zc_link.proofs.Standing.{gathered, item_stands}
-use Rattle.zc_link.proofs.SettledLawsForms.{IsNear, has_form, width_some}
+use Rattle.zc_link.proofs.SettledLawsForms.{IsNear, has_form, known_short, width_some}
 use Rattle.zc_link.proofs.SettledLawsPlaces.{address, address_rises, end_settled, forms, settled, settled_begins, settled_even, settled_few, settled_here, settled_high, settled_listed, settled_low, settled_short}
 
 -- where a jump or a call leads
@@ -66,6 +68,7 @@ jump_listed A items one two (Call r temp at) rd to h is =
 jump_listed A items one two (Align n) rd to h is = absurd (none-some (rd, to) is)
 jump_listed A items one two (Word t) rd to h is = absurd (none-some (rd, to) is)
 jump_listed A items one two (Raw word) rd to h is = absurd (none-some (rd, to) is)
+jump_listed A items one two (RawShort half) rd to h is = absurd (none-some (rd, to) is)
 jump_listed A items one two (RawPair first second) rd to h is = absurd (none-some (rd, to) is)
 
 module _ (inputs : Inputs) (faultless : first_fault inputs ≡ None) (is_map : IsMap inputs.map) (slots : List (Option Place)) (slots_few : length slots ≤ 256) where
@@ -145,10 +148,20 @@ module _ (inputs : Inputs) (faultless : first_fault inputs ≡ None) (is_map : I
         is = (unit_item (parsed inputs) (slot_at (parsed inputs) slots) q item is).1;
         size = width p size a;
         next = ap A (behind_is q (OneItem item) is) ∙ behind_address inputs none slots q (OneItem item) is ∙ ap Some own.ends ∙ ap (λ x. Some (x + width p size x)) here.number;
-        form = has_form objects A at_number inputs.map.text (omega (arith, is_map.code, is_map.data_room, is_map.top)) near a here.even here.low here.few item size
-            aligned own.form reach;
+        form = has_form objects A at_number inputs.map.text (omega (arith, is_map.code, is_map.data_room, is_map.top)) near a here.even here.low here.few
+            (size_at objects q) item size aligned own.form reach;
         inside = single_inside (zc_layout inputs slots) q;
       }
+
+  -- in two bytes it has a short form, if its instruction is known before the layout
+  pub item_short :
+      (q : Place) (a : ℕ) (item : Item) (i : Instr) → unit_at (parsed inputs) slots q ≡ Some (OneItem item) → A q ≡ Some a
+      → size_in (zc_layout inputs slots) q ≡ 2 → fixed_instr item ≡ Some i → is_short i ≡ true
+  unfolding lies settled_addresses
+  item_short q a item i is got two known =
+      let at = lies q a item is got in
+      known_short objects item i (slice_index sizes (piece_number_at objects q)) a known (piece_is q (OneItem item) is).form
+      (sym (size_is (zc_layout inputs slots) q a at.size got at.next) ∙ two)
 
   -- so does a group, and the places inside it have no addresses
   group_lies : (q : Place) (a : ℕ) (g : Group) → unit_at (parsed inputs) slots q ≡ Some (OneGroup g) → A q ≡ Some a → LiesAt (zc_layout inputs slots) q a (OneGroup g)

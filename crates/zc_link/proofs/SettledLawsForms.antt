@@ -4,6 +4,7 @@ use Rattle.std.proofs.Common.{◌≡◌, ℕ, suc, ◌+◌, ◌-◌, ◌%◌, �
 use Rattle.std.specs.Prelude.{IsTrue}
 use Rattle.std.specs.Option.{option_map_or}
 use Rattle.std.proofs.lemmas.Bool.{and_from, cases_lt, eq-eqb, lt-ltb}
+use Rattle.std.proofs.lemmas.Option.{none-some, same_Some}
 use Rattle.zc_base.specs.declared.place.Place.{Place}
 use Rattle.elf32_read.specs.Parts.{ObjectParts}
 use Rattle.psabi_reloc.specs.Parts.{hi20_of, lo12_of}
@@ -18,7 +19,7 @@ use Rattle.rv_decode.specs.declared.instr.BranchOp.{BranchOp}
 use Rattle.rv_decode.specs.declared.instr.Instr.{Instr}
 use Rattle.rv_decode.specs.declared.instr.Instr.TheVariants as instr
 use Rattle.block_cut.specs.declared.item.Item.{Item}
-use Rattle.block_cut.specs.declared.item.Item.TheVariants.{Op, Hi, Lo, PcHi, PcLo, Branch, Jump, Call, Align, Word, Raw, RawPair}
+use Rattle.block_cut.specs.declared.item.Item.TheVariants.{Op, Hi, Lo, PcHi, PcLo, Branch, Jump, Call, Align, Word, Raw, RawShort, RawPair}
 use Rattle.sym_machine.specs.Conditions.{is_solid}
 use Rattle.shrink_layout.specs.declared.piece.Piece.TheVariants as piece
 use Rattle.shrink_layout.specs.Halves.{fixed_instr, fixed_part}
@@ -178,21 +179,55 @@ module _
 
     -- an item may have the size that its piece has
     pub has_form :
-        (item : Item) (size : ℕ) → HasAlignment (piece_of objects item) → IsForm (piece_of objects item) size
+        (own : ℕ) (item : Item) (size : ℕ) → HasAlignment (piece_of objects item) → IsForm (piece_of objects item) size
         → holds (piece_of objects item) size a (address (target (piece_of objects item))) ≡ true
-        → HasForm A a (width (piece_of objects item) size a) item
-    has_form (Op i) size aligned form reach = subst (HasSize (Op i)) (sym form) (known_form (Op i) i refl)
-    has_form (Hi i t) size aligned form reach = subst (HasSize (Hi i t)) (sym form) (part_form (Hi i t) t (λ x. with_upper i (hi20_of x)) refl)
-    has_form (Lo i t) size aligned form reach = subst (HasSize (Lo i t)) (sym form) (part_form (Lo i t) t (λ x. with_imm i (lo12_of x)) refl)
-    has_form (PcHi i t) size aligned form reach = form
-    has_form (PcLo i from) size aligned form reach = form
-    has_form (Branch op first second to) size aligned form reach = branch_form op first second to size form reach
-    has_form (Jump rd to) size aligned form reach = jump_form rd to size form reach
-    has_form (Call rd temp to) size aligned form reach = λ b is. inr (jump_form rd to size form reach b is)
-    has_form (Align bytes) size aligned form reach = align_form (power_above bytes) aligned
-    has_form (Word t) size aligned form reach = form
-    has_form (Raw word) size aligned form reach = form
-    has_form (RawPair first second) size aligned form reach = form
+        → HasForm A a own (width (piece_of objects item) size a) item
+    has_form own (Op i) size aligned form reach = inr (subst (HasSize (Op i)) (sym form) (known_form (Op i) i refl))
+    has_form own (Hi i t) size aligned form reach = subst (HasSize (Hi i t)) (sym form) (part_form (Hi i t) t (λ x. with_upper i (hi20_of x)) refl)
+    has_form own (Lo i t) size aligned form reach = subst (HasSize (Lo i t)) (sym form) (part_form (Lo i t) t (λ x. with_imm i (lo12_of x)) refl)
+    has_form own (PcHi i t) size aligned form reach = form
+    has_form own (PcLo i from) size aligned form reach = form
+    has_form own (Branch op first second to) size aligned form reach = branch_form op first second to size form reach
+    has_form own (Jump rd to) size aligned form reach = jump_form rd to size form reach
+    has_form own (Call rd temp to) size aligned form reach = λ b is. inr (jump_form rd to size form reach b is)
+    has_form own (Align bytes) size aligned form reach = align_form (power_above bytes) aligned
+    has_form own (Word t) size aligned form reach = form
+    has_form own (Raw word) size aligned form reach = form
+    has_form own (RawShort half) size aligned form reach = form
+    has_form own (RawPair first second) size aligned form reach = form
+
+-- ---- two bytes
+
+two_short : (j i : Instr) (size : ℕ) → Some j ≡ Some i → size ≡ instr_size j → size ≡ 2 → is_short i ≡ true
+two_short j i size same form two = ap is_short (sym (same_Some j i same)) ∙ by (is_short j) form
+  where
+    by : (b : Bool) → size ≡ cond b 2 4 → b ≡ true
+    by true is = refl
+    by false is = absurd (omega (arith, is, two))
+
+-- in these an instruction that is known before the layout has a short form
+pub known_short :
+    (objects : List ObjectParts) (item : Item) (i : Instr) (size a : ℕ) → fixed_instr item ≡ Some i → IsForm (piece_of objects item) size
+    → width (piece_of objects item) size a ≡ 2 → is_short i ≡ true
+known_short objects (Op j) i size a known form two = two_short j i size known form two
+known_short objects (Hi j (Number n)) i size a known form two = two_short (with_upper j (hi20_of n)) i size known form two
+known_short objects (Hi j (Absent n)) i size a known form two = two_short (with_upper j (hi20_of n)) i size known form two
+known_short objects (Hi j (Code q)) i size a known form two = absurd (none-some i known)
+known_short objects (Hi j Nowhere) i size a known form two = absurd (none-some i known)
+known_short objects (Lo j (Number n)) i size a known form two = two_short (with_imm j (lo12_of n)) i size known form two
+known_short objects (Lo j (Absent n)) i size a known form two = two_short (with_imm j (lo12_of n)) i size known form two
+known_short objects (Lo j (Code q)) i size a known form two = absurd (none-some i known)
+known_short objects (Lo j Nowhere) i size a known form two = absurd (none-some i known)
+known_short objects (PcHi j t) i size a known form two = absurd (none-some i known)
+known_short objects (PcLo j from) i size a known form two = absurd (none-some i known)
+known_short objects (Branch op first second to) i size a known form two = absurd (none-some i known)
+known_short objects (Jump rd to) i size a known form two = absurd (none-some i known)
+known_short objects (Call rd temp to) i size a known form two = absurd (none-some i known)
+known_short objects (Align bytes) i size a known form two = absurd (none-some i known)
+known_short objects (Word t) i size a known form two = absurd (none-some i known)
+known_short objects (Raw word) i size a known form two = absurd (none-some i known)
+known_short objects (RawShort half) i size a known form two = absurd (none-some i known)
+known_short objects (RawPair first second) i size a known form two = absurd (none-some i known)
 
 -- ---- room of their own
 
@@ -235,4 +270,5 @@ width_some objects (Call rd temp to) size a solid form = jump_some objects to (i
 width_some objects (Align bytes) size a solid form = absurd cc
 width_some objects (Word t) size a solid form = omega (arith, form)
 width_some objects (Raw word) size a solid form = omega (arith, form)
+width_some objects (RawShort half) size a solid form = omega (arith, form)
 width_some objects (RawPair first second) size a solid form = omega (arith, form)

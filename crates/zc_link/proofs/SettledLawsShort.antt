@@ -16,7 +16,7 @@ use Rattle.zc_encode.proofs.NumberLaws.{and_three}
 -- ---- distances
 
 -- an even distance of so many bits is a signed number that a halfword holds
-signed_two : (bits : ℕ) → 2 ^ bits % 2 ≡ 0 → (z : ℤ) → is_even_of bits z ≡ true → is_signed bits 2 z ≡ true
+pub signed_two : (bits : ℕ) → 2 ^ bits % 2 ≡ 0 → (z : ℤ) → is_even_of bits z ≡ true → is_signed bits 2 z ≡ true
 signed_two bits whole (pos n) h =
     let two = and_parts (ltb n (2 ^ (bits - 1))) (eqb (n % 2) 0) h in
     let even : n % 2 ≡ 0 = eqb-true (n % 2) 0 two.1 in
@@ -31,7 +31,7 @@ signed_two bits whole (negsuc n) h =
 -- ---- branches
 
 -- there is a halfword if its test passes
-when_is : (t : Bool) (half : ℕ) → is_some (when t half) ≡ t
+pub when_is : (t : Bool) (half : ℕ) → is_some (when t half) ≡ t
 when_is true half = refl
 when_is false half = refl
 

@@ -7,7 +7,7 @@ use Rattle.psabi_sym.specs.Inputs.{parsed}
 use Rattle.psabi_sym.proofs.BlockLaws.{aligned_up-lt}
 use Rattle.block_cut.specs.Items.{after_items, next_at}
 use Rattle.block_cut.specs.declared.item.Item.{Item}
-use Rattle.block_cut.specs.declared.item.Item.TheVariants.{Op, Hi, Lo, PcHi, PcLo, Branch, Jump, Call, Align, Word, Raw, RawPair}
+use Rattle.block_cut.specs.declared.item.Item.TheVariants.{Op, Hi, Lo, PcHi, PcLo, Branch, Jump, Call, Align, Word, Raw, RawShort, RawPair}
 use Rattle.frame_match.specs.declared.group.Group.{Group}
 use Rattle.shrink_layout.specs.Units.{CodeUnit, OneGroup, OneItem, OneSite, unit_items}
 use Rattle.sym_machine.specs.Conditions.{condition}
@@ -51,6 +51,7 @@ item_few p s n (Call rd temp to) short = by (eqb n 8)
 item_few p s n (Align bytes) short = omega (arith, short bytes refl)
 item_few p s n (Word t) short = omega arith
 item_few p s n (Raw word) short = omega arith
+item_few p s n (RawShort half) short = omega arith
 item_few p s n (RawPair first second) short = omega arith
 
 -- so has a group
@@ -82,6 +83,7 @@ item_some n (Call rd temp to) = by (eqb n 8)
 item_some n (Align bytes) = omega arith
 item_some n (Word t) = omega arith
 item_some n (Raw word) = omega arith
+item_some n (RawShort half) = omega arith
 item_some n (RawPair first second) = omega arith
 
 -- a power of two above a number is 256 at most

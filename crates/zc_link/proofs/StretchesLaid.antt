@@ -14,7 +14,9 @@ use Rattle.psabi_sym.specs.Faults.{gather_fault}
 use Rattle.psabi_sym.specs.Inputs.{ParsedInputs, parsed}
 use Rattle.psabi_sym.specs.declared.target.Target.{Target}
 use Rattle.rv_decode.specs.Bits.{FitsIn, add32}
+use Rattle.rv_decode.specs.Normal.{SameEffect}
 use Rattle.rv_decode.specs.Registers.{HasRegisters}
+use Rattle.rv_decode.proofs.NormalLaws.{normal_same}
 use Rattle.rv_decode.specs.declared.instr.BranchOp.{BranchOp}
 use Rattle.rv_decode.specs.declared.instr.Instr.{Instr}
 use Rattle.rv_decode.specs.declared.instr.Instr.TheVariants as instr
@@ -22,7 +24,7 @@ use Rattle.rv_decode.specs.declared.instr.UpperOp.TheVariants.{Auipc}
 use Rattle.rv_decode.proofs.DecodeLaws.{decoded-in_range, decoded-registers}
 use Rattle.block_cut.specs.Items.{after_items, is_start_at, item_at, next_at, starts_on}
 use Rattle.block_cut.specs.declared.item.Item.{Item}
-use Rattle.block_cut.specs.declared.item.Item.TheVariants.{Op, Hi, Lo, PcHi, PcLo, Branch, Jump, Call, Align, Word, Raw, RawPair}
+use Rattle.block_cut.specs.declared.item.Item.TheVariants.{Op, Hi, Lo, PcHi, PcLo, Branch, Jump, Call, Align, Word, Raw, RawShort, RawPair}
 use Rattle.block_cut.proofs.ItemLaws.{item_found}
 use Rattle.frame_match.specs.declared.group.Group.{Group}
 use Rattle.shrink_layout.specs.Pieces.{group_size}
@@ -37,9 +39,9 @@ use Rattle.zc_link.specs.Front.{image_entry}
 use Rattle.zc_link.specs.Image.{Image}
 use Rattle.zc_link.specs.LaidOut.{IsLaidOut}
 use Rattle.zc_link.specs.Pace.{Alone, CallOf, LongOf, commits_in, stretch_of}
-use Rattle.zc_link.specs.Stretches.{AloneLaid, ByCall, ByJump, CallLaid, GoesTo, GroupLaid, ItemLaid, LongLaid, StretchLaid, TableLaid, linked_by, place_on}
+use Rattle.zc_link.specs.Stretches.{AloneLaid, ByCall, ByJump, CallLaid, GoesTo, GroupLaid, ItemLaid, LongLaid, OpLaid, StretchLaid, TableLaid, linked_by, place_on}
 use Rattle.zc_link.specs.TextLayout.{TextLayout, behind, size_in, stretch_in}
-use Rattle.zc_link.specs.Written.{HoldsFront, HoldsPlace, HoldsUnit, IsLongBranch, IsSpelled, IsWritten, WithCall, WithWay}
+use Rattle.zc_link.specs.Written.{HoldsFront, HoldsPlace, HoldsUnit, IsCopied, IsLongBranch, IsSpelled, IsWritten, WithCall, WithWay}
 use Rattle.zc_link.specs.Values.{target_value, way}
 use Rattle.zc_link.proofs.Fetched.{StandAt, half_at_address, nops_at, one_at, spelled_at, stand_at, stand_first, stand_next}
 use Rattle.zc_link.proofs.FrontLaws.{stub_elsewhere}
@@ -49,6 +51,7 @@ use Rattle.zc_link.proofs.ImageMemory.{AreLaidOut, image_of}
 use Rattle.zc_link.proofs.ItemRegisters.{imm_registers, item_registers, upper_registers}
 use Rattle.zc_link.proofs.LaidLaws.{address_small}
 use Rattle.zc_link.proofs.Lookup.{found_holds}
+use Rattle.zc_link.proofs.HalfNormals.{IsHalfNormal, half_normal}
 use Rattle.zc_link.proofs.PartLaws.{call_reaches}
 use Rattle.zc_link.proofs.SizedPieces.{behind_item, size_is}
 use Rattle.zc_link.proofs.TablesLaid.{slot_holds}
@@ -246,15 +249,33 @@ module _ (L : TextLayout) (is_map : IsMap L.inputs.map) (laid : IsLaidOut L) (pr
           subst (λ b. StretchLaid program here q a (cond b CallOf Alone)) (sym eight)
           (call_laid q a n rd temp to bytes two.0 w.at w.next w.stands two.1 (same_item q (Call rd temp to) w.is))
 
+  -- an instruction without relocation is spelled, or a halfword of the object that spells it is copied
+  op_laid : (q : Place) (a n : ℕ) (i : Instr) (bytes : List ℕ) → WrittenAt q a n (Op i) bytes → OpLaid program here q a i
+  unfolding alone half_at_address
+  op_laid q a n i bytes w = by w.written
+    where
+      by : IsSpelled n bytes i ⊎ ((n ≡ 2) × IsCopied w.own bytes i) → OpLaid program here q a i
+      by (inl sp) = record {
+        laid = alone q a n bytes i (item_registers p q (Op i) w.is) w.next w.stands sp;
+        four = λ ecall. (spelled_at program parts out a n bytes i w.stands sp).long ∙ ecall_long n bytes i sp ecall;
+      }
+      by (inr two) =
+          let c = two.1 in
+          record {
+            laid = record {
+              registers = item_registers p q (Op i) w.is;
+              here = c.spelled;
+              same = subst (SameEffect c.spelled) c.normal (λ size z. sym (normal_same c.spelled size z));
+              at = half_at_address program parts out a c.half bytes (Base c.spelled) w.stands c.small c.are c.spells;
+              next = next_listed q (a + n) w.next ∙ ap (λ m. Some (a + m)) two.0;
+            };
+            four = λ ecall. absurd (subst IsHalfNormal (c.normal ∙ ecall) (half_normal c.half c.spelled c.spells));
+          }
+
   -- any item
   stretch_laid : (q : Place) (a n : ℕ) (item : Item) (bytes : List ℕ) → WrittenAt q a n item bytes → StretchLaid program here q a (stretch_of n (Some (OneItem item)))
   unfolding alone
-  stretch_laid q a n (Op i) bytes w =
-      item_laid q a (Op i) w.is
-      (record {
-        laid = alone q a n bytes i (item_registers p q (Op i) w.is) w.next w.stands w.written;
-        four = λ ecall. (spelled_at program parts out a n bytes i w.stands w.written).long ∙ ecall_long n bytes i w.written ecall;
-      })
+  stretch_laid q a n (Op i) bytes w = item_laid q a (Op i) w.is (op_laid q a n i bytes w)
   stretch_laid q a n (Hi i t) bytes w =
       let x = w.written.value in
       item_laid q a (Hi i t) w.is
@@ -299,6 +320,7 @@ module _ (L : TextLayout) (is_map : IsMap L.inputs.map) (laid : IsLaidOut L) (pr
       }
   stretch_laid q a n (Word t) bytes w = item_laid q a (Word t) w.is tt
   stretch_laid q a n (Raw word) bytes w = item_laid q a (Raw word) w.is tt
+  stretch_laid q a n (RawShort half) bytes w = item_laid q a (RawShort half) w.is tt
   stretch_laid q a n (RawPair first second) bytes w = item_laid q a (RawPair first second) w.is tt
 
   -- ---- all
@@ -380,6 +402,7 @@ module _ (L : TextLayout) (is_map : IsMap L.inputs.map) (laid : IsLaidOut L) (pr
   goes_there q (Align bytes) rd to at is = absurd (none-some (rd, to) is)
   goes_there q (Word t) rd to at is = absurd (none-some (rd, to) is)
   goes_there q (Raw word) rd to at is = absurd (none-some (rd, to) is)
+  goes_there q (RawShort half) rd to at is = absurd (none-some (rd, to) is)
   goes_there q (RawPair first second) rd to at is = absurd (none-some (rd, to) is)
 
   -- a jump or call through the table

@@ -17,6 +17,7 @@ use Rattle.psabi_sym.proofs.SectionNumbers.{listed_at}
 use Rattle.block_cut.specs.Items.{after_items, index_on, is_target_at, item_at, next_at, place_of, size_at, size_on, starts_from, starts_in, starts_on, targets_in, targets_of}
 use Rattle.block_cut.specs.Places.{IsPlaceNumber, code_place, code_places}
 use Rattle.block_cut.specs.PlainLayout.{starts_before}
+use Rattle.block_cut.specs.Relocs.{instr_in}
 use Rattle.block_cut.specs.declared.code_place.CodePlace.{CodePlace}
 use Rattle.block_cut.specs.declared.item.Item.{Item}
 use Rattle.block_cut.proofs.ItemLaws.{item_there}
@@ -28,7 +29,7 @@ use Rattle.block_cut.proofs.WordLaws.{IsCodeHere, code_here, target_got}
 use Rattle.shrink_layout.specs.Invariants.Numbers.{HasPlace}
 use Rattle.shrink_layout.specs.Units.{CodeUnit, OneItem, unit_items}
 use Rattle.zc_link.specs.LaidOut.{HasNoAddress, IsLaidOut, code_end_after, laid_section_end}
-use Rattle.zc_link.specs.Standing.{BeginsSection, IsReady, StandsHere, StartsHere, UnitHere}
+use Rattle.zc_link.specs.Standing.{BeginsSection, IsReady, ItemStands, StandsHere, StartsHere, UnitHere}
 use Rattle.zc_link.specs.TextLayout.{TextLayout, behind, front_end}
 use Rattle.zc_link.specs.Written.{IsSoFar, IsTextOf}
 use Rattle.zc_link.specs.Pace.{bytes_between}
@@ -189,6 +190,7 @@ module _
           let own : size_at p.objects q ≡ size_on s n = ap (λ o. option_map_or (λ t. size_on t n) o 4) (there.at n) in
           let start = start_is s code there.whole n start_there in
           let st = step s code there.whole n start.words start.inside in
+          let known = item_stands L.inputs none ready L.address laid.leaders q s (there.at n) item is in
           record {
             size = lies.size;
             next = ap L.address (sym behind_is) ∙ lies.next;
@@ -198,7 +200,7 @@ module _
               unit = unit;
               size = item_own L.inputs none ready L.address laid.leaders q item is;
               within = omega (arith, st.inside, own);
-              stands = (item_stands L.inputs none ready L.address laid.leaders q s (there.at n) item is).0;
+              stands = subst (λ m. ItemStands L.address (item_at p) (instr_in m s.bytes n) (instr_in 4 s.bytes (n + 4)) item) (sym own) known.0;
               takes = (λ j. bytes_between (listed j) (lies.next j)) ∙ omega arith;
               even = omega (arith, laid.even q a listed, laid.even (behind L q) (a + lies.size) lies.next);
               form = lies.form;
@@ -464,6 +466,7 @@ pub record AtHand
   pub place_is : place_of section walks.offset ≡ record { object = object; section = index; offset = place.offset }
   pub code_is : section.section.bytes ≡ bytes
   pub item_is : place.item ≡ item_at (parsed L.inputs) (record { object = object; section = index; offset = place.offset })
+  pub size_is : size_at (parsed L.inputs).objects (record { object = object; section = index; offset = place.offset }) ≡ place.size
 
 pub at_hand :
     (L : TextLayout) (none : gather_fault L.inputs ≡ None) (ready : IsReady L.inputs) (laid : IsLaidOut L) (k i : ℕ) (text : List ℕ)
@@ -490,4 +493,5 @@ at_hand L none ready laid k i text places own m old_text old_places begins cut o
       place_is = here_is;
       code_is = ap (λ (x : IndexedSection). x.section.bytes) section;
       item_is = ap (λ (x : CodePlace). x.item) is ∙ ap (item_at (parsed L.inputs)) here_is;
+      size_is = ap (size_at (parsed L.inputs).objects) (sym here_is) ∙ sym (ap (λ (x : CodePlace). x.size) is);
     }

@@ -8,7 +8,7 @@ use Rattle.elf32_read.specs.Segments.{SegmentData, segments_of}
 use Rattle.psabi_sym.specs.Inputs.{ParsedInputs}
 use Rattle.block_cut.specs.Items.{code_at, item_at}
 use Rattle.block_cut.specs.declared.item.Item.{Item}
-use Rattle.block_cut.specs.declared.item.Item.TheVariants.{Op, Hi, Lo, PcHi, PcLo, Branch, Jump, Call, Align, Word, Raw, RawPair}
+use Rattle.block_cut.specs.declared.item.Item.TheVariants.{Op, Hi, Lo, PcHi, PcLo, Branch, Jump, Call, Align, Word, Raw, RawShort, RawPair}
 use Rattle.zc_link.specs.Places.{listed_address}
 use Rattle.zc_link.specs.Values.{target_value}
 
@@ -30,6 +30,7 @@ ItemCopied A own bytes (Call rd temp to) = Unit {0}
 ItemCopied A own bytes (Align n) = Unit {0}
 ItemCopied A own bytes (Word t) = (value : ℕ) × (target_value A t ≡ Some value) × (bytes 4 ≡ word_bytes value)
 ItemCopied A own bytes (Raw word) = bytes 4 ≡ own 4
+ItemCopied A own bytes (RawShort half) = bytes 2 ≡ own 2
 ItemCopied A own bytes (RawPair first second) = bytes 8 ≡ own 8
 
 -- the image's one segment of code holds this of each item, at the address that the image lists for its place

@@ -13,10 +13,10 @@ use Rattle.rv_decode.specs.declared.instr.Instr.{Instr}
 use Rattle.rv_decode.specs.declared.instr.Instr.TheVariants as instr
 use Rattle.rv_decode.specs.Bits.{as_signed}
 use Rattle.block_cut.specs.Invariants.Cut.{place_at}
-use Rattle.block_cut.specs.Items.{after_items, entry_of, is_start_at, is_target_at, item_at, place_of}
+use Rattle.block_cut.specs.Items.{after_items, entry_of, is_start_at, is_target_at, item_at, place_of, size_at}
 use Rattle.block_cut.specs.Leaders.{is_leader_at}
 use Rattle.block_cut.specs.declared.item.Item.{Item}
-use Rattle.block_cut.specs.declared.item.Item.TheVariants.{Op, Hi, Lo, PcHi, PcLo, Branch, Jump, Call, Align, Word, Raw, RawPair}
+use Rattle.block_cut.specs.declared.item.Item.TheVariants.{Op, Hi, Lo, PcHi, PcLo, Branch, Jump, Call, Align, Word, Raw, RawShort, RawPair}
 use Rattle.frame_match.specs.Groups.{role_at}
 use Rattle.frame_match.specs.declared.role.Role.TheVariants.{First}
 use Rattle.sym_machine.specs.Conditions.{is_solid}
@@ -52,20 +52,22 @@ HasCallSize rd n distance = (n ≡ 8) ⊎ HasJumpSize rd n distance
 abbrev pub OfWay : (Place → Option ℕ) → ℕ → Place → (ℤ → Type 0) → Type 0
 OfWay A a to P = (b : ℕ) → A to ≡ Some b → P (as_signed (way a b))
 
--- an item may take n bytes at an address, if A gives the addresses of places
-abbrev pub HasForm : (Place → Option ℕ) → ℕ → ℕ → Item → Type 0
-HasForm A a n (Op i) = HasSize (Op i) n
-HasForm A a n (Hi i t) = HasSize (Hi i t) n
-HasForm A a n (Lo i t) = HasSize (Lo i t) n
-HasForm A a n (PcHi i t) = n ≡ 4
-HasForm A a n (PcLo i from) = n ≡ 4
-HasForm A a n (Branch op first second to) = OfWay A a to (HasBranchSize (instr.Branch op first second) n)
-HasForm A a n (Jump rd to) = OfWay A a to (HasJumpSize rd n)
-HasForm A a n (Call rd temp to) = OfWay A a to (HasCallSize rd n)
-HasForm A a n (Align bytes) = a + n ≡ aligned_up (power_above bytes) a
-HasForm A a n (Word t) = n ≡ 4
-HasForm A a n (Raw word) = n ≡ 4
-HasForm A a n (RawPair first second) = n ≡ 8
+-- an item may take n bytes at an address, if A gives the addresses of places and the item has so many bytes of its own, which an
+-- instruction without relocation may keep
+abbrev pub HasForm : (Place → Option ℕ) → (a own n : ℕ) → Item → Type 0
+HasForm A a own n (Op i) = (n ≡ own) ⊎ HasSize (Op i) n
+HasForm A a own n (Hi i t) = HasSize (Hi i t) n
+HasForm A a own n (Lo i t) = HasSize (Lo i t) n
+HasForm A a own n (PcHi i t) = n ≡ 4
+HasForm A a own n (PcLo i from) = n ≡ 4
+HasForm A a own n (Branch op first second to) = OfWay A a to (HasBranchSize (instr.Branch op first second) n)
+HasForm A a own n (Jump rd to) = OfWay A a to (HasJumpSize rd n)
+HasForm A a own n (Call rd temp to) = OfWay A a to (HasCallSize rd n)
+HasForm A a own n (Align bytes) = a + n ≡ aligned_up (power_above bytes) a
+HasForm A a own n (Word t) = n ≡ 4
+HasForm A a own n (Raw word) = n ≡ 4
+HasForm A a own n (RawShort half) = n ≡ 2
+HasForm A a own n (RawPair first second) = n ≡ 8
 
 -- ---- units
 
@@ -85,11 +87,11 @@ IsUnitAt L q (OneItem i) = item_at (parsed L.inputs) q ≡ Some i
 IsUnitAt L q (OneGroup g) = role_at (parsed L.inputs) q ≡ Some (First g)
 IsUnitAt L q (OneSite slot) = IsSiteAt L q slot
 
--- it may take n bytes at an address
-abbrev pub UnitForm : (Place → Option ℕ) → ℕ → ℕ → CodeUnit → Type 0
-UnitForm A a n (OneItem i) = HasForm A a n i
-UnitForm A a n (OneGroup g) = n ≡ group_size g
-UnitForm A a n (OneSite slot) = n ≡ 2
+-- it may take n bytes at an address, if the item there has so many of its own
+abbrev pub UnitForm : (Place → Option ℕ) → (a own n : ℕ) → CodeUnit → Type 0
+UnitForm A a own n (OneItem i) = HasForm A a own n i
+UnitForm A a own n (OneGroup g) = n ≡ group_size g
+UnitForm A a own n (OneSite slot) = n ≡ 2
 
 -- ---- layouts
 
@@ -103,7 +105,7 @@ pub record LiesAt (L : TextLayout) (q : Place) (a : ℕ) (u : CodeUnit) : Type 0
   pub is : IsUnitAt L q u
   pub size : ℕ
   pub next : L.address (behind L q) ≡ Some (a + size)
-  pub form : UnitForm L.address a size u
+  pub form : UnitForm L.address a (size_at (parsed L.inputs).objects q) size u
   pub inside : (k : ℕ) → 0 < k → k < unit_items u → HasNoAddress L (after_items (parsed L.inputs).objects k q)
 
 -- where the code of a section ends, or what stands before it if it isn't code

@@ -5,7 +5,7 @@ use Rattle.psabi_sym.specs.declared.target.Target.{Target}
 use Rattle.psabi_sym.specs.declared.target.Target.TheVariants.{Code, Number, Absent, Nowhere}
 use Rattle.block_cut.specs.Leaders.{ends_block}
 use Rattle.block_cut.specs.declared.item.Item.{Item}
-use Rattle.block_cut.specs.declared.item.Item.TheVariants.{Op, Hi, Lo, PcHi, PcLo, Branch, Jump, Call, Align, Word, Raw, RawPair}
+use Rattle.block_cut.specs.declared.item.Item.TheVariants.{Op, Hi, Lo, PcHi, PcLo, Branch, Jump, Call, Align, Word, Raw, RawShort, RawPair}
 use Rattle.sym_machine.specs.Program.{Program}
 
 -- a target in code is a place that a program may name
@@ -28,6 +28,7 @@ NamesItem Named (Call rd temp to) = Named to
 NamesItem Named (Align bytes) = Unit {0}
 NamesItem Named (Word t) = Unit {0}
 NamesItem Named (Raw word) = Unit {0}
+NamesItem Named (RawShort half) = Unit {0}
 NamesItem Named (RawPair first second) = Unit {0}
 
 -- of each item, and of the place after each that ends a basic block

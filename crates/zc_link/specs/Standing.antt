@@ -1,5 +1,5 @@
 -- What is known of an item where it stands in its object, before it is written at its address in a layout.
-use Rattle.std.specs.Prelude.{◌≡◌, ℕ, ℤ, ◌+◌, ◌%◌, ◌<◌, ◌≤◌, ◌||◌, IsTrue, List, length, slice_get, slice_index, take, Bool, true, false, Option, Some, None}
+use Rattle.std.specs.Prelude.{◌≡◌, ℕ, ℤ, ◌+◌, ◌%◌, ◌^◌, ◌<◌, ◌≤◌, ◌⊎◌, ◌||◌, IsTrue, List, length, slice_get, slice_index, take, Bool, true, false, Option, Some, None}
 use Rattle.std.specs.List.{flat_map}
 use Rattle.std.specs.Option.{is_some}
 use Rattle.zc_base.specs.MemMap.{IsMap}
@@ -17,12 +17,14 @@ use Rattle.block_cut.specs.Items.{index_on, item_at, place_of, size_at, targets_
 use Rattle.block_cut.specs.Relocs.{instr_in}
 use Rattle.block_cut.specs.declared.place_number.PlaceNumber.{PlaceNumber}
 use Rattle.block_cut.specs.declared.item.Item.{Item}
-use Rattle.block_cut.specs.declared.item.Item.TheVariants.{Op, Hi, Lo, PcHi, PcLo, Branch, Jump, Call, Align, Word, Raw, RawPair}
+use Rattle.block_cut.specs.declared.item.Item.TheVariants.{Op, Hi, Lo, PcHi, PcLo, Branch, Jump, Call, Align, Word, Raw, RawShort, RawPair}
 use Rattle.frame_match.specs.declared.role.Role.{Role}
+use Rattle.shrink_layout.specs.Halves.{fixed_instr}
 use Rattle.shrink_layout.specs.Units.{CodeUnit, OneItem, role_unit}
 use Rattle.zc_decode.specs.declared.short.Short.{Short}
 use Rattle.zc_decode.specs.declared.short.Short.TheVariants.{Base, MoveAs, MoveSa, Pop, PopRet, PopRetz, Push, TableJump}
 use Rattle.zc_encode.specs.Halves.{encoded16}
+use Rattle.zca_zcb_pass.specs.Forms.{HasEffectOf}
 use Rattle.zc_link.specs.Copied.{bytes_from}
 use Rattle.zc_link.specs.LaidOut.{HasForm}
 use Rattle.zc_link.specs.TextLayout.{TextLayout, behind, size_in}
@@ -91,6 +93,7 @@ ItemStands A item one two (Call rd temp to) = SpellsCall A one two rd temp to
 ItemStands A item one two (Align n) = Unit {0}
 ItemStands A item one two (Word t) = HasValue A t
 ItemStands A item one two (Raw copied) = Unit {0}
+ItemStands A item one two (RawShort copied) = Unit {0}
 ItemStands A item one two (RawPair first second) = Unit {0}
 
 -- an item is written as its own word with what its relocation asks for, unless a halfword of it is known before the layout
@@ -100,15 +103,32 @@ is_patched (Jump rd to) = false
 is_patched (Call rd temp to) = false
 is_patched (Align n) = false
 is_patched (Raw copied) = false
+is_patched (RawShort copied) = false
 is_patched (RawPair first second) = false
 is_patched other = true
 
--- the bytes that an item has in its object: two words, so many of padding, and else one word
+-- an instruction has two bytes or four in its object
+abbrev pub IsInstrSize : ℕ → Type 0
+IsInstrSize own = (own ≡ 2) ⊎ (own ≡ 4)
+
+-- the bytes that an item has in its object: those of an instruction without relocation, of a branch or of a jump; a call two words,
+-- padding so many, what is copied unread a halfword or two words, and else one word
 abbrev pub HasOwnSize : Item → ℕ → Type 0
+HasOwnSize (Op i) own = IsInstrSize own
+HasOwnSize (Branch op first second to) own = IsInstrSize own
+HasOwnSize (Jump rd to) own = IsInstrSize own
 HasOwnSize (Call rd temp to) own = own ≡ 8
 HasOwnSize (Align n) own = own ≡ n
+HasOwnSize (RawShort copied) own = own ≡ 2
 HasOwnSize (RawPair first second) own = own ≡ 8
 HasOwnSize other own = own ≡ 4
+
+-- the halfword of an instruction that is known before the layout, which does what the instruction does; none if its own two bytes are
+-- copied
+abbrev pub IsHalfHere : ℕ → Item → Option ℕ → Type 0
+IsHalfHere own item None = (i : Instr) → fixed_instr item ≡ Some i → (own ≡ 2) × (item ≡ Op i)
+IsHalfHere own item (Some half) =
+    (half < 2 ^ 16) × ((i : Instr) → fixed_instr item ≡ Some i → (encoded16 (Base i) ≡ Some half) × HasEffectOf i half)
 
 -- an item stands at a place of code with these bytes, in which it lies, and is written by itself at an address in n bytes
 pub record StandsHere (L : TextLayout) (code : List ℕ) (q : Place) (item : Item) (a n : ℕ) : Type 0 where
@@ -121,7 +141,7 @@ pub record StandsHere (L : TextLayout) (code : List ℕ) (q : Place) (item : Ite
       (instr_in 4 code (q.offset + 4)) item
   pub takes : size_in L q ≡ n
   pub even : n % 2 ≡ 0
-  pub form : HasForm L.address a n item
+  pub form : HasForm L.address a (size_at (parsed L.inputs).objects q) n item
 
 -- ---- units
 

@@ -16,7 +16,7 @@ use Rattle.psabi_reloc.specs.Parts.{hi20_of, lo12_of}
 use Rattle.psabi_reloc.specs.Patched.{with_imm, with_upper}
 use Rattle.psabi_sym.specs.declared.target.Target.{Target}
 use Rattle.block_cut.specs.declared.item.Item.{Item}
-use Rattle.block_cut.specs.declared.item.Item.TheVariants.{Op, Hi, Lo, PcHi, PcLo, Branch, Jump, Call, Align, Word, Raw, RawPair}
+use Rattle.block_cut.specs.declared.item.Item.TheVariants.{Op, Hi, Lo, PcHi, PcLo, Branch, Jump, Call, Align, Word, Raw, RawShort, RawPair}
 use Rattle.sym_machine.specs.AddressParts.{pc_target}
 use Rattle.sym_machine.specs.Program.{Program}
 use Rattle.zca_zcb_pass.specs.Forms.{IsOpposite}
@@ -105,6 +105,7 @@ ItemLaid p e q a (Some (Call rd temp to)) = ReachLaid p e q a (Jal rd) to
 ItemLaid p e q a (Some (Align bytes)) = ⊥
 ItemLaid p e q a (Some (Word t)) = Unit {0}
 ItemLaid p e q a (Some (Raw word)) = Unit {0}
+ItemLaid p e q a (Some (RawShort half)) = Unit {0}
 ItemLaid p e q a (Some (RawPair first second)) = Unit {0}
 
 -- ---- items of several instructions

@@ -16,6 +16,7 @@ use Rattle.rv_decode.specs.declared.instr.BranchOp.{BranchOp}
 use Rattle.rv_decode.specs.declared.instr.UpperOp.TheVariants.{Auipc}
 use Rattle.rv_decode.specs.Bits.{add32}
 use Rattle.rv_decode.specs.Decode.{decoded}
+use Rattle.rv_decode.specs.Normal.{normal_of}
 use Rattle.zc_decode.specs.Halfwords.{decoded16}
 use Rattle.zc_decode.specs.declared.short.Short.{Short}
 use Rattle.zc_decode.specs.declared.short.Short.TheVariants.{Base, TableJump}
@@ -23,7 +24,7 @@ use Rattle.zc_encode.specs.Halves.{encoded16}
 use Rattle.zca_zcb_pass.specs.Forms.{HasEffectOf, IsOpposite}
 use Rattle.block_cut.specs.Items.{code_at, item_at, targets_of}
 use Rattle.block_cut.specs.declared.item.Item.{Item}
-use Rattle.block_cut.specs.declared.item.Item.TheVariants.{Op, Hi, Lo, PcHi, PcLo, Branch, Jump, Call, Align, Word, Raw, RawPair}
+use Rattle.block_cut.specs.declared.item.Item.TheVariants.{Op, Hi, Lo, PcHi, PcLo, Branch, Jump, Call, Align, Word, Raw, RawShort, RawPair}
 use Rattle.frame_match.specs.declared.group.Group.{Group}
 use Rattle.shrink_layout.specs.Units.{CodeUnit, OneGroup, OneItem, OneSite, front_size, is_push, rest_instr}
 use Rattle.zc_link.specs.Copied.{bytes_from}
@@ -57,6 +58,16 @@ pub record SpellsHalf (bytes : List ℕ) (short : Short) : Type 0 where
   pub are : bytes ≡ half_bytes half
   pub first : encoded16 short ≡ Some half
   pub spells : decoded16 half ≡ Some short
+
+-- the two bytes that the object has for an instruction: it is the normal form of what their halfword spells
+pub record IsCopied (own : ℕ → List ℕ) (bytes : List ℕ) (i : Instr) : Type 0 where
+  pub copies : bytes ≡ own 2
+  pub half : ℕ
+  pub small : half < 2 ^ 16
+  pub are : bytes ≡ half_bytes half
+  pub spelled : Instr
+  pub spells : decoded16 half ≡ Some (Base spelled)
+  pub normal : normal_of spelled ≡ i
 
 -- n bytes of a word or a short form
 abbrev pub IsSpelled : ℕ → List ℕ → Instr → Type 0
@@ -128,7 +139,7 @@ IsBranchSpelled n bytes op one two d = IsSpelled n bytes (instr.Branch op one tw
 
 -- these n bytes are what is written for an item at an address, if A gives the addresses of places; `own` gives the object's own
 abbrev pub IsWritten : (Place → Option ℕ) → (Place → Option Item) → (ℕ → List ℕ) → ℕ → ℕ → Item → List ℕ → Type 0
-IsWritten A item own a n (Op i) bytes = IsSpelled n bytes i
+IsWritten A item own a n (Op i) bytes = IsSpelled n bytes i ⊎ ((n ≡ 2) × IsCopied own bytes i)
 IsWritten A item own a n (Hi i t) bytes = WithValue A t (λ x. IsSpelled n bytes (with_upper i (hi20_of x)))
 IsWritten A item own a n (Lo i t) bytes = WithValue A t (λ x. IsSpelled n bytes (with_imm i (lo12_of x)))
 IsWritten A item own a n (PcHi i t) bytes = WithValue A t (λ x. IsSpelled n bytes (with_upper i (hi20_of (way a x))))
@@ -140,6 +151,7 @@ IsWritten A item own a n (Call rd temp to) bytes =
 IsWritten A item own a n (Align k) bytes = bytes ≡ padding n
 IsWritten A item own a n (Word t) bytes = WithValue A t (λ x. bytes ≡ word_bytes x)
 IsWritten A item own a n (Raw word) bytes = bytes ≡ own 4
+IsWritten A item own a n (RawShort half) bytes = bytes ≡ own 2
 IsWritten A item own a n (RawPair first second) bytes = bytes ≡ own 8
 
 -- ---- groups

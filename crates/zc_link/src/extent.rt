@@ -3,23 +3,25 @@
 use block_cut::place_number::PlaceNumber;
 use zc_base::place::Place;
 
-/// Where an item starts: its place and where that stands among all, the bytes of its section, and its address if it has
-/// one.
+/// Where an item starts: its place and where that stands among all, the bytes of its section, how many of them it has,
+/// and its address if it has one.
 #[derive(Clone, Copy)]
 pub struct ItemStart<'a> {
     pub at: Place,
     pub number: PlaceNumber,
     pub code: &'a [u8],
+    pub own: u8,
     pub address: u32,
 }
 
-/// Where an item is written: its place and where that stands among all, the bytes of its section, its address, and how
-/// many bytes it takes there.
+/// Where an item is written: its place and where that stands among all, the bytes of its section, how many of them it
+/// has, its address, and how many bytes it takes there.
 #[derive(Clone, Copy)]
 pub struct ItemExtent<'a> {
     pub at: Place,
     pub number: PlaceNumber,
     pub code: &'a [u8],
+    pub own: u8,
     pub address: u32,
     pub size: u32,
 }

@@ -1,8 +1,8 @@
 // What is written for an item: its own words with what its relocation asks for, or a short or long form.
 
-ghost use Rattle.std.specs.Prelude.{◌≡◌, ◌+◌, ◌<◌, ◌≤◌, true, drop, length, slice_index, take, Some, IsTrue, ℕ, ℤ};
+ghost use Rattle.std.specs.Prelude.{◌≡◌, ◌≢◌, ◌+◌, ◌<◌, ◌≤◌, true, drop, length, slice_index, take, Some, IsTrue, ℕ, ℤ};
 ghost use Rattle.std.specs.Option.{unwrap_or};
-ghost use Rattle.block_cut.specs.Items.{item_at};
+ghost use Rattle.block_cut.specs.Items.{item_at, size_at};
 ghost use Rattle.block_cut.specs.Places.{IsPlaceNumber};
 ghost use Rattle.block_cut.specs.Relocs.{instr_in};
 ghost use Rattle.psabi_reloc.specs.Parts.{hi20_of, lo12_of};
@@ -10,12 +10,13 @@ ghost use Rattle.psabi_reloc.specs.Patched.{with_imm};
 ghost use Rattle.psabi_sym.specs.Inputs.{parsed};
 ghost use Rattle.rv_decode.specs.Bits.{add32, as_signed, as_word};
 ghost use Rattle.rv_decode.specs.Decode.{decoded};
+ghost use Rattle.rv_decode.specs.Immediates.{InRange};
 ghost use Rattle.rv_decode.specs.declared.instr.BranchOp.{BranchOp};
 ghost use Rattle.rv_decode.specs.declared.instr.Instr.{Instr};
 ghost use Rattle.rv_decode.specs.declared.instr.UpperOp.TheVariants.{Auipc};
 ghost use Rattle.shrink_layout.specs.Pieces.{is_short};
 ghost use Rattle.shrink_layout.specs.Units.{OneItem};
-ghost use Rattle.zc_base.specs.Fields.{half_bytes, word_bytes};
+ghost use Rattle.zc_base.specs.Fields.{half_bytes, word_bytes, word_in};
 ghost use Rattle.zc_link.specs.Codes.{code_bytes};
 ghost use Rattle.zc_link.specs.Copied.{bytes_from};
 ghost use Rattle.zc_link.specs.LaidOut.{HasBranchSize, HasJumpSize};
@@ -86,9 +87,11 @@ fn put_lower(instr: &Instr, word: u32, x: u32) -> u32
 }
 
 // The word that is written for an item which has one, from its own: with what its relocation asks for.
+#[tactic(auto, using(crate::proofs::ItemBytes::patched_stands))]
 fn patched<L: Layout>(layout: &L, extent: ItemExtent, item: Item) -> u32
     requires stands { StandsHere (L.layout layout.now) extent.code.now extent.at item extent.address extent.size }
     requires patched { is_patched item ≡ true }
+    requires own { size_at (parsed (L.layout layout.now).inputs).objects extent.at ≡ 4 }
     requires four { extent.size ≡ 4 }
     ensures { WrittenHere (L.layout layout.now) extent.entry.code.now extent.entry.at (OneItem item)
         extent.entry.address extent.entry.size (word_bytes result) }
@@ -101,6 +104,50 @@ fn patched<L: Layout>(layout: &L, extent: ItemExtent, item: Item) -> u32
         Item::PcLo(i, from) => put_lower(&i, word, way_from(layout, from)),
         Item::Word(t) => target_value(layout, t),
         _ => word,
+    }
+}
+
+// The word of an instruction: its own, or the one that spells it if it has two bytes in its object.
+fn instr_word(extent: ItemExtent, i: Instr) -> u32
+    requires range { InRange i }
+    requires within { extent.own ≢ 2 → extent.at.offset + 4 ≤ length extent.code.now }
+    requires spells { extent.own ≢ 2 → decoded (word_in extent.code.now extent.at.offset) ≡ Some i }
+    ensures { decoded result ≡ Some i }
+{
+    if extent.own == 2 {
+        encode(i)
+    } else {
+        u32_at(extent.code, extent.at.offset as usize)
+    }
+}
+
+// The word that is written for an item which has one.
+fn item_word<L: Layout>(layout: &L, extent: ItemExtent, item: Item) -> u32
+    requires stands { StandsHere (L.layout layout.now) extent.code.now extent.at item extent.address extent.size }
+    requires own { size_at (parsed (L.layout layout.now).inputs).objects extent.at ≡ extent.own }
+    requires patched { is_patched item ≡ true }
+    requires four { extent.size ≡ 4 }
+    ensures { WrittenHere (L.layout layout.now) extent.entry.code.now extent.entry.at (OneItem item)
+        extent.entry.address extent.entry.size (word_bytes result) }
+{
+    match item {
+        Item::Op(i) => instr_word(extent, i),
+        _ => patched(layout, extent, item),
+    }
+}
+
+// What is written for an item whose instruction is known before the layout, in two bytes: its halfword, or its own.
+fn short_code<'a, L: Layout>(layout: &L, extent: ItemExtent<'a>, item: Item) -> Code<'a>
+    requires stands { StandsHere (L.layout layout.now) extent.code.now extent.at item extent.address extent.size }
+    requires number { IsPlaceNumber (parsed (L.layout layout.now).inputs).objects extent.at extent.number }
+    requires patched { is_patched item ≡ true }
+    requires two { extent.size ≡ 2 }
+    ensures { WrittenHere (L.layout layout.now) extent.entry.code.now extent.entry.at (OneItem item)
+        extent.entry.address extent.entry.size (code_bytes result) }
+{
+    match layout.half_at(extent.number) {
+        Some(half) => Code::Half(half),
+        None => Code::Own(own_bytes(extent.code, extent.at.offset as usize, 2)),
     }
 }
 
@@ -170,6 +217,7 @@ fn own_bytes(code: &[u8], offset: usize, count: usize) -> &[u8]
 /// leads to.
 pub fn item_code<'a, L: Layout>(layout: &L, extent: ItemExtent<'a>, item: Item) -> Code<'a>
     requires stands { StandsHere (L.layout layout.now) extent.code.now extent.at item extent.address extent.size }
+    requires own { size_at (parsed (L.layout layout.now).inputs).objects extent.at ≡ extent.own }
     requires number { IsPlaceNumber (parsed (L.layout layout.now).inputs).objects extent.at extent.number }
     ensures { WrittenHere (L.layout layout.now) extent.entry.code.now extent.entry.at (OneItem item)
         extent.entry.address extent.entry.size (code_bytes result) }
@@ -202,8 +250,9 @@ pub fn item_code<'a, L: Layout>(layout: &L, extent: ItemExtent<'a>, item: Item) 
         }
         Item::Align(_) => Code::Padding(extent.size),
         Item::Raw(_) => Code::Own(own_bytes(extent.code, extent.at.offset as usize, 4)),
+        Item::RawShort(_) => Code::Own(own_bytes(extent.code, extent.at.offset as usize, 2)),
         Item::RawPair(_, _) => Code::Own(own_bytes(extent.code, extent.at.offset as usize, 8)),
-        _ if extent.size == 2 => Code::Half(layout.half_at(extent.number)),
-        _ => Code::Word(patched(layout, extent, item)),
+        _ if extent.size == 2 => short_code(layout, extent, item),
+        _ => Code::Word(item_word(layout, extent, item)),
     }
 }

@@ -1,18 +1,18 @@
 // Layouts of code, as links see them.
 
 ghost use Rattle.std.specs.Prelude.{◌≡◌, [], ℕ, OnOk, Some, true};
-ghost use Rattle.block_cut.specs.Items.{is_start_at, is_target_at, item_at};
+ghost use Rattle.block_cut.specs.Items.{is_start_at, is_target_at, item_at, size_at};
 ghost use Rattle.block_cut.specs.Places.{IsPlaceNumber};
 ghost use Rattle.block_cut.specs.declared.item.Item.{Item};
 ghost use Rattle.frame_match.specs.Invariants.Marks.{HasItem};
 ghost use Rattle.psabi_sym.specs.Inputs.{parsed};
-ghost use Rattle.shrink_layout.specs.Halves.{IsHalfOf, IsSiteHalf};
+ghost use Rattle.shrink_layout.specs.Halves.{IsSiteHalf};
 ghost use Rattle.shrink_layout.specs.Invariants.Numbers.{HasPlace};
 ghost use Rattle.shrink_layout.specs.Units.{CodeUnit, OneItem};
 ghost use Rattle.zc_base.specs.declared.place.Place.{Place};
 ghost use Rattle.zc_link.specs.Front.{IsFront, image_entry};
 ghost use Rattle.zc_link.specs.LaidOut.{IsLaidOut};
-ghost use Rattle.zc_link.specs.Standing.{IsReady, IsRoleUnit};
+ghost use Rattle.zc_link.specs.Standing.{IsHalfHere, IsReady, IsRoleUnit};
 ghost use Rattle.zc_link.specs.TextLayout.{TextLayout, plain_layout, size_in, zc_layout};
 
 use crate::front::{add_front, program_start, stub_address};
@@ -70,12 +70,12 @@ pub trait Layout {
             → IsSiteHalf ((layout self.now).unit q) result };
 
     /// The halfword of an item that is written by itself in two bytes and whose instruction doesn't depend on addresses, by
-    /// where its place stands among all.
-    fn half_at(&self, number: PlaceNumber) -> u16
+    /// where its place stands among all; none if these are the item's own two bytes.
+    fn half_at(&self, number: PlaceNumber) -> Option<u16>
         requires { HasPlace (parsed (layout self.now).inputs).objects number }
         ensures { (q : Place) (item : Item) → (layout self.now).unit q ≡ Some (OneItem item)
             → IsPlaceNumber (parsed (layout self.now).inputs).objects q number → size_in (layout self.now) q ≡ 2
-            → IsHalfOf item result };
+            → IsHalfHere (size_at (parsed (layout self.now).inputs).objects q) item result };
 
     /// Begins a text with what stands in front of the first section. It takes time linear in the slots of the table.
     fn add_front(&self, text: &mut Vec<u8>) -> Result<(), AllocError>
@@ -124,10 +124,10 @@ impl Layout for Cut {
         None
     }
 
-    fn half_at(&self, _number: PlaceNumber) -> u16 {
-        // This call says that the cut is ready for a link: so nothing takes two bytes but padding.
+    fn half_at(&self, _number: PlaceNumber) -> Option<u16> {
+        // This call says that the cut is ready for a link: so an instruction takes two bytes only if it has two.
         let _cut = Layout::cut(self);
-        0
+        None
     }
 
     fn add_front(&self, _text: &mut Vec<u8>) -> Result<(), AllocError> {
@@ -171,8 +171,10 @@ impl Layout for Settled {
         Settled::site_half(self, number)
     }
 
-    fn half_at(&self, number: PlaceNumber) -> u16 {
-        Settled::half_at(self, number)
+    fn half_at(&self, number: PlaceNumber) -> Option<u16> {
+        // This call says that the layout is one that a link may have: so what takes two bytes has a halfword.
+        let _cut = Layout::cut(self);
+        Some(Settled::half_at(self, number))
     }
 
     fn add_front(&self, text: &mut Vec<u8>) -> Result<(), AllocError> {

@@ -96,6 +96,7 @@ impl Text {
                         at,
                         number,
                         code: section.bytes(),
+                        own: place.size,
                         address,
                     };
                     if let Some(code) = unit_code(layout, begins, item) {

@@ -1,6 +1,8 @@
 // What is written at a place: an item by itself, a group at its first, or a jump through the table.
 
 ghost use Rattle.std.specs.Prelude.{◌≡◌, None, Some, IfNone, IfSome, ℕ};
+ghost use Rattle.block_cut.specs.Items.{size_at};
+ghost use Rattle.psabi_sym.specs.Inputs.{parsed};
 ghost use Rattle.shrink_layout.specs.Units.{OneItem};
 ghost use Rattle.zc_link.specs.Codes.{code_bytes};
 ghost use Rattle.zc_link.specs.Standing.{IsRoleUnit, StartsHere, UnitHere};
@@ -18,6 +20,7 @@ use frame_match::role::Role;
 /// addresses of places that an item leads to.
 pub fn unit_code<'a, L: Layout>(layout: &L, start: ItemStart<'a>, item: Item) -> Option<Code<'a>>
     requires starts { StartsHere (L.layout layout.now) start.number start.code.now start.at item }
+    requires own { size_at (parsed (L.layout layout.now).inputs).objects start.at ≡ start.own }
     requires address { (b : ℕ) → (L.layout layout.now).address start.at ≡ Some b → start.address ≡ b }
     ensures inside { IfNone result ((L.layout layout.now).address start.entry.at ≡ None) }
     ensures written { IfSome result (λ code.
@@ -35,6 +38,7 @@ pub fn unit_code<'a, L: Layout>(layout: &L, start: ItemStart<'a>, item: Item) ->
 // What is written for an item outside groups: a jump or call through the table, or the item by itself.
 fn lone_code<'a, L: Layout>(layout: &L, start: ItemStart<'a>, item: Item) -> Code<'a>
     requires starts { StartsHere (L.layout layout.now) start.number start.code.now start.at item }
+    requires own { size_at (parsed (L.layout layout.now).inputs).objects start.at ≡ start.own }
     requires unit { IsRoleUnit ((L.layout layout.now).unit start.at) (Some item) Role.Alone }
     requires address { (L.layout layout.now).address start.at ≡ Some start.address }
     ensures { UnitHere (L.layout layout.now) start.entry.code.now start.entry.at start.entry.address
@@ -51,6 +55,7 @@ fn lone_code<'a, L: Layout>(layout: &L, start: ItemStart<'a>, item: Item) -> Cod
 // What is written for an item by itself.
 fn alone_code<'a, L: Layout>(layout: &L, start: ItemStart<'a>, item: Item) -> Code<'a>
     requires starts { StartsHere (L.layout layout.now) start.number start.code.now start.at item }
+    requires own { size_at (parsed (L.layout layout.now).inputs).objects start.at ≡ start.own }
     requires unit { (L.layout layout.now).unit start.at ≡ Some (OneItem item) }
     requires address { (L.layout layout.now).address start.at ≡ Some start.address }
     ensures { UnitHere (L.layout layout.now) start.entry.code.now start.entry.at start.entry.address
@@ -62,6 +67,7 @@ fn alone_code<'a, L: Layout>(layout: &L, start: ItemStart<'a>, item: Item) -> Co
         at: start.at,
         number: start.number,
         code: start.code,
+        own: start.own,
         address: start.address,
         size: layout.size_at(start.number),
     };

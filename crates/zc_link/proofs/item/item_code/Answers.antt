@@ -2,15 +2,17 @@
 use Rattle.std.proofs.Common.{◌≡◌, ◌≢◌, ℕ, ℤ, inl, inr, Some, refl, sym, ap, ◌∙◌, subst, take, drop}
 use Rattle.psabi_reloc.specs.Parts.{hi20_of, lo12_of}
 use Rattle.psabi_sym.specs.Inputs.{parsed}
+use Rattle.block_cut.specs.Items.{size_at}
 use Rattle.rv_decode.specs.Bits.{add32, as_signed, as_word}
 use Rattle.rv_decode.specs.declared.instr.Instr.TheVariants as instr
 use Rattle.rv_decode.specs.declared.instr.UpperOp.TheVariants.{Auipc}
-use Rattle.shrink_layout.proofs.NumberLaws.{item_target}
+use Rattle.block_cut.specs.Relocs.{instr_in}
 use Rattle.zc_link.specs.Codes.{code_bytes}
 use Rattle.zc_link.specs.LaidOut.{HasBranchSize, HasCallSize, HasForm, HasJumpSize}
+use Rattle.zc_link.specs.Standing.{HasOwnSize}
 use Rattle.zc_link.specs.Values.{way}
 use Rattle.zc_link.specs.Written.{SpellsWord}
-use Rattle.zc_link.proofs.ItemBytes.{align_written, branch_form, branch_stands, branch_written, call_form, call_stands, call_written, half_written, jump_stands, pair_written, patched_left, raw_written}
+use Rattle.zc_link.proofs.ItemBytes.{align_written, branch_form, branch_stands, branch_written, call_form, call_stands, call_written, jump_stands, pair_written, patched_left, raw_written, short_written}
 use Rattle.zc_link.proofs.WayLaws.{taken, taken_is, way_word}
 use Rattle.zc_link.proofs.item.item_code.Goals as goal
 
@@ -37,7 +39,7 @@ jump_code-requires g c =
     let s = jump_stands L e.code.now e.at c.args.item e.address e.size c.requires.stands j.rd j.to j.is in
     let far = c.distance_to.ensures.way s.address s.listed in
     subst (HasJumpSize j.rd e.size) (sym (taken_is e.address s.address _ far ∙ far))
-    (subst (HasForm L.address e.address e.size) j.is c.requires.stands.form s.address s.listed)
+    (subst (HasForm L.address e.address (size_at (parsed L.inputs).objects e.at) e.size) j.is c.requires.stands.form s.address s.listed)
 
 -- a call that isn't two words is a jump
 one_jump : (rd n : ℕ) (d : ℤ) → n ≢ 8 → HasCallSize rd n d → HasJumpSize rd n d
@@ -54,10 +56,10 @@ jump_code-requires-else-extent-eq8 g c =
     subst (HasJumpSize k.rd e.size) (sym (taken_is e.address s.address _ far ∙ far))
     (one_jump k.rd e.size (as_signed (way e.address s.address)) c.if-extent-eq8.false (call_form L e.code.now e.at c.args.item e.address e.size c.requires.stands k.rd k.temp k.to k.is))
 
-pub half_at-requires : goal.half_at-requires
-half_at-requires g c =
-    let L = g.L.Layout.layout c.args.layout.now in
-    (c.args.extent.at, item_target (parsed L.inputs) c.args.extent.at c.args.item c.requires.stands.is, c.requires.number)
+pub short_code-requires-clause-patched : goal.short_code-requires-clause-patched
+short_code-requires-clause-patched g c =
+    let other = c.in_default in
+    patched_left c.args.item other.not-Branch other.not-Jump (λ rd temp to. other.not-Call rd temp to) other.not-Align other.not-Raw other.not-RawShort other.not-RawPair
 
 pub returns-in-Branch : goal.returns-in-Branch
 returns-in-Branch g c =
@@ -77,9 +79,11 @@ returns-then-extent-eq8 g c =
     let k = c.in-Call in
     let s = call_stands L e.code.now e.at c.args.item e.address e.size c.requires.stands k.rd k.temp k.to k.is in
     let far = c.distance_to-then-extent-eq8.ensures.way s.address s.listed in
+    let size : size_at (parsed L.inputs).objects e.at ≡ 8 = subst (λ i. HasOwnSize i (size_at (parsed L.inputs).objects e.at)) k.is c.requires.stands.size in
+    let first = ap (λ m. instr_in m e.code.now e.at.offset) (sym size) ∙ s.first_spells in
     let whole : as_word (taken c.distance_to-then-extent-eq8.result) ≡ way e.address s.address = ap as_word (taken_is e.address s.address _ far ∙ far) ∙ way_word e.address s.address in
     call_written L e.code.now e.at c.args.item e.address e.size c.requires.stands k.rd k.temp k.to k.is _ c.if-extent-eq8.true
-    (subst (λ x. SpellsWord (take 4 (code_bytes c.call_code.result)) (instr.Upper Auipc k.temp (hi20_of x))) whole (c.call_code.ensures.upper k.temp s.upper s.first_spells))
+    (subst (λ x. SpellsWord (take 4 (code_bytes c.call_code.result)) (instr.Upper Auipc k.temp (hi20_of x))) whole (c.call_code.ensures.upper k.temp s.upper first))
     (subst (λ x. SpellsWord (drop 4 (code_bytes c.call_code.result)) (instr.Jalr k.rd k.temp (lo12_of x))) whole (c.call_code.ensures.lower k.rd k.temp s.lower s.second_spells))
 
 pub returns-in-Align : goal.returns-in-Align
@@ -90,21 +94,17 @@ returns-in-Align g c =
 pub returns-in-Raw : goal.returns-in-Raw
 returns-in-Raw g c =
     let e = c.args.extent in
-    raw_written (g.L.Layout.layout c.args.layout.now) e.code.now e.at c.args.item e.address e.size c.requires.stands c.in-Raw.field-0 _ c.in-Raw.is
-    c.own_bytes.ensures.own c.own_bytes.ensures.octets
+    raw_written (g.L.Layout.layout c.args.layout.now) e.code.now e.at c.args.item e.address e.size c.requires.stands _ c.own_bytes.ensures.octets
+    c.in-Raw.field-0 c.in-Raw.is c.own_bytes.ensures.own
+
+pub returns-in-RawShort : goal.returns-in-RawShort
+returns-in-RawShort g c =
+    let e = c.args.extent in
+    short_written (g.L.Layout.layout c.args.layout.now) e.code.now e.at c.args.item e.address e.size c.requires.stands _ c.own_bytes-in-RawShort.ensures.octets
+    c.in-RawShort.field-0 c.in-RawShort.is c.own_bytes-in-RawShort.ensures.own
 
 pub returns-in-RawPair : goal.returns-in-RawPair
 returns-in-RawPair g c =
     let e = c.args.extent in
-    pair_written (g.L.Layout.layout c.args.layout.now) e.code.now e.at c.args.item e.address e.size c.requires.stands c.in-RawPair.field-0 c.in-RawPair.field-1 _
-    c.in-RawPair.is c.own_bytes-in-RawPair.ensures.own c.own_bytes-in-RawPair.ensures.octets
-
-pub returns-in_default : goal.returns-in_default
-returns-in_default g c =
-    let L = g.L.Layout.layout c.args.layout.now in
-    let e = c.args.extent in
-    let h = c.requires.stands in
-    let other = c.in_default in
-    half_written L e.code.now e.at c.args.item e.address e.size h c.half_at.result c.half_at.type_inv
-    (patched_left c.args.item other.not-Branch other.not-Jump (λ rd temp to. other.not-Call rd temp to) other.not-Align other.not-Raw other.not-RawPair) c.if-extent-eq2.true
-    (c.half_at.ensures e.at c.args.item h.unit c.requires.number (h.takes ∙ c.if-extent-eq2.true))
+    pair_written (g.L.Layout.layout c.args.layout.now) e.code.now e.at c.args.item e.address e.size c.requires.stands _ c.own_bytes-in-RawPair.ensures.octets
+    c.in-RawPair.field-0 c.in-RawPair.field-1 c.in-RawPair.is c.own_bytes-in-RawPair.ensures.own

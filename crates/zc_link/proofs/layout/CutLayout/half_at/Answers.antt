@@ -1,11 +1,10 @@
--- In two bytes there is nothing but padding, which is no instruction.
+-- In two bytes an instruction has its own.
 use Rattle.psabi_sym.specs.Inputs.{parsed}
 use Rattle.zc_link.proofs.ItemUnits.{item_unit}
-use Rattle.zc_link.proofs.PlainLaws.{padding_alone}
+use Rattle.zc_link.proofs.PlainLaws.{copied_alone}
 use Rattle.zc_link.proofs.layout.CutLayout.half_at.Goals as goal
 
 pub returns : goal.returns
-returns c = λ q item is number two instr fixed short.
+returns c = λ q item is number two.
     let own = item_unit (parsed c.args.self.now) q item is in
-    let none = padding_alone c.args.self.now c.cut-cut.ensures.ready q item own two in
-    absurd (cc (none, fixed))
+    copied_alone c.args.self.now c.cut-cut.ensures.ready q item own two

@@ -127,6 +127,9 @@ pub unit_code-requires-clause-starts : goal.unit_code-requires-clause-starts
 unit_code-requires-clause-starts g c =
     starts g (goal.at.unit_code-requires-clause-starts g c).After-len c.in-Some.item c.in-Some.is c.bytes.result.now c.bytes.ensures
 
+pub unit_code-requires-clause-own : goal.unit_code-requires-clause-own
+unit_code-requires-clause-own g c = (hand g (goal.at.unit_code-requires-clause-own g c).After-len).size_is
+
 pub unit_code-requires-clause-address : goal.unit_code-requires-clause-address
 unit_code-requires-clause-address g c = address_of g (goal.at.unit_code-requires-clause-address g c).After-len
 
