@@ -7,16 +7,18 @@ ghost use Rattle.sym_machine.specs.Kept.{IsOf};
 ghost use Rattle.sym_machine.specs.Objects.{program_of};
 ghost use Rattle.sym_machine.specs.State.{first_plain};
 
-mod object;
+pub mod object;
+mod parts;
 mod relocated;
 mod rows;
 
 use crate::row::{bytes_of, column, end_of, number_of, shown};
 use block_cut::cut::Cut;
 use object::object_of;
+use parts::{PARTS, part_of};
 use psabi_sym::objects::Objects;
 use relocated::RELOCATED;
-use rows::{BRANCHES, CALLS, PAGES, PROGRAMS, RESULTS, STEPS};
+use rows::{ACROSS, BRANCHES, CALLS, PAGES, PROGRAMS, RESULTS, STACKS, STEPS};
 use std::alloc::{AllocError, Global};
 use std::process::Abort;
 use std::test::Fail;
@@ -139,6 +141,23 @@ fn pages_keep_each_kind_of_byte_until_sp_rises(rt: HostRuntime) -> Result<(), Fa
 }
 
 #[test]
+fn a_stack_is_undefined_where_sp_rose_until_it_is_written(rt: HostRuntime) -> Result<(), Fail> {
+    expect_runs(&rt, "", STACKS, "")
+}
+
+// lui t1,1; sub sp,sp,t1; addi sp,sp,-64; addi a0,x0,0; addi a1,sp,28; addi a2,x0,40; addi a7,x0,63; ecall
+const READ_FORTY: &str = "00001337 40610133 FC010113 00000513 01C10593 02800613 03F00893 00000073";
+
+// What is read.
+const FORTY: &str = "| in 61 62 63 64 65 66 67 68 69 6A 6B 6C 6D 6E 6F 70 71 72 73 74
+75 76 77 78 79 7A 41 42 43 44 45 46 47 48 49 4A 4B 4C 4D 4E";
+
+#[test]
+fn input_is_read_across_the_pages_of_a_stack(rt: HostRuntime) -> Result<(), Fail> {
+    expect_runs(&rt, READ_FORTY, ACROSS, FORTY)
+}
+
+#[test]
 fn calls_read_and_write(rt: HostRuntime) -> Result<(), Fail> {
     expect_runs(&rt, "", CALLS, "")
 }
@@ -146,6 +165,27 @@ fn calls_read_and_write(rt: HostRuntime) -> Result<(), Fail> {
 #[test]
 fn relocations_say_what_items_do(rt: HostRuntime) -> Result<(), Fail> {
     expect_runs(&rt, "", RELOCATED, "")
+}
+
+// The two objects of a row, cut into items.
+fn parts_cut(alloc: Global, row: &str) -> Result<Cut, Fail> {
+    let mut files = Vec::new(alloc);
+    files.push(part_of(alloc, row, true)?)?;
+    files.push(part_of(alloc, row, false)?)?;
+    let objects = Objects::gather(alloc, &files, MemMap::standard())?;
+    Ok(Cut::new(alloc, objects)?)
+}
+
+#[test]
+fn runs_go_from_section_to_section(rt: HostRuntime) -> Result<(), Fail> {
+    for row in PARTS.trim().lines() {
+        if !row.starts_with('#') {
+            let cut = parts_cut(rt.alloc(), row)?;
+            let ended = ran(rt.alloc(), &cut, row)?;
+            assert_eq!(rt; ended, end_of(rt.alloc(), row)?, "{row}");
+        }
+    }
+    Ok(())
 }
 
 // Makes a step, and says what it answers.

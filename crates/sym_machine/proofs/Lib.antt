@@ -1,3 +1,4 @@
+pub mod CursorLaws
 pub mod StepLaws
 pub mod PageLaws
 pub mod MemoryLaws
@@ -6,3 +7,5 @@ pub mod StateLaws
 pub mod RunLaws
 pub mod WordLaws
 pub mod SpanLaws
+pub mod StackLaws
+pub mod WrittenLaws

@@ -11,7 +11,7 @@ use Rattle.sym_machine.specs.declared.word.SymByte.TheVariants.{Undef}
 use Rattle.sym_machine.specs.Kept.{IsChanged, IsKept, Kept, above_only, kept_from, regions_of}
 use Rattle.sym_machine.specs.Pages.{AreCellsWritten}
 use Rattle.sym_machine.specs.Step.{undefined_below}
-use Rattle.sym_machine.proofs.PageLaws.{not_below, written_moved, written_more}
+use Rattle.sym_machine.proofs.WrittenLaws.{not_below, written_moved, written_more}
 
 -- ---- cells
 

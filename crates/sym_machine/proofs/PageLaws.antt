@@ -1,8 +1,7 @@
 -- Pages in two pools: what is read of them, a page that gets one of its own, and cells that are written.
-use Rattle.std.proofs.Common.{◌≡◌, ◌≢◌, ℕ, ◌++◌, ◌+◌, length-append, drop, length-drop, ◌-◌, ◌*◌, ◌/◌, ◌%◌, ◌^◌, ◌<◌, ◌≤◌, List, [], ◌∷◌, cond, eqb, length, get_or, set, take, min, map, replicate, refl, sym, ap, ◌∙◌, arith, subst, slice_index, ◌⊎◌, inl, inr, leb, ltb, Bool, true, false, get_or-set_same, get_or-set_other, length-set}
-use Rattle.std.specs.Prelude.{◌&&◌}
+use Rattle.std.proofs.Common.{◌≡◌, ◌≢◌, ℕ, ◌++◌, ◌+◌, length-append, drop, length-drop, ◌-◌, ◌*◌, ◌/◌, ◌%◌, ◌^◌, ◌<◌, ◌≤◌, List, [], ◌∷◌, cond, eqb, length, get_or, set, take, min, map, replicate, refl, sym, ap, ◌∙◌, arith, subst, slice_index, ◌⊎◌, inl, inr, Bool, true, false, get_or-set_same, get_or-set_other, length-set}
 use Rattle.std.specs.List.{sum_by}
-use Rattle.std.proofs.lemmas.Bool.{and_from, and_parts, cases_eq, cases_lt, cond-true, le-leb, leb-true, lt-ltb, ltb-true, ne_eqb, cond-false}
+use Rattle.std.proofs.lemmas.Bool.{cases_eq, cases_lt, ne_eqb, cond-false}
 use Rattle.std.proofs.lemmas.List.{get_or-append_right, get_or-drop, get_or-take, length-take, get_or_append_left, get_or_default, get_or_past, take_all, get_or-map, get_or-replicate, length-map, length-replicate, same_lists}
 use Rattle.std.proofs.lemmas.List.FromFn.{get_or-map-range_with_len, length-map-range_with_len}
 use Rattle.std.proofs.lemmas.List.Sums.{sum_by-set}
@@ -15,7 +14,8 @@ use Rattle.sym_machine.specs.declared.page.Page.{Page}
 use Rattle.sym_machine.specs.declared.page.Page.TheVariants.{Numbers, Cells}
 use Rattle.sym_machine.specs.declared.word.SymByte.{SymByte}
 use Rattle.sym_machine.specs.declared.word.SymByte.TheVariants.{Num, Undef}
-use Rattle.sym_machine.specs.Pages.{AreBytesWritten, AreCellsWritten, ArePages, IsInPool, IsMade, IsPooled, IsSame, Pooled, cells_of_pages, cells_wanted, number_in_pool, numbers_wanted, page_cell, page_of, pooled_cell}
+use Rattle.sym_machine.specs.Pages.{AreBytesWritten, AreCellsWritten, IsInPool, IsMade, IsPooled, IsSame, Pooled, cells_of_pages, cells_wanted, number_in_pool, numbers_wanted, page_cell, page_of, pooled_cell}
+use Rattle.sym_machine.proofs.WrittenLaws.{written_moved, written_numbers, written_there}
 
 -- ---- what is read
 
@@ -123,99 +123,6 @@ module _ (p : Pooled) (count : ℕ) (page : Page) (first : number_in_pool page �
   pub fresh_undefined : page ≡ Cells 0 → (i : ℕ) → i < 4096 * count → pooled_cell p i ≡ Undef
   fresh_undefined is i lt =
       ap (λ q. page_cell p q (i % 4096)) (fresh_page (i / 4096) (omega (arith, lt)) ∙ is) ∙ undefined_at (4096 * 0 + i % 4096) (omega arith)
-
--- ---- a write at other addresses
-
-pub written_there : {X : Type 0} (a n : ℕ) (given : ℕ → X) (x : ℕ) (old : X) → a ≤ x → x < a + n → written a n given x old ≡ given (x - a)
-written_there a n given x old low high = cond-true (leb a x && ltb x (a + n)) (given (x - a)) old (and_from (leb a x) (ltb x (a + n)) (le-leb a x low) (lt-ltb x (a + n) high))
-
-pub written_moved : {X : Type 0} (a b n : ℕ) (given : ℕ → X) (x y : ℕ) (old : X) → a + y ≡ b + x → written a n given x old ≡ written b n given y old
-written_moved a b n given x y old is = either (leb a x && ltb x (a + n)) refl
-  where
-    either : (t : Bool) → (leb a x && ltb x (a + n)) ≡ t → cond t (given (x - a)) old ≡ written b n given y old
-    either true h =
-        let q = and_parts (leb a x) (ltb x (a + n)) h in
-        let low = leb-true a x q.0 in
-        let high = ltb-true x (a + n) q.1 in
-        let same : x - a ≡ y - b = omega (arith, is, low) in
-        ap given same ∙ sym (written_there b n given y old (omega (arith, is, low)) (omega (arith, is, high)))
-    either false h = sym (untouched b n given y old (λ low high. outside (omega (arith, is, low)) (omega (arith, is, high))))
-      where
-        outside : a ≤ x → x < a + n → ⊥
-        outside low high = let yes = and_from (leb a x) (ltb x (a + n)) (le-leb a x low) (lt-ltb x (a + n) high) in cc
-
--- one cell
-pub written_one : {X : Type 0} (a : ℕ) (given rest : ℕ → X) → given 0 ≡ rest 0 → (x : ℕ) (c : X) → written a 1 given x c ≡ written a 1 rest x c
-written_one a given rest same x c = either (leb a x && ltb x (a + 1)) refl
-  where
-    either : (t : Bool) → (leb a x && ltb x (a + 1)) ≡ t → cond t (given (x - a)) c ≡ cond t (rest (x - a)) c
-    either true h =
-        let q = and_parts (leb a x) (ltb x (a + 1)) h in
-        let first : x - a ≡ 0 = omega (arith, leb-true a x q.0, ltb-true x (a + 1) q.1) in
-        ap given first ∙ same ∙ ap rest (sym first)
-    either false h = refl
-
--- no cell is written
-pub written_none : {X : Type 0} (a : ℕ) (given : ℕ → X) (x : ℕ) (c : X) → written a 0 given x c ≡ c
-written_none a given x c = untouched a 0 given x c (λ low high. omega (arith, low, high))
-
--- so many cells more, one write after the other
-pub written_further : {X : Type 0} (a n m : ℕ) (given rest : ℕ → X) → ((k : ℕ) → k < m → rest k ≡ given (n + k)) → (x : ℕ) (c : X)
-    → written (a + n) m rest x (written a n given x c) ≡ written a (n + m) given x c
-written_further a n m given rest same x c = by_place (cases_lt x a) (cases_lt x (a + n)) (cases_lt x (a + (n + m)))
-  where
-    by_place : (x < a) ⊎ (a ≤ x) → (x < a + n) ⊎ (a + n ≤ x) → (x < a + (n + m)) ⊎ (a + (n + m) ≤ x)
-        → written (a + n) m rest x (written a n given x c) ≡ written a (n + m) given x c
-    by_place (inl below) q r =
-        untouched (a + n) m rest x (written a n given x c) (λ low high. omega (arith, below, low))
-        ∙ untouched a n given x c (λ low high. omega (arith, below, low)) ∙ sym (untouched a (n + m) given x c (λ low high. omega (arith, below, low)))
-    by_place (inr from) (inl first) r =
-        untouched (a + n) m rest x (written a n given x c) (λ low high. omega (arith, first, low))
-        ∙ written_there a n given x c from first ∙ sym (written_there a (n + m) given x c from (omega (arith, first)))
-    by_place (inr from) (inr after) (inl last) =
-        let index : n + (x - (a + n)) ≡ x - a = omega (arith, after) in
-        written_there (a + n) m rest x (written a n given x c) after (omega (arith, last))
-        ∙ same (x - (a + n)) (omega (arith, after, last)) ∙ ap given index
-        ∙ sym (written_there a (n + m) given x c from last)
-    by_place (inr from) (inr after) (inr past) =
-        untouched (a + n) m rest x (written a n given x c) (λ low high. omega (arith, past, high))
-        ∙ untouched a n given x c (λ low high. omega (arith, after, high)) ∙ sym (untouched a (n + m) given x c (λ low high. omega (arith, past, high)))
-
--- one cell more
-pub written_more : {X : Type 0} (a n : ℕ) (given : ℕ → X) (x : ℕ) (c : X) → written (a + n) 1 (λ _. given n) x (written a n given x c) ≡ written a (n + 1) given x c
-written_more a n given x c = written_further a n 1 given (λ _. given n) (λ k lt. ap given (let e : n ≡ n + k = omega (arith, lt) in e)) x c
-
-pub set_more : {X : Type 0} (a n : ℕ) (given : ℕ → X) (b : X) (old cells : List X) → b ≡ given n → a + n < length cells → length cells ≡ length old
-    → ((j : ℕ) (d : X) → j < length old → get_or cells j d ≡ written a n given j (get_or old j d))
-    → (j : ℕ) (d : X) → j < length old → get_or (set cells (a + n) b) j d ≡ written a (n + 1) given j (get_or old j d)
-set_more a n given b old cells byte inside long so_far j d lt = by_place (cases_eq j (a + n)) ∙ written_more a n given j (get_or old j d)
-  where
-    by_place : (j ≡ a + n) ⊎ (j ≢ a + n) → get_or (set cells (a + n) b) j d ≡ written (a + n) 1 (λ _. given n) j (written a n given j (get_or old j d))
-    by_place (inl same) =
-        ap (λ q. get_or (set cells (a + n) b) q d) same ∙ get_or-set_same cells (a + n) b d inside ∙ byte
-        ∙ sym (written_there (a + n) 1 (λ _. given n) j (written a n given j (get_or old j d)) (omega (arith, same)) (omega (arith, same)))
-    by_place (inr other) =
-        get_or-set_other cells (a + n) j b d other ∙ so_far j d lt
-        ∙ sym (untouched (a + n) 1 (λ _. given n) j (written a n given j (get_or old j d)) (λ low high. other (omega (arith, low, high))))
-
--- numbers that are written are cells that are
-pub written_numbers : (at : ℕ) (bytes : List ℕ) (x old : ℕ) → Num (written at (length bytes) (slice_index bytes) x old) ≡ written at (length (map Num bytes)) (λ i. get_or (map Num bytes) i Undef) x (Num old)
-written_numbers at bytes x old = either (leb at x && ltb x (at + length bytes)) refl
-  where
-    long : length (map Num bytes) ≡ length bytes
-    long = length-map bytes Num
-
-    either : (t : Bool) → (leb at x && ltb x (at + length bytes)) ≡ t → Num (cond t (slice_index bytes (x - at)) old) ≡ written at (length (map Num bytes)) (λ i. get_or (map Num bytes) i Undef) x (Num old)
-    either true h =
-        let q = and_parts (leb at x) (ltb x (at + length bytes)) h in
-        let low = leb-true at x q.0 in
-        let high = ltb-true x (at + length bytes) q.1 in
-        sym (get_or-map Num bytes (x - at) 0 Undef (omega (arith, low, high)))
-        ∙ sym (written_there at (length (map Num bytes)) (λ i. get_or (map Num bytes) i Undef) x (Num old) low (omega (arith, high, long)))
-    either false h = sym (untouched at (length (map Num bytes)) (λ i. get_or (map Num bytes) i Undef) x (Num old) (λ low high. outside low (omega (arith, high, long))))
-      where
-        outside : at ≤ x → x < at + length bytes → ⊥
-        outside low high = let yes = and_from (leb at x) (ltb x (at + length bytes)) (le-leb at x low) (lt-ltb x (at + length bytes) high) in cc
 
 -- ---- changes, one after another
 
@@ -588,40 +495,6 @@ part_given numbers done m k lt within =
     get_or-map Num (take m (drop done numbers)) k 0 Undef (omega (arith, piece, lt))
     ∙ ap Num (get_or-take m (drop done numbers) k 0 lt ∙ get_or-drop done numbers k 0)
     ∙ sym (get_or-map Num numbers (done + k) 0 Undef (omega (arith, lt, within)))
-
-pub not_below : (a b : ℕ) → b ≤ a → ltb a b ≡ false
-not_below a b le = either (ltb a b) refl
-  where
-    either : (t : Bool) → ltb a b ≡ t → t ≡ false
-    either true h = absurd (let l = ltb-true a b h in omega (arith, l, le))
-    either false h = refl
-
--- cells below an index that become undefined, of which those below a mark are
-module _ (p : Pooled) (size mark : ℕ) (seen : List SymByte) (view : cells_of_pages p size ≡ seen) (are : ArePages p size mark) (i : ℕ) where
-  undefined_there : (j : ℕ) (d : SymByte) → j < length seen → j < mark → get_or seen j d ≡ Undef
-  undefined_there j d lt below = sym (cell_seen p size seen view j d lt) ∙ are.below j below
-
-  pub cleared : (p' : Pooled) → mark < i → IsMade (written mark (i - mark) (λ _. Undef)) p p' → (j : ℕ) (d : SymByte) → j < length seen
-      → get_or (cells_of_pages p' size) j d ≡ cond (ltb j i) Undef (get_or seen j d)
-  cleared p' order made j d lt = made_seen (written mark (i - mark) (λ _. Undef)) p p' size seen view made j d lt ∙ by_place (cases_lt j i) (cases_lt j mark)
-    where
-      by_place : (j < i) ⊎ (i ≤ j) → (j < mark) ⊎ (mark ≤ j) → written mark (i - mark) (λ _. Undef) j (get_or seen j d) ≡ cond (ltb j i) Undef (get_or seen j d)
-      by_place (inl below) (inl first) =
-          untouched mark (i - mark) (λ _. Undef) j (get_or seen j d) (λ low high. omega (arith, first, low)) ∙ undefined_there j d lt first
-          ∙ sym (cond-true (ltb j i) Undef (get_or seen j d) (lt-ltb j i below))
-      by_place (inl below) (inr after) =
-          written_there mark (i - mark) (λ _. Undef) j (get_or seen j d) after (omega (arith, below, order))
-          ∙ sym (cond-true (ltb j i) Undef (get_or seen j d) (lt-ltb j i below))
-      by_place (inr past) q =
-          untouched mark (i - mark) (λ _. Undef) j (get_or seen j d) (λ low high. omega (arith, past, high, order))
-          ∙ sym (cond-false (ltb j i) Undef (get_or seen j d) (not_below j i past))
-
-  pub cleared_already : i ≤ mark → (j : ℕ) (d : SymByte) → j < length seen → get_or seen j d ≡ cond (ltb j i) Undef (get_or seen j d)
-  cleared_already order j d lt = either (ltb j i) refl
-    where
-      either : (t : Bool) → ltb j i ≡ t → get_or seen j d ≡ cond t Undef (get_or seen j d)
-      either true h = let below = ltb-true j i h in undefined_there j d lt (omega (arith, below, order))
-      either false h = refl
 
 -- cells that are written over others from an index on, as far as these go
 pub overlaid_cells : (at count : ℕ) (new old cells : List SymByte) → at < length old → count ≡ min (length new) (length old - at) → length cells ≡ length old

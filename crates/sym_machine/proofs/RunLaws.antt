@@ -2,7 +2,9 @@
 use Rattle.std.proofs.Common.{◌≡◌, ℕ, zero, suc, ◌+◌, ◌-◌, ◌<◌, ◌≤◌, List, [], ◌∷◌, ◌++◌, Option, Some, None, Ok, Err, refl, ap, sym, ◌∙◌, arith}
 use Rattle.std.proofs.lemmas.List.{append-nil}
 use Rattle.std.proofs.lemmas.List.Concat.{flat_map-append}
+use Rattle.zc_base.specs.declared.mem_map.MemMap.{MemMap}
 use Rattle.zc_base.specs.declared.place.Place.{Place}
+use Rattle.block_cut.specs.declared.item.Item.{Item}
 use Rattle.rv_decode.specs.Memory.{extents_of}
 use Rattle.rv_decode.specs.Run.{iterate, ◌>>=◌}
 use Rattle.rv_decode.specs.State.{Event, Exit, Read, Write}
@@ -14,6 +16,7 @@ use Rattle.zc_outside.specs.declared.console.ConsoleFault.{ConsoleFault}
 use Rattle.zc_outside.proofs.Desk.{Wrote-append, Wrote-none}
 use Rattle.sym_machine.specs.declared.run.TraceEnd.TheVariants as end
 use Rattle.sym_machine.specs.declared.why.Why.{Why}
+use Rattle.sym_machine.specs.Answer.{RunsOn}
 use Rattle.sym_machine.specs.Change.{Change, Does, Goes, Stops, item_does}
 use Rattle.sym_machine.specs.Advance.{RunsTo}
 use Rattle.sym_machine.specs.Kept.{IsOf}
@@ -172,6 +175,14 @@ RunsTo-more p s last s2 k so_far exit went = record {
       ∙ plain_more p input (count + k) (record { core = last; events = events }) (record { core = s2; events = events }) (so_far.runs input count events came)
       (went_turn p last s2 events [] went ∙ ap (λ l. Ok (record { core = s2; events = l })) (append-nil events));
 }
+
+-- and by one that is made by what stands at the place
+pub RunsTo-made :
+    (p : Program) (map : MemMap) (s last s2 : PlainCore) (k : ℕ) (q next : Place) (item : Item)
+    → plain_step p last ≡ applied map last (item_does p (p.item q) last (p.next q)) → p.item q ≡ Some item → p.next q ≡ next
+    → RunsOn (applied map last (item_does p (Some item) last next)) [] last s2 → RunsTo p s last k → RunsTo p s s2 (k + 1)
+RunsTo-made p map s last s2 k q next item step here after made so_far =
+    RunsTo-more p s last s2 k so_far (made.1 ∙ sym made.0) (step ∙ (λ j. applied map last (item_does p (here j) last (after j))) ∙ made.2)
 
 -- a run that has come to a state comes to where that comes by them, and has written no more
 pub Came-on :

@@ -9,7 +9,7 @@ use Rattle.sym_machine.specs.declared.word.SymByte.TheVariants.{Undef}
 use Rattle.sym_machine.specs.Kept.{IsChanged, IsKept, IsSpan, Kept, regions_of, sym_word_at}
 use Rattle.sym_machine.specs.Pages.{AreCellsWritten, word_in}
 use Rattle.sym_machine.proofs.MemoryLaws.{byte_in_data, byte_in_stack, reaches_is, stored_data, stored_stack}
-use Rattle.sym_machine.proofs.PageLaws.{written_one}
+use Rattle.sym_machine.proofs.WrittenLaws.{written_one}
 
 -- what holds anyway holds if there is something
 pub anyway : {A : Type 0} (o : Option A) (T : Type 0) → T → IfSome o (λ _. T)

@@ -1,8 +1,11 @@
 -- Words of numbers: each is its number again, and what operations make of numbers are numbers.
-use Rattle.std.proofs.Common.{◌≡◌, ℕ, ℤ, pos, negsuc, ◌+◌, ◌*◌, ◌%◌, ◌^◌, ◌<◌, Bool, true, false, cond, eqb, Some, None, sym, ap, ◌∙◌, ⊎_elim, arith}
+use Rattle.std.proofs.Common.{◌≡◌, ℕ, ℤ, pos, negsuc, ◌+◌, ◌*◌, ◌%◌, ◌^◌, ◌<◌, Bool, true, false, cond, eqb, Some, None, refl, sym, ap, ◌∙◌, ⊎_elim, arith}
+use Rattle.std.specs.Prelude.{◌&&◌}
 use Rattle.std.specs.Option.{option_map_or}
-use Rattle.std.proofs.lemmas.Bool.{cond-false, cond-true}
+use Rattle.std.proofs.lemmas.Bool.{and_parts, cond-false, cond-true, eqb-true}
 use Rattle.std.proofs.lemmas.Bool.Decides.{eqb_tells}
+use Rattle.zc_base.specs.declared.place.Place.{Place}
+use Rattle.block_cut.proofs.LedLaws.{same_is}
 use Rattle.rv_decode.specs.Bits.{add32}
 use Rattle.rv_decode.specs.Memory.{byte_of}
 use Rattle.rv_decode.specs.Results.{imm_result, reg_result}
@@ -10,8 +13,13 @@ use Rattle.rv_decode.specs.declared.instr.ImmOp.{ImmOp}
 use Rattle.rv_decode.specs.declared.instr.ImmOp.TheVariants.{Addi, Slti, Sltiu, Xori, Ori, Andi, Slli, Srli, Srai}
 use Rattle.rv_decode.specs.declared.instr.RegOp.{RegOp}
 use Rattle.rv_decode.specs.declared.instr.RegOp.TheVariants.{Add, Sub, Sll, Slt, Sltu, Xor, Srl, Sra, Or, And, Mul, Mulh, Mulhsu, Mulhu, Div, Divu, Rem, Remu}
+use Rattle.sym_machine.specs.declared.word.SymByte.{SymByte}
+use Rattle.sym_machine.specs.declared.word.SymByte.TheVariants.{Num, Part, Undef}
+use Rattle.sym_machine.specs.declared.word.SymWord.{SymWord}
+use Rattle.sym_machine.specs.declared.word.Value.{Value}
+use Rattle.sym_machine.specs.declared.word.Value.TheVariants.{Code, AbsHi, PcHi}
 use Rattle.sym_machine.specs.State.{PlainCore, reg_of}
-use Rattle.sym_machine.specs.Words.{code_or, imm_numeric, imm_word, is_one, number_of, number_word, numeric, reg_numeric, reg_word, sum_word, undef_word}
+use Rattle.sym_machine.specs.Words.{code_from, code_of, code_word, is_part, is_value, same_value, value_word, code_or, imm_numeric, imm_word, is_one, number_of, number_word, numeric, reg_numeric, reg_word, sum_word, undef_word}
 
 -- four bytes of a number make it up
 pub bytes_make : (n : ℕ) → n < 2 ^ 32 → byte_of n 0 + 256 * byte_of n 1 + 65536 * byte_of n 2 + 16777216 * byte_of n 3 ≡ n
@@ -97,3 +105,49 @@ pub registers_reg : (s : PlainCore) (op : RegOp) (first second a b : ℕ) → a 
 registers_reg s op first second a b below_a below_b is_a is_b =
     sym (number_reg a b below_a below_b op first second (zeros s first a below_a is_a) (zeros s second b below_b is_b))
     ∙ (λ j. reg_word op first second (sym is_a j) (sym is_b j))
+
+-- ---- values
+
+module _ (v : Value) where
+  same_value_is : (w : Value) → same_value v w ≡ true → v ≡ w
+  same_value_is w is = by v w is
+    where
+      by : (a b : Value) → same_value a b ≡ true → a ≡ b
+      by (Code q) (Code r) h = let p = same_is q r h in λ j. Code (record { object = p.0 j; section = p.1 j; offset = p.2 j })
+      by (Code q) (AbsHi r) h = absurd cc
+      by (Code q) (PcHi r) h = absurd cc
+      by (AbsHi q) (Code r) h = absurd cc
+      by (AbsHi q) (AbsHi r) h = let p = same_is q r h in λ j. AbsHi (record { object = p.0 j; section = p.1 j; offset = p.2 j })
+      by (AbsHi q) (PcHi r) h = absurd cc
+      by (PcHi q) (Code r) h = absurd cc
+      by (PcHi q) (AbsHi r) h = absurd cc
+      by (PcHi q) (PcHi r) h = let p = same_is q r h in λ j. PcHi (record { object = p.0 j; section = p.1 j; offset = p.2 j })
+
+  pub part_is : (i : ℕ) (b : SymByte) → is_part v i b ≡ true → Part v i ≡ b
+  part_is i (Num n) h = absurd cc
+  part_is i Undef h = absurd cc
+  part_is i (Part w j) h =
+      let both = and_parts (same_value v w) (eqb i j) h in
+      λ k. Part (same_value_is w both.0 k) (eqb-true i j both.1 k)
+
+  value_is : (w : SymWord) → is_value v w ≡ true → value_word v ≡ w
+  value_is w h =
+      let a = and_parts (is_part v 0 w.b0) (is_part v 1 w.b1 && (is_part v 2 w.b2 && is_part v 3 w.b3)) h in
+      let b = and_parts (is_part v 1 w.b1) (is_part v 2 w.b2 && is_part v 3 w.b3) a.1 in
+      let c = and_parts (is_part v 2 w.b2) (is_part v 3 w.b3) b.1 in
+      λ k. record { b0 = part_is 0 w.b0 a.0 k; b1 = part_is 1 w.b1 b.0 k; b2 = part_is 2 w.b2 c.0 k; b3 = part_is 3 w.b3 c.1 k }
+
+-- a word that is a place's address is that address's word
+pub code_is : (w : SymWord) (q : Place) → code_of w ≡ Some q → code_word q ≡ w
+code_is w q is = by w.b0 is
+  where
+    tested : (r : Place) (b : Bool) → is_value (Code r) w ≡ b → cond b (Some r) None ≡ Some q → code_word q ≡ w
+    tested r true value h = let same : r ≡ q = cc in ap code_word (sym same) ∙ value_is (Code r) w value
+    tested r false value h = absurd cc
+
+    by : (b : SymByte) → code_from b w ≡ Some q → code_word q ≡ w
+    by (Num n) h = absurd cc
+    by Undef h = absurd cc
+    by (Part (AbsHi r) i) h = absurd cc
+    by (Part (PcHi r) i) h = absurd cc
+    by (Part (Code r) i) h = tested r (is_value (Code r) w) refl h

@@ -7,7 +7,7 @@ use Rattle.psabi_sym.specs.declared.target.Target.{Target}
 use Rattle.psabi_sym.specs.declared.target.Target.TheVariants as target
 use Rattle.psabi_reloc.specs.Parts.{hi20_of, lo12_of}
 use Rattle.block_cut.specs.declared.item.Item.{Item}
-use Rattle.block_cut.specs.declared.item.Item.TheVariants.{Op, Hi, Lo, PcHi, PcLo, Branch, Jump, Call, Align, Word, Raw, RawPair}
+use Rattle.block_cut.specs.declared.item.Item.TheVariants.{Op, Hi, Lo, PcHi, PcLo, Branch, Jump, Call, Align, Word, Raw, RawShort, RawPair}
 use Rattle.sym_machine.specs.declared.word.SymByte.{SymByte}
 use Rattle.sym_machine.specs.declared.word.SymWord.{SymWord}
 use Rattle.sym_machine.specs.declared.word.Value.TheVariants as value
@@ -59,6 +59,7 @@ pc_target (Some (Call rd temp to)) = None
 pc_target (Some (Align bytes)) = None
 pc_target (Some (Word t)) = None
 pc_target (Some (Raw word)) = None
+pc_target (Some (RawShort half)) = None
 pc_target (Some (RawPair first second)) = None
 
 -- the sum of a base's word and the lower part that goes with the `auipc` at a place, by what its relocation resolves to: the word of

@@ -17,7 +17,7 @@ use Rattle.rv_decode.specs.Effect.{load_width, store_width}
 use Rattle.rv_decode.specs.Memory.{Region, cell_at, extents_of, is_data, lies_in}
 use Rattle.rv_decode.specs.State.{Event, Exit, Read, Write}
 use Rattle.block_cut.specs.declared.item.Item.{Item}
-use Rattle.block_cut.specs.declared.item.Item.TheVariants.{Op, Hi, Lo, PcHi, PcLo, Branch, Jump, Call, Align, Word, Raw, RawPair}
+use Rattle.block_cut.specs.declared.item.Item.TheVariants.{Op, Hi, Lo, PcHi, PcLo, Branch, Jump, Call, Align, Word, Raw, RawShort, RawPair}
 use Rattle.sym_machine.specs.declared.arguments.Arguments.{Arguments}
 use Rattle.sym_machine.specs.declared.why.Why.{Why}
 use Rattle.sym_machine.specs.declared.why.Why.TheVariants.{AddressUnknown, ConditionUnknown, TargetUnknown, ArgumentUnknown, BadAddress, Misaligned, NoInstruction, UnknownCall}
@@ -267,4 +267,5 @@ item_does p (Some (Call rd temp to)) s next = call_to rd temp to next
 item_does p (Some (Align bytes)) s next = Goes (continues next)
 item_does p (Some (Word t)) s next = Stops NoInstruction
 item_does p (Some (Raw word)) s next = Stops NoInstruction
+item_does p (Some (RawShort half)) s next = Stops NoInstruction
 item_does p (Some (RawPair first second)) s next = Stops TargetUnknown

@@ -6,7 +6,7 @@ use Rattle.rv_decode.specs.declared.instr.BranchOp.{BranchOp}
 use Rattle.rv_decode.specs.declared.instr.BranchOp.TheVariants.{Beq, Bne, Blt, Bge, Bltu, Bgeu}
 use Rattle.rv_decode.specs.Results.{is_taken}
 use Rattle.block_cut.specs.declared.item.Item.{Item}
-use Rattle.block_cut.specs.declared.item.Item.TheVariants.{Op, Hi, Lo, PcHi, PcLo, Branch, Jump, Call, Align, Word, Raw, RawPair}
+use Rattle.block_cut.specs.declared.item.Item.TheVariants.{Op, Hi, Lo, PcHi, PcLo, Branch, Jump, Call, Align, Word, Raw, RawShort, RawPair}
 use Rattle.sym_machine.specs.declared.known.Known.{Known}
 use Rattle.sym_machine.specs.declared.known.Known.TheVariants.{Number, Code, Unknown}
 use Rattle.sym_machine.specs.declared.word.SymWord.{SymWord}
@@ -31,6 +31,7 @@ is_solid (Some (Call rd temp to)) = true
 is_solid (Some (Align bytes)) = false
 is_solid (Some (Word t)) = true
 is_solid (Some (Raw word)) = true
+is_solid (Some (RawShort half)) = true
 is_solid (Some (RawPair first second)) = true
 
 -- whether two words are equal; no code address is 0, and two places that have room of their own have two addresses

@@ -12,4 +12,6 @@ pub mod RunEnd
 pub mod Answer
 pub mod Kept
 pub mod Advance
+pub mod Cursor
 pub mod Pages
+pub mod Stack

@@ -97,8 +97,7 @@ AreCellsWritten at cells old new =
 abbrev pub word_in : List SymByte → ℕ → SymWord
 word_in cells i = record { b0 = slice_index_or cells i Undef; b1 = slice_index_or cells (i + 1) Undef; b2 = slice_index_or cells (i + 2) Undef; b3 = slice_index_or cells (i + 3) Undef }
 
--- so many cells of pages, of which those below a mark are undefined
-pub record ArePages (p : Pooled) (size mark : ℕ) : Type 0 where
+-- so many cells of pages
+pub record ArePages (p : Pooled) (size : ℕ) : Type 0 where
   pub pooled : IsPooled p
   pub covered : size ≤ 4096 * length p.pages
-  pub below : (i : ℕ) → i < mark → pooled_cell p i ≡ Undef

@@ -75,6 +75,7 @@ fn pc_target(cut: &Cut, q: Place) -> Option<Target>
             | Item::Align(_)
             | Item::Word(_)
             | Item::Raw(_)
+            | Item::RawShort(_)
             | Item::RawPair(_, _),
         ) => None,
     }

@@ -1,6 +1,6 @@
-// Cells and bytes, written from an index up.
+// Cells, bytes and flags, written from an index up.
 
-ghost use Rattle.std.specs.Prelude.{◌≡◌, ◌≤◌, ◌<◌, ◌+◌, ℕ, length, map, slice_index_or};
+ghost use Rattle.std.specs.Prelude.{◌≡◌, ◌≤◌, ◌<◌, ◌+◌, ℕ, Bool, false, length, map, slice_index_or};
 ghost use Rattle.rv_decode.specs.Memory.{written};
 ghost use Rattle.sym_machine.specs.Pages.{AreBytesWritten, AreCellsWritten};
 ghost use Rattle.sym_machine.specs.declared.word.SymByte.{SymByte};
@@ -53,5 +53,17 @@ pub fn fill_up(cells: &mut [SymByte], start: usize, count: usize)
 {
     for k in 0..count {
         cells[start + k] = SymByte::Undef;
+    }
+}
+
+/// Makes so many flags from an index up false.
+pub fn end_up(live: &mut [bool], start: usize, count: usize)
+    requires { start + count ≤ length live.old }
+    ensures len { length live.new ≡ length live.old }
+    ensures each { (j : ℕ) (d : Bool) → j < length live.old
+        → slice_index_or live.new j d ≡ written start count (λ _. false) j (slice_index_or live.old j d) }
+{
+    for k in 0..count {
+        live[start + k] = false;
     }
 }

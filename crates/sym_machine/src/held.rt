@@ -21,15 +21,29 @@ impl Held {
     /// A word whose bytes are undefined.
     pub const UNDEFINED: Held = Held::Bytes(SymWord::UNDEFINED);
 
-    /// The word of four bytes, the lowest first.
+    /// The word of four bytes, the lowest first. It takes the form that tells most.
+    #[inline(always)]
     pub fn of_bytes(bytes: SymWord) -> Held
+        ensures { word_of result ≡ bytes }
+    {
+        match bytes.b0 {
+            SymByte::Undef => Held::Bytes(bytes),
+            SymByte::Num(_) | SymByte::Part(_, _) => Held::of_known(bytes),
+        }
+    }
+
+    // The same if the lowest byte isn't undefined.
+    fn of_known(bytes: SymWord) -> Held
         ensures { word_of result ≡ bytes }
     {
         match (bytes.b0, bytes.b1, bytes.b2, bytes.b3) {
             (SymByte::Num(a), SymByte::Num(b), SymByte::Num(c), SymByte::Num(d)) => {
                 Held::Number(u32::from_le_bytes([a, b, c, d]))
             }
-            _ => Held::Bytes(bytes),
+            _ => match bytes.code() {
+                Some(q) => Held::Code(q),
+                None => Held::Bytes(bytes),
+            },
         }
     }
 
@@ -93,6 +107,28 @@ impl Held {
             b2: SymByte::Num(0),
             b3: SymByte::Num(0),
         })
+    }
+
+    /// Becomes a number. If it is one already, only the number is written and not the whole word.
+    #[inline(always)]
+    pub fn set_number(&mut self, n: u32)
+        ensures { self.new ≡ Held.Number n }
+    {
+        match self {
+            Held::Number(old) => *old = n,
+            Held::Code(_) | Held::Bytes(_) => *self = Held::Number(n),
+        }
+    }
+
+    /// Becomes a place's address, in the same way.
+    #[inline(always)]
+    pub fn set_code(&mut self, q: Place)
+        ensures { self.new ≡ Held.Code q }
+    {
+        match self {
+            Held::Code(old) => *old = q,
+            Held::Number(_) | Held::Bytes(_) => *self = Held::Code(q),
+        }
     }
 
     /// The number that the word is, if it is one.

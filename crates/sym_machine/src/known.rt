@@ -53,6 +53,7 @@ fn is_solid(cut: &Cut, q: Place) -> bool
             | Item::Call { .. }
             | Item::Word(_)
             | Item::Raw(_)
+            | Item::RawShort(_)
             | Item::RawPair(_, _),
         ) => true,
     }

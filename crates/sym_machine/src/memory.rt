@@ -11,6 +11,7 @@ mod writes;
 
 use crate::pages::Pages;
 use crate::span::Span;
+use crate::stack::Stack;
 use crate::word::SymByte;
 use std::alloc::{AllocError, Global};
 use std::marker::Model;
@@ -21,18 +22,19 @@ use zc_base::mem_map::MemMap;
 pub struct SymMemory {
     map: MemMap,
     bytes: Pages,
-    stack: Pages,
+    stack: Stack,
     from: u32,
 }
 
 impl Model for SymMemory {
     ghost use Rattle.sym_machine.specs.Kept.{IsKept, Kept};
+    ghost use Rattle.sym_machine.specs.Stack.{stack_cells};
 
     ghost Value = { Kept };
 
-    ghost view = { λ m. record { map = m.map; bytes = m.bytes; stack = m.stack; from = m.from } };
+    ghost view = { λ m. record { map = m.map; bytes = m.bytes; stack = stack_cells m.stack; from = m.from } };
 
-    ghost invariant = { λ m. IsKept (record { map = m.map; bytes = m.bytes; stack = m.stack; from = m.from }) };
+    ghost invariant = { λ m. IsKept (record { map = m.map; bytes = m.bytes; stack = stack_cells m.stack; from = m.from }) };
 }
 
 impl SymMemory {
@@ -47,7 +49,7 @@ impl SymMemory {
           from = map.stack_high;
         }) }
     {
-        let stack = Pages::undefined(alloc, (map.stack_high - map.stack_low) as usize)?;
+        let stack = Stack::undefined(alloc, (map.stack_high - map.stack_low) as usize)?;
         Ok(SymMemory {
             map,
             bytes,

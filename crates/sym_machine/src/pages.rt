@@ -1,7 +1,7 @@
 // A list of cells in pages.
 
-ghost use Rattle.std.specs.Prelude.{◌≡◌, ◌≤◌, ◌<◌, ◌+◌, ◌-◌, ◌++◌, ◌∷◌, [], ◌^◌, ◌%◌, ℕ, IfOk, IfSome, length, map, nat_lt, replicate, slice_index_or, slice_set, if◌then◌else◌};
-ghost use Rattle.rv_decode.specs.Memory.{blank, cells_changed};
+ghost use Rattle.std.specs.Prelude.{◌≡◌, ◌≤◌, ◌<◌, ◌+◌, ◌-◌, ◌++◌, ◌∷◌, [], ◌^◌, ◌%◌, ℕ, IfOk, IfSome, length, map, replicate, slice_index_or};
+ghost use Rattle.rv_decode.specs.Memory.{blank, written};
 ghost use Rattle.sym_machine.specs.Pages.{AreCellsWritten, word_in};
 ghost use Rattle.sym_machine.specs.Words.{number_word};
 ghost use Rattle.sym_machine.specs.declared.word.SymByte.{SymByte};
@@ -13,11 +13,10 @@ use crate::word::{SymByte, SymWord};
 use std::alloc::{AllocError, Global};
 use std::marker::Model;
 
-/// Cells in pages. Those below a mark are undefined.
+/// Cells in pages.
 #[derive(Drop)]
 pub struct Pages {
     size: usize,
-    mark: usize,
     pool: Pool,
 }
 
@@ -30,7 +29,7 @@ impl Model for Pages {
 
     ghost view = { λ p. cells_of_pages p.pool p.size };
 
-    ghost invariant = { λ p. ArePages p.pool p.size p.mark };
+    ghost invariant = { λ p. ArePages p.pool p.size };
 }
 
 impl Pages {
@@ -40,11 +39,7 @@ impl Pages {
         ensures { IfOk result (λ pages. pages ≡ blank size Undef) }
     {
         let pool = Pool::new(alloc, size.div_ceil(PAGE), Page::Cells(0))?;
-        Ok(Pages {
-            size,
-            mark: size,
-            pool,
-        })
+        Ok(Pages { size, pool })
     }
 
     /// The cells of these numbers, and zeros after them up to this size.
@@ -64,11 +59,7 @@ impl Pages {
         ensures { IfOk result (λ pages. pages ≡ replicate size (Num 0)) }
     {
         let pool = Pool::new(alloc, size.div_ceil(PAGE), Page::Numbers(0))?;
-        Ok(Pages {
-            size,
-            mark: 0,
-            pool,
-        })
+        Ok(Pages { size, pool })
     }
 
     /// How many cells there are.
@@ -144,7 +135,7 @@ impl Pages {
         requires { i + 4 ≤ length self.now }
         ensures { result ≡ word_in self.now i }
     {
-        // There are fewer cells than numbers.
+        // The number of cells is far below the largest index, so no sum overflows.
         let _size = self.len();
         SymWord {
             b0: self.cell(i),
@@ -177,7 +168,6 @@ impl Pages {
         ensures len { length self.new ≡ length self.old }
         ensures each { AreCellsWritten i (map Num numbers.now) self.old self.new }
     {
-        self.mark = self.mark.min(i);
         self.pool.write_numbers(i, numbers);
     }
 
@@ -189,7 +179,7 @@ impl Pages {
         ensures len { length self.new ≡ length self.old }
         ensures each { AreCellsWritten i (map Num numbers.now) self.old self.new }
     {
-        // There are fewer cells than numbers.
+        // The number of cells is far below the largest index, so no sum overflows.
         let _size = self.len();
         let mut done = 0;
         while done < numbers.len() {
@@ -224,7 +214,6 @@ impl Pages {
         ensures len { length self.new ≡ length self.old }
         ensures each { AreCellsWritten i cells.now self.old self.new }
     {
-        self.mark = self.mark.min(i);
         self.pool.write_cells(i, cells);
     }
 
@@ -234,7 +223,7 @@ impl Pages {
         ensures len { length self.new ≡ length self.old }
         ensures each { AreCellsWritten i cells.now self.old self.new }
     {
-        // There are fewer cells than numbers.
+        // The number of cells is far below the largest index, so no sum overflows.
         let _size = self.len();
         for k in 0..cells.len() {
             self.write(i + k, cells[k]);
@@ -253,17 +242,15 @@ impl Pages {
         }
     }
 
-    /// Makes the cells below an index undefined.
+    /// Makes the cells from an index up to another one undefined.
     #[inline(always)]
-    pub fn clear_below(&mut self, i: usize)
-        requires { i ≤ length self.old }
+    pub fn clear(&mut self, from: usize, to: usize)
+        requires order { from ≤ to }
+        requires within { to ≤ length self.old }
         ensures len { length self.new ≡ length self.old }
         ensures each { (j : ℕ) (d : SymByte) → j < length self.old
-            → slice_index_or self.new j d ≡ (if nat_lt j i then Undef else slice_index_or self.old j d) }
+            → slice_index_or self.new j d ≡ written from (to - from) (λ _. Undef) j (slice_index_or self.old j d) }
     {
-        if self.mark < i {
-            self.pool.clear(self.mark, i);
-            self.mark = i;
-        }
+        self.pool.clear(from, to);
     }
 }

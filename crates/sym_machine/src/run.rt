@@ -1,10 +1,8 @@
 // Runs of the symbolic machine.
 
-ghost use Rattle.std.specs.Prelude.{◌≡◌, ◌<◌, None, true, OnOk, OnErr, IfErr};
+ghost use Rattle.std.specs.Prelude.{◌≡◌, true, OnOk, OnErr, IfErr};
 ghost use Rattle.psabi_sym.specs.Inputs.{parsed};
-ghost use Rattle.sym_machine.specs.Advance.{Advanced};
 ghost use Rattle.sym_machine.specs.Change.{is_output};
-ghost use Rattle.sym_machine.specs.Kept.{IsOf};
 ghost use Rattle.sym_machine.specs.Objects.{program_of};
 ghost use Rattle.sym_machine.specs.RunEnd.{CountsSteps, Traced, plain_course};
 ghost use Rattle.sym_machine.specs.State.{first_plain};
@@ -15,7 +13,6 @@ use crate::answer::SymStep;
 use crate::sym::Sym;
 use crate::why::Why;
 use block_cut::cut::Cut;
-use std::alloc::AllocError;
 use zc_base::place::Place;
 use zc_outside::console::{Console, ConsoleFault};
 
@@ -57,7 +54,7 @@ pub fn run_counted<C: Console>(
 {
     let mut made = 0;
     while made < steps {
-        let (quiet, answer) = advance(sym, cut, steps - made);
+        let (quiet, answer) = sym.advance(cut, steps - made);
         made += quiet;
         let Ok(step) = answer else {
             return (TraceEnd::OutOfMemory, made);
@@ -75,30 +72,6 @@ pub fn run_counted<C: Console>(
         made += 1;
     }
     (TraceEnd::Spent, steps)
-}
-
-// Makes at most so many steps, up to the first that answers more than that it is done. Says how many came before that
-// one, and what it answered. A program has this loop once, whatever consoles its runs write to.
-#[inline(never)]
-fn advance(sym: &mut Sym, cut: &Cut, steps: u64) -> (u64, Result<SymStep, AllocError>)
-    requires some { 0 < steps }
-    requires running { sym.old.exit ≡ None }
-    requires of { IsOf (program_of (parsed cut.now)) sym.old }
-    ensures within { result.0 < steps }
-    ensures advanced { Advanced (program_of (parsed cut.now)) sym.old sym.new result.0 result.1 }
-{
-    let mut made = 0;
-    loop {
-        match sym.step(cut) {
-            Ok(SymStep::Done) => {
-                if made + 1 == steps {
-                    return (made, Ok(SymStep::Done));
-                }
-                made += 1;
-            }
-            answer => return (made, answer),
-        }
-    }
 }
 
 // Writes bytes to the stream with a number.

@@ -4,14 +4,16 @@ ghost use Rattle.std.specs.Prelude.{◌≡◌, ◌<◌, IfOk, IfSome, MatchOptio
 ghost use Rattle.psabi_sym.specs.Inputs.{parsed};
 ghost use Rattle.rv_decode.specs.Effect.{load_width};
 ghost use Rattle.sym_machine.specs.Answer.{Makes};
-ghost use Rattle.sym_machine.specs.Change.{in_memory, load_word, numbers_at};
+ghost use Rattle.sym_machine.specs.Change.{in_memory, item_does, load_word, numbers_at};
 ghost use Rattle.sym_machine.specs.Kept.{IsOf, word_of};
 ghost use Rattle.sym_machine.specs.Objects.{program_of};
+ghost use Rattle.sym_machine.specs.Program.{Program};
 ghost use Rattle.sym_machine.specs.State.{first_plain, reg_of};
-ghost use Rattle.sym_machine.specs.Step.{plain_step};
-ghost use Rattle.sym_machine.specs.Words.{number_of, number_word};
+ghost use Rattle.sym_machine.specs.Step.{applied, plain_step};
+ghost use Rattle.sym_machine.specs.Words.{code_word, number_of, number_word, undef_word};
 
 mod accesses;
+mod advance;
 mod calls;
 mod ends;
 mod items;
@@ -25,6 +27,7 @@ use crate::first_data::first_data;
 use crate::held::{Held, signed_byte, signed_half, zero_byte, zero_half};
 use crate::memory::SymMemory;
 use crate::why::Why;
+use crate::word::{SymByte, Value};
 use block_cut::cut::Cut;
 use rv_decode::instr::LoadOp;
 use std::alloc::{AllocError, Global};
@@ -90,8 +93,12 @@ impl State {
     }
 
     /// The place of the next item.
+    #[inline(always)]
     pub fn place(&self) -> Place
-        ensures { result ≡ self.now.core.place }
+        ensures value { result ≡ self.now.core.place }
+        ensures step { (p : Program) → IsOf p self.now.core → self.now.core.exit ≡ None
+            → plain_step p self.now.core
+            ≡ applied self.now.map self.now.core (item_does p (p.item result) self.now.core (p.next result)) }
     {
         self.place
     }
@@ -160,6 +167,40 @@ impl State {
         }
     }
 
+    /// The place whose address the word at an address is, if it is one. It copies no word.
+    #[inline(always)]
+    pub fn loaded_code(&self, a: u32) -> Option<Place>
+        ensures { IfSome result (λ q. code_word q ≡ load_word LoadOp.Lw self.now.core a) }
+    {
+        let (memory, a) = (&self.memory, u64::from(a));
+        let first = memory.byte(a);
+        let SymByte::Part(Value::Code(q), _) = first else {
+            return None;
+        };
+        let value = Value::Code(q);
+        if first.is_part(value, 0)
+            && memory.byte(a + 1).is_part(value, 1)
+            && memory.byte(a + 2).is_part(value, 2)
+            && memory.byte(a + 3).is_part(value, 3)
+        {
+            Some(q)
+        } else {
+            None
+        }
+    }
+
+    /// Whether all bytes of the word at an address are undefined.
+    #[inline(always)]
+    pub fn is_undefined(&self, a: u32) -> bool
+        ensures { result ≡ true → load_word LoadOp.Lw self.now.core a ≡ undef_word }
+    {
+        let (memory, a) = (&self.memory, u64::from(a));
+        matches!(memory.byte(a), SymByte::Undef)
+            && matches!(memory.byte(a + 1), SymByte::Undef)
+            && matches!(memory.byte(a + 2), SymByte::Undef)
+            && matches!(memory.byte(a + 3), SymByte::Undef)
+    }
+
     /// The so many bytes from an address on, if all are numbers.
     pub fn numbers(&self, a: u32, n: u32) -> Result<Option<Vec<u8>>, AllocError>
         ensures { IfOk result (λ found. MatchOption found
@@ -170,7 +211,6 @@ impl State {
     }
 
     /// Makes one step of the objects that the state is of.
-    #[inline(always)]
     pub fn step(&mut self, cut: &Cut) -> Result<SymStep, AllocError>
         requires { IsOf (program_of (parsed cut.now)) self.old.core }
         ensures { Makes result (plain_step (program_of (parsed cut.now)) self.old.core) self.old.core self.new.core }
@@ -192,9 +232,6 @@ impl State {
             section: place.section,
             offset: place.offset + u32::from(here.size),
         };
-        if self.quick_item(item, next) {
-            return Ok(SymStep::Done);
-        }
         self.step_item(cut, item, next)
     }
 }

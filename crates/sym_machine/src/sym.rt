@@ -1,7 +1,8 @@
 // The symbolic machine.
 
-ghost use Rattle.std.specs.Prelude.{◌≡◌, IfOk};
+ghost use Rattle.std.specs.Prelude.{◌≡◌, ◌<◌, IfOk, None};
 ghost use Rattle.psabi_sym.specs.Inputs.{parsed};
+ghost use Rattle.sym_machine.specs.Advance.{Advanced};
 ghost use Rattle.sym_machine.specs.Answer.{Makes};
 ghost use Rattle.sym_machine.specs.Kept.{IsOf};
 ghost use Rattle.sym_machine.specs.Objects.{program_of};
@@ -39,15 +40,27 @@ impl Sym {
     }
 
     /// Makes one step of the objects that the machine was started with, in constant time but for a
-    /// call's buffer, for a page that is written first, and, where sp rises, for the pages from the
-    /// lowest byte that was written up to it. After the exit, and if the machine is stuck, each step
-    /// answers the same again.
-    #[inline(always)]
+    /// call's buffer, for a page that is written first, and, at a write below where sp has been, for a
+    /// flag for each 32 bytes that sp rose over. After the exit, and if the machine is stuck, each step answers
+    /// the same again.
     pub fn step(&mut self, cut: &Cut) -> Result<SymStep, AllocError>
         requires { IsOf (program_of (parsed cut.now)) self.old }
         ensures makes { Makes result (plain_step (program_of (parsed cut.now)) self.old) self.old self.new }
         ensures of { IsOf (program_of (parsed cut.now)) self.new }
     {
         self.state.step(cut)
+    }
+
+    /// Makes at most so many steps, up to the first that answers more than that it is done. Says how many came before
+    /// that one, and what it answered. A program has this loop once, whatever consoles its runs write to.
+    #[inline(never)]
+    pub fn advance(&mut self, cut: &Cut, steps: u64) -> (u64, Result<SymStep, AllocError>)
+        requires some { 0 < steps }
+        requires running { self.old.exit ≡ None }
+        requires of { IsOf (program_of (parsed cut.now)) self.old }
+        ensures within { result.0 < steps }
+        ensures advanced { Advanced (program_of (parsed cut.now)) self.old self.new result.0 result.1 }
+    {
+        self.state.advance(cut, steps)
     }
 }

@@ -35,8 +35,8 @@ impl SymByte {
         }
     }
 
-    // Whether the byte is this part of a value.
-    fn is_part(&self, value: Value, i: u8) -> bool
+    /// Whether the byte is this part of a value.
+    pub fn is_part(&self, value: Value, i: u8) -> bool
         ensures { result ≡ is_part value i self.now }
     {
         match self {

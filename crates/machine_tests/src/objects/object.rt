@@ -52,8 +52,8 @@ pub fn object_of(
     Ok(object)
 }
 
-// Adds the bytes of a text, and zeros up to an offset.
-fn add(alloc: Global, object: &mut Vec<u8>, text: &str, end: usize) -> Result<(), Fail> {
+/// Adds the bytes of a text, and zeros up to an offset.
+pub fn add(alloc: Global, object: &mut Vec<u8>, text: &str, end: usize) -> Result<(), Fail> {
     object.extend_from_slice(bytes_of(alloc, text)?.as_slice())?;
     object.resize(end, 0)?;
     Ok(())

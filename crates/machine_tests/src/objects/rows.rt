@@ -235,6 +235,50 @@ pub const PAGES: &str = "
 # addi t2,x0,13; addi sp,sp,-16; sw t2,8(sp); sw t2,4(sp); addi sp,sp,8; addi sp,sp,-8; lw a0,4(sp); addi a7,x0,93; ecall
 00D00393 FF010113 00712423 00712223 00810113 FF810113 00412503 05D00893 00000073 | ends stuck 0:1:20 4 ArgumentUnknown";
 
+/// The same of a stack that falls and rises over all of its pages, and of bytes that are written where others were before sp rose.
+pub const STACKS: &str = "
+# lui t1,1; addi t2,x0,256; sub sp,sp,t1; sw t2,0(sp); addi t2,t2,-1; bne t2,x0,-12; addi t2,t2,1; lw a0,0(sp); bne a0,t2,20; add sp,sp,t1; addi a1,t2,-256; bne a1,x0,-20; addi a0,x0,17; addi a7,x0,93; ecall
+00001337 10000393 40610133 00712023 FFF38393 FE039AE3 00138393 00012503 00751A63 00610133 F0038593 FE0596E3 01100513 05D00893 00000073 | steps 3000 | ends exited 11
+# lui t1,1; lui t3,0x100; addi t2,x0,256; sub sp,sp,t1; sw t2,0(sp); addi t2,t2,-1; bne t2,x0,-12; add sp,sp,t3; sub sp,sp,t3; sw t1,4(sp); lw a0,0(sp); addi a7,x0,93; ecall
+00001337 00100E37 10000393 40610133 00712023 FFF38393 FE039AE3 01C10133 41C10133 00612223 00012503 05D00893 00000073 | steps 3000 | ends stuck 0:1:30 4 ArgumentUnknown
+# lui t1,1; lui t3,0x100; addi t2,x0,256; sub sp,sp,t1; sw t2,0(sp); addi t2,t2,-1; bne t2,x0,-12; add sp,sp,t3; sub sp,sp,t3; sw t1,0(sp); add t3,sp,t1; lw a0,0(t3); addi a7,x0,93; ecall
+00001337 00100E37 10000393 40610133 00712023 FFF38393 FE039AE3 01C10133 41C10133 00612023 00610E33 000E2503 05D00893 00000073 | steps 3000 | ends stuck 0:1:34 4 ArgumentUnknown
+# addi t2,x0,14; addi sp,sp,-256; sw t2,0(sp); sw t2,4(sp); sw t2,64(sp); addi sp,sp,256; addi sp,sp,-256; sw t2,0(sp); lw a0,0(sp); addi a7,x0,93; ecall
+00E00393 F0010113 00712023 00712223 04712023 10010113 F0010113 00712023 00012503 05D00893 00000073 | ends exited e
+# addi t2,x0,14; addi sp,sp,-256; sw t2,0(sp); sw t2,4(sp); sw t2,64(sp); addi sp,sp,256; addi sp,sp,-256; sw t2,0(sp); lw a0,4(sp); addi a7,x0,93; ecall
+00E00393 F0010113 00712023 00712223 04712023 10010113 F0010113 00712023 00412503 05D00893 00000073 | ends stuck 0:1:28 4 ArgumentUnknown
+# addi t2,x0,14; addi sp,sp,-256; sw t2,0(sp); sw t2,4(sp); sw t2,64(sp); addi sp,sp,256; addi sp,sp,-256; sw t2,0(sp); lw a0,64(sp); addi a7,x0,93; ecall
+00E00393 F0010113 00712023 00712223 04712023 10010113 F0010113 00712023 04012503 05D00893 00000073 | ends stuck 0:1:28 4 ArgumentUnknown
+# addi t2,x0,14; addi sp,sp,-256; sw t2,0(sp); sw t2,4(sp); sw t2,64(sp); addi sp,sp,256; addi sp,sp,-256; sw t2,0(sp); sw t2,68(sp); lw a0,64(sp); addi a7,x0,93; ecall
+00E00393 F0010113 00712023 00712223 04712023 10010113 F0010113 00712023 04712223 04012503 05D00893 00000073 | ends stuck 0:1:2c 4 ArgumentUnknown
+# addi a0,x0,15; jal ra,12; addi a7,x0,93; ecall; addi sp,sp,-256; sw a0,0(sp); sw a0,4(sp); addi sp,sp,256; addi sp,sp,-256; sw ra,0(sp); lw a1,0(sp); jalr x0,0(a1)
+00F00513 00C000EF 05D00893 00000073 F0010113 00A12023 00A12223 10010113 F0010113 00112023 00012583 00058067 | ends exited f
+# addi a0,x0,15; jal ra,12; addi a7,x0,93; ecall; addi sp,sp,-256; sw a0,0(sp); sw a0,4(sp); addi sp,sp,256; addi sp,sp,-256; sw ra,0(sp); lw a0,4(sp); jalr x0,0(ra)
+00F00513 00C000EF 05D00893 00000073 F0010113 00A12023 00A12223 10010113 F0010113 00112023 00412503 00008067 | ends stuck 0:1:c 4 ArgumentUnknown
+# jal ra,4; addi t2,x0,16; lui t1,1; sub sp,sp,t1; addi sp,sp,-16; sw ra,12(sp); sb t2,13(sp); sb t2,16(sp); lbu a0,13(sp); addi a7,x0,93; ecall
+004000EF 01000393 00001337 40610133 FF010113 00112623 007106A3 00710823 00D14503 05D00893 00000073 | ends exited 10
+# jal ra,4; addi t2,x0,16; lui t1,1; sub sp,sp,t1; addi sp,sp,-16; sw ra,12(sp); sb t2,13(sp); sb t2,16(sp); lbu a0,16(sp); addi a7,x0,93; ecall
+004000EF 01000393 00001337 40610133 FF010113 00112623 007106A3 00710823 01014503 05D00893 00000073 | ends exited 10
+# jal ra,4; addi t2,x0,16; lui t1,1; sub sp,sp,t1; addi sp,sp,-16; sw ra,12(sp); sb t2,13(sp); sb t2,16(sp); lbu a0,15(sp); addi a7,x0,93; ecall
+004000EF 01000393 00001337 40610133 FF010113 00112623 007106A3 00710823 00F14503 05D00893 00000073 | ends stuck 0:1:28 4 ArgumentUnknown
+# jal ra,4; addi t2,x0,16; lui t1,1; sub sp,sp,t1; addi sp,sp,-16; sw ra,12(sp); sb t2,13(sp); sb t2,16(sp); lbu a0,17(sp); addi a7,x0,93; ecall
+004000EF 01000393 00001337 40610133 FF010113 00112623 007106A3 00710823 01114503 05D00893 00000073 | ends stuck 0:1:28 4 ArgumentUnknown";
+
+/// The same after forty bytes of input were read to where they lie across the ends of strips and of a page.
+pub const ACROSS: &str = "
+# lbu a0,67(sp); addi a7,x0,93; ecall
+04314503 05D00893 00000073 | ends exited 4e
+# lbu a0,63(sp); addi a7,x0,93; ecall
+03F14503 05D00893 00000073 | ends exited 4a
+# lbu a0,64(sp); addi a7,x0,93; ecall
+04014503 05D00893 00000073 | ends exited 4b
+# lbu a0,28(sp); addi a7,x0,93; ecall
+01C14503 05D00893 00000073 | ends exited 61
+# lbu a0,68(sp); addi a7,x0,93; ecall
+04414503 05D00893 00000073 | ends stuck 0:1:28 4 ArgumentUnknown
+# lbu a0,27(sp); addi a7,x0,93; ecall
+01B14503 05D00893 00000073 | ends stuck 0:1:28 4 ArgumentUnknown";
+
 /// The same with the input, and with what comes to the output and to the output for errors.
 pub const CALLS: &str = "
 # addi a0,x0,1; lui a1,0x100; addi a2,x0,3; addi a7,x0,64; ecall; addi a7,x0,93; ecall

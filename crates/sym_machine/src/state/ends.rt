@@ -62,8 +62,35 @@ impl State {
         self.place = to;
     }
 
+    // The same with a number.
+    #[inline(always)]
+    fn set_number(&mut self, rd: Reg, n: u32, to: Place)
+        requires running { self.old.core.exit ≡ None }
+        requires some { rd ≢ 0 }
+        requires other { rd ≢ 2 }
+        ensures { RunsOn (applied self.old.map self.old.core (Goes (sets rd
+            (number_word n) to))) [] self.old.core self.new.core }
+    {
+        self.registers[rd.number() as usize].set_number(n);
+        self.place = to;
+    }
+
+    // The same with a place's address.
+    #[inline(always)]
+    fn set_code(&mut self, rd: Reg, q: Place, to: Place)
+        requires running { self.old.core.exit ≡ None }
+        requires some { rd ≢ 0 }
+        requires other { rd ≢ 2 }
+        ensures { RunsOn (applied self.old.map self.old.core (Goes (sets rd
+            (code_word q) to))) [] self.old.core self.new.core }
+    {
+        self.registers[rd.number() as usize].set_code(q);
+        self.place = to;
+    }
+
     // Gives a number to a register, and goes on to a place; not if the register is register 0, or sp
     // can't have the number.
+    #[inline(always)]
     pub(super) fn give_number(&mut self, rd: Reg, n: u32, to: Place) -> bool
         requires { self.old.core.exit ≡ None }
         ensures made { OnTrue result (RunsOn (applied self.old.map self.old.core (Goes (sets rd
@@ -74,13 +101,31 @@ impl State {
             0 => false,
             2 => self.move_sp(n, to),
             _ => {
-                self.set_register(rd, Held::Number(n), to);
+                self.set_number(rd, n, to);
+                true
+            }
+        }
+    }
+
+    // Gives a word to a register, and goes on to a place; not if the register is register 0 or sp.
+    #[inline(always)]
+    pub(super) fn give_word(&mut self, rd: Reg, word: &Held, to: Place) -> bool
+        requires { self.old.core.exit ≡ None }
+        ensures made { OnTrue result (RunsOn (applied self.old.map self.old.core (Goes (sets rd
+            (word_of word.now) to))) [] self.old.core self.new.core) }
+        ensures same { OnFalse result (self.new ≡ self.old) }
+    {
+        match rd.number() {
+            0 | 2 => false,
+            _ => {
+                self.set_register(rd, *word, to);
                 true
             }
         }
     }
 
     // Moves sp to an address, and goes on to a place; not if the address isn't in the stack.
+    #[inline(never)]
     fn move_sp(&mut self, sp: u32, to: Place) -> bool
         requires { self.old.core.exit ≡ None }
         ensures made { OnTrue result (RunsOn (applied self.old.map self.old.core (Goes (sets 2
@@ -111,7 +156,7 @@ impl State {
             }
             2 => false,
             _ => {
-                self.set_register(rd, Held::Code(next), to);
+                self.set_code(rd, next, to);
                 true
             }
         }
@@ -181,9 +226,18 @@ impl State {
         ensures { StepAnswers (applied self.old.map self.old.core (Goes
             (puts a bytes.now to))) result self.old.core self.new.core }
     {
+        self.put_bytes(a, bytes, to);
+        SymStep::Done
+    }
+
+    // The same, with nothing to answer.
+    pub(super) fn put_bytes(&mut self, a: u32, bytes: &[SymByte], to: Place)
+        requires { self.old.core.exit ≡ None }
+        ensures { RunsOn (applied self.old.map self.old.core (Goes (puts a bytes.now to))) [] self.old.core
+            self.new.core }
+    {
         self.memory.write(a, bytes);
         self.place = to;
-        SymStep::Done
     }
 
     // The same of numbers, if their places are kept.

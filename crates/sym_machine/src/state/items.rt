@@ -49,7 +49,9 @@ impl State {
             Item::Jump { rd, to } => self.jump(Some(*to), *rd, next),
             Item::Call { rd, temp, to } => Ok(self.call(*rd, *temp, *to, next)),
             Item::Align(_) => Ok(self.go(next)),
-            Item::Word(_) | Item::Raw(_) => Ok(self.stuck(Why::NoInstruction)),
+            Item::Word(_) | Item::Raw(_) | Item::RawShort(_) => {
+                Ok(self.stuck(Why::NoInstruction))
+            }
             Item::RawPair(_, _) => Ok(self.stuck(Why::TargetUnknown)),
         }
     }

@@ -1,30 +1,31 @@
-// The quick way beside `step_item`: steps by numbers alone, and jumps to places that are known. They are
-// made in place, and copy no word of bytes. All else changes nothing here, and `step_item` makes it.
+// The quick way beside `step_item`: steps by numbers alone, jumps to places that are known, and loads and stores of any
+// word. They are made in place, and answer no more than whether they were made. All else changes nothing here, and
+// `step_item` makes it.
 
-ghost use Rattle.std.specs.Prelude.{◌≡◌, ℕ, ◌<◌, ◌^◌, ◌%◌, [], None, Some, IfSome};
+ghost use Rattle.std.specs.Prelude.{◌≡◌, ◌<◌, ◌^◌, ◌%◌, [], None, Some, IfSome};
 ghost use Rattle.std.specs.Bool.{OnFalse, OnTrue};
-ghost use Rattle.rv_decode.specs.declared.instr.Instr.TheVariants.{Jalr, Load, Store};
+ghost use Rattle.rv_decode.specs.Effect as effects;
+ghost use Rattle.rv_decode.specs.Results as results;
+ghost use Rattle.rv_decode.specs.declared.instr.Instr.TheVariants.{Jalr};
 ghost use Rattle.sym_machine.specs.Answer.{RunsOn};
-ghost use Rattle.sym_machine.specs.Change.{Goes, item_does, op_does, sets};
+ghost use Rattle.sym_machine.specs.Change.{Goes, item_does, load_does, load_word, op_does, sets, store_does};
 ghost use Rattle.sym_machine.specs.Conditions.{condition};
 ghost use Rattle.sym_machine.specs.Program.{Program};
 ghost use Rattle.sym_machine.specs.State.{reg_of};
 ghost use Rattle.sym_machine.specs.Step.{applied};
 ghost use Rattle.sym_machine.specs.Words.{code_word, imm_word, number_of, number_word, reg_word, sum_word};
-ghost use Rattle.zc_base.specs.declared.place.Place.{Place};
 
 use super::State;
 use super::accesses::{is_multiple, load_width, store_width};
 use crate::held::Held;
 use block_cut::item::Item;
-use rv_decode::instr::{BranchOp, ImmOp, Instr, LoadOp, RegOp, StoreOp};
-use rv_decode::results::{imm_result, is_taken, reg_result};
+use rv_decode::instr::{BranchOp, ImmOp, Instr, LoadOp, RegOp, StoreOp, UpperOp};
+use rv_decode::results::{imm_result, is_taken, reg_result, upper_result};
 use zc_base::place::Place;
 use zc_base::reg::Reg;
 
 impl State {
-    // Makes the step of an item, with the place after it, if it is one by numbers alone, and else
-    // changes nothing.
+    // Makes the step of an item, with the place after it, if it is a quick one, and else changes nothing.
     #[inline(always)]
     pub(super) fn quick_item(&mut self, item: &Item, next: Place) -> bool
         requires { self.old.core.exit ≡ None }
@@ -56,6 +57,7 @@ impl State {
             | Item::Align(_)
             | Item::Word(_)
             | Item::Raw(_)
+            | Item::RawShort(_)
             | Item::RawPair(..) => false,
         }
     }
@@ -83,18 +85,26 @@ impl State {
                 None => false,
             },
             Instr::Jalr { rd, base, imm } => self.quick_return(*rd, *base, *imm, next),
-            Instr::Load { op, rd, base, imm } => match self.quick_load(*op, *base, *imm) {
-                Some(n) => self.give_number(*rd, n, next),
-                None => false,
-            },
+            Instr::Load { op, rd, base, imm } => {
+                match self.quick_address(*base, *imm, load_width(*op)) {
+                    Some(a) => self.quick_load(*op, *rd, a, next),
+                    None => false,
+                }
+            }
             Instr::Store {
                 op,
                 source,
                 base,
                 imm,
-            } => self.quick_store(*op, *source, *base, *imm, next),
-            Instr::Upper { .. }
-            | Instr::Jal { .. }
+            } => match self.quick_address(*base, *imm, store_width(*op)) {
+                Some(a) => self.quick_store(*op, *source, a, next),
+                None => false,
+            },
+            Instr::Upper { op, rd, imm } => match op {
+                UpperOp::Lui => self.give_number(*rd, upper_result(UpperOp::Lui, 0, *imm), next),
+                UpperOp::Auipc => false,
+            },
+            Instr::Jal { .. }
             | Instr::Branch { .. }
             | Instr::Fence { .. }
             | Instr::Ecall
@@ -131,7 +141,7 @@ impl State {
     fn quick_imm(&self, op: ImmOp, first: Reg, imm: i32) -> Option<u32>
         ensures { IfSome result (λ n. number_word n ≡ imm_word op (reg_of self.now.core first) imm) }
     {
-        Some(imm_result(op, self.plain(first)?, imm))
+        Some(of_imm(op, self.plain(first)?, imm))
     }
 
     // The same of an operation on two registers.
@@ -140,7 +150,7 @@ impl State {
         ensures { IfSome result (λ n. number_word n
             ≡ reg_word op first second (reg_of self.now.core first) (reg_of self.now.core second)) }
     {
-        Some(reg_result(op, self.plain(first)?, self.plain(second)?))
+        Some(of_words(op, self.plain(first)?, self.plain(second)?))
     }
 
     // A `jalr` to the place whose address a register holds.
@@ -181,27 +191,95 @@ impl State {
         if is_multiple(a, width) { Some(a) } else { None }
     }
 
-    // The number that a load gives, if it is known.
+    // A load from an address that is a multiple of its width.
     #[inline(always)]
-    fn quick_load(&self, op: LoadOp, base: Reg, imm: i32) -> Option<u32>
-        ensures { (rd : ℕ) (next : Place) → IfSome result (λ n.
-            op_does (Load op rd base imm) self.now.core next ≡ Goes (sets rd (number_word n) next)) }
-    {
-        self.loaded_number(op, self.quick_address(base, imm, load_width(op))?)
-    }
-
-    // A store.
-    #[inline(always)]
-    fn quick_store(&mut self, op: StoreOp, source: Reg, base: Reg, imm: i32, next: Place) -> bool
-        requires { self.old.core.exit ≡ None }
-        ensures made { OnTrue result (RunsOn (applied self.old.map self.old.core (op_does (Store op source base imm)
-            self.old.core next)) [] self.old.core self.new.core) }
+    fn quick_load(&mut self, op: LoadOp, rd: Reg, a: u32, next: Place) -> bool
+        requires running { self.old.core.exit ≡ None }
+        requires aligned { a % effects.load_width op ≡ 0 }
+        ensures made { OnTrue result (RunsOn (applied self.old.map self.old.core (load_does op rd
+            (Some a) self.old.core next)) [] self.old.core self.new.core) }
         ensures same { OnFalse result (self.new ≡ self.old) }
     {
-        let (Some(a), Some(n)) = (
-            self.quick_address(base, imm, store_width(op)),
-            self.plain(source),
-        ) else {
+        match self.loaded_number(op, a) {
+            Some(n) => self.give_number(rd, n, next),
+            None => self.load_bytes(op, rd, a, next),
+        }
+    }
+
+    // A load of what is no number, if it lies in data or the stack.
+    #[inline(never)]
+    fn load_bytes(&mut self, op: LoadOp, rd: Reg, a: u32, next: Place) -> bool
+        requires running { self.old.core.exit ≡ None }
+        requires aligned { a % effects.load_width op ≡ 0 }
+        ensures made { OnTrue result (RunsOn (applied self.old.map self.old.core (load_does op rd
+            (Some a) self.old.core next)) [] self.old.core self.new.core) }
+        ensures same { OnFalse result (self.new ≡ self.old) }
+    {
+        if !self.reaches(a, load_width(op)) {
+            return false;
+        }
+        match op {
+            LoadOp::Lw => self.load_word(rd, a, next),
+            LoadOp::Lb | LoadOp::Lh | LoadOp::Lbu | LoadOp::Lhu => {
+                self.load_any(op, rd, a, next)
+            }
+        }
+    }
+
+    // The word at an address goes to a register. A place's address isn't copied, nor is a word that is undefined.
+    #[inline(always)]
+    fn load_word(&mut self, rd: Reg, a: u32, next: Place) -> bool
+        requires { self.old.core.exit ≡ None }
+        ensures made { OnTrue result (RunsOn (applied self.old.map self.old.core (Goes (sets rd
+            (load_word LoadOp.Lw self.old.core a) next))) [] self.old.core self.new.core) }
+        ensures same { OnFalse result (self.new ≡ self.old) }
+    {
+        if let Some(q) = self.loaded_code(a) {
+            return self.link(rd, next, q);
+        }
+        if self.is_undefined(a) {
+            return self.give_word(rd, &Held::UNDEFINED, next);
+        }
+        self.load_any(LoadOp::Lw, rd, a, next)
+    }
+
+    // Gives a register the word that a load copies from an address, whatever it is.
+    #[inline(never)]
+    fn load_any(&mut self, op: LoadOp, rd: Reg, a: u32, next: Place) -> bool
+        requires { self.old.core.exit ≡ None }
+        ensures made { OnTrue result (RunsOn (applied self.old.map self.old.core (Goes (sets rd
+            (load_word op self.old.core a) next))) [] self.old.core self.new.core) }
+        ensures same { OnFalse result (self.new ≡ self.old) }
+    {
+        let word = self.loaded(op, a);
+        self.give_word(rd, &word, next)
+    }
+
+    // A store to an address that is a multiple of its width.
+    #[inline(always)]
+    fn quick_store(&mut self, op: StoreOp, source: Reg, a: u32, next: Place) -> bool
+        requires running { self.old.core.exit ≡ None }
+        requires aligned { a % effects.store_width op ≡ 0 }
+        ensures made { OnTrue result (RunsOn (applied self.old.map self.old.core (store_does op
+            (reg_of self.old.core source) (Some a) self.old.core next)) [] self.old.core self.new.core) }
+        ensures same { OnFalse result (self.new ≡ self.old) }
+    {
+        if self.store_number(op, source, a, next) {
+            return true;
+        }
+        self.store_bytes(op, source, a, next)
+    }
+
+    // The same of a number to places that are kept.
+    #[inline(always)]
+    fn store_number(&mut self, op: StoreOp, source: Reg, a: u32, next: Place) -> bool
+        requires running { self.old.core.exit ≡ None }
+        requires aligned { a % effects.store_width op ≡ 0 }
+        ensures made { OnTrue result (RunsOn (applied self.old.map self.old.core (store_does op
+            (reg_of self.old.core source) (Some a) self.old.core next)) [] self.old.core self.new.core) }
+        ensures same { OnFalse result (self.new ≡ self.old) }
+    {
+        let Some(n) = self.plain(source) else {
             return false;
         };
         let bytes = n.to_le_bytes();
@@ -210,5 +288,46 @@ impl State {
             StoreOp::Sh => self.put_numbers(a, &bytes[..2], next),
             StoreOp::Sw => self.put_numbers(a, &bytes, next),
         }
+    }
+
+    // A store of any word, if its address lies in data or the stack.
+    #[inline(never)]
+    fn store_bytes(&mut self, op: StoreOp, source: Reg, a: u32, next: Place) -> bool
+        requires running { self.old.core.exit ≡ None }
+        requires aligned { a % effects.store_width op ≡ 0 }
+        ensures made { OnTrue result (RunsOn (applied self.old.map self.old.core (store_does op
+            (reg_of self.old.core source) (Some a) self.old.core next)) [] self.old.core self.new.core) }
+        ensures same { OnFalse result (self.new ≡ self.old) }
+    {
+        let width = store_width(op);
+        if !self.reaches(a, width) {
+            return false;
+        }
+        let word = self.register(source).bytes();
+        let bytes = [word.b0, word.b1, word.b2, word.b3];
+        self.put_bytes(a, &bytes[..width as usize], next);
+        true
+    }
+}
+
+// What an operation on two words gives. A sum, which most are, takes no call.
+#[inline(always)]
+fn of_words(op: RegOp, a: u32, b: u32) -> u32
+    ensures { result ≡ results.reg_result op a b }
+{
+    match op {
+        RegOp::Add => a.wrapping_add(b),
+        _ => reg_result(op, a, b),
+    }
+}
+
+// The same of an operation on a word and an immediate.
+#[inline(always)]
+fn of_imm(op: ImmOp, n: u32, imm: i32) -> u32
+    ensures { result ≡ results.imm_result op n imm }
+{
+    match op {
+        ImmOp::Addi => n.wrapping_add(imm.cast_unsigned()),
+        _ => imm_result(op, n, imm),
     }
 }

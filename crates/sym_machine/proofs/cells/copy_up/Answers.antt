@@ -2,7 +2,7 @@ use Rattle.std.proofs.Common.{◌+◌, ◌<◌, length, get_or, sym, ◌∙◌, 
 use Rattle.std.specs.Prelude.{slice_index_or}
 use Rattle.std.proofs.lemmas.List.{get_or_default}
 use Rattle.sym_machine.specs.declared.word.SymByte.TheVariants.{Num, Undef}
-use Rattle.sym_machine.proofs.PageLaws.{set_more, written_none}
+use Rattle.sym_machine.proofs.WrittenLaws.{set_more, written_none}
 use Rattle.sym_machine.proofs.cells.copy_up.Goals as goal
 
 pub loop-k-init : goal.loop-k-init

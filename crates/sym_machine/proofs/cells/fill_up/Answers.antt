@@ -1,6 +1,6 @@
 use Rattle.std.proofs.Common.{◌+◌, ◌<◌, length, get_or, sym, ◌∙◌, refl, arith, length-set}
 use Rattle.sym_machine.specs.declared.word.SymByte.TheVariants.{Undef}
-use Rattle.sym_machine.proofs.PageLaws.{set_more, written_none}
+use Rattle.sym_machine.proofs.WrittenLaws.{set_more, written_none}
 use Rattle.sym_machine.proofs.cells.fill_up.Goals as goal
 
 pub loop-k-init : goal.loop-k-init

@@ -1,6 +1,6 @@
 use Rattle.std.proofs.Common.{◌+◌, ◌<◌, length, get_or, sym, ◌∙◌, refl, arith, length-set}
 use Rattle.std.specs.Prelude.{slice_index}
-use Rattle.sym_machine.proofs.PageLaws.{set_more, written_none}
+use Rattle.sym_machine.proofs.WrittenLaws.{set_more, written_none}
 use Rattle.sym_machine.proofs.cells.write_bytes.Goals as goal
 
 pub loop-k-init : goal.loop-k-init

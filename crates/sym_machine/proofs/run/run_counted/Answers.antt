@@ -34,7 +34,7 @@ loop-made-preserved g c =
     let n = c.loop-made.made + c.advance-quiet.result.0 in
     let a = c.advance-quiet.ensures.advanced in
     let s : PlainCore = a.last in
-    let s' : PlainCore = c.advance-quiet.new.sym in
+    let s' : PlainCore = c.advance-quiet.new.self in
     let first = shown c.args.console.now in
     let now = shown c.loop-made.console in
     let came = Came-on p input c.loop-made.made c.loop-made.sym s c.advance-quiet.result.0 first now c.loop-made.invariant.came a.runs in
@@ -71,15 +71,15 @@ returns-in-Err-clause-ran g c =
     let a = c.advance-quiet.ensures.advanced in
     let s : PlainCore = a.last in
     let came = Came-on p input c.loop-made.made c.loop-made.sym s c.advance-quiet.result.0 _ _ c.loop-made.invariant.came a.runs in
-    let answers : StepAnswers (plain_step p s) c.in-Ok.step s c.advance-quiet.new.sym =
-    subst (λ (r : Result SymStep AllocError). Makes r (plain_step p s) s c.advance-quiet.new.sym) c.in-Ok.is a.makes in
+    let answers : StepAnswers (plain_step p s) c.in-Ok.step s c.advance-quiet.new.self =
+    subst (λ (r : Result SymStep AllocError). Makes r (plain_step p s) s c.advance-quiet.new.self) c.in-Ok.is a.makes in
     let fd = c.in-Wrote.fd in
-    let made : StepAnswers (plain_step p s) (answer.Wrote fd c.in-Wrote.bytes) s c.advance-quiet.new.sym =
-    subst (λ (a : SymStep). StepAnswers (plain_step p s) a s c.advance-quiet.new.sym) c.in-Wrote.is answers in
+    let made : StepAnswers (plain_step p s) (answer.Wrote fd c.in-Wrote.bytes) s c.advance-quiet.new.self =
+    subst (λ (a : SymStep). StepAnswers (plain_step p s) a s c.advance-quiet.new.self) c.in-Wrote.is answers in
     let part : WrotePart fd c.in-Wrote.bytes.items (g.C.Console.shown c.loop-made.console) (g.C.Console.shown c.write_to.new.console) =
     subst (λ (l : List ℕ). WrotePart fd l (g.C.Console.shown c.loop-made.console) (g.C.Console.shown c.write_to.new.console)) c.deref.ensures.value c.in-Err.ensures.err in
     let cause = WriteCause-after (g.C.Console.shown c.args.console.now) (g.C.Console.shown c.loop-made.console) (g.C.Console.shown c.write_to.new.console) c.in-Err.fault c.loop-made.invariant.writes c.in-Err.ensures.cause in
-    refused p input (c.loop-made.made + c.advance-quiet.result.0) s _ _ came c.args.steps (omega arith) c.advance-quiet.new.sym fd c.in-Wrote.bytes.items (g.C.Console.shown c.write_to.new.console) c.in-Err.fault made.1.2 part cause
+    refused p input (c.loop-made.made + c.advance-quiet.result.0) s _ _ came c.args.steps (omega arith) c.advance-quiet.new.self fd c.in-Wrote.bytes.items (g.C.Console.shown c.write_to.new.console) c.in-Err.fault made.1.2 part cause
 
 pub returns-in-Exited-clause-ran : goal.returns-in-Exited-clause-ran
 returns-in-Exited-clause-ran g c =
@@ -88,12 +88,12 @@ returns-in-Exited-clause-ran g c =
     let a = c.advance-quiet.ensures.advanced in
     let s : PlainCore = a.last in
     let came = Came-on p input c.loop-made.made c.loop-made.sym s c.advance-quiet.result.0 _ _ c.loop-made.invariant.came a.runs in
-    let answers : StepAnswers (plain_step p s) c.in-Ok.step s c.advance-quiet.new.sym =
-    subst (λ (r : Result SymStep AllocError). Makes r (plain_step p s) s c.advance-quiet.new.sym) c.in-Ok.is a.makes in
-    let made : StepAnswers (plain_step p s) (answer.Exited c.in-Exited.status) s c.advance-quiet.new.sym =
-    subst (λ (a : SymStep). StepAnswers (plain_step p s) a s c.advance-quiet.new.sym) c.in-Exited.is answers in
+    let answers : StepAnswers (plain_step p s) c.in-Ok.step s c.advance-quiet.new.self =
+    subst (λ (r : Result SymStep AllocError). Makes r (plain_step p s) s c.advance-quiet.new.self) c.in-Ok.is a.makes in
+    let made : StepAnswers (plain_step p s) (answer.Exited c.in-Exited.status) s c.advance-quiet.new.self =
+    subst (λ (a : SymStep). StepAnswers (plain_step p s) a s c.advance-quiet.new.self) c.in-Exited.is answers in
     ⊎_elim
-    (λ now. exited p input (c.loop-made.made + c.advance-quiet.result.0) s _ _ came c.args.steps (omega arith) c.advance-quiet.new.sym c.in-Exited.status now.1 now.2)
+    (λ now. exited p input (c.loop-made.made + c.advance-quiet.result.0) s _ _ came c.args.steps (omega arith) c.advance-quiet.new.self c.in-Exited.status now.1 now.2)
     (λ before. absurd (let running = came.running in cc))
     made
 
@@ -104,12 +104,12 @@ returns-in-Exited-clause-count g c =
     let a = c.advance-quiet.ensures.advanced in
     let s : PlainCore = a.last in
     let came = Came-on p input c.loop-made.made c.loop-made.sym s c.advance-quiet.result.0 _ _ c.loop-made.invariant.came a.runs in
-    let answers : StepAnswers (plain_step p s) c.in-Ok.step s c.advance-quiet.new.sym =
-    subst (λ (r : Result SymStep AllocError). Makes r (plain_step p s) s c.advance-quiet.new.sym) c.in-Ok.is a.makes in
-    let made : StepAnswers (plain_step p s) (answer.Exited c.in-Exited.status) s c.advance-quiet.new.sym =
-    subst (λ (a : SymStep). StepAnswers (plain_step p s) a s c.advance-quiet.new.sym) c.in-Exited.is answers in
+    let answers : StepAnswers (plain_step p s) c.in-Ok.step s c.advance-quiet.new.self =
+    subst (λ (r : Result SymStep AllocError). Makes r (plain_step p s) s c.advance-quiet.new.self) c.in-Ok.is a.makes in
+    let made : StepAnswers (plain_step p s) (answer.Exited c.in-Exited.status) s c.advance-quiet.new.self =
+    subst (λ (a : SymStep). StepAnswers (plain_step p s) a s c.advance-quiet.new.self) c.in-Exited.is answers in
     ⊎_elim
-    (λ now. counted p input (c.loop-made.made + c.advance-quiet.result.0) s _ _ came c.args.steps (omega arith) c.advance-quiet.new.sym c.in-Exited.status now.1 now.2)
+    (λ now. counted p input (c.loop-made.made + c.advance-quiet.result.0) s _ _ came c.args.steps (omega arith) c.advance-quiet.new.self c.in-Exited.status now.1 now.2)
     (λ before. absurd (let running = came.running in cc))
     made
 
@@ -120,10 +120,10 @@ returns-in-Stuck-clause-ran g c =
     let a = c.advance-quiet.ensures.advanced in
     let s : PlainCore = a.last in
     let came = Came-on p input c.loop-made.made c.loop-made.sym s c.advance-quiet.result.0 _ _ c.loop-made.invariant.came a.runs in
-    let answers : StepAnswers (plain_step p s) c.in-Ok.step s c.advance-quiet.new.sym =
-    subst (λ (r : Result SymStep AllocError). Makes r (plain_step p s) s c.advance-quiet.new.sym) c.in-Ok.is a.makes in
-    let made : StepAnswers (plain_step p s) (answer.Stuck c.in-Stuck.place c.in-Stuck.why) s c.advance-quiet.new.sym =
-    subst (λ (a : SymStep). StepAnswers (plain_step p s) a s c.advance-quiet.new.sym) c.in-Stuck.is answers in
+    let answers : StepAnswers (plain_step p s) c.in-Ok.step s c.advance-quiet.new.self =
+    subst (λ (r : Result SymStep AllocError). Makes r (plain_step p s) s c.advance-quiet.new.self) c.in-Ok.is a.makes in
+    let made : StepAnswers (plain_step p s) (answer.Stuck c.in-Stuck.place c.in-Stuck.why) s c.advance-quiet.new.self =
+    subst (λ (a : SymStep). StepAnswers (plain_step p s) a s c.advance-quiet.new.self) c.in-Stuck.is answers in
     stuck p input (c.loop-made.made + c.advance-quiet.result.0) s _ _ came c.args.steps (omega arith) c.in-Stuck.place c.in-Stuck.why made.2 made.3
 
 pub returns-clause-ran : goal.returns-clause-ran

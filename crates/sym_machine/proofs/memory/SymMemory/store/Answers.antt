@@ -1,6 +1,7 @@
 use Rattle.std.proofs.Common.{map, arith}
 use Rattle.std.proofs.lemmas.List.{length-map}
 use Rattle.sym_machine.specs.declared.word.SymByte.TheVariants.{Num}
+use Rattle.sym_machine.specs.Stack.{stack_cells}
 use Rattle.sym_machine.proofs.SpanLaws.{written_in_data, written_in_stack}
 use Rattle.sym_machine.proofs.memory.SymMemory.store.Goals as goal
 
@@ -15,4 +16,4 @@ pub returns-in-Stack-clause-done : goal.returns-in-Stack-clause-done
 returns-in-Stack-clause-done c =
     let at = c.in-Stack.ensures in
     let write = c.write_numbers-in-Stack in
-    written_in_stack c.self.view_is c.self.invariant c.args.a c.in-Stack.i (map Num c.args.numbers.now) write.new.self at.0 at.2 write.ensures.len write.ensures.each
+    written_in_stack c.self.view_is c.self.invariant c.args.a c.in-Stack.i (map Num c.args.numbers.now) (stack_cells write.new.self) at.0 at.2 write.ensures.len write.ensures.each

@@ -3,6 +3,7 @@ use Rattle.rv_decode.specs.Memory.{written}
 use Rattle.sym_machine.specs.declared.word.SymByte.{SymByte}
 use Rattle.sym_machine.specs.declared.word.SymByte.TheVariants.{Undef}
 use Rattle.sym_machine.specs.Kept.{IsChanged, Kept}
+use Rattle.sym_machine.specs.Stack.{stack_cells}
 use Rattle.sym_machine.proofs.MemoryLaws.{stored_nowhere}
 use Rattle.sym_machine.proofs.SpanLaws.{written_in_data, written_in_stack}
 use Rattle.sym_machine.proofs.memory.SymMemory.write.Goals as goal
@@ -16,11 +17,11 @@ pub returns-in-Stack : goal.returns-in-Stack
 returns-in-Stack c =
     let at = c.in-Stack.ensures in
     let write = c.write_cells-in-Stack in
-    written_in_stack c.self.view_is c.self.invariant c.args.a c.in-Stack.i c.args.bytes.now write.new.self at.0 at.2 write.ensures.len write.ensures.each
+    written_in_stack c.self.view_is c.self.invariant c.args.a c.in-Stack.i c.args.bytes.now (stack_cells write.new.self) at.0 at.2 write.ensures.len write.ensures.each
 
 pub returns-in-Below : goal.returns-in-Below
 returns-in-Below c =
-    let k : Kept = record { map = c.self.inside.map; bytes = c.self.inside.bytes; stack = c.self.inside.stack; from = c.self.inside.from } in
+    let k : Kept = record { map = c.self.inside.map; bytes = c.self.inside.bytes; stack = stack_cells c.self.inside.stack; from = c.self.inside.from } in
     let is = c.self.invariant in
     let at = c.in-Below.ensures in
     let low : k.map.stack_low ≡ c.args.self.now.map.stack_low = ap (λ (m : Kept). m.map.stack_low) c.self.view_is in

@@ -14,7 +14,6 @@ invariant_of-result c =
     record {
       pooled = fresh p c.div_ceil.result (Cells 0) refl e.pages e.numbers e.cells e.number_room e.cell_room few;
       covered = omega (arith, c.div_ceil.ensures, long);
-      below = λ i lt. fresh_undefined p c.div_ceil.result (Cells 0) refl e.pages e.numbers e.cells e.number_room e.cell_room few refl i (omega (arith, c.div_ceil.ensures, lt));
     }
 
 pub returns : goal.returns

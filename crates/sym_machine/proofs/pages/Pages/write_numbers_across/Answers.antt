@@ -3,7 +3,8 @@ use Rattle.std.proofs.lemmas.List.{length-drop, length-map, length-take}
 use Rattle.rv_decode.specs.Memory.{written}
 use Rattle.sym_machine.specs.declared.word.SymByte.{SymByte}
 use Rattle.sym_machine.specs.declared.word.SymByte.TheVariants.{Num, Undef}
-use Rattle.sym_machine.proofs.PageLaws.{part_given, written_further}
+use Rattle.sym_machine.proofs.PageLaws.{part_given}
+use Rattle.sym_machine.proofs.WrittenLaws.{written_further}
 use Rattle.sym_machine.proofs.pages.Pages.write_numbers_across.Goals as goal
 
 pub loop-done-preserved : goal.loop-done-preserved

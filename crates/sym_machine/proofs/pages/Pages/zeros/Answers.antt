@@ -13,7 +13,6 @@ invariant_of-result c =
     record {
       pooled = fresh p c.div_ceil.result (Numbers 0) refl e.pages e.numbers e.cells e.number_room e.cell_room few;
       covered = omega (arith, c.div_ceil.ensures, long);
-      below = λ i lt. absurd (omega (arith, lt));
     }
 
 pub returns : goal.returns

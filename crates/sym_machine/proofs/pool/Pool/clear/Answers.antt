@@ -1,7 +1,8 @@
 use Rattle.std.proofs.Common.{◌≡◌, ℕ, ◌+◌, ◌-◌, refl, ap, sym, ◌∙◌, arith}
 use Rattle.rv_decode.specs.Memory.{written}
 use Rattle.sym_machine.specs.declared.word.SymByte.TheVariants.{Undef}
-use Rattle.sym_machine.proofs.PageLaws.{written_further, made_after}
+use Rattle.sym_machine.proofs.PageLaws.{made_after}
+use Rattle.sym_machine.proofs.WrittenLaws.{written_further}
 use Rattle.sym_machine.proofs.pool.Pool.clear.Goals as goal
 
 pub loop-at-preserved : goal.loop-at-preserved

@@ -64,19 +64,6 @@ overflow_add-next c =
     let here : item_at (parsed inputs) q ≡ Some c.in-Some-item.item = sym (ap (λ w. w.item) c.in-Some-at.ensures.1) ∙ c.in-Some-item.is in
     omega (arith, (item_sized inputs none q c.in-Some-item.item here).inside, c.from.ensures, ap (λ w. w.size) c.in-Some-at.ensures.1)
 
-pub returns-then-quick_item : goal.returns-then-quick_item
-unfolding program_of
-returns-then-quick_item c =
-    let p : Program = program_of (parsed c.args.cut.now) in
-    let s : PlainCore = c.args.self.now.core in
-    let q = c.self.inside.place in
-    let here : p.item q ≡ Some c.in-Some-item.item = sym (ap (λ w. w.item) c.in-Some-at.ensures.1) ∙ c.in-Some-item.is in
-    let next : p.next q ≡ record { object = q.object; section = q.section; offset = q.offset + c.from.result } =
-    λ j. record { object = q.object; section = q.section; offset = q.offset + sym (c.from.ensures ∙ ap (λ w. w.size) c.in-Some-at.ensures.1) j } in
-    let is = step_here (goal.at.returns-then-quick_item c).After-at ∙ (λ j. applied c.args.self.now.map s (item_does p (here j) s (next j))) in
-    let does = c.if-quick_item.ensures.made p in
-    (does.0, does.1, is ∙ does.2)
-
 pub returns : goal.returns
 unfolding program_of
 returns c =
@@ -89,5 +76,4 @@ returns c =
     let next : p.next q ≡ to =
     λ j. record { object = q.object; section = q.section; offset = q.offset + sym (c.from.ensures ∙ ap (λ w. w.size) c.in-Some-at.ensures.1) j } in
     let is = step_here (goal.at.returns c).After-at ∙ (λ j. applied c.args.self.now.map s (item_does p (here j) s (next j))) in
-    subst (λ (st : PlainStep). Makes c.step_item.result st s c.step_item.new.self.core) (sym is)
-    (subst (λ (w : Working). Makes c.step_item.result (applied w.map w.core (item_does p (Some item) w.core to)) w.core c.step_item.new.self.core) c.if-quick_item.ensures.same c.step_item.ensures)
+    subst (λ (st : PlainStep). Makes c.step_item.result st s c.step_item.new.self.core) (sym is) c.step_item.ensures

@@ -1,13 +1,15 @@
 use Rattle.std.proofs.Common.{◌<◌, ◌-◌}
 use Rattle.psabi_sym.specs.Inputs.{parsed}
 use Rattle.sym_machine.specs.Advance.{RunsTo}
+use Rattle.sym_machine.specs.Cursor.{IsCursor}
 use Rattle.sym_machine.specs.Objects.{program_of}
-use Rattle.sym_machine.proofs.run.advance.Given as goal
+use Rattle.sym_machine.proofs.state.State.advance.Given as goal
 
 abbrev pub invariant-loop-made : goal.invariant-loop-made
 invariant-loop-made l = record {
   within : l.made < l.steps;
-  runs : RunsTo (program_of (parsed l.cut)) l.initial.sym l.sym l.made;
+  cursor : IsCursor (parsed l.cut) l.cursor;
+  runs : RunsTo (program_of (parsed l.cut)) l.initial.self.core l.self.core l.made;
 }
 
 abbrev pub decreases-loop-made : goal.decreases-loop-made

@@ -1,0 +1,23 @@
+use Rattle.std.proofs.Common.{◌≡◌, List, length, ap, sym, subst, ◌∙◌, arith}
+use Rattle.std.specs.Prelude.{IfSome}
+use Rattle.sym_machine.specs.declared.word.SymByte.{SymByte}
+use Rattle.sym_machine.specs.declared.word.SymWord.{SymWord}
+use Rattle.sym_machine.specs.Pages.{word_in}
+use Rattle.sym_machine.specs.Words.{number_word}
+use Rattle.sym_machine.specs.Stack.{Strips}
+use Rattle.sym_machine.proofs.StackLaws.{length-stack, open_word}
+use Rattle.sym_machine.proofs.stack.Stack.word_at.Goals as goal
+
+pub is_open-requires : goal.is_open-requires
+is_open-requires c = omega (arith, c.requires, length-stack c.args.self.now)
+
+pub word_at-requires : goal.word_at-requires
+word_at-requires c = omega (arith, c.requires, length-stack c.args.self.now, ap (λ (s : Strips). length s.cells) c.self.view_is)
+
+pub returns-then-is_open : goal.returns-then-is_open
+returns-then-is_open c =
+    let now = c.args.self.now in
+    let cells : c.self.inside.cells ≡ now.cells = ap (λ (s : Strips). s.cells) c.self.view_is in
+    subst (λ (w : SymWord). IfSome c.word_at.result (λ n. number_word n ≡ w))
+    (ap (λ (l : List SymByte). word_in l c.args.i) cells
+    ∙ open_word now c.args.i (omega (arith, c.requires, length-stack now)) (omega (arith, c.if-i.true)) (sym c.is_open.ensures ∙ c.if-is_open.true)) c.word_at.ensures
