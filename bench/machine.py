@@ -10,6 +10,9 @@ Instructions of the processor for a commit or step come from `perf stat` if the 
 --tool=callgrind` of a short run; callgrind also says which functions they go into. The images run on `qemu-riscv32` and `spike`
 too, if these are installed; their start-up is in their figures. Beside each rate stands which part it is of that of
 `qemu-riscv32` on the image of the same loop.
+
+Then loops that move sp by the stack's 1 MiB down and up in each turn, as objects by `trace`: the time of a turn comes from the
+difference of two numbers of turns.
 """
 import os
 import re
@@ -34,6 +37,11 @@ QEMU = 'qemu-riscv32'
 # The register that counts the turns of a loop, and the one that has the address of data.
 COUNT, BASE = T0, S0
 BNE = 1
+
+# The stack's pages and its size, and the turns of loops that move sp over them.
+STACK_PAGES = 256
+STACK_SIZE = STACK_PAGES * PAGE
+SP_TURNS = 2000
 
 # The commits of a run that callgrind follows.
 FOLLOWED = 100_000
@@ -89,6 +97,38 @@ def programs(commits):
         'loads and stores': looped(lambda at: ACCESSES, len(ACCESSES), commits),
         'calls and returns': looped(lambda at: [jal(RA, 4 * len(COUNTS) - at)], 1 + len(called), commits, called),
     }
+
+
+def sp_loops():
+    """Objects whose loop moves sp down and up, by what each turn writes: the steps before the loop, those of a turn, and the object."""
+    size, page, here, left = 6, 7, 9, 11
+    down, up = of_format_r(0x20, 0, SP, SP, size), of_format_r(0, 0, SP, SP, size)
+    each = [store(2, ZERO, here, 0), of_format_r(0, 0, here, here, page), addi(left, left, -1)]
+    each.append(branch(BNE, left, ZERO, -4 * len(each)))
+    pages = [lui(page, PAGE >> 12), addi(here, SP, 0), *constant(left, STACK_PAGES), *each]
+    pages_steps = len(pages) + len(each) * (STACK_PAGES - 1)
+    lowest = [down, store(2, ZERO, SP, 0), up]
+    loops = {
+        'nothing': ([], 0, [down, up], 2),
+        'the lowest word': ([], 0, lowest, 3),
+        'the lowest word, after all pages were': ([down, *pages, up], 2 + pages_steps, lowest, 3),
+        'nothing, after all pages were': ([down, *pages, up], 2 + pages_steps, [down, up], 2),
+        'a word of each page': ([], 0, [down, *pages, up], 2 + pages_steps),
+    }
+    for name, (before, steps_before, body, steps) in loops.items():
+        text = words_of(lui(size, STACK_SIZE >> 12), *before, *body, jal(ZERO, -4 * len(body)))
+        yield name, 1 + steps_before, steps + 1, object_of(text, TEXT_AT)
+
+
+def sp_rows(program, folder, repeats):
+    """Nanoseconds of a turn of each loop that moves sp."""
+    for name, before, steps, data in sp_loops():
+        file = os.path.join(folder, 'sp.o')
+        write(file, data)
+        turns = SP_TURNS if steps > STACK_PAGES else 100 * SP_TURNS
+        took = [least([program, 'trace', '--steps', str(before + steps * count), file], SPENT, repeats)
+                for count in (turns, 3 * turns)]
+        yield name, steps, f'{(took[1] - took[0]) / (2 * turns) * 1e9:.0f}'
 
 
 def instructions(words):
@@ -171,10 +211,13 @@ def main():
                 each, way, parts[what] = per_commit(program, command, file, given.commits, folder)
                 rows.append((what, f'{given.commits / took / 1e6:.1f}', part_of(took, other), each, way,
                              ', '.join(f'{it} {given.commits / time / 1e6:.0f}' for it, time in other.items()) or '-'))
+        moved = list(sp_rows(program, folder, given.repeats))
     table(('loop', 'millions of commits or steps a second', f'of {QEMU}', 'instructions each', 'counted by',
            'others, millions a second'), rows)
     if all(row[-1] == '-' for row in rows):
         print('\nNeither qemu-riscv32 nor spike is installed.')
+    print()
+    table(('what each turn writes', 'steps a turn', 'nanoseconds a turn'), moved)
     print('\nFunctions that take an instruction a commit or more, by callgrind:\n')
     for name, named in parts.items():
         print(f'{name}: {", ".join(named) or "none told"}')

@@ -10,14 +10,15 @@ program is joined with what it needs of libgcc by `ld -r`, and linked with the s
 Checked are:
 
 - `plain`, `zc` and `trace` refuse the objects alike;
-- the images of both links write what the same objects write that GNU ld links with relaxation and qemu-riscv32 runs, and exit as
-  they do; csmith's programs write a checksum of their global variables;
+- the images of both links write what the same objects write that GNU ld links with relaxation and qemu-riscv32 runs, and exit
+  as they do; csmith's programs write a checksum of their global variables;
 - `trace` writes and ends so too, or is stuck, and then has written the beginning of that.
 
 Of a program that is stuck in `trace` nothing is promised, so it is no failure if an image does something else; but it is
-counted. It says how many programs did alike, and why others were refused, stuck or left out: those that aren't compiled, that
-qemu-riscv32 doesn't end within some seconds of the processor, and that take more commits than a run may make. It stops at the
-first difference, with status 1, and FOLDER then has the source, the objects and the images.
+counted. It says how many programs did alike, which of them took a million steps or more, and why others were refused, stuck
+or left out: those that aren't compiled, that qemu-riscv32 doesn't end within some seconds of the processor, and that take more
+commits than a run may make. It stops at the first difference, with status 1, and FOLDER then has the source, the objects and
+the images.
 """
 import argparse
 import collections
@@ -49,6 +50,8 @@ FLAGS = ('gcc -Og', 'clang -O0', 'gcc -O1', 'clang -O1', 'gcc -O2', 'clang -O2 -
          'gcc -Os -fno-section-anchors -mno-relax -msmall-data-limit=0', 'clang -O3 -mno-relax -ffunction-sections',
          'gcc -Os -fno-section-anchors -msave-restore', 'clang -O2 -mno-relax')
 STEPS = 50_000_000
+# From so many steps on a program counts as a long one.
+MANY_STEPS = 1_000_000
 QEMU = 'qemu-riscv32'
 # The seconds of the processor that csmith or a compiler may take, those of qemu-riscv32, and those by the clock.
 MOST, MOST_OF_QEMU, BY_CLOCK = 10, 2, 120
@@ -156,6 +159,11 @@ def traced(tools, objects, wanted):
     raise Differs(f'trace ends with {ended}, and not with {wanted}')
 
 
+def is_long(tools, objects):
+    """Whether `trace` of objects makes many steps."""
+    return last_line(tools.call('trace', '--steps', str(MANY_STEPS), *objects)) == 'spent'
+
+
 def case(tools, number, flags):
     """What one program comes to."""
     joined = tools.made(number, flags)
@@ -177,7 +185,8 @@ def case(tools, number, flags):
             if not stuck:
                 raise
             differ.append(name)
-    return (stuck or 'alike') + ''.join(f', and the image of {name} does something else' for name in differ)
+    ended = stuck or ('alike, in a million steps or more' if is_long(tools, objects) else 'alike')
+    return ended + ''.join(f', and the image of {name} does something else' for name in differ)
 
 
 def keep(tools, folder, name):

@@ -9,11 +9,11 @@ It takes files of the corpus, or makes some, and mutates them or not: the object
 here make, the images of both links, texts of plans and certificates, and lists of words that scripts/checks has.
 
 N cases are compared with the models: `plain` and `zc` with plain_link.py, zc_link.py and size_report.py, their refusals and
-that of `trace` with object_items.py, `trace` with symbolic_machine.py, `run` of an image that wasn't mutated with
-zc_machine.py, faults of a plan with `plan_fault` below, `check` with certificates.py, words with `is_command` below, and `make`
-with made_load.py; a file that is too long is a read fault. Of N more cases only this is looked at: the call ends by itself
-within the limit of seconds by the clock, and its status has its line at the end of standard error (docs/FORMATS.md, "Messages
-on standard error, and the status").
+that of `trace` with object_items.py, all in the memory map that the words give (memory_maps.py), `trace` with
+symbolic_machine.py, `run` of an image that wasn't mutated with zc_machine.py, faults of a plan with `plan_fault` below, `check`
+with certificates.py, words with `is_command` below, and `make` with made_load.py; a file that is too long is a read fault. Of N
+more cases only this is looked at: the call ends by itself within the limit of seconds by the clock, and its status has its line
+at the end of standard error (docs/FORMATS.md, "Messages on standard error, and the status").
 
 Half of T seconds at most goes to cases that are compared, if both are asked for. N processes share the cases, one if none is
 given; files of calls are in the system's folder for these ($TMPDIR), and calls end sooner if that is in memory. It prints how
@@ -44,13 +44,15 @@ from fuzz import IMAGE_LIMIT, MUTATIONS, OBJECT_LIMIT, made_object
 from groups import LISTS
 from made_frames import ENDINGS, sizes
 from made_objects import made_list
+from memory_maps import USUAL, lies_in, made_map, map_in, words_of_map
 from object_faults import told
 from object_items import first_fault
 from plain_link import plain as plain_of
 from size_report import left_by_zc
 from symbolic_machine import trace as trace_of
 from zcld_tools import TOP, programs
-from zcld_tools.files import files_in, random_bytes, read, read_all, write, write_list
+from zcld_tools.files import files_in, random_bytes, read, read_all, write
+from zcld_tools.images import STANDARD
 from zcld_tools.programs import Failed
 
 TITLE = b'zcld plan 1\n'
@@ -93,8 +95,8 @@ def numbers_fit(found):
 
 
 # Each command: its options, those that it must have, and how many other words it takes, at least and at most.
-GIVEN = {'plain': (('--out',), ('--out',), 1, None), 'zc': (('--out', '--cert'), ('--out', '--cert'), 1, None),
-         'run': (('--plan', '--steps'), (), 1, 1), 'trace': (('--steps',), (), 1, None), 'check': ((), (), 1, 1),
+GIVEN = {'plain': ((*USUAL, '--out'), ('--out',), 1, None), 'zc': ((*USUAL, '--out', '--cert'), ('--out', '--cert'), 1, None),
+         'run': ((*USUAL, '--plan', '--steps'), (), 1, 1), 'trace': ((*USUAL, '--steps'), (), 1, None), 'check': ((), (), 1, 1),
          'make': (('--out',), (), 2, 2)}
 
 
@@ -124,7 +126,8 @@ def is_command(words):
         else:
             values[name] = rest.pop(0)
     return (all(name in values for name in needed) and least <= len(others) <= (most or len(others))
-            and is_number(values.get('--steps', '0'), 10**9) and (words[0] != 'zc' or values['--out'] != values['--cert'])
+            and is_number(values.get('--steps', '0'), 10**9) and map_in(values) is not None
+            and (words[0] != 'zc' or values['--out'] != values['--cert'])
             and (words[0] != 'make' or is_number(others[0], (1 << 64) - 1) and is_number(others[1], 1600)))
 
 
@@ -156,13 +159,14 @@ class Corpus:
         number = rng.choice(LISTS)
         return [object_of_frames(rng, [(number, rng.choice(sizes(number)[rng.randrange(3)]), rng.choice(ENDINGS))])]
 
-    def image(self, rng):
-        """An image of a link."""
-        if rng.random() < 0.5:
+    def image(self, rng, memory=STANDARD):
+        """An image of a link for a map, or for the standard one if the objects that were taken have a fault."""
+        if memory == STANDARD and rng.random() < 0.5:
             return rng.choice(self.images)
         files = self.objects(rng)
-        return rng.choice(self.images) if first_fault(files) else (plain_of(files)[0] if rng.random() < 0.5
-                                                                   else left_by_zc(files).image)
+        if first_fault(files, memory):
+            return rng.choice(self.images)
+        return plain_of(files, memory)[0] if rng.random() < 0.5 else left_by_zc(files, memory).image
 
 
 class Pool(Corpus):
@@ -177,7 +181,7 @@ class Pool(Corpus):
     def objects(self, rng):
         return list(rng.choice(self.pool))
 
-    def image(self, rng):
+    def image(self, rng, memory=STANDARD):
         return rng.choice(self.images)
 
 
@@ -189,14 +193,14 @@ def mutated(rng, data, most=3):
     return bytes(made)
 
 
-def interrupt(rng):
-    """A line of a plan, in few words."""
+def interrupt(rng, stack):
+    """A line of a plan, in few words: bytes are written at the end of a stack."""
     words = [f'a{rng.randrange(14)}' for _ in range(rng.choice((0, 0, 1, 3)))]
-    words += [f'd{0x0FFFFF00 + rng.randrange(256):08x}:{rng.randrange(256):02x}' for _ in range(rng.choice((0, 1, 4)))]
+    words += [f'd{stack - 256 + rng.randrange(256):08x}:{rng.randrange(256):02x}' for _ in range(rng.choice((0, 1, 4)))]
     return ''.join(' ' + word for word in words)
 
 
-def plan(rng):
+def plan(rng, stack):
     """The text of a plan, or of none."""
     which = rng.randrange(6)
     if which == 0:
@@ -206,7 +210,7 @@ def plan(rng):
     if which == 2:
         return rng.choice(BAD_TEXTS)[0]
     commits = sorted(rng.randrange(rng.choice((5, 200, 3000))) for _ in range(rng.choice((0, 1, 5, 60))))
-    text = TITLE + ''.join(f'cut {at}{interrupt(rng)}\n' for at in commits).encode()
+    text = TITLE + ''.join(f'cut {at}{interrupt(rng, stack)}\n' for at in commits).encode()
     return text if rng.random() < 0.6 else with_slip(rng, text)
 
 
@@ -222,11 +226,21 @@ def words_by_chance(rng):
     lines = [line.split(' ') for line in NO_COMMANDS] + [line.split(' ') for line, _ in COMMANDS]
     words = list(rng.choice(lines))
     several = sorted({word for line in lines for word in line} | {'0', '007', '1000000000', '18446744073709551615', '--steps=3',
-                                                                  '--plan', '--plan=p', '--cert=c', '\n', 'é', 'a' * 300})
+                                                                  '--plan', '--plan=p', '--cert=c', '\n', 'é', 'a' * 300,
+                                                                  *addresses_by_chance(rng)})
     for _ in range(rng.choice((0, 1, 1, 2, 3))):
         at = rng.randrange(len(words) + 1)
         words[at:at + rng.choice((0, 0, 1))] = rng.choice(([], [rng.choice(several)], words[at:at + 1] * 2))
     return words
+
+
+def addresses_by_chance(rng):
+    """Options of a map that is valid or nearly so, together and as single words."""
+    words = words_of_map(made_map(rng))
+    if rng.random() < 0.5:
+        at = rng.randrange(0, 6, 2) + 1
+        words[at] = rng.choice((words[at].upper(), words[at][1:], '0' + words[at], f'{rng.getrandbits(32):08x}', '0x000000', ''))
+    return [*words, *map('='.join, zip(words[::2], words[1::2]))]
 
 
 # ---- calls
@@ -240,6 +254,7 @@ class Case:
         self.is_compared, self.command, self.files = mode == 'compare', rng.choice(OFTEN), {}
         self.steps = STEPS if self.is_compared else STEPS_LOOKED_AT
         self.given, self.words = rng.choice((b'', b'input', random_bytes(rng, rng.randrange(40)))), []
+        self.memory = made_map(rng) if rng.random() < 0.3 else STANDARD
         getattr(self, f'take_{"objects" if self.command in BY_OBJECTS else self.command}')(rng, corpus)
 
     def take_objects(self, rng, corpus):
@@ -254,14 +269,24 @@ class Case:
         self.objects = files
         self.files = {f'{k}.o': data for k, data in enumerate(files)}
         options = {'plain': ('--out', 'out'), 'zc': ('--out', 'out', '--cert', 'cert'), 'trace': ('--steps', self.steps)}
-        self.words = [self.command, *options[self.command], *self.files]
+        self.words = [self.command, *self.map_words(rng), *options[self.command], *self.files]
+
+    def map_words(self, rng):
+        """The words of the map, of which those of the standard one may be left out."""
+        words = words_of_map(self.memory)
+        usual = words_of_map(STANDARD)
+        kept = [at for at in (0, 2, 4) if words[at + 1] != usual[at + 1] or rng.random() < 0.1]
+        return [word for at in rng.sample(kept, len(kept)) for word in words[at:at + 2]]
 
     def take_run(self, rng, corpus):
-        image, self.is_whole = corpus.image(rng), rng.random() < (0.7 if self.is_compared else 0.2)
+        image, self.is_whole = corpus.image(rng, self.memory), rng.random() < (0.7 if self.is_compared else 0.2)
+        if rng.random() < 0.1:
+            self.memory = made_map(rng)
         self.files = {'image': image if self.is_whole else mutated(rng, image)}
         if rng.random() < 0.5:
-            self.files['plan'] = plan(rng)
-        self.words = ['run', *(('--plan', 'plan') if 'plan' in self.files else ()), '--steps', self.steps, 'image']
+            self.files['plan'] = plan(rng, self.memory.stack_high)
+        self.words = ['run', *self.map_words(rng), *(('--plan', 'plan') if 'plan' in self.files else ()), '--steps', self.steps,
+                      'image']
 
     def take_check(self, rng, _):
         text = made_text(rng)
@@ -314,7 +339,7 @@ class Case:
 
     def is_refused(self, ended, left):
         """The objects have a fault, which is named, and nothing was written."""
-        fault = first_fault(self.objects)
+        fault = first_fault(self.objects, self.memory)
         if fault:
             self.wanted(ended, 121, b'', told(fault) + b'\n')
             if set(left) - set(self.files):
@@ -325,11 +350,11 @@ class Case:
         if self.is_refused(ended, left):
             return
         if self.command == 'plain':
-            image, length = plain_of(self.objects)
+            image, length = plain_of(self.objects, self.memory)
             self.wanted(ended, 0, b'plain text %d\n' % length, b'')
             files = {'out': image}
         else:
-            image, cert, report = left_by_zc(self.objects)
+            image, cert, report = left_by_zc(self.objects, self.memory)
             self.wanted(ended, 0, report, b'')
             files = {'out': image, 'cert': cert}
         for name, data in {**self.files, **files}.items():
@@ -338,17 +363,20 @@ class Case:
 
     def compare_trace(self, ended, left):
         if not self.is_refused(ended, left):
-            out, err, line = trace_of(self.objects, self.given, int(STEPS))
+            out, err, line = trace_of(self.objects, self.given, int(STEPS), self.memory)
             self.wanted(ended, status_of(line), out, err + line + b'\n')
 
     def compare_run(self, ended, _):
         fault = plan_fault(self.files.get('plan', TITLE))
         if not self.is_whole:
             return
+        if not lies_in(self.files['image'], self.memory):
+            self.wanted(ended, 125, b'', b'bad image 3\n')
+            return
         if fault:
             self.wanted(ended, 125, b'', f'bad plan {fault}\n'.encode())
             return
-        machine = zc_machine.Machine(self.files['image'], self.given)
+        machine = zc_machine.Machine(self.files['image'], self.given, self.memory)
         line = zc_machine.run(machine, zc_machine.plan_in(self.files.get('plan', TITLE)), int(STEPS)).encode()
         self.wanted(ended, status_of(line), machine.written[1], machine.written[2] + line + b'\n')
 

@@ -1,6 +1,6 @@
 """Where data lies, and what symbols are, of objects without a fault of symbols (docs/FORMATS.md; RISC-V ELF psABI)."""
 from zcld_tools.elf import ABS, COMMON, GLOBAL, NOBITS, UNDEF, WEAK, WRITE
-from zcld_tools.images import DATA_AT, STACK_HIGH
+from zcld_tools.images import STANDARD
 
 READ_ONLY, DATA, SMALL_DATA, SMALL_ZERO, ZERO = range(5)
 CODE, NUMBER, ABSENT, NOWHERE = 'code', 'number', 'absent', 'nowhere'
@@ -47,11 +47,11 @@ class Names:
 class Data:
     """The address of each section of data, of each common name, and of the linker's names; and the bytes of files."""
 
-    def __init__(self, objects, names):
+    def __init__(self, objects, names, memory):
         self.sections, self.commons, starts = {}, {}, []
         data = [(class_of(read, s), i, k, s) for i, read in enumerate(objects) for k, s in enumerate(read.sections)
                 if read.kept[k] and not read.is_code(k)]
-        at, content, self.file_end = DATA_AT, [], DATA_AT
+        at, content, self.file_end = memory.data, [], memory.data
         for wanted in range(5):
             at = aligned(at, 16)
             starts.append(at)
@@ -59,7 +59,7 @@ class Data:
                 if kind == wanted:
                     at = aligned(at, section.align)
                     self.sections[i, k] = at
-                    content.append((at - DATA_AT, section.content))
+                    content.append((at - memory.data, section.content))
                     at += section.size
             if wanted == SMALL_DATA:
                 self.file_end = at
@@ -70,18 +70,18 @@ class Data:
             at += size
         self.end = at
         self.linker = {b'__global_pointer$': starts[SMALL_DATA] + 0x800, b'__bss_start': starts[SMALL_ZERO], b'_end': at,
-                       b'__stack_top': STACK_HIGH}
-        self.bytes = bytearray(self.file_end - DATA_AT)
+                       b'__stack_top': memory.stack_high}
+        self.bytes = bytearray(self.file_end - memory.data)
         for start, part in content:
             self.bytes[start:start + len(part)] = part
 
 
 class Symbols:
-    """What the symbols of a list of objects are."""
+    """What the symbols of a list of objects are in a memory map."""
 
-    def __init__(self, objects):
+    def __init__(self, objects, memory=STANDARD):
         self.objects, self.names = objects, Names(objects)
-        self.data = Data(objects, self.names)
+        self.data = Data(objects, self.names, memory)
 
     def resolve(self, i, symbol, addend):
         """A place of code with its object, section and offset, a number, a number for what is absent, or nowhere."""

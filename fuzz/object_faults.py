@@ -19,7 +19,7 @@ class Section:
     """A section header, with its content."""
 
     def __init__(self, data, at):
-        (self.name, self.kind, self.flags, _, self.at, self.size, self.link, self.info, self.align,
+        (self.name, self.kind, self.flags, self.address, self.at, self.size, self.link, self.info, self.align,
          self.entry_size) = struct.unpack_from('<10I', data, at)
         self.has_content = self.kind not in (NULL, NOBITS)
         self.content = data[self.at:self.at + self.size] if self.has_content else b''

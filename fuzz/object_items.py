@@ -15,7 +15,7 @@ from object_faults import Object, gather_fault, told
 from zcld_tools.elf import (ALIGN, BRANCH, CALL, CALL_PLT, HI20, JAL, LO12_I, LO12_S, NOBITS, NONE, PCREL_HI20,
                             PCREL_LO12_I, PCREL_LO12_S, RELA, RELAX, RVC_BRANCH, RVC_JUMP, R_32)
 from zcld_tools.files import read_all
-from zcld_tools.images import DATA_AT, TEXT_AT
+from zcld_tools.images import STANDARD
 from zcld_tools.instructions import (EBREAK, ECALL, OPCODE_FENCE, OPCODE_IMMEDIATE, OPCODE_LOAD, OPCODE_REGISTER,
                                      branch_distance, is_auipc, is_branch, is_jal, is_jalr, is_lui, is_store, jal_distance)
 
@@ -134,10 +134,10 @@ class Item:
 
 
 class Code:
-    """The code of a list of objects without a fault between objects."""
+    """The code of a list of objects without a fault between objects, in a memory map."""
 
-    def __init__(self, objects):
-        self.objects, self.symbols = objects, Symbols(objects)
+    def __init__(self, objects, memory=STANDARD):
+        self.objects, self.memory, self.symbols = objects, memory, Symbols(objects, memory)
         self.parts = {(i, k): Part(read, k) for i, read in enumerate(objects) for k in range(read.count) if read.kept[k]}
 
     def code_parts(self):
@@ -205,7 +205,7 @@ class Code:
         """Each word of data that names something: where it stands from the start of data on, and what it names."""
         for (i, k), part in self.parts.items():
             if not part.is_code and part.section.kind != NOBITS:
-                start = self.symbols.data.sections[i, k] - DATA_AT
+                start = self.symbols.data.sections[i, k] - self.memory.data
                 for entry in part.entries:
                     if entry.kind == R_32:
                         yield start + entry.offset, self.symbols.resolve(i, entry.symbol, entry.addend)
@@ -214,7 +214,7 @@ class Code:
 
     def plain_layout(self):
         """The address of each item and of each section's end, and where the text ends."""
-        addresses, at = {}, TEXT_AT
+        addresses, at = {}, self.memory.text
         for (i, k), part in self.code_parts():
             at = aligned(at, max(4, part.section.align))
             for offset, size in part.starts.items():
@@ -254,9 +254,9 @@ class Code:
         return far and (far[0], RANGE_FAULT, None)
 
 
-def first_fault(files):
+def first_fault(files, memory=STANDARD):
     """The first fault of a list of files: the object's index, the fault's number, and the name of a symbol or none; or none."""
-    return gather_fault(files) or Code([Object(data) for data in files]).fault()
+    return gather_fault(files) or Code([Object(data) for data in files], memory).fault()
 
 
 def without_fault(paths):

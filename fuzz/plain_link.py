@@ -15,7 +15,7 @@ from object_data import CODE
 from object_faults import Object
 from object_items import Code, without_fault
 from zcld_tools.files import write
-from zcld_tools.images import TEXT_AT, image_bytes
+from zcld_tools.images import STANDARD, image_bytes
 from zcld_tools.instructions import NOP, with_branch, with_high, with_jump, with_low, words_of
 
 
@@ -24,8 +24,8 @@ class Plain:
 
     flags = 0
 
-    def __init__(self, objects):
-        self.code = Code(objects)
+    def __init__(self, objects, memory=STANDARD):
+        self.memory, self.code = memory, Code(objects, memory)
         self.addresses, self.end = self.layout()
 
     def layout(self):
@@ -82,9 +82,9 @@ class Plain:
         """The bytes of the text, with zeros between sections."""
         text = bytearray(self.front())
         for place in self.places():
-            text += bytes(self.addresses[place] - TEXT_AT - len(text))
+            text += bytes(self.addresses[place] - self.memory.text - len(text))
             text += self.item_bytes(place, self.code.item(place))
-        return bytes(text) + bytes(self.end - TEXT_AT - len(text))
+        return bytes(text) + bytes(self.end - self.memory.text - len(text))
 
     def data(self):
         """The bytes of data in the file, with each word that names something."""
@@ -95,7 +95,7 @@ class Plain:
 
     def length(self):
         """How many bytes of text there are."""
-        return self.end - TEXT_AT
+        return self.end - self.memory.text
 
     def start(self):
         """The address at which a run begins."""
@@ -103,12 +103,13 @@ class Plain:
 
     def image(self):
         data = self.code.symbols.data
-        return image_bytes(self.text(), self.addresses, self.data(), data.end - data.file_end, self.start(), self.flags)
+        return image_bytes(self.text(), self.addresses, self.data(), data.end - data.file_end, self.start(), self.flags,
+                           self.memory)
 
 
-def plain(files):
+def plain(files, memory=STANDARD):
     """The plain image of files without a fault, and how many bytes of text it has."""
-    made = Plain([Object(data) for data in files])
+    made = Plain([Object(data) for data in files], memory)
     return made.image(), made.length()
 
 

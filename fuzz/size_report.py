@@ -15,7 +15,7 @@ sys.path.insert(0, os.path.join(os.path.dirname(os.path.abspath(__file__)), os.p
 from certificates import lines_of
 from object_items import without_fault
 from zc_link import link_of
-from zcld_tools.images import TEXT_AT
+from zcld_tools.images import STANDARD
 
 
 class Left(NamedTuple):
@@ -30,15 +30,15 @@ def report(linked):
     """The report of a link."""
     link, savings, certificate = linked
     _, plain_end = link.code.plain_layout()
-    rows = {'plain text': plain_end - TEXT_AT, 'zc text': link.length(), **link.counts(), 'slots': len(certificate.slots),
+    rows = {'plain text': plain_end - link.memory.text, 'zc text': link.length(), **link.counts(), 'slots': len(certificate.slots),
             'net': certificate.net}
     lines = [*(f'{name} {number}' for name, number in rows.items()), *lines_of(savings, certificate.slots)]
     return ''.join(line + '\n' for line in lines).encode()
 
 
-def left_by_zc(files):
+def left_by_zc(files, memory=STANDARD):
     """What `zc` leaves of files without a fault."""
-    linked = link_of(files)
+    linked = link_of(files, memory)
     return Left(linked.link.image(), linked.certificate_text(), report(linked))
 
 

@@ -16,7 +16,7 @@ from object_data import CODE
 from object_faults import Object, told
 from object_items import Code, first_fault
 from zcld_tools.files import read_all
-from zcld_tools.images import DATA_AT, STACK_HIGH, STACK_LOW
+from zcld_tools.images import STANDARD
 from zcld_tools.instructions import (A0, A1, A2, A7, EBREAK, ECALL, EXIT_CALL, OPCODE_AUIPC, OPCODE_FENCE, OPCODE_IMMEDIATE,
                                      OPCODE_LOAD, OPCODE_LUI, OPCODE_STORE, READ_CALL, SP, WRITE_CALL, is_jalr, low_part,
                                      signed)
@@ -99,11 +99,11 @@ class Machine:
     """The state of a run: the place, the registers, data and stack, the input, what was written to each stream, and the steps so
     far."""
 
-    def __init__(self, objects, given):
-        self.code, self.given, self.steps = Code(objects), given, 0
+    def __init__(self, objects, given, memory=STANDARD):
+        self.code, self.given, self.steps, self.memory = Code(objects, memory), given, 0, memory
         self.place = self.code.entry()
         self.registers = [NOTHING] * 32
-        self.registers[0], self.registers[SP] = 0, STACK_HIGH
+        self.registers[0], self.registers[SP] = 0, memory.stack_high
         self.stack, self.data = {}, self.first_data()
         self.written = {1: b'', 2: b''}
         self.items = {}
@@ -122,17 +122,18 @@ class Machine:
     # memory
 
     def is_memory(self, at, size):
-        return (DATA_AT <= at and at + size <= DATA_AT + len(self.data)
-                or STACK_LOW <= at and at + size <= STACK_HIGH)
+        _, data, stack_low, stack_high = self.memory
+        return data <= at and at + size <= data + len(self.data) or stack_low <= at and at + size <= stack_high
 
     def load(self, at, size):
-        if at < STACK_LOW:
-            return self.data[at - DATA_AT:at - DATA_AT + size]
+        if at < self.memory.stack_low:
+            return self.data[at - self.memory.data:at - self.memory.data + size]
         return [self.stack.get(at + i, UNDEFINED) for i in range(size)]
 
     def store(self, at, parts):
-        if at < STACK_LOW:
-            self.data[at - DATA_AT:at - DATA_AT + len(parts)] = parts
+        if at < self.memory.stack_low:
+            start = at - self.memory.data
+            self.data[start:start + len(parts)] = parts
             return
         for i, part in enumerate(parts):
             self.stack[at + i] = part
@@ -168,7 +169,7 @@ class Machine:
     def set(self, register, word, place):
         """Ends a step: a register has a word, and the place is the next. All below sp is undefined then."""
         pointer = word if register == SP else self.registers[SP]
-        if not isinstance(pointer, int) or not STACK_LOW <= pointer <= STACK_HIGH:
+        if not isinstance(pointer, int) or not self.memory.stack_low <= pointer <= self.memory.stack_high:
             raise Stuck(STACK_POINTER)
         if register:
             self.registers[register] = word
@@ -367,9 +368,9 @@ def run(machine, steps):
     return 'spent'
 
 
-def trace(files, given, steps):
+def trace(files, given, steps, memory=STANDARD):
     """What `trace` writes to each stream, without its line, and its line."""
-    machine = Machine([Object(data) for data in files], given)
+    machine = Machine([Object(data) for data in files], given, memory)
     line = run(machine, steps)
     return machine.written[1], machine.written[2], line.encode()
 

@@ -9,7 +9,6 @@ import struct
 
 from certificates import LOW_SLOTS, Saving
 from zc_machine import JVT, OPCODE_SYSTEM
-from zcld_tools.images import TEXT_AT
 from zcld_tools.instructions import RA, T0, ZERO, jal, lui, of_format_i, with_high, words_of
 
 STUB_SIZE = 12
@@ -58,12 +57,12 @@ class Table:
         part = range(LOW_SLOTS) if register == ZERO else range(LOW_SLOTS, len(self.targets))
         return next((slot for slot in part if slot < len(self.targets) and self.targets[slot] == target), None)
 
-    def stub_at(self):
-        """Where the stub stands: a run begins there if there is a table."""
-        return TEXT_AT + 4 * len(self.targets)
+    def stub_at(self, text):
+        """Where the stub stands in a text: a run begins there if there is a table."""
+        return text + 4 * len(self.targets)
 
-    def code(self, addresses, start):
+    def code(self, text, addresses, start):
         """The addresses of the slots, and the stub, which sets jvt to the first of them and goes on to the start."""
         slots = struct.pack(f'<{len(self.targets)}I', *(addresses[it] if it else 0 for it in self.targets))
-        set_jvt = with_high(lui(T0), TEXT_AT), swap_jvt(ZERO, T0)
-        return slots + words_of(*set_jvt, jal(ZERO, start - self.stub_at() - 8))
+        set_jvt = with_high(lui(T0), text), swap_jvt(ZERO, T0)
+        return slots + words_of(*set_jvt, jal(ZERO, start - self.stub_at(text) - 8))

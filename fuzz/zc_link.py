@@ -24,7 +24,7 @@ from plain_link import Plain
 from tables import Table, savings_of, table_half
 from zc_machine import POP, POPRET, POPRETZ, PUSH
 from zcld_tools.files import write
-from zcld_tools.images import COMPRESSED, TEXT_AT
+from zcld_tools.images import COMPRESSED, STANDARD
 from zcld_tools.instructions import NOP, OPCODE_JAL, with_branch, with_high, with_jump, with_low, words_of
 
 SHORT_NOP = 0x0001
@@ -37,9 +37,9 @@ class Zc(Plain):
 
     flags = COMPRESSED
 
-    def __init__(self, objects, table=Table()):
+    def __init__(self, objects, table=Table(), memory=STANDARD):
         self.table, self.groups, self.items, self.sizes, self.rounds = table, {}, {}, {}, 0
-        super().__init__(objects)
+        super().__init__(objects, memory)
 
     # forms
 
@@ -75,7 +75,7 @@ class Zc(Plain):
 
     def addresses_now(self):
         """The address of each place at the sizes so far, and where the text ends."""
-        addresses, at = {}, TEXT_AT + self.table.size
+        addresses, at = {}, self.memory.text + self.table.size
         for (i, k), part in self.code.code_parts():
             at = aligned(at, part.section.align if part.section.align > 4 else 2)
             for place in ((i, k, offset) for offset in part.starts):
@@ -111,10 +111,10 @@ class Zc(Plain):
         return self.items
 
     def front(self):
-        return self.table.code(self.addresses, super().start()) if self.table.size else b''
+        return self.table.code(self.memory.text, self.addresses, super().start()) if self.table.size else b''
 
     def start(self):
-        return self.table.stub_at() if self.table.size else super().start()
+        return self.table.stub_at(self.memory.text) if self.table.size else super().start()
 
     def item_bytes(self, place, item):
         if place in self.groups:
@@ -158,20 +158,20 @@ class Linked(NamedTuple):
         return write_certificate(self.savings, self.certificate)
 
 
-def link_of(files):
+def link_of(files, memory=STANDARD):
     """The link of files without a fault, with the best table."""
     objects = [Object(data) for data in files]
-    link = Zc(objects)
+    link = Zc(objects, memory=memory)
     savings = savings_of(link)
     certificate = best(savings)
     if certificate.slots:
-        link = Zc(objects, Table(link, savings, certificate.slots))
+        link = Zc(objects, Table(link, savings, certificate.slots), memory)
     return Linked(link, savings, certificate)
 
 
-def zc(files):
+def zc(files, memory=STANDARD):
     """The image of files without a fault, how many bytes of text it has, and the text of its certificate."""
-    linked = link_of(files)
+    linked = link_of(files, memory)
     return linked.link.image(), linked.link.length(), linked.certificate_text()
 
 

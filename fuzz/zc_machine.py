@@ -14,7 +14,7 @@ sys.path.insert(0, os.path.join(os.path.dirname(os.path.abspath(__file__)), os.p
 
 from symbolic_machine import MASK, computed, holds
 from zcld_tools.files import read
-from zcld_tools.images import STACK_HIGH, STACK_LOW, segments
+from zcld_tools.images import STANDARD, segments
 from zcld_tools.elf import EXECUTE
 from zcld_tools.instructions import (A0, A1, A2, A7, EBREAK, ECALL, EXIT_CALL, OPCODE_AUIPC, OPCODE_FENCE, OPCODE_IMMEDIATE,
                                      OPCODE_JAL, OPCODE_JALR, OPCODE_LOAD, OPCODE_LUI, OPCODE_REGISTER, RA, READ_CALL, S0, SP,
@@ -153,13 +153,13 @@ def moved_registers(half):
 class Machine:
     """The state of a run: registers, jvt, pc, memory, the input that is left, what was written, and the commits so far."""
 
-    def __init__(self, image, given):
-        self.given, self.written, self.commits = given, {1: b'', 2: b''}, 0
+    def __init__(self, image, given, memory=STANDARD):
+        self.given, self.written, self.commits, self.memory = given, {1: b'', 2: b''}, 0, memory
         self.regions = [[segment.address, bytearray(segment.content.ljust(segment.size, b'\0')), bool(segment.flags & EXECUTE)]
                         for segment in segments(image)]
-        self.regions.append([STACK_LOW, bytearray(STACK_HIGH - STACK_LOW), False])
+        self.regions.append([memory.stack_low, bytearray(memory.stack_high - memory.stack_low), False])
         self.registers, self.jvt, self.pc = [0] * 32, 0, int.from_bytes(image[24:28], 'little')
-        self.registers[SP] = STACK_HIGH
+        self.registers[SP] = memory.stack_high
 
     # memory
 
@@ -206,8 +206,8 @@ class Machine:
             if address % 4 == 0 and self.place(address, 4):
                 self.access(address, register, self.frame().form == PUSH)
         for address, byte in dirt:
-            if STACK_LOW <= address < min(STACK_HIGH, self.registers[SP]):
-                self.regions[-1][1][address - STACK_LOW] = byte
+            if self.memory.stack_low <= address < min(self.memory.stack_high, self.registers[SP]):
+                self.regions[-1][1][address - self.memory.stack_low] = byte
 
     def frame(self):
         try:

@@ -6,6 +6,7 @@ import sys
 
 import against_ld
 from halfwords import short_form
+from memory_maps import map_at, words_of_map
 from object_data import Symbols
 from object_faults import LINKER_NAMES, Object
 from zc_machine import PUSH, frame_of
@@ -104,6 +105,23 @@ def check_by_hand(group):
         group.same(f'by hand, {link}', run(folder, *words), (0, lines(wanted), MIDDLE))
         wanted = wanted[0], LABELS[link], *wanted[1:]
         group.same(f'by hand, {link}, labels', run(folder, '--labels', *words), (0, lines(wanted), MIDDLE))
+
+
+def check_elsewhere(group):
+    """The same objects linked for another map."""
+    memory = map_at(0x20001000, 0x80000000, 0x80600000)
+    folder = group.folder()
+    names = folder.write_list(by_hand())
+    for link, words in (('plain', ('--out', 'out')), ('zc', ('--out', 'out', '--cert', 'cert'))):
+        folder.run((link, *words_of_map(memory), *words, *names))
+        wanted = lines(moved(row, memory) for row in LINES_BY_HAND[link])
+        group.same(f'elsewhere, {link}', run(folder, 'out', *names), (0, wanted, MIDDLE))
+
+
+def moved(row, memory):
+    """A row of symbols in the standard map, as it is in another one."""
+    at = int(row[:8], 16)
+    return f'{at - DATA_AT + memory.data if at >= DATA_AT else at - TEXT_AT + memory.text:08x}{row[8:]}'
 
 
 def check_inside_push(group):
@@ -219,6 +237,7 @@ def check_monitor(group, what, folder, files, names):
 def listed_symbols(group):
     """symbols as they are printed, by hand and of the monitor, and what is refused"""
     check_by_hand(group)
+    check_elsewhere(group)
     check_inside_push(group)
     check_refusals(group)
     for monitor in monitors(group):

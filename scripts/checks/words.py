@@ -11,7 +11,8 @@ FILES = {'x.o': THREE, 'y.o': OTHER, 'zc': THREE, 'help': THREE, '-': THREE, '-x
 # Lists that spell no command. A line has a space between words, so two spaces are an empty word. In this order: no command, or
 # none of this name, and words that ask for help or a version; options before the command; an option or a file is missing; a value
 # that begins with `-`; an option twice, or not of this name; help behind a command's name; the two files that are written are one;
-# no number, or one too large or too long; and positional words too many or too few.
+# no number, or one too large or too long; positional words too many or too few; and addresses of no form, or that give no map,
+# and a command that takes none.
 NO_COMMANDS = '''\
 frob
 help
@@ -60,7 +61,17 @@ check
 check c d
 make 5
 make 18446744073709551616 0
-make 5 --out p 1601'''.split('\n')
+make 5 --out p 1601
+plain --text 0001000 --out a x.o
+plain --text 00010000 --text 00010000 --out a x.o
+plain --text=00000000 --out a x.o
+zc --data 0020A000 --out a --cert c x.o
+zc --data --out a --cert c x.o
+run --stack 1 i
+run --stack=00001000 i
+trace --text 08000000 --data 080e0000 x.o
+make --text 00010000 5 0
+check --stack 10000000 c'''.split('\n')
 
 
 def plain(out, *names):
@@ -91,7 +102,10 @@ COMMANDS = (
     ('zc --cert c --out a x.o x.o', (121, 'refused 1 9 Duplicate _start', b'', {})), ('run i --steps 5', EXITED),
     ('plain --out help help', plain('help', 'help')), ('plain --out a zc', plain('a', 'zc')),
     ('run i', EXITED), ('run --steps 5 i', EXITED), ('run --steps 00000000000000000005 i', EXITED),
-    ('run --steps=5 --plan=p i', EXITED), ('run --steps=2 i', (127, 'spent', b'', {})), ('make 5 0', (0, '', None, {})),
+    ('run --steps=5 --plan=p i', EXITED), ('run --text 00010000 i --stack=10000000 --data 00100000', EXITED),
+    ('plain --text=00010000 --out a x.o', plain('a', 'x.o')), ('zc --out a x.o --stack 10000000 --cert c', LINKED),
+    ('run --text 00001000 i', EXITED), ('run --text=00020000 --data 00110000 i', (125, 'bad image 3', b'', {})),
+    ('run --steps=2 i', (127, 'spent', b'', {})), ('make 5 0', (0, '', None, {})),
 )
 
 

@@ -5,7 +5,19 @@ from typing import NamedTuple
 from zcld_tools.elf import (CODE_FLAGS, DATA_FLAGS, EXECUTABLE, EXECUTE, HEADER, LOAD, NOBITS, PROGBITS, PROGRAM_HEADER,
                             READABLE, STRTAB, WRITABLE, Part, file_header, laid, section_headers)
 
-TEXT_AT, DATA_AT, STACK_LOW, STACK_HIGH = 0x10000, 0x100000, 0x0FF00000, 0x10000000
+
+class MemoryMap(NamedTuple):
+    """Where a program's memory lies: where its code and its data begin, and between which addresses its stack lies."""
+
+    text: int
+    data: int
+    stack_low: int
+    stack_high: int
+
+
+# The map that the program uses if it is told no other.
+STANDARD = MemoryMap(0x10000, 0x100000, 0x0FF00000, 0x10000000)
+TEXT_AT, DATA_AT, STACK_LOW, STACK_HIGH = STANDARD
 # The name of each section of an image, and the flag of an image that may have short forms.
 NAMES = b'\0.text\0.data\0.bss\0.zcld.places\0.shstrtab\0'
 PLACES, COMPRESSED = b'.zcld.places', 1
@@ -36,12 +48,12 @@ def executable(parts, zero, entry, flags=0, *, names=None, step=4):
     return file_header(EXECUTABLE, at, count, names or 0, entry=entry, flags=flags, segments=2) + loads + content + headers
 
 
-def image_bytes(text, places, data, zero, start, flags):
+def image_bytes(text, places, data, zero, start, flags, memory=STANDARD):
     """The image of these bytes and places, and of so many zeros after the data."""
     listed = b''.join(struct.pack('<HHII', *place, address) for place, address in sorted(places.items()))
-    parts = [Part(name_at(b'.text'), PROGBITS, CODE_FLAGS, text, align=4, address=TEXT_AT),
-             Part(name_at(b'.data'), PROGBITS, DATA_FLAGS, data, align=4, address=DATA_AT),
-             Part(name_at(b'.bss'), NOBITS, DATA_FLAGS, b'', zero, 4, address=DATA_AT + len(data)),
+    parts = [Part(name_at(b'.text'), PROGBITS, CODE_FLAGS, text, align=4, address=memory.text),
+             Part(name_at(b'.data'), PROGBITS, DATA_FLAGS, data, align=4, address=memory.data),
+             Part(name_at(b'.bss'), NOBITS, DATA_FLAGS, b'', zero, 4, address=memory.data + len(data)),
              Part(name_at(PLACES), PROGBITS, 0, listed, align=4), Part(name_at(b'.shstrtab'), STRTAB, 0, NAMES, align=1)]
     return executable(parts, zero, start, flags, names=len(parts))
 
