@@ -2,6 +2,7 @@
 use Rattle.std.proofs.Common.{◌≡◌, ℕ, ◌+◌, ◌%◌, ◌<◌, ◌≤◌, List, length, Bool, true, false, cond, refl, sym, ap, ◌∙◌, arith, eqb}
 use Rattle.std.specs.Prelude.{nat_le, slice_index}
 use Rattle.std.proofs.lemmas.Bool.{and_parts, leb-true}
+use Rattle.psabi_sym.specs.Faults.{counted_bytes}
 use Rattle.block_cut.specs.CodeSizes.{code_step, is_long_at, own_size}
 
 pub step_sum : (c : Bool) (n m : ℕ) → n % code_step c ≡ 0 → m % code_step c ≡ 0 → (n + m) % code_step c ≡ 0
@@ -16,6 +17,21 @@ step_even false n is = omega arith
 pub step_four : (c : Bool) (n : ℕ) → n % 4 ≡ 0 → n % code_step c ≡ 0
 step_four true n is = omega arith
 step_four false n is = is
+
+-- bytes count as many as they are, or more
+pub counted_least : (c : Bool) (n : ℕ) → n ≤ counted_bytes c n
+counted_least true n = omega arith
+counted_least false n = omega arith
+
+-- sums count as their parts do
+pub counted_sum : (c : Bool) (n m : ℕ) → counted_bytes c (n + m) ≡ counted_bytes c n + counted_bytes c m
+counted_sum true n m = omega arith
+counted_sum false n m = refl
+
+-- a step counts four bytes at least
+pub counted_step : (c : Bool) (n : ℕ) → n % code_step c ≡ 0 → 2 ≤ n → 4 ≤ counted_bytes c n
+counted_step true n units some = omega (arith, some)
+counted_step false n units some = omega (arith, units, some)
 
 -- where no object is compressed, multiples are words'
 pub step_plain : (c : Bool) (n : ℕ) → c ≡ false → n % code_step c ≡ 0 → n % 4 ≡ 0

@@ -1,7 +1,7 @@
 -- The room of code is bounded, so each of its addresses fits in a word. An item takes no more than its step and the room of its
 -- relocation (`item_fits`); the starts of a section have relocations of their own, so their rooms are no more than those of all its
 -- relocations (`rooms_fit`); so a section takes no more than its room, and all code no more than the sum that inputs may have.
-use Rattle.std.proofs.Common.{◌≡◌, ℕ, suc, ◌+◌, ◌%◌, ◌<◌, ◌≤◌, List, [], ◌∷◌, ◌++◌, length, get_or, take, map, max, Bool, true, false, cond, Option, Some, None, refl, sym, ap, ◌∙◌, arith, eqb, inl, inr, slice_get}
+use Rattle.std.proofs.Common.{◌≡◌, ℕ, suc, ◌+◌, ◌*◌, ◌%◌, ◌<◌, ◌≤◌, List, [], ◌∷◌, ◌++◌, length, get_or, take, map, max, Bool, true, false, cond, Option, Some, None, refl, sym, ap, ◌∙◌, arith, eqb, inl, inr, slice_get}
 use Rattle.std.specs.Prelude.{nat_lt, ◌||◌, ◌&&◌}
 use Rattle.std.specs.List.{enumerate_from, find, flat_map, fold, position_or_len, range_with_len, sum_by}
 use Rattle.std.specs.Option.{option_and_then, option_map, option_map_or}
@@ -17,7 +17,7 @@ use Rattle.elf32_read.specs.declared.reloc.Reloc.{Reloc}
 use Rattle.elf32_read.specs.Parts.{ObjectParts, SectionParts, is_code_section, object_parts}
 use Rattle.psabi_sym.specs.Blocks.{aligned_up}
 use Rattle.psabi_sym.specs.Data.{is_code_role, role_of}
-use Rattle.psabi_sym.specs.Faults.{are_too_large, code_room, gather_fault, object_code, power_above, reloc_room, room_in_code, sum_fault, sums_of}
+use Rattle.psabi_sym.specs.Faults.{are_too_large, code_room, counted_bytes, gather_fault, object_code, power_above, reloc_room, room_in_code, sum_fault, sums_of}
 use Rattle.psabi_sym.specs.Inputs.{Inputs, ParsedInputs, parsed}
 use Rattle.psabi_sym.specs.Indexed.{IndexedSection, all_sections, section_at, sections_in}
 use Rattle.psabi_sym.specs.declared.section_row.SectionRole.{SectionRole}
@@ -31,6 +31,7 @@ use Rattle.block_cut.specs.Items.{item_in, items_in, place_of, size_on, starts_i
 use Rattle.block_cut.specs.PlainLayout.{after_item, after_start, after_starts, padding_of, plain_end, section_begin, section_end}
 use Rattle.block_cut.specs.Relocs.{is_sound, reloc_on}
 use Rattle.block_cut.specs.CodeSizes.{code_step}
+use Rattle.block_cut.proofs.CodeSizeLaws.{counted_least, counted_step, counted_sum}
 use Rattle.block_cut.proofs.ItemLaws.{item_fits, room_at}
 use Rattle.block_cut.proofs.ListedLaws.{listed}
 use Rattle.block_cut.proofs.StartLaws.{Above, IsStep, along}
@@ -101,7 +102,7 @@ code_role Code is = refl
 code_role (InClass class) is = absurd cc
 code_role Dropped is = absurd cc
 
-pub code_room_is : (s : SectionParts) → is_code_section s ≡ true → code_room s ≡ s.size + max 4 s.align + sum_by reloc_room s.relocs
+pub code_room_is : (s : SectionParts) → is_code_section s ≡ true → code_room s ≡ counted_bytes s.compressed s.size + max 4 s.align + sum_by reloc_room s.relocs
 code_room_is s code = ap (room_in_code s) (code_role (role_of s) (code_is s ∙ code))
 
 -- ---- the rooms of starts
@@ -172,6 +173,14 @@ module _ (s : SectionParts) (code : is_code_section s ≡ true) (whole : IsWhole
   rooms_fit = rooms_found s.relocs
 
   -- ---- sections
+
+  -- each start counts four bytes at least
+  pub starts_counted : 4 * length (starts_in s) ≤ counted_bytes s.compressed (length s.bytes)
+  starts_counted =
+      let all : 4 * length (starts_in s) + counted_bytes s.compressed 0 ≤ counted_bytes s.compressed (length s.bytes) =
+      along s code whole (λ n xs. 4 * length xs + counted_bytes s.compressed n ≤ counted_bytes s.compressed (length s.bytes)) (omega arith)
+      (λ n xs lt words st above rest. omega (arith, counted_step s.compressed (size_on s n) st.words st.some, counted_sum s.compressed n (size_on s n), rest)) in
+      omega (arith, all)
 
   -- items from a start on take no more than the bytes that are left, and the rooms
   pub items_fit : (inputs : ParsedInputs) (o i a : ℕ) → after_starts inputs (listed o i s) a (starts_in s) ≤ a + length s.bytes + sum_by reloc_room s.relocs
@@ -274,6 +283,7 @@ section_end_fits inputs a l whole = by (is_code_section l.section) refl
           items_fit s code (whole code) inputs l.object l.index begin,
           aligned_up-lt (max 4 s.align) a,
           code_room_is s code,
+          counted_least s.compressed s.size,
           (whole code).bytes,
         )
     by false other = omega (arith, section_end-other inputs a l other)

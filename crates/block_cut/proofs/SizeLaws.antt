@@ -14,7 +14,6 @@ use Rattle.block_cut.proofs.CodeSizeLaws.{own_plain, step_plain}
 use Rattle.block_cut.proofs.PlainLaws.{item_here}
 use Rattle.block_cut.proofs.SoundLaws.{sound_at}
 use Rattle.block_cut.proofs.StartLaws.{start_is, step}
-use Rattle.block_cut.proofs.WholeLaws.{code_is_section, code_plain}
 
 pub record IsSized (inputs : Inputs) (q : Place) : Type 0 where
   pub short : size_at (parsed inputs).objects q ≤ 255
@@ -44,13 +43,3 @@ words_at objects q s at code plain =
     by (Some r) on =
         let size : size_on s q.offset ≡ field_of r = ap (λ o. option_map_or field_of o own) on in
         omega (arith, size, step_plain s.compressed (field_of r) plain (sound_at s q.offset r code on).field.words)
-
-pub size_plain : (inputs : Inputs) → gather_fault inputs ≡ None → (q : Place) → size_at (parsed inputs).objects q % 4 ≡ 0
-size_plain inputs none q = by (code_at objects q) refl
-  where
-    objects : List ObjectParts
-    objects = (parsed inputs).objects
-
-    by : (o : Option SectionParts) → code_at objects q ≡ o → size_at objects q % 4 ≡ 0
-    by None at = let size : size_at objects q ≡ 4 = ap (λ o. option_map_or (λ s. size_on s q.offset) o 4) at in omega (arith, size)
-    by (Some s) at = words_at objects q s at (code_is_section objects q s at).1 (code_plain inputs q s none at)

@@ -40,7 +40,7 @@ use Rattle.block_cut.proofs.RoomLaws.{AreWhole, all_whole, code_room_is, items_i
 use Rattle.block_cut.proofs.SoundLaws.{sound_at}
 use Rattle.block_cut.proofs.StartLaws.{IsStart, along, before_end_all, before_first_none, start_is}
 use Rattle.block_cut.proofs.TakeLaws.{take_next}
-use Rattle.block_cut.proofs.CodeSizeLaws.{own_sized, step_even}
+use Rattle.block_cut.proofs.CodeSizeLaws.{counted_least, own_sized, step_even}
 use Rattle.block_cut.proofs.WholeLaws.{inputs_whole}
 use Rattle.block_cut.proofs.WordLaws.{IsCodeHere, before_other, before_start, code_here, end_other, last_got, no_target, number_target, some_target, target_got, target_nowhere}
 
@@ -371,6 +371,7 @@ items_few inputs (l ∷ ls) whole = by (is_code_section l.section) refl (items_f
           own,
           starts_few l.section code (whole.0 code),
           code_room_is l.section code,
+          counted_least l.section.compressed l.section.size,
           (whole.0 code).bytes,
           rest,
           sum_by-cons (λ (m : IndexedSection). code_room m.section) l ls,

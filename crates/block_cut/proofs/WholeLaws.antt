@@ -1,4 +1,4 @@
--- Code of objects without a fault is in the file whole, and has whole words.
+-- Code of objects without a fault is in the file whole, and its size is a multiple of its step.
 use Rattle.std.proofs.Common.{◌≡◌, ◌≢◌, ℕ, ◌%◌, ◌<◌, List, length, max, true, Option, Some, None, slice_get, refl, sym, ap, ◌∙◌, arith, cond, eqb, Bool, false, inl, inr}
 use Rattle.std.specs.Int.{is_power_of_two}
 use Rattle.std.specs.List.{list_any, range_with_len}
@@ -7,7 +7,7 @@ use Rattle.std.specs.Option.{option_and_then, option_map}
 use Rattle.std.proofs.lemmas.Bool.{cases_eq, cases_lt, eqb-true, ltb-false, not-false}
 use Rattle.std.proofs.lemmas.Option.{slice_get-map, slice_get_past}
 use Rattle.zc_base.specs.declared.place.Place.{Place}
-use Rattle.elf32_read.specs.Header.{file_flags, header_of, section_count}
+use Rattle.elf32_read.specs.Header.{header_of, section_count}
 use Rattle.elf32_read.specs.Kept.{has_flags, is_kept_code}
 use Rattle.elf32_read.specs.Object.{object_fault}
 use Rattle.elf32_read.specs.Parts.{ObjectParts, SectionParts, is_code_section, object_parts, section_parts}
@@ -19,7 +19,7 @@ use Rattle.psabi_sym.specs.Indexed.{section_at}
 use Rattle.psabi_sym.proofs.Gathered.{readable}
 use Rattle.psabi_sym.proofs.PartLaws.{section_count_is, section_got}
 use Rattle.block_cut.specs.Items.{code_at, code_only}
-use Rattle.block_cut.proofs.CodeSizeLaws.{step_four}
+use Rattle.block_cut.specs.CodeSizes.{code_step}
 pub use Rattle.block_cut.specs.Whole.{IsWhole}
 
 -- an alignment that isn't one of words
@@ -53,7 +53,7 @@ file_whole file i read lt code =
     let bytes = content_whole file h ((faultless_whole file read).contents i lt) not_null not_nobits in
     record {
       bytes = bytes;
-      words = step_four (section_parts file i).compressed (length (section_parts file i).bytes) (ap (λ n. n % 4) bytes ∙ is.words);
+      words = ap (λ n. n % code_step (section_parts file i).compressed) bytes ∙ is.words;
       short = omega (arith, content_short file h, ltb-false 0x40_0000 (length file) (no_fault file read).short);
       low = is.aligned.low;
       aligned = word_aligned h.align is.aligned;
@@ -92,20 +92,6 @@ inputs_whole inputs o i s none is code =
     let of = section_of inputs o i s is in
     rw of.is (file_whole of.file i (readable inputs o of.file none of.at) of.within (ap is_code_section (sym of.is) ∙ code))
 
--- no object without a fault is compressed
-flags_plain : (flags : ℕ) → (not (eqb flags 0) && not (eqb flags 0x10)) ≡ false → has_flags 1 flags ≡ false
-flags_plain flags known = by (eqb flags 0) refl (eqb flags 0x10) refl known
-  where
-    by : (b : Bool) → eqb flags 0 ≡ b → (c : Bool) → eqb flags 0x10 ≡ c → (not b && not c) ≡ false → has_flags 1 flags ≡ false
-    by true none c tso known = ap (has_flags 1) (eqb-true flags 0 none)
-    by false some true tso known = ap (has_flags 1) (eqb-true flags 0x10 tso)
-    by false some false other known = absurd cc
-
-pub inputs_plain : (inputs : Inputs) (o i : ℕ) (s : SectionParts) → gather_fault inputs ≡ None → section_at (parsed inputs).objects o i ≡ Some s → s.compressed ≡ false
-inputs_plain inputs o i s none is =
-    let of = section_of inputs o i s is in
-    ap (λ (t : SectionParts). t.compressed) of.is ∙ flags_plain (file_flags of.file) (no_fault of.file (readable inputs o of.file none of.at)).flags
-
 -- code is a section that is code
 pub code_is_section : (objects : List ObjectParts) (q : Place) (s : SectionParts) → code_at objects q ≡ Some s → (section_at objects q.object q.section ≡ Some s) × (is_code_section s ≡ true)
 code_is_section objects q s at = by (section_at objects q.object q.section) refl at
@@ -123,7 +109,3 @@ pub code_whole : (inputs : Inputs) (q : Place) (s : SectionParts) → gather_fau
 code_whole inputs q s none at =
     let is = code_is_section (parsed inputs).objects q s at in
     inputs_whole inputs q.object q.section s none is.0 is.1
-
--- and isn't compressed
-pub code_plain : (inputs : Inputs) (q : Place) (s : SectionParts) → gather_fault inputs ≡ None → code_at (parsed inputs).objects q ≡ Some s → s.compressed ≡ false
-code_plain inputs q s none at = inputs_plain inputs q.object q.section s none (code_is_section (parsed inputs).objects q s at).0

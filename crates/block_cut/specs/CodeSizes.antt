@@ -1,9 +1,6 @@
 -- Sizes in code (RISC-V unprivileged manual, "Base Instruction Formats" and "Expanded Instruction-Length Encoding").
+pub use Rattle.elf32_read.specs.Compressed.{code_step}
 use Rattle.std.specs.Prelude.{ℕ, ◌+◌, ◌%◌, Bool, ◌&&◌, ◌==◌, nat_le, if◌then◌else◌, List, length, slice_index}
-
--- what the starts, the sizes and the end of code are multiples of
-abbrev pub code_step : Bool → ℕ
-code_step compressed = if compressed then 2 else 4
 
 -- four bytes are left at an offset, and the first of them says that the instruction has so many
 abbrev pub is_long_at : List ℕ → ℕ → Bool

@@ -9,7 +9,8 @@ use Rattle.std.proofs.lemmas.Bool.{eqb-true, leb-false, lt-ltb, ltb-false, ne_eq
 use Rattle.std.proofs.lemmas.List.{length-drop, length-take}
 use Rattle.std.proofs.lemmas.List.Folds.{list_any-append}
 use Rattle.std.proofs.lemmas.Option.{get_or_from_slice_get, slice_get_within}
-use Rattle.elf32_read.specs.Header.{begins_as, content_of, header_of, headers_of, is_empty_kind, section_count, section_table}
+use Rattle.elf32_read.specs.Compressed.{code_step, has_rvc}
+use Rattle.elf32_read.specs.Header.{begins_as, content_of, file_flags, header_of, headers_of, is_empty_kind, section_count, section_table}
 use Rattle.elf32_read.specs.Kept.{has_flags, is_kept, is_kept_code}
 use Rattle.elf32_read.specs.Names.{has_end, is_name_at, is_unnamed_section, lacks_strings, section_names, strings_of}
 use Rattle.elf32_read.specs.Object.{IsWholeFile, counts_elsewhere, has_bad_alignment, has_bad_name, has_bad_symbol, has_cut_code, has_other_binding, has_other_flags, has_other_kind, has_other_symbols, has_second_symbol_table, has_too_many_sections, has_two_relas, has_unlinked_sections, is_bad_alignment, is_bad_common, is_bad_symbol, is_badly_aligned, is_compressed, is_cut_code, is_foreign_kind, is_homeless, is_kept_by_thread, is_kept_rela, is_kept_unknown, is_odd_code, is_odd_rela, is_odd_symbol_table, is_of_no_symbol, is_rela_of_none, is_too_long, is_undefined_local, is_unlinked, is_unnamed_symbol, lacks_section_names, lacks_symbol_names, names_no_symbol, not_elf, object_fault, passes_end, passes_section, truncated}
@@ -174,11 +175,11 @@ pub record IsKept (header : SectionHeader) : Type 0 where
   pub plain : has_flags 0x800 header.flags ≡ false
   pub aligned : IsAlignment 4096 header.align
 
--- kept code is PROGBITS that the program can't write to, has whole words, and an alignment of at most 256
-pub record IsKeptCode (header : SectionHeader) : Type 0 where
+-- kept code is PROGBITS that the program can't write to, its size is a multiple of its step, and its alignment is at most 256
+pub record IsKeptCode (compressed : Bool) (header : SectionHeader) : Type 0 where
   pub kind : header.kind ≡ 1
   pub constant : has_flags 1 header.flags ≡ false
-  pub words : header.size % 4 ≡ 0
+  pub words : header.size % code_step compressed ≡ 0
   pub aligned : IsAlignment 256 header.align
 
 -- the causes for which a section is never linked, one by one
@@ -248,17 +249,18 @@ module _ (bytes : List ℕ) (read : object_fault bytes ≡ None) where
       by true good = let is = is_alignment 256 (header_of bytes i).align good in record { low = omega (arith, is.low); power = is.power }
       by false good = is_alignment 4096 (header_of bytes i).align good
 
-  pub kept_code : (i : ℕ) → i < section_count bytes → is_kept_code bytes (header_of bytes i) ≡ true → IsKeptCode (header_of bytes i)
+  pub kept_code : (i : ℕ) → i < section_count bytes → is_kept_code bytes (header_of bytes i) ≡ true → IsKeptCode (has_rvc (file_flags bytes)) (header_of bytes i)
   kept_code i lt code =
       let h = header_of bytes i in
       let causes = no_cause bytes h ((linked bytes read).each i lt) in
       let parts = and_parts (is_kept bytes h) (has_flags 4 h.flags) code in
       let odd = or_parts (has_flags 1 h.flags) (not (h.kind == 1)) (second_no (is_kept_code bytes h) (has_flags 1 h.flags || not (h.kind == 1)) causes.code code) in
-      let cut = second_no (is_kept_code bytes h) (not (h.size % 4 == 0)) (none_listed (is_cut_code bytes) (header_of bytes) (section_count bytes) i (no_fault bytes read).words lt) code in
+      let step = code_step (has_rvc (file_flags bytes)) in
+      let cut = second_no (is_kept_code bytes h) (not (h.size % step == 0)) (none_listed (is_cut_code bytes) (header_of bytes) (section_count bytes) i (no_fault bytes read).words lt) code in
       record {
         kind = eqb-true h.kind 1 (not-false (eqb h.kind 1) odd.1);
         constant = odd.0;
-        words = eqb-true (h.size % 4) 0 (not-false (eqb (h.size % 4) 0) cut);
+        words = eqb-true (h.size % step) 0 (not-false (eqb (h.size % step) 0) cut);
         aligned = is_alignment 256 h.align (sym (ap (λ b. is_bad_alignment (cond b 256 4096) h.align) parts.1) ∙ section_aligned i lt parts.0);
       }
 

@@ -22,6 +22,10 @@ section_table bytes = word_in bytes 32
 abbrev pub file_flags : List ℕ → ℕ
 file_flags bytes = word_in bytes 36
 
+-- e_flags has no bit but RVC (0x1) and TSO (0x10)
+abbrev pub are_known_flags : ℕ → Bool
+are_known_flags flags = flags == 0 || flags == 0x1 || flags == 0x10 || flags == 0x11
+
 -- e_phnum: how many program headers there are
 abbrev pub program_count : List ℕ → ℕ
 program_count bytes = half_in bytes 44

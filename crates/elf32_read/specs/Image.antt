@@ -4,7 +4,7 @@ use Rattle.std.specs.Prelude.{◌≡◌, ◌≤◌, None, ℕ, ◌+◌, ◌*◌,
 use Rattle.std.specs.List.{list_any}
 use Rattle.zc_base.specs.Fields.{half_in}
 use Rattle.zc_base.specs.declared.mem_map.MemMap.{MemMap}
-use Rattle.elf32_read.specs.Header.{begins_as, content_of, entry_address, file_flags, has_other_section_headers, headers_of, is_empty_kind, name_section, program_count, program_table, section_count}
+use Rattle.elf32_read.specs.Header.{are_known_flags, begins_as, content_of, entry_address, file_flags, has_other_section_headers, headers_of, is_empty_kind, name_section, program_count, program_table, section_count}
 use Rattle.elf32_read.specs.declared.header.ProgramHeader.{ProgramHeader}
 use Rattle.elf32_read.specs.declared.header.SectionHeader.{SectionHeader}
 use Rattle.elf32_read.specs.Names.{is_unnamed_section, lacks_strings}
@@ -14,10 +14,6 @@ use Rattle.elf32_read.specs.Rows.{first_of}
 use Rattle.elf32_read.specs.Segments.{is_code, is_entry_of, is_in_place, loads_of, overlap_in_memory}
 use Rattle.elf32_read.specs.declared.image_fault.ImageFault.{ImageFault}
 use Rattle.elf32_read.specs.declared.image_fault.ImageFault.TheVariants.{NotElf, Truncated, BadSegment, BadPlaces, TooLarge}
-
--- e_flags has no bit but RVC (0x1) and TSO (0x10) (RISC-V ELF psABI, "File Header")
-abbrev pub are_known_flags : ℕ → Bool
-are_known_flags flags = flags == 0 || flags == 0x1 || flags == 0x10 || flags == 0x11
 
 -- shorter than its header, not an executable RISC-V file (type 2) with known flags, or with program headers that don't have
 -- 32 bytes (e_phentsize) or section headers that don't have 40

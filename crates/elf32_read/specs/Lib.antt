@@ -1,3 +1,4 @@
+pub mod Compressed
 pub mod Fault
 pub mod Header
 pub mod Image

@@ -3,7 +3,8 @@
 use Rattle.std.specs.Prelude.{◌≡◌, ◌≤◌, ◌<◌, ◌+◌, ◌*◌, ◌%◌, Bool, false, not, ◌&&◌, ◌||◌, ◌==◌, nat_lt, nat_le, if◌then◌else◌, List, ℕ, [], ◌∷◌, length, drop, Option, None}
 use Rattle.std.specs.Int.{is_power_of_two}
 use Rattle.std.specs.List.{list_any, range_with_len}
-use Rattle.elf32_read.specs.Header.{begins_as, content_of, file_flags, has_other_section_headers, header_of, headers_of, is_empty_kind, name_section, section_count, section_table}
+use Rattle.elf32_read.specs.Compressed.{code_step, has_rvc}
+use Rattle.elf32_read.specs.Header.{are_known_flags, begins_as, content_of, file_flags, has_other_section_headers, header_of, headers_of, is_empty_kind, name_section, section_count, section_table}
 use Rattle.elf32_read.specs.Kept.{has_flags, is_kept, is_kept_code}
 use Rattle.elf32_read.specs.Names.{has_end, is_unnamed_section, lacks_strings}
 use Rattle.elf32_read.specs.Relocs.{relas_for, relocs_in}
@@ -44,9 +45,9 @@ pub record IsWholeFile (bytes : List ℕ) : Type 0 where
   pub headers : section_table bytes + 40 * section_count bytes ≤ length bytes
   pub contents : (i : ℕ) → i < section_count bytes → passes_end bytes (header_of bytes i) ≡ false
 
--- e_flags has another bit than TSO (0x10)
+-- e_flags has another bit than RVC (0x1) and TSO (0x10)
 abbrev pub has_other_flags : List ℕ → Bool
-has_other_flags bytes = not (file_flags bytes == 0) && not (file_flags bytes == 0x10)
+has_other_flags bytes = not (are_known_flags (file_flags bytes))
 
 -- ---- sections that are never linked
 
@@ -141,9 +142,9 @@ abbrev pub has_bad_alignment : List ℕ → Bool
 has_bad_alignment bytes =
     list_any (is_badly_aligned bytes) (headers_of bytes) || list_any is_bad_common (drop 1 (symbol_entries bytes))
 
--- code that ends inside a word
+-- code that ends inside a word, or of a compressed object inside a halfword
 abbrev pub is_cut_code : List ℕ → SectionHeader → Bool
-is_cut_code bytes h = is_kept_code bytes h && not (h.size % 4 == 0)
+is_cut_code bytes h = is_kept_code bytes h && not (h.size % code_step (has_rvc (file_flags bytes)) == 0)
 
 -- some section is such code
 abbrev pub has_cut_code : List ℕ → Bool

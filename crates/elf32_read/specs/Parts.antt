@@ -3,6 +3,7 @@
 use Rattle.std.specs.Prelude.{ℕ, Bool, not, ◌&&◌, nat_eq, if◌then◌else◌, List, [], map, codes}
 use Rattle.std.specs.Cmp.Lexicographic.{pointwise}
 use Rattle.std.specs.List.{flat_map, range_with_len}
+use Rattle.elf32_read.specs.Compressed.{has_rvc}
 use Rattle.elf32_read.specs.Header.{content_of, file_flags, header_of, section_count}
 use Rattle.elf32_read.specs.Kept.{has_flags, is_kept}
 use Rattle.elf32_read.specs.Names.{name_at, section_names}
@@ -59,8 +60,7 @@ relocs_held file h = relocs_in (content_of file h)
 abbrev pub relocs_of : List ℕ → ℕ → List Reloc
 relocs_of file i = if is_kept file (header_of file i) then flat_map (relocs_held file) (relas_for file i) else []
 
--- a section by its index; its object is compressed, so that code may have instructions of 2 bytes, if RVC (1) is among e_flags
--- (RISC-V ELF psABI, "File Header")
+-- a section by its index
 abbrev pub section_parts : List ℕ → ℕ → SectionParts
 section_parts file i = let h = header_of file i in record {
   name = name_at (section_names file) h.name;
@@ -70,7 +70,7 @@ section_parts file i = let h = header_of file i in record {
   size = h.size;
   bytes = content_of file h;
   relocs = relocs_of file i;
-  compressed = has_flags 1 (file_flags file);
+  compressed = has_rvc (file_flags file);
 }
 
 -- the symbol of an entry

@@ -1,12 +1,14 @@
-// Whether sections and common symbols are aligned as they may be, and code has whole words.
+// Whether sections and common symbols are aligned as they may be, and code has whole words, or of a
+// compressed object whole halfwords.
 
-ghost use Rattle.std.specs.Prelude.{◌≡◌, drop};
+ghost use Rattle.std.specs.Prelude.{◌≡◌, ◌<◌, drop};
 ghost use Rattle.std.specs.List.{list_any};
+ghost use Rattle.elf32_read.specs.Compressed.{code_step, has_rvc};
 ghost use Rattle.elf32_read.specs.Header.{headers_of};
 ghost use Rattle.elf32_read.specs.Object.{has_bad_alignment, has_cut_code, is_bad_alignment, is_bad_common, is_badly_aligned, is_cut_code};
 ghost use Rattle.elf32_read.specs.Symbols.{entries_in, symbol_content};
 
-use crate::header::SectionHeader;
+use crate::header::{SectionHeader, file_flags, has_rvc};
 use crate::section_flags::SectionFlags;
 use crate::sections::Sections;
 use crate::symbol::COMMON;
@@ -75,14 +77,22 @@ pub fn has_bad_alignment(sections: &Sections, entries: &[u8]) -> bool
     has_badly_aligned(sections) || has_bad_common(entries)
 }
 
-// Whether a section is code that ends inside a word.
+// What the starts, the sizes and the end of code are multiples of, by the flags of its object.
+fn code_step(flags: u32) -> u32
+    ensures some { 0 < result }
+    ensures value { result ≡ code_step (has_rvc flags) }
+{
+    if has_rvc(flags) { 2 } else { 4 }
+}
+
+// Whether a section is code that ends inside a word, or of a compressed object inside a halfword.
 fn is_cut_code(sections: &Sections, header: &SectionHeader) -> bool
     ensures { result ≡ is_cut_code sections.now header.now }
 {
-    sections.is_kept_code(header) && header.size % 4 != 0
+    sections.is_kept_code(header) && header.size % code_step(file_flags(sections.bytes())) != 0
 }
 
-/// Whether some section is code that ends inside a word.
+/// Whether some section is such code.
 #[tactic(auto, using(crate::proofs::Listed::none_listed_more))]
 pub fn has_cut_code(sections: &Sections) -> bool
     ensures { result ≡ has_cut_code sections.now }

@@ -18,14 +18,14 @@ pub enum Fault {
     NotElf,
     /// The section headers, or the content of a section, pass the file's end.
     Truncated,
-    /// The file's flags have another bit than TSO.
+    /// The file's flags have another bit than RVC and TSO.
     Flags,
     /// A section has a kind, flags or entries that are never linked.
     SectionKind,
     /// The alignment of a section, or of a common symbol, is neither 0 nor a power of two, or is
     /// too large.
     Alignment,
-    /// A section of code ends inside a word.
+    /// A section of code ends inside a word, or in a compressed object inside a halfword.
     CodeSize,
     /// There is no table of names, or a name has no end in it.
     BadName,
@@ -46,7 +46,7 @@ pub enum Fault {
     /// The relocation's target lies nowhere in the program, or inside an item, or is a plain number
     /// that code is to go to.
     BadTarget { section: u16, at: u32 },
-    /// The branch doesn't reach its target.
+    /// The branch, or the jump of 2 bytes, doesn't reach its target.
     Range { section: u16, at: u32 },
     /// `_start` names no item of code.
     NoEntry,

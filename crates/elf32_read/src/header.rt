@@ -3,8 +3,9 @@
 
 ghost use Rattle.std.specs.Prelude.{◌≡◌, ◌≢◌, ◌≤◌, ◌+◌, ◌*◌, length};
 ghost use Rattle.zc_base.specs.Fields.{half_in};
+ghost use Rattle.elf32_read.specs.Compressed.{has_rvc};
 ghost use Rattle.elf32_read.specs.Kept.{has_flags};
-ghost use Rattle.elf32_read.specs.Header.{begins_as, content_of, entry_address, file_flags, has_other_section_headers, header_of, is_empty_kind, name_section, program_count, program_header_of, program_table, section_count, section_table};
+ghost use Rattle.elf32_read.specs.Header.{are_known_flags, begins_as, content_of, entry_address, file_flags, has_other_section_headers, header_of, is_empty_kind, name_section, program_count, program_header_of, program_table, section_count, section_table};
 
 use crate::section_flags::SectionFlags;
 use bitflags::Flags;
@@ -133,6 +134,21 @@ pub fn file_flags(bytes: &[u8]) -> u32
     ensures { result ≡ file_flags bytes.now }
 {
     u32_at(bytes, 36)
+}
+
+/// Whether e_flags has no bit but RVC and TSO.
+pub fn are_known_flags(flags: u32) -> bool
+    ensures { result ≡ are_known_flags flags }
+{
+    flags == 0 || flags == RVC || flags == TSO || flags == RVC | TSO
+}
+
+/// Whether an object with these e_flags is compressed, so that its code may have instructions of 2
+/// bytes: RVC is among them.
+pub fn has_rvc(flags: u32) -> bool
+    ensures { result ≡ has_rvc flags }
+{
+    flags & RVC == RVC
 }
 
 /// The bytes of a program header, e_phentsize.

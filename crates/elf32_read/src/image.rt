@@ -10,8 +10,8 @@ ghost use Rattle.elf32_read.specs.Segments.{segment_of, segments_of};
 
 use crate::bounds::{has_truncated_load, is_truncated, lacks_program_headers};
 use crate::header::{
-    EXECUTABLE, ProgramHeader, begins_as, entry_address, file_flags, has_other_section_headers,
-    program_count, program_header_size,
+    EXECUTABLE, ProgramHeader, are_known_flags, begins_as, entry_address, file_flags,
+    has_other_section_headers, program_count, program_header_size,
 };
 use crate::image_fault::ImageFault;
 use crate::loads::{Loads, loads_in};
@@ -30,7 +30,7 @@ fn is_no_image(bytes: &[u8]) -> bool
 {
     bytes.len() < 52
         || !begins_as(EXECUTABLE, bytes)
-        || !matches!(file_flags(bytes), 0 | 0x1 | 0x10 | 0x11)
+        || !are_known_flags(file_flags(bytes))
         || (program_count(bytes) != 0 && program_header_size(bytes) != 32)
         || has_other_section_headers(bytes)
 }

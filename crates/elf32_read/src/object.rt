@@ -1,8 +1,8 @@
 // Objects.
 
 ghost use Rattle.std.specs.Prelude.{◌≡◌, ◌≤◌, ◌<◌, List, ℕ, [], length, replicate, slice_get, slice_index_or, None, Some, MatchOption, MatchResult};
+ghost use Rattle.elf32_read.specs.Compressed.{has_rvc};
 ghost use Rattle.elf32_read.specs.Header.{file_flags, header_of, section_count};
-ghost use Rattle.elf32_read.specs.Kept.{has_flags};
 ghost use Rattle.elf32_read.specs.Lent.{IsSection, IsSectionEntry, IsSymbol};
 ghost use Rattle.elf32_read.specs.Object.{has_other_flags, not_elf, object_fault, IsReadObject};
 ghost use Rattle.elf32_read.specs.Parts.{relocs_held, relocs_of, section_parts, symbol_parts};
@@ -13,7 +13,8 @@ use crate::alignments::{has_bad_alignment, has_cut_code};
 use crate::bounds::is_truncated;
 use crate::fault::Fault;
 use crate::header::{
-    RELOCATABLE, RVC, TSO, begins_as, file_flags, has_other_section_headers, section_count,
+    RELOCATABLE, are_known_flags, begins_as, file_flags, has_other_section_headers, has_rvc,
+    section_count,
 };
 use crate::kinds::has_unlinked_sections;
 use crate::names::{name_at, names_from};
@@ -45,7 +46,7 @@ fn has_other_flags(bytes: &[u8]) -> bool
     requires { 52 ≤ length bytes.now }
     ensures { result ≡ has_other_flags bytes.now }
 {
-    !matches!(file_flags(bytes), 0 | TSO)
+    !are_known_flags(file_flags(bytes))
 }
 
 /// A relocatable object without a fault. Clauses see it as its bytes.
@@ -147,11 +148,12 @@ impl<'a> Object<'a> {
         file_flags(self.sections.bytes())
     }
 
-    /// Whether its code may have instructions of 2 bytes: RVC is among its flags.
+    /// Whether it is compressed, so that its code may have instructions of 2 bytes: RVC is among its
+    /// flags.
     pub fn is_compressed(&self) -> bool
-        ensures { result ≡ has_flags 1 (file_flags self.now) }
+        ensures { result ≡ has_rvc (file_flags self.now) }
     {
-        self.flags() & RVC == RVC
+        has_rvc(self.flags())
     }
 
     /// How many sections there are, with the first, which is NULL in most files.

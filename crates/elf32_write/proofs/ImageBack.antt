@@ -9,8 +9,8 @@ use Rattle.std.proofs.lemmas.List.Elements.{All-from_recursion}
 use Rattle.zc_base.specs.Fields.{half_in, word_in}
 use Rattle.zc_base.specs.declared.mem_map.MemMap.{MemMap}
 use Rattle.zc_base.specs.declared.place.Place.{Place}
-use Rattle.elf32_read.specs.Header.{begins_as, content_of, entry_address, file_flags, has_other_section_headers, header_of, headers_of, name_section, program_count, program_header_of, program_table, section_count, section_table}
-use Rattle.elf32_read.specs.Image.{are_known_flags, bad_places, bad_segments, image_fault, image_truncated, is_bad_load, is_bad_section, not_image, some_overlap}
+use Rattle.elf32_read.specs.Header.{are_known_flags, begins_as, content_of, entry_address, file_flags, has_other_section_headers, header_of, headers_of, name_section, program_count, program_header_of, program_table, section_count, section_table}
+use Rattle.elf32_read.specs.Image.{bad_places, bad_segments, image_fault, image_truncated, is_bad_load, is_bad_section, not_image, some_overlap}
 use Rattle.elf32_read.specs.Names.{has_end, is_name_at, is_unnamed_section, lacks_strings, section_names}
 use Rattle.elf32_read.specs.Object.{passes_end}
 use Rattle.elf32_read.specs.Places.{places_sections, entry_at, entries_of, place_list, is_ascending, is_outside}

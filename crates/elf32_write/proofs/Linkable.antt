@@ -5,7 +5,8 @@ use Rattle.std.specs.List.{flat_map, list_any}
 use Rattle.std.proofs.lemmas.Bool.{and_left, and_parts, and_right, eq-eqb, lt-leb, not-true, or_from, or_parts}
 use Rattle.std.proofs.lemmas.List.Elements.{All-weaker}
 use Rattle.std.proofs.lemmas.List.Folds.{list_any_none}
-use Rattle.elf32_read.specs.Header.{header_of, section_count}
+use Rattle.elf32_read.specs.Compressed.{code_step, has_rvc}
+use Rattle.elf32_read.specs.Header.{file_flags, header_of, section_count}
 use Rattle.elf32_read.specs.Kept.{has_flags, is_kept}
 use Rattle.elf32_read.specs.Object.{is_bad_alignment, is_badly_aligned, is_cut_code, is_of_no_symbol, is_unlinked, lacks_symbols, names_no_symbol}
 use Rattle.elf32_read.specs.Parts.{SectionParts, SymbolParts, is_code_section, is_kept_section}
@@ -68,10 +69,10 @@ not_badly_aligned file h s r g =
     let kept = kept_back file h s r in
     (λ i. kept i && is_bad_alignment (if has_flags 4 (r.flags i) then 256 else 4096) (r.align i)) ∙ g.aligned
 
-pub not_cut : (file : List ℕ) (h : SectionHeader) (s : FileSection) → Shows file h s → IsLinkable file s → is_cut_code file h ≡ false
-not_cut file h s r g =
+pub not_cut : (file : List ℕ) → has_rvc (file_flags file) ≡ false → (h : SectionHeader) (s : FileSection) → Shows file h s → IsLinkable file s → is_cut_code file h ≡ false
+not_cut file plain h s r g =
     let kept = kept_back file h s r in
-    (λ i. kept i && has_flags 4 (r.flags i) && not (r.size i % 4 == 0)) ∙ g.cut
+    (λ i. kept i && has_flags 4 (r.flags i) && not (r.size i % code_step (plain i) == 0)) ∙ g.cut
 
 pub not_of_no_symbol : (file : List ℕ) (h : SectionHeader) (s : FileSection) → Shows file h s → IsLinkable file s → is_of_no_symbol file h ≡ false
 not_of_no_symbol file h s r g =

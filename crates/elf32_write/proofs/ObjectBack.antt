@@ -9,8 +9,9 @@ use Rattle.std.proofs.lemmas.List.Elements.{All-cons, All-map, All-weaker}
 use Rattle.std.proofs.lemmas.List.Folds.{list_any_none}
 use Rattle.std.proofs.lemmas.Option.{slice_get-get_or}
 use Rattle.std.proofs.lemmas.List.FromFn.{fill_by_all, length-map-range_with_len}
-use Rattle.elf32_read.specs.Header.{file_flags, has_other_section_headers, header_of, headers_of, section_count, section_table}
-use Rattle.elf32_read.specs.Kept.{has_flags, is_kept}
+use Rattle.elf32_read.specs.Compressed.{has_rvc}
+use Rattle.elf32_read.specs.Header.{are_known_flags, file_flags, has_other_section_headers, header_of, headers_of, section_count, section_table}
+use Rattle.elf32_read.specs.Kept.{is_kept}
 use Rattle.elf32_read.specs.Names.{has_end, is_unnamed_section, name_at}
 use Rattle.elf32_read.specs.Object.{counts_elsewhere, has_bad_alignment, has_bad_name, has_bad_symbol, has_cut_code, has_other_flags, has_second_symbol_table, has_too_many_sections, has_two_relas, has_unlinked_sections, is_bad_alignment, is_bad_common, is_bad_symbol, is_badly_aligned, is_changed_twice, is_cut_code, is_of_no_symbol, is_too_long, is_unlinked, is_unnamed_symbol, lacks_section_names, lacks_symbol_names, lacks_symbols, not_elf, object_fault, passes_end, passes_section, truncated}
 use Rattle.elf32_read.specs.Parts.{ObjectParts, SectionParts, SymbolParts, is_kept_section, object_parts, relocs_held, relocs_of, section_parts, symbol_parts}
@@ -168,22 +169,23 @@ is_whole parts b =
 
 has_known_flags : (parts : ObjectParts) → IsBack parts → has_other_flags (object_bytes parts) ≡ false
 has_known_flags parts b =
-    let both : (flags : ℕ) → (flags == 0 || flags == 0x10) ≡ true → (not (flags == 0) && not (flags == 0x10)) ≡ false =
+    let unknown : ℕ → Bool = λ flags. not (are_known_flags flags) in
+    let both : (flags : ℕ) → (flags == 0 || flags == 0x10) ≡ true → not (are_known_flags flags) ≡ false =
     λ flags known. elim (or_cases (flags == 0) (flags == 0x10) known) [
-      | inl e ↦ and_left (not (flags == 0)) (not (flags == 0x10)) (ap not e)
-      | inr e ↦ and_right (not (flags == 0)) (not (flags == 0x10)) (ap not e)
+      | inl e ↦ ap unknown (eqb-true flags 0 e)
+      | inr e ↦ ap unknown (eqb-true flags 0x10 e)
     ] in
-    ap (λ flags. not (flags == 0) && not (flags == 0x10)) (flags_back parts b.small) ∙ both parts.flags b.writable.flags
+    ap unknown (flags_back parts b.small) ∙ both parts.flags b.writable.flags
 
 -- no object that is written is compressed
-is_plain : (parts : ObjectParts) → IsBack parts → has_flags 1 (file_flags (object_bytes parts)) ≡ false
+is_plain : (parts : ObjectParts) → IsBack parts → has_rvc (file_flags (object_bytes parts)) ≡ false
 is_plain parts b =
-    let both : (flags : ℕ) → (flags == 0 || flags == 0x10) ≡ true → has_flags 1 flags ≡ false =
+    let both : (flags : ℕ) → (flags == 0 || flags == 0x10) ≡ true → has_rvc flags ≡ false =
     λ flags known. elim (or_cases (flags == 0) (flags == 0x10) known) [
-      | inl e ↦ ap (has_flags 1) (eqb-true flags 0 e)
-      | inr e ↦ ap (has_flags 1) (eqb-true flags 0x10 e)
+      | inl e ↦ ap has_rvc (eqb-true flags 0 e)
+      | inr e ↦ ap has_rvc (eqb-true flags 0x10 e)
     ] in
-    ap (has_flags 1) (flags_back parts b.small) ∙ both parts.flags b.writable.flags
+    ap has_rvc (flags_back parts b.small) ∙ both parts.flags b.writable.flags
 
 -- ---- no fault: the sections
 
@@ -252,7 +254,7 @@ is_linked parts b =
 has_whole_code : (parts : ObjectParts) → IsBack parts → has_cut_code (object_bytes parts) ≡ false
 has_whole_code parts b =
     let bytes = object_bytes parts in
-    zip_none (Shows bytes) (IsLinkable bytes) (is_cut_code bytes) (not_cut bytes) (headers_of bytes) (null_shown ∷ all_of parts) b.shown (linkable parts b)
+    zip_none (Shows bytes) (IsLinkable bytes) (is_cut_code bytes) (not_cut bytes (is_plain parts b)) (headers_of bytes) (null_shown ∷ all_of parts) b.shown (linkable parts b)
 
 -- ---- no fault: the symbols
 
@@ -382,7 +384,7 @@ given_relocs parts b j lt =
 part_of : FileSection → List Reloc → SectionParts
 part_of s relocs = record { name = s.name; kind = s.kind; flags = s.flags; align = s.align; size = s.size; bytes = s.content; relocs = relocs; compressed = false }
 
-part_read : (file : List ℕ) → has_flags 1 (file_flags file) ≡ false → (k : ℕ) (s : FileSection) (relocs : List Reloc) → Shows file (header_of file k) s → relocs_of file k ≡ relocs → section_parts file k ≡ part_of s relocs
+part_read : (file : List ℕ) → has_rvc (file_flags file) ≡ false → (k : ℕ) (s : FileSection) (relocs : List Reloc) → Shows file (header_of file k) s → relocs_of file k ≡ relocs → section_parts file k ≡ part_of s relocs
 unfolding part_of
 part_read file plain k s relocs r changed =
     λ i. record { name = r.named.read i; kind = r.kind i; flags = r.flags i; align = r.align i; size = r.size i; bytes = r.content i; relocs = changed i; compressed = plain i }

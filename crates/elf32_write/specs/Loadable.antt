@@ -3,8 +3,8 @@ use Rattle.std.specs.Prelude.{◌≡◌, ℕ, ◌+◌, ◌%◌, ◌^◌, ◌<◌
 use Rattle.std.specs.List.{list_any}
 use Rattle.zc_base.specs.declared.mem_map.MemMap.{MemMap}
 use Rattle.zc_base.specs.declared.place.Place.{Place}
-use Rattle.elf32_read.specs.Header.{entry_address, file_flags}
-use Rattle.elf32_read.specs.Image.{are_known_flags, image_fault}
+use Rattle.elf32_read.specs.Header.{are_known_flags, entry_address, file_flags}
+use Rattle.elf32_read.specs.Image.{image_fault}
 use Rattle.elf32_read.specs.Places.{is_ascending, is_outside, place_list}
 use Rattle.elf32_read.specs.Segments.{SegmentData, segments_of}
 use Rattle.elf32_write.specs.Image.{sections_offset}

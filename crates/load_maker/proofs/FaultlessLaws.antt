@@ -146,7 +146,7 @@ module _ (number n : ℕ) (few : n ≤ FUNCTION_LIMIT) where
       by (OfGroup k within is) =
           let group : IndexedSection = record { object = suc k; index = 1; section = text_section (fragments_in number n few k) } in
           subst (BranchesReach all) (sym is)
-          (parts_short_reach standard_map (made_parts number n) (made_written number n few) none map_is group (subst (HasSection all.objects) is has) refl
+          (parts_short_reach standard_map (made_parts number n) (made_written number n few) none map_is group (subst (HasSection all.objects) is has) refl refl
           (short_fragments group (fragments_in number n few k) (group_made number n few k within) (group_no_branch k within) all (omega (arith, group_size k))))
 
   -- ---- the start

@@ -134,6 +134,17 @@ const LATER_ENDS: &str = "
 00*4 02000000 00*8 34000000 e0000000 02000000 01000000 04000000 10000000
 00*4 03000000 00*8 14010000 85000000 00*8 01000000 00*4";
 
+// Code of 262,144 bytes. The alignment of the code stands at 262276, and its size at 262264.
+const LONG: &str = "
+7f454c46010101 00*9
+0100 f300 01000000 00*8 3c000400 00*4
+3400 00*4 2800 0300 0200
+0000000000000000*32768
+00 =.text 00
+00*40
+01000000 01000000 06000000 00*4 34000000 00000400 00*8 04000000 00*4
+00*4 03000000 00*8 34000400 08000000 00*8 01000000 00*4";
+
 // The objects of a list, each with its changes, with `;` between them.
 fn files_of(alloc: Global, list: &str) -> Result<Vec<Vec<u8>>, Fail> {
     let mut files = Vec::new(alloc);
@@ -146,6 +157,7 @@ fn files_of(alloc: Global, list: &str) -> Result<Vec<Vec<u8>>, Fail> {
             "header" => HEADER,
             "ends" => ENDS,
             "later" => LATER_ENDS,
+            "long" => LONG,
             "empty" => "",
             _ => return Err("no object".into()),
         };
@@ -182,12 +194,17 @@ fn data_text(alloc: Global, objects: &Objects) -> Result<String, Fail> {
     Ok(format!(in alloc; "{file_end:x} {end:x} {digits}")?)
 }
 
-// The flags of each object.
+// The flags of each object, and whether it is compressed, as it says itself and as all of them do.
 fn flags_text(alloc: Global, objects: &Objects) -> Result<String, AllocError> {
     let mut text = String::new(alloc);
     for i in 0..objects.object_count() {
-        let flags = objects.object(i as u16).flags();
-        text.push_str(format!(in alloc; "{flags:x} ")?.as_str())?;
+        let object = objects.object(i as u16);
+        let (flags, own, among) = (
+            object.flags(),
+            object.is_compressed(),
+            objects.compressed(i as u16),
+        );
+        text.push_str(format!(in alloc; "{flags:x} {own} {among}; ")?.as_str())?;
     }
     Ok(text)
 }
@@ -214,7 +231,7 @@ fn relas_text(alloc: Global, objects: &Objects) -> Result<String, Fail> {
 }
 
 // A section by its number among all: its object and its index there, the number by these, its type, alignment, size and
-// bytes, whether it is code, and the offsets of its relocations.
+// bytes, whether it is code, whether its object is compressed, and the offsets of its relocations.
 fn section_text(alloc: Global, objects: &Objects, number: u32) -> Result<String, Fail> {
     if objects.section_count() <= number {
         return Err("no section".into());
@@ -223,8 +240,8 @@ fn section_text(alloc: Global, objects: &Objects, number: u32) -> Result<String,
     let (object, index) = (s.object(), s.index());
     let found = objects.section_number(object, index);
     let head = format!(in alloc; "{object}:{index} {found:?} {} {}", s.kind(), s.align())?;
-    let (length, is_code) = (s.bytes().len(), s.is_code());
-    let mut text = format!(in alloc; "{head} {} {length} {is_code}", s.size())?;
+    let (length, is_code, compressed) = (s.bytes().len(), s.is_code(), s.is_compressed());
+    let mut text = format!(in alloc; "{head} {} {length} {is_code} {compressed}", s.size())?;
     for k in 0..s.reloc_count() {
         let offset = s.reloc(k).offset;
         text.push_str(format!(in alloc; " {offset}")?.as_str())?;
@@ -361,7 +378,7 @@ fn the_first_fault_and_its_object_are_named(rt: HostRuntime) -> Result<(), Fail>
 }
 
 const RELOCATED: &str = "counts = 2 true None
-flags = 0 10
+flags = 0 false false; 10 false false;
 relocated = None false; Some(3) true; None false; None false; None false; None false; None false;";
 
 #[test]
@@ -371,17 +388,51 @@ fn relocations_stand_in_the_section_that_names_theirs(rt: HostRuntime) -> Result
 
 // The header has no section. The second object has six.
 const SECTIONS: &str = "header;caller 96:20 @ counts = 2 true None
-header;caller 96:20 @ section 0 = 1:0 Some(0) 0 0 0 0 false
-header;caller 96:20 @ section 1 = 1:1 Some(1) 1 4 4 4 true 0
-header;caller 96:20 @ section 2 = 1:2 Some(2) 8 1 0 0 false
-header;caller 96:20 @ section 3 = 1:3 Some(3) 4 4 12 12 false
-header;caller 96:20 @ section 4 = 1:4 Some(4) 2 4 32 32 false
-header;caller 96:20 @ section 5 = 1:5 Some(5) 3 1 3 3 false
-header;caller 96:20 @ section 6 = 1:6 Some(6) 3 1 12 12 false
-second;caller 96:20 @ section 2 = 0:2 Some(2) 1 4 5 5 false
-second;caller 96:20 @ section 7 = 1:1 Some(7) 1 4 4 4 true 0";
+header;caller 96:20 @ section 0 = 1:0 Some(0) 0 0 0 0 false false
+header;caller 96:20 @ section 1 = 1:1 Some(1) 1 4 4 4 true false 0
+header;caller 96:20 @ section 2 = 1:2 Some(2) 8 1 0 0 false false
+header;caller 96:20 @ section 3 = 1:3 Some(3) 4 4 12 12 false false
+header;caller 96:20 @ section 4 = 1:4 Some(4) 2 4 32 32 false false
+header;caller 96:20 @ section 5 = 1:5 Some(5) 3 1 3 3 false false
+header;caller 96:20 @ section 6 = 1:6 Some(6) 3 1 12 12 false false
+second;caller 96:20 @ section 2 = 0:2 Some(2) 1 4 5 5 false false
+second;caller 96:20 @ section 7 = 1:1 Some(7) 1 4 4 4 true false 0
+caller 36:11 96:20;caller 96:20 @ section 1 = 0:1 Some(1) 1 4 4 4 true true 0
+caller 36:11 96:20;caller 96:20 @ section 2 = 0:2 Some(2) 8 1 0 0 false true
+caller 36:11 96:20;caller 96:20 @ section 8 = 1:1 Some(8) 1 4 4 4 true false 0";
 
 #[test]
 fn sections_are_numbered_through_all_objects(rt: HostRuntime) -> Result<(), Fail> {
     expect(&rt, "", SECTIONS)
+}
+
+const FLAGS: &str = "header 36:0;header 36:1 @ flags = 0 false false; 1 true true;
+header;header 36:11 @ flags = 10 false false; 11 true true;";
+
+#[test]
+fn objects_with_rvc_among_their_flags_are_compressed(rt: HostRuntime) -> Result<(), Fail> {
+    expect(&rt, "", FLAGS)
+}
+
+// The bytes of code and its alignment are 262,144 at most, where bytes of compressed objects count twice, and neither
+// their alignments nor their data do.
+const SUMS: &str = "long 262264:3fffc @ linked = linked
+long @ linked = 0 TooLarge
+long 36:10 262264:20000 @ linked = linked
+long 36:1 262264:1fffe @ linked = linked
+long 36:1 262264:20000 @ linked = 0 TooLarge
+long 36:11 262264:1fffe @ linked = linked
+long 36:11 262264:20000 @ linked = 0 TooLarge
+long 36:1 262264:1ff80 262276:100 @ linked = linked
+long 36:1 262264:1ff82 262276:100 @ linked = 0 TooLarge
+long 262264:1fffc;long 36:1 262264:fffe @ linked = linked
+long 262264:1fffc;long 36:1 262264:10000 @ linked = 1 TooLarge
+long 36:1 262264:fffe;long 262264:1fffc @ linked = linked
+long 36:1 262264:fffe;long 262264:20000 @ linked = 1 TooLarge
+caller 36:1 96:20 216:3fff9f @ linked = linked
+caller 36:1 96:20 216:3fffa0 @ linked = 0 TooLarge";
+
+#[test]
+fn code_of_compressed_objects_counts_twice(rt: HostRuntime) -> Result<(), Fail> {
+    expect(&rt, "", SUMS)
 }

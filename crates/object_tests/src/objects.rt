@@ -64,7 +64,9 @@ const CONTENTS: &str = "[19, 5, 48, 0, 115, 0, 0, 0]";
 const FILES: &str = "- as it is
 - 4:3010101 8:1 another system
 - 20:9 another e_version
-- 36:0 no TSO
+- 36:0 no flags
+- 36:1 RVC
+- 36:11 RVC and TSO
 NotElf 0:464c457e magic
 NotElf 0:474c457f magic's end
 NotElf 4:10102 class 64
@@ -84,10 +86,14 @@ Truncated 248+20:1dd content past the end
 Truncated 248+16:fffffffc content that would wrap
 - 328+16:fffffffc zeros past the end
 Truncated 408+16:211 408+20:0 an empty section past the end
-Truncated 36:1 248+20:1dd truncated, and other flags
-Flags 36:11 RVC
+Truncated 36:2 248+20:1dd truncated, and other flags
+Flags 36:2 floats in registers
+Flags 36:5 RVC, and doubles in registers
+Flags 36:8 RVE
+Flags 36:31 a flag above RVC and TSO
 Flags 36:1000000 a high flag
-Flags 36:1 408+4:11 other flags, and a group";
+Flags 36:1000001 RVC, and a high flag
+Flags 36:2 408+4:11 other flags, and a group";
 
 // Sections that are never linked.
 const KINDS: &str = "SectionKind 48:0 headers, but no sections
@@ -136,7 +142,14 @@ Alignment 132+4:2000 a common symbol aligned to 8192
 - 84+4:3 84+12:fff20000 symbol 0 in common, aligned to 3
 Alignment 248+32:3 248+20:6 badly aligned, and cut code
 CodeSize 248+20:6 cut code
+CodeSize 36:0 248+20:6 cut code without flags
+CodeSize 248+20:7 code that is cut in a halfword
+- 36:1 248+20:6 compressed code of three halfwords
+- 36:11 248+20:6 the same with TSO
+CodeSize 36:1 248+20:7 compressed code that is cut
+CodeSize 36:11 248+20:5 the same with TSO
 - 328+20:6 cut data
+- 36:1 328+20:7 cut data beside compressed code
 CodeSize 248+20:6 48:60008 cut code, and no names
 BadName 48:60008 names in the symbols
 BadName 48:80008 names in no section

@@ -1,6 +1,6 @@
 -- Faults of objects, in the order in which they are looked for: too many objects, one that can't be read, sums that are too
 -- large, and names that are defined twice or not at all.
-use Rattle.std.specs.Prelude.{ℕ, zero, suc, ◌+◌, ◌≤◌, ℤ, pos, negsuc, Bool, false, not, ◌&&◌, ◌||◌, ◌==◌, nat_lt, max, if◌then◌else◌, is_none, List, [], ◌∷◌, length, drop, take, Option, Some, None, slice_get}
+use Rattle.std.specs.Prelude.{ℕ, zero, suc, ◌+◌, ◌*◌, ◌≤◌, ℤ, pos, negsuc, Bool, false, not, ◌&&◌, ◌||◌, ◌==◌, nat_lt, max, if◌then◌else◌, is_none, List, [], ◌∷◌, length, drop, take, Option, Some, None, slice_get}
 use Rattle.std.specs.List.{find, list_any, range_with_len, sum_by}
 use Rattle.std.specs.Option.{option_map, option_map_or, option_or}
 use Rattle.elf32_read.specs.declared.fault.Fault.{Fault}
@@ -50,9 +50,14 @@ align_room (negsuc n) = 256
 unfoldable pub reloc_room : Reloc → ℕ
 reloc_room r = if r.kind == 43 then align_room r.addend else 0
 
--- the room that a section may take in code by what it is: its bytes, its alignment of at least 4, and its ALIGNs
+-- what this many bytes of code count: those of a compressed object count twice, since what has 2 bytes there may take 4
+abbrev pub counted_bytes : Bool → ℕ → ℕ
+counted_bytes compressed n = if compressed then 2 * n else n
+
+-- the room that a section may take in code by what it is: its bytes as they count, its alignment of at least 4, and its
+-- ALIGNs
 abbrev pub room_in_code : SectionParts → SectionRole → ℕ
-room_in_code s Code = s.size + max 4 s.align + sum_by reloc_room s.relocs
+room_in_code s Code = counted_bytes s.compressed s.size + max 4 s.align + sum_by reloc_room s.relocs
 room_in_code s (InClass class) = 0
 room_in_code s Dropped = 0
 
@@ -102,8 +107,8 @@ pub record AreWithin (most : ℕ) (s : Sums) : Type 0 where
   pub code_room : s.code_room ≤ most
   pub data_room : s.data_room ≤ most
 
--- the files have more than 32 MiB, or their code more than 256 KiB, or their data, with 16 bytes for each of six classes, more
--- than 4 MiB
+-- the files have more than 32 MiB, or their code has room of more than 256 KiB, or their data, with 16 bytes for each of six
+-- classes, of more than 4 MiB
 abbrev pub are_too_large : Sums → Bool
 are_too_large s = nat_lt 0x200_0000 s.file_bytes || nat_lt 0x4_0000 s.code_room || nat_lt 0x40_0000 (s.data_room + 96)
 

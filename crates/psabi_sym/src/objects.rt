@@ -6,7 +6,8 @@ ghost use Rattle.psabi_sym.specs.Data.{data_address, data_end, data_file_end, is
 ghost use Rattle.psabi_sym.specs.Resolve.{Definition, definition_target, home_target, name_target, resolved, undefined_target};
 ghost use Rattle.psabi_sym.specs.Invariants.Meanings.{meaning_row};
 ghost use Rattle.std.specs.Option.{option_map_or};
-ghost use Rattle.elf32_read.specs.Header.{section_count};
+ghost use Rattle.elf32_read.specs.Compressed.{has_rvc};
+ghost use Rattle.elf32_read.specs.Header.{file_flags, section_count};
 ghost use Rattle.elf32_read.specs.Parts.{SymbolParts};
 ghost use Rattle.elf32_read.specs.Relas.{IsRelaOf};
 ghost use Rattle.psabi_sym.specs.Faults.{fault_from, gather_fault};
@@ -128,6 +129,14 @@ impl Objects {
         ensures { slice_get self.now.files i ≡ Some result }
     {
         self.objects[i as usize].object()
+    }
+
+    /// Whether an object is compressed, by its index: its code may have instructions of 2 bytes.
+    pub fn compressed(&self, object: u16) -> bool
+        requires { object < length self.now.files }
+        ensures { result ≡ has_rvc (file_flags (slice_index_or self.now.files object [])) }
+    {
+        self.object(object).is_compressed()
     }
 
     /// How many sections all objects have, with those that are dropped.

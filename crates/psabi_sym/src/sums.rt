@@ -84,6 +84,12 @@ fn section_room(loaded: &Loaded, i: u32) -> (u64, u64)
     match role_of(&section) {
         SectionRole::Code => {
             let relocs = loaded.relocs_of(&object, i);
+            // What has 2 bytes in an object may take 4 in an image.
+            let size = if object.is_compressed() {
+                2 * size
+            } else {
+                size
+            };
             let room = size + u64::from(section.align.max(4)) + relocs_room(&relocs);
             (room, 0)
         }

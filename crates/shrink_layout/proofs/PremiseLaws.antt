@@ -10,7 +10,7 @@ use Rattle.std.proofs.lemmas.List.Folds.{list_any-append}
 use Rattle.std.proofs.lemmas.List.Sums.{sum_by-append, sum_by-cons}
 use Rattle.elf32_read.specs.Parts.{ObjectParts, SectionParts, is_code_section}
 use Rattle.psabi_sym.specs.Blocks.{aligned_up}
-use Rattle.psabi_sym.specs.Faults.{code_room, gather_fault, power_above}
+use Rattle.psabi_sym.specs.Faults.{code_room, counted_bytes, gather_fault, power_above}
 use Rattle.psabi_sym.specs.Inputs.{Inputs, ParsedInputs, parsed}
 use Rattle.psabi_sym.specs.Indexed.{IndexedSection, all_sections, section_at}
 use Rattle.psabi_sym.specs.declared.target.Target.{Target}
@@ -25,11 +25,11 @@ use Rattle.block_cut.specs.PlainLayout.{padding_of}
 use Rattle.block_cut.specs.Whole.{IsWhole}
 use Rattle.block_cut.specs.declared.item.Item.{Item}
 use Rattle.block_cut.specs.declared.item.Item.TheVariants as item
-use Rattle.block_cut.proofs.CodeSizeLaws.{step_plain}
+use Rattle.block_cut.specs.CodeSizes.{code_step}
+use Rattle.block_cut.proofs.CodeSizeLaws.{counted_least, counted_step, counted_sum}
 use Rattle.block_cut.proofs.ItemLaws.{Takes, Bytes, Padding, item_takes}
-use Rattle.block_cut.proofs.RoomLaws.{AreWhole, all_whole, code_room_is, items_in-code, rooms, rooms_few}
+use Rattle.block_cut.proofs.RoomLaws.{AreWhole, all_whole, code_room_is, items_in-code, rooms, rooms_few, starts_counted}
 use Rattle.block_cut.proofs.StartLaws.{along}
-use Rattle.block_cut.proofs.WholeLaws.{inputs_plain}
 use Rattle.shrink_layout.specs.Forms.{HasAlignment, IsEvenPiece, longest, target}
 use Rattle.shrink_layout.specs.Least.{IsTight}
 use Rattle.frame_match.specs.declared.group.Group.{Group}
@@ -168,12 +168,12 @@ module _ (inputs : ParsedInputs) (slots : List (Option Place)) where
   item_tight : (i : Item) → is_align i ≡ false → IsTight (piece_of objects i)
   item_tight i is = item_case i IsTight tt tt tt (λ q b. tt) (λ q. tt) (λ bytes e. absurd (cc (is, ap is_align e)))
 
-  -- an item takes at most twice the bytes of its step
-  item_longest : (i : Item) (n : ℕ) → 4 ≤ n → Takes i n → longest (piece_of objects i) ≤ 2 * n
-  item_longest i n some (Padding is p) =
-      omega (arith, ap (λ x. longest (piece_of objects x)) is, (power_is n).near (omega arith) (omega (arith, p.short)))
-  item_longest i n some (Bytes is) =
-      item_case i (λ p. longest p ≤ 2 * n) (omega arith) (omega arith) (omega arith) (λ q b. omega arith) (λ q. omega arith)
+  -- an item takes at most twice what the bytes of its step count
+  item_longest : (i : Item) (n room : ℕ) → 1 < n → n ≤ room → 4 ≤ room → Takes i n → longest (piece_of objects i) ≤ 2 * room
+  item_longest i n room some le four (Padding is p) =
+      omega (arith, ap (λ x. longest (piece_of objects x)) is, (power_is n).near some (omega (arith, p.short)), le)
+  item_longest i n room some le four (Bytes is) =
+      item_case i (λ p. longest p ≤ 2 * room) (omega (arith, four)) (omega (arith, four)) (omega (arith, four)) (λ q b. omega (arith, four)) (λ q. omega (arith, four))
       (λ bytes e. absurd (cc (is, ap padding_of e)))
 
   -- ---- pieces of places
@@ -192,13 +192,17 @@ module _ (inputs : ParsedInputs) (slots : List (Option Place)) where
   place_tight q s here other =
       piece_case inputs slot q IsTight tt (λ i is. item_tight i (ap is_align (item_same inputs q s i here is) ∙ other)) (λ g. tt) tt
 
-  -- and it takes at most twice the bytes of the step there
-  place_longest : (q : Place) (s : SectionParts) (n : ℕ) → code_at objects q ≡ Some s → 4 ≤ n → Takes (item_in inputs s q) n → longest (piece_at inputs slot q) ≤ 2 * n
-  place_longest q s n here some takes =
-      piece_case inputs slot q (λ p. longest p ≤ 2 * n) (omega arith)
-      (λ i is. item_longest i n some (subst (λ x. Takes x n) (sym (item_same inputs q s i here is)) takes))
-      (λ g. omega (arith, some, (group_sized g).most))
-      (omega (arith, some))
+  -- and it takes at most twice what the bytes of the step there count
+  place_longest : (q : Place) (s : SectionParts) (n : ℕ) → code_at objects q ≡ Some s → n % code_step s.compressed ≡ 0 → 2 ≤ n → Takes (item_in inputs s q) n
+      → longest (piece_at inputs slot q) ≤ 2 * counted_bytes s.compressed n
+  place_longest q s n here step some takes =
+      let four = counted_step s.compressed n step some in
+      piece_case inputs slot q (λ p. longest p ≤ 2 * counted_bytes s.compressed n) (omega arith)
+      (λ i is.
+      item_longest i n (counted_bytes s.compressed n) (omega (arith, some)) (counted_least s.compressed n) four
+      (subst (λ x. Takes x n) (sym (item_same inputs q s i here is)) takes))
+      (λ g. omega (arith, four, (group_sized g).most))
+      (omega (arith, four))
 
   -- ---- pieces of sections
 
@@ -262,42 +266,32 @@ module _ (inputs : ParsedInputs) (slots : List (Option Place)) where
 
   -- ---- room
 
-  module _ (l : IndexedSection) (here : section_at objects l.object l.index ≡ Some l.section) (code : is_code_section l.section ≡ true) (whole : IsWhole l.section)
-      (plain : l.section.compressed ≡ false) where
+  module _ (l : IndexedSection) (here : section_at objects l.object l.index ≡ Some l.section) (code : is_code_section l.section ≡ true) (whole : IsWhole l.section) where
     abbrev s : SectionParts
     s = l.section
 
     abbrev piece_on : ℕ → Piece
     piece_on m = piece_at inputs slot (place_of l m)
 
-    -- the places of a section take at most twice its bytes
-    places_longest : sum_by longest (map piece_on (starts_in s)) ≤ 2 * length s.bytes
+    -- the places of a section take at most twice what its bytes count
+    places_longest : sum_by longest (map piece_on (starts_in s)) ≤ 2 * counted_bytes s.compressed (length s.bytes)
     places_longest = omega (arith, all)
       where
-        all : sum_by longest (map piece_on (starts_in s)) + 2 * 0 ≤ 2 * length s.bytes
-        all = along s code whole (λ n xs. sum_by longest (map piece_on xs) + 2 * n ≤ 2 * length s.bytes) (omega arith)
+        all : sum_by longest (map piece_on (starts_in s)) + 2 * counted_bytes s.compressed 0 ≤ 2 * counted_bytes s.compressed (length s.bytes)
+        all = along s code whole (λ n xs. sum_by longest (map piece_on xs) + 2 * counted_bytes s.compressed n ≤ 2 * counted_bytes s.compressed (length s.bytes)) (omega arith)
             (λ n xs lt words st above rest. omega (
               arith,
               sum_by-cons longest (piece_on n) (map piece_on xs),
-              place_longest (place_of l n) s (size_on s n) (there inputs l here code n) (omega (arith, step_plain s.compressed (size_on s n) plain st.words, st.some)) (item_takes inputs s (place_of l n) code),
+              place_longest (place_of l n) s (size_on s n) (there inputs l here code n) st.words st.some (item_takes inputs s (place_of l n) code),
+              counted_sum s.compressed n (size_on s n),
               rest,
             ))
 
-    -- there are no more than words
-    starts_few : 4 * length (starts_in s) ≤ length s.bytes
-    starts_few =
-        let all : 4 * length (starts_in s) + 0 ≤ length s.bytes =
-        along s code whole (λ n xs. 4 * length xs + n ≤ length s.bytes) (omega arith)
-        (λ n xs lt words st above rest. omega (arith, st.some, step_plain s.compressed (size_on s n) plain st.words, rest)) in
-        omega arith
-
   -- the pieces of sections have twice their room, and are no more than the words of it
   sections_longest : (ls : List IndexedSection) → ((k : ℕ) (l : IndexedSection) → slice_get ls k ≡ Some l → section_at objects l.object l.index ≡ Some l.section) → AreWhole ls
-      → ((k : ℕ) (l : IndexedSection) → slice_get ls k ≡ Some l → l.section.compressed ≡ false)
       → (sum_by longest (pieces_in inputs slot ls) ≤ 2 * rooms ls) × (4 * length (pieces_in inputs slot ls) ≤ rooms ls)
-  sections_longest [] here whole plain = (omega arith, omega arith)
-  sections_longest (l ∷ ls) here whole plain =
-      by (is_code_section l.section) refl (sections_longest ls (λ k m is. here (suc k) m is) whole.1 (λ k m is. plain (suc k) m is))
+  sections_longest [] here whole = (omega arith, omega arith)
+  sections_longest (l ∷ ls) here whole = by (is_code_section l.section) refl (sections_longest ls (λ k m is. here (suc k) m is) whole.1)
     where
       ps : List Piece
       ps = pieces_in inputs slot ls
@@ -309,16 +303,17 @@ module _ (inputs : ParsedInputs) (slots : List (Option Place)) where
           let own = section_pieces-code l code in
           let places = map (λ m. piece_at inputs slot (place_of l m)) (starts_in s) in
           let room = code_room_is s code in
-          let few = starts_few l (here 0 l refl) code (whole.0 code) (plain 0 l refl) in (
+          let bytes = ap (counted_bytes s.compressed) (whole.0 code).bytes in
+          let few = starts_counted s code (whole.0 code) in (
             omega (
               arith,
               sum_by-append longest (section_pieces inputs slot l) (pieces_in inputs slot ls),
               ap (sum_by longest) own,
               sum_by-cons longest (Align (section_alignment s)) places,
               (padding_is s (whole.0 code)).most,
-              places_longest l (here 0 l refl) code (whole.0 code) (plain 0 l refl),
+              places_longest l (here 0 l refl) code (whole.0 code),
               room,
-              (whole.0 code).bytes,
+              bytes,
               sum_by-cons (λ (m : IndexedSection). code_room m.section) l ls,
               rest.0,
             ),
@@ -329,7 +324,7 @@ module _ (inputs : ParsedInputs) (slots : List (Option Place)) where
               length-map (starts_in s) (λ m. piece_at inputs slot (place_of l m)),
               few,
               room,
-              (whole.0 code).bytes,
+              bytes,
               sum_by-cons (λ (m : IndexedSection). code_room m.section) l ls,
               rest.1,
             ),
@@ -398,10 +393,6 @@ module _ (inputs : Inputs) (none : gather_fault inputs ≡ None) (slots : List (
   pub targets : All (λ p. target p ≤ length (pieces_of given slots)) (pieces_of given slots)
   targets = all_pieces (λ p. target p ≤ length (pieces_of given slots)) (omega arith) (λ s whole. omega arith) (place_leads given slots)
 
-  -- no section is of a compressed object
-  all_plain : (k : ℕ) (l : IndexedSection) → slice_get sections k ≡ Some l → l.section.compressed ≡ false
-  all_plain k l is = inputs_plain inputs l.object l.index l.section none (listed_at given.objects k l is)
-
   -- the longest forms take little room, beside what stands in front
   pub room_few : sum_by longest (pieces_of given slots) ≤ 0x8_0000 + front_size slots
   room_few =
@@ -409,14 +400,14 @@ module _ (inputs : Inputs) (none : gather_fault inputs ≡ None) (slots : List (
         arith,
         ap (sum_by longest) (pieces_are given slots),
         sum_by-cons longest (Fixed (front_size slots)) (pieces_in given given_slot sections),
-        (sections_longest given slots sections (λ k l is. listed_at given.objects k l is) (all_whole inputs none) all_plain).0,
+        (sections_longest given slots sections (λ k l is. listed_at given.objects k l is) (all_whole inputs none)).0,
         rooms_few inputs none,
       )
 
   -- and there are few pieces
   pub pieces_few : 4 * length (pieces_of given slots) ≤ 0x4_0004
   pieces_few =
-      omega (arith, ap length (pieces_are given slots), (sections_longest given slots sections (λ k l is. listed_at given.objects k l is) (all_whole inputs none) all_plain).1, rooms_few inputs none)
+      omega (arith, ap length (pieces_are given slots), (sections_longest given slots sections (λ k l is. listed_at given.objects k l is) (all_whole inputs none)).1, rooms_few inputs none)
 
 -- if nothing is aligned above 4 bytes, all are tight
 pub all_tight : (inputs : ParsedInputs) (slots : List (Option Place)) → is_unaligned inputs ≡ true → All IsTight (pieces_of inputs slots)

@@ -18,7 +18,6 @@ use Rattle.psabi_reloc.specs.Reaches.{branch_reach}
 use Rattle.block_cut.specs.Faults.{distance_between, is_out_of_reach}
 use Rattle.block_cut.proofs.ReachLaws.{branch_place, is_far_branch, out_plain}
 use Rattle.block_cut.proofs.SizeLaws.{words_at}
-use Rattle.block_cut.proofs.WholeLaws.{inputs_plain}
 use Rattle.block_cut.specs.Items.{code_at, code_only, item_at, item_in, item_under, place_of, raw_in, size_at, size_on, starts_on, target_of}
 use Rattle.block_cut.specs.PlainLayout.{plain_address, plain_end_of, plain_start, starts_before}
 use Rattle.block_cut.specs.Relocs.{instr_in, is_sound, reloc_on}
@@ -168,14 +167,14 @@ module _ (inputs : Inputs) (none : gather_fault inputs ≡ None) (is_map : IsMap
       near_reach a b first.even second.even (omega (arith, begin, first.low, first.high, second.low, second.high, short)) (omega (arith, begin, first.low, first.high, second.low, second.high, short))
 
   -- a short section
-  pub short_reach : (l : IndexedSection) → HasSection (parsed inputs).objects l → is_code_section l.section ≡ true → IsShort (parsed inputs) l → BranchesReach (parsed inputs) l
-  short_reach l has code short n start = by (leads_in (parsed inputs) l has code short.stay n)
+  pub short_reach : (l : IndexedSection) → HasSection (parsed inputs).objects l → is_code_section l.section ≡ true → l.section.compressed ≡ false → IsShort (parsed inputs) l → BranchesReach (parsed inputs) l
+  short_reach l has code plain short n start = by (leads_in (parsed inputs) l has code short.stay n)
     where
       is : item_at (parsed inputs) (place_of l n) ≡ Some (item_in (parsed inputs) l.section (place_of l n))
       is = item_here (parsed inputs) l has code n start
 
       words : size_at (parsed inputs).objects (place_of l n) % 4 ≡ 0
-      words = words_here (parsed inputs) l has code (inputs_plain inputs l.object l.index l.section none has) n
+      words = words_here (parsed inputs) l has code plain n
 
       by : LeadsIn (place_of l n) (branch_place (item_in (parsed inputs) l.section (place_of l n))) → is_out_of_reach (parsed inputs) (place_of l n) ≡ false
       by (Nowhere no_branch) = no_branch_near (parsed inputs) (place_of l n) (item_in (parsed inputs) l.section (place_of l n)) is words no_branch
@@ -185,7 +184,7 @@ module _ (inputs : Inputs) (none : gather_fault inputs ≡ None) (is_map : IsMap
 
 -- a short section of parts that are written
 pub parts_short_reach : (memory : MemMap) (parts : List ObjectParts) → All CanBeWritten parts → gather_fault (files_of memory parts) ≡ None → IsMap memory
-    → (l : IndexedSection) → HasSection (objects_of memory parts).objects l → is_code_section l.section ≡ true → IsShort (objects_of memory parts) l → BranchesReach (objects_of memory parts) l
+    → (l : IndexedSection) → HasSection (objects_of memory parts).objects l → is_code_section l.section ≡ true → l.section.compressed ≡ false → IsShort (objects_of memory parts) l → BranchesReach (objects_of memory parts) l
 parts_short_reach memory parts all none is_map =
-    subst (λ (i : ParsedInputs). (l : IndexedSection) → HasSection i.objects l → is_code_section l.section ≡ true → IsShort i l → BranchesReach i l)
+    subst (λ (i : ParsedInputs). (l : IndexedSection) → HasSection i.objects l → is_code_section l.section ≡ true → l.section.compressed ≡ false → IsShort i l → BranchesReach i l)
     (parsed_is memory parts all) (short_reach (files_of memory parts) none is_map)

@@ -1,7 +1,7 @@
 -- The list of places as a file holds it: it is short, it ascends, and its numbers have room.
-use Rattle.std.proofs.Common.{◌≡◌, ℕ, suc, ◌+◌, ◌*◌, ◌<◌, ◌≤◌, List, [], ◌∷◌, ◌++◌, map, length, max, ◌⊎◌, inl, inr, Option, Bool, true, false, cond, nat_lt, refl, ap, ◌∙◌, arith, length-append, eqb}
-use Rattle.std.specs.Prelude.{All, Some, None, slice_get}
-use Rattle.std.specs.List.{flat_map, list_any, sum_by}
+use Rattle.std.proofs.Common.{◌≡◌, ℕ, ◌+◌, ◌*◌, ◌<◌, ◌≤◌, List, [], ◌∷◌, ◌++◌, map, length, ◌⊎◌, inl, inr, Option, Bool, true, false, cond, nat_lt, refl, ap, ◌∙◌, arith, length-append, eqb}
+use Rattle.std.specs.Prelude.{All, Some, None}
+use Rattle.std.specs.List.{flat_map, list_any}
 use Rattle.std.specs.Option.{is_some, option_map, option_to_list}
 use Rattle.std.proofs.lemmas.Bool.{and_from, eq-eqb, le-ltb, lt-ltb, ltb-false, or_from, or_right}
 use Rattle.std.proofs.lemmas.List.{length-map}
@@ -16,20 +16,14 @@ use Rattle.elf32_read.specs.Parts.{SectionParts, is_code_section}
 use Rattle.elf32_read.specs.Places.{is_ascending, is_outside}
 use Rattle.elf32_read.proofs.Faultless.{no_fault}
 use Rattle.elf32_write.specs.Loadable.{IsEntry}
-use Rattle.psabi_sym.specs.Data.{is_code_role, role_of}
-use Rattle.psabi_sym.specs.Faults.{code_room, gather_fault, reloc_room, room_in_code}
+use Rattle.psabi_sym.specs.Faults.{code_room, counted_bytes, gather_fault}
 use Rattle.psabi_sym.specs.Inputs.{ParsedInputs, parsed}
 use Rattle.psabi_sym.specs.Indexed.{IndexedSection, all_sections}
-use Rattle.psabi_sym.specs.declared.section_row.SectionRole.{SectionRole}
-use Rattle.psabi_sym.specs.declared.section_row.SectionRole.TheVariants.{Code, InClass, Dropped}
 use Rattle.psabi_sym.proofs.Gathered.{few_gathered, readable}
-use Rattle.psabi_sym.proofs.PlaceLaws.{code_is}
-use Rattle.psabi_sym.proofs.SectionNumbers.{listed_at}
 use Rattle.block_cut.specs.Items.{all_targets, place_of, size_on, starts_in, starts_on, targets_of}
-use Rattle.block_cut.proofs.CodeSizeLaws.{step_plain}
-use Rattle.block_cut.proofs.RoomLaws.{AreWhole, all_whole, rooms, rooms_few}
+use Rattle.block_cut.proofs.RoomLaws.{AreWhole, all_whole, code_room_is, rooms, rooms_few, starts_counted}
 use Rattle.block_cut.proofs.StartLaws.{along, start_is}
-use Rattle.block_cut.proofs.WholeLaws.{code_is_section, code_whole, inputs_plain, section_of}
+use Rattle.block_cut.proofs.WholeLaws.{code_is_section, code_whole, section_of}
 use Rattle.block_cut.specs.Whole.{IsWhole}
 use Rattle.zc_link.specs.ImageParts.{listed_places, with_address}
 use Rattle.zc_link.specs.LaidOut.{IsLaidOut}
@@ -39,31 +33,10 @@ use Rattle.zc_link.proofs.SectionOrder.{IsBefore, IsRising, before_places, secti
 
 -- ---- how many
 
--- starts are words apart
-starts_few : (s : SectionParts) → is_code_section s ≡ true → IsWhole s → s.compressed ≡ false → 4 * length (starts_in s) ≤ length s.bytes
-starts_few s code whole plain =
-    omega (
-      arith,
-      along s code whole (λ n xs. n + 4 * length xs ≤ length s.bytes) (omega arith)
-          (λ n xs lt words st above rest. omega (arith, rest, st.some, step_plain s.compressed (size_on s n) plain st.words)),
-    )
-
--- what has the role of code is code
-code_role : (role : SectionRole) → is_code_role role ≡ true → role ≡ Code
-code_role Code is = refl
-code_role (InClass class) is = absurd cc
-code_role Dropped is = absurd cc
-
--- a section of code has room for its bytes, its alignment and its relocations
-code_room_is : (s : SectionParts) → is_code_section s ≡ true → code_room s ≡ s.size + max 4 s.align + sum_by reloc_room s.relocs
-code_room_is s code = ap (room_in_code s) (code_role (role_of s) (code_is s ∙ code))
-
--- so places are words apart
-targets_few :
-    (ls : List IndexedSection) → AreWhole ls → ((k : ℕ) (l : IndexedSection) → slice_get ls k ≡ Some l → l.section.compressed ≡ false)
-    → 4 * length (flat_map targets_of ls) ≤ rooms ls
-targets_few [] whole plain = omega arith
-targets_few (l ∷ ls) whole plain = by (is_code_section l.section) refl (targets_few ls whole.1 (λ k m is. plain (suc k) m is))
+-- places have four bytes of room each
+targets_few : (ls : List IndexedSection) → AreWhole ls → 4 * length (flat_map targets_of ls) ≤ rooms ls
+targets_few [] whole = omega arith
+targets_few (l ∷ ls) whole = by (is_code_section l.section) refl (targets_few ls whole.1)
   where
     s : SectionParts
     s = l.section
@@ -81,8 +54,8 @@ targets_few (l ∷ ls) whole plain = by (is_code_section l.section) refl (target
           rest,
           sum_is,
           code_room_is l.section code,
-          starts_few l.section code is (plain 0 l refl),
-          is.bytes,
+          starts_counted l.section code is,
+          ap (counted_bytes l.section.compressed) is.bytes,
           length-append own (flat_map targets_of ls),
           length-map (starts_in l.section ++ length l.section.bytes ∷ []) (place_of l),
           length-append (starts_in l.section) (length l.section.bytes ∷ []),
@@ -105,8 +78,7 @@ places_few L none =
     omega (
       arith,
       entries_few L (all_targets (parsed L.inputs).objects),
-      targets_few (all_sections (parsed L.inputs).objects) (all_whole L.inputs none)
-          (λ k l at. inputs_plain L.inputs l.object l.index l.section none (listed_at (parsed L.inputs).objects k l at)),
+      targets_few (all_sections (parsed L.inputs).objects) (all_whole L.inputs none),
       rooms_few L.inputs none,
     )
 
