@@ -16,6 +16,7 @@ use std::process::Abort;
 use std::test::Fail;
 use zc_base::mem_map::MemMap;
 use zc_base::place::Place;
+use zc_link::plain::link_plain;
 use zc_link::zc::link_zc;
 
 // A place by its object, section and offset.
@@ -232,6 +233,9 @@ fn answer(alloc: Global, changes: &str, question: &str) -> Result<String, Fail> 
     let objects = Objects::gather(alloc, &files, MemMap::standard())?;
     if let Some(asked) = question.strip_prefix("zc ") {
         return image_text(alloc, &link_zc(alloc, objects)?, asked);
+    }
+    if let Some(asked) = question.strip_prefix("plain ") {
+        return image_text(alloc, &link_plain(alloc, objects)?, asked);
     }
     match (Cut::new(alloc, objects), question.strip_prefix("settled ")) {
         (Err(fault), _) => fault_text(alloc, fault),

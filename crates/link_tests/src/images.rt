@@ -37,7 +37,14 @@ fn counts_text(alloc: Global, linked: &Linked) -> Result<String, Fail> {
     Ok(format!(in alloc; "{texts} {sizes} {} {} {}", zc.pushes, zc.pops, zc.moves)?)
 }
 
-/// What is asked of a link: its `text`, the first eight bytes of it as its `start`, its `places`, or its `counts`.
+// The e_flags of an image.
+fn flags_text(alloc: Global, linked: &Linked) -> Result<String, Fail> {
+    let flags = linked.elf.get(36..40).ok_or("no flags")?;
+    Ok(format!(in alloc; "{flags:?}")?)
+}
+
+/// What is asked of a link: its `text`, the first eight bytes of it as its `start`, its `places`, its `counts`, or
+/// its `flags`.
 pub fn image_text(alloc: Global, linked: &Linked, asked: &str) -> Result<String, Fail> {
     let image = Image::read(linked.elf.as_slice(), MemMap::standard())?;
     if image.segment_count() == 0 {
@@ -51,6 +58,7 @@ pub fn image_text(alloc: Global, linked: &Linked, asked: &str) -> Result<String,
         }
         "places" => places_text(alloc, &image),
         "counts" => counts_text(alloc, linked),
+        "flags" => flags_text(alloc, linked),
         _ => Err("no question".into()),
     }
 }

@@ -7,6 +7,10 @@ mod answers;
 #[cfg(test)]
 mod changed_fields;
 #[cfg(test)]
+mod compressed;
+#[cfg(test)]
+mod compressed_rows;
+#[cfg(test)]
 mod cut_rows;
 #[cfg(test)]
 mod cuts;

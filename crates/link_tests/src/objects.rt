@@ -99,28 +99,29 @@ fn put_reloc(file: &mut [u8], numbers: &[i64]) -> Result<(), Fail> {
     write_word(file, at + 8, addend)
 }
 
-// Adds a word, the low byte first.
-fn add_word(file: &mut Vec<u8>, word: u32) -> Result<(), AllocError> {
-    let mut rest = word;
-    for _ in 0..4 {
+// Adds so many bytes of a number, the low one first.
+fn add_number(file: &mut Vec<u8>, number: u32, count: usize) -> Result<(), AllocError> {
+    let mut rest = number;
+    for _ in 0..count {
         file.push((rest % 256) as u8)?;
         rest /= 256;
     }
     Ok(())
 }
 
-// Makes a change: `19*3` adds three words 19 at the file's end, and eight hexadecimal digits one word, `528:64` writes the
-// word 64 at 528, and five numbers are a relocation.
+// Makes a change: `19*3` adds three words 19 at the file's end, eight hexadecimal digits add one word, and four a
+// halfword; `528:64` writes the word 64 at 528, and five numbers are a relocation.
 fn change(alloc: Global, file: &mut Vec<u8>, text: &str) -> Result<(), Fail> {
     if let Some((word, times)) = text.split_once('*') {
         let word = word.parse::<u32>()?;
         for _ in 0..times.parse::<u32>()? {
-            add_word(file, word)?;
+            add_number(file, word, 4)?;
         }
         return Ok(());
     }
     if !text.contains(':') {
-        return Ok(add_word(file, u32::from_str_radix(text, 16)?)?);
+        let number = u32::from_str_radix(text, 16)?;
+        return Ok(add_number(file, number, text.len() / 2)?);
     }
     let numbers = numbers_of(alloc, text)?;
     match numbers.as_slice() {
@@ -146,7 +147,7 @@ fn leave_added(file: &mut [u8]) -> Result<(), Fail> {
 
 /// Two such objects with these changes, those of the second after a stroke each. There symbol 8 has another
 /// name, and 9 is the first's `_start`. With `bare` the code of each is what was added; with `alone` it is the first by
-/// itself, and so is its code.
+/// itself, and so is its code. `36:1` makes an object compressed.
 pub fn files_of(alloc: Global, changes: &str) -> Result<Vec<Vec<u8>>, Fail> {
     let mut first = bytes_of(alloc, OBJECT)?;
     let mut second = bytes_of(alloc, OBJECT)?;

@@ -1,29 +1,14 @@
 // A program that writes addresses, in memory maps at the ends of what a map may be: it is traced, linked both ways, and
 // both images are run.
 
-ghost use Rattle.std.specs.Prelude.{◌≡◌, IfOk, None};
-ghost use Rattle.psabi_sym.specs.Inputs.{parsed};
-ghost use Rattle.sym_machine.specs.Objects.{program_of};
-ghost use Rattle.sym_machine.specs.State.{first_plain};
+ghost use Rattle.std.specs.Prelude.{IfOk};
 ghost use Rattle.zc_base.specs.MemMap.{IsMap};
 
+use crate::ends::expect_exit;
 use crate::objects::object::object_of;
-use crate::row::shown;
-use block_cut::cut::Cut;
-use elf32_read::image::Image;
-use interrupt_plan::plan::empty_plan;
-use psabi_sym::objects::Objects;
 use std::alloc::Global;
-use std::process::Abort;
 use std::test::Fail;
-use sym_machine::run::{TraceEnd, run as run_symbolic};
-use sym_machine::sym::Sym;
 use zc_base::mem_map::MemMap;
-use zc_link::plain::link_plain;
-use zc_link::zc::link_zc;
-use zc_machine::machine::Machine;
-use zc_machine::run::{RunEnd, run};
-use zc_outside::mem_console::MemConsole;
 
 // addi sp,sp,-16; 1: auipc a1,%pcrel_hi(data+0x800); addi a1,a1,%pcrel_lo(1b); sw a1,4(sp); lui a0,%hi(data+0x800);
 // addi a0,a0,%lo(data+0x800); sw a0,0(sp); addi a2,sp,16; sw a2,8(sp); addi a0,x0,1; addi a1,sp,0; addi a2,x0,12;
@@ -65,15 +50,6 @@ fn map_of(alloc: Global, row: &str) -> Result<MemMap, Fail>
     Err("not three addresses".into())
 }
 
-// The program, in a map.
-fn gathered(alloc: Global, map: MemMap) -> Result<Objects, Fail>
-    requires { IsMap map }
-{
-    let mut files = Vec::new(alloc);
-    files.push(object_of(alloc, WORDS, RELOCS, "")?)?;
-    Ok(Objects::gather(alloc, &files, map)?)
-}
-
 // What the program should write: twice the address 0x800 bytes behind the start of data, and that of the stack's end.
 fn wanted(alloc: Global, map: MemMap) -> Result<String, Fail> {
     let address = map.data_low.wrapping_add(0x800);
@@ -82,61 +58,18 @@ fn wanted(alloc: Global, map: MemMap) -> Result<String, Fail> {
         bytes.extend_from_slice(&number.to_le_bytes())?;
     }
     let bytes = bytes.as_slice();
-    Ok(format!(in alloc; "exited 12 {bytes:?} []")?)
-}
-
-// What it writes as a trace.
-fn traced(alloc: Global, map: MemMap) -> Result<String, Fail>
-    requires { IsMap map }
-{
-    let cut = Cut::new(alloc, gathered(alloc, map)?)?;
-    let mut sym = Sym::start(alloc, &cut, &[])?;
-    let mut console = MemConsole::new(alloc, b"", &[])?;
-    match run_symbolic(&mut sym, &cut, 99, &mut console) {
-        TraceEnd::Exited(status) => {
-            let end = format!(in alloc; "exited {status}")?;
-            shown(alloc, end.as_str(), &console)
-        }
-        _ => Err("no exit".into()),
-    }
-}
-
-// The machine with an image in a map.
-#[tactic(auto, unfolding(zc_machine::specs::Load::first_core))]
-fn load(alloc: Global, elf: &[u8], map: MemMap) -> Result<Machine, Fail>
-    requires { IsMap map }
-    ensures { IfOk result (λ machine. (machine.exit ≡ None) × (machine.commits ≡ 0)) }
-{
-    let image = Image::read(elf, map)?;
-    Ok(Machine::load(alloc, &image)?)
-}
-
-// What it writes as an image.
-fn ran(alloc: Global, elf: &[u8], map: MemMap) -> Result<String, Fail>
-    requires { IsMap map }
-{
-    let mut machine = load(alloc, elf, map)?;
-    let mut console = MemConsole::new(alloc, b"", &[])?;
-    match run(&mut machine, &empty_plan(alloc), &[], 99, &mut console) {
-        RunEnd::Exit(status) => {
-            let end = format!(in alloc; "exited {status}")?;
-            shown(alloc, end.as_str(), &console)
-        }
-        _ => Err("no exit".into()),
-    }
+    Ok(format!(in alloc; "exited c {bytes:?} []")?)
 }
 
 #[test]
 fn a_program_writes_the_addresses_of_its_map(rt: HostRuntime) -> Result<(), Fail> {
     let alloc = rt.alloc();
+    let mut files = Vec::new(alloc);
+    files.push(object_of(alloc, WORDS, RELOCS, "")?)?;
     for row in MAPS.trim().lines() {
         let map = map_of(alloc, row)?;
         let wanted = wanted(alloc, map)?;
-        let plain = link_plain(alloc, gathered(alloc, map)?)?;
-        let zc = link_zc(alloc, gathered(alloc, map)?)?;
-        assert_eq!(rt; traced(alloc, map)?, wanted, "{row}");
-        assert_eq!(rt; ran(alloc, plain.elf.as_slice(), map)?, wanted, "{row}");
-        assert_eq!(rt; ran(alloc, zc.elf.as_slice(), map)?, wanted, "{row}");
+        expect_exit(&rt, &files, map, wanted.as_str())?;
     }
     Ok(())
 }

@@ -8,17 +8,17 @@ ghost use Rattle.sym_machine.specs.Objects.{program_of};
 ghost use Rattle.sym_machine.specs.State.{first_plain};
 
 pub mod object;
-mod parts;
+pub mod parts;
 mod relocated;
 mod rows;
 
 use crate::row::{bytes_of, column, end_of, number_of, shown};
 use block_cut::cut::Cut;
-use object::object_of;
+use object::{object_of, set_rvc};
 use parts::{PARTS, part_of};
 use psabi_sym::objects::Objects;
 use relocated::RELOCATED;
-use rows::{ACROSS, BRANCHES, CALLS, PAGES, PROGRAMS, RESULTS, STACKS, STEPS};
+use rows::{ACROSS, BRANCHES, CALLS, COMPRESSED, PAGES, PROGRAMS, RESULTS, STACKS, STEPS};
 use std::alloc::{AllocError, Global};
 use std::process::Abort;
 use std::test::Fail;
@@ -30,15 +30,18 @@ use zc_base::mem_map::MemMap;
 use zc_base::place::Place;
 use zc_outside::mem_console::MemConsole;
 
-// The object of a row, cut into items.
+// The object of a row, which is compressed if its flags are 1, cut into items.
 fn cut_of(alloc: Global, row: &str) -> Result<Cut, Fail> {
     let words = format!(in alloc; "{} {}", column(row, "words"), column(row, "then"))?;
-    let object = object_of(
+    let mut object = object_of(
         alloc,
         words.as_str(),
         column(row, "relocs"),
         column(row, "data"),
     )?;
+    if column(row, "flags") == "1" {
+        set_rvc(object.as_mut_slice())?;
+    }
     let mut files = Vec::new(alloc);
     files.push(object)?;
     let objects = Objects::gather(alloc, &files, MemMap::standard())?;
@@ -165,6 +168,11 @@ fn calls_read_and_write(rt: HostRuntime) -> Result<(), Fail> {
 #[test]
 fn relocations_say_what_items_do(rt: HostRuntime) -> Result<(), Fail> {
     expect_runs(&rt, "", RELOCATED, "")
+}
+
+#[test]
+fn compressed_code_runs_until_the_machine_is_stuck(rt: HostRuntime) -> Result<(), Fail> {
+    expect_runs(&rt, "", COMPRESSED, "| flags 1")
 }
 
 // The two objects of a row, cut into items.

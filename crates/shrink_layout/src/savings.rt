@@ -43,7 +43,9 @@ fn add_targets(cut: &Cut, section: u32, savings: &mut Vec<Saving>) -> Result<(),
 fn bare_targets(alloc: Global, cut: &Cut) -> Result<Vec<Saving>, AllocError>
     ensures { IfOk result (λ savings. savings.items ≡ map (saving_of []) (all_targets (parsed cut.now).objects)) }
 {
-    let mut savings = Vec::new(alloc);
+    // Each item has a place, and so has the end of each section of code.
+    let most = cut.counts().items as usize + cut.objects().section_count() as usize;
+    let mut savings = Vec::with_capacity(alloc, most)?;
     for section in 0..cut.objects().section_count() {
         add_targets(cut, section, &mut savings)?;
     }
@@ -127,6 +129,8 @@ impl Settled {
             count_section(self, section, &mut savings);
         }
         savings.retain(|saving| has_sites(saving));
+        // These are kept until the link is done, and most targets have no sites.
+        savings.shrink_to_fit();
         Ok(savings)
     }
 }

@@ -66,7 +66,7 @@ pub fn lay_shortest(alloc: Global, text: u32, pieces: &[Piece]) -> Result<Shorte
     starts[last] = at;
     Ok(Shortest {
         sizes,
-        sums: Sums::of(alloc, &widths)?,
+        sums: Sums::of(alloc, widths)?,
         starts,
     })
 }

@@ -71,13 +71,12 @@ fn update(nodes: &mut [u32], sizes: &[u32], i: usize, size: u32)
 
 impl Sums {
     /// The tree of these sizes.
-    pub fn of(alloc: Global, sizes: &[u32]) -> Result<Sums, AllocError>
-        requires { sum sizes.now < 2 ^ 32 }
-        ensures { IfOk result (λ sums. sums ≡ sizes.now) }
+    pub fn of(alloc: Global, sizes: Vec<u32>) -> Result<Sums, AllocError>
+        requires { sum sizes.items < 2 ^ 32 }
+        ensures { IfOk result (λ sums. sums ≡ sizes.items) }
     {
-        let mut nodes = Vec::from_slice(alloc, sizes)?;
+        let mut nodes = Vec::from_slice(alloc, &sizes)?;
         make_nodes(&mut nodes);
-        let sizes = Vec::from_slice(alloc, sizes)?;
         Ok(Sums { sizes, nodes })
     }
 

@@ -39,7 +39,7 @@ fn tree(alloc: Global, line: &str) -> Result<Sums, Fail> {
         add(&mut sizes, word)?;
     }
     if are_small(&sizes) {
-        Ok(Sums::of(alloc, &sizes)?)
+        Ok(Sums::of(alloc, sizes)?)
     } else {
         Err("too large".into())
     }

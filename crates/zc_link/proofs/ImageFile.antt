@@ -5,7 +5,7 @@ use Rattle.std.specs.Prelude.{All}
 use Rattle.std.proofs.lemmas.List.{length-replicate}
 use Rattle.std.proofs.lemmas.Option.{none-some}
 use Rattle.zc_base.specs.declared.place.Place.{Place}
-use Rattle.elf32_read.specs.Image.{are_known_flags}
+use Rattle.elf32_read.specs.Header.{are_known_flags}
 use Rattle.elf32_read.specs.Parts.{SectionParts}
 use Rattle.elf32_read.specs.Places.{place_list}
 use Rattle.elf32_read.specs.Segments.{SegmentData, segments_of}

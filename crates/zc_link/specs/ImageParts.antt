@@ -1,9 +1,10 @@
 -- The image of a link: its places, its bytes of data (if A gives the addresses of places), and its parts around the text.
-use Rattle.std.specs.Prelude.{ℕ, ◌-◌, List, Option}
-use Rattle.std.specs.List.{flat_map, fold}
+use Rattle.std.specs.Prelude.{ℕ, ◌-◌, if◌then◌else◌, List, Option}
+use Rattle.std.specs.List.{flat_map, fold, list_any}
 use Rattle.std.specs.Option.{option_map, option_to_list, unwrap_or}
 use Rattle.zc_base.specs.Fields.{word_bytes}
 use Rattle.zc_base.specs.declared.place.Place.{Place}
+use Rattle.elf32_read.specs.Compressed.{has_rvc}
 use Rattle.elf32_write.specs.Parts.{Parts}
 use Rattle.psabi_sym.specs.Contents.{data_contents, overlaid}
 use Rattle.psabi_sym.specs.Data.{data_end, data_file_end}
@@ -40,6 +41,11 @@ unfoldable pub image_data : ParsedInputs → (Place → Option ℕ) → List ℕ
 image_data inputs A = fold (with_data_word inputs A) (data_contents inputs) (data_words inputs)
 
 -- ---- parts
+
+-- e_flags of an image that holds code as it is: RVC (1) if some object is compressed, since its code may have instructions of
+-- 2 bytes, and else none (RISC-V ELF psABI, "File Header")
+abbrev pub plain_flags : ParsedInputs → ℕ
+plain_flags inputs = if list_any (λ object. has_rvc object.flags) inputs.objects then 1 else 0
 
 -- the parts of an image with this text; e_flags says whether there are 16-bit instructions (RISC-V ELF psABI, "File Header")
 abbrev pub parts_of : TextLayout → ℕ → List ℕ → Parts

@@ -21,7 +21,7 @@ use Rattle.shrink_layout.specs.Settled.{settled_counts, settled_end, settled_siz
 use Rattle.sym_machine.specs.Objects.{program_of}
 use Rattle.zc_link.specs.Copied.{Copied}
 use Rattle.zc_link.specs.Image.{Image, image_in}
-use Rattle.zc_link.specs.ImageParts.{listed_places, parts_of}
+use Rattle.zc_link.specs.ImageParts.{listed_places, parts_of, plain_flags}
 use Rattle.zc_link.specs.Pace.{pace_of}
 use Rattle.zc_link.specs.Preserves.{Preserves}
 use Rattle.zc_link.specs.IsSimulation.{IsSimulation}
@@ -97,7 +97,7 @@ pub record HasBestTable (inputs : Inputs) (link : Link) : Type 0 where
 
 -- the link that writes code as it is: its image has the plain layout, without a table, and so have the counts
 pub record IsPlainLink (inputs : Inputs) (link : Link) : Type 0 where
-  pub image : IsImageOf (plain_layout inputs) 0 (plain_end (parsed inputs)) link.elf
+  pub image : IsImageOf (plain_layout inputs) (plain_flags (parsed inputs)) (plain_end (parsed inputs)) link.elf
   pub open image use *
   pub savings : link.savings ≡ []
   pub certificate : link.certificate ≡ empty_certificate

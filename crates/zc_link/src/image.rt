@@ -1,6 +1,7 @@
-// The image of a layout: its text, its data, and the file of both.
+// The parts of the image of a layout: its text, its data, and what the file says of both.
 
 ghost use Rattle.std.specs.Prelude.{◌≡◌, ◌+◌, ◌-◌, ◌<◌, ◌≤◌, ◌^◌, IfOk, length, slice_index, ℕ};
+ghost use Rattle.elf32_write.specs.Image.{NumbersFit, image_bytes};
 ghost use Rattle.psabi_sym.specs.Data.{data_end, data_file_end};
 ghost use Rattle.psabi_sym.specs.Inputs.{parsed};
 ghost use Rattle.zc_link.specs.ImageParts.{image_data};
@@ -12,25 +13,29 @@ use crate::item::target_value;
 use crate::layout::Layout;
 use crate::text::Text;
 use elf32_write::image_parts::ImageParts;
-use elf32_write::write_image::write_image;
 use psabi_sym::objects::Objects;
 use std::alloc::{AllocError, Global};
 use zc_base::fields::put_u32;
 
-/// The file of the image of a layout, with these e_flags (RISC-V ELF psABI, "File Header"). It takes time near-linear
-/// in the code, the data and the places.
-pub fn image_of<L: Layout>(alloc: Global, layout: &L, flags: u32) -> Result<Vec<u8>, AllocError>
+/// The parts of the image of a layout, with these e_flags (RISC-V ELF psABI, "File Header"). It takes time near-linear
+/// in the code, the data and the places. The layout can be let go before the file is made of them.
+pub fn image_parts<L: Layout>(
+    alloc: Global,
+    layout: &L,
+    flags: u32,
+) -> Result<ImageParts, AllocError>
     requires { flags ≤ 1 }
     ensures ready { IfOk result (λ _. IsReady (L.layout layout.now).inputs) }
+    ensures fit { IfOk result NumbersFit }
     ensures image { IfOk result
-        (λ elf. IsImageOf (L.layout layout.now) flags (text_end (L.layout layout.now)) elf.items) }
+        (λ parts. IsImageOf (L.layout layout.now) flags (text_end (L.layout layout.now)) (image_bytes parts)) }
 {
     let laid = Text::lay(alloc, layout)?;
     let bytes = data_bytes(alloc, layout)?;
     let objects = layout.cut().objects();
     let map = objects.map();
     let zero = zeros_after(objects, &bytes);
-    let parts = ImageParts {
+    Ok(ImageParts {
         entry: layout.entry(),
         flags,
         text_at: map.text,
@@ -39,8 +44,7 @@ pub fn image_of<L: Layout>(alloc: Global, layout: &L, flags: u32) -> Result<Vec<
         data_bytes: bytes,
         zero,
         places: laid.places,
-    };
-    write_image(alloc, &parts)
+    })
 }
 
 // The bytes of data that files hold, with each word that holds an address.

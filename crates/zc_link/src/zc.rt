@@ -9,10 +9,11 @@ ghost use Rattle.psabi_sym.specs.LinkFault.{IsRefusal};
 ghost use Rattle.shrink_layout.specs.Savings.{savings_of};
 ghost use Rattle.zc_link.specs.Links.{IsZcLink};
 
-use crate::image::image_of;
+use crate::image::image_parts;
 use crate::linked::Linked;
 use block_cut::cut::Cut;
 use elf32_read::header::RVC;
+use elf32_write::write_image::write_image;
 use frame_match::planned::plan;
 use jumptable_pick::picker::pick;
 use jumptable_pick::slots::slot_places;
@@ -39,13 +40,18 @@ pub fn link_zc(alloc: Global, objects: Objects) -> Result<Linked, LinkFault>
     let savings = first.savings(alloc)?;
     let certificate = pick(alloc, &savings)?;
     let settled = with_table(alloc, first, &savings, &certificate)?;
-    let elf = image_of(alloc, &settled, RVC)?;
+    let plain = settled.planned().cut().counts();
+    let zc = settled.counts();
+    let parts = image_parts(alloc, &settled, RVC)?;
+    // The file is made in the memory that the layout had.
+    drop(settled);
+    let elf = write_image(alloc, &parts)?;
     Ok(Linked {
         elf,
         savings,
         certificate,
-        plain: settled.planned().cut().counts(),
-        zc: settled.counts(),
+        plain,
+        zc,
     })
 }
 

@@ -66,6 +66,51 @@ const PLAIN_IMAGE_ELSEWHERE: &str = "\
 0100000000000000000000008000000030000000000000000000000004000000000000001f0000000300000000000000
 00000000b00000002900000000000000000000000100000000000000";
 
+// The same with flags: with compressed code, aligned to 2, where `c.li a0,3` stands in place of `li a0,3`; with compressed
+// code that is a halfword of zeros; and as it was, for floating-point numbers in registers.
+const SHORT: &str = "\
+7f454c460101010000000000000000000100f3000100000000000000000000008c000000010000003400000000002800
+050004000d459308d0057300000000000000000000000000000000000000000001000000000000000000000010000100
+005f737461727400002e74657874002e73796d746162002e737472746162002e73687374727461620000000000000000
+000000000000000000000000000000000000000000000000000000000000000000000000010000000100000006000000
+00000000340000000a000000000000000000000002000000000000000700000002000000000000000000000040000000
+20000000030000000100000004000000100000000f000000030000000000000000000000600000000800000000000000
+000000000100000000000000170000000300000000000000000000006800000021000000000000000000000001000000
+00000000";
+
+const BLANK: &str = "\
+7f454c460101010000000000000000000100f3000100000000000000000000008c000000010000003400000000002800
+050004000000000000000000000000000000000000000000000000000000000001000000000000000000000010000100
+005f737461727400002e74657874002e73796d746162002e737472746162002e73687374727461620000000000000000
+000000000000000000000000000000000000000000000000000000000000000000000000010000000100000006000000
+000000003400000002000000000000000000000002000000000000000700000002000000000000000000000040000000
+20000000030000000100000004000000100000000f000000030000000000000000000000600000000800000000000000
+000000000100000000000000170000000300000000000000000000006800000021000000000000000000000001000000
+00000000";
+
+const SINGLE: &str = "\
+7f454c460101010000000000000000000100f3000100000000000000000000008c000000020000003400000000002800
+05000400130530009308d005730000000000000000000000000000000000000001000000000000000000000010000100
+005f737461727400002e74657874002e73796d746162002e737472746162002e73687374727461620000000000000000
+000000000000000000000000000000000000000000000000000000000000000000000000010000000100000006000000
+00000000340000000c000000000000000000000004000000000000000700000002000000000000000000000040000000
+20000000030000000100000004000000100000000f000000030000000000000000000000600000000800000000000000
+000000000100000000000000170000000300000000000000000000006800000021000000000000000000000001000000
+00000000";
+
+// What `plain` and `zc` both make of the one with compressed code: the same bytes as of the first one, at other places.
+const SHORT_IMAGE: &str = "\
+7f454c460101010000000000000000000200f300010000000000010034000000dc000000010000003400200002002800
+06000500010000007400000000000100000001000a0000000a0000000500000004000000010000008000000000001000
+00001000000000000000000006000000040000000d459308d00573000000000000000100000000000000010000000100
+0200000002000100000001000600000006000100000001000a0000000a000100002e74657874002e64617461002e6273
+73002e7a636c642e706c61636573002e7368737472746162000000000000000000000000000000000000000000000000
+000000000000000000000000000000000000000001000000010000000600000000000100740000000a00000000000000
+000000000400000000000000070000000100000003000000000010008000000000000000000000000000000004000000
+000000000d00000008000000030000000000100080000000000000000000000000000000040000000000000012000000
+0100000000000000000000008000000030000000000000000000000004000000000000001f0000000300000000000000
+00000000b00000002900000000000000000000000100000000000000";
+
 // Two objects, of which the first calls a function of the second, and exits with 0. The function writes `hi` and a line
 // feed to standard output.
 const START: &str = "\
@@ -194,6 +239,10 @@ const CERTIFICATE: &str = "zcld certificate 1\nprice 0 0 0\nnet 0\nend\n";
 const REPORT: &str = "\
 plain text 12\nzc text 10\nitems 3\nshort 1\nlong 0\npush 0\npop 0\nmove 0\ntable 0\nslots 0\nnet 0\n";
 
+// The report of what it makes of the object with compressed code, whose certificate is the same.
+const SHORT_REPORT: &str = "\
+plain text 10\nzc text 10\nitems 3\nshort 1\nlong 0\npush 0\npop 0\nmove 0\ntable 0\nslots 0\nnet 0\n";
+
 // The report of what it makes of the two objects, whose certificate is the same.
 const HELLO_REPORT: &str = "\
 plain text 64\nzc text 32\nitems 15\nshort 4\nlong 0\npush 1\npop 1\nmove 0\ntable 0\nslots 0\nnet 0\n";
@@ -247,16 +296,21 @@ fn zeros(alloc: Global, special: &str, letter: &str) -> Result<Vec<u8>, Fail> {
     Ok(vec![in alloc; 0; count as usize]?)
 }
 
-// The files of a call: `x` and `z` are the object, `image` is its image, `start` and `main` are the two objects that
-// write, `hello.elf` and `elsewhere.elf` are their images, `echo` and `echo.elf` are the program that reads, `load.elf`
-// is the image that loads, `bad` is no ELF file, and `zeros` has as many zeros as `f` says; and the plans and
-// certificates. The calls that `s` numbers fail.
+// The files of a call: `x` and `z` are the object, `image` is its image, `short`, `blank` and `single` are those with
+// flags, `short.elf` is the image of the first of these, `start` and `main` are the two objects that write, `hello.elf`
+// and `elsewhere.elf` are their images, `echo` and `echo.elf` are the program that reads, `load.elf` is the image that
+// loads, `bad` is no ELF file, and `zeros` has as many zeros as `f` says; and the plans and certificates. The calls that
+// `s` numbers fail.
 fn store_of(alloc: Global, special: &str) -> Result<MemStore, Fail> {
     let mut store = MemStore::new(alloc, numbers(alloc, special, "s")?.as_slice())?;
     let files = [
         ("x", OBJECT),
         ("z", OBJECT),
+        ("short", SHORT),
+        ("blank", BLANK),
+        ("single", SINGLE),
         ("image", IMAGE),
+        ("short.elf", SHORT_IMAGE),
         ("start", START),
         ("main", MAIN),
         ("hello.elf", HELLO_IMAGE),
@@ -324,9 +378,12 @@ fn object_marks(alloc: Global, call: &str, store: &MemStore) -> Result<(char, ch
     ))
 }
 
-// What `o` should be: what `plain` or `zc` makes of the object; in a call with `--text`, what `plain` makes of the object
-// elsewhere, or `zc` of the two objects.
+// What `o` should be: what `plain` or `zc` makes of the object, or of `short` if that is named last; in a call with
+// `--text`, what `plain` makes of the object elsewhere, or `zc` of the two objects.
 fn image_wanted(call: &str) -> &str {
+    if call.ends_with(" short") {
+        return SHORT_IMAGE;
+    }
     match (call.starts_with("plain"), call.contains("--text")) {
         (true, false) => PLAIN_IMAGE,
         (true, true) => PLAIN_IMAGE_ELSEWHERE,
@@ -351,6 +408,8 @@ fn marks(alloc: Global, call: &str, store: &MemStore) -> Result<(char, char), Fa
 fn named(text: &str) -> &str {
     if text == REPORT {
         "report"
+    } else if text == SHORT_REPORT {
+        "report of short"
     } else if text == HELLO_REPORT {
         "report of two"
     } else if text == SUMMARY {

@@ -3,6 +3,7 @@
 use crate::row::bytes_of;
 use std::alloc::Global;
 use std::test::Fail;
+use zc_base::fields::put_u32;
 
 // The object's header. The words below are hexadecimal, too.
 const HEADER: &str = "
@@ -56,5 +57,14 @@ pub fn object_of(
 pub fn add(alloc: Global, object: &mut Vec<u8>, text: &str, end: usize) -> Result<(), Fail> {
     object.extend_from_slice(bytes_of(alloc, text)?.as_slice())?;
     object.resize(end, 0)?;
+    Ok(())
+}
+
+/// Makes an object compressed: RVC is the only one of its flags (RISC-V ELF psABI, "File Header").
+pub fn set_rvc(object: &mut [u8]) -> Result<(), Fail> {
+    if object.len() < 40 {
+        return Err("no flags".into());
+    }
+    put_u32(object, 36, 1);
     Ok(())
 }

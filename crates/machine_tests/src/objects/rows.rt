@@ -327,6 +327,31 @@ pub const CALLS: &str = "
 00100513 001005B7 00100613 04000893 00000073 00200513 00000073 05D00893 00000073 | fails 0 | ends fault
 00100513 001005B7 00100613 04000893 00000073 00200513 00000073 05D00893 00000073 | fails 1 | out 01 | ends fault";
 
+/// Programs of compressed code, and how they end.
+pub const COMPRESSED: &str = "
+# .half 0
+0000 | ends stuck 0:1:0 8 NoInstruction
+# c.li a0,3; cm.push {ra},-16
+450D B842 | ends stuck 0:1:2 8 NoInstruction
+# c.nop; c.ebreak
+0001 9002 | ends stuck 0:1:2 8 NoInstruction
+# c.nop; csrrw x0,a0
+0001 01751073 | ends stuck 0:1:2 8 NoInstruction
+# c.j into the word behind it
+A011 00000013 | ends stuck 0:1:0 8 NoInstruction
+# c.j 64
+A081 | ends stuck 0:1:40 8 NoInstruction
+# c.lw a0,0(a1)
+4188 | ends stuck 0:1:0 1 AddressUnknown
+# c.beqz a0,0
+C101 | ends stuck 0:1:0 2 ConditionUnknown
+# c.jr a0
+8502 | ends stuck 0:1:0 3 TargetUnknown
+# c.jal 2; c.addi sp,-16; c.swsp ra,12(sp); c.lwsp a0,12(sp); c.beqz a0,2; c.lwsp ra,12(sp); c.addi sp,16; c.jr ra, to the first c.addi
+2009 1141 C606 4532 C109 40B2 0141 8082 | steps 20 | ends spent
+# c.addi sp,16
+0141 | ends stuck 0:1:0 7 StackPointer";
+
 /// Each program, and what its steps answer, one after another.
 pub const STEPS: &str = "
 # a read of two bytes to data, a write of them, and ebreak: addi a0,x0,0; lui a1,0x100; addi a2,x0,2; addi a7,x0,63; ecall; addi a0,x0,1; addi a7,x0,64; ecall; ebreak

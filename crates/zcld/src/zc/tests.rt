@@ -35,6 +35,20 @@ trace --stack 1 x => -- 120 5 "" "usage\n""#;
     expect(&rt, lines)
 }
 
+#[test]
+fn compressed_objects_are_linked_and_other_flags_refused(rt: HostRuntime) -> Result<(), Fail> {
+    let lines = r#"plain --out o short => +- 0 5 "plain text 10\n" ""
+zc --out o --cert c short => ++ 0 5 "report of short" ""
+trace short => -- 3 0 "" "exited 3\n"
+run short.elf => -- 3 0 "" "exited 3\n"
+plain --out o blank => ?- 0 5 "plain text 2\n" ""
+trace blank => -- 126 0 "" "stuck 0 1 0 8 NoInstruction\n"
+plain --out o single => -- 121 5 "" "refused 0 3 Flags\n"
+zc --out o --cert c single => -- 121 5 "" "refused 0 3 Flags\n"
+trace short single => -- 121 5 "" "refused 1 3 Flags\n""#;
+    expect(&rt, lines)
+}
+
 // The line is written in three pieces, of which the second is the symbol's name.
 #[test]
 fn all_objects_are_read_and_then_judged(rt: HostRuntime) -> Result<(), Fail> {

@@ -105,7 +105,7 @@ of-requires c =
     let count = widths_count text pieces all (length_forms pieces all (shortest_forms pieces)) in
     let is : c.loop-k.widths.items ≡ widths_of text pieces all = ext_get_or 0 c.loop-k.widths.items (widths_of text pieces all) (now.widths_count ∙ sym count)
     (λ k lt. now.widths_are k (omega (arith, now.widths_count, lt, c.loop-k-test.false))) in
-    let below = subst (λ l. sum l ≤ sum_by longest pieces) (sym (c.deref.ensures.value ∙ is)) (widths_below text pieces all c.requires.alignments (shortest_forms pieces)) in
+    let below = subst (λ l. sum l ≤ sum_by longest pieces) (sym is) (widths_below text pieces all c.requires.alignments (shortest_forms pieces)) in
     omega (arith, below, c.requires.room)
 
 pub returns-clause-sizes : goal.returns-clause-sizes
@@ -122,7 +122,7 @@ returns-clause-sums c =
     let all = map shortest pieces in
     let now = c.loop-k.invariant in
     let count = widths_count text pieces all (length_forms pieces all (shortest_forms pieces)) in
-    c.in_ok-of.ensures ∙ c.deref.ensures.value
+    c.in_ok-of.ensures
     ∙ ext_get_or 0 c.loop-k.widths.items (widths_of text pieces all) (now.widths_count ∙ sym count) (λ k lt. now.widths_are k (omega (arith, now.widths_count, lt, c.loop-k-test.false)))
 
 pub returns-clause-starts : goal.returns-clause-starts

@@ -1,5 +1,5 @@
 -- The table is the one that is picked for the savings, and the image of the layout behind it ends where that does.
-use Rattle.std.proofs.Common.{◌≡◌, ◌∙◌, ◌≤◌, ℕ, List, [], ◌∷◌, length, Option, Result, Ok, Err, true, refl, ap, sym, subst, arith}
+use Rattle.std.proofs.Common.{◌≡◌, ◌∙◌, ◌≤◌, ℕ, List, [], ◌∷◌, length, Option, Result, Ok, Err, true, refl, ap, sym, subst, subst₂, arith}
 use Rattle.std.specs.Prelude.{All}
 use Rattle.std.specs.List.{list_all}
 use Rattle.std.specs.Result.{IfErr, IsErrAnd}
@@ -58,10 +58,10 @@ returns-clause-link c =
     let few : length table ≤ 256 = omega (arith, length-map certificate.slots (slot_place own), accepted.assignment.few) in
     let same : c.in_ok-settled.settled.inputs ≡ inputs = c.in_ok-settled.ensures.same ∙ first in
     let slots : c.in_ok-settled.settled.slots ≡ table = c.in_ok-settled.ensures.slots ∙ ap (λ (s : List Saving). slot_places s certificate.slots) c.deref-2.ensures.value in
-    let ready = subst IsReady same c.in_ok-elf.ensures.ready in
+    let ready = subst IsReady same c.in_ok-parts.ensures.ready in
     let image : IsImageOf (zc_layout inputs table) 1 (text_end (zc_layout inputs table)) elf =
-    subst (λ (x : SettledLayout). IsImageOf (zc_layout x.inputs x.slots) 1 (text_end (zc_layout x.inputs x.slots)) elf)
-    (λ i. record { inputs = same i; slots = slots i }) c.in_ok-elf.ensures.image in
+    subst₂ (λ (x : SettledLayout) (bytes : List ℕ). IsImageOf (zc_layout x.inputs x.slots) 1 (text_end (zc_layout x.inputs x.slots)) bytes)
+    (λ i. record { inputs = same i; slots = slots i }) (sym c.in_ok-elf.ensures.bytes) c.in_ok-parts.ensures.image in
     record {
       table = record {
         savings = savings;
@@ -72,14 +72,17 @@ returns-clause-link c =
       layout = subst (λ (s : List Saving). IsShortest inputs (slot_places s certificate.slots) certificate.net) (sym savings)
           (shortest inputs ready.faultless certificate known ready.is_map);
       image = subst (λ n. IsImageOf (zc_layout inputs table) 1 n elf) (settled_end_is inputs ready.faultless ready.is_map table few) image;
-      plain = c.counts.ensures ∙ ap (λ (x : Inputs). plain_counts (parsed x)) (c.cut.ensures.same ∙ c.planned.ensures.same ∙ same);
-      zc = c.counts-2.ensures ∙ (λ i. settled_counts (parsed (same i)) (slots i));
+      plain = c.counts-plain.ensures ∙ ap (λ (x : Inputs). plain_counts (parsed x)) (c.cut.ensures.same ∙ c.planned.ensures.same ∙ same);
+      zc = c.counts-zc.ensures ∙ (λ i. settled_counts (parsed (same i)) (slots i));
     }
 
 -- of want of memory a refusal says nothing
 memory_refused : {X : Type 0} (first : Option (ℕ × Fault)) (r : Result X LinkFault) → IsErrAnd r (λ fault. fault ≡ OutOfMemory) → IfErr r (λ fault. IsRefusal first fault)
 memory_refused first (Ok x) is = tt
 memory_refused first (Err fault) is = subst (IsRefusal first) (sym is) tt
+
+pub returns-in_err-parts-clause-err : goal.returns-in_err-parts-clause-err
+returns-in_err-parts-clause-err c = memory_refused (first_fault c.args.objects) c.from_residual-in_err-parts.result c.from_residual-in_err-parts.ensures.1
 
 pub returns-in_err-elf-clause-err : goal.returns-in_err-elf-clause-err
 returns-in_err-elf-clause-err c = memory_refused (first_fault c.args.objects) c.from_residual-in_err-elf.result c.from_residual-in_err-elf.ensures.1

@@ -15,7 +15,8 @@ returns-clause-value c =
     let none = ap gather_fault (sym (c.objects.ensures.same ∙ cut)) ∙ c.section_count-section-end.ensures.faultless in
     let count = ap (λ x. length (all_sections (parsed x).objects)) (c.objects.ensures.same ∙ cut) in
     let past : length (all_sections (parsed inputs).objects) ≤ c.loop-section.section = omega (arith, c.loop-section-test.false, c.loop-section.auto.section-end, c.section_count-section-end.ensures.count, count) in
-    filter_same _ has_sites _ (λ x b f' k. search rules) c.loop-section.savings.items c.retain.new.self.items c.retain.ensures.filtered
+    c.shrink_to_fit.ensures.items
+    ∙ filter_same _ has_sites _ (λ x b f' k. search rules) c.loop-section.savings.items c.retain.new.self.items c.retain.ensures.filtered
     ∙ savings_are inputs none c.loop-section.section c.loop-section.savings.items past c.loop-section.invariant
 
 pub returns-clause-few : goal.returns-clause-few

@@ -1,6 +1,5 @@
--- The parts that are written are those of the layout, so the file is its image.
+-- The parts are those of the layout, so the file that is made of them is its image.
 use Rattle.std.proofs.Common.{◌≡◌, ◌∙◌, ◌-◌, ℕ, List, ap, sym, subst, length}
-use Rattle.std.proofs.lemmas.Result.{IfOk-weaker}
 use Rattle.elf32_write.specs.Image.{NumbersFit, image_bytes}
 use Rattle.psabi_sym.specs.Data.{data_end, data_file_end}
 use Rattle.psabi_sym.specs.Inputs.{Inputs, parsed}
@@ -12,9 +11,9 @@ use Rattle.zc_link.specs.TextLayout.{TextLayout}
 use Rattle.zc_link.proofs.Adds.{AreBytes}
 use Rattle.zc_link.proofs.ImageData.{length-image_data}
 use Rattle.zc_link.proofs.ImageFile.{HasDataRoom, fits, is_image}
-use Rattle.zc_link.proofs.image.image_of.Given as given
-use Rattle.zc_link.proofs.image.image_of.Goals as goal
-use Rattle.zc_link.proofs.image.image_of.Goals.{After-entry}
+use Rattle.zc_link.proofs.image.image_parts.Given as given
+use Rattle.zc_link.proofs.image.image_parts.Goals as goal
+use Rattle.zc_link.proofs.image.image_parts.Goals.{After-entry}
 
 -- the parts of a layout's image, from each of them
 parts_same : (L : TextLayout) (flags : ℕ) (map : MemMap) (entry end : ℕ) (text bytes : List ℕ) (places : List (Place × ℕ)) → map ≡ L.inputs.map → entry ≡ image_entry L
@@ -45,7 +44,7 @@ places_same : (g : given.Over) (c : After-entry g) → c.in_ok-laid.laid.places.
 unfolding listed_places
 places_same g c = c.in_ok-laid.ensures.listed
 
--- the parts that are written
+-- all that is given
 written : (g : given.Over) (c : After-entry g)
     → record { entry = c.entry.result; flags = c.args.flags; text_at = c.map-map.result.text; text = c.in_ok-laid.laid.text.items; data_at = c.map-map.result.data_low; data_bytes = c.in_ok-bytes.bytes.items; zero = c.zeros_after-zero.result; places = c.in_ok-laid.laid.places.items }
     ≡ parts_of (of g c) c.args.flags c.in_ok-laid.laid.text.items
@@ -67,16 +66,14 @@ zeros_after-zero-requires g c =
     ap length (c.deref.ensures.value ∙ c.in_ok-bytes.ensures) ∙ length-image_data (parsed layout.inputs) layout.address
     ∙ ap (λ (x : Inputs). data_file_end (parsed x) - x.map.data_low) (sym (c.objects-objects.ensures.same ∙ c.cut.ensures.same))
 
-pub write_image-requires : goal.write_image-requires
-write_image-requires g c =
-    let a = (goal.at.write_image-requires g c).After-entry in
+pub returns-clause-fit : goal.returns-clause-fit
+returns-clause-fit g c =
+    let a = (goal.at.returns-clause-fit g c).After-entry in
     subst NumbersFit (sym (written g a))
     (fits (of g a) a.cut.ensures.ready a.cut.ensures.laid a.args.flags a.requires (room g a) a.in_ok-laid.laid.text.items a.in_ok-laid.laid.places.items a.in_ok-laid.ensures (data_are g a))
 
 pub returns-clause-image : goal.returns-clause-image
 returns-clause-image g c =
     let a = (goal.at.returns-clause-image g c).After-entry in
-    IfOk-weaker c.write_image.result _ _
-    (λ elf bytes. is_image (of g a) a.cut.ensures.ready a.cut.ensures.laid a.args.flags a.requires (room g a) a.in_ok-laid.laid.text.items a.in_ok-laid.laid.places.items a.in_ok-laid.ensures (data_are g a)
-    elf.items (bytes ∙ ap image_bytes (written g a)))
-    c.write_image.ensures.bytes
+    is_image (of g a) a.cut.ensures.ready a.cut.ensures.laid a.args.flags a.requires (room g a) a.in_ok-laid.laid.text.items a.in_ok-laid.laid.places.items a.in_ok-laid.ensures (data_are g a)
+    _ (ap image_bytes (written g a))
