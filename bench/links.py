@@ -4,13 +4,13 @@
     bench/links.py [--repeats R] [--before BEFORE]... [PROGRAM]        PROGRAM is build/zcld if none is given
 
 Objects are made by rule: code that calls functions and uses data of other objects in each way that compilers do, with a
-relocation for nearly every word, and tables of addresses in data. Each list is linked R times by `zcld plain` and `zcld zc`,
-and R times by each other linker for RISC-V that is installed, without relaxation beside `plain` and with it beside `zc`. The
-last list is one for `zc` alone: a chain of branches, each of which reaches just so over the next ones, so that each round of
-the layout makes but a few longer. With BEFORE, another program of zcld, its calls are made as well, and the images must be
-the same; there may be several. All calls are made in turn, in an order that changes. A time is the processor's for a whole
-process: the least of the R. A ratio above 1 says that the other linker took longer, or held more. Memory is the most that a
-process held, as GNU time tells it.
+relocation for nearly every word, and tables of addresses in data. Some lists have compressed code, each twice as many objects as
+the one before. Each list is linked R times by `zcld plain` and `zcld zc`, and R times by each other linker for RISC-V that is
+installed, without relaxation beside `plain` and with it beside `zc`. The last list is one for `zc` alone: a chain of branches,
+each of which reaches just so over the next ones, so that each round of the layout makes but a few longer. With BEFORE, another
+program of zcld, its calls are made as well, for lists that it takes, and the images must be the same; there may be several. All
+calls are made in turn, in an order that changes. A time is the processor's for a whole process: the least of the R. A ratio above
+1 says that the other linker took longer, or held more. Memory is the most that a process held, as GNU time tells it.
 """
 import filecmp
 import os
@@ -21,7 +21,7 @@ sys.path.insert(0, os.path.join(os.path.dirname(os.path.abspath(__file__)), os.p
 
 from zcld_tools import programs
 from zcld_tools.elf import (BRANCH, CALL, DATA_FLAGS, FUNCTION_TYPE, HI20, JAL, LO12_I, LO12_S, LOCAL, PCREL_HI20,
-                            PCREL_LO12_I, PCREL_LO12_S, PROGBITS, RELAX, R_32)
+                            PCREL_LO12_I, PCREL_LO12_S, PROGBITS, RELAX, RVC, RVC_BRANCH, RVC_JUMP, R_32)
 from zcld_tools.files import read, write_list
 from zcld_tools.images import DATA_AT, TEXT_AT, text_of
 from zcld_tools.instructions import A0, A1, EXIT_WORDS, NOP, RA, T0, T1, ZERO, addi, auipc, branch, jal, jalr, lui, lw, sw
@@ -33,9 +33,12 @@ NOW, BEFORE = 'zcld', 'before'
 LINKERS = {'GNU ld': programs.GNU_LINKERS, 'LLD': programs.LLVM_LINKERS}
 # Of each list: how many objects, the words of code and of tables of each, and whether there are hints for relaxation.
 LISTS = ((16, 256, 3072, False), (16, 4080, 64, False), (128, 504, 64, False), (256, 252, 64, False), (256, 252, 64, True))
-# A piece of a function: this many words, and one relocation for nearly each of them.
-PIECE = 16
-NUMBERS = 64
+# The same of lists of compressed objects.
+COMPRESSED = tuple((count, 115, 64, True) for count in (32, 64, 128, 256))
+# A piece of a function: this many words, and one relocation for nearly each of them. And what a piece of compressed code has more:
+# `c.addi a0,1`, `c.mv a1,a0`, `c.lw a0,0(a0)` and `c.sw a0,0(a0)`, and its branch and its jump, `c.bnez a0` and `c.jal`.
+PIECE, HALVES, C_BNEZ, C_JAL = 16, (0x0505, 0x85AA, 0x4108, 0xC108), 0xE101, 0x2001
+NUMBERS, SPENT = 64, 127
 
 
 class Object:
@@ -93,11 +96,15 @@ class Object:
         self.reloc(HI20, numbers, at, lui(T0))
         self.reloc(LO12_S, numbers, at, sw(T1, T0))
         self.reloc(CALL, self.function(k), 0, auipc(RA), jalr(RA, RA))
-        self.reloc(BRANCH, self.named(b'function_%d_%d' % (self.number, k)), 0, branch(1, A0, A1))
-        self.reloc(JAL, self.function(k), 0, jal(RA))
+        self.add_ways(k)
         self.reloc(HI20, self.function(k), 0, lui(T0))
         self.reloc(LO12_I, self.function(k), 0, jalr(RA, T0))
         self.reloc(CALL, self.function(k), 0, auipc(RA), jalr(RA, RA))
+
+    def add_ways(self, k):
+        """A branch in the function and a jump to another one."""
+        self.reloc(BRANCH, self.named(b'function_%d_%d' % (self.number, k)), 0, branch(1, A0, A1))
+        self.reloc(JAL, self.function(k), 0, jal(RA))
 
     def add_table(self, words, functions):
         held = self.made.section(b'.data.rel', PROGBITS, DATA_FLAGS)
@@ -108,12 +115,27 @@ class Object:
         return sum(len(section.relocs) for section in self.made.sections)
 
 
-def made_list(count, words, table_words, hints):
+class CompressedObject(Object):
+    """The same with compressed code."""
+
+    def __init__(self, *how):
+        super().__init__(*how)
+        self.made.flags, self.text.align = RVC, 2
+
+    def add_ways(self, k):
+        """Instructions of two bytes, with a branch and a jump in the function."""
+        own = self.named(b'function_%d_%d' % (self.number, k))
+        self.text.halves(*HALVES)
+        for kind, half in ((RVC_BRANCH, C_BNEZ), (RVC_JUMP, C_JAL)):
+            self.text.reloc(kind, own, 0, halves=(half,))
+
+
+def made_list(make, count, words, table_words, hints):
     """The files of a list, and how many bytes of code and relocations they have."""
-    objects = [Object(i, count, words, hints) for i in range(count)]
+    objects = [make(i, count, words, hints) for i in range(count)]
     for it in objects:
         it.add_table(table_words, (words - 3) // PIECE)
-    return [it.made.bytes() for it in objects], 4 * words * count, sum(it.relocs() for it in objects)
+    return [it.made.bytes() for it in objects], sum(len(it.text.content) for it in objects), sum(it.relocs() for it in objects)
 
 
 def chain():
@@ -156,16 +178,23 @@ class Listed:
                 sys.exit(f'{self.what[0]}: {os.path.basename(now)} isn\'t {os.path.basename(before)}')
 
 
+def takers(mine, paths):
+    """The programs that take objects: earlier ones take no compressed code."""
+    return {name: program for name, program in mine.items()
+            if programs.run([program, 'trace', '--steps', '0', *paths]).status == SPENT}
+
+
 def lists_of(mine, others, folder):
     """The lists, and the chain, which no other linker makes smaller."""
-    made = [(made_list(*row), f'{row[0]} objects' + (', with hints' if row[3] else ''), others) for row in LISTS]
+    made = [(made_list(Object, *row), f'{row[0]} objects' + (', with hints' if row[3] else ''), others) for row in LISTS]
+    made += [(made_list(CompressedObject, *row), f'{row[0]} compressed objects', others) for row in COMPRESSED]
     data, code = chain()
     made.append((([data], code, 0), 'a chain of branches', {}))
     lists = []
     for number, ((files, code, relocs), what, beside) in enumerate(made):
         paths = write_list(folder, files, f'{number}_{{}}.o')
         base = os.path.join(folder, str(number))
-        lists.append(Listed((what, code, relocs, sum(map(len, files))), paths, base, mine, beside))
+        lists.append(Listed((what, code, relocs, sum(map(len, files))), paths, base, takers(mine, paths), beside))
     return lists
 
 

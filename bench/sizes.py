@@ -7,9 +7,11 @@ The programs are those in examples/, and two larger ones in bench/sizes/: `libra
 which Debian has for RV32IM and for RV32IMAC; and `pack`, over the sources of zlib in FOLDER, as `apt-get source zlib` gives
 them. Each is compiled with -Os by GCC and by Clang, with hints for relaxation and each function in a section of its own: for
 RV32IM, and with compressed code (C, Zcb, Zcmp) as far as the compiler has it. `zcld` and the others link the same objects of
-RV32IM, and the others compressed ones too. GNU ld and LLD relax, but where a column says otherwise. With `gc` they leave out
-the sections that nothing needs; for `zcld` GNU ld does that before, in a link that keeps relocations (`ld -r --gc-sections`).
-GNU ld and LLD put constants behind the text, and in the column of far constants where `zcld` puts them.
+RV32IM, and the same ones with C; and the others link those with more too. GNU ld and LLD relax, but where a column says
+otherwise. With `gc` they leave out the sections that nothing needs; for `zcld` GNU ld does that before, in a link that keeps
+relocations (`ld -r --gc-sections`). GNU ld and LLD put constants behind the text, and in the columns of far constants where
+`zcld` puts them. In those of GNU ld without gp nothing is called `__global_pointer$`, so that it doesn't reach data by gp, and
+all data, constants too, lie where `zcld` puts them.
 
 A figure is the bytes of all sections of code. What isn't installed is left out, and what a linker says of objects that it
 doesn't take is printed. Each image that `zcld` makes is run, and must do what its objects do.
@@ -25,12 +27,15 @@ sys.path.insert(0, os.path.join(os.path.dirname(os.path.abspath(__file__)), os.p
 from object_faults import Object
 from zcld_tools import TOP, programs
 from zcld_tools.elf import ALLOC, EXECINSTR
-from zcld_tools.files import read
+from zcld_tools.files import read, write
 from zcld_tools.images import DATA_AT, STACK_HIGH, TEXT_AT
 from zcld_tools.measured import table, words_of_bench
 from zcld_tools.programs import Failed, told
 
 EXAMPLES, LARGER = (os.path.join(TOP, *it) for it in (('examples',), ('bench', 'sizes')))
+# The layout of what GNU ld links without gp, but for the name that it gives to what gp holds.
+OBJCOPIES = tuple(prefix + 'objcopy' for prefix in programs.PREFIXES)
+SCRIPT, POINTER, OTHER_POINTER = os.path.join(TOP, 'fuzz', 'c_runtime', 'memory.ld'), '__global_pointer$', 'pointer'
 FIRMWARE = os.path.join(EXAMPLES, 'firmware')
 PLAIN, COMPRESSED, ZCB, ZCMP = 'rv32im', 'rv32imc', 'rv32imc_zcb', 'rv32im_zca_zcb_zcmp'
 USUAL = ('-Os', '-mabi=ilp32', '-ffreestanding', '-fno-pic', '-ffunction-sections', '-fdata-sections', '-w')
@@ -38,7 +43,7 @@ USUAL = ('-Os', '-mabi=ilp32', '-ffreestanding', '-fno-pic', '-ffunction-section
 # memset of the loop in memset.
 COMPILERS = {'GCC': (('riscv64-unknown-elf-gcc',), ('-fno-tree-loop-distribute-patterns',)),
              'Clang': (('clang-19', 'clang'), ('--target=riscv32-unknown-elf',))}
-LINKERS = {'ld': programs.GNU_LINKERS, 'LLD': ('ld.lld-19', 'ld.lld')}
+LINKERS, WITHOUT_GP = {'ld': programs.GNU_LINKERS, 'LLD': ('ld.lld-19', 'ld.lld')}, 'ld without gp'
 # What both linkers are told of the memory. LLD uses gp if it is told so, and GNU ld by itself.
 MEMORY = (f'-Ttext={TEXT_AT:#x}', f'-Tdata={DATA_AT:#x}', f'--defsym=__stack_top={STACK_HIGH:#x}')
 WORDS = {'ld': (), 'LLD': ('--relax-gp',)}
@@ -146,6 +151,15 @@ class Links:
             return None
         return code_size(self.path('other'))
 
+    def without_gp(self, objects, *words):
+        """The text that GNU ld makes of objects in which nothing is called as it calls what gp holds."""
+        script, out, renamed = self.path('memory.ld'), self.path('other'), [self.path(f'{k}.o') for k in range(len(objects))]
+        write(script, read(SCRIPT).replace(POINTER.encode(), OTHER_POINTER.encode()))
+        for path, copy in zip(objects, renamed):
+            told([programs.found(*OBJCOPIES), f'--redefine-sym={POINTER}={OTHER_POINTER}', path, copy])
+        told([programs.found(*programs.GNU_LINKERS), *programs.FORMAT, '-T', script, *words, '-o', out, *renamed])
+        return code_size(out)
+
     def gathered(self, objects):
         """The objects as one, without the sections that nothing needs."""
         merge(self.path('gathered.o'), '--gc-sections', *objects)
@@ -165,24 +179,33 @@ class Links:
         """The text of a column."""
         if objects is None:
             return None
+        if linker == WITHOUT_GP:
+            return self.without_gp(objects, *words)
         if linker not in LINKERS:
             return self.by_zcld(linker, self.gathered(objects) if words else objects)
         return self.other(linker, objects, *words)
 
 
-# The columns of both tables: the head, who links, the objects' target, and words. Those of `zc` are for the `ld -r` before it.
+# The columns of the tables: the head, who links, the objects' target, and words. Those of `zc` are for the `ld -r` before it.
 GC, FAR = '--gc-sections', (f'--section-start=.rodata={DATA_AT:#x}', f'-Tdata={DATA_AT + 0x80000:#x}')
 SAME = (('`plain`', 'plain', PLAIN), ('`zc`', 'zc', PLAIN), ('GNU ld, no relaxation', 'ld', PLAIN, '--no-relax'),
         ('GNU ld', 'ld', PLAIN), ('LLD', 'LLD', PLAIN), ('gc, `zc`', 'zc', PLAIN, GC), ('gc, GNU ld', 'ld', PLAIN, GC),
         ('gc, LLD', 'LLD', PLAIN, GC))
-TODAY = (('`zc`', 'zc', PLAIN), ('C: GNU ld', 'ld', COMPRESSED), ('C: LLD', 'LLD', COMPRESSED), ('gc, `zc`', 'zc', PLAIN, GC),
-         ('gc, C: GNU ld', 'ld', COMPRESSED, GC), ('gc, C: the same, far constants', 'ld', COMPRESSED, GC, *FAR),
+SHORT = (('`plain`', 'plain', COMPRESSED), ('`zc`', 'zc', COMPRESSED),
+         ('GNU ld, no relaxation', 'ld', COMPRESSED, '--no-relax'), ('GNU ld without gp', WITHOUT_GP, COMPRESSED),
+         ('GNU ld', 'ld', COMPRESSED), ('LLD', 'LLD', COMPRESSED), ('gc, `zc`', 'zc', COMPRESSED, GC),
+         ('gc, GNU ld without gp', WITHOUT_GP, COMPRESSED, GC), ('gc, GNU ld', 'ld', COMPRESSED, GC),
+         ('gc, LLD', 'LLD', COMPRESSED, GC))
+TODAY = (('`zc`', 'zc', PLAIN), ('C: `zc`', 'zc', COMPRESSED), ('gc, `zc`', 'zc', PLAIN, GC),
+         ('gc, C: `zc`', 'zc', COMPRESSED, GC), ('gc, C: GNU ld', 'ld', COMPRESSED, GC),
+         ('gc, C: the same, far constants', 'ld', COMPRESSED, GC, *FAR),
          ('gc, C: LLD', 'LLD', COMPRESSED, GC), ('gc, Zcb: LLD', 'LLD', ZCB, GC), ('gc, Zcb and Zcmp: LLD', 'LLD', ZCMP, GC))
+TABLES = SAME, SHORT, TODAY
 
 
 def measured(zcld, zlib, room):
-    """The rows of both tables, and what linkers said of objects that they didn't take."""
-    same, today, said = [], [], []
+    """The rows of each table, and what linkers said of objects that they didn't take."""
+    tables, said = [[] for _ in TABLES], []
     for compiler in filter(lambda it: it.command, map(Compiler, COMPILERS)):
         for program in listed(zlib):
             targets = [it for it in (PLAIN, COMPRESSED, ZCB, ZCMP) if compiler.has(program, it)]
@@ -190,15 +213,15 @@ def measured(zcld, zlib, room):
                 folder = os.path.join(room, f'{compiler.name}-{program.name}')
                 objects = {it: compiler.compiled(program, it, os.path.join(folder, it)) for it in targets}
                 links = Links(program, zcld, folder)
-                for rows, columns in ((same, SAME), (today, TODAY)):
+                for rows, columns in zip(tables, TABLES):
                     found = [links.figure(objects.get(target), linker, *words) for _, linker, target, *words in columns]
                     rows.append([program.name, compiler.name, *(f'{it:,}' if it else '' for it in found)])
                 said += links.said
-    return same, today, said
+    return tables, said
 
 
-def show(same, today, said):
-    for columns, rows in ((SAME, same), (TODAY, today)):
+def show(tables, said):
+    for columns, rows in zip(TABLES, tables):
         table(['Program', 'Compiler', *(head for head, *_ in columns)], rows, left=2)
     for line in said:
         print(f'\n{line}')

@@ -6,7 +6,8 @@
 Both link the files with the same order of sections, in the memory of docs/FORMATS.md, and GNU ld without relaxation. Compared
 are the entry, the code and the data. Names of sections must tell them apart in a file. GNU ld gets copies of the files: without
 flags to merge strings, and without relocations of branches, jumps and calls to weak names without definition, whose words the
-plain link copies. The status is 1 if they differ.
+plain link copies. In paddings GNU ld has the `c.nop` behind the `nop`s, and so has what it is compared with. The status is 1 if
+they differ.
 
     fuzz/against_ld.py --seed S --count N
 
@@ -24,17 +25,24 @@ sys.path.insert(0, os.path.join(os.path.dirname(os.path.abspath(__file__)), os.p
 from made_objects import made_list
 from object_data import ABSENT, class_of
 from object_faults import Object
-from object_items import CALLS, first_fault
+from object_items import CALLS, WAYS, first_fault
 from plain_link import Plain
 from zcld_tools import programs
-from zcld_tools.elf import BRANCH, JAL, MERGE, NONE, STRINGS
+from zcld_tools.elf import MERGE, NONE, STRINGS
 from zcld_tools.files import read, read_all, write, write_list
 from zcld_tools.images import DATA_AT, STACK_HIGH, TEXT_AT
 
 
-
 class Differs(Exception):
     """Two links that aren't the same."""
+
+
+class Turned(Plain):
+    """The plain link with paddings as GNU ld writes them."""
+
+    def padding(self, place, item):
+        made = super().padding(place, item)
+        return made[len(made) % 4:] + made[:len(made) % 4]
 
 
 def linker():
@@ -52,7 +60,8 @@ def inputs(objects, paths, wanted):
 def script(objects, paths, commons):
     """A linker's script that lays code and data out as the plain link does."""
     lines = ['ENTRY(_start)', f'__stack_top = {STACK_HIGH:#x};', 'SECTIONS {', f'.text {TEXT_AT:#x} : {{ . = ALIGN(4);',
-             *inputs(objects, paths, lambda read, k, _: read.is_code(k)), '}', f'.data {DATA_AT:#x} : {{']
+             *(line for it in inputs(objects, paths, lambda read, k, _: read.is_code(k)) for line in ('. = ALIGN(4);', it)), '}',
+             f'.data {DATA_AT:#x} : {{']
     for kind in range(5):
         lines.append('. = ALIGN(16);')
         lines += {2: ['"__global_pointer$" = . + 0x800;'], 3: ['__bss_start = .;']}.get(kind, [])
@@ -70,7 +79,7 @@ def copied(data, i, symbols):
         struct.pack_into('<I', changed, read.table + 40 * k + 8, section.flags & ~(MERGE | STRINGS))
         for at in range(section.at, section.at + section.size, 12) if section in read.kept_relas() else ():
             _, info, addend = struct.unpack_from('<IIi', data, at)
-            if info & 255 in (BRANCH, JAL, *CALLS) and symbols.resolve(i, info >> 8, addend)[0] == ABSENT:
+            if info & 255 in (*WAYS, *CALLS) and symbols.resolve(i, info >> 8, addend)[0] == ABSENT:
                 struct.pack_into('<I', changed, at + 4, info & ~255 | NONE)
     return changed
 
@@ -100,7 +109,7 @@ def linked(program, files, symbols):
 
 def compare(program, files):
     """The bytes of code and of data, which are the same."""
-    plain = Plain([Object(data) for data in files])
+    plain = Turned([Object(data) for data in files])
     entry, text, data = linked(program, files, plain.code.symbols)
     if entry != plain.addresses[plain.code.entry()]:
         raise Differs(f'the entry is {entry:#x}')

@@ -1,13 +1,16 @@
 #!/usr/bin/env python3
 """Compiles random C programs, links them, runs and traces them, and compares them with GNU ld's link under qemu-riscv32.
 
-    fuzz/c_programs.py [--seed S] [--count N] [--seconds T] [--only CASE] [--flags FLAGS]... [--keep FOLDER] [PROGRAM]
+    fuzz/c_programs.py [--seed S] [--count N] [--seconds T] [--runs R] [--only CASE] [--flags FLAGS]... [--keep FOLDER]
+                       [PROGRAM]
 
 PROGRAM is build/zcld if none is given. It needs csmith with its headers (Debian: csmith, libcsmith-dev), GCC and GNU ld for
 RISC-V, qemu-riscv32, and Clang for its flags. A case is fixed by the seed and its number: the program that csmith generates
-from their sum, and one of the lists of flags in turn, or of those that are given, as `gcc -O2` or `clang -Os -mrelax`. The
-program is joined with what it needs of libgcc by `ld -r`, and linked with the start of examples/firmware and with c_runtime/.
-Checked are:
+from their sum, and one of the lists of flags in turn, or of those that are given, as `gcc -O2` or `clang -Os -mrelax`. Each third
+list is for compressed code. The program is joined with what it needs of libgcc by `ld -r`, and linked with the start of
+examples/firmware and with c_runtime/, which aren't compressed beside programs without compressed code and beside three of seven
+others. With R above 1 it is run so many times in one, each time with its data as at its start: most of csmith's programs make
+fewer than a hundred thousand steps. Checked are:
 
 - `plain`, `zc` and `trace` refuse the objects alike;
 - the images of both links write what the same objects write that GNU ld links with relaxation and qemu-riscv32 runs, and exit
@@ -39,16 +42,26 @@ from zcld_tools.programs import Failed
 
 RUNTIME, FIRMWARE = os.path.join(TOP, 'fuzz', 'c_runtime'), os.path.join(TOP, 'examples', 'firmware')
 CSMITH_HEADERS = os.path.join(os.sep, 'usr', 'include', 'csmith')
-ARCH = ('-march=rv32im', '-mabi=ilp32')
-USUAL = (*ARCH, '-ffreestanding', '-fno-pic', '-w', '-isystem', RUNTIME, '-isystem', CSMITH_HEADERS)
+# The targets, without and with compressed code, and those for which GCC's libraries are made.
+PLAIN, COMPRESSED, ABI = '-march=rv32im', '-march=rv32imc', '-mabi=ilp32'
+LIBRARIES = {PLAIN: PLAIN, COMPRESSED: '-march=rv32imac'}
+USUAL = PLAIN, ABI, '-ffreestanding', '-fno-pic', '-w'
 COMPILERS = {'gcc': (tuple(prefix + 'gcc' for prefix in programs.PREFIXES), ()),
              'clang': (('clang-19', 'clang'), ('--target=riscv32-unknown-elf', '-Wno-unused-command-line-argument'))}
-FLAGS = ('gcc -Og', 'clang -O0', 'gcc -O1', 'clang -O1', 'gcc -O2', 'clang -O2 -mrelax', 'gcc -O3', 'clang -O3',
-         'gcc -Os', 'clang -Os -mrelax', 'gcc -Os -fno-section-anchors', 'clang -Oz -ffunction-sections -fdata-sections',
+FLAGS = ('gcc -Og', 'clang -O0', f'gcc -Os {COMPRESSED} -fno-section-anchors',
+         'gcc -O1', 'clang -O1', f'clang -Os {COMPRESSED} -mrelax',
+         'gcc -O2', 'clang -O2 -mrelax', f'gcc -O2 {COMPRESSED} -fno-section-anchors -ffunction-sections -fdata-sections',
+         'gcc -O3', 'clang -O3', f'clang -O3 {COMPRESSED} -ffunction-sections',
+         'gcc -Os', 'clang -Os -mrelax', f'gcc -O0 {COMPRESSED}',
+         'gcc -Os -fno-section-anchors', 'clang -Oz -ffunction-sections -fdata-sections', f'clang -O0 {COMPRESSED} -mrelax',
          'gcc -O2 -fno-section-anchors -ffunction-sections -fdata-sections', 'clang -O1 -fno-jump-tables -mcmodel=medany',
+         f'gcc -O3 {COMPRESSED} -fno-section-anchors -funroll-loops -mno-relax',
          'gcc -O3 -fno-section-anchors -funroll-loops', 'clang -Os -msmall-data-limit=8 -mrelax',
+         f'clang -O1 {COMPRESSED} -mcmodel=medany -fno-jump-tables',
          'gcc -Os -fno-section-anchors -mno-relax -msmall-data-limit=0', 'clang -O3 -mno-relax -ffunction-sections',
-         'gcc -Os -fno-section-anchors -msave-restore', 'clang -O2 -mno-relax')
+         f'gcc -Os {COMPRESSED} -fno-section-anchors -msave-restore',
+         'gcc -Os -fno-section-anchors -msave-restore', 'clang -O2 -mno-relax', f'clang -Oz {COMPRESSED} -mno-relax')
+SHARED = 'gcc -Os -fno-tree-loop-distribute-patterns'
 STEPS = 50_000_000
 # From so many steps on a program counts as a long one.
 MANY_STEPS = 1_000_000
@@ -70,47 +83,43 @@ def in_time(seconds=MOST):
 
 
 class Tools:
-    """The programs that are called, and the objects that all programs are linked with."""
+    """The programs that are called, a folder for what they make, and the input of the runs."""
 
-    def __init__(self, program, folder):
-        self.program, self.folder = program, folder
+    usual = USUAL
+
+    def __init__(self, program, folder, given=b''):
+        self.program, self.folder, self.given = program, folder, given
         self.linker = programs.found(*programs.GNU_LINKERS)
         self.compilers = {name: programs.found(*names) for name, (names, _) in COMPILERS.items()}
-        for what in (self.linker, self.compilers['gcc'], programs.found('csmith'), programs.found(QEMU)):
-            if what is None:
-                sys.exit('it needs csmith, GCC and GNU ld for RISC-V, and qemu-riscv32')
-        self.libgcc = programs.told([self.compilers['gcc'], *ARCH, '-print-libgcc-file-name']).strip()
-        sources = os.path.join(FIRMWARE, 'start.s'), os.path.join(FIRMWARE, 'support.c'), os.path.join(RUNTIME, 'runtime.c')
-        self.shared = [self.compiled('gcc -Os -fno-tree-loop-distribute-patterns', source) for source in sources]
+        if None in (self.linker, self.compilers['gcc'], programs.found(QEMU)):
+            sys.exit('it needs GCC and GNU ld for RISC-V, and qemu-riscv32')
+        self.libgcc = {target: programs.told([self.compilers['gcc'], library, ABI, '-print-libgcc-file-name']).strip()
+                       for target, library in LIBRARIES.items()}
 
     def path(self, name):
         return os.path.join(self.folder, name)
 
-    def compiled(self, flags, source):
-        """The object of a source file. Flags begin with the compiler's name."""
+    def compiled(self, flags, source, more=''):
+        """The object of a source file, which has more in its name. Flags begin with the compiler's name."""
         compiler, *words = flags.split()
-        out = self.path(os.path.splitext(os.path.basename(source))[0] + '.o')
-        programs.told([self.compilers[compiler], *COMPILERS[compiler][1], *USUAL, *words, '-c', source, '-o', out],
+        out = self.path(os.path.splitext(os.path.basename(source))[0] + more + '.o')
+        programs.told([self.compilers[compiler], *COMPILERS[compiler][1], *self.usual, *words, '-c', source, '-o', out],
                       first=in_time)
         return out
 
-    def made(self, number, flags):
-        """The object of the program with this number, joined with what it needs of libgcc."""
-        source, joined = self.path('program.c'), self.path('joined.o')
-        try:
-            programs.told(['csmith', '--no-argc', '--seed', str(number), '--output', source], cwd=self.folder, first=in_time)
-            made = self.compiled(flags, source)
-            programs.told([self.linker, *programs.FORMAT, '-r', '-o', joined, made, self.libgcc])
-        except Failed as why:
-            raise Left(f'not generated or compiled: {os.path.basename(str(why).split()[0])}') from None
-        return joined
+    def joined(self, flags, files, *words):
+        """Objects and archives as one object, with what they need of libgcc."""
+        out = self.path('joined.o')
+        programs.told([self.linker, *programs.FORMAT, '-r', *words, '-o', out, '--start-group', *files,
+                       self.libgcc[target_of(flags)], '--end-group'])
+        return out
 
     def reference(self, objects):
         """What qemu-riscv32 makes of GNU ld's link: the status and the output."""
         out = self.path('reference')
         programs.told([self.linker, *programs.FORMAT, '-T', os.path.join(RUNTIME, 'memory.ld'), '-o', out, *objects])
         try:
-            ended = programs.run([QEMU, out], first=lambda: in_time(MOST_OF_QEMU))
+            ended = programs.run([QEMU, out], self.given, first=lambda: in_time(MOST_OF_QEMU))
         except Failed:
             raise Left(f'no end under {QEMU}') from None
         if ended.status < 0:
@@ -119,7 +128,36 @@ class Tools:
         return ended.status, ended.out
 
     def call(self, *words):
-        return programs.run([self.program, *words])
+        return programs.run([self.program, *words], self.given)
+
+
+class Generator(Tools):
+    """The same with csmith, and the objects that all programs are linked with."""
+
+    usual = (*USUAL, '-isystem', RUNTIME, '-isystem', CSMITH_HEADERS)
+
+    def __init__(self, program, folder, runs=1):
+        super().__init__(program, folder)
+        if programs.found('csmith') is None:
+            sys.exit('it needs csmith')
+        self.more, again = ('', []) if runs == 1 else (' -Dmain=program', [os.path.join(RUNTIME, 'again.c')])
+        sources = *again, *(os.path.join(FIRMWARE, name) for name in ('start.s', 'support.c')), os.path.join(RUNTIME, 'runtime.c')
+        self.shared = {target: [self.compiled(f'{SHARED} {target} -DRUNS={runs}', source, target) for source in sources]
+                       for target in LIBRARIES}
+
+    def made(self, number, flags):
+        """The object of the program with this number, joined with what it needs of libgcc."""
+        source = self.path('program.c')
+        try:
+            programs.told(['csmith', '--no-argc', '--seed', str(number), '--output', source], cwd=self.folder, first=in_time)
+            return self.joined(flags, [self.compiled(flags + self.more, source)])
+        except Failed as why:
+            raise Left(f'not generated or compiled: {os.path.basename(str(why).split()[0])}') from None
+
+
+def target_of(flags):
+    """The target of a compiler's flags."""
+    return COMPRESSED if COMPRESSED in flags.split() else PLAIN
 
 
 def last_line(ended):
@@ -166,15 +204,19 @@ def is_long(tools, objects):
 
 def case(tools, number, flags):
     """What one program comes to."""
-    joined = tools.made(number, flags)
-    objects = [*tools.shared, joined]
+    target = PLAIN if number % 7 < 3 else target_of(flags)
+    return compared(tools, [*tools.shared[target], tools.made(number, flags)])
+
+
+def compared(tools, objects):
+    """What objects come to."""
     line = refusal(tools, objects)
     if line:
         ended = tools.call('trace', *objects)
         if ended != (121, b'', line):
             raise Differs(f'trace ends with {ended}, and plain with {line}')
         why = re.sub(r'^refused \d+ \d+ ', '', line.decode().strip())
-        anchors = ', with section anchors' if 'BadSymbol' in why and b'.LANCHOR' in read(joined) else ''
+        anchors = ', with section anchors' if 'BadSymbol' in why and b'.LANCHOR' in b''.join(map(read, objects)) else ''
         return f'refused: {why}{anchors}'
     wanted = tools.reference(objects)
     stuck, differ = traced(tools, objects, wanted), []
@@ -212,6 +254,7 @@ def main():
     arguments.add_argument('--seed', type=int, default=1)
     arguments.add_argument('--count', type=int, default=1000)
     arguments.add_argument('--seconds', type=float, default=3600)
+    arguments.add_argument('--runs', type=int, default=1, help='how many times each program is run in one')
     arguments.add_argument('--only', type=int, help='one case, by its number')
     arguments.add_argument('--flags', action='append', help='a compiler and its flags, in place of the usual lists')
     arguments.add_argument('--keep', default=os.path.join('build', 'fuzz'))
@@ -219,7 +262,7 @@ def main():
     counts, alike, begun, wrong = collections.Counter(), {}, time.monotonic(), 0
     programs.TIME_OUT = BY_CLOCK
     with tempfile.TemporaryDirectory() as folder:
-        tools = Tools(programs.built(given.program), folder)
+        tools = Generator(programs.built(given.program), folder, given.runs)
         lists = given.flags or [flags for flags in FLAGS if tools.compilers[flags.split()[0]]]
         for number in range(given.count) if given.only is None else (given.only,):
             if time.monotonic() - begun > given.seconds:

@@ -6,7 +6,8 @@
 
 PROGRAM is build/zcld if none is given. A case is fixed by the seed, by whether it is compared or looked at, and by its number.
 It takes files of the corpus, or makes some, and mutates them or not: the objects in examples/, those that the other scripts
-here make, the images of both links, texts of plans and certificates, and lists of words that scripts/checks has.
+here make, compressed ones among them, the images of both links, texts of plans and certificates, and lists of words that
+scripts/checks has.
 
 N cases are compared with the models: `plain` and `zc` with plain_link.py, zc_link.py and size_report.py, their refusals and
 that of `trace` with object_items.py, all in the memory map that the words give (memory_maps.py), `trace` with
@@ -149,7 +150,10 @@ class Corpus:
         """A list of objects that has no fault, most likely."""
         which = rng.randrange(10)
         if which < 2:
-            return list(rng.choice(self.lists))
+            files = list(rng.choice(self.lists))
+            if rng.random() < 0.3:
+                files.insert(rng.randrange(len(files) + 1), made_object(rng, rng.random() < 0.5, False))
+            return files
         if which < 5:
             return made_list(rng, rng.random() < 0.5)
         if which < 8:

@@ -13,7 +13,7 @@ OBJECTS = (
     ('section headers of 39 bytes', 46, HALF, 39, '1 NotElf'),
     ('section headers far out', 32, WORD, 0xFFFFFFF0, '2 Truncated'),
     ('code far out', 196, WORD, 0xFFFFFFFC, '2 Truncated'),
-    ('an unknown flag', 36, BYTE, 1, '3 Flags'),
+    ('an unknown flag', 36, BYTE, 2, '3 Flags'),
     ('section headers, but no sections', 48, HALF, 0, '4 SectionKind'),
     ('code of zeros', 184, WORD, 8, '4 SectionKind'),
     ('code that can be written', 188, WORD, 7, '4 SectionKind'),

@@ -1,7 +1,9 @@
 """Makes lists of objects by chance whose branches, jumps and calls lead as far as their forms reach and farther.
 
-Each program goes on forward from its start to its exit, so that it ends. A branch that leads back is never taken.
+Each program goes on forward from its start to its exit, so that it ends. A branch that leads back is never taken. Some objects
+are compressed (compressed_code.py).
 """
+from compressed_code import compress_some
 from zc_examples import XORI
 from zcld_tools.elf import ALIGN, BRANCH, CALL, JAL, LOCAL
 from zcld_tools.instructions import (A0, A1, A4, EXIT_WORDS, RA, S0, S1, SP, T0, T1, ZERO, addi, auipc, branch, jal, jalr, lw,
@@ -126,4 +128,5 @@ def far_list(rng):
         if rng.random() < 0.3:
             section.add_edge()
         section.end(read.symbol(b'part%d' % (number + 1)) if number + 1 < many else None)
+    compress_some(rng, objects, rng.random() < 0.2)
     return [read.bytes() for read in objects]

@@ -22,6 +22,7 @@ import time
 
 sys.path.insert(0, os.path.join(os.path.dirname(os.path.abspath(__file__)), os.pardir, 'scripts'))
 
+from compressed_code import compress
 from groups import LISTS
 from made_frames import ENDINGS, GOES_ON, Saved, sizes
 from size_report import left_by_zc
@@ -71,7 +72,7 @@ def add_function(rng, text, frame, called):
 
 def made_object(rng, frames):
     """An object of functions with these frames, each of which calls the one before it. Its start calls the last, writes the
-    registers that functions keep, and exits."""
+    registers that functions keep, and exits. It may be compressed."""
     made, text = object_with()
     called = None
     for frame in frames:
@@ -81,6 +82,8 @@ def made_object(rng, frames):
     registers = T0, A0, *KEPT
     text.words(addi(T0, SP), addi(SP, SP, -4 * len(registers)), *(sw(it, SP, 4 * k) for k, it in enumerate(registers)))
     text.words(*written(0, 4 * len(registers)), addi(A0, ZERO, len(frames)), *EXIT_WORDS)
+    if rng.random() < 0.5:
+        compress(rng, [made], [made], has_slips=False)
     return made.bytes()
 
 

@@ -5,8 +5,8 @@
 
 PROGRAM is build/zcld if none is given. A case is fixed by the seed and its number: a list of files, which are
 objects or an image, as they were made or with mutations, and what is odd about the call. Half of the lists are objects of code
-and data with relocations (`made_objects.py`). All files go to `zc`, `plain` and `trace`, the first to `run`, and an image that
-was written to `run`. Checked are:
+and data with relocations (`made_objects.py`). Some objects are compressed. All files go to `zc`, `plain` and `trace`, the first
+to `run`, and an image that was written to `run`. Checked are:
 
 - the call ends, by no signal, within its time-out, with a status that has a name and a line of that name at the
   end of standard error; `run` and `trace` of files that are refused write nothing else, and links only their text: `zc`
@@ -35,6 +35,7 @@ import time
 
 sys.path.insert(0, os.path.join(os.path.dirname(os.path.abspath(__file__)), os.pardir, 'scripts'))
 
+from compressed_code import halves_for
 from made_objects import made_list
 from object_faults import NAMES as FAULTS, object_fault, told
 from object_items import first_fault
@@ -43,12 +44,13 @@ from size_report import left_by_zc
 from symbolic_machine import NAMES as WHYS, trace as trace_of
 from zcld_tools import TOP, programs
 from zcld_tools.elf import (ABS, ALIGN, CODE_FLAGS, COMMON, CONSTANT_FLAGS, DATA_FLAGS, HEADER, HI20, INFO_LINK, INIT_ARRAY,
-                            MERGE, NOBITS, NONE, PCREL_HI20, PROGBITS, RELA, RELAX, RELOCATABLE, RVC_JUMP, R_32, STRINGS,
-                            STRTAB, SYMTAB, UNDEF, Part, file_header, laid, relocation_entry, section_headers, symbol_entry)
+                            MERGE, NOBITS, NONE, PCREL_HI20, PROGBITS, RELA, RELAX, RELOCATABLE, RVC, RVC_BRANCH, RVC_JUMP, R_32,
+                            STRINGS, STRTAB, SYMTAB, TSO, UNDEF, Part, file_header, laid, relocation_entry, section_headers,
+                            symbol_entry)
 from zcld_tools.files import files_in, random_bytes, read, write, write_list
 from zcld_tools.instructions import (A0, A1, A2, A7, EBREAK, ECALL, EXIT_WORDS, OPCODE_AUIPC, OPCODE_FENCE,
                                      OPCODE_IMMEDIATE, OPCODE_LUI, OPCODE_REGISTER, RA, READ_CALL, RET, SP, T0, WRITE_CALL,
-                                     ZERO, addi, branch, jal, load, store, words_of)
+                                     ZERO, addi, branch, halves_of, jal, load, store, words_of)
 from zcld_tools.objects import Strings
 from zcld_tools.programs import Failed as Wrong
 
@@ -165,6 +167,17 @@ def any_words(rng):
     return words + [*EXIT_WORDS]
 
 
+def mixed_code(rng, words):
+    """The bytes of code that has 2 bytes for some of these words, and between them sometimes any halfword."""
+    made, share = bytearray(), rng.choice((0.3, 0.7, 1))
+    for word in words:
+        halves = halves_for(word)
+        made += halves_of(rng.choice(halves)) if halves and rng.random() < share else words_of(word)
+        if rng.random() < 0.01:
+            made += halves_of(rng.getrandbits(16))
+    return bytes(made)
+
+
 # ---- objects
 
 SECTION_NAMES = (b'.text', b'.text.second', b'.data', b'.data.second', b'.sdata', b'.sdata.second', b'.bss', b'.sbss',
@@ -189,10 +202,11 @@ def part_of(name, *how, **more):
     return Part(NAMES_OF_SECTIONS.add(name), *how, **more)
 
 
-def code_part(rng, is_straight):
+def code_part(rng, is_straight, is_compressed):
     words = (straight_words if is_straight else any_words)(rng)
+    content = mixed_code(rng, words) if is_compressed else words_of(*words)
     align = rng.choice((0, 1, 2, 4, 4, 4, 16) if rng.random() < 0.1 else (0, 1, 2, 4, 4, 4))
-    return part_of(rng.choice((b'.text', b'.text', b'.text.second')), PROGBITS, CODE_FLAGS, words_of(*words), align=align)
+    return part_of(rng.choice((b'.text', b'.text', b'.text.second')), PROGBITS, CODE_FLAGS, content, align=align)
 
 
 def data_part(rng):
@@ -216,7 +230,7 @@ def symbols(rng, parts, is_first):
         code = [i for i, part in enumerate(parts) if part.flags == CODE_FLAGS and part.length() and part.name != AT_EH_FRAME]
         home = rng.choice(code) if code and rng.random() < 0.97 else rng.randrange(len(parts))
         size = parts[home].length()
-        value = rng.choice((0, 0, 0, 0, 0, 0, 4, size, 2)) if rng.random() < 0.2 else 0
+        value = rng.choice((0, 0, 0, 0, 0, 0, 4, size, 2, 2)) if rng.random() < 0.2 else 0
         rows.append((b'_start', min(value, size), 0, rng.choice((1, 1, 1, 2)) << 4, home))
     for _ in range(rng.choice((0, 1, 2, 9))):
         home = rng.choice((rng.randrange(1, len(parts)) if len(parts) > 1 else 0, UNDEF, ABS, COMMON))
@@ -231,17 +245,18 @@ def symbols(rng, parts, is_first):
 
 def made_object(rng, is_straight=True, is_first=True):
     """An object of code, with sections beside it that a compiler might add."""
-    parts = [Part()]
+    parts, is_compressed = [Part()], rng.random() < 0.4
     wanted = [code_part] * rng.choice((1, 1, 1, 2, 3) if is_first else (0, 1, 2))
     wanted += [data_part] * rng.choice((0, 0, 1, 3, 6, 60))
     if not is_first or rng.random() < 0.5:
         rng.shuffle(wanted)
-    parts += [code_part(rng, is_straight) if make is code_part else data_part(rng) for make in wanted]
+    parts += [code_part(rng, is_straight, is_compressed) if make is code_part else data_part(rng) for make in wanted]
     table = symbols(rng, parts, is_first)
     given = len(parts)
     for _ in range(rng.choice((0, 0, 0, 1, 2)) if given > 1 else 0):
-        kind = rng.choice((NONE, RELAX)) if rng.random() < 0.8 else rng.choice((HI20, R_32, ALIGN, PCREL_HI20, RVC_JUMP))
-        entries = b''.join(relocation_entry(4 * k, rng.randrange(len(table) // 16), kind, 0)
+        kinds = (HI20, R_32, ALIGN, PCREL_HI20, RVC_BRANCH, RVC_JUMP)
+        kind, step = rng.choice((NONE, RELAX)) if rng.random() < 0.8 else rng.choice(kinds), rng.choice((4, 4, 2))
+        entries = b''.join(relocation_entry(step * k, rng.randrange(len(table) // 16), kind, 0)
                            for k in range(rng.choice((1, 1, 3))))
         about = rng.randrange(1, given)
         if all(part.info != about for part in parts):
@@ -251,7 +266,8 @@ def made_object(rng, is_straight=True, is_first=True):
               *(part_of(b'.names', STRTAB, 0, names.bytes, align=1) for names in (NAMES_OF_SECTIONS, NAMES_OF_SYMBOLS)))
     start = HEADER + rng.choice((0, 0, 4, 12))
     content, offsets = laid(parts[1:], start)
-    header = file_header(RELOCATABLE, start + len(content), len(parts), len(parts) - 2, flags=rng.choice((0, 0, 0x10)))
+    flags = rng.choice((0, 0, TSO)) | (RVC if is_compressed else 0)
+    header = file_header(RELOCATABLE, start + len(content), len(parts), len(parts) - 2, flags=flags)
     return header.ljust(start, b'\0') + content + section_headers(parts[1:], offsets)
 
 
@@ -317,6 +333,18 @@ def change_word(rng, data):
                                  EBREAK, 0, 0xFFFFFFFF, 0x9002, rng.getrandbits(32))))
 
 
+def change_half(rng, data):
+    """Most likely one of code."""
+    halves = 0, 0x0001, 0x9002, 0x8082, 0xA001, 0xC101, 0xB842, 0x4501, 0x4001, 0xFFFF
+    put(data, 52 + 2 * rng.randrange(40), 2, rng.choice((*halves, rng.getrandbits(16))))
+
+
+def turn_flag(_, data):
+    """The flag of compressed code."""
+    if len(data) >= 52:
+        data[36] ^= RVC
+
+
 def part(rng, data):
     at = rng.randrange(len(data) + 1)
     return at, min(len(data), at + rng.choice((1, 4, 12, 32, 40, rng.randrange(len(data) + 1))))
@@ -355,7 +383,7 @@ def lengthen(rng, data):
 
 
 MUTATIONS = (flip, file_field, section_field, section_field, section_field, entry_field, entry_field, program_field,
-             change_word, truncate, insert, remove, double, overwrite, lengthen)
+             change_word, change_half, turn_flag, truncate, insert, remove, double, overwrite, lengthen)
 
 
 # ---- calls

@@ -6,7 +6,8 @@ lists the groups of the files, or says their first fault. It knows nothing of th
 
 A group is a push, a pop, a pop that returns, one that sets a0 to 0 too, or two moves between a0 and a1 and two of s0 to s7. No
 item of it has a relocation, and no basic block begins at one but the first. Groups are taken from the left in each section, and
-of those that start at one item that with the most items.
+of those that start at one item that with the most items. An item of 2 bytes has the word that its halfword stands for, in its
+normal form, so `c.mv` is a move, as `addi` is, and `add` isn't.
 """
 import os
 import struct

@@ -3,7 +3,8 @@ Compressed Instructions"; RISC-V Zc specification 1.0, "Zcb").
 
     fuzz/halfwords.py WORD...
 
-says the short form of each word. It knows nothing of the program, so that both can be compared.
+says the short form of each word. It knows nothing of the program, so that both can be compared. The way back is in
+expansions.py.
 """
 import os
 import sys
@@ -11,7 +12,7 @@ import sys
 sys.path.insert(0, os.path.join(os.path.dirname(os.path.abspath(__file__)), os.pardir, 'scripts'))
 
 from zcld_tools.instructions import (EBREAK, OPCODE_BRANCH, OPCODE_IMMEDIATE, OPCODE_JAL, OPCODE_JALR, OPCODE_LOAD,
-                                     OPCODE_LUI, OPCODE_REGISTER, OPCODE_STORE, branch_distance, jal_distance, low_part,
+                                     OPCODE_LUI, OPCODE_REGISTER, OPCODE_STORE, addi, branch_distance, jal_distance, low_part,
                                      signed)
 
 COMMUTE = {(0, 0), (0, 4), (0, 6), (0, 7), (1, 0)}
@@ -28,6 +29,13 @@ class Instruction:
             self.first, self.second = max(self.first, self.second), min(self.first, self.second)
         if self.opcode == OPCODE_REGISTER and (self.f7, self.f3) == (0, 0) and self.second == 0:
             self.opcode, self.low = OPCODE_IMMEDIATE, 0
+
+    def normal_form(self):
+        """The word that those have in common which have the same fields: a copy is an `addi`, and of two sources that may be
+        swapped the greater one is the first."""
+        if self.opcode != self.word & 127:
+            return addi(self.rd, self.first)
+        return self.word & ~(0x3FF << 15) | self.second << 20 | self.first << 15
 
 
 def bits(value, *places):

@@ -24,16 +24,18 @@ sys.path.insert(0, os.path.join(os.path.dirname(os.path.abspath(__file__)), os.p
 from costly_objects import WITHIN, write_list
 from zcld_tools import programs
 from zcld_tools.elf import (ALIGN, DATA_FLAGS, EXECUTABLE, EXECUTE, HEADER, LOCAL, PCREL_HI20, PCREL_LO12_I, PROGRAM_HEADER,
-                            READABLE, RELAX, R_32, WRITABLE, Part, file_header)
+                            READABLE, RELAX, RVC, RVC_BRANCH, RVC_JUMP, R_32, WRITABLE, Part, file_header)
 from zcld_tools.files import read, write
 from zcld_tools.images import DATA_AT, TEXT_AT, image_bytes, load_header
-from zcld_tools.instructions import A0, EXIT_WORDS, NOP, ZERO, addi, auipc, words_of
+from zcld_tools.instructions import A0, EXIT_WORDS, NOP, SHORT_NOP, ZERO, addi, auipc, words_of
 from zcld_tools.objects import Reloc, Written, object_with
 from zcld_tools.programs import Failed
 
 WORDS = addi(A0, ZERO, 3), *EXIT_WORDS
 EXIT = words_of(*WORDS)
 PLACES, HEADERS, MEMORY_STEP, OBJECT_LIMIT = 698_000, 65_535, 10 << 10, 4 << 20
+# `c.beqz s0` and `c.j`, `c.slli zero,1`, which is a hint, and a word whose upper half would be a jump of 2 bytes.
+C_BEQZ, C_J, HINT, LONG = 0xC001, 0xA001, 0x0006, 0xA0010013
 
 
 # ---- objects
@@ -58,6 +60,62 @@ def alignments():
     for _ in range(21_000):
         text.reloc(ALIGN, None, 4, (NOP,))
     text.words(*WORDS)
+    return [made.bytes()]
+
+
+def compressed():
+    """A compressed object that begins with an exit, and its code."""
+    made, text = object_with(*WORDS)
+    made.flags = RVC
+    return made, text
+
+
+def short_hints():
+    """65,000 hints of 2 bytes, which `zc` writes in 4."""
+    made, text = compressed()
+    text.halves(*[HINT] * 65_000)
+    return [made.bytes()]
+
+
+def short_alignments():
+    """32,000 paddings of 2 bytes."""
+    made, text = compressed()
+    for _ in range(32_000):
+        text.reloc(ALIGN, None, 2)
+        text.halves(SHORT_NOP)
+    return [made.bytes()]
+
+
+def short_jumps():
+    """65,000 jumps of 2 bytes, each a thousand on, and each with a relocation."""
+    made, text = compressed()
+    first = len(text.content)
+    for k in range(65_000):
+        text.reloc(RVC_JUMP, made.symbols[0], first + 2 * min(k + 1000, 65_000))
+        text.halves(C_J)
+    return [made.bytes()]
+
+
+def short_chain():
+    """Branches of 2 bytes to the 65th halfword after them. Each 64th halfword stays short, and the last 100 are hints, so that each
+    round of `zc` makes one branch longer."""
+    made, text = compressed()
+    first = len(text.content)
+    for k in range(65_000):
+        is_branch = k % 64 and k < 64_900
+        if is_branch:
+            text.reloc(RVC_BRANCH, made.symbols[0], first + 2 * (k + 65))
+        text.halves(C_BEQZ if is_branch else HINT if k % 64 else SHORT_NOP)
+    return [made.bytes()]
+
+
+def stray_relocations():
+    """32,000 relocations of 2 bytes, each inside a word; the table has them from the last to the first."""
+    made, text = compressed()
+    for _ in range(32_000):
+        at = text.words(LONG)
+        text.relocs.append(Reloc(at + 2, RVC_JUMP, made.symbols[0], 0))
+    text.relocs.reverse()
     return [made.bytes()]
 
 
@@ -90,6 +148,9 @@ def hints():
 
 OBJECTS = WITHIN | {
     '65,000 low parts': low_parts, '21,000 paddings': alignments, '1,000 sections aligned to 256': aligned_sections,
+    '65,000 hints of 2 bytes': short_hints, '32,000 paddings of 2 bytes': short_alignments,
+    '65,000 jumps of 2 bytes': short_jumps, 'a chain of branches of 2 bytes': short_chain,
+    '32,000 relocations inside words': stray_relocations,
     'data words upwards': lambda: data_words(lambda relocs: None), 'data words downwards': lambda: data_words(list.reverse),
     'data words in random order': lambda: data_words(random.Random(1).shuffle), '2.76 million hints': hints}
 

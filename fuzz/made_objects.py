@@ -2,22 +2,24 @@
 
 Most lists are programs that run to their end: functions call later ones in each way that compilers do, and work on data in each
 way. They save registers and restore them, and move some, in ways that one instruction may stand for (made_frames.py), or that
-only look so. An odd list has something in it that is no fault of the objects' form, but most likely one of their relocations or
-layout.
+only look so. None, some or all objects of a list are compressed then (compressed_code.py). An odd list has something in it that is
+no fault of the objects' form, but most likely one of their relocations or layout.
 """
 import struct
 
+from compressed_code import compress_some, is_code
 from groups import MOVED
+from halfwords import short_form
 from made_frames import ENDINGS, GOES_ON, made_frame, slip_between
 from object_faults import LINKER_NAMES
 from object_items import OF_TWO_BYTES
 from zcld_tools.elf import (ABS, ADD32, ALIGN, ALLOC, BRANCH, CALL, CALL_PLT, CODE_FLAGS, COMMON, CONSTANT_FLAGS,
                             DATA_FLAGS, DATA_TYPE, FUNCTION_TYPE, GLOBAL, GOT_HI20, HI20, INIT_ARRAY, JAL, LO12_I, LO12_S,
-                            LOCAL, NOBITS, NONE, NO_TYPE, PCREL_HI20, PCREL_LO12_I, PCREL_LO12_S, PROGBITS, RELAX, RVC_BRANCH,
-                            R_32, SECTION_TYPE, SUB32, WEAK)
-from zcld_tools.instructions import (A0, A1, A2, A5, A7, CALL_WORDS, ECALL, EXIT_WORDS, NOP, RA, READ_CALL, SP, T0, T1, T2, T3,
-                                     WRITE_CALL, ZERO, add, addi, auipc, branch, immediate, is_store, jal, jalr, load,
-                                     low_part, lui, lw, of_format_r, store, sw, with_low)
+                            LOCAL, NOBITS, NONE, NO_TYPE, PCREL_HI20, PCREL_LO12_I, PCREL_LO12_S, PROGBITS, RELAX, RVC, RVC_BRANCH,
+                            RVC_JUMP, R_32, SECTION_TYPE, SUB32, TSO, WEAK)
+from zcld_tools.instructions import (A0, A1, A2, A5, A7, CALL_WORDS, ECALL, EXIT_WORDS, NOP, RA, READ_CALL, SHORT_NOP, SP, T0, T1,
+                                     T2, T3, WRITE_CALL, ZERO, add, addi, auipc, branch, halves_of, immediate, is_store, jal,
+                                     jalr, load, low_part, lui, lw, of_format_r, store, sw, with_low)
 from zcld_tools.objects import Reloc, Written
 from zc_machine import SAVED
 
@@ -598,12 +600,33 @@ def odd_section(program):
         section.content[0:0] = bytes(4 * rng.randrange(3))
 
 
+def odd_halfword(program):
+    """Changes a halfword of code, adds one, or leaves one out, most often in a compressed object."""
+    rng = program.rng
+    found = [section for read in program.objects for section in read.sections
+             if is_code(section) and section.content and (read.flags & RVC or rng.random() < 0.2)]
+    if not found:
+        return
+    content = rng.choice(found).content
+    at = rng.choice((len(content), *[2 * rng.randrange(len(content) // 2) for _ in range(4)]))
+    half = halves_of(rng.choice((0, SHORT_NOP, 0x9002, 0xB842, 0xA002, 0xFFFF, 0x0013, rng.getrandbits(16))))
+    content[at:at + rng.choice((0, 2, 2))] = rng.choice((b'', half, half))
+
+
+def odd_flags(program):
+    """Says that the code of an object is compressed which isn't, or the other way round; or has an unknown flag."""
+    program.rng.choice(program.objects).flags ^= program.rng.choice((RVC, RVC, RVC, RVC, RVC, RVC, TSO, 2))
+
+
 def odd_branch(program):
     """A branch as far as it reaches or a bit farther, forwards or backwards."""
     rng = program.rng
     read = rng.choice(program.objects)
     section = rng.choice([it for it in read.sections if it.flags == CODE_FLAGS] or [None])
     if section is None:
+        return
+    if read.flags & RVC and rng.random() < 0.7:
+        odd_short_way(rng, read, section)
         return
     count = rng.choice((1022, 1023, 1024))
     if rng.random() < 0.5:
@@ -616,18 +639,33 @@ def odd_branch(program):
         section.reloc(BRANCH, label, 0, (branch(0, A0, A1),))
 
 
+def odd_short_way(rng, read, section):
+    """The same of a branch or jump of 2 bytes."""
+    kind, word, reach = rng.choice(((RVC_BRANCH, branch(rng.choice((0, 1)), A0, ZERO), 128),
+                                    (RVC_JUMP, jal(rng.choice((ZERO, RA))), 1024)))
+    label = read.symbol(b'.Lfar', home=section, value=len(section.content), bind=LOCAL)
+    count = reach + rng.choice((0, 1))
+    is_forward = rng.random() < 0.5
+    if is_forward:
+        count -= 2
+        label.value += 2 + 2 * count
+    else:
+        section.halves(*[SHORT_NOP] * count)
+    section.reloc(kind, label)
+    section.halves(short_form(word))
+    if is_forward:
+        section.halves(*[SHORT_NOP] * count)
+
+
 def make_odd(program):
     for _ in range(program.rng.choice((1, 1, 1, 2, 4))):
-        which = program.rng.randrange(12)
+        which = program.rng.randrange(16)
         found = any_reloc(program)
         if which < 8 and found:
             odd_reloc(program, *found)
-        elif which == 8:
-            odd_section(program)
-        elif which == 9:
-            odd_branch(program)
         else:
-            odd_symbol(program)
+            ways = odd_section, odd_branch, odd_symbol, odd_symbol, odd_halfword, odd_halfword, odd_halfword, odd_flags
+            ways[which % 8](program)
 
 
 def made_list(rng, is_odd):
@@ -647,6 +685,7 @@ def made_list(rng, is_odd):
         add_start(program)
     if rng.random() < 0.2:
         add_dropped(program)
+    compress_some(rng, program.objects, is_odd)
     for read in program.objects:
         read.is_reversed = rng.random() < 0.3
     if is_odd:

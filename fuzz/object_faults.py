@@ -5,7 +5,7 @@
 import struct
 
 from zcld_tools.elf import (ABS, ALIGN, ALLOC, COMMON, COMPRESSED, EXECINSTR, GROUP, INIT_ARRAY, MAGIC, NOBITS, NULL,
-                            PROGBITS, REL, RELA, RELOCATABLE, RISCV, STRTAB, SYMTAB, SYMTAB_SHNDX, TLS, UNDEF, WRITE)
+                            PROGBITS, REL, RELA, RELOCATABLE, RISCV, RVC, STRTAB, SYMTAB, SYMTAB_SHNDX, TLS, TSO, UNDEF, WRITE)
 
 NAMES = (None, 'NotElf', 'Truncated', 'Flags', 'SectionKind', 'Alignment', 'CodeSize', 'BadName', 'BadSymbol',
          'Duplicate', 'Undefined', 'RelocKind', 'RelocPlace', 'LoPair', 'BadTarget', 'Range', 'NoEntry', 'TooLarge')
@@ -37,9 +37,10 @@ def is_bad_alignment(align, most):
 
 
 class Object:
-    """The sections and symbols of a file whose headers lie in it."""
+    """The sections and symbols of a file whose headers lie in it, and whether its code may have instructions of 2 bytes."""
 
     def __init__(self, data):
+        self.is_compressed = bool(flags_of(data) & RVC)
         self.table, self.count, names = (struct.unpack_from(form, data, at)[0] for form, at in
                                          (('<I', 32), ('<H', 48), ('<H', 50)))
         self.sections = [Section(data, self.table + 40 * i) for i in range(self.count)]
@@ -108,9 +109,14 @@ class Object:
                 for _, info, addend in struct.iter_unpack('<IIi', s.content):
                     yield info >> 8, info & 255, addend
 
+    def unit(self):
+        """The bytes of which all code consists."""
+        return 2 if self.is_compressed else 4
+
     def code_room(self):
-        """The most room that the code may take."""
-        return (sum(s.size + max(4, s.align) for i, s in enumerate(self.sections) if self.is_code(i))
+        """The most room that the code may take: instructions of 2 bytes may become ones of 4."""
+        times = 2 if self.is_compressed else 1
+        return (sum(times * s.size + max(4, s.align) for i, s in enumerate(self.sections) if self.is_code(i))
                 + sum(1 << addend.bit_length() if 1 <= addend <= 255 else 256
                       for _, kind, addend in self.relocations(True) if kind == ALIGN))
 
@@ -134,6 +140,10 @@ def not_elf(data):
             or struct.unpack_from('<2H', data, 46)[1] != 0 and struct.unpack_from('<H', data, 46)[0] != 40)
 
 
+def flags_of(data):
+    return struct.unpack_from('<I', data, 36)[0]
+
+
 def object_fault(data):
     """The number of the first fault, or none."""
     if len(data) > 4 << 20:
@@ -145,14 +155,14 @@ def object_fault(data):
         return 17
     if table + 40 * count > len(data) or any(Section(data, table + 40 * i).is_truncated for i in range(count)):
         return 2
-    if struct.unpack_from('<I', data, 36)[0] & ~0x10:
+    if flags_of(data) & ~(RVC | TSO):
         return 3
     read = Object(data)
     if read.has_unlinked_sections():
         return 4
     if read.has_bad_alignment():
         return 5
-    if any(s.flags & EXECINSTR and s.size % 4 for s in read.kept_sections()):
+    if any(s.flags & EXECINSTR and s.size % read.unit() for s in read.kept_sections()):
         return 6
     if read.has_bad_name():
         return 7

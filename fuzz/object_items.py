@@ -4,12 +4,15 @@
 
 lists the items of the files, or says their first fault. It knows nothing of the program, so that both can be compared.
 """
+import functools
 import os
 import struct
 import sys
 
 sys.path.insert(0, os.path.join(os.path.dirname(os.path.abspath(__file__)), os.pardir, 'scripts'))
 
+from expansions import expanded
+from halfwords import Instruction
 from object_data import ABSENT, CODE, NOWHERE, NUMBER, Symbols, aligned
 from object_faults import Object, gather_fault, told
 from zcld_tools.elf import (ALIGN, BRANCH, CALL, CALL_PLT, HI20, JAL, LO12_I, LO12_S, NOBITS, NONE, PCREL_HI20,
@@ -21,14 +24,17 @@ from zcld_tools.instructions import (EBREAK, ECALL, OPCODE_FENCE, OPCODE_IMMEDIA
 
 WITHOUT_FIELD = (NONE, RELAX)
 CALLS, LOW_OF_PAIR = (CALL, CALL_PLT), (PCREL_LO12_I, PCREL_LO12_S)
-# These change instructions of 2 bytes, which no object may have: an entry of such a type is a fault, but its field counts.
+# These change instructions of 2 bytes: where an object isn't compressed, an entry of such a type is a fault, but its field counts.
 OF_TWO_BYTES = (RVC_BRANCH, RVC_JUMP)
+WAYS = {BRANCH: 'Branch', RVC_BRANCH: 'Branch', JAL: 'Jump', RVC_JUMP: 'Jump'}
+# How far what leads somewhere reaches by its size, back and forth; the longest form always does.
+REACHES = {'Branch': {2: (-256, 254), 4: (-4096, 4094)}, 'Jump': {2: (-2048, 2046)}, 'Call': {2: (-2048, 2046)}}
 FIELDS = {R_32: 4, BRANCH: 4, JAL: 4, CALL: 8, CALL_PLT: 8, PCREL_HI20: 4, PCREL_LO12_I: 4, PCREL_LO12_S: 4, HI20: 4,
           LO12_I: 4, LO12_S: 4, RVC_BRANCH: 2, RVC_JUMP: 2}
 KIND_FAULT, PLACE_FAULT, PAIR_FAULT, TARGET_FAULT, RANGE_FAULT, ENTRY_FAULT = 11, 12, 13, 14, 15, 16
 
 
-# ---- words (RISC-V unprivileged manual, "RV32I")
+# ---- words and halfwords (RISC-V unprivileged manual, "RV32I" and "RVC Instruction Set Listings")
 
 
 def takes_low_i(word):
@@ -48,8 +54,25 @@ def is_known(word):
             or word & 0x707F == OPCODE_FENCE or word in (ECALL, EBREAK))
 
 
+def is_short_branch(half):
+    """c.beqz or c.bnez."""
+    return half & 3 == 1 and half >> 13 in (6, 7)
+
+
+def is_short_jump(half):
+    """c.j or c.jal."""
+    return half & 3 == 1 and half >> 13 in (1, 5)
+
+
+@functools.cache
+def word_of(half):
+    """The normal form of the word that a halfword stands for, or none."""
+    word = expanded(half)
+    return None if word is None else Instruction(word).normal_form()
+
+
 KINDS = {BRANCH: is_branch, JAL: is_jal, PCREL_HI20: is_auipc, HI20: is_lui, PCREL_LO12_I: takes_low_i, LO12_I: takes_low_i,
-         PCREL_LO12_S: is_store, LO12_S: is_store}
+         PCREL_LO12_S: is_store, LO12_S: is_store, RVC_BRANCH: is_short_branch, RVC_JUMP: is_short_jump}
 
 
 # ---- entries
@@ -82,6 +105,7 @@ class Part:
 
     def __init__(self, read, k):
         self.section, self.is_code = read.sections[k], read.is_code(k)
+        self.is_compressed, self.unit = read.is_compressed, read.unit()
         self.entries = [Entry(*row) for s in read.sections if s.kind == RELA and s.info == k
                         for row in struct.iter_unpack('<IIi', s.content)]
         mark_overlaps(self.entries)
@@ -91,46 +115,80 @@ class Part:
         self.high = {entry.offset for entry in self.entries if entry.kind == PCREL_HI20
                      and is_auipc(self.word(entry.offset))}
         self.starts = self.found_starts() if self.is_code else {}
+        if self.is_code:
+            self.mark_strays()
+
+    def number(self, at, size):
+        """What so many bytes are, or 0 if they aren't all there."""
+        content = self.section.content
+        return int.from_bytes(content[at:at + size], 'little') if at + size <= len(content) else 0
 
     def word(self, at):
-        content = self.section.content
-        return int.from_bytes(content[at:at + 4], 'little') if at + 4 <= len(content) else 0
+        return self.number(at, 4)
+
+    def half(self, at):
+        return self.number(at, 2)
 
     def is_bad_kind(self, entry):
         known = (NONE, R_32, RELAX) if not self.is_code else (NONE, RELAX, ALIGN, *FIELDS)
-        return entry.kind not in known or entry.kind in OF_TWO_BYTES
+        return entry.kind not in known or entry.kind in OF_TWO_BYTES and not self.is_compressed
 
     def is_bad_place(self, entry):
         if entry.kind in WITHOUT_FIELD:
             return False
         at = entry.offset
-        if at + entry.size > self.section.size or entry.overlaps or self.is_code and at % 4:
+        if at + entry.size > self.section.size or entry.overlaps or self.is_code and at % self.unit:
             return True
         if entry.kind == ALIGN:
-            return not 1 <= entry.addend <= 255 or entry.addend % 4 != 0
+            return not 1 <= entry.addend <= 255 or entry.addend % self.unit != 0
         if entry.kind in CALLS:
             first, second = self.word(at), self.word(at + 4)
             return not (is_auipc(first) and is_jalr(second) and second >> 15 & 31 == first >> 7 & 31)
-        return entry.kind in KINDS and not KINDS[entry.kind](self.word(at))
+        return entry.kind in KINDS and not KINDS[entry.kind](self.number(at, entry.size))
 
     def found_starts(self):
         """The size of each item, by the offset where it starts."""
         starts, at = {}, 0
         while at < self.section.size:
             entry = self.at.get(at)
-            starts[at] = entry.size if entry else 4
+            starts[at] = entry.size if entry else self.own_size(at)
             at += starts[at]
         return starts
+
+    def own_size(self, at):
+        """The size of an item without a relocation."""
+        is_long = self.half(at) & 3 == 3 and at + 4 <= self.section.size
+        return 4 if is_long or not self.is_compressed else 2
+
+    def mark_strays(self):
+        """Marks each entry that stands at no item's start, though nothing else is wrong with its place."""
+        for at in self.at.keys() - self.starts.keys():
+            self.at.pop(at).fault = PLACE_FAULT
+
+    def spelled(self, at):
+        """The words of an item, and its halfword if it has 2 bytes. The word is then the normal form of what this stands for, if
+        it stands for one."""
+        size = self.starts[at]
+        if size != 2:
+            return [self.word(it) for it in range(at, at + size, 4)], None
+        word = word_of(self.half(at))
+        return [] if word is None else [word], self.half(at)
 
 
 # ---- items
 
 
 class Item:
-    """What stands at a place of code: its kind, its words as they are, and what it names."""
+    """What stands at a place of code: its kind, its words as they are, what it names, and its halfword if it has 2 bytes: then its
+    word is the normal form of what this stands for."""
 
-    def __init__(self, kind, words, target=None):
-        self.kind, self.words, self.target = kind, words, target
+    def __init__(self, kind, words, target=None, half=None):
+        self.kind, self.words, self.target, self.half = kind, words, target, half
+
+
+def raw_item(words, half):
+    """An item that is copied unread."""
+    return Item('Raw', words) if half is None else Item('RawShort', [], None, half)
 
 
 class Code:
@@ -160,7 +218,7 @@ class Code:
             return PAIR_FAULT
         target = self.symbols.resolve(i, entry.symbol, entry.addend)
         if (target[0] == NOWHERE or target[0] == CODE and not self.is_start_or_end(*target[1:])
-                or target[0] == NUMBER and entry.kind in (BRANCH, JAL, *CALLS)):
+                or target[0] == NUMBER and entry.kind in (*WAYS, *CALLS)):
             return TARGET_FAULT
         return None
 
@@ -174,30 +232,32 @@ class Code:
     def item(self, place):
         i, k, offset = place
         part = self.parts[i, k]
-        words = [part.word(at) for at in range(offset, offset + part.starts[offset], 4)]
         entry = part.at.get(offset)
+        if entry is not None and entry.kind == ALIGN:
+            return Item('Align', [], 1 << entry.addend.bit_length())
+        words, half = part.spelled(offset)
         if entry is None:
-            return self.plain_item(place, words)
+            return self.plain_item(place, words, half)
         target = self.symbols.resolve(i, entry.symbol, entry.addend)
-        if entry.kind == ALIGN:
-            return Item('Align', words, 1 << entry.addend.bit_length())
         if entry.kind in CALLS:
             return Item('RawPair' if target[0] == ABSENT else 'Call', words, target)
-        if entry.kind in (BRANCH, JAL):
-            return Item('Raw' if target[0] == ABSENT else 'Branch' if entry.kind == BRANCH else 'Jump', words, target)
+        if entry.kind in WAYS:
+            return raw_item(words, half) if target[0] == ABSENT else Item(WAYS[entry.kind], words, target, half)
         kind = {R_32: 'Word', HI20: 'Hi', LO12_I: 'Lo', LO12_S: 'Lo', PCREL_HI20: 'PcHi'}.get(entry.kind, 'PcLo')
         return Item(kind, words, target)
 
-    def plain_item(self, place, words):
+    def plain_item(self, place, words, half):
         """An item without a relocation."""
         i, k, offset = place
+        if not words or not is_known(words[0]):
+            return raw_item(words, half)
         word, = words
-        if is_branch(word) or is_jal(word):
-            to = offset + (branch_distance(word) if is_branch(word) else jal_distance(word))
-            if self.is_start_or_end(i, k, to):
-                return Item('Branch' if is_branch(word) else 'Jump', words, (CODE, i, k, to))
-            return Item('Raw', words)
-        return Item('Op' if is_known(word) else 'Raw', words)
+        if not (is_branch(word) or is_jal(word)):
+            return Item('Op', words, None, half)
+        to = offset + (branch_distance(word) if is_branch(word) else jal_distance(word))
+        if self.is_start_or_end(i, k, to):
+            return Item('Branch' if is_branch(word) else 'Jump', words, (CODE, i, k, to), half)
+        return raw_item(words, half)
 
     # data
 
@@ -233,11 +293,12 @@ class Code:
         return found
 
     def far_branch(self):
-        """The place of the first branch that doesn't reach in the plain layout, or none."""
+        """The place of the first branch or jump that doesn't reach in the plain layout, or none."""
         addresses, _ = self.plain_layout()
         for place in self.places():
             item = self.item(place)
-            if item.kind == 'Branch' and not -4096 <= addresses[item.target[1:]] - addresses[place] <= 4094:
+            reach = REACHES.get(item.kind, {}).get(4 if item.half is None else 2)
+            if reach and not reach[0] <= addresses[item.target[1:]] - addresses[place] <= reach[1]:
                 return place
         return None
 
@@ -273,7 +334,8 @@ def main():
     addresses, _ = code.plain_layout()
     for place in code.places():
         item = code.item(place)
-        print(*place, f'{addresses[place]:08x}', item.kind, *(f'{word:08x}' for word in item.words), item.target or '')
+        half = '' if item.half is None else f'{item.half:04x} '
+        print(*place, f'{addresses[place]:08x}', item.kind, half + ' '.join(f'{word:08x}' for word in item.words), item.target or '')
 
 
 if __name__ == '__main__':

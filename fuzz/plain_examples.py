@@ -174,7 +174,8 @@ def of_kind():
 
 
 def beside_two_bytes():
-    """RelocKind: fields beside the 2 bytes of a type that no object may have, and overlaps of which that entry is the first."""
+    """RelocKind: fields beside the 2 bytes of a type that only compressed objects may have, and overlaps of which that entry is the
+    first."""
     rows = []
     for kind in OF_TWO_BYTES:
         rows += [
@@ -195,7 +196,7 @@ def beside_two_bytes():
 
 
 def over_two_bytes():
-    """RelocPlace: the first entry's field overlaps the 2 bytes of a type that no object may have."""
+    """RelocPlace: the first entry's field overlaps the 2 bytes of a type that only compressed objects may have."""
     rows = []
     for kind in OF_TWO_BYTES:
         rows += [

@@ -11,18 +11,17 @@ import sys
 
 sys.path.insert(0, os.path.join(os.path.dirname(os.path.abspath(__file__)), os.pardir, 'scripts'))
 
+from halfwords import short_form
 from object_data import CODE
 from object_faults import Object
 from object_items import Code, without_fault
 from zcld_tools.files import write
-from zcld_tools.images import STANDARD, image_bytes
-from zcld_tools.instructions import NOP, with_branch, with_high, with_jump, with_low, words_of
+from zcld_tools.images import COMPRESSED, STANDARD, image_bytes
+from zcld_tools.instructions import NOP, SHORT_NOP, halves_of, with_branch, with_high, with_jump, with_low, words_of
 
 
 class Plain:
     """The plain link of code without a fault."""
-
-    flags = 0
 
     def __init__(self, objects, memory=STANDARD):
         self.memory, self.code = memory, Code(objects, memory)
@@ -57,18 +56,24 @@ class Plain:
                 'Branch': lambda: with_branch(word, self.distance(place, item.target)),
                 'Jump': lambda: with_jump(word, self.distance(place, item.target))}[item.kind]()
 
+    def padding(self, place, item):
+        """What stands under ALIGN."""
+        size = -self.addresses[place] % item.target
+        return halves_of(SHORT_NOP) * (size % 4 // 2) + words_of(NOP) * (size // 4)
+
     def item_bytes(self, place, item):
         """The bytes that are written of an item."""
         if item.kind == 'Align':
-            words = [NOP] * ((-self.addresses[place] % item.target) // 4)
-        elif item.kind == 'RawPair':
-            words = item.words
-        elif item.kind == 'Call':
+            return self.padding(place, item)
+        if item.kind == 'RawPair':
+            return words_of(*item.words)
+        if item.kind == 'Call':
             distance = self.distance(place, item.target)
-            words = [with_high(item.words[0], distance), with_low(item.words[1], distance)]
-        else:
-            words = [self.word(place, item)]
-        return words_of(*words)
+            return words_of(with_high(item.words[0], distance), with_low(item.words[1], distance))
+        if item.half is None:
+            return words_of(self.word(place, item))
+        # what has 2 bytes is copied, unless its distance may be another
+        return halves_of(short_form(self.word(place, item)) if item.kind in ('Branch', 'Jump') else item.half)
 
     def places(self):
         """The places of what is written, in their order."""
@@ -101,9 +106,13 @@ class Plain:
         """The address at which a run begins."""
         return self.addresses[self.code.entry()]
 
+    def flags(self):
+        """The flags of the image."""
+        return COMPRESSED if any(read.is_compressed for read in self.code.objects) else 0
+
     def image(self):
         data = self.code.symbols.data
-        return image_bytes(self.text(), self.addresses, self.data(), data.end - data.file_end, self.start(), self.flags,
+        return image_bytes(self.text(), self.addresses, self.data(), data.end - data.file_end, self.start(), self.flags(),
                            self.memory)
 
 

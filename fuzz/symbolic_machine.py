@@ -159,7 +159,7 @@ class Machine:
             self.items[self.place] = self.code.item(self.place)
         item = self.items[self.place]
         after = (i, k, offset + part.starts[offset])
-        if item.kind in ('Raw', 'Word'):
+        if item.kind in ('Raw', 'RawShort', 'Word'):
             raise Stuck(NO_INSTRUCTION)
         if item.kind == 'RawPair':
             raise Stuck(TARGET)

@@ -4,6 +4,7 @@
 Each calls its functions, and jumps to them with a return address that it sets itself. They add up in a0 what shows which of them
 were called in which order, and the exit has that as its status.
 """
+from compressed_code import compress_some
 from zc_examples import XORI
 from zcld_tools.elf import ALIGN, BRANCH, CALL, HI20, JAL, LO12_I, LOCAL
 from zcld_tools.instructions import (A0, CALL_WORDS, EXIT_WORDS, RA, RET, SP, T0, ZERO, add, addi, branch, jal, jalr, lui, lw,
@@ -44,9 +45,11 @@ class Program:
         self.text.reloc(LO12_I, back, 0, (addi(RA, RA),))
         self.text.reloc(JAL, self.names[function], 0, (jal(link),))
 
-    def files(self):
-        """The files of the program, with the exit."""
+    def files(self, rng=None):
+        """The files of the program, with the exit. By chance some are compressed."""
         self.text.words(*EXIT_WORDS)
+        if rng:
+            compress_some(rng, [self.first, self.last])
         return [self.first.bytes(), self.last.bytes()]
 
 
@@ -142,4 +145,4 @@ def random_program(rng):
         (made.jump if rng.random() < jumps else made.call)(k)
         if rng.random() < 0.1:
             made.text.words(add(A0, A0, T0))
-    return made.files()
+    return made.files(rng)

@@ -8,7 +8,6 @@ one has no address. The table (tables.py) is the best one (certificates.py) for 
 settled anew. What is printed of the sizes is in size_report.py.
 """
 import os
-import struct
 import sys
 from typing import NamedTuple
 
@@ -19,23 +18,20 @@ from groups import FROM_SAVED, TO_SAVED, groups_of, places_outside
 from halfwords import short_form
 from object_data import CODE, aligned
 from object_faults import Object
-from object_items import without_fault
+from object_items import REACHES, without_fault
 from plain_link import Plain
 from tables import Table, savings_of, table_half
 from zc_machine import POP, POPRET, POPRETZ, PUSH
 from zcld_tools.files import write
 from zcld_tools.images import COMPRESSED, STANDARD
-from zcld_tools.instructions import NOP, OPCODE_JAL, with_branch, with_high, with_jump, with_low, words_of
+from zcld_tools.instructions import OPCODE_JAL, halves_of, with_branch, with_high, with_jump, with_low, words_of
 
-SHORT_NOP = 0x0001
-# How far the forms of two and four bytes reach, back and forth; the longest form always does.
-REACHES = {'Branch': {2: (-256, 254), 4: (-4096, 4094)}, 'Jump': {2: (-2048, 2046)}, 'Call': {2: (-2048, 2046)}}
+# The sizes of what isn't read, and none of padding, whose size is that of its place.
+FIXED = {'Align': [], 'RawPair': [8], 'RawShort': [2]}
 
 
 class Zc(Plain):
     """The link of code without a fault that makes it smaller, with a table."""
-
-    flags = COMPRESSED
 
     def __init__(self, objects, table=Table(), memory=STANDARD):
         self.table, self.groups, self.items, self.sizes, self.rounds = table, {}, {}, {}, 0
@@ -45,15 +41,13 @@ class Zc(Plain):
 
     def forms(self, place, item):
         """The sizes that an item may take, or the group that starts with it, the shortest first; of padding none."""
-        word = item.words[0]
         if place in self.groups:
             return [len(self.groups[place].code)]
         if place in self.table.through:
             return [2]
-        if item.kind == 'Align':
-            return []
-        if item.kind == 'RawPair':
-            return [8]
+        if item.kind in FIXED:
+            return FIXED[item.kind]
+        word = item.words[0]
         if item.kind == 'Branch':
             return [2, 4, 8] if short_form(with_branch(word, 0)) is not None else [4, 8]
         if item.kind == 'Jump':
@@ -113,6 +107,9 @@ class Zc(Plain):
     def front(self):
         return self.table.code(self.memory.text, self.addresses, super().start()) if self.table.size else b''
 
+    def flags(self):
+        return COMPRESSED
+
     def start(self):
         return self.table.stub_at(self.memory.text) if self.table.size else super().start()
 
@@ -120,18 +117,15 @@ class Zc(Plain):
         if place in self.groups:
             return self.groups[place].code
         if place in self.table.through:
-            return struct.pack('<H', table_half(self.table.through[place]))
-        if item.kind == 'Align':
-            size = -self.addresses[place] % item.target
-            return struct.pack('<H', SHORT_NOP) * (size % 4 // 2) + words_of(NOP) * (size // 4)
+            return halves_of(table_half(self.table.through[place]))
+        if item.kind in FIXED:
+            return super().item_bytes(place, item)
         size = self.sizes[place]
-        if item.kind == 'RawPair':
-            return words_of(*item.words)
         if item.kind == 'Branch' and size == 8:
             over = with_branch(item.words[0] ^ 1 << 12, 8)
             return words_of(over, with_jump(OPCODE_JAL, self.distance(place, item.target) - 4))
         word = self.call_word(item, self.distance(place, item.target)) if item.kind == 'Call' else self.word(place, item)
-        return struct.pack('<H', short_form(word)) if size == 2 else words_of(word)
+        return halves_of(short_form(word)) if size == 2 else words_of(word)
 
     # counts
 

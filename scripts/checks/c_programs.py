@@ -8,6 +8,8 @@ from checks.harness import runs_of
 
 EXAMPLES = os.path.join(TOP, 'examples')
 COMPILERS = ('gcc', 'clang')
+# The folders of a program's objects: of each compiler, and of each with compressed code.
+FOLDERS = (*COMPILERS, 'gcc-compressed', 'clang-compressed')
 STATUSES = {'monitor': 2, 'events': 0, 'numbers': 42}
 
 
@@ -16,9 +18,10 @@ def read(*names):
     return files.read(os.path.join(EXAMPLES, *names))
 
 
-def objects_of(program, compiler):
-    return [read(folder, compiler, name) for folder in ('firmware', program)
-            for name in sorted(os.listdir(os.path.join(EXAMPLES, folder, compiler)))]
+def objects_of(program, folder, firmware=None):
+    """The objects of a program in one of its folders, with the firmware of the same or of another one."""
+    return [read(*names, name) for names in (('firmware', firmware or folder), (program, folder))
+            for name in sorted(os.listdir(os.path.join(EXAMPLES, *names)))]
 
 
 def input_of(program):
@@ -26,15 +29,18 @@ def input_of(program):
 
 
 def c_programs(group):
-    """programs that C compilers made: the same output and status as objects and as images of both links"""
+    """programs that C compilers made, with compressed code, without and in part: the same output and status as objects and as images
+    of both links"""
+    mixed = [(f'{compiler}-compressed', compiler) for compiler in COMPILERS]
     for program, status in STATUSES.items():
         given = input_of(program)
-        for compiler in COMPILERS:
-            what, objects, out = f'{program} by {compiler}', objects_of(program, compiler), read(program, 'output')
-            folder, names = group.linked_plainly(what, objects)
-            group.both_exit(what, folder, names, status, out, given)
-            folder = group.linked_small(f'{what}, zc', objects)
-            group.exits(f'{what}, made smaller', folder.run(('run', 'out'), given), status, out)
+        for folder, firmware in (*zip(FOLDERS, FOLDERS), *mixed, *(it[::-1] for it in mixed)):
+            what, objects = f'{program} by {folder} with firmware by {firmware}', objects_of(program, folder, firmware)
+            plainly, names = group.linked_plainly(what, objects)
+            out = read(program, 'output')
+            group.both_exit(what, plainly, names, status, out, given)
+            small = group.linked_small(f'{what}, zc', objects)
+            group.exits(f'{what}, made smaller', small.run(('run', 'out'), given), status, out)
     for compiler in COMPILERS:
         what, objects = f'sections by {compiler}', [plain_examples.calls_of_sum(), read(f'sections-{compiler}.o')]
         plainly, names = group.linked_plainly(what, objects)

@@ -32,14 +32,34 @@ def image_of_several(texts, sizes, entry):
     return image_bytes(b''.join(texts), places, b'', 0, TEXT_AT + entry, COMPRESSED)
 
 
+def image_of_items(sections, align=2):
+    """The image of one section of each of several objects, by its items: the size in the object, and what is written for it. A
+    section begins at a multiple of a number, and the run at the first."""
+    text, places = bytearray(), {}
+    for i, items in enumerate(sections):
+        text += bytes(-len(text) % align)
+        offset = 0
+        for size, written in (*items, (0, b'')):
+            places[i, 1, offset] = TEXT_AT + len(text)
+            text += written
+            offset += size
+    return image_bytes(bytes(text), places, b'', 0, TEXT_AT, COMPRESSED)
+
+
 def left_of_several(texts, sizes, entry):
     """What `zc` leaves of objects with this code: the image, and a report of items that are written by themselves, of which none
     is a far jump."""
     all_sizes = [size for sizes_of_one in sizes for size in sizes_of_one]
-    rows = {'plain text': 4 * len(all_sizes), 'zc text': sum(all_sizes), 'items': len(all_sizes), 'short': all_sizes.count(2),
-            **dict.fromkeys(('long', 'push', 'pop', 'move', 'table', 'slots', 'net'), 0)}
-    report = ''.join(f'{name} {number}\n' for name, number in rows.items()).encode()
+    report = report_of(4 * len(all_sizes), sum(all_sizes), len(all_sizes), all_sizes.count(2))
     return Left(image_of_several(texts, sizes, entry), CERTIFICATE, report)
+
+
+def report_of(plain, small, items, short):
+    """The report of texts of these lengths, with so many items, each of which is written by itself and none as a far jump, and
+    so many of them in two bytes."""
+    rows = {'plain text': plain, 'zc text': small, 'items': items, 'short': short,
+            **dict.fromkeys(('long', 'push', 'pop', 'move', 'table', 'slots', 'net'), 0)}
+    return ''.join(f'{name} {number}\n' for name, number in rows.items()).encode()
 
 
 def left_of(text, sizes=None):

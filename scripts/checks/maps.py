@@ -14,7 +14,7 @@ from zcld_tools.instructions import (A0, A1, A2, A3, A7, ECALL, EXIT_WORDS, SP, 
                                      of_format_r, sw)
 from zcld_tools.objects import object_with
 
-from checks.c_programs import COMPILERS, STATUSES, input_of, objects_of, read
+from checks.c_programs import FOLDERS, STATUSES, input_of, objects_of, read
 from checks.made_files import THREE, THREE_IMAGE
 
 # For each option words that are no address: of another length, of other digits, or with a sign or a prefix.
@@ -110,7 +110,7 @@ def linked_elsewhere(group):
         for memory in (*ENDS, *(made_map(rng) for _ in range(20))):
             in_map(group, what, objects, given, memory, rng)
     for program, status in STATUSES.items():
-        for compiler in COMPILERS:
+        for compiler in FOLDERS:
             objects, given = objects_of(program, compiler), input_of(program)
             in_map(group, f'{program} by {compiler}', objects, given, FLASH_AND_RAM, rng)
             folder = group.folder()

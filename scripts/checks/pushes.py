@@ -10,7 +10,7 @@ from object_items import Code
 from zc_machine import plan_of
 from zcld_tools.images import STACK_HIGH, text_of
 
-from checks.c_programs import COMPILERS, STATUSES, input_of, objects_of, read
+from checks.c_programs import FOLDERS, STATUSES, input_of, objects_of, read
 
 # More commits than any program below examples/ makes.
 MOST = 130_000
@@ -67,7 +67,7 @@ def interrupted_c_programs(group):
     """programs that C compilers made, interrupted at every commit: the same output and status"""
     plan = plan_of_every_commit(random.Random('every commit'), MOST)
     for program, status in STATUSES.items():
-        for compiler in COMPILERS:
+        for compiler in FOLDERS:
             what = f'{program} by {compiler}'
             folder = group.linked_small(what, objects_of(program, compiler))
             folder.write('plan', plan)

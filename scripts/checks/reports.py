@@ -16,7 +16,7 @@ from zcld_tools.instructions import A0, A1, EXIT_WORDS, RA, S0, S1, SP, ZERO, ad
 from zcld_tools.objects import object_with
 
 from checks import strace
-from checks.c_programs import COMPILERS, EXAMPLES, STATUSES, objects_of, read
+from checks.c_programs import EXAMPLES, FOLDERS, STATUSES, objects_of, read
 from checks.harness import broken_pipe
 from checks.made_files import OLD, THREE, THREE_LEFT
 
@@ -73,7 +73,7 @@ def far_jumps(count):
 def lists():
     """Lists without a fault, and what they are."""
     for program in STATUSES:
-        for compiler in COMPILERS:
+        for compiler in FOLDERS:
             yield f'{program} by {compiler}', objects_of(program, compiler)
     yield 'exit3', [read(os.path.join(EXAMPLES, 'exit3.o'))]
     for what, files, *_ in table_examples.rows():

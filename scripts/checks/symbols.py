@@ -9,6 +9,7 @@ from halfwords import short_form
 from memory_maps import map_at, words_of_map
 from object_data import Symbols
 from object_faults import LINKER_NAMES, Object
+from object_items import word_of
 from zc_machine import PUSH, frame_of
 from zcld_tools import TOP, programs
 from zcld_tools.elf import (ABS, CALL, COMMON, CONSTANT_FLAGS, DATA_FLAGS, DATA_TYPE, FILE_TYPE, FUNCTION_TYPE, GLOBAL,
@@ -18,7 +19,7 @@ from zcld_tools.instructions import A0, CALL_WORDS, EXIT_WORDS, RA, RET, SP, ZER
 from zcld_tools.objects import object_with
 from zcld_tools.programs import Failed
 
-from checks.c_programs import COMPILERS, STATUSES, objects_of, read
+from checks.c_programs import FOLDERS, STATUSES, objects_of, read
 from checks.harness import Skipped
 
 SCRIPT = os.path.join(TOP, 'scripts/symbols')
@@ -43,7 +44,7 @@ def linked(group, what, files):
 
 def monitors(group):
     """Each image of the monitor: what it is, its folder, and its objects with their names."""
-    for compiler in COMPILERS:
+    for compiler in FOLDERS:
         files = objects_of('monitor', compiler)
         for link, folder in linked(group, f'monitor by {compiler}', files):
             yield f'monitor by {compiler}, {link}', folder, files, [f'file{i}' for i in range(len(files))]
@@ -171,6 +172,11 @@ class Source:
     def word(self, offset=0):
         return struct.unpack_from('<I', self.section.content, self.value + offset)[0]
 
+    def first_word(self):
+        """The word of the first instruction, or the one that its halfword stands for."""
+        half, = struct.unpack_from('<H', self.section.content, self.value)
+        return self.word() if half & 3 == 3 else word_of(half)
+
 
 def sources(files):
     """The symbols of kept sections, but labels and mapping symbols. The monitor has no name twice."""
@@ -192,7 +198,7 @@ def begins_with(text, at, source):
     """Whether the instruction at an address is the first one of a function, as it is or in its short form, or a push that lowers
     sp as that does or by a part. Of a branch, and of what is under a relocation, the operation and the registers are looked
     at."""
-    found, word = int.from_bytes(text[at - TEXT_AT:][:4], 'little'), source.word()
+    found, word = int.from_bytes(text[at - TEXT_AT:][:4], 'little'), source.first_word()
     frame = frame_of(found & 0xFFFF)
     if frame and word & 0xFFFFF == addi(SP, SP):
         return frame.form == PUSH and frame.size <= -low_part(word)
@@ -321,5 +327,5 @@ def added_symbols(group):
         group.same(f'by hand, {link}: left out', ended.err, MIDDLE + EQUALS)
     for monitor in monitors(group):
         check_monitor_copy(group, prefix, *monitor)
-    for compiler in COMPILERS:
+    for compiler in FOLDERS:
         check_against_ld(group, prefix, objects_of('monitor', compiler))

@@ -4,6 +4,8 @@ from typing import NamedTuple
 
 # Types of files, and the machine.
 RELOCATABLE, EXECUTABLE, RISCV = 1, 2, 243
+# Flags of a file: its code is compressed, and keeps the memory model TSO.
+RVC, TSO = 0x01, 0x10
 # How a little-endian file of class 32 begins.
 MAGIC = b'\x7fELF\1\1\1'
 # Sizes of records.

@@ -7,6 +7,7 @@ T3 = 28
 OPCODE_LOAD, OPCODE_FENCE, OPCODE_IMMEDIATE, OPCODE_AUIPC, OPCODE_STORE = 0x03, 0x0F, 0x13, 0x17, 0x23
 OPCODE_REGISTER, OPCODE_LUI, OPCODE_BRANCH, OPCODE_JALR, OPCODE_JAL = 0x33, 0x37, 0x63, 0x67, 0x6F
 NOP, ECALL, EBREAK = 0x00000013, 0x00000073, 0x00100073
+SHORT_NOP = 0x0001
 # What a7 holds at a call of the environment.
 READ_CALL, WRITE_CALL, EXIT_CALL = 63, 64, 93
 
@@ -19,6 +20,11 @@ def signed(value, bits):
 def words_of(*words):
     """The bytes of words."""
     return struct.pack(f'<{len(words)}I', *(word & 0xFFFFFFFF for word in words))
+
+
+def halves_of(*halves):
+    """The bytes of halfwords."""
+    return struct.pack(f'<{len(halves)}H', *halves)
 
 
 # ---- a word with another immediate

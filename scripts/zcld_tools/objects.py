@@ -1,9 +1,8 @@
 """Writes objects with sections, symbols and relocations (System V gABI, "Object Files"; RISC-V ELF psABI, "Relocations")."""
-import struct
-
 from zcld_tools.elf import (CODE_FLAGS, GLOBAL, HEADER, INFO_LINK, LOCAL, NOBITS, NO_TYPE, PROGBITS, RELA, RELOCATABLE,
-                            RELOCATION, STRTAB, SYMBOL, SYMTAB, Part, file_header, laid, relocation_entry, section_headers,
-                            symbol_entry)
+                            RELOCATION, RVC, STRTAB, SYMBOL, SYMTAB, Part, file_header, laid, relocation_entry,
+                            section_headers, symbol_entry)
+from zcld_tools.instructions import halves_of, words_of
 
 
 class Symbol:
@@ -32,13 +31,21 @@ class Section:
 
     def words(self, *words):
         """Adds words, and gives where the first stands."""
+        return self.add(words_of(*words))
+
+    def halves(self, *halves):
+        """Adds halfwords, and gives where the first stands."""
+        return self.add(halves_of(*halves))
+
+    def add(self, content):
+        """Adds bytes, and gives where they begin."""
         at = len(self.content)
-        self.content += struct.pack(f'<{len(words)}I', *(word & 0xFFFFFFFF for word in words))
+        self.content += content
         return at
 
-    def reloc(self, kind, symbol, addend=0, words=()):
-        """Adds words with a relocation at the first, and gives where they stand."""
-        at = self.words(*words)
+    def reloc(self, kind, symbol, addend=0, words=(), halves=()):
+        """Adds words, or halfwords, with a relocation at the first, and gives where they stand."""
+        at = self.halves(*halves) if halves else self.words(*words)
         self.relocs.append(Reloc(at, kind, symbol, addend))
         return at
 
@@ -117,4 +124,12 @@ def object_with(*words, name=b'_start'):
     text = made.section(b'.text')
     text.words(*words)
     made.symbol(name, home=text)
+    return made, text
+
+
+def compressed_with(code=b'', name=b'_start'):
+    """The same of compressed code, by its bytes."""
+    made, text = object_with(name=name)
+    made.flags, text.align = RVC, 2
+    text.content += code
     return made, text

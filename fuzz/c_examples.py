@@ -1,0 +1,122 @@
+#!/usr/bin/env python3
+"""Compiles the programs in examples/ in many ways, links them, runs and traces them, and compares them with GNU ld's link under
+qemu-riscv32.
+
+    fuzz/c_examples.py [--keep FOLDER] [PROGRAM]
+
+PROGRAM is build/zcld if none is given. It needs GCC and GNU ld for RISC-V, qemu-riscv32, and Clang for its flags. Each program,
+and the one in bench/sizes/ that needs picolibc, if it is installed, is compiled with both compilers, at each level, with hints for
+relaxation and without, without compressed code and with it. Its objects are linked as they are, with a start of the other kind,
+and joined by `ld -r` with what they need of libgcc and without what nothing needs. What is checked is in c_programs.py. The status
+is 1 if something differs, and FOLDER then has the objects and the images.
+"""
+import argparse
+import collections
+import itertools
+import os
+import sys
+import tempfile
+import time
+from typing import NamedTuple
+
+sys.path.insert(0, os.path.join(os.path.dirname(os.path.abspath(__file__)), os.pardir, 'scripts'))
+
+from c_programs import BY_CLOCK, COMPRESSED, FIRMWARE, LIBRARIES, PLAIN, Differs, Left, Tools, compared, keep, target_of
+from zcld_tools import TOP, programs
+from zcld_tools.files import read
+from zcld_tools.programs import Failed
+
+EXAMPLES, LIBRARY, PICOLIBC = os.path.join(TOP, 'examples'), 'library', '/usr/lib/picolibc/riscv64-unknown-elf'
+LEVELS, HINTS = ('-O0', '-O1', '-O2', '-O3', '-Os'), ('-mrelax', '-mno-relax')
+# What GCC must be told: anchors of sections lie past their ends, and the loop in memset is no call of memset.
+MORE = {'gcc': '-fno-section-anchors -fno-tree-loop-distribute-patterns', 'clang': '-Wno-unused-command-line-argument'}
+SEPARATE = '-ffunction-sections -fdata-sections'
+# The ways in which objects are linked, with flags of their own.
+AS_THEY_ARE, BESIDE, JOINED = 'as they are', 'beside a start of the other kind', 'joined'
+WAYS = ((AS_THEY_ARE, SEPARATE), (BESIDE, ''), (JOINED, SEPARATE))
+
+
+class Program(NamedTuple):
+    """A program: its name, its sources, the words for the compiler, and its input."""
+
+    name: str
+    sources: list
+    words: str = f' -I{FIRMWARE}'
+    given: bytes = b''
+
+    def has_library(self):
+        return self.name == LIBRARY
+
+    def libraries(self, target):
+        """The archives of picolibc, if it needs them."""
+        folder = os.path.join(PICOLIBC, 'lib', LIBRARIES[target].split('=')[1], 'ilp32')
+        return [os.path.join(folder, it) for it in ('libc.a', 'libm.a')] if self.has_library() else []
+
+    def objects(self, tools, flags, way):
+        """The objects that are linked."""
+        target = target_of(flags)
+        of_start = flags.replace(target, COMPRESSED if target == PLAIN else PLAIN) if way == BESIDE else flags
+        firmware = ['start.s'] if self.has_library() else ['start.s', 'support.c']
+        made = [tools.compiled(of_start + self.words, os.path.join(FIRMWARE, it)) for it in firmware]
+        made += [tools.compiled(flags + self.words, it) for it in self.sources]
+        if way == JOINED or self.has_library():
+            return [tools.joined(flags, [*made, *self.libraries(target)], '--gc-sections', '-e', '_start')]
+        return made
+
+
+def listed():
+    """The programs."""
+    for name in ('monitor', 'events', 'numbers'):
+        folder = os.path.join(EXAMPLES, name)
+        path = os.path.join(folder, 'input')
+        yield Program(name, sorted(os.path.join(folder, it) for it in os.listdir(folder) if it.endswith('.c')),
+                      given=read(path) if os.path.exists(path) else b'')
+    if os.path.isdir(PICOLIBC):
+        source = os.path.join(TOP, 'bench', 'sizes', LIBRARY + '.c')
+        yield Program(LIBRARY, [source], ' --specs=picolibc.specs', b'3.5 1e3\n-2.25e-1 7\n')
+
+
+def lists(program, compilers):
+    """The flags, and in which way each list's objects are linked."""
+    compilers = [it for it in compilers if it == 'gcc' or not program.has_library()]
+    for compiler, level, target, hints, (way, more) in itertools.product(compilers, LEVELS, (PLAIN, COMPRESSED), HINTS, WAYS):
+        yield ' '.join((compiler, level, target, hints, MORE[compiler], more)), way
+
+
+def check(tools, program, counts):
+    """Checks each list of a program, and counts what they come to. Gives what differs, or none."""
+    for flags, way in lists(program, [name for name, path in tools.compilers.items() if path]):
+        try:
+            told = compared(tools, program.objects(tools, flags, way))
+        except Left as why:
+            told = f'left out: {why}'
+        except (Differs, Failed) as why:
+            return f'{flags}, {way}: {why}'
+        counts[told] += 1
+        print(f'{program.name}, {flags}, {way}: {told}', file=sys.stderr)
+    return None
+
+
+def main():
+    arguments = argparse.ArgumentParser(description='Compares the programs in examples/ with GNU ld and qemu-riscv32.')
+    arguments.add_argument('program', nargs='?', default=programs.BUILT)
+    arguments.add_argument('--keep', default=os.path.join('build', 'fuzz'))
+    given = arguments.parse_args()
+    counts, begun, wrong = collections.Counter(), time.monotonic(), 0
+    programs.TIME_OUT = BY_CLOCK
+    for program in listed():
+        with tempfile.TemporaryDirectory() as folder:
+            tools = Tools(programs.built(given.program), folder, program.given)
+            differs = check(tools, program, counts)
+            if differs:
+                wrong += 1
+                print(f'WRONG: {program.name}, {differs}; files: {keep(tools, given.keep, f"c-{program.name}")}')
+    print(f'{sum(counts.values())} lists of objects in {time.monotonic() - begun:.0f} s')
+    for what, count in counts.most_common():
+        print(f'{count:6} {what}')
+    print(f'{wrong} wrong')
+    return wrong > 0
+
+
+if __name__ == '__main__':
+    sys.exit(main())
