@@ -88,7 +88,7 @@ const BLANK: &str = "\
 000000000100000000000000170000000300000000000000000000006800000021000000000000000000000001000000
 00000000";
 
-const SINGLE: &str = "\
+const FLOATS: &str = "\
 7f454c460101010000000000000000000100f3000100000000000000000000008c000000020000003400000000002800
 05000400130530009308d005730000000000000000000000000000000000000001000000000000000000000010000100
 005f737461727400002e74657874002e73796d746162002e737472746162002e73687374727461620000000000000000
@@ -296,7 +296,7 @@ fn zeros(alloc: Global, special: &str, letter: &str) -> Result<Vec<u8>, Fail> {
     Ok(vec![in alloc; 0; count as usize]?)
 }
 
-// The files of a call: `x` and `z` are the object, `image` is its image, `short`, `blank` and `single` are those with
+// The files of a call: `x` and `z` are the object, `image` is its image, `short`, `blank` and `floats` are those with
 // flags, `short.elf` is the image of the first of these, `start` and `main` are the two objects that write, `hello.elf`
 // and `elsewhere.elf` are their images, `echo` and `echo.elf` are the program that reads, `load.elf` is the image that
 // loads, `bad` is no ELF file, and `zeros` has as many zeros as `f` says; and the plans and certificates. The calls that
@@ -308,7 +308,7 @@ fn store_of(alloc: Global, special: &str) -> Result<MemStore, Fail> {
         ("z", OBJECT),
         ("short", SHORT),
         ("blank", BLANK),
-        ("single", SINGLE),
+        ("floats", FLOATS),
         ("image", IMAGE),
         ("short.elf", SHORT_IMAGE),
         ("start", START),

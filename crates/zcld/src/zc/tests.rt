@@ -43,9 +43,9 @@ trace short => -- 3 0 "" "exited 3\n"
 run short.elf => -- 3 0 "" "exited 3\n"
 plain --out o blank => ?- 0 5 "plain text 2\n" ""
 trace blank => -- 126 0 "" "stuck 0 1 0 8 NoInstruction\n"
-plain --out o single => -- 121 5 "" "refused 0 3 Flags\n"
-zc --out o --cert c single => -- 121 5 "" "refused 0 3 Flags\n"
-trace short single => -- 121 5 "" "refused 1 3 Flags\n""#;
+plain --out o floats => -- 121 5 "" "refused 0 3 Flags\n"
+zc --out o --cert c floats => -- 121 5 "" "refused 0 3 Flags\n"
+trace short floats => -- 121 5 "" "refused 1 3 Flags\n""#;
     expect(&rt, lines)
 }
 
