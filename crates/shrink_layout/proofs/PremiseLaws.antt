@@ -1,6 +1,6 @@
 -- What the layout asks of pieces holds of those of inputs without a fault: alignments are at least 1 and even, sizes are even,
--- targets are pieces or the end (`targets`), and all have little room (`room_few`). If nothing is aligned above 4 bytes, no piece
--- is aligned above 2 (`all_tight`).
+-- targets are pieces or the end (`targets`), and all have little room (`room_few`). If there is no ALIGN, and no code aligned
+-- above 4 bytes, no piece is aligned above 2 (`all_tight`).
 use Rattle.std.proofs.Common.{◌≡◌, ℕ, zero, suc, ◌+◌, ◌*◌, ◌%◌, ◌<◌, ◌≤◌, List, [], ◌∷◌, ◌++◌, All, get_or, length, map, max, Bool, true, false, cond, Option, Some, None, slice_get, refl, sym, ap, subst, ◌∙◌, arith, eqb, leb, ltb}
 use Rattle.std.specs.Prelude.{◌&&◌, nat_le, not}
 use Rattle.std.specs.List.{flat_map, list_any, sum_by}
@@ -409,7 +409,7 @@ module _ (inputs : Inputs) (none : gather_fault inputs ≡ None) (slots : List (
   pieces_few =
       omega (arith, ap length (pieces_are given slots), (sections_longest given slots sections (λ k l is. listed_at given.objects k l is) (all_whole inputs none)).1, rooms_few inputs none)
 
--- if nothing is aligned above 4 bytes, all are tight
+-- if there is no ALIGN, and no code aligned above 4 bytes, all are tight
 pub all_tight : (inputs : ParsedInputs) (slots : List (Option Place)) → is_unaligned inputs ≡ true → All IsTight (pieces_of inputs slots)
 unfolding pieces_by pieces_of
 all_tight inputs slots is =

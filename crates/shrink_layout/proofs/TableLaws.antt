@@ -1,5 +1,6 @@
--- The table pays: if nothing is aligned above 4 bytes, the text with it is no longer than that without, but for the table and its stub, and less 2 bytes
--- for each jump or call through it (`table_pays_off`). Its pieces are those without it, but for these jumps, which took 4 bytes.
+-- The table pays: if there is no ALIGN, and no code aligned above 4 bytes, the text with it is no longer than that without, but
+-- for the table and its stub, and less 2 bytes for each jump or call through it (`table_pays_off`). Its pieces are those without
+-- it, but for these jumps, which took 4 bytes.
 use Rattle.std.proofs.Common.{◌≡◌, ◌∙◌, ℕ, zero, suc, ◌+◌, ◌*◌, ◌%◌, ◌≤◌, List, [], ◌∷◌, ◌++◌, Bool, true, false, cond, filter, length, map, take, Option, Some, None, slice_get, slice_index, refl, sym, ap, subst, arith}
 use Rattle.std.specs.List.{flat_map, sum_by}
 use Rattle.std.specs.Option.{option_and_then, option_map_or}

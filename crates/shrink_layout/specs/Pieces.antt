@@ -180,7 +180,7 @@ is_align (item.RawPair first second) = false
 abbrev pub is_aligned_code : IndexedSection → Bool
 is_aligned_code l = is_code_section l.section && nat_lt 4 l.section.align
 
--- nothing is aligned above 4 bytes: no item asks for padding, and no section of code for more
+-- there is no ALIGN, and no section of code is aligned above 4 bytes
 abbrev pub is_unaligned : ParsedInputs → Bool
 is_unaligned inputs =
     not (list_any is_align (all_items inputs)) && not (list_any is_aligned_code (all_sections inputs.objects))

@@ -14,8 +14,8 @@ abbrev pub TablePays : ParsedInputs → List (Option Place) → Type 0
 TablePays inputs slots =
     settled_end inputs slots + 2 * units_with inputs slots is_site ≤ settled_end inputs [] + front_size slots
 
--- behind a table of these slots, sizes are those of the first round that fits; if nothing is aligned above 4 bytes, they
--- are the least that fit, and the table pays
+-- behind a table of these slots, sizes are those of the first round that fits; if there is no ALIGN, and no code aligned
+-- above 4 bytes, they are the least that fit, and the table pays
 pub record IsLaidBehind (inputs : ParsedInputs) (slots : List (Option Place)) : Type 0 where
   pub layout : IsLayout inputs.map.text (pieces_of inputs slots) (settled_sizes inputs slots)
   pub least : IsTrue (is_unaligned inputs)

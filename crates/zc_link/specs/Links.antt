@@ -104,8 +104,8 @@ pub record IsPlainLink (inputs : Inputs) (link : Link) : Type 0 where
   pub plain : link.plain ≡ plain_counts (parsed inputs)
   pub zc : link.zc ≡ plain_counts (parsed inputs)
 
--- behind a table of these slots, sizes are those of the first round that fits; if nothing is aligned above 4 bytes, they are the
--- least that fit, and the text is shorter than without the table, by so many bytes at least
+-- behind a table of these slots, sizes are those of the first round that fits; if there is no ALIGN, and no code aligned above
+-- 4 bytes, they are the least that fit, and the text is shorter than without the table, by so many bytes at least
 pub record IsShortest (inputs : Inputs) (slots : List (Option Place)) (net : ℕ) : Type 0 where
   pub settled : IsLayout inputs.map.text (pieces_of (parsed inputs) slots) (settled_sizes (parsed inputs) slots)
   pub least : IsTrue (is_unaligned (parsed inputs))

@@ -26,9 +26,9 @@ use std::alloc::{AllocError, Global};
 
 /// The link of the objects, or why they aren't linked. Pushes, pops and moves are written as one instruction
 /// (`frame_match::planned::plan` finds them), jumps and calls go through the table that saves most if one saves
-/// anything, and all else is written in the form that it has in the first round of sizes that fits. If nothing is
-/// aligned above 4 bytes, that is the shortest for these groups and this table. Beside the rounds it takes time
-/// near-linear in the size of the objects.
+/// anything, and all else is written in the form that it has in the first round of sizes that fits. If there is no
+/// ALIGN, and no code aligned above 4 bytes, that is the shortest for these groups and this table. Beside the rounds it
+/// takes time near-linear in the size of the objects.
 pub fn link_zc(alloc: Global, objects: Objects) -> Result<Linked, LinkFault>
     ensures faultless { IfOk result (λ _. first_fault objects ≡ None) }
     ensures link { IfOk result (λ linked. IsZcLink objects linked) }
