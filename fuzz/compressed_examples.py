@@ -7,8 +7,8 @@ from assembled import short_code, with_distance
 from halfwords import short_form
 from zcld_tools.elf import (ABS, ALIGN, BRANCH, CALL, CALL_PLT, DATA_FLAGS, HI20, JAL, LO12_I, LO12_S, LOCAL, NONE,
                             PCREL_HI20, PCREL_LO12_I, PCREL_LO12_S, PROGBITS, RELAX, RVC_BRANCH, RVC_JUMP, R_32, WEAK)
-from zcld_tools.instructions import (A0, A1, CALL_WORDS, EXIT_WORDS, NOP, RA, RET, S0, S1, SHORT_NOP, SP, T0, T1, T2, ZERO,
-                                     add, addi, auipc, branch, halves_of, jal, jalr, lui, lw, sw, words_of)
+from zcld_tools.instructions import (A0, A1, CALL_WORDS, EBREAK, EXIT_WORDS, NOP, RA, RET, S0, S1, SHORT_NOP, SP, T0, T1,
+                                     T2, ZERO, add, addi, auipc, branch, halves_of, jal, jalr, lui, lw, sw, words_of)
 from zcld_tools.objects import compressed_with, object_with
 
 # A branch of a0 against 0 and jumps, which lead nowhere yet.
@@ -193,8 +193,61 @@ def absent():
     return made
 
 
+# Programs by hand: what it is, the code in halfwords and words, a relocation of it, and the status. What they compute is worked
+# out by the manual. Where a relocation has a target, it is by the code's first byte.
+BY_HAND = (
+    ('c.li', '450d 05d00893 00000073', (), 3),
+    ('a loop with c.add and c.bnez', '4501 4595 952e 15fd fdf5 05d00893 00000073', (), 15),
+    ('c.jal and a function that keeps ra', '2029 05d00893 00000073 1141 c606 4515 40b2 0141 8082', (), 5),
+    ('c.lbu, c.not and c.zext.b', '001007b7 83e8 9d75 9d61 05d00893 00000073', (), 0x7B),
+    ('c.lw, c.sw and c.lbu', '001007b7 43cc c38c 83c8 05d00893 00000073', (), 6),
+    ('a branch of 4 bytes behind one of 2', '0001 00000463 0000 0000 450d 05d00893 00000073', (), 3),
+    ('hints', '450d 4015 0501 802e 0005 05d00893 00000073', (), 3),
+    ('a padding of 2 bytes', '450d 0001 05d00893 00000073', ((2, ALIGN, None, 2),), 3),
+    ('a padding of 6 bytes', '450d 0000 0000 0000 05d00893 00000073', ((2, ALIGN, None, 6),), 3),
+    ('c.j over a halfword', 'a001 0000 450d 05d00893 00000073', ((0, RVC_JUMP, 4, 0),), 3),
+    ('c.beqz over a halfword', '4501 c101 0000 450d 05d00893 00000073', ((2, RVC_BRANCH, 6, 0),), 3),
+    ('c.jalr to an address', '000007b7 00078793 9782 05d00893 00000073 450d 8082', ((0, HI20, 18, 0), (4, LO12_I, 18, 0)), 3))
+# What the programs by hand find at the start of data.
+HELD = bytes((1, 2, 3, 0x84, 5, 6, 7, 8))
+
+
+def bytes_of(digits):
+    """The bytes of halfwords and words in hexadecimal."""
+    return b''.join(int(it, 16).to_bytes(len(it) // 2, 'little') for it in digits.split())
+
+
+def by_hand():
+    """What it is, the files, and the status of the run."""
+    for what, code, relocs, status in BY_HAND:
+        made = with_relocs(bytes_of(code), *relocs)
+        made.section(b'.data', PROGBITS, DATA_FLAGS).content += HELD
+        yield what, [made.bytes()], status
+
+
+def calls():
+    """The same of a call of a function of another object, in 8 bytes and in 2. One of the objects is compressed, or both are. The
+    function isn't the first thing in its section."""
+    kinds = {CALL: ((), CALL_WORDS), RVC_JUMP: ((C_JAL,), ())}
+    for kind, is_short, is_called_short in ((CALL, True, False), (CALL, False, True), (RVC_JUMP, True, False),
+                                            (RVC_JUMP, True, True)):
+        first, text = compressed_with() if is_short else object_with()
+        halves, words = kinds[kind]
+        text.reloc(kind, first.symbol(b'function'), 0, words, halves)
+        after, called = (addi(A0, A0, 1), *EXIT_WORDS), (EBREAK, addi(A0, ZERO, 2), RET)
+        text.content += short_code(*after) if is_short else words_of(*after)
+        second, text = compressed_with(halves_of(SHORT_NOP)) if is_called_short else object_with()
+        text.content += short_code(*called) if is_called_short else words_of(*called)
+        function = second.symbols[0]
+        function.name, function.value = b'function', 4
+        yield (f'type {kind} from {"halfwords" if is_short else "words"} to {"halfwords" if is_called_short else "words"}',
+               [first.bytes(), second.bytes()], 3)
+
+
 def accepted():
     """What it is, the files, and the status of the run."""
+    yield from by_hand()
+    yield from calls()
     for name, reach in REACHES.items():
         yield f'{name} as far as it reaches', [over(reach, reach.on)[0].bytes()], STATUS
         yield f'{name} as far back as it reaches', [back_over(reach, reach.back)[0].bytes()], STATUS

@@ -8,10 +8,10 @@ from memory_maps import LAST_STACK, LAST_TEXT, ROOM, lies_in, made_map, map_at, 
 from plain_link import plain as plain_of
 from size_report import left_by_zc
 from symbolic_machine import trace as trace_of
-from zcld_tools.elf import DATA_FLAGS, HI20, LOCAL, NOBITS
+from zcld_tools.elf import DATA_FLAGS, HI20, LO12_I, LOCAL, NOBITS, PCREL_HI20, PCREL_LO12_I
 from zcld_tools.images import STANDARD
-from zcld_tools.instructions import (A0, A1, A2, A3, A7, ECALL, EXIT_WORDS, SP, T0, WRITE_CALL, ZERO, add, addi, lui, lw,
-                                     of_format_r, sw)
+from zcld_tools.instructions import (A0, A1, A2, A3, A7, ECALL, EXIT_WORDS, SP, T0, WRITE_CALL, ZERO, add, addi, auipc, lui,
+                                     lw, of_format_r, sw)
 from zcld_tools.objects import object_with
 
 from checks.c_programs import FOLDERS, STATUSES, input_of, objects_of, read
@@ -28,9 +28,13 @@ NO_MAPS = ({'--text': '0000A000'}, {'--data': '0020A000'}, {'--stack': '0FF00000
            {'--text': '08000000'}, {'--stack': '005ff000'}, {'--stack': '00100000'}, {'--data': '0fb01000'},
            {'--data': 'fffff000', '--stack': '004ff000'}, {'--data': 'ffb00000', '--stack': 'fffff000'},
            {'--text': 'fff10000', '--data': '00000000'}, {'--text': 'fff20000', '--data': '00010000'})
-# Maps at the ends of what a link may be made for.
+# Maps at the ends of what a link may be made for, and on both sides of 2 GiB, where 0x800 more round an upper part up.
 ENDS = (map_at(0x1000, 0xF1000, 0x5F1000), map_at(LAST_TEXT, LAST_STACK - ROOM, LAST_STACK), map_at(0x1000, 0xF1000, LAST_STACK),
-        map_at(0x80000000, 0x800F0000, 0x805F0000), map_at(0x7FF10000, 0x80000000, 0x80500000))
+        map_at(0x1000, LAST_STACK - ROOM, LAST_STACK), map_at(0x80000000, 0x800F0000, 0x805F0000),
+        map_at(0x7FF10000, 0x80000000, 0x80500000), map_at(0x7FF0F000, 0x7FFFF000, 0x804FF000),
+        map_at(0x7FFFF000, 0x800EF000, 0x805EF000))
+# How far behind the start of data the address is that `addresses` writes.
+BEHIND = 0x800
 # The map of a board with flash and RAM, as a word for each option.
 ELSEWHERE = ('--text', '08000000', '--data', '20000000', '--stack', '20600000')
 # That of a board with flash and RAM above 2 GiB, for which C programs are linked.
@@ -84,6 +88,22 @@ def stack_ends():
     return [made.bytes()]
 
 
+def addresses():
+    """An address in data is written as a sum with pc and as a number, and then where the stack ends."""
+    made, text = object_with(addi(SP, SP, -16))
+    data = made.section(b'.data', flags=DATA_FLAGS)
+    data.words(0, 0)
+    first = made.symbol(b'first', home=data, bind=LOCAL)
+    at = text.reloc(PCREL_HI20, first, BEHIND, (auipc(A1),))
+    text.reloc(PCREL_LO12_I, made.symbol(b'.Lhigh', home=text, value=at, bind=LOCAL), 0, (addi(A1, A1),))
+    text.words(sw(A1, SP, 4))
+    text.reloc(HI20, first, BEHIND, (lui(A0),))
+    text.reloc(LO12_I, first, BEHIND, (addi(A0, A0),))
+    text.words(sw(A0, SP), addi(A2, SP, 16), sw(A2, SP, 8), addi(A0, ZERO, 1), addi(A1, SP), addi(A2, ZERO, 12),
+               addi(A7, ZERO, WRITE_CALL), ECALL, *EXIT_WORDS)
+    return [made.bytes()]
+
+
 def hello_elsewhere(group):
     """a program linked for another map, whose bytes are known by hand, and its run in that map and in the standard one"""
     folder = group.folder()
@@ -102,10 +122,12 @@ def linked_elsewhere(group):
     rng = random.Random('maps')
     programs = (('hello', plain_examples.hello(), b''), ('jump table', plain_examples.jump_table(), b''),
                 ('echo', plain_examples.echo(), b'ab'), ('the linker\'s names', plain_examples.linker_names()[0], b''),
-                ('the stack', stack_ends(), b''))
+                ('the stack', stack_ends(), b''), ('addresses', addresses(), b''))
     for memory in ENDS:
         ends = struct.pack('<2I', memory.stack_high, memory.stack_low)
         group.same(f'the stack, {memory}: the model', trace_of(stack_ends(), b'', 100, memory)[:2], (ends, b''))
+        wanted = struct.pack('<3I', *[memory.data + BEHIND] * 2, memory.stack_high)
+        group.same(f'addresses, {memory}: the model', trace_of(addresses(), b'', 100, memory)[:2], (wanted, b''))
     for what, objects, given in programs:
         for memory in (*ENDS, *(made_map(rng) for _ in range(20))):
             in_map(group, what, objects, given, memory, rng)
