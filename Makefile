@@ -52,10 +52,7 @@ example: build/zcld
 	build/zcld trace $(EXAMPLE) < /dev/null; status=$$?; echo "status $$status"; test $$status -eq 3
 
 check:
-	$(RT) ci
-	python3 scripts/check_program crates/zcld/out/zcld
-	python3 scripts/check_documents
-	python3 scripts/count_definitions --check
+	.ci/run
 
 install: build/zcld
 	install -d $(DESTDIR)$(PREFIX)/bin
