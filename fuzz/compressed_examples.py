@@ -199,7 +199,7 @@ BY_HAND = (
     ('c.li', '450d 05d00893 00000073', (), 3),
     ('a loop with c.add and c.bnez', '4501 4595 952e 15fd fdf5 05d00893 00000073', (), 15),
     ('c.jal and a function that keeps ra', '2029 05d00893 00000073 1141 c606 4515 40b2 0141 8082', (), 5),
-    ('c.lbu, c.not and c.zext.b', '001007b7 83e8 9d75 9d61 05d00893 00000073', (), 0x7B),
+    ('c.lbu, c.not and c.zext.b', '001007b7 83e8 9d75 9d61 05d00893 00000073', (), 0x5B),
     ('c.lw, c.sw and c.lbu', '001007b7 43cc c38c 83c8 05d00893 00000073', (), 6),
     ('a branch of 4 bytes behind one of 2', '0001 00000463 0000 0000 450d 05d00893 00000073', (), 3),
     ('hints', '450d 4015 0501 802e 0005 05d00893 00000073', (), 3),
@@ -209,7 +209,7 @@ BY_HAND = (
     ('c.beqz over a halfword', '4501 c101 0000 450d 05d00893 00000073', ((2, RVC_BRANCH, 6, 0),), 3),
     ('c.jalr to an address', '000007b7 00078793 9782 05d00893 00000073 450d 8082', ((0, HI20, 18, 0), (4, LO12_I, 18, 0)), 3))
 # What the programs by hand find at the start of data.
-HELD = bytes((1, 2, 3, 0x84, 5, 6, 7, 8))
+HELD = bytes((1, 2, 3, 0xA4, 5, 6, 7, 8))
 
 
 def bytes_of(digits):
