@@ -52,7 +52,10 @@ example: build/zcld
 	build/zcld trace $(EXAMPLE) < /dev/null; status=$$?; echo "status $$status"; test $$status -eq 3
 
 check:
-	.ci/run
+	RT_JOBS=$$(scripts/gate_jobs) $(RT) ci
+	python3 scripts/check_program crates/zcld/out/zcld
+	python3 scripts/check_documents
+	python3 scripts/count_definitions --check
 
 install: build/zcld
 	install -d $(DESTDIR)$(PREFIX)/bin

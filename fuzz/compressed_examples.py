@@ -193,8 +193,8 @@ def absent():
     return made
 
 
-# Programs by hand: what it is, the code in halfwords and words, a relocation of it, and the status. What they compute is worked
-# out by the manual. Where a relocation has a target, it is by the code's first byte.
+# Programs by hand: what it is, the code in halfwords and words, its relocations, and the status, which is worked out by the
+# manual. A relocation has an offset, a type, the offset of the label that it names, if it names one, and an addend.
 BY_HAND = (
     ('c.li', '450d 05d00893 00000073', (), 3),
     ('a loop with c.add and c.bnez', '4501 4595 952e 15fd fdf5 05d00893 00000073', (), 15),
@@ -226,22 +226,19 @@ def by_hand():
 
 
 def calls():
-    """The same of a call of a function of another object, in 8 bytes and in 2. One of the objects is compressed, or both are. The
+    """The same of calls of a function of another object, in 8 bytes and by one jump. Each object is compressed or not, and the
     function isn't the first thing in its section."""
-    kinds = {CALL: ((), CALL_WORDS), RVC_JUMP: ((C_JAL,), ())}
-    for kind, is_short, is_called_short in ((CALL, True, False), (CALL, False, True), (RVC_JUMP, True, False),
-                                            (RVC_JUMP, True, True)):
-        first, text = compressed_with() if is_short else object_with()
-        halves, words = kinds[kind]
-        text.reloc(kind, first.symbol(b'function'), 0, words, halves)
-        after, called = (addi(A0, A0, 1), *EXIT_WORDS), (EBREAK, addi(A0, ZERO, 2), RET)
-        text.content += short_code(*after) if is_short else words_of(*after)
-        second, text = compressed_with(halves_of(SHORT_NOP)) if is_called_short else object_with()
-        text.content += short_code(*called) if is_called_short else words_of(*called)
-        function = second.symbols[0]
-        function.name, function.value = b'function', 4
-        yield (f'type {kind} from {"halfwords" if is_short else "words"} to {"halfwords" if is_called_short else "words"}',
-               [first.bytes(), second.bytes()], 3)
+    for is_far, *which in itertools.product((False, True), repeat=3):
+        first, second = (Part(name, is_short) for name, is_short in zip((b'_start', b'function'), which))
+        if is_far:
+            first.call(b'function')
+        else:
+            first.lead(JAL, CALL_OF_RA, first.made.symbol(b'function'))
+        first.add(addi(A0, A0, 1), *EXIT_WORDS)
+        second.add(EBREAK)
+        second.made.symbols[0].value = len(second.text.content)
+        second.add(addi(A0, ZERO, 2), RET)
+        yield f'{"a call" if is_far else "a jump"}, compressed {which}', [it.made.bytes() for it in (first, second)], 3
 
 
 def accepted():
