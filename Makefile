@@ -24,8 +24,8 @@ all: build/zcld
 build/zcld: $(SOURCES)
 	mkdir -p build
 	scripts/prove_libraries
-	cd crates/zcld && $(RT) run -- zc --out $(CURDIR)/build/exit3.elf --cert $(CURDIR)/build/exit3.cert $(EXAMPLE)
-	install -m 755 crates/zcld/out/zcld build/zcld
+	cd crates/zcld_program && $(RT) run -- zc --out $(CURDIR)/build/exit3.elf --cert $(CURDIR)/build/exit3.cert $(EXAMPLE)
+	install -m 755 crates/zcld_program/out/zcld_program build/zcld
 
 try:
 	scripts/try_unproved $(OBJECTS)
@@ -53,7 +53,7 @@ example: build/zcld
 
 check:
 	RT_JOBS=$$(scripts/gate_jobs) $(RT) ci
-	python3 scripts/check_program crates/zcld/out/zcld
+	python3 scripts/check_program crates/zcld_program/out/zcld_program
 	python3 scripts/check_documents
 	python3 scripts/count_definitions --check
 

@@ -17,7 +17,7 @@ from checks.made_files import LARGE, LARGE_LEFT, THREE, left_of, long_code, obje
 
 def stored_run(group):
     """the stored run, which writes no file"""
-    words, printed = (read(os.path.join(TOP, 'crates/zcld', name)) for name in ('args', 'stdout'))
+    words, printed = (read(os.path.join(TOP, 'crates/zcld_program', name)) for name in ('args', 'stdout'))
     folder = group.folder()
     group.same('what it must print', printed, SMALL)
     group.same('the stored run', folder.run(words.decode().split()), (0, SMALL, b''))

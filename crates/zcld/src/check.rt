@@ -56,6 +56,3 @@ fn accepted_net(alloc: Global, text: &[u8]) -> Result<u64, Outcome>
         Err(Outcome::BadFile(FileFault::Rejected))
     }
 }
-
-#[cfg(test)]
-mod tests;

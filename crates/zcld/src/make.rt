@@ -97,6 +97,3 @@ fn object_name(alloc: Global, prefix: &str, number: usize) -> Result<String, All
 {
     format!(in alloc; "{prefix}{number}.o")
 }
-
-#[cfg(test)]
-mod tests;

@@ -154,6 +154,3 @@ fn exit_status(code: u8) -> u8
 {
     if code < 118 { code } else { 118 }
 }
-
-#[cfg(test)]
-mod tests;

@@ -96,6 +96,3 @@ fn put_and_print<S: Store, C: Console>(
         Err(_) => Outcome::WriteFault,
     }
 }
-
-#[cfg(test)]
-mod tests;

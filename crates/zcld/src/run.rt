@@ -125,6 +125,3 @@ fn run_outcome(end: RunEnd, pc: u32) -> Outcome
         RunEnd::Console(ConsoleFault::OutOfMemory) => Outcome::OutOfMemory,
     }
 }
-
-#[cfg(test)]
-mod tests;

@@ -95,6 +95,3 @@ fn trace_outcome(end: TraceEnd) -> Outcome
         }
     }
 }
-
-#[cfg(test)]
-mod tests;

@@ -136,6 +136,3 @@ fn put_and_report<S: Store, C: Console>(
         Err(_) => Outcome::WriteFault,
     }
 }
-
-#[cfg(test)]
-mod tests;

@@ -1,7 +1,13 @@
 // Lines and statuses that the tests of commands don't have.
 
-use super::*;
-use crate::err_line::line_of;
+use elf32_read::image_fault::ImageFault;
+use interrupt_plan::fault::PlanFault;
+use pick_check::fault::CertFault;
+use sym_machine::why::Why;
+use zc_base::place::Place;
+use zc_machine::reason::Reason;
+use zcld::err_line::line_of;
+use zcld::outcome::{FileFault, Outcome, status};
 
 const PLACE: Place = Place {
     object: 1,

@@ -1,12 +1,12 @@
 // What the command `make` puts, writes and says.
 
-use crate::call::zcld;
 use crate::fixture::{SUMMARY, bytes_of, expect, words_of};
-use crate::outcome::status;
 use std::alloc::Global;
 use std::test::Fail;
 use zc_outside::mem_console::MemConsole;
 use zc_outside::mem_store::MemStore;
+use zcld::call::zcld;
+use zcld::outcome::status;
 
 // The status of a call over this store, and what it wrote to standard output.
 fn call(alloc: Global, words: &str, store: &mut MemStore) -> Result<(u8, Vec<u8>), Fail> {

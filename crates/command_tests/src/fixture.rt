@@ -4,8 +4,6 @@
 // The check proves each test, and pays there for each assertion and each row of a table. So rows are lines of a
 // text, files are hexadecimal digits, and what is asserted of a row stands here.
 
-use crate::call::zcld;
-use crate::outcome::status;
 use load_maker::make_objects::make_objects;
 use std::alloc::{AllocError, Global};
 use std::process::Abort;
@@ -13,6 +11,8 @@ use std::test::Fail;
 use zc_outside::console::Console;
 use zc_outside::mem_console::MemConsole;
 use zc_outside::mem_store::MemStore;
+use zcld::call::zcld;
+use zcld::outcome::status;
 
 // `li a0,3`, `li a7,93` and `ecall` in `.text` at 52, symbols at 64, their names at 96, the names of the
 // sections at 104, and five section headers at 140.

@@ -1,29 +1,12 @@
-//! Links RV32IM objects into an executable, as they are or made smaller with 16-bit instructions, and runs
-//! objects and executables.
+//! The program: it hands the words of the command line, the files of the system and its streams to the top call, and ends with
+//! the status that this gives.
 #![tactic(auto)]
 
-pub mod call;
-pub mod check;
-pub mod err_line;
-#[cfg(test)]
-mod fixture;
-pub mod input;
-pub mod limits;
-pub mod make;
-pub mod objects;
-pub mod outcome;
-pub mod plain;
-pub mod print;
-pub mod program;
-pub mod run;
-pub mod trace;
-pub mod zc;
-
-use program::{end, words};
 use std::alloc::Global;
 use std::process::ExitCode;
 use zc_outside::disk_store::DiskStore;
 use zc_outside::std_console::StdConsole;
+use zcld::program::{end, words};
 
 // More bytes than any list or table has that a call makes of the most objects that it accepts.
 const LARGE: usize = 16 << 20;

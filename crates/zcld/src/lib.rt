@@ -1,0 +1,18 @@
+//! Links RV32IM objects into an executable, as they are or made smaller with 16-bit instructions, and runs
+//! objects and executables.
+#![tactic(auto)]
+
+pub mod call;
+pub mod check;
+pub mod err_line;
+pub mod input;
+pub mod limits;
+pub mod make;
+pub mod objects;
+pub mod outcome;
+pub mod plain;
+pub mod print;
+pub mod program;
+pub mod run;
+pub mod trace;
+pub mod zc;
