@@ -296,44 +296,63 @@ fn zeros(alloc: Global, special: &str, letter: &str) -> Result<Vec<u8>, Fail> {
     Ok(vec![in alloc; 0; count as usize]?)
 }
 
-// The files of a call: `x` and `z` are the object, `image` is its image, `short`, `blank` and `floats` are those with
-// flags, `short.elf` is the image of the first of these, `start` and `main` are the two objects that write, `hello.elf`
-// and `elsewhere.elf` are their images, `echo` and `echo.elf` are the program that reads, `load.elf` is the image that
-// loads, `bad` is no ELF file, and `zeros` has as many zeros as `f` says; and the plans and certificates. The calls that
-// `s` numbers fail.
-fn store_of(alloc: Global, special: &str) -> Result<MemStore, Fail> {
-    let mut store = MemStore::new(alloc, numbers(alloc, special, "s")?.as_slice())?;
-    let files = [
-        ("x", OBJECT),
-        ("z", OBJECT),
-        ("short", SHORT),
-        ("blank", BLANK),
-        ("floats", FLOATS),
-        ("image", IMAGE),
-        ("short.elf", SHORT_IMAGE),
-        ("start", START),
-        ("main", MAIN),
-        ("hello.elf", HELLO_IMAGE),
-        ("elsewhere.elf", HELLO_IMAGE_ELSEWHERE),
-        ("echo", ECHO),
-        ("echo.elf", ECHO_IMAGE),
-        ("load.elf", LOAD_IMAGE),
-        ("bad", "00"),
-    ];
-    for (name, digits) in files {
-        store.add(name, bytes_of(alloc, digits)?.as_slice())?;
+// The files of a call that are no texts: `x` and `z` are the object, `image` is its image, `short`, `blank` and `floats` are
+// those with flags, `short.elf` is the image of the first of these, `start` and `main` are the two objects that write,
+// `hello.elf` and `elsewhere.elf` are their images, `echo` and `echo.elf` are the program that reads, `load.elf` is the image
+// that loads, and `bad` is no ELF file.
+const FILES: [(&str, &str); 15] = [
+    ("x", OBJECT),
+    ("z", OBJECT),
+    ("short", SHORT),
+    ("blank", BLANK),
+    ("floats", FLOATS),
+    ("image", IMAGE),
+    ("short.elf", SHORT_IMAGE),
+    ("start", START),
+    ("main", MAIN),
+    ("hello.elf", HELLO_IMAGE),
+    ("elsewhere.elf", HELLO_IMAGE_ELSEWHERE),
+    ("echo", ECHO),
+    ("echo.elf", ECHO_IMAGE),
+    ("load.elf", LOAD_IMAGE),
+    ("bad", "00"),
+];
+
+fn add_files(alloc: Global, store: &mut MemStore) -> Result<(), Fail> {
+    for (name, digits) in FILES {
+        let bytes = bytes_of(alloc, digits)?;
+        store.add(name, bytes.as_slice())?;
     }
-    for (name, text) in PLANS {
+    Ok(())
+}
+
+fn add_texts(texts: &[(&str, &str)], store: &mut MemStore) -> Result<(), Fail> {
+    for (name, text) in texts {
         store.add(name, text.as_bytes())?;
     }
-    for (name, text) in CERTIFICATES {
-        store.add(name, text.as_bytes())?;
-    }
+    Ok(())
+}
+
+// The certificates with the table.
+fn add_tables(alloc: Global, store: &mut MemStore) -> Result<(), Fail> {
     for (name, end) in PRICES {
         let text = format!(in alloc; "{CALLS}{end}")?;
         store.add(name, text.as_bytes())?;
     }
-    store.add("zeros", zeros(alloc, special, "f")?.as_slice())?;
+    Ok(())
+}
+
+// The files of a call, with the plans and certificates, and `zeros` with as many zeros as `f` says. The calls that `s`
+// numbers fail.
+fn store_of(alloc: Global, special: &str) -> Result<MemStore, Fail> {
+    let fails = numbers(alloc, special, "s")?;
+    let zeros = zeros(alloc, special, "f")?;
+    let mut store = MemStore::new(alloc, fails.as_slice())?;
+    add_files(alloc, &mut store)?;
+    add_texts(&PLANS, &mut store)?;
+    add_texts(&CERTIFICATES, &mut store)?;
+    add_tables(alloc, &mut store)?;
+    store.add("zeros", zeros.as_slice())?;
     Ok(store)
 }
 
@@ -349,8 +368,8 @@ fn console_of(alloc: Global, special: &str) -> Result<MemConsole, Fail> {
     Ok(MemConsole::new(alloc, input, fails.as_slice())?)
 }
 
-/// The words of a call, with one space between two.
-pub fn words_of(alloc: Global, text: &str) -> Result<Vec<String>, AllocError> {
+// The words of a call, with one space between two.
+fn words_of(alloc: Global, text: &str) -> Result<Vec<String>, AllocError> {
     let mut words = Vec::new(alloc);
     for word in text.split(' ') {
         words.push(String::from_str(alloc, word)?)?;
@@ -421,20 +440,36 @@ fn named(text: &str) -> &str {
     }
 }
 
+/// The status of the call that words spell, with one space between two.
+pub fn status_of(
+    alloc: Global,
+    words: &str,
+    store: &mut MemStore,
+    console: &mut MemConsole,
+) -> Result<u8, Fail> {
+    let words = words_of(alloc, words)?;
+    let outcome = zcld(alloc, words.as_slice(), store, console);
+    Ok(status(&outcome))
+}
+
+// What was written to standard output, by its name if it has one, and to standard error.
+fn written(alloc: Global, console: &MemConsole) -> Result<String, Fail> {
+    let out = named(str::from_utf8(console.out_bytes())?);
+    let err = str::from_utf8(console.err_bytes())?;
+    Ok(format!(in alloc; "{out:?} {err:?}")?)
+}
+
 // What a call leaves: whether the files that it may put stand, its status, how many bytes of the input, of at most
 // eight, and what it wrote to standard output, by its name if it has one, and to standard error.
 fn left_by(alloc: Global, call: &str) -> Result<String, Fail> {
     let (words, special) = call.split_once(" with ").unwrap_or((call, ""));
     let mut store = store_of(alloc, special)?;
     let mut console = console_of(alloc, special)?;
-    let words = words_of(alloc, words)?;
-    let outcome = zcld(alloc, words.as_slice(), &mut store, &mut console);
-    let input = console.take(&mut [0; 8])?;
+    let status = status_of(alloc, words, &mut store, &mut console)?;
     let (first, second) = marks(alloc, call, &store)?;
-    let status = status(&outcome);
-    let out = named(str::from_utf8(console.out_bytes())?);
-    let err = str::from_utf8(console.err_bytes())?;
-    Ok(format!(in alloc; "{first}{second} {status} {input} {out:?} {err:?}")?)
+    let input = console.take(&mut [0; 8])?;
+    let written = written(alloc, &console)?;
+    Ok(format!(in alloc; "{first}{second} {status} {input} {written}")?)
 }
 
 /// Makes the call of each line, which should leave what stands after its arrow, as `left_by` says it. What is special
