@@ -1,18 +1,18 @@
 // The generated objects, as what they are made of.
 
-ghost use Rattle.std.specs.Prelude.{◌≡◌, ◌^◌, ◌<◌, ◌≤◌, ◌+◌, All, length, IfOk};
+ghost use Rattle.std.specs.Prelude.{◌≡◌, ◌^◌, ◌<◌, ◌≤◌, ◌+◌, [], ◌∷◌, All, length, map, IfOk};
 ghost use Rattle.std.specs.List.{flat_map, range_with_len};
-ghost use Rattle.load_maker.specs.Objects.{function_object, start_object, start_statements};
-ghost use Rattle.load_maker.specs.Statements.{IsInRange, code_size};
+ghost use Rattle.load_maker.specs.Objects.{function_object, result_section, result_symbol, start_object, start_statements, start_symbol, text_section_of, undefined_symbol};
+ghost use Rattle.load_maker.specs.Statements.{IsInRange, code_size, named_by};
 ghost use Rattle.load_maker.specs.declared.make_objects.TheConstants.{FUNCTION_LIMIT};
 
 use crate::body::Body;
 use crate::functions::push_all;
 use crate::instrs::{addi, immediate, lui, sw};
 use crate::register::Register::{A0, A1, A2, A7, Temp1, Zero};
-use crate::sections::{result_section, text_section};
+use crate::sections::{code_sections, push_result};
 use crate::statement::{HI20, LO12_I, LO12_S, Statement};
-use crate::symbols::{object_symbols, push_undefined, result_symbol, start_symbol};
+use crate::symbols::{object_symbols, start_symbols};
 use elf32_write::object_parts::ObjectParts;
 use indexmap::IndexSet;
 use rv_decode::instr::Instr;
@@ -53,6 +53,32 @@ fn start_statements(
     Ok(statements)
 }
 
+// The first object, of its statements. The functions that it calls are added to those that are named.
+fn start_parts(
+    alloc: Global,
+    named: &mut IndexSet<u32>,
+    statements: &[Statement],
+) -> Result<ObjectParts, AllocError>
+    requires range { All IsInRange statements.now }
+    requires size { code_size statements.now < 2 ^ 31 }
+    requires none { named.old.keys ≡ [] }
+    ensures { let named = named_by [] statements.now in
+        IfOk result (λ parts. parts ≡ record {
+          flags = 0;
+          sections = text_section_of 2 named statements.now ∷ result_section ∷ [];
+          symbols = result_symbol ∷ start_symbol ∷ map undefined_symbol named;
+        }) }
+{
+    let mut sections = code_sections(alloc, 2, named, statements)?;
+    push_result(alloc, &mut sections)?;
+    let symbols = start_symbols(alloc, named.as_slice())?;
+    Ok(ObjectParts {
+        flags: 0,
+        sections,
+        symbols,
+    })
+}
+
 /// The first object.
 pub fn start_object(alloc: Global, number: u64, functions: u32) -> Result<ObjectParts, AllocError>
     requires { functions ≤ FUNCTION_LIMIT }
@@ -60,18 +86,7 @@ pub fn start_object(alloc: Global, number: u64, functions: u32) -> Result<Object
 {
     let statements = start_statements(alloc, number, functions)?;
     let mut named = IndexSet::new(alloc);
-    let mut sections = Vec::new(alloc);
-    sections.push(text_section(alloc, 2, &mut named, &statements)?)?;
-    sections.push(result_section(alloc)?)?;
-    let mut symbols = Vec::new(alloc);
-    symbols.push(result_symbol(alloc)?)?;
-    symbols.push(start_symbol(alloc)?)?;
-    push_undefined(alloc, &mut symbols, named.as_slice())?;
-    Ok(ObjectParts {
-        flags: 0,
-        sections,
-        symbols,
-    })
+    start_parts(alloc, &mut named, &statements)
 }
 
 // The statements of functions, one after another.
@@ -97,6 +112,30 @@ fn numbers_from(alloc: Global, first: u32, count: u32) -> Result<IndexSet<u32>, 
     Ok(numbers)
 }
 
+// An object of functions, of their statements. The functions that these call are added to those that are named.
+fn function_parts(
+    alloc: Global,
+    first: u32,
+    bodies: &[Body],
+    named: &mut IndexSet<u32>,
+    statements: &[Statement],
+) -> Result<ObjectParts, AllocError>
+    requires number { first + length bodies.now < 2 ^ 31 }
+    requires code { statements.now ≡ flat_map (λ body. body) bodies.now }
+    requires size { code_size statements.now < 2 ^ 31 }
+    requires range { All IsInRange statements.now }
+    requires own { named.old.keys ≡ range_with_len first (length bodies.now) }
+    ensures { IfOk result (λ parts. parts ≡ function_object first bodies.now) }
+{
+    let sections = code_sections(alloc, 0, named, statements)?;
+    let symbols = object_symbols(alloc, first, bodies, named.as_slice())?;
+    Ok(ObjectParts {
+        flags: 0,
+        sections,
+        symbols,
+    })
+}
+
 /// An object of functions, from a number on.
 pub fn function_object(
     alloc: Global,
@@ -110,12 +149,5 @@ pub fn function_object(
 {
     let statements = all_statements(alloc, bodies)?;
     let mut named = numbers_from(alloc, first, bodies.len() as u32)?;
-    let mut sections = Vec::new(alloc);
-    sections.push(text_section(alloc, 0, &mut named, &statements)?)?;
-    let symbols = object_symbols(alloc, first, bodies, named.as_slice())?;
-    Ok(ObjectParts {
-        flags: 0,
-        sections,
-        symbols,
-    })
+    function_parts(alloc, first, bodies, &mut named, &statements)
 }

@@ -1,6 +1,6 @@
 // Sections of the generated objects.
 
-ghost use Rattle.std.specs.Prelude.{◌≡◌, ◌<◌, ◌^◌, ◌+◌, ◌++◌, All, IfOk, OnOk, length, map};
+ghost use Rattle.std.specs.Prelude.{◌≡◌, ◌<◌, ◌^◌, ◌+◌, [], ◌∷◌, ◌++◌, All, IfOk, OnOk, length, map};
 ghost use Rattle.zc_base.specs.Fields.{word_bytes};
 ghost use Rattle.rv_decode.specs.Immediates.{InRange};
 ghost use Rattle.rv_encode.specs.Words.{encoded};
@@ -99,9 +99,9 @@ fn relocs_of(
     Ok(relocs)
 }
 
-/// The section of code. The functions that it calls are added to those that are named; their symbols stand after so
-/// many others.
-pub fn text_section(
+// The section of code. The functions that it calls are added to those that are named; their symbols stand after so
+// many others.
+fn text_section(
     alloc: Global,
     others: u32,
     named: &mut IndexSet<u32>,
@@ -128,8 +128,28 @@ pub fn text_section(
     })
 }
 
-/// Room for `result`.
-pub fn result_section(alloc: Global) -> Result<PartSection, AllocError>
+/// The section of code, as all sections of an object. The functions that it calls are added to those that are named;
+/// their symbols stand after so many others.
+pub fn code_sections(
+    alloc: Global,
+    others: u32,
+    named: &mut IndexSet<u32>,
+    statements: &[Statement],
+) -> Result<Vec<PartSection>, AllocError>
+    requires range { All IsInRange statements.now }
+    requires size { code_size statements.now < 2 ^ 32 }
+    requires symbols { 1 + others + length named.old.keys + length statements.now < 2 ^ 32 }
+    ensures named { OnOk result (named.new.keys ≡ named_by named.old.keys statements.now) }
+    ensures sections { let named = named_by named.old.keys statements.now in
+        IfOk result (λ sections. sections.items ≡ text_section_of others named statements.now ∷ []) }
+{
+    let mut sections = Vec::new(alloc);
+    sections.push(text_section(alloc, others, named, statements)?)?;
+    Ok(sections)
+}
+
+// Room for `result`.
+fn result_section(alloc: Global) -> Result<PartSection, AllocError>
     ensures { IfOk result (λ section. section ≡ result_section) }
 {
     let name = Vec::from_slice(alloc, b".bss")?;
@@ -142,4 +162,12 @@ pub fn result_section(alloc: Global) -> Result<PartSection, AllocError>
         bytes: Vec::new(alloc),
         relocs: Vec::new(alloc),
     })
+}
+
+/// Appends the section of `result`.
+pub fn push_result(alloc: Global, sections: &mut Vec<PartSection>) -> Result<(), AllocError>
+    ensures { OnOk result (sections.new.items ≡ sections.old.items ++ result_section ∷ []) }
+{
+    sections.push(result_section(alloc)?)?;
+    Ok(())
 }

@@ -1,6 +1,6 @@
 // Symbols of the generated objects.
 
-ghost use Rattle.std.specs.Prelude.{◌≡◌, ◌<◌, ◌≤◌, ◌^◌, ◌+◌, ◌++◌, drop, length, map, IfOk, OnOk};
+ghost use Rattle.std.specs.Prelude.{◌≡◌, ◌<◌, ◌≤◌, ◌^◌, ◌+◌, [], ◌∷◌, ◌++◌, drop, length, map, IfOk, OnOk};
 ghost use Rattle.std.specs.List.{flat_map};
 ghost use Rattle.load_maker.specs.Objects.{function_name, function_symbols, result_symbol, start_symbol, undefined_symbol};
 ghost use Rattle.load_maker.specs.Statements.{code_size};
@@ -32,8 +32,8 @@ fn function_name(alloc: Global, i: u32) -> Result<Vec<u8>, AllocError>
     Ok(name)
 }
 
-/// The word that the program writes.
-pub fn result_symbol(alloc: Global) -> Result<PartSymbol, AllocError>
+// The word that the program writes.
+fn result_symbol(alloc: Global) -> Result<PartSymbol, AllocError>
     ensures { IfOk result (λ symbol. symbol ≡ result_symbol) }
 {
     let name = Vec::from_slice(alloc, b"result")?;
@@ -47,8 +47,8 @@ pub fn result_symbol(alloc: Global) -> Result<PartSymbol, AllocError>
     })
 }
 
-/// Where the program starts.
-pub fn start_symbol(alloc: Global) -> Result<PartSymbol, AllocError>
+// Where the program starts.
+fn start_symbol(alloc: Global) -> Result<PartSymbol, AllocError>
     ensures { IfOk result (λ symbol. symbol ≡ start_symbol) }
 {
     let name = Vec::from_slice(alloc, b"_start")?;
@@ -121,8 +121,8 @@ fn undefined_symbol(alloc: Global, i: u32) -> Result<PartSymbol, AllocError>
     })
 }
 
-/// Appends the symbols of functions that other objects define.
-pub fn push_undefined(
+// Appends the symbols of functions that other objects define.
+fn push_undefined(
     alloc: Global,
     symbols: &mut Vec<PartSymbol>,
     functions: &[u32],
@@ -133,6 +133,25 @@ pub fn push_undefined(
         symbols.push(undefined_symbol(alloc, *i)?)?;
     }
     Ok(())
+}
+
+// The first symbols of the first object.
+fn own_symbols(alloc: Global) -> Result<Vec<PartSymbol>, AllocError>
+    ensures { IfOk result (λ symbols. symbols.items ≡ result_symbol ∷ start_symbol ∷ []) }
+{
+    let mut symbols = Vec::new(alloc);
+    symbols.push(result_symbol(alloc)?)?;
+    symbols.push(start_symbol(alloc)?)?;
+    Ok(symbols)
+}
+
+/// The symbols of the first object: its own, and then those of the functions that it names.
+pub fn start_symbols(alloc: Global, named: &[u32]) -> Result<Vec<PartSymbol>, AllocError>
+    ensures { IfOk result (λ symbols. symbols.items ≡ result_symbol ∷ start_symbol ∷ map undefined_symbol named.now) }
+{
+    let mut symbols = own_symbols(alloc)?;
+    push_undefined(alloc, &mut symbols, named)?;
+    Ok(symbols)
 }
 
 /// The symbols of an object of functions, from a number on: its own, and then those of the others that it names.
