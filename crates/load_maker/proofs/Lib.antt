@@ -9,5 +9,6 @@ pub mod OperationLaws
 pub mod RelocLaws
 pub mod StartLaws
 pub mod SymbolLaws
+pub mod TurnLaws
 pub mod WritableLaws
 pub mod WrittenLaws
