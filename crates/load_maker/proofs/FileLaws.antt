@@ -1,9 +1,9 @@
 -- The loop that writes the objects' files: each turn adds the file of the next group of functions, and after the last group
 -- the files are those of `made_objects`.
-use Rattle.std.proofs.Common.{◌≡◌, ℕ, ◌+◌, ◌-◌, ◌*◌, List, [], ◌∷◌, ◌++◌, length, map, min, take, drop, Vec, sym, ap, ◌∙◌, arith}
+use Rattle.std.proofs.Common.{◌≡◌, ℕ, ◌+◌, ◌-◌, ◌*◌, ◌≤◌, List, [], ◌∷◌, ◌++◌, length, map, min, take, drop, Vec, sym, ap, ◌∙◌, arith}
 use Rattle.std.specs.List.{range_with_len}
 use Rattle.std.specs.declared.alloc.Global.{Global}
-use Rattle.std.proofs.lemmas.List.{length-drop, map_push, take_min}
+use Rattle.std.proofs.lemmas.List.{length-drop, length-take, map_push, take_min}
 use Rattle.std.proofs.lemmas.List.FromFn.{map-range_with_len_more}
 use Rattle.elf32_write.specs.ObjectFile.{object_bytes}
 use Rattle.psabi_sym.specs.Objects.{contents_of}
@@ -17,6 +17,9 @@ group_slice bodies k first end one two =
     let rest = drop (8 * k) bodies in
     let few : end - first ≡ min 8 (length rest) = omega (arith, one, two, length-drop (8 * k) bodies) in
     ap (λ n. take n (drop first bodies)) few ∙ ap (λ n. take (min 8 (length rest)) (drop n bodies)) one ∙ take_min 8 rest
+
+pub group_few : (bodies : List (List Statement)) (k : ℕ) → length (group bodies k) ≤ 8
+group_few bodies k = omega (arith, length-take 8 (drop (8 * k) bodies))
 
 abbrev pub group_file : ℕ → ℕ → ℕ → List ℕ
 group_file number n k = object_bytes (group_object (functions_from n 0 number) k)

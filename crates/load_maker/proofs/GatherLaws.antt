@@ -1,7 +1,7 @@
 -- Relocations as they are gathered, statement by statement: those so far, and then those of the rest, are all.
-use Rattle.std.proofs.Common.{◌≡◌, ℕ, pos, ◌+◌, ◌<◌, ◌≤◌, List, [], ◌∷◌, ◌++◌, length, map, drop, get_or, refl, sym, ap, subst, ◌∙◌, arith, eqb, append_assoc}
+use Rattle.std.proofs.Common.{◌≡◌, ℕ, pos, ◌+◌, ◌<◌, ◌≤◌, List, [], ◌∷◌, ◌++◌, length, map, drop, get_or, refl, sym, ap, subst, ◌∙◌, arith, eqb, append-nil, append_assoc}
 use Rattle.std.specs.List.{position_or_len}
-use Rattle.std.proofs.lemmas.List.{drop_more}
+use Rattle.std.proofs.lemmas.List.{drop_all, drop_more, length-drop}
 use Rattle.std.proofs.lemmas.List.Sums.{sum_by-cons}
 use Rattle.elf32_read.specs.declared.reloc.Reloc.{Reloc}
 use Rattle.rv_decode.specs.declared.instr.Instr.{Instr}
@@ -31,6 +31,21 @@ module _ (others : ℕ) (first : List ℕ) (statements : List Statement) where
   moved names named more relocs next at rest a b d gathers =
       subst (λ x. Gathers x relocs at rest) (sym a) (subst (λ x. Gathers names x at rest) (sym b) (subst (λ x. Gathers names more x rest) (sym d) gathers))
 
+  -- at the start none are gathered
+  pub gathers_none : (relocs : List Reloc) → relocs ≡ [] → Gathers first relocs 0 statements
+  gathers_none relocs none = record { names = refl; are = ap (λ l. l ++ all_relocs 0 statements) none; size = omega arith; few = omega arith }
+
+  -- and at the end all are
+  module _ (named : List ℕ) (relocs : List Reloc) (at k : ℕ) (le : length statements ≤ k) (gathers : Gathers named relocs at (drop k statements)) where
+    all : Gathers named relocs at []
+    all = subst (Gathers named relocs at) (drop_all k statements le) gathers
+
+    pub named_end : named ≡ all_named
+    named_end = all.names
+
+    pub relocs_end : relocs ≡ all_relocs 0 statements
+    relocs_end = sym (append-nil relocs) ∙ all.are
+
   module _ (named : List ℕ) (relocs : List Reloc) (at k : ℕ) (s : Statement) (lt : k < length statements) (is : s ≡ get_or statements k s) (gathers : Gathers named relocs at (drop k statements)) where
     abbrev rest : List Statement
     rest = drop (k + 1) statements
@@ -38,6 +53,16 @@ module _ (others : ℕ) (first : List ℕ) (statements : List Statement) where
     -- the statement at a place is the next one
     next : (t : Statement) → s ≡ t → Gathers named relocs at (t ∷ rest)
     next t same = subst (Gathers named relocs at) (drop_more statements k s lt ∙ ap (λ u. u ∷ rest) (sym is ∙ same)) gathers
+
+    -- its end lies within the code
+    pub stays_within : at + size_of s ≤ code_size statements
+    stays_within =
+        let now = next s refl in
+        omega (arith, now.size, sum_by-cons size_of s rest)
+
+    -- there are still fewer functions than there may be
+    pub few_so_far : length named < length first + length statements
+    few_so_far = omega (arith, lt, gathers.few, length-drop k statements)
 
     pub plain_step : (i : Instr) → s ≡ Plain i → Gathers named relocs (at + 4) rest
     plain_step i same =

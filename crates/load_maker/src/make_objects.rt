@@ -1,10 +1,14 @@
 // A large valid input.
 
-ghost use Rattle.std.specs.Prelude.{◌≡◌, ◌*◌, ◌^◌, ◌<◌, ◌≤◌, length, None, Err, IfOk};
+ghost use Rattle.std.specs.Prelude.{◌≡◌, ◌*◌, ◌^◌, ◌<◌, ◌≤◌, All, length, None, Err, IfOk};
+ghost use Rattle.std.specs.List.{flat_map};
 ghost use Rattle.zc_base.specs.MemMap.{standard_map};
+ghost use Rattle.elf32_write.specs.ObjectFile.{object_bytes};
+ghost use Rattle.elf32_write.specs.Writable.{IsWritable};
 ghost use Rattle.psabi_sym.specs.Objects.{contents_of};
 ghost use Rattle.block_cut.specs.Faults.{first_fault};
-ghost use Rattle.load_maker.specs.Objects.{group, made_objects};
+ghost use Rattle.load_maker.specs.Objects.{group, group_object, made_objects, start_object};
+ghost use Rattle.load_maker.specs.Statements.{IsInRange, code_size};
 ghost use Rattle.load_maker.specs.declared.fault.MakeFault.TheVariants.{TooMany};
 ghost use Rattle.load_maker.specs.declared.make_objects.TheConstants.{FUNCTION_LIMIT};
 
@@ -33,6 +37,28 @@ fn group_of(bodies: &[Body], k: u32) -> &[Body]
     &bodies[first..end]
 }
 
+// The file of the first object.
+fn start_file(alloc: Global, number: u64, functions: u32) -> Result<Vec<u8>, AllocError>
+    requires { functions ≤ FUNCTION_LIMIT }
+    ensures { IfOk result (λ file. file.items ≡ object_bytes (start_object number functions)) }
+{
+    let parts = start_object(alloc, number, functions)?;
+    write_object(alloc, &parts)
+}
+
+// The file of an object of functions.
+fn file_of(alloc: Global, bodies: &[Body], k: u32) -> Result<Vec<u8>, AllocError>
+    requires small { k < 2 ^ 20 }
+    requires within { 8 * k ≤ length bodies.now }
+    requires size { code_size (flat_map (λ body. body) (group bodies.now k)) < 2 ^ 31 }
+    requires range { All IsInRange (flat_map (λ body. body) (group bodies.now k)) }
+    requires writable { IsWritable (group_object bodies.now k) }
+    ensures { IfOk result (λ file. file.items ≡ object_bytes (group_object bodies.now k)) }
+{
+    let parts = function_object(alloc, IN_ONE_OBJECT * k, group_of(bodies, k))?;
+    write_object(alloc, &parts)
+}
+
 // The files of the objects.
 fn files(alloc: Global, number: u64, functions: u32) -> Result<Vec<Vec<u8>>, AllocError>
     requires { functions ≤ FUNCTION_LIMIT }
@@ -40,10 +66,9 @@ fn files(alloc: Global, number: u64, functions: u32) -> Result<Vec<Vec<u8>>, All
 {
     let bodies = make_functions(alloc, number, functions)?;
     let mut files = Vec::new(alloc);
-    files.push(write_object(alloc, &start_object(alloc, number, functions)?)?)?;
+    files.push(start_file(alloc, number, functions)?)?;
     for k in 0..functions.div_ceil(IN_ONE_OBJECT) {
-        let parts = function_object(alloc, IN_ONE_OBJECT * k, group_of(&bodies, k))?;
-        files.push(write_object(alloc, &parts)?)?;
+        files.push(file_of(alloc, &bodies, k)?)?;
     }
     Ok(files)
 }
