@@ -2,6 +2,7 @@ pub mod BodyLaws
 pub mod CodeLaws
 pub mod FaultlessLaws
 pub mod FileLaws
+pub mod FirstLaws
 pub mod GatherLaws
 pub mod MadeLaws
 pub mod NamedLaws

@@ -1,3 +1,4 @@
+pub mod First
 pub mod Functions
 pub mod Instructions
 pub mod Objects

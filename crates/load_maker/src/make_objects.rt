@@ -43,7 +43,8 @@ fn start_file(alloc: Global, number: u64, functions: u32) -> Result<Vec<u8>, All
     ensures { IfOk result (λ file. file.items ≡ object_bytes (start_object number functions)) }
 {
     let parts = start_object(alloc, number, functions)?;
-    write_object(alloc, &parts)
+    let file = write_object(alloc, &parts)?;
+    Ok(file)
 }
 
 // The file of an object of functions.

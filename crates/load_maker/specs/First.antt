@@ -1,0 +1,7 @@
+-- An object that is the first one, in one word: what it says is long, so it stays folded.
+use Rattle.std.specs.Prelude.{◌≡◌, ℕ}
+use Rattle.elf32_read.specs.Parts.{ObjectParts}
+use Rattle.load_maker.specs.Objects.{start_object}
+
+unfoldable pub IsFirst : ℕ → ℕ → ObjectParts → Type 0
+IsFirst number functions parts = parts ≡ start_object number functions
