@@ -14,7 +14,7 @@ use Rattle.sym_machine.specs.declared.page.Page.{Page}
 use Rattle.sym_machine.specs.declared.page.Page.TheVariants.{Numbers, Cells}
 use Rattle.sym_machine.specs.declared.word.SymByte.{SymByte}
 use Rattle.sym_machine.specs.declared.word.SymByte.TheVariants.{Num, Undef}
-use Rattle.sym_machine.specs.Pages.{AreBytesWritten, AreCellsWritten, IsInPool, IsMade, IsPooled, IsSame, Pooled, cells_of_pages, cells_wanted, number_in_pool, numbers_wanted, page_cell, page_of, pooled_cell}
+use Rattle.sym_machine.specs.Pages.{AreBytesWritten, AreCellsWritten, IsInPool, IsMade, IsPooled, IsSame, Pooled, bytes_in, cells_of_pages, cells_wanted, number_in_pool, numbers_wanted, page_cell, page_of, pooled_cell, pooled_word, word_in}
 use Rattle.sym_machine.proofs.WrittenLaws.{written_moved, written_numbers, written_there}
 
 -- ---- what is read
@@ -33,6 +33,45 @@ module _ (p : Pooled) (size : ℕ) where
 
     pub cell_seen : (i : ℕ) (d : SymByte) → i < length seen → pooled_cell p i ≡ get_or seen i d
     cell_seen i d lt = sym (get_or-cells i d (omega (arith, size_seen, lt))) ∙ ap (λ l. get_or l i d) is
+
+-- what lies in the page of an index, once that page is read
+module _ {q : Pooled} (p : Pooled) (view : q ≡ p) (i : ℕ) (within : i < 4096 * length p.pages) (page read : Page) (there : read ≡ get_or q.pages (i / 4096) read) (is : read ≡ page) where
+  page_read : page_of p (i / 4096) ≡ page
+  page_read =
+      sym (ap (λ (q : Pooled). page_of q (i / 4096)) view) ∙ get_or_default q.pages (i / 4096) (Cells 0) read (omega (arith, within, ap (λ (q : Pooled). length q.pages) view)) ∙ sym there ∙ is
+
+  -- the page lies in its pool
+  pub page_inside : IsPooled p → IsInPool q page
+  page_inside pooled = subst (λ (q : Pooled). IsInPool q page) (sym view) (subst (IsInPool p) page_read (pooled.inside (i / 4096)))
+
+  -- a cell of the page
+  pub cell_read : (j : ℕ) → j / 4096 ≡ i / 4096 → page_cell q page (j % 4096) ≡ pooled_cell p j
+  cell_read j same = ap (λ (q : Pooled). page_cell q page (j % 4096)) view ∙ ap (λ g. page_cell p g (j % 4096)) (sym page_read ∙ ap (page_of p) (sym same))
+
+module _ {q : Pooled} (p : Pooled) (view : q ≡ p) (i : ℕ) (within : i < 4096 * length p.pages) (n : ℕ) (read : Page) (there : read ≡ get_or q.pages (i / 4096) read) where
+  -- a number and a cell so many further on in the page
+  pub number_further : read ≡ Numbers n → (k : ℕ) → i % 4096 + k < 4096 → Num (slice_index q.numbers (4096 * n + i % 4096 + k)) ≡ pooled_cell p (i + k)
+  number_further is k one =
+      let index : 4096 * n + i % 4096 + k ≡ 4096 * n + (i + k) % 4096 = omega (arith, one) in
+      ap (λ a. Num (slice_index q.numbers a)) index ∙ cell_read p view i within (Numbers n) read there is (i + k) (omega (arith, one))
+
+  pub cell_further : read ≡ Cells n → (k : ℕ) → i % 4096 + k < 4096 → get_or q.cells (4096 * n + i % 4096 + k) Undef ≡ pooled_cell p (i + k)
+  cell_further is k one =
+      let index : 4096 * n + i % 4096 + k ≡ 4096 * n + (i + k) % 4096 = omega (arith, one) in
+      ap (λ a. get_or q.cells a Undef) index ∙ cell_read p view i within (Cells n) read there is (i + k) (omega (arith, one))
+
+  -- the word there
+  pub word_of_numbers : read ≡ Numbers n → i % 4096 + 4 ≤ 4096 → bytes_in q.numbers (4096 * n + i % 4096) ≡ pooled_word p i
+  word_of_numbers is one =
+      let first = cell_read p view i within (Numbers n) read there is i refl in
+      let later = λ (k : ℕ) (lt : k < 4). number_further is k (omega (arith, one, lt)) in
+      λ j. record { b0 = first j; b1 = later 1 (omega arith) j; b2 = later 2 (omega arith) j; b3 = later 3 (omega arith) j }
+
+  pub word_of_cells : read ≡ Cells n → i % 4096 + 4 ≤ 4096 → word_in q.cells (4096 * n + i % 4096) ≡ pooled_word p i
+  word_of_cells is one =
+      let first = cell_read p view i within (Cells n) read there is i refl in
+      let later = λ (k : ℕ) (lt : k < 4). cell_further is k (omega (arith, one, lt)) in
+      λ j. record { b0 = first j; b1 = later 1 (omega arith) j; b2 = later 2 (omega arith) j; b3 = later 3 (omega arith) j }
 
 -- cells after each was changed
 pub made_cells : (f : ℕ → SymByte → SymByte) (p p' : Pooled) (size : ℕ) → IsMade f p p' → (i : ℕ) (d : SymByte) → i < size

@@ -97,6 +97,10 @@ AreCellsWritten at cells old new =
 abbrev pub word_in : List SymByte → ℕ → SymWord
 word_in cells i = record { b0 = slice_index_or cells i Undef; b1 = slice_index_or cells (i + 1) Undef; b2 = slice_index_or cells (i + 2) Undef; b3 = slice_index_or cells (i + 3) Undef }
 
+-- the word of the four numbers from an index on
+abbrev pub bytes_in : List ℕ → ℕ → SymWord
+bytes_in numbers i = record { b0 = Num (slice_index numbers i); b1 = Num (slice_index numbers (i + 1)); b2 = Num (slice_index numbers (i + 2)); b3 = Num (slice_index numbers (i + 3)) }
+
 -- so many cells of pages
 pub record ArePages (p : Pooled) (size : ℕ) : Type 0 where
   pub pooled : IsPooled p

@@ -1,9 +1,9 @@
 // Pages of cells, each in one of two pools.
 
 ghost use Rattle.std.specs.Bool.{OnTrue};
-ghost use Rattle.std.specs.Prelude.{◌≡◌, ◌≤◌, ◌<◌, ◌+◌, ◌-◌, ◌*◌, ◌/◌, ◌%◌, ◌^◌, ℕ, IfOk, IfSome, length, map, replicate, slice_index_or};
+ghost use Rattle.std.specs.Prelude.{◌≡◌, ◌≤◌, ◌<◌, ◌+◌, ◌-◌, ◌*◌, ◌/◌, ◌%◌, ◌^◌, ℕ, IfOk, IfSome, length, map, replicate, slice_index, slice_index_or};
 ghost use Rattle.rv_decode.specs.Memory.{written};
-ghost use Rattle.sym_machine.specs.Pages.{IsMade, IsPooled, IsSame, number_in_pool, page_of, pooled_cell, pooled_word};
+ghost use Rattle.sym_machine.specs.Pages.{IsMade, IsPooled, IsSame, bytes_in, number_in_pool, page_of, pooled_cell, pooled_word, word_in};
 ghost use Rattle.sym_machine.specs.Words.{number_word};
 ghost use Rattle.sym_machine.specs.declared.page.Page.TheVariants as page;
 ghost use Rattle.sym_machine.specs.declared.word.SymByte.TheVariants.{Num, Undef};
@@ -72,8 +72,8 @@ impl Pool {
         ensures { result ≡ pooled_cell self.now i }
     {
         match self.pages[i / PAGE] {
-            Page::Numbers(n) => SymByte::Num(self.numbers[PAGE * n + i % PAGE]),
-            Page::Cells(n) => self.cells[PAGE * n + i % PAGE],
+            Page::Numbers(n) => SymByte::Num(byte_in_numbers(&self.numbers, n, i % PAGE)),
+            Page::Cells(n) => cell_in_cells(&self.cells, n, i % PAGE),
         }
     }
 
@@ -85,8 +85,8 @@ impl Pool {
         ensures { IfSome result (λ b. pooled_cell self.now i ≡ Num b) }
     {
         match self.pages[i / PAGE] {
-            Page::Numbers(n) => Some(self.numbers[PAGE * n + i % PAGE]),
-            Page::Cells(n) => number_of(&self.cells[PAGE * n + i % PAGE]),
+            Page::Numbers(n) => Some(byte_in_numbers(&self.numbers, n, i % PAGE)),
+            Page::Cells(n) => byte_in_cells(&self.cells, n, i % PAGE),
         }
     }
 
@@ -100,14 +100,8 @@ impl Pool {
         ensures high { IfSome result (λ b. pooled_cell self.now (i + 1) ≡ Num b.1) }
     {
         match self.pages[i / PAGE] {
-            Page::Numbers(n) => {
-                let x = PAGE * n + i % PAGE;
-                Some((self.numbers[x], self.numbers[x + 1]))
-            }
-            Page::Cells(n) => {
-                let x = PAGE * n + i % PAGE;
-                pair_of(&self.cells[x], &self.cells[x + 1])
-            }
+            Page::Numbers(n) => Some(pair_in_numbers(&self.numbers, n, i % PAGE)),
+            Page::Cells(n) => pair_in_cells(&self.cells, n, i % PAGE),
         }
     }
 
@@ -120,21 +114,8 @@ impl Pool {
         ensures { IfSome result (λ n. number_word n ≡ pooled_word self.now i) }
     {
         match self.pages[i / PAGE] {
-            Page::Numbers(n) => {
-                let x = PAGE * n + i % PAGE;
-                let numbers = &self.numbers;
-                Some(u32::from_le_bytes([
-                    numbers[x],
-                    numbers[x + 1],
-                    numbers[x + 2],
-                    numbers[x + 3],
-                ]))
-            }
-            Page::Cells(n) => {
-                let x = PAGE * n + i % PAGE;
-                let cells = &self.cells;
-                word_of(&cells[x], &cells[x + 1], &cells[x + 2], &cells[x + 3])
-            }
+            Page::Numbers(n) => Some(number_in_numbers(&self.numbers, n, i % PAGE)),
+            Page::Cells(n) => number_in_cells(&self.cells, n, i % PAGE),
         }
     }
 
@@ -147,26 +128,8 @@ impl Pool {
         ensures { result ≡ pooled_word self.now i }
     {
         match self.pages[i / PAGE] {
-            Page::Numbers(n) => {
-                let x = PAGE * n + i % PAGE;
-                let numbers = &self.numbers;
-                SymWord {
-                    b0: SymByte::Num(numbers[x]),
-                    b1: SymByte::Num(numbers[x + 1]),
-                    b2: SymByte::Num(numbers[x + 2]),
-                    b3: SymByte::Num(numbers[x + 3]),
-                }
-            }
-            Page::Cells(n) => {
-                let x = PAGE * n + i % PAGE;
-                let cells = &self.cells;
-                SymWord {
-                    b0: cells[x],
-                    b1: cells[x + 1],
-                    b2: cells[x + 2],
-                    b3: cells[x + 3],
-                }
-            }
+            Page::Numbers(n) => word_in_numbers(&self.numbers, n, i % PAGE),
+            Page::Cells(n) => word_in_cells(&self.cells, n, i % PAGE),
         }
     }
 
@@ -362,4 +325,105 @@ fn word_of(b0: &SymByte, b1: &SymByte, b2: &SymByte, b3: &SymByte) -> Option<u32
         }
         _ => None,
     }
+}
+
+// What is read at an offset of a page in a pool. The pools' vectors are lent, since bounds are proved faster of one alone.
+
+// The number there.
+#[inline(always)]
+fn byte_in_numbers(numbers: &Vec<u8>, page: usize, offset: usize) -> u8
+    requires { 4096 * page + offset + 1 ≤ length numbers.now.items }
+    ensures { result ≡ slice_index numbers.now.items (4096 * page + offset) }
+{
+    numbers[PAGE * page + offset]
+}
+
+// The cell there.
+#[inline(always)]
+fn cell_in_cells(cells: &Vec<SymByte>, page: usize, offset: usize) -> SymByte
+    requires { 4096 * page + offset + 1 ≤ length cells.now.items }
+    ensures { result ≡ slice_index_or cells.now.items (4096 * page + offset) Undef }
+{
+    cells[PAGE * page + offset]
+}
+
+// The number that the cell there is, if it is one.
+#[inline(always)]
+fn byte_in_cells(cells: &Vec<SymByte>, page: usize, offset: usize) -> Option<u8>
+    requires { 4096 * page + offset + 1 ≤ length cells.now.items }
+    ensures { IfSome result (λ b. slice_index_or cells.now.items (4096 * page + offset) Undef ≡ Num b) }
+{
+    number_of(&cells[PAGE * page + offset])
+}
+
+// The two numbers from there on.
+#[inline(always)]
+fn pair_in_numbers(numbers: &Vec<u8>, page: usize, offset: usize) -> (u8, u8)
+    requires { 4096 * page + offset + 2 ≤ length numbers.now.items }
+    ensures low { result.0 ≡ slice_index numbers.now.items (4096 * page + offset) }
+    ensures high { result.1 ≡ slice_index numbers.now.items (4096 * page + offset + 1) }
+{
+    let x = PAGE * page + offset;
+    (numbers[x], numbers[x + 1])
+}
+
+// The numbers that the two cells from there on are, if both are numbers.
+#[inline(always)]
+fn pair_in_cells(cells: &Vec<SymByte>, page: usize, offset: usize) -> Option<(u8, u8)>
+    requires { 4096 * page + offset + 2 ≤ length cells.now.items }
+    ensures low { IfSome result (λ b. slice_index_or cells.now.items (4096 * page + offset) Undef ≡ Num b.0) }
+    ensures high { IfSome result (λ b. slice_index_or cells.now.items (4096 * page + offset + 1) Undef ≡ Num b.1) }
+{
+    let x = PAGE * page + offset;
+    pair_of(&cells[x], &cells[x + 1])
+}
+
+// The word of the four numbers from there on.
+#[inline(always)]
+fn word_in_numbers(numbers: &Vec<u8>, page: usize, offset: usize) -> SymWord
+    requires { 4096 * page + offset + 4 ≤ length numbers.now.items }
+    ensures { result ≡ bytes_in numbers.now.items (4096 * page + offset) }
+{
+    let x = PAGE * page + offset;
+    SymWord {
+        b0: SymByte::Num(numbers[x]),
+        b1: SymByte::Num(numbers[x + 1]),
+        b2: SymByte::Num(numbers[x + 2]),
+        b3: SymByte::Num(numbers[x + 3]),
+    }
+}
+
+// The word of the four cells from there on.
+#[inline(always)]
+fn word_in_cells(cells: &Vec<SymByte>, page: usize, offset: usize) -> SymWord
+    requires { 4096 * page + offset + 4 ≤ length cells.now.items }
+    ensures { result ≡ word_in cells.now.items (4096 * page + offset) }
+{
+    let x = PAGE * page + offset;
+    SymWord {
+        b0: cells[x],
+        b1: cells[x + 1],
+        b2: cells[x + 2],
+        b3: cells[x + 3],
+    }
+}
+
+// The number that the four numbers from there on are, the lowest first.
+#[inline(always)]
+fn number_in_numbers(numbers: &Vec<u8>, page: usize, offset: usize) -> u32
+    requires { 4096 * page + offset + 4 ≤ length numbers.now.items }
+    ensures { number_word result ≡ bytes_in numbers.now.items (4096 * page + offset) }
+{
+    let x = PAGE * page + offset;
+    u32::from_le_bytes([numbers[x], numbers[x + 1], numbers[x + 2], numbers[x + 3]])
+}
+
+// The number that the four cells from there on are, if all are numbers.
+#[inline(always)]
+fn number_in_cells(cells: &Vec<SymByte>, page: usize, offset: usize) -> Option<u32>
+    requires { 4096 * page + offset + 4 ≤ length cells.now.items }
+    ensures { IfSome result (λ n. number_word n ≡ word_in cells.now.items (4096 * page + offset)) }
+{
+    let x = PAGE * page + offset;
+    word_of(&cells[x], &cells[x + 1], &cells[x + 2], &cells[x + 3])
 }
