@@ -1,6 +1,6 @@
 -- The words of data by relocations that are decided. A section of data ends where all data end or before, and a relocation without a fault
 -- changes bytes of its section, so the word that it fills in lies there as well.
-use Rattle.std.proofs.Common.{◌≡◌, ℕ, ◌+◌, ◌≤◌, List, [], ◌∷◌, ◌++◌, get_or, map, filter, take, Bool, true, false, cond, eqb, not, Option, Some, None, slice_get, refl, sym, ap, ◌∙◌, arith}
+use Rattle.std.proofs.Common.{◌≡◌, ℕ, ℤ, ◌+◌, ◌≤◌, List, [], ◌∷◌, ◌++◌, get_or, map, filter, take, Bool, true, false, cond, eqb, not, Option, Some, None, slice_get, refl, sym, ap, ◌∙◌, arith}
 use Rattle.std.specs.Prelude.{All, ◌&&◌, ◌||◌, nat_lt}
 use Rattle.std.specs.List.{flat_map, fold}
 use Rattle.std.specs.Option.{option_map, option_map_or, option_or}
@@ -12,7 +12,7 @@ use Rattle.std.proofs.lemmas.List.Sums.{fold-append}
 use Rattle.std.proofs.lemmas.Option.{slice_get-get_or}
 use Rattle.elf32_read.specs.Parts.{ObjectParts, SectionParts}
 use Rattle.elf32_read.specs.declared.fault.Fault.{Fault}
-use Rattle.elf32_read.specs.declared.fault.Fault.TheVariants.{RelocKind as KindFault, RelocPlace}
+use Rattle.elf32_read.specs.declared.fault.Fault.TheVariants.{BadTarget, LoPair, RelocKind as KindFault, RelocPlace}
 use Rattle.elf32_read.specs.declared.reloc.Reloc.{Reloc}
 use Rattle.psabi_reloc.specs.Kinds.{field_length, kind_of}
 use Rattle.psabi_reloc.specs.declared.kind.RelocKind.{RelocKind}
@@ -29,7 +29,7 @@ use Rattle.psabi_sym.specs.declared.section_row.SectionRole.TheVariants.{Code, I
 use Rattle.psabi_sym.specs.declared.section_row.SectionRole.{SectionRole}
 use Rattle.psabi_sym.proofs.ContentLaws.{address_of_data, none_of_code, none_of_dropped}
 use Rattle.psabi_sym.proofs.PlaceLaws.{not_common}
-use Rattle.block_cut.specs.Faults.{if_so, is_stray, reloc_fault, section_fault}
+use Rattle.block_cut.specs.Faults.{has_bad_target, if_so, is_stray, lacks_pcrel_hi, reloc_fault, section_fault}
 use Rattle.block_cut.specs.Relocs.{field_end, is_bad_kind, is_bad_place, overlaps_another, is_ignored, is_placed, is_word}
 use Rattle.block_cut.specs.DataWords.{data_word, data_words, held_address, resolved_word, words_in}
 use Rattle.block_cut.specs.Resolved.{asks, resolved_reloc, resolved_relocs}
@@ -109,6 +109,19 @@ class_blocks objects SmallZero other = refl
 class_blocks objects Zero other = refl
 class_blocks objects Common other = absurd cc
 
+-- what holds of neither of two tests, and isn't the first
+second : (a b c : Bool) (f g : Fault) (x : Option Fault) → option_or (if_so a f) (option_or (if_so (b || c) g) x) ≡ None → b ≡ false
+second a false c f g x none = refl
+second true true c f g x none = absurd cc
+second false true c f g x none = absurd cc
+
+-- a field of a word that ends in its section has four bytes there
+word_fits : (k : Option RelocKind) (size start : ℕ) (addend : ℤ) (rest : Bool) → is_word k ≡ true
+    → (not (is_ignored k) && (nat_lt size (start + field_length k addend) || rest)) ≡ false → start + 4 ≤ size
+word_fits (Some kind.Word) size start addend rest word fine = ltb-false size (start + 4) (or_parts (nat_lt size (start + 4)) rest fine).0
+word_fits None size start addend rest word fine = absurd cc
+word_fits (Some k) size start addend rest word fine = absurd cc
+
 module _ (inputs : ParsedInputs) (o i : ℕ) (s : SectionParts) (found : section_at inputs.objects o i ≡ Some s) where
   -- a section of a class lies in it
   in_class : (class : DataClass) → role_of s ≡ InClass class → address_in inputs o i s class + s.size ≤ class_end inputs class
@@ -147,39 +160,11 @@ module _ (inputs : ParsedInputs) (o i : ℕ) (s : SectionParts) (found : section
 
   -- so its place is one that it can have
   place_none : (r : Reloc) → reloc_fault inputs (listed o i s) r ≡ None → is_bad_place s r ≡ false
-  place_none r none = (or_parts (is_bad_place s r) (is_stray s r) (by (is_bad_kind s (kind_of r.kind)) (is_bad_place s r || is_stray s r) (KindFault i r.offset) (RelocPlace i r.offset) _ none)).0
-    where
-      by : (a b : Bool) (f g : Fault) (x : Option Fault) → option_or (if_so a f) (option_or (if_so b g) x) ≡ None → b ≡ false
-      by a false f g x none = refl
-      by true true f g x none = absurd cc
-      by false true f g x none = absurd cc
+  place_none r none = second (is_bad_kind s (kind_of r.kind)) (is_bad_place s r) (is_stray s r) (KindFault i r.offset) (RelocPlace i r.offset) (option_or (if_so (lacks_pcrel_hi inputs (listed o i s) r) (LoPair i r.offset)) (option_or (if_so (has_bad_target inputs (listed o i s) r) (BadTarget i r.offset)) None)) none
 
   -- and a word that it fills in lies in its section
   pub word_inside : (r : Reloc) → reloc_fault inputs (listed o i s) r ≡ None → is_word (kind_of r.kind) ≡ true → r.offset + 4 ≤ s.size
-  word_inside r none word =
-      let is = word_kind (kind_of r.kind) word in
-      let place : (not (is_ignored (kind_of r.kind)) && (nat_lt s.size (field_end r) || (not (is_placed s r) || overlaps_another s.relocs r))) ≡ false = place_none r none in
-      let bad = ap (λ k. not (is_ignored k) && (nat_lt s.size (field_end r) || (not (is_placed s r) || overlaps_another s.relocs r))) (sym is) ∙ place in
-      let inside = ltb-false s.size (field_end r) (or_parts (nat_lt s.size (field_end r)) _ bad).0 in
-      let four : field_end r ≡ r.offset + 4 = ap (λ k. r.offset + field_length k r.addend) is in
-      omega (arith, inside, four)
-    where
-      word_kind : (k : Option RelocKind) → is_word k ≡ true → k ≡ Some kind.Word
-      word_kind None word = absurd cc
-      word_kind (Some kind.Ignored) word = absurd cc
-      word_kind (Some kind.Word) word = refl
-      word_kind (Some kind.Branch) word = absurd cc
-      word_kind (Some kind.Jal) word = absurd cc
-      word_kind (Some kind.Call) word = absurd cc
-      word_kind (Some kind.PcrelHi20) word = absurd cc
-      word_kind (Some kind.PcrelLo12I) word = absurd cc
-      word_kind (Some kind.PcrelLo12S) word = absurd cc
-      word_kind (Some kind.Hi20) word = absurd cc
-      word_kind (Some kind.Lo12I) word = absurd cc
-      word_kind (Some kind.Lo12S) word = absurd cc
-      word_kind (Some kind.RvcBranch) word = absurd cc
-      word_kind (Some kind.RvcJump) word = absurd cc
-      word_kind (Some kind.Align) word = absurd cc
+  word_inside r none word = word_fits (kind_of r.kind) s.size r.offset r.addend (not (is_placed s r) || overlaps_another s.relocs r) word (place_none r none)
 
 -- ---- the words of a section
 
