@@ -1,12 +1,13 @@
 // The objects with their code cut into items.
 
 ghost use Rattle.std.specs.Prelude.{◌≡◌, ◌<◌, ◌+◌, ◌^◌, None, Some, IfOk, IfErr, IfSome, MatchOption, false, true, length, slice_get};
+ghost use Rattle.psabi_sym.specs.Faults.{gather_fault};
 ghost use Rattle.psabi_sym.specs.Inputs.{parsed};
 ghost use Rattle.psabi_sym.specs.LinkFault.{IsRefusal};
 ghost use Rattle.psabi_sym.specs.Indexed.{all_sections, IndexedSection};
 ghost use Rattle.block_cut.specs.DataWords.{data_words};
-ghost use Rattle.block_cut.specs.Faults.{first_fault};
-ghost use Rattle.block_cut.specs.Items.{entry_of, is_target_at, item_at, start_only};
+ghost use Rattle.block_cut.specs.Faults.{first_fault, relocs_fault};
+ghost use Rattle.block_cut.specs.Items.{entry_in, entry_of, is_target_at, item_at, start_only};
 ghost use Rattle.block_cut.specs.Leaders.{is_leader_at};
 ghost use Rattle.block_cut.specs.Invariants.CodeTables.{AreCodeTables};
 ghost use Rattle.block_cut.specs.Invariants.SectionText.{numbers_in};
@@ -65,21 +66,10 @@ impl Cut {
             Err(fault) => return Err(fault),
             Ok(targets) => targets,
         };
-        let Some(entry) = start_only(&objects, &tables, objects.start()) else {
-            return Err(LinkFault::Object {
-                index: 0,
-                fault: Fault::NoEntry,
-            });
+        let entry = match entry_in_reach(&objects, &tables) {
+            Err(fault) => return Err(fault),
+            Ok(entry) => entry,
         };
-        if let Some(place) = first_out_of_reach(&objects, &tables) {
-            return Err(LinkFault::Object {
-                index: u32::from(place.object),
-                fault: Fault::Range {
-                    section: place.section,
-                    at: place.offset,
-                },
-            });
-        }
         let mut leaders = targets.leaders;
         add_leads(&mut leaders, &objects, &tables)?;
         Ok(Cut {
@@ -191,6 +181,33 @@ impl Cut {
             table: 0,
         }
     }
+}
+
+// The place where the program starts, unless there is none or a branch doesn't reach.
+fn entry_in_reach(objects: &Objects, tables: &CodeTables) -> Result<Place, LinkFault>
+    requires gathered { gather_fault objects.now ≡ None }
+    requires relocs { relocs_fault (parsed objects.now) ≡ None }
+    requires tables { AreCodeTables (parsed objects.now) tables.now }
+    ensures entry { IfOk result (λ entry. entry_in (parsed objects.now) ≡ Some entry) }
+    ensures faultless { IfOk result (λ _. first_fault objects.now ≡ None) }
+    ensures err { IfErr result (λ fault. IsRefusal (first_fault objects.now) fault) }
+{
+    let Some(entry) = start_only(objects, tables, objects.start()) else {
+        return Err(LinkFault::Object {
+            index: 0,
+            fault: Fault::NoEntry,
+        });
+    };
+    if let Some(place) = first_out_of_reach(objects, tables) {
+        return Err(LinkFault::Object {
+            index: u32::from(place.object),
+            fault: Fault::Range {
+                section: place.section,
+                at: place.offset,
+            },
+        });
+    }
+    Ok(entry)
 }
 
 // The place that a target is, if an item starts there.
