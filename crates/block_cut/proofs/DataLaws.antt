@@ -30,7 +30,7 @@ use Rattle.psabi_sym.specs.declared.section_row.SectionRole.{SectionRole}
 use Rattle.psabi_sym.proofs.ContentLaws.{address_of_data, none_of_code, none_of_dropped}
 use Rattle.psabi_sym.proofs.PlaceLaws.{not_common}
 use Rattle.block_cut.specs.Faults.{has_bad_target, if_so, is_stray, lacks_pcrel_hi, reloc_fault, section_fault}
-use Rattle.block_cut.specs.Relocs.{field_end, is_bad_kind, is_bad_place, overlaps_another, is_ignored, is_placed, is_word}
+use Rattle.block_cut.specs.Relocs.{is_bad_kind, is_bad_place, overlaps_another, is_ignored, is_placed, is_word}
 use Rattle.block_cut.specs.DataWords.{data_word, data_words, held_address, resolved_word, words_in}
 use Rattle.block_cut.specs.Resolved.{asks, resolved_reloc, resolved_relocs}
 use Rattle.block_cut.specs.declared.data_word.DataWord.{DataWord}
