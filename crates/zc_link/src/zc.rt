@@ -2,12 +2,19 @@
 
 ghost use Rattle.std.specs.Prelude.{◌≡◌, ◌≤◌, [], None, IfOk, IfErr, length};
 ghost use Rattle.block_cut.specs.Faults.{first_fault};
+ghost use Rattle.block_cut.specs.PlainLayout.{plain_counts};
+ghost use Rattle.jumptable_pick.specs.Picked.{picked};
 ghost use Rattle.jumptable_pick.specs.Slots as slots;
+ghost use Rattle.pick_check.specs.Best.{NoneSavesMore};
 ghost use Rattle.pick_check.specs.Certified.{IsAccepted};
 ghost use Rattle.psabi_sym.specs.Inputs.{parsed};
 ghost use Rattle.psabi_sym.specs.LinkFault.{IsRefusal};
 ghost use Rattle.shrink_layout.specs.Savings.{savings_of};
-ghost use Rattle.zc_link.specs.Links.{IsZcLink};
+ghost use Rattle.shrink_layout.specs.Settled.{settled_counts, settled_end};
+ghost use Rattle.zc_link.specs.LaidOut.{text_end};
+ghost use Rattle.zc_link.specs.Links.{IsImageOf, IsZcLink};
+ghost use Rattle.zc_link.specs.Standing.{IsReady};
+ghost use Rattle.zc_link.specs.TextLayout.{zc_layout};
 
 use crate::image::image_parts;
 use crate::linked::Linked;
@@ -23,6 +30,22 @@ use psabi_sym::link_fault::LinkFault;
 use psabi_sym::objects::Objects;
 use shrink_layout::settled::{Settled, settle, settle_with};
 use std::alloc::{AllocError, Global};
+use zc_base::counts::Counts;
+
+// What a table could save, and the certificate of the one that is picked.
+#[derive(Drop)]
+struct Table {
+    savings: Vec<Saving>,
+    certificate: Certificate,
+}
+
+// The file of an image, and what the plain layout and this one count.
+#[derive(Drop)]
+struct Counted {
+    elf: Vec<u8>,
+    plain: Counts,
+    zc: Counts,
+}
 
 /// The link of the objects, or why they aren't linked. Pushes, pops and moves are written as one instruction
 /// (`frame_match::planned::plan` finds them), jumps and calls go through the table that saves most if one saves
@@ -35,24 +58,83 @@ pub fn link_zc(alloc: Global, objects: Objects) -> Result<Linked, LinkFault>
     ensures few { IfOk result (λ linked. length linked.savings ≤ 0x1_0000) }
     ensures err { IfErr result (λ fault. IsRefusal (first_fault objects) fault) }
 {
+    let first = tableless(alloc, objects)?;
+    let linked = small_link(alloc, first)?;
+    Ok(linked)
+}
+
+// The layout of the objects without a table.
+fn tableless(alloc: Global, objects: Objects) -> Result<Settled, LinkFault>
+    ensures same { IfOk result (λ first. first.inputs ≡ objects) }
+    ensures slots { IfOk result (λ first. first.slots ≡ []) }
+    ensures faultless { IfOk result (λ _. first_fault objects ≡ None) }
+    ensures err { IfErr result (λ fault. IsRefusal (first_fault objects) fault) }
+{
     let cut = Cut::new(alloc, objects)?;
-    let first = settle(alloc, plan(alloc, cut)?)?;
+    let planned = plan(alloc, cut)?;
+    let first = settle(alloc, planned)?;
+    Ok(first)
+}
+
+// The link of the objects behind the table that is picked, by their layout without one.
+fn small_link(alloc: Global, first: Settled) -> Result<Linked, AllocError>
+    requires faultless { first_fault first.inputs ≡ None }
+    requires tableless { first.slots ≡ [] }
+    ensures link { IfOk result (λ linked. IsZcLink first.inputs linked) }
+    ensures few { IfOk result (λ linked. length linked.savings ≤ 0x1_0000) }
+{
+    let table = pick_table(alloc, &first)?;
+    let image = counted_image(alloc, first, &table.savings, &table.certificate)?;
+    Ok(Linked {
+        elf: image.elf,
+        savings: table.savings,
+        certificate: table.certificate,
+        plain: image.plain,
+        zc: image.zc,
+    })
+}
+
+// What a table could save, and the certificate of the one that is picked.
+fn pick_table(alloc: Global, first: &Settled) -> Result<Table, AllocError>
+    requires { first.now.slots ≡ [] }
+    ensures savings { IfOk result (λ table. table.savings.items ≡ savings_of (parsed first.now.inputs)) }
+    ensures few { IfOk result (λ table. length table.savings.items ≤ 0x1_0000) }
+    ensures is_picked { IfOk result (λ table. table.certificate ≡ picked table.savings.items) }
+    ensures accepted { IfOk result (λ table. IsAccepted table.savings.items table.certificate) }
+    ensures best { IfOk result (λ table. NoneSavesMore table.savings.items table.certificate.net) }
+{
     let savings = first.savings(alloc)?;
     let certificate = pick(alloc, &savings)?;
-    let settled = with_table(alloc, first, &savings, &certificate)?;
-    let plain = settled.planned().cut().counts();
-    let zc = settled.counts();
-    let parts = image_parts(alloc, &settled, RVC)?;
-    // The file is made in the memory that the layout had.
-    drop(settled);
-    let elf = write_image(alloc, &parts)?;
-    Ok(Linked {
-        elf,
+    Ok(Table {
         savings,
         certificate,
-        plain,
-        zc,
     })
+}
+
+// The image of the layout behind the table of a certificate, and what it counts.
+fn counted_image(
+    alloc: Global,
+    first: Settled,
+    savings: &[Saving],
+    certificate: &Certificate,
+) -> Result<Counted, AllocError>
+    requires faultless { first_fault first.inputs ≡ None }
+    requires tableless { first.slots ≡ [] }
+    requires savings { savings.now ≡ savings_of (parsed first.inputs) }
+    requires accepted { IsAccepted savings.now certificate.now }
+    ensures ready { IfOk result (λ _. IsReady first.inputs) }
+    ensures image { IfOk result (λ image.
+        IsImageOf (zc_layout first.inputs (slots.slot_places savings.now certificate.now.slots)) 1
+        (settled_end (parsed first.inputs) (slots.slot_places savings.now certificate.now.slots)) image.elf.items) }
+    ensures plain { IfOk result (λ image. image.plain ≡ plain_counts (parsed first.inputs)) }
+    ensures zc { IfOk result (λ image. image.zc
+        ≡ settled_counts (parsed first.inputs) (slots.slot_places savings.now certificate.now.slots)) }
+{
+    let settled = with_table(alloc, first, savings, certificate)?;
+    let plain = settled.planned().cut().counts();
+    let zc = settled.counts();
+    let elf = image_file(alloc, settled)?;
+    Ok(Counted { elf, plain, zc })
 }
 
 // The layout behind the table of a certificate; if that has no slots, it is the one without a table.
@@ -74,4 +156,15 @@ fn with_table(
     }
     let slots = slot_places(alloc, savings, certificate)?;
     settle_with(alloc, first, &slots)
+}
+
+// The file of the image of a layout. It is made in the memory that the layout had.
+fn image_file(alloc: Global, settled: Settled) -> Result<Vec<u8>, AllocError>
+    ensures ready { IfOk result (λ _. IsReady settled.inputs) }
+    ensures image { IfOk result (λ elf. IsImageOf (zc_layout settled.inputs settled.slots) 1
+        (text_end (zc_layout settled.inputs settled.slots)) elf.items) }
+{
+    let parts = image_parts(alloc, &settled, RVC)?;
+    drop(settled);
+    write_image(alloc, &parts)
 }
